@@ -1,0 +1,4 @@
+pub mod Spots
+pub mod Word
+pub mod Store
+pub mod Lent

@@ -1,0 +1,10 @@
+-- A word of a dictionary.
+use Rattle.std.specs.Prelude.{ℕ, Bool, List}
+
+-- a word: its signs, of each position its hyphen, weight and care, and its own weight
+pub record Word : Type 0 where
+  pub signs : List ℕ
+  pub hyphens : List Bool
+  pub weights : List ℕ
+  pub cares : List Bool
+  pub weight : ℕ
