@@ -2,6 +2,11 @@
 #![tactic(auto)]
 
 pub mod dictionary;
+pub mod entries;
+pub mod gap;
+pub mod heads;
+pub mod letters;
+pub mod line;
 pub mod store;
 pub mod word;
 

@@ -3,6 +3,7 @@ ghost use Rattle.std.specs.Prelude.{◌≡◌, [], ◌∷◌, OnOk};
 ghost use Rattle.pg_dict.specs.Spots.{add_spots, no_columns, spot};
 ghost use Rattle.pg_dict.specs.Store.{columns_of};
 
+use crate::gap::Gap;
 use pg_types::{Mark, Sign, Weight};
 use std::alloc::{AllocError, Global};
 
@@ -15,27 +16,6 @@ pub struct Stored {
     pub end: usize,
     /// The weight of the word.
     pub weight: Weight,
-}
-
-/// What is known of a position when the sign behind it comes.
-#[derive(Clone, Copy)]
-pub struct Gap {
-    /// The last mark at the position; nothing where there is none.
-    pub mark: Mark,
-    /// The last number at the position; the weight of the word where there is none.
-    pub weight: Weight,
-}
-
-impl Gap {
-    /// A position without mark and number, in a word of this weight.
-    pub fn plain(weight: Weight) -> Gap
-        ensures { result ≡ record { mark = Mark.Nothing; weight = weight } }
-    {
-        Gap {
-            mark: Mark::Nothing,
-            weight,
-        }
-    }
 }
 
 /// The words of a dictionary, each a part of the four columns.
