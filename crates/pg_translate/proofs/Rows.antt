@@ -1,6 +1,5 @@
 -- What the definitions give of small files and lines.
 use Rattle.std.specs.Prelude.{◌≡◌, ℕ, ◌+◌, List, [], ◌∷◌, ◌++◌, map, flat_map, Option, None, Some, Result, Ok, Err, refl, codes}
-
 use Rattle.std.specs.List.{concat, range_with_len}
 use Rattle.std.specs.Result.{IfOk}
 use Rattle.pg_types.specs.declared.marks.Mark.TheVariants.{Error, Missed, Found, DontCare}

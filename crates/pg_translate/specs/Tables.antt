@@ -123,9 +123,9 @@ abbrev pub spelling_checks : List ℕ → List (ℕ × List ℕ) → List Spelli
 spelling_checks marks earlier [] = []
 spelling_checks marks earlier (s ∷ later) =
     check (nat_lt (SIGNS_MAX - 1) s.letter) TooManyLetters s.line 1
-        ++ (check (not (is_spelling marks s.text)) BadSpelling s.line s.column
-        ++ (check (list_any (clash (signed s)) earlier) SpellingClash s.line s.column
-        ++ spelling_checks marks (earlier ++ signed s ∷ []) later))
+    ++ (check (not (is_spelling marks s.text)) BadSpelling s.line s.column
+    ++ (check (list_any (clash (signed s)) earlier) SpellingClash s.line s.column
+    ++ spelling_checks marks (earlier ++ signed s ∷ []) later))
 
 -- all checks of a translate file of some size, with this head and these letter lines, in their order
 abbrev pub checks : ℕ → List ℕ → List (List ℕ) → List Refusal
@@ -135,24 +135,24 @@ checks size head letter_lines =
 -- what a head and letter lines say
 abbrev pub alphabet_of : List ℕ → List (List ℕ) → Alphabet
 alphabet_of head letter_lines = record {
-    left = minimum (pair_at head 1) 2;
-    right = minimum (pair_at head 3) 3;
-    marks = marks_of head;
-    spellings = map signed (spellings_from 2 1 letter_lines)
-  }
+  left = minimum (pair_at head 1) 2;
+  right = minimum (pair_at head 3) 3;
+  marks = marks_of head;
+  spellings = map signed (spellings_from 2 1 letter_lines);
+}
 
 -- a letter of the default table, counted from 0: a small letter of ASCII and its capital
 abbrev pub default_letter : ℕ → List (ℕ × List ℕ)
-default_letter n = (n + 2, (n + 97) ∷ []) ∷ (n + 2, (n + 65) ∷ []) ∷ []
+default_letter n = (n + 2, (97 + n) ∷ []) ∷ (n + 2, (65 + n) ∷ []) ∷ []
 
 -- the default table: minima 2 and 3, the default marks, and the letters a to z
 abbrev pub default_alphabet : Alphabet
 default_alphabet = record {
-    left = 2;
-    right = 3;
-    marks = codes ".-*?";
-    spellings = flat_map default_letter (range_with_len 0 26)
-  }
+  left = 2;
+  right = 3;
+  marks = codes ".-*?";
+  spellings = flat_map default_letter (range_with_len 0 26);
+}
 
 -- the table of a file of some size with these lines; a file of no bytes has no line, and means the default table
 abbrev pub table_of : ℕ → List (List ℕ) → Result Alphabet Refusal

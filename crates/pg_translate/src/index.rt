@@ -23,6 +23,19 @@ pub(crate) enum Front {
     Whole(Sign),
 }
 
+impl Front {
+    /// The front of `size` bytes of a spelling that has `length` bytes.
+    fn of_size(sign: Sign, size: usize, length: usize) -> Front
+        ensures { result ≡ (if size == length then Front.Whole sign else Front.Inside) }
+    {
+        if size == length {
+            Front::Whole(sign)
+        } else {
+            Front::Inside
+        }
+    }
+}
+
 /// A spelling, and the sign of its letter.
 #[derive(Clone, Copy, Debug)]
 pub(crate) struct Spelling {
@@ -150,8 +163,20 @@ impl Index {
         let mut code = 1;
         'bytes: for i in 0..text.len() {
             code = code * 256 + text[i] as u128;
-            let front = if i + 1 == text.len() { Front::Whole(sign) } else { Front::Inside };
-            self.set_front(code, front)?;
+            self.set_front(code, Front::of_size(sign, i + 1, text.len()))?;
+        }
+        Ok(())
+    }
+
+    /// Keeps the first spelling of a new letter.
+    fn keep_first(&mut self, sign: Sign, text: Text) -> Result<(), AllocError>
+        ensures firsts { OnOk result (self.new.firsts.items ≡ (if sign == length self.old.firsts.items + 2 then self.old.firsts.items ++ text ∷ [] else self.old.firsts.items)) }
+        ensures spellings { self.new.spellings ≡ self.old.spellings }
+        ensures heads { self.new.heads ≡ self.old.heads }
+        ensures longer { self.new.longer ≡ self.old.longer }
+    {
+        if sign as usize == self.firsts.len() + 2 {
+            self.firsts.push(text)?;
         }
         Ok(())
     }
@@ -170,9 +195,7 @@ impl Index {
     {
         self.enter(sign, text)?;
         let text = Text::of(text);
-        if sign as usize == self.firsts.len() + 2 {
-            self.firsts.push(text)?;
-        }
+        self.keep_first(sign, text)?;
         self.spellings.push(Spelling { sign, text })?;
         Ok(())
     }
@@ -187,7 +210,8 @@ impl Index {
     {
         let sign = n as Sign + 2;
         self.add(sign, &[b'a' + n])?;
-        self.add(sign, &[b'A' + n])
+        self.add(sign, &[b'A' + n])?;
+        Ok(())
     }
 
     /// The letters a to z, each with its capital as its second spelling.
