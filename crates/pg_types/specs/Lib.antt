@@ -1,3 +1,4 @@
 pub mod Refusals
 pub mod Reading
 pub mod Lines
+pub mod Parameters

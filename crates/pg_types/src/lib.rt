@@ -3,8 +3,10 @@
 #![tactic(auto)]
 
 pub mod limits;
+mod items;
 pub mod lines;
 pub mod marks;
+pub mod parameters;
 pub mod refusals;
 
 pub use limits::{
@@ -13,4 +15,5 @@ pub use limits::{
 };
 pub use lines::next_line;
 pub use marks::{Layout, Mark, Totals};
+pub use parameters::{LevelParams, Params, read_params};
 pub use refusals::{Kind, ReadingError, Refusal};
