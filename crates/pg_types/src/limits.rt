@@ -1,0 +1,34 @@
+//! Signs, weights, and the greatest numbers that the files and a run may have.
+
+/// A sign: the edge of a word, or a letter of the table. A sign is at least 1.
+pub type Sign = u16;
+
+/// The weight of a position or word, 0 to [`WEIGHT_MAX`].
+pub type Weight = u16;
+
+/// The sign of the edge, which stands before the first and after the last letter of a word.
+pub const EDGE: Sign = 1;
+
+/// The greatest weight of a position or word.
+pub const WEIGHT_MAX: Weight = 9999;
+
+/// The greatest sign that a table can have: the edge and `SIGNS_MAX - 1` letters.
+pub const SIGNS_MAX: u16 = 2001;
+
+/// The most bytes that an input file may have, 2^26.
+pub const FILE_MAX: usize = 67_108_864;
+
+/// The greatest level, and the greatest value of a pattern.
+pub const LEVEL_MAX: u8 = 9;
+
+/// The greatest length of a window, in signs.
+pub const LENGTH_MAX: u8 = 15;
+
+/// The greatest good weight, bad weight and threshold of a level.
+pub const COST_MAX: u32 = 1_000_000;
+
+/// The most letters that a word may have.
+pub const WORD_LETTERS_MAX: usize = 100;
+
+/// The most signs that a pattern may have.
+pub const PATTERN_SIGNS_MAX: usize = 32;
