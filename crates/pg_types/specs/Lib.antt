@@ -1,3 +1,5 @@
 pub mod Refusals
 pub mod Reading
 pub mod Lines
+pub mod Placement
+pub mod Tails
