@@ -2,3 +2,5 @@ pub mod Refusals
 pub mod Reading
 pub mod Lines
 pub mod Parameters
+pub mod Placement
+pub mod Tails
