@@ -15,8 +15,8 @@ min_fold t (d ∷ ds) n =
 number_cut : (t : ℕ) (digits : List ℕ) (n : ℕ) → option_map (λ (k : ℕ). min k t) (number_from (min n t) digits) ≡ option_map (λ (k : ℕ). min k t) (number_from n digits)
 number_cut t digits n =
     elim (cases_Bool (list_all is_ascii_digit digits)) [
-      inl all ↦ rw all (ap (λ (k : ℕ). Some k) (min_fold t digits n))
-    | inr some ↦ rw some refl
+      | inl all ↦ rw all (ap (λ (k : ℕ). Some k) (min_fold t digits n))
+      | inr some ↦ rw some refl
     ]
 
 -- one digit more

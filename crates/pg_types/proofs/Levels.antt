@@ -7,7 +7,7 @@ use Rattle.std.proofs.lemmas.List.FromFn.{map-range_with_len_more}
 use Rattle.pg_types.specs.declared.limits.TheConstants.{FILE_MAX, LEVEL_MAX}
 use Rattle.pg_types.specs.declared.refusals.Refusal.{Refusal}
 use Rattle.pg_types.specs.declared.parameters.LevelParams.{LevelParams}
-use Rattle.pg_types.specs.Parameters.{Demand, between, items, level_demands, level_items, level_of, places, demands, refusal_from, surplus, parameters, parameters_of}
+use Rattle.pg_types.specs.Parameters.{Demand, between, items, level_demands, level_of, level_count, number_at, demands, demands_of_levels, refusal_from, surplus, parameters, parameters_of}
 
 -- what the level at a place demands, and what it is
 abbrev pub demands_at : List (List ℕ) → ℕ → List Demand
@@ -50,7 +50,7 @@ read_more all xs i levels levels' level is level_is more read =
 
 -- what the levels of a file demand
 abbrev pub levels_demanded : List (List ℕ) → List Demand
-levels_demanded xs = flat_map (λ i. level_demands (level_items xs i)) (places xs)
+levels_demanded xs = demands_of_levels (level_count (number_at xs 0) (number_at xs 1)) (drop 2 xs)
 
 -- a file that is not too long is refused as its items are
 pub whole_refused : (bytes rest : List ℕ) (place : ℕ) (r : Refusal) → length bytes ≤ FILE_MAX → rest ≡ bytes → place ≡ 1 → refusal_from place (demands (items bytes)) (items rest) ≡ Some r → parameters bytes ≡ Err r

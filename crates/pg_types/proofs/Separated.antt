@@ -17,11 +17,11 @@ pieces_head : (test : ℕ → Bool) (b : ℕ) (bs : List ℕ) (k : ℕ) → test
 pieces_head test b [] k out is = rw (out, is) refl
 pieces_head test b (x ∷ xs) k out is =
     elim (cases_Bool (test x)) [
-      inl here ↦ let none : k ≡ 0 = rw here at is in rw (out, none, here) refl
-    | inr here ↦
-      let more : k ≡ suc (position_or_len test xs) = omega (arith, rw here at is) in
-      let rest : pieces_at test (x ∷ xs) ≡ (x ∷ take (position_or_len test xs) xs) ∷ pieces_at test (drop (suc (position_or_len test xs)) xs) = pieces_head test x xs (position_or_len test xs) here refl in
-      rw (out, more, rest) refl
+      | inl here ↦ let none : k ≡ 0 = rw here at is in rw (out, none, here) refl
+      | inr here ↦
+          let more : k ≡ suc (position_or_len test xs) = omega (arith, rw here at is) in
+          let rest : pieces_at test (x ∷ xs) ≡ (x ∷ take (position_or_len test xs) xs) ∷ pieces_at test (drop (suc (position_or_len test xs)) xs) = pieces_head test x xs (position_or_len test xs) here refl in
+          rw (out, more, rest) refl
     ]
 
 -- the separator behind an item is no item
@@ -29,10 +29,10 @@ items_gap : (bs : List ℕ) (k : ℕ) → k ≡ position_or_len is_separator bs 
 items_gap [] k is = rw is refl
 items_gap (x ∷ xs) k is =
     elim (cases_Bool (is_separator x)) [
-      inl here ↦ let none : k ≡ 0 = rw here at is in rw (none, here) refl
-    | inr here ↦
-      let more : k ≡ suc (position_or_len is_separator xs) = omega (arith, rw here at is) in
-      rw more (items_gap xs (position_or_len is_separator xs) refl)
+      | inl here ↦ let none : k ≡ 0 = rw here at is in rw (none, here) refl
+      | inr here ↦
+          let more : k ≡ suc (position_or_len is_separator xs) = omega (arith, rw here at is) in
+          rw more (items_gap xs (position_or_len is_separator xs) refl)
     ]
 
 -- the first item ends at the first separator
@@ -40,10 +40,10 @@ pub items_first : (bytes : List ℕ) (k : ℕ) → (length bytes == 0) ≡ false
 items_first [] k some is begins = cc
 items_first (b ∷ bs) k some is begins =
     elim (cases_Bool (is_separator b)) [
-      inl here ↦ absurd (omega (arith, rw here at begins))
-    | inr here ↦
-      let more : k ≡ suc (position_or_len is_separator bs) = omega (arith, rw here at is) in
-      rw (more, pieces_head is_separator b bs (position_or_len is_separator bs) here refl, items_gap bs (position_or_len is_separator bs) refl) refl
+      | inl here ↦ absurd (omega (arith, rw here at begins))
+      | inr here ↦
+          let more : k ≡ suc (position_or_len is_separator bs) = omega (arith, rw here at is) in
+          rw (more, pieces_head is_separator b bs (position_or_len is_separator bs) here refl, items_gap bs (position_or_len is_separator bs) refl) refl
     ]
 
 -- separators in front change no item
@@ -51,10 +51,10 @@ pub items_after : (bytes : List ℕ) (k : ℕ) → k ≡ position_or_len (λ b. 
 items_after [] k is = rw is refl
 items_after (x ∷ xs) k is =
     elim (cases_Bool (is_separator x)) [
-      inl here ↦
-      let more : k ≡ suc (position_or_len (λ b. not (is_separator b)) xs) = omega (arith, rw here at is) in
-      rw (more, here) (items_after xs (position_or_len (λ b. not (is_separator b)) xs) refl)
-    | inr here ↦ let none : k ≡ 0 = rw here at is in rw none refl
+      | inl here ↦
+          let more : k ≡ suc (position_or_len (λ b. not (is_separator b)) xs) = omega (arith, rw here at is) in
+          rw (more, here) (items_after xs (position_or_len (λ b. not (is_separator b)) xs) refl)
+      | inr here ↦ let none : k ≡ 0 = rw here at is in rw none refl
     ]
 
 -- what stands behind the separators in front begins with an item
@@ -62,10 +62,10 @@ pub begins_after : (bytes : List ℕ) (k : ℕ) → k ≡ position_or_len (λ b.
 begins_after [] k is = rw is refl
 begins_after (x ∷ xs) k is =
     elim (cases_Bool (is_separator x)) [
-      inl here ↦
-      let more : k ≡ suc (position_or_len (λ b. not (is_separator b)) xs) = omega (arith, rw here at is) in
-      rw more (begins_after xs (position_or_len (λ b. not (is_separator b)) xs) refl)
-    | inr here ↦ let none : k ≡ 0 = rw here at is in rw (none, here) refl
+      | inl here ↦
+          let more : k ≡ suc (position_or_len (λ b. not (is_separator b)) xs) = omega (arith, rw here at is) in
+          rw more (begins_after xs (position_or_len (λ b. not (is_separator b)) xs) refl)
+      | inr here ↦ let none : k ≡ 0 = rw here at is in rw (none, here) refl
     ]
 
 -- a list of length 0 is empty

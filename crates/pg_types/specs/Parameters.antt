@@ -66,21 +66,25 @@ level_of xs = record { pat_start = number_at xs 0; pat_finish = number_at xs 1; 
 abbrev pub level_count : ℕ → ℕ → ℕ
 level_count start finish = min finish LEVEL_MAX + 1 - start
 
--- the levels that are run, counted from 0
-abbrev pub places : List (List ℕ) → List ℕ
-places xs = range_with_len 0 (level_count (number_at xs 0) (number_at xs 1))
-
--- the items of the level at a place: two items stand before the levels, and each level has five
+-- the items of the level at a place, counted from 0: each level has five
 abbrev pub level_items : List (List ℕ) → ℕ → List (List ℕ)
-level_items xs i = drop (5 * i) (drop 2 xs)
+level_items xs i = drop (5 * i) xs
+
+-- what so many levels demand of their items
+abbrev pub demands_of_levels : ℕ → List (List ℕ) → List Demand
+demands_of_levels count xs = flat_map (λ i. level_demands (level_items xs i)) (range_with_len 0 count)
+
+-- so many levels from their items
+abbrev pub levels_of : ℕ → List (List ℕ) → List LevelParams
+levels_of count xs = map (λ i. level_of (level_items xs i)) (range_with_len 0 count)
 
 -- what a file demands of its items: the first and the last level, and then five numbers for each level that is run
 abbrev pub demands : List (List ℕ) → List Demand
-demands xs = between 1 LEVEL_MAX ∷ between 1 LEVEL_MAX ∷ flat_map (λ i. level_demands (level_items xs i)) (places xs)
+demands xs = between 1 LEVEL_MAX ∷ between 1 LEVEL_MAX ∷ demands_of_levels (level_count (number_at xs 0) (number_at xs 1)) (drop 2 xs)
 
 -- the parameters that the items are
 abbrev pub parameters_of : List (List ℕ) → Parameters
-parameters_of xs = record { start = number_at xs 0; finish = number_at xs 1; levels = map (λ i. level_of (level_items xs i)) (places xs) }
+parameters_of xs = record { start = number_at xs 0; finish = number_at xs 1; levels = levels_of (level_count (number_at xs 0) (number_at xs 1)) (drop 2 xs) }
 
 -- the refusal of the item with this number
 abbrev pub refused_at : ℕ → Kind → Refusal

@@ -1,8 +1,7 @@
 //! The parameters of a run, and the reader of the file that holds them.
 ghost use Rattle.std.specs.Prelude.{◌≡◌, ◌<◌, ◌≤◌, ◌+◌, ◌-◌, ◌*◌, length, map, drop, slice_get, IfOk, IfErr, OnOk, All};
-ghost use Rattle.std.specs.List.{flat_map, range_with_len};
 ghost use Rattle.pg_types.specs.Reading.{Gives, FailsBy};
-ghost use Rattle.pg_types.specs.Parameters.{items as items_of, level_demands, level_of, refusal_from, surplus, parameters, IsLevel};
+ghost use Rattle.pg_types.specs.Parameters.{items as items_of, demands_of_levels, levels_of, refusal_from, surplus, parameters, IsLevel};
 
 use crate::items::Items;
 use crate::limits::{FILE_MAX, LEVEL_MAX};
@@ -109,14 +108,18 @@ pub fn read_params(alloc: Global, bytes: &[u8]) -> Result<Params, ReadingError>
 }
 
 /// Reads what each of `count` levels is given.
-fn read_levels(alloc: Global, items: &mut Items<'_>, count: u8) -> Result<Vec<LevelParams>, ReadingError>
+fn read_levels(
+    alloc: Global,
+    items: &mut Items<'_>,
+    count: u8,
+) -> Result<Vec<LevelParams>, ReadingError>
     requires place { items.old.place ≡ 3 }
     requires count { count ≤ LEVEL_MAX }
-    ensures value { IfOk result (λ levels. levels.items ≡ map (λ i. level_of (drop (5 * i) (items_of items.old.rest.now))) (range_with_len 0 count)) }
+    ensures value { IfOk result (λ levels. levels.items ≡ levels_of count (items_of items.old.rest.now)) }
     ensures ranges { IfOk result (λ levels. All IsLevel levels.items) }
     ensures place { OnOk result (items.new.place ≤ 48) }
-    ensures passed { OnOk result (refusal_from 3 (flat_map (λ i. level_demands (drop (5 * i) (items_of items.old.rest.now))) (range_with_len 0 count)) (items_of items.old.rest.now) ≡ surplus items.new.place (items_of items.new.rest.now)) }
-    ensures refused { IfErr result (λ error. FailsBy error (refusal_from 3 (flat_map (λ i. level_demands (drop (5 * i) (items_of items.old.rest.now))) (range_with_len 0 count)) (items_of items.old.rest.now))) }
+    ensures passed { OnOk result (refusal_from 3 (demands_of_levels count (items_of items.old.rest.now)) (items_of items.old.rest.now) ≡ surplus items.new.place (items_of items.new.rest.now)) }
+    ensures refused { IfErr result (λ error. FailsBy error (refusal_from 3 (demands_of_levels count (items_of items.old.rest.now)) (items_of items.old.rest.now))) }
 {
     let mut levels = Vec::new(alloc);
     'levels: for i in 0..count {

@@ -7,7 +7,7 @@ pub loop-digit-preserved : goal.loop-digit-preserved
 loop-digit-preserved c = record {
   small = search rules;
   whole =
-    number_more
+      number_more
       TOO_GREAT
       c.args.item.now
       c.loop-digit.digit-index
