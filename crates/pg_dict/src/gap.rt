@@ -5,7 +5,7 @@ use pg_types::{Mark, WEIGHT_MAX, Weight};
 
 /// What is known of a position before the sign behind it comes.
 #[derive(Clone, Copy)]
-pub struct Gap {
+pub(crate) struct Gap {
     /// The last mark at the position; nothing where there is none.
     pub mark: Mark,
     /// The last number at the position; the weight of the word where there is none.
@@ -15,7 +15,7 @@ pub struct Gap {
 
 impl Gap {
     /// A position without mark and number, in a word of this weight.
-    pub fn plain(weight: Weight) -> Gap
+    pub(crate) fn plain(weight: Weight) -> Gap
         requires { weight ≤ WEIGHT_MAX }
         ensures mark { result.mark ≡ Mark.Nothing }
         ensures weight { result.weight ≡ weight }

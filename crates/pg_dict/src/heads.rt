@@ -8,7 +8,7 @@ use pg_translate::{Item, Place};
 use pg_types::{Refusal, Sign, Weight};
 
 /// What a line begins with.
-pub enum Head<'a> {
+pub(crate) enum Head<'a> {
     /// Its first letter.
     Word {
         /// The word weight of the line.
@@ -27,7 +27,7 @@ pub enum Head<'a> {
 
 impl Line<'_> {
     /// The first letter of the line `text`, and its word weight: the last number before it, else that of the line above.
-    pub fn seek<'a>(&self, text: &'a [u8]) -> Result<Head<'a>, Refusal>
+    pub(crate) fn seek<'a>(&self, text: &'a [u8]) -> Result<Head<'a>, Refusal>
         requires { length text.now ≡ self.now.size }
         ensures { IsHead self.now (line_of self.now.table.now self.now.number self.now.weight text.now) result }
     {

@@ -15,7 +15,7 @@ use pg_types::{EDGE, Kind, ReadingError, WORD_LETTERS_MAX, Weight};
 
 /// Where the reading of a word stands, behind its first letter.
 #[derive(Clone, Copy)]
-pub struct At<'a> {
+pub(crate) struct At<'a> {
     /// What is known of the next position.
     pub gap: Gap,
     /// How many letters may still come.
@@ -86,7 +86,7 @@ impl Line<'_> {
     }
 
     /// Reads the rest of a word, behind its first letter, into the columns. After an error nothing is said of the columns.
-    pub fn fill(&self, store: &mut Store, rest: &[u8]) -> Result<(), ReadingError>
+    pub(crate) fn fill(&self, store: &mut Store, rest: &[u8]) -> Result<(), ReadingError>
         requires within { length rest.now ≤ self.now.size }
         requires fit { IsFit (letters_of self.now.table.now + 1) store.old }
         ensures fills { Gives (λ _. columns_of store.new) result (filled self.now.table.now self.now.weight self.now.number self.now.size Nothing self.now.weight (WORD_LETTERS_MAX - 1) (columns_of store.old) rest.now) }

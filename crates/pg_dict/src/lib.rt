@@ -2,12 +2,14 @@
 #![tactic(auto)]
 
 pub mod dictionary;
-pub mod entries;
-pub mod gap;
-pub mod heads;
-pub mod letters;
-pub mod line;
-pub mod store;
+mod entries;
+mod gap;
+mod heads;
+mod letters;
+mod line;
+mod store;
+#[cfg(test)]
+mod tests;
 pub mod word;
 
 pub use dictionary::Dictionary;

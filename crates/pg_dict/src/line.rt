@@ -7,7 +7,7 @@ use pg_types::{Kind, Refusal, Weight};
 
 /// A line that is being read: the table by which it is read, its number and its size in bytes, and its word weight.
 #[derive(Clone, Copy)]
-pub struct Line<'t> {
+pub(crate) struct Line<'t> {
     /// The table.
     pub table: &'t Table,
     /// The number of the line, from 1.
@@ -21,7 +21,7 @@ pub struct Line<'t> {
 }
 
 /// Why a byte that begins no item is refused.
-pub fn kind_of(rest: &[u8]) -> Kind
+pub(crate) fn kind_of(rest: &[u8]) -> Kind
     ensures { IfSome (stop_kind rest.now) (λ kind. kind ≡ result) }
 {
     match rest.first() {
@@ -32,7 +32,7 @@ pub fn kind_of(rest: &[u8]) -> Kind
 
 impl Line<'_> {
     /// A refusal at the first byte of `rest`, the rest of the line.
-    pub fn refuse(&self, kind: Kind, rest: &[u8]) -> Refusal
+    pub(crate) fn refuse(&self, kind: Kind, rest: &[u8]) -> Refusal
         requires { length rest.now ≤ self.now.size }
         ensures { result ≡ refused self.now.number kind (self.now.size - length rest.now + 1) }
     {

@@ -9,7 +9,7 @@ use std::alloc::{AllocError, Global};
 
 /// Where a word lies in the store, and its weight.
 #[derive(Clone, Copy)]
-pub struct Stored {
+pub(crate) struct Stored {
     /// The place of its first sign.
     pub start: usize,
     /// The place behind its last sign.
@@ -20,7 +20,7 @@ pub struct Stored {
 
 /// The words of a dictionary, each a part of the four columns.
 #[derive(Drop)]
-pub struct Store {
+pub(crate) struct Store {
     /// The signs of all words, one word after the other.
     pub signs: Vec<Sign>,
     /// Whether the position before the sign at the same place has a hyphen.
@@ -35,7 +35,7 @@ pub struct Store {
 
 impl Store {
     /// A store without a word. It takes no memory.
-    pub fn new(alloc: Global) -> Store
+    pub(crate) fn new(alloc: Global) -> Store
         ensures columns { columns_of result ≡ no_columns }
         ensures words { result.words.items ≡ [] }
     {
@@ -49,7 +49,7 @@ impl Store {
     }
 
     /// Adds a sign, and the position before it. After an error nothing is said of the columns.
-    pub fn push(&mut self, gap: Gap, sign: Sign) -> Result<(), AllocError>
+    pub(crate) fn push(&mut self, gap: Gap, sign: Sign) -> Result<(), AllocError>
         ensures ok { OnOk result (columns_of self.new ≡ add_spots (columns_of self.old) (spot gap.mark gap.weight sign ∷ [])) }
         ensures words { self.new.words.items ≡ self.old.words.items }
     {
