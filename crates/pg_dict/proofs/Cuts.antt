@@ -1,18 +1,12 @@
 -- A step of a cut, and of what is filled in along it.
-use Rattle.std.proofs.Common.{◌≡◌, ℕ, ◌+◌, ◌-◌, ◌<◌, ◌≤◌, suc, zero, List, [], ◌∷◌, ◌++◌, length, drop, map, Option, Some, Result, refl, sym, ◌∙◌, ap, add-zero, add-one, add-suc, arith, length-drop, append_assoc}
-use Rattle.pg_types.specs.declared.marks.Mark.{Mark}
-use Rattle.pg_types.specs.declared.marks.Mark.TheVariants.{Nothing}
-use Rattle.pg_types.specs.declared.refusals.Refusal.{Refusal}
-use Rattle.pg_types.specs.Reading.{unless}
+use Rattle.std.proofs.Common.{◌≡◌, ℕ, ◌+◌, ◌-◌, ◌<◌, ◌≤◌, suc, zero, List, [], ◌∷◌, length, drop, Option, Some, refl, sym, ◌∙◌, ap, add-zero, arith, length-drop}
 use Rattle.pg_translate.specs.Alphabets.{Alphabet}
-use Rattle.pg_translate.specs.Tokens.{Token, Letter, item_at}
-use Rattle.pg_translate.specs.Cuts.{Cut, with_item, cut_at, cut_from, tokens_of}
+use Rattle.pg_translate.specs.Tokens.{Token, item_at}
+use Rattle.pg_translate.specs.Cuts.{Cut, with_item, cut_at, cut_from}
 use Rattle.pg_translate.specs.Answers.{Takes}
 use Rattle.pg_translate.specs.declared.items.Place.{Place}
 use Rattle.pg_translate.specs.declared.items.Place.TheVariants.{Dictionary}
-use Rattle.pg_dict.specs.Spots.{Spot, spot, Columns, add_spots}
-use Rattle.pg_dict.specs.Words.{line_refusal}
-use Rattle.pg_dict.specs.Filled.{cut_rest, filled}
+use Rattle.pg_dict.specs.Filled.{cut_rest}
 
 -- bytes of an item are passed over
 pub cut_skip : (t : Alphabet) (place : Place) (column n : ℕ) (bs : List ℕ) → n ≤ length bs → cut_from t place column n bs ≡ cut_from t place (column + n) 0 (drop n bs)

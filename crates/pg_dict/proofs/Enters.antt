@@ -1,21 +1,19 @@
 -- A line with a letter enters its word into a store.
-use Rattle.std.proofs.Common.{◌≡◌, ℕ, ◌+◌, ◌-◌, ◌≤◌, List, [], ◌∷◌, ◌++◌, length, Option, None, Some, Result, Ok, Err, refl, sym, ◌∙◌, ap, arith}
+use Rattle.std.proofs.Common.{◌≡◌, ℕ, ◌+◌, ◌-◌, ◌≤◌, List, [], ◌∷◌, ◌++◌, length, Option, None, Some, Ok, refl, sym, ◌∙◌, ap, arith}
 use Rattle.pg_types.specs.declared.limits.TheConstants.{EDGE, WEIGHT_MAX, WORD_LETTERS_MAX}
-use Rattle.pg_types.specs.declared.marks.Mark.{Mark}
 use Rattle.pg_types.specs.declared.marks.Mark.TheVariants.{Nothing}
 use Rattle.pg_types.specs.declared.refusals.Refusal.{Refusal}
 use Rattle.pg_types.specs.Reading.{unless}
 use Rattle.pg_translate.specs.Alphabets.{Alphabet}
 use Rattle.pg_translate.specs.Tokens.{Token, Letter}
-use Rattle.pg_translate.specs.Cuts.{Cut, tokens_of}
+use Rattle.pg_translate.specs.Cuts.{tokens_of}
 use Rattle.pg_dict.specs.declared.store.Store.{Store}
-use Rattle.pg_dict.specs.declared.store.Stored.{Stored}
 use Rattle.pg_dict.specs.Spots.{Spot, spot, Columns, add_spots}
 use Rattle.pg_dict.specs.Word.{Word, word_with}
-use Rattle.pg_dict.specs.Words.{LineWord, line_refusal, line_word, spots_from, word_spots}
+use Rattle.pg_dict.specs.Words.{line_refusal, line_word, spots_from, word_spots}
 use Rattle.pg_dict.specs.Filled.{cut_rest, filled}
 use Rattle.pg_dict.specs.Heads.{headed}
-use Rattle.pg_dict.specs.Entries.{Entries, with_line}
+use Rattle.pg_dict.specs.Entries.{with_line}
 use Rattle.pg_dict.specs.Store.{columns_of, words_of, IsSound, IsFit}
 use Rattle.pg_dict.proofs.Takes.{add_spots-add}
 use Rattle.pg_dict.proofs.Adds.{length_signs, adds_words, adds_sound}

@@ -1,5 +1,5 @@
 -- A word as it is read keeps what every word keeps.
-use Rattle.std.proofs.Common.{◌≡◌, ℕ, ◌+◌, ◌-◌, ◌*◌, ◌≤◌, ◌==◌, Bool, true, false, not, ◌&&◌, nat_le, List, [], ◌∷◌, ◌++◌, length, map, slice_index_or, refl, sym, ◌∙◌, ap, arith, length-append}
+use Rattle.std.proofs.Common.{◌≡◌, ℕ, ◌+◌, ◌-◌, ◌≤◌, ◌==◌, true, false, not, ◌&&◌, nat_le, List, [], ◌∷◌, ◌++◌, length, map, slice_index_or, refl, sym, ◌∙◌, ap, arith}
 use Rattle.std.specs.List.{list_all}
 use Rattle.std.proofs.lemmas.List.{length-map, map-append, get_or_push, length_push}
 use Rattle.std.proofs.lemmas.List.Folds.{list_all-append}
@@ -10,7 +10,7 @@ use Rattle.pg_types.specs.declared.marks.Mark.TheVariants.{Nothing}
 use Rattle.pg_translate.specs.Tokens.{Token, Letter, Digit, Weight, Marked, Edge}
 use Rattle.pg_dict.specs.declared.store.Store.{Store}
 use Rattle.pg_dict.specs.Spots.{Spot, spot, Columns, add_spots}
-use Rattle.pg_dict.specs.Word.{Word, word_with, is_word, is_weight, is_plain_at}
+use Rattle.pg_dict.specs.Word.{word_with, is_word, is_weight, is_plain_at}
 use Rattle.pg_dict.specs.Words.{spots_from, word_spots}
 use Rattle.pg_dict.specs.Store.{columns_of, is_sign, IsFit}
 use Rattle.pg_dict.proofs.Adds.{list_all_weaker}

@@ -1,12 +1,12 @@
 -- What the definition of words gives of small dictionaries.
-use Rattle.std.specs.Prelude.{◌≡◌, ℕ, Bool, true, false, List, [], ◌∷◌, ◌++◌, map, replicate, flat_map, length, Option, None, Some, Result, Ok, Err, refl, codes}
+use Rattle.std.specs.Prelude.{◌≡◌, ℕ, Bool, true, false, List, [], ◌∷◌, ◌++◌, map, replicate, flat_map, Result, Ok, Err, refl, codes}
 use Rattle.std.specs.List.{concat}
 use Rattle.pg_types.specs.declared.refusals.Kind.{Kind}
 use Rattle.pg_types.specs.declared.refusals.Kind.TheVariants.{DictionaryCharacter, WordTooLong, BadWeight}
 use Rattle.pg_types.specs.declared.refusals.Refusal.{Refusal}
 use Rattle.pg_translate.specs.Alphabets.{Alphabet}
 use Rattle.pg_dict.specs.Word.{Word}
-use Rattle.pg_dict.specs.Words.{words, with_words}
+use Rattle.pg_dict.specs.Words.{words}
 
 -- the table of the letters a, b and c
 abbrev abc : Alphabet

@@ -1,5 +1,5 @@
 -- One item more of a line: before its first letter, and behind it.
-use Rattle.std.proofs.Common.{◌≡◌, ℕ, ◌+◌, ◌-◌, ◌<◌, ◌≤◌, suc, zero, List, [], ◌∷◌, length, Result, refl, ◌∙◌, ap, arith, append_assoc}
+use Rattle.std.proofs.Common.{◌≡◌, ℕ, ◌-◌, ◌<◌, ◌≤◌, suc, zero, List, [], ◌∷◌, length, Result, refl, ◌∙◌, ap, arith, append_assoc}
 use Rattle.pg_types.specs.declared.limits.TheConstants.{WORD_LETTERS_MAX}
 use Rattle.pg_types.specs.declared.marks.Mark.{Mark}
 use Rattle.pg_types.specs.declared.marks.Mark.TheVariants.{Nothing}
@@ -11,8 +11,8 @@ use Rattle.pg_translate.specs.Answers.{Takes}
 use Rattle.pg_translate.specs.declared.items.Place.TheVariants.{Dictionary}
 use Rattle.pg_types.specs.declared.refusals.Refusal.{Refusal}
 use Rattle.pg_dict.specs.Spots.{Spot, spot, Columns, add_spots}
-use Rattle.pg_dict.specs.Words.{LineWord, line_refusal, line_word, line_of, spots_from}
-use Rattle.pg_dict.specs.Filled.{cut_rest, filled}
+use Rattle.pg_dict.specs.Words.{LineWord, line_refusal, line_word, spots_from}
+use Rattle.pg_dict.specs.Filled.{filled}
 use Rattle.pg_dict.specs.Heads.{head_from, headed}
 use Rattle.pg_dict.proofs.Cuts.{along}
 

@@ -1,5 +1,5 @@
 -- What a dictionary tells of its words.
-use Rattle.std.proofs.Common.{◌≡◌, ℕ, ◌+◌, ◌-◌, ◌*◌, ◌<◌, ◌≤◌, ◌==◌, Bool, true, false, not, ◌&&◌, nat_le, List, [], ◌∷◌, ◌++◌, length, map, slice_index_or, slice_get, slice_range, Some, refl, sym, ◌∙◌, ap, arith, length-append, add-zero}
+use Rattle.std.proofs.Common.{◌≡◌, ℕ, ◌+◌, ◌-◌, ◌*◌, ◌<◌, ◌≤◌, Bool, true, false, nat_le, List, [], ◌∷◌, length, slice_index_or, slice_get, slice_range, Some, refl, sym, ◌∙◌, ap, arith, length-append}
 use Rattle.std.specs.List.{list_all, sum_by, All}
 use Rattle.std.specs.Option.{option_map}
 use Rattle.std.proofs.lemmas.List.{length-map}
@@ -10,7 +10,7 @@ use Rattle.std.proofs.lemmas.Option.{slice_get-get_or, get_or_from_slice_get, sl
 use Rattle.pg_types.specs.declared.limits.TheConstants.{FILE_MAX, WEIGHT_MAX, WORD_LETTERS_MAX}
 use Rattle.pg_dict.specs.declared.store.Store.{Store}
 use Rattle.pg_dict.specs.declared.store.Stored.{Stored}
-use Rattle.pg_dict.specs.Word.{Word, letters_of, IsPlainAt, IsWord, SignsAtMost, is_weight, is_plain_at, is_word}
+use Rattle.pg_dict.specs.Word.{Word, letters_of, IsPlainAt, IsWord, SignsAtMost, is_plain_at, is_word}
 use Rattle.pg_dict.specs.Store.{columns_of, word_at, words_of, signs_of, is_sign, IsDictionary}
 
 -- a number that passes the tests of all elements

@@ -14,7 +14,7 @@ use Rattle.pg_translate.specs.Alphabets.{Alphabet}
 use Rattle.pg_translate.specs.Tokens.{Token, Letter, Digit, Weight, Marked, Edge}
 use Rattle.pg_translate.specs.Cuts.{Placed, Cut, cut, tokens_of}
 use Rattle.pg_translate.specs.declared.items.Place.TheVariants.{Dictionary}
-use Rattle.pg_dict.specs.Spots.{Spot, spot, add_spots, no_columns}
+use Rattle.pg_dict.specs.Spots.{Spot, spot}
 use Rattle.pg_dict.specs.Word.{Word, word_with}
 
 -- the spots behind a letter, up to the last edge: each letter takes the last mark and the last number before it, or none and

@@ -25,4 +25,27 @@ impl Gap {
             weight,
         }
     }
+
+    /// The position after a number more: the last one counts.
+    pub(crate) fn with_number(self, number: Weight) -> Gap
+        requires { number ≤ WEIGHT_MAX }
+        ensures mark { result.mark ≡ self.mark }
+        ensures weight { result.weight ≡ number }
+    {
+        Gap {
+            mark: self.mark,
+            weight: number,
+        }
+    }
+
+    /// The position after a mark more: the last one counts.
+    pub(crate) fn with_mark(self, mark: Mark) -> Gap
+        ensures mark { result.mark ≡ mark }
+        ensures weight { result.weight ≡ self.weight }
+    {
+        Gap {
+            mark,
+            weight: self.weight,
+        }
+    }
 }

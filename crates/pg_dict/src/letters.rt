@@ -49,26 +49,17 @@ impl Line<'_> {
                 }))
             }
             Item::Digit(number, after) => Ok(Some(At {
-                gap: Gap {
-                    mark: gap.mark,
-                    weight: Weight::from(number),
-                },
+                gap: gap.with_number(Weight::from(number)),
                 room,
                 rest: after,
             })),
             Item::Weight(weight, after) => Ok(Some(At {
-                gap: Gap {
-                    mark: gap.mark,
-                    weight,
-                },
+                gap: gap.with_number(weight),
                 room,
                 rest: after,
             })),
             Item::Mark(mark, after) => Ok(Some(At {
-                gap: Gap {
-                    mark,
-                    weight: gap.weight,
-                },
+                gap: gap.with_mark(mark),
                 room,
                 rest: after,
             })),

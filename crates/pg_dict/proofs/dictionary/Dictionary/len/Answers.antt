@@ -1,4 +1,3 @@
-use Rattle.std.proofs.Common.{rules}
 use Rattle.pg_dict.proofs.Told.{words_from_tests, few_letters}
 use Rattle.pg_dict.proofs.dictionary.Dictionary.len.Goals as goal
 

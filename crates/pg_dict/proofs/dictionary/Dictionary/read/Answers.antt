@@ -1,4 +1,4 @@
-use Rattle.std.proofs.Common.{◌≡◌, ℕ, ◌+◌, List, Result, length, arith, sym, ◌∙◌, ap, subst}
+use Rattle.std.proofs.Common.{◌≡◌, ◌+◌, List, Result, length, arith, sym, ◌∙◌, ap, subst}
 use Rattle.std.specs.List.{list_all}
 use Rattle.std.proofs.lemmas.Result.{err_from_is_err_and}
 use Rattle.pg_types.specs.declared.refusals.Refusal.{Refusal}
@@ -7,7 +7,6 @@ use Rattle.pg_types.specs.Lines.{lines}
 use Rattle.pg_translate.specs.Alphabets.{letters_of}
 use Rattle.pg_dict.specs.Spots.{Columns}
 use Rattle.pg_dict.specs.Word.{Word}
-use Rattle.pg_dict.specs.Words.{words_from}
 use Rattle.pg_dict.specs.Store.{words_of, is_sign}
 use Rattle.pg_dict.proofs.Sizes.{size_of, size_of-cons, size_of-lines}
 use Rattle.pg_dict.proofs.Lines.{next_read, next_refused, words_short, starts, starts_sound, starts_fit}
@@ -28,13 +27,13 @@ lines-init c =
     }
 
 pub read_line-requires-clause-short : goal.read_line-requires-clause-short
-read_line-requires-clause-short c = omega (arith, c.in-Some.ensures.within, c.lines.invariant.left, c.if-bytes-gt-FILE_MAX.false)
+read_line-requires-clause-short c = omega (arith, c.in-Some.ensures.within, c.lines.invariant.left)
 
 pub returns-in_err-weight-clause-words : goal.returns-in_err-weight-clause-words
 returns-in_err-weight-clause-words c =
     let p = err_from_is_err_and c.from_residual.result c.from_residual.ensures.1 in
     let F : Result (List Word) Refusal → Type 0 = λ reading. Fails c.in_err-weight.field-0.0 reading in
-    rw (p.1, p.2) (subst F (sym (words_short c.args.table.now c.args.bytes.now c.if-bytes-gt-FILE_MAX.false)) (next_refused _ c.args.table.now c.lines.number c.lines.weight c.in-Some.text.now (lines c.in-Some.after.now) (lines c.lines.rest.now) (words_of c.lines.store) _ c.in-Some.ensures.lines c.lines.invariant.whole c.in_err-weight.ensures.line))
+    rw (p.1, p.2) (subst F (sym (words_short c.args.table.now c.args.bytes.now (omega arith))) (next_refused _ c.args.table.now c.lines.number c.lines.weight c.in-Some.text.now (lines c.in-Some.after.now) (lines c.lines.rest.now) (words_of c.lines.store) _ c.in-Some.ensures.lines c.lines.invariant.whole c.in_err-weight.ensures.line))
 
 pub lines-preserved : goal.lines-preserved
 lines-preserved c =

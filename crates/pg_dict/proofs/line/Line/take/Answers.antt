@@ -4,13 +4,13 @@ use Rattle.pg_dict.proofs.Takes.{takes_item, takes_letter}
 use Rattle.pg_dict.proofs.line.Line.take.Goals as goal
 
 pub returns-in-Digit-clause-step : goal.returns-in-Digit-clause-step
-returns-in-Digit-clause-step c = rw c.from.ensures (takes_item _ _ _ _ _ _ _ _ _ _ _ _ _ _ _ c.in-Digit.ensures.item c.requires.within (λ _ _. refl))
+returns-in-Digit-clause-step c = rw (c.with_number.ensures.mark, c.with_number.ensures.weight, c.from.ensures) (takes_item _ _ _ _ _ _ _ _ _ _ _ _ _ _ _ c.in-Digit.ensures.item c.requires.within (λ _ _. refl))
 
 pub returns-in-Weight-clause-step : goal.returns-in-Weight-clause-step
-returns-in-Weight-clause-step c = takes_item _ _ _ _ _ _ _ _ _ _ _ _ _ _ _ c.in-Weight.ensures.item c.requires.within (λ _ _. refl)
+returns-in-Weight-clause-step c = rw (c.with_number-in-Weight.ensures.mark, c.with_number-in-Weight.ensures.weight) (takes_item _ _ _ _ _ _ _ _ _ _ _ _ _ _ _ c.in-Weight.ensures.item c.requires.within (λ _ _. refl))
 
 pub returns-in-Mark-clause-step : goal.returns-in-Mark-clause-step
-returns-in-Mark-clause-step c = takes_item _ _ _ _ _ _ _ _ _ _ _ _ _ _ _ c.in-Mark.ensures.item c.requires.within (λ _ _. refl)
+returns-in-Mark-clause-step c = rw (c.with_mark.ensures.mark, c.with_mark.ensures.weight) (takes_item _ _ _ _ _ _ _ _ _ _ _ _ _ _ _ c.in-Mark.ensures.item c.requires.within (λ _ _. refl))
 
 pub returns-in-Edge-clause-step : goal.returns-in-Edge-clause-step
 returns-in-Edge-clause-step c = takes_item _ _ _ _ _ _ _ _ _ _ _ _ _ _ _ c.in-Edge.ensures.item c.requires.within (λ _ _. refl)
