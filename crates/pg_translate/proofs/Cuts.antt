@@ -1,9 +1,9 @@
 -- The cut of a line, item by item.
-use Rattle.std.proofs.Common.{◌≡◌, ℕ, ◌+◌, ◌-◌, ◌<◌, ◌≤◌, Bool, List, [], ◌∷◌, length, drop, Option, Some, None, refl, sym, ap, ◌∙◌, subst, arith, suc, zero}
+use Rattle.std.proofs.Common.{◌≡◌, ℕ, ◌+◌, ◌-◌, ◌<◌, ◌≤◌, Bool, List, [], ◌∷◌, length, drop, Some, refl, sym, ap, ◌∙◌, arith, suc, zero}
 use Rattle.pg_translate.specs.declared.items.Place.{Place}
 use Rattle.pg_translate.specs.Alphabets.{Alphabet}
 use Rattle.pg_translate.specs.Tokens.{Token, item_at}
-use Rattle.pg_translate.specs.Cuts.{Cut, cut_from, cut_at, with_item}
+use Rattle.pg_translate.specs.Cuts.{cut_from, with_item}
 use Rattle.pg_translate.specs.Answers.{Takes, Stops}
 
 -- the bytes of an item are passed over

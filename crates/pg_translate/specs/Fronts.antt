@@ -1,5 +1,5 @@
 -- The fronts of spellings, and the index by their codes.
-use Rattle.std.specs.Prelude.{◌≡◌, ℕ, ◌+◌, ◌-◌, ◌*◌, ◌<◌, ◌≤◌, ◌==◌, nat_eq, nat_lt, Bool, true, false, ◌⊎◌, if◌then◌else◌, List, [], ◌∷◌, length, map, fold, find, slice_get, slice_index_or, Option, None, Some, option_map}
+use Rattle.std.specs.Prelude.{◌≡◌, ℕ, ◌+◌, ◌-◌, ◌*◌, ◌<◌, ◌≤◌, ◌==◌, nat_eq, nat_lt, true, false, ◌⊎◌, if◌then◌else◌, List, [], ◌∷◌, length, map, fold, find, slice_get, slice_index_or, Option, None, Some, option_map}
 use Rattle.std.specs.List.{list_all}
 use Rattle.std.specs.Option.{option_or}
 use Rattle.std.specs.HashMap.{get}
@@ -8,7 +8,6 @@ use Rattle.pg_translate.specs.declared.index.Front.TheVariants.{Inside, Whole}
 use Rattle.pg_translate.specs.declared.index.Index.{Index}
 use Rattle.pg_translate.specs.declared.index.Spelling.{Spelling}
 use Rattle.pg_translate.specs.declared.spellings.TheConstants.{SPELLING_MAX}
-use Rattle.pg_types.specs.declared.limits.TheConstants.{SIGNS_MAX}
 use Rattle.pg_translate.specs.Alphabets.{letters_in}
 use Rattle.pg_translate.specs.Spellings.{begins, clash}
 use Rattle.pg_translate.specs.Texts.{text_of}
