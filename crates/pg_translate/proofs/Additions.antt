@@ -9,9 +9,9 @@ use Rattle.std.proofs.lemmas.Option.{slice_get-get_or}
 use Rattle.pg_translate.specs.declared.index.Index.{Index}
 use Rattle.pg_translate.specs.declared.spellings.Text.{Text}
 use Rattle.pg_translate.specs.Alphabets.{letters_in}
-use Rattle.pg_translate.specs.Spellings.{begins, clash}
+use Rattle.pg_translate.specs.Spellings.{begins, clash, IsAmong}
 use Rattle.pg_translate.specs.Texts.{text_of}
-use Rattle.pg_translate.specs.Fronts.{IsIndex, IsAmong, AreBytes, pairs, firsts_of, first_of, front_at, front_of, front_in, code_of}
+use Rattle.pg_translate.specs.Fronts.{IsIndex, AreBytes, pairs, firsts_of, first_of, front_at, front_of, front_in, code_of}
 use Rattle.pg_translate.proofs.Fronts.{front_in-push, IsAmong-push, list_any_at}
 use Rattle.pg_translate.proofs.Walks.{AreApart}
 
