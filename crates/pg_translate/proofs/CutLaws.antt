@@ -12,7 +12,7 @@ use Rattle.pg_translate.specs.Alphabets.{Alphabet}
 use Rattle.pg_translate.specs.Spellings.{is_digit, begins, begins_well, is_spelling, IsAmong}
 use Rattle.pg_translate.specs.Tokens.{Token, Letter, Digit, Weight, Marked, Edge, letter_at, digit_at, weight_at, weight_from, weight_end, mark_at, edge_at, item_at}
 use Rattle.pg_translate.specs.Cuts.{Cut, cut_from, with_item, tokens_of}
-use Rattle.pg_translate.specs.Items.{IsItem, IsWeight, IsMark, IsCut, IsPrefix, joined, value_of}
+use Rattle.pg_translate.specs.Items.{IsItem, IsWeight, IsMark, IsCut, IsPrefix, IsLongest, joined, value_of}
 use Rattle.pg_translate.specs.Rules.{KeepsRules}
 use Rattle.pg_translate.proofs.Prefixes.{begins_front, begins_within}
 use Rattle.pg_translate.proofs.Firsts.{find_among, found_passes}
@@ -172,13 +172,6 @@ begins_join : (n : ℕ) (line more : List ℕ) → begins (drop n line) more ≡
 begins_join zero line more h = h
 begins_join (suc n) [] more h = h
 begins_join (suc n) (b ∷ bs) more h = and_from _ _ (eq-eqb b b refl) (begins_join n bs more h)
-
--- the longest cut of a line, with the texts of its items
-pub record IsLongest (t : Alphabet) (place : Place) (line : List ℕ) (tokens : List Token) : Type 0 where
-  pub items : List (Token × List ℕ)
-  pub cut : IsCut t place line items
-  pub same : tokens ≡ map (λ item. item.0) items
-  pub all : (other : List (Token × List ℕ)) → IsCut t place line other → IsPrefix other items
 
 -- a cut that begins with an item: the item begins the line, and the rest is a cut of what follows
 cut_first : (t : Alphabet) → KeepsRules t → (place : Place) (line : List ℕ) (x : Token × List ℕ) (xs : List (Token × List ℕ)) → IsCut t place line (x ∷ xs) → (item_at t place line ≡ Some (x.0, length x.1)) × (line ≡ x.1 ++ drop (length x.1) line) × IsCut t place (drop (length x.1) line) xs

@@ -53,3 +53,10 @@ pub record IsCut (t : Alphabet) (place : Place) (line : List ℕ) (items : List 
 -- a list begins another
 abbrev pub IsPrefix : List (Token × List ℕ) → List (Token × List ℕ) → Type 0
 IsPrefix items all = (more : List (Token × List ℕ)) × (all ≡ items ++ more)
+
+-- tokens are those of the longest cut of a line: of a cut of which every cut is a prefix
+pub record IsLongest (t : Alphabet) (place : Place) (line : List ℕ) (tokens : List Token) : Type 0 where
+  pub items : List (Token × List ℕ)
+  pub cut : IsCut t place line items
+  pub same : tokens ≡ map (λ item. item.0) items
+  pub all : (other : List (Token × List ℕ)) → IsCut t place line other → IsPrefix other items

@@ -1,7 +1,7 @@
 -- The rules that every table keeps.
 use Rattle.std.specs.Prelude.{◌≡◌, ℕ, ◌+◌, ◌-◌, ◌<◌, ◌≤◌, Bool, true, false, not, ◌&&◌, List, [], ◌∷◌, length, find, IsSome, ◌==◌}
 use Rattle.pg_types.specs.declared.limits.TheConstants.{SIGNS_MAX}
-use Rattle.pg_translate.specs.Alphabets.{Alphabet, letters_of}
+use Rattle.pg_translate.specs.Alphabets.{Alphabet, letters_of, first_spelling}
 use Rattle.pg_translate.specs.Spellings.{is_spelling, clash, IsAmong}
 use Rattle.pg_translate.specs.Tables.{mark_fails}
 
@@ -23,3 +23,4 @@ pub record KeepsRules (t : Alphabet) : Type 0 where
   pub signs_high : (s : ℕ × List ℕ) → IsAmong s t.spellings → s.0 ≤ letters_of t + 1
   pub spelled : (s : ℕ × List ℕ) → IsAmong s t.spellings → is_spelling t.marks s.1 ≡ true
   pub apart : (s r : ℕ × List ℕ) → IsAmong s t.spellings → IsAmong r t.spellings → clash s r ≡ false
+  pub each : (sign : ℕ) → 2 ≤ sign → sign ≤ letters_of t + 1 → IsAmong (sign, first_spelling t.spellings sign) t.spellings

@@ -4,6 +4,8 @@ ghost use Rattle.pg_translate.specs.Alphabets.{Alphabet};
 ghost use Rattle.pg_translate.specs.Fronts.{pairs};
 ghost use Rattle.pg_translate.specs.Sound.{IsTable};
 
+pub mod laws;
+
 use crate::index::Index;
 use crate::items::{Item, Place};
 use crate::spellings::SPELLING_MAX;
