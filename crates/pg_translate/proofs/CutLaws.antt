@@ -45,6 +45,7 @@ letter_found t rules text token size h = by_find (find (λ s. begins text s.1) t
     spelled_some : (text : List ℕ) → begins_well t.marks text ≡ true → 0 < length text
     spelled_some [] h = absurd (true≢false (sym h))
     spelled_some (b ∷ bs) h = omega arith
+
     by_find : (o : Option (ℕ × List ℕ)) → o ≡ find (λ s. begins text s.1) t.spellings → option_map {U = Token × ℕ} (λ (s : ℕ × List ℕ). (Letter s.0, length s.1)) o ≡ Some (token, size) → (sign : ℕ) × (token ≡ Letter sign) × IsAmong (sign, take size text) t.spellings × (0 < size) × (size ≤ length text)
     by_find None is h = absurd (cc)
     by_find (Some s) is h =
@@ -139,21 +140,26 @@ item_found t rules place text token size h = by_place place h
     letter place h =
         let found : (sign : ℕ) × (token ≡ Letter sign) × IsAmong (sign, take size text) t.spellings × (0 < size) × (size ≤ length text) = letter_found t rules text token size h in
         record { item = rw found.1 found.2; some = found.3; within = found.4 }
+
     digit : (place : Place) → digit_at text ≡ Some (token, size) → Reads t place text token size
     digit place h =
         let found : (digit : ℕ) × (token ≡ Digit digit) × (digit ≤ 9) × (take size text ≡ (48 + digit) ∷ []) × (0 < size) × (size ≤ length text) = digit_found text token size h in
         record { item = rw found.1 (found.2, found.3); some = found.4; within = found.5 }
+
     weight : weight_at text ≡ Some (token, size) → Reads t Dictionary text token size
     weight h =
         let found : (weight : ℕ) × (token ≡ Weight weight) × IsWeight weight (take size text) × (0 < size) × (size ≤ length text) = weight_is text token size h in
         record { item = rw found.1 found.2; some = found.3; within = found.4 }
+
     mark : (text : List ℕ) → mark_at t.marks text ≡ Some (token, size) → Reads t Dictionary text token size
     mark [] h = absurd (cc)
     mark (b ∷ bs) h = mark_is t b bs token size (mark_found t.marks b bs token size h)
+
     edge : edge_at text ≡ Some (token, size) → Reads t Patterns text token size
     edge h =
         let found : (token ≡ Edge) × (take size text ≡ 46 ∷ []) × (0 < size) × (size ≤ length text) = edge_found text token size h in
         record { item = rw found.0 found.1; some = found.2; within = found.3 }
+
     by_place : (place : Place) → item_at t place text ≡ Some (token, size) → Reads t place text token size
     by_place Dictionary h = ⊎_elim (λ l. letter Dictionary l) (λ rest. ⊎_elim (λ d. digit Dictionary d) (λ rest. ⊎_elim (λ w. weight w) (λ m. mark text m) (or_some (weight_at text) (mark_at t.marks text) (token, size) rest)) (or_some (digit_at text) (option_or (weight_at text) (mark_at t.marks text)) (token, size) rest)) (or_some (letter_at t.spellings text) (option_or (digit_at text) (option_or (weight_at text) (mark_at t.marks text))) (token, size) h)
     by_place Patterns h = ⊎_elim (λ l. letter Patterns l) (λ rest. ⊎_elim (λ d. digit Patterns d) (λ e. edge e) (or_some (digit_at text) (edge_at text) (token, size) rest)) (or_some (letter_at t.spellings text) (option_or (digit_at text) (edge_at text)) (token, size) h)
@@ -183,11 +189,11 @@ cut_first t rules place line x xs cut =
 -- where no item begins the line, its longest cut is empty
 longest_none : (t : Alphabet) → KeepsRules t → (place : Place) (column : ℕ) (line : List ℕ) → item_at t place line ≡ None → IsLongest t place line (tokens_of (cut_from t place column zero line))
 longest_none t rules place column line none = record {
-    items = [];
-    cut = record { each = tt; prefix = refl };
-    same = ap tokens_of (cut_none t place column line none);
-    all = every
-  }
+  items = [];
+  cut = record { each = tt; prefix = refl };
+  same = ap tokens_of (cut_none t place column line none);
+  all = every;
+}
   where
     every : (other : List (Token × List ℕ)) → IsCut t place line other → IsPrefix other []
     every [] cut = ([], refl)
@@ -196,16 +202,18 @@ longest_none t rules place column line none = record {
 -- where an item begins the line, its longest cut has it before that of the rest
 longest_item : (t : Alphabet) → KeepsRules t → (place : Place) (column : ℕ) (line : List ℕ) (token : Token) (size : ℕ) → item_at t place line ≡ Some (token, size) → IsLongest t place (drop size line) (tokens_of (cut_from t place (column + size) zero (drop size line))) → IsLongest t place line (tokens_of (cut_from t place column zero line))
 longest_item t rules place column line token size found rest = record {
-    items = (token, take size line) ∷ rest.items;
-    cut = record { each = (reads.item, rest.cut.each); prefix = begins_join size line (joined rest.items) rest.cut.prefix };
-    same = ap tokens_of (cut_item t place column line token size found reads.some reads.within) ∙ ap (λ (tokens : List Token). token ∷ tokens) rest.same;
-    all = every
-  }
+  items = (token, take size line) ∷ rest.items;
+  cut = record { each = (reads.item, rest.cut.each); prefix = begins_join size line (joined rest.items) rest.cut.prefix };
+  same = ap tokens_of (cut_item t place column line token size found reads.some reads.within) ∙ ap (λ (tokens : List Token). token ∷ tokens) rest.same;
+  all = every;
+}
   where
     front_is : (text more line : List ℕ) → line ≡ text ++ more → text ≡ take (length text) line
     front_is text more line is = rw is (sym (take_at text more (length text) refl))
+
     reads : Reads t place line token size
     reads = item_found t rules place line token size found
+
     every : (other : List (Token × List ℕ)) → IsCut t place line other → IsPrefix other ((token, take size line) ∷ rest.items)
     every [] cut = ((token, take size line) ∷ rest.items, refl)
     every (x ∷ xs) cut =

@@ -49,19 +49,19 @@ first_there index sign sound low high =
 -- a table keeps the rules
 pub keeps : (left right a b c d : ℕ) (index : Index) → IsTable left right (a ∷ b ∷ c ∷ d ∷ []) index → KeepsRules (record { left = left; right = right; marks = a ∷ b ∷ c ∷ d ∷ []; spellings = pairs index })
 keeps left right a b c d index table = record {
-    left_some = table.left_some;
-    left_few = table.left_few;
-    right_some = table.right_some;
-    right_few = table.right_few;
-    four = refl;
-    marks_good = table.marks_good;
-    letters_few = let count : length index.firsts.items ≡ letters_in (pairs index) = table.sound.letters in let few : length index.firsts.items ≤ 2000 = table.few in omega arith;
-    signs_low = table.sound.signs;
-    signs_high = λ s among. sign_within (pairs index) s among;
-    spelled = λ s among. list_all_at (λ s. is_spelling (a ∷ b ∷ c ∷ d ∷ []) s.1) (pairs index) s table.spelled among;
-    apart = table.sound.apart;
-    each = λ sign low high. first_there index sign table.sound low high
-  }
+  left_some = table.left_some;
+  left_few = table.left_few;
+  right_some = table.right_some;
+  right_few = table.right_few;
+  four = refl;
+  marks_good = table.marks_good;
+  letters_few = let count : length index.firsts.items ≡ letters_in (pairs index) = table.sound.letters in let few : length index.firsts.items ≤ 2000 = table.few in omega arith;
+  signs_low = table.sound.signs;
+  signs_high = λ s among. sign_within (pairs index) s among;
+  spelled = λ s among. list_all_at (λ s. is_spelling (a ∷ b ∷ c ∷ d ∷ []) s.1) (pairs index) s table.spelled among;
+  apart = table.sound.apart;
+  each = λ sign low high. first_there index sign table.sound low high;
+}
 
 -- the spelling of a letter is an item
 pub spelling_item : (t : Alphabet) → KeepsRules t → (place : Place) (sign : ℕ) → 2 ≤ sign → sign ≤ letters_of t + 1 → IsItem t place (Letter sign) (spelling_of t sign)
