@@ -4,13 +4,8 @@ use Rattle.std.specs.List.{list_all}
 use Rattle.pg_types.specs.declared.limits.TheConstants.{SIGNS_MAX}
 use Rattle.pg_translate.specs.declared.index.Index.{Index}
 use Rattle.pg_translate.specs.Spellings.{is_spelling}
-use Rattle.pg_translate.specs.Tables.{mark_fails}
+use Rattle.pg_translate.specs.Rules.{are_marks}
 use Rattle.pg_translate.specs.Fronts.{IsIndex, pairs}
-
--- whether no mark fails beside those before it
-abbrev pub are_marks : List ℕ → List ℕ → Bool
-are_marks earlier [] = true
-are_marks earlier (mark ∷ marks) = not (mark_fails earlier mark) && are_marks (mark ∷ earlier) marks
 
 -- the rules of the translate file on minima, marks, letters and spellings
 pub record IsTable (left right : ℕ) (marks : List ℕ) (index : Index) : Type 0 where

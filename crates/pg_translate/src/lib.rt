@@ -9,4 +9,4 @@ mod weights;
 
 pub use items::{Item, Place};
 pub use spellings::SPELLING_MAX;
-pub use table::{MINIMUM_MAX, Table};
+pub use table::{MINIMUM_MAX, Table, laws};

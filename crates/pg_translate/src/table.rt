@@ -4,6 +4,8 @@ ghost use Rattle.pg_translate.specs.Alphabets.{Alphabet};
 ghost use Rattle.pg_translate.specs.Fronts.{pairs};
 ghost use Rattle.pg_translate.specs.Sound.{IsTable};
 
+pub mod laws;
+
 use crate::index::Index;
 use crate::items::{Item, Place};
 use crate::spellings::SPELLING_MAX;
@@ -125,6 +127,7 @@ impl Table {
     }
 
     /// The letter whose spelling begins `text`, with the size of that spelling.
+    #[inline]
     fn letter(&self, text: &[u8]) -> Option<(Sign, usize)>
         ensures letter { MatchOption result (letter_at self.now.spellings text.now ≡ None) (λ l. letter_at self.now.spellings text.now ≡ Some (token.Letter l.0, l.1)) }
         ensures sign { IfSome result (λ l. (1 < l.0) × (l.0 ≤ letters_of self.now + 1)) }
@@ -134,6 +137,7 @@ impl Table {
     }
 
     /// The mark whose byte begins `text`.
+    #[inline]
     fn mark(&self, text: &[u8]) -> Option<Mark>
         requires { 0 < length text.now }
         ensures { MatchOption result (mark_at self.now.marks text.now ≡ None) (λ m. mark_at self.now.marks text.now ≡ Some (token.Marked m, 1)) }
@@ -157,6 +161,7 @@ impl Table {
     /// `End` comes exactly where the line ends here, or a blank or TAB stands here. `Bad` comes exactly where no item stands
     /// here and the line does not end. Letters have signs 2 to `letters` + 1, digits are 0 to 9, and weights 1 to 9,999. Marks
     /// and weights come only in a dictionary, and `Edge` only in patterns.
+    #[inline]
     pub fn item<'a>(&self, place: Place, rest: &'a [u8]) -> Item<'a>
         ensures item { IsFirstItem self.now place rest.now result }
         ensures range { IsInRange self.now result }
@@ -191,5 +196,72 @@ impl Table {
         } else {
             Item::Bad
         }
+    }
+}
+
+#[cfg(test)]
+mod tests {
+    use super::*;
+    use std::test::Fail;
+
+    #[test]
+    fn parts_of_the_default_table(rt: HostRuntime) -> Result<(), Fail> {
+        let table = Table::default_letters(rt.alloc())?;
+        assert_eq!(rt; table.letters(), 26);
+        assert_eq!(rt; (table.left(), table.right()), (2, 3));
+        assert_eq!(rt; table.spelling(EDGE), b".".as_slice());
+        assert_eq!(rt; table.spelling(2), b"a".as_slice());
+        assert_eq!(rt; table.spelling(27), b"z".as_slice());
+        for (mark, byte) in [
+            (Mark::Error, b'.'),
+            (Mark::Missed, b'-'),
+            (Mark::Found, b'*'),
+            (Mark::DontCare, b'?'),
+        ] {
+            assert_eq!(rt; table.mark_byte(mark), byte);
+        }
+        for (signs, ends) in [
+            (2, None),
+            (6, None),
+            (7, Some((3, 3))),
+            (8, Some((3, 4))),
+            (102, Some((3, 98))),
+        ] {
+            assert_eq!(rt; table.reach(signs), ends, "at {signs}");
+        }
+        Ok(())
+    }
+
+    #[test]
+    fn items_of_dictionary_lines(rt: HostRuntime) -> Result<(), Fail> {
+        let table = Table::default_letters(rt.alloc())?;
+        let item = |rest| table.item(Place::Dictionary, rest);
+        assert_eq!(rt; item(b"ab"), Item::Letter(2, b"b"));
+        assert_eq!(rt; item(b"Z"), Item::Letter(27, b""));
+        assert_eq!(rt; item(b"90"), Item::Digit(9, b"0"));
+        assert_eq!(rt; item(b"{0012}c"), Item::Weight(12, b"c"));
+        assert_eq!(rt; item(b"{9999}"), Item::Weight(9999, b""));
+        assert_eq!(rt; item(b".a"), Item::Mark(Mark::Error, b"a"));
+        assert_eq!(rt; item(b"?a"), Item::Mark(Mark::DontCare, b"a"));
+        for bad in ["{0}c", "{12c", "{12345}c", "\u{e4}", "\r"] {
+            assert_eq!(rt; item(bad.as_bytes()), Item::Bad, "at {bad}");
+        }
+        for end in ["", " a", "\ta"] {
+            assert_eq!(rt; item(end.as_bytes()), Item::End, "at {end}");
+        }
+        Ok(())
+    }
+
+    #[test]
+    fn items_of_pattern_lines(rt: HostRuntime) -> Result<(), Fail> {
+        let table = Table::default_letters(rt.alloc())?;
+        let item = |rest| table.item(Place::Patterns, rest);
+        assert_eq!(rt; item(b"a1"), Item::Letter(2, b"1"));
+        assert_eq!(rt; item(b"1a"), Item::Digit(1, b"a"));
+        assert_eq!(rt; item(b".a"), Item::Edge(b"a"));
+        assert_eq!(rt; item(b"-a"), Item::Bad);
+        assert_eq!(rt; item(b"{1}"), Item::Bad);
+        assert_eq!(rt; item(b"\t"), Item::End);
+        Ok(())
     }
 }
