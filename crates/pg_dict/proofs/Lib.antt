@@ -7,3 +7,5 @@ pub mod Enters
 pub mod Told
 pub mod Sizes
 pub mod Lines
+pub mod WordLaws
+pub mod LineLaws

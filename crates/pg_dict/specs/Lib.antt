@@ -7,3 +7,4 @@ pub mod Steps
 pub mod Heads
 pub mod Entries
 pub mod Lent
+pub mod Written

@@ -5,6 +5,7 @@ pub mod dictionary;
 mod entries;
 mod gap;
 mod heads;
+pub mod laws;
 mod letters;
 mod line;
 mod store;

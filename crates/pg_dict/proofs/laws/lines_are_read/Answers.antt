@@ -1,0 +1,5 @@
+use Rattle.pg_dict.proofs.LineLaws.{line_is_read}
+use Rattle.pg_dict.proofs.laws.lines_are_read.Goals as goal
+
+pub returns : goal.returns
+returns c = line_is_read c.args.table.now c.keeps_rules.ensures
