@@ -1,10 +1,9 @@
 -- A step of a cut, and of what is filled in along it.
-use Rattle.std.proofs.Common.{◌≡◌, ℕ, ◌+◌, ◌-◌, ◌<◌, ◌≤◌, suc, zero, List, [], ◌∷◌, length, drop, Option, Some, refl, sym, ◌∙◌, ap, add-zero, arith, length-drop}
+use Rattle.std.proofs.Common.{◌≡◌, ℕ, ◌+◌, ◌-◌, ◌<◌, ◌≤◌, List, length, sym, ◌∙◌, ap, arith, length-drop}
 use Rattle.pg_translate.specs.Alphabets.{Alphabet}
-use Rattle.pg_translate.specs.Tokens.{Token, item_at}
-use Rattle.pg_translate.specs.Cuts.{Cut, with_item, cut_at, cut_from}
+use Rattle.pg_translate.specs.Tokens.{Token}
+use Rattle.pg_translate.specs.Cuts.{Cut, with_item, cut_from}
 use Rattle.pg_translate.specs.Answers.{Takes}
-use Rattle.pg_translate.specs.declared.items.Place.{Place}
 use Rattle.pg_translate.specs.declared.items.Place.TheVariants.{Dictionary}
 use Rattle.pg_translate.proofs.Cuts.{cut_takes}
 use Rattle.pg_dict.specs.Filled.{cut_rest}

@@ -1,10 +1,11 @@
 -- A line with a letter enters its word into a store.
-use Rattle.std.proofs.Common.{◌≡◌, ℕ, ◌+◌, ◌-◌, ◌≤◌, List, [], ◌∷◌, ◌++◌, length, Option, None, Some, Ok, refl, sym, ◌∙◌, ap, arith}
+use Rattle.std.proofs.Common.{◌≡◌, ℕ, ◌+◌, ◌-◌, ◌≤◌, List, [], ◌∷◌, ◌++◌, length, Option, None, Some, Ok, refl, sym, ◌∙◌, ap, arith, ◌<◌}
 use Rattle.pg_types.specs.declared.limits.TheConstants.{EDGE, WEIGHT_MAX, WORD_LETTERS_MAX}
 use Rattle.pg_types.specs.declared.marks.Mark.TheVariants.{Nothing}
 use Rattle.pg_types.specs.declared.refusals.Refusal.{Refusal}
 use Rattle.pg_types.specs.Reading.{unless}
 use Rattle.pg_translate.specs.Alphabets.{Alphabet}
+use Rattle.pg_translate.specs.Rules.{KeepsRules}
 use Rattle.pg_translate.specs.Tokens.{Token, Letter}
 use Rattle.pg_translate.specs.Cuts.{tokens_of}
 use Rattle.pg_dict.specs.declared.store.Store.{Store}
@@ -18,6 +19,7 @@ use Rattle.pg_dict.specs.Store.{columns_of, words_of, IsSound, IsFit}
 use Rattle.pg_dict.proofs.Takes.{add_spots-add}
 use Rattle.pg_dict.proofs.Adds.{length_signs, adds_words, adds_sound}
 use Rattle.pg_dict.proofs.Good.{fits_word}
+use Rattle.pg_dict.proofs.SoundItems.{items_sound}
 
 -- what is not refused
 pub unless_ok : {Y : Type 0} (refusal : Option Refusal) (y z : Y) → unless refusal y ≡ Ok z → (refusal ≡ None) × (y ≡ z)
@@ -44,10 +46,10 @@ word_read t weight line size sign rest before edge first after is_edge is_first 
     )
 
 -- the word that is stored is the line's, and the store stays sound
-pub enters : (t : Alphabet) (weight line size sign n : ℕ) (rest : List ℕ) (s p q u : Store) (start end : ℕ) → IsSound s → columns_of p ≡ add_spots (columns_of s) (spot Nothing weight EDGE ∷ []) → columns_of q ≡ add_spots (columns_of p) (spot Nothing weight sign ∷ []) → filled t weight line size Nothing weight (WORD_LETTERS_MAX - 1) (columns_of q) rest ≡ Ok (columns_of u)
-    → u.words.items ≡ s.words.items ++ record { start = start; end = end; weight = weight } ∷ [] → start ≡ length s.signs.items → end ≡ length u.signs.items → IsFit n u → length u.signs.items ≤ length q.signs.items + WORD_LETTERS_MAX → weight ≤ WEIGHT_MAX
+pub enters : (t : Alphabet) → KeepsRules t → (weight line size sign n : ℕ) (rest : List ℕ) (s p q u : Store) (start end : ℕ) → IsSound s → columns_of p ≡ add_spots (columns_of s) (spot Nothing weight EDGE ∷ []) → columns_of q ≡ add_spots (columns_of p) (spot Nothing weight sign ∷ []) → filled t weight line size Nothing weight (WORD_LETTERS_MAX - 1) (columns_of q) rest ≡ Ok (columns_of u)
+    → u.words.items ≡ s.words.items ++ record { start = start; end = end; weight = weight } ∷ [] → start ≡ length s.signs.items → end ≡ length u.signs.items → IsFit n u → length u.signs.items ≤ length q.signs.items + WORD_LETTERS_MAX → weight ≤ WEIGHT_MAX → EDGE < sign
     → (with_line (words_of s) (headed t line size weight sign rest) ≡ Ok (record { words = words_of u; weight = weight })) × IsSound u
-enters t weight line size sign n rest s p q u start end sound is_edge is_first fills added from to fit short small =
+enters t rules weight line size sign n rest s p q u start end sound is_edge is_first fills added from to fit short small letter =
     let items : List Token = items_in t size rest in
     let spots : List Spot = word_spots weight sign items in
     let r = word_read t weight line size sign rest (columns_of s) (columns_of p) (columns_of q) (columns_of u) is_edge is_first fills in
@@ -56,5 +58,5 @@ enters t weight line size sign n rest s p q u start end sound is_edge is_first f
     let size_p : length p.signs.items ≡ length s.signs.items + 1 = length_signs s p (spot Nothing weight EDGE ∷ []) is_edge in
     let size_q : length q.signs.items ≡ length p.signs.items + 1 = length_signs p q (spot Nothing weight sign ∷ []) is_first in (
       ap (with_line (words_of s)) r.0 ∙ ap (λ (words : List Word). Ok (record { words = words; weight = weight })) (sym (adds_words s u spots start end weight sound grown added from to)),
-      adds_sound s u spots start end weight sound grown added from to (fits_word n s u weight sign items fit grown (omega arith) small),
+      adds_sound s u spots start end weight sound grown added from to (fits_word n s u weight sign items fit grown (omega arith) small letter (items_sound t rules (size - length rest + 1) 0 rest)),
     )

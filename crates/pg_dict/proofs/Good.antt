@@ -1,30 +1,69 @@
 -- A word as it is read keeps what every word keeps.
-use Rattle.std.proofs.Common.{◌≡◌, ℕ, ◌+◌, ◌-◌, ◌≤◌, ◌==◌, true, false, not, ◌&&◌, nat_le, List, [], ◌∷◌, ◌++◌, length, map, slice_index_or, refl, sym, ◌∙◌, ap, arith}
+use Rattle.std.proofs.Common.{◌≡◌, ℕ, ◌+◌, ◌-◌, ◌<◌, ◌≤◌, ◌==◌, Bool, true, false, not, ◌&&◌, ◌||◌, nat_le, nat_lt, List, [], ◌∷◌, ◌++◌, length, map, take, slice_index, slice_index_or, slice_range, refl, sym, ◌∙◌, ap, arith}
 use Rattle.std.specs.List.{list_all}
-use Rattle.std.proofs.lemmas.List.{length-map, map-append, get_or_push, length_push}
+use Rattle.std.proofs.lemmas.List.{length-map, map-append, get_or_push, length_push, take_at}
 use Rattle.std.proofs.lemmas.List.Folds.{list_all-append}
-use Rattle.std.proofs.lemmas.Bool.{and_parts, and_from, le-leb, eq-eqb}
+use Rattle.std.proofs.lemmas.Bool.{and_parts, and_from, le-leb, lt-ltb, eq-eqb}
 use Rattle.pg_types.specs.declared.limits.TheConstants.{EDGE, WEIGHT_MAX, WORD_LETTERS_MAX}
 use Rattle.pg_types.specs.declared.marks.Mark.{Mark}
-use Rattle.pg_types.specs.declared.marks.Mark.TheVariants.{Nothing}
+use Rattle.pg_types.specs.declared.marks.Mark.TheVariants.{Nothing, Error, Missed, Found, DontCare}
 use Rattle.pg_translate.specs.Tokens.{Token, Letter, Digit, Weight, Marked, Edge}
 use Rattle.pg_dict.specs.declared.store.Store.{Store}
-use Rattle.pg_dict.specs.Spots.{Spot, spot, Columns, add_spots}
-use Rattle.pg_dict.specs.Word.{word_with, is_word, is_weight, is_plain_at}
+use Rattle.pg_dict.specs.Spots.{Spot, spot, sets_hyphen, keeps_care, Columns, add_spots}
+use Rattle.pg_dict.specs.Word.{Word, word_with, is_word, is_weight, is_plain_at, decides, has_lengths}
 use Rattle.pg_dict.specs.Words.{spots_from, word_spots}
 use Rattle.pg_dict.specs.Store.{columns_of, is_sign, IsFit}
 use Rattle.pg_dict.proofs.Adds.{list_all_weaker}
 
--- the last spot is the edge behind a plain position
-pub last_spot : (weight : ℕ) (mark : Mark) (number : ℕ) (items : List Token) → (front : List Spot) × (spots_from weight mark number items ≡ front ++ spot Nothing weight EDGE ∷ [])
-last_spot weight mark number [] = ([], refl)
-last_spot weight mark number (Letter s ∷ items) =
-    let p = last_spot weight Nothing weight items in
-    (spot mark number s ∷ p.0, ap (λ (spots : List Spot). spot mark number s ∷ spots) p.1)
-last_spot weight mark number (Digit n ∷ items) = last_spot weight mark n items
-last_spot weight mark number (Weight n ∷ items) = last_spot weight mark n items
-last_spot weight mark number (Marked m ∷ items) = last_spot weight m number items
-last_spot weight mark number (Edge ∷ items) = last_spot weight mark number items
+-- whether an item is no letter, or one whose sign is not that of the edge
+abbrev pub is_sound_item : Token → Bool
+is_sound_item (Letter s) = nat_lt EDGE s
+is_sound_item (Digit n) = true
+is_sound_item (Weight n) = true
+is_sound_item (Marked m) = true
+is_sound_item Edge = true
+
+-- no hyphen where there is no care
+abbrev pub is_decided : Spot → Bool
+is_decided s = not s.hyphen || s.care
+
+mark_decides : (mark : Mark) → not (sets_hyphen mark) || keeps_care mark ≡ true
+mark_decides Nothing = refl
+mark_decides Error = refl
+mark_decides Missed = refl
+mark_decides Found = refl
+mark_decides DontCare = refl
+
+-- spots up to the last edge, which stands behind a plain position: the others are letters
+pub record Ends (weight : ℕ) (spots : List Spot) : Type 0 where
+  pub front : List Spot
+  pub whole : spots ≡ front ++ spot Nothing weight EDGE ∷ []
+  pub letters : list_all (nat_lt EDGE) (map (λ (s : Spot). s.sign) front) ≡ true
+  pub decided : list_all is_decided spots ≡ true
+
+-- so do those of sound items
+pub last_spot : (weight : ℕ) (mark : Mark) (number : ℕ) (items : List Token) → list_all is_sound_item items ≡ true → Ends weight (spots_from weight mark number items)
+last_spot weight mark number [] sound = record { front = []; whole = refl; letters = refl; decided = refl }
+last_spot weight mark number (Letter s ∷ items) sound =
+    let parts = and_parts (nat_lt EDGE s) (list_all is_sound_item items) sound in
+    let rest : Ends weight (spots_from weight Nothing weight items) = last_spot weight Nothing weight items parts.1 in
+    record {
+      front = spot mark number s ∷ rest.front;
+      whole = ap (λ (spots : List Spot). spot mark number s ∷ spots) rest.whole;
+      letters = and_from _ _ parts.0 rest.letters;
+      decided = and_from _ _ (mark_decides mark) rest.decided;
+    }
+last_spot weight mark number (Digit n ∷ items) sound = last_spot weight mark n items sound
+last_spot weight mark number (Weight n ∷ items) sound = last_spot weight mark n items sound
+last_spot weight mark number (Marked m ∷ items) sound = last_spot weight m number items sound
+last_spot weight mark number (Edge ∷ items) sound = last_spot weight mark number items sound
+
+-- decided spots
+pub decides_spots : (spots : List Spot) → list_all is_decided spots ≡ true → decides (map (λ (s : Spot). s.hyphen) spots) (map (λ (s : Spot). s.care) spots) ≡ true
+decides_spots [] decided = refl
+decides_spots (s ∷ spots) decided =
+    let p = and_parts (is_decided s) (list_all is_decided spots) decided in
+    and_from _ _ p.0 (decides_spots spots p.1)
 
 -- what a list shows of its last element
 pub at_last : {X : Type 0} (h : Spot → X) (front : List Spot) (x : Spot) (n : ℕ) (d : X) → n ≡ length front → slice_index_or (map h (front ++ x ∷ [])) n d ≡ h x
@@ -39,30 +78,51 @@ plain_last weight front n is =
     and_from _ _ (ap not (at_last (λ (s : Spot). s.hyphen) front edge n true is))
     (and_from _ _ (eq-eqb _ _ (at_last (λ (s : Spot). s.weight) front edge n (weight + 1) is)) (at_last (λ (s : Spot). s.care) front edge n false is))
 
--- the word of a line is good where its signs and weights are
-pub good_word : (weight sign : ℕ) (items : List Token) → length (word_spots weight sign items) ≤ WORD_LETTERS_MAX + 2 → list_all (nat_le 1) (map (λ (s : Spot). s.sign) (word_spots weight sign items)) ≡ true → list_all is_weight (map (λ (s : Spot). s.weight) (word_spots weight sign items)) ≡ true → weight ≤ WEIGHT_MAX → is_word (word_with weight (word_spots weight sign items)) ≡ true
-good_word weight sign items short signs weights small =
-    let p = last_spot weight Nothing weight items in
-    let front : List Spot = spot Nothing weight EDGE ∷ spot Nothing weight sign ∷ p.0 in
-    let whole : word_spots weight sign items ≡ front ++ spot Nothing weight EDGE ∷ [] = ap (λ (spots : List Spot). spot Nothing weight EDGE ∷ spot Nothing weight sign ∷ spots) p.1 in
-    let n : ℕ = length (word_with weight (word_spots weight sign items)).signs in
-    let size : n ≡ length (word_spots weight sign items) = length-map (word_spots weight sign items) (λ (s : Spot). s.sign) in
-    let long : length (word_spots weight sign items) ≡ length p.0 + 3 = ap (λ (spots : List Spot). length spots) whole ∙ length_push front (spot Nothing weight EDGE) ∙ omega arith in
-    let last : is_plain_at (word_with weight (word_spots weight sign items)) (length (word_with weight (word_spots weight sign items)).signs - 1) ≡ true =
-    ap (λ (spots : List Spot). is_plain_at (word_with weight spots) (length (word_with weight (word_spots weight sign items)).signs - 1)) whole ∙ plain_last weight front (length (word_with weight (word_spots weight sign items)).signs - 1) (omega arith) in
+-- the signs between two edges
+pub inner_signs : (front : List ℕ) (edge n : ℕ) → n ≡ length front + 1 → slice_range (edge ∷ (front ++ edge ∷ [])) 1 n ≡ front
+inner_signs front edge n is =
+    let less : n - 1 ≡ length front = omega arith in
+    ap (λ (k : ℕ). take k (front ++ edge ∷ [])) less ∙ take_at front (edge ∷ []) (length front) refl
+
+-- the word of a line is good where its signs and weights are, and its items are sound
+pub good_word : (weight sign : ℕ) (items : List Token) → length (word_spots weight sign items) ≤ WORD_LETTERS_MAX + 2 → list_all (nat_le 1) (map (λ (s : Spot). s.sign) (word_spots weight sign items)) ≡ true → list_all is_weight (map (λ (s : Spot). s.weight) (word_spots weight sign items)) ≡ true → weight ≤ WEIGHT_MAX → EDGE < sign → list_all is_sound_item items ≡ true → is_word (word_with weight (word_spots weight sign items)) ≡ true
+good_word weight sign items short signs weights small letter sound =
+    let spots : List Spot = word_spots weight sign items in
+    let w : Word = word_with weight spots in
+    let n : ℕ = length w.signs in
+    let edge : Spot = spot Nothing weight EDGE in
+    let ends : Ends weight (spots_from weight Nothing weight items) = last_spot weight Nothing weight items sound in
+    let front : List Spot = edge ∷ spot Nothing weight sign ∷ ends.front in
+    let whole : spots ≡ front ++ edge ∷ [] = ap (λ (spots : List Spot). edge ∷ spot Nothing weight sign ∷ spots) ends.whole in
+    let size : n ≡ length spots = length-map spots (λ (s : Spot). s.sign) in
+    let long : length spots ≡ length ends.front + 3 = ap (λ (spots : List Spot). length spots) whole ∙ length_push front edge ∙ omega arith in
+    let at : n - 1 ≡ length front = omega arith in
+    let lengths : has_lengths w ≡ true =
+    and_from _ _ (le-leb 3 n (omega arith)) (and_from _ _ (le-leb n (WORD_LETTERS_MAX + 2) (omega arith))
+    (and_from _ _ (eq-eqb _ n (length-map spots (λ (s : Spot). s.hyphen) ∙ sym size)) (and_from _ _ (eq-eqb _ n (length-map spots (λ (s : Spot). s.weight) ∙ sym size)) (eq-eqb _ n (length-map spots (λ (s : Spot). s.care) ∙ sym size))))) in
+    let last_sign : slice_index w.signs (n - 1) ≡ EDGE = ap (λ (spots : List Spot). slice_index (word_with weight spots).signs (n - 1)) whole ∙ at_last (λ (s : Spot). s.sign) front edge (n - 1) 0 at in
+    let inner : slice_range w.signs 1 (n - 1) ≡ sign ∷ map (λ (s : Spot). s.sign) ends.front =
+    ap (λ (spots : List Spot). slice_range (word_with weight spots).signs 1 (n - 1)) whole
+    ∙ ap (λ (signs : List ℕ). slice_range (EDGE ∷ sign ∷ signs) 1 (n - 1)) (map-append (λ (s : Spot). s.sign) ends.front (edge ∷ []))
+    ∙ inner_signs (sign ∷ map (λ (s : Spot). s.sign) ends.front) EDGE (n - 1) (omega (arith, length-map ends.front (λ (s : Spot). s.sign))) in
+    let letters : list_all (nat_lt EDGE) (slice_range w.signs 1 (n - 1)) ≡ true = ap (list_all (nat_lt EDGE)) inner ∙ and_from _ _ (lt-ltb EDGE sign letter) ends.letters in
+    let last : is_plain_at w (n - 1) ≡ true = ap (λ (spots : List Spot). is_plain_at (word_with weight spots) (n - 1)) whole ∙ plain_last weight front (n - 1) at in
     let plain : not false && (weight == weight && true) ≡ true = and_from _ _ refl (and_from _ _ (eq-eqb weight weight refl) refl) in
-    and_from _ _ (le-leb 3 n (omega arith)) (and_from _ _ (le-leb n (WORD_LETTERS_MAX + 2) (omega arith)) (and_from _ _ (eq-eqb _ n (length-map (word_spots weight sign items) (λ (s : Spot). s.hyphen) ∙ sym size)) (and_from _ _ (eq-eqb _ n (length-map (word_spots weight sign items) (λ (s : Spot). s.weight) ∙ sym size)) (and_from _ _ (eq-eqb _ n (length-map (word_spots weight sign items) (λ (s : Spot). s.care) ∙ sym size)) (and_from _ _ signs (and_from _ _ weights (and_from _ _ (le-leb weight WEIGHT_MAX small) (and_from _ _ plain (and_from _ _ plain last)))))))))
+    and_from _ _ lengths
+    (and_from _ _ (and_from _ _ signs (and_from _ _ refl (and_from _ _ (eq-eqb _ EDGE last_sign) letters)))
+    (and_from _ _ (and_from _ _ weights (le-leb weight WEIGHT_MAX small))
+    (and_from _ _ (decides_spots spots ends.decided) (and_from _ _ plain (and_from _ _ plain last)))))
 
 -- a sign is at least 1
 pub sign_some : (n sign : ℕ) → is_sign n sign ≡ true → nat_le 1 sign ≡ true
 sign_some n sign is = (and_parts (nat_le 1 sign) (nat_le sign n) is).0
 
 -- the signs and weights of new spots in fit columns are so too
-pub fits_word : (n : ℕ) (s u : Store) (weight sign : ℕ) (items : List Token) → IsFit n u → columns_of u ≡ add_spots (columns_of s) (word_spots weight sign items) → length (word_spots weight sign items) ≤ WORD_LETTERS_MAX + 2 → weight ≤ WEIGHT_MAX → is_word (word_with weight (word_spots weight sign items)) ≡ true
-fits_word n s u weight sign items fit grown short small =
+pub fits_word : (n : ℕ) (s u : Store) (weight sign : ℕ) (items : List Token) → IsFit n u → columns_of u ≡ add_spots (columns_of s) (word_spots weight sign items) → length (word_spots weight sign items) ≤ WORD_LETTERS_MAX + 2 → weight ≤ WEIGHT_MAX → EDGE < sign → list_all is_sound_item items ≡ true → is_word (word_with weight (word_spots weight sign items)) ≡ true
+fits_word n s u weight sign items fit grown short small letter sound =
     let spots : List Spot = word_spots weight sign items in
     let signs : list_all (is_sign n) (s.signs.items ++ map (λ (x : Spot). x.sign) spots) ≡ true = ap (λ (c : Columns). list_all (is_sign n) c.signs) (sym grown) ∙ fit.signs in
     let weights : list_all is_weight (s.weights.items ++ map (λ (x : Spot). x.weight) spots) ≡ true = ap (λ (c : Columns). list_all is_weight c.weights) (sym grown) ∙ fit.weights in
     let new_signs : list_all (is_sign n) (map (λ (x : Spot). x.sign) spots) ≡ true = (and_parts _ _ (sym (list_all-append (is_sign n) s.signs.items (map (λ (x : Spot). x.sign) spots)) ∙ signs)).1 in
     let new_weights : list_all is_weight (map (λ (x : Spot). x.weight) spots) ≡ true = (and_parts _ _ (sym (list_all-append is_weight s.weights.items (map (λ (x : Spot). x.weight) spots)) ∙ weights)).1 in
-    good_word weight sign items short (list_all_weaker (is_sign n) (nat_le 1) (sign_some n) (map (λ (x : Spot). x.sign) spots) new_signs) new_weights small
+    good_word weight sign items short (list_all_weaker (is_sign n) (nat_le 1) (sign_some n) (map (λ (x : Spot). x.sign) spots) new_signs) new_weights small letter sound

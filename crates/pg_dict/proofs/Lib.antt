@@ -3,6 +3,7 @@ pub mod Takes
 pub mod Rows
 pub mod Adds
 pub mod Good
+pub mod SoundItems
 pub mod Enters
 pub mod Told
 pub mod Sizes

@@ -1,6 +1,6 @@
 -- A line of items is cut into them, and a file of lines into those.
-use Rattle.std.proofs.Common.{◌≡◌, ℕ, ◌+◌, ◌-◌, ◌<◌, ◌≤◌, ◌==◌, Bool, true, false, cond, not, ◌&&◌, zero, List, [], ◌∷◌, ◌++◌, length, map, drop, slice_get, Option, None, Some, Result, Ok, refl, sym, ◌∙◌, ap, arith, length-append}
-use Rattle.std.specs.List.{list_all, AllByRecursion, concat, onto_first}
+use Rattle.std.proofs.Common.{◌≡◌, ℕ, ◌+◌, ◌<◌, ◌≤◌, Bool, true, cond, not, zero, List, [], ◌∷◌, ◌++◌, length, map, drop, Option, None, Some, Ok, refl, ◌∙◌, ap, arith, length-append}
+use Rattle.std.specs.List.{list_all, AllByRecursion, onto_first}
 use Rattle.std.specs.Option.{option_map, option_or}
 use Rattle.std.proofs.lemmas.Bool.{and_parts, not-true, false≢true}
 use Rattle.std.proofs.lemmas.List.{append_assoc, drop_at}
@@ -20,7 +20,7 @@ use Rattle.pg_translate.specs.declared.items.Place.TheVariants.{Dictionary}
 use Rattle.pg_translate.proofs.Cuts.{cut_item}
 use Rattle.pg_translate.proofs.ItemLaws.{item_reads}
 use Rattle.pg_dict.specs.Word.{Word}
-use Rattle.pg_dict.specs.Words.{LineWord, letter_columns, column_of_letter, line_refusal, line_word, line_of, refused, stop_kind, with_words, on_line, words_from, words}
+use Rattle.pg_dict.specs.Words.{LineWord, letter_columns, line_refusal, line_word, line_of, refused, stop_kind, with_words, on_line, words_from, words}
 use Rattle.pg_dict.specs.Written.{letters_among, IsLine, file_of, LinesGive}
 use Rattle.pg_dict.proofs.Lines.{words_short}
 

@@ -1,16 +1,16 @@
 -- What a dictionary tells of its words.
-use Rattle.std.proofs.Common.{◌≡◌, ℕ, ◌+◌, ◌-◌, ◌*◌, ◌<◌, ◌≤◌, Bool, true, false, nat_le, List, [], ◌∷◌, length, slice_index_or, slice_get, slice_range, Some, refl, sym, ◌∙◌, ap, arith, length-append}
+use Rattle.std.proofs.Common.{◌≡◌, ℕ, ◌+◌, ◌-◌, ◌*◌, ◌<◌, ◌≤◌, Bool, true, false, nat_le, List, [], ◌∷◌, length, slice_index_or, slice_get, slice_range, Some, refl, sym, ◌∙◌, ap, arith, length-append, ◌||◌, not, nat_lt, slice_index, zero, suc, unwrap_or, ◌==◌}
 use Rattle.std.specs.List.{list_all, sum_by, All}
 use Rattle.std.specs.Option.{option_map}
 use Rattle.std.proofs.lemmas.List.{length-map}
 use Rattle.std.proofs.lemmas.List.Folds.{list_all-append}
 use Rattle.std.proofs.lemmas.List.Sums.{AllPass-from_list_all, sum_by-cons}
-use Rattle.std.proofs.lemmas.Bool.{and_parts, and_from, not-true, leb-true, eqb-true}
+use Rattle.std.proofs.lemmas.Bool.{and_parts, and_from, not-true, true≢false, ltb-true, leb-true, eqb-true}
 use Rattle.std.proofs.lemmas.Option.{slice_get-get_or, get_or_from_slice_get, slice_get_within, slice_get_read, slice_get-map}
-use Rattle.pg_types.specs.declared.limits.TheConstants.{FILE_MAX, WEIGHT_MAX, WORD_LETTERS_MAX}
+use Rattle.pg_types.specs.declared.limits.TheConstants.{EDGE, FILE_MAX, WEIGHT_MAX, WORD_LETTERS_MAX}
 use Rattle.pg_dict.specs.declared.store.Store.{Store}
 use Rattle.pg_dict.specs.declared.store.Stored.{Stored}
-use Rattle.pg_dict.specs.Word.{Word, letters_of, IsPlainAt, IsWord, SignsAtMost, is_plain_at, is_word}
+use Rattle.pg_dict.specs.Word.{Word, letters_of, IsPlainAt, IsWord, SignsAtMost, is_plain_at, decides, has_lengths, has_signs, has_weights, has_plain, is_word}
 use Rattle.pg_dict.specs.Store.{columns_of, word_at, words_of, signs_of, is_sign, IsDictionary}
 
 -- a number that passes the tests of all elements
@@ -19,6 +19,9 @@ all_at_most n xs pass k d within = leb-true _ n (AllPass-from_list_all (λ x. na
 
 pub all_at_least : (n : ℕ) (xs : List ℕ) → list_all (nat_le n) xs ≡ true → All (λ x. n ≤ x) xs
 all_at_least n xs pass k d within = leb-true n _ (AllPass-from_list_all (nat_le n) xs pass k d within)
+
+pub all_above : (n : ℕ) (xs : List ℕ) → list_all (nat_lt n) xs ≡ true → All (λ x. n < x) xs
+all_above n xs pass k d within = ltb-true n _ (AllPass-from_list_all (nat_lt n) xs pass k d within)
 
 -- a plain position, from its test
 pub plain_from : (w : Word) (p : ℕ) → p < length w.signs → length w.hyphens ≡ length w.signs → length w.weights ≡ length w.signs → length w.cares ≡ length w.signs → is_plain_at w p ≡ true → IsPlainAt w p
@@ -31,35 +34,62 @@ plain_from w p within hyphens weights cares pass =
       care = slice_get-get_or w.cares p false (omega arith) ∙ ap (λ x. Some x) b.1;
     }
 
+-- where there is no care there is no hyphen
+pub disputed_from : (hyphens cares : List Bool) (p : ℕ) → length hyphens ≡ length cares → decides hyphens cares ≡ true → slice_get cares p ≡ Some false → slice_get hyphens p ≡ Some false
+disputed_from hyphens [] p same pass at = cc
+disputed_from [] (care ∷ cares) p same pass at = absurd (omega arith)
+disputed_from (hyphen ∷ hyphens) (care ∷ cares) zero same pass at =
+    let none : care ≡ false = ap (λ o. unwrap_or o true) at in
+    let parts = and_parts (not hyphen || care) (decides hyphens cares) pass in
+    ap (λ x. Some x) (no_hyphen hyphen care parts.0 none)
+  where
+    no_hyphen : (hyphen care : Bool) → (not hyphen || care) ≡ true → care ≡ false → hyphen ≡ false
+    no_hyphen false care test none = refl
+    no_hyphen true care test none = absurd (true≢false (sym test ∙ none))
+disputed_from (hyphen ∷ hyphens) (care ∷ cares) (suc p) same pass at =
+    disputed_from hyphens cares p (omega arith) (and_parts (not hyphen || care) (decides hyphens cares) pass).1 at
+
+-- a sign, from its test
+pub sign_from : (signs : List ℕ) (p : ℕ) → p < length signs → (slice_index signs p == EDGE) ≡ true → slice_get signs p ≡ Some EDGE
+sign_from signs p within pass = slice_get-get_or signs p 0 within ∙ ap (λ (x : ℕ). Some x) (eqb-true _ EDGE pass)
+
 -- a word, from its test
 pub word_from : (w : Word) → is_word w ≡ true → IsWord w
 word_from w pass =
-    let a = and_parts _ _ pass in
-    let b = and_parts _ _ a.1 in
-    let c = and_parts _ _ b.1 in
-    let d = and_parts _ _ c.1 in
-    let e = and_parts _ _ d.1 in
-    let f = and_parts _ _ e.1 in
-    let g = and_parts _ _ f.1 in
-    let h = and_parts _ _ g.1 in
-    let i = and_parts _ _ h.1 in
-    let j = and_parts _ _ i.1 in
-    let long : 3 ≤ length w.signs = leb-true 3 _ a.0 in
-    let hyphens : length w.hyphens ≡ length w.signs = eqb-true _ _ c.0 in
-    let weights : length w.weights ≡ length w.signs = eqb-true _ _ d.0 in
-    let cares : length w.cares ≡ length w.signs = eqb-true _ _ e.0 in
+    let a = and_parts (has_lengths w) _ pass in
+    let b = and_parts (has_signs w) _ a.1 in
+    let c = and_parts (has_weights w) _ b.1 in
+    let d = and_parts (decides w.hyphens w.cares) (has_plain w) c.1 in
+    let lengths = and_parts _ _ a.0 in
+    let lengths2 = and_parts _ _ lengths.1 in
+    let lengths3 = and_parts _ _ lengths2.1 in
+    let lengths4 = and_parts _ _ lengths3.1 in
+    let signs = and_parts _ _ b.0 in
+    let signs2 = and_parts _ _ signs.1 in
+    let signs3 = and_parts _ _ signs2.1 in
+    let weights = and_parts _ _ c.0 in
+    let plain = and_parts _ _ d.1 in
+    let plain2 = and_parts _ _ plain.1 in
+    let long : 3 ≤ length w.signs = leb-true 3 _ lengths.0 in
+    let hyphens_len : length w.hyphens ≡ length w.signs = eqb-true _ _ lengths3.0 in
+    let weights_len : length w.weights ≡ length w.signs = eqb-true _ _ lengths4.0 in
+    let cares_len : length w.cares ≡ length w.signs = eqb-true _ _ lengths4.1 in
     record {
       long = long;
-      short = leb-true _ (WORD_LETTERS_MAX + 2) b.0;
-      hyphens_len = hyphens;
-      weights_len = weights;
-      cares_len = cares;
-      signs = all_at_least 1 w.signs f.0;
-      weights = all_at_most WEIGHT_MAX w.weights g.0;
-      weight = leb-true w.weight WEIGHT_MAX h.0;
-      first = plain_from w 0 (omega arith) hyphens weights cares i.0;
-      second = plain_from w 1 (omega arith) hyphens weights cares j.0;
-      last = plain_from w (length w.signs - 1) (omega arith) hyphens weights cares j.1;
+      short = leb-true _ (WORD_LETTERS_MAX + 2) lengths2.0;
+      hyphens_len = hyphens_len;
+      weights_len = weights_len;
+      cares_len = cares_len;
+      signs = all_at_least 1 w.signs signs.0;
+      begins = sign_from w.signs 0 (omega arith) signs2.0;
+      ends = sign_from w.signs (length w.signs - 1) (omega arith) signs3.0;
+      letters = all_above EDGE (slice_range w.signs 1 (length w.signs - 1)) signs3.1;
+      weights = all_at_most WEIGHT_MAX w.weights weights.0;
+      weight = leb-true w.weight WEIGHT_MAX weights.1;
+      disputed = λ p. disputed_from w.hyphens w.cares p (omega arith) d.0;
+      first = plain_from w 0 (omega arith) hyphens_len weights_len cares_len plain.0;
+      second = plain_from w 1 (omega arith) hyphens_len weights_len cares_len plain2.0;
+      last = plain_from w (length w.signs - 1) (omega arith) hyphens_len weights_len cares_len plain2.1;
     }
 
 -- all words
@@ -71,7 +101,7 @@ pub letters_sum : (ws : List Word) → list_all is_word ws ≡ true → sum_by l
 letters_sum [] pass = refl
 letters_sum (w ∷ ws) pass =
     let p = and_parts (is_word w) (list_all is_word ws) pass in
-    let long : 3 ≤ length w.signs = leb-true 3 _ (and_parts _ _ p.0).0 in
+    let long : 3 ≤ length w.signs = leb-true 3 _ (and_parts _ _ (and_parts (has_lengths w) _ p.0).0).0 in
     let rest : sum_by letters_of ws + 2 * length ws ≡ length (signs_of ws) = letters_sum ws p.1 in
     let sum : sum_by letters_of (w ∷ ws) ≡ length w.signs - 2 + sum_by letters_of ws = sum_by-cons letters_of w ws in
     omega (arith, length-append w.signs (signs_of ws))

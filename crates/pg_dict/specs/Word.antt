@@ -1,7 +1,7 @@
 -- A word of a dictionary.
-use Rattle.std.specs.Prelude.{◌≡◌, ℕ, ◌+◌, ◌-◌, ◌≤◌, ◌==◌, nat_le, Bool, true, false, not, ◌&&◌, List, map, length, slice_get, slice_index_or, Some, All}
+use Rattle.std.specs.Prelude.{◌≡◌, ℕ, ◌+◌, ◌-◌, ◌<◌, ◌≤◌, ◌==◌, nat_le, nat_lt, Bool, true, false, not, ◌&&◌, ◌||◌, List, [], ◌∷◌, map, length, slice_get, slice_index, slice_index_or, slice_range, Some, All}
 use Rattle.std.specs.List.{list_all}
-use Rattle.pg_types.specs.declared.limits.TheConstants.{WEIGHT_MAX, WORD_LETTERS_MAX}
+use Rattle.pg_types.specs.declared.limits.TheConstants.{EDGE, WEIGHT_MAX, WORD_LETTERS_MAX}
 use Rattle.pg_dict.specs.Spots.{Spot}
 
 -- a word: its signs, of each position its hyphen, weight and care, and its own weight
@@ -32,7 +32,8 @@ pub record IsPlainAt (w : Word) (p : ℕ) : Type 0 where
   pub weight : slice_get w.weights p ≡ Some w.weight
   pub care : slice_get w.cares p ≡ Some true
 
--- what every word of a dictionary keeps
+-- what every word of a dictionary keeps: it is an edge, 1 to 100 letters and an edge; all weights are within their limit; a
+-- position without care has no hyphen; and the positions that do not stand between two letters are plain
 pub record IsWord (w : Word) : Type 0 where
   pub long : 3 ≤ length w.signs
   pub short : length w.signs ≤ WORD_LETTERS_MAX + 2
@@ -40,8 +41,12 @@ pub record IsWord (w : Word) : Type 0 where
   pub weights_len : length w.weights ≡ length w.signs
   pub cares_len : length w.cares ≡ length w.signs
   pub signs : All (λ sign. 1 ≤ sign) w.signs
+  pub begins : slice_get w.signs 0 ≡ Some EDGE
+  pub ends : slice_get w.signs (length w.signs - 1) ≡ Some EDGE
+  pub letters : All (λ sign. EDGE < sign) (slice_range w.signs 1 (length w.signs - 1))
   pub weights : All (λ weight. weight ≤ WEIGHT_MAX) w.weights
   pub weight : w.weight ≤ WEIGHT_MAX
+  pub disputed : (p : ℕ) → slice_get w.cares p ≡ Some false → slice_get w.hyphens p ≡ Some false
   pub first : IsPlainAt w 0
   pub second : IsPlainAt w 1
   pub last : IsPlainAt w (length w.signs - 1)
@@ -57,9 +62,23 @@ is_weight weight = nat_le weight WEIGHT_MAX
 abbrev pub is_plain_at : Word → ℕ → Bool
 is_plain_at w p = not (slice_index_or w.hyphens p true) && (slice_index_or w.weights p (w.weight + 1) == w.weight && slice_index_or w.cares p false)
 
+-- no hyphen where there is no care
+abbrev pub decides : List Bool → List Bool → Bool
+decides [] cares = true
+decides (hyphen ∷ hyphens) [] = true
+decides (hyphen ∷ hyphens) (care ∷ cares) = (not hyphen || care) && decides hyphens cares
+
+abbrev pub has_lengths : Word → Bool
+has_lengths w = nat_le 3 (length w.signs) && (nat_le (length w.signs) (WORD_LETTERS_MAX + 2) && (length w.hyphens == length w.signs && (length w.weights == length w.signs && length w.cares == length w.signs)))
+
+abbrev pub has_signs : Word → Bool
+has_signs w = list_all (nat_le 1) w.signs && (slice_index w.signs 0 == EDGE && (slice_index w.signs (length w.signs - 1) == EDGE && list_all (nat_lt EDGE) (slice_range w.signs 1 (length w.signs - 1))))
+
+abbrev pub has_weights : Word → Bool
+has_weights w = list_all is_weight w.weights && is_weight w.weight
+
+abbrev pub has_plain : Word → Bool
+has_plain w = is_plain_at w 0 && (is_plain_at w 1 && is_plain_at w (length w.signs - 1))
+
 abbrev pub is_word : Word → Bool
-is_word w =
-    nat_le 3 (length w.signs) && (nat_le (length w.signs) (WORD_LETTERS_MAX + 2)
-    && (length w.hyphens == length w.signs && (length w.weights == length w.signs && (length w.cares == length w.signs
-    && (list_all (nat_le 1) w.signs && (list_all is_weight w.weights && (is_weight w.weight
-    && (is_plain_at w 0 && (is_plain_at w 1 && is_plain_at w (length w.signs - 1))))))))))
+is_word w = has_lengths w && (has_signs w && (has_weights w && (decides w.hyphens w.cares && has_plain w)))

@@ -1,5 +1,5 @@
 -- How words and lines are written, for the laws that read them back.
-use Rattle.std.specs.Prelude.{◌≡◌, ℕ, ◌+◌, ◌==◌, nat_lt, Bool, true, false, not, if◌then◌else◌, List, [], ◌∷◌, ◌++◌, map, flat_map, Some, Result, Ok}
+use Rattle.std.specs.Prelude.{◌≡◌, ℕ, ◌+◌, ◌==◌, nat_lt, true, not, if◌then◌else◌, List, [], ◌∷◌, ◌++◌, map, flat_map, Some, Ok}
 use Rattle.std.specs.List.{list_all}
 use Rattle.pg_types.specs.declared.limits.TheConstants.{EDGE}
 use Rattle.pg_types.specs.declared.marks.Mark.{Mark}

@@ -11,6 +11,7 @@ use crate::entries::read_line;
 use crate::store::Store;
 use crate::word::WordRef;
 use pg_translate::Table;
+use pg_translate::laws::keeps_rules;
 use pg_types::{FILE_MAX, Kind, ReadingError, Refusal, Sign, next_line};
 use std::alloc::Global;
 use std::marker::Model;
@@ -55,6 +56,7 @@ impl Dictionary {
             }
             .into());
         }
+        keeps_rules(table);
         let mut store = Store::new(alloc);
         let mut weight = 1;
         let mut number = 1;

@@ -2,6 +2,7 @@
 ghost use Rattle.std.specs.Prelude.{◌≡◌, ◌<◌, ◌≤◌, ◌+◌, ◌*◌, length, IfOk, OnOk};
 ghost use Rattle.pg_types.specs.Reading.{Gives};
 ghost use Rattle.pg_translate.specs.Alphabets.{letters_of};
+ghost use Rattle.pg_translate.specs.Rules.{KeepsRules};
 ghost use Rattle.pg_dict.specs.Words.{line_of};
 ghost use Rattle.pg_dict.specs.Heads.{headed};
 ghost use Rattle.pg_dict.specs.Entries.{with_line};
@@ -20,6 +21,7 @@ impl Line<'_> {
     fn read_word(&self, store: &mut Store, sign: Sign, rest: &[u8]) -> Result<(), ReadingError>
         requires within { length rest.now ≤ self.now.size }
         requires letter { (1 < sign) × (sign ≤ letters_of self.now.table.now + 1) }
+        requires rules { KeepsRules self.now.table.now }
         requires sound { IsSound store.old }
         requires fit { IsFit (letters_of self.now.table.now + 1) store.old }
         ensures word { Gives (λ _. record { words = words_of store.new; weight = self.now.weight }) result (with_line (words_of store.old) (headed self.now.table.now self.now.number self.now.size self.now.weight sign rest.now)) }
@@ -52,6 +54,7 @@ pub(crate) fn read_line(
 ) -> Result<Weight, ReadingError>
     requires short { length text.now ≤ FILE_MAX }
     requires small { weight ≤ WEIGHT_MAX }
+    requires rules { KeepsRules table.now }
     requires sound { IsSound store.old }
     requires fit { IsFit (letters_of table.now + 1) store.old }
     ensures line { Gives (λ next. record { words = words_of store.new; weight = next }) result (with_line (words_of store.old) (line_of table.now number weight text.now)) }

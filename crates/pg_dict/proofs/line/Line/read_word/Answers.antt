@@ -15,7 +15,7 @@ after c = record { signs = c.fill.new.store.signs; hyphens = c.fill.new.store.hy
 -- the word is entered, and the store stays sound
 entered : (c : goal.In_ok-push-3) → (with_line (words_of c.args.store.now) (headed c.args.self.now.table.now c.args.self.now.number c.args.self.now.size c.args.self.now.weight c.args.sign c.args.rest.now) ≡ Ok (record { words = words_of (after c); weight = c.args.self.now.weight })) × IsSound (after c)
 entered c =
-    enters c.args.self.now.table.now c.args.self.now.weight c.args.self.now.number c.args.self.now.size c.args.sign (letters_of c.args.self.now.table.now + 1) c.args.rest.now c.args.store.now c.push.new.self c.push-2.new.self (after c) c.len-start.result c.len-end.result c.requires.sound
+    enters c.args.self.now.table.now c.requires.rules c.args.self.now.weight c.args.self.now.number c.args.self.now.size c.args.sign (letters_of c.args.self.now.table.now + 1) c.args.rest.now c.args.store.now c.push.new.self c.push-2.new.self (after c) c.len-start.result c.len-end.result c.requires.sound
     (rw (c.plain.ensures.mark, c.plain.ensures.weight) at c.in_ok-push.ensures.ok)
     (rw (c.plain-2.ensures.mark, c.plain-2.ensures.weight) at c.in_ok-push-2.ensures.ok)
     c.in_ok-fill.ensures.fills
@@ -25,6 +25,7 @@ entered c =
     (record { signs = c.in_ok-fill.ensures.fit.signs; weights = c.in_ok-fill.ensures.fit.weights })
     c.in_ok-fill.ensures.counted.0
     c.args.self.now.small
+    c.requires.letter.0
 
 pub returns-clause-word : goal.returns-clause-word
 returns-clause-word c = (entered c).0
