@@ -1,5 +1,5 @@
 -- How words and lines are written, for the laws that read them back.
-use Rattle.std.specs.Prelude.{◌≡◌, ℕ, ◌+◌, ◌==◌, nat_lt, true, not, if◌then◌else◌, List, [], ◌∷◌, ◌++◌, map, flat_map, Some, Ok}
+use Rattle.std.specs.Prelude.{◌≡◌, ℕ, ◌+◌, ◌-◌, length, slice_index, slice_range, ◌==◌, nat_lt, true, not, if◌then◌else◌, List, [], ◌∷◌, ◌++◌, map, flat_map, Some, Ok}
 use Rattle.std.specs.List.{list_all}
 use Rattle.pg_types.specs.declared.limits.TheConstants.{EDGE}
 use Rattle.pg_types.specs.declared.marks.Mark.{Mark}
@@ -7,7 +7,7 @@ use Rattle.pg_types.specs.declared.marks.Mark.TheVariants.{Nothing, Error, Misse
 use Rattle.pg_types.specs.Lines.{is_line_feed, without_cr}
 use Rattle.pg_translate.specs.Alphabets.{Alphabet}
 use Rattle.pg_translate.specs.Tokens.{Token, Letter, Digit, Weight, Marked, Edge}
-use Rattle.pg_dict.specs.Spots.{Spot, spot}
+use Rattle.pg_dict.specs.Spots.{Spot, spot, sets_hyphen, keeps_care}
 use Rattle.pg_dict.specs.Word.{Word}
 use Rattle.pg_dict.specs.Words.{line_of}
 
@@ -37,13 +37,34 @@ weight_tokens other weight = if weight == other then [] else number_token weight
 abbrev pub letters_tokens : ℕ → List Written → List Token
 letters_tokens weight letters = flat_map (λ (l : Written). mark_tokens l.mark ++ (weight_tokens weight l.weight ++ Letter l.sign ∷ [])) letters
 
--- a word below a line with some word weight: its own weight, its first letter, and the letters behind it
-abbrev pub word_tokens : ℕ → ℕ → ℕ → List Written → List Token
-word_tokens before weight sign letters = weight_tokens before weight ++ Letter sign ∷ letters_tokens weight letters
-
--- the spots of that word
+-- the spots of a word with this weight, first letter and letters behind it
 abbrev pub written_spots : ℕ → ℕ → List Written → List Spot
 written_spots weight sign letters = spot Nothing weight EDGE ∷ spot Nothing weight sign ∷ (map (λ (l : Written). spot l.mark l.weight l.sign) letters ++ spot Nothing weight EDGE ∷ [])
+
+-- marks, weights and signs, one of each for each letter
+abbrev pub written_letters : List Mark → List ℕ → List ℕ → List Written
+written_letters [] weights signs = []
+written_letters (mark ∷ marks) [] signs = []
+written_letters (mark ∷ marks) (weight ∷ weights) [] = []
+written_letters (mark ∷ marks) (weight ∷ weights) (sign ∷ signs) = record { mark = mark; weight = weight; sign = sign } ∷ written_letters marks weights signs
+
+-- what a list has at the positions between two letters of a word
+abbrev pub between_letters : {X : Type 0} → List X → List X
+between_letters xs = slice_range xs 2 (length xs - 1)
+
+-- marks that mean the hyphens and cares between the letters of a word
+pub record AreMarksOf (w : Word) (marks : List Mark) : Type 0 where
+  pub hyphens : map sets_hyphen marks ≡ between_letters w.hyphens
+  pub cares : map keeps_care marks ≡ between_letters w.cares
+
+-- the letters of a word behind its first, with these marks
+abbrev pub letters_with : List Mark → Word → List Written
+letters_with marks w = written_letters marks (between_letters w.weights) (between_letters w.signs)
+
+-- a word with these marks, below a line with some word weight: its own weight where it differs, its first letter, and the
+-- letters behind it
+abbrev pub word_tokens : ℕ → List Mark → Word → List Token
+word_tokens before marks w = weight_tokens before w.weight ++ Letter (slice_index w.signs 1) ∷ letters_tokens w.weight (letters_with marks w)
 
 -- how many of some items are letters
 abbrev pub letters_among : List Token → ℕ

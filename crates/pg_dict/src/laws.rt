@@ -1,21 +1,22 @@
 //! Laws on the words of a dictionary file. A call does nothing; its contract is the law.
 ghost use Rattle.std.specs.Prelude.{◌≡◌, ℕ, ◌≤◌, List, map, length, Some, Ok};
 ghost use Rattle.std.specs.List.{AllByRecursion};
+ghost use Rattle.pg_types.specs.declared.marks.Mark.{Mark};
 ghost use Rattle.pg_translate.specs.declared.items.Place.TheVariants.{Dictionary};
 ghost use Rattle.pg_translate.specs.Tokens.{Token};
 ghost use Rattle.pg_translate.specs.Items.{IsItem, joined};
-ghost use Rattle.pg_dict.specs.Word.{Word, word_with};
+ghost use Rattle.pg_dict.specs.Word.{Word, IsWord};
 ghost use Rattle.pg_dict.specs.Words.{line_of, line_word, words};
-ghost use Rattle.pg_dict.specs.Written.{Written, word_tokens, written_spots, letters_among, IsLine, file_of, LinesGive};
+ghost use Rattle.pg_dict.specs.Written.{AreMarksOf, word_tokens, letters_among, IsLine, file_of, LinesGive};
 
 use pg_translate::Table;
 use pg_translate::laws::keeps_rules;
 use pg_types::{FILE_MAX, WORD_LETTERS_MAX};
 
-/// The items of a written word, under any word weight of the lines above, give that word: its weight, its letters, and of each
-/// position between two letters the hyphen, weight and care.
+/// The items of a written word, under any word weight of the lines above, give that word. Its marks may be any that mean its
+/// hyphens and cares.
 pub fn words_are_read()
-    ensures { (before weight sign : ℕ) (letters : List Written) → line_word before (word_tokens before weight sign letters) ≡ record { word = Some (word_with weight (written_spots weight sign letters)); weight = weight } }
+    ensures { (before : ℕ) (w : Word) (marks : List Mark) → IsWord w → AreMarksOf w marks → line_word before (word_tokens before marks w) ≡ record { word = Some w; weight = w.weight } }
 {}
 
 /// A line of items with at most 100 letters is accepted, and gives what its items give.
