@@ -1,5 +1,5 @@
 -- The words of a dictionary file.
-use Rattle.std.specs.Prelude.{ℕ, ◌+◌, ◌==◌, ◌||◌, nat_lt, if◌then◌else◌, List, [], ◌∷◌, ◌++◌, length, slice_get, Option, None, Some, Result, Ok, Err}
+use Rattle.std.specs.Prelude.{ℕ, ◌+◌, ◌==◌, nat_lt, if◌then◌else◌, List, [], ◌∷◌, ◌++◌, length, slice_get, slice_index, Option, None, Some, Result, Ok, Err}
 use Rattle.std.specs.List.{filter_map}
 use Rattle.std.specs.Option.{option_map, option_or, option_to_list}
 use Rattle.pg_types.specs.declared.limits.TheConstants.{EDGE, FILE_MAX, WORD_LETTERS_MAX}
@@ -11,7 +11,7 @@ use Rattle.pg_types.specs.declared.refusals.Refusal.{Refusal}
 use Rattle.pg_types.specs.Lines.{lines}
 use Rattle.pg_types.specs.Reading.{unless}
 use Rattle.pg_translate.specs.Alphabets.{Alphabet}
-use Rattle.pg_translate.specs.Tokens.{Token, Letter, Digit, Weight, Marked, Edge}
+use Rattle.pg_translate.specs.Tokens.{Token, Letter, Digit, Weight, Marked, Edge, is_ended}
 use Rattle.pg_translate.specs.Cuts.{Placed, Cut, cut, tokens_of}
 use Rattle.pg_translate.specs.declared.items.Place.TheVariants.{Dictionary}
 use Rattle.pg_dict.specs.Spots.{Spot, spot}
@@ -49,10 +49,13 @@ line_word weight (Edge ∷ items) = line_word weight items
 abbrev pub refused : ℕ → Kind → ℕ → Refusal
 refused line kind column = record { kind = kind; line = line; column = column }
 
+-- why a text that begins with no item is refused: a brace begins a bad weight
+abbrev pub bad_kind : List ℕ → Kind
+bad_kind text = if slice_index text 0 == 123 then BadWeight else DictionaryCharacter
+
 -- why a line is refused where its cut stops: not at its end, and not before a blank or TAB
 abbrev pub stop_kind : List ℕ → Option Kind
-stop_kind [] = None
-stop_kind (b ∷ bs) = if b == 32 || b == 9 then None else (if b == 123 then Some BadWeight else Some DictionaryCharacter)
+stop_kind rest = if is_ended rest then None else Some (bad_kind rest)
 
 -- the column of a letter
 abbrev pub column_of_letter : ℕ → Token → Option ℕ

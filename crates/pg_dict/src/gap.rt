@@ -1,7 +1,8 @@
 //! What stands between two letters.
 ghost use Rattle.std.specs.Prelude.{◌≡◌, ◌≤◌};
+ghost use Rattle.pg_types.specs.declared.limits.TheConstants.{WEIGHT_MAX};
 
-use pg_types::{Mark, WEIGHT_MAX, Weight};
+use pg_types::{Mark, Weight};
 
 /// What is known of a position before the sign behind it comes.
 #[derive(Clone, Copy)]
@@ -10,7 +11,7 @@ pub(crate) struct Gap {
     pub mark: Mark,
     /// The last number at the position; the weight of the word where there is none.
     pub weight: Weight,
-    pub ghost small: { weight ≤ 9999 },
+    pub ghost small: { weight ≤ WEIGHT_MAX },
 }
 
 impl Gap {

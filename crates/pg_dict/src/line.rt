@@ -1,6 +1,7 @@
 //! A line that is being read, and its refusals.
-ghost use Rattle.std.specs.Prelude.{◌≡◌, ◌≤◌, ◌+◌, ◌-◌, length, IfSome};
-ghost use Rattle.pg_dict.specs.Words.{refused, stop_kind};
+ghost use Rattle.std.specs.Prelude.{◌≡◌, ◌≤◌, ◌+◌, ◌-◌, length};
+ghost use Rattle.pg_types.specs.declared.limits.TheConstants.{FILE_MAX, WEIGHT_MAX};
+ghost use Rattle.pg_dict.specs.Words.{refused, bad_kind};
 
 use pg_translate::Table;
 use pg_types::{Kind, Refusal, Weight};
@@ -16,13 +17,13 @@ pub(crate) struct Line<'t> {
     pub size: usize,
     /// The word weight.
     pub weight: Weight,
-    pub ghost short: { size ≤ 67108864 },
-    pub ghost small: { weight ≤ 9999 },
+    pub ghost short: { size ≤ FILE_MAX },
+    pub ghost small: { weight ≤ WEIGHT_MAX },
 }
 
 /// Why a byte that begins no item is refused.
 pub(crate) fn kind_of(rest: &[u8]) -> Kind
-    ensures { IfSome (stop_kind rest.now) (λ kind. kind ≡ result) }
+    ensures { result ≡ bad_kind rest.now }
 {
     match rest.first() {
         Some(b'{') => Kind::BadWeight,

@@ -1,4 +1,5 @@
 use Rattle.std.proofs.Common.{◌≡◌, ◌≤◌, ◌+◌, ◌*◌, length}
+use Rattle.pg_types.specs.declared.limits.TheConstants.{WEIGHT_MAX}
 use Rattle.pg_types.specs.Lines.{lines}
 use Rattle.pg_translate.specs.Alphabets.{letters_of}
 use Rattle.pg_dict.specs.Words.{with_words, words_from}
@@ -11,7 +12,7 @@ invariant-lines l = record {
   whole : with_words (words_of l.store) (words_from l.table l.number l.weight (lines l.rest)) ≡ words_from l.table 1 1 (lines l.bytes);
   sound : IsSound l.store;
   fit : IsFit (letters_of l.table + 1) l.store;
-  small : l.weight ≤ 9999;
+  small : l.weight ≤ WEIGHT_MAX;
   number : l.number + length l.rest ≤ length l.bytes + 1;
   left : length l.rest ≤ length l.bytes;
   few : length l.store.signs.items + size_of (lines l.rest) ≤ length l.bytes + 2 * length l.store.words.items;
