@@ -1,6 +1,7 @@
 //! The table of a translate file: its letters with their spellings, its marks and minima, and the items of lines under it.
 #![tactic(auto)]
 
+mod head;
 mod index;
 pub mod items;
 mod spellings;

@@ -1,11 +1,13 @@
 //! The table of a translate file.
-ghost use Rattle.std.specs.Prelude.{◌≡◌, ◌∷◌, [], IfOk};
+ghost use Rattle.std.specs.Prelude.{◌≡◌, IfOk};
 ghost use Rattle.pg_translate.specs.Alphabets.{Alphabet};
 ghost use Rattle.pg_translate.specs.Fronts.{pairs};
+ghost use Rattle.pg_translate.specs.Heads.{marks_in};
 ghost use Rattle.pg_translate.specs.Sound.{IsTable};
 
 pub mod laws;
 
+use crate::head::Head;
 use crate::index::Index;
 use crate::items::{Item, Place};
 use crate::spellings::SPELLING_MAX;
@@ -20,21 +22,16 @@ pub const MINIMUM_MAX: u8 = 99;
 /// The minima, the mark bytes, and the letters with their spellings.
 #[derive(Drop)]
 pub struct Table {
-    left: u8,
-    right: u8,
-    error: u8,
-    missed: u8,
-    found: u8,
-    dont_care: u8,
+    head: Head,
     index: Index,
 }
 
 impl Model for Table {
     ghost Value = { Alphabet };
 
-    ghost view = { λ t. record { left = t.left; right = t.right; marks = t.error ∷ t.missed ∷ t.found ∷ t.dont_care ∷ []; spellings = pairs t.index } };
+    ghost view = { λ t. record { left = t.head.left; right = t.head.right; marks = marks_in t.head; spellings = pairs t.index } };
 
-    ghost invariant = { λ t. IsTable t.left t.right (t.error ∷ t.missed ∷ t.found ∷ t.dont_care ∷ []) t.index };
+    ghost invariant = { λ t. IsTable t.head t.index };
 }
 
 impl Table {
@@ -51,15 +48,16 @@ impl Table {
     pub fn default_letters(alloc: Global) -> Result<Table, AllocError>
         ensures { IfOk result (λ table. table ≡ default_alphabet) }
     {
-        Ok(Table {
+        let head = Head {
             left: 2,
             right: 3,
             error: b'.',
             missed: b'-',
             found: b'*',
             dont_care: b'?',
-            index: Index::default_letters(alloc)?,
-        })
+        };
+        let index = Index::default_letters(alloc)?;
+        Ok(Table { head, index })
     }
 
     /// The number of letters, 0 to 2,000.
@@ -75,7 +73,7 @@ impl Table {
         ensures value { result ≡ self.now.left }
         ensures range { (0 < result) × (result ≤ MINIMUM_MAX) }
     {
-        self.left
+        self.head.left
     }
 
     /// The right minimum, 1 to 99.
@@ -83,7 +81,7 @@ impl Table {
         ensures value { result ≡ self.now.right }
         ensures range { (0 < result) × (result ≤ MINIMUM_MAX) }
     {
-        self.right
+        self.head.right
     }
 
     /// The first spelling of the letter with a sign, and a dot for the edge.
@@ -103,10 +101,10 @@ impl Table {
     {
         match m {
             Mark::Nothing => unreachable!(),
-            Mark::Error => self.error,
-            Mark::Missed => self.missed,
-            Mark::Found => self.found,
-            Mark::DontCare => self.dont_care,
+            Mark::Error => self.head.error,
+            Mark::Missed => self.head.missed,
+            Mark::Found => self.head.found,
+            Mark::DontCare => self.head.dont_care,
         }
     }
 
@@ -117,8 +115,8 @@ impl Table {
         requires high { signs ≤ 102 }
         ensures { result ≡ reach self.now.left self.now.right signs }
     {
-        let left = self.left as usize;
-        let right = self.right as usize;
+        let left = self.head.left as usize;
+        let right = self.head.right as usize;
         if left + right + 2 <= signs {
             Some((left + 1, signs - right - 1))
         } else {
@@ -143,13 +141,13 @@ impl Table {
         ensures { MatchOption result (mark_at self.now.marks text.now ≡ None) (λ m. mark_at self.now.marks text.now ≡ Some (token.Marked m, 1)) }
     {
         let byte = text[0];
-        if byte == self.error {
+        if byte == self.head.error {
             Some(Mark::Error)
-        } else if byte == self.missed {
+        } else if byte == self.head.missed {
             Some(Mark::Missed)
-        } else if byte == self.found {
+        } else if byte == self.head.found {
             Some(Mark::Found)
-        } else if byte == self.dont_care {
+        } else if byte == self.head.dont_care {
             Some(Mark::DontCare)
         } else {
             None
