@@ -4,6 +4,7 @@
 mod head;
 mod index;
 pub mod items;
+mod reading;
 mod spellings;
 pub mod table;
 mod weights;
