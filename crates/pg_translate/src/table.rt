@@ -10,9 +10,10 @@ pub mod laws;
 use crate::head::Head;
 use crate::index::Index;
 use crate::items::{Item, Place};
+use crate::reading::{read_letters, refused};
 use crate::spellings::SPELLING_MAX;
 use crate::weights::weight_of;
-use pg_types::{EDGE, Mark, SIGNS_MAX, Sign, Weight};
+use pg_types::{EDGE, FILE_MAX, Kind, Mark, ReadingError, SIGNS_MAX, Sign, next_line};
 use std::alloc::{AllocError, Global};
 use std::marker::Model;
 
@@ -37,7 +38,8 @@ impl Model for Table {
 impl Table {
     ghost use Rattle.std.specs.Prelude.{◌≡◌, ◌+◌, ◌-◌, ◌<◌, ◌≤◌, length, MatchOption, IfSome, IfOk, Some, None};
     ghost use Rattle.pg_translate.specs.Alphabets.{letters_of, spelling_of, mark_byte_of};
-    ghost use Rattle.pg_translate.specs.Tables.{default_alphabet};
+    ghost use Rattle.pg_types.specs.Reading.{Gives};
+    ghost use Rattle.pg_translate.specs.Tables.{default_alphabet, table};
     ghost use Rattle.pg_translate.specs.Tokens.{letter_at, mark_at};
     ghost use Rattle.pg_translate.specs.Tokens as token;
     ghost use Rattle.pg_translate.specs.Answers.{IsFirstItem, IsInRange};
@@ -57,6 +59,22 @@ impl Table {
             dont_care: b'?',
         };
         let index = Index::default_letters(alloc)?;
+        Ok(Table { head, index })
+    }
+
+    /// The table of a translate file, or the first place at which its rules refuse it. A file of no bytes means the default
+    /// table. Want of memory is an error of its own.
+    pub fn read(alloc: Global, bytes: &[u8]) -> Result<Table, ReadingError>
+        ensures { Gives (λ t. t) result (table bytes.now) }
+    {
+        let Some((first, rest)) = next_line(bytes) else {
+            return Ok(Table::default_letters(alloc)?);
+        };
+        if bytes.len() > FILE_MAX {
+            return Err(refused(Kind::TranslateTooLong, 0, 0));
+        }
+        let head = Head::read(first)?;
+        let index = read_letters(alloc, &head.marks(), rest)?;
         Ok(Table { head, index })
     }
 
