@@ -1,8 +1,8 @@
 -- The pieces and blanks of letter lines.
-use Rattle.std.proofs.Common.{◌≡◌, ℕ, ◌+◌, ◌-◌, ◌<◌, ◌≤◌, ◌==◌, Bool, true, false, cond, ◌⊎◌, ⊎_elim, List, [], ◌∷◌, ◌++◌, length, take, drop, get_or, nat_lt, position, Option, Some, None, refl, sym, ap, ◌∙◌, subst, arith, suc, zero}
+use Rattle.std.proofs.Common.{◌≡◌, ℕ, ◌+◌, ◌-◌, ◌<◌, ◌≤◌, ◌==◌, true, false, ⊎_elim, List, [], ◌∷◌, ◌++◌, length, take, drop, get_or, nat_lt, position, Some, None, refl, ap, ◌∙◌, subst, arith, suc, zero}
 use Rattle.std.specs.List.{position_or_len}
-use Rattle.std.proofs.lemmas.Bool.{cases_Bool, ltb-false, true≢false}
-use Rattle.std.proofs.lemmas.List.{take_rest, take_more, take_all, drop_all}
+use Rattle.std.proofs.lemmas.Bool.{cases_Bool, ltb-false}
+use Rattle.std.proofs.lemmas.List.{take_rest, take_more, drop_all}
 use Rattle.std.proofs.lemmas.List.Sums.{fails_before_first}
 use Rattle.std.proofs.lemmas.List.Quantifiers.{position-Some}
 use Rattle.pg_types.specs.Lines.{pieces_at}
@@ -35,6 +35,7 @@ pieces_last delimiter (b ∷ bs) found some =
   where
     past : length (b ∷ bs) ≤ position_or_len (λ b. b == delimiter) (b ∷ bs)
     past = ⊎_elim (λ (yes : nat_lt (position_or_len (λ b. b == delimiter) (b ∷ bs)) (length (b ∷ bs)) ≡ true). absurd (let there = rw yes at found in cc)) (λ (no : nat_lt (position_or_len (λ b. b == delimiter) (b ∷ bs)) (length (b ∷ bs)) ≡ false). ltb-false _ _ no) (cases_Bool (nat_lt (position_or_len (λ b. b == delimiter) (b ∷ bs)) (length (b ∷ bs))))
+
     none : (j : ℕ) → j < length (b ∷ bs) → (get_or (b ∷ bs) j 0 == delimiter) ≡ false
     none j below = fails_before_first (λ b. b == delimiter) (b ∷ bs) j 0 (omega (arith, past))
 

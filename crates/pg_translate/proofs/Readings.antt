@@ -1,5 +1,5 @@
 -- The checks of letter lines, spelling by spelling and line by line.
-use Rattle.std.proofs.Common.{◌≡◌, ℕ, ◌+◌, ◌-◌, ◌*◌, ◌<◌, ◌≤◌, ◌==◌, max, fold, Bool, true, false, ◌⊎◌, ⊎_elim, List, [], ◌∷◌, ◌++◌, map, length, take, drop, get_or, Result, Ok, Err, refl, sym, ap, ◌∙◌, subst, arith, suc, zero}
+use Rattle.std.proofs.Common.{◌≡◌, ℕ, ◌+◌, ◌-◌, ◌*◌, ◌<◌, ◌≤◌, ◌==◌, max, fold, false, List, [], ◌∷◌, ◌++◌, map, length, take, drop, get_or, Ok, Err, refl, sym, ap, ◌∙◌, subst, arith}
 use Rattle.std.proofs.lemmas.List.{append_assoc, append-nil, map-append, take_rest}
 use Rattle.std.proofs.lemmas.List.Sums.{fold-append}
 use Rattle.pg_types.specs.declared.limits.TheConstants.{SIGNS_MAX}
@@ -55,17 +55,18 @@ pub record HasPieces (old new : Index) (marks : List ℕ) (line letter column de
 -- one piece more
 pub pieces_more : (old mid new : Index) (marks : List ℕ) (line letter column delimiter : ℕ) (text rest piece after : List ℕ) → HasPieces old mid marks line letter column delimiter text rest → pieces_of delimiter rest ≡ piece ∷ pieces_of delimiter after → 0 < length piece → length piece + length after ≤ length rest → outcome (spelling_check marks (pairs mid) (record { line = line; column = column; letter = letter; text = piece })) ≡ Ok tt → pairs new ≡ pairs mid ++ (letter + 1, piece) ∷ [] → (letters_in (pairs new) ≡ letter) × (letter ≤ SIGNS_MAX - 1) → IsIndex new → HasPieces old new marks line letter (column + (length piece + 1)) delimiter text after
 pieces_more old mid new marks line letter column delimiter text rest piece after before cut some shorter passed added letters sound = record {
-    answer = ap (λ (ss : List (ℕ × List ℕ)). outcome (spelling_checks marks ss later)) added ∙ sym (outcome_passed (spelling_check marks (pairs mid) here) (spelling_checks marks (pairs mid ++ signed here ∷ []) later) passed) ∙ ap (λ (ps : List (List ℕ)). outcome (spelling_checks marks (pairs mid) (spellings_at line column letter ps))) (sym cut) ∙ before.answer;
-    spellings = ap (λ (ss : List (ℕ × List ℕ)). ss ++ map signed later) added ∙ append_assoc (pairs mid) (signed here ∷ []) (map signed later) ∙ ap (λ (ps : List (List ℕ)). pairs mid ++ map signed (spellings_at line column letter ps)) (sym cut) ∙ before.spellings;
-    sound = sound;
-    low = omega (arith, letters.0);
-    high = omega (arith, letters.0);
-    few = subst (λ (n : ℕ). n ≤ 2000) (sym letters.0) letters.1;
-    room = omega (arith, before.room)
-  }
+  answer = ap (λ (ss : List (ℕ × List ℕ)). outcome (spelling_checks marks ss later)) added ∙ sym (outcome_passed (spelling_check marks (pairs mid) here) (spelling_checks marks (pairs mid ++ signed here ∷ []) later) passed) ∙ ap (λ (ps : List (List ℕ)). outcome (spelling_checks marks (pairs mid) (spellings_at line column letter ps))) (sym cut) ∙ before.answer;
+  spellings = ap (λ (ss : List (ℕ × List ℕ)). ss ++ map signed later) added ∙ append_assoc (pairs mid) (signed here ∷ []) (map signed later) ∙ ap (λ (ps : List (List ℕ)). pairs mid ++ map signed (spellings_at line column letter ps)) (sym cut) ∙ before.spellings;
+  sound = sound;
+  low = omega (arith, letters.0);
+  high = omega (arith, letters.0);
+  few = subst (λ (n : ℕ). n ≤ 2000) (sym letters.0) letters.1;
+  room = omega (arith, before.room);
+}
   where
     here : ListedSpelling
     here = record { line = line; column = column; letter = letter; text = piece }
+
     later : List ListedSpelling
     later = spellings_at line (column + (length piece + 1)) letter (pieces_of delimiter after)
 
@@ -111,6 +112,7 @@ line_more marks mid new line (piece ∷ pieces) later passed added =
   where
     here : List ListedSpelling
     here = spellings_at line 2 (letters_in mid + 1) (piece ∷ pieces)
+
     next : letters_in new ≡ letters_in mid + 1
     next = ap letters_in added ∙ letters_after mid line 2 (letters_in mid + 1) piece pieces (omega arith)
 
@@ -134,24 +136,24 @@ pub record HasLines (index : Index) (marks text : List ℕ) (line : ℕ) (rest :
 -- no line is read
 pub lines_begin : (index : Index) (marks text : List ℕ) → pairs index ≡ [] → IsIndex index → HasLines index marks text 2 text
 lines_begin index marks text none sound = record {
-    answer = ap (λ (ss : List (ℕ × List ℕ)). outcome (spelling_checks marks ss (spellings_from 2 (letters_in ss + 1) (lines text)))) none;
-    spellings = ap (λ (ss : List (ℕ × List ℕ)). ss ++ map signed (spellings_from 2 (letters_in ss + 1) (lines text))) none;
-    sound = sound;
-    few = rw none (omega arith);
-    begun = omega arith;
-    room = omega arith
-  }
+  answer = ap (λ (ss : List (ℕ × List ℕ)). outcome (spelling_checks marks ss (spellings_from 2 (letters_in ss + 1) (lines text)))) none;
+  spellings = ap (λ (ss : List (ℕ × List ℕ)). ss ++ map signed (spellings_from 2 (letters_in ss + 1) (lines text))) none;
+  sound = sound;
+  few = rw none (omega arith);
+  begun = omega arith;
+  room = omega arith;
+}
 
 -- one line more
 pub lines_more : (mid new : Index) (marks text : List ℕ) (line : ℕ) (rest first after : List ℕ) → HasLines mid marks text line rest → lines rest ≡ first ∷ lines after → length after < length rest → outcome (spelling_checks marks (pairs mid) (spellings_at line 2 (letters_in (pairs mid) + 1) (line_pieces first))) ≡ Ok tt → pairs new ≡ pairs mid ++ map signed (spellings_at line 2 (letters_in (pairs mid) + 1) (line_pieces first)) → letters_in (pairs new) ≤ SIGNS_MAX - 1 → IsIndex new → HasLines new marks text (line + 1) after
 lines_more mid new marks text line rest first after before cut shorter passed added few sound = record {
-    answer = step.0 ∙ ap (λ (ls : List (List ℕ)). outcome (spelling_checks marks (pairs mid) (spellings_from line (letters_in (pairs mid) + 1) ls))) (sym cut) ∙ before.answer;
-    spellings = step.1 ∙ ap (λ (ls : List (List ℕ)). pairs mid ++ map signed (spellings_from line (letters_in (pairs mid) + 1) ls)) (sym cut) ∙ before.spellings;
-    sound = sound;
-    few = few;
-    begun = omega (arith, before.begun);
-    room = omega (arith, before.room)
-  }
+  answer = step.0 ∙ ap (λ (ls : List (List ℕ)). outcome (spelling_checks marks (pairs mid) (spellings_from line (letters_in (pairs mid) + 1) ls))) (sym cut) ∙ before.answer;
+  spellings = step.1 ∙ ap (λ (ls : List (List ℕ)). pairs mid ++ map signed (spellings_from line (letters_in (pairs mid) + 1) ls)) (sym cut) ∙ before.spellings;
+  sound = sound;
+  few = few;
+  begun = omega (arith, before.begun);
+  room = omega (arith, before.room);
+}
   where
     step : (outcome (spelling_checks marks (pairs new) (spellings_from (line + 1) (letters_in (pairs new) + 1) (lines after))) ≡ outcome (spelling_checks marks (pairs mid) (with_line line (letters_in (pairs mid) + 1) (line_pieces first) (λ next. spellings_from (line + 1) next (lines after))))) × (pairs new ++ map signed (spellings_from (line + 1) (letters_in (pairs new) + 1) (lines after)) ≡ pairs mid ++ map signed (with_line line (letters_in (pairs mid) + 1) (line_pieces first) (λ next. spellings_from (line + 1) next (lines after))))
     step = line_more marks (pairs mid) (pairs new) line (line_pieces first) (λ next. spellings_from (line + 1) next (lines after)) passed added

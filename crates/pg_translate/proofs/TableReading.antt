@@ -1,7 +1,7 @@
 -- A whole translate file, from its head and its letter lines.
-use Rattle.std.proofs.Common.{◌≡◌, ℕ, ◌+◌, ◌-◌, ◌<◌, ◌≤◌, max, fold, nat_lt, Bool, true, false, not, ◌&&◌, ◌⊎◌, ⊎_elim, List, [], ◌∷◌, ◌++◌, map, length, Result, Ok, Err, refl, sym, ap, ap₂, ◌∙◌, subst, arith}
+use Rattle.std.proofs.Common.{◌≡◌, ℕ, ◌+◌, ◌-◌, ◌<◌, ◌≤◌, max, fold, nat_lt, Bool, true, false, not, List, [], ◌∷◌, ◌++◌, map, length, Ok, Err, refl, sym, ap, ap₂, ◌∙◌, subst, arith}
 use Rattle.std.specs.List.{list_all, list_any}
-use Rattle.std.proofs.lemmas.Bool.{and_from, cases_Bool, lt-ltb, le-ltb, ltb-false, not-false}
+use Rattle.std.proofs.lemmas.Bool.{and_from, lt-ltb, le-ltb, ltb-false, not-false}
 use Rattle.pg_types.specs.declared.limits.TheConstants.{FILE_MAX, SIGNS_MAX}
 use Rattle.pg_types.specs.declared.refusals.Kind.{Kind}
 use Rattle.pg_types.specs.declared.refusals.Kind.TheVariants.{TranslateTooLong, BadSpelling, SpellingClash, TooManyLetters}
@@ -12,9 +12,8 @@ use Rattle.pg_types.specs.Lines.{lines}
 use Rattle.pg_types.specs.Reading.{Fails, first_refusal}
 use Rattle.pg_translate.specs.declared.head.Head.{Head}
 use Rattle.pg_translate.specs.declared.index.Index.{Index}
-use Rattle.pg_translate.specs.Alphabets.{Alphabet, letters_in}
 use Rattle.pg_translate.specs.Spellings.{is_spelling, clash}
-use Rattle.pg_translate.specs.Tables.{ListedSpelling, check, outcome, signed, spelling_check, spelling_checks, spellings_from, head_checks, minima_checks, mark_checks, marks_of, checks, alphabet_of, table, table_of, default_alphabet, minimum, pair_at}
+use Rattle.pg_translate.specs.Tables.{ListedSpelling, check, outcome, signed, spelling_check, spelling_checks, spellings_from, head_checks, marks_of, alphabet_of, table, table_of, default_alphabet}
 use Rattle.pg_translate.specs.Heads.{IsHead, IsSoundHead, marks_in}
 use Rattle.pg_translate.specs.Sound.{IsTable}
 use Rattle.pg_translate.specs.Fronts.{IsIndex, pairs}
@@ -103,11 +102,11 @@ read_whole bytes first later head index cut few is answer =
 -- the table that is read keeps the rules
 pub read_sound : (later : List (List ℕ)) (head : Head) (index : Index) → IsSoundHead head → IsIndex index → first_refusal (spelling_checks (marks_in head) [] (spellings_from 2 1 later)) (map signed (spellings_from 2 1 later)) ≡ Ok (pairs index) → IsTable head index
 read_sound later head index sound_head sound_index answer = record {
-    head_sound = sound_head;
-    index_sound = sound_index;
-    few = rw (sound_index.letters, ← none.1) (few_letters 0 (marks_in head) [] (spellings_from 2 1 later) (omega arith) none.0);
-    spelled = subst (λ (ss : List (ℕ × List ℕ)). list_all (λ s. is_spelling (marks_in head) s.1) ss ≡ true) none.1 (spelled_all (marks_in head) [] (spellings_from 2 1 later) none.0)
-  }
+  head_sound = sound_head;
+  index_sound = sound_index;
+  few = rw (sound_index.letters, ← none.1) (few_letters 0 (marks_in head) [] (spellings_from 2 1 later) (omega arith) none.0);
+  spelled = subst (λ (ss : List (ℕ × List ℕ)). list_all (λ s. is_spelling (marks_in head) s.1) ss ≡ true) none.1 (spelled_all (marks_in head) [] (spellings_from 2 1 later) none.0);
+}
   where
     none : (spelling_checks (marks_in head) [] (spellings_from 2 1 later) ≡ []) × (map signed (spellings_from 2 1 later) ≡ pairs index)
     none = first_none (spelling_checks (marks_in head) [] (spellings_from 2 1 later)) (map signed (spellings_from 2 1 later)) (pairs index) answer

@@ -129,8 +129,8 @@ signed spelling = (spelling.letter + 1, spelling.text)
 abbrev pub spelling_check : List ℕ → List (ℕ × List ℕ) → ListedSpelling → List Refusal
 spelling_check marks earlier s =
     check (nat_lt (SIGNS_MAX - 1) s.letter) TooManyLetters s.line 1
-        ++ (check (not (is_spelling marks s.text)) BadSpelling s.line s.column
-        ++ check (list_any (clash (signed s)) earlier) SpellingClash s.line s.column)
+    ++ (check (not (is_spelling marks s.text)) BadSpelling s.line s.column
+    ++ check (list_any (clash (signed s)) earlier) SpellingClash s.line s.column)
 
 -- the checks of the letter lines, spelling by spelling
 abbrev pub spelling_checks : List ℕ → List (ℕ × List ℕ) → List ListedSpelling → List Refusal

@@ -98,10 +98,18 @@ fn minima(line: &[u8]) -> Result<(u8, u8), Refusal>
 {
     let (left, right) = (pair_at(line, 1), pair_at(line, 3));
     let Some(first) = minimum(left, right, 2) else {
-        return Err(Refusal { kind: Kind::BadMinima, line: 1, column: 1 });
+        return Err(Refusal {
+            kind: Kind::BadMinima,
+            line: 1,
+            column: 1,
+        });
     };
     let Some(second) = minimum(right, left, 3) else {
-        return Err(Refusal { kind: Kind::BadMinima, line: 1, column: 3 });
+        return Err(Refusal {
+            kind: Kind::BadMinima,
+            line: 1,
+            column: 3,
+        });
     };
     Ok((first, second))
 }
@@ -110,7 +118,11 @@ fn minima(line: &[u8]) -> Result<(u8, u8), Refusal>
 fn bad_mark(column: u32) -> Refusal
     ensures { result ≡ record { kind = Kind.BadMark; line = 1; column = column } }
 {
-    Refusal { kind: Kind::BadMark, line: 1, column }
+    Refusal {
+        kind: Kind::BadMark,
+        line: 1,
+        column,
+    }
 }
 
 /// Whether the mark bytes of a head are marks, one after the other, or the refusal of the first that is none.

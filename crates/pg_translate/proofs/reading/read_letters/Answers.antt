@@ -1,6 +1,6 @@
 use Rattle.std.proofs.Common.{arith}
 use Rattle.std.proofs.lemmas.Result.{err_from_is_err_and}
-use Rattle.pg_translate.proofs.Readings.{lines_begin, lines_more, lines_fail, lines_done}
+use Rattle.pg_translate.proofs.Readings.{lines_begin, lines_more, lines_fail}
 use Rattle.pg_translate.proofs.reading.read_letters.Goals as goal
 
 pub lines-init : goal.lines-init

@@ -9,6 +9,6 @@ blanks-preserved c = (c.blanks.invariant.0 ∙ trim_more c.args.line.now c.blank
 
 pub returns-clause-value : goal.returns-clause-value
 returns-clause-value c = elim c.blanks-test.branch [
-    then-blanks-test+else-line-end-eq32 w ↦ sym (c.blanks.invariant.0 ∙ trim_end c.args.line.now c.blanks.end w.blanks-test.true c.blanks.invariant.1 (ne_eqb _ _ w.if-line-end-eq32.false))
+  | then-blanks-test+else-line-end-eq32 w ↦ sym (c.blanks.invariant.0 ∙ trim_end c.args.line.now c.blanks.end w.blanks-test.true c.blanks.invariant.1 (ne_eqb _ _ w.if-line-end-eq32.false))
   | else-blanks-test w ↦ let none : c.blanks.end ≡ 0 = omega (arith, w.blanks-test.false) in sym (c.blanks.invariant.0 ∙ trim_none c.args.line.now c.blanks.end none)
-  ]
+]

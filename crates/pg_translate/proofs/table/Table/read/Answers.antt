@@ -1,10 +1,9 @@
-use Rattle.std.proofs.Common.{◌≡◌, ◌≤◌, List, [], ℕ, length, map, Ok, Err, subst, sym, arith}
+use Rattle.std.proofs.Common.{◌≡◌, List, [], ℕ, map, Ok, subst}
 use Rattle.std.proofs.lemmas.Result.{err_from_is_err_and}
 use Rattle.pg_types.specs.Lines.{lines}
 use Rattle.pg_types.specs.Reading.{Fails, first_refusal}
 use Rattle.pg_translate.specs.Fronts.{pairs}
-use Rattle.pg_translate.specs.Heads.{marks_in}
-use Rattle.pg_translate.specs.Tables.{signed, spelling_checks, spellings_from, table}
+use Rattle.pg_translate.specs.Tables.{signed, spelling_checks, spellings_from}
 use Rattle.pg_translate.proofs.TableReading.{read_bad_head, read_bad_letters, read_whole, read_sound}
 use Rattle.pg_translate.proofs.table.Table.read.Goals as goal
 
