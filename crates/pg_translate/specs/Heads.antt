@@ -1,5 +1,6 @@
 -- What the head of a translate file is read into.
 use Rattle.std.specs.Prelude.{◌≡◌, ℕ, ◌<◌, ◌≤◌, true, List, [], ◌∷◌}
+use Rattle.pg_translate.specs.declared.head.TheConstants.{MINIMUM_MAX}
 use Rattle.pg_translate.specs.declared.head.Head.{Head}
 use Rattle.pg_translate.specs.Rules.{are_marks}
 use Rattle.pg_translate.specs.Tables.{minima_checks, mark_checks, minimum, pair_at, marks_of}
@@ -19,7 +20,7 @@ pub record IsHead (line : List ℕ) (head : Head) : Type 0 where
 -- the rules on minima and marks
 pub record IsSoundHead (head : Head) : Type 0 where
   pub left_some : 0 < head.left
-  pub left_few : head.left ≤ 99
+  pub left_few : head.left ≤ MINIMUM_MAX
   pub right_some : 0 < head.right
-  pub right_few : head.right ≤ 99
+  pub right_few : head.right ≤ MINIMUM_MAX
   pub marks_good : are_marks [] (marks_in head) ≡ true

@@ -5,6 +5,9 @@ ghost use Rattle.pg_translate.specs.Tables as table;
 
 use pg_types::{Kind, Refusal};
 
+/// The greatest minimum of a table.
+pub const MINIMUM_MAX: u8 = 99;
+
 /// The minima and the mark bytes of a table.
 #[derive(Clone, Copy, Debug)]
 pub(crate) struct Head {
@@ -30,7 +33,7 @@ fn in_column(head: &[u8], column: usize) -> u8
 /// The value of a digit and a blank, a blank and a digit, or two digits; 0, which is no minimum, for other pairs.
 fn pair_value(first: u8, second: u8) -> u8
     ensures value { result ≡ table.pair_value first second }
-    ensures few { result ≤ 99 }
+    ensures few { result ≤ MINIMUM_MAX }
 {
     if first.is_ascii_digit() {
         if second.is_ascii_digit() {
@@ -59,9 +62,9 @@ fn pair_at(head: &[u8], column: usize) -> (u8, u8)
 /// The minimum of a pair beside the other pair, where two blanks mean a default; none where the pair fails.
 fn minimum(pair: (u8, u8), other: (u8, u8), default: u8) -> Option<u8>
     requires some { 0 < default }
-    requires few { default ≤ 99 }
+    requires few { default ≤ MINIMUM_MAX }
     ensures value { MatchOption result (table.pair_fails pair other ≡ true) (λ m. (table.pair_fails pair other ≡ false) × (m ≡ table.minimum pair default)) }
-    ensures range { IfSome result (λ m. (0 < m) × (m ≤ 99)) }
+    ensures range { IfSome result (λ m. (0 < m) × (m ≤ MINIMUM_MAX)) }
 {
     let blank = (b' ', b' ');
     if pair == blank {
@@ -94,7 +97,7 @@ fn mark_fails(earlier: &[u8], mark: u8) -> bool
 /// The two minima of a head, or the refusal of the first pair that fails.
 fn minima(line: &[u8]) -> Result<(u8, u8), Refusal>
     ensures answer { MatchResult result (λ m. (table.minima_checks line.now ≡ []) × (m.0 ≡ table.minimum (table.pair_at line.now 1) 2) × (m.1 ≡ table.minimum (table.pair_at line.now 3) 3)) (λ r. table.outcome (table.minima_checks line.now) ≡ Err r) }
-    ensures range { IfOk result (λ m. (0 < m.0) × (m.0 ≤ 99) × (0 < m.1) × (m.1 ≤ 99)) }
+    ensures range { IfOk result (λ m. (0 < m.0) × (m.0 ≤ MINIMUM_MAX) × (0 < m.1) × (m.1 ≤ MINIMUM_MAX)) }
 {
     let (left, right) = (pair_at(line, 1), pair_at(line, 3));
     let Some(first) = minimum(left, right, 2) else {

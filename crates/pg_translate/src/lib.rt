@@ -9,6 +9,7 @@ mod spellings;
 pub mod table;
 mod weights;
 
+pub use head::MINIMUM_MAX;
 pub use items::{Item, Place};
 pub use spellings::SPELLING_MAX;
-pub use table::{MINIMUM_MAX, Table, laws};
+pub use table::{Table, laws};

@@ -7,7 +7,7 @@ ghost use Rattle.pg_translate.specs.Sound.{IsTable};
 
 pub mod laws;
 
-use crate::head::Head;
+use crate::head::{Head, MINIMUM_MAX};
 use crate::index::Index;
 use crate::items::{Item, Place};
 use crate::reading::{read_letters, refused};
@@ -16,9 +16,6 @@ use crate::weights::weight_of;
 use pg_types::{EDGE, FILE_MAX, Kind, Mark, ReadingError, SIGNS_MAX, Sign, next_line};
 use std::alloc::{AllocError, Global};
 use std::marker::Model;
-
-/// The greatest minimum of a table.
-pub const MINIMUM_MAX: u8 = 99;
 
 /// The minima, the mark bytes, and the letters with their spellings.
 #[derive(Drop)]
