@@ -1,0 +1,7 @@
+-- The count of faults of a writer as a sink.
+use Rattle.std.specs.Prelude.{ℕ}
+use Rattle.pg_outside.specs.declared.host_sink.HostSink.{HostSink}
+
+-- the faults
+abbrev pub writer_faults : {W : Type 0} → HostSink W → ℕ
+writer_faults sink = sink.failed

@@ -1,0 +1,9 @@
+pub mod Calls
+pub mod Content
+pub mod Faults
+pub mod HostFiles
+pub mod HostSink
+pub mod MemoryFiles
+pub mod MemorySink
+pub mod MissingNames
+pub mod StoredFile
