@@ -1,5 +1,5 @@
 -- The files of a list: what they hold by name, and their room.
-use Rattle.std.specs.Prelude.{◌≡◌, ℕ, ◌<◌, List, [], ◌∷◌, ◌++◌, Bool, cond, map, length, slice_index_or, slice_set, Option, Some, None, vec_capacity, string_bytes}
+use Rattle.std.specs.Prelude.{◌≡◌, ℕ, ◌<◌, List, [], ◌∷◌, ◌++◌, Bool, cond, map, length, slice_index_or, slice_set, Some, None, vec_capacity, string_bytes}
 use Rattle.std.specs.Str.{bytes_eq}
 use Rattle.std.specs.FinMap as fin
 use Rattle.pg_outside.specs.Content.{FileMap, file_at}

@@ -1,6 +1,8 @@
 // The adapter over real files.
 ghost use Rattle.std.specs.Prelude.{◌≡◌, ℕ, ◌+◌, ◌-◌, ◌^◌, ◌<◌, ◌≤◌, [], length, OnOk, OnErr, None, IsErrOf};
+ghost use Rattle.std.specs.Io.KnownBytes.{Appends};
 ghost use Rattle.pg_outside.specs.Faults.{next_count};
+ghost use Rattle.pg_outside.specs.Host.{IsWhole, IsFront, AppendsPart};
 
 use super::outside::{Failed, Files, ReadError};
 use std::alloc::Global;
@@ -79,6 +81,8 @@ fn read_file<F: Read>(file: &mut F, limit: usize, into: &mut Vec<u8>) -> Result<
     requires limit { limit < 2 ^ 64 - 1 }
     ensures fits { OnOk result (length into.new.items ≤ limit) }
     ensures cut { IsErrOf result ReadError.TooLong → length into.new.items ≡ limit + 1 }
+    ensures whole { OnOk result (IsWhole (F.remaining file.old) into.new.items) }
+    ensures front { IsErrOf result ReadError.TooLong → IsFront (F.remaining file.old) limit into.new.items }
 {
     let mut piece = [0u8; PIECE];
     while into.len() <= limit {
@@ -93,7 +97,10 @@ fn read_file<F: Read>(file: &mut F, limit: usize, into: &mut Vec<u8>) -> Result<
 }
 
 /// Writes all bytes, in as many writes as it takes. A write of no byte is a fault.
-pub(crate) fn write_bytes<W: Write>(to: &mut W, bytes: &[u8]) -> Result<(), Failed> {
+pub(crate) fn write_bytes<W: Write>(to: &mut W, bytes: &[u8]) -> Result<(), Failed>
+    ensures whole { OnOk result (Appends (W.contents to.old) (W.contents to.new) bytes.now) }
+    ensures part { OnErr result (AppendsPart (W.contents to.old) (W.contents to.new) bytes.now) }
+{
     let mut rest = bytes;
     while !rest.is_empty() {
         match to.write(rest) {
