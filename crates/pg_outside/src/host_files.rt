@@ -13,6 +13,9 @@ use std::{fs, rt};
 const PIECE: usize = 65536;
 
 /// Real files by their paths, with one count of faults for every name. They tell no content.
+///
+/// A file that is missing or can't be opened, a read or write that fails, and a write that takes
+/// none of its bytes are faults. A read that gives no byte is the end of the file.
 #[derive(Drop)]
 pub struct HostFiles<R: rt::Files + Drop> {
     system: R,

@@ -9,7 +9,8 @@ use super::host_files::write_bytes;
 use super::outside::{Failed, Sink};
 use std::io::Write;
 
-/// A writer as a sink, with a count of faults. It tells no content.
+/// A writer as a sink, with a count of faults. It tells no content. A write that fails or takes
+/// none of its bytes is a fault.
 #[derive(Drop)]
 pub struct HostSink<W: Write + Drop> {
     writer: W,
@@ -35,6 +36,7 @@ impl<W: Write + Drop> Sink for HostSink<W> {
     ghost faults = { writer_faults };
 
     fn put(&mut self, bytes: &[u8]) -> Result<(), Failed>
+        // As for all sinks.
         ensures whole { OnOk result (WasPut None None bytes.now) }
         ensures part { OnErr result (WasPartPut None None bytes.now) }
         ensures later { writer_faults self.old ≤ writer_faults self.new }

@@ -142,6 +142,7 @@ impl Files for MemoryFiles {
         requires empty { into.old.items ≡ [] }
         requires limit { limit < 2 ^ 64 - 1 }
 
+        // As for all files.
         ensures held { KeepsHeld (Some (files_of self.old)) (Some (files_of self.new)) }
         ensures reads { NoneFell (reads_failed_of self.old) (reads_failed_of self.new) }
         ensures writes { NoneFell (writes_failed_of self.old) (writes_failed_of self.new) }
@@ -151,6 +152,7 @@ impl Files for MemoryFiles {
         ensures cut_file { IsErrOf result ReadError.TooLong → IfSome (Some (files_of self.new)) (λ files. IsCut (file_at files name.now) limit into.new.items) }
         ensures failed { IsErrOf result ReadError.Failed → Rose (reads_failed_of self.old name.now) (reads_failed_of self.new name.now) }
 
+        // The call is counted, and the calls that are to fail stay listed.
         ensures calls { calls_of self.new ≡ next_count (calls_of self.old) }
         ensures listed { listed_of self.new ≡ listed_of self.old }
         ensures rooms { SameCounts (room_of self.old) (room_of self.new) }
@@ -180,12 +182,14 @@ impl Files for MemoryFiles {
     }
 
     fn write(&mut self, name: &str, bytes: &[u8]) -> Result<(), Failed>
+        // As for all files.
         ensures whole { OnOk result (WasWritten (Some (files_of self.old)) (Some (files_of self.new)) name.now bytes.now) }
         ensures part { OnErr result (WasPartWritten (Some (files_of self.old)) (Some (files_of self.new)) name.now bytes.now) }
         ensures reads { NoneFell (reads_failed_of self.old) (reads_failed_of self.new) }
         ensures writes { NoneFell (writes_failed_of self.old) (writes_failed_of self.new) }
         ensures failed { OnErr result (Rose (writes_failed_of self.old name.now) (writes_failed_of self.new name.now)) }
 
+        // The call is counted, and the calls that are to fail stay listed.
         ensures calls { calls_of self.new ≡ next_count (calls_of self.old) }
         ensures listed { listed_of self.new ≡ listed_of self.old }
         ensures rooms { NoneFell (room_of self.old) (room_of self.new) }

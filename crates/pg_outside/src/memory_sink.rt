@@ -46,7 +46,7 @@ impl MemorySink {
 
     /// Lets the put with this number fail, counted from 1. It appends nothing for `None`. For
     /// `Some(k)` it appends the first `k` bytes of those handed to it, at most all, where the room
-    /// suffices for these. Listed anew, a put has the later `keep`.
+    /// suffices for the whole put. Listed anew, a put has the later `keep`.
     ///
     /// # Errors
     /// Where there is not enough memory; all is then as before.
@@ -105,11 +105,13 @@ impl Sink for MemorySink {
     ghost faults = { sink_faults };
 
     fn put(&mut self, bytes: &[u8]) -> Result<(), Failed>
+        // As for all sinks.
         ensures whole { OnOk result (WasPut (Some (sink_bytes self.old)) (Some (sink_bytes self.new)) bytes.now) }
         ensures part { OnErr result (WasPartPut (Some (sink_bytes self.old)) (Some (sink_bytes self.new)) bytes.now) }
         ensures later { sink_faults self.old ≤ sink_faults self.new }
         ensures failed { OnErr result (Rose (sink_faults self.old) (sink_faults self.new)) }
 
+        // The put is counted, and the puts that are to fail stay listed.
         ensures puts { puts_of self.new ≡ next_count (puts_of self.old) }
         ensures listed { listed_puts self.new ≡ listed_puts self.old }
         ensures room { sink_room self.new ≡ sink_room self.old }

@@ -47,7 +47,8 @@ pub trait Files {
 
     ghost write_faults: { Self → List ℕ → ℕ };
 
-    /// Reads a file of at most `limit` bytes into `into`, which is empty before.
+    /// Reads a file of at most `limit` bytes into `into`, which is empty before. The limit is below
+    /// 2^64 - 1.
     ///
     /// # Errors
     /// `TooLong` where the file has more than `limit` bytes; `into` then has its first

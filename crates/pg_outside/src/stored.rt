@@ -16,6 +16,7 @@ pub(crate) struct StoredFile {
     pub bytes: Vec<u8>,
 }
 
+/// Scans the list for the first file of this name.
 fn first_named(files: &[StoredFile], name: &str) -> Option<usize>
     ensures { result ≡ position (has_name name.now) files.now }
 {
