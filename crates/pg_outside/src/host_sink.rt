@@ -1,4 +1,4 @@
-// The adapter over standard output.
+//! The adapter over standard output.
 ghost use Rattle.std.specs.Prelude.{◌≡◌, ◌≤◌, None, OnOk, OnErr};
 ghost use Rattle.std.specs.Io.KnownBytes.{Appends};
 ghost use Rattle.pg_outside.specs.Content.{WasPut, WasPartPut};

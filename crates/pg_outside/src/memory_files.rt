@@ -1,4 +1,4 @@
-// Files in memory that can fail at a chosen call.
+//! Files in memory that can fail at a chosen call.
 ghost use Rattle.std.specs.Prelude.{◌≡◌, ◌≢◌, ℕ, ◌+◌, ◌-◌, ◌^◌, ◌<◌, ◌≤◌, ◌⊎◌, List, [], take, length, min, Option, Some, None, OnOk, OnErr, IsOk, IsErr, IsSome, IfSome, IfNone, OnSome, IsErrOf};
 ghost use Rattle.std.specs.Option.{option_copied, option_map};
 ghost use Rattle.std.specs.FinMap as fin;

@@ -1,4 +1,4 @@
-// The names of the reads that found no file.
+//! The names of the reads that found no file.
 ghost use Rattle.std.specs.Prelude.{◌≡◌, ◌+◌, OnOk, OnErr};
 ghost use Rattle.pg_outside.specs.Faults.{NoneFell, SameOthers};
 ghost use Rattle.pg_outside.specs.MissingNames.{times_in};

@@ -1,4 +1,4 @@
-// The two traits through which a command reads, writes and prints.
+//! The two traits through which a command reads, writes and prints.
 ghost use Rattle.std.specs.Prelude.{◌≡◌, ℕ, ◌+◌, ◌-◌, ◌^◌, ◌<◌, ◌≤◌, List, [], length, Option, OnOk, OnErr, IfSome, IsErrOf};
 ghost use Rattle.pg_outside.specs.Content.{FileMap, file_at, KeepsHeld, IsCut, WasWritten, WasPartWritten, WasPut, WasPartPut};
 ghost use Rattle.pg_outside.specs.Faults.{Rose, NoneFell};

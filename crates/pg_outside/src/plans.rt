@@ -1,4 +1,4 @@
-// The calls that are to fail, and the running number of the calls.
+//! The calls that are to fail, and the running number of the calls.
 ghost use Rattle.std.specs.Prelude.{◌≡◌, ◌==◌, [], find, OnOk, OnErr};
 ghost use Rattle.std.specs.Option.{option_map};
 ghost use Rattle.std.specs.FinMap as fin;

@@ -1,4 +1,4 @@
-// A list of files in memory.
+//! A list of files in memory.
 ghost use Rattle.std.specs.Prelude.{◌≡◌, ◌≢◌, ℕ, ◌+◌, ◌-◌, ◌^◌, ◌<◌, ◌≤◌, [], ◌++◌, take, length, max, Option, Some, None, OnOk, OnErr, IsOk, IsSome, IfOk, IfSome, IfNone, IsErrOf, vec_len, vec_capacity, string_bytes, position};
 ghost use Rattle.std.specs.Option.{option_copied};
 ghost use Rattle.std.specs.FinMap as fin;
