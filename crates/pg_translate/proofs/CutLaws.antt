@@ -1,17 +1,17 @@
 -- The cut of a line is its longest list of items.
-use Rattle.std.proofs.Common.{◌≡◌, ℕ, ◌+◌, ◌-◌, ◌*◌, ◌<◌, ◌≤◌, ◌==◌, nat_lt, nat_le, Bool, true, false, cond, ◌&&◌, ◌⊎◌, inl, inr, ⊎_elim, List, [], ◌∷◌, ◌++◌, map, length, take, drop, fold, find, slice_index, Option, Some, None, option_map, refl, sym, ap, ap₂, ◌∙◌, subst, le_refl, arith, suc, zero}
-use Rattle.std.specs.List.{list_all, concat, AllByRecursion}
+use Rattle.std.proofs.Common.{◌≡◌, ℕ, ◌+◌, ◌-◌, ◌*◌, ◌<◌, ◌≤◌, ◌==◌, nat_lt, nat_le, true, false, ◌&&◌, ◌⊎◌, inl, inr, ⊎_elim, List, [], ◌∷◌, ◌++◌, length, take, drop, fold, find, slice_index, Option, Some, None, option_map, refl, sym, ap, ap₂, ◌∙◌, subst, le_refl, arith, suc, zero}
+use Rattle.std.specs.List.{list_all}
 use Rattle.std.specs.Option.{option_or}
-use Rattle.std.proofs.lemmas.Bool.{and_parts, and_from, cases_Bool, cases_lt, true≢false, eqb-true, eq-eqb, ltb-true, leb-true}
-use Rattle.std.proofs.lemmas.List.{append_assoc, append-nil, length-drop, take_at}
+use Rattle.std.proofs.lemmas.Bool.{and_parts, and_from, cases_Bool, true≢false, eqb-true, eq-eqb, ltb-true, leb-true}
+use Rattle.std.proofs.lemmas.List.{length-drop, take_at}
 use Rattle.pg_types.specs.declared.marks.Mark.{Mark}
 use Rattle.pg_types.specs.declared.marks.Mark.TheVariants.{Error, Missed, Found, DontCare}
 use Rattle.pg_translate.specs.declared.items.Place.{Place}
 use Rattle.pg_translate.specs.declared.items.Place.TheVariants.{Dictionary, Patterns}
 use Rattle.pg_translate.specs.Alphabets.{Alphabet}
-use Rattle.pg_translate.specs.Spellings.{is_digit, begins, begins_well, is_spelling, IsAmong}
+use Rattle.pg_translate.specs.Spellings.{is_digit, begins, begins_well, IsAmong}
 use Rattle.pg_translate.specs.Tokens.{Token, Letter, Digit, Weight, Marked, Edge, letter_at, digit_at, weight_at, weight_from, weight_end, mark_at, edge_at, item_at}
-use Rattle.pg_translate.specs.Cuts.{Cut, cut_from, with_item, tokens_of}
+use Rattle.pg_translate.specs.Cuts.{cut_from, tokens_of}
 use Rattle.pg_translate.specs.Items.{IsItem, IsWeight, IsMark, IsCut, IsPrefix, IsLongest, joined, value_of}
 use Rattle.pg_translate.specs.Rules.{KeepsRules}
 use Rattle.pg_translate.proofs.Prefixes.{begins_front, begins_within}

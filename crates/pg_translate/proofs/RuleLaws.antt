@@ -1,5 +1,5 @@
 -- A table keeps the rules.
-use Rattle.std.proofs.Common.{◌≡◌, ℕ, ◌+◌, ◌-◌, ◌<◌, ◌≤◌, ◌==◌, Bool, true, false, ◌&&◌, ◌⊎◌, ⊎_elim, List, [], ◌∷◌, length, map, get_or, slice_get, find, Option, Some, None, option_map, refl, sym, ap, ◌∙◌, subst, arith}
+use Rattle.std.proofs.Common.{◌≡◌, ℕ, ◌+◌, ◌-◌, ◌≤◌, ◌==◌, Bool, true, false, ⊎_elim, List, [], ◌∷◌, length, get_or, slice_get, find, Option, Some, None, option_map, refl, sym, ap, ◌∙◌, subst, arith}
 use Rattle.std.specs.List.{list_all}
 use Rattle.std.specs.Option.{option_map_or}
 use Rattle.std.proofs.lemmas.Bool.{and_parts, eqb-true, ne_eqb}
@@ -7,12 +7,13 @@ use Rattle.std.proofs.lemmas.List.{length-map}
 use Rattle.std.proofs.lemmas.Option.{slice_get-get_or}
 use Rattle.pg_translate.specs.declared.index.Index.{Index}
 use Rattle.pg_translate.specs.declared.items.Place.{Place}
-use Rattle.pg_translate.specs.declared.items.Place.TheVariants.{Dictionary, Patterns}
 use Rattle.pg_translate.specs.Alphabets.{Alphabet, letters_of, letters_in, first_spelling, spelling_of}
 use Rattle.pg_translate.specs.Spellings.{is_spelling, IsAmong}
-use Rattle.pg_translate.specs.Tokens.{Token, Letter}
+use Rattle.pg_translate.specs.Tokens.{Letter}
 use Rattle.pg_translate.specs.Items.{IsItem}
 use Rattle.pg_translate.specs.Rules.{KeepsRules}
+use Rattle.pg_translate.specs.declared.head.Head.{Head}
+use Rattle.pg_translate.specs.Heads.{marks_in}
 use Rattle.pg_translate.specs.Sound.{IsTable}
 use Rattle.pg_translate.specs.Fronts.{IsIndex, pairs, first_of, firsts_of}
 use Rattle.pg_translate.specs.Texts.{text_of}
@@ -47,20 +48,20 @@ first_there index sign sound low high =
     first_is_among (pairs index) sign (get_or (firsts_of index) (sign - 2) []) (ap (first_of (pairs index)) (sym back) ∙ sym (sound.firsts (sign - 2)) ∙ there)
 
 -- a table keeps the rules
-pub keeps : (left right a b c d : ℕ) (index : Index) → IsTable left right (a ∷ b ∷ c ∷ d ∷ []) index → KeepsRules (record { left = left; right = right; marks = a ∷ b ∷ c ∷ d ∷ []; spellings = pairs index })
-keeps left right a b c d index table = record {
-  left_some = table.left_some;
-  left_few = table.left_few;
-  right_some = table.right_some;
-  right_few = table.right_few;
+pub keeps : (head : Head) (index : Index) → IsTable head index → KeepsRules (record { left = head.left; right = head.right; marks = marks_in head; spellings = pairs index })
+keeps head index table = record {
+  left_some = table.head_sound.left_some;
+  left_few = table.head_sound.left_few;
+  right_some = table.head_sound.right_some;
+  right_few = table.head_sound.right_few;
   four = refl;
-  marks_good = table.marks_good;
-  letters_few = let count : length index.firsts.items ≡ letters_in (pairs index) = table.sound.letters in let few : length index.firsts.items ≤ 2000 = table.few in omega arith;
-  signs_low = table.sound.signs;
+  marks_good = table.head_sound.marks_good;
+  letters_few = let count : length index.firsts.items ≡ letters_in (pairs index) = table.index_sound.letters in let few : length index.firsts.items ≤ 2000 = table.few in omega arith;
+  signs_low = table.index_sound.signs;
   signs_high = λ s among. sign_within (pairs index) s among;
-  spelled = λ s among. list_all_at (λ s. is_spelling (a ∷ b ∷ c ∷ d ∷ []) s.1) (pairs index) s table.spelled among;
-  apart = table.sound.apart;
-  each = λ sign low high. first_there index sign table.sound low high;
+  spelled = λ s among. list_all_at (λ s. is_spelling (marks_in head) s.1) (pairs index) s table.spelled among;
+  apart = table.index_sound.apart;
+  each = λ sign low high. first_there index sign table.index_sound low high;
 }
 
 -- the spelling of a letter is an item

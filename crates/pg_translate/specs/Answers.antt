@@ -1,5 +1,6 @@
 -- What the look-up of an item answers.
 use Rattle.std.specs.Prelude.{◌≡◌, ℕ, ◌+◌, ◌<◌, ◌≤◌, Bool, true, false, List, length, drop, None, Some}
+use Rattle.pg_types.specs.declared.limits.TheConstants.{WEIGHT_MAX}
 use Rattle.pg_translate.specs.declared.items.Place.{Place}
 use Rattle.pg_translate.specs.declared.items.Item.{Item}
 use Rattle.pg_translate.specs.declared.items.Item.TheVariants as answer
@@ -33,7 +34,7 @@ IsFirstItem t place text answer.Bad = Stops t place text false
 abbrev pub IsInRange : Alphabet → Item → Type 0
 IsInRange t (answer.Letter sign after) = (1 < sign) × (sign ≤ letters_of t + 1)
 IsInRange t (answer.Digit digit after) = digit ≤ 9
-IsInRange t (answer.Weight weight after) = (0 < weight) × (weight ≤ 9999)
+IsInRange t (answer.Weight weight after) = (0 < weight) × (weight ≤ WEIGHT_MAX)
 IsInRange t (answer.Mark mark after) = Unit {0}
 IsInRange t (answer.Edge after) = Unit {0}
 IsInRange t answer.End = Unit {0}

@@ -10,3 +10,4 @@ pub mod Fronts
 pub mod Sound
 pub mod Items
 pub mod Rules
+pub mod Heads

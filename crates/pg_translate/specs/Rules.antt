@@ -1,5 +1,6 @@
 -- The rules that every table keeps.
-use Rattle.std.specs.Prelude.{◌≡◌, ℕ, ◌+◌, ◌-◌, ◌<◌, ◌≤◌, Bool, true, false, not, ◌&&◌, List, [], ◌∷◌, length, find, IsSome, ◌==◌}
+use Rattle.std.specs.Prelude.{◌≡◌, ℕ, ◌+◌, ◌-◌, ◌<◌, ◌≤◌, Bool, true, false, not, ◌&&◌, List, [], ◌∷◌, length}
+use Rattle.pg_translate.specs.declared.head.TheConstants.{MINIMUM_MAX}
 use Rattle.pg_types.specs.declared.limits.TheConstants.{SIGNS_MAX}
 use Rattle.pg_translate.specs.Alphabets.{Alphabet, letters_of, first_spelling}
 use Rattle.pg_translate.specs.Spellings.{is_spelling, clash, IsAmong}
@@ -13,9 +14,9 @@ are_marks earlier (mark ∷ marks) = not (mark_fails earlier mark) && are_marks 
 -- the rules of the translate file on minima, marks, letters and spellings
 pub record KeepsRules (t : Alphabet) : Type 0 where
   pub left_some : 0 < t.left
-  pub left_few : t.left ≤ 99
+  pub left_few : t.left ≤ MINIMUM_MAX
   pub right_some : 0 < t.right
-  pub right_few : t.right ≤ 99
+  pub right_few : t.right ≤ MINIMUM_MAX
   pub four : length t.marks ≡ 4
   pub marks_good : are_marks [] t.marks ≡ true
   pub letters_few : letters_of t ≤ SIGNS_MAX - 1

@@ -1,10 +1,7 @@
 -- What a spelling may be, and when two spellings clash.
 use Rattle.std.specs.Prelude.{◌≡◌, ◌⊎◌, ℕ, ◌==◌, nat_le, Bool, true, false, not, ◌&&◌, ◌||◌, List, [], ◌∷◌, length}
 use Rattle.std.specs.List.{list_any}
-
--- the most bytes of a spelling
-abbrev pub spelling_max : ℕ
-spelling_max = 8
+use Rattle.pg_translate.specs.declared.spellings.TheConstants.{SPELLING_MAX}
 
 -- whether a byte is a decimal digit
 abbrev pub is_digit : ℕ → Bool
@@ -25,7 +22,7 @@ begins_well marks (b ∷ bs) = may_begin marks b
 
 -- whether a text may be a spelling beside these marks
 abbrev pub is_spelling : List ℕ → List ℕ → Bool
-is_spelling marks text = nat_le (length text) spelling_max && begins_well marks text && not (list_any is_space text)
+is_spelling marks text = nat_le (length text) SPELLING_MAX && begins_well marks text && not (list_any is_space text)
 
 -- whether a text begins with another
 abbrev pub begins : List ℕ → List ℕ → Bool

@@ -1,5 +1,6 @@
 //! A spelling in a room of fixed size.
-ghost use Rattle.std.specs.Prelude.{◌≡◌, ◌<◌, ◌≤◌, length};
+ghost use Rattle.std.specs.Prelude.{◌≤◌};
+ghost use Rattle.pg_translate.specs.declared.spellings.TheConstants.{SPELLING_MAX};
 
 /// The most bytes that a spelling may have.
 pub const SPELLING_MAX: usize = 8;
@@ -9,11 +10,11 @@ pub const SPELLING_MAX: usize = 8;
 pub(crate) struct Text {
     bytes: [u8; SPELLING_MAX],
     size: u8,
-    ghost within: { size ≤ 8 },
+    ghost within: { size ≤ SPELLING_MAX },
 }
 
 impl Text {
-    ghost use Rattle.std.specs.Prelude.{◌≡◌, ◌<◌, ◌≤◌, length};
+    ghost use Rattle.std.specs.Prelude.{◌≡◌, ◌≤◌, length};
     ghost use Rattle.pg_translate.specs.Texts.{text_of};
 
     /// The text of these bytes.

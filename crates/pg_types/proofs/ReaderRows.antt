@@ -1,10 +1,9 @@
 -- Lines and parameters of small files, computed on their definitions.
-use Rattle.std.proofs.Common.{◌≡◌, ℕ, List, [], ◌∷◌, ◌++◌, Result, Ok, Err, codes, refl}
+use Rattle.std.proofs.Common.{◌≡◌, ℕ, List, [], ◌∷◌, ◌++◌, Ok, Err, codes, refl}
 use Rattle.pg_types.specs.declared.refusals.Kind.{Kind}
 use Rattle.pg_types.specs.declared.refusals.Kind.TheVariants.{BadNumber, OutOfRange, Missing, Extra}
-use Rattle.pg_types.specs.declared.parameters.LevelParams.{LevelParams}
 use Rattle.pg_types.specs.Lines.{lines}
-use Rattle.pg_types.specs.Parameters.{Parameters, parameters, refused_at}
+use Rattle.pg_types.specs.Parameters.{parameters, refused_at}
 
 -- an LF ends a line, one CR before it goes, and a last piece is a line too
 lf_and_cr : lines (codes "a" ++ 10 ∷ 13 ∷ 10 ∷ codes "b" ++ 13 ∷ 13 ∷ 10 ∷ codes "c") ≡ codes "a" ∷ [] ∷ (codes "b" ++ 13 ∷ []) ∷ codes "c" ∷ []

@@ -1,5 +1,5 @@
 -- The parameters of a run, and when a file of them is refused.
-use Rattle.std.specs.Prelude.{◌≡◌, ℕ, ◌+◌, ◌-◌, ◌*◌, ◌<◌, ◌≤◌, ◌==◌, ◌||◌, ◌&&◌, nat_lt, nat_le, min, Bool, true, false, if◌then◌else◌, List, [], ◌∷◌, ◌++◌, length, map, fold, filter, drop, slice_get, Option, None, Some, unwrap_or, option_and_then, Result, Ok, Err, All}
+use Rattle.std.specs.Prelude.{◌≡◌, ℕ, ◌+◌, ◌-◌, ◌*◌, ◌≤◌, ◌==◌, ◌||◌, ◌&&◌, nat_lt, nat_le, min, Bool, true, false, if◌then◌else◌, List, [], ◌∷◌, length, map, fold, filter, drop, slice_get, Option, None, Some, unwrap_or, option_and_then, Result, Err, All}
 use Rattle.std.specs.List.{list_all, flat_map, range_with_len}
 use Rattle.std.specs.Option.{option_map_or}
 use Rattle.std.specs.Char.{is_ascii_digit}

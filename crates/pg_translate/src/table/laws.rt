@@ -14,7 +14,7 @@ use crate::items::Place;
 pub fn keeps_rules(table: &Table)
     ensures { KeepsRules table.now }
 {
-    let _ = &table.left;
+    let _ = &table.head;
 }
 
 /// Where an item begins a text, it is the first item of the text, whatever follows it; and the spelling of each letter is an

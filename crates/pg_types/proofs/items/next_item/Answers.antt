@@ -1,4 +1,4 @@
-use Rattle.std.proofs.Common.{◌≡◌, ◌≤◌, ◌∷◌, [], sym, ◌∙◌, ap, length, drop, take, arith, not}
+use Rattle.std.proofs.Common.{◌≡◌, sym, ◌∙◌, ap, not}
 use Rattle.std.specs.List.{position_or_len}
 use Rattle.std.proofs.lemmas.List.Sums.{prefix_len-le-length}
 use Rattle.pg_types.specs.Parameters.{items, is_separator}

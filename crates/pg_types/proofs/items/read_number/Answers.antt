@@ -1,4 +1,4 @@
-use Rattle.std.proofs.Common.{◌≡◌, ℕ, ◌*◌, ◌+◌, min, arith, rules, ap, sym, ◌∙◌}
+use Rattle.std.proofs.Common.{ℕ, ◌*◌, ◌+◌, min, arith, rules, ap, sym, ◌∙◌}
 use Rattle.pg_types.specs.declared.items.TheConstants.{TOO_GREAT}
 use Rattle.pg_types.proofs.Digits.{number_more}
 use Rattle.pg_types.proofs.items.read_number.Goals as goal

@@ -1,7 +1,6 @@
-use Rattle.std.proofs.Common.{◌≤◌, ◌+◌, length, sym, ◌∙◌, ap, take, refl, arith}
+use Rattle.std.proofs.Common.{◌+◌, length, sym, ◌∙◌, refl, arith}
 use Rattle.std.proofs.Math.Seq.{take-length}
 use Rattle.std.proofs.lemmas.List.{take_rest, drop_all}
-use Rattle.pg_types.specs.Lines.{without_cr}
 use Rattle.pg_types.proofs.Pieces.{lines_first, lines_last, line_feed_at, line_feed_nowhere}
 use Rattle.pg_types.proofs.lines.next_line.Goals as goal
 

@@ -1,4 +1,4 @@
-use Rattle.std.proofs.Common.{◌≡◌, ℕ, ◌+◌, ◌-◌, ◌*◌, List, map, drop, All}
+use Rattle.std.proofs.Common.{◌≡◌, ℕ, ◌+◌, ◌-◌, ◌*◌, drop, All}
 use Rattle.std.specs.List.{flat_map, range_with_len}
 use Rattle.pg_types.specs.Parameters.{items, level_demands, level_items, demands_of_levels, levels_of, refusal_from, IsLevel}
 use Rattle.pg_types.proofs.parameters.read_levels.Given as goal

@@ -1,4 +1,4 @@
-use Rattle.std.proofs.Common.{◌∷◌, ap, length, ◌∙◌, rules}
+use Rattle.std.proofs.Common.{◌∷◌, ap, length, ◌∙◌}
 use Rattle.std.proofs.lemmas.List.FromFn.{length-map-range_with_len}
 use Rattle.std.proofs.lemmas.Result.{err_from_is_err_and}
 use Rattle.pg_types.specs.declared.limits.TheConstants.{LEVEL_MAX}
