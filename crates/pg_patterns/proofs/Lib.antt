@@ -1,0 +1,3 @@
+pub mod Ordered
+pub mod Raises
+pub mod Sound

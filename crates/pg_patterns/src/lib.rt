@@ -1,6 +1,9 @@
 //! Hyphenation patterns: a map from signs with a dot to values, read from and written to pattern files.
 #![tactic(auto)]
 
+mod entries;
 pub mod place;
+pub mod set;
 
 pub use place::Place;
+pub use set::{Entry, PatternSet};
