@@ -1,3 +1,5 @@
 pub mod Ordered
 pub mod Raises
 pub mod Sound
+pub mod Joins
+pub mod Kept

@@ -1,6 +1,7 @@
 -- Words of the search for a place in a list of entries in order.
 use Rattle.std.specs.Prelude.{ℕ, Bool, false, List, [], ◌∷◌}
-use Rattle.std.specs.Ordering.{is_gt}
+use Rattle.std.specs.declared.cmp.Ordering.{Ordering}
+use Rattle.std.specs.Ordering.{is_gt, nat_cmp, ordering_then}
 use Rattle.pg_patterns.specs.Places.{place_cmp, same_place}
 
 -- the place k comes after that of the entry
@@ -11,3 +12,7 @@ is_after k e = is_gt (place_cmp k e.0)
 abbrev pub begins_with : List ℕ × ℕ → List ((List ℕ × ℕ) × ℕ) → Bool
 begins_with k [] = false
 begins_with k (e ∷ es) = same_place k e.0
+
+-- of two entries the one comes first whose place does, and of one place the one with the greater value
+abbrev pub entry_cmp : (List ℕ × ℕ) × ℕ → (List ℕ × ℕ) × ℕ → Ordering
+entry_cmp e f = ordering_then (place_cmp e.0 f.0) (nat_cmp f.1 e.1)

@@ -2,9 +2,10 @@
 ghost use Rattle.std.specs.Prelude.{◌≡◌, ◌≤◌, true, false, T, drop, length, All, OnOk, OnErr};
 ghost use Rattle.std.specs.Bool.{OnTrue};
 ghost use Rattle.std.specs.FinMap.Entries.{is_sorted};
+ghost use Rattle.std.specs.List.{list_all};
 ghost use Rattle.std.specs.List.Sorted.{IsPartitionPoint};
 ghost use Rattle.pg_patterns.specs.Places.{place_cmp};
-ghost use Rattle.pg_patterns.specs.Values.{raise};
+ghost use Rattle.pg_patterns.specs.Values.{IsPatternMap, is_entry, joined, raise};
 ghost use Rattle.pg_patterns.specs.Search.{is_after, begins_with};
 
 use crate::place::Place;
@@ -51,4 +52,14 @@ pub fn raise_in(entries: &mut Vec<(Place, u8)>, place: Place, value: u8) -> Resu
     }
     entries.insert(at, (place, value))?;
     Ok(())
+}
+
+/// Joins the entries of one place by the greatest value: they are sorted where they stand, by place and falling value, and
+/// the first of each place is kept.
+pub fn join(entries: &mut Vec<(Place, u8)>)
+    requires { list_all is_entry entries.old.items ≡ true }
+    ensures { IsPatternMap entries.new.items × (entries.new.items ≡ joined entries.old.items) }
+{
+    entries.sort_unstable_by(|a, b| a.0.cmp(&b.0).then(b.1.cmp(&a.1)));
+    entries.dedup_by(|later, kept| later.0 == kept.0);
 }

@@ -1,7 +1,7 @@
 //! A set of patterns.
 ghost use Rattle.std.specs.Prelude.{◌≡◌};
 
-use crate::entries::raise_in;
+use crate::entries::{join, raise_in};
 use crate::place::Place;
 use pg_types::Sign;
 use std::alloc::{AllocError, Global};
@@ -40,8 +40,11 @@ pub struct Entry<'a> {
 }
 
 impl PatternSet {
-    ghost use Rattle.std.specs.Prelude.{◌≡◌, ◌<◌, ◌≤◌, [], length, All, Some, slice_get, OnOk, OnErr};
-    ghost use Rattle.pg_patterns.specs.Values.{IsPatternMap, raise, largest};
+    ghost use Rattle.std.specs.Prelude.{◌≡◌, ◌<◌, ◌≤◌, true, T, [], length, All, Some, slice_get, OnOk, OnErr};
+    ghost use Rattle.std.specs.FinMap.Entries.{is_sorted};
+    ghost use Rattle.std.specs.List.{list_all};
+    ghost use Rattle.pg_patterns.specs.Places.{place_cmp};
+    ghost use Rattle.pg_patterns.specs.Values.{IsPatternMap, is_entry, raise, joined, largest};
 
     /// The set without entries. It takes no memory.
     pub fn empty(alloc: Global) -> PatternSet
@@ -50,6 +53,17 @@ impl PatternSet {
         PatternSet {
             held: Vec::new(alloc),
         }
+    }
+
+    /// The map of `entries`, which may stand in any order. Where a place has several, the greatest value counts. The vector is
+    /// sorted where it stands, in O(n log n) comparisons, or O(n) where it is in order, and no memory is taken.
+    pub fn from_entries(mut entries: Vec<(Place, u8)>) -> PatternSet
+        requires { list_all is_entry entries.items ≡ true }
+        ensures value { result ≡ joined entries.items }
+        ensures in_order { T (is_sorted place_cmp entries.items) → result ≡ entries.items }
+    {
+        join(&mut entries);
+        PatternSet { held: entries }
     }
 
     /// Sets the value of `dot` among `signs` to the greater of its value and `value`. A set that finds no memory stays as it
