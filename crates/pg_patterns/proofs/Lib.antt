@@ -3,3 +3,4 @@ pub mod Raises
 pub mod Sound
 pub mod Joins
 pub mod Kept
+pub mod Rows
