@@ -4,3 +4,5 @@ pub mod Sound
 pub mod Joins
 pub mod Kept
 pub mod Rows
+pub mod Points
+pub mod Strings

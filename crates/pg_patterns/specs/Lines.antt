@@ -53,8 +53,8 @@ sign_column item = option_map (λ sign. item.column) (sign_of item.token)
 abbrev pub line_refusal : ℕ → Cut → Option Refusal
 line_refusal line c =
     option_or
-        (option_map (λ column. record { kind = PatternTooLong; line = line; column = column }) (slice_get (filter_map sign_column c.items) PATTERN_SIGNS_MAX))
-        (if is_ended c.rest then None else Some (record { kind = PatternCharacter; line = line; column = c.column }))
+    (option_map (λ column. record { kind = PatternTooLong; line = line; column = column }) (slice_get (filter_map sign_column c.items) PATTERN_SIGNS_MAX))
+    (if is_ended c.rest then None else Some (record { kind = PatternCharacter; line = line; column = c.column }))
 
 -- the entries of a line, or its refusal
 abbrev pub entries_of_line : Alphabet → ℕ → List ℕ → Result (List ((List ℕ × ℕ) × ℕ)) Refusal
