@@ -1,7 +1,7 @@
 -- Patterns as a map from places, which are signs with a dot, to values, and the value that they give to a position of a word.
 use Rattle.std.specs.Prelude.{◌≡◌, ℕ, ◌+◌, ◌-◌, ◌≤◌, Bool, true, ◌&&◌, T, if◌then◌else◌, List, [], ◌∷◌, length, drop, max, fold, unwrap_or, nat_le, nat_eq}
 use Rattle.std.specs.FinMap.Entries.{put, find, is_sorted}
-use Rattle.std.specs.List.{starts_with, list_all}
+use Rattle.std.specs.List.{starts_with, list_all, All}
 use Rattle.pg_patterns.specs.Places.{place_cmp}
 
 -- the value of a place, 0 where it has none
@@ -45,3 +45,7 @@ is_entry e = nat_le 1 (length e.0.0) && nat_le (length e.0.0) 32 && list_all (na
 pub record IsPatternMap (P : List ((List ℕ × ℕ) × ℕ)) : Type 0 where
   pub sorted : T (is_sorted place_cmp P)
   pub sound : list_all is_entry P ≡ true
+
+-- every sign is at most n
+abbrev pub SignsUpTo : ℕ → List ((List ℕ × ℕ) × ℕ) → Type 0
+SignsUpTo n P = All (λ e. All (λ s. s ≤ n) e.0.0) P

@@ -4,6 +4,7 @@
 mod entries;
 pub mod place;
 pub mod set;
+mod text;
 
 pub use place::Place;
 pub use set::{Entry, PatternSet};

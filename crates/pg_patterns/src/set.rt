@@ -3,6 +3,8 @@ ghost use Rattle.std.specs.Prelude.{◌≡◌};
 
 use crate::entries::{join, raise_in};
 use crate::place::Place;
+use crate::text::push_lines;
+use pg_translate::Table;
 use pg_types::Sign;
 use std::alloc::{AllocError, Global};
 use std::marker::Model;
@@ -40,11 +42,13 @@ pub struct Entry<'a> {
 }
 
 impl PatternSet {
-    ghost use Rattle.std.specs.Prelude.{◌≡◌, ◌<◌, ◌≤◌, true, T, [], length, All, Some, slice_get, OnOk, OnErr};
+    ghost use Rattle.std.specs.Prelude.{◌≡◌, ◌+◌, ◌<◌, ◌≤◌, true, T, [], length, All, Some, slice_get, OnOk, OnErr, IfOk};
     ghost use Rattle.std.specs.FinMap.Entries.{is_sorted};
     ghost use Rattle.std.specs.List.{list_all};
     ghost use Rattle.pg_patterns.specs.Places.{place_cmp};
-    ghost use Rattle.pg_patterns.specs.Values.{IsPatternMap, is_entry, raise, joined, largest};
+    ghost use Rattle.pg_patterns.specs.Values.{IsPatternMap, SignsUpTo, is_entry, raise, joined, largest};
+    ghost use Rattle.pg_patterns.specs.Texts.{pattern_text};
+    ghost use Rattle.pg_translate.specs.Alphabets.{letters_of};
 
     /// The set without entries. It takes no memory.
     pub fn empty(alloc: Global) -> PatternSet
@@ -117,5 +121,16 @@ impl PatternSet {
             largest = entry.1.max(largest);
         }
         largest
+    }
+
+    /// The text of the pattern file of these patterns: a line for each string, in the order of signs. At each dot stands the
+    /// digit of its value, where it has one, between the first spellings of the letters, or `.` for the edge.
+    pub fn text(&self, alloc: Global, table: &Table) -> Result<Vec<u8>, AllocError>
+        requires { SignsUpTo (letters_of table.now + 1) self.now }
+        ensures { IfOk result (λ text. text.items ≡ pattern_text table.now self.now) }
+    {
+        let mut text = Vec::new(alloc);
+        push_lines(self.held.as_slice(), table, &mut text)?;
+        Ok(text)
     }
 }
