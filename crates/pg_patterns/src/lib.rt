@@ -8,3 +8,6 @@ mod text;
 
 pub use place::Place;
 pub use set::{Entry, PatternSet};
+
+#[cfg(test)]
+mod tests;

@@ -32,6 +32,7 @@ impl Model for PatternSet {
 }
 
 /// An entry of a [`PatternSet`].
+#[derive(Clone, Copy, Debug)]
 pub struct Entry<'a> {
     /// The signs.
     pub signs: &'a [Sign],
