@@ -1,17 +1,14 @@
 -- A list of entries joined to a map: what it finds, in any order, and by a sort.
-use Rattle.std.proofs.Common.{◌≡◌, ℕ, suc, zero, ◌+◌, ◌-◌, ◌<◌, ◌≤◌, Bool, true, false, cond, ◌&&◌, T, ◌⊎◌, inl, inr, List, [], ◌∷◌, ◌++◌, length, get_or, Option, Some, None, unwrap_or, max, fold, sym, refl, ap, subst, ◌∙◌, arith}
+use Rattle.std.proofs.Common.{◌≡◌, ℕ, suc, zero, ◌≤◌, Bool, true, false, cond, List, [], ◌∷◌, Option, Some, None, unwrap_or, max, fold, sym, refl, ap, ◌∙◌, arith}
 use Rattle.std.proofs.lemmas.List.Elements.{All-nil, All-cons, All-head, All-tail}
 use Rattle.std.proofs.lemmas.List.Sorted.{All-permutation, IsPermutation-sym}
-use Rattle.std.specs.declared.cmp.Ordering.{Ordering}
-use Rattle.std.specs.declared.cmp.Ordering.TheVariants.{Less, Equal, Greater}
-use Rattle.std.specs.Ordering.{eq_by_cmp, is_eq, is_lt}
-use Rattle.std.specs.Cmp.{tied_back}
-use Rattle.std.specs.FinMap.Entries.{put, find, is_sorted, below_all, find-put, find_tied, same_entries}
-use Rattle.std.specs.List.{list_all, All, dedup_from, dedup}
+use Rattle.std.specs.Ordering.{eq_by_cmp}
+use Rattle.std.specs.FinMap.Entries.{find, find-put, find_tied, same_entries}
+use Rattle.std.specs.List.{list_all, All}
 use Rattle.std.specs.List.Sorted.{IsPermutation}
 use Rattle.pg_patterns.specs.Places.{place_cmp, place_total, same_place, place_ties, place_exact}
 use Rattle.pg_patterns.specs.Values.{raise, value_of, best, joined, is_entry, IsPatternMap}
-use Rattle.pg_patterns.proofs.Ordered.{and_first, and_second, both_true, equal_is, is_true, holds}
+use Rattle.pg_patterns.proofs.Ordered.{and_first, and_second, equal_is}
 use Rattle.pg_patterns.proofs.Sound.{raise_keeps, entry_bounds}
 
 -- v where the test passes, else 0

@@ -1,18 +1,18 @@
 -- What a sort by place and falling value leaves, when the first entry of each place is kept.
-use Rattle.std.proofs.Common.{◌≡◌, ℕ, suc, zero, ◌+◌, ◌-◌, ◌<◌, ◌≤◌, Bool, true, false, cond, ◌&&◌, not, T, ◌⊎◌, inl, inr, List, [], ◌∷◌, ◌++◌, length, get_or, Option, Some, None, unwrap_or, max, nat_cmp, sym, refl, ap, subst, ◌∙◌, arith}
+use Rattle.std.proofs.Common.{◌≡◌, ℕ, suc, ◌<◌, ◌≤◌, Bool, true, false, cond, not, T, ◌⊎◌, inl, inr, List, [], ◌∷◌, length, get_or, Option, Some, None, unwrap_or, max, nat_cmp, sym, refl, ap, subst, ◌∙◌, arith}
 use Rattle.std.proofs.lemmas.Cmp.{ranked, then_total, on_total, back_total}
 use Rattle.std.proofs.lemmas.List.Elements.{All-nil, All-cons, All-head, All-tail}
 use Rattle.std.proofs.lemmas.List.Filters.{All-dedup}
-use Rattle.std.proofs.lemmas.List.Sorted.{All-permutation, IsPermutation-sym, ranks_by, sorted_far}
+use Rattle.std.proofs.lemmas.List.Sorted.{All-permutation, ranks_by, sorted_far}
 use Rattle.std.specs.declared.cmp.Ordering.{Ordering}
 use Rattle.std.specs.declared.cmp.Ordering.TheVariants.{Less, Equal, Greater}
-use Rattle.std.specs.Ordering.{eq_by_cmp, is_eq, is_lt, ordering_then, ordering_reverse, MatchOrdering}
-use Rattle.std.specs.Cmp.{IsTotalOrder, IsStrictWeakOrder, tied_back, nat_cmp_total}
-use Rattle.std.specs.FinMap.Entries.{put, find, is_sorted, below_all}
+use Rattle.std.specs.Ordering.{is_eq, is_lt, ordering_then, ordering_reverse, MatchOrdering}
+use Rattle.std.specs.Cmp.{IsTotalOrder, IsStrictWeakOrder, nat_cmp_total}
+use Rattle.std.specs.FinMap.Entries.{find, is_sorted, below_all}
 use Rattle.std.specs.List.{list_all, All, dedup_from, dedup}
 use Rattle.std.specs.List.Sorted.{IsPermutation, IsSortedBy}
 use Rattle.pg_patterns.specs.Places.{place_cmp, place_total, same_place, place_ties, place_exact}
-use Rattle.pg_patterns.specs.Values.{raise, value_of, best, joined, is_entry, IsPatternMap}
+use Rattle.pg_patterns.specs.Values.{value_of, best, joined, is_entry, IsPatternMap}
 use Rattle.pg_patterns.specs.Search.{entry_cmp}
 use Rattle.pg_patterns.proofs.Ordered.{and_first, and_second, both_true, equal_is, less_is, is_true, holds, first_half, second_half}
 use Rattle.pg_patterns.proofs.Joins.{only, same_maps, joined_keeps, value_of_joined, best-IsPermutation}

@@ -1,8 +1,8 @@
 -- How a value is raised in a list of entries in order.
-use Rattle.std.proofs.Common.{◌≡◌, ℕ, suc, zero, ◌+◌, ◌-◌, ◌<◌, ◌≤◌, Bool, true, false, T, List, [], ◌∷◌, ◌++◌, length, drop, take, get_or, set, Option, Some, None, unwrap_or, max, sym, refl, ap, subst, ◌∙◌, arith, add-one}
+use Rattle.std.proofs.Common.{◌≡◌, ℕ, suc, zero, ◌-◌, ◌<◌, ◌≤◌, Bool, true, false, T, List, [], ◌∷◌, ◌++◌, length, drop, take, get_or, set, unwrap_or, max, sym, refl, ap, subst, ◌∙◌, arith, add-one}
 use Rattle.std.proofs.lemmas.List.{take-append-drop, drop_more, set_split, get_or_default}
-use Rattle.std.specs.FinMap.Entries.{put, find, is_sorted}
-use Rattle.std.specs.Ordering.{is_eq, eq_by_cmp}
+use Rattle.std.specs.FinMap.Entries.{put, is_sorted}
+use Rattle.std.specs.Ordering.{is_eq}
 use Rattle.std.specs.Bool.{OnTrue}
 use Rattle.std.specs.List.{list_all, insert, All}
 use Rattle.std.specs.List.Sorted.{IsPartitionPoint, IsPartitionedBy}

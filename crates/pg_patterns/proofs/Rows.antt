@@ -1,5 +1,5 @@
 -- What the definitions give of small files.
-use Rattle.std.specs.Prelude.{◌≡◌, ℕ, ◌+◌, List, [], ◌∷◌, ◌++◌, map, length, Result, Ok, Err, refl, codes, replicate}
+use Rattle.std.specs.Prelude.{◌≡◌, ℕ, List, [], ◌∷◌, ◌++◌, map, length, Result, Ok, Err, refl, codes, replicate}
 use Rattle.std.specs.List.{concat}
 use Rattle.pg_types.specs.declared.refusals.Kind.{Kind}
 use Rattle.pg_types.specs.declared.refusals.Kind.TheVariants.{PatternCharacter, PatternTooLong}
@@ -7,7 +7,7 @@ use Rattle.pg_types.specs.declared.refusals.Refusal.{Refusal}
 use Rattle.pg_translate.specs.Alphabets.{Alphabet}
 use Rattle.pg_patterns.specs.Values.{value_at}
 use Rattle.pg_patterns.specs.Starts.{start}
-use Rattle.pg_patterns.specs.Texts.{pattern_text, strings_of}
+use Rattle.pg_patterns.specs.Texts.{pattern_text}
 
 -- the table of the letters a, b and c
 abbrev abc : Alphabet

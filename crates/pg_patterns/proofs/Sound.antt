@@ -1,14 +1,13 @@
 -- What the entries of a map of patterns keep.
-use Rattle.std.proofs.Common.{◌≡◌, ℕ, suc, zero, ◌+◌, ◌<◌, ◌≤◌, Bool, true, false, cond, ◌&&◌, T, nat_le, List, [], ◌∷◌, ◌++◌, length, get_or, Option, Some, None, unwrap_or, max, sym, refl, ap, subst, ◌∙◌, arith}
+use Rattle.std.proofs.Common.{◌≡◌, ℕ, suc, zero, ◌<◌, ◌≤◌, true, false, cond, nat_le, List, [], ◌∷◌, length, get_or, Some, unwrap_or, max, sym, refl, subst, arith}
 use Rattle.std.proofs.lemmas.Bool.{leb-true, le-leb}
 use Rattle.std.proofs.lemmas.List.Elements.{All-nil, All-cons, All-head, All-tail}
-use Rattle.std.specs.declared.cmp.Ordering.{Ordering}
 use Rattle.std.specs.declared.cmp.Ordering.TheVariants.{Less, Equal, Greater}
 use Rattle.std.specs.Ordering.{eq_by_cmp}
-use Rattle.std.specs.FinMap.Entries.{put, find, is_sorted, by_order, is_sorted-put}
+use Rattle.std.specs.FinMap.Entries.{put, find, by_order, is_sorted-put}
 use Rattle.std.specs.List.{list_all, All}
 use Rattle.pg_patterns.specs.Places.{place_cmp, place_total}
-use Rattle.pg_patterns.specs.Values.{raise, value_of, best, largest, is_entry, IsPatternMap}
+use Rattle.pg_patterns.specs.Values.{raise, value_of, largest, is_entry, IsPatternMap}
 use Rattle.pg_patterns.proofs.Ordered.{and_first, and_second, both_true}
 
 -- what is said of an entry
