@@ -1,6 +1,8 @@
 -- How a text is cut at its first byte that passes a test.
 use Rattle.std.proofs.Common.{◌≡◌, ℕ, ◌+◌, ◌-◌, ◌<◌, ◌≤◌, ◌==◌, map, Bool, true, false, List, [], ◌∷◌, length, take, drop, get_or, refl, ap, add-one, arith, suc, zero}
+use Rattle.std.specs.List.{position_or_len}
 use Rattle.std.proofs.lemmas.List.{take_rest, drop_all}
+use Rattle.std.proofs.lemmas.List.Sums.{position_or_len_is}
 use Rattle.std.proofs.lemmas.Bool.{false_from_ne_true}
 use Rattle.pg_types.specs.Lines.{pieces_at, is_line_feed, without_cr, lines}
 
@@ -35,3 +37,13 @@ lines_last [] line some is before = cc
 lines_last (b ∷ bs) line some is before =
     let pieces : pieces_at is_line_feed (b ∷ bs) ≡ (b ∷ bs) ∷ [] = pieces_at_last is_line_feed b bs (λ j below. false_from_ne_true _ (before j (omega arith) below)) in
     rw (take_rest (b ∷ bs) (length (b ∷ bs)), drop_all (length (b ∷ bs)) (b ∷ bs) (omega arith), is) (ap (map without_cr) pieces)
+
+-- the place of the first LF
+pub line_feed_at : (bytes : List ℕ) (k : ℕ) → ((j : ℕ) → 0 ≤ j → j < k → ¬ (is_line_feed (get_or bytes j 0) ≡ true)) → k < length bytes → is_line_feed (get_or bytes k 0) ≡ true → position_or_len is_line_feed bytes ≡ k
+line_feed_at bytes k before inside here =
+    position_or_len_is is_line_feed bytes k 0 (omega arith) (λ j below. false_from_ne_true _ (before j (omega arith) below)) (λ _. here)
+
+-- no LF
+pub line_feed_nowhere : (bytes : List ℕ) → ((j : ℕ) → 0 ≤ j → j < length bytes → ¬ (is_line_feed (get_or bytes j 0) ≡ true)) → position_or_len is_line_feed bytes ≡ length bytes
+line_feed_nowhere bytes before =
+    position_or_len_is is_line_feed bytes (length bytes) 0 (omega arith) (λ j below. false_from_ne_true _ (before j (omega arith) below)) (λ inside. absurd (omega arith))

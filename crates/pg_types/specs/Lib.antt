@@ -1,3 +1,7 @@
 pub mod Refusals
 pub mod Reading
 pub mod Lines
+pub mod Signs
+pub mod Parameters
+pub mod Placement
+pub mod Tails

@@ -1,6 +1,7 @@
 //! The lines of a file.
 ghost use Rattle.std.specs.Prelude.{◌≡◌, ◌<◌, ◌≤◌, [], ◌∷◌, length, MatchOption, IfSome, slice_range, drop};
-ghost use Rattle.pg_types.specs.Lines.{lines, without_cr};
+ghost use Rattle.std.specs.List.{before_first, after_first};
+ghost use Rattle.pg_types.specs.Lines.{lines, is_line_feed, without_cr};
 
 use memchr::memchr;
 
@@ -8,6 +9,8 @@ use memchr::memchr;
 /// empty. A last piece without LF is a line too.
 pub fn next_line(rest: &[u8]) -> Option<(&[u8], &[u8])>
     ensures lines { MatchOption result (rest.now ≡ []) (λ r. lines rest.now ≡ r.0.now ∷ lines r.1.now) }
+    ensures line { IfSome result (λ r. r.0.now ≡ without_cr (before_first is_line_feed rest.now)) }
+    ensures rest { IfSome result (λ r. r.1.now ≡ after_first is_line_feed rest.now) }
     ensures shorter { IfSome result (λ r. length r.1.now < length rest.now) }
     ensures within { IfSome result (λ r. length r.0.now ≤ length rest.now) }
 {

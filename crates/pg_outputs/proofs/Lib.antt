@@ -1,0 +1,4 @@
+pub mod InsertLaws
+pub mod ListLaws
+mod ListRows
+pub mod RecordLaws

@@ -1,0 +1,7 @@
+use Rattle.std.proofs.Common.{subst}
+use Rattle.pg_outputs.specs.Lists.{OneHeadEach}
+use Rattle.pg_outputs.proofs.ListLaws.{one_head_each}
+use Rattle.pg_outputs.proofs.lists.Outputs.len.Goals as goal
+
+pub returns-clause-one_head : goal.returns-clause-one_head
+returns-clause-one_head c = subst OneHeadEach c.self.view_is (one_head_each _ c.self.invariant)

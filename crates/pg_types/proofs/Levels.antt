@@ -1,0 +1,60 @@
+-- The levels of a parameters file, one after the other.
+use Rattle.std.proofs.Common.{◌≡◌, ℕ, ◌+◌, ◌-◌, ◌*◌, ◌<◌, ◌≤◌, List, [], ◌∷◌, ◌++◌, length, map, drop, Option, Some, Err, refl, ap, sym, subst, ◌∙◌, arith, suc}
+use Rattle.std.specs.List.{flat_map, range_with_len}
+use Rattle.std.proofs.lemmas.Bool.{le-ltb}
+use Rattle.std.proofs.lemmas.List.{drop-drop}
+use Rattle.std.proofs.lemmas.List.FromFn.{map-range_with_len_more}
+use Rattle.pg_types.specs.declared.limits.TheConstants.{FILE_MAX}
+use Rattle.pg_types.specs.declared.refusals.Refusal.{Refusal}
+use Rattle.pg_types.specs.declared.parameters.LevelParams.{LevelParams}
+use Rattle.pg_types.specs.Parameters.{Demand, items, level_demands, level_of, level_count, number_at, demands, demands_of_levels, refusal_from, parameters}
+
+-- what the level at a place demands, and what it is
+abbrev pub demands_at : List (List ℕ) → ℕ → List Demand
+demands_at xs i = level_demands (drop (5 * i) xs)
+
+abbrev pub level_at : List (List ℕ) → ℕ → LevelParams
+level_at xs i = level_of (drop (5 * i) xs)
+
+-- one level less is left
+range_more : (i count : ℕ) → i < count → range_with_len i (count - i) ≡ i ∷ range_with_len (i + 1) (count - (i + 1))
+range_more i count more = let n : count - i ≡ suc (count - (i + 1)) = omega arith in ap (range_with_len i) n
+
+demands_more : (xs : List (List ℕ)) (i count : ℕ) → i < count → flat_map (demands_at xs) (range_with_len i (count - i)) ≡ demands_at xs i ++ flat_map (demands_at xs) (range_with_len (i + 1) (count - (i + 1)))
+demands_more xs i count more = ap (flat_map (demands_at xs)) (range_more i count more)
+
+-- after a level that is read, the same refusal is left
+pub left_more : (all xs xs' : List (List ℕ)) (place place' i count : ℕ) (whole : Option Refusal) → i < count → xs ≡ drop (5 * i) all → ((more : List Demand) → refusal_from place (level_demands xs ++ more) xs ≡ refusal_from place' more xs') → refusal_from place (flat_map (demands_at all) (range_with_len i (count - i))) xs ≡ whole → refusal_from place' (flat_map (demands_at all) (range_with_len (i + 1) (count - (i + 1)))) xs' ≡ whole
+left_more all xs xs' place place' i count whole more is passed left =
+    let rest : List Demand = flat_map (demands_at all) (range_with_len (i + 1) (count - (i + 1))) in
+    let here : refusal_from place (demands_at all i ++ rest) xs ≡ whole = subst (λ (ds : List Demand). refusal_from place ds xs ≡ whole) (demands_more all i count more) left in
+    sym (passed rest) ∙ subst (λ (ys : List (List ℕ)). refusal_from place (level_demands ys ++ rest) xs ≡ whole) (sym is) here
+
+-- where a level is refused, its refusal is that of the whole
+pub left_refused : (all xs : List (List ℕ)) (place i count : ℕ) (whole : Option Refusal) (r : Refusal) → i < count → xs ≡ drop (5 * i) all → ((more : List Demand) → refusal_from place (level_demands xs ++ more) xs ≡ Some r) → refusal_from place (flat_map (demands_at all) (range_with_len i (count - i))) xs ≡ whole → whole ≡ Some r
+left_refused all xs place i count whole r more is refused left =
+    let rest : List Demand = flat_map (demands_at all) (range_with_len (i + 1) (count - (i + 1))) in
+    let here : refusal_from place (demands_at all i ++ rest) xs ≡ whole = subst (λ (ds : List Demand). refusal_from place ds xs ≡ whole) (demands_more all i count more) left in
+    sym (subst (λ (ys : List (List ℕ)). refusal_from place (level_demands ys ++ rest) xs ≡ whole) (sym is) here) ∙ refused rest
+
+-- five items less are left
+pub rest_more : (all xs xs' : List (List ℕ)) (i : ℕ) → xs ≡ drop (5 * i) all → xs' ≡ drop 5 xs → xs' ≡ drop (5 * (i + 1)) all
+rest_more all xs xs' i is next =
+    let n : 5 * i + 5 ≡ 5 * (i + 1) = omega arith in
+    next ∙ ap (drop 5) is ∙ drop-drop 5 (5 * i) all ∙ ap (λ (k : ℕ). drop k all) n
+
+-- one level more is read
+pub read_more : (all xs : List (List ℕ)) (i : ℕ) (levels levels' : List LevelParams) (level : LevelParams) → xs ≡ drop (5 * i) all → level ≡ level_of xs → levels' ≡ levels ++ level ∷ [] → levels ≡ map (level_at all) (range_with_len 0 i) → levels' ≡ map (level_at all) (range_with_len 0 (i + 1))
+read_more all xs i levels levels' level is level_is more read =
+    more ∙ ap (λ (ls : List LevelParams). ls ++ level ∷ []) read ∙ ap (λ (l : LevelParams). map (level_at all) (range_with_len 0 i) ++ l ∷ []) (level_is ∙ ap level_of is) ∙ sym (map-range_with_len_more (level_at all) 0 i i (omega arith))
+
+-- what the levels of a file demand
+abbrev pub levels_demanded : List (List ℕ) → List Demand
+levels_demanded xs = demands_of_levels (level_count (number_at xs 0) (number_at xs 1)) (drop 2 xs)
+
+-- a file that is not too long is refused as its items are
+pub whole_refused : (bytes rest : List ℕ) (place : ℕ) (r : Refusal) → length bytes ≤ FILE_MAX → rest ≡ bytes → place ≡ 1 → refusal_from place (demands (items bytes)) (items rest) ≡ Some r → parameters bytes ≡ Err r
+whole_refused bytes rest place r fits is one refused =
+    let here : refusal_from place (demands (items bytes)) (items bytes) ≡ Some r = subst (λ (b : List ℕ). refusal_from place (demands (items bytes)) (items b) ≡ Some r) is refused in
+    let first : refusal_from 1 (demands (items bytes)) (items bytes) ≡ Some r = subst (λ (n : ℕ). refusal_from n (demands (items bytes)) (items bytes) ≡ Some r) one here in
+    rw (le-ltb FILE_MAX (length bytes) fits, first) refl

@@ -1,0 +1,43 @@
+use Rattle.std.proofs.Common.{◌≡◌, ℕ, List, ◌∷◌, Option, ◌∙◌, subst}
+use Rattle.std.proofs.lemmas.Result.{err_from_is_err_and}
+use Rattle.pg_types.specs.declared.refusals.Refusal.{Refusal}
+use Rattle.pg_types.specs.declared.limits.TheConstants.{LENGTH_MAX, COST_MAX}
+use Rattle.pg_types.specs.Parameters.{Demand, between, items, number_at, refusal_from}
+use Rattle.pg_types.proofs.items.Items.level.Goals as goal
+
+-- what is demanded behind each of the five numbers
+abbrev behind_bad : List Demand → List Demand
+behind_bad more = between 1 COST_MAX ∷ more
+
+abbrev behind_good : List Demand → List Demand
+behind_good more = between 1 COST_MAX ∷ behind_bad more
+
+abbrev behind_finish : List Demand → List Demand
+behind_finish more = between 1 COST_MAX ∷ behind_good more
+
+abbrev behind_start : ℕ → List Demand → List Demand
+behind_start least more = between least LENGTH_MAX ∷ behind_finish more
+
+-- the first number is the least that the second may be
+at_least_start : (place : ℕ) (xs : List (List ℕ)) (least : ℕ) (more : List Demand) (r : Option Refusal) → least ≡ number_at xs 0 → refusal_from place (between 1 LENGTH_MAX ∷ behind_start least more) xs ≡ r → refusal_from place (between 1 LENGTH_MAX ∷ behind_start (number_at xs 0) more) xs ≡ r
+at_least_start place xs least more r is h = subst (λ (n : ℕ). refusal_from place (between 1 LENGTH_MAX ∷ behind_start n more) xs ≡ r) is h
+
+pub returns-in_err-pat_start-clause-refused : goal.returns-in_err-pat_start-clause-refused
+returns-in_err-pat_start-clause-refused c =
+    let p = err_from_is_err_and c.from_residual.result c.from_residual.ensures.1 in
+    rw (p.1, p.2) (λ more. c.in_err-pat_start.ensures.refused (behind_start (number_at (items c.args.self.now.rest.now) 0) more))
+
+pub returns-in_err-pat_finish-clause-refused : goal.returns-in_err-pat_finish-clause-refused
+returns-in_err-pat_finish-clause-refused c =
+    let p = err_from_is_err_and c.from_residual-in_err-pat_finish.result c.from_residual-in_err-pat_finish.ensures.1 in
+    rw (p.1, p.2) (λ more. at_least_start c.args.self.now.place (items c.args.self.now.rest.now) c.in_ok-pat_start.pat_start more _ c.in_ok-pat_start.ensures.value (c.in_ok-pat_start.ensures.passed (behind_start c.in_ok-pat_start.pat_start more) ∙ c.in_err-pat_finish.ensures.refused (behind_finish more)))
+
+pub returns-in_err-good_wt-clause-refused : goal.returns-in_err-good_wt-clause-refused
+returns-in_err-good_wt-clause-refused c =
+    let p = err_from_is_err_and c.from_residual-in_err-good_wt.result c.from_residual-in_err-good_wt.ensures.1 in
+    rw (p.1, p.2) (λ more. at_least_start c.args.self.now.place (items c.args.self.now.rest.now) c.in_ok-pat_start.pat_start more _ c.in_ok-pat_start.ensures.value (c.in_ok-pat_start.ensures.passed (behind_start c.in_ok-pat_start.pat_start more) ∙ c.in_ok-pat_finish.ensures.passed (behind_finish more) ∙ c.in_err-good_wt.ensures.refused (behind_good more)))
+
+pub returns-in_err-bad_wt-clause-refused : goal.returns-in_err-bad_wt-clause-refused
+returns-in_err-bad_wt-clause-refused c =
+    let p = err_from_is_err_and c.from_residual-in_err-bad_wt.result c.from_residual-in_err-bad_wt.ensures.1 in
+    rw (p.1, p.2) (λ more. at_least_start c.args.self.now.place (items c.args.self.now.rest.now) c.in_ok-pat_start.pat_start more _ c.in_ok-pat_start.ensures.value (c.in_ok-pat_start.ensures.passed (behind_start c.in_ok-pat_start.pat_start more) ∙ c.in_ok-pat_finish.ensures.passed (behind_finish more) ∙ c.in_ok-good_wt.ensures.passed (behind_good more) ∙ c.in_err-bad_wt.ensures.refused (behind_bad more)))

@@ -1,0 +1,141 @@
+-- The parameters of a run, and when a file of them is refused.
+use Rattle.std.specs.Prelude.{◌≡◌, ℕ, ◌+◌, ◌-◌, ◌*◌, ◌≤◌, ◌==◌, ◌||◌, ◌&&◌, nat_lt, nat_le, min, Bool, true, false, if◌then◌else◌, List, [], ◌∷◌, length, map, fold, filter, drop, slice_get, Option, None, Some, unwrap_or, option_and_then, Result, Err, All}
+use Rattle.std.specs.List.{list_all, flat_map, range_with_len}
+use Rattle.std.specs.Option.{option_map_or}
+use Rattle.std.specs.Char.{is_ascii_digit}
+use Rattle.pg_types.specs.declared.limits.TheConstants.{FILE_MAX, LEVEL_MAX, LENGTH_MAX, COST_MAX}
+use Rattle.pg_types.specs.declared.refusals.Kind.{Kind}
+use Rattle.pg_types.specs.declared.refusals.Kind.TheVariants.{BadNumber, OutOfRange, Missing, Extra, ParametersTooLong}
+use Rattle.pg_types.specs.declared.refusals.Refusal.{Refusal}
+use Rattle.pg_types.specs.declared.parameters.LevelParams.{LevelParams}
+use Rattle.pg_types.specs.Lines.{pieces_at}
+use Rattle.pg_types.specs.Reading.{unless}
+
+-- the parameters of a run: its first and last level, and what each level that is run is given
+pub record Parameters : Type 0 where
+  pub start : ℕ
+  pub finish : ℕ
+  pub levels : List LevelParams
+
+-- blank, TAB, CR and LF stand between items
+abbrev pub is_separator : ℕ → Bool
+is_separator b = b == 32 || b == 9 || b == 13 || b == 10
+
+-- a piece that has a byte
+abbrev pub is_filled : List ℕ → Bool
+is_filled [] = false
+is_filled (b ∷ bs) = true
+
+-- the items of a file are what stands between its separators
+abbrev pub items : List ℕ → List (List ℕ)
+items bytes = filter is_filled (pieces_at is_separator bytes)
+
+-- a number so far with one more digit
+abbrev pub with_digit : ℕ → ℕ → ℕ
+with_digit n b = n * 10 + (b - 48)
+
+-- the number that the digits write behind a number so far, where they are digits
+abbrev pub number_from : ℕ → List ℕ → Option ℕ
+number_from n digits = if list_all is_ascii_digit digits then Some (fold with_digit n digits) else None
+
+-- the number that an item is, where it is one
+abbrev pub number : List ℕ → Option ℕ
+number item = number_from 0 item
+
+-- the number at a place of a list of items, 0 where there is none
+abbrev pub number_at : List (List ℕ) → ℕ → ℕ
+number_at xs k = unwrap_or (option_and_then number (slice_get xs k)) 0
+
+-- a demand on an item: it is a number, from the least to the greatest
+pub record Demand : Type 0 where
+  pub least : ℕ
+  pub greatest : ℕ
+
+abbrev pub between : ℕ → ℕ → Demand
+between least greatest = record { least = least; greatest = greatest }
+
+-- what a level demands of its five items: the lengths, of which the last is at least the first, the two weights and the threshold
+abbrev pub level_demands : List (List ℕ) → List Demand
+level_demands xs = between 1 LENGTH_MAX ∷ between (number_at xs 0) LENGTH_MAX ∷ between 1 COST_MAX ∷ between 1 COST_MAX ∷ between 1 COST_MAX ∷ []
+
+-- the parameters of a level from its five items
+abbrev pub level_of : List (List ℕ) → LevelParams
+level_of xs = record { pat_start = number_at xs 0; pat_finish = number_at xs 1; good_wt = number_at xs 2; bad_wt = number_at xs 3; thresh = number_at xs 4 }
+
+-- how many levels are run
+abbrev pub level_count : ℕ → ℕ → ℕ
+level_count start finish = min finish LEVEL_MAX + 1 - start
+
+-- the items of the level at a place, counted from 0: each level has five
+abbrev pub level_items : List (List ℕ) → ℕ → List (List ℕ)
+level_items xs i = drop (5 * i) xs
+
+-- what so many levels demand of their items
+abbrev pub demands_of_levels : ℕ → List (List ℕ) → List Demand
+demands_of_levels count xs = flat_map (λ i. level_demands (level_items xs i)) (range_with_len 0 count)
+
+-- so many levels from their items
+abbrev pub levels_of : ℕ → List (List ℕ) → List LevelParams
+levels_of count xs = map (λ i. level_of (level_items xs i)) (range_with_len 0 count)
+
+-- what a file demands of its items: the first and the last level, and then five numbers for each level that is run
+abbrev pub demands : List (List ℕ) → List Demand
+demands xs = between 1 LEVEL_MAX ∷ between 1 LEVEL_MAX ∷ demands_of_levels (level_count (number_at xs 0) (number_at xs 1)) (drop 2 xs)
+
+-- the parameters that the items are
+abbrev pub parameters_of : List (List ℕ) → Parameters
+parameters_of xs = record { start = number_at xs 0; finish = number_at xs 1; levels = levels_of (level_count (number_at xs 0) (number_at xs 1)) (drop 2 xs) }
+
+-- the refusal of the item with this number
+abbrev pub refused_at : ℕ → Kind → Refusal
+refused_at place kind = record { kind = kind; line = place; column = 0 }
+
+-- how an item fails a demand
+abbrev pub failure : Demand → List ℕ → Option Kind
+failure d item = option_map_or (λ n. if nat_le d.least n && nat_le n d.greatest then None else Some OutOfRange) (number item) (Some BadNumber)
+
+-- the answer of a user of patgen to its last question: y, Y, n or N
+abbrev pub is_answer : List ℕ → Bool
+is_answer (b ∷ []) = b == 121 || b == 89 || b == 110 || b == 78
+is_answer item = false
+
+-- nothing may follow an answer
+abbrev pub refusal_behind : ℕ → List (List ℕ) → Option Refusal
+refusal_behind place [] = None
+refusal_behind place (x ∷ xs) = Some (refused_at place Extra)
+
+-- one answer may follow the numbers
+abbrev pub surplus : ℕ → List (List ℕ) → Option Refusal
+surplus place [] = None
+surplus place (x ∷ xs) = if is_answer x then refusal_behind (place + 1) xs else Some (refused_at place Extra)
+
+-- the refusal of the first item that fails its demand, where the first item has the number place
+abbrev pub refusal_from : ℕ → List Demand → List (List ℕ) → Option Refusal
+refusal_from place [] xs = surplus place xs
+refusal_from place (d ∷ ds) [] = Some (refused_at place Missing)
+refusal_from place (d ∷ ds) (x ∷ xs) = option_map_or (λ kind. Some (refused_at place kind)) (failure d x) (refusal_from (place + 1) ds xs)
+
+-- the parameters that a file holds, or its refusal
+abbrev pub parameters : List ℕ → Result Parameters Refusal
+parameters bytes = if nat_lt FILE_MAX (length bytes) then Err (refused_at 0 ParametersTooLong) else unless (refusal_from 1 (demands (items bytes)) (items bytes)) (parameters_of (items bytes))
+
+-- the ranges that the numbers of a level keep
+pub record IsLevel (level : LevelParams) : Type 0 where
+  pub start_low : 1 ≤ level.pat_start
+  pub start_high : level.pat_start ≤ level.pat_finish
+  pub finish_high : level.pat_finish ≤ LENGTH_MAX
+  pub good_low : 1 ≤ level.good_wt
+  pub good_high : level.good_wt ≤ COST_MAX
+  pub bad_low : 1 ≤ level.bad_wt
+  pub bad_high : level.bad_wt ≤ COST_MAX
+  pub thresh_low : 1 ≤ level.thresh
+  pub thresh_high : level.thresh ≤ COST_MAX
+
+-- the ranges that all parameters keep
+pub record IsRun (run : Parameters) : Type 0 where
+  pub start_low : 1 ≤ run.start
+  pub start_high : run.start ≤ LEVEL_MAX
+  pub finish_low : 1 ≤ run.finish
+  pub finish_high : run.finish ≤ LEVEL_MAX
+  pub count : length run.levels ≡ run.finish + 1 - run.start
+  pub levels : All IsLevel run.levels

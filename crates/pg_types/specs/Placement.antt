@@ -1,0 +1,152 @@
+-- Where the families of a trie lie in one row of cells. A family has a prefix, a base and a set of signs, and its sign s has
+-- the cell base + s. A placement is the list of the families in the order of their prefixes.
+use Rattle.std.specs.Prelude.{ℕ, suc, zero, ◌+◌, ◌-◌, max, Bool, true, false, if◌then◌else◌, not, ◌&&◌, ◌||◌, nat_eq, nat_lt, nat_le, List, [], ◌∷◌, ◌++◌, length, map, filter, fold, Option, Some, None}
+use Rattle.std.specs.List.{flat_map, list_any, list_all, range_with_len, starts_with}
+use Rattle.std.specs.Ordering.{nat_cmp, eq_by_cmp}
+use Rattle.std.specs.Cmp.Lexicographic.{slice_cmp}
+use Rattle.std.specs.FinMap.{find, put}
+use Rattle.std.specs.FinMap.Entries.{where_key}
+use Rattle.std.specs.Option.{option_map}
+
+-- the base, and the signs in rising order
+pub record Family : Type 0 where
+  pub base : ℕ
+  pub signs : List ℕ
+
+abbrev pub Families : Type 0
+Families = List (List ℕ × Family)
+
+-- a family of at most this many signs is placed from base 1 on
+abbrev pub few_signs : ℕ
+few_signs = 4
+
+-- and a greater one from so far below the top on, or as far as there are signs
+abbrev pub far_below : ℕ
+far_below = 255
+
+-- the family with the prefix
+abbrev pub family_at : Families → List ℕ → Option Family
+family_at fs p = find (slice_cmp nat_cmp) p fs
+
+-- the families but that with the prefix
+abbrev pub without_family : Families → List ℕ → Families
+without_family fs p = where_key (slice_cmp nat_cmp) (λ q. not (eq_by_cmp (slice_cmp nat_cmp) p q)) fs
+
+-- the cells of a family
+abbrev pub cells_of : Family → List ℕ
+cells_of f = map (λ s. f.base + s) f.signs
+
+-- the used cells, family by family
+abbrev pub used_cells : Families → List ℕ
+used_cells fs = flat_map (λ e. cells_of e.1) fs
+
+-- the number of used cells
+abbrev pub taken : Families → ℕ
+taken fs = length (used_cells fs)
+
+-- the greatest used cell
+abbrev pub top : Families → ℕ
+top fs = fold max 0 (used_cells fs)
+
+abbrev pub is_used : Families → ℕ → Bool
+is_used fs cell = list_any (nat_eq cell) (used_cells fs)
+
+abbrev pub is_base : Families → ℕ → Bool
+is_base fs b = list_any (λ e. nat_eq b e.1.base) fs
+
+-- whether signs may stand at the base: no family has it, and their cells are unused
+abbrev pub fits_at : Families → List ℕ → ℕ → Bool
+fits_at fs signs b = not (is_base fs b) && list_all (λ s. not (is_used fs (b + s))) signs
+
+-- the lowest base that is tried for so many signs, in a table of n signs
+abbrev pub lowest_base : ℕ → Families → ℕ → ℕ
+lowest_base n fs count = if nat_le count few_signs then 1 else max 1 (top fs - max far_below n)
+
+-- the first number from b on that passes the test, of so many more
+abbrev pub first_from : (ℕ → Bool) → ℕ → ℕ → ℕ
+first_from test zero b = b
+first_from test (suc more) b = elim (test b) [ true ↦ b | false ↦ first_from test more (b + 1) ]
+
+-- the least base at which the signs may stand. One that is past the top always serves
+abbrev pub least_base : ℕ → Families → List ℕ → ℕ
+least_base n fs signs = first_from (fits_at fs signs) (top fs) (lowest_base n fs (length signs))
+
+-- the families with one more, placed at the least base
+abbrev pub placed : ℕ → Families → List ℕ → List ℕ → Families
+placed n fs p signs = put (slice_cmp nat_cmp) p (record { base = least_base n fs signs; signs = signs }) fs
+
+-- the signs, in rising order, with s
+abbrev pub with_one_sign : ℕ → List ℕ → List ℕ
+with_one_sign s [] = s ∷ []
+with_one_sign s (x ∷ xs) = if nat_lt s x then s ∷ x ∷ xs else (if nat_eq s x then x ∷ xs else x ∷ with_one_sign s xs)
+
+-- the families of a table of n signs with s in the family of the prefix p: a new family is placed with its one sign; a sign
+-- joins in place where its cell is unused; else the family gives up its cells and its base, and is placed anew with s
+unfoldable pub with_sign : ℕ → Families → List ℕ → ℕ → Families
+with_sign n fs p s = elim (family_at fs p) [
+  | None ↦ placed n fs p (s ∷ [])
+  | Some f ↦ elim (is_used fs (f.base + s)) [
+    | false ↦ put (slice_cmp nat_cmp) p (record { base = f.base; signs = with_one_sign s f.signs }) fs
+    | true ↦ placed n (without_family fs p) p (with_one_sign s f.signs)
+  ]
+]
+
+-- the families without s in the family of the prefix p. A family without a sign is gone, and the others keep their bases
+unfoldable pub without_sign : Families → List ℕ → ℕ → Families
+without_sign fs p s = elim (family_at fs p) [
+  | None ↦ fs
+  | Some f ↦ elim (filter (λ x. not (nat_eq s x)) f.signs) [
+    | [] ↦ without_family fs p
+    | x ∷ xs ↦ put (slice_cmp nat_cmp) p (record { base = f.base; signs = x ∷ xs }) fs
+  ]
+]
+
+-- the root of a table of n signs: the empty prefix, base 0 and every sign
+abbrev pub root : ℕ → Families
+root n = ([], record { base = 0; signs = range_with_len 1 n }) ∷ []
+
+-- the cell of the sign s in the family of the prefix p
+abbrev pub cell_in : Families → List ℕ → ℕ → Option ℕ
+cell_in fs p s = elim (family_at fs p) [
+  | None ↦ None
+  | Some f ↦ if list_any (nat_eq s) f.signs then Some (f.base + s) else None
+]
+
+-- the cell of the string that has q after the prefix p
+abbrev pub cell_after : Families → List ℕ → List ℕ → Option ℕ
+cell_after fs p [] = None
+cell_after fs p (s ∷ []) = cell_in fs p s
+cell_after fs p (s ∷ t ∷ q) = cell_after fs (p ++ s ∷ []) (t ∷ q)
+
+-- the cell of a string
+abbrev pub cell_of : Families → List ℕ → Option ℕ
+cell_of fs q = cell_after fs [] q
+
+-- the base of the family with the prefix
+abbrev pub base_of : Families → List ℕ → Option ℕ
+base_of fs p = option_map (λ f. f.base) (family_at fs p)
+
+-- the families with each sign of q, in turn, in the family of the string before it, which begins with p
+abbrev pub enter_after : ℕ → Families → List ℕ → List ℕ → Families
+enter_after n fs p [] = fs
+enter_after n fs p (s ∷ q) = enter_after n (elim (cell_in fs p s) [ Some cell ↦ fs | None ↦ with_sign n fs p s ]) (p ++ s ∷ []) q
+
+-- the families after the string is entered. Its first sign is in the root
+abbrev pub enter : ℕ → Families → List ℕ → Families
+enter n fs [] = fs
+enter n fs (s ∷ q) = enter_after n fs (s ∷ []) q
+
+-- whether a string keeps its cell at a level's end: it has one sign, or it is a prefix of a string that stays
+abbrev pub keeps_cell : List (List ℕ) → List ℕ → Bool
+keeps_cell strings q = nat_le (length q) 1 || list_any (λ t. starts_with nat_eq t q) strings
+
+-- a family at a level's end, or none where no sign is left
+abbrev pub kept_family : List (List ℕ) → List ℕ × Family → Families
+kept_family strings e = elim (filter (λ s. keeps_cell strings (e.0 ++ s ∷ [])) e.1.signs) [
+  | [] ↦ []
+  | x ∷ xs ↦ (e.0, record { base = e.1.base; signs = x ∷ xs }) ∷ []
+]
+
+-- the families at a level's end, where these are the strings of the patterns
+abbrev pub kept : List (List ℕ) → Families → Families
+kept strings fs = flat_map (kept_family strings) fs

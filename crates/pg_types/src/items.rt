@@ -1,0 +1,199 @@
+//! The items of a parameters file, taken one after the other.
+ghost use Rattle.std.specs.Prelude.{◌≡◌, ◌<◌, ◌≤◌, ◌+◌, ◌++◌, ◌∷◌, [], List, length, drop, min, option_map, IfOk, OnOk, None, Some, IfErr, IfSome, MatchOption, not, position, ◌-◌, nat_lt, slice_index};
+ghost use Rattle.std.specs.List.{position_or_len};
+ghost use Rattle.pg_types.specs.Parameters.{Demand, between, items, is_separator as is_separator_byte, number, number_at, level_demands, level_of, refusal_from, refused_at, surplus, is_answer as is_answer_item, IsLevel};
+
+use crate::limits::{COST_MAX, LENGTH_MAX};
+use crate::parameters::LevelParams;
+use crate::refusals::{Kind, Refusal};
+
+/// What a number that is greater than every range is cut to, so that its digits cannot overflow.
+const TOO_GREAT: u32 = COST_MAX + 1;
+
+/// More items than any file's numbers are.
+const PLACE_MAX: u32 = 100;
+
+/// Whether the byte stands between items.
+fn is_separator(byte: u8) -> bool
+    ensures { result ≡ is_separator_byte byte }
+{
+    matches!(byte, b' ' | b'\t' | b'\r' | b'\n')
+}
+
+/// How many separators stand in front.
+fn separators_len(rest: &[u8]) -> usize
+    ensures { result ≡ position_or_len (λ b. not (is_separator_byte b)) rest.now }
+{
+    first_item_byte(rest).unwrap_or(rest.len())
+}
+
+/// Where the first byte stands that is no separator.
+fn first_item_byte(rest: &[u8]) -> Option<usize>
+    ensures { result ≡ position (λ b. not (is_separator_byte b)) rest.now }
+{
+    rest.iter().position(|byte| !is_separator(*byte))
+}
+
+/// How many bytes stand before the first separator.
+fn item_len(rest: &[u8]) -> usize
+    ensures { result ≡ position_or_len is_separator_byte rest.now }
+{
+    first_separator(rest).unwrap_or(rest.len())
+}
+
+/// Where the first separator stands.
+fn first_separator(rest: &[u8]) -> Option<usize>
+    ensures { result ≡ position is_separator_byte rest.now }
+{
+    rest.iter().position(|byte| is_separator(*byte))
+}
+
+/// The first item of `rest` and what follows it.
+fn next_item(rest: &[u8]) -> Option<(&[u8], &[u8])>
+    ensures { MatchOption result (items rest.now ≡ []) (λ r. items rest.now ≡ r.0.now ∷ items r.1.now) }
+{
+    let (_, rest) = rest.split_at(separators_len(rest));
+    if rest.is_empty() {
+        return None;
+    }
+    Some(rest.split_at(item_len(rest)))
+}
+
+/// The number that an item is, cut to `TOO_GREAT`; none where it is no number.
+fn read_number(item: &[u8]) -> Option<u32>
+    ensures { result ≡ option_map (λ n. min n TOO_GREAT) (number item.now) }
+{
+    let mut value = 0;
+    for digit in item {
+        if !digit.is_ascii_digit() {
+            return None;
+        }
+        value = (value * 10 + u32::from(*digit - b'0')).min(TOO_GREAT);
+    }
+    Some(value)
+}
+
+/// Whether the item answers patgen's last question.
+fn is_answer(item: &[u8]) -> bool
+    ensures { result ≡ is_answer_item item.now }
+{
+    matches!(item, [b'y' | b'Y' | b'n' | b'N'])
+}
+
+/// The items that are left, and the number of the next, counted from 1.
+#[derive(Clone, Copy)]
+pub struct Items<'a> {
+    rest: &'a [u8],
+    place: u32,
+}
+
+impl<'a> Items<'a> {
+    /// All items of a file.
+    pub fn new(bytes: &'a [u8]) -> Items<'a>
+        ensures rest { result.rest.now ≡ bytes.now }
+        ensures place { result.place ≡ 1 }
+    {
+        Items {
+            rest: bytes,
+            place: 1,
+        }
+    }
+
+    /// Takes a number from `least` to `greatest`, or refuses the item.
+    pub fn number(&mut self, least: u32, greatest: u32) -> Result<u32, Refusal>
+        requires range { greatest ≤ COST_MAX }
+        requires place { self.old.place < PLACE_MAX }
+        ensures value { IfOk result (λ n. n ≡ number_at (items self.old.rest.now) 0) }
+        ensures low { IfOk result (λ n. least ≤ n) }
+        ensures high { IfOk result (λ n. n ≤ greatest) }
+        ensures rest { OnOk result (items self.new.rest.now ≡ drop 1 (items self.old.rest.now)) }
+        ensures place { OnOk result (self.new.place ≡ self.old.place + 1) }
+        ensures passed { OnOk result ((more : List Demand) → refusal_from self.old.place (between least greatest ∷ more) (items self.old.rest.now) ≡ refusal_from self.new.place more (items self.new.rest.now)) }
+        ensures refused { IfErr result (λ refusal. (more : List Demand) → refusal_from self.old.place (between least greatest ∷ more) (items self.old.rest.now) ≡ Some refusal) }
+    {
+        let Some((item, rest)) = next_item(self.rest) else {
+            return Err(self.refusal(Kind::Missing));
+        };
+        let Some(number) = read_number(item) else {
+            return Err(self.refusal(Kind::BadNumber));
+        };
+        if number < least || greatest < number {
+            return Err(self.refusal(Kind::OutOfRange));
+        }
+        self.rest = rest;
+        self.place += 1;
+        Ok(number)
+    }
+
+    /// Takes a number from `least` to `greatest`, as [`number`](Items::number) does.
+    pub fn small_number(&mut self, least: u8, greatest: u8) -> Result<u8, Refusal>
+        requires { self.old.place < PLACE_MAX }
+        ensures value { IfOk result (λ n. n ≡ number_at (items self.old.rest.now) 0) }
+        ensures low { IfOk result (λ n. least ≤ n) }
+        ensures high { IfOk result (λ n. n ≤ greatest) }
+        ensures rest { OnOk result (items self.new.rest.now ≡ drop 1 (items self.old.rest.now)) }
+        ensures place { OnOk result (self.new.place ≡ self.old.place + 1) }
+        ensures passed { OnOk result ((more : List Demand) → refusal_from self.old.place (between least greatest ∷ more) (items self.old.rest.now) ≡ refusal_from self.new.place more (items self.new.rest.now)) }
+        ensures refused { IfErr result (λ refusal. (more : List Demand) → refusal_from self.old.place (between least greatest ∷ more) (items self.old.rest.now) ≡ Some refusal) }
+    {
+        let number = self.number(u32::from(least), u32::from(greatest))?;
+        Ok(number as u8)
+    }
+
+    /// Takes the five numbers of a level.
+    pub fn level(&mut self) -> Result<LevelParams, Refusal>
+        requires { self.old.place + 5 ≤ PLACE_MAX }
+        ensures value { IfOk result (λ level. level ≡ level_of (items self.old.rest.now)) }
+        ensures ranges { IfOk result (λ level. IsLevel level) }
+        ensures rest { OnOk result (items self.new.rest.now ≡ drop 5 (items self.old.rest.now)) }
+        ensures place { OnOk result (self.new.place ≡ self.old.place + 5) }
+        ensures passed { OnOk result ((more : List Demand) → refusal_from self.old.place (level_demands (items self.old.rest.now) ++ more) (items self.old.rest.now) ≡ refusal_from self.new.place more (items self.new.rest.now)) }
+        ensures refused { IfErr result (λ refusal. (more : List Demand) → refusal_from self.old.place (level_demands (items self.old.rest.now) ++ more) (items self.old.rest.now) ≡ Some refusal) }
+    {
+        let pat_start = self.small_number(1, LENGTH_MAX)?;
+        let pat_finish = self.small_number(pat_start, LENGTH_MAX)?;
+        let good_wt = self.number(1, COST_MAX)?;
+        let bad_wt = self.number(1, COST_MAX)?;
+        let thresh = self.number(1, COST_MAX)?;
+        Ok(LevelParams {
+            pat_start,
+            pat_finish,
+            good_wt,
+            bad_wt,
+            thresh,
+        })
+    }
+
+    /// Sees that at most one answer of patgen's last question is left: `y`, `Y`, `n` or `N`.
+    pub fn end(&self) -> Result<(), Refusal>
+        requires { self.now.place ≤ PLACE_MAX }
+        ensures passed { OnOk result (surplus self.now.place (items self.now.rest.now) ≡ None) }
+        ensures refused { IfErr result (λ refusal. surplus self.now.place (items self.now.rest.now) ≡ Some refusal) }
+    {
+        let Some((answer, rest)) = next_item(self.rest) else {
+            return Ok(());
+        };
+        if !is_answer(answer) {
+            return Err(self.refusal(Kind::Extra));
+        }
+        let behind = Items {
+            rest,
+            place: self.place + 1,
+        };
+        match next_item(behind.rest) {
+            Some(_) => Err(behind.refusal(Kind::Extra)),
+            None => Ok(()),
+        }
+    }
+
+    /// The refusal of the next item.
+    fn refusal(&self, kind: Kind) -> Refusal
+        ensures { result ≡ refused_at self.now.place kind }
+    {
+        Refusal {
+            kind,
+            line: self.place,
+            column: 0,
+        }
+    }
+}

@@ -1,0 +1,130 @@
+//! The parameters of a run, and the reader of the file that holds them.
+ghost use Rattle.std.specs.Prelude.{◌≡◌, ◌<◌, ◌≤◌, ◌+◌, ◌-◌, ◌*◌, length, map, drop, slice_get, IfOk, IfErr, OnOk, All};
+ghost use Rattle.pg_types.specs.Reading.{Gives, FailsBy};
+ghost use Rattle.pg_types.specs.Parameters.{items as items_of, demands_of_levels, levels_of, refusal_from, surplus, parameters, IsLevel};
+
+use crate::items::Items;
+use crate::limits::{FILE_MAX, LEVEL_MAX};
+use crate::refusals::{Kind, ReadingError, Refusal};
+use std::alloc::Global;
+use std::marker::Model;
+
+/// What one level is given: which windows it looks at, and how it chooses among them.
+#[derive(Clone, Copy, Debug, PartialEq, Eq)]
+pub struct LevelParams {
+    /// The least length of a window, 1 to [`LENGTH_MAX`](crate::LENGTH_MAX).
+    pub pat_start: u8,
+    /// The greatest length of a window, `pat_start` to [`LENGTH_MAX`](crate::LENGTH_MAX).
+    pub pat_finish: u8,
+    /// What a good position counts, 1 to [`COST_MAX`](crate::COST_MAX).
+    pub good_wt: u32,
+    /// What a bad position counts, 1 to [`COST_MAX`](crate::COST_MAX).
+    pub bad_wt: u32,
+    /// What the weighted difference has to reach, 1 to [`COST_MAX`](crate::COST_MAX).
+    pub thresh: u32,
+}
+
+/// The parameters of a run: its first and last level, and what each level that is run is given.
+#[derive(Debug, Drop)]
+pub struct Params {
+    start: u8,
+    finish: u8,
+    levels: Vec<LevelParams>,
+}
+
+impl Model for Params {
+    ghost use Rattle.pg_types.specs.Parameters.{Parameters, IsRun};
+
+    ghost Value = { Parameters };
+
+    ghost view = { λ p. record { start = p.start; finish = p.finish; levels = p.levels.items } };
+
+    ghost invariant = { λ p. IsRun (record { start = p.start; finish = p.finish; levels = p.levels.items }) };
+}
+
+impl Params {
+    /// The first level, 1 to [`LEVEL_MAX`].
+    pub fn start(&self) -> u8
+        ensures value { result ≡ self.now.start }
+        ensures low { 1 ≤ result }
+        ensures high { result ≤ LEVEL_MAX }
+    {
+        self.start
+    }
+
+    /// The last level, 1 to [`LEVEL_MAX`]; where it is less than the first, no level is run.
+    pub fn finish(&self) -> u8
+        ensures value { result ≡ self.now.finish }
+        ensures low { 1 ≤ result }
+        ensures high { result ≤ LEVEL_MAX }
+    {
+        self.finish
+    }
+
+    /// How many levels are run.
+    pub fn count(&self) -> usize
+        ensures value { result ≡ length self.now.levels }
+        ensures levels { result ≡ self.now.finish + 1 - self.now.start }
+        ensures ranges { All IsLevel self.now.levels }
+    {
+        self.levels.len()
+    }
+
+    /// What the level at place `i` of those that are run is given, counted from 0.
+    pub fn level(&self, i: usize) -> &LevelParams
+        requires { i < length self.now.levels }
+        ensures value { slice_get self.now.levels i ≡ Some result.now }
+        ensures ranges { IsLevel result.now }
+    {
+        &self.levels[i]
+    }
+}
+
+/// Reads a file of parameters: `start finish`, then for each level that is run `pat_start pat_finish good_wt bad_wt thresh`, and
+/// then perhaps the answer `y`, `Y`, `n` or `N` of patgen's last question, which has no effect. Items stand between blanks,
+/// TABs, CRs and LFs, in the order in which patgen asks for them.
+///
+/// The first item that fails its demand is refused, with its number as the line.
+pub fn read_params(alloc: Global, bytes: &[u8]) -> Result<Params, ReadingError>
+    ensures { Gives (λ p. p) result (parameters bytes.now) }
+{
+    if bytes.len() > FILE_MAX {
+        return Err(ReadingError::Refused(Refusal {
+            kind: Kind::ParametersTooLong,
+            line: 0,
+            column: 0,
+        }));
+    }
+    let mut items = Items::new(bytes);
+    let start = items.small_number(1, LEVEL_MAX)?;
+    let finish = items.small_number(1, LEVEL_MAX)?;
+    let levels = read_levels(alloc, &mut items, (finish + 1).saturating_sub(start))?;
+    items.end()?;
+    Ok(Params {
+        start,
+        finish,
+        levels,
+    })
+}
+
+/// Reads what each of `count` levels is given.
+fn read_levels(
+    alloc: Global,
+    items: &mut Items<'_>,
+    count: u8,
+) -> Result<Vec<LevelParams>, ReadingError>
+    requires place { items.old.place ≡ 3 }
+    requires count { count ≤ LEVEL_MAX }
+    ensures value { IfOk result (λ levels. levels.items ≡ levels_of count (items_of items.old.rest.now)) }
+    ensures ranges { IfOk result (λ levels. All IsLevel levels.items) }
+    ensures place { OnOk result (items.new.place ≤ 48) }
+    ensures passed { OnOk result (refusal_from 3 (demands_of_levels count (items_of items.old.rest.now)) (items_of items.old.rest.now) ≡ surplus items.new.place (items_of items.new.rest.now)) }
+    ensures refused { IfErr result (λ error. FailsBy error (refusal_from 3 (demands_of_levels count (items_of items.old.rest.now)) (items_of items.old.rest.now))) }
+{
+    let mut levels = Vec::new(alloc);
+    'levels: for i in 0..count {
+        let level = items.level()?;
+        levels.push(level)?;
+    }
+    Ok(levels)
+}
