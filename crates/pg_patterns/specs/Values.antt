@@ -2,6 +2,8 @@
 use Rattle.std.specs.Prelude.{◌≡◌, ℕ, ◌+◌, ◌-◌, ◌≤◌, Bool, true, ◌&&◌, T, if◌then◌else◌, List, [], ◌∷◌, length, drop, max, fold, unwrap_or, nat_le, nat_eq}
 use Rattle.std.specs.FinMap.Entries.{put, find, is_sorted}
 use Rattle.std.specs.List.{starts_with, list_all, All}
+use Rattle.pg_types.specs.declared.limits.TheConstants.{LEVEL_MAX, PATTERN_SIGNS_MAX}
+use Rattle.pg_types.specs.Signs.{is_sign}
 use Rattle.pg_patterns.specs.Places.{place_cmp}
 
 -- the value of a place, 0 where it has none
@@ -39,7 +41,7 @@ value_at P w p = best (applies w p) P
 
 -- an entry has 1 to 32 signs, each at least 1, its dot is at most their number, and its value is 1 to 9
 abbrev pub is_entry : (List ℕ × ℕ) × ℕ → Bool
-is_entry e = nat_le 1 (length e.0.0) && nat_le (length e.0.0) 32 && list_all (nat_le 1) e.0.0 && nat_le e.0.1 (length e.0.0) && nat_le 1 e.1 && nat_le e.1 9
+is_entry e = nat_le 1 (length e.0.0) && nat_le (length e.0.0) PATTERN_SIGNS_MAX && list_all is_sign e.0.0 && nat_le e.0.1 (length e.0.0) && nat_le 1 e.1 && nat_le e.1 LEVEL_MAX
 
 -- places stand in order, each once, and each entry is one of a pattern
 pub record IsPatternMap (P : List ((List ℕ × ℕ) × ℕ)) : Type 0 where

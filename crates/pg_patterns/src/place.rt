@@ -16,18 +16,19 @@ pub struct Place {
 
 impl Model for Place {
     ghost use Rattle.std.specs.Prelude.{ℕ, ◌≤◌, List, take};
+    ghost use Rattle.pg_types.specs.declared.limits.TheConstants.{PATTERN_SIGNS_MAX};
 
     ghost Value = { List ℕ × ℕ };
 
     ghost view = { λ p. (take p.len p.signs, p.dot) };
 
-    ghost invariant = { λ p. p.len ≤ 32 };
+    ghost invariant = { λ p. p.len ≤ PATTERN_SIGNS_MAX };
 }
 
 impl Place {
     /// The place of `dot` among `signs`.
     pub fn new(signs: &[Sign], dot: u8) -> Place
-        requires { length signs.now ≤ 32 }
+        requires { length signs.now ≤ PATTERN_SIGNS_MAX }
         ensures { result ≡ (signs.now, dot) }
     {
         let mut held = [0; PATTERN_SIGNS_MAX];
@@ -42,7 +43,7 @@ impl Place {
     /// The signs.
     pub fn signs(&self) -> &[Sign]
         ensures value { result.now ≡ self.now.0 }
-        ensures few { length result.now ≤ 32 }
+        ensures few { length result.now ≤ PATTERN_SIGNS_MAX }
     {
         &self.signs[..usize::from(self.len)]
     }

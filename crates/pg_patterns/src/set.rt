@@ -5,7 +5,7 @@ use crate::entries::{join, raise_in};
 use crate::place::Place;
 use crate::text::push_lines;
 use pg_translate::Table;
-use pg_types::Sign;
+use pg_types::{LEVEL_MAX, PATTERN_SIGNS_MAX, Sign};
 use std::alloc::{AllocError, Global};
 use std::marker::Model;
 
@@ -43,9 +43,11 @@ pub struct Entry<'a> {
 }
 
 impl PatternSet {
-    ghost use Rattle.std.specs.Prelude.{◌≡◌, ◌+◌, ◌<◌, ◌≤◌, true, T, [], length, All, Some, slice_get, OnOk, OnErr, IfOk};
+    ghost use Rattle.std.specs.Prelude.{◌≡◌, ◌+◌, ◌<◌, ◌≤◌, true, T, [], length, Some, slice_get, OnOk, OnErr, IfOk};
     ghost use Rattle.std.specs.FinMap.Entries.{is_sorted};
     ghost use Rattle.std.specs.List.{list_all};
+    ghost use Rattle.pg_types.specs.declared.limits.TheConstants.{LEVEL_MAX, PATTERN_SIGNS_MAX};
+    ghost use Rattle.pg_types.specs.Signs.{is_sign};
     ghost use Rattle.pg_patterns.specs.Places.{place_cmp};
     ghost use Rattle.pg_patterns.specs.Values.{IsPatternMap, SignsUpTo, is_entry, raise, joined, largest};
     ghost use Rattle.pg_patterns.specs.Texts.{pattern_text};
@@ -75,10 +77,10 @@ impl PatternSet {
     /// was.
     pub fn raise(&mut self, signs: &[Sign], dot: u8, value: u8) -> Result<(), AllocError>
         requires some { 0 < length signs.now }
-        requires few { length signs.now ≤ 32 }
-        requires each { All (λ s. 1 ≤ s) signs.now }
+        requires few { length signs.now ≤ PATTERN_SIGNS_MAX }
+        requires signs { list_all is_sign signs.now ≡ true }
         requires dot { dot ≤ length signs.now }
-        requires value { (1 ≤ value) × (value ≤ 9) }
+        requires value { (1 ≤ value) × (value ≤ LEVEL_MAX) }
         ensures ok { OnOk result (self.new ≡ raise self.old (signs.now, dot) value) }
         ensures err { OnErr result (self.new ≡ self.old) }
     {
@@ -99,10 +101,10 @@ impl PatternSet {
         requires { i < length self.now }
         ensures value { slice_get self.now i ≡ Some ((result.signs.now, result.dot), result.value) }
         ensures some { 0 < length result.signs.now }
-        ensures few { length result.signs.now ≤ 32 }
-        ensures each { All (λ s. 1 ≤ s) result.signs.now }
+        ensures few { length result.signs.now ≤ PATTERN_SIGNS_MAX }
+        ensures signs { list_all is_sign result.signs.now ≡ true }
         ensures dot { result.dot ≤ length result.signs.now }
-        ensures bounds { (1 ≤ result.value) × (result.value ≤ 9) }
+        ensures bounds { (1 ≤ result.value) × (result.value ≤ LEVEL_MAX) }
     {
         let held = &self.held[i];
         Entry {
@@ -115,7 +117,7 @@ impl PatternSet {
     /// The greatest value, 0 where there is no entry.
     pub fn largest(&self) -> u8
         ensures value { result ≡ largest self.now }
-        ensures bound { result ≤ 9 }
+        ensures bound { result ≤ LEVEL_MAX }
     {
         let mut largest = 0;
         for entry in self.held.as_slice() {

@@ -8,7 +8,7 @@ ghost use Rattle.pg_patterns.specs.Texts.{digit_of, pattern_line, pattern_text};
 
 use crate::place::Place;
 use pg_translate::Table;
-use pg_types::Sign;
+use pg_types::{LEVEL_MAX, PATTERN_SIGNS_MAX, Sign};
 use std::alloc::AllocError;
 
 /// Appends the lines of the strings of the entries.
@@ -39,7 +39,7 @@ fn push_line(
 ) -> Result<usize, AllocError>
     requires map { IsPatternMap entries.now }
     requires point { StandsAt entries.now (signs.now, 0) at }
-    requires few { length signs.now ≤ 32 }
+    requires few { length signs.now ≤ PATTERN_SIGNS_MAX }
     requires each { All (λ s. 1 ≤ s) signs.now }
     requires known { All (λ s. s ≤ letters_of table.now + 1) signs.now }
     ensures text { OnOk result (text.new.items ≡ text.old.items ++ pattern_line table.now entries.now signs.now) }
@@ -82,7 +82,7 @@ fn push_digit(
 fn value_at(entries: &[(Place, u8)], at: usize, signs: &[Sign], dot: usize) -> Option<u8>
     requires { IsPatternMap entries.now }
     ensures value { result ≡ first_value (signs.now, dot) (drop at entries.now) }
-    ensures low { IfSome result (λ value. value ≤ 9) }
+    ensures low { IfSome result (λ value. value ≤ LEVEL_MAX) }
 {
     if at < entries.len() && is_place(&entries[at].0, signs, dot) {
         Some(entries[at].1)

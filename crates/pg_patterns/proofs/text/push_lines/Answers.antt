@@ -1,7 +1,7 @@
-use Rattle.std.proofs.Common.{◌≡◌, ◌+◌, ◌<◌, ◌≤◌, length, refl, arith, sym, ap, subst, ◌∙◌}
+use Rattle.std.proofs.Common.{◌≡◌, ◌+◌, ◌<◌, ◌≤◌, length, get_or, refl, arith, sym, ap, subst, ◌∙◌}
 use Rattle.std.specs.List.{All}
 use Rattle.pg_patterns.specs.Search.{StandsAt}
-use Rattle.pg_patterns.proofs.Sound.{entry_bounds, entry_at}
+use Rattle.pg_patterns.proofs.Sound.{each_sign, entry_bounds, entry_at}
 use Rattle.pg_patterns.proofs.Strings.{string_start, string_progress, line_step, next_string}
 use Rattle.pg_patterns.proofs.text.push_lines.Goals as goal
 
@@ -13,8 +13,8 @@ lines-init c = record {
 
 pub push_line-requires-clause-each : goal.push_line-requires-clause-each
 push_line-requires-clause-each c =
-    let bounds = entry_bounds _ (entry_at c.args.entries.now c.lines.at c.index-entries-at.result c.requires.map.sound c.lines-test.true) in
-    subst (All (λ s. 1 ≤ s)) (sym c.signs-signs.ensures.value) bounds.each
+    let bounds = entry_bounds (get_or c.args.entries.now c.lines.at c.index-entries-at.result) (entry_at c.args.entries.now c.lines.at c.index-entries-at.result c.requires.map.sound c.lines-test.true) in
+    subst (All (λ s. 1 ≤ s)) (sym c.signs-signs.ensures.value) (each_sign _ bounds.signs)
 
 pub lines-smaller : goal.lines-smaller
 lines-smaller c =
