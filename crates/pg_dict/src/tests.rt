@@ -7,13 +7,13 @@ use std::test::Fail;
 
 /// The dictionary of a file under the letters a, b and c.
 fn dictionary_of(alloc: Global, bytes: &[u8]) -> Result<Dictionary, Fail> {
-    let table = Table::default_letters(alloc)?;
+    let table = Table::read(alloc, b" 1 1\n a\n b\n c\n")?;
     Ok(Dictionary::read(alloc, &table, bytes)?)
 }
 
 /// The number, line and column of the refusal of a file, zeros where it is accepted.
 fn refusal_of(alloc: Global, bytes: &[u8]) -> Result<(u16, u32, u32), Fail> {
-    let table = Table::default_letters(alloc)?;
+    let table = Table::read(alloc, b" 1 1\n a\n b\n c\n")?;
     match Dictionary::read(alloc, &table, bytes) {
         Ok(_) => Ok((0, 0, 0)),
         Err(ReadingError::Refused(refusal)) => {
@@ -64,7 +64,7 @@ fn refused_dictionaries(rt: HostRuntime) -> Result<(), Fail> {
     let long = [b'a'; 101];
     let files: [(&[u8], u16, u32, u32); 9] = [
         (b"ab-c x?\r\nab-a\r\n", 0, 0, 0),
-        (b"abc\ncba\na=\n", 401, 3, 2),
+        (b"abc\ncba\nad\n", 401, 3, 2),
         (b"a\rb", 401, 1, 2),
         (&long, 402, 1, 101),
         (&long[1..], 0, 0, 0),
