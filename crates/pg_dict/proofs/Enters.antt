@@ -1,0 +1,62 @@
+-- A line with a letter enters its word into a store.
+use Rattle.std.proofs.Common.{◌≡◌, ℕ, ◌+◌, ◌-◌, ◌≤◌, List, [], ◌∷◌, ◌++◌, length, Option, None, Some, Result, Ok, Err, refl, sym, ◌∙◌, ap, arith}
+use Rattle.pg_types.specs.declared.limits.TheConstants.{EDGE, WEIGHT_MAX, WORD_LETTERS_MAX}
+use Rattle.pg_types.specs.declared.marks.Mark.{Mark}
+use Rattle.pg_types.specs.declared.marks.Mark.TheVariants.{Nothing}
+use Rattle.pg_types.specs.declared.refusals.Refusal.{Refusal}
+use Rattle.pg_types.specs.Reading.{unless}
+use Rattle.pg_translate.specs.Alphabets.{Alphabet}
+use Rattle.pg_translate.specs.Tokens.{Token, Letter}
+use Rattle.pg_translate.specs.Cuts.{Cut, tokens_of}
+use Rattle.pg_dict.specs.declared.store.Store.{Store}
+use Rattle.pg_dict.specs.declared.store.Stored.{Stored}
+use Rattle.pg_dict.specs.Spots.{Spot, spot, Columns, add_spots}
+use Rattle.pg_dict.specs.Word.{Word, word_with}
+use Rattle.pg_dict.specs.Words.{LineWord, line_refusal, line_word, spots_from, word_spots}
+use Rattle.pg_dict.specs.Filled.{cut_rest, filled}
+use Rattle.pg_dict.specs.Heads.{headed}
+use Rattle.pg_dict.specs.Entries.{Entries, with_line}
+use Rattle.pg_dict.specs.Store.{columns_of, words_of, IsSound, IsFit}
+use Rattle.pg_dict.proofs.Takes.{add_spots-add}
+use Rattle.pg_dict.proofs.Adds.{length_signs, adds_words, adds_sound}
+use Rattle.pg_dict.proofs.Good.{fits_word}
+
+-- what is not refused
+pub unless_ok : {Y : Type 0} (refusal : Option Refusal) (y z : Y) → unless refusal y ≡ Ok z → (refusal ≡ None) × (y ≡ z)
+unless_ok None y z is = (refl, cc)
+unless_ok (Some r) y z is = cc
+
+-- the items of the rest of a line
+abbrev items_in : Alphabet → ℕ → List ℕ → List Token
+items_in t size rest = tokens_of (cut_rest t size rest)
+
+-- the edge, the first letter and what is filled in behind them are the spots of the line's word
+pub word_read : (t : Alphabet) (weight line size sign : ℕ) (rest : List ℕ) (before edge first after : Columns) → edge ≡ add_spots before (spot Nothing weight EDGE ∷ []) → first ≡ add_spots edge (spot Nothing weight sign ∷ []) → filled t weight line size Nothing weight (WORD_LETTERS_MAX - 1) first rest ≡ Ok after
+    → (headed t line size weight sign rest ≡ Ok (record { word = Some (word_with weight (word_spots weight sign (items_in t size rest))); weight = weight })) × (after ≡ add_spots before (word_spots weight sign (items_in t size rest)))
+word_read t weight line size sign rest before edge first after is_edge is_first fills =
+    let items : List Token = items_in t size rest in
+    let spots : List Spot = spots_from weight Nothing weight items in
+    let p = unless_ok (line_refusal line (WORD_LETTERS_MAX - 1) (cut_rest t size rest)) (add_spots first spots) after fills in (
+      ap (λ (refusal : Option Refusal). unless refusal (line_word weight (Letter sign ∷ items))) p.0,
+      sym p.1
+          ∙ ap (λ (c : Columns). add_spots c spots) is_first
+          ∙ add_spots-add edge (spot Nothing weight sign) spots
+          ∙ ap (λ (c : Columns). add_spots c (spot Nothing weight sign ∷ spots)) is_edge
+          ∙ add_spots-add before (spot Nothing weight EDGE) (spot Nothing weight sign ∷ spots),
+    )
+
+-- the word that is stored is the line's, and the store stays sound
+pub enters : (t : Alphabet) (weight line size sign n : ℕ) (rest : List ℕ) (s p q u : Store) (start end : ℕ) → IsSound s → columns_of p ≡ add_spots (columns_of s) (spot Nothing weight EDGE ∷ []) → columns_of q ≡ add_spots (columns_of p) (spot Nothing weight sign ∷ []) → filled t weight line size Nothing weight (WORD_LETTERS_MAX - 1) (columns_of q) rest ≡ Ok (columns_of u)
+    → u.words.items ≡ s.words.items ++ record { start = start; end = end; weight = weight } ∷ [] → start ≡ length s.signs.items → end ≡ length u.signs.items → IsFit n u → length u.signs.items ≤ length q.signs.items + WORD_LETTERS_MAX → weight ≤ WEIGHT_MAX
+    → (with_line (words_of s) (headed t line size weight sign rest) ≡ Ok (record { words = words_of u; weight = weight })) × IsSound u
+enters t weight line size sign n rest s p q u start end sound is_edge is_first fills added from to fit short small =
+    let items : List Token = items_in t size rest in
+    let spots : List Spot = word_spots weight sign items in
+    let r = word_read t weight line size sign rest (columns_of s) (columns_of p) (columns_of q) (columns_of u) is_edge is_first fills in
+    let grown : columns_of u ≡ add_spots (columns_of s) spots = r.1 in
+    let size_u : length u.signs.items ≡ length s.signs.items + length spots = length_signs s u spots grown in
+    let size_p : length p.signs.items ≡ length s.signs.items + 1 = length_signs s p (spot Nothing weight EDGE ∷ []) is_edge in
+    let size_q : length q.signs.items ≡ length p.signs.items + 1 = length_signs p q (spot Nothing weight sign ∷ []) is_first in (
+      ap (with_line (words_of s)) r.0 ∙ ap (λ (words : List Word). Ok (record { words = words; weight = weight })) (sym (adds_words s u spots start end weight sound grown added from to)),
+      adds_sound s u spots start end weight sound grown added from to (fits_word n s u weight sign items fit grown (omega arith) small),
+    )

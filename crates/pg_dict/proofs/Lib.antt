@@ -1,0 +1,9 @@
+pub mod Cuts
+pub mod Takes
+pub mod Rows
+pub mod Adds
+pub mod Good
+pub mod Enters
+pub mod Told
+pub mod Sizes
+pub mod Lines

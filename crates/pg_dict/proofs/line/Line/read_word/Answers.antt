@@ -1,0 +1,33 @@
+use Rattle.std.proofs.Common.{◌≡◌, ◌+◌, ◌++◌, ◌∷◌, [], List, Ok, sym, ◌∙◌, ap, rules}
+use Rattle.pg_translate.specs.Alphabets.{letters_of}
+use Rattle.pg_dict.specs.declared.store.Store.{Store}
+use Rattle.pg_dict.specs.declared.store.Stored.{Stored}
+use Rattle.pg_dict.specs.Heads.{headed}
+use Rattle.pg_dict.specs.Entries.{with_line}
+use Rattle.pg_dict.specs.Store.{words_of, IsSound}
+use Rattle.pg_dict.proofs.Enters.{enters}
+use Rattle.pg_dict.proofs.line.Line.read_word.Goals as goal
+
+-- the store at the return
+abbrev after : goal.In_ok-push-3 → Store
+after c = record { signs = c.fill.new.store.signs; hyphens = c.fill.new.store.hyphens; weights = c.fill.new.store.weights; cares = c.fill.new.store.cares; words = c.push-3.new.self }
+
+-- the word is entered, and the store stays sound
+entered : (c : goal.In_ok-push-3) → (with_line (words_of c.args.store.now) (headed c.args.self.now.table.now c.args.self.now.number c.args.self.now.size c.args.self.now.weight c.args.sign c.args.rest.now) ≡ Ok (record { words = words_of (after c); weight = c.args.self.now.weight })) × IsSound (after c)
+entered c =
+    enters c.args.self.now.table.now c.args.self.now.weight c.args.self.now.number c.args.self.now.size c.args.sign (letters_of c.args.self.now.table.now + 1) c.args.rest.now c.args.store.now c.push.new.self c.push-2.new.self (after c) c.len-start.result c.len-end.result c.requires.sound
+    (rw (c.plain.ensures.mark, c.plain.ensures.weight) at c.in_ok-push.ensures.ok)
+    (rw (c.plain-2.ensures.mark, c.plain-2.ensures.weight) at c.in_ok-push-2.ensures.ok)
+    c.in_ok-fill.ensures.fills
+    (c.in_ok-push-3.ensures.items ∙ ap (λ (words : List Stored). words ++ record { start = c.len-start.result; end = c.len-end.result; weight = c.args.self.now.weight } ∷ []) (c.fill.ensures.words ∙ c.push-2.ensures.words ∙ c.push.ensures.words))
+    (c.len-start.ensures ∙ c.args.store.now.signs.ok.0)
+    (c.len-end.ensures ∙ c.fill.new.store.signs.ok.0)
+    (record { signs = c.in_ok-fill.ensures.fit.signs; weights = c.in_ok-fill.ensures.fit.weights })
+    c.in_ok-fill.ensures.counted.0
+    c.args.self.now.small
+
+pub returns-clause-word : goal.returns-clause-word
+returns-clause-word c = (entered c).0
+
+pub returns-clause-sound : goal.returns-clause-sound
+returns-clause-sound c = (entered c).1

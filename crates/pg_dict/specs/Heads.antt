@@ -1,0 +1,27 @@
+-- What a line gives, from where its reading stands before its first letter, or right behind it.
+use Rattle.std.specs.Prelude.{◌≡◌, ◌<◌, ◌≤◌, ◌+◌, ◌-◌, ℕ, List, ◌∷◌, length, None, Result, Ok, Err}
+use Rattle.pg_types.specs.declared.limits.TheConstants.{WEIGHT_MAX, WORD_LETTERS_MAX}
+use Rattle.pg_types.specs.declared.refusals.Refusal.{Refusal}
+use Rattle.pg_types.specs.Reading.{unless}
+use Rattle.pg_translate.specs.Alphabets.{Alphabet, letters_of}
+use Rattle.pg_translate.specs.Tokens.{Letter}
+use Rattle.pg_translate.specs.Cuts.{tokens_of}
+use Rattle.pg_dict.specs.declared.line.Line.{Line}
+use Rattle.pg_dict.specs.declared.heads.Head.{Head}
+use Rattle.pg_dict.specs.declared.heads.Head.TheVariants.{Word, Empty}
+use Rattle.pg_dict.specs.Words.{LineWord, line_refusal, line_word}
+use Rattle.pg_dict.specs.Filled.{cut_rest}
+
+-- what a line of this number and size gives, from its rest before the first letter and the word weight so far
+abbrev pub head_from : Alphabet → ℕ → ℕ → ℕ → List ℕ → Result LineWord Refusal
+head_from t line size weight rest = let c = cut_rest t size rest in unless (line_refusal line WORD_LETTERS_MAX c) (line_word weight (tokens_of c))
+
+-- the same from its first letter and the rest behind it
+abbrev pub headed : Alphabet → ℕ → ℕ → ℕ → ℕ → List ℕ → Result LineWord Refusal
+headed t line size weight sign rest = let c = cut_rest t size rest in unless (line_refusal line (WORD_LETTERS_MAX - 1) c) (line_word weight (Letter sign ∷ tokens_of c))
+
+-- the first letter, from which the line gives the whole; or the line gives no word; or it is refused
+abbrev pub IsHead : Line → Result LineWord Refusal → Result Head Refusal → Type 0
+IsHead l whole (Ok (Word weight sign rest)) = (headed l.table.now l.number l.size weight sign rest.now ≡ whole) × (length rest.now < l.size) × (weight ≤ WEIGHT_MAX) × (1 < sign) × (sign ≤ letters_of l.table.now + 1)
+IsHead l whole (Ok (Empty weight)) = (whole ≡ Ok (record { word = None; weight = weight })) × (weight ≤ WEIGHT_MAX)
+IsHead l whole (Err r) = whole ≡ Err r

@@ -1,0 +1,9 @@
+pub mod Spots
+pub mod Word
+pub mod Words
+pub mod Store
+pub mod Filled
+pub mod Steps
+pub mod Heads
+pub mod Entries
+pub mod Lent

@@ -1,0 +1,50 @@
+-- The signs of words, each with the position before it.
+use Rattle.std.specs.Prelude.{ℕ, Bool, true, false, List, [], ◌∷◌, ◌++◌, map}
+use Rattle.pg_types.specs.declared.marks.Mark.{Mark}
+use Rattle.pg_types.specs.declared.marks.Mark.TheVariants.{Nothing, Error, Missed, Found, DontCare}
+
+-- a sign, and of the position before it the hyphen, weight and care
+pub record Spot : Type 0 where
+  pub sign : ℕ
+  pub hyphen : Bool
+  pub weight : ℕ
+  pub care : Bool
+
+-- a position whose last mark is missed or found has a hyphen
+abbrev pub sets_hyphen : Mark → Bool
+sets_hyphen Nothing = false
+sets_hyphen Error = false
+sets_hyphen Missed = true
+sets_hyphen Found = true
+sets_hyphen DontCare = false
+
+-- a position whose last mark is don't-care has no care
+abbrev pub keeps_care : Mark → Bool
+keeps_care Nothing = true
+keeps_care Error = true
+keeps_care Missed = true
+keeps_care Found = true
+keeps_care DontCare = false
+
+-- a sign behind a position with this last mark and this weight
+abbrev pub spot : Mark → ℕ → ℕ → Spot
+spot mark weight sign = record { sign = sign; hyphen = sets_hyphen mark; weight = weight; care = keeps_care mark }
+
+-- spots, as four lists of one length
+pub record Columns : Type 0 where
+  pub signs : List ℕ
+  pub hyphens : List Bool
+  pub weights : List ℕ
+  pub cares : List Bool
+
+abbrev pub no_columns : Columns
+no_columns = record { signs = []; hyphens = []; weights = []; cares = [] }
+
+-- columns, and behind them these spots
+abbrev pub add_spots : Columns → List Spot → Columns
+add_spots c spots = record {
+  signs = c.signs ++ map (λ (s : Spot). s.sign) spots;
+  hyphens = c.hyphens ++ map (λ (s : Spot). s.hyphen) spots;
+  weights = c.weights ++ map (λ (s : Spot). s.weight) spots;
+  cares = c.cares ++ map (λ (s : Spot). s.care) spots;
+}

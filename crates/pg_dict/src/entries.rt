@@ -1,0 +1,82 @@
+//! The reading of a whole line into the store.
+ghost use Rattle.std.specs.Prelude.{◌≡◌, ◌<◌, ◌≤◌, ◌+◌, ◌*◌, length, IfOk, OnOk};
+ghost use Rattle.pg_types.specs.Reading.{Gives};
+ghost use Rattle.pg_translate.specs.Alphabets.{letters_of};
+ghost use Rattle.pg_dict.specs.Words.{line_of};
+ghost use Rattle.pg_dict.specs.Heads.{headed};
+ghost use Rattle.pg_dict.specs.Entries.{with_line};
+ghost use Rattle.pg_dict.specs.Store.{words_of, IsSound, IsFit};
+
+use crate::gap::Gap;
+use crate::heads::Head;
+use crate::line::Line;
+use crate::store::{Store, Stored};
+use pg_translate::Table;
+use pg_types::{EDGE, FILE_MAX, ReadingError, Sign, WEIGHT_MAX, Weight};
+
+impl Line<'_> {
+    /// Adds the word of a line with this first letter, and the rest of the line behind it. After an error nothing is said of
+    /// the store.
+    fn read_word(&self, store: &mut Store, sign: Sign, rest: &[u8]) -> Result<(), ReadingError>
+        requires within { length rest.now ≤ self.now.size }
+        requires letter { (1 < sign) × (sign ≤ letters_of self.now.table.now + 1) }
+        requires sound { IsSound store.old }
+        requires fit { IsFit (letters_of self.now.table.now + 1) store.old }
+        ensures word { Gives (λ _. record { words = words_of store.new; weight = self.now.weight }) result (with_line (words_of store.old) (headed self.now.table.now self.now.number self.now.size self.now.weight sign rest.now)) }
+        ensures sound { OnOk result (IsSound store.new) }
+        ensures fit { OnOk result (IsFit (letters_of self.now.table.now + 1) store.new) }
+        ensures counted { OnOk result (length store.new.signs.items + 2 * length store.old.words.items ≤ length store.old.signs.items + length rest.now + 1 + 2 * length store.new.words.items) }
+    {
+        let start = store.signs.len();
+        store.push(Gap::plain(self.weight), EDGE)?;
+        store.push(Gap::plain(self.weight), sign)?;
+        self.fill(store, rest)?;
+        let end = store.signs.len();
+        store.words.push(Stored {
+            start,
+            end,
+            weight: self.weight,
+        })?;
+        Ok(())
+    }
+}
+
+/// Adds the word of a line, if it has one, and gives the word weight for the lines below. `number` is that of the line, and
+/// `weight` the word weight above it. After an error nothing is said of the store.
+pub fn read_line(
+    store: &mut Store,
+    table: &Table,
+    number: u32,
+    weight: Weight,
+    text: &[u8],
+) -> Result<Weight, ReadingError>
+    requires short { length text.now ≤ FILE_MAX }
+    requires small { weight ≤ WEIGHT_MAX }
+    requires sound { IsSound store.old }
+    requires fit { IsFit (letters_of table.now + 1) store.old }
+    ensures line { Gives (λ next. record { words = words_of store.new; weight = next }) result (with_line (words_of store.old) (line_of table.now number weight text.now)) }
+    ensures small { IfOk result (λ next. next ≤ WEIGHT_MAX) }
+    ensures sound { OnOk result (IsSound store.new) }
+    ensures fit { OnOk result (IsFit (letters_of table.now + 1) store.new) }
+    ensures counted { OnOk result (length store.new.signs.items + 2 * length store.old.words.items ≤ length store.old.signs.items + length text.now + 2 * length store.new.words.items) }
+{
+    let line = Line {
+        table,
+        number,
+        size: text.len(),
+        weight,
+    };
+    match line.seek(text)? {
+        Head::Word { weight, sign, rest } => {
+            let line = Line {
+                table,
+                number,
+                size: text.len(),
+                weight,
+            };
+            line.read_word(store, sign, rest)?;
+            Ok(weight)
+        }
+        Head::Empty { weight } => Ok(weight),
+    }
+}

@@ -1,0 +1,45 @@
+//! A line that is being read, and its refusals.
+ghost use Rattle.std.specs.Prelude.{◌≡◌, ◌≤◌, ◌+◌, ◌-◌, length, IfSome};
+ghost use Rattle.pg_dict.specs.Words.{refused, stop_kind};
+
+use pg_translate::Table;
+use pg_types::{Kind, Refusal, Weight};
+
+/// A line that is being read: the table by which it is read, its number and its size in bytes, and its word weight.
+#[derive(Clone, Copy)]
+pub struct Line<'t> {
+    /// The table.
+    pub table: &'t Table,
+    /// The number of the line, from 1.
+    pub number: u32,
+    /// The number of its bytes.
+    pub size: usize,
+    /// The word weight.
+    pub weight: Weight,
+    pub ghost short: { size ≤ 67108864 },
+    pub ghost small: { weight ≤ 9999 },
+}
+
+/// Why a byte that begins no item is refused.
+pub fn kind_of(rest: &[u8]) -> Kind
+    ensures { IfSome (stop_kind rest.now) (λ kind. kind ≡ result) }
+{
+    match rest.first() {
+        Some(b'{') => Kind::BadWeight,
+        _ => Kind::DictionaryCharacter,
+    }
+}
+
+impl Line<'_> {
+    /// A refusal at the first byte of `rest`, the rest of the line.
+    pub fn refuse(&self, kind: Kind, rest: &[u8]) -> Refusal
+        requires { length rest.now ≤ self.now.size }
+        ensures { result ≡ refused self.now.number kind (self.now.size - length rest.now + 1) }
+    {
+        Refusal {
+            kind,
+            line: self.number,
+            column: (self.size - rest.len() + 1) as u32,
+        }
+    }
+}

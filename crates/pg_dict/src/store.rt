@@ -1,0 +1,63 @@
+//! The store: the signs of all words in one vector, and beside each sign the hyphen, weight and care of the position before it.
+ghost use Rattle.std.specs.Prelude.{◌≡◌, [], ◌∷◌, OnOk};
+ghost use Rattle.pg_dict.specs.Spots.{add_spots, no_columns, spot};
+ghost use Rattle.pg_dict.specs.Store.{columns_of};
+
+use crate::gap::Gap;
+use pg_types::{Mark, Sign, Weight};
+use std::alloc::{AllocError, Global};
+
+/// Where a word lies in the store, and its weight.
+#[derive(Clone, Copy)]
+pub struct Stored {
+    /// The place of its first sign.
+    pub start: usize,
+    /// The place behind its last sign.
+    pub end: usize,
+    /// The weight of the word.
+    pub weight: Weight,
+}
+
+/// The words of a dictionary, each a part of the four columns.
+#[derive(Drop)]
+pub struct Store {
+    /// The signs of all words, one word after the other.
+    pub signs: Vec<Sign>,
+    /// Whether the position before the sign at the same place has a hyphen.
+    pub hyphens: Vec<bool>,
+    /// The weight of that position.
+    pub weights: Vec<Weight>,
+    /// Whether that position counts.
+    pub cares: Vec<bool>,
+    /// Where each word lies.
+    pub words: Vec<Stored>,
+}
+
+impl Store {
+    /// A store without a word. It takes no memory.
+    pub fn new(alloc: Global) -> Store
+        ensures columns { columns_of result ≡ no_columns }
+        ensures words { result.words.items ≡ [] }
+    {
+        Store {
+            signs: Vec::new(alloc),
+            hyphens: Vec::new(alloc),
+            weights: Vec::new(alloc),
+            cares: Vec::new(alloc),
+            words: Vec::new(alloc),
+        }
+    }
+
+    /// Adds a sign, and the position before it. After an error nothing is said of the columns.
+    pub fn push(&mut self, gap: Gap, sign: Sign) -> Result<(), AllocError>
+        ensures ok { OnOk result (columns_of self.new ≡ add_spots (columns_of self.old) (spot gap.mark gap.weight sign ∷ [])) }
+        ensures words { self.new.words.items ≡ self.old.words.items }
+    {
+        self.signs.push(sign)?;
+        self.hyphens
+            .push(matches!(gap.mark, Mark::Missed | Mark::Found))?;
+        self.weights.push(gap.weight)?;
+        self.cares.push(!matches!(gap.mark, Mark::DontCare))?;
+        Ok(())
+    }
+}

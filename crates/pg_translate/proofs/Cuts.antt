@@ -1,0 +1,34 @@
+-- The cut of a line, item by item.
+use Rattle.std.proofs.Common.{◌≡◌, ℕ, ◌+◌, ◌-◌, ◌<◌, ◌≤◌, Bool, List, [], ◌∷◌, length, drop, Option, Some, None, refl, sym, ap, ◌∙◌, subst, arith, suc, zero}
+use Rattle.pg_translate.specs.declared.items.Place.{Place}
+use Rattle.pg_translate.specs.Alphabets.{Alphabet}
+use Rattle.pg_translate.specs.Tokens.{Token, item_at}
+use Rattle.pg_translate.specs.Cuts.{Cut, cut_from, cut_at, with_item}
+use Rattle.pg_translate.specs.Answers.{Takes, Stops}
+
+-- the bytes of an item are passed over
+pub cut_skip : (t : Alphabet) (place : Place) (column skip : ℕ) (text : List ℕ) → skip ≤ length text → cut_from t place column skip text ≡ cut_from t place (column + skip) zero (drop skip text)
+cut_skip t place column zero text few = rw (let same : column + 0 ≡ column = omega arith in same) refl
+cut_skip t place column (suc skip) [] few = absurd (omega arith)
+cut_skip t place column (suc skip) (b ∷ bs) few =
+    let same : column + 1 + skip ≡ column + suc skip = omega arith in
+    cut_skip t place (column + 1) skip bs (omega arith) ∙ ap (λ (n : ℕ). cut_from t place n zero (drop skip bs)) same
+
+-- behind an item the cut is that of what follows
+cut_item : (t : Alphabet) (place : Place) (column : ℕ) (text : List ℕ) (token : Token) (size : ℕ) → item_at t place text ≡ Some (token, size) → 0 < size → size ≤ length text → cut_from t place column zero text ≡ with_item column token (cut_from t place (column + size) zero (drop size text))
+cut_item t place column [] token size found some within = absurd (omega arith)
+cut_item t place column (b ∷ bs) token zero found some within = absurd (omega arith)
+cut_item t place column (b ∷ bs) token (suc size) found some within =
+    let same : column + 1 + size ≡ column + suc size = omega arith in
+    let less : suc size - 1 ≡ size = omega arith in
+    rw (found, less, cut_skip t place (column + 1) size bs (omega arith), same) refl
+
+-- at an item the cut has it first, and then those of what follows
+pub cut_takes : (t : Alphabet) (place : Place) (column : ℕ) (text after : List ℕ) (token : Token) → (takes : Takes t place text token after) → cut_from t place column zero text ≡ with_item column token (cut_from t place (column + takes.size) zero after)
+cut_takes t place column text after token takes =
+    cut_item t place column text token takes.size takes.found takes.some takes.within ∙ ap (λ (rest : List ℕ). with_item column token (cut_from t place (column + takes.size) zero rest)) (sym takes.behind)
+
+-- where no item stands the cut ends
+pub cut_stops : (t : Alphabet) (place : Place) (column : ℕ) (text : List ℕ) (ended : Bool) → Stops t place text ended → cut_from t place column zero text ≡ record { items = []; column = column; rest = text }
+cut_stops t place column [] ended stops = refl
+cut_stops t place column (b ∷ bs) ended stops = rw stops.none refl

@@ -1,0 +1,37 @@
+-- What a table holds, and its parts.
+use Rattle.std.specs.Prelude.{ℕ, ◌-◌, ◌==◌, max, List, [], if◌then◌else◌, find, fold, slice_index, codes}
+use Rattle.std.specs.Option.{option_map_or}
+use Rattle.pg_types.specs.declared.limits.TheConstants.{EDGE}
+use Rattle.pg_types.specs.declared.marks.Mark.{Mark}
+use Rattle.pg_types.specs.declared.marks.Mark.TheVariants.{Nothing, Error, Missed, Found, DontCare}
+
+-- the minima, the bytes for an erroneous, a missed, a found and a don't-care position, and the spellings, each with its sign, in the order of the file
+pub record Alphabet : Type 0 where
+  pub left : ℕ
+  pub right : ℕ
+  pub marks : List ℕ
+  pub spellings : List (ℕ × List ℕ)
+
+-- how many letters spellings have: the greatest sign less that of the edge
+abbrev pub letters_in : List (ℕ × List ℕ) → ℕ
+letters_in spellings = fold (λ n spelling. max n (spelling.0 - 1)) 0 spellings
+
+-- the number of letters
+abbrev pub letters_of : Alphabet → ℕ
+letters_of t = letters_in t.spellings
+
+-- the first spelling of a letter
+abbrev pub first_spelling : List (ℕ × List ℕ) → ℕ → List ℕ
+first_spelling spellings sign = option_map_or (λ spelling. spelling.1) (find (λ spelling. spelling.0 == sign) spellings) []
+
+-- what stands for a sign in a text: the first spelling of a letter, and a dot for the edge
+abbrev pub spelling_of : Alphabet → ℕ → List ℕ
+spelling_of t sign = if sign == EDGE then codes "." else first_spelling t.spellings sign
+
+-- the byte of a mark; a position that is nothing has none
+abbrev pub mark_byte_of : Alphabet → Mark → ℕ
+mark_byte_of t Nothing = 0
+mark_byte_of t Error = slice_index t.marks 0
+mark_byte_of t Missed = slice_index t.marks 1
+mark_byte_of t Found = slice_index t.marks 2
+mark_byte_of t DontCare = slice_index t.marks 3

@@ -1,0 +1,10 @@
+pub mod Alphabets
+pub mod Spellings
+pub mod Tables
+pub mod Tokens
+pub mod Cuts
+pub mod Reach
+pub mod Answers
+pub mod Texts
+pub mod Fronts
+pub mod Sound

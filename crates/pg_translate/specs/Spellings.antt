@@ -1,0 +1,38 @@
+-- What a spelling may be, and when two spellings clash.
+use Rattle.std.specs.Prelude.{ℕ, ◌==◌, nat_le, Bool, true, false, not, ◌&&◌, ◌||◌, List, [], ◌∷◌, length}
+use Rattle.std.specs.List.{list_any}
+
+-- the most bytes of a spelling
+abbrev pub spelling_max : ℕ
+spelling_max = 8
+
+-- whether a byte is a decimal digit
+abbrev pub is_digit : ℕ → Bool
+is_digit b = nat_le 48 b && nat_le b 57
+
+-- whether a byte is a blank, a TAB or a CR, which no spelling holds
+abbrev pub is_space : ℕ → Bool
+is_space b = b == 32 || b == 9 || b == 13
+
+-- whether a spelling may begin with a byte: it is no digit, dot, brace or mark
+abbrev pub may_begin : List ℕ → ℕ → Bool
+may_begin marks b = not (is_digit b || b == 46 || b == 123 || list_any (λ mark. mark == b) marks)
+
+-- whether the first byte of a text may begin a spelling
+abbrev pub begins_well : List ℕ → List ℕ → Bool
+begins_well marks [] = false
+begins_well marks (b ∷ bs) = may_begin marks b
+
+-- whether a text may be a spelling beside these marks
+abbrev pub is_spelling : List ℕ → List ℕ → Bool
+is_spelling marks text = nat_le (length text) spelling_max && begins_well marks text && not (list_any is_space text)
+
+-- whether a text begins with another
+abbrev pub begins : List ℕ → List ℕ → Bool
+begins text [] = true
+begins [] (x ∷ xs) = false
+begins (b ∷ bs) (x ∷ xs) = b == x && begins bs xs
+
+-- two spellings clash where one begins with the other, unless they are equal and of one letter
+abbrev pub clash : ℕ × List ℕ → ℕ × List ℕ → Bool
+clash s t = (begins s.1 t.1 || begins t.1 s.1) && not (s.0 == t.0 && length s.1 == length t.1)

@@ -1,0 +1,66 @@
+-- The item that begins a text, for both kinds of lines.
+use Rattle.std.specs.Prelude.{ℕ, zero, suc, ◌+◌, ◌-◌, ◌*◌, ◌==◌, nat_lt, Bool, true, ◌&&◌, ◌||◌, if◌then◌else◌, List, [], ◌∷◌, length, slice_index, find, Option, None, Some, option_map}
+use Rattle.std.specs.Option.{option_or}
+use Rattle.pg_types.specs.declared.marks.Mark.{Mark}
+use Rattle.pg_types.specs.declared.marks.Mark.TheVariants.{Error, Missed, Found, DontCare}
+use Rattle.pg_translate.specs.declared.items.Place.{Place}
+use Rattle.pg_translate.specs.declared.items.Place.TheVariants.{Dictionary, Patterns}
+use Rattle.pg_translate.specs.Alphabets.{Alphabet}
+use Rattle.pg_translate.specs.Spellings.{is_digit, begins}
+
+-- what an item means: the letter with a sign, a digit, a weight in braces, a mark, or the edge
+pub data Token : Type 0 where
+  Letter : ℕ → Token
+  Digit : ℕ → Token
+  Weight : ℕ → Token
+  Marked : Mark → Token
+  Edge : Token
+
+-- the letter whose spelling begins a text, and the length of that spelling
+abbrev pub letter_at : List (ℕ × List ℕ) → List ℕ → Option (Token × ℕ)
+letter_at spellings text = option_map (λ spelling. (Letter spelling.0, length spelling.1)) (find (λ spelling. begins text spelling.1) spellings)
+
+-- the digit that begins a text
+abbrev pub digit_at : List ℕ → Option (Token × ℕ)
+digit_at [] = None
+digit_at (b ∷ bs) = if is_digit b then Some (Digit (b - 48), 1) else None
+
+-- the mark whose byte begins a text
+abbrev pub mark_at : List ℕ → List ℕ → Option (Token × ℕ)
+mark_at marks [] = None
+mark_at marks (b ∷ bs) =
+    if b == slice_index marks 0 then Some (Marked Error, 1)
+    else if b == slice_index marks 1 then Some (Marked Missed, 1)
+    else if b == slice_index marks 2 then Some (Marked Found, 1)
+    else if b == slice_index marks 3 then Some (Marked DontCare, 1)
+    else None
+
+-- the end of a weight: the closing brace, where the value is not 0
+abbrev pub weight_end : ℕ → ℕ → ℕ → Option (Token × ℕ)
+weight_end value size b = if b == 125 && nat_lt 0 value then Some (Weight value, size + 1) else None
+
+-- the rest of a weight that has a value and a size so far, with at most so many digits more
+abbrev pub weight_from : ℕ → ℕ → ℕ → List ℕ → Option (Token × ℕ)
+weight_from more value size [] = None
+weight_from zero value size (b ∷ bs) = weight_end value size b
+weight_from (suc more) value size (b ∷ bs) = if is_digit b then weight_from more (value * 10 + (b - 48)) (size + 1) bs else weight_end value size b
+
+-- the weight in braces that begins a text: one to four digits, with a value above 0
+abbrev pub weight_at : List ℕ → Option (Token × ℕ)
+weight_at [] = None
+weight_at (b ∷ bs) = if b == 123 then weight_from 4 0 1 bs else None
+
+-- the dot of the edge, where it begins a text
+abbrev pub edge_at : List ℕ → Option (Token × ℕ)
+edge_at [] = None
+edge_at (b ∷ bs) = if b == 46 then Some (Edge, 1) else None
+
+-- the item that begins a text, and the length of its own text
+abbrev pub item_at : Alphabet → Place → List ℕ → Option (Token × ℕ)
+item_at t Dictionary text = option_or (letter_at t.spellings text) (option_or (digit_at text) (option_or (weight_at text) (mark_at t.marks text)))
+item_at t Patterns text = option_or (letter_at t.spellings text) (option_or (digit_at text) (edge_at text))
+
+-- whether a line ends here: at its end, or at a blank or TAB
+abbrev pub is_ended : List ℕ → Bool
+is_ended [] = true
+is_ended (b ∷ bs) = b == 32 || b == 9

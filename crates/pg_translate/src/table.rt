@@ -1,0 +1,195 @@
+//! The table of a translate file.
+ghost use Rattle.std.specs.Prelude.{◌≡◌, ◌∷◌, [], IfOk};
+ghost use Rattle.pg_translate.specs.Alphabets.{Alphabet};
+ghost use Rattle.pg_translate.specs.Fronts.{pairs};
+ghost use Rattle.pg_translate.specs.Sound.{IsTable};
+
+use crate::index::Index;
+use crate::items::{Item, Place};
+use crate::spellings::SPELLING_MAX;
+use crate::weights::weight_of;
+use pg_types::{EDGE, Mark, SIGNS_MAX, Sign, Weight};
+use std::alloc::{AllocError, Global};
+use std::marker::Model;
+
+/// The greatest minimum of a table.
+pub const MINIMUM_MAX: u8 = 99;
+
+/// The minima, the mark bytes, and the letters with their spellings.
+#[derive(Drop)]
+pub struct Table {
+    left: u8,
+    right: u8,
+    error: u8,
+    missed: u8,
+    found: u8,
+    dont_care: u8,
+    index: Index,
+}
+
+impl Model for Table {
+    ghost Value = { Alphabet };
+
+    ghost view = { λ t. record { left = t.left; right = t.right; marks = t.error ∷ t.missed ∷ t.found ∷ t.dont_care ∷ []; spellings = pairs t.index } };
+
+    ghost invariant = { λ t. IsTable t.left t.right (t.error ∷ t.missed ∷ t.found ∷ t.dont_care ∷ []) t.index };
+}
+
+impl Table {
+    ghost use Rattle.std.specs.Prelude.{◌≡◌, ◌+◌, ◌-◌, ◌<◌, ◌≤◌, length, MatchOption, IfSome, IfOk, Some, None};
+    ghost use Rattle.pg_translate.specs.Alphabets.{letters_of, spelling_of, mark_byte_of};
+    ghost use Rattle.pg_translate.specs.Tables.{default_alphabet};
+    ghost use Rattle.pg_translate.specs.Tokens.{letter_at, mark_at};
+    ghost use Rattle.pg_translate.specs.Tokens as token;
+    ghost use Rattle.pg_translate.specs.Answers.{IsFirstItem, IsInRange};
+    ghost use Rattle.pg_translate.specs.Reach.{reach};
+
+    /// The default table: the minima 2 and 3, the marks `.`, `-`, `*` and `?`, and the letters a to z, each with its capital as
+    /// its second spelling.
+    pub fn default_letters(alloc: Global) -> Result<Table, AllocError>
+        ensures { IfOk result (λ table. table ≡ default_alphabet) }
+    {
+        Ok(Table {
+            left: 2,
+            right: 3,
+            error: b'.',
+            missed: b'-',
+            found: b'*',
+            dont_care: b'?',
+            index: Index::default_letters(alloc)?,
+        })
+    }
+
+    /// The number of letters, 0 to 2,000.
+    pub fn letters(&self) -> u16
+        ensures value { result ≡ letters_of self.now }
+        ensures few { result ≤ SIGNS_MAX - 1 }
+    {
+        self.index.letters() as u16
+    }
+
+    /// The left minimum, 1 to 99.
+    pub fn left(&self) -> u8
+        ensures value { result ≡ self.now.left }
+        ensures range { (0 < result) × (result ≤ MINIMUM_MAX) }
+    {
+        self.left
+    }
+
+    /// The right minimum, 1 to 99.
+    pub fn right(&self) -> u8
+        ensures value { result ≡ self.now.right }
+        ensures range { (0 < result) × (result ≤ MINIMUM_MAX) }
+    {
+        self.right
+    }
+
+    /// The first spelling of the letter with a sign, and a dot for the edge.
+    pub fn spelling(&self, s: Sign) -> &[u8]
+        requires low { 1 ≤ s }
+        requires high { s ≤ letters_of self.now + 1 }
+        ensures value { result.now ≡ spelling_of self.now s }
+        ensures size { (0 < length result.now) × (length result.now ≤ SPELLING_MAX) }
+    {
+        if s == EDGE { b"." } else { self.index.first(s) }
+    }
+
+    /// The byte of a mark.
+    pub fn mark_byte(&self, m: Mark) -> u8
+        requires { ¬ (m ≡ Mark.Nothing) }
+        ensures { result ≡ mark_byte_of self.now m }
+    {
+        match m {
+            Mark::Nothing => unreachable!(),
+            Mark::Error => self.error,
+            Mark::Missed => self.missed,
+            Mark::Found => self.found,
+            Mark::DontCare => self.dont_care,
+        }
+    }
+
+    /// The first and the last position in reach of a word of so many signs, its edges included; none where such a word takes no
+    /// part, as it has fewer letters than both minima together.
+    pub fn reach(&self, signs: usize) -> Option<(usize, usize)>
+        requires low { 2 ≤ signs }
+        requires high { signs ≤ 102 }
+        ensures { result ≡ reach self.now.left self.now.right signs }
+    {
+        let left = self.left as usize;
+        let right = self.right as usize;
+        if left + right + 2 <= signs {
+            Some((left + 1, signs - right - 1))
+        } else {
+            None
+        }
+    }
+
+    /// The letter whose spelling begins `text`, with the size of that spelling.
+    fn letter(&self, text: &[u8]) -> Option<(Sign, usize)>
+        ensures letter { MatchOption result (letter_at self.now.spellings text.now ≡ None) (λ l. letter_at self.now.spellings text.now ≡ Some (token.Letter l.0, l.1)) }
+        ensures sign { IfSome result (λ l. (1 < l.0) × (l.0 ≤ letters_of self.now + 1)) }
+        ensures within { IfSome result (λ l. (0 < l.1) × (l.1 ≤ length text.now)) }
+    {
+        self.index.letter(text)
+    }
+
+    /// The mark whose byte begins `text`.
+    fn mark(&self, text: &[u8]) -> Option<Mark>
+        requires { 0 < length text.now }
+        ensures { MatchOption result (mark_at self.now.marks text.now ≡ None) (λ m. mark_at self.now.marks text.now ≡ Some (token.Marked m, 1)) }
+    {
+        let byte = text[0];
+        if byte == self.error {
+            Some(Mark::Error)
+        } else if byte == self.missed {
+            Some(Mark::Missed)
+        } else if byte == self.found {
+            Some(Mark::Found)
+        } else if byte == self.dont_care {
+            Some(Mark::DontCare)
+        } else {
+            None
+        }
+    }
+
+    /// The item that begins `rest`, a line of a file of this kind or what is left of it, and what follows that item.
+    ///
+    /// `End` comes exactly where the line ends here, or a blank or TAB stands here. `Bad` comes exactly where no item stands
+    /// here and the line does not end. Letters have signs 2 to `letters` + 1, digits are 0 to 9, and weights 1 to 9,999. Marks
+    /// and weights come only in a dictionary, and `Edge` only in patterns.
+    pub fn item<'a>(&self, place: Place, rest: &'a [u8]) -> Item<'a>
+        ensures item { IsFirstItem self.now place rest.now result }
+        ensures range { IsInRange self.now result }
+    {
+        if let Some((sign, size)) = self.letter(rest) {
+            return Item::Letter(sign, &rest[size..]);
+        }
+        if rest.is_empty() {
+            return Item::End;
+        }
+        let byte = rest[0];
+        if byte.is_ascii_digit() {
+            return Item::Digit(byte - b'0', &rest[1..]);
+        }
+        match place {
+            Place::Dictionary => {
+                if let Some((weight, size)) = weight_of(rest) {
+                    return Item::Weight(weight, &rest[size..]);
+                }
+                if let Some(mark) = self.mark(rest) {
+                    return Item::Mark(mark, &rest[1..]);
+                }
+            }
+            Place::Patterns => {
+                if byte == b'.' {
+                    return Item::Edge(&rest[1..]);
+                }
+            }
+        }
+        if byte == b' ' || byte == b'\t' {
+            Item::End
+        } else {
+            Item::Bad
+        }
+    }
+}
