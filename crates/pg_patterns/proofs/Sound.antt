@@ -1,0 +1,109 @@
+-- What the entries of a map of patterns keep.
+use Rattle.std.proofs.Common.{◌≡◌, ℕ, suc, zero, ◌+◌, ◌<◌, ◌≤◌, Bool, true, false, cond, ◌&&◌, T, nat_le, List, [], ◌∷◌, ◌++◌, length, get_or, Option, Some, None, unwrap_or, max, sym, refl, ap, subst, ◌∙◌, arith}
+use Rattle.std.proofs.lemmas.Bool.{leb-true, le-leb}
+use Rattle.std.proofs.lemmas.List.Elements.{All-nil, All-cons, All-head, All-tail}
+use Rattle.std.specs.declared.cmp.Ordering.{Ordering}
+use Rattle.std.specs.declared.cmp.Ordering.TheVariants.{Less, Equal, Greater}
+use Rattle.std.specs.Ordering.{eq_by_cmp}
+use Rattle.std.specs.FinMap.Entries.{put, find, is_sorted, by_order, is_sorted-put}
+use Rattle.std.specs.List.{list_all, All}
+use Rattle.pg_patterns.specs.Places.{place_cmp, place_total}
+use Rattle.pg_patterns.specs.Values.{raise, value_of, best, largest, is_entry, IsPatternMap}
+use Rattle.pg_patterns.proofs.Ordered.{and_first, and_second, both_true}
+
+-- what is said of an entry
+pub record EntryBounds (e : (List ℕ × ℕ) × ℕ) : Type 0 where
+  pub some : 1 ≤ length e.0.0
+  pub few : length e.0.0 ≤ 32
+  pub each : All (λ s. 1 ≤ s) e.0.0
+  pub dot : e.0.1 ≤ length e.0.0
+  pub low : 1 ≤ e.1
+  pub high : e.1 ≤ 9
+
+each_sign : (q : List ℕ) → list_all (nat_le 1) q ≡ true → All (λ s. 1 ≤ s) q
+each_sign [] h = All-nil _
+each_sign (s ∷ q) h = All-cons (λ s. 1 ≤ s) s q (leb-true 1 s (and_first _ _ h)) (each_sign q (and_second _ _ h))
+
+signs_told : (q : List ℕ) → All (λ s. 1 ≤ s) q → list_all (nat_le 1) q ≡ true
+signs_told [] h = refl
+signs_told (s ∷ q) h = both_true _ _ (le-leb 1 s (All-head (λ s. 1 ≤ s) s q h)) (signs_told q (All-tail (λ s. 1 ≤ s) s q h))
+
+pub entry_bounds : (e : (List ℕ × ℕ) × ℕ) → is_entry e ≡ true → EntryBounds e
+entry_bounds e h =
+    let to_low = and_first _ _ h in
+    let to_dot = and_first _ _ to_low in
+    let to_each = and_first _ _ to_dot in
+    let to_few = and_first _ _ to_each in
+    record {
+      some = leb-true 1 (length e.0.0) (and_first _ _ to_few);
+      few = leb-true (length e.0.0) 32 (and_second _ _ to_few);
+      each = each_sign e.0.0 (and_second _ _ to_each);
+      dot = leb-true e.0.1 (length e.0.0) (and_second _ _ to_dot);
+      low = leb-true 1 e.1 (and_second _ _ to_low);
+      high = leb-true e.1 9 (and_second _ _ h);
+    }
+
+pub entry_told : (e : (List ℕ × ℕ) × ℕ) → EntryBounds e → is_entry e ≡ true
+entry_told e b =
+    both_true _ _ (both_true _ _ (both_true _ _ (both_true _ _ (both_true _ _ (le-leb 1 (length e.0.0) b.some) (le-leb (length e.0.0) 32 b.few)) (signs_told e.0.0 b.each)) (le-leb e.0.1 (length e.0.0) b.dot)) (le-leb 1 e.1 b.low)) (le-leb e.1 9 b.high)
+
+pub entry_at : (P : List ((List ℕ × ℕ) × ℕ)) (i : ℕ) (d : (List ℕ × ℕ) × ℕ) → list_all is_entry P ≡ true → i < length P → is_entry (get_or P i d) ≡ true
+entry_at [] i d sound inside = absurd (omega arith)
+entry_at (e ∷ es) zero d sound inside = and_first _ _ sound
+entry_at (e ∷ es) (suc i) d sound inside = entry_at es i d (and_second _ _ sound) (omega arith)
+
+-- the bounds of an entry that is lent in its parts
+pub bounds_lent : (P Q : List ((List ℕ × ℕ) × ℕ)) (i : ℕ) (e : (List ℕ × ℕ) × ℕ) (q : List ℕ) (dot : ℕ) → IsPatternMap P → P ≡ Q → i < length Q → e ≡ get_or P i e → q ≡ e.0.0 → dot ≡ e.0.1 → EntryBounds ((q, dot), e.1)
+bounds_lent P Q i e q dot map same inside is signs at =
+    let within : i < length P = subst (λ x. i < length x) (sym same) inside in
+    let there : is_entry e ≡ true = subst (λ x. is_entry x ≡ true) (sym is) (entry_at P i e map.sound within) in
+    subst (λ x. EntryBounds ((x, dot), e.1)) (sym signs) (subst (λ x. EntryBounds ((e.0.0, x), e.1)) (sym at) (entry_bounds e there))
+
+-- no value is greater than 9
+pub value_of_bound : (P : List ((List ℕ × ℕ) × ℕ)) (k : List ℕ × ℕ) → list_all is_entry P ≡ true → value_of P k ≤ 9
+value_of_bound [] k sound = omega arith
+value_of_bound (e ∷ es) k sound =
+    elim (eq_by_cmp place_cmp k e.0) as (λ t. unwrap_or (cond t (Some e.1) (find place_cmp k es)) 0 ≤ 9) [
+      | true ↦ (entry_bounds e (and_first _ _ sound)).high
+      | false ↦ value_of_bound es k (and_second _ _ sound)
+    ]
+
+max_bound : (a b : ℕ) → a ≤ 9 → b ≤ 9 → max a b ≤ 9
+max_bound a b p q = omega arith
+
+pub largest_bound : (P : List ((List ℕ × ℕ) × ℕ)) → list_all is_entry P ≡ true → largest P ≤ 9
+largest_bound [] sound = omega arith
+largest_bound (e ∷ es) sound =
+    max_bound e.1 (largest es) (entry_bounds e (and_first _ _ sound)).high (largest_bound es (and_second _ _ sound))
+
+below_greatest : (n m g : ℕ) → max n m ≡ g → g ≤ 9 → n ≤ 9
+below_greatest n m g is bound = omega arith
+
+-- the greatest so far is bounded as the greatest of all
+pub greatest_bound : (P es : List ((List ℕ × ℕ) × ℕ)) (n m : ℕ) → IsPatternMap P → es ≡ P → max n m ≡ largest es → n ≤ 9
+greatest_bound P es n m map same is =
+    below_greatest n m (largest es) is (largest_bound es (subst (λ x. list_all is_entry x ≡ true) (sym same) map.sound))
+
+sound_put : (k : List ℕ × ℕ) (v : ℕ) (P : List ((List ℕ × ℕ) × ℕ)) → is_entry (k, v) ≡ true → list_all is_entry P ≡ true → list_all is_entry (put place_cmp k v P) ≡ true
+sound_put k v [] new sound = both_true _ _ new refl
+sound_put k v (e ∷ es) new sound =
+    let here = entry_bounds e (and_first _ _ sound) in
+    let put_in = entry_bounds (k, v) new in
+    let tied : is_entry (e.0, v) ≡ true = entry_told (e.0, v) (record { some = here.some; few = here.few; each = here.each; dot = here.dot; low = put_in.low; high = put_in.high }) in
+    elim (place_cmp k e.0) as (λ o. list_all is_entry (by_order o ((k, v) ∷ e ∷ es) ((e.0, v) ∷ es) (e ∷ put place_cmp k v es)) ≡ true) [
+      | Less ↦ both_true _ _ new sound
+      | Equal ↦ both_true _ _ tied (and_second _ _ sound)
+      | Greater ↦ both_true _ _ (and_first _ _ sound) (sound_put k v es new (and_second _ _ sound))
+    ]
+
+-- a map stays one when a value is raised
+pub raise_keeps : (P : List ((List ℕ × ℕ) × ℕ)) (k : List ℕ × ℕ) (v : ℕ) → IsPatternMap P → EntryBounds (k, v) → IsPatternMap (raise P k v)
+raise_keeps P k v map new =
+    let old : value_of P k ≤ 9 = value_of_bound P k map.sound in
+    let low : 1 ≤ v = new.low in
+    let high : v ≤ 9 = new.high in
+    let bounds : EntryBounds (k, max v (value_of P k)) = record { some = new.some; few = new.few; each = new.each; dot = new.dot; low = omega arith; high = omega arith } in
+    record {
+      sorted = is_sorted-put place_cmp place_total k (max v (value_of P k)) P map.sorted;
+      sound = sound_put k (max v (value_of P k)) P (entry_told (k, max v (value_of P k)) bounds) map.sound;
+    }

@@ -1,0 +1,6 @@
+pub mod Places
+pub mod Values
+pub mod Search
+pub mod Lines
+pub mod Starts
+pub mod Texts

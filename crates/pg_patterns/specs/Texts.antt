@@ -1,0 +1,34 @@
+-- The text of a pattern file.
+use Rattle.std.specs.Prelude.{ℕ, ◌+◌, Bool, if◌then◌else◌, List, [], ◌∷◌, ◌++◌, nat_eq, flat_map}
+use Rattle.std.specs.Option.{option_map_or}
+use Rattle.std.specs.FinMap.Entries.{find}
+use Rattle.std.specs.Cmp.Lexicographic.{pointwise}
+use Rattle.pg_translate.specs.Alphabets.{Alphabet, spelling_of}
+use Rattle.pg_patterns.specs.Places.{place_cmp}
+
+-- a string before others, where the first of them is another
+abbrev pub with_string : List ℕ → List (List ℕ) → List (List ℕ)
+with_string q [] = q ∷ []
+with_string q (r ∷ rs) = if pointwise nat_eq q r then r ∷ rs else q ∷ r ∷ rs
+
+-- the strings of the entries, in their order, each once
+abbrev pub strings_of : List ((List ℕ × ℕ) × ℕ) → List (List ℕ)
+strings_of [] = []
+strings_of (e ∷ es) = with_string e.0.0 (strings_of es)
+
+-- the digit of a place, where it has a value
+abbrev pub digit_of : List ((List ℕ × ℕ) × ℕ) → List ℕ × ℕ → List ℕ
+digit_of P k = option_map_or (λ v. (48 + v) ∷ []) (find place_cmp k P) []
+
+-- the line of a string from a dot on, before the signs that are left: at each dot its digit, and then the spelling of the sign
+abbrev pub line_from : Alphabet → List ((List ℕ × ℕ) × ℕ) → List ℕ → ℕ → List ℕ → List ℕ
+line_from t P q dot [] = digit_of P (q, dot) ++ 10 ∷ []
+line_from t P q dot (s ∷ ss) = digit_of P (q, dot) ++ spelling_of t s ++ line_from t P q (dot + 1) ss
+
+-- the line of a string
+abbrev pub pattern_line : Alphabet → List ((List ℕ × ℕ) × ℕ) → List ℕ → List ℕ
+pattern_line t P q = line_from t P q 0 q
+
+-- the text of a map: a line for each of its strings
+abbrev pub pattern_text : Alphabet → List ((List ℕ × ℕ) × ℕ) → List ℕ
+pattern_text t P = flat_map (pattern_line t P) (strings_of P)

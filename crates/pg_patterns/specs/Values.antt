@@ -1,0 +1,51 @@
+-- Patterns as a map from places, which are signs with a dot, to values, and the value that they give to a position of a word.
+use Rattle.std.specs.Prelude.{◌≡◌, ℕ, ◌+◌, ◌-◌, ◌≤◌, Bool, true, ◌&&◌, T, if◌then◌else◌, List, [], ◌∷◌, length, drop, max, fold, unwrap_or, nat_le, nat_eq}
+use Rattle.std.specs.FinMap.Entries.{put, find, is_sorted}
+use Rattle.std.specs.List.{starts_with, list_all, All}
+use Rattle.pg_patterns.specs.Places.{place_cmp}
+
+-- the value of a place, 0 where it has none
+abbrev pub value_of : List ((List ℕ × ℕ) × ℕ) → List ℕ × ℕ → ℕ
+value_of P k = unwrap_or (find place_cmp k P) 0
+
+-- the map with the value of k raised to v
+abbrev pub raise : List ((List ℕ × ℕ) × ℕ) → List ℕ × ℕ → ℕ → List ((List ℕ × ℕ) × ℕ)
+raise P k v = put place_cmp k (max v (value_of P k)) P
+
+-- a list of entries as a map: equal places are joined by the greatest value
+abbrev pub joined : List ((List ℕ × ℕ) × ℕ) → List ((List ℕ × ℕ) × ℕ)
+joined es = fold (λ P e. raise P e.0 e.1) [] es
+
+-- the greatest value of the entries whose places pass the test, 0 where there is none
+abbrev pub best : (List ℕ × ℕ → Bool) → List ((List ℕ × ℕ) × ℕ) → ℕ
+best test [] = 0
+best test (e ∷ es) = max (if test e.0 then e.1 else 0) (best test es)
+
+-- the greatest value
+abbrev pub largest : List ((List ℕ × ℕ) × ℕ) → ℕ
+largest P = best (λ _. true) P
+
+-- the signs q stand in w from i on
+abbrev pub stands_at : List ℕ → List ℕ → ℕ → Bool
+stands_at q w i = nat_le (i + length q) (length w) && starts_with nat_eq (drop i w) q
+
+-- the signs of k stand in w with their dot at position p
+abbrev pub applies : List ℕ → ℕ → List ℕ × ℕ → Bool
+applies w p k = nat_le k.1 p && stands_at k.0 w (p - k.1)
+
+-- the value of position p of w: the greatest of the entries that apply there
+abbrev pub value_at : List ((List ℕ × ℕ) × ℕ) → List ℕ → ℕ → ℕ
+value_at P w p = best (applies w p) P
+
+-- an entry has 1 to 32 signs, each at least 1, its dot is at most their number, and its value is 1 to 9
+abbrev pub is_entry : (List ℕ × ℕ) × ℕ → Bool
+is_entry e = nat_le 1 (length e.0.0) && nat_le (length e.0.0) 32 && list_all (nat_le 1) e.0.0 && nat_le e.0.1 (length e.0.0) && nat_le 1 e.1 && nat_le e.1 9
+
+-- places stand in order, each once, and each entry is one of a pattern
+pub record IsPatternMap (P : List ((List ℕ × ℕ) × ℕ)) : Type 0 where
+  pub sorted : T (is_sorted place_cmp P)
+  pub sound : list_all is_entry P ≡ true
+
+-- every sign is at most n
+abbrev pub SignsUpTo : ℕ → List ((List ℕ × ℕ) × ℕ) → Type 0
+SignsUpTo n P = All (λ e. All (λ s. s ≤ n) e.0.0) P

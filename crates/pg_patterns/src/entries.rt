@@ -1,0 +1,65 @@
+//! Lists of entries in the order of their places.
+ghost use Rattle.std.specs.Prelude.{◌≡◌, ◌≤◌, true, false, T, drop, length, All, OnOk, OnErr};
+ghost use Rattle.std.specs.Bool.{OnTrue};
+ghost use Rattle.std.specs.FinMap.Entries.{is_sorted};
+ghost use Rattle.std.specs.List.{list_all};
+ghost use Rattle.std.specs.List.Sorted.{IsPartitionPoint};
+ghost use Rattle.pg_patterns.specs.Places.{place_cmp};
+ghost use Rattle.pg_patterns.specs.Values.{IsPatternMap, is_entry, joined, raise};
+ghost use Rattle.pg_patterns.specs.Search.{is_after, begins_with};
+
+use crate::place::Place;
+use std::alloc::AllocError;
+
+/// How many entries stand before `place`. Where it comes after all of them, one comparison tells.
+fn seek(entries: &[(Place, u8)], place: &Place) -> usize
+    requires { T (is_sorted place_cmp entries.now) }
+    ensures bound { result ≤ length entries.now }
+    ensures point { IsPartitionPoint (λ e. is_after place.now e ≡ true) (λ e. is_after place.now e ≡ false) entries.now result }
+{
+    if comes_last(entries, place) {
+        return entries.len();
+    }
+    entries.partition_point(|entry| *place > entry.0)
+}
+
+/// Whether there is a last entry, and `place` comes after it, and so after each.
+fn comes_last(entries: &[(Place, u8)], place: &Place) -> bool
+    requires { T (is_sorted place_cmp entries.now) }
+    ensures { OnTrue result (All (λ e. is_after place.now e ≡ true) entries.now) }
+{
+    !entries.is_empty() && *place > entries[entries.len() - 1].0
+}
+
+/// Whether the entry at `at` is there, and is that of `place`.
+pub fn stands(entries: &[(Place, u8)], at: usize, place: &Place) -> bool
+    ensures { result ≡ begins_with place.now (drop at entries.now) }
+{
+    at < entries.len() && *place == entries[at].0
+}
+
+/// Raises the value of `place` to `value`.
+pub fn raise_in(entries: &mut Vec<(Place, u8)>, place: Place, value: u8) -> Result<(), AllocError>
+    requires { T (is_sorted place_cmp entries.old.items) }
+    ensures ok { OnOk result (entries.new.items ≡ raise entries.old.items place value) }
+    ensures err { OnErr result (entries.new.items ≡ entries.old.items) }
+{
+    let at = seek(entries.as_slice(), &place);
+    if stands(entries.as_slice(), at, &place) {
+        let held = entries[at].1;
+        entries[at].1 = held.max(value);
+        return Ok(());
+    }
+    entries.insert(at, (place, value))?;
+    Ok(())
+}
+
+/// Joins the entries of one place by the greatest value: they are sorted where they stand, by place and falling value, and
+/// the first of each place is kept.
+pub fn join(entries: &mut Vec<(Place, u8)>)
+    requires { list_all is_entry entries.old.items ≡ true }
+    ensures { IsPatternMap entries.new.items × (entries.new.items ≡ joined entries.old.items) }
+{
+    entries.sort_unstable_by(|a, b| a.0.cmp(&b.0).then(b.1.cmp(&a.1)));
+    entries.dedup_by(|later, kept| later.0 == kept.0);
+}

@@ -1,0 +1,10 @@
+//! Hyphenation patterns: a map from signs with a dot to values, read from and written to pattern files.
+#![tactic(auto)]
+
+mod entries;
+pub mod place;
+pub mod set;
+mod text;
+
+pub use place::Place;
+pub use set::{Entry, PatternSet};

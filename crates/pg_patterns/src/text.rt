@@ -1,0 +1,99 @@
+//! The text of a pattern file.
+ghost use Rattle.std.specs.Prelude.{◌≡◌, ◌+◌, ◌≤◌, ◌++◌, length, drop, All, OnOk, IfOk, IfSome};
+ghost use Rattle.pg_translate.specs.Alphabets.{letters_of};
+ghost use Rattle.pg_patterns.specs.Places.{same_place};
+ghost use Rattle.pg_patterns.specs.Values.{IsPatternMap, SignsUpTo};
+ghost use Rattle.pg_patterns.specs.Search.{StandsAt, first_value};
+ghost use Rattle.pg_patterns.specs.Texts.{digit_of, pattern_line, pattern_text};
+
+use crate::place::Place;
+use pg_translate::Table;
+use pg_types::Sign;
+use std::alloc::AllocError;
+
+/// Appends the lines of the strings of the entries.
+pub fn push_lines(
+    entries: &[(Place, u8)],
+    table: &Table,
+    text: &mut Vec<u8>,
+) -> Result<(), AllocError>
+    requires map { IsPatternMap entries.now }
+    requires known { SignsUpTo (letters_of table.now + 1) entries.now }
+    ensures { OnOk result (text.new.items ≡ text.old.items ++ pattern_text table.now entries.now) }
+{
+    let mut at = 0;
+    'lines: while at < entries.len() {
+        let signs = entries[at].0.signs();
+        at = push_line(entries, at, signs, table, text)?;
+    }
+    Ok(())
+}
+
+/// Appends the line of `signs`, whose entries begin at `at`, and gives where those of the next string begin.
+fn push_line(
+    entries: &[(Place, u8)],
+    at: usize,
+    signs: &[Sign],
+    table: &Table,
+    text: &mut Vec<u8>,
+) -> Result<usize, AllocError>
+    requires map { IsPatternMap entries.now }
+    requires point { StandsAt entries.now (signs.now, 0) at }
+    requires few { length signs.now ≤ 32 }
+    requires each { All (λ s. 1 ≤ s) signs.now }
+    requires known { All (λ s. s ≤ letters_of table.now + 1) signs.now }
+    ensures text { OnOk result (text.new.items ≡ text.old.items ++ pattern_line table.now entries.now signs.now) }
+    ensures next { IfOk result (λ next. StandsAt entries.now (signs.now, length signs.now + 1) next) }
+{
+    let mut next = at;
+    'signs: for (dot, sign) in signs.iter().enumerate() {
+        next = push_digit(entries, next, signs, dot, text)?;
+        text.extend_from_slice(table.spelling(*sign))?;
+    }
+    next = push_digit(entries, next, signs, signs.len(), text)?;
+    text.push(b'\n')?;
+    Ok(next)
+}
+
+/// Appends the digit of `dot` among `signs`, where the entry at `next` is theirs, and gives where the entry of the next dot
+/// would stand.
+fn push_digit(
+    entries: &[(Place, u8)],
+    next: usize,
+    signs: &[Sign],
+    dot: usize,
+    text: &mut Vec<u8>,
+) -> Result<usize, AllocError>
+    requires map { IsPatternMap entries.now }
+    requires point { StandsAt entries.now (signs.now, dot) next }
+    ensures text { OnOk result (text.new.items ≡ text.old.items ++ digit_of entries.now (signs.now, dot)) }
+    ensures next { IfOk result (λ after. StandsAt entries.now (signs.now, dot + 1) after) }
+{
+    match value_at(entries, next, signs, dot) {
+        Some(value) => {
+            text.push(b'0' + value)?;
+            Ok(next + 1)
+        }
+        None => Ok(next),
+    }
+}
+
+/// The value of the entry at `at`, where it is that of `dot` among `signs`.
+fn value_at(entries: &[(Place, u8)], at: usize, signs: &[Sign], dot: usize) -> Option<u8>
+    requires { IsPatternMap entries.now }
+    ensures value { result ≡ first_value (signs.now, dot) (drop at entries.now) }
+    ensures low { IfSome result (λ value. value ≤ 9) }
+{
+    if at < entries.len() && is_place(&entries[at].0, signs, dot) {
+        Some(entries[at].1)
+    } else {
+        None
+    }
+}
+
+/// Whether the place is that of `dot` among `signs`.
+fn is_place(place: &Place, signs: &[Sign], dot: usize) -> bool
+    ensures { result ≡ same_place (signs.now, dot) place.now }
+{
+    usize::from(place.dot()) == dot && signs == place.signs()
+}
