@@ -5,3 +5,4 @@ pub mod Sights
 pub mod Sums
 pub mod Positions
 pub mod Meanings
+pub mod Laws

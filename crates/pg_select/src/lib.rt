@@ -3,6 +3,7 @@
 
 pub mod choice;
 pub mod engine;
+pub mod laws;
 pub mod word_state;
 
 pub use choice::{Choice, decide, status};

@@ -1,0 +1,2 @@
+pub mod LawsTally
+pub mod LawsSums
