@@ -1,2 +1,6 @@
 pub mod LawsTally
 pub mod LawsSums
+pub mod LawsValues
+pub mod LawsCandidates
+pub mod LawsLater
+pub mod LawsLonger

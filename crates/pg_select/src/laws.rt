@@ -1,5 +1,5 @@
 //! Laws of the definitions of this crate. A call does nothing; its contract is the law.
-ghost use Rattle.pg_select.specs.Laws.{CandidatesInOrder, CandidatesAreSeen, CountsAreTally, PositionsAreFew, TotalsAreSmall, SightsAreLight, SumsAreParts};
+ghost use Rattle.pg_select.specs.Laws.{CandidatesInOrder, CandidatesAreSeen, CountsAreTally, PositionsAreFew, TotalsAreSmall, SightsAreLight, SumsAreParts, CandidatesAreLow, ChosenGetLevel, OthersStay, NoneFalls, RaisesWhereItApplies, GivenUpKeepsValues, RaisedCovers, HopelessCovers, GivenUpCovers, LaterAtOnce, LaterStill, LaterRaised, LaterHopeless, CountedBack, ClosedLater, CountedShorter, ClosedLonger};
 
 /// The candidates of a pass are the windows that it sees. They stand strictly in the order of signs, so each once.
 pub fn candidates_in_order()
@@ -18,4 +18,46 @@ pub fn sums_are_small()
     ensures totals { TotalsAreSmall }
     ensures sights { SightsAreLight }
     ensures parts { SumsAreParts }
+{}
+
+/// A candidate has at the dot of its pass a value below the level, so it gets exactly the level where it is chosen.
+pub fn chosen_get_level()
+    ensures low { CandidatesAreLow }
+    ensures chosen { ChosenGetLevel }
+{}
+
+/// An entry never falls: a raise leaves the values of the other places, and raises those of positions where its place applies.
+pub fn entries_never_fall()
+    ensures others { OthersStay }
+    ensures falls { NoneFalls }
+    ensures values { RaisesWhereItApplies }
+{}
+
+/// A hopeless entry changes no value. It covers the windows in which it stands with its dot, as an entry of the level does.
+pub fn hopeless_only_covers()
+    ensures values { GivenUpKeepsValues }
+    ensures raised { RaisedCovers }
+    ensures hopeless { HopelessCovers }
+    ensures given_up { GivenUpCovers }
+{}
+
+/// The points of a level follow one another, and a choice or a giving up leads to a later one.
+pub fn levels_go_on()
+    ensures at_once { LaterAtOnce }
+    ensures still { LaterStill }
+    ensures raised { LaterRaised }
+    ensures hopeless { LaterHopeless }
+{}
+
+/// Within a level a position that is no longer counted is not counted later, so a pass that sees nothing sees nothing later.
+pub fn closed_stays_closed()
+    ensures counted { CountedBack }
+    ensures closed { ClosedLater }
+{}
+
+/// A position that is not counted with a window is not counted with a longer one, so where a pass sees nothing, the passes that
+/// are longer by a sign, with the same dot or the next, see nothing.
+pub fn closed_when_longer()
+    ensures counted { CountedShorter }
+    ensures closed { ClosedLonger }
 {}
