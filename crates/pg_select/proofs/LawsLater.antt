@@ -99,7 +99,7 @@ nil_more {Y = Y} f g each (x ∷ xs) is =
     ap (λ (ys : List Y). ys ++ flat_map g xs) (each x parts.0) ∙ nil_more f g each xs parts.1
 
 -- what is seen of a window at a position, where it is counted
-abbrev seen_as : List ℕ → ℕ → Option Bool → List Sight
+abbrev pub seen_as : List ℕ → ℕ → Option Bool → List Sight
 seen_as u x counted = option_map_or (λ (good : Bool). record { window = u; good = good; weight = x } ∷ []) counted []
 
 -- nothing is seen at a position that is not counted

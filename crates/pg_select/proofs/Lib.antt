@@ -4,3 +4,4 @@ pub mod LawsValues
 pub mod LawsCandidates
 pub mod LawsLater
 pub mod LawsLonger
+pub mod LawsClosed

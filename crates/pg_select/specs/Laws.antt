@@ -1,6 +1,6 @@
 -- The laws of what a pass sees, of its candidates and of its sums.
-use Rattle.std.specs.Prelude.{◌≡◌, ℕ, ◌+◌, ◌^◌, ◌<◌, ◌≤◌, max, Bool, true, false, if◌then◌else◌, ◌||◌, ◌⊎◌, Option, Some, List, [], length, map, fold, sum_by, slice_index_or, All}
-use Rattle.std.specs.List.{list_any}
+use Rattle.std.specs.Prelude.{◌≡◌, ℕ, ◌+◌, ◌^◌, ◌<◌, ◌≤◌, max, Bool, true, false, if◌then◌else◌, ◌||◌, ◌⊎◌, Option, Some, List, [], length, map, filter, fold, sum_by, slice_index_or, All}
+use Rattle.std.specs.List.{list_any, list_all}
 use Rattle.std.specs.declared.cmp.Ordering.TheVariants.{Less}
 use Rattle.std.specs.Ordering.{nat_cmp}
 use Rattle.std.specs.Cmp.Lexicographic.{slice_cmp}
@@ -143,3 +143,25 @@ CountedShorter = (pass : Pass) (P : List ((List ℕ × ℕ) × ℕ)) (H : Hopele
 -- where a pass is closed, the two that are longer by a sign are
 abbrev pub ClosedLonger : Type 0
 ClosedLonger = (m : Minima) (words : List Word) (pass : Pass) (P : List ((List ℕ × ℕ) × ℕ)) (H : Hopeless) → IsClosed m words pass P H → IsClosed m words (longer_behind pass) P H × IsClosed m words (longer_before pass) P H
+
+-- the patterns when the windows of these candidates are raised to the level at the dot
+abbrev pub raised_all : ℕ → ℕ → List ((List ℕ × ℕ) × ℕ) → List Candidate → List ((List ℕ × ℕ) × ℕ)
+raised_all level dot P cs = fold (λ P c. raise P (c.window, dot) level) P cs
+
+-- the hopeless places when those windows are made hopeless at the dot
+abbrev pub hopeless_all : ℕ → Hopeless → List Candidate → Hopeless
+hopeless_all dot H cs = fold (λ H c. put place_cmp (c.window, dot) (tt {0}) H) H cs
+
+-- a pass leads to a later point of its level, whatever it chooses and gives up
+abbrev pub LaterSettled : Type 0
+LaterSettled = (level dot : ℕ) (P : List ((List ℕ × ℕ) × ℕ)) (H : Hopeless) (raised hopeless : List Candidate) → Later level P H (raised_all level dot P raised) (hopeless_all dot H hopeless)
+
+-- a pass whose candidates are all covered later is closed then
+abbrev pub ClosedWhenCovered : Type 0
+ClosedWhenCovered = (m : Minima) (words : List Word) (pass : Pass) (P P' : List ((List ℕ × ℕ) × ℕ)) (H H' : Hopeless) → Later pass.level P H P' H'
+    → list_all (λ u. covered pass.level P' H' u pass.dot) (candidates (sights m words pass P H)) ≡ true → IsClosed m words pass P' H'
+
+-- a pass that left no candidate, as each was chosen or made hopeless, is closed from its end
+abbrev pub ClosedAtEnd : Type 0
+ClosedAtEnd = (m : Minima) (words : List Word) (pass : Pass) (P : List ((List ℕ × ℕ) × ℕ)) (H : Hopeless) (raised hopeless : Candidate → Bool) → list_all (λ c. raised c || hopeless c) (tally (sights m words pass P H)) ≡ true
+    → IsClosed m words pass (raised_all pass.level pass.dot P (filter raised (tally (sights m words pass P H)))) (hopeless_all pass.dot H (filter hopeless (tally (sights m words pass P H))))

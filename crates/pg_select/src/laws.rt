@@ -1,5 +1,5 @@
 //! Laws of the definitions of this crate. A call does nothing; its contract is the law.
-ghost use Rattle.pg_select.specs.Laws.{CandidatesInOrder, CandidatesAreSeen, CountsAreTally, PositionsAreFew, TotalsAreSmall, SightsAreLight, SumsAreParts, CandidatesAreLow, ChosenGetLevel, OthersStay, NoneFalls, RaisesWhereItApplies, GivenUpKeepsValues, RaisedCovers, HopelessCovers, GivenUpCovers, LaterAtOnce, LaterStill, LaterRaised, LaterHopeless, CountedBack, ClosedLater, CountedShorter, ClosedLonger};
+ghost use Rattle.pg_select.specs.Laws.{CandidatesInOrder, CandidatesAreSeen, CountsAreTally, PositionsAreFew, TotalsAreSmall, SightsAreLight, SumsAreParts, CandidatesAreLow, ChosenGetLevel, OthersStay, NoneFalls, RaisesWhereItApplies, GivenUpKeepsValues, RaisedCovers, HopelessCovers, GivenUpCovers, LaterAtOnce, LaterStill, LaterRaised, LaterHopeless, CountedBack, ClosedLater, CountedShorter, ClosedLonger, LaterSettled, ClosedWhenCovered, ClosedAtEnd};
 
 /// The candidates of a pass are the windows that it sees. They stand strictly in the order of signs, so each once.
 pub fn candidates_in_order()
@@ -47,6 +47,7 @@ pub fn levels_go_on()
     ensures still { LaterStill }
     ensures raised { LaterRaised }
     ensures hopeless { LaterHopeless }
+    ensures settled { LaterSettled }
 {}
 
 /// Within a level a position that is no longer counted is not counted later, so a pass that sees nothing sees nothing later.
@@ -60,4 +61,10 @@ pub fn closed_stays_closed()
 pub fn closed_when_longer()
     ensures counted { CountedShorter }
     ensures closed { ClosedLonger }
+{}
+
+/// A pass that left no candidate, as it chose or gave up each of them, sees nothing from its end to the end of the level.
+pub fn closed_at_end()
+    ensures covered { ClosedWhenCovered }
+    ensures settled { ClosedAtEnd }
 {}
