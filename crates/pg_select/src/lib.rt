@@ -4,6 +4,8 @@
 pub mod choice;
 pub mod engine;
 pub mod laws;
+#[cfg(test)]
+mod tests;
 pub mod word_state;
 
 pub use choice::{Choice, decide, status};
