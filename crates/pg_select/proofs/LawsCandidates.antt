@@ -1,5 +1,5 @@
 -- What each candidate of a pass has: a value below the level.
-use Rattle.std.proofs.Common.{◌≡◌, ℕ, ◌+◌, ◌-◌, ◌<◌, ◌≤◌, nat_le, nat_lt, nat_eq, Bool, true, false, cond, not, ◌&&◌, ◌||◌, List, [], ◌∷◌, ◌++◌, length, map, fold, take, drop, unwrap_or, Option, Some, None, max, refl, sym, ap, subst, ◌∙◌, arith}
+use Rattle.std.proofs.Common.{◌≡◌, ℕ, ◌+◌, ◌-◌, ◌<◌, ◌≤◌, nat_le, nat_lt, nat_eq, Bool, true, false, cond, not, ◌&&◌, List, [], ◌∷◌, length, map, fold, take, unwrap_or, Option, Some, None, max, refl, sym, ap, ◌∙◌, arith}
 use Rattle.std.specs.declared.cmp.Ordering.{Ordering}
 use Rattle.std.specs.declared.cmp.Ordering.TheVariants.{Less, Equal, Greater}
 use Rattle.std.specs.Ordering.{eq_by_cmp}
@@ -7,7 +7,7 @@ use Rattle.std.specs.Option.{option_map_or}
 use Rattle.std.specs.List.{list_any, list_all, flat_map, All}
 use Rattle.std.specs.Cmp.Lexicographic.{pointwise}
 use Rattle.std.specs.FinMap.Entries.{put, find, by_order}
-use Rattle.std.proofs.lemmas.Bool.{le-leb, lt-ltb, ltb-true, leb-false, eq-eqb, and_from, or_parts, and_parts, not-true}
+use Rattle.std.proofs.lemmas.Bool.{le-leb, lt-ltb, ltb-true, leb-false, eq-eqb, and_from, or_parts}
 use Rattle.std.proofs.lemmas.List.{take_all}
 use Rattle.std.proofs.lemmas.List.Folds.{list_all-append}
 use Rattle.std.proofs.lemmas.List.Sums.{AllPass-from_list_all}
@@ -19,7 +19,7 @@ use Rattle.pg_patterns.proofs.Ordered.{equal_is}
 use Rattle.pg_patterns.proofs.Joins.{only, value_of_raise}
 use Rattle.pg_select.specs.Statuses.{status_at, weight_at}
 use Rattle.pg_select.specs.Windows.{Hopeless, window, fits, covered}
-use Rattle.pg_select.specs.Sights.{Pass, Minima, Sight, counts_as, counted_at, sight_at, sights_in, sights, with_window, candidates}
+use Rattle.pg_select.specs.Sights.{Pass, Minima, Sight, counts_as, sight_at, sights_in, sights, with_window, candidates}
 use Rattle.pg_select.proofs.LawsTally.{cmp, window_exact}
 
 -- a test of all windows with one more

@@ -1,12 +1,12 @@
 -- What a raise makes of values, and what a raise and a hopeless place make of covers.
-use Rattle.std.proofs.Common.{◌≡◌, ℕ, ◌+◌, ◌-◌, ◌<◌, ◌≤◌, nat_le, Bool, true, false, cond, not, ◌&&◌, ◌||◌, T, ◌⊎◌, inl, inr, ⊎_elim, List, [], ◌∷◌, length, unwrap_or, Option, Some, None, max, refl, sym, ap, subst, ◌∙◌, arith}
+use Rattle.std.proofs.Common.{◌≡◌, ℕ, ◌<◌, ◌≤◌, nat_le, Bool, true, false, cond, ◌&&◌, ◌||◌, ◌⊎◌, inl, inr, ⊎_elim, List, [], ◌∷◌, unwrap_or, Some, max, refl, sym, ap, ◌∙◌, arith}
 use Rattle.std.specs.declared.cmp.Ordering.{Ordering}
 use Rattle.std.specs.declared.cmp.Ordering.TheVariants.{Less, Equal, Greater}
 use Rattle.std.specs.Ordering.{is_eq, eq_by_cmp}
 use Rattle.std.specs.List.{list_any}
 use Rattle.std.specs.FinMap.Entries.{put, find, by_order}
-use Rattle.std.proofs.lemmas.Bool.{le-leb, leb-true, leb-false, cases_lt, or_left, or_right, or_cases, and_parts, and_from}
-use Rattle.pg_patterns.specs.Places.{place_cmp, same_place, place_ties, place_exact}
+use Rattle.std.proofs.lemmas.Bool.{le-leb, cases_lt, and_parts}
+use Rattle.pg_patterns.specs.Places.{place_cmp, place_exact}
 use Rattle.pg_patterns.specs.Values.{value_of, raise, best, applies, value_at}
 use Rattle.pg_patterns.proofs.Ordered.{equal_is}
 use Rattle.pg_patterns.proofs.Joins.{only}

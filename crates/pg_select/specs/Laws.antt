@@ -1,5 +1,5 @@
--- The laws of what a pass sees, of its candidates and of its sums.
-use Rattle.std.specs.Prelude.{◌≡◌, ℕ, ◌+◌, ◌^◌, ◌<◌, ◌≤◌, max, Bool, true, false, if◌then◌else◌, ◌||◌, ◌⊎◌, Option, Some, List, [], length, map, filter, fold, sum_by, slice_index_or, All}
+-- The laws of the definitions of this crate, on candidates, sums, values, covers and passes that see nothing.
+use Rattle.std.specs.Prelude.{◌≡◌, ℕ, ◌+◌, ◌^◌, ◌<◌, ◌≤◌, max, Bool, true, false, if◌then◌else◌, ◌||◌, ◌⊎◌, Some, List, [], length, map, filter, fold, sum_by, slice_index_or, All}
 use Rattle.std.specs.List.{list_any, list_all}
 use Rattle.std.specs.declared.cmp.Ordering.TheVariants.{Less}
 use Rattle.std.specs.Ordering.{nat_cmp}

@@ -1,9 +1,9 @@
 -- What an engine means: the patterns and the counts that it holds, and what each of its calls makes of them.
-use Rattle.std.specs.Prelude.{◌≡◌, ℕ, ◌+◌, ◌<◌, ◌≤◌, ◌^◌, Bool, true, false, if◌then◌else◌, T, List, [], ◌∷◌, length, map, filter, fold, unwrap_or, Option, None, Some, MatchOption, All, get_or, is_some}
+use Rattle.std.specs.Prelude.{◌≡◌, ℕ, ◌+◌, ◌<◌, ◌≤◌, ◌^◌, Bool, true, false, if◌then◌else◌, List, [], length, map, filter, unwrap_or, Option, None, Some, MatchOption, All, get_or, is_some}
 use Rattle.std.specs.Option.{option_map}
 use Rattle.std.specs.Ordering.{nat_cmp, is_lt}
 use Rattle.std.specs.Cmp.Lexicographic.{slice_cmp}
-use Rattle.std.specs.FinMap.Entries.{put, find, is_sorted}
+use Rattle.std.specs.FinMap.Entries.{put, find}
 use Rattle.pg_types.specs.declared.marks.Layout.{Layout}
 use Rattle.pg_types.specs.Placement.{Families, taken, top, enter, kept}
 use Rattle.pg_types.specs.Tails.{tails}

@@ -2,7 +2,7 @@
 use Rattle.std.specs.Prelude.{ℕ, Bool, true, false, if◌then◌else◌, List, length, map, sum_by}
 use Rattle.std.specs.List.{flat_map}
 use Rattle.pg_types.specs.declared.marks.Mark.{Mark}
-use Rattle.pg_types.specs.declared.marks.Mark.TheVariants.{Nothing, Error, Missed, Found, DontCare}
+use Rattle.pg_types.specs.declared.marks.Mark.TheVariants.{Error, Missed, Found}
 use Rattle.pg_types.specs.declared.marks.Totals.{Totals}
 use Rattle.pg_dict.specs.Word.{Word}
 use Rattle.pg_translate.specs.Reach.{positions}
