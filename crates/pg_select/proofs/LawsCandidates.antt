@@ -3,7 +3,6 @@ use Rattle.std.proofs.Common.{◌≡◌, ℕ, ◌+◌, ◌-◌, ◌<◌, ◌≤�
 use Rattle.std.specs.declared.cmp.Ordering.{Ordering}
 use Rattle.std.specs.declared.cmp.Ordering.TheVariants.{Less, Equal, Greater}
 use Rattle.std.specs.Ordering.{eq_by_cmp}
-use Rattle.std.specs.Option.{option_map_or}
 use Rattle.std.specs.List.{list_any, list_all, flat_map, All}
 use Rattle.std.specs.Cmp.Lexicographic.{pointwise}
 use Rattle.std.specs.FinMap.Entries.{put, find, by_order}
@@ -20,7 +19,7 @@ use Rattle.pg_patterns.proofs.Joins.{only, value_of_raise}
 use Rattle.pg_select.specs.Statuses.{status_at, weight_at}
 use Rattle.pg_select.specs.Windows.{Hopeless, window, fits, covered}
 use Rattle.pg_select.specs.Sights.{Pass, Minima, Sight, counts_as, sight_at, sights_in, sights, with_window, candidates}
-use Rattle.pg_select.proofs.LawsTally.{cmp, window_exact}
+use Rattle.pg_select.proofs.LawsTally.{cmp, window_exact, seen_as}
 
 -- a test of all windows with one more
 all_put : (test : List ℕ → Bool) (u : List ℕ) (windows : List (List ℕ × Unit {0})) → list_all (λ (e : List ℕ × Unit {0}). test e.0) (put cmp u (tt {0}) windows) ≡ (test u && list_all (λ (e : List ℕ × Unit {0}). test e.0) windows)
@@ -107,7 +106,7 @@ all_seen test m words pass P H each =
     all_flat (λ (s : Sight). test s.window) (sights_in m pass P H) words (λ w.
     all_flat (λ (s : Sight). test s.window) (sight_at pass P H w) (positions m.left m.right (length w.signs)) (λ p. at w p))
   where
-    by_test : (u : List ℕ) (x : ℕ) (a c : Bool) (o : Option Bool) → (c ≡ false → test u ≡ true) → list_all (λ (s : Sight). test s.window) (option_map_or (λ (good : Bool). record { window = u; good = good; weight = x } ∷ []) (cond (a && not c) o None) []) ≡ true
+    by_test : (u : List ℕ) (x : ℕ) (a c : Bool) (o : Option Bool) → (c ≡ false → test u ≡ true) → list_all (λ (s : Sight). test s.window) (seen_as u x (cond (a && not c) o None)) ≡ true
     by_test u x false c o holds = refl
     by_test u x true true o holds = refl
     by_test u x true false None holds = refl

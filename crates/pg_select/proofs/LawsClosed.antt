@@ -15,10 +15,10 @@ use Rattle.pg_select.specs.Statuses.{status_at, weight_at}
 use Rattle.pg_select.specs.Windows.{Hopeless, window, fits, covered}
 use Rattle.pg_select.specs.Sights.{Pass, Minima, Sight, Candidate, counts_as, counted_at, sight_at, sights_in, sights, same_signs, candidates, good_of, bad_of, tally}
 use Rattle.pg_select.specs.Laws.{Later, raised_all, hopeless_all}
-use Rattle.pg_select.proofs.LawsTally.{same_window}
+use Rattle.pg_select.proofs.LawsTally.{same_window, seen_as}
 use Rattle.pg_select.proofs.LawsValues.{covered_raised, covered_hopeless}
 use Rattle.pg_select.proofs.LawsCandidates.{all_candidates, applies_itself}
-use Rattle.pg_select.proofs.LawsLater.{later_at_once, later_still, later_raised, later_hopeless, some_parts, counted_back, seen_as}
+use Rattle.pg_select.proofs.LawsLater.{later_at_once, later_still, later_raised, later_hopeless, some_parts, counted_back}
 
 later_all_raised : (level dot : ℕ) (P : List ((List ℕ × ℕ) × ℕ)) (H : Hopeless) (cs : List Candidate) → Later level P H (raised_all level dot P cs) H
 later_all_raised level dot P H [] = later_at_once level P H

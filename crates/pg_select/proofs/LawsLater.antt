@@ -1,6 +1,5 @@
 -- The first law of skipped passes: what is no longer counted in a level is not counted later in it.
 use Rattle.std.proofs.Common.{◌≡◌, ℕ, Bool, true, false, cond, not, ◌&&◌, inl, inr, ⊎_elim, List, [], ◌∷◌, ◌++◌, length, Option, Some, None, refl, sym, ap, ◌∙◌}
-use Rattle.std.specs.Option.{option_map_or}
 use Rattle.std.specs.List.{flat_map, slice_index_or}
 use Rattle.std.specs.FinMap.Entries.{put}
 use Rattle.std.proofs.lemmas.Bool.{and_parts, and_from, or_right}
@@ -11,8 +10,9 @@ use Rattle.pg_patterns.specs.Places.{place_cmp}
 use Rattle.pg_patterns.specs.Values.{raise, applies, value_at}
 use Rattle.pg_select.specs.Statuses.{is_odd, status, status_at, weight_at}
 use Rattle.pg_select.specs.Windows.{Hopeless, window, fits, covered}
-use Rattle.pg_select.specs.Sights.{Pass, Minima, Sight, counts_as, counted_at, sight_at, sights_in, sights}
+use Rattle.pg_select.specs.Sights.{Pass, Minima, counts_as, counted_at, sight_at, sights_in, sights}
 use Rattle.pg_select.specs.Laws.{Later}
+use Rattle.pg_select.proofs.LawsTally.{seen_as}
 use Rattle.pg_select.proofs.LawsValues.{raised_to, covered_raised, covered_hopeless}
 
 -- a value of the level is not counted at the level
@@ -96,10 +96,6 @@ nil_more f g each [] is = refl
 nil_more {Y = Y} f g each (x ∷ xs) is =
     let parts = nil_parts (f x) (flat_map f xs) is in
     ap (λ (ys : List Y). ys ++ flat_map g xs) (each x parts.0) ∙ nil_more f g each xs parts.1
-
--- what is seen of a window at a position, where it is counted
-abbrev pub seen_as : List ℕ → ℕ → Option Bool → List Sight
-seen_as u x counted = option_map_or (λ (good : Bool). record { window = u; good = good; weight = x } ∷ []) counted []
 
 -- nothing is seen at a position that is not counted
 unseen_more : (u v : List ℕ) (x : ℕ) (o r : Option Bool) → ((g : Bool) → r ≡ Some g → o ≡ Some g) → seen_as u x o ≡ [] → seen_as v x r ≡ []

@@ -1,5 +1,8 @@
 -- The sums of a pass and of the totals are small.
-use Rattle.std.proofs.Common.{◌≡◌, ℕ, ◌+◌, ◌-◌, ◌*◌, ◌^◌, ◌<◌, ◌≤◌, nat_le, Bool, true, false, cond, not, ◌&&◌, List, [], ◌∷◌, length, map, get_or, Option, Some, None, refl, ap, ⊎_elim, arith}
+use Rattle.std.proofs.Common.{◌≡◌, ℕ, ◌+◌, ◌-◌, ◌*◌, ◌^◌, ◌<◌, ◌≤◌, nat_le, Bool, true, false, cond, not, ◌&&◌, List, [], ◌∷◌, length, map, get_or, fold, Option, Some, None, refl, ap, ⊎_elim, arith, length-append}
+use Rattle.std.specs.declared.cmp.Ordering.{Ordering}
+use Rattle.std.specs.declared.cmp.Ordering.TheVariants.{Less, Equal, Greater}
+use Rattle.std.specs.FinMap.Entries.{put, by_order}
 use Rattle.std.specs.Option.{option_map_or}
 use Rattle.std.specs.List.{sum_by, flat_map, range_with_len, All}
 use Rattle.std.proofs.lemmas.Bool.{cases_lt, leb-true}
@@ -14,9 +17,10 @@ use Rattle.pg_translate.specs.Reach.{positions}
 use Rattle.pg_dict.specs.Word.{Word, IsWord, letters_of}
 use Rattle.pg_select.specs.Statuses.{status_at, weight_at}
 use Rattle.pg_select.specs.Windows.{Hopeless, window}
-use Rattle.pg_select.specs.Sights.{Pass, Minima, Sight, counted_at, sight_at, sights_in, sights, same_signs, good_of, bad_of}
+use Rattle.pg_select.specs.Sights.{Pass, Minima, Sight, counted_at, sight_at, sights_in, sights, same_signs, with_window, candidates, good_of, bad_of}
 use Rattle.pg_select.specs.Sums.{is_found, is_error, is_missed, weight_of, marks_in, totals}
 use Rattle.pg_select.specs.Laws.{AreFew, positions_in}
+use Rattle.pg_select.proofs.LawsTally.{cmp, seen_as, keys_length}
 
 -- a weight is within its limit
 pub weight_within : (w : Word) (p : ℕ) → IsWord w → weight_at w p ≤ WEIGHT_MAX
@@ -91,7 +95,7 @@ totals_within m words P each =
     omega (arith, three_within (flat_map (marks_in m P) words))
 
 -- what is seen at a position weighs no more than it
-seen_within : (o : Option Bool) (u : List ℕ) (x : ℕ) → sum_by (λ (s : Sight). s.weight) (option_map_or (λ (good : Bool). record { window = u; good = good; weight = x } ∷ []) o []) ≤ x
+seen_within : (o : Option Bool) (u : List ℕ) (x : ℕ) → sum_by (λ (s : Sight). s.weight) (seen_as u x o) ≤ x
 seen_within None u x = omega arith
 seen_within (Some good) u x = omega arith
 
@@ -105,6 +109,40 @@ seen_in pass P H w word (p ∷ ps) =
 pub sights_within : (m : Minima) (words : List Word) (pass : Pass) (P : List ((List ℕ × ℕ) × ℕ)) (H : Hopeless) → All IsWord words → sum_by (λ (s : Sight). s.weight) (sights m words pass P H) ≤ WEIGHT_MAX * positions_in m words
 sights_within m words pass P H each =
     parts_within (sights_in m pass P H) (λ (s : Sight). s.weight) WEIGHT_MAX (reached m) IsWord (λ w word. seen_in pass P H w word (positions m.left m.right (length w.signs))) words each
+
+-- a window more, or none
+put_length : (u : List ℕ) (windows : List (List ℕ × Unit {0})) → length (put cmp u (tt {0}) windows) ≤ length windows + 1
+put_length u [] = omega arith
+put_length u (e ∷ es) =
+    let rest : length (put cmp u (tt {0}) es) ≤ length es + 1 = put_length u es in
+    elim (cmp u e.0) as (λ (r : Ordering). length (by_order r ((u, tt {0}) ∷ e ∷ es) ((e.0, tt {0}) ∷ es) (e ∷ put cmp u (tt {0}) es)) ≤ length (e ∷ es) + 1) [
+      | Less ↦ omega arith
+      | Equal ↦ omega arith
+      | Greater ↦ omega arith
+    ]
+
+windows_few : (windows : List (List ℕ × Unit {0})) (seen : List Sight) → length (fold with_window windows seen) ≤ length windows + length seen
+windows_few windows [] = omega arith
+windows_few windows (s ∷ ss) = omega (arith, windows_few (with_window windows s) ss, put_length s.window windows)
+
+seen_once : (o : Option Bool) (u : List ℕ) (x : ℕ) → length (seen_as u x o) ≤ 1
+seen_once None u x = omega arith
+seen_once (Some good) u x = omega arith
+
+sights_few_in : (pass : Pass) (P : List ((List ℕ × ℕ) × ℕ)) (H : Hopeless) (w : Word) (ps : List ℕ) → length (flat_map (sight_at pass P H w) ps) ≤ length ps
+sights_few_in pass P H w [] = omega arith
+sights_few_in pass P H w (p ∷ ps) =
+    omega (arith, seen_once (counted_at pass P H w p) (window w.signs p pass.len pass.dot) (weight_at w p), sights_few_in pass P H w ps, length-append (sight_at pass P H w p) (flat_map (sight_at pass P H w) ps))
+
+-- a pass sees no more than positions in reach
+pub sights_few : (m : Minima) (words : List Word) (pass : Pass) (P : List ((List ℕ × ℕ) × ℕ)) (H : Hopeless) → length (sights m words pass P H) ≤ positions_in m words
+sights_few m [] pass P H = omega arith
+sights_few m (w ∷ ws) pass P H =
+    omega (arith, sights_few m ws pass P H, sights_few_in pass P H w (positions m.left m.right (length w.signs)), sum_by-cons (reached m) w ws, length-append (sights_in m pass P H w) (flat_map (sights_in m pass P H) ws))
+
+-- and has no more candidates
+pub candidates_few : (m : Minima) (words : List Word) (pass : Pass) (P : List ((List ℕ × ℕ) × ℕ)) (H : Hopeless) → length (candidates (sights m words pass P H)) ≤ positions_in m words
+candidates_few m words pass P H = omega (arith, sights_few m words pass P H, windows_few [] (sights m words pass P H), keys_length (fold with_window [] (sights m words pass P H)))
 
 small : (n k : ℕ) → n ≤ WEIGHT_MAX * k → k ≤ FILE_MAX → n < 2 ^ 40
 small n k light few = omega arith

@@ -4,6 +4,7 @@ use Rattle.std.specs.declared.cmp.Ordering.{Ordering}
 use Rattle.std.specs.declared.cmp.Ordering.TheVariants.{Less, Equal}
 use Rattle.std.specs.Ordering.{nat_cmp, is_lt}
 use Rattle.std.specs.Cmp.Lexicographic.{slice_cmp, nat_list_cmp_total}
+use Rattle.std.specs.Option.{option_map_or}
 use Rattle.std.specs.FinMap.{nat_cmp-IsAntisymmetric, slice_cmp-IsAntisymmetric}
 use Rattle.std.specs.FinMap.Entries.{find, is_sorted, below_all, is_sorted-put, find-put, find_tied, same_entries, is_some-find}
 use Rattle.std.specs.List.{list_any}
@@ -22,6 +23,10 @@ window_exact u v e = slice_cmp-IsAntisymmetric nat_cmp-IsAntisymmetric u v e
 
 pub same_window : (u v : List ℕ) → same_signs u v ≡ true → u ≡ v
 same_window u v same = window_exact u v (equal_is (cmp u v) same)
+
+-- what is seen of a window at a position, where it is counted
+abbrev pub seen_as : List ℕ → ℕ → Option Bool → List Sight
+seen_as u x counted = option_map_or (λ (good : Bool). record { window = u; good = good; weight = x } ∷ []) counted []
 
 -- a window is seen
 abbrev pub is_seen : List Sight → List ℕ → Bool
@@ -145,7 +150,7 @@ keys_at [] i d = refl
 keys_at (e ∷ es) zero d = refl
 keys_at (e ∷ es) (suc i) d = keys_at es i d
 
-keys_length : (windows : List (List ℕ × Unit {0})) → length (map (λ (e : List ℕ × Unit {0}). e.0) windows) ≡ length windows
+pub keys_length : (windows : List (List ℕ × Unit {0})) → length (map (λ (e : List ℕ × Unit {0}). e.0) windows) ≡ length windows
 keys_length [] = refl
 keys_length (e ∷ es) = ap suc (keys_length es)
 

@@ -41,9 +41,13 @@ pub record AreFew (words : List Word) : Type 0 where
 abbrev pub positions_in : Minima → List Word → ℕ
 positions_in m words = sum_by (λ (w : Word). length (positions m.left m.right (length w.signs))) words
 
--- where a minimum is at least 1, a word has no more positions in reach than letters
+-- where the left minimum is at least 1, words have no more positions in reach than letters
 abbrev pub PositionsAreFew : Type 0
 PositionsAreFew = (m : Minima) (words : List Word) → 1 ≤ m.left → positions_in m words ≤ sum_by letters_of words
+
+-- a pass has no more candidates than positions in reach
+abbrev pub CandidatesAreFew : Type 0
+CandidatesAreFew = (m : Minima) (words : List Word) (pass : Pass) (P : List ((List ℕ × ℕ) × ℕ)) (H : Hopeless) → length (candidates (sights m words pass P H)) ≤ positions_in m words
 
 -- the totals of such words are below 2^40, also together
 abbrev pub TotalsAreSmall : Type 0

@@ -1,5 +1,5 @@
 //! Laws of the definitions of this crate. A call does nothing; its contract is the law.
-ghost use Rattle.pg_select.specs.Laws.{CandidatesInOrder, CandidatesAreSeen, CountsAreTally, PositionsAreFew, TotalsAreSmall, SightsAreLight, SumsAreParts, CandidatesAreLow, ChosenGetLevel, OthersStay, NoneFalls, RaisesWhereItApplies, GivenUpKeepsValues, RaisedCovers, HopelessCovers, GivenUpCovers, LaterAtOnce, LaterStill, LaterRaised, LaterHopeless, CountedBack, ClosedLater, CountedShorter, ClosedLonger, LaterSettled, ClosedWhenCovered, ClosedAtEnd};
+ghost use Rattle.pg_select.specs.Laws.{CandidatesInOrder, CandidatesAreSeen, CountsAreTally, PositionsAreFew, CandidatesAreFew, TotalsAreSmall, SightsAreLight, SumsAreParts, CandidatesAreLow, ChosenGetLevel, OthersStay, NoneFalls, RaisesWhereItApplies, GivenUpKeepsValues, RaisedCovers, HopelessCovers, GivenUpCovers, LaterAtOnce, LaterStill, LaterRaised, LaterHopeless, CountedBack, ClosedLater, CountedShorter, ClosedLonger, LaterSettled, ClosedWhenCovered, ClosedAtEnd};
 
 /// The candidates of a pass are the windows that it sees. They stand strictly in the order of signs, so each once.
 pub fn candidates_in_order()
@@ -12,9 +12,11 @@ pub fn counts_are_tally()
     ensures { CountsAreTally }
 {}
 
-/// The totals of the words of a dictionary are below 2^40, and so is each sum of weights of a pass.
+/// The words of a dictionary have no more positions in reach than letters, and a pass no more candidates. The totals of the words
+/// are below 2^40, and so is each sum of weights of a pass.
 pub fn sums_are_small()
     ensures positions { PositionsAreFew }
+    ensures candidates { CandidatesAreFew }
     ensures totals { TotalsAreSmall }
     ensures sights { SightsAreLight }
     ensures parts { SumsAreParts }
