@@ -1,0 +1,22 @@
+-- The status of a position.
+use Rattle.std.specs.Prelude.{ℕ, ◌%◌, ◌==◌, Bool, false, true, if◌then◌else◌, List, slice_index, slice_index_or}
+use Rattle.pg_types.specs.declared.marks.Mark.{Mark}
+use Rattle.pg_types.specs.declared.marks.Mark.TheVariants.{Nothing, Error, Missed, Found, DontCare}
+use Rattle.pg_dict.specs.Word.{Word}
+use Rattle.pg_patterns.specs.Values.{value_at}
+
+-- an odd value breaks the word, and at an odd level patterns find breaks
+abbrev pub is_odd : ℕ → Bool
+is_odd n = n % 2 == 1
+
+-- the status of a position with this hyphen, care and value
+abbrev pub status : Bool → Bool → ℕ → Mark
+status hyphen care value = if care then (if hyphen then (if is_odd value then Found else Missed) else (if is_odd value then Error else Nothing)) else DontCare
+
+-- the status of a position in reach, by the patterns
+abbrev pub status_at : List ((List ℕ × ℕ) × ℕ) → Word → ℕ → Mark
+status_at P w p = status (slice_index_or w.hyphens p false) (slice_index_or w.cares p true) (value_at P w.signs p)
+
+-- the weight of a position
+abbrev pub weight_at : Word → ℕ → ℕ
+weight_at w p = slice_index w.weights p

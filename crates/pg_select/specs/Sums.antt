@@ -1,0 +1,38 @@
+-- The totals of a word list.
+use Rattle.std.specs.Prelude.{ℕ, Bool, true, false, if◌then◌else◌, List, length, map, sum_by}
+use Rattle.std.specs.List.{flat_map}
+use Rattle.pg_types.specs.declared.marks.Mark.{Mark}
+use Rattle.pg_types.specs.declared.marks.Mark.TheVariants.{Error, Missed, Found}
+use Rattle.pg_types.specs.declared.marks.Totals.{Totals}
+use Rattle.pg_dict.specs.Word.{Word}
+use Rattle.pg_translate.specs.Reach.{positions}
+use Rattle.pg_select.specs.Statuses.{status_at, weight_at}
+use Rattle.pg_select.specs.Sights.{Minima}
+
+-- the status and the weight of each position in reach of a word
+abbrev pub marks_in : Minima → List ((List ℕ × ℕ) × ℕ) → Word → List (Mark × ℕ)
+marks_in m P w = map (λ p. (status_at P w p, weight_at w p)) (positions m.left m.right (length w.signs))
+
+abbrev pub is_found : Mark → Bool
+is_found Found = true
+is_found other = false
+
+abbrev pub is_error : Mark → Bool
+is_error Error = true
+is_error other = false
+
+abbrev pub is_missed : Mark → Bool
+is_missed Missed = true
+is_missed other = false
+
+-- the weights of the marks that pass a test
+abbrev pub weight_of : (Mark → Bool) → List (Mark × ℕ) → ℕ
+weight_of test marks = sum_by (λ m. if test m.0 then m.1 else 0) marks
+
+-- the totals of marks: good over the found, bad over the errors, missed over the missed
+abbrev pub totals_of : List (Mark × ℕ) → Totals
+totals_of marks = record { good = weight_of is_found marks; bad = weight_of is_error marks; missed = weight_of is_missed marks }
+
+-- the totals of all words
+abbrev pub totals : Minima → List Word → List ((List ℕ × ℕ) × ℕ) → Totals
+totals m words P = totals_of (flat_map (marks_in m P) words)

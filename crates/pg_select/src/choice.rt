@@ -1,0 +1,51 @@
+//! The choice among candidates, and the status of a position.
+ghost use Rattle.std.specs.Prelude.{◌≡◌, ◌<◌, ◌≤◌, ◌^◌};
+ghost use Rattle.pg_types.specs.Parameters.{IsLevel};
+ghost use Rattle.pg_select.specs.Choices.{choice};
+ghost use Rattle.pg_select.specs.Statuses.{status as status_of};
+
+use pg_types::{LevelParams, Mark};
+
+/// What becomes of a candidate at the end of its pass.
+#[derive(Clone, Copy, Debug, PartialEq, Eq)]
+pub enum Choice {
+    /// It can reach the threshold no more, and knocks out longer windows to the end of the level.
+    Hopeless,
+    /// It becomes a pattern of the level.
+    Chosen,
+    /// Longer windows may decide.
+    Left,
+}
+
+/// What becomes of a candidate with these sums of good and bad weights, by the weights and the threshold of its level (Liang's
+/// thesis, patgen).
+pub fn decide(good: u64, bad: u64, p: &LevelParams) -> Choice
+    requires good { good < 2 ^ 40 }
+    requires bad { bad < 2 ^ 40 }
+    requires level { IsLevel p.now }
+    ensures { result ≡ choice p.now good bad }
+{
+    let worth = good * u64::from(p.good_wt);
+    let threshold = u64::from(p.thresh);
+    if worth < threshold {
+        Choice::Hopeless
+    } else if worth >= threshold + bad * u64::from(p.bad_wt) {
+        Choice::Chosen
+    } else {
+        Choice::Left
+    }
+}
+
+/// The status of a position with this hyphen, care and value: an odd value breaks the word.
+pub fn status(hyphen: bool, care: bool, value: u8) -> Mark
+    ensures { result ≡ status_of hyphen care value }
+{
+    let breaks = value % 2 == 1;
+    match (care, hyphen, breaks) {
+        (false, _, _) => Mark::DontCare,
+        (true, true, true) => Mark::Found,
+        (true, true, false) => Mark::Missed,
+        (true, false, true) => Mark::Error,
+        (true, false, false) => Mark::Nothing,
+    }
+}

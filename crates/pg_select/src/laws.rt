@@ -1,0 +1,72 @@
+//! Laws of the definitions of this crate. A call does nothing; its contract is the law.
+ghost use Rattle.pg_select.specs.Laws.{CandidatesInOrder, CandidatesAreSeen, CountsAreTally, PositionsAreFew, CandidatesAreFew, TotalsAreSmall, SightsAreLight, SumsAreParts, CandidatesAreLow, ChosenGetLevel, OthersStay, NoneFalls, RaisesWhereItApplies, GivenUpKeepsValues, RaisedCovers, HopelessCovers, GivenUpCovers, LaterAtOnce, LaterStill, LaterRaised, LaterHopeless, CountedBack, ClosedLater, CountedShorter, ClosedLonger, LaterSettled, ClosedWhenCovered, ClosedAtEnd};
+
+/// The candidates of a pass are the windows that it sees. They stand strictly in the order of signs, so each once.
+pub fn candidates_in_order()
+    ensures order { CandidatesInOrder }
+    ensures seen { CandidatesAreSeen }
+{}
+
+/// Counting what a pass sees, one position after the other, gives its candidates with their sums of good and bad weights.
+pub fn counts_are_tally()
+    ensures { CountsAreTally }
+{}
+
+/// The words of a dictionary have no more positions in reach than letters, and a pass no more candidates. The totals of the words
+/// are below 2^40, and so is each sum of weights of a pass.
+pub fn sums_are_small()
+    ensures positions { PositionsAreFew }
+    ensures candidates { CandidatesAreFew }
+    ensures totals { TotalsAreSmall }
+    ensures sights { SightsAreLight }
+    ensures parts { SumsAreParts }
+{}
+
+/// A candidate has at the dot of its pass a value below the level, so it gets exactly the level where it is chosen.
+pub fn chosen_get_level()
+    ensures low { CandidatesAreLow }
+    ensures chosen { ChosenGetLevel }
+{}
+
+/// An entry never falls: a raise leaves the values of the other places, and raises those of positions where its place applies.
+pub fn entries_never_fall()
+    ensures others { OthersStay }
+    ensures falls { NoneFalls }
+    ensures values { RaisesWhereItApplies }
+{}
+
+/// A hopeless entry changes no value. It covers the windows in which it stands with its dot, as an entry of the level does.
+pub fn hopeless_only_covers()
+    ensures values { GivenUpKeepsValues }
+    ensures raised { RaisedCovers }
+    ensures hopeless { HopelessCovers }
+    ensures given_up { GivenUpCovers }
+{}
+
+/// The points of a level follow one another, and a choice or a giving up leads to a later one.
+pub fn levels_go_on()
+    ensures at_once { LaterAtOnce }
+    ensures still { LaterStill }
+    ensures raised { LaterRaised }
+    ensures hopeless { LaterHopeless }
+    ensures settled { LaterSettled }
+{}
+
+/// Within a level a position that is no longer counted is not counted later, so a pass that sees nothing sees nothing later.
+pub fn closed_stays_closed()
+    ensures counted { CountedBack }
+    ensures closed { ClosedLater }
+{}
+
+/// A position that is not counted with a window is not counted with a longer one, so where a pass sees nothing, the passes that
+/// are longer by a sign, with the same dot or the next, see nothing.
+pub fn closed_when_longer()
+    ensures counted { CountedShorter }
+    ensures closed { ClosedLonger }
+{}
+
+/// A pass that left no candidate, as it chose or gave up each of them, sees nothing from its end to the end of the level.
+pub fn closed_at_end()
+    ensures covered { ClosedWhenCovered }
+    ensures settled { ClosedAtEnd }
+{}
