@@ -1,0 +1,6 @@
+//! The plain engine, over ordered maps.
+#![tactic(auto)]
+
+pub mod force;
+pub mod pass;
+pub mod walk;
