@@ -3,5 +3,8 @@ pub mod Greatest
 pub mod Orders
 pub mod Maps
 pub mod Rows
-pub mod Starts
 pub mod Strings
+pub mod Starts
+pub mod Covers
+pub mod Counted
+pub mod Entered

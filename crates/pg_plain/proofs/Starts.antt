@@ -3,7 +3,8 @@ use Rattle.std.proofs.Common.{◌≡◌, ℕ, ◌+◌, ◌-◌, ◌<◌, ◌≤�
 use Rattle.std.specs.List.{list_all, list_any}
 use Rattle.pg_patterns.specs.Values.{applies}
 use Rattle.pg_select.specs.Positions.{Positions}
-use Rattle.pg_plain.specs.Forces.{Raises, IsRoomy, values_of, covers_of, is_string}
+use Rattle.pg_plain.specs.Forces.{Raises, IsRoomy, values_of, covers_of}
+use Rattle.pg_plain.specs.Strings.{is_string}
 use Rattle.pg_plain.specs.Walks.{is_row, goes_on, begins, longer, later}
 use Rattle.pg_plain.proofs.Tests.{and_first, and_second, not_false, all_not}
 use Rattle.pg_plain.proofs.Greatest.{Level, level_step, level_end, level_start}

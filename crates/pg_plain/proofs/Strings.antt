@@ -5,7 +5,7 @@ use Rattle.std.proofs.lemmas.List.{length-take-le, length-drop, take-take}
 use Rattle.std.specs.Cmp.Lexicographic.{pointwise, bytes_decides}
 use Rattle.std.specs.List.{starts_with}
 use Rattle.pg_patterns.specs.Values.{stands_at, applies}
-use Rattle.pg_plain.specs.Forces.{is_string}
+use Rattle.pg_plain.specs.Strings.{is_string}
 use Rattle.pg_plain.specs.Walks.{is_row, goes_on, begins, longer, later}
 use Rattle.pg_plain.proofs.Tests.{and_first, and_second, both_true, same_tests, no_test, not_true, either_left, either_right}
 

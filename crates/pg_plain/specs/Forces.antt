@@ -43,7 +43,3 @@ value_force gives e = gives e.1
 
 abbrev pub cover_force : {X : Type 0} → (ℕ → X → Bool) → Pass → (List ℕ × ℕ) × X → ℕ
 cover_force knocks_out pass e = bit (knocks_out pass.level e.1 && within pass.len pass.dot e.0)
-
--- a place of 1 to 32 signs
-abbrev pub is_string : List ℕ × ℕ → Bool
-is_string k = nat_le 1 (length k.0) && nat_le (length k.0) 32

@@ -1,6 +1,11 @@
 //! The plain engine, over ordered maps.
 #![tactic(auto)]
 
-pub mod force;
-pub mod pass;
-pub mod walk;
+mod counts;
+pub mod engine;
+mod force;
+mod pass;
+mod places;
+mod walk;
+
+pub use engine::PlainEngine;

@@ -3,7 +3,8 @@ ghost use Rattle.std.specs.Prelude.{◌≡◌, ℕ, ◌+◌, ◌≤◌, ◌&&◌
 ghost use Rattle.std.specs.List.{list_all, list_any};
 ghost use Rattle.pg_types.specs.declared.limits.TheConstants.{WORD_LETTERS_MAX};
 ghost use Rattle.pg_patterns.specs.Values.{applies};
-ghost use Rattle.pg_plain.specs.Forces.{IsRoomy, Raises, RaisesAt, bit, values_of, covers_of, value_force, cover_force, within, is_string};
+ghost use Rattle.pg_plain.specs.Forces.{IsRoomy, Raises, RaisesAt, bit, values_of, covers_of, value_force, cover_force, within};
+ghost use Rattle.pg_plain.specs.Strings.{is_string};
 ghost use Rattle.pg_plain.specs.Walks.{is_row, goes_on, begins};
 
 use crate::force::Force;
