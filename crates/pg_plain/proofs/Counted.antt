@@ -1,5 +1,5 @@
 -- A weight added to a window, and the walk over the windows.
-use Rattle.std.proofs.Common.{◌≡◌, ℕ, ◌≤◌, Bool, true, false, cond, ◌&&◌, T, List, [], ◌∷◌, length, filter, Option, Some, None, is_some, unwrap_or, nat_le, nat_eq, nat_cmp, sym, refl, ap, subst, ◌∙◌}
+use Rattle.std.proofs.Common.{◌≡◌, ℕ, ◌≤◌, Bool, true, false, cond, ◌&&◌, T, List, [], ◌∷◌, length, Option, Some, None, is_some, unwrap_or, nat_eq, nat_cmp, sym, refl, ap, ◌∙◌}
 use Rattle.std.proofs.lemmas.Bool.{le-leb, eqb-true, eq-eqb}
 use Rattle.std.proofs.lemmas.List.Elements.{All-head, All-tail}
 use Rattle.std.specs.declared.cmp.Ordering.TheVariants.{Equal}
@@ -9,12 +9,12 @@ use Rattle.std.specs.BTreeMap.Range.{entries_between}
 use Rattle.std.specs.Cmp.Lexicographic.{slice_cmp, nat_list_cmp_total}
 use Rattle.std.specs.FinMap.{nat_cmp-IsAntisymmetric, slice_cmp-IsAntisymmetric}
 use Rattle.std.specs.FinMap.Entries.{put, find, is_sorted}
-use Rattle.std.specs.List.{All, list_all}
+use Rattle.std.specs.List.{list_all}
 use Rattle.std.specs.Map.{lookup, set_value}
 use Rattle.std.specs.Ordering.{is_lt}
 use Rattle.pg_types.specs.Signs.{is_sign}
 use Rattle.pg_select.specs.Meanings.{Counts, SignsWithin, sums_of, with_weight, with_sight, is_counted, above}
-use Rattle.pg_plain.proofs.Tests.{both_true}
+use Rattle.pg_plain.proofs.Bools.{both_true}
 use Rattle.pg_plain.proofs.Maps.{insert-put, lookup-find, set_value-put, all_put, find_good, above_next}
 
 pub same_window : (a b : List ℕ) → slice_cmp nat_cmp a b ≡ Equal → a ≡ b

@@ -2,14 +2,14 @@
 use Rattle.std.proofs.Common.{◌≡◌, ℕ, ◌+◌, ◌-◌, ◌<◌, ◌≤◌, Bool, true, false, cond, ◌&&◌, ◌||◌, List, [], ◌∷◌, length, take, drop, get_or, replicate, max, nat_le, nat_eq, sym, refl, ap, subst, ◌∙◌, arith}
 use Rattle.std.proofs.lemmas.Bool.{leb-true, le-leb}
 use Rattle.std.proofs.lemmas.List.{length-take-le, length-drop, take-take, drop-drop, drop-take, get_or-replicate}
-use Rattle.std.specs.Cmp.Lexicographic.{pointwise, bytes_decides}
+use Rattle.std.specs.Cmp.Lexicographic.{bytes_decides}
 use Rattle.std.specs.List.{starts_with, list_all, list_any}
 use Rattle.pg_types.specs.declared.limits.TheConstants.{WORD_LETTERS_MAX}
 use Rattle.pg_patterns.specs.Values.{stands_at, applies, best, value_at, is_entry}
 use Rattle.pg_select.specs.Windows.{Hopeless, window, fits, covered}
 use Rattle.pg_plain.specs.Strings.{is_string}
 use Rattle.pg_plain.specs.Forces.{greatest, bit, within}
-use Rattle.pg_plain.proofs.Tests.{and_first, and_second, both_true, same_tests, all_weaker}
+use Rattle.pg_plain.proofs.Bools.{and_first, and_second, both_true, same_tests, all_weaker}
 
 entry_string : (e : (List ℕ × ℕ) × ℕ) → is_entry e ≡ true → is_string e.0 ≡ true
 entry_string e h = and_first _ _ (and_first _ _ (and_first _ _ (and_first _ _ h)))
@@ -55,7 +55,7 @@ cover_law w p len dot k fit = same_tests _ _ out back
         let space : p - dot + len ≤ length w = room in
         both_true (applies w p k) (within len dot k)
         (both_true (nat_le k.1 p) (stands_at k.0 w (p - k.1)) (le-leb k.1 p (omega arith))
-         (both_true (nat_le ((p - k.1) + length k.0) (length w)) (starts_with nat_eq (drop (p - k.1) w) k.0) (le-leb ((p - k.1) + length k.0) (length w) (omega arith)) ((bytes_decides k.0 (take (length k.0) (drop (p - k.1) w))).1 there)))
+        (both_true (nat_le ((p - k.1) + length k.0) (length w)) (starts_with nat_eq (drop (p - k.1) w) k.0) (le-leb ((p - k.1) + length k.0) (length w) (omega arith)) ((bytes_decides k.0 (take (length k.0) (drop (p - k.1) w))).1 there)))
         (both_true (nat_le k.1 dot) (nat_le (length k.0 + dot) (len + k.1)) (le-leb k.1 dot low) (le-leb (length k.0 + dot) (len + k.1) (omega arith)))
 
     back : (applies w p k && within len dot k) ≡ true → applies (window w p len dot) dot k ≡ true
@@ -70,7 +70,7 @@ cover_law w p len dot k fit = same_tests _ _ out back
         let there : k.0 ≡ take (length k.0) (drop (dot - k.1) (window w p len dot)) = signs ∙ sym (inner w p len dot k low high fitting) in
         both_true (nat_le k.1 dot) (stands_at k.0 (window w p len dot) (dot - k.1)) (le-leb k.1 dot low)
         (both_true (nat_le ((dot - k.1) + length k.0) (length (window w p len dot))) (starts_with nat_eq (drop (dot - k.1) (window w p len dot)) k.0)
-         (le-leb ((dot - k.1) + length k.0) (length (window w p len dot)) (subst (λ x. (dot - k.1) + length k.0 ≤ x) (sym size) fitting)) ((bytes_decides k.0 (take (length k.0) (drop (dot - k.1) (window w p len dot)))).1 there))
+        (le-leb ((dot - k.1) + length k.0) (length (window w p len dot)) (subst (λ x. (dot - k.1) + length k.0 ≤ x) (sym size) fitting)) ((bytes_decides k.0 (take (length k.0) (drop (dot - k.1) (window w p len dot)))).1 there))
 
 bit_or : (a b c : Bool) → bit ((a && b) || c) ≡ max (cond a (bit b) 0) (bit c)
 bit_or true true true = refl
@@ -145,9 +145,9 @@ covers_end P H level len dot w x y z long start first second p inside fit =
     let law : (k : List ℕ × ℕ) → applies (window w p len dot) dot k ≡ (applies w p k && within len dot k) = λ k. cover_law w p len dot k fit in
     let patterns : bit (list_any (λ e. nat_le level e.1 && applies (window w p len dot) dot e.0) P) ≡ greatest (λ e. bit (nat_le level e.1 && within len dot e.0)) (applies w p) P =
     any_bit (λ (e : (List ℕ × ℕ) × ℕ). nat_le level e.1 && applies (window w p len dot) dot e.0) (λ (e : (List ℕ × ℕ) × ℕ). nat_le level e.1 && within len dot e.0) (applies w p) P
-        (λ e. ap (λ b. nat_le level e.1 && b) (law e.0) ∙ swap (nat_le level e.1) (applies w p e.0) (within len dot e.0)) in
+    (λ e. ap (λ b. nat_le level e.1 && b) (law e.0) ∙ swap (nat_le level e.1) (applies w p e.0) (within len dot e.0)) in
     let hopeless : bit (list_any (λ e. applies (window w p len dot) dot e.0) H) ≡ greatest (λ e. bit (within len dot e.0)) (applies w p) H =
     any_bit (λ (e : (List ℕ × ℕ) × Unit {0}). applies (window w p len dot) dot e.0) (λ (e : (List ℕ × ℕ) × Unit {0}). within len dot e.0) (applies w p) H (λ e. law e.0) in
     same_bits (get_or z p false) (covered level P H (window w p len dot) dot)
     (joined_bits (list_any (λ e. nat_le level e.1 && applies (window w p len dot) dot e.0) P) (list_any (λ e. applies (window w p len dot) dot e.0) H) (bit (get_or x p false)) (bit (get_or y p false)) (bit (get_or z p false))
-     (start_cover x p start room) (first p room ∙ ap (λ n. max (bit (get_or x p false)) n) (sym patterns)) (second p room ∙ ap (λ n. max (bit (get_or y p false)) n) (sym hopeless)))
+    (start_cover x p start room) (first p room ∙ ap (λ n. max (bit (get_or x p false)) n) (sym patterns)) (second p room ∙ ap (λ n. max (bit (get_or y p false)) n) (sym hopeless)))

@@ -1,15 +1,15 @@
 -- Places that are entered into a map.
-use Rattle.std.proofs.Common.{◌≡◌, ℕ, suc, ◌+◌, ◌≤◌, Bool, true, false, ◌&&◌, T, List, [], ◌∷◌, ◌++◌, length, take, max, Option, Some, None, unwrap_or, slice_get, nat_le, sym, refl, ap, subst, ◌∙◌, arith, add-one}
+use Rattle.std.proofs.Common.{◌≡◌, ℕ, ◌+◌, ◌≤◌, true, List, [], ◌++◌, length, take, max, Option, Some, None, unwrap_or, slice_get, sym, refl, ap, ◌∙◌, arith, add-one}
 use Rattle.std.proofs.lemmas.Bool.{leb-true, le-leb}
 use Rattle.std.proofs.lemmas.List.{append-nil}
 use Rattle.std.specs.BTreeMap.{insert_entry}
-use Rattle.std.specs.FinMap.Entries.{put, find, is_sorted}
+use Rattle.std.specs.FinMap.Entries.{put, find}
 use Rattle.std.specs.List.{list_all}
 use Rattle.pg_types.specs.Signs.{is_sign}
 use Rattle.pg_patterns.specs.Places.{place_cmp, place_total, place_exact}
 use Rattle.pg_patterns.specs.Values.{raise, value_of, is_entry, IsPatternMap}
 use Rattle.pg_plain.specs.Strings.{is_string}
-use Rattle.pg_plain.proofs.Tests.{and_first, and_second, both_true}
+use Rattle.pg_plain.proofs.Bools.{and_first, and_second, both_true}
 use Rattle.pg_plain.proofs.Maps.{insert-put, find_good, all_put, put_next}
 
 -- a value that is raised in a map

@@ -5,7 +5,7 @@ use Rattle.std.specs.Cmp.Lexicographic.{pointwise}
 use Rattle.pg_types.specs.declared.limits.TheConstants.{WORD_LETTERS_MAX}
 use Rattle.pg_plain.specs.Forces.{greatest, Raises, RaisesAt}
 use Rattle.pg_plain.specs.Walks.{is_row}
-use Rattle.pg_plain.proofs.Tests.{and_first, and_second, no_test}
+use Rattle.pg_plain.proofs.Bools.{and_first, and_second, no_test}
 
 joined_force : (a b : Bool) (n x y : ℕ) → max (cond (a || b) n 0) (max x y) ≡ max (max (cond a n 0) x) (max (cond b n 0) y)
 joined_force true true n x y = omega arith

@@ -1,4 +1,4 @@
-pub mod Tests
+pub mod Bools
 pub mod Greatest
 pub mod Orders
 pub mod Maps

@@ -1,15 +1,15 @@
 -- What the clauses of an ordered map say of its list of entries.
-use Rattle.std.proofs.Common.{◌≡◌, ℕ, suc, zero, ◌<◌, Bool, true, false, cond, ◌&&◌, T, List, [], ◌∷◌, take, map, Option, Some, None, slice_get, sym, refl, ap, subst, ◌∙◌}
+use Rattle.std.proofs.Common.{◌≡◌, ℕ, suc, zero, Bool, true, false, cond, T, List, [], ◌∷◌, take, Some, None, slice_get, sym, refl, ap, subst, ◌∙◌}
 use Rattle.std.specs.declared.cmp.Ordering.{Ordering}
 use Rattle.std.specs.declared.cmp.Ordering.TheVariants.{Less, Equal, Greater}
-use Rattle.std.specs.Ordering.{is_lt, is_eq, is_gt, eq_by_cmp, match_ordering, ordering_reverse}
+use Rattle.std.specs.Ordering.{is_lt, is_eq, match_ordering, ordering_reverse}
 use Rattle.std.specs.Cmp.{IsTotalOrder, tied_itself}
 use Rattle.std.specs.FinMap.Entries.{put, find, is_sorted, below_all, by_order}
 use Rattle.std.specs.List.{AllByRecursion, filter, list_all}
 use Rattle.std.specs.List.Sorted.{IsStrictlySortedBy}
 use Rattle.std.specs.Map.{keys_of, lookup, set_value}
 use Rattle.std.specs.BTreeMap.{insert_entry, is_at}
-use Rattle.pg_plain.proofs.Tests.{and_first, and_second, both_true}
+use Rattle.pg_plain.proofs.Bools.{and_first, and_second, both_true}
 use Rattle.pg_plain.proofs.Orders.{is_true, holds, first_half, second_half}
 
 less_is : (r : Ordering) → is_lt r ≡ true → r ≡ Less

@@ -1,5 +1,5 @@
 -- The entries of one string, from its first dot on.
-use Rattle.std.proofs.Common.{◌≡◌, ℕ, ◌+◌, Bool, true, false, not, ◌&&◌, T, List, [], ◌∷◌, max, ◌||◌, nat_eq, nat_cmp, sym, refl, ap, subst, ◌∙◌}
+use Rattle.std.proofs.Common.{◌≡◌, ℕ, ◌+◌, true, false, not, T, List, [], ◌∷◌, max, ◌||◌, nat_eq, nat_cmp, sym, refl, ap, subst, ◌∙◌}
 use Rattle.std.specs.declared.ops.Bound.TheVariants.{Included, Unbounded}
 use Rattle.std.specs.BTreeMap.Range.{entries_between, range_contains}
 use Rattle.std.specs.Cmp.Lexicographic.{slice_cmp, pointwise, bytes_decides}
@@ -10,7 +10,7 @@ use Rattle.pg_patterns.specs.Places.{place_cmp}
 use Rattle.pg_select.specs.Positions.{Positions}
 use Rattle.pg_plain.specs.Forces.{Raises, RaisesAt, IsRoomy, values_of, covers_of}
 use Rattle.pg_plain.specs.Walks.{is_row, goes_on}
-use Rattle.pg_plain.proofs.Tests.{and_first, and_second, both_true, no_test, not_true, not_false, either_false, any_none, any_filter, all_filter, all_weaker}
+use Rattle.pg_plain.proofs.Bools.{and_first, and_second, both_true, no_test, not_true, not_false, any_none, any_filter, all_filter, all_weaker}
 use Rattle.pg_plain.proofs.Greatest.{Level, greatest-filter, level_end, level_first}
 use Rattle.pg_plain.proofs.Orders.{second_half, first_half, upto_itself, prefix_upto, prefix_between, both_upto, from_string, string_from, behind}
 
@@ -72,10 +72,10 @@ module _ {X : Type 0} (value cover : (List ℕ × ℕ) × X → ℕ) (q : List �
   other_string : (e : (List ℕ × ℕ) × X) → is_gt (slice_cmp nat_cmp q e.0.0) ≡ false → pointwise nat_eq e.0.0 q ≡ false → (p : ℕ) (k : List ℕ × ℕ) → not (is_gt (slice_cmp nat_cmp e.0.0 k.0)) ≡ true → is_row q i p k ≡ false
   other_string e low other p k upto =
       no_test (is_row q i p k) (λ row.
-          let there : k.0 ≡ q = same_is k.0 q (and_first _ _ row) in
-          let high : is_gt (slice_cmp nat_cmp e.0.0 q) ≡ false = subst (λ r. is_gt (slice_cmp nat_cmp e.0.0 r) ≡ false) there (not_false _ upto) in
-          let same : e.0.0 ≡ q = both_upto e.0.0 q high low in
-          sym other ∙ (bytes_decides e.0.0 q).1 same)
+      let there : k.0 ≡ q = same_is k.0 q (and_first _ _ row) in
+      let high : is_gt (slice_cmp nat_cmp e.0.0 q) ≡ false = subst (λ r. is_gt (slice_cmp nat_cmp e.0.0 r) ≡ false) there (not_false _ upto) in
+      let same : e.0.0 ≡ q = both_upto e.0.0 q high low in
+      sym other ∙ (bytes_decides e.0.0 q).1 same)
 
   pub row_stops : (e : (List ℕ × ℕ) × X) (rest left : List ((List ℕ × ℕ) × X)) (before now : Positions) → left ≡ e ∷ rest → RowLeft value cover q i es left before now → pointwise nat_eq e.0.0 q ≡ false → RowDone value cover q i es before now
   row_stops e rest left before now cut held other =
@@ -94,7 +94,7 @@ module _ {X : Type 0} (value cover : (List ℕ × ℕ) × X → ℕ) (q : List �
       let low : is_gt (slice_cmp nat_cmp q e.0.0) ≡ false = string_from q e.0 (and_first _ _ here.from) in
       let sound : list_all (λ (y : (List ℕ × ℕ) × X). not (is_gt (slice_cmp nat_cmp e.0.0 y.0.0))) (e ∷ rest) ≡ true = both_true _ _ (not_true _ (upto_itself e.0.0)) (behind e rest (first_half _ _ here.sorted)) in
       sym here.going ∙ any_none (λ (y : (List ℕ × ℕ) × X). not (is_gt (slice_cmp nat_cmp e.0.0 y.0.0))) (λ (y : (List ℕ × ℕ) × X). goes_on q y.0.0) (e ∷ rest) sound
-          (λ y upto. no_test (goes_on q y.0.0) (λ goes. sym apart ∙ prefix_between q e.0.0 y.0.0 low (not_false _ upto) (and_first _ _ goes)))
+      (λ y upto. no_test (goes_on q y.0.0) (λ goes. sym apart ∙ prefix_between q e.0.0 y.0.0 low (not_false _ upto) (and_first _ _ goes)))
 
   pub row_ends : (left : List ((List ℕ × ℕ) × X)) (before now : Positions) → left ≡ [] → RowLeft value cover q i es left before now → RowDone value cover q i es before now
   row_ends left before now cut held =

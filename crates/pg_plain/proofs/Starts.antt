@@ -1,12 +1,12 @@
 -- The entries of a word, taken in from string to string and from place to place.
-use Rattle.std.proofs.Common.{◌≡◌, ℕ, ◌+◌, ◌-◌, ◌<◌, ◌≤◌, Bool, true, false, not, ◌&&◌, List, length, take, drop, sym, refl, ap, subst, ◌∙◌, arith}
+use Rattle.std.proofs.Common.{◌≡◌, ℕ, ◌+◌, ◌-◌, ◌<◌, ◌≤◌, Bool, true, false, not, List, length, take, drop, ap, subst, ◌∙◌, arith}
 use Rattle.std.specs.List.{list_all, list_any}
 use Rattle.pg_patterns.specs.Values.{applies}
 use Rattle.pg_select.specs.Positions.{Positions}
 use Rattle.pg_plain.specs.Forces.{Raises, IsRoomy, values_of, covers_of}
 use Rattle.pg_plain.specs.Strings.{is_string}
 use Rattle.pg_plain.specs.Walks.{is_row, goes_on, begins, longer, later}
-use Rattle.pg_plain.proofs.Tests.{and_first, and_second, not_false, all_not}
+use Rattle.pg_plain.proofs.Bools.{not_false, all_not}
 use Rattle.pg_plain.proofs.Greatest.{Level, level_step, level_end, level_start}
 use Rattle.pg_plain.proofs.Strings.{longer_step, longer_first, longer_last, longer_out, longer_stops, later_step, later_first, later_last}
 

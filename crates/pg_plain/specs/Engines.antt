@@ -1,5 +1,5 @@
 -- What a plain engine means.
-use Rattle.std.specs.Prelude.{ℕ, true, List, [], Option, None}
+use Rattle.std.specs.Prelude.{ℕ, true, List, [], None}
 use Rattle.pg_select.specs.Meanings.{Meaning}
 use Rattle.pg_plain.specs.declared.engine.PlainEngine.{PlainEngine}
 

@@ -65,10 +65,7 @@ fn added(sums: (u64, u64), good: bool, weight: u64) -> (u64, u64)
 
 /// Moves the cursor to the least window that is greater, and gives its sums; none where there is no such window. It takes no
 /// memory.
-pub fn next_behind(
-    counts: &BTreeMap<Cursor, (u64, u64)>,
-    at: &mut Cursor,
-) -> Option<(u64, u64)>
+pub fn next_behind(counts: &BTreeMap<Cursor, (u64, u64)>, at: &mut Cursor) -> Option<(u64, u64)>
     ensures { MatchOption result ((above at.old counts.now.entries ≡ []) × (at.new ≡ at.old)) (λ sums. above at.old counts.now.entries ≡ (at.new, sums) ∷ above at.new counts.now.entries) }
 {
     let mut behind = counts.range((Bound::Excluded(&*at), Bound::Unbounded));

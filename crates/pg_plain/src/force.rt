@@ -4,6 +4,7 @@ ghost use Rattle.std.specs.Prelude.{◌≡◌, ℕ, Bool};
 /// What an entry does at the position of its dot in a word: it gives a value, and it may cover the window there.
 pub trait Force {
     ghost gives: { Self → ℕ };
+
     ghost knocks_out: { ℕ → Self → Bool };
 
     /// The value that it gives, 0 where it gives none.

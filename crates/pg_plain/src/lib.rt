@@ -6,6 +6,8 @@ pub mod engine;
 mod force;
 mod pass;
 mod places;
+#[cfg(test)]
+mod tests;
 mod walk;
 
 pub use engine::PlainEngine;

@@ -1,5 +1,5 @@
 //! The entries that apply in a word.
-ghost use Rattle.std.specs.Prelude.{◌≡◌, ℕ, ◌+◌, ◌≤◌, ◌&&◌, ◌||◌, true, false, length};
+ghost use Rattle.std.specs.Prelude.{◌≡◌, ℕ, ◌+◌, ◌≤◌, ◌&&◌, true, false, length};
 ghost use Rattle.std.specs.List.{list_all, list_any};
 ghost use Rattle.pg_types.specs.declared.limits.TheConstants.{WORD_LETTERS_MAX};
 ghost use Rattle.pg_patterns.specs.Values.{applies};
@@ -35,13 +35,7 @@ pub fn walk<F: Force>(map: &BTreeMap<Place, F>, w: &[Sign], pass: &Pass, out: &m
 }
 
 /// Takes in the entries whose signs stand in the word from `i` on, the shorter ones first.
-fn start<F: Force>(
-    map: &BTreeMap<Place, F>,
-    w: &[Sign],
-    i: usize,
-    pass: &Pass,
-    out: &mut WordState,
-)
+fn start<F: Force>(map: &BTreeMap<Place, F>, w: &[Sign], i: usize, pass: &Pass, out: &mut WordState)
     requires len { length w.now ≤ WORD_LETTERS_MAX + 2 }
     requires inside { i ≤ length w.now }
     requires strings { list_all (λ e. is_string e.0) map.now.entries ≡ true }
@@ -98,16 +92,9 @@ fn take_in<F: Force>(place: &Place, force: &F, i: usize, pass: &Pass, out: &mut 
     let p = i + usize::from(place.dot());
     if p < ROOM {
         let value = out.value(p).max(force.value());
-        let covered = either(out.covered(p), covers(place, force, pass));
+        let covered = out.covered(p) | covers(place, force, pass);
         out.set(p, value, covered);
     }
-}
-
-/// Whether one of two tests holds.
-fn either(a: bool, b: bool) -> bool
-    ensures { result ≡ (a || b) }
-{
-    a || b
 }
 
 /// Whether an entry covers the window at its dot in the pass.
@@ -121,7 +108,7 @@ fn covers<F: Force>(place: &Place, force: &F, pass: &Pass) -> bool
 fn is_within(place: &Place, pass: &Pass) -> bool
     ensures { result ≡ within pass.now.len pass.now.dot place.now }
 {
-    let ends_within =
-        place.signs().len() + usize::from(pass.dot) <= usize::from(pass.len) + usize::from(place.dot());
+    let ends_within = place.signs().len() + usize::from(pass.dot)
+        <= usize::from(pass.len) + usize::from(place.dot());
     place.dot() <= pass.dot && ends_within
 }

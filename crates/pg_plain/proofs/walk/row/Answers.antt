@@ -1,11 +1,11 @@
-use Rattle.std.proofs.Common.{◌≡◌, false, true, nat_eq, sym, ap, subst, ◌∙◌}
+use Rattle.std.proofs.Common.{◌≡◌, false, true, nat_eq, sym, subst, ◌∙◌}
 use Rattle.std.specs.Cmp.Lexicographic.{pointwise}
 use Rattle.std.specs.List.{starts_with}
 use Rattle.pg_patterns.specs.Places.{place_cmp}
 use Rattle.pg_plain.specs.Forces.{value_force, cover_force}
-use Rattle.pg_plain.proofs.Tests.{not_false, not_not}
+use Rattle.pg_plain.proofs.Bools.{not_false, not_not}
 use Rattle.pg_plain.proofs.Maps.{sorted_from}
-use Rattle.pg_plain.proofs.Rows.{RowDone, row_begins, row_steps, row_stops, row_stops_ends}
+use Rattle.pg_plain.proofs.Rows.{row_begins, row_steps, row_stops, row_stops_ends}
 use Rattle.pg_plain.proofs.walk.row.Goals as goal
 
 pub loop-place-init : goal.loop-place-init

@@ -1,8 +1,7 @@
-use Rattle.std.proofs.Common.{◌≡◌, ◌+◌, ◌-◌, ◌<◌, ◌≤◌, false, length, take, drop, refl, sym, subst, ◌∙◌, arith}
-use Rattle.std.specs.List.{list_any}
+use Rattle.std.proofs.Common.{◌≡◌, ◌+◌, ◌-◌, ◌<◌, ◌≤◌, length, take, drop, refl, subst, arith}
 use Rattle.pg_plain.specs.Forces.{value_force, cover_force}
-use Rattle.pg_plain.specs.Walks.{goes_on, longer, begins}
-use Rattle.pg_plain.proofs.Starts.{Left, Done, start_begins, start_steps, start_out, start_stops, start_ends}
+use Rattle.pg_plain.specs.Walks.{longer, begins}
+use Rattle.pg_plain.proofs.Starts.{Left, start_begins, start_steps, start_out, start_stops, start_ends}
 use Rattle.pg_plain.proofs.walk.start.Goals as goal
 
 pub loop-n-init : goal.loop-n-init

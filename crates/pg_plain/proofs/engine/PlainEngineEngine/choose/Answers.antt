@@ -9,4 +9,4 @@ invariant_of-self-clause-entries c =
     let size : length c.signs.result.now ≡ c.args.self.now.pass.len = ap (λ x. length x) c.signs.ensures.value ∙ counted_len c.args.self.now.counts.entries c.args.at.now c.args.self.now.pass.len c.requires c.args.self.now.windows in
     c.raise_in.ensures.kept c.args.self.now.entries
     (subst (λ k. is_entry (k, c.args.self.now.pass.level) ≡ true) (sym c.new-place.ensures)
-     (window_entry c.signs.result.now c.args.self.now.pass.dot c.args.self.now.pass.level c.args.self.now.pass.len size c.signs.ensures.signs c.args.self.now.len.0 c.args.self.now.len.1 c.args.self.now.dot c.args.self.now.level.0 c.args.self.now.level.1))
+    (window_entry c.signs.result.now c.args.self.now.pass.dot c.args.self.now.pass.level c.args.self.now.pass.len size c.signs.ensures.signs c.args.self.now.len.0 c.args.self.now.len.1 c.args.self.now.dot c.args.self.now.level.0 c.args.self.now.level.1))

@@ -1,5 +1,5 @@
 -- Tests, and lists whose elements pass them.
-use Rattle.std.proofs.Common.{◌≡◌, ℕ, Bool, true, false, cond, not, ◌&&◌, ◌||◌, List, [], ◌∷◌, sym, refl, ap, ◌∙◌}
+use Rattle.std.proofs.Common.{◌≡◌, Bool, true, false, cond, not, ◌&&◌, ◌||◌, List, [], ◌∷◌, sym, refl, ap, ◌∙◌}
 use Rattle.std.specs.List.{filter, list_all, list_any}
 
 pub and_first : (a b : Bool) → (a && b) ≡ true → a ≡ true
