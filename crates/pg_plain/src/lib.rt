@@ -1,0 +1,13 @@
+//! The plain engine, over ordered maps.
+#![tactic(auto)]
+
+mod counts;
+pub mod engine;
+mod force;
+mod pass;
+mod places;
+#[cfg(test)]
+mod tests;
+mod walk;
+
+pub use engine::PlainEngine;
