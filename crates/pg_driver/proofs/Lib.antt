@@ -4,3 +4,6 @@ pub mod MarkSteps
 pub mod Puts
 pub mod Rooms
 pub mod Walks
+pub mod WordSteps
+pub mod TallyLaw
+pub mod Choices

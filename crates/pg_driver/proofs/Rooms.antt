@@ -29,6 +29,10 @@ weight_with sums false weight = omega arith
 pub room_left : (old new : Counts) (n k m : ℕ) → HasRoom old n → TookRoom old new k → k + m ≤ n → HasRoom new m
 room_left old new n k m room took within = record { sorted = took.sorted; filled = took.filled; few = omega (arith, room.few, took.few); light = omega (arith, room.light, took.light) }
 
+-- less room is left too
+pub room_less : (counts : Counts) (n m : ℕ) → HasRoom counts n → m ≤ n → HasRoom counts m
+room_less counts n m room less = record { sorted = room.sorted; filled = room.filled; few = omega (arith, room.few); light = omega (arith, room.light) }
+
 -- no position
 pub took_none : (counts : Counts) (n k : ℕ) → HasRoom counts n → TookRoom counts counts k
 took_none counts n k room = record { sorted = room.sorted; filled = room.filled; few = omega arith; light = omega arith }

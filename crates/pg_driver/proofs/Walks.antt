@@ -1,9 +1,7 @@
 -- A step of the walk over the words of a pass.
-use Rattle.std.proofs.Common.{◌≡◌, ℕ, ◌+◌, ◌-◌, ◌<◌, ◌≤◌, Some, slice_get, drop, List, [], ◌∷◌, ◌++◌, length, map, fold, refl, sym, ap, subst, ◌∙◌, arith}
+use Rattle.std.proofs.Common.{◌≡◌, ℕ, ◌+◌, ◌-◌, ◌<◌, ◌≤◌, List, [], ◌∷◌, ◌++◌, length, map, fold, refl, sym, ap, subst, ◌∙◌, arith}
 use Rattle.std.specs.List.{flat_map, range_with_len}
 use Rattle.std.proofs.lemmas.List.Sums.{fold-append}
-use Rattle.std.proofs.lemmas.List.{drop_more}
-use Rattle.std.proofs.lemmas.Option.{slice_get_within, get_or_from_slice_get}
 use Rattle.pg_dict.specs.Word.{Word, IsWord}
 use Rattle.pg_select.specs.Meanings.{Meaning, Counts, with_sight}
 use Rattle.pg_select.specs.Positions.{Positions}
@@ -51,10 +49,6 @@ word_step m0 m n whole minima w ws kept is left =
     let f : Word → List Sight = sights_in minima m0.pass m0.patterns m0.hopeless in
     let same : n ≡ counting m (f w) = is ∙ ap (λ (x : Meaning). counting m (sights_in minima x.pass x.patterns x.hopeless w)) kept in
     counted_step f m n whole w ws same left
-
--- the place of an element, and what stands behind it
-pub drop_place : {X : Type 0} (xs : List X) (i : ℕ) (x : X) → slice_get xs i ≡ Some x → drop i xs ≡ x ∷ drop (i + 1) xs
-drop_place xs i x at = drop_more xs i x (slice_get_within xs i x at) ∙ ap (λ y. y ∷ drop (i + 1) xs) (get_or_from_slice_get xs i x x at)
 
 -- the room that a position took
 pub room_on : (m0 m n : Meaning) (w : Word) (p k size : ℕ) → 1 ≤ m.pass.len → IsWord w → p < length w.signs → HasRoom m0.counts size → k < size → TookRoom m0.counts m.counts k → n ≡ counting m (sight_at m.pass m.patterns m.hopeless w p) → TookRoom m0.counts n.counts (k + 1)
