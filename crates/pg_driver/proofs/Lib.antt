@@ -7,3 +7,7 @@ pub mod Walks
 pub mod WordSteps
 pub mod TallyLaw
 pub mod Choices
+pub mod Layouts
+pub mod PassSteps
+pub mod LevelSteps
+pub mod RunSteps

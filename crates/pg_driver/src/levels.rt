@@ -36,6 +36,8 @@ fn run_levels<E: Engine>(
     ensures signs { (E.meaning e.new).signs ≡ (E.meaning e.old).signs }
 {
     let start = p.start();
+    // The last level is at most 9, and so is the number of levels.
+    let _last = p.finish();
     let count = p.count();
     'levels: for i in 0..count {
         run_level(e, d, t, p.level(i), start + i as u8, records)?;
