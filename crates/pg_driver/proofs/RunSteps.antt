@@ -10,11 +10,17 @@ use Rattle.pg_select.specs.Meanings.{Meaning, IsLayout, ended}
 use Rattle.pg_select.specs.Sums.{totals}
 use Rattle.pg_select.specs.Windows.{Hopeless as HopelessPlaces}
 use Rattle.pg_driver.specs.declared.records.LevelRecord.{LevelRecord}
-use Rattle.pg_driver.specs.Runs.{LevelLine, LevelState, Run, Source, after_level, after_pass, ended_level, layout_with_tails, level_start, passes_of, state_at_end}
+use Rattle.pg_driver.specs.Runs.{LevelLine, LevelState, Run, Source, after_level, after_pass, ended_level, layout_with_tails, level_start, passes_of, run_start, state_at_end}
 use Rattle.pg_driver.specs.Sound.{Recorded, with_level}
 use Rattle.pg_driver.specs.Views.{level_line, level_state_of, numbers_with_tails, pass_line, run_of, state_of}
 use Rattle.pg_driver.proofs.Layouts.{tails_are}
 use Rattle.pg_driver.proofs.WordSteps.{drop_place}
+
+-- a run of an engine with nothing hopeless begins so
+pub run_begins : (m : Meaning) (r : Recorded) → m.hopeless ≡ [] → r ≡ record { passes = []; levels = []; chosen = 0 } → run_of m r.passes r.levels ≡ run_start m.patterns m.families
+run_begins m r none is =
+    ap (λ (x : Recorded). run_of m x.passes x.levels) is
+      ∙ ap (λ (H : HopelessPlaces). record { state = record { patterns = m.patterns; hopeless = H; families = m.families }; passes = []; levels = [] }) none
 
 -- a level of an engine with nothing hopeless begins so
 level_begins : (m : Meaning) (r : Recorded) → m.hopeless ≡ [] → level_state_of m r.passes 0 ≡ level_start (run_of m r.passes r.levels)
