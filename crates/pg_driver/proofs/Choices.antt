@@ -1,5 +1,5 @@
 -- A step of the choice among the candidates.
-use Rattle.std.proofs.Common.{◌≡◌, ℕ, ◌+◌, ◌*◌, ◌≤◌, Bool, true, false, cond, not, List, [], ◌∷◌, ◌++◌, length, map, fold, filter, is_some, Option, Some, None, refl, sym, ap, ◌∙◌, arith}
+use Rattle.std.proofs.Common.{◌≡◌, ℕ, ◌+◌, ◌≤◌, Bool, true, false, cond, not, List, [], ◌∷◌, ◌++◌, length, map, fold, is_some, Option, Some, None, refl, sym, ap, ◌∙◌, arith}
 use Rattle.std.specs.declared.cmp.Ordering.{Ordering}
 use Rattle.std.specs.Ordering.{nat_cmp, is_lt, is_eq, eq_by_cmp}
 use Rattle.std.specs.Option.{option_map}
@@ -21,11 +21,9 @@ use Rattle.pg_select.specs.Windows.{Hopeless as HopelessPlaces}
 use Rattle.pg_driver.specs.declared.candidates.Settled.{Settled}
 use Rattle.pg_driver.specs.Counting.{is_filled, weight_in}
 use Rattle.pg_driver.specs.Runs.{State, state_after, chosen_of, hopeless_of, settled_of, is_chosen, is_hopeless, is_left, fate}
+use Rattle.pg_driver.proofs.Puts.{cmp}
 use Rattle.pg_driver.specs.Settling.{candidate_of, with_candidates, Settles}
 use Rattle.pg_driver.specs.Views.{state_of}
-
-abbrev cmp : List ℕ → List ℕ → Ordering
-cmp = slice_cmp nat_cmp
 
 abbrev Entry : Type 0
 Entry = List ℕ × (ℕ × ℕ)
@@ -78,9 +76,9 @@ families_append signs xs ys (Some fs) = ap (λ (gs : Families). Some gs) (fold-a
 pub state_append : (signs : ℕ) (level : LevelParams) (pass : Pass) (s : State) (xs ys : List Candidate) → state_after signs level pass s (xs ++ ys) ≡ state_after signs level pass (state_after signs level pass s xs) ys
 state_append signs level pass s xs ys =
     same_states _ _ _ _ _ _
-      (ap (fold (λ P (c : Candidate). raise P (c.window, pass.dot) pass.level) s.patterns) (filter-append (λ c. is_chosen (fate level c)) xs ys) ∙ fold-append (λ P (c : Candidate). raise P (c.window, pass.dot) pass.level) s.patterns (chosen_of level xs) (chosen_of level ys))
-      (ap (fold (λ H (c : Candidate). put place_cmp (c.window, pass.dot) (tt {0}) H) s.hopeless) (filter-append (λ c. is_hopeless (fate level c)) xs ys) ∙ fold-append (λ H (c : Candidate). put place_cmp (c.window, pass.dot) (tt {0}) H) s.hopeless (hopeless_of level xs) (hopeless_of level ys))
-      (ap (λ (cs : List Candidate). option_map (λ fs. fold (λ fs c. enter signs fs c.window) fs cs) s.families) (filter-append (λ c. not (is_left (fate level c))) xs ys) ∙ families_append signs (settled_of level xs) (settled_of level ys) s.families)
+    (ap (fold (λ P (c : Candidate). raise P (c.window, pass.dot) pass.level) s.patterns) (filter-append (λ c. is_chosen (fate level c)) xs ys) ∙ fold-append (λ P (c : Candidate). raise P (c.window, pass.dot) pass.level) s.patterns (chosen_of level xs) (chosen_of level ys))
+    (ap (fold (λ H (c : Candidate). put place_cmp (c.window, pass.dot) (tt {0}) H) s.hopeless) (filter-append (λ c. is_hopeless (fate level c)) xs ys) ∙ fold-append (λ H (c : Candidate). put place_cmp (c.window, pass.dot) (tt {0}) H) s.hopeless (hopeless_of level xs) (hopeless_of level ys))
+    (ap (λ (cs : List Candidate). option_map (λ fs. fold (λ fs c. enter signs fs c.window) fs cs) s.families) (filter-append (λ c. not (is_left (fate level c))) xs ys) ∙ families_append signs (settled_of level xs) (settled_of level ys) s.families)
 
 families_none : (o : Option Families) → option_map (λ fs. fs) o ≡ o
 families_none None = refl
@@ -101,11 +99,11 @@ numbers_append level s xs ys =
     let chosen = filter-append (λ (c : Candidate). is_chosen (fate level c)) xs ys in
     let hopeless = filter-append (λ (c : Candidate). is_hopeless (fate level c)) xs ys in
     same_numbers _ _ _ _ _ _ _ _ _ _
-      (omega (arith, length-append xs ys))
-      (omega (arith, ap (λ (cs : List Candidate). length cs) chosen, length-append (chosen_of level xs) (chosen_of level ys)))
-      (omega (arith, ap (λ (cs : List Candidate). length cs) hopeless, length-append (hopeless_of level xs) (hopeless_of level ys)))
-      (omega (arith, ap (λ (cs : List Candidate). sum_by (λ c. c.good) cs) chosen, sum_by-append (λ (c : Candidate). c.good) (chosen_of level xs) (chosen_of level ys)))
-      (omega (arith, ap (λ (cs : List Candidate). sum_by (λ c. c.bad) cs) chosen, sum_by-append (λ (c : Candidate). c.bad) (chosen_of level xs) (chosen_of level ys)))
+    (omega (arith, length-append xs ys))
+    (omega (arith, ap (λ (cs : List Candidate). length cs) chosen, length-append (chosen_of level xs) (chosen_of level ys)))
+    (omega (arith, ap (λ (cs : List Candidate). length cs) hopeless, length-append (hopeless_of level xs) (hopeless_of level ys)))
+    (omega (arith, ap (λ (cs : List Candidate). sum_by (λ c. c.good) cs) chosen, sum_by-append (λ (c : Candidate). c.good) (chosen_of level xs) (chosen_of level ys)))
+    (omega (arith, ap (λ (cs : List Candidate). sum_by (λ c. c.bad) cs) chosen, sum_by-append (λ (c : Candidate). c.bad) (chosen_of level xs) (chosen_of level ys)))
 
 pub numbers_none : (level : LevelParams) (s : Settled) → with_candidates level s [] ≡ s
 numbers_none level s = same_numbers _ _ _ _ _ _ _ _ _ _ (omega arith) (omega arith) (omega arith) (omega arith) (omega arith)

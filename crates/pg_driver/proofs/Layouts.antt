@@ -1,5 +1,5 @@
 -- The numbers of the layout that an engine tells.
-use Rattle.std.proofs.Common.{◌≡◌, ℕ, true, Option, None, Some, refl, sym, ap}
+use Rattle.std.proofs.Common.{◌≡◌, ℕ, true, Option, None, Some, sym, ap}
 use Rattle.std.specs.Option.{option_map, MatchOption}
 use Rattle.pg_types.specs.declared.marks.Layout.{Layout}
 use Rattle.pg_types.specs.Placement.{Families, taken, top}

@@ -1,5 +1,5 @@
 -- A step of a level: a pass, and then the rest.
-use Rattle.std.proofs.Common.{◌≡◌, ℕ, ◌+◌, ◌-◌, ◌<◌, Bool, true, false, cond, nat_lt, List, [], ◌∷◌, ◌++◌, length, map, fold, refl, sym, ap, subst, ◌∙◌, arith}
+use Rattle.std.proofs.Common.{◌≡◌, ℕ, ◌+◌, ◌-◌, ◌<◌, Bool, true, false, cond, nat_lt, List, [], ◌∷◌, ◌++◌, length, map, fold, refl, sym, ap, ◌∙◌}
 use Rattle.std.specs.List.{flat_map, range_with_len}
 use Rattle.std.proofs.lemmas.List.{map_push}
 use Rattle.std.proofs.lemmas.List.Sums.{fold-append}
@@ -10,7 +10,7 @@ use Rattle.pg_select.specs.Meanings.{Meaning}
 use Rattle.pg_select.specs.Sights.{Pass, Candidate}
 use Rattle.pg_driver.specs.declared.records.PassRecord.{PassRecord}
 use Rattle.pg_driver.specs.Dots.{dot_at}
-use Rattle.pg_driver.specs.Runs.{Source, State, PassLine, LevelState, after_candidates, after_pass, candidates_of, chosen_of, line_of, passes_of_length, state_after}
+use Rattle.pg_driver.specs.Runs.{Source, PassLine, LevelState, after_candidates, after_pass, chosen_of, line_of, passes_of_length, state_after}
 use Rattle.pg_driver.specs.Sound.{Recorded, with_pass}
 use Rattle.pg_driver.specs.Views.{level_state_of, minima_of, pass_line, source_of, state_of}
 use Rattle.pg_driver.proofs.Reaches.{range_step}
@@ -28,9 +28,9 @@ pass_recorded source level pass m n old new r cs state line records =
     let candidates : r.candidates ≡ length cs = ap (λ (x : PassLine). x.candidates) line in
     let chosen : new.chosen ≡ old.chosen + length (chosen_of level cs) = ap (λ (x : Recorded). x.chosen) records ∙ ap (λ (x : PassLine). old.chosen + x.chosen) line in
     let lines : map pass_line new.passes ≡ cond (nat_lt 0 (length cs)) (map pass_line old.passes ++ line_of source level pass (state_of m) cs ∷ []) (map pass_line old.passes) =
-        ap (map pass_line) passes
-          ∙ lines_push (nat_lt 0 r.candidates) old.passes r (line_of source level pass (state_of m) cs) line
-          ∙ ap (λ k. cond (nat_lt 0 k) (map pass_line old.passes ++ line_of source level pass (state_of m) cs ∷ []) (map pass_line old.passes)) candidates in
+    ap (map pass_line) passes
+    ∙ lines_push (nat_lt 0 r.candidates) old.passes r (line_of source level pass (state_of m) cs) line
+    ∙ ap (λ k. cond (nat_lt 0 k) (map pass_line old.passes ++ line_of source level pass (state_of m) cs ∷ []) (map pass_line old.passes)) candidates in
     λ i. record { state = state i; lines = lines i; chosen = chosen i }
 
 -- what a run is over stays, as the number of signs does
@@ -60,6 +60,6 @@ pub length_step : (source : Source) (level : LevelParams) (number len end : ℕ)
 length_step source level number len end s n whole before is left =
     let rest : List Pass = flat_map (passes_of_length number) (range_with_len (len + 1) (end - (len + 1))) in
     ap (λ (x : LevelState). fold (after_pass source level) x rest) is
-      ∙ sym (fold-append (after_pass source level) s (passes_of_length number len) rest)
-      ∙ ap (λ ls. fold (after_pass source level) s (flat_map (passes_of_length number) ls)) (sym (range_step len end before))
-      ∙ left
+    ∙ sym (fold-append (after_pass source level) s (passes_of_length number len) rest)
+    ∙ ap (λ ls. fold (after_pass source level) s (flat_map (passes_of_length number) ls)) (sym (range_step len end before))
+    ∙ left

@@ -1,9 +1,9 @@
 -- Totals with a position more.
-use Rattle.std.proofs.Common.{◌≡◌, ℕ, ◌+◌, ◌-◌, ◌*◌, ◌≤◌, ◌<◌, Bool, true, false, cond, List, [], ◌∷◌, ◌++◌, length, map, get_or, refl, sym, ap, ◌∙◌, arith}
-use Rattle.std.specs.List.{sum_by, flat_map, range_with_len}
+use Rattle.std.proofs.Common.{◌≡◌, ℕ, ◌+◌, ◌-◌, ◌≤◌, ◌<◌, Bool, cond, List, [], ◌∷◌, ◌++◌, length, map, sym, ap, ◌∙◌, arith}
+use Rattle.std.specs.List.{flat_map, range_with_len}
 use Rattle.std.proofs.lemmas.List.Sums.{sum_by-cons, sum_by-append}
 use Rattle.std.proofs.lemmas.List.Elements.{All-get_or}
-use Rattle.pg_types.specs.declared.limits.TheConstants.{WEIGHT_MAX, FILE_MAX}
+use Rattle.pg_types.specs.declared.limits.TheConstants.{WEIGHT_MAX}
 use Rattle.pg_types.specs.declared.marks.Mark.{Mark}
 use Rattle.pg_types.specs.declared.marks.Mark.TheVariants.{Nothing, Error, Missed, Found, DontCare}
 use Rattle.pg_types.specs.declared.marks.Totals.{Totals}
@@ -39,9 +39,9 @@ marks_none t = same_totals _ _ _ _ _ _ (omega arith) (omega arith) (omega arith)
 pub marks_append : (t : Totals) (ms ns : List (Mark × ℕ)) → with_marks t (ms ++ ns) ≡ with_marks (with_marks t ms) ns
 marks_append t ms ns =
     same_totals _ _ _ _ _ _
-      (omega (arith, sum_by-append (λ (e : Mark × ℕ). cond (is_found e.0) e.1 0) ms ns))
-      (omega (arith, sum_by-append (λ (e : Mark × ℕ). cond (is_error e.0) e.1 0) ms ns))
-      (omega (arith, sum_by-append (λ (e : Mark × ℕ). cond (is_missed e.0) e.1 0) ms ns))
+    (omega (arith, sum_by-append (λ (e : Mark × ℕ). cond (is_found e.0) e.1 0) ms ns))
+    (omega (arith, sum_by-append (λ (e : Mark × ℕ). cond (is_error e.0) e.1 0) ms ns))
+    (omega (arith, sum_by-append (λ (e : Mark × ℕ). cond (is_missed e.0) e.1 0) ms ns))
 
 -- what a position adds
 pub mark_took : (t : Totals) (m : Mark) (x : ℕ) → sum_of (with_mark t m x) ≤ sum_of t + x

@@ -1,5 +1,5 @@
 -- A pass, and what it records.
-use Rattle.std.proofs.Common.{◌≡◌, ℕ, ◌+◌, List, [], length, map, fold, Option, refl, sym, ap, subst, ◌∙◌, arith}
+use Rattle.std.proofs.Common.{◌≡◌, ℕ, ◌+◌, List, length, map, Option, ap, ◌∙◌, arith}
 use Rattle.std.specs.List.{sum_by}
 use Rattle.std.specs.Option.{option_map}
 use Rattle.pg_types.specs.declared.marks.Layout.{Layout}
@@ -7,13 +7,12 @@ use Rattle.pg_types.specs.declared.marks.Totals.{Totals}
 use Rattle.pg_types.specs.declared.parameters.LevelParams.{LevelParams}
 use Rattle.pg_translate.specs.Alphabets.{Alphabet}
 use Rattle.pg_dict.specs.Word.{Word}
-use Rattle.pg_select.specs.Meanings.{Meaning, IsLayout, begun_pass, with_sight}
+use Rattle.pg_select.specs.Meanings.{Meaning, IsLayout, begun_pass}
 use Rattle.pg_select.specs.Sights.{Pass, Sight, Candidate, sights}
 use Rattle.pg_select.specs.Sums.{totals}
 use Rattle.pg_driver.specs.declared.candidates.Settled.{Settled}
-use Rattle.pg_driver.specs.declared.records.PassRecord.{PassRecord}
 use Rattle.pg_driver.specs.Counting.{counting}
-use Rattle.pg_driver.specs.Runs.{Source, State, candidates_of, chosen_of, hopeless_of, layout_of, line_of, state_after}
+use Rattle.pg_driver.specs.Runs.{Source, candidates_of, chosen_of, hopeless_of, layout_of, line_of, state_after}
 use Rattle.pg_driver.specs.Settling.{Settles, candidate_of, none_settled, with_candidates}
 use Rattle.pg_driver.specs.Views.{minima_of, numbers_of, pass_line, source_of, state_of}
 use Rattle.pg_driver.proofs.Layouts.{layout_is}
@@ -41,8 +40,8 @@ counts_are t words pass m m2 is = ap (λ (x : Meaning). map candidate_of x.count
 pub pass_state : (t : Alphabet) (words : List Word) (level : LevelParams) (pass : Pass) (m m2 n : Meaning) → m2 ≡ counted_pass t words pass m → Settles m2 n level (map candidate_of m2.counts) → state_of n ≡ state_after m.signs level pass (state_of m) (cands t words pass m)
 pass_state t words level pass m m2 n is settles =
     settles.state
-      ∙ ap (λ (x : Meaning). state_after x.signs level x.pass (state_of x) (map candidate_of m2.counts)) is
-      ∙ ap (λ (cs : List Candidate). state_after m.signs level pass (state_of m) cs) (counts_are t words pass m m2 is)
+    ∙ ap (λ (x : Meaning). state_after x.signs level x.pass (state_of x) (map candidate_of m2.counts)) is
+    ∙ ap (λ (cs : List Candidate). state_after m.signs level pass (state_of m) cs) (counts_are t words pass m m2 is)
 
 zero_plus : (n : ℕ) → 0 + n ≡ n
 zero_plus n = omega arith

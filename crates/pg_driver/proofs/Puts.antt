@@ -1,18 +1,19 @@
 -- What one entry more does to sorted entries.
-use Rattle.std.proofs.Common.{◌≡◌, ℕ, ◌+◌, ◌≤◌, Bool, true, false, cond, ◌&&◌, T, List, [], ◌∷◌, length, unwrap_or, is_some, Option, Some, None, refl, sym, ap, subst, ◌∙◌, arith}
+use Rattle.std.proofs.Common.{◌≡◌, ℕ, ◌+◌, ◌≤◌, Bool, true, false, cond, ◌&&◌, T, List, [], ◌∷◌, length, unwrap_or, is_some, Some, None, refl, ap, ◌∙◌, arith}
 use Rattle.std.specs.declared.cmp.Ordering.{Ordering}
 use Rattle.std.specs.declared.cmp.Ordering.TheVariants.{Less, Equal, Greater}
-use Rattle.std.specs.Ordering.{nat_cmp, is_eq, is_lt, eq_by_cmp}
+use Rattle.std.specs.Ordering.{nat_cmp, is_eq, eq_by_cmp}
 use Rattle.std.specs.Cmp.Lexicographic.{slice_cmp, nat_list_cmp_total}
 use Rattle.std.specs.FinMap.Entries.{put, find, is_sorted, below_all, by_order, length-put as length_put_is}
-use Rattle.std.specs.List.{list_all, sum_by}
+use Rattle.std.specs.List.{list_all}
 use Rattle.std.proofs.lemmas.Bool.{and_parts, and_from}
 use Rattle.std.proofs.lemmas.List.Sums.{sum_by-cons}
 use Rattle.pg_patterns.proofs.Ordered.{is_true, less_is, first_half, second_half}
 use Rattle.pg_select.specs.Meanings.{Counts, sums_of}
 use Rattle.pg_driver.specs.Counting.{weight_in}
 
-abbrev cmp : List ℕ → List ℕ → Ordering
+-- the order of windows
+abbrev pub cmp : List ℕ → List ℕ → Ordering
 cmp = slice_cmp nat_cmp
 
 abbrev entry_weight : List ℕ × (ℕ × ℕ) → ℕ

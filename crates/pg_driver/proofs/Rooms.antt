@@ -1,5 +1,5 @@
 -- The room that counts have for more positions.
-use Rattle.std.proofs.Common.{◌≡◌, ℕ, ◌+◌, ◌-◌, ◌*◌, ◌≤◌, ◌<◌, ◌^◌, Bool, true, false, cond, ◌&&◌, not, nat_le, T, List, [], ◌∷◌, length, take, drop, unwrap_or, Option, Some, None, fold, refl, sym, ap, subst, ◌∙◌, arith}
+use Rattle.std.proofs.Common.{◌≡◌, ℕ, ◌+◌, ◌-◌, ◌≤◌, ◌<◌, Bool, true, false, cond, ◌&&◌, not, nat_le, List, [], ◌∷◌, length, drop, Option, Some, None, fold, refl, arith}
 use Rattle.std.specs.Ordering.{nat_cmp, is_lt}
 use Rattle.std.specs.Option.{option_map_or}
 use Rattle.std.specs.Cmp.Lexicographic.{slice_cmp, nat_list_cmp_total}
@@ -9,10 +9,10 @@ use Rattle.std.proofs.lemmas.List.{length-take, length-drop}
 use Rattle.pg_types.specs.declared.limits.TheConstants.{WEIGHT_MAX, FILE_MAX}
 use Rattle.pg_dict.specs.Word.{Word, IsWord}
 use Rattle.pg_select.specs.Meanings.{Counts, AreSmall, sums_of, with_weight, with_sight}
-use Rattle.pg_select.specs.Sights.{Pass, Sight, sight_at, counted_at, counts_as}
+use Rattle.pg_select.specs.Sights.{Pass, Sight, sight_at, counts_as}
 use Rattle.pg_select.specs.Statuses.{status_at, weight_at}
 use Rattle.pg_select.specs.Windows.{Hopeless, window, fits, covered}
-use Rattle.pg_driver.specs.Counting.{HasRoom, TookRoom, weight_in, is_filled}
+use Rattle.pg_driver.specs.Counting.{HasRoom, TookRoom}
 use Rattle.pg_driver.proofs.Puts.{weight_found, weight_put, length_put, all_put}
 use Rattle.pg_driver.proofs.MarkSteps.{weight_small}
 

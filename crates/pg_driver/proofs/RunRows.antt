@@ -1,12 +1,11 @@
 -- Small runs, computed on the definitions. The table has the minima 1 and 1, and the letters a, b and c with the signs 2, 3 and 4.
-use Rattle.std.proofs.Common.{◌≡◌, ℕ, Bool, true, false, List, [], ◌∷◌, map, Option, None, Some, refl}
+use Rattle.std.proofs.Common.{◌≡◌, ℕ, Bool, true, false, List, [], ◌∷◌, map, None, Some, refl}
 use Rattle.pg_types.specs.declared.marks.Totals.{Totals}
 use Rattle.pg_types.specs.declared.parameters.LevelParams.{LevelParams}
 use Rattle.pg_types.specs.Parameters.{Parameters}
-use Rattle.pg_types.specs.Placement.{root, enter, with_sign}
+use Rattle.pg_types.specs.Placement.{root, with_sign}
 use Rattle.pg_dict.specs.Word.{Word}
-use Rattle.pg_patterns.specs.Values.{joined}
-use Rattle.pg_select.specs.Sights.{Candidate, Pass, tally, sights}
+use Rattle.pg_select.specs.Sights.{Candidate, tally, sights}
 use Rattle.pg_driver.specs.Dots.{order}
 use Rattle.pg_driver.specs.Runs.{Source, Run, PassLine, LevelLine, run}
 use Rattle.pg_driver.specs.Begun.{begun}

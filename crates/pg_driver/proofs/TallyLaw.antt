@@ -1,21 +1,17 @@
 -- Counting sight by sight gives the candidates with their sums.
-use Rattle.std.proofs.Common.{◌≡◌, ℕ, ◌+◌, Bool, true, false, cond, not, ◌&&◌, T, List, [], ◌∷◌, map, fold, length, unwrap_or, Option, Some, None, refl, sym, ap, subst, ◌∙◌, arith}
+use Rattle.std.proofs.Common.{◌≡◌, ℕ, ◌+◌, Bool, true, false, cond, not, ◌&&◌, T, List, [], ◌∷◌, map, fold, unwrap_or, Option, Some, None, refl, sym, ap, subst, ◌∙◌, arith}
 use Rattle.std.specs.declared.cmp.Ordering.{Ordering}
-use Rattle.std.specs.declared.cmp.Ordering.TheVariants.{Less, Equal, Greater}
-use Rattle.std.specs.Ordering.{nat_cmp, is_eq, is_lt, eq_by_cmp}
+use Rattle.std.specs.Ordering.{nat_cmp, is_lt, eq_by_cmp}
 use Rattle.std.specs.Option.{option_map}
 use Rattle.std.specs.Cmp.Lexicographic.{slice_cmp, nat_list_cmp_total}
 use Rattle.std.specs.FinMap.{slice_cmp-IsAntisymmetric, nat_cmp-IsAntisymmetric}
-use Rattle.std.specs.FinMap.Entries.{put, find, is_sorted, below_all, find-put, is_sorted-put, same_entries}
-use Rattle.std.specs.List.{sum_by}
+use Rattle.std.specs.FinMap.Entries.{find, is_sorted, below_all, find-put, is_sorted-put, same_entries}
 use Rattle.std.proofs.lemmas.List.Sums.{sum_by-cons}
 use Rattle.pg_patterns.proofs.Ordered.{equal_is}
 use Rattle.pg_select.specs.Meanings.{Counts, with_weight, sums_of, with_sight}
-use Rattle.pg_select.specs.Sights.{Sight, Candidate, same_signs, with_window, candidates, good_of, bad_of, tally}
+use Rattle.pg_select.specs.Sights.{Sight, same_signs, with_window, good_of, bad_of, tally}
+use Rattle.pg_driver.proofs.Puts.{cmp}
 use Rattle.pg_driver.specs.Settling.{candidate_of}
-
-abbrev cmp : List ℕ → List ℕ → Ordering
-cmp = slice_cmp nat_cmp
 
 abbrev Windows : Type 0
 Windows = List (List ℕ × Unit {0})
@@ -44,8 +40,8 @@ find_counted : (q : List ℕ) (seen : List Sight) (counts : Counts) → find cmp
 find_counted q [] counts = refl
 find_counted q (s ∷ seen) counts =
     find_counted q seen (with_sight counts s)
-      ∙ ap (λ o. counted_after q o seen) (find-put cmp nat_list_cmp_total q s.window (with_weight (sums_of counts s.window) s.good s.weight) counts
-          ∙ at_window q s.window (eq_by_cmp cmp q s.window) counts s.good s.weight refl)
+    ∙ ap (λ o. counted_after q o seen) (find-put cmp nat_list_cmp_total q s.window (with_weight (sums_of counts s.window) s.good s.weight) counts
+    ∙ at_window q s.window (eq_by_cmp cmp q s.window) counts s.good s.weight refl)
 
 find_seen : (q : List ℕ) (seen : List Sight) (windows : Windows) → find cmp q (fold with_window windows seen) ≡ seen_after q (find cmp q windows) seen
 find_seen q [] windows = refl
@@ -76,7 +72,7 @@ counted_some : (q : List ℕ) (sums : ℕ × ℕ) (seen : List Sight) → counte
 counted_some q sums [] = same_found sums.0 sums.1 _ _ (omega arith) (omega arith)
 counted_some q sums (s ∷ seen) =
     some_step q sums s.weight seen (eq_by_cmp cmp q s.window) s.good (λ t. counted_some q t seen)
-      ∙ same_found _ _ _ _ (ap (λ n. sums.0 + n) (sym (good_more s seen q))) (ap (λ n. sums.1 + n) (sym (bad_more s seen q)))
+    ∙ same_found _ _ _ _ (ap (λ n. sums.0 + n) (sym (good_more s seen q))) (ap (λ n. sums.1 + n) (sym (bad_more s seen q)))
 
 seen_some : (q : List ℕ) (seen : List Sight) → seen_after q (Some (tt {0})) seen ≡ Some (tt {0})
 seen_some q [] = refl
@@ -105,7 +101,7 @@ counted_none : (q : List ℕ) (seen : List Sight) → counted_after q None seen 
 counted_none q [] = refl
 counted_none q (s ∷ seen) =
     none_step q s seen (eq_by_cmp cmp q s.window) (counted_none q seen)
-      ∙ ap (λ (sums : ℕ × ℕ). option_map (λ _. sums) (seen_after q (cond (eq_by_cmp cmp q s.window) (Some (tt {0})) None) seen)) (sym (sums_more q s seen))
+    ∙ ap (λ (sums : ℕ × ℕ). option_map (λ _. sums) (seen_after q (cond (eq_by_cmp cmp q s.window) (Some (tt {0})) None) seen)) (sym (sums_more q s seen))
 
 -- windows, each with a value that it determines
 abbrev valued : (List ℕ → ℕ × ℕ) → Windows → Counts
@@ -139,9 +135,9 @@ sorted_windows (s ∷ seen) windows sorted = sorted_windows seen (with_window wi
 counts_are : (seen : List Sight) → fold with_sight [] seen ≡ valued (sums_in seen) (fold with_window [] seen)
 counts_are seen =
     same_entries cmp nat_list_cmp_total (slice_cmp-IsAntisymmetric nat_cmp-IsAntisymmetric) (fold with_sight [] seen) (valued (sums_in seen) (fold with_window [] seen))
-      (sorted_counts seen [] tt)
-      (subst T (sym (sorted_valued (sums_in seen) (fold with_window [] seen))) (sorted_windows seen [] tt))
-      (λ q. find_counted q seen [] ∙ counted_none q seen ∙ ap (option_map (λ _. sums_in seen q)) (sym (find_seen q seen [])) ∙ sym (find_valued (sums_in seen) q (fold with_window [] seen)))
+    (sorted_counts seen [] tt)
+    (subst T (sym (sorted_valued (sums_in seen) (fold with_window [] seen))) (sorted_windows seen [] tt))
+    (λ q. find_counted q seen [] ∙ counted_none q seen ∙ ap (option_map (λ _. sums_in seen q)) (sym (find_seen q seen [])) ∙ sym (find_valued (sums_in seen) q (fold with_window [] seen)))
 
 candidates_are : (f : List ℕ → ℕ × ℕ) (windows : Windows) → map candidate_of (valued f windows) ≡ map (λ u. record { window = u; good = (f u).0; bad = (f u).1 }) (map (λ e. e.0) windows)
 candidates_are f [] = refl

@@ -33,6 +33,7 @@ fn run_levels<E: Engine>(
     ensures ok { OnOk result (run_of (E.meaning e.new) records.new.passes records.new.levels ≡ fold (after_level (source_of t.now d.now (E.meaning e.old))) (run_of (E.meaning e.old) records.old.passes records.old.levels) (enumerate_from p.now.start p.now.levels)) }
     ensures hopeless { OnOk result ((E.meaning e.new).hopeless ≡ []) }
     ensures tidy { OnOk result ((E.meaning e.new).tidy ≡ true) }
+    ensures begun { OnOk result ((E.meaning e.new).begun < 2 ^ 60) }
     ensures signs { (E.meaning e.new).signs ≡ (E.meaning e.old).signs }
 {
     let start = p.start();
@@ -68,6 +69,7 @@ pub fn generate<E: Engine>(
     ensures first_layout { IfOk result (λ r. option_map numbers_with_tails r.first_layout ≡ layout_with_tails (state_of (E.meaning e.old))) }
     ensures engine { OnOk result (state_of (E.meaning e.new) ≡ (run_from t.now d.now p.now (E.meaning e.old)).state) }
     ensures tidy { OnOk result ((E.meaning e.new).tidy ≡ true) }
+    ensures begun { OnOk result ((E.meaning e.new).begun < 2 ^ 60) }
     ensures signs { (E.meaning e.new).signs ≡ (E.meaning e.old).signs }
 {
     let first_layout = e.layout();

@@ -4,8 +4,8 @@
 mod candidates;
 mod counted;
 mod dots;
-mod levels;
 mod level;
+mod levels;
 mod marks;
 mod pass;
 mod records;

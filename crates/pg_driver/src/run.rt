@@ -32,7 +32,7 @@ impl Run {
     ghost use Rattle.pg_driver.specs.Sound.{IsSmall, IsSoundPass, IsSoundLevel};
 
     /// The run with these patterns, records, totals and first layout.
-    pub fn new(
+    pub(crate) fn new(
         patterns: PatternSet,
         records: Records,
         totals: Totals,

@@ -12,10 +12,11 @@ use crate::marks::{add_mark, mark_at, no_totals, positions};
 use pg_dict::{Dictionary, WordRef};
 use pg_select::{Engine, WordState};
 use pg_translate::Table;
+use pg_types::Totals;
 
 /// The totals of the words of a dictionary by the patterns of an engine: the sums of the weights of the positions in reach that
 /// are found, that are errors and that are missed. It takes no memory.
-pub fn totals<E: Engine>(e: &E, d: &Dictionary, t: &Table) -> pg_types::Totals
+pub fn totals<E: Engine>(e: &E, d: &Dictionary, t: &Table) -> Totals
     requires { SignsAtMost (E.meaning e.now).signs d.now }
     ensures value { result ≡ totals_of_words (minima_of t.now) d.now (E.meaning e.now).patterns }
     ensures small { IsSmall result }
@@ -34,8 +35,8 @@ fn add_word<E: Engine>(
     t: &Table,
     w: &WordRef<'_>,
     found: &mut WordState,
-    sums: pg_types::Totals,
-) -> pg_types::Totals
+    sums: Totals,
+) -> Totals
     requires word { IsWord (word_of w.now) }
     requires signs { SignsWithin (E.meaning e.now).signs w.now.signs.now }
     requires room { HasRoomFor sums (letters_of (word_of w.now)) }

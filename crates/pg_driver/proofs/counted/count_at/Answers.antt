@@ -1,4 +1,3 @@
-use Rattle.std.proofs.Common.{◌≡◌, ◌≤◌, ◌+◌, ◌-◌, length, arith}
 use Rattle.pg_dict.specs.Lent.{word_of}
 use Rattle.pg_driver.proofs.MarkSteps.{weight_small}
 use Rattle.pg_driver.proofs.Rooms.{room_small}

@@ -1,4 +1,4 @@
-use Rattle.std.proofs.Common.{◌≡◌, ◌≤◌, ◌<◌, ◌+◌, ◌-◌, length, ap, ◌∙◌, arith, rules}
+use Rattle.std.proofs.Common.{◌≡◌, ◌≤◌, ◌<◌, ◌+◌, ◌-◌, length, ap, ◌∙◌, arith}
 use Rattle.pg_dict.specs.Lent.{word_of}
 use Rattle.pg_dict.specs.Word.{letters_of}
 use Rattle.pg_select.specs.Meanings.{Meaning}
@@ -7,7 +7,7 @@ use Rattle.pg_select.specs.Statuses.{status_at, weight_at}
 use Rattle.pg_types.specs.declared.limits.TheConstants.{WEIGHT_MAX}
 use Rattle.pg_driver.specs.Counting.{IsRead, with_mark, sum_of}
 use Rattle.pg_driver.proofs.MarkSteps.{marks_step, mark_took, weight_small}
-use Rattle.pg_driver.proofs.Rooms.{room_left, took_none}
+use Rattle.pg_driver.proofs.Rooms.{room_left}
 use Rattle.pg_driver.proofs.Walks.{kept_on, read_on, position_step, room_on}
 use Rattle.pg_driver.proofs.counted.count_word.Goals as goal
 
@@ -31,13 +31,13 @@ positions-preserved g c =
     let kept = c.positions.invariant.kept in
     let within : c.positions.p < length w.signs = omega (arith, c.positions-test.true, c.in-Some.ensures.within) in
     let long : 1 ≤ m.pass.len =
-        let e : m.pass.len ≡ c.args.pass.len = ap (λ (m : Meaning). m.pass.len) kept ∙ ap (λ (pass : Pass). pass.len) c.requires.pass in
-        omega (arith, c.args.pass.len_low) in
+    let e : m.pass.len ≡ c.args.pass.len = ap (λ (m : Meaning). m.pass.len) kept ∙ ap (λ (pass : Pass). pass.len) c.requires.pass in
+    omega (arith, c.args.pass.len_low) in
     let small : weight_at w c.positions.p ≤ WEIGHT_MAX = weight_small w c.positions.p c.requires.word within in
     let sums : c.see.new.sums ≡ with_mark c.positions.sums (status_at m0.patterns w c.positions.p) (weight_at w c.positions.p) =
-        c.in_ok-see.ensures.sums ∙ ap (λ (x : Meaning). with_mark c.positions.sums (status_at x.patterns w c.positions.p) (weight_at w c.positions.p)) kept in
+    c.in_ok-see.ensures.sums ∙ ap (λ (x : Meaning). with_mark c.positions.sums (status_at x.patterns w c.positions.p) (weight_at w c.positions.p)) kept in
     let took : sum_of c.see.new.sums ≤ sum_of c.positions.sums + weight_at w c.positions.p =
-        rw sums (mark_took c.positions.sums (status_at m0.patterns w c.positions.p) (weight_at w c.positions.p)) in
+    rw sums (mark_took c.positions.sums (status_at m0.patterns w c.positions.p) (weight_at w c.positions.p)) in
     let few : c.positions.p - c.in-Some.first + 1 ≤ letters_of w = omega (arith, c.positions-test.true, c.in-Some.ensures.few, c.positions.auto) in
     let on : c.positions.p + 1 - c.in-Some.first ≡ c.positions.p - c.in-Some.first + 1 = omega (arith, c.positions.auto) in
     record {

@@ -1,4 +1,4 @@
-use Rattle.std.proofs.Common.{◌≡◌, ◌+◌, ◌≤◌, ap, fold, ◌∙◌, arith}
+use Rattle.std.proofs.Common.{◌+◌, ap, fold, ◌∙◌, arith}
 use Rattle.pg_driver.specs.Runs.{Source, after_pass, passes_of_length}
 use Rattle.pg_driver.specs.Views.{level_state_of, source_of}
 use Rattle.pg_driver.proofs.LevelSteps.{length_step, same_source}

@@ -1,4 +1,4 @@
-use Rattle.std.proofs.Common.{◌≡◌, List, map, ap, ◌∙◌}
+use Rattle.std.proofs.Common.{List, ap, ◌∙◌}
 use Rattle.pg_select.specs.Meanings.{Meaning}
 use Rattle.pg_select.specs.Sights.{Candidate}
 use Rattle.pg_select.specs.Sums.{totals}

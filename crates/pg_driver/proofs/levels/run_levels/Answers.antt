@@ -1,4 +1,4 @@
-use Rattle.std.proofs.Common.{◌≡◌, ◌+◌, ap, ◌∙◌, arith}
+use Rattle.std.proofs.Common.{◌+◌, ap, ◌∙◌, arith}
 use Rattle.pg_driver.specs.Runs.{Source, after_level}
 use Rattle.pg_driver.specs.Views.{run_of, source_of}
 use Rattle.pg_driver.proofs.LevelSteps.{same_source}

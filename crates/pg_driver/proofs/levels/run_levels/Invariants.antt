@@ -1,4 +1,4 @@
-use Rattle.std.proofs.Common.{◌≡◌, ◌+◌, ◌*◌, ◌≤◌, [], true, fold, drop, length}
+use Rattle.std.proofs.Common.{◌≡◌, ◌+◌, ◌*◌, ◌≤◌, [], true, fold, drop}
 use Rattle.std.specs.List.{enumerate_from}
 use Rattle.pg_driver.specs.Runs.{after_level}
 use Rattle.pg_driver.specs.Views.{run_of, source_of}

@@ -1,4 +1,4 @@
-use Rattle.std.proofs.Common.{◌≡◌, ◌≤◌, ◌<◌, ◌+◌, ◌-◌, Bool, ℕ, true, false, length, slice_index_or, ap, ◌∙◌, arith, rules}
+use Rattle.std.proofs.Common.{◌≡◌, ◌≤◌, ◌<◌, ◌+◌, ◌-◌, ℕ, true, false, length, slice_index_or, ap, ◌∙◌, arith}
 use Rattle.pg_dict.specs.Lent.{word_of}
 use Rattle.pg_dict.specs.Word.{letters_of}
 use Rattle.pg_select.specs.Statuses.{status, status_at, weight_at}
@@ -17,7 +17,7 @@ positions-preserved g c =
     let small : weight_at w p ≤ WEIGHT_MAX = weight_small w p c.requires.word within in
     let mark : c.mark_at.result ≡ status_at m.patterns w p = c.mark_at.ensures ∙ ap (λ (v : ℕ). status (slice_index_or w.hyphens p false) (slice_index_or w.cares p true) v) (c.hyphenate.ensures.values p within) in
     let sums : c.add_mark-sums.result ≡ with_mark c.positions.sums (status_at m.patterns w p) (weight_at w p) =
-        c.add_mark-sums.ensures ∙ ap (λ (x : Mark). with_mark c.positions.sums x (weight_at w p)) mark in
+    c.add_mark-sums.ensures ∙ ap (λ (x : Mark). with_mark c.positions.sums x (weight_at w p)) mark in
     let took : sum_of c.add_mark-sums.result ≤ sum_of c.positions.sums + weight_at w p = rw sums (mark_took c.positions.sums (status_at m.patterns w p) (weight_at w p)) in
     let few : p - c.in-Some.first + 1 ≤ letters_of w = omega (arith, c.positions-test.true, c.in-Some.ensures.few, c.positions.auto) in
     let on : p + 1 - c.in-Some.first ≡ p - c.in-Some.first + 1 = omega (arith, c.positions.auto) in

@@ -1,7 +1,7 @@
-use Rattle.std.proofs.Common.{◌≡◌, ◌+◌, List, ◌∷◌, drop, ap, sym, ◌∙◌, arith}
-use Rattle.std.specs.List.{flat_map, sum_by}
+use Rattle.std.proofs.Common.{◌+◌, List, drop, ap, sym, ◌∙◌, arith}
+use Rattle.std.specs.List.{flat_map}
 use Rattle.pg_dict.specs.Lent.{word_of}
-use Rattle.pg_dict.specs.Word.{Word, letters_of}
+use Rattle.pg_dict.specs.Word.{Word}
 use Rattle.pg_select.specs.Sums.{marks_in}
 use Rattle.pg_driver.specs.Counting.{with_marks}
 use Rattle.pg_driver.specs.Views.{minima_of}

@@ -1,7 +1,7 @@
-use Rattle.std.proofs.Common.{◌≡◌, ◌+◌, ℕ, List, ◌∷◌, drop, ap, subst, sym, ◌∙◌, arith}
+use Rattle.std.proofs.Common.{◌+◌, ℕ, List, drop, ap, subst, sym, ◌∙◌, arith}
 use Rattle.std.specs.List.{flat_map, sum_by}
 use Rattle.pg_dict.specs.Lent.{word_of}
-use Rattle.pg_dict.specs.Word.{Word, letters_of, SignsAtMost}
+use Rattle.pg_dict.specs.Word.{Word, letters_of}
 use Rattle.pg_select.specs.Meanings.{Meaning, SignsWithin}
 use Rattle.pg_select.specs.Sights.{sights, sights_in}
 use Rattle.pg_select.specs.Sums.{marks_in}
