@@ -11,3 +11,5 @@ pub mod Layouts
 pub mod PassSteps
 pub mod LevelSteps
 pub mod RunSteps
+pub mod FamilyLaw
+pub mod BegunLaw
