@@ -1,12 +1,11 @@
 -- The numbers of the layout that an engine tells.
-use Rattle.std.proofs.Common.{◌≡◌, ℕ, true, Option, None, Some, sym, ap}
+use Rattle.std.proofs.Common.{◌≡◌, ℕ, Option, None, Some, sym, ap}
 use Rattle.std.specs.Option.{option_map, MatchOption}
 use Rattle.pg_types.specs.declared.marks.Layout.{Layout}
 use Rattle.pg_types.specs.Placement.{Families, taken, top}
-use Rattle.pg_types.specs.Tails.{tails}
 use Rattle.pg_select.specs.Meanings.{Meaning, IsLayout}
-use Rattle.pg_driver.specs.Runs.{layout_of, layout_with_tails}
-use Rattle.pg_driver.specs.Views.{state_of, numbers_of, numbers_with_tails}
+use Rattle.pg_driver.specs.Runs.{layout_of}
+use Rattle.pg_driver.specs.Views.{state_of, numbers_of}
 
 abbrev pair : ℕ → ℕ → Option (ℕ × ℕ)
 pair a b = let p : ℕ × ℕ = (a, b) in Some p

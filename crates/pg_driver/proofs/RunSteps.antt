@@ -1,19 +1,12 @@
 -- A step of a run: a level, and then the rest.
-use Rattle.std.proofs.Common.{◌≡◌, ℕ, ◌+◌, true, List, [], ◌∷◌, ◌++◌, map, fold, drop, slice_get, Some, Option, sym, ap, ◌∙◌, add_assoc}
+use Rattle.std.proofs.Common.{◌≡◌, ℕ, ◌+◌, List, [], ◌∷◌, fold, drop, slice_get, Some, sym, ap, ◌∙◌, add_assoc}
 use Rattle.std.specs.List.{enumerate_from}
-use Rattle.std.specs.Option.{option_map}
-use Rattle.std.proofs.lemmas.List.{map_push}
-use Rattle.pg_types.specs.declared.marks.Layout.{Layout}
-use Rattle.pg_types.specs.declared.marks.Totals.{Totals}
 use Rattle.pg_types.specs.declared.parameters.LevelParams.{LevelParams}
-use Rattle.pg_select.specs.Meanings.{Meaning, IsLayout, ended}
-use Rattle.pg_select.specs.Sums.{totals}
+use Rattle.pg_select.specs.Meanings.{Meaning}
 use Rattle.pg_select.specs.Windows.{Hopeless as HopelessPlaces}
-use Rattle.pg_driver.specs.declared.records.LevelRecord.{LevelRecord}
-use Rattle.pg_driver.specs.Runs.{LevelLine, LevelState, Run, Source, after_level, after_pass, ended_level, layout_with_tails, level_start, passes_of, run_start, state_at_end}
-use Rattle.pg_driver.specs.Sound.{Recorded, with_level}
-use Rattle.pg_driver.specs.Views.{level_line, level_state_of, numbers_with_tails, pass_line, run_of, state_of}
-use Rattle.pg_driver.proofs.Layouts.{tails_are}
+use Rattle.pg_driver.specs.Runs.{Run, Source, after_level, run_start}
+use Rattle.pg_driver.specs.Sound.{Recorded}
+use Rattle.pg_driver.specs.Views.{run_of}
 use Rattle.pg_driver.proofs.WordSteps.{drop_place}
 
 -- a run of an engine with nothing hopeless begins so
