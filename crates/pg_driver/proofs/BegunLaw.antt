@@ -1,10 +1,8 @@
 -- The walk that counts the passes which cannot be skipped goes through the states of the run.
-use Rattle.std.proofs.Common.{◌≡◌, ℕ, List, [], ◌∷◌, fold, None, refl, ap, ◌∙◌}
-use Rattle.std.specs.List.{enumerate_from}
+use Rattle.std.proofs.Common.{◌≡◌, ℕ, List, [], ◌∷◌, fold, refl, ap, ◌∙◌}
 use Rattle.pg_types.specs.declared.parameters.LevelParams.{LevelParams}
-use Rattle.pg_types.specs.Parameters.{Parameters}
 use Rattle.pg_select.specs.Sights.{Pass}
-use Rattle.pg_driver.specs.Runs.{Source, LevelState, Run, after_level, after_pass, ended_level, level_start, passes_of, run, run_start}
+use Rattle.pg_driver.specs.Runs.{Source, LevelState, after_level, after_pass, ended_level, level_start, passes_of}
 use Rattle.pg_driver.specs.Begun.{CountedRun, Walk, count_level, walk_on}
 
 pub walk_level : (source : Source) (level : LevelParams) (ps : List Pass) (w : Walk) → (fold (walk_on source level) w ps).level ≡ fold (after_pass source level) w.level ps
@@ -15,4 +13,4 @@ pub counted_run : (source : Source) (es : List (ℕ × LevelParams)) (r : Counte
 counted_run source [] r = refl
 counted_run source (e ∷ es) r =
     counted_run source es (count_level source r e)
-      ∙ ap (λ (l : LevelState). fold (after_level source) (ended_level source e.0 r.run l) es) (walk_level source e.1 (passes_of e.0 e.1) (record { level = level_start r.run; done = []; begun = r.begun }))
+    ∙ ap (λ (l : LevelState). fold (after_level source) (ended_level source e.0 r.run l) es) (walk_level source e.1 (passes_of e.0 e.1) (record { level = level_start r.run; done = []; begun = r.begun }))
