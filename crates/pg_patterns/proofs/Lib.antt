@@ -6,3 +6,6 @@ pub mod Kept
 pub mod Rows
 pub mod Points
 pub mod Strings
+pub mod Steps
+pub mod LineEntries
+pub mod Known
