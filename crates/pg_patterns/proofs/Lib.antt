@@ -9,3 +9,7 @@ pub mod Strings
 pub mod Steps
 pub mod LineEntries
 pub mod Known
+pub mod Written
+pub mod ReadBack
+pub mod Restored
+pub mod TextLaw

@@ -14,7 +14,7 @@ use Rattle.pg_translate.specs.Alphabets.{Alphabet}
 use Rattle.pg_translate.specs.Tokens.{Token, Letter, Digit, Weight, Marked, Edge}
 use Rattle.pg_translate.specs.Cuts.{cut, tokens_of}
 use Rattle.pg_patterns.specs.Values.{SignsUpTo, is_entry}
-use Rattle.pg_patterns.specs.Lines.{digit_at_dot, signs_of, digits_from, entries_at, line_entries, line_refusal, entries_of_line}
+use Rattle.pg_patterns.specs.Lines.{digit_at_dot, signs_of, digits_from, entry_at, entries_at, line_entries, line_refusal, entries_of_line}
 use Rattle.pg_patterns.specs.Starts.{both_parts, entries_from}
 use Rattle.pg_patterns.specs.Drafts.{Draft, IsDraft, IsDotDigit, no_draft, all_digits, with_sign, with_token, draft_entries, line_draft}
 use Rattle.pg_patterns.proofs.Ordered.{both_true, and_first, and_second}
@@ -89,7 +89,7 @@ signs_sound : (n : ℕ) (q : List ℕ) → All (λ s. (1 ≤ s) × (s ≤ n)) q 
 signs_sound n [] all = refl
 signs_sound n (s ∷ q) all = both_true _ _ (le-leb 1 s (All-head (λ s. (1 ≤ s) × (s ≤ n)) s q all).0) (signs_sound n q (All-tail (λ s. (1 ≤ s) × (s ≤ n)) s q all))
 
-entries_sound : (q : List ℕ) (digits : List (ℕ × ℕ)) → 1 ≤ length q → length q ≤ PATTERN_SIGNS_MAX → list_all is_sign q ≡ true → All (IsDotDigit (length q + 1)) digits → list_all is_entry (map (λ x. ((q, x.0), x.1)) digits) ≡ true
+entries_sound : (q : List ℕ) (digits : List (ℕ × ℕ)) → 1 ≤ length q → length q ≤ PATTERN_SIGNS_MAX → list_all is_sign q ≡ true → All (IsDotDigit (length q + 1)) digits → list_all is_entry (map (entry_at q) digits) ≡ true
 entries_sound q [] some few signs all = refl
 entries_sound q (x ∷ digits) some few signs all =
     let here = All-head (IsDotDigit (length q + 1)) x digits all in
@@ -107,7 +107,7 @@ draft_sound n d kept = draft_parts_sound n d.signs (all_digits d) kept.few kept.
 draft_parts_known : (n : ℕ) (q : List ℕ) (digits : List (ℕ × ℕ)) → All (λ s. (1 ≤ s) × (s ≤ n)) q → SignsUpTo n (entries_at q digits)
 draft_parts_known n [] digits signs = All-nil (λ (e : (List ℕ × ℕ) × ℕ). All (λ s. s ≤ n) e.0.0)
 draft_parts_known n (s ∷ q) digits signs =
-    All-map (λ (e : (List ℕ × ℕ) × ℕ). All (λ s. s ≤ n) e.0.0) (λ (x : ℕ × ℕ). ((s ∷ q, x.0), x.1)) digits (λ k x inside j z within. (signs j z within).1)
+    All-map (λ (e : (List ℕ × ℕ) × ℕ). All (λ s. s ≤ n) e.0.0) (entry_at (s ∷ q)) digits (λ k x inside j z within. (signs j z within).1)
 
 draft_known : (n : ℕ) (d : Draft) → IsDraft n d → SignsUpTo n (draft_entries d)
 draft_known n d kept = draft_parts_known n d.signs (all_digits d) kept.signs

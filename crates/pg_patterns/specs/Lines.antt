@@ -36,10 +36,14 @@ digits_from dot digit (Weight weight ∷ tokens) = digits_from dot digit tokens
 digits_from dot digit (Marked mark ∷ tokens) = digits_from dot digit tokens
 digits_from dot digit (Edge ∷ tokens) = digit_at_dot dot digit ++ digits_from (dot + 1) 0 tokens
 
+-- the entry of these signs at a dot
+abbrev pub entry_at : List ℕ → ℕ × ℕ → (List ℕ × ℕ) × ℕ
+entry_at signs d = ((signs, d.0), d.1)
+
 -- the entries of these signs at these dots; there is none without a sign
 abbrev pub entries_at : List ℕ → List (ℕ × ℕ) → List ((List ℕ × ℕ) × ℕ)
 entries_at [] digits = []
-entries_at (sign ∷ signs) digits = map (λ d. ((sign ∷ signs, d.0), d.1)) digits
+entries_at (sign ∷ signs) digits = map (entry_at (sign ∷ signs)) digits
 
 -- the entries of a line
 abbrev pub line_entries : List Token → List ((List ℕ × ℕ) × ℕ)

@@ -1,5 +1,6 @@
 //! A line of a pattern file, as far as it was read.
 ghost use Rattle.std.specs.Prelude.{◌≡◌, ◌≤◌, ◌++◌, length, map, OnOk};
+ghost use Rattle.pg_patterns.specs.Lines.{entry_at};
 
 use crate::place::Place;
 use pg_types::{PATTERN_SIGNS_MAX, Sign};
@@ -98,7 +99,7 @@ fn push_digits(
     entries: &mut Vec<(Place, u8)>,
 ) -> Result<(), AllocError>
     requires { length signs.now ≤ PATTERN_SIGNS_MAX }
-    ensures { OnOk result (entries.new.items ≡ entries.old.items ++ map (λ d. ((signs.now, d.0), d.1)) digits.now) }
+    ensures { OnOk result (entries.new.items ≡ entries.old.items ++ map (entry_at signs.now) digits.now) }
 {
     for digit in digits {
         entries.push((Place::new(signs, digit.0), digit.1))?;
