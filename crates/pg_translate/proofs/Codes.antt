@@ -1,8 +1,8 @@
 -- The codes of texts: different texts of bytes have different codes.
-use Rattle.std.proofs.Common.{◌≡◌, ℕ, ◌+◌, ◌-◌, ◌*◌, ◌^◌, ◌<◌, ◌≤◌, ◌==◌, nat_lt, Bool, true, false, cond, ◌&&◌, ◌⊎◌, ⊎_elim, List, [], ◌∷◌, ◌++◌, length, take, drop, get_or, fold, refl, sym, ap, ap₂, ◌∙◌, subst, arith, suc, zero}
+use Rattle.std.proofs.Common.{◌≡◌, ℕ, ◌+◌, ◌-◌, ◌*◌, ◌^◌, ◌<◌, ◌≤◌, nat_lt, true, ⊎_elim, List, [], ◌∷◌, ◌++◌, length, take, drop, get_or, fold, refl, sym, ap, ap₂, ◌∙◌, arith, suc, zero}
 use Rattle.std.specs.List.{list_all}
 use Rattle.std.proofs.lemmas.Bool.{and_parts, and_from, ltb-true, lt-ltb, cases_order}
-use Rattle.std.proofs.lemmas.List.{length-drop, length-take, take-append-drop, take_more, length-take-le}
+use Rattle.std.proofs.lemmas.List.{length-drop, take-append-drop, take_more, length-take-le}
 use Rattle.std.proofs.lemmas.List.Sums.{fold-append}
 use Rattle.pg_translate.specs.Fronts.{code_of, AreBytes}
 

@@ -1,9 +1,9 @@
 -- The cut of a line, item by item.
-use Rattle.std.proofs.Common.{◌≡◌, ℕ, ◌+◌, ◌-◌, ◌<◌, ◌≤◌, Bool, List, [], ◌∷◌, length, drop, Option, Some, None, refl, sym, ap, ◌∙◌, subst, arith, suc, zero}
+use Rattle.std.proofs.Common.{◌≡◌, ℕ, ◌+◌, ◌-◌, ◌<◌, ◌≤◌, Bool, List, [], ◌∷◌, length, drop, Some, refl, sym, ap, ◌∙◌, arith, suc, zero, None}
 use Rattle.pg_translate.specs.declared.items.Place.{Place}
 use Rattle.pg_translate.specs.Alphabets.{Alphabet}
 use Rattle.pg_translate.specs.Tokens.{Token, item_at}
-use Rattle.pg_translate.specs.Cuts.{Cut, cut_from, cut_at, with_item}
+use Rattle.pg_translate.specs.Cuts.{cut_from, with_item}
 use Rattle.pg_translate.specs.Answers.{Takes, Stops}
 
 -- the bytes of an item are passed over
@@ -15,7 +15,7 @@ cut_skip t place column (suc skip) (b ∷ bs) few =
     cut_skip t place (column + 1) skip bs (omega arith) ∙ ap (λ (n : ℕ). cut_from t place n zero (drop skip bs)) same
 
 -- behind an item the cut is that of what follows
-cut_item : (t : Alphabet) (place : Place) (column : ℕ) (text : List ℕ) (token : Token) (size : ℕ) → item_at t place text ≡ Some (token, size) → 0 < size → size ≤ length text → cut_from t place column zero text ≡ with_item column token (cut_from t place (column + size) zero (drop size text))
+pub cut_item : (t : Alphabet) (place : Place) (column : ℕ) (text : List ℕ) (token : Token) (size : ℕ) → item_at t place text ≡ Some (token, size) → 0 < size → size ≤ length text → cut_from t place column zero text ≡ with_item column token (cut_from t place (column + size) zero (drop size text))
 cut_item t place column [] token size found some within = absurd (omega arith)
 cut_item t place column (b ∷ bs) token zero found some within = absurd (omega arith)
 cut_item t place column (b ∷ bs) token (suc size) found some within =
@@ -28,7 +28,11 @@ pub cut_takes : (t : Alphabet) (place : Place) (column : ℕ) (text after : List
 cut_takes t place column text after token takes =
     cut_item t place column text token takes.size takes.found takes.some takes.within ∙ ap (λ (rest : List ℕ). with_item column token (cut_from t place (column + takes.size) zero rest)) (sym takes.behind)
 
+-- where no item stands the cut has none
+pub cut_none : (t : Alphabet) (place : Place) (column : ℕ) (text : List ℕ) → item_at t place text ≡ None → cut_from t place column zero text ≡ record { items = []; column = column; rest = text }
+cut_none t place column [] none = refl
+cut_none t place column (b ∷ bs) none = rw none refl
+
 -- where no item stands the cut ends
 pub cut_stops : (t : Alphabet) (place : Place) (column : ℕ) (text : List ℕ) (ended : Bool) → Stops t place text ended → cut_from t place column zero text ≡ record { items = []; column = column; rest = text }
-cut_stops t place column [] ended stops = refl
-cut_stops t place column (b ∷ bs) ended stops = rw stops.none refl
+cut_stops t place column text ended stops = cut_none t place column text stops.none

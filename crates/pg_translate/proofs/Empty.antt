@@ -1,13 +1,11 @@
 -- An index without spellings.
-use Rattle.std.proofs.Common.{◌≡◌, ℕ, ◌+◌, ◌-◌, ◌<◌, ◌≤◌, nat_lt, nat_eq, Bool, true, false, cond, ◌⊎◌, ⊎_elim, List, [], ◌∷◌, length, map, replicate, get_or, slice_get, slice_index_or, Option, None, refl, sym, ap, ◌∙◌, subst, arith}
-use Rattle.std.specs.HashMap.{get}
-use Rattle.std.specs.List.{list_all}
-use Rattle.std.proofs.lemmas.Bool.{cases_lt, lt-ltb, cases_Bool}
+use Rattle.std.proofs.Common.{◌≡◌, ℕ, ◌-◌, ◌<◌, ◌≤◌, nat_lt, true, false, ⊎_elim, [], map, replicate, get_or, Option, None, refl, sym, ap, subst}
+use Rattle.std.proofs.lemmas.Bool.{cases_lt, cases_Bool}
 use Rattle.std.proofs.lemmas.List.{get_or-replicate, get_or_past, length-replicate}
 use Rattle.pg_translate.specs.declared.index.Front.{Front}
 use Rattle.pg_translate.specs.declared.index.Index.{Index}
-use Rattle.pg_translate.specs.Texts.{text_of}
-use Rattle.pg_translate.specs.Fronts.{IsIndex, AreBytes, IsAmong, pairs, pair_of, firsts_of, front_at, code_of}
+use Rattle.pg_translate.specs.Spellings.{IsAmong}
+use Rattle.pg_translate.specs.Fronts.{IsIndex, pairs, pair_of, code_of}
 
 -- each element of a list of None is None
 none_at : (n i : ℕ) → let nothing : Option Front = None in get_or (replicate n nothing) i nothing ≡ nothing

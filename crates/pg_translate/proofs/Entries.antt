@@ -1,8 +1,8 @@
 -- Entering the fronts of a spelling into an index.
-use Rattle.std.proofs.Common.{◌≡◌, ℕ, ◌+◌, ◌*◌, ◌<◌, ◌≤◌, ◌==◌, nat_le, Bool, true, false, cond, if◌then◌else◌, ◌⊎◌, ⊎_elim, List, [], ◌∷◌, length, take, get_or, Option, Some, None, refl, sym, ap, ◌∙◌, subst, arith}
+use Rattle.std.proofs.Common.{◌≡◌, ℕ, ◌+◌, ◌*◌, ◌<◌, ◌≤◌, ◌==◌, nat_le, true, false, if◌then◌else◌, ⊎_elim, List, length, take, get_or, Option, Some, None, refl, sym, ap, ◌∙◌, subst, arith}
 use Rattle.std.specs.Option.{option_or}
-use Rattle.std.proofs.lemmas.Bool.{cases_Bool, cases_lt, eqb-true, eqb-false, eq-eqb, le-leb, lt-leb, false_from_ne_true}
-use Rattle.std.proofs.lemmas.List.{length-take-le, take_all}
+use Rattle.std.proofs.lemmas.Bool.{cases_Bool, cases_lt, eqb-true, eqb-false, le-leb, lt-leb, false_from_ne_true}
+use Rattle.std.proofs.lemmas.List.{length-take-le}
 use Rattle.pg_translate.specs.declared.index.Front.{Front}
 use Rattle.pg_translate.specs.declared.index.Front.TheVariants.{Inside, Whole}
 use Rattle.pg_translate.specs.declared.index.Index.{Index}

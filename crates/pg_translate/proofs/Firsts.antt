@@ -1,17 +1,24 @@
 -- The first spellings of letters.
-use Rattle.std.proofs.Common.{◌≡◌, ℕ, ◌+◌, ◌-◌, ◌<◌, ◌≤◌, ◌==◌, Bool, true, false, ◌⊎◌, inl, inr, ⊎_elim, List, [], ◌∷◌, length, map, find, get_or, slice_get, Option, Some, None, option_map, refl, sym, ap, ◌∙◌, subst, arith}
+use Rattle.std.proofs.Common.{◌≡◌, ℕ, ◌+◌, ◌<◌, ◌≤◌, ◌==◌, Bool, true, false, inl, inr, ⊎_elim, List, [], ◌∷◌, length, find, get_or, slice_get, Option, Some, None, option_map, refl, sym, ap, ◌∙◌, arith, subst}
 use Rattle.std.proofs.lemmas.Bool.{cases_Bool}
 use Rattle.std.proofs.lemmas.Option.{slice_get-map, slice_get-get_or}
 use Rattle.pg_translate.specs.declared.index.Index.{Index}
 use Rattle.pg_translate.specs.declared.spellings.Text.{Text}
 use Rattle.pg_translate.specs.Texts.{text_of}
-use Rattle.pg_translate.specs.Fronts.{IsIndex, IsAmong, pairs, first_of}
+use Rattle.pg_translate.specs.Spellings.{IsAmong}
+use Rattle.pg_translate.specs.Fronts.{IsIndex, pairs, first_of}
 
 -- what is found is among the spellings
-find_among : (test : ℕ × List ℕ → Bool) (spellings : List (ℕ × List ℕ)) (s : ℕ × List ℕ) → find test spellings ≡ Some s → IsAmong s spellings
+pub find_among : (test : ℕ × List ℕ → Bool) (spellings : List (ℕ × List ℕ)) (s : ℕ × List ℕ) → find test spellings ≡ Some s → IsAmong s spellings
 find_among test [] s h = absurd (cc)
 find_among test (x ∷ xs) s h =
     ⊎_elim (λ (yes : test x ≡ true). let here : Some x ≡ Some s = rw yes at h in inl (cc)) (λ (no : test x ≡ false). let later : find test xs ≡ Some s = rw no at h in inr (find_among test xs s later)) (cases_Bool (test x))
+
+-- what is found passes
+pub found_passes : (test : ℕ × List ℕ → Bool) (spellings : List (ℕ × List ℕ)) (s : ℕ × List ℕ) → find test spellings ≡ Some s → test s ≡ true
+found_passes test [] s h = absurd (cc)
+found_passes test (x ∷ xs) s h =
+    ⊎_elim (λ (yes : test x ≡ true). let here : Some x ≡ Some s = rw yes at h in let same : x ≡ s = cc in subst (λ (y : ℕ × List ℕ). test y ≡ true) same yes) (λ (no : test x ≡ false). let later : find test xs ≡ Some s = rw no at h in found_passes test xs s later) (cases_Bool (test x))
 
 -- a first spelling is one of the spellings
 first_among : (spellings : List (ℕ × List ℕ)) (sign : ℕ) (text : List ℕ) → first_of spellings sign ≡ Some text → (s : ℕ × List ℕ) × IsAmong s spellings × (text ≡ s.1)

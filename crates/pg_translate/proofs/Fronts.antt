@@ -1,14 +1,13 @@
 -- Fronts of spellings, and the first spelling that begins a text.
-use Rattle.std.proofs.Common.{◌≡◌, ℕ, ◌+◌, ◌-◌, ◌<◌, ◌≤◌, ◌==◌, Bool, true, false, cond, not, ◌&&◌, ◌||◌, ◌⊎◌, inl, inr, ⊎_elim, List, [], ◌∷◌, ◌++◌, map, length, take, drop, get_or, replicate, find, slice_index_or, Option, Some, None, option_map, refl, sym, ap, ap₂, ◌∙◌, arith, suc, zero, subst}
+use Rattle.std.proofs.Common.{◌≡◌, ℕ, ◌<◌, ◌==◌, Bool, true, false, cond, ◌&&◌, ◌||◌, ◌⊎◌, inl, inr, ⊎_elim, List, [], ◌∷◌, ◌++◌, length, find, Option, Some, None, refl, sym, ap, ap₂, ◌∙◌, arith, subst}
 use Rattle.std.specs.List.{list_any}
 use Rattle.std.specs.Option.{option_or}
-use Rattle.std.proofs.lemmas.Bool.{and_parts, and_from, and_cases, or_parts, or_from, or_left, or_right, not-true, not-false, eqb-true, eq-eqb, ne_eqb, true≢false, false_from_ne_true, cases_lt, cases_Bool}
-use Rattle.std.proofs.lemmas.List.{get_or-replicate, get_or_past, length-replicate, length-take-le, take_all}
+use Rattle.std.proofs.lemmas.Bool.{and_parts, and_cases, or_parts, or_from, or_left, or_right, not-false, eqb-true, true≢false, cases_lt, cases_Bool}
 use Rattle.pg_translate.specs.declared.index.Front.{Front}
 use Rattle.pg_translate.specs.declared.index.Front.TheVariants.{Inside, Whole}
-use Rattle.pg_translate.specs.Spellings.{begins, clash}
-use Rattle.pg_translate.specs.Fronts.{front_of, front_in, IsAmong}
-use Rattle.pg_translate.proofs.Prefixes.{begins_front, begins_within, begins_both, begins_equal}
+use Rattle.pg_translate.specs.Spellings.{begins, clash, IsAmong}
+use Rattle.pg_translate.specs.Fronts.{front_of, front_in}
+use Rattle.pg_translate.proofs.Prefixes.{begins_both, begins_equal}
 
 -- a choice is one of its two values
 or_some : (o p : Option Front) (f : Front) → option_or o p ≡ Some f → (o ≡ Some f) ⊎ (p ≡ Some f)

@@ -1,17 +1,16 @@
 -- What the definitions give of small files and lines.
-use Rattle.std.specs.Prelude.{◌≡◌, ℕ, ◌+◌, List, [], ◌∷◌, ◌++◌, map, flat_map, Option, None, Some, Result, Ok, Err, refl, codes}
+use Rattle.std.specs.Prelude.{◌≡◌, ℕ, ◌+◌, List, [], ◌∷◌, ◌++◌, map, None, Some, Result, Ok, Err, refl, codes}
 use Rattle.std.specs.List.{concat, range_with_len}
-use Rattle.std.specs.Result.{IfOk}
 use Rattle.pg_types.specs.declared.marks.Mark.TheVariants.{Error, Missed, Found, DontCare}
 use Rattle.pg_types.specs.declared.refusals.Kind.{Kind}
 use Rattle.pg_types.specs.declared.refusals.Kind.TheVariants.{BadMinima, BadMark, BadSpelling, SpellingClash}
 use Rattle.pg_types.specs.declared.refusals.Refusal.{Refusal}
 use Rattle.pg_translate.specs.declared.items.Place.TheVariants.{Dictionary, Patterns}
-use Rattle.pg_translate.specs.Alphabets.{Alphabet, letters_of, spelling_of, mark_byte_of}
-use Rattle.pg_translate.specs.Tables.{table, default_alphabet, alphabet_of, spellings_from, line_pieces}
-use Rattle.pg_translate.specs.Tokens.{Token, Letter, Digit, Weight, Marked, Edge, item_at}
+use Rattle.pg_translate.specs.Alphabets.{Alphabet, letters_of, spelling_of}
+use Rattle.pg_translate.specs.Tables.{table, default_alphabet}
+use Rattle.pg_translate.specs.Tokens.{Letter, Digit, Weight, Marked, Edge, item_at}
 use Rattle.pg_translate.specs.Cuts.{Cut, cut, tokens_of}
-use Rattle.pg_translate.specs.Reach.{reach, positions}
+use Rattle.pg_translate.specs.Reach.{positions}
 
 -- a line with its line feed
 abbrev ended : List ℕ → List ℕ

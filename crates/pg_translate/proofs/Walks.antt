@@ -1,15 +1,14 @@
 -- A walk along the fronts of a text: what each front says of the spelling that begins the text, and of clashes.
-use Rattle.std.proofs.Common.{◌≡◌, ℕ, ◌+◌, ◌-◌, ◌<◌, ◌≤◌, ◌==◌, min, max, fold, Bool, true, false, not, ◌&&◌, ◌||◌, ◌⊎◌, inl, inr, ⊎_elim, List, [], ◌∷◌, length, take, find, Option, Some, None, option_map, nat_lt, get_or, Fits, w8, ◌*◌, ◌^◌, suc, zero, refl, sym, ap, ◌∙◌, subst, arith}
+use Rattle.std.proofs.Common.{◌≡◌, ℕ, ◌+◌, ◌-◌, ◌<◌, ◌≤◌, ◌==◌, min, max, fold, Bool, true, false, not, ◌&&◌, ⊎_elim, List, [], ◌∷◌, length, take, find, Some, None, get_or, Fits, w8, ◌*◌, ◌^◌, suc, zero, refl, sym, ap, ◌∙◌, subst, arith}
 use Rattle.std.specs.List.{list_any}
-use Rattle.std.proofs.lemmas.Bool.{and_parts, and_from, and_left, or_from, or_left, or_right, not-true, not-false, not_from_true, not_from_false, eqb-true, eqb-false, eq-eqb, ne_eqb, lt-ltb, le-ltb, true≢false, false_from_ne_true, cases_lt, cases_Bool}
+use Rattle.std.proofs.lemmas.Bool.{and_from, and_left, or_from, or_left, or_right, not_from_false, eqb-true, eqb-false, ne_eqb, lt-ltb, true≢false, false_from_ne_true, cases_lt, cases_Bool}
 use Rattle.std.proofs.lemmas.List.{length-take-le, take_all}
-use Rattle.pg_translate.specs.declared.index.Front.{Front}
 use Rattle.pg_translate.specs.declared.index.Front.TheVariants.{Inside, Whole}
 use Rattle.pg_translate.specs.Alphabets.{letters_in}
-use Rattle.pg_translate.specs.Spellings.{begins, clash}
-use Rattle.pg_translate.specs.Tokens.{Token, Letter, letter_at}
+use Rattle.pg_translate.specs.Spellings.{begins, clash, IsAmong}
+use Rattle.pg_translate.specs.Tokens.{Letter, letter_at}
 use Rattle.pg_translate.specs.declared.index.Index.{Index}
-use Rattle.pg_translate.specs.Fronts.{AreBytes, IsIndex, pairs, code_of, front_at, front_of, front_in, IsAmong}
+use Rattle.pg_translate.specs.Fronts.{AreBytes, IsIndex, pairs, code_of, front_at, front_in}
 use Rattle.pg_translate.proofs.Codes.{code_more, code_small, code_least}
 use Rattle.pg_translate.proofs.Prefixes.{begins_front, begins_within, begins-take, begins_take, begins_less}
 use Rattle.pg_translate.proofs.Fronts.{IsInside, whole_in, inside_in, nothing_in, find_none, find_begins, list_any_none, list_any_some, apart_equal}

@@ -8,3 +8,6 @@ pub mod Answers
 pub mod Texts
 pub mod Fronts
 pub mod Sound
+pub mod Items
+pub mod Rules
+pub mod Heads

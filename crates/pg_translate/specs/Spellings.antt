@@ -1,5 +1,5 @@
 -- What a spelling may be, and when two spellings clash.
-use Rattle.std.specs.Prelude.{ℕ, ◌==◌, nat_le, Bool, true, false, not, ◌&&◌, ◌||◌, List, [], ◌∷◌, length}
+use Rattle.std.specs.Prelude.{◌≡◌, ◌⊎◌, ℕ, ◌==◌, nat_le, Bool, true, false, not, ◌&&◌, ◌||◌, List, [], ◌∷◌, length}
 use Rattle.std.specs.List.{list_any}
 
 -- the most bytes of a spelling
@@ -36,3 +36,8 @@ begins (b ∷ bs) (x ∷ xs) = b == x && begins bs xs
 -- two spellings clash where one begins with the other, unless they are equal and of one letter
 abbrev pub clash : ℕ × List ℕ → ℕ × List ℕ → Bool
 clash s t = (begins s.1 t.1 || begins t.1 s.1) && not (s.0 == t.0 && length s.1 == length t.1)
+
+-- a spelling is among some
+abbrev pub IsAmong : ℕ × List ℕ → List (ℕ × List ℕ) → Type 0
+IsAmong s [] = ⊥
+IsAmong s (x ∷ xs) = (s ≡ x) ⊎ IsAmong s xs

@@ -14,6 +14,10 @@ use Rattle.pg_translate.specs.Spellings.{is_digit, is_spelling, clash}
 abbrev pub check : Bool → Kind → ℕ → ℕ → List Refusal
 check fails kind line column = if fails then record { kind = kind; line = line; column = column } ∷ [] else []
 
+-- whether all checks pass, or the refusal of the first that fails
+abbrev pub outcome : List Refusal → Result (Unit {0}) Refusal
+outcome refusals = first_refusal refusals tt
+
 -- the byte in a column of the head; a column past its end is blank
 abbrev pub in_column : List ℕ → ℕ → ℕ
 in_column head column = slice_index_or head (column - 1) 32
@@ -58,10 +62,13 @@ abbrev pub mark_checks : ℕ → List ℕ → List ℕ → List Refusal
 mark_checks column earlier [] = []
 mark_checks column earlier (mark ∷ marks) = check (mark_fails earlier mark) BadMark 1 column ++ mark_checks (column + 1) (mark ∷ earlier) marks
 
--- the checks of the head: the left pair, the right pair and the marks
+-- the checks of the minima: the left pair and the right pair
+abbrev pub minima_checks : List ℕ → List Refusal
+minima_checks head = check (pair_fails (pair_at head 1) (pair_at head 3)) BadMinima 1 1 ++ check (pair_fails (pair_at head 3) (pair_at head 1)) BadMinima 1 3
+
+-- the checks of the head: the minima and the marks
 abbrev pub head_checks : List ℕ → List Refusal
-head_checks head =
-    check (pair_fails (pair_at head 1) (pair_at head 3)) BadMinima 1 1 ++ (check (pair_fails (pair_at head 3) (pair_at head 1)) BadMinima 1 3 ++ mark_checks 5 [] (marks_of head))
+head_checks head = minima_checks head ++ mark_checks 5 [] (marks_of head)
 
 -- a byte before a line; a blank at the line's end is dropped
 abbrev pub unless_blank_end : ℕ → List ℕ → List ℕ
@@ -93,39 +100,42 @@ abbrev pub line_pieces : List ℕ → List (List ℕ)
 line_pieces line = delimited (without_blanks line)
 
 -- a spelling of the file: where it stands, and the number of its letter
-pub record Spelling : Type 0 where
+pub record ListedSpelling : Type 0 where
   pub line : ℕ
   pub column : ℕ
   pub letter : ℕ
   pub text : List ℕ
 
 -- the spellings of a line from a column on, with one delimiter after each
-abbrev pub spellings_at : ℕ → ℕ → ℕ → List (List ℕ) → List Spelling
+abbrev pub spellings_at : ℕ → ℕ → ℕ → List (List ℕ) → List ListedSpelling
 spellings_at line column letter [] = []
 spellings_at line column letter (piece ∷ pieces) = record { line = line; column = column; letter = letter; text = piece } ∷ spellings_at line (column + (length piece + 1)) letter pieces
 
 -- the spellings of a line with these pieces, before those of the lines after it, which begin with the next letter
-abbrev pub with_line : ℕ → ℕ → List (List ℕ) → (ℕ → List Spelling) → List Spelling
+abbrev pub with_line : ℕ → ℕ → List (List ℕ) → (ℕ → List ListedSpelling) → List ListedSpelling
 with_line line letter [] later = later letter
 with_line line letter (piece ∷ pieces) later = spellings_at line 2 letter (piece ∷ pieces) ++ later (letter + 1)
 
 -- the spellings of the letter lines from a line and a letter on
-abbrev pub spellings_from : ℕ → ℕ → List (List ℕ) → List Spelling
+abbrev pub spellings_from : ℕ → ℕ → List (List ℕ) → List ListedSpelling
 spellings_from line letter [] = []
 spellings_from line letter (text ∷ texts) = with_line line letter (line_pieces text) (λ next. spellings_from (line + 1) next texts)
 
 -- a spelling with the sign of its letter; sign 1 is the edge
-abbrev pub signed : Spelling → ℕ × List ℕ
+abbrev pub signed : ListedSpelling → ℕ × List ℕ
 signed spelling = (spelling.letter + 1, spelling.text)
 
--- the checks of the letter lines: of each spelling the number of letters, its own form, and its clash with an earlier one
-abbrev pub spelling_checks : List ℕ → List (ℕ × List ℕ) → List Spelling → List Refusal
-spelling_checks marks earlier [] = []
-spelling_checks marks earlier (s ∷ later) =
+-- the checks of a spelling beside earlier ones: the number of letters, its own form, and its clash with an earlier one
+abbrev pub spelling_check : List ℕ → List (ℕ × List ℕ) → ListedSpelling → List Refusal
+spelling_check marks earlier s =
     check (nat_lt (SIGNS_MAX - 1) s.letter) TooManyLetters s.line 1
-    ++ (check (not (is_spelling marks s.text)) BadSpelling s.line s.column
-    ++ (check (list_any (clash (signed s)) earlier) SpellingClash s.line s.column
-    ++ spelling_checks marks (earlier ++ signed s ∷ []) later))
+        ++ (check (not (is_spelling marks s.text)) BadSpelling s.line s.column
+        ++ check (list_any (clash (signed s)) earlier) SpellingClash s.line s.column)
+
+-- the checks of the letter lines, spelling by spelling
+abbrev pub spelling_checks : List ℕ → List (ℕ × List ℕ) → List ListedSpelling → List Refusal
+spelling_checks marks earlier [] = []
+spelling_checks marks earlier (s ∷ later) = spelling_check marks earlier s ++ spelling_checks marks (earlier ++ signed s ∷ []) later
 
 -- all checks of a translate file of some size, with this head and these letter lines, in their order
 abbrev pub checks : ℕ → List ℕ → List (List ℕ) → List Refusal

@@ -89,6 +89,7 @@ impl Index {
     }
 
     /// The front with a code.
+    #[inline]
     fn front(&self, code: u128) -> Option<Front>
         requires { 256 ≤ code }
         ensures { result ≡ front_at self.now code }
@@ -101,6 +102,7 @@ impl Index {
     }
 
     /// The letter whose spelling begins `text`, with the size of that spelling.
+    #[inline]
     pub(crate) fn letter(&self, text: &[u8]) -> Option<(Sign, usize)>
         requires { IsIndex self.now }
         ensures letter { MatchOption result (letter_at (pairs self.now) text.now ≡ None) (λ l. letter_at (pairs self.now) text.now ≡ Some (token.Letter l.0, l.1)) }

@@ -12,7 +12,7 @@ pub enum Place {
 }
 
 /// The first item of a text, with what follows it.
-#[derive(Clone, Copy, Debug)]
+#[derive(Clone, Copy, Debug, PartialEq, Eq)]
 pub enum Item<'a> {
     /// The letter with this sign, in one of its spellings.
     Letter(Sign, &'a [u8]),

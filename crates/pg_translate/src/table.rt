@@ -1,14 +1,19 @@
 //! The table of a translate file.
-ghost use Rattle.std.specs.Prelude.{◌≡◌, ◌∷◌, [], IfOk};
+ghost use Rattle.std.specs.Prelude.{◌≡◌, IfOk};
 ghost use Rattle.pg_translate.specs.Alphabets.{Alphabet};
 ghost use Rattle.pg_translate.specs.Fronts.{pairs};
+ghost use Rattle.pg_translate.specs.Heads.{marks_in};
 ghost use Rattle.pg_translate.specs.Sound.{IsTable};
 
+pub mod laws;
+
+use crate::head::Head;
 use crate::index::Index;
 use crate::items::{Item, Place};
+use crate::reading::{read_letters, refused};
 use crate::spellings::SPELLING_MAX;
 use crate::weights::weight_of;
-use pg_types::{EDGE, Mark, SIGNS_MAX, Sign, Weight};
+use pg_types::{EDGE, FILE_MAX, Kind, Mark, ReadingError, SIGNS_MAX, Sign, next_line};
 use std::alloc::{AllocError, Global};
 use std::marker::Model;
 
@@ -18,27 +23,23 @@ pub const MINIMUM_MAX: u8 = 99;
 /// The minima, the mark bytes, and the letters with their spellings.
 #[derive(Drop)]
 pub struct Table {
-    left: u8,
-    right: u8,
-    error: u8,
-    missed: u8,
-    found: u8,
-    dont_care: u8,
+    head: Head,
     index: Index,
 }
 
 impl Model for Table {
     ghost Value = { Alphabet };
 
-    ghost view = { λ t. record { left = t.left; right = t.right; marks = t.error ∷ t.missed ∷ t.found ∷ t.dont_care ∷ []; spellings = pairs t.index } };
+    ghost view = { λ t. record { left = t.head.left; right = t.head.right; marks = marks_in t.head; spellings = pairs t.index } };
 
-    ghost invariant = { λ t. IsTable t.left t.right (t.error ∷ t.missed ∷ t.found ∷ t.dont_care ∷ []) t.index };
+    ghost invariant = { λ t. IsTable t.head t.index };
 }
 
 impl Table {
     ghost use Rattle.std.specs.Prelude.{◌≡◌, ◌+◌, ◌-◌, ◌<◌, ◌≤◌, length, MatchOption, IfSome, IfOk, Some, None};
     ghost use Rattle.pg_translate.specs.Alphabets.{letters_of, spelling_of, mark_byte_of};
-    ghost use Rattle.pg_translate.specs.Tables.{default_alphabet};
+    ghost use Rattle.pg_types.specs.Reading.{Gives};
+    ghost use Rattle.pg_translate.specs.Tables.{default_alphabet, table};
     ghost use Rattle.pg_translate.specs.Tokens.{letter_at, mark_at};
     ghost use Rattle.pg_translate.specs.Tokens as token;
     ghost use Rattle.pg_translate.specs.Answers.{IsFirstItem, IsInRange};
@@ -49,15 +50,32 @@ impl Table {
     pub fn default_letters(alloc: Global) -> Result<Table, AllocError>
         ensures { IfOk result (λ table. table ≡ default_alphabet) }
     {
-        Ok(Table {
+        let head = Head {
             left: 2,
             right: 3,
             error: b'.',
             missed: b'-',
             found: b'*',
             dont_care: b'?',
-            index: Index::default_letters(alloc)?,
-        })
+        };
+        let index = Index::default_letters(alloc)?;
+        Ok(Table { head, index })
+    }
+
+    /// The table of a translate file, or the first place at which its rules refuse it. A file of no bytes means the default
+    /// table. Want of memory is an error of its own.
+    pub fn read(alloc: Global, bytes: &[u8]) -> Result<Table, ReadingError>
+        ensures { Gives (λ t. t) result (table bytes.now) }
+    {
+        let Some((first, rest)) = next_line(bytes) else {
+            return Ok(Table::default_letters(alloc)?);
+        };
+        if bytes.len() > FILE_MAX {
+            return Err(refused(Kind::TranslateTooLong, 0, 0));
+        }
+        let head = Head::read(first)?;
+        let index = read_letters(alloc, &head.marks(), rest)?;
+        Ok(Table { head, index })
     }
 
     /// The number of letters, 0 to 2,000.
@@ -73,7 +91,7 @@ impl Table {
         ensures value { result ≡ self.now.left }
         ensures range { (0 < result) × (result ≤ MINIMUM_MAX) }
     {
-        self.left
+        self.head.left
     }
 
     /// The right minimum, 1 to 99.
@@ -81,7 +99,7 @@ impl Table {
         ensures value { result ≡ self.now.right }
         ensures range { (0 < result) × (result ≤ MINIMUM_MAX) }
     {
-        self.right
+        self.head.right
     }
 
     /// The first spelling of the letter with a sign, and a dot for the edge.
@@ -101,10 +119,10 @@ impl Table {
     {
         match m {
             Mark::Nothing => unreachable!(),
-            Mark::Error => self.error,
-            Mark::Missed => self.missed,
-            Mark::Found => self.found,
-            Mark::DontCare => self.dont_care,
+            Mark::Error => self.head.error,
+            Mark::Missed => self.head.missed,
+            Mark::Found => self.head.found,
+            Mark::DontCare => self.head.dont_care,
         }
     }
 
@@ -115,8 +133,8 @@ impl Table {
         requires high { signs ≤ 102 }
         ensures { result ≡ reach self.now.left self.now.right signs }
     {
-        let left = self.left as usize;
-        let right = self.right as usize;
+        let left = self.head.left as usize;
+        let right = self.head.right as usize;
         if left + right + 2 <= signs {
             Some((left + 1, signs - right - 1))
         } else {
@@ -125,6 +143,7 @@ impl Table {
     }
 
     /// The letter whose spelling begins `text`, with the size of that spelling.
+    #[inline]
     fn letter(&self, text: &[u8]) -> Option<(Sign, usize)>
         ensures letter { MatchOption result (letter_at self.now.spellings text.now ≡ None) (λ l. letter_at self.now.spellings text.now ≡ Some (token.Letter l.0, l.1)) }
         ensures sign { IfSome result (λ l. (1 < l.0) × (l.0 ≤ letters_of self.now + 1)) }
@@ -134,18 +153,19 @@ impl Table {
     }
 
     /// The mark whose byte begins `text`.
+    #[inline]
     fn mark(&self, text: &[u8]) -> Option<Mark>
         requires { 0 < length text.now }
         ensures { MatchOption result (mark_at self.now.marks text.now ≡ None) (λ m. mark_at self.now.marks text.now ≡ Some (token.Marked m, 1)) }
     {
         let byte = text[0];
-        if byte == self.error {
+        if byte == self.head.error {
             Some(Mark::Error)
-        } else if byte == self.missed {
+        } else if byte == self.head.missed {
             Some(Mark::Missed)
-        } else if byte == self.found {
+        } else if byte == self.head.found {
             Some(Mark::Found)
-        } else if byte == self.dont_care {
+        } else if byte == self.head.dont_care {
             Some(Mark::DontCare)
         } else {
             None
@@ -157,6 +177,7 @@ impl Table {
     /// `End` comes exactly where the line ends here, or a blank or TAB stands here. `Bad` comes exactly where no item stands
     /// here and the line does not end. Letters have signs 2 to `letters` + 1, digits are 0 to 9, and weights 1 to 9,999. Marks
     /// and weights come only in a dictionary, and `Edge` only in patterns.
+    #[inline]
     pub fn item<'a>(&self, place: Place, rest: &'a [u8]) -> Item<'a>
         ensures item { IsFirstItem self.now place rest.now result }
         ensures range { IsInRange self.now result }
@@ -191,5 +212,72 @@ impl Table {
         } else {
             Item::Bad
         }
+    }
+}
+
+#[cfg(test)]
+mod tests {
+    use super::*;
+    use std::test::Fail;
+
+    #[test]
+    fn parts_of_the_default_table(rt: HostRuntime) -> Result<(), Fail> {
+        let table = Table::default_letters(rt.alloc())?;
+        assert_eq!(rt; table.letters(), 26);
+        assert_eq!(rt; (table.left(), table.right()), (2, 3));
+        assert_eq!(rt; table.spelling(EDGE), b".".as_slice());
+        assert_eq!(rt; table.spelling(2), b"a".as_slice());
+        assert_eq!(rt; table.spelling(27), b"z".as_slice());
+        for (mark, byte) in [
+            (Mark::Error, b'.'),
+            (Mark::Missed, b'-'),
+            (Mark::Found, b'*'),
+            (Mark::DontCare, b'?'),
+        ] {
+            assert_eq!(rt; table.mark_byte(mark), byte);
+        }
+        for (signs, ends) in [
+            (2, None),
+            (6, None),
+            (7, Some((3, 3))),
+            (8, Some((3, 4))),
+            (102, Some((3, 98))),
+        ] {
+            assert_eq!(rt; table.reach(signs), ends, "at {signs}");
+        }
+        Ok(())
+    }
+
+    #[test]
+    fn items_of_dictionary_lines(rt: HostRuntime) -> Result<(), Fail> {
+        let table = Table::default_letters(rt.alloc())?;
+        let item = |rest| table.item(Place::Dictionary, rest);
+        assert_eq!(rt; item(b"ab"), Item::Letter(2, b"b"));
+        assert_eq!(rt; item(b"Z"), Item::Letter(27, b""));
+        assert_eq!(rt; item(b"90"), Item::Digit(9, b"0"));
+        assert_eq!(rt; item(b"{0012}c"), Item::Weight(12, b"c"));
+        assert_eq!(rt; item(b"{9999}"), Item::Weight(9999, b""));
+        assert_eq!(rt; item(b".a"), Item::Mark(Mark::Error, b"a"));
+        assert_eq!(rt; item(b"?a"), Item::Mark(Mark::DontCare, b"a"));
+        for bad in ["{0}c", "{12c", "{12345}c", "\u{e4}", "\r"] {
+            assert_eq!(rt; item(bad.as_bytes()), Item::Bad, "at {bad}");
+        }
+        for end in ["", " a", "\ta"] {
+            assert_eq!(rt; item(end.as_bytes()), Item::End, "at {end}");
+        }
+        Ok(())
+    }
+
+    #[test]
+    fn items_of_pattern_lines(rt: HostRuntime) -> Result<(), Fail> {
+        let table = Table::default_letters(rt.alloc())?;
+        let item = |rest| table.item(Place::Patterns, rest);
+        assert_eq!(rt; item(b"a1"), Item::Letter(2, b"1"));
+        assert_eq!(rt; item(b"1a"), Item::Digit(1, b"a"));
+        assert_eq!(rt; item(b".a"), Item::Edge(b"a"));
+        assert_eq!(rt; item(b"-a"), Item::Bad);
+        assert_eq!(rt; item(b"{1}"), Item::Bad);
+        assert_eq!(rt; item(b"\t"), Item::End);
+        Ok(())
     }
 }

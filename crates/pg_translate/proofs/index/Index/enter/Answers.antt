@@ -1,4 +1,4 @@
-use Rattle.std.proofs.Common.{◌≡◌, ℕ, ◌<◌, ◌≤◌, ◌+◌, ◌*◌, ◌==◌, ◌^◌, if◌then◌else◌, length, get_or, Some, arith, subst}
+use Rattle.std.proofs.Common.{◌≡◌, ◌<◌, ◌+◌, ◌*◌, ◌==◌, ◌^◌, if◌then◌else◌, get_or, Some, arith, subst}
 use Rattle.pg_translate.specs.declared.index.Front.{Front}
 use Rattle.pg_translate.specs.Fronts.{front_at}
 use Rattle.pg_translate.proofs.Walks.{code_room}

@@ -1,0 +1,9 @@
+use Rattle.pg_translate.proofs.ItemLaws.{item_reads}
+use Rattle.pg_translate.proofs.RuleLaws.{spelling_item}
+use Rattle.pg_translate.proofs.table.laws.items_are_read.Goals as goal
+
+pub returns-clause-read : goal.returns-clause-read
+returns-clause-read c = item_reads c.args.table.now c.keeps_rules.ensures c.args.place
+
+pub returns-clause-spellings : goal.returns-clause-spellings
+returns-clause-spellings c = spelling_item c.args.table.now c.keeps_rules.ensures c.args.place

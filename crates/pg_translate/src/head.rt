@@ -1,0 +1,168 @@
+//! The head of a translate file: the minima and the mark bytes.
+ghost use Rattle.std.specs.Prelude.{◌≡◌, ◌<◌, ◌≤◌, ◌∷◌, [], true, false, not, List, MatchOption, IfSome, MatchResult, Ok, Err, IfOk, OnOk, ◌+◌};
+ghost use Rattle.pg_translate.specs.Rules.{are_marks};
+ghost use Rattle.pg_translate.specs.Tables as table;
+
+use pg_types::{Kind, Refusal};
+
+/// The minima and the mark bytes of a table.
+#[derive(Clone, Copy, Debug)]
+pub(crate) struct Head {
+    pub(crate) left: u8,
+    pub(crate) right: u8,
+    pub(crate) error: u8,
+    pub(crate) missed: u8,
+    pub(crate) found: u8,
+    pub(crate) dont_care: u8,
+}
+
+/// The byte in a column of the head, counted from 1; a column past its end is blank.
+fn in_column(head: &[u8], column: usize) -> u8
+    requires { 0 < column }
+    ensures { result ≡ table.in_column head.now column }
+{
+    match head.get(column - 1) {
+        Some(&byte) => byte,
+        None => b' ',
+    }
+}
+
+/// The value of a digit and a blank, a blank and a digit, or two digits; 0, which is no minimum, for other pairs.
+fn pair_value(first: u8, second: u8) -> u8
+    ensures value { result ≡ table.pair_value first second }
+    ensures few { result ≤ 99 }
+{
+    if first.is_ascii_digit() {
+        if second.is_ascii_digit() {
+            (first - b'0') * 10 + (second - b'0')
+        } else if second == b' ' {
+            first - b'0'
+        } else {
+            0
+        }
+    } else if first == b' ' && second.is_ascii_digit() {
+        second - b'0'
+    } else {
+        0
+    }
+}
+
+/// The pair of bytes that begins at a column of the head.
+fn pair_at(head: &[u8], column: usize) -> (u8, u8)
+    requires some { 0 < column }
+    requires few { column < 100 }
+    ensures { result ≡ table.pair_at head.now column }
+{
+    (in_column(head, column), in_column(head, column + 1))
+}
+
+/// The minimum of a pair beside the other pair, where two blanks mean a default; none where the pair fails.
+fn minimum(pair: (u8, u8), other: (u8, u8), default: u8) -> Option<u8>
+    requires some { 0 < default }
+    requires few { default ≤ 99 }
+    ensures value { MatchOption result (table.pair_fails pair other ≡ true) (λ m. (table.pair_fails pair other ≡ false) × (m ≡ table.minimum pair default)) }
+    ensures range { IfSome result (λ m. (0 < m) × (m ≤ 99)) }
+{
+    let blank = (b' ', b' ');
+    if pair == blank {
+        return if other == blank { Some(default) } else { None };
+    }
+    let value = pair_value(pair.0, pair.1);
+    if value == 0 { None } else { Some(value) }
+}
+
+/// The mark byte in a column of the head; a blank means a default.
+fn mark_in(head: &[u8], column: usize, default: u8) -> u8
+    requires { 0 < column }
+    ensures { result ≡ table.mark_in head.now column default }
+{
+    let byte = in_column(head, column);
+    if byte == b' ' { default } else { byte }
+}
+
+/// Whether a byte is no mark beside those before it.
+fn mark_fails(earlier: &[u8], mark: u8) -> bool
+    ensures { result ≡ table.mark_fails earlier.now mark }
+{
+    mark.is_ascii_digit()
+        || mark == b'\t'
+        || mark == b'\r'
+        || mark == b'{'
+        || earlier.contains(&mark)
+}
+
+/// The two minima of a head, or the refusal of the first pair that fails.
+fn minima(line: &[u8]) -> Result<(u8, u8), Refusal>
+    ensures answer { MatchResult result (λ m. (table.minima_checks line.now ≡ []) × (m.0 ≡ table.minimum (table.pair_at line.now 1) 2) × (m.1 ≡ table.minimum (table.pair_at line.now 3) 3)) (λ r. table.outcome (table.minima_checks line.now) ≡ Err r) }
+    ensures range { IfOk result (λ m. (0 < m.0) × (m.0 ≤ 99) × (0 < m.1) × (m.1 ≤ 99)) }
+{
+    let (left, right) = (pair_at(line, 1), pair_at(line, 3));
+    let Some(first) = minimum(left, right, 2) else {
+        return Err(Refusal { kind: Kind::BadMinima, line: 1, column: 1 });
+    };
+    let Some(second) = minimum(right, left, 3) else {
+        return Err(Refusal { kind: Kind::BadMinima, line: 1, column: 3 });
+    };
+    Ok((first, second))
+}
+
+/// The refusal of the mark in a column of the head.
+fn bad_mark(column: u32) -> Refusal
+    ensures { result ≡ record { kind = Kind.BadMark; line = 1; column = column } }
+{
+    Refusal { kind: Kind::BadMark, line: 1, column }
+}
+
+/// Whether the mark bytes of a head are marks, one after the other, or the refusal of the first that is none.
+fn check_marks(error: u8, missed: u8, found: u8, dont_care: u8) -> Result<(), Refusal>
+    ensures answer { MatchResult result (λ m. table.mark_checks 5 [] (error ∷ missed ∷ found ∷ dont_care ∷ []) ≡ []) (λ r. table.outcome (table.mark_checks 5 [] (error ∷ missed ∷ found ∷ dont_care ∷ [])) ≡ Err r) }
+    ensures good { OnOk result (are_marks [] (error ∷ missed ∷ found ∷ dont_care ∷ []) ≡ true) }
+{
+    if mark_fails(&[], error) {
+        return Err(bad_mark(5));
+    }
+    if mark_fails(&[error], missed) {
+        return Err(bad_mark(6));
+    }
+    if mark_fails(&[missed, error], found) {
+        return Err(bad_mark(7));
+    }
+    if mark_fails(&[found, missed, error], dont_care) {
+        return Err(bad_mark(8));
+    }
+    Ok(())
+}
+
+impl Head {
+    ghost use Rattle.std.specs.Prelude.{◌≡◌, IfOk, MatchResult, Err};
+    ghost use Rattle.pg_translate.specs.Heads.{IsHead, IsSoundHead, marks_in};
+    ghost use Rattle.pg_translate.specs.Tables as table;
+
+    /// The minima and marks of a head, or the refusal of the first that fails. A blank means a default.
+    pub(crate) fn read(line: &[u8]) -> Result<Head, Refusal>
+        ensures answer { MatchResult result (IsHead line.now) (λ r. table.outcome (table.head_checks line.now) ≡ Err r) }
+        ensures sound { IfOk result IsSoundHead }
+    {
+        let (left, right) = minima(line)?;
+        let error = mark_in(line, 5, b'.');
+        let missed = mark_in(line, 6, b'-');
+        let found = mark_in(line, 7, b'*');
+        let dont_care = mark_in(line, 8, b'?');
+        check_marks(error, missed, found, dont_care)?;
+        Ok(Head {
+            left,
+            right,
+            error,
+            missed,
+            found,
+            dont_care,
+        })
+    }
+
+    /// The bytes for an erroneous, a missed, a found and a don't-care position.
+    pub(crate) fn marks(&self) -> [u8; 4]
+        ensures { result ≡ marks_in self.now }
+    {
+        [self.error, self.missed, self.found, self.dont_care]
+    }
+}

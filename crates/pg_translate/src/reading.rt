@@ -1,0 +1,183 @@
+//! The letter lines of a translate file.
+ghost use Rattle.std.specs.Prelude.{◌≡◌, ◌==◌, position, IfOk, ℕ, ◌+◌, ◌-◌, ◌*◌, ◌<◌, ◌≤◌, ◌++◌, ◌∷◌, [], List, length, map, MatchOption, IfSome, OnOk, Ok, Err};
+ghost use Rattle.std.specs.List.{list_any};
+ghost use Rattle.pg_types.specs.Lines.{lines};
+ghost use Rattle.pg_types.specs.Reading.{Gives, first_refusal};
+ghost use Rattle.pg_translate.specs.Alphabets.{letters_in};
+ghost use Rattle.pg_translate.specs.Fronts.{pairs, IsIndex};
+ghost use Rattle.pg_translate.specs.Spellings as spelling;
+ghost use Rattle.pg_translate.specs.Tables as table;
+ghost use Rattle.pg_types.specs.declared.refusals.ReadingError.TheVariants.{Refused};
+
+use crate::index::Index;
+use crate::spellings::SPELLING_MAX;
+use pg_types::{FILE_MAX, Kind, ReadingError, Refusal, SIGNS_MAX, next_line};
+use std::alloc::Global;
+
+/// A refusal with its place.
+pub(crate) fn refused(kind: Kind, line: u32, column: u32) -> ReadingError
+    ensures { result ≡ Refused (record { kind = kind; line = line; column = column }) }
+{
+    ReadingError::Refused(Refusal { kind, line, column })
+}
+
+/// Whether a byte is a blank, a TAB or a CR, which no spelling holds.
+fn is_space(byte: u8) -> bool
+    ensures { result ≡ spelling.is_space byte }
+{
+    byte == b' ' || byte == b'\t' || byte == b'\r'
+}
+
+/// Whether a text holds such a byte.
+fn has_space(text: &[u8]) -> bool
+    ensures { result ≡ list_any spelling.is_space text.now }
+{
+    text.iter().any(|byte| is_space(*byte))
+}
+
+/// Whether the first byte of a text may begin a spelling: it is no digit, dot, brace or mark.
+fn begins_well(marks: &[u8], text: &[u8]) -> bool
+    ensures { result ≡ spelling.begins_well marks.now text.now }
+{
+    if text.is_empty() {
+        return false;
+    }
+    let byte = text[0];
+    !(byte.is_ascii_digit() || byte == b'.' || byte == b'{' || marks.contains(&byte))
+}
+
+/// Whether a text may be a spelling beside these marks.
+fn is_spelling(marks: &[u8], text: &[u8]) -> bool
+    ensures { result ≡ spelling.is_spelling marks.now text.now }
+{
+    text.len() <= SPELLING_MAX && begins_well(marks, text) && !has_space(text)
+}
+
+/// Adds a spelling of the letter with this number to the index, unless one of its checks fails. The letter is the last of the
+/// index or a new one.
+fn add_spelling(
+    index: &mut Index,
+    marks: &[u8],
+    line: u32,
+    column: u32,
+    letter: u16,
+    text: &[u8],
+) -> Result<(), ReadingError>
+    requires sound { IsIndex index.old }
+    requires some { 0 < letter }
+    requires low { letters_in (pairs index.old) ≤ letter }
+    requires high { letter ≤ letters_in (pairs index.old) + 1 }
+    ensures answer { Gives (λ _. tt) result (table.outcome (table.spelling_check marks.now (pairs index.old) (record { line = line; column = column; letter = letter; text = text.now }))) }
+    ensures spellings { OnOk result (pairs index.new ≡ pairs index.old ++ (letter + 1, text.now) ∷ []) }
+    ensures letters { OnOk result ((letters_in (pairs index.new) ≡ letter) × (letter ≤ SIGNS_MAX - 1)) }
+    ensures sound { OnOk result (IsIndex index.new) }
+{
+    if letter > SIGNS_MAX - 1 {
+        return Err(refused(Kind::TooManyLetters, line, 1));
+    }
+    if !is_spelling(marks, text) {
+        return Err(refused(Kind::BadSpelling, line, column));
+    }
+    if index.clashes(letter + 1, text) {
+        return Err(refused(Kind::SpellingClash, line, column));
+    }
+    index.add(letter + 1, text)?;
+    Ok(())
+}
+
+/// The place of the first delimiter.
+fn find_delimiter(delimiter: u8, rest: &[u8]) -> Option<usize>
+    ensures { result ≡ position (λ b. b == delimiter) rest.now }
+{
+    rest.iter().position(|byte| *byte == delimiter)
+}
+
+/// The first piece of what is left of a letter line behind its delimiter, and what follows it; none where the piece is empty, at
+/// which the pieces end.
+fn next_piece(delimiter: u8, rest: &[u8]) -> Option<(&[u8], &[u8])>
+    ensures pieces { MatchOption result (table.pieces_of delimiter rest.now ≡ []) (λ p. table.pieces_of delimiter rest.now ≡ p.0.now ∷ table.pieces_of delimiter p.1.now) }
+    ensures some { IfSome result (λ p. 0 < length p.0.now) }
+    ensures shorter { IfSome result (λ p. length p.0.now + length p.1.now ≤ length rest.now) }
+{
+    match find_delimiter(delimiter, rest) {
+        Some(0) => None,
+        Some(end) => Some((&rest[..end], &rest[end + 1..])),
+        None if rest.is_empty() => None,
+        None => Some((rest, &rest[rest.len()..])),
+    }
+}
+
+/// Adds the spellings of the letter with this number, which stand in the text behind the delimiter of its line.
+fn add_pieces(
+    index: &mut Index,
+    marks: &[u8],
+    line: u32,
+    letter: u16,
+    delimiter: u8,
+    text: &[u8],
+) -> Result<(), ReadingError>
+    requires sound { IsIndex index.old }
+    requires letter { letter ≡ letters_in (pairs index.old) + 1 }
+    requires letters { letter ≤ SIGNS_MAX }
+    requires few { length text.now ≤ FILE_MAX }
+    ensures answer { Gives (λ _. tt) result (table.outcome (table.spelling_checks marks.now (pairs index.old) (table.spellings_at line 2 letter (table.pieces_of delimiter text.now)))) }
+    ensures spellings { OnOk result (pairs index.new ≡ pairs index.old ++ map table.signed (table.spellings_at line 2 letter (table.pieces_of delimiter text.now))) }
+    ensures letters { OnOk result (letters_in (pairs index.new) ≤ SIGNS_MAX - 1) }
+    ensures sound { OnOk result (IsIndex index.new) }
+{
+    let mut column = 2;
+    let mut rest = text;
+    'pieces: while let Some((piece, after)) = next_piece(delimiter, rest) {
+        add_spelling(index, marks, line, column, letter, piece)?;
+        column += piece.len() as u32 + 1;
+        rest = after;
+    }
+    Ok(())
+}
+
+/// A line without the blanks at its end.
+fn without_blanks(line: &[u8]) -> &[u8]
+    ensures value { result.now ≡ table.without_blanks line.now }
+    ensures within { length result.now ≤ length line.now }
+{
+    let mut end = line.len();
+    'blanks: while end > 0 && line[end - 1] == b' ' {
+        end -= 1;
+    }
+    &line[..end]
+}
+
+/// Adds the letter of a letter line, unless the line is skipped.
+fn add_line(index: &mut Index, marks: &[u8], line: u32, text: &[u8]) -> Result<(), ReadingError>
+    requires sound { IsIndex index.old }
+    requires letters { letters_in (pairs index.old) ≤ SIGNS_MAX - 1 }
+    requires few { length text.now ≤ FILE_MAX }
+    ensures answer { Gives (λ _. tt) result (table.outcome (table.spelling_checks marks.now (pairs index.old) (table.spellings_at line 2 (letters_in (pairs index.old) + 1) (table.line_pieces text.now)))) }
+    ensures spellings { OnOk result (pairs index.new ≡ pairs index.old ++ map table.signed (table.spellings_at line 2 (letters_in (pairs index.old) + 1) (table.line_pieces text.now))) }
+    ensures letters { OnOk result (letters_in (pairs index.new) ≤ SIGNS_MAX - 1) }
+    ensures sound { OnOk result (IsIndex index.new) }
+{
+    let text = without_blanks(text);
+    if text.is_empty() {
+        return Ok(());
+    }
+    let letter = index.letters() as u16 + 1;
+    add_pieces(index, marks, line, letter, text[0], &text[1..])
+}
+
+/// The letters of the lines that follow the head.
+pub(crate) fn read_letters(alloc: Global, marks: &[u8], text: &[u8]) -> Result<Index, ReadingError>
+    requires { length text.now ≤ FILE_MAX }
+    ensures answer { Gives pairs result (first_refusal (table.spelling_checks marks.now [] (table.spellings_from 2 1 (lines text.now))) (map table.signed (table.spellings_from 2 1 (lines text.now)))) }
+    ensures sound { IfOk result IsIndex }
+{
+    let mut index = Index::new(alloc);
+    let mut line = 2;
+    let mut rest = text;
+    'lines: while let Some((first, after)) = next_line(rest) {
+        add_line(&mut index, marks, line, first)?;
+        line += 1;
+        rest = after;
+    }
+    Ok(index)
+}

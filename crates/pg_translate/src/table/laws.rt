@@ -1,0 +1,41 @@
+//! Laws of every table. A call does nothing; its contract is the law.
+ghost use Rattle.std.specs.Prelude.{◌≡◌, ℕ, ◌+◌, ◌≤◌, ◌⊎◌, ◌++◌, List, Some, length};
+ghost use Rattle.pg_translate.specs.Alphabets.{letters_of, spelling_of};
+ghost use Rattle.pg_translate.specs.Cuts.{cut, tokens_of};
+ghost use Rattle.pg_translate.specs.Items.{IsItem, IsCut, IsPrefix, IsLongest};
+ghost use Rattle.pg_translate.specs.Rules.{KeepsRules};
+ghost use Rattle.pg_translate.specs.Tokens.{Token, item_at};
+ghost use Rattle.pg_translate.specs.Tokens as token;
+
+use super::Table;
+use crate::items::Place;
+
+/// A table keeps the rules of the translate file on minima, marks, letters and spellings.
+pub fn keeps_rules(table: &Table)
+    ensures { KeepsRules table.now }
+{
+    let _ = &table.head;
+}
+
+/// Where an item begins a text, it is the first item of the text, whatever follows it; and the spelling of each letter is an
+/// item.
+pub fn items_are_read(table: &Table, place: Place)
+    ensures read { (item : Token) (text more : List ℕ) → IsItem table.now place item text → item_at table.now place (text ++ more) ≡ Some (item, length text) }
+    ensures spellings { (s : ℕ) → 2 ≤ s → s ≤ letters_of table.now + 1 → IsItem table.now place (token.Letter s) (spelling_of table.now s) }
+{
+    keeps_rules(table);
+}
+
+/// Of two cuts of one line into items, one is a prefix of the other.
+pub fn cuts_agree(table: &Table, place: Place)
+    ensures { (line : List ℕ) (a b : List (Token × List ℕ)) → IsCut table.now place line a → IsCut table.now place line b → (IsPrefix a b ⊎ IsPrefix b a) }
+{
+    keeps_rules(table);
+}
+
+/// The cut of a line, which is taken item by item, is its longest cut into items.
+pub fn cut_is_longest(table: &Table, place: Place)
+    ensures { (line : List ℕ) → IsLongest table.now place line (tokens_of (cut table.now place line)) }
+{
+    keeps_rules(table);
+}
