@@ -13,3 +13,4 @@ pub mod Written
 pub mod ReadBack
 pub mod Restored
 pub mod TextLaw
+pub mod TableItems

@@ -87,7 +87,7 @@ entries_of_items t line items read few =
     ∙ ap (λ tokens. Ok (line_entries tokens)) is.same
 
 -- a line without LF and CR stands alone
-or_false : (a b : Bool) → (a || b) ≡ false → (a ≡ false) × (b ≡ false)
+pub or_false : (a b : Bool) → (a || b) ≡ false → (a ≡ false) × (b ≡ false)
 or_false true b e = cc
 or_false false b e = (refl, e)
 
