@@ -1,5 +1,5 @@
 -- The signs of a map of entries are those of the entries.
-use Rattle.std.proofs.Common.{◌≡◌, ℕ, ◌≤◌, List, [], ◌∷◌, length, max, fold}
+use Rattle.std.proofs.Common.{ℕ, ◌≤◌, List, [], ◌∷◌, max, fold}
 use Rattle.std.proofs.lemmas.List.Elements.{All-nil, All-cons, All-head, All-tail}
 use Rattle.std.specs.declared.cmp.Ordering.TheVariants.{Less, Equal, Greater}
 use Rattle.std.specs.FinMap.Entries.{put, by_order}

@@ -1,10 +1,10 @@
 -- The entries of a line, by its draft and by its items.
-use Rattle.std.proofs.Common.{◌≡◌, ℕ, suc, ◌+◌, ◌<◌, ◌≤◌, Bool, true, false, List, [], ◌∷◌, ◌++◌, length, map, fold, Option, Some, None, Result, Ok, Err, nat_le, sym, refl, ap, subst, ◌∙◌, append_assoc, arith}
+use Rattle.std.proofs.Common.{◌≡◌, ℕ, ◌+◌, ◌≤◌, true, List, [], ◌∷◌, ◌++◌, length, map, fold, Option, Some, None, Result, Ok, Err, sym, refl, ap, subst, ◌∙◌, append_assoc, arith}
 use Rattle.std.proofs.lemmas.Bool.{le-leb}
 use Rattle.std.proofs.lemmas.List.{length_push, append-nil}
-use Rattle.std.proofs.lemmas.List.Elements.{All-nil, All-cons, All-head, All-tail, All-append, All-map}
+use Rattle.std.proofs.lemmas.List.Elements.{All-nil, All-head, All-tail, All-append, All-map}
 use Rattle.std.specs.List.{All, list_all}
-use Rattle.pg_types.specs.declared.limits.TheConstants.{EDGE, LEVEL_MAX, PATTERN_SIGNS_MAX}
+use Rattle.pg_types.specs.declared.limits.TheConstants.{EDGE, PATTERN_SIGNS_MAX}
 use Rattle.pg_types.specs.declared.refusals.Refusal.{Refusal}
 use Rattle.pg_types.specs.Lines.{lines}
 use Rattle.pg_types.specs.Reading.{unless}

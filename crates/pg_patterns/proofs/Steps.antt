@@ -1,19 +1,19 @@
 -- How the items of a pattern line are read, one after the other.
-use Rattle.std.proofs.Common.{◌≡◌, ℕ, suc, zero, ◌+◌, ◌-◌, ◌<◌, ◌≤◌, Bool, true, false, cond, if◌then◌else◌, ◌==◌, List, [], ◌∷◌, ◌++◌, length, drop, Option, Some, None, option_map, Result, Ok, Err, fold, find, sym, refl, ap, subst, ◌∙◌, arith}
+use Rattle.std.proofs.Common.{◌≡◌, ℕ, suc, zero, ◌+◌, ◌-◌, ◌<◌, ◌≤◌, Bool, true, false, if◌then◌else◌, ◌==◌, List, [], ◌∷◌, ◌++◌, length, Option, Some, None, option_map, Err, fold, find, sym, refl, ap, subst, ◌∙◌, arith}
 use Rattle.std.proofs.lemmas.Bool.{eqb-false}
 use Rattle.std.proofs.lemmas.List.{length-drop, length_push}
 use Rattle.std.proofs.lemmas.List.Elements.{All-push, All-append, All-weaker, All-nil, All-cons}
-use Rattle.std.specs.List.{All, filter_map, cons_option, slice_get}
+use Rattle.std.specs.List.{All, cons_option, slice_get}
 use Rattle.std.specs.Option.{option_or}
-use Rattle.pg_types.specs.declared.limits.TheConstants.{EDGE, LEVEL_MAX, PATTERN_SIGNS_MAX}
-use Rattle.pg_types.specs.declared.refusals.Kind.TheVariants.{PatternCharacter, PatternTooLong}
+use Rattle.pg_types.specs.declared.limits.TheConstants.{PATTERN_SIGNS_MAX}
+use Rattle.pg_types.specs.declared.refusals.Kind.TheVariants.{PatternCharacter}
 use Rattle.pg_types.specs.declared.refusals.Refusal.{Refusal}
 use Rattle.pg_types.specs.declared.marks.Mark.{Mark}
 use Rattle.pg_types.specs.Reading.{unless}
 use Rattle.pg_translate.specs.declared.items.Place.TheVariants.{Patterns}
 use Rattle.pg_translate.specs.Alphabets.{Alphabet}
 use Rattle.pg_translate.specs.Spellings.{is_digit, begins}
-use Rattle.pg_translate.specs.Tokens.{Token, Letter, Digit, Weight, Marked, Edge, item_at, letter_at, digit_at, edge_at, is_ended}
+use Rattle.pg_translate.specs.Tokens.{Token, Letter, Digit, Weight, Marked, Edge, item_at, digit_at, edge_at}
 use Rattle.pg_translate.specs.Cuts.{Cut, cut_from, with_item, tokens_of}
 use Rattle.pg_translate.specs.Answers.{Takes, Stops}
 use Rattle.pg_translate.proofs.Cuts.{cut_takes, cut_stops}

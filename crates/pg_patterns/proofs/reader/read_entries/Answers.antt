@@ -1,10 +1,6 @@
-use Rattle.std.proofs.Common.{◌+◌, arith, sym, subst, ◌∙◌}
-use Rattle.std.proofs.lemmas.List.Elements.{All-append}
+use Rattle.std.proofs.Common.{◌+◌, arith}
 use Rattle.std.proofs.lemmas.Result.{err_from_is_err_and}
-use Rattle.std.specs.List.{All}
 use Rattle.pg_translate.specs.Alphabets.{letters_of}
-use Rattle.pg_patterns.specs.Values.{SignsUpTo}
-use Rattle.pg_patterns.specs.Drafts.{draft_entries}
 use Rattle.pg_patterns.proofs.LineEntries.{left_fails, left_more, sound_more, known_more}
 use Rattle.pg_patterns.proofs.reader.read_entries.Goals as goal
 

@@ -1,4 +1,4 @@
-use Rattle.std.proofs.Common.{◌≡◌, ◌+◌, ◌≤◌, ◌^◌, true, Ok, length}
+use Rattle.std.proofs.Common.{◌≡◌, ◌+◌, ◌≤◌, true, Ok, length}
 use Rattle.std.specs.List.{list_all}
 use Rattle.pg_types.specs.Lines.{lines}
 use Rattle.pg_types.specs.declared.limits.TheConstants.{FILE_MAX}

@@ -3,8 +3,8 @@ use Rattle.std.proofs.lemmas.Result.{err_from_is_err_and}
 use Rattle.pg_types.specs.declared.limits.TheConstants.{EDGE}
 use Rattle.pg_translate.specs.Alphabets.{letters_of}
 use Rattle.pg_translate.specs.Tokens.{Letter, Edge}
-use Rattle.pg_patterns.specs.Drafts.{IsDraft, draft_left, with_sign}
-use Rattle.pg_patterns.proofs.Steps.{sign_step, sign_refused, digit_step, stop_step, shorter, keeps_sign, no_weight, no_mark}
+use Rattle.pg_patterns.specs.Drafts.{IsDraft, draft_left}
+use Rattle.pg_patterns.proofs.Steps.{sign_step, sign_refused, shorter, keeps_sign}
 use Rattle.pg_patterns.proofs.reader.take_item.Goals as goal
 
 pub returns-in_ok-add_sign-in-Letter-clause-step : goal.returns-in_ok-add_sign-in-Letter-clause-step
