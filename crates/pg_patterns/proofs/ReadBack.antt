@@ -1,27 +1,24 @@
 -- The text of a map is read back as the map.
-use Rattle.std.proofs.Common.{◌≡◌, ℕ, suc, zero, ◌+◌, ◌-◌, ◌<◌, ◌≤◌, Bool, true, false, cond, ◌&&◌, ◌||◌, if◌then◌else◌, ◌==◌, nat_eq, List, [], ◌∷◌, ◌++◌, length, map, flat_map, Option, Some, None, unwrap_or, Result, Ok, Err, max, codes, sym, refl, ap, subst, ◌∙◌, append_assoc, arith}
+use Rattle.std.proofs.Common.{◌≡◌, ℕ, ◌+◌, ◌≤◌, true, false, cond, if◌then◌else◌, ◌==◌, List, [], ◌∷◌, ◌++◌, length, flat_map, Some, None, Ok, codes, sym, refl, ap, subst, ◌∙◌, append_assoc, arith}
 use Rattle.std.proofs.lemmas.Bool.{eqb-true, eqb-false}
 use Rattle.std.proofs.lemmas.List.{append-nil}
-use Rattle.std.proofs.lemmas.List.Elements.{All-nil, All-cons, All-head, All-tail, All-append, filter_map-append}
-use Rattle.std.specs.Cmp.Lexicographic.{pointwise}
+use Rattle.std.proofs.lemmas.List.Elements.{All-head, All-tail, filter_map-append}
 use Rattle.std.specs.FinMap.Entries.{find}
-use Rattle.std.specs.List.{All, AllByRecursion, cons_option, list_any, list_all}
+use Rattle.std.specs.List.{All, AllByRecursion, cons_option, list_all}
 use Rattle.std.specs.Option.{option_map_or}
 use Rattle.std.specs.Ordering.{eq_by_cmp}
-use Rattle.pg_types.specs.declared.limits.TheConstants.{EDGE, PATTERN_SIGNS_MAX, LEVEL_MAX}
-use Rattle.pg_types.specs.declared.refusals.Refusal.{Refusal}
+use Rattle.pg_types.specs.declared.limits.TheConstants.{EDGE, PATTERN_SIGNS_MAX}
 use Rattle.pg_types.specs.Lines.{lines}
 use Rattle.pg_translate.specs.Alphabets.{Alphabet, letters_of, spelling_of, first_spelling}
-use Rattle.pg_translate.specs.Tokens.{Token, Letter, Digit, Weight, Marked, Edge}
-use Rattle.pg_patterns.specs.Places.{place_cmp, same_place, place_ties, place_exact}
-use Rattle.pg_patterns.specs.Values.{SignsUpTo, IsPatternMap, value_of, best, joined, is_entry}
-use Rattle.pg_patterns.specs.Lines.{sign_of, signs_of, digits_from, digit_at_dot, entries_at, line_entries, entries_of_line}
+use Rattle.pg_translate.specs.Tokens.{Token, Letter, Digit, Edge}
+use Rattle.pg_patterns.specs.Places.{place_cmp, place_exact}
+use Rattle.pg_patterns.specs.Values.{is_entry}
+use Rattle.pg_patterns.specs.Lines.{sign_of, signs_of, digits_from, digit_at_dot, entries_at, line_entries}
 use Rattle.pg_patterns.specs.Starts.{both_parts, entries_from}
-use Rattle.pg_patterns.specs.Texts.{with_string, strings_of, digit_of, line_from, pattern_line, pattern_text}
-use Rattle.pg_patterns.proofs.Ordered.{and_first, and_second, both_true, equal_is}
+use Rattle.pg_patterns.specs.Texts.{digit_of, line_from, pattern_line}
+use Rattle.pg_patterns.proofs.Ordered.{and_first, and_second, equal_is}
 use Rattle.pg_patterns.proofs.Sound.{entry_bounds}
-use Rattle.pg_patterns.proofs.Joins.{same_maps, joined_keeps, value_of_joined}
-use Rattle.pg_patterns.proofs.Written.{IsRead, text_of, tokens_in, breaks, entries_of_items, unbroken_text, lines_line}
+use Rattle.pg_patterns.proofs.Written.{IsRead, text_of, tokens_in, entries_of_items, unbroken_text, lines_line}
 
 -- what a table makes of the items of patterns: each digit, the dot of the edge and the first spelling of each letter is read as such
 pub record ReadsItems (t : Alphabet) : Type 0 where

@@ -1,17 +1,17 @@
 -- The entries of the strings of a map are joined to the map again.
-use Rattle.std.proofs.Common.{◌≡◌, ℕ, suc, zero, ◌+◌, ◌-◌, ◌<◌, ◌≤◌, Bool, true, false, cond, ◌&&◌, ◌||◌, if◌then◌else◌, ◌==◌, nat_eq, List, [], ◌∷◌, ◌++◌, length, map, flat_map, Option, Some, None, unwrap_or, max, sym, refl, ap, subst, ◌∙◌, ⊎_elim, arith}
+use Rattle.std.proofs.Common.{◌≡◌, ℕ, ◌+◌, ◌≤◌, Bool, true, false, cond, ◌||◌, nat_eq, List, [], ◌∷◌, ◌++◌, length, map, flat_map, Some, None, unwrap_or, max, sym, refl, ap, subst, ◌∙◌, ⊎_elim, arith}
 use Rattle.std.proofs.lemmas.Bool.{cases_lt}
 use Rattle.std.proofs.lemmas.List.Elements.{All-nil, All-cons, All-head, All-tail, All-append, All-weaker}
 use Rattle.std.specs.Cmp.Lexicographic.{pointwise, texts_ties}
 use Rattle.std.specs.FinMap.Entries.{find}
-use Rattle.std.specs.List.{All, AllByRecursion, list_any, list_all}
+use Rattle.std.specs.List.{All, list_any, list_all}
 use Rattle.std.specs.Option.{option_map_or}
-use Rattle.std.specs.Ordering.{eq_by_cmp, is_eq}
+use Rattle.std.specs.Ordering.{eq_by_cmp}
 use Rattle.pg_patterns.specs.Places.{place_cmp, same_place, place_equiv, place_ties, place_exact}
 use Rattle.pg_patterns.specs.Values.{IsPatternMap, value_of, best, joined, is_entry}
 use Rattle.pg_patterns.specs.Lines.{entry_at, entries_at}
 use Rattle.pg_patterns.specs.Texts.{with_string, strings_of}
-use Rattle.pg_patterns.proofs.Ordered.{and_first, both_true, equal_is}
+use Rattle.pg_patterns.proofs.Ordered.{and_first, equal_is}
 use Rattle.pg_patterns.proofs.Sound.{entry_bounds}
 use Rattle.pg_patterns.proofs.Joins.{only, best_upto, same_maps, joined_keeps, value_of_joined}
 use Rattle.pg_patterns.proofs.Kept.{told_all}

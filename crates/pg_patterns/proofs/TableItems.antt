@@ -1,12 +1,12 @@
 -- What a table makes of the items that a pattern file has.
-use Rattle.std.proofs.Common.{◌≡◌, ℕ, ◌+◌, ◌<◌, ◌≤◌, Bool, true, false, not, ◌&&◌, ◌||◌, ◌==◌, List, [], ◌∷◌, ◌++◌, length, Ok, codes, sym, refl, ap, subst, ◌∙◌, arith}
+use Rattle.std.proofs.Common.{◌≡◌, ℕ, ◌+◌, ◌<◌, ◌≤◌, Bool, true, false, not, ◌||◌, ◌==◌, List, [], ◌∷◌, ◌++◌, length, Ok, codes, sym, refl, ap, subst, ◌∙◌, arith}
 use Rattle.std.proofs.lemmas.Bool.{eqb-true}
 use Rattle.std.specs.List.{list_any}
 use Rattle.pg_translate.specs.declared.items.Place.TheVariants.{Patterns}
 use Rattle.pg_translate.specs.Alphabets.{Alphabet, letters_of, spelling_of}
 use Rattle.pg_translate.specs.Rules.{KeepsRules}
-use Rattle.pg_translate.specs.Spellings.{is_space, begins_well, is_spelling, IsAmong}
-use Rattle.pg_translate.specs.Tokens.{Token, Letter, Digit, Edge}
+use Rattle.pg_translate.specs.Spellings.{is_space, begins_well, IsAmong}
+use Rattle.pg_translate.specs.Tokens.{Letter, Digit, Edge}
 use Rattle.pg_translate.proofs.ItemLaws.{item_reads, begins_spelled}
 use Rattle.pg_translate.proofs.RuleLaws.{spelling_item}
 use Rattle.pg_types.specs.declared.limits.TheConstants.{FILE_MAX}
@@ -15,7 +15,7 @@ use Rattle.pg_patterns.specs.Starts.{start}
 use Rattle.pg_patterns.specs.Texts.{pattern_text}
 use Rattle.pg_patterns.proofs.TextLaw.{text_reads_back}
 use Rattle.pg_patterns.proofs.Ordered.{and_second}
-use Rattle.pg_patterns.proofs.Written.{IsRead, breaks, or_false}
+use Rattle.pg_patterns.proofs.Written.{breaks, or_false}
 use Rattle.pg_patterns.proofs.ReadBack.{ReadsItems}
 
 other_number : (a b : ℕ) → b < a → (a == b) ≡ false

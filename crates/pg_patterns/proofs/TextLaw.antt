@@ -1,12 +1,11 @@
 -- The text of a map is a pattern file of the map.
-use Rattle.std.proofs.Common.{◌≡◌, ℕ, ◌+◌, ◌<◌, ◌≤◌, Bool, true, false, cond, nat_eq, nat_lt, List, [], ◌∷◌, length, Result, Ok, Err, sym, refl, ap, subst, ◌∙◌, arith}
+use Rattle.std.proofs.Common.{◌≡◌, ℕ, ◌+◌, ◌≤◌, true, false, cond, nat_eq, nat_lt, List, [], ◌∷◌, length, Ok, Err, ap, ◌∙◌}
 use Rattle.std.proofs.lemmas.Bool.{le-ltb}
-use Rattle.std.proofs.lemmas.List.Elements.{All-nil, All-cons, All-head, All-tail}
+use Rattle.std.proofs.lemmas.List.Elements.{All-head, All-tail}
 use Rattle.std.specs.Cmp.Lexicographic.{pointwise}
 use Rattle.std.specs.List.{All, AllByRecursion, list_all}
 use Rattle.pg_types.specs.declared.limits.TheConstants.{FILE_MAX}
 use Rattle.pg_types.specs.declared.refusals.Kind.TheVariants.{PatternsTooLong}
-use Rattle.pg_types.specs.declared.refusals.Refusal.{Refusal}
 use Rattle.pg_types.specs.Lines.{lines}
 use Rattle.pg_translate.specs.Alphabets.{Alphabet, letters_of}
 use Rattle.pg_patterns.specs.Values.{IsPatternMap, SignsUpTo, is_entry}

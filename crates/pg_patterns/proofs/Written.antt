@@ -1,10 +1,9 @@
 -- A line that was written is read back item by item.
-use Rattle.std.proofs.Common.{◌≡◌, ℕ, suc, zero, ◌+◌, ◌-◌, ◌<◌, ◌≤◌, Bool, true, false, ◌||◌, if◌then◌else◌, ◌==◌, List, [], ◌∷◌, ◌++◌, length, map, drop, take, slice_index, Option, Some, None, option_map, Result, Ok, Err, sym, refl, ap, subst, ◌∙◌, append_assoc, arith}
-use Rattle.std.proofs.lemmas.List.{append-nil, drop_at, length-append}
-use Rattle.std.specs.List.{All, AllByRecursion, filter_map, cons_option, list_any, slice_get, onto_first}
+use Rattle.std.proofs.Common.{◌≡◌, ℕ, suc, zero, ◌+◌, ◌-◌, ◌<◌, ◌≤◌, Bool, true, false, ◌||◌, if◌then◌else◌, ◌==◌, List, [], ◌∷◌, ◌++◌, length, map, take, slice_index, Some, None, option_map, Ok, sym, refl, ap, ◌∙◌, arith}
+use Rattle.std.proofs.lemmas.List.{drop_at, length-append}
+use Rattle.std.specs.List.{AllByRecursion, filter_map, cons_option, list_any, slice_get, onto_first}
 use Rattle.std.specs.Option.{option_or}
-use Rattle.pg_types.specs.declared.limits.TheConstants.{EDGE, PATTERN_SIGNS_MAX}
-use Rattle.pg_types.specs.declared.refusals.Refusal.{Refusal}
+use Rattle.pg_types.specs.declared.limits.TheConstants.{PATTERN_SIGNS_MAX}
 use Rattle.pg_types.specs.Lines.{lines, pieces_at, is_line_feed, without_cr}
 use Rattle.pg_types.specs.Reading.{unless}
 use Rattle.pg_translate.specs.declared.items.Place.TheVariants.{Patterns}
@@ -13,7 +12,7 @@ use Rattle.pg_translate.specs.Tokens.{Token, item_at}
 use Rattle.pg_translate.specs.Cuts.{Cut, Placed, cut, cut_from, with_item, tokens_of}
 use Rattle.pg_translate.specs.Answers.{Takes}
 use Rattle.pg_translate.proofs.Cuts.{cut_takes}
-use Rattle.pg_patterns.specs.Lines.{sign_of, signs_of, sign_column, sign_columns, too_long, bad_byte, line_refusal, line_entries, entries_of_line}
+use Rattle.pg_patterns.specs.Lines.{sign_of, signs_of, sign_column, sign_columns, too_long, bad_byte, line_entries, entries_of_line}
 
 -- whether a byte may not stand in an item: LF or CR
 abbrev pub breaks : ℕ → Bool
