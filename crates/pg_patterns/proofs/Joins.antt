@@ -78,7 +78,7 @@ all_upto : (t : List ℕ × ℕ → Bool) (es : List ((List ℕ × ℕ) × ℕ))
 all_upto t [] n bound = All-nil _
 all_upto t (e ∷ es) n bound = All-cons (λ (e : (List ℕ × ℕ) × ℕ). only (t e.0) e.1 ≤ n) e es (omega arith) (all_upto t es n (omega arith))
 
-best_upto : (t : List ℕ × ℕ → Bool) (es : List ((List ℕ × ℕ) × ℕ)) (n : ℕ) → All (λ (e : (List ℕ × ℕ) × ℕ). only (t e.0) e.1 ≤ n) es → best t es ≤ n
+pub best_upto : (t : List ℕ × ℕ → Bool) (es : List ((List ℕ × ℕ) × ℕ)) (n : ℕ) → All (λ (e : (List ℕ × ℕ) × ℕ). only (t e.0) e.1 ≤ n) es → best t es ≤ n
 best_upto t [] n all = omega arith
 best_upto t (e ∷ es) n all =
     let here : only (t e.0) e.1 ≤ n = All-head (λ (e : (List ℕ × ℕ) × ℕ). only (t e.0) e.1 ≤ n) e es all in

@@ -173,7 +173,7 @@ all_told : (es : List ((List ℕ × ℕ) × ℕ)) → list_all is_entry es ≡ t
 all_told [] sound = All-nil _
 all_told (e ∷ es) sound = All-cons (λ (e : (List ℕ × ℕ) × ℕ). is_entry e ≡ true) e es (and_first _ _ sound) (all_told es (and_second _ _ sound))
 
-told_all : (es : List ((List ℕ × ℕ) × ℕ)) → All (λ (e : (List ℕ × ℕ) × ℕ). is_entry e ≡ true) es → list_all is_entry es ≡ true
+pub told_all : (es : List ((List ℕ × ℕ) × ℕ)) → All (λ (e : (List ℕ × ℕ) × ℕ). is_entry e ≡ true) es → list_all is_entry es ≡ true
 told_all [] all = refl
 told_all (e ∷ es) all = both_true _ _ (All-head (λ (e : (List ℕ × ℕ) × ℕ). is_entry e ≡ true) e es all) (told_all es (All-tail (λ (e : (List ℕ × ℕ) × ℕ). is_entry e ≡ true) e es all))
 

@@ -6,3 +6,11 @@ pub mod Kept
 pub mod Rows
 pub mod Points
 pub mod Strings
+pub mod Steps
+pub mod LineEntries
+pub mod Known
+pub mod Written
+pub mod ReadBack
+pub mod Restored
+pub mod TextLaw
+pub mod TableItems

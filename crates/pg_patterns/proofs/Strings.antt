@@ -18,7 +18,7 @@ use Rattle.pg_patterns.proofs.Ordered.{sorted_at, equal_is, greater_is, after_be
 use Rattle.pg_patterns.proofs.Sound.{entry_bounds, entry_at}
 use Rattle.pg_patterns.proofs.Points.{same_signs, turned_after}
 
-equal_signs : (q r : List ℕ) → slice_cmp nat_cmp q r ≡ Equal → q ≡ r
+pub equal_signs : (q r : List ℕ) → slice_cmp nat_cmp q r ≡ Equal → q ≡ r
 equal_signs q r same = slice_cmp-IsAntisymmetric nat_cmp-IsAntisymmetric q r same
 
 dot_upto : (a b : ℕ) (r : Ordering) → MatchOrdering r (a < b) (a ≡ b) (b < a) → is_gt r ≡ false → a ≤ b

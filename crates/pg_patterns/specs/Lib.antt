@@ -4,3 +4,4 @@ pub mod Search
 pub mod Lines
 pub mod Starts
 pub mod Texts
+pub mod Drafts

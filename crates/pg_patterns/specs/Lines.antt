@@ -36,10 +36,14 @@ digits_from dot digit (Weight weight ∷ tokens) = digits_from dot digit tokens
 digits_from dot digit (Marked mark ∷ tokens) = digits_from dot digit tokens
 digits_from dot digit (Edge ∷ tokens) = digit_at_dot dot digit ++ digits_from (dot + 1) 0 tokens
 
+-- the entry of these signs at a dot
+abbrev pub entry_at : List ℕ → ℕ × ℕ → (List ℕ × ℕ) × ℕ
+entry_at signs d = ((signs, d.0), d.1)
+
 -- the entries of these signs at these dots; there is none without a sign
 abbrev pub entries_at : List ℕ → List (ℕ × ℕ) → List ((List ℕ × ℕ) × ℕ)
 entries_at [] digits = []
-entries_at (sign ∷ signs) digits = map (λ d. ((sign ∷ signs, d.0), d.1)) digits
+entries_at (sign ∷ signs) digits = map (entry_at (sign ∷ signs)) digits
 
 -- the entries of a line
 abbrev pub line_entries : List Token → List ((List ℕ × ℕ) × ℕ)
@@ -49,12 +53,21 @@ line_entries tokens = entries_at (signs_of tokens) (digits_from 0 0 tokens)
 abbrev pub sign_column : Placed → Option ℕ
 sign_column item = option_map (λ sign. item.column) (sign_of item.token)
 
--- the 33rd sign is refused, or else the byte that begins no item, where the line does not end there
+-- the columns of the signs
+abbrev pub sign_columns : Cut → List ℕ
+sign_columns c = filter_map sign_column c.items
+
+-- the refusal of a sign too many
+abbrev pub too_long : ℕ → ℕ → Refusal
+too_long line column = record { kind = PatternTooLong; line = line; column = column }
+
+-- the refusal of the byte behind the last item, where the line does not end there
+abbrev pub bad_byte : ℕ → Cut → Option Refusal
+bad_byte line c = if is_ended c.rest then None else Some (record { kind = PatternCharacter; line = line; column = c.column })
+
+-- the 33rd sign is refused, or else the byte that begins no item
 abbrev pub line_refusal : ℕ → Cut → Option Refusal
-line_refusal line c =
-    option_or
-    (option_map (λ column. record { kind = PatternTooLong; line = line; column = column }) (slice_get (filter_map sign_column c.items) PATTERN_SIGNS_MAX))
-    (if is_ended c.rest then None else Some (record { kind = PatternCharacter; line = line; column = c.column }))
+line_refusal line c = option_or (option_map (too_long line) (slice_get (sign_columns c) PATTERN_SIGNS_MAX)) (bad_byte line c)
 
 -- the entries of a line, or its refusal
 abbrev pub entries_of_line : Alphabet → ℕ → List ℕ → Result (List ((List ℕ × ℕ) × ℕ)) Refusal

@@ -3,9 +3,10 @@ ghost use Rattle.std.specs.Prelude.{◌≡◌};
 
 use crate::entries::{join, raise_in};
 use crate::place::Place;
+use crate::reader::read_entries;
 use crate::text::push_lines;
-use pg_translate::Table;
-use pg_types::{LEVEL_MAX, PATTERN_SIGNS_MAX, Sign};
+use pg_translate::{Table, laws};
+use pg_types::{FILE_MAX, Kind, LEVEL_MAX, PATTERN_SIGNS_MAX, ReadingError, Refusal, Sign};
 use std::alloc::{AllocError, Global};
 use std::marker::Model;
 
@@ -43,13 +44,15 @@ pub struct Entry<'a> {
 }
 
 impl PatternSet {
-    ghost use Rattle.std.specs.Prelude.{◌≡◌, ◌+◌, ◌<◌, ◌≤◌, true, T, [], length, Some, slice_get, OnOk, OnErr, IfOk};
+    ghost use Rattle.std.specs.Prelude.{◌≡◌, ◌+◌, ◌<◌, ◌≤◌, true, T, [], length, Some, Ok, slice_get, OnOk, OnErr, IfOk};
     ghost use Rattle.std.specs.FinMap.Entries.{is_sorted};
     ghost use Rattle.std.specs.List.{list_all};
-    ghost use Rattle.pg_types.specs.declared.limits.TheConstants.{LEVEL_MAX, PATTERN_SIGNS_MAX};
+    ghost use Rattle.pg_types.specs.declared.limits.TheConstants.{FILE_MAX, LEVEL_MAX, PATTERN_SIGNS_MAX};
+    ghost use Rattle.pg_types.specs.Reading.{Gives};
     ghost use Rattle.pg_types.specs.Signs.{is_sign};
     ghost use Rattle.pg_patterns.specs.Places.{place_cmp};
     ghost use Rattle.pg_patterns.specs.Values.{IsPatternMap, SignsUpTo, is_entry, raise, joined, largest};
+    ghost use Rattle.pg_patterns.specs.Starts.{start};
     ghost use Rattle.pg_patterns.specs.Texts.{pattern_text};
     ghost use Rattle.pg_translate.specs.Alphabets.{letters_of};
 
@@ -60,6 +63,23 @@ impl PatternSet {
         PatternSet {
             held: Vec::new(alloc),
         }
+    }
+
+    /// The patterns of a file. A file of more than [`FILE_MAX`](pg_types::FILE_MAX) bytes is refused, and else the first line
+    /// with a byte that begins no item, or with a sign too many.
+    pub fn read(alloc: Global, table: &Table, bytes: &[u8]) -> Result<PatternSet, ReadingError>
+        ensures value { Gives (λ set. set) result (start table.now bytes.now) }
+        ensures known { IfOk result (SignsUpTo (letters_of table.now + 1)) }
+    {
+        if bytes.len() > FILE_MAX {
+            return Err(ReadingError::Refused(Refusal {
+                kind: Kind::PatternsTooLong,
+                line: 0,
+                column: 0,
+            }));
+        }
+        let entries = read_entries(alloc, table, bytes)?;
+        Ok(PatternSet::from_entries(entries))
     }
 
     /// The map of `entries`, which may stand in any order. Where a place has several, the greatest value counts. The vector is
@@ -127,11 +147,14 @@ impl PatternSet {
     }
 
     /// The text of the pattern file of these patterns: a line for each string, in the order of signs. At each dot stands the
-    /// digit of its value, where it has one, between the first spellings of the letters, or `.` for the edge.
+    /// digit of its value, where it has one, between the first spellings of the letters, or `.` for the edge. A text of at most
+    /// [`FILE_MAX`](pg_types::FILE_MAX) bytes is read as these patterns again.
     pub fn text(&self, alloc: Global, table: &Table) -> Result<Vec<u8>, AllocError>
         requires { SignsUpTo (letters_of table.now + 1) self.now }
-        ensures { IfOk result (λ text. text.items ≡ pattern_text table.now self.now) }
+        ensures text { IfOk result (λ text. text.items ≡ pattern_text table.now self.now) }
+        ensures read_back { IfOk result (λ text. length text.items ≤ FILE_MAX → start table.now text.items ≡ Ok self.now) }
     {
+        laws::keeps_rules(table);
         let mut text = Vec::new(alloc);
         push_lines(self.held.as_slice(), table, &mut text)?;
         Ok(text)

@@ -5,7 +5,7 @@ ghost use Rattle.pg_patterns.specs.Values.{SignsUpTo, is_entry, raise};
 
 use crate::{PatternSet, Place};
 use pg_translate::Table;
-use pg_types::Sign;
+use pg_types::{Kind, ReadingError, Refusal, Sign};
 use std::alloc::{AllocError, Global};
 use std::test::Fail;
 
@@ -69,5 +69,57 @@ fn entries_in_any_order(rt: HostRuntime) -> Result<(), Fail> {
     }
     let want = [(3, 0, 1), (3, 1, 2), (3, 3, 4), (2, 1, 3), (3, 2, 1)];
     assert_eq!(rt; values.as_slice(), want.as_slice());
+    Ok(())
+}
+
+/// The text of the patterns of a file, under the default letters.
+fn written(alloc: Global, file: &[u8]) -> Result<Vec<u8>, ReadingError> {
+    let table = Table::default_letters(alloc)?;
+    let set = PatternSet::read(alloc, &table, file)?;
+    Ok(set.text(alloc, &table)?)
+}
+
+#[test]
+fn files_and_their_texts(rt: HostRuntime) -> Result<(), Fail> {
+    let cases = [
+        (
+            b"b1c\na2b\na1b\n.a1\n".as_slice(),
+            b".a1\na2b\nb1c\n".as_slice(),
+        ),
+        (b"a10b\r\na01b x-\na31b", b"a1b\n"),
+        (b"1\nab\na0b\n", b""),
+        (b"1aA2.b4\na1bc\nab1c", b"1aa2.b4\na1b1c\n"),
+    ];
+    for (file, text) in cases {
+        assert_eq!(rt; written(rt.alloc(), file)?.as_slice(), text);
+    }
+    Ok(())
+}
+
+/// The refusal of a file, under the default letters.
+fn refusal(alloc: Global, file: &[u8]) -> Result<Option<Refusal>, AllocError> {
+    match written(alloc, file) {
+        Ok(_) => Ok(None),
+        Err(ReadingError::Refused(refusal)) => Ok(Some(refusal)),
+        Err(ReadingError::Memory) => Err(AllocError),
+    }
+}
+
+#[test]
+fn refused_files(rt: HostRuntime) -> Result<(), Fail> {
+    let cases = [
+        (b"a1b\na-b\n".as_slice(), Kind::PatternCharacter, 2, 2),
+        (b"a{1}b", Kind::PatternCharacter, 1, 2),
+        (
+            b".aaaaaaaaaaaaaaaaaaaaaaaaaaaaaaa1a-",
+            Kind::PatternTooLong,
+            1,
+            34,
+        ),
+    ];
+    for (file, kind, line, column) in cases {
+        let want = Refusal { kind, line, column };
+        assert_eq!(rt; refusal(rt.alloc(), file)?, Some(want));
+    }
     Ok(())
 }

@@ -7,9 +7,9 @@ use Rattle.pg_translate.specs.declared.spellings.TheConstants.{SPELLING_MAX}
 abbrev pub is_digit : ℕ → Bool
 is_digit b = nat_le 48 b && nat_le b 57
 
--- whether a byte is a blank, a TAB or a CR, which no spelling holds
+-- whether a byte is a blank, a TAB, an LF or a CR, which no spelling holds; LF ends a line, so none of a file has it
 abbrev pub is_space : ℕ → Bool
-is_space b = b == 32 || b == 9 || b == 13
+is_space b = b == 32 || b == 9 || b == 10 || b == 13
 
 -- whether a spelling may begin with a byte: it is no digit, dot, brace or mark
 abbrev pub may_begin : List ℕ → ℕ → Bool

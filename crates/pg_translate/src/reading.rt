@@ -21,11 +21,11 @@ pub(crate) fn refused(kind: Kind, line: u32, column: u32) -> ReadingError
     ReadingError::Refused(Refusal { kind, line, column })
 }
 
-/// Whether a byte is a blank, a TAB or a CR, which no spelling holds.
+/// Whether a byte is a blank, a TAB, an LF or a CR, which no spelling holds.
 fn is_space(byte: u8) -> bool
     ensures { result ≡ spelling.is_space byte }
 {
-    byte == b' ' || byte == b'\t' || byte == b'\r'
+    byte == b' ' || byte == b'\t' || byte == b'\n' || byte == b'\r'
 }
 
 /// Whether a text holds such a byte.

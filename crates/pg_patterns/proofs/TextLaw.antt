@@ -1,0 +1,43 @@
+-- The text of a map is a pattern file of the map.
+use Rattle.std.proofs.Common.{◌≡◌, ℕ, ◌+◌, ◌≤◌, true, false, cond, nat_eq, nat_lt, List, [], ◌∷◌, length, Ok, Err, ap, ◌∙◌}
+use Rattle.std.proofs.lemmas.Bool.{le-ltb}
+use Rattle.std.proofs.lemmas.List.Elements.{All-head, All-tail}
+use Rattle.std.specs.Cmp.Lexicographic.{pointwise}
+use Rattle.std.specs.List.{All, AllByRecursion, list_all}
+use Rattle.pg_types.specs.declared.limits.TheConstants.{FILE_MAX}
+use Rattle.pg_types.specs.declared.refusals.Kind.TheVariants.{PatternsTooLong}
+use Rattle.pg_types.specs.Lines.{lines}
+use Rattle.pg_translate.specs.Alphabets.{Alphabet, letters_of}
+use Rattle.pg_patterns.specs.Values.{IsPatternMap, SignsUpTo, is_entry}
+use Rattle.pg_patterns.specs.Starts.{joined_entries, entries_from, start}
+use Rattle.pg_patterns.specs.Texts.{with_string, strings_of, pattern_text}
+use Rattle.pg_patterns.proofs.Ordered.{and_first, and_second}
+use Rattle.pg_patterns.proofs.Sound.{each_sign, entry_bounds}
+use Rattle.pg_patterns.proofs.ReadBack.{ReadsItems, IsString, strings_read}
+use Rattle.pg_patterns.proofs.Restored.{joined_strings}
+
+string_kept : (n : ℕ) (q : List ℕ) (rs : List (List ℕ)) → IsString n q → AllByRecursion (IsString n) rs → AllByRecursion (IsString n) (with_string q rs)
+string_kept n q [] here rest = (here, tt)
+string_kept n q (r ∷ rs) here rest =
+    elim (pointwise nat_eq q r) as (λ b. AllByRecursion (IsString n) (cond b (r ∷ rs) (q ∷ r ∷ rs))) [ true ↦ rest | false ↦ (here, rest) ]
+
+both_bounds : (n : ℕ) (q : List ℕ) → All (λ s. 1 ≤ s) q → All (λ s. s ≤ n) q → All (λ s. (1 ≤ s) × (s ≤ n)) q
+both_bounds n q low high = λ k d inside. (low k d inside, high k d inside)
+
+strings_known : (n : ℕ) (P : List ((List ℕ × ℕ) × ℕ)) → list_all is_entry P ≡ true → SignsUpTo n P → AllByRecursion (IsString n) (strings_of P)
+strings_known n [] sound known = tt
+strings_known n (e ∷ es) sound known =
+    let bounds = entry_bounds e (and_first _ _ sound) in
+    let high : All (λ s. s ≤ n) e.0.0 = All-head (λ (e : (List ℕ × ℕ) × ℕ). All (λ s. s ≤ n) e.0.0) e es known in
+    string_kept n e.0.0 (strings_of es) (record { few = bounds.few; signs = both_bounds n e.0.0 (each_sign e.0.0 bounds.signs) high })
+    (strings_known n es (and_second _ _ sound) (All-tail (λ (e : (List ℕ × ℕ) × ℕ). All (λ s. s ≤ n) e.0.0) e es known))
+
+not_longer : (a b : ℕ) → b ≤ a → nat_lt a b ≡ false
+not_longer a b upto = le-ltb a b upto
+
+-- the text of a map is read back as the map
+pub text_reads_back : (t : Alphabet) (P : List ((List ℕ × ℕ) × ℕ)) → ReadsItems t → IsPatternMap P → SignsUpTo (letters_of t + 1) P → length (pattern_text t P) ≤ FILE_MAX → start t (pattern_text t P) ≡ Ok P
+text_reads_back t P reads map known few =
+    ap (λ b. cond b (Err (record { kind = PatternsTooLong; line = 0; column = 0 })) (joined_entries (entries_from t 1 (lines (pattern_text t P))))) (not_longer FILE_MAX (length (pattern_text t P)) few)
+    ∙ ap joined_entries (strings_read t P 1 (strings_of P) reads map.sound (strings_known (letters_of t + 1) P map.sound known))
+    ∙ ap Ok (joined_strings P map)

@@ -1,0 +1,69 @@
+-- What of a line of a pattern file was read so far.
+use Rattle.std.specs.Prelude.{ℕ, ◌+◌, ◌-◌, ◌<◌, ◌≤◌, zero, List, [], ◌∷◌, ◌++◌, length, fold, Option, option_map, slice_get, Result}
+use Rattle.std.specs.List.{All}
+use Rattle.std.specs.Option.{option_or}
+use Rattle.pg_types.specs.declared.limits.TheConstants.{EDGE, LEVEL_MAX, PATTERN_SIGNS_MAX}
+use Rattle.pg_types.specs.declared.refusals.Refusal.{Refusal}
+use Rattle.pg_types.specs.Reading.{unless}
+use Rattle.pg_translate.specs.declared.items.Place.TheVariants.{Patterns}
+use Rattle.pg_translate.specs.Alphabets.{Alphabet}
+use Rattle.pg_translate.specs.Tokens.{Token, Letter, Digit, Weight, Marked, Edge}
+use Rattle.pg_translate.specs.Cuts.{Cut, cut, cut_from, tokens_of}
+use Rattle.pg_patterns.specs.Lines.{digit_at_dot, entries_at, sign_columns, too_long, bad_byte, line_refusal}
+
+-- the signs, the dots between them with their digits, and the last digit behind the last sign, where 0 is none
+pub record Draft : Type 0 where
+  pub signs : List ℕ
+  pub digits : List (ℕ × ℕ)
+  pub digit : ℕ
+
+abbrev pub no_draft : Draft
+no_draft = record { signs = []; digits = []; digit = 0 }
+
+-- all dots with their digits
+abbrev pub all_digits : Draft → List (ℕ × ℕ)
+all_digits d = d.digits ++ digit_at_dot (length d.signs) d.digit
+
+-- one sign more
+abbrev pub with_sign : Draft → ℕ → Draft
+with_sign d sign = record { signs = d.signs ++ sign ∷ []; digits = all_digits d; digit = 0 }
+
+-- a digit in place of the last at this dot
+abbrev pub with_digit : Draft → ℕ → Draft
+with_digit d digit = record { signs = d.signs; digits = d.digits; digit = digit }
+
+-- one item more
+abbrev pub with_token : Draft → Token → Draft
+with_token d (Letter sign) = with_sign d sign
+with_token d (Digit digit) = with_digit d digit
+with_token d (Weight weight) = d
+with_token d (Marked mark) = d
+with_token d Edge = with_sign d EDGE
+
+-- the entries of a line that ends here
+abbrev pub draft_entries : Draft → List ((List ℕ × ℕ) × ℕ)
+draft_entries d = entries_at d.signs (all_digits d)
+
+-- the refusal of the rest of a line, behind so many signs
+abbrev pub refusal_after : ℕ → ℕ → Cut → Option Refusal
+refusal_after n line c = option_or (option_map (too_long line) (slice_get (sign_columns c) (PATTERN_SIGNS_MAX - n))) (bad_byte line c)
+
+-- a line read on from a draft, where this is left of its size
+abbrev pub draft_left : Alphabet → ℕ → ℕ → Draft → List ℕ → Result Draft Refusal
+draft_left t line size d rest =
+    let c = cut_from t Patterns (size - length rest + 1) zero rest in unless (refusal_after (length d.signs) line c) (fold with_token d (tokens_of c))
+
+-- a line read whole
+abbrev pub line_draft : Alphabet → ℕ → List ℕ → Result Draft Refusal
+line_draft t line text = let c = cut t Patterns text in unless (line_refusal line c) (fold with_token no_draft (tokens_of c))
+
+-- a dot before the n-th sign, and a digit that is a value
+abbrev pub IsDotDigit : ℕ → ℕ × ℕ → Type 0
+IsDotDigit n x = (x.0 < n) × (1 ≤ x.1) × (x.1 ≤ LEVEL_MAX)
+
+-- what every draft keeps, whose signs are at most n
+pub record IsDraft (n : ℕ) (d : Draft) : Type 0 where
+  pub few : length d.signs ≤ PATTERN_SIGNS_MAX
+  pub signs : All (λ s. (1 ≤ s) × (s ≤ n)) d.signs
+  pub digits : All (IsDotDigit (length d.signs)) d.digits
+  pub digit : d.digit ≤ LEVEL_MAX
