@@ -1,5 +1,5 @@
 -- Places that are entered into a map.
-use Rattle.std.proofs.Common.{◌≡◌, ℕ, ◌+◌, ◌≤◌, true, List, [], ◌++◌, length, take, max, Option, Some, None, unwrap_or, slice_get, sym, refl, ap, ◌∙◌, arith, add-one}
+use Rattle.std.proofs.Common.{◌≡◌, ℕ, Bool, ◌+◌, ◌≤◌, true, List, [], ◌++◌, length, take, max, Option, Some, None, unwrap_or, slice_get, sym, refl, ap, subst, ◌∙◌, arith, add-one}
 use Rattle.std.proofs.lemmas.Bool.{leb-true, le-leb}
 use Rattle.std.proofs.lemmas.List.{append-nil}
 use Rattle.std.specs.BTreeMap.{insert_entry}
@@ -20,9 +20,10 @@ raised_in P Q k v held n is greater entered =
 pub put_is : (H G : List ((List ℕ × ℕ) × Unit {0})) (k : List ℕ × ℕ) (x : Unit {0}) → G ≡ insert_entry place_cmp H k x → G ≡ put place_cmp k (tt {0}) H
 put_is H G k x entered = entered ∙ insert-put place_cmp k x H
 
--- places of strings stay so
-pub strings_put : (H : List ((List ℕ × ℕ) × Unit {0})) (k : List ℕ × ℕ) → list_all (λ e. is_string e.0) H ≡ true → is_string k ≡ true → list_all (λ e. is_string e.0) (put place_cmp k (tt {0}) H) ≡ true
-strings_put H k all new = all_put place_cmp (λ (e : (List ℕ × ℕ) × Unit {0}). is_string e.0) place_exact k (tt {0}) H new all
+-- places that pass a test stay so
+pub places_in : {X : Type 0} (good : List ℕ × ℕ → Bool) (M N : List ((List ℕ × ℕ) × X)) (k : List ℕ × ℕ) (v : X) → N ≡ insert_entry place_cmp M k v → list_all (λ e. good e.0) M ≡ true → good k ≡ true → list_all (λ e. good e.0) N ≡ true
+places_in {X} good M N k v entered all new =
+    subst (λ x. list_all (λ (e : (List ℕ × ℕ) × X). good e.0) x ≡ true) (sym (entered ∙ insert-put place_cmp k v M)) (all_put place_cmp (λ (e : (List ℕ × ℕ) × X). good e.0) place_exact k v M new all)
 
 greater_bounds : (v n : ℕ) → 1 ≤ v → v ≤ 9 → n ≤ 9 → (1 ≤ max v n) × (max v n ≤ 9)
 greater_bounds v n some most low = (omega arith, omega arith)

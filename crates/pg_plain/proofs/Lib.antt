@@ -3,6 +3,7 @@ pub mod Greatest
 pub mod Orders
 pub mod Maps
 pub mod Rows
+pub mod Indexed
 pub mod Strings
 pub mod Starts
 pub mod Covers

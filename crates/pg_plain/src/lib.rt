@@ -4,6 +4,7 @@
 mod counts;
 pub mod engine;
 mod force;
+mod index;
 mod pass;
 mod places;
 #[cfg(test)]

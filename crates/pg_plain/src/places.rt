@@ -1,11 +1,12 @@
 //! Maps from places, in their order.
-ghost use Rattle.std.specs.Prelude.{◌≡◌, true, OnOk, OnErr, IfOk};
+ghost use Rattle.std.specs.Prelude.{◌≡◌, ℕ, Bool, true, List, OnOk, OnErr, IfOk};
 ghost use Rattle.std.specs.List.{list_all};
 ghost use Rattle.std.specs.FinMap.Entries.{put};
 ghost use Rattle.pg_patterns.specs.Places.{place_cmp};
 ghost use Rattle.pg_patterns.specs.Values.{raise, value_of, is_entry};
-ghost use Rattle.pg_plain.specs.Strings.{is_string};
+ghost use Rattle.pg_plain.specs.Indexes.{is_indexed};
 
+use crate::index::Index;
 use pg_patterns::{Entry, PatternSet, Place};
 use std::alloc::{AllocError, Global};
 use std::collections::BTreeMap;
@@ -25,6 +26,7 @@ pub fn raise_in(map: &mut BTreeMap<Place, u8>, place: Place, value: u8) -> Resul
     ensures ok { OnOk result (map.new.entries ≡ raise map.old.entries place value) }
     ensures err { OnErr result (map.new.entries ≡ map.old.entries) }
     ensures kept { list_all is_entry map.old.entries ≡ true → is_entry (place, value) ≡ true → list_all is_entry map.new.entries ≡ true }
+    ensures places { (good : List ℕ × ℕ → Bool) → list_all (λ e. good e.0) map.old.entries ≡ true → good place ≡ true → list_all (λ e. good e.0) map.new.entries ≡ true }
 {
     let held = value_at(map, &place);
     map.insert(place, value.max(held))?;
@@ -35,20 +37,26 @@ pub fn raise_in(map: &mut BTreeMap<Place, u8>, place: Place, value: u8) -> Resul
 pub fn put_in(set: &mut BTreeMap<Place, ()>, place: Place) -> Result<(), AllocError>
     ensures ok { OnOk result (set.new.entries ≡ put place_cmp place (tt {0}) set.old.entries) }
     ensures err { OnErr result (set.new.entries ≡ set.old.entries) }
-    ensures kept { list_all (λ e. is_string e.0) set.old.entries ≡ true → is_string place ≡ true → list_all (λ e. is_string e.0) set.new.entries ≡ true }
+    ensures places { (good : List ℕ × ℕ → Bool) → list_all (λ e. good e.0) set.old.entries ≡ true → good place ≡ true → list_all (λ e. good e.0) set.new.entries ≡ true }
 {
     set.insert(place, ())?;
     Ok(())
 }
 
-/// The map of a set of patterns.
-pub fn map_of(alloc: Global, patterns: &PatternSet) -> Result<BTreeMap<Place, u8>, AllocError>
+/// The map of a set of patterns, whose strings are entered into an index.
+pub fn map_of(
+    alloc: Global,
+    patterns: &PatternSet,
+    index: &mut Index,
+) -> Result<BTreeMap<Place, u8>, AllocError>
     ensures value { IfOk result (λ map. map.entries ≡ patterns.now) }
     ensures sound { IfOk result (λ map. list_all is_entry map.entries ≡ true) }
+    ensures indexed { IfOk result (λ map. list_all (λ e. is_indexed index.new.fronts.items index.new.strings.items e.0.0) map.entries ≡ true) }
 {
     let mut map = BTreeMap::new(alloc);
     for i in 0..patterns.len() {
         let Entry { signs, dot, value } = patterns.entry(i);
+        index.enter(signs);
         map.insert(Place::new(signs, dot), value)?;
     }
     Ok(map)

@@ -1,36 +1,24 @@
-use Rattle.std.proofs.Common.{◌≡◌, false, true, nat_eq, sym, subst, ◌∙◌}
-use Rattle.std.specs.Cmp.Lexicographic.{pointwise}
-use Rattle.std.specs.List.{starts_with}
-use Rattle.pg_patterns.specs.Places.{place_cmp}
-use Rattle.pg_plain.specs.Forces.{value_force, cover_force}
-use Rattle.pg_plain.proofs.Bools.{not_false, not_not}
-use Rattle.pg_plain.proofs.Maps.{sorted_from}
-use Rattle.pg_plain.proofs.Rows.{row_begins, row_steps, row_stops, row_stops_ends}
+use Rattle.std.proofs.Common.{false, get_or, sym, ap, ◌∙◌}
+use Rattle.pg_plain.specs.Forces.{value_force, cover_force, values_of, covers_of}
+use Rattle.pg_plain.proofs.Indexed.{row_no_front, row_no_string, none_goes_on}
 use Rattle.pg_plain.proofs.walk.row.Goals as goal
 
-pub loop-place-init : goal.loop-place-init
-loop-place-init g c =
-    row_begins (value_force g.F.Force.gives) (cover_force g.F.Force.knocks_out c.args.pass.now) c.args.q.now c.args.i c.args.map.now.entries c.new-first.result c.into_iter-place-iterator.result c.args.out.now c.new-first.ensures
-    (sorted_from place_cmp c.args.map.now.entries c.range-place-items.ensures.ordered) c.requires.roomy (c.into_iter-place-iterator.ensures.into_iter_gives ∙ c.range-place-items.ensures.between tt)
+pub returns-then-not-may_begin-clause-values : goal.returns-then-not-may_begin-clause-values
+returns-then-not-may_begin-clause-values g c =
+    row_no_front c.args.index.now.fronts.items c.args.index.now.strings.items c.args.q.now (value_force g.F.Force.gives) c.args.i c.args.map.now.entries c.requires.indexed (values_of c.args.out.now) c.requires.some (ap (λ x. get_or c.args.index.now.fronts.items x false) (sym c.slot-slot.ensures.value) ∙ sym c.may_begin.ensures ∙ c.if-not-may_begin.true)
 
-pub returns-then-ne-clause-values : goal.returns-then-ne-clause-values
-returns-then-ne-clause-values g c =
-    let other : pointwise nat_eq c.in-Some.place.now.0 c.args.q.now ≡ false = subst (λ s. pointwise nat_eq s c.args.q.now ≡ false) c.signs.ensures.value (not_false _ (sym c.ne.ensures ∙ c.if-ne.true)) in
-    (row_stops (value_force g.F.Force.gives) (cover_force g.F.Force.knocks_out c.args.pass.now) c.args.q.now c.args.i c.args.map.now.entries (c.in-Some.place.now, c.in-Some.force.now) c.next.new.self c.loop-place.place-iterator c.args.out.now c.loop-place.out c.in-Some.ensures.steps c.loop-place.invariant other).values
+pub returns-then-not-may_begin-clause-covers : goal.returns-then-not-may_begin-clause-covers
+returns-then-not-may_begin-clause-covers g c =
+    row_no_front c.args.index.now.fronts.items c.args.index.now.strings.items c.args.q.now (cover_force g.F.Force.knocks_out c.args.pass.now) c.args.i c.args.map.now.entries c.requires.indexed (covers_of c.args.out.now) c.requires.some (ap (λ x. get_or c.args.index.now.fronts.items x false) (sym c.slot-slot.ensures.value) ∙ sym c.may_begin.ensures ∙ c.if-not-may_begin.true)
 
-pub returns-then-ne-clause-covers : goal.returns-then-ne-clause-covers
-returns-then-ne-clause-covers g c =
-    let other : pointwise nat_eq c.in-Some.place.now.0 c.args.q.now ≡ false = subst (λ s. pointwise nat_eq s c.args.q.now ≡ false) c.signs.ensures.value (not_false _ (sym c.ne.ensures ∙ c.if-ne.true)) in
-    (row_stops (value_force g.F.Force.gives) (cover_force g.F.Force.knocks_out c.args.pass.now) c.args.q.now c.args.i c.args.map.now.entries (c.in-Some.place.now, c.in-Some.force.now) c.next.new.self c.loop-place.place-iterator c.args.out.now c.loop-place.out c.in-Some.ensures.steps c.loop-place.invariant other).covers
+pub returns-then-not-may_begin-clause-ends : goal.returns-then-not-may_begin-clause-ends
+returns-then-not-may_begin-clause-ends g c = λ stops.
+    none_goes_on c.args.index.now.fronts.items c.args.index.now.strings.items c.args.q.now c.args.map.now.entries c.requires.indexed c.requires.some (ap (λ x. get_or c.args.index.now.fronts.items x false) (sym c.slot-slot.ensures.value) ∙ sym c.may_begin.ensures ∙ c.if-not-may_begin.true)
 
-pub returns-then-ne-clause-ends : goal.returns-then-ne-clause-ends
-returns-then-ne-clause-ends g c =
-    λ stops.
-    let apart : starts_with nat_eq c.in-Some.place.now.0 c.args.q.now ≡ false = subst (λ s. starts_with nat_eq s c.args.q.now ≡ false) c.signs-then-ne.ensures.value (sym c.starts_with.ensures.value ∙ stops) in
-    row_stops_ends (value_force g.F.Force.gives) (cover_force g.F.Force.knocks_out c.args.pass.now) c.args.q.now c.args.i c.args.map.now.entries (c.in-Some.place.now, c.in-Some.force.now) c.next.new.self c.loop-place.place-iterator c.args.out.now c.loop-place.out c.in-Some.ensures.steps c.loop-place.invariant apart
+pub returns-then-not-may_be-clause-values : goal.returns-then-not-may_be-clause-values
+returns-then-not-may_be-clause-values g c =
+    row_no_string c.args.index.now.fronts.items c.args.index.now.strings.items c.args.q.now (value_force g.F.Force.gives) c.args.i c.args.map.now.entries c.requires.indexed (values_of c.args.out.now) (ap (λ x. get_or c.args.index.now.strings.items x false) (sym c.slot-slot.ensures.value) ∙ sym c.may_be.ensures ∙ c.if-not-may_be.true)
 
-pub loop-place-preserved : goal.loop-place-preserved
-loop-place-preserved g c =
-    let same : pointwise nat_eq c.in-Some.place.now.0 c.args.q.now ≡ true = subst (λ s. pointwise nat_eq s c.args.q.now ≡ true) c.signs.ensures.value (not_not _ (sym c.ne.ensures ∙ c.if-ne.false)) in
-    row_steps (value_force g.F.Force.gives) (cover_force g.F.Force.knocks_out c.args.pass.now) c.args.q.now c.args.i c.args.map.now.entries (c.in-Some.place.now, c.in-Some.force.now) c.next.new.self c.loop-place.place-iterator c.args.out.now c.loop-place.out c.take_in.new.out c.in-Some.ensures.steps c.loop-place.invariant same
-    c.take_in.ensures.values c.take_in.ensures.covers c.take_in.ensures.roomy
+pub returns-then-not-may_be-clause-covers : goal.returns-then-not-may_be-clause-covers
+returns-then-not-may_be-clause-covers g c =
+    row_no_string c.args.index.now.fronts.items c.args.index.now.strings.items c.args.q.now (cover_force g.F.Force.knocks_out c.args.pass.now) c.args.i c.args.map.now.entries c.requires.indexed (covers_of c.args.out.now) (ap (λ x. get_or c.args.index.now.strings.items x false) (sym c.slot-slot.ensures.value) ∙ sym c.may_be.ensures ∙ c.if-not-may_be.true)
