@@ -1,5 +1,5 @@
 //! An index of the strings of a map, in slots.
-ghost use Rattle.std.specs.Prelude.{◌≡◌, ℕ, ◌<◌, ◌≤◌, ◌^◌, false, true, List, length, get_or};
+ghost use Rattle.std.specs.Prelude.{◌≡◌, ℕ, ◌<◌, ◌≤◌, ◌^◌, false, true, List, All, length, get_or, IfOk};
 ghost use Rattle.pg_plain.specs.Indexes.{slot_of, is_indexed};
 
 use pg_types::Sign;
@@ -26,6 +26,7 @@ impl Index {
     pub fn new(alloc: Global, slots: usize) -> Result<Index, AllocError>
         requires some { 0 < slots }
         requires few { slots ≤ 2 ^ 32 }
+        ensures { IfOk result (λ index. length index.fronts.items ≡ slots) }
     {
         Ok(Index {
             fronts: vec![in alloc; false; slots]?,
@@ -75,7 +76,11 @@ impl Index {
     }
 
     /// Removes all strings.
-    pub fn clear(&mut self) {
+    pub fn clear(&mut self)
+        ensures fronts { All (λ mark. mark ≡ false) self.new.fronts.items }
+        ensures strings { All (λ mark. mark ≡ false) self.new.strings.items }
+        ensures slots { length self.new.fronts.items ≡ length self.old.fronts.items }
+    {
         self.fronts.fill(false);
         self.strings.fill(false);
     }
