@@ -41,6 +41,7 @@ impl Table {
     ghost use Rattle.pg_translate.specs.Tokens as token;
     ghost use Rattle.pg_translate.specs.Answers.{IsFirstItem, IsInRange};
     ghost use Rattle.pg_translate.specs.Reach.{reach};
+    ghost use Rattle.pg_types.specs.declared.limits.TheConstants.{WORD_LETTERS_MAX};
 
     /// The default table: the minima 2 and 3, the marks `.`, `-`, `*` and `?`, and the letters a to z, each with its capital as
     /// its second spelling.
@@ -127,7 +128,7 @@ impl Table {
     /// part, as it has fewer letters than both minima together.
     pub fn reach(&self, signs: usize) -> Option<(usize, usize)>
         requires low { 2 ≤ signs }
-        requires high { signs ≤ 102 }
+        requires high { signs ≤ WORD_LETTERS_MAX + 2 }
         ensures { result ≡ reach self.now.left self.now.right signs }
     {
         let left = self.head.left as usize;
