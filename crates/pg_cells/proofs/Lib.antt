@@ -1,0 +1,3 @@
+pub mod CellWrites
+pub mod LinkedLists
+pub mod LinkedSteps

@@ -1,0 +1,5 @@
+//! The families of a trie in one row of cells.
+#![tactic(auto)]
+
+mod cell;
+mod chain;
