@@ -1,3 +1,4 @@
 pub mod CellWrites
+pub mod FitSteps
 pub mod LinkedLists
 pub mod LinkedSteps

@@ -1,9 +1,9 @@
 -- The list through the free cells, in the lists of the cells' parts, when a cell is taken, given up or added.
-use Rattle.std.proofs.Common.{◌≡◌, ◌≢◌, ℕ, ◌+◌, ◌<◌, ◌≤◌, ◌∷◌, ◌++◌, [], List, inl, inr, refl, sym, ◌∙◌, ap, subst, arith, length, get_or, set, map, zero, suc}
+use Rattle.std.proofs.Common.{◌≡◌, ◌≢◌, ℕ, ◌+◌, ◌<◌, ◌≤◌, ◌∷◌, ◌++◌, [], List, inl, inr, refl, sym, ◌∙◌, ap, subst, arith, length, get_or, set, map, zero, suc, false, ◌-◌}
 use Rattle.std.proofs.lemmas.Bool.{cases_eq, cases_lt}
-use Rattle.std.proofs.lemmas.List.{get_or-set_same, get_or-set_other, get_or_past, get_or_default, length-set, length-map}
+use Rattle.std.proofs.lemmas.List.{get_or-set_same, get_or-set_other, get_or_past, get_or_default, length-set, length-map, map_push, length_push, set_at}
 use Rattle.pg_cells.specs.declared.cell.Cell.{Cell}
-use Rattle.pg_cells.specs.Lists.{Row, Lists, lists, IsFree, sign_at, before_at, after_at, with_befores, with_afters, with_taken, with_free}
+use Rattle.pg_cells.specs.Lists.{Row, Lists, lists, row_of, child_seen, IsFree, sign_at, before_at, after_at, with_befores, with_afters, with_taken, with_free, with_more}
 use Rattle.pg_cells.specs.Linked.{Linked, AreLinked}
 use Rattle.pg_cells.proofs.LinkedSteps.{Linked-take, Linked-put}
 
@@ -103,3 +103,38 @@ module _ {V : Type 0} where
       let whole : l3 ≡ lists_freed l0 i b (after_at l0 b) =
           e3 ∙ ap last e2 ∙ ap (λ ls. last (with_befores ls a i)) e1 ∙ (λ t. lists_freed l0 i b (ea t)) in
       subst (λ ls. AreLinked ls) (sym whole) linked
+
+-- the default, put at the end, is not seen
+get_or_push_default : {A : Type 0} (xs : List A) (d : A) (j : ℕ) → get_or (xs ++ d ∷ []) j d ≡ get_or xs j d
+get_or_push_default [] d zero = refl
+get_or_push_default [] d (suc j) = refl
+get_or_push_default (x ∷ xs) d zero = refl
+get_or_push_default (x ∷ xs) d (suc j) = get_or_push_default xs d j
+
+get_or_map_push : {A : Type 0} (f : A → ℕ) (xs : List A) (c : A) (d : ℕ) (j : ℕ) → f c ≡ d → get_or (map f (xs ++ c ∷ [])) j d ≡ get_or (map f xs) j d
+get_or_map_push f xs c d j e = ap (λ l. get_or l j d) (map_push f xs c ∙ ap (λ y. map f xs ++ y ∷ []) e) ∙ get_or_push_default (map f xs) d j
+
+-- a taken cell at the end changes no link
+pub linked_push : {V : Type 0} (cells new : List (Cell V)) (c : Cell V) → new ≡ cells ++ c ∷ [] → c.sign ≡ 1 → c.before ≡ 0 → c.link ≡ 0 → AreLinked (lists cells) → AreLinked (lists new)
+linked_push cells new c e sign before link old =
+    let S = λ (j : ℕ). get_or_map_push (λ x. x.sign) cells c 1 j sign in
+    let B = λ (j : ℕ). get_or_map_push (λ x. x.before) cells c 0 j before in
+    let A = λ (j : ℕ). get_or_map_push (λ x. x.link) cells c 0 j link in
+    let whole : ◌≡◌ {A = (ℕ → ℕ) × (ℕ → ℕ) × (ℕ → ℕ)} ((λ j. get_or (map (λ x. x.sign) cells) j 1), (λ j. get_or (map (λ x. x.before) cells) j 0), (λ j. get_or (map (λ x. x.link) cells) j 0))
+        ((λ j. get_or (map (λ x. x.sign) (cells ++ c ∷ [])) j 1), (λ j. get_or (map (λ x. x.before) (cells ++ c ∷ [])) j 0), (λ j. get_or (map (λ x. x.link) (cells ++ c ∷ [])) j 0)) =
+        λ t. ((λ j. sym (S j) t), (λ j. sym (B j) t), (λ j. sym (A j) t)) in
+    subst (λ l. AreLinked (lists l)) (sym e) (subst (λ (f : (ℕ → ℕ) × (ℕ → ℕ) × (ℕ → ℕ)). Linked f.0 f.1 f.2) whole old)
+
+set_push : {A : Type 0} (xs : List A) (x y : A) (i : ℕ) → length xs ≡ i → set (xs ++ x ∷ []) i y ≡ xs ++ y ∷ []
+set_push xs x y i e = set_at xs x [] y i e
+
+-- a taken cell at the end that is given up is a free cell at the end
+pub row_push : {V : Type 0} (cells new : List (Cell V)) (c : Cell V) (r : Row V) → new ≡ cells ++ c ∷ [] → c.sign ≡ 1 → c.link ≡ 0 → c.is_base ≡ false
+    → r ≡ with_free (row_of new) (length new - 1) → r ≡ with_more (row_of cells) c.value
+row_push {V = V} cells new c r e sign link base freed =
+    let n : length (cells ++ c ∷ []) - 1 ≡ length cells = omega (arith, length_push cells c) in
+    freed ∙ ap (λ l. with_free (row_of l) (length l - 1)) e ∙ ap (with_free (row_of (cells ++ c ∷ []))) n ∙ (λ t. record {
+      signs = (ap (λ l. set l (length cells) 0) (map_push (λ (x : Cell V). x.sign) cells c) ∙ set_push (map (λ x. x.sign) cells) c.sign 0 (length cells) (length-map cells (λ x. x.sign))) t;
+      children = (ap (λ l. set l (length cells) 0) (map_push child_seen cells c) ∙ set_push (map child_seen cells) (child_seen c) 0 (length cells) (length-map cells child_seen)) t;
+      values = map_push (λ (x : Cell V). x.value) cells c t;
+      bases = (map_push (λ (x : Cell V). x.is_base) cells c ∙ ap (λ b. map (λ (x : Cell V). x.is_base) cells ++ b ∷ []) base) t })

@@ -1,5 +1,5 @@
 -- The parts of the cells, each as a list by the cells' indices.
-use Rattle.std.specs.Prelude.{◌≡◌, ℕ, Bool, false, if◌then◌else◌, nat_eq, List, map, set, get_or}
+use Rattle.std.specs.Prelude.{◌≡◌, ℕ, Bool, false, if◌then◌else◌, nat_eq, List, [], ◌∷◌, ◌++◌, map, set, get_or}
 use Rattle.pg_cells.specs.declared.cell.Cell.{Cell}
 
 -- what the families see of the cells: the sign, 0 in a free cell; the base of the child family, 0 for none; the value; and
@@ -69,3 +69,7 @@ module _ {V : Type 0} where
   -- a cell that is given up
   abbrev pub with_free : Row V → ℕ → Row V
   with_free r cell = record r { signs = set r.signs cell 0; children = set r.children cell 0 }
+
+  -- with a free cell at the end
+  abbrev pub with_more : Row V → V → Row V
+  with_more r value = record { signs = r.signs ++ 0 ∷ []; children = r.children ++ 0 ∷ []; values = r.values ++ value ∷ []; bases = r.bases ++ false ∷ [] }

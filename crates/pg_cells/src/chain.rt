@@ -1,11 +1,12 @@
 //! The list through the free cells.
-ghost use Rattle.std.specs.Prelude.{◌≡◌, ◌≢◌, ℕ, ◌+◌, ◌-◌, ◌<◌, ◌≤◌, ◌^◌, length};
-ghost use Rattle.pg_cells.specs.Lists.{lists, with_taken, with_free, sign_at, IsFree};
+ghost use Rattle.std.specs.Prelude.{◌≡◌, ◌≢◌, ℕ, ◌+◌, ◌-◌, ◌<◌, ◌≤◌, ◌^◌, length, OnOk, OnErr};
+ghost use Rattle.pg_cells.specs.Lists.{lists, with_taken, with_free, with_more, sign_at, IsFree};
 ghost use Rattle.pg_cells.specs.Linked.{AreLinked};
 
 use crate::cell::{
     Cell, after_of, before_of, set_after, set_before, set_free, set_taken, sign_of,
 };
+use std::alloc::AllocError;
 
 /// Takes a free cell out of the list.
 pub fn take_cell<V: Copy>(
@@ -75,4 +76,36 @@ fn put_after<V: Copy>(cells: &mut [Cell<V>], cell: usize, before: usize)
     set_after(cells, before, cell);
     set_before(cells, after, cell);
     set_free(cells, cell, before, after);
+}
+
+/// Adds a free cell at the end.
+pub fn push_cell<V: Copy>(cells: &mut Vec<Cell<V>>, value: V) -> Result<(), AllocError>
+    requires linked { AreLinked (lists cells.old.items) }
+    requires small { length cells.old.items + 1 < 2 ^ 32 }
+    ensures row { OnOk result ((lists cells.new.items).row ≡ with_more (lists cells.old.items).row value) }
+    ensures linked { AreLinked (lists cells.new.items) }
+    ensures err { OnErr result (cells.new.items ≡ cells.old.items) }
+{
+    cells.push(Cell {
+        value,
+        link: 0,
+        before: 0,
+        sign: 1,
+        is_base: false,
+    })?;
+    put_last(cells.as_mut_slice());
+    Ok(())
+}
+
+// Puts the last cell into the list.
+fn put_last<V: Copy>(cells: &mut [Cell<V>])
+    requires linked { AreLinked (lists cells.old) }
+    requires small { length cells.old < 2 ^ 32 }
+    requires cell { 1 < length cells.old }
+    requires taken { sign_at (lists cells.old).row (length cells.old - 1) ≢ 0 }
+    ensures row { (lists cells.new).row ≡ with_free (lists cells.old).row (length cells.old - 1) }
+    ensures linked { AreLinked (lists cells.new) }
+{
+    let before = before_of(cells, 0);
+    put_after(cells, cells.len() - 1, before);
 }
