@@ -24,6 +24,12 @@ module _ {V : Type 0} where
       inl lt ↦ lt
     | inr le ↦ absurd (let past = get_or_past r.signs i 1 le in omega arith) ]
 
+  -- and so is a taken one
+  pub taken_within : (r : Row V) (i : ℕ) → sign_at r i ≢ 0 → i < length r.signs
+  taken_within r i taken = elim (cases_lt i (length r.signs)) [
+      inl lt ↦ lt
+    | inr le ↦ absurd (taken (get_or_past r.signs i 0 le)) ]
+
   -- a taken one is not free
   pub not_free : (r : Row V) (i : ℕ) → sign_at r i ≢ 0 → IsFree r i → ⊥
   not_free r i taken free = taken (get_or_default r.signs i 0 1 (free_within r i free) ∙ free)

@@ -1,3 +1,4 @@
 pub mod Fit
 pub mod Linked
 pub mod Lists
+pub mod Store

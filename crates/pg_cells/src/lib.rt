@@ -4,3 +4,4 @@
 mod cell;
 mod chain;
 mod fit;
+mod store;

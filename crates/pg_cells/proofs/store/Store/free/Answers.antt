@@ -1,0 +1,30 @@
+use Rattle.std.proofs.Common.{◌≡◌, ◌≢◌, ◌<◌, ◌≤◌, ◌+◌, ℕ, refl, sym, ap, subst, ◌∙◌, length, arith, rules, true, set}
+use Rattle.std.proofs.lemmas.List.{length-map}
+use Rattle.pg_cells.specs.Lists.{Row, lists, row_of, sign_at, IsFree, with_base, with_value, with_child, with_taken, with_free}
+use Rattle.pg_cells.proofs.LinkedLists.{free_within, taken_within}
+use Rattle.pg_cells.specs.Store.{IsKept, Extends}
+use Rattle.pg_cells.specs.Fit.{fits_row, signs_of}
+use Rattle.pg_cells.proofs.StoreSteps.{given_back, taken_le, kept_write, kept_child, kept_taken, kept_freed, kept_extended, extends_more, some_taken, extends_trans}
+use Rattle.pg_cells.proofs.store.Store.free.Goals as goal
+
+pub invariant_of-self : goal.invariant_of-self
+invariant_of-self g c =
+    let size : length c.free_cell.new.cells ≡ c.self.inside.cells.len = omega arith in
+    let same : length c.free_cell.new.cells ≡ length c.self.inside.cells.items = omega arith in
+    let back = given_back c.free_cell.new.cells c.self.inside.cells.items c.self.inside.cells.len size in
+    let seen : c.as_slice.result.now ≡ c.free_cell.new.cells = c.as_slice.ensures.value ∙ back in
+    let taken : sign_at (row_of c.self.inside.cells.items) c.args.cell ≢ 0 = λ z. c.requires.taken (subst (λ r. sign_at r c.args.cell ≡ 0) c.self.view_is z) in
+    let within : c.args.cell < length c.self.inside.cells.items = omega (arith, taken_within (row_of c.self.inside.cells.items) c.args.cell taken, length-map c.self.inside.cells.items (λ x. x.sign)) in
+    let r = c.taken_up_to-self-inside.result in
+    let top = c.taken_up_to-self-inside.ensures in
+    rw back
+        (kept_freed c.self.inside.cells.items c.free_cell.new.cells _ _ c.self.invariant same c.args.cell r within taken
+            (c.free_cell.ensures.row ∙ ap (λ cells. with_free (row_of cells) c.args.cell) c.as_mut_slice.ensures.value) c.free_cell.ensures.linked
+            top.below (subst (λ cells. 0 < r → sign_at (row_of cells) r ≢ 0) seen top.used)
+            (subst (λ cells. (k : ℕ) → k ≤ c.self.inside.top → sign_at (row_of cells) k ≢ 0 → k ≤ r) seen top.most))
+
+
+pub overflow_sub-self : goal.overflow_sub-self
+overflow_sub-self g c =
+    some_taken c.self.inside.cells.items c.self.inside.top c.self.inside.taken c.args.cell c.self.invariant
+        (λ z. c.requires.taken (subst (λ r. sign_at r c.args.cell ≡ 0) c.self.view_is z))

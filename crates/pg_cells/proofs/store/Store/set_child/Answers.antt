@@ -1,0 +1,17 @@
+use Rattle.std.proofs.Common.{◌≡◌, ◌≢◌, ◌<◌, ◌≤◌, ◌+◌, ℕ, refl, sym, ap, subst, ◌∙◌, length, arith, rules, true, set}
+use Rattle.std.proofs.lemmas.List.{length-map}
+use Rattle.pg_cells.specs.Lists.{Row, lists, row_of, sign_at, IsFree, with_base, with_value, with_child, with_taken, with_free}
+use Rattle.pg_cells.proofs.LinkedLists.{free_within, taken_within}
+use Rattle.pg_cells.specs.Store.{IsKept, Extends}
+use Rattle.pg_cells.specs.Fit.{fits_row, signs_of}
+use Rattle.pg_cells.proofs.StoreSteps.{given_back, taken_le, kept_write, kept_child, kept_taken, kept_freed, kept_extended, extends_more, extends_trans}
+use Rattle.pg_cells.proofs.store.Store.set_child.Goals as goal
+
+pub invariant_of-self : goal.invariant_of-self
+invariant_of-self g c =
+    let size : length c.set_child.new.cells ≡ c.self.inside.cells.len = omega arith in
+    let same : length c.set_child.new.cells ≡ length c.self.inside.cells.items = omega arith in
+    rw (given_back c.set_child.new.cells c.self.inside.cells.items c.self.inside.cells.len size)
+        (kept_child c.self.inside.cells.items c.set_child.new.cells _ _ c.self.invariant same c.args.cell c.args.child (λ z. c.requires.taken (subst (λ r. sign_at r c.args.cell ≡ 0) c.self.view_is z))
+            (c.set_child.ensures ∙ ap (λ cells. record (lists cells) { row = with_child (lists cells).row c.args.cell c.args.child; afters = set (lists cells).afters c.args.cell c.args.child }) c.as_mut_slice.ensures.value))
+
