@@ -3,5 +3,8 @@
 
 mod cell;
 mod chain;
+mod families;
 mod fit;
 mod store;
+
+pub use families::Cells;
