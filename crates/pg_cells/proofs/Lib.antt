@@ -4,5 +4,6 @@ pub mod LaidLaws
 pub mod LinkedLists
 pub mod LinkedSteps
 pub mod PlacementLaws
+pub mod RowWrites
 pub mod StoreSteps
 pub mod StringMaps

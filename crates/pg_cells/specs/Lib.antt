@@ -6,3 +6,4 @@ pub mod Lists
 pub mod OneTrie
 pub mod Root
 pub mod Store
+pub mod Writes

@@ -1,9 +1,10 @@
 //! The store: one vector of cells, whose free ones are linked in rising order.
 ghost use Rattle.std.specs.Prelude.{◌≡◌, ◌≢◌, ℕ, ◌+◌, ◌-◌, ◌<◌, ◌≤◌, ◌^◌, true, length, slice_get, Some, IfOk, OnOk, OnErr};
-ghost use Rattle.pg_cells.specs.Lists.{lists, row_of, with_taken, with_free, with_child, with_value, with_base, sign_at, child_at, base_at, IsFree};
+ghost use Rattle.pg_cells.specs.Lists.{lists, row_of, sign_at, child_at, base_at, IsFree};
 ghost use Rattle.pg_cells.specs.Linked.{AreLinked};
 ghost use Rattle.pg_cells.specs.Fit.{fits_row, signs_of, first_sign, IsLeast};
 ghost use Rattle.pg_cells.specs.Store.{one_free, taken_in, IsTop, Extends};
+ghost use Rattle.pg_cells.specs.Writes.{Takes, Frees, SetsChild, SetsValue, SetsBase};
 
 use crate::cell::{Cell, child_of, set_base, set_child, set_value, sign_of, value_of};
 use crate::chain::{free_cell, push_cell, take_cell};
@@ -102,7 +103,7 @@ impl<V: Copy> Store<V> {
     pub fn set_child(&mut self, cell: usize, child: usize)
         requires taken { sign_at self.old cell ≢ 0 }
         requires child { child < length self.old.signs }
-        ensures { self.new ≡ with_child self.old cell child }
+        ensures { SetsChild self.old self.new cell child }
     {
         set_child(self.cells.as_mut_slice(), cell, child);
     }
@@ -110,7 +111,7 @@ impl<V: Copy> Store<V> {
     /// Sets the value of a taken cell.
     pub fn set_value(&mut self, cell: usize, value: V)
         requires { sign_at self.old cell ≢ 0 }
-        ensures { self.new ≡ with_value self.old cell value }
+        ensures { SetsValue self.old self.new cell value }
     {
         set_value(self.cells.as_mut_slice(), cell, value);
     }
@@ -118,7 +119,7 @@ impl<V: Copy> Store<V> {
     /// Says whether a cell's index is the base of a family.
     pub fn set_base(&mut self, cell: usize, is_base: bool)
         requires { cell < length self.old.signs }
-        ensures { self.new ≡ with_base self.old cell is_base }
+        ensures { SetsBase self.old self.new cell is_base }
     {
         set_base(self.cells.as_mut_slice(), cell, is_base);
     }
@@ -129,7 +130,7 @@ impl<V: Copy> Store<V> {
         requires free { IsFree self.old cell }
         requires sign { slot.sign ≢ 0 }
         requires child { slot.child < length self.old.signs }
-        ensures { self.new ≡ with_taken self.old cell slot.sign slot.value slot.child }
+        ensures { Takes self.old self.new cell slot.sign slot.value slot.child }
     {
         take_cell(self.cells.as_mut_slice(), cell, slot.sign, slot.value, slot.child);
         self.top = self.top.max(cell);
@@ -140,7 +141,7 @@ impl<V: Copy> Store<V> {
     pub fn free(&mut self, cell: usize)
         requires cell { 0 < cell }
         requires taken { sign_at self.old cell ≢ 0 }
-        ensures { self.new ≡ with_free self.old cell }
+        ensures { Frees self.old self.new cell }
     {
         free_cell(self.cells.as_mut_slice(), cell);
         self.top = taken_up_to(self.cells.as_slice(), self.top);

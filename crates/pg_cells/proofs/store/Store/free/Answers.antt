@@ -1,9 +1,11 @@
-use Rattle.std.proofs.Common.{◌≡◌, ◌≢◌, ◌<◌, ◌≤◌, ◌+◌, ℕ, refl, sym, ap, subst, ◌∙◌, length, arith, rules, true, set}
+use Rattle.std.proofs.Common.{◌≡◌, ◌≢◌, ◌<◌, ◌≤◌, ◌+◌, ℕ, refl, sym, ap, subst, ◌∙◌, length, arith, rules, true, set, take, drop, ◌++◌}
 use Rattle.std.proofs.lemmas.List.{length-map}
 use Rattle.pg_cells.specs.Lists.{Row, lists, row_of, sign_at, IsFree, with_base, with_value, with_child, with_taken, with_free}
 use Rattle.pg_cells.proofs.LinkedLists.{free_within, taken_within}
 use Rattle.pg_cells.specs.Store.{IsKept, Extends}
 use Rattle.pg_cells.specs.Fit.{fits_row, signs_of}
+use Rattle.pg_cells.specs.Writes.{Takes, Frees, SetsChild, SetsValue}
+use Rattle.pg_cells.proofs.RowWrites.{row_takes, row_frees, row_child, row_value}
 use Rattle.pg_cells.proofs.StoreSteps.{given_back, taken_le, kept_write, kept_child, kept_taken, kept_freed, kept_extended, extends_more, some_taken, extends_trans}
 use Rattle.pg_cells.proofs.store.Store.free.Goals as goal
 
@@ -28,3 +30,11 @@ pub overflow_sub-self : goal.overflow_sub-self
 overflow_sub-self g c =
     some_taken c.self.inside.cells.items c.self.inside.top c.self.inside.taken c.args.cell c.self.invariant
         (λ z. c.requires.taken (subst (λ r. sign_at r c.args.cell ≡ 0) c.self.view_is z))
+
+pub returns : goal.returns
+returns g c =
+    let size : length c.free_cell.new.cells ≡ c.self.inside.cells.len = omega arith in
+    let left : row_of (take c.self.inside.cells.len (c.free_cell.new.cells ++ drop (length c.free_cell.new.cells) c.self.inside.cells.items)) ≡ with_free (row_of c.self.inside.cells.items) c.args.cell =
+        ap row_of (given_back c.free_cell.new.cells c.self.inside.cells.items c.self.inside.cells.len size) ∙ c.free_cell.ensures.row ∙ ap (λ cells. with_free (row_of cells) c.args.cell) c.as_mut_slice.ensures.value in
+    subst (λ r. Frees r (row_of (take c.self.inside.cells.len (c.free_cell.new.cells ++ drop (length c.free_cell.new.cells) c.self.inside.cells.items))) c.args.cell) c.self.view_is
+        (subst (λ r. Frees (row_of c.self.inside.cells.items) r c.args.cell) (sym left) (row_frees c.self.inside.cells.items c.args.cell (λ z. c.requires.taken (subst (λ r. sign_at r c.args.cell ≡ 0) c.self.view_is z))))
