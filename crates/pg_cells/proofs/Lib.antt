@@ -4,6 +4,8 @@ pub mod LaidLaws
 pub mod LinkedLists
 pub mod LinkedSteps
 pub mod PlacementLaws
+pub mod RootSteps
+pub mod RootTrie
 pub mod RowWrites
 pub mod StoreSteps
 pub mod StringMaps

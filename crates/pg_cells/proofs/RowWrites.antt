@@ -1,5 +1,5 @@
 -- What a write of one cell changes, of a row whose parts are of one length.
-use Rattle.std.proofs.Common.{◌≡◌, ◌≢◌, ℕ, ◌+◌, ◌<◌, ◌≤◌, min, Bool, false, List, [], ◌∷◌, length, get_or, set, slice_get, Option, None, Some, suc, zero, refl, sym, ◌∙◌, ap, arith}
+use Rattle.std.proofs.Common.{◌≡◌, ◌≢◌, ℕ, ◌+◌, ◌<◌, ◌≤◌, min, Bool, false, List, [], ◌∷◌, length, get_or, set, slice_get, Option, None, Some, suc, zero, refl, sym, ◌∙◌, ap, arith, cond, nat_eq}
 use Rattle.std.proofs.lemmas.List.{length-set, length-map, get_or-set_same, get_or-set_other, get_or_default}
 use Rattle.pg_cells.specs.declared.cell.Cell.{Cell}
 use Rattle.pg_cells.specs.Lists.{Row, row_of, child_seen, sign_at, child_at, base_at, IsFree, with_taken, with_free, with_child, with_value, with_base}
@@ -19,6 +19,12 @@ set_there (x ∷ xs) zero zero y n = absurd (n refl)
 set_there (x ∷ xs) zero (suc j) y n = refl
 set_there (x ∷ xs) (suc i) zero y n = refl
 set_there (x ∷ xs) (suc i) (suc j) y n = set_there xs i j y (λ e. n (ap suc e))
+
+-- a free cell has no child
+pub row_bare : {V : Type 0} (cells : List (Cell V)) (i : ℕ) → sign_at (row_of cells) i ≡ 0 → child_at (row_of cells) i ≡ 0
+row_bare [] i e = refl
+row_bare (c ∷ cs) zero e = ap (λ s. cond (nat_eq s 0) 0 c.link) e
+row_bare (c ∷ cs) (suc i) e = row_bare cs i e
 
 module _ {V : Type 0} (cells : List (Cell V)) (i : ℕ) where
   children_even : length (row_of cells).children ≡ length (row_of cells).signs

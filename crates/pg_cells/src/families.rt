@@ -1,15 +1,17 @@
 //! The families of a trie, each with its cells at its base.
-ghost use Rattle.std.specs.Prelude.{◌≡◌, ◌≢◌, ℕ, ◌+◌, ◌<◌, ◌≤◌, List, [], ◌∷◌, ◌++◌, Some, None, MatchOption};
+ghost use Rattle.std.specs.Prelude.{◌≡◌, ◌≢◌, ℕ, ◌+◌, ◌<◌, ◌≤◌, List, [], ◌∷◌, ◌++◌, Some, None, MatchOption, IfOk};
 ghost use Rattle.std.specs.FinMap.{find};
 ghost use Rattle.std.specs.Cmp.Lexicographic.{slice_cmp};
 ghost use Rattle.std.specs.Ordering.{nat_cmp};
 ghost use Rattle.pg_types.specs.Placement.{taken, top, cell_of, base_of};
 ghost use Rattle.pg_cells.specs.Held.{Held};
 ghost use Rattle.pg_cells.specs.OneTrie.{Kept, Kept-prop};
+ghost use Rattle.pg_cells.specs.Root.{root_held};
 
 use crate::fit::Slot;
 use crate::store::Store;
-use pg_types::Sign;
+use crate::root::{clear, plant};
+use pg_types::{SIGNS_MAX, Sign};
 use std::alloc::{AllocError, Global};
 use std::marker::Model;
 
@@ -36,6 +38,22 @@ impl<V: Copy> Model for Cells<V> {
 }
 
 impl<V: Copy> Cells<V> {
+    /// The root family alone, each value `blank`.
+    pub fn new(alloc: Global, signs: u16, blank: V) -> Result<Cells<V>, AllocError>
+        requires { (1 ≤ signs) × (signs ≤ SIGNS_MAX) }
+        ensures { IfOk result (λ c. c ≡ root_held signs blank) }
+    {
+        let mut store = Store::new(alloc, blank)?;
+        store.grow(signs as usize + 1, blank)?;
+        plant(&mut store, signs, blank);
+        store.set_base(0, true);
+        Ok(Cells {
+            signs,
+            store,
+            moving: Vec::new(alloc),
+        })
+    }
+
     /// The greatest taken cell.
     pub fn top(&self) -> usize
         ensures { result ≡ top self.now.families }

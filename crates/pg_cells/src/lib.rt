@@ -5,6 +5,7 @@ mod cell;
 mod chain;
 mod families;
 mod fit;
+mod root;
 mod store;
 
 pub use families::Cells;

@@ -95,6 +95,10 @@ impl<V: Copy> Store<V> {
     pub fn len(&self) -> usize
         ensures len { result ≡ length self.now.signs }
         ensures small { result < 2 ^ 32 }
+        ensures positive { 0 < result }
+        ensures even { length self.now.bases ≡ length self.now.signs }
+        ensures zero { sign_at self.now 0 ≡ 0 }
+        ensures bare { (i : ℕ) → sign_at self.now i ≡ 0 → child_at self.now i ≡ 0 }
     {
         self.cells.len()
     }
