@@ -87,3 +87,24 @@ module _ {V : Type 0} (n : ℕ) (r : Row V) (fs : Families) (sorted : T (is_sort
 
   pub top_same : (t : ℕ) → IsTop r.signs t → t ≡ top fs
   top_same t is = top_is fs t (λ i e. is.most i (used_taken i e)) (λ up. taken_used t (is.used up))
+
+-- families lie in every row that has the same signs, children and flags
+pub laid_alike : {V : Type 0} {n : ℕ} {r : Row V} (F : List ℕ → Option Family) → Laid n r F → (new : Row V)
+    → ((i : ℕ) → sign_at new i ≡ sign_at r i) → ((i : ℕ) → child_at new i ≡ child_at r i) → ((b : ℕ) → base_at new b ≡ base_at r b) → Laid n new F
+laid_alike {V} {n} {r} F laid new signs children bases = record {
+  root = laid.root;
+  members = λ p f at. laid.members p f at ∙ stand f.base;
+  filled = laid.filled;
+  parent = λ p x f at. let h = laid.parent p x f at in record {
+    above = h.above; at = h.at; sign = signs (h.above.base + x) ∙ h.sign; child = children (h.above.base + x) ∙ h.child; base = h.base; positive = h.positive };
+  child = λ p x g at up is down.
+    let h = laid.child p x g at up (sym (signs (g.base + x)) ∙ is) (let e = children (g.base + x) in omega arith) in
+    (h.0, h.1, h.2 ∙ sym (children (g.base + x)));
+  apart = laid.apart;
+  owned = λ i up. let h = laid.owned i (λ z. up (signs i ∙ z)) in (h.0, h.1, h.2, h.3 ∙ ap (λ x. h.1.base + x) (sym (signs i)));
+  small = λ i. let h = laid.small i in let e = signs i in omega arith;
+  flag = λ p f at. bases f.base ∙ laid.flag p f at;
+  flagged = λ b e. laid.flagged b (sym (bases b) ∙ e) }
+  where
+    stand : (base : ℕ) → standing n r base ≡ standing n new base
+    stand base = λ t. filter (λ x. nat_eq (sym (signs (base + x)) t) x) (range_with_len 1 n)

@@ -8,4 +8,5 @@ pub mod RootSteps
 pub mod RootTrie
 pub mod RowWrites
 pub mod StoreSteps
+pub mod StringCells
 pub mod StringMaps

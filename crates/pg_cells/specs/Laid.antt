@@ -8,6 +8,7 @@ use Rattle.std.specs.FinMap.Entries.{is_sorted}
 use Rattle.pg_types.specs.Placement.{Family, Families, family_at, cell_of, taken}
 use Rattle.pg_cells.specs.Lists.{Row, sign_at, child_at, base_at}
 use Rattle.pg_cells.specs.Store.{taken_in}
+use Rattle.pg_types.specs.declared.limits.TheConstants.{SIGNS_MAX}
 use Rattle.pg_cells.specs.Held.{Trie}
 
 module _ {V : Type 0} where
@@ -50,3 +51,9 @@ module _ {V : Type 0} where
     pub count : taken_in r ≡ taken t.families
     pub ordered : T (is_sorted (slice_cmp nat_cmp) t.values)
     pub has : (q : List ℕ) → find (slice_cmp nat_cmp) q t.values ≡ value_in r (cell_of t.families q)
+
+  -- and the table has some signs, and not too many
+  pub record AreKept (n : ℕ) (r : Row V) (t : Trie V) : Type 0 where
+    pub trie : IsTrie n r t
+    pub some : 1 ≤ n
+    pub few : n ≤ SIGNS_MAX

@@ -1,6 +1,6 @@
 //! The families of a trie, each with its cells at its base.
-ghost use Rattle.std.specs.Prelude.{◌≡◌, ◌≢◌, ℕ, ◌+◌, ◌<◌, ◌≤◌, List, [], ◌∷◌, ◌++◌, Some, None, MatchOption, IfOk};
-ghost use Rattle.std.specs.FinMap.{find};
+ghost use Rattle.std.specs.Prelude.{◌≡◌, ◌≢◌, ℕ, ◌+◌, ◌<◌, ◌≤◌, List, [], ◌∷◌, ◌++◌, Some, None, MatchOption, IfOk, ◌==◌, if◌then◌else◌};
+ghost use Rattle.std.specs.FinMap.{find, put};
 ghost use Rattle.std.specs.Cmp.Lexicographic.{slice_cmp};
 ghost use Rattle.std.specs.Ordering.{nat_cmp};
 ghost use Rattle.pg_types.specs.Placement.{taken, top, cell_of, base_of};
@@ -26,7 +26,7 @@ pub struct Cells<V: Copy> {
 
 impl<V: Copy> Model for Cells<V> {
     ghost use Rattle.pg_cells.specs.Held.{Held, held_code};
-    ghost use Rattle.pg_cells.specs.Laid.{IsTrie};
+    ghost use Rattle.pg_cells.specs.Laid.{AreKept};
 
     ghost Value = { Held V };
 
@@ -34,7 +34,7 @@ impl<V: Copy> Model for Cells<V> {
 
     ghost view = { λ c. record { signs = c.signs; families = c.laid.0.families; values = c.laid.0.values } };
 
-    ghost invariant = { λ c. IsTrie c.signs c.store c.laid.0 };
+    ghost invariant = { λ c. AreKept c.signs c.store c.laid.0 };
 }
 
 impl<V: Copy> Cells<V> {
@@ -52,6 +52,54 @@ impl<V: Copy> Cells<V> {
             store,
             moving: Vec::new(alloc),
         })
+    }
+
+    /// The cell of the sign in the family with the base, or `None` where the family lacks the sign.
+    pub fn find(&self, base: usize, s: Sign) -> Option<usize>
+        requires base { (p : List ℕ) × (base_of self.now.families p ≡ Some base) }
+        requires sign { (1 ≤ s) × (s ≤ self.now.signs) }
+        ensures { (p : List ℕ) → base_of self.now.families p ≡ Some base → result ≡ cell_of self.now.families (p ++ s ∷ []) }
+    {
+        let _cells = self.store.len();
+        let cell = base + s as usize;
+        if self.store.sign(cell) == s {
+            Some(cell)
+        } else {
+            None
+        }
+    }
+
+    /// The base of the family below the cell's string, 0 for none.
+    pub fn child(&self, cell: usize) -> usize
+        requires { (q : List ℕ) × (cell_of self.now.families q ≡ Some cell) }
+        ensures { (q : List ℕ) → cell_of self.now.families q ≡ Some cell → base_of self.now.families q ≡ (if result == 0 then None else Some result) }
+    {
+        self.store.child(cell)
+    }
+
+    /// The value of the cell's string.
+    pub fn value(&self, cell: usize) -> V
+        requires { (q : List ℕ) × (cell_of self.now.families q ≡ Some cell) }
+        ensures { (q : List ℕ) → cell_of self.now.families q ≡ Some cell → find (slice_cmp nat_cmp) q self.now.values ≡ Some result }
+    {
+        self.store.value(cell)
+    }
+
+    /// Gives the cell's string the value.
+    pub fn set_value(&mut self, cell: usize, v: V)
+        requires { (q : List ℕ) × (cell_of self.old.families q ≡ Some cell) }
+        ensures { (q : List ℕ) → cell_of self.old.families q ≡ Some cell → self.new ≡ record self.old { values = put (slice_cmp nat_cmp) q v self.old.values } }
+    {
+        self.store.set_value(cell, v);
+    }
+
+    /// The root family alone, each value `blank`.
+    pub fn reset(&mut self, blank: V)
+        ensures { self.new ≡ root_held self.old.signs blank }
+    {
+        clear(&mut self.store);
+        plant(&mut self.store, self.signs, blank);
+        self.store.set_base(0, true);
     }
 
     /// The greatest taken cell.

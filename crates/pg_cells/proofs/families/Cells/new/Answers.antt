@@ -4,7 +4,7 @@ use Rattle.pg_types.specs.Placement.{root}
 use Rattle.pg_cells.specs.Lists.{Row}
 use Rattle.pg_cells.specs.Store.{one_free}
 use Rattle.pg_cells.specs.Held.{Trie, Held}
-use Rattle.pg_cells.specs.Laid.{IsTrie}
+use Rattle.pg_cells.specs.Laid.{AreKept}
 use Rattle.pg_cells.specs.OneTrie.{Kept, settled, held}
 use Rattle.pg_cells.specs.Root.{root_held, IsPlanted}
 use Rattle.pg_cells.proofs.RootSteps.{planted_none, planted_extended}
@@ -24,7 +24,8 @@ invariant_of-result g c =
 pub invariant_of-result-2 : goal.invariant_of-result-2
 invariant_of-result-2 g c =
     let trie = root_trie c.args.blank c.args.signs c.plant.new.store c.set_base.new.self c.requires.0 c.plant.ensures.planted c.set_base.ensures in
-    let all : (d : Kept c.args.signs c.set_base.new.self) → IsTrie c.args.signs c.set_base.new.self d.0 = λ d. held g.row.V.coded c.args.signs c.set_base.new.self d _ trie in
+    let all : (d : Kept c.args.signs c.set_base.new.self) → AreKept c.args.signs c.set_base.new.self d.0 =
+        λ d. record { trie = held g.row.V.coded c.args.signs c.set_base.new.self d _ trie; some = c.requires.0; few = c.requires.1 } in
     search all
 
 pub returns : goal.returns
