@@ -1,12 +1,16 @@
 pub mod CellWrites
 pub mod FitSteps
+pub mod Joined
 pub mod LaidLaws
 pub mod LinkedLists
 pub mod LinkedSteps
 pub mod PlacementLaws
+pub mod OneSign
 pub mod RootSteps
 pub mod RootTrie
 pub mod RowWrites
+pub mod Settled
+pub mod SettledValues
 pub mod StoreSteps
 pub mod StringCells
 pub mod StringMaps
