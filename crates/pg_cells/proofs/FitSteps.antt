@@ -1,7 +1,7 @@
 -- The search for a base along the free cells: what each step keeps.
-use Rattle.std.proofs.Common.{◌≡◌, ◌≢◌, ℕ, ◌+◌, ◌-◌, ◌<◌, ◌≤◌, Bool, true, false, not, ◌&&◌, nat_eq, inl, inr, refl, sym, ◌∙◌, ap, subst, arith, List, take, length, get_or}
+use Rattle.std.proofs.Common.{◌≡◌, ◌≢◌, ℕ, ◌+◌, ◌-◌, ◌<◌, ◌≤◌, Bool, true, false, not, ◌&&◌, nat_eq, inl, inr, refl, sym, ◌∙◌, ap, subst, arith, List, ◌∷◌, take, length, get_or}
 use Rattle.std.specs.List.{list_all}
-use Rattle.std.proofs.lemmas.Bool.{cases_eq, cases_lt, cases_order, and_parts, and_right, ne_eqb, eqb-true, both_ways, false≢true}
+use Rattle.std.proofs.lemmas.Bool.{cases_eq, cases_lt, cases_order, and_parts, and_right, ne_eqb, eq-eqb, eqb-true, both_ways, false≢true}
 use Rattle.std.proofs.lemmas.List.{get_or_default, get_or_past}
 use Rattle.std.proofs.lemmas.List.Folds.{list_all_more, list_all_at}
 use Rattle.pg_cells.specs.Lists.{Row, sign_at, base_at, IsFree}
@@ -93,3 +93,7 @@ module _ {V : Type 0} (r : Row V) (signs : List ℕ) where
         from = let from : low + first ≤ at = sought.from in omega arith;
         passes = passes;
         first = λ k l lt. sought.first_fit k l (omega arith) }
+
+-- where the cell of the sign is free, the others decide
+pub fits_one_more : {V : Type 0} (r : Row V) (signs : List ℕ) (s b : ℕ) → sign_at r (b + s) ≡ 0 → fits_row r (s ∷ signs) b ≡ fits_row r signs b
+fits_one_more r signs s b free = ap (λ x. not (base_at r b) && (x && list_all (λ y. nat_eq (sign_at r (b + y)) 0) signs)) (eq-eqb (sign_at r (b + s)) 0 free)

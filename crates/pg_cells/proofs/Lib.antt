@@ -5,12 +5,14 @@ pub mod LaidLaws
 pub mod LinkedLists
 pub mod LinkedSteps
 pub mod PlacementLaws
+pub mod MoveSteps
 pub mod OneSign
 pub mod RootSteps
 pub mod RootTrie
 pub mod RowWrites
 pub mod Settled
 pub mod SettledValues
+pub mod Slots
 pub mod StoreSteps
 pub mod StringCells
 pub mod StringMaps

@@ -144,3 +144,9 @@ row_push {V = V} cells new c r e sign link base freed =
       children = (ap (λ l. set l (length cells) 0) (map_push child_seen cells c) ∙ set_push (map child_seen cells) (child_seen c) 0 (length cells) (length-map cells child_seen)) t;
       values = map_push (λ (x : Cell V). x.value) cells c t;
       bases = (map_push (λ (x : Cell V). x.is_base) cells c ∙ ap (λ b. map (λ (x : Cell V). x.is_base) cells ++ b ∷ []) base) t })
+
+-- a free cell stays free where its sign stays
+pub free_kept : {V : Type 0} (old new : Row V) (i : ℕ) → length new.signs ≡ length old.signs → sign_at new i ≡ sign_at old i → IsFree old i → IsFree new i
+free_kept old new i size same free =
+    let lt = free_within old i free in
+    get_or_default new.signs i 1 0 (omega arith) ∙ same ∙ get_or_default old.signs i 0 1 lt ∙ free

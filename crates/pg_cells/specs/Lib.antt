@@ -3,6 +3,7 @@ pub mod Held
 pub mod Laid
 pub mod Linked
 pub mod Lists
+pub mod Moves
 pub mod OneTrie
 pub mod Root
 pub mod Store

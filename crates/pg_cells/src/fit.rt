@@ -1,8 +1,8 @@
 //! The search for a base, along the free cells.
-ghost use Rattle.std.specs.Prelude.{◌≡◌, ◌≢◌, ℕ, ◌+◌, ◌<◌, ◌≤◌, ◌^◌, Bool, true, length, map};
+ghost use Rattle.std.specs.Prelude.{◌≡◌, ◌≢◌, ℕ, ◌+◌, ◌<◌, ◌≤◌, ◌^◌, Bool, true, ◌∷◌, length, map};
 ghost use Rattle.pg_cells.specs.Lists.{lists, sign_at, base_at};
 ghost use Rattle.pg_cells.specs.Linked.{AreLinked};
-ghost use Rattle.pg_cells.specs.Fit.{fits_row, signs_of, first_sign, IsLeast};
+ghost use Rattle.pg_cells.specs.Fit.{fits_row, signs_of, IsLeast};
 
 use crate::cell::{Cell, after_of, is_base_of, sign_of};
 
@@ -64,23 +64,23 @@ fn free_from<V: Copy>(cells: &[Cell<V>], cell: usize, bound: usize) -> usize
     at
 }
 
-/// The least base from `low` on at which the signs of the slots may stand; at `room` they may.
+/// The least base from `low` on at which the sign and those of the slots may stand; at `room` they may.
 pub fn find_base<V: Copy>(
     cells: &[Cell<V>],
     slots: &[Slot<V>],
+    sign: u16,
     low: usize,
     room: usize,
 ) -> usize
     requires linked { AreLinked (lists cells.now) }
-    requires slots { 0 < length slots.now }
     requires low { low ≤ room }
-    requires within { room + first_sign slots.now < length cells.now }
+    requires within { room + sign < length cells.now }
     requires small { length cells.now < 2 ^ 32 }
-    requires room { fits_row (lists cells.now).row (signs_of slots.now) room ≡ true }
-    ensures least { IsLeast (fits_row (lists cells.now).row (signs_of slots.now)) low result }
+    requires room { fits_row (lists cells.now).row (sign ∷ signs_of slots.now) room ≡ true }
+    ensures least { IsLeast (fits_row (lists cells.now).row (sign ∷ signs_of slots.now)) low result }
     ensures room { result ≤ room }
 {
-    let first = slots[0].sign as usize;
+    let first = sign as usize;
     let mut at = free_from(cells, low + first, room + first);
     while !fits(cells, slots, at - first) {
         at = after_of(cells, at);

@@ -5,6 +5,7 @@ mod cell;
 mod chain;
 mod families;
 mod fit;
+mod moves;
 mod root;
 mod store;
 

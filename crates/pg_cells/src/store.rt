@@ -1,8 +1,8 @@
 //! The store: one vector of cells, whose free ones are linked in rising order.
-ghost use Rattle.std.specs.Prelude.{◌≡◌, ◌≢◌, ℕ, ◌+◌, ◌-◌, ◌<◌, ◌≤◌, ◌^◌, true, length, slice_get, Some, IfOk, OnOk, OnErr};
+ghost use Rattle.std.specs.Prelude.{◌≡◌, ◌≢◌, ℕ, ◌+◌, ◌-◌, ◌<◌, ◌≤◌, ◌^◌, true, ◌∷◌, length, slice_get, Some, IfOk, OnOk, OnErr};
 ghost use Rattle.pg_cells.specs.Lists.{lists, row_of, sign_at, child_at, base_at, IsFree};
 ghost use Rattle.pg_cells.specs.Linked.{AreLinked};
-ghost use Rattle.pg_cells.specs.Fit.{fits_row, signs_of, first_sign, IsLeast};
+ghost use Rattle.pg_cells.specs.Fit.{fits_row, signs_of, IsLeast};
 ghost use Rattle.pg_cells.specs.Store.{one_free, taken_in, IsTop, Extends};
 ghost use Rattle.pg_cells.specs.Writes.{Takes, Frees, SetsChild, SetsValue, SetsBase};
 
@@ -160,16 +160,15 @@ impl<V: Copy> Store<V> {
         grow_cells(&mut self.cells, count, value)
     }
 
-    /// The least base from `low` on at which the signs of the slots may stand; at `room` they may.
-    pub fn find_base(&self, slots: &[Slot<V>], low: usize, room: usize) -> usize
-        requires slots { 0 < length slots.now }
+    /// The least base from `low` on at which the sign and those of the slots may stand; at `room` they may.
+    pub fn find_base(&self, slots: &[Slot<V>], sign: u16, low: usize, room: usize) -> usize
         requires low { low ≤ room }
-        requires within { room + first_sign slots.now < length self.now.signs }
-        requires room { fits_row self.now (signs_of slots.now) room ≡ true }
-        ensures least { IsLeast (fits_row self.now (signs_of slots.now)) low result }
+        requires within { room + sign < length self.now.signs }
+        requires room { fits_row self.now (sign ∷ signs_of slots.now) room ≡ true }
+        ensures least { IsLeast (fits_row self.now (sign ∷ signs_of slots.now)) low result }
         ensures room { result ≤ room }
     {
-        find_base(self.cells.as_slice(), slots, low, room)
+        find_base(self.cells.as_slice(), slots, sign, low, room)
     }
 }
 

@@ -1,60 +1,69 @@
-use Rattle.std.proofs.Common.{◌≡◌, ◌+◌, ◌-◌, ◌<◌, ◌∙◌, List, sym, ap, refl, length, get_or, ℕ, true, false, rules}
-use Rattle.std.proofs.lemmas.List.{get_or-map, length-map}
-use Rattle.std.proofs.lemmas.Bool.{not-false, not-true}
-use Rattle.pg_cells.specs.declared.fit.Slot.{Slot}
-use Rattle.pg_cells.specs.Lists.{Row, lists}
+use Rattle.std.proofs.Common.{◌≡◌, ◌+◌, ◌-◌, ◌<◌, ◌≤◌, ◌∙◌, List, ◌∷◌, sym, ap, refl, length, ℕ, true, false, rules, arith}
+use Rattle.std.proofs.lemmas.List.{length-map, get_or_default}
+use Rattle.pg_cells.specs.Lists.{Row, lists, sign_at}
 use Rattle.pg_cells.specs.Fit.{signs_of, fits_row}
-use Rattle.pg_cells.proofs.FitSteps.{fit_free, sought_first, sought_next, nearer, sought_least}
+use Rattle.pg_cells.proofs.LinkedLists.{free_within}
+use Rattle.pg_cells.proofs.FitSteps.{fit_free, sought_first, sought_next, nearer, sought_least, fits_one_more}
 use Rattle.pg_cells.proofs.fit.find_base.Goals as goal
-
--- the slots have a first sign
-some : {V : Type 0} (slots : List (Slot V)) → 0 < length slots → 0 < length (signs_of slots)
-some slots h = rw length-map h
-
-first : {V : Type 0} (slots : List (Slot V)) (d : Slot V) → 0 < length slots → get_or (signs_of slots) 0 0 ≡ (get_or slots 0 d).sign
-first slots d h = get_or-map (λ x. x.sign) slots 0 d 0 h
-
--- and the room for it is told of all cells
-within : {V : Type 0} (slots : List (Slot V)) (d : Slot V) (n room : ℕ) → 0 < length slots → room + get_or (signs_of slots) 0 0 < n → room + (get_or slots 0 d).sign < n
-within slots d n room h lt = rw (← first slots d h) lt
 
 pub free_from-at-requires-clause-free : goal.free_from-at-requires-clause-free
 free_from-at-requires-clause-free g c =
-    fit_free (lists c.args.cells.now).row (signs_of c.args.slots.now) (some c.args.slots.now c.requires.slots) _ (first c.args.slots.now c.index-slots-0.result c.requires.slots) c.args.room c.requires.room
+    let some : 0 < length (c.args.sign ∷ signs_of c.args.slots.now) = omega arith in
+    fit_free (lists c.args.cells.now).row (c.args.sign ∷ signs_of c.args.slots.now) some c.args.sign refl c.args.room c.requires.room
 
 pub loop-at-init : goal.loop-at-init
 loop-at-init g c =
+    let some : 0 < length (c.args.sign ∷ signs_of c.args.slots.now) = omega arith in
     let size : length (lists c.args.cells.now).row.signs ≡ length c.args.cells.now = length-map c.args.cells.now (λ x. x.sign) in
-    let room = within c.args.slots.now c.index-slots-0.result _ c.args.room c.requires.slots (rw size c.requires.within) in
-    let s = sought_first (lists c.args.cells.now).row (signs_of c.args.slots.now) (some c.args.slots.now c.requires.slots) _ (first c.args.slots.now c.index-slots-0.result c.requires.slots)
-        c.args.low c.args.room c.requires.low room c.requires.room c.free_from-at.result c.free_from-at.ensures.from c.free_from-at.ensures.bound c.free_from-at.ensures.free c.free_from-at.ensures.first in
+    let within : c.args.room + c.args.sign < length (lists c.args.cells.now).row.signs = rw size c.requires.within in
+    let s = sought_first (lists c.args.cells.now).row (c.args.sign ∷ signs_of c.args.slots.now) some c.args.sign refl c.args.low c.args.room c.requires.low within c.requires.room c.free_from-at.result c.free_from-at.ensures.from c.free_from-at.ensures.bound c.free_from-at.ensures.free c.free_from-at.ensures.first in
     record { from = s.from; bound = s.bound; free = s.free; first = s.first_fit }
 
 pub loop-at-smaller : goal.loop-at-smaller
 loop-at-smaller g c =
+    let some : 0 < length (c.args.sign ∷ signs_of c.args.slots.now) = omega arith in
     let size : length (lists c.args.cells.now).row.signs ≡ length c.args.cells.now = length-map c.args.cells.now (λ x. x.sign) in
-    let room = within c.args.slots.now c.index-slots-0.result _ c.args.room c.requires.slots (rw size c.requires.within) in
-    let fails : fits_row (lists c.args.cells.now).row (signs_of c.args.slots.now) (c.loop-at.at - (get_or c.args.slots.now 0 c.index-slots-0.result).sign) ≡ false = search rules in
+    let within : c.args.room + c.args.sign < length (lists c.args.cells.now).row.signs = rw size c.requires.within in
     let inv = c.loop-at.invariant in
+    let from : c.args.low + c.args.sign ≤ c.loop-at.at = inv.from in
+    let back : (c.loop-at.at - c.args.sign) + c.args.sign ≡ c.loop-at.at = omega arith in
+    let free : sign_at (lists c.args.cells.now).row ((c.loop-at.at - c.args.sign) + c.args.sign) ≡ 0 =
+        ap (sign_at (lists c.args.cells.now).row) back ∙ get_or_default (lists c.args.cells.now).row.signs c.loop-at.at 0 1 (free_within (lists c.args.cells.now).row c.loop-at.at inv.free) ∙ inv.free in
+    let whole = fits_one_more (lists c.args.cells.now).row (signs_of c.args.slots.now) c.args.sign (c.loop-at.at - c.args.sign) free in
+    let own : fits_row (lists c.args.cells.now).row (signs_of c.args.slots.now) (c.loop-at.at - c.args.sign) ≡ false = search rules in
+    let fails : fits_row (lists c.args.cells.now).row (c.args.sign ∷ signs_of c.args.slots.now) (c.loop-at.at - c.args.sign) ≡ false = whole ∙ own in
     rw c.after_of-at.ensures
-        (nearer (lists c.args.cells.now).row (signs_of c.args.slots.now) (some c.args.slots.now c.requires.slots) _ (first c.args.slots.now c.index-slots-0.result c.requires.slots)
-            c.args.low c.args.room c.requires.low room c.requires.room _ _ _ c.requires.linked (λ i. refl) c.loop-at.at (record { from = inv.from; bound = inv.bound; free = inv.free; first_fit = inv.first }) fails)
+        (nearer (lists c.args.cells.now).row (c.args.sign ∷ signs_of c.args.slots.now) some c.args.sign refl
+            c.args.low c.args.room c.requires.low within c.requires.room _ _ _ c.requires.linked (λ i. refl) c.loop-at.at (record { from = inv.from; bound = inv.bound; free = inv.free; first_fit = inv.first }) fails)
 
 pub loop-at-preserved : goal.loop-at-preserved
 loop-at-preserved g c =
+    let some : 0 < length (c.args.sign ∷ signs_of c.args.slots.now) = omega arith in
     let size : length (lists c.args.cells.now).row.signs ≡ length c.args.cells.now = length-map c.args.cells.now (λ x. x.sign) in
-    let room = within c.args.slots.now c.index-slots-0.result _ c.args.room c.requires.slots (rw size c.requires.within) in
-    let fails : fits_row (lists c.args.cells.now).row (signs_of c.args.slots.now) (c.loop-at.at - (get_or c.args.slots.now 0 c.index-slots-0.result).sign) ≡ false = search rules in
+    let within : c.args.room + c.args.sign < length (lists c.args.cells.now).row.signs = rw size c.requires.within in
     let inv = c.loop-at.invariant in
-    let s = sought_next (lists c.args.cells.now).row (signs_of c.args.slots.now) (some c.args.slots.now c.requires.slots) _ (first c.args.slots.now c.index-slots-0.result c.requires.slots)
-            c.args.low c.args.room c.requires.low room c.requires.room _ _ _ c.requires.linked (λ i. refl) c.loop-at.at (record { from = inv.from; bound = inv.bound; free = inv.free; first_fit = inv.first }) fails in
+    let from : c.args.low + c.args.sign ≤ c.loop-at.at = inv.from in
+    let back : (c.loop-at.at - c.args.sign) + c.args.sign ≡ c.loop-at.at = omega arith in
+    let free : sign_at (lists c.args.cells.now).row ((c.loop-at.at - c.args.sign) + c.args.sign) ≡ 0 =
+        ap (sign_at (lists c.args.cells.now).row) back ∙ get_or_default (lists c.args.cells.now).row.signs c.loop-at.at 0 1 (free_within (lists c.args.cells.now).row c.loop-at.at inv.free) ∙ inv.free in
+    let whole = fits_one_more (lists c.args.cells.now).row (signs_of c.args.slots.now) c.args.sign (c.loop-at.at - c.args.sign) free in
+    let own : fits_row (lists c.args.cells.now).row (signs_of c.args.slots.now) (c.loop-at.at - c.args.sign) ≡ false = search rules in
+    let fails : fits_row (lists c.args.cells.now).row (c.args.sign ∷ signs_of c.args.slots.now) (c.loop-at.at - c.args.sign) ≡ false = whole ∙ own in
+    let s = sought_next (lists c.args.cells.now).row (c.args.sign ∷ signs_of c.args.slots.now) some c.args.sign refl
+            c.args.low c.args.room c.requires.low within c.requires.room _ _ _ c.requires.linked (λ i. refl) c.loop-at.at (record { from = inv.from; bound = inv.bound; free = inv.free; first_fit = inv.first }) fails in
     rw c.after_of-at.ensures (record { from = s.from; bound = s.bound; free = s.free; first = s.first_fit })
 
 pub returns-clause-least : goal.returns-clause-least
 returns-clause-least g c =
+    let some : 0 < length (c.args.sign ∷ signs_of c.args.slots.now) = omega arith in
     let size : length (lists c.args.cells.now).row.signs ≡ length c.args.cells.now = length-map c.args.cells.now (λ x. x.sign) in
-    let room = within c.args.slots.now c.index-slots-0.result _ c.args.room c.requires.slots (rw size c.requires.within) in
-    let passes : fits_row (lists c.args.cells.now).row (signs_of c.args.slots.now) (c.loop-at.at - (get_or c.args.slots.now 0 c.index-slots-0.result).sign) ≡ true = search rules in
+    let within : c.args.room + c.args.sign < length (lists c.args.cells.now).row.signs = rw size c.requires.within in
     let inv = c.loop-at.invariant in
-    sought_least (lists c.args.cells.now).row (signs_of c.args.slots.now) (some c.args.slots.now c.requires.slots) _ (first c.args.slots.now c.index-slots-0.result c.requires.slots)
-            c.args.low c.args.room c.requires.low room c.requires.room c.loop-at.at (record { from = inv.from; bound = inv.bound; free = inv.free; first_fit = inv.first }) passes
+    let from : c.args.low + c.args.sign ≤ c.loop-at.at = inv.from in
+    let back : (c.loop-at.at - c.args.sign) + c.args.sign ≡ c.loop-at.at = omega arith in
+    let free : sign_at (lists c.args.cells.now).row ((c.loop-at.at - c.args.sign) + c.args.sign) ≡ 0 =
+        ap (sign_at (lists c.args.cells.now).row) back ∙ get_or_default (lists c.args.cells.now).row.signs c.loop-at.at 0 1 (free_within (lists c.args.cells.now).row c.loop-at.at inv.free) ∙ inv.free in
+    let whole = fits_one_more (lists c.args.cells.now).row (signs_of c.args.slots.now) c.args.sign (c.loop-at.at - c.args.sign) free in
+    let own : fits_row (lists c.args.cells.now).row (signs_of c.args.slots.now) (c.loop-at.at - c.args.sign) ≡ true = search rules in
+    sought_least (lists c.args.cells.now).row (c.args.sign ∷ signs_of c.args.slots.now) some c.args.sign refl
+            c.args.low c.args.room c.requires.low within c.requires.room c.loop-at.at (record { from = inv.from; bound = inv.bound; free = inv.free; first_fit = inv.first }) (whole ∙ own)
