@@ -1,4 +1,5 @@
 pub mod CellWrites
+pub mod Collecting
 pub mod FitSteps
 pub mod Joined
 pub mod LaidLaws

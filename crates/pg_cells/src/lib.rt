@@ -7,6 +7,7 @@ mod families;
 mod fit;
 mod moves;
 mod root;
+mod settle;
 mod store;
 
 pub use families::Cells;
