@@ -11,6 +11,7 @@ pub mod OneSign
 pub mod RootSteps
 pub mod RootTrie
 pub mod RowWrites
+pub mod SettleRoom
 pub mod Settled
 pub mod SettledValues
 pub mod Slots
