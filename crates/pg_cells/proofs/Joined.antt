@@ -51,8 +51,8 @@ module _ {V : Type 0} (n : ℕ) (r new : Row V) (t : Trie V) (trie : IsTrie n r 
   stands_more : with_one_sign s f.signs ≡ standing n new f.base
   stands_more =
       ap (with_one_sign s) (trie.laid.members p f at)
-      ∙ sym (filter_more (λ x. nat_eq (sign_at r (f.base + x)) x) (λ x. nat_eq (sign_at new (f.base + x)) x) s 1 n
-          (λ x other. ap (λ y. nat_eq y x) (sign_same (f.base + x) (λ z. other (omega arith))))
+      ∙ sym (filter_more (λ x. nat_eq (sign_at r (f.base + x)) x) (λ x. nat_eq (sign_at new (f.base + x)) x) s 1 n (omega arith)
+          (λ x up other. ap (λ y. nat_eq y x) (sign_same (f.base + x) (λ z. other (omega arith))))
           (eq-eqb (sign_at new (f.base + s)) s takes.sign_is)
           (ne_eqb (sign_at r (f.base + s)) s (λ z. omega arith)) low (omega arith))
 

@@ -5,6 +5,7 @@ pub mod Joined
 pub mod LaidLaws
 pub mod LinkedLists
 pub mod LinkedSteps
+pub mod Owned
 pub mod PlacementLaws
 pub mod MoveSteps
 pub mod OneSign

@@ -111,6 +111,20 @@ taken_put p f (e ∷ es) h =
       | Greater ↦ λ is. omega (arith, taken_cons e (put order p f es), taken_cons e es, taken_put p f es (tail_sorted e es h))
     ] refl
 
+-- the cells left when a family is taken away
+pub taken_without : (p : List ℕ) (fs : Families) → T (is_sorted order fs) → taken (without_family fs p) + size_of (family_at fs p) ≡ taken fs
+taken_without p [] h = refl
+taken_without p (e ∷ es) h = elim (equal_or_not p e.0) [
+    inl same ↦
+      let none : find order p es ≡ None = ap (λ q. find order q es) same.0 ∙ find_below e.0 es (head_below e es h) in
+      let here : without_family (e ∷ es) p ≡ without_family es p = ap (λ b. cond (not b) (e ∷ without_family es p) (without_family es p)) same.1 in
+      let found : family_at (e ∷ es) p ≡ Some e.1 = ap (λ b. cond b (Some e.1) (find order p es)) same.1 in
+      omega (arith, ap taken here, ap size_of found, ap size_of none, taken_cons e es, taken_without p es (tail_sorted e es h))
+  | inr other ↦
+      let here : without_family (e ∷ es) p ≡ e ∷ without_family es p = ap (λ b. cond (not b) (e ∷ without_family es p) (without_family es p)) other.1 in
+      let found : family_at (e ∷ es) p ≡ find order p es = ap (λ b. cond b (Some e.1) (find order p es)) other.1 in
+      omega (arith, ap taken here, ap size_of found, taken_cons e es, taken_cons e (without_family es p), taken_without p es (tail_sorted e es h)) ]
+
 -- the least of some numbers that passes a test
 pub first_is : (test : ℕ → Bool) (more from b : ℕ) → from ≤ b → b ≤ from + more → test b ≡ true → ((k : ℕ) → from ≤ k → k < b → test k ≡ false) → first_from test more from ≡ b
 first_is test zero from b le within passes before = omega arith
