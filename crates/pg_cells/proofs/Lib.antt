@@ -1,4 +1,5 @@
 pub mod CellWrites
+pub mod Cleared
 pub mod Collecting
 pub mod FitSteps
 pub mod Joined
@@ -8,6 +9,7 @@ pub mod LinkedSteps
 pub mod Owned
 pub mod PlacementLaws
 pub mod MoveSteps
+pub mod MovedTrie
 pub mod OneSign
 pub mod RootSteps
 pub mod RootTrie
