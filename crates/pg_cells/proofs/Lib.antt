@@ -1,3 +1,4 @@
+pub mod AddTrie
 pub mod CellWrites
 pub mod Cleared
 pub mod Collecting

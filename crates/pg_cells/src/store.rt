@@ -160,6 +160,16 @@ impl<V: Copy> Store<V> {
         grow_cells(&mut self.cells, count, value)
     }
 
+    /// Makes room past the greatest taken cell: `more` cells. Refused: the cells that were there are as before.
+    pub fn make_room(&mut self, more: usize, value: V) -> Result<(), AllocError>
+        requires { more < 2 ^ 32 }
+        ensures extends { Extends self.old self.new }
+        ensures room { OnOk result ((i : ℕ) → sign_at self.old i ≢ 0 → i + more ≤ length self.new.signs) }
+    {
+        let count = self.top + more;
+        self.grow(count, value)
+    }
+
     /// The least base from `low` on at which the sign and those of the slots may stand; at `room` they may.
     pub fn find_base(&self, slots: &[Slot<V>], sign: u16, low: usize, room: usize) -> usize
         requires low { low ≤ room }
