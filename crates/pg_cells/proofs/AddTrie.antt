@@ -1,8 +1,9 @@
 -- What `add` needs to know, and what it leaves.
 use Rattle.std.proofs.Common.{◌≡◌, ◌≢◌, ℕ, ◌+◌, ◌<◌, ◌≤◌, ◌⊎◌, inl, inr, Bool, true, false, cond, T, nat_eq, List, [], ◌∷◌, ◌++◌, length, Option, None, Some, slice_get, refl, sym, ◌∙◌, ap, subst, arith}
-use Rattle.std.proofs.lemmas.Bool.{cases_Bool, cases_eq, cases_lt, eq-eqb, both_ways, or_left}
+use Rattle.std.proofs.lemmas.Bool.{cases_Bool, cases_eq, cases_lt, eq-eqb, ne_eqb, both_ways, or_left}
 use Rattle.std.proofs.lemmas.List.{get_or_past}
 use Rattle.std.specs.List.{list_any}
+use Rattle.std.specs.Option.{option_map}
 use Rattle.std.specs.FinMap.{find, put, is_sorted}
 use Rattle.pg_types.specs.Placement.{Family, Families, family_at, without_family, is_used, least_base, with_one_sign, with_sign, placed, cell_of, base_of}
 use Rattle.pg_cells.specs.declared.fit.Slot.{Slot}
@@ -14,11 +15,12 @@ use Rattle.pg_cells.specs.Moves.{Outside, CanSettle, Moved, Collected}
 use Rattle.pg_cells.specs.Held.{Trie}
 use Rattle.pg_cells.specs.Laid.{Laid, IsParent, IsTrie, standing, value_in}
 use Rattle.pg_cells.proofs.LinkedLists.{taken_within}
-use Rattle.pg_cells.proofs.StringMaps.{order, same_maps, find_without_same, find_without_other, sorted_without, equal_or_not}
+use Rattle.pg_cells.proofs.StringMaps.{order, same_maps, find_put_same, find_without_same, find_without_other, sorted_without, equal_or_not}
 use Rattle.pg_cells.proofs.LaidLaws.{sign_stands, laid_alike, used_taken, taken_used}
 use Rattle.pg_cells.proofs.Slots.{slot_or_none}
 use Rattle.pg_cells.proofs.Settled.{not_longer}
-use Rattle.pg_cells.proofs.StringCells.{IsCellOf, cell_parts, parts_cell, cell_taken, base_parts}
+use Rattle.pg_cells.proofs.StringCells.{IsCellOf, cell_parts, parts_cell, cell_taken, base_parts, child_is}
+use Rattle.pg_cells.proofs.OneSign.{any_one_more}
 use Rattle.pg_cells.proofs.Joined.{joined, trie_joined}
 use Rattle.pg_cells.proofs.Owned.{Owned, owned_none, owned_some}
 use Rattle.pg_cells.proofs.MovedTrie.{trie_moved, base_is}
@@ -174,3 +176,90 @@ module _ {V : Type 0} (n : ℕ) (r : Row V) (t : Trie V) (trie : IsTrie n r t) (
             ∙ (λ i. put order p (record { base = least_base n (without_family t.families p) (with_one_sign (is i) (signs_of slots)); signs = with_one_sign (is i) (signs_of slots) }) (without_family t.families p))
             ∙ sym step in
         subst (IsTrie n new) (λ i. record { families = families i; values = put order (p ++ is i ∷ []) slot.value t.values }) whole
+
+-- a choice made by a test
+cond_none : (b : Bool) (k : ℕ) (o : Option Family) → option_map (λ f. f.base) o ≡ cond b None (Some k) → b ≡ true → o ≡ None
+cond_none true k None e is = refl
+cond_none true k (Some f) e is = cc
+cond_none false k o e is = cc
+
+module _ {V : Type 0} (n : ℕ) (old r : Row V) (t : Trie V) (before : IsTrie n old t) (more : Extends old r) (p : List ℕ) (parent : ℕ) (parent_is : cell_of t.families p ≡ Some parent)
+    (s : ℕ) (low : 1 ≤ s) (high : s ≤ n) (lacks : cell_of t.families (p ++ s ∷ []) ≡ None) (base : ℕ) (base_is_child : base ≡ child_at r parent) where
+  pub grown : IsTrie n r t
+  grown = trie_extended n old r t before more
+
+  told_base : base_of t.families p ≡ cond (nat_eq base 0) None (Some base)
+  told_base = child_is n r t grown p parent parent_is ∙ (λ i. cond (nat_eq (sym base_is_child i) 0) None (Some (sym base_is_child i)))
+
+  pub no_family : base ≡ 0 → family_at t.families p ≡ None
+  no_family z = cond_none (nat_eq base 0) base (family_at t.families p) told_base (eq-eqb base 0 z)
+
+  pub some_family : 0 < base → (f : Family) × (family_at t.families p ≡ Some f) × (f.base ≡ base)
+  some_family up = base_parts t.families p base (told_base ∙ ap (λ b. cond b None (Some base)) (ne_eqb base 0 (λ z. omega arith)))
+
+  pub parent_taken : sign_at r parent ≢ 0
+  parent_taken = cell_taken n r t grown p parent parent_is
+
+  pub child_within : length r.bases ≡ length r.signs → base < length r.signs
+  child_within even = elim (cases_eq base 0) [
+      inl z ↦ let h = taken_within r parent parent_taken in omega arith
+    | inr up ↦
+        let f = some_family (omega arith) in
+        elim (cases_lt base (length r.bases)) [
+            inl lt ↦ omega arith
+          | inr le ↦ absurd (both_ways (base_at r base) (get_or_past r.bases base false le) (ap (base_at r) (sym f.2) ∙ grown.laid.flag p f.0 f.1)) ] ]
+
+  -- the sign joins
+  pub joins_trie : 0 < base → sign_at r (base + s) ≡ 0 → (new : Row V) (v : V) → Takes r new (base + s) s v 0 → IsTrie n new (added n t p s v)
+  joins_trie up free new v takes =
+      let f = some_family up in
+      trie_joins n r t grown p parent parent_is s low high lacks f.0 f.1 (ap (λ b. sign_at r (b + s)) f.2 ∙ free) new v (subst (λ b. Takes r new (b + s) s v 0) (sym f.2) takes)
+
+  pub joins_cell : 0 < base → sign_at r (base + s) ≡ 0 → cell_of (with_sign n t.families p s) (p ++ s ∷ []) ≡ Some (base + s)
+  joins_cell up free =
+      let f = some_family up in
+      let unused = join_free n r t grown p parent parent_is s low high lacks f.0 f.1 (ap (λ b. sign_at r (b + s)) f.2 ∙ free) in
+      ap (λ fs. cell_of fs (p ++ s ∷ [])) (sign_joins n t.families p s f.0 f.1 unused)
+      ∙ parts_cell (put order p (joined f.0 s) t.families) p s (joined f.0 s) (find_put_same p (joined f.0 s) t.families)
+          (any_one_more s s f.0.signs ∙ or_left (nat_eq s s) (list_any (nat_eq s) f.0.signs) (eq-eqb s s refl))
+      ∙ ap (λ b. Some (b + s)) f.2
+
+  module _ (slots : List (Slot V)) (none : base ≡ 0 → slots ≡ []) (some : 0 < base → Collected n r base slots) (no_join : 0 < base → sign_at r (base + s) ≢ 0) where
+    pub owned : Owned n r t p base slots
+    owned = elim (cases_eq base 0) [
+        inl z ↦ subst (λ b. Owned n r t p b slots) (sym z) (subst (Owned n r t p 0) (sym (none z)) (owned_none n r t grown p (no_family z)))
+      | inr up ↦
+          let f = some_family (omega arith) in
+          subst (λ b. Owned n r t p b slots) f.2
+            (owned_some n r t grown p f.0 f.1 (let e = f.2 in omega arith) slots (subst (λ b. Collected n r b slots) (sym f.2) (some (omega arith)))) ]
+
+    pub settles_can : (slot : Slot V) → slot.sign ≡ s → slot.child ≡ 0 → length r.bases ≡ length r.signs → ((i : ℕ) → sign_at old i ≢ 0 → i + (n + 2) ≤ length r.signs) → CanSettle n r base slots slot parent
+    settles_can slot is no_child even room =
+        can_settle n r t grown p parent parent_is s low high lacks base slots owned slot is no_child even (λ i up. room i (λ z. up (more.signs i ∙ z)))
+
+    -- the step of the placement, where the sign does not join
+    pub settles_step : with_sign n t.families p s ≡ put order p (record { base = least_base n (without_family t.families p) (with_one_sign s (signs_of slots)); signs = with_one_sign s (signs_of slots) }) (without_family t.families p)
+    settles_step = elim (cases_eq base 0) [
+        inl z ↦
+          sign_new n t.families p s grown.sorted (no_family z)
+          ∙ ap (λ l. put order p (record { base = least_base n (without_family t.families p) (with_one_sign s (signs_of l)); signs = with_one_sign s (signs_of l) }) (without_family t.families p)) (sym (none z))
+      | inr up ↦
+          let f = some_family (omega arith) in
+          let used = taken_used n r t.families grown.sorted grown.laid (f.0.base + s) (λ z. no_join (omega arith) (ap (λ b. sign_at r (b + s)) (sym f.2) ∙ z)) in
+          let signs : f.0.signs ≡ signs_of slots = grown.laid.members p f.0 f.1 ∙ ap (standing n r) f.2 ∙ sym (some (omega arith)).signs in
+          sign_moves n t.families p s f.0 f.1 used
+          ∙ ap (λ xs. put order p (record { base = least_base n (without_family t.families p) (with_one_sign s xs); signs = with_one_sign s xs }) (without_family t.families p)) signs ]
+
+    module _ (new : Row V) (at : ℕ) (slot : Slot V) (is : slot.sign ≡ s) (can : CanSettle n r base slots slot parent) (moved : Moved n r new base at slots slot parent) where
+      pub settles_trie : IsTrie n new (added n t p s slot.value)
+      settles_trie = trie_settles n r t grown p parent parent_is s low high lacks base slots owned new at slot is can moved settles_step
+
+      pub settles_cell : cell_of (with_sign n t.families p s) (p ++ s ∷ []) ≡ Some (at + s)
+      settles_cell =
+          let least = base_is n r new t grown p parent parent_is base at slots slot owned can moved in
+          let same : least_base n (without_family t.families p) (with_one_sign s (signs_of slots)) ≡ at =
+              ap (λ x. least_base n (without_family t.families p) (with_one_sign x (signs_of slots))) (sym is) ∙ sym least in
+          ap (λ fs. cell_of fs (p ++ s ∷ [])) (settles_step ∙ ap (λ b. put order p (record { base = b; signs = with_one_sign s (signs_of slots) }) (without_family t.families p)) same)
+          ∙ parts_cell (put order p (record { base = at; signs = with_one_sign s (signs_of slots) }) (without_family t.families p)) p s (record { base = at; signs = with_one_sign s (signs_of slots) })
+              (find_put_same p (record { base = at; signs = with_one_sign s (signs_of slots) }) (without_family t.families p))
+              (any_one_more s s (signs_of slots) ∙ or_left (nat_eq s s) (list_any (nat_eq s) (signs_of slots)) (eq-eqb s s refl))

@@ -1,16 +1,19 @@
 //! The families of a trie, each with its cells at its base.
-ghost use Rattle.std.specs.Prelude.{◌≡◌, ◌≢◌, ℕ, ◌+◌, ◌<◌, ◌≤◌, List, [], ◌∷◌, ◌++◌, Some, None, MatchOption, IfOk, ◌==◌, if◌then◌else◌};
+ghost use Rattle.std.specs.Prelude.{◌≡◌, ◌≢◌, ℕ, ◌+◌, ◌<◌, ◌≤◌, List, [], ◌∷◌, ◌++◌, Some, None, IfOk, OnOk, OnErr, ◌==◌, ◌&&◌, ◌^◌, nat_lt, nat_eq, if◌then◌else◌};
 ghost use Rattle.std.specs.FinMap.{find, put};
 ghost use Rattle.std.specs.Cmp.Lexicographic.{slice_cmp};
 ghost use Rattle.std.specs.Ordering.{nat_cmp};
-ghost use Rattle.pg_types.specs.Placement.{taken, top, cell_of, base_of};
+ghost use Rattle.pg_types.specs.Placement.{taken, top, cell_of, base_of, with_sign};
 ghost use Rattle.pg_cells.specs.Held.{Held};
+ghost use Rattle.pg_cells.specs.Lists.{sign_at};
 ghost use Rattle.pg_cells.specs.OneTrie.{Kept, Kept-prop};
 ghost use Rattle.pg_cells.specs.Root.{root_held};
 
 use crate::fit::Slot;
 use crate::store::Store;
+use crate::moves::collect;
 use crate::root::{clear, plant};
+use crate::settle::settle;
 use pg_types::{SIGNS_MAX, Sign};
 use std::alloc::{AllocError, Global};
 use std::marker::Model;
@@ -85,6 +88,36 @@ impl<V: Copy> Cells<V> {
         self.store.value(cell)
     }
 
+    /// Adds the sign to the family below the parent's string, with the value, and gives its cell.
+    ///
+    /// A new family is put at the least base that fits; a sign joins a family in place where its cell is free; else the
+    /// family gives up its cells and is put anew. A cell that was told before may then be another's; the parent's is not.
+    pub fn add(&mut self, parent: usize, s: Sign, v: V) -> Result<usize, AllocError>
+        requires parent { (q : List ℕ) × ((cell_of self.old.families q ≡ Some parent) × (cell_of self.old.families (q ++ s ∷ []) ≡ None)) }
+        requires sign { (1 ≤ s) × (s ≤ self.old.signs) }
+        ensures held { (q : List ℕ) → cell_of self.old.families q ≡ Some parent → OnOk result (self.new ≡ record self.old { families = with_sign self.old.signs self.old.families q s; values = put (slice_cmp nat_cmp) (q ++ s ∷ []) v self.old.values }) }
+        ensures cell { (q : List ℕ) → cell_of self.old.families q ≡ Some parent → IfOk result (λ cell. cell_of self.new.families (q ++ s ∷ []) ≡ Some cell) }
+        ensures err { OnErr result (self.new ≡ self.old) }
+    {
+        self.store.make_room(self.signs as usize + 2, v)?;
+        let slot = Slot {
+            value: v,
+            child: 0,
+            sign: s,
+        };
+        let base = self.store.child(parent);
+        let _cells = self.store.len();
+        if joins(&self.store, base, s) {
+            let cell = base + s as usize;
+            self.store.take(cell, slot);
+            return Ok(cell);
+        }
+        collect(&self.store, base, self.signs, &mut self.moving)?;
+        let slots = self.moving.as_slice();
+        let placed = settle(&mut self.store, slots, slot, parent, base, self.signs);
+        Ok(placed + s as usize)
+    }
+
     /// Gives the cell's string the value.
     pub fn set_value(&mut self, cell: usize, v: V)
         requires { (q : List ℕ) × (cell_of self.old.families q ≡ Some cell) }
@@ -115,4 +148,12 @@ impl<V: Copy> Cells<V> {
     {
         self.store.taken()
     }
+}
+
+// Whether a sign may join the family at the base in place.
+fn joins<V: Copy>(store: &Store<V>, base: usize, s: Sign) -> bool
+    requires { base < 2 ^ 32 }
+    ensures { result ≡ (nat_lt 0 base && nat_eq (sign_at store.now (base + s)) 0) }
+{
+    base != 0 && store.sign(base + s as usize) == 0
 }
