@@ -1,13 +1,13 @@
 -- What `add` needs to know, and what it leaves.
 use Rattle.std.proofs.Common.{◌≡◌, ◌≢◌, ℕ, ◌+◌, ◌<◌, ◌≤◌, ◌⊎◌, inl, inr, Bool, true, false, cond, T, nat_eq, List, [], ◌∷◌, ◌++◌, length, Option, None, Some, slice_get, refl, sym, ◌∙◌, ap, subst, arith}
 use Rattle.std.proofs.lemmas.Bool.{cases_Bool, cases_eq, cases_lt, eq-eqb, ne_eqb, both_ways, or_left}
-use Rattle.std.proofs.lemmas.List.{get_or_past}
+use Rattle.std.proofs.lemmas.List.{get_or_past, get_or_default}
 use Rattle.std.specs.List.{list_any}
 use Rattle.std.specs.Option.{option_map}
 use Rattle.std.specs.FinMap.{find, put, is_sorted}
 use Rattle.pg_types.specs.Placement.{Family, Families, family_at, without_family, is_used, least_base, with_one_sign, with_sign, placed, cell_of, base_of}
 use Rattle.pg_cells.specs.declared.fit.Slot.{Slot}
-use Rattle.pg_cells.specs.Lists.{Row, sign_at, child_at, base_at}
+use Rattle.pg_cells.specs.Lists.{Row, sign_at, child_at, base_at, IsFree}
 use Rattle.pg_cells.specs.Store.{Extends}
 use Rattle.pg_cells.specs.Fit.{signs_of, slot_of}
 use Rattle.pg_cells.specs.Writes.{Takes}
@@ -177,6 +177,12 @@ module _ {V : Type 0} (n : ℕ) (r : Row V) (t : Trie V) (trie : IsTrie n r t) (
             ∙ sym step in
         subst (IsTrie n new) (λ i. record { families = families i; values = put order (p ++ is i ∷ []) slot.value t.values }) whole
 
+-- the base of a family that was moved is in the row
+pub moved_near : {V : Type 0} (n : ℕ) (r new : Row V) (was base : ℕ) (slots : List (Slot V)) (slot : Slot V) (parent : ℕ) → Moved n r new was base slots slot parent → base ≤ length r.signs + 1
+moved_near {V} n r new was base slots slot parent moved =
+    let size : length moved.dropped.signs ≡ length moved.gave.signs = elim moved.drops [ inl h ↦ ap (λ (k : Row V). length k.signs) h.1 | inr h ↦ h.1.size ] in
+    omega (arith, moved.near, moved.is_top.within, moved.gives.others.size)
+
 -- a choice made by a test
 cond_none : (b : Bool) (k : ℕ) (o : Option Family) → option_map (λ f. f.base) o ≡ cond b None (Some k) → b ≡ true → o ≡ None
 cond_none true k None e is = refl
@@ -223,6 +229,19 @@ module _ {V : Type 0} (n : ℕ) (old r : Row V) (t : Trie V) (before : IsTrie n 
       ∙ parts_cell (put order p (joined f.0 s) t.families) p s (joined f.0 s) (find_put_same p (joined f.0 s) t.families)
           (any_one_more s s f.0.signs ∙ or_left (nat_eq s s) (list_any (nat_eq s) f.0.signs) (eq-eqb s s refl))
       ∙ ap (λ b. Some (b + s)) f.2
+
+  -- and its cell is in the row
+  pub joins_free : 0 < base → sign_at r (base + s) ≡ 0 → ((i : ℕ) → sign_at old i ≢ 0 → i + (n + 2) ≤ length r.signs) → IsFree r (base + s)
+  joins_free up free room =
+      let f = some_family up in
+      let y = first_of f.0.signs (grown.laid.filled p f.0 f.1) in
+      let stands = sign_stands n r (family_at t.families) grown.laid p f.0 y.0 f.1 y.1 in
+      let long = room (f.0.base + y.0) (λ z. let here = sym (more.signs (f.0.base + y.0)) ∙ stands.2 in let positive = stands.0 in let e = sym here ∙ z in omega arith) in
+      get_or_default r.signs (base + s) 1 0 (let e = f.2 in omega arith) ∙ free
+    where
+      first_of : (signs : List ℕ) → signs ≢ [] → (y : ℕ) × (list_any (nat_eq y) signs ≡ true)
+      first_of [] some = absurd (some refl)
+      first_of (y ∷ ys) some = (y, or_left (nat_eq y y) (list_any (nat_eq y) ys) (eq-eqb y y refl))
 
   module _ (slots : List (Slot V)) (none : base ≡ 0 → slots ≡ []) (some : 0 < base → Collected n r base slots) (no_join : 0 < base → sign_at r (base + s) ≢ 0) where
     pub owned : Owned n r t p base slots

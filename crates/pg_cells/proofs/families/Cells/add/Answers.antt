@@ -11,7 +11,7 @@ use Rattle.pg_cells.specs.Laid.{AreKept, IsTrie}
 use Rattle.pg_cells.specs.OneTrie.{Kept, settled, held}
 use Rattle.pg_cells.proofs.StringMaps.{order}
 use Rattle.pg_cells.proofs.StringCells.{cells_apart}
-use Rattle.pg_cells.proofs.AddTrie.{added, trie_extended, parent_taken, child_within, joins_trie, joins_cell, settles_can, settles_trie, settles_cell}
+use Rattle.pg_cells.proofs.AddTrie.{added, trie_extended, parent_taken, child_within, joins_trie, joins_cell, joins_free, moved_near, settles_can, settles_trie, settles_cell}
 use Rattle.pg_cells.proofs.families.Cells.add.Goals as goal
 
 pub invariant_of-self-inside : goal.invariant_of-self-inside
@@ -114,8 +114,8 @@ returns-then-joins-clause-cell g c q e =
             ∙ ap (λ z. cell_of (with_sign c.self.inside.signs c.self.inside.laid.0.families c.requires.parent.0 c.args.s) (z ++ c.args.s ∷ [])) (sym same) ∙ cell in
     search all
 
-pub invariant_of-self-inside-in_err-collect : goal.invariant_of-self-inside-in_err-collect
-invariant_of-self-inside-in_err-collect g c = ((c.self.inside.laid.0, ∣ trie_extended c.self.inside.signs c.self.inside.store c.make_room.new.self c.self.inside.laid.0 c.self.invariant.trie c.in_ok-make_room.ensures.extends ∣₁), tt)
+pub invariant_of-self-inside-in-Break-branch-2 : goal.invariant_of-self-inside-in-Break-branch-2
+invariant_of-self-inside-in-Break-branch-2 g c = ((c.self.inside.laid.0, ∣ trie_extended c.self.inside.signs c.self.inside.store c.make_room.new.self c.self.inside.laid.0 c.self.invariant.trie c.in_ok-make_room.ensures.extends ∣₁), tt)
 
 pub invariant_of-self-in_err-collect : goal.invariant_of-self-in_err-collect
 invariant_of-self-in_err-collect g c =
@@ -239,3 +239,18 @@ returns-clause-cell g c q e =
             ∙ ap (λ z. cell_of (with_sign c.self.inside.signs c.self.inside.laid.0.families c.requires.parent.0 c.args.s) (z ++ c.args.s ∷ [])) (sym same) ∙ cell in
     search all
 
+pub take-requires-clause-free : goal.take-requires-clause-free
+take-requires-clause-free g c =
+    let at : cell_of c.self.inside.laid.0.families c.requires.parent.0 ≡ Some c.args.parent = subst (λ (h : Held g.row.V.Denot). cell_of h.families c.requires.parent.0 ≡ Some c.args.parent) (sym c.self.view_is) c.requires.parent.1.0 in
+    let lacks : cell_of c.self.inside.laid.0.families (c.requires.parent.0 ++ c.args.s ∷ []) ≡ None = subst (λ (h : Held g.row.V.Denot). cell_of h.families (c.requires.parent.0 ++ c.args.s ∷ []) ≡ None) (sym c.self.view_is) c.requires.parent.1.1 in
+    let high : c.args.s ≤ c.self.inside.signs = subst (λ (h : Held g.row.V.Denot). c.args.s ≤ h.signs) (sym c.self.view_is) c.requires.sign.1 in
+    let test : (nat_lt 0 c.child-base.result && nat_eq (sign_at c.make_room.new.self (c.child-base.result + c.args.s)) 0) ≡ true = sym c.joins.ensures ∙ c.if-joins.true in
+    let parts = and_parts (nat_lt 0 c.child-base.result) (nat_eq (sign_at c.make_room.new.self (c.child-base.result + c.args.s)) 0) test in
+    let up : 0 < c.child-base.result = ltb-true 0 c.child-base.result parts.0 in
+    let free : sign_at c.make_room.new.self (c.child-base.result + c.args.s) ≡ 0 = eqb-true (sign_at c.make_room.new.self (c.child-base.result + c.args.s)) 0 parts.1 in
+    joins_free c.self.inside.signs c.self.inside.store c.make_room.new.self c.self.inside.laid.0 c.self.invariant.trie c.in_ok-make_room.ensures.extends c.requires.parent.0 c.args.parent at c.args.s c.requires.sign.0 high lacks c.child-base.result c.child-base.ensures up free c.in_ok-make_room.ensures.room
+
+pub overflow_add-result : goal.overflow_add-result
+overflow_add-result g c =
+    let near = moved_near c.self.inside.signs c.make_room.new.self c.settle-placed.new.store c.child-base.result c.settle-placed.result c.as_slice-slots.result.now (record { value = c.args.v; child = 0; sign = c.args.s }) c.args.parent c.settle-placed.ensures in
+    let len = c.len-cells.ensures.len in let small = c.len-cells.ensures.small in let range = c.ranges.s in omega arith
