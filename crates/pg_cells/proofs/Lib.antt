@@ -12,6 +12,8 @@ pub mod PlacementLaws
 pub mod MoveSteps
 pub mod MovedTrie
 pub mod OneSign
+pub mod RemovedValues
+pub mod Removing
 pub mod RootSteps
 pub mod RootTrie
 pub mod RowWrites
