@@ -12,6 +12,8 @@ pub mod PlacementLaws
 pub mod MoveSteps
 pub mod MovedTrie
 pub mod OneSign
+pub mod RemovedFamily
+pub mod RemovedSign
 pub mod RemovedValues
 pub mod Removing
 pub mod RootSteps

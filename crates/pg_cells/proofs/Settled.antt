@@ -9,7 +9,7 @@ use Rattle.pg_cells.specs.Lists.{Row, sign_at, child_at, base_at}
 use Rattle.pg_cells.specs.Laid.{Laid, IsParent, standing}
 use Rattle.pg_cells.proofs.StringMaps.{equal_or_not}
 
-filter_same : (f g : ℕ → Bool) (a n : ℕ) → 0 < a → ((x : ℕ) → 0 < x → f x ≡ g x) → filter f (range_with_len a n) ≡ filter g (range_with_len a n)
+pub filter_same : (f g : ℕ → Bool) (a n : ℕ) → 0 < a → ((x : ℕ) → 0 < x → f x ≡ g x) → filter f (range_with_len a n) ≡ filter g (range_with_len a n)
 filter_same f g a zero up h = refl
 filter_same f g a (suc n) up h = λ t. cond (h a up t) (a ∷ filter_same f g (a + 1) n (omega arith) h t) (filter_same f g (a + 1) n (omega arith) h t)
 
