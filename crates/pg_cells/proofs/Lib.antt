@@ -12,6 +12,7 @@ pub mod PlacementLaws
 pub mod MoveSteps
 pub mod MovedTrie
 pub mod OneSign
+pub mod RemoveTrie
 pub mod RemovedFamily
 pub mod RemovedSign
 pub mod RemovedValues

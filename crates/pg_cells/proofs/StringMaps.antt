@@ -10,6 +10,7 @@ use Rattle.std.specs.Cmp.Lexicographic.{slice_cmp}
 use Rattle.std.specs.FinMap.{slice_cmp-IsAntisymmetric, nat_cmp-IsAntisymmetric, find, put, is_sorted}
 use Rattle.std.specs.FinMap.Entries.{where_key, find-put, find-where_key, is_sorted-put, is_sorted-where_key, same_entries, below_all, by_order}
 use Rattle.std.specs.List.{list_any}
+pub use Rattle.pg_cells.specs.Held.{without_key}
 
 -- the order of strings
 abbrev pub order : List ℕ → List ℕ → Ordering
@@ -37,10 +38,6 @@ equal_or_not q p = elim (cases_Bool (same_string q p)) [
 
 pub same_no : (q p : List ℕ) → q ≢ p → same_string q p ≡ false
 same_no q p n = elim (equal_or_not q p) [ inl h ↦ absurd (n h.0) | inr h ↦ h.1 ]
-
--- the entries without that of the string
-abbrev pub without_key : {X : Type 0} → List ℕ → List (List ℕ × X) → List (List ℕ × X)
-without_key p es = where_key order (λ k. not (same_string p k)) es
 
 not_swapped : (q p : List ℕ) → not (same_string p q) ≡ not (same_string q p)
 not_swapped q p = elim (equal_or_not q p) [

@@ -1,5 +1,8 @@
 -- What the cells are seen as: the families by their placement, and the value of each string that has a cell.
-use Rattle.std.specs.Prelude.{ℕ, List, [], ◌∷◌, Option, None, Some, slice_get, refl}
+use Rattle.std.specs.Prelude.{ℕ, List, [], ◌∷◌, Option, None, Some, slice_get, refl, not}
+use Rattle.std.specs.Ordering.{nat_cmp, eq_by_cmp}
+use Rattle.std.specs.Cmp.Lexicographic.{slice_cmp}
+use Rattle.std.specs.FinMap.Entries.{where_key}
 use Rattle.std.specs.Coded.{Coded, code_by, coded×, coded_ℕ, coded_list}
 use Rattle.pg_types.specs.Placement.{Family, Families}
 use Rattle.pg_cells.specs.Lists.{Row}
@@ -37,3 +40,7 @@ trie_code {V} code =
     (λ t. (t.families, t.values))
     (λ p. record { families = p.0; values = p.1 })
     (λ _. refl)
+
+-- the entries without that of the string
+abbrev pub without_key : {X : Type 0} → List ℕ → List (List ℕ × X) → List (List ℕ × X)
+without_key p es = where_key (slice_cmp nat_cmp) (λ k. not (eq_by_cmp (slice_cmp nat_cmp) p k)) es

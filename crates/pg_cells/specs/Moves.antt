@@ -93,3 +93,9 @@ module _ {V : Type 0} where
     pub takes : Takes settled took (base + slot.sign) slot.sign slot.value slot.child
     pub flags : SetsBase took flagged base true
     pub links : SetsChild flagged new parent base
+
+  -- the family at the base is taken away from its parent, where no sign stands there
+  abbrev pub Prunes : ℕ → Row V → Row V → ℕ → ℕ → Type 0
+  Prunes n old new base parent =
+      ((standing n old base ≢ []) × (new ≡ old))
+      ⊎ ((mid : Row V) × (standing n old base ≡ []) × (SetsChild old mid parent 0) × (SetsBase mid new base false))

@@ -3,8 +3,8 @@ ghost use Rattle.std.specs.Prelude.{◌≡◌, ◌≢◌, ℕ, ◌+◌, ◌<◌,
 ghost use Rattle.std.specs.FinMap.{find, put};
 ghost use Rattle.std.specs.Cmp.Lexicographic.{slice_cmp};
 ghost use Rattle.std.specs.Ordering.{nat_cmp};
-ghost use Rattle.pg_types.specs.Placement.{taken, top, cell_of, base_of, with_sign};
-ghost use Rattle.pg_cells.specs.Held.{Held};
+ghost use Rattle.pg_types.specs.Placement.{taken, top, cell_of, base_of, with_sign, without_sign};
+ghost use Rattle.pg_cells.specs.Held.{Held, without_key};
 ghost use Rattle.pg_cells.specs.Lists.{sign_at};
 ghost use Rattle.pg_cells.specs.OneTrie.{Kept, Kept-prop};
 ghost use Rattle.pg_cells.specs.Root.{root_held};
@@ -12,6 +12,7 @@ ghost use Rattle.pg_cells.specs.Root.{root_held};
 use crate::fit::Slot;
 use crate::store::Store;
 use crate::moves::collect;
+use crate::prune::drop_bare;
 use crate::root::{clear, plant};
 use crate::settle::settle;
 use pg_types::{SIGNS_MAX, Sign};
@@ -116,6 +117,17 @@ impl<V: Copy> Cells<V> {
         let slots = self.moving.as_slice();
         let placed = settle(&mut self.store, slots, slot, parent, base, self.signs);
         Ok(placed + s as usize)
+    }
+
+    /// Takes the sign away from the family below the parent's string. A family without a sign is gone.
+    pub fn remove(&mut self, parent: usize, s: Sign)
+        requires parent { (q : List ℕ) × (cell : ℕ) × ((cell_of self.old.families q ≡ Some parent) × (cell_of self.old.families (q ++ s ∷ []) ≡ Some cell) × (base_of self.old.families (q ++ s ∷ []) ≡ None)) }
+        ensures { (q : List ℕ) → cell_of self.old.families q ≡ Some parent → self.new ≡ record self.old { families = without_sign self.old.families q s; values = without_key (q ++ s ∷ []) self.old.values } }
+    {
+        let _cells = self.store.len();
+        let base = self.store.child(parent);
+        self.store.free(base + s as usize);
+        drop_bare(&mut self.store, base, parent, self.signs);
     }
 
     /// Gives the cell's string the value.

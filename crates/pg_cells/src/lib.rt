@@ -6,6 +6,7 @@ mod chain;
 mod families;
 mod fit;
 mod moves;
+mod prune;
 mod root;
 mod settle;
 mod store;
