@@ -1,13 +1,12 @@
 -- The search for a base along the free cells: what each step keeps.
-use Rattle.std.proofs.Common.{◌≡◌, ◌≢◌, ℕ, ◌+◌, ◌-◌, ◌<◌, ◌≤◌, Bool, true, false, not, ◌&&◌, nat_eq, inl, inr, refl, sym, ◌∙◌, ap, subst, arith, List, ◌∷◌, take, length, get_or}
+use Rattle.std.proofs.Common.{◌≡◌, ◌≢◌, ℕ, ◌+◌, ◌-◌, ◌<◌, ◌≤◌, Bool, true, false, not, ◌&&◌, nat_eq, inl, inr, sym, ◌∙◌, ap, arith, List, ◌∷◌, take, length, get_or}
 use Rattle.std.specs.List.{list_all}
-use Rattle.std.proofs.lemmas.Bool.{cases_eq, cases_lt, cases_order, and_parts, and_right, ne_eqb, eq-eqb, eqb-true, both_ways, false≢true}
-use Rattle.std.proofs.lemmas.List.{get_or_default, get_or_past}
+use Rattle.std.proofs.lemmas.Bool.{cases_eq, cases_lt, cases_order, and_right, ne_eqb, eq-eqb, both_ways}
+use Rattle.std.proofs.lemmas.List.{get_or_default}
 use Rattle.std.proofs.lemmas.List.Folds.{list_all_more, list_all_at}
 use Rattle.pg_cells.specs.Lists.{Row, sign_at, base_at, IsFree}
 use Rattle.pg_cells.specs.Linked.{Linked}
 use Rattle.pg_cells.specs.Fit.{fits_row, IsLeast}
-
 
 -- one more element that passes
 pub all_more : (test : ℕ → Bool) (xs : List ℕ) (i x : ℕ) → i < length xs → get_or xs i 0 ≡ x → test x ≡ true → list_all test (take i xs) ≡ true → list_all test (take (i + 1) xs) ≡ true
@@ -45,7 +44,8 @@ module _ {V : Type 0} (r : Row V) (signs : List ℕ) where
         from = from;
         bound = bound;
         free = within_free at (omega arith) free;
-        first_fit = λ k l lt. taken_misfit k (before (k + first) (omega arith) lt) }
+        first_fit = λ k l lt. taken_misfit k (before (k + first) (omega arith) lt);
+      }
 
       -- one step along the list, from a base that does not fit
       module _ (S B A : ℕ → ℕ) (linked : Linked S B A) (is_sign : (i : ℕ) → S i ≡ get_or r.signs i 1) (at : ℕ) (sought : IsSought low room at) (fails : fits_row r signs (at - first) ≡ false) where
@@ -54,12 +54,13 @@ module _ {V : Type 0} (r : Row V) (signs : List ℕ) where
 
         below_room : at < room + first
         below_room = elim (cases_lt at (room + first)) [
-            inl lt ↦ lt
+          | inl lt ↦ lt
           | inr ge ↦
               let from : low + first ≤ at = sought.from in
               let bound : at ≤ room + first = sought.bound in
               let same : at - first ≡ room = omega arith in
-              absurd (both_ways (fits_row r signs room) (ap (fits_row r signs) (sym same) ∙ fails) fits) ]
+              absurd (both_ways (fits_row r signs room) (ap (fits_row r signs) (sym same) ∙ fails) fits)
+        ]
 
         next : (0 < A at) × (A at ≤ room + first)
         next = linked.after_least at (room + first) here below_room (is_sign (room + first) ∙ within_free (room + first) within (fit_free room fits))
@@ -69,21 +70,24 @@ module _ {V : Type 0} (r : Row V) (signs : List ℕ) where
 
         later : (k : ℕ) → low ≤ k → k + first < A at → fits_row r signs k ≡ false
         later k l lt = elim (cases_order (k + first) at) [
-            inl e ↦ let same : at - first ≡ k = omega arith in ap (fits_row r signs) (sym same) ∙ fails
+          | inl e ↦ let same : at - first ≡ k = omega arith in ap (fits_row r signs) (sym same) ∙ fails
           | inr far ↦ elim far [
-                inl before ↦ sought.first_fit k l before
-              | inr after ↦ taken_misfit k (λ z.
-                  let far_in : A at ≤ room + first = next.1 in
-                  let free : S (k + first) ≡ 0 = is_sign (k + first) ∙ within_free (k + first) (omega arith) z in
-                  let least : A at ≤ k + first = (linked.after_least at (k + first) here after free).1 in
-                  omega arith) ] ]
+            | inl before ↦ sought.first_fit k l before
+            | inr after ↦ taken_misfit k (λ z.
+                let far_in : A at ≤ room + first = next.1 in
+                let free : S (k + first) ≡ 0 = is_sign (k + first) ∙ within_free (k + first) (omega arith) z in
+                let least : A at ≤ k + first = (linked.after_least at (k + first) here after free).1 in
+                omega arith)
+          ]
+        ]
 
         pub sought_next : IsSought low room (A at)
         sought_next = record {
           from = let h : at < A at = on.0 in let from : low + first ≤ at = sought.from in omega arith;
           bound = next.1;
           free = sym (is_sign (A at)) ∙ on.1;
-          first_fit = later }
+          first_fit = later;
+        }
 
         pub nearer : room + first - A at < room + first - at
         nearer = let h : at < A at = on.0 in let b : A at ≤ room + first = next.1 in omega arith
@@ -92,7 +96,8 @@ module _ {V : Type 0} (r : Row V) (signs : List ℕ) where
       sought_least at sought passes = record {
         from = let from : low + first ≤ at = sought.from in omega arith;
         passes = passes;
-        first = λ k l lt. sought.first_fit k l (omega arith) }
+        first = λ k l lt. sought.first_fit k l (omega arith);
+      }
 
 -- where the cell of the sign is free, the others decide
 pub fits_one_more : {V : Type 0} (r : Row V) (signs : List ℕ) (s b : ℕ) → sign_at r (b + s) ≡ 0 → fits_row r (s ∷ signs) b ≡ fits_row r signs b

@@ -1,43 +1,47 @@
 -- What follows where families lie in a row of cells.
-use Rattle.std.proofs.Common.{◌≡◌, ◌≢◌, ℕ, ◌+◌, ◌-◌, ◌<◌, ◌≤◌, ◌⊎◌, inl, inr, Bool, true, false, not, cond, ◌||◌, T, nat_eq, List, [], ◌∷◌, ◌++◌, filter, Option, None, Some, suc, zero, refl, sym, ◌∙◌, ap, subst, arith}
+use Rattle.std.proofs.Common.{◌≡◌, ◌≢◌, ℕ, ◌+◌, ◌<◌, ◌≤◌, inl, inr, Bool, true, not, cond, ◌||◌, T, nat_eq, List, ◌∷◌, filter, Option, Some, suc, zero, sym, ◌∙◌, ap, arith}
 use Rattle.std.proofs.lemmas.Bool.{cases_Bool, cases_eq, false≢true, or_cases, or_left, or_right, eqb-true, eq-eqb, ne_eqb, both_ways}
 use Rattle.std.specs.List.{list_any, range_with_len}
 use Rattle.std.specs.FinMap.{is_sorted}
 use Rattle.pg_types.specs.Placement.{Family, Families, family_at, is_used, is_base, top}
 use Rattle.pg_cells.specs.Lists.{Row, sign_at, child_at, base_at}
 use Rattle.pg_cells.specs.Store.{IsTop}
-use Rattle.pg_cells.specs.Laid.{Laid, IsParent, standing}
+use Rattle.pg_cells.specs.Laid.{Laid, standing}
 use Rattle.pg_cells.proofs.StringMaps.{order}
-use Rattle.pg_cells.proofs.PlacementLaws.{IsCell, used_cell, cell_used, base_had, had_base, top_is}
+use Rattle.pg_cells.proofs.PlacementLaws.{used_cell, cell_used, base_had, had_base, top_is}
 
 -- what stands in a filtered range
 pub range_has : (test : ℕ → Bool) (a n x : ℕ) → list_any (nat_eq x) (filter test (range_with_len a n)) ≡ true → (a ≤ x) × (x < a + n) × (test x ≡ true)
 range_has test a zero x e = absurd (false≢true e)
 range_has test a (suc n) x e = elim (cases_Bool (test a)) [
-    inl passes ↦
+  | inl passes ↦
       let here : (nat_eq x a || list_any (nat_eq x) (filter test (range_with_len (a + 1) n))) ≡ true =
-          ap (λ b. list_any (nat_eq x) (cond b (a ∷ filter test (range_with_len (a + 1) n)) (filter test (range_with_len (a + 1) n)))) (sym passes) ∙ e in
+      ap (λ b. list_any (nat_eq x) (cond b (a ∷ filter test (range_with_len (a + 1) n)) (filter test (range_with_len (a + 1) n)))) (sym passes) ∙ e in
       elim (or_cases (nat_eq x a) (list_any (nat_eq x) (filter test (range_with_len (a + 1) n))) here) [
-          inl same ↦ let is = eqb-true x a same in (omega arith, omega arith, ap test is ∙ passes)
-        | inr rest ↦ let h = range_has test (a + 1) n x rest in (omega (arith, h.0), omega (arith, h.1), h.2) ]
+        | inl same ↦ let is = eqb-true x a same in (omega arith, omega arith, ap test is ∙ passes)
+        | inr rest ↦ let h = range_has test (a + 1) n x rest in (omega (arith, h.0), omega (arith, h.1), h.2)
+      ]
   | inr fails ↦
       let there : list_any (nat_eq x) (filter test (range_with_len (a + 1) n)) ≡ true =
-          ap (λ b. list_any (nat_eq x) (cond b (a ∷ filter test (range_with_len (a + 1) n)) (filter test (range_with_len (a + 1) n)))) (sym fails) ∙ e in
-      let h = range_has test (a + 1) n x there in (omega (arith, h.0), omega (arith, h.1), h.2) ]
+      ap (λ b. list_any (nat_eq x) (cond b (a ∷ filter test (range_with_len (a + 1) n)) (filter test (range_with_len (a + 1) n)))) (sym fails) ∙ e in
+      let h = range_has test (a + 1) n x there in (omega (arith, h.0), omega (arith, h.1), h.2)
+]
 
 pub has_range : (test : ℕ → Bool) (a n x : ℕ) → a ≤ x → x < a + n → test x ≡ true → list_any (nat_eq x) (filter test (range_with_len a n)) ≡ true
 has_range test a zero x le lt passes = absurd (omega arith)
 has_range test a (suc n) x le lt passes = elim (cases_eq x a) [
-    inl same ↦
+  | inl same ↦
       let here : test a ≡ true = ap test (sym same) ∙ passes in
       ap (λ b. list_any (nat_eq x) (cond b (a ∷ filter test (range_with_len (a + 1) n)) (filter test (range_with_len (a + 1) n)))) here
       ∙ or_left (nat_eq x a) (list_any (nat_eq x) (filter test (range_with_len (a + 1) n))) (eq-eqb x a same)
   | inr other ↦
       let rest = has_range test (a + 1) n x (omega arith) (omega arith) passes in
       elim (cases_Bool (test a)) [
-          inl yes_here ↦ ap (λ b. list_any (nat_eq x) (cond b (a ∷ filter test (range_with_len (a + 1) n)) (filter test (range_with_len (a + 1) n)))) yes_here
+        | inl yes_here ↦ ap (λ b. list_any (nat_eq x) (cond b (a ∷ filter test (range_with_len (a + 1) n)) (filter test (range_with_len (a + 1) n)))) yes_here
             ∙ or_right (nat_eq x a) (list_any (nat_eq x) (filter test (range_with_len (a + 1) n))) rest
-        | inr no_here ↦ ap (λ b. list_any (nat_eq x) (cond b (a ∷ filter test (range_with_len (a + 1) n)) (filter test (range_with_len (a + 1) n)))) no_here ∙ rest ] ]
+        | inr no_here ↦ ap (λ b. list_any (nat_eq x) (cond b (a ∷ filter test (range_with_len (a + 1) n)) (filter test (range_with_len (a + 1) n)))) no_here ∙ rest
+      ]
+]
 
 module _ {V : Type 0} (n : ℕ) (r : Row V) (F : List ℕ → Option Family) (laid : Laid n r F) where
   -- a sign of a family stands at its base
@@ -73,17 +77,21 @@ module _ {V : Type 0} (n : ℕ) (r : Row V) (fs : Families) (sorted : T (is_sort
   -- the tests of the row are those of the families
   pub free_test : (i : ℕ) → nat_eq (sign_at r i) 0 ≡ not (is_used fs i)
   free_test i = elim (cases_eq (sign_at r i) 0) [
-      inl z ↦ eq-eqb (sign_at r i) 0 z ∙ sym (elim (cases_Bool (is_used fs i)) [
-          inl e ↦ absurd (used_taken i e z)
-        | inr e ↦ ap not e ])
-    | inr up ↦ ne_eqb (sign_at r i) 0 up ∙ sym (ap not (taken_used i up)) ]
+    | inl z ↦ eq-eqb (sign_at r i) 0 z ∙ sym (elim (cases_Bool (is_used fs i)) [
+      | inl e ↦ absurd (used_taken i e z)
+      | inr e ↦ ap not e
+    ])
+    | inr up ↦ ne_eqb (sign_at r i) 0 up ∙ sym (ap not (taken_used i up))
+  ]
 
   pub base_test : (b : ℕ) → base_at r b ≡ is_base fs b
   base_test b = elim (cases_Bool (base_at r b)) [
-      inl e ↦ let h = laid.flagged b e in e ∙ sym (ap (is_base fs) (sym h.3) ∙ had_base fs h.0 h.1 h.2)
+    | inl e ↦ let h = laid.flagged b e in e ∙ sym (ap (is_base fs) (sym h.3) ∙ had_base fs h.0 h.1 h.2)
     | inr e ↦ e ∙ sym (elim (cases_Bool (is_base fs b)) [
-          inl f ↦ let h = base_had fs sorted b f in absurd (both_ways (base_at r b) e (ap (base_at r) h.3 ∙ laid.flag h.0 h.1 h.2))
-        | inr f ↦ f ]) ]
+      | inl f ↦ let h = base_had fs sorted b f in absurd (both_ways (base_at r b) e (ap (base_at r) h.3 ∙ laid.flag h.0 h.1 h.2))
+      | inr f ↦ f
+    ])
+  ]
 
   pub top_same : (t : ℕ) → IsTop r.signs t → t ≡ top fs
   top_same t is = top_is fs t (λ i e. is.most i (used_taken i e)) (λ up. taken_used t (is.used up))
@@ -96,15 +104,22 @@ laid_alike {V} {n} {r} F laid new signs children bases = record {
   members = λ p f at. laid.members p f at ∙ stand f.base;
   filled = laid.filled;
   parent = λ p x f at. let h = laid.parent p x f at in record {
-    above = h.above; at = h.at; sign = signs (h.above.base + x) ∙ h.sign; child = children (h.above.base + x) ∙ h.child; base = h.base; positive = h.positive };
+    above = h.above;
+    at = h.at;
+    sign = signs (h.above.base + x) ∙ h.sign;
+    child = children (h.above.base + x) ∙ h.child;
+    base = h.base;
+    positive = h.positive;
+  };
   child = λ p x g at up is down.
-    let h = laid.child p x g at up (sym (signs (g.base + x)) ∙ is) (let e = children (g.base + x) in omega arith) in
-    (h.0, h.1, h.2 ∙ sym (children (g.base + x)));
+      let h = laid.child p x g at up (sym (signs (g.base + x)) ∙ is) (let e = children (g.base + x) in omega arith) in
+      (h.0, h.1, h.2 ∙ sym (children (g.base + x)));
   apart = laid.apart;
   owned = λ i up. let h = laid.owned i (λ z. up (signs i ∙ z)) in (h.0, h.1, h.2, h.3 ∙ ap (λ x. h.1.base + x) (sym (signs i)));
   small = λ i. let h = laid.small i in let e = signs i in omega arith;
   flag = λ p f at. bases f.base ∙ laid.flag p f at;
-  flagged = λ b e. laid.flagged b (sym (bases b) ∙ e) }
+  flagged = λ b e. laid.flagged b (sym (bases b) ∙ e);
+}
   where
     stand : (base : ℕ) → standing n r base ≡ standing n new base
     stand base = λ t. filter (λ x. nat_eq (sym (signs (base + x)) t) x) (range_with_len 1 n)

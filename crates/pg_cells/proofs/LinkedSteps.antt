@@ -1,5 +1,5 @@
 -- The list through the free cells stays whole when a free cell is taken out of it, and when a taken one is put into it.
-use Rattle.std.proofs.Common.{◌≡◌, ◌≢◌, ℕ, ◌<◌, ◌≤◌, ◌⊎◌, inl, inr, refl, sym, ◌∙◌, ap, arith}
+use Rattle.std.proofs.Common.{◌≡◌, ◌≢◌, ℕ, ◌<◌, ◌≤◌, inl, inr, sym, ◌∙◌, ap, arith}
 use Rattle.std.proofs.lemmas.Bool.{cases_eq, cases_lt}
 use Rattle.pg_cells.specs.Linked.{Linked}
 
@@ -33,7 +33,7 @@ module _ (S B A S' B' A' : ℕ → ℕ) (i : ℕ) (old : Linked S B A) (positive
 
   after_ok : (j : ℕ) → S' j ≡ 0 → A' j ≢ 0 → (j < A' j) × (S' (A' j) ≡ 0)
   after_ok j e up = elim (cases_eq j (B i)) [
-      inl here ↦
+    | inl here ↦
         let to : A' j ≡ A i = ap A' here ∙ after_here in
         let there = after_up (λ z. up (to ∙ z)) in
         (omega (arith, there.0, before.0), ap S' to ∙ stays (A i) (λ z. omega (arith, there.0)) there.1)
@@ -41,27 +41,30 @@ module _ (S B A S' B' A' : ℕ → ℕ) (i : ℕ) (old : Linked S B A) (positive
         let to : A' j ≡ A j = after_same j there (other j e) in
         let on = old.after_ok j (was j e) (λ z. up (to ∙ z)) in
         let not_i : A j ≢ i = λ z.
-          let le : j ≤ B i = low j (was j e) (omega (arith, on.0)) in
-          let lt : j < B i = omega (arith, there) in
-          let least = old.after_least j (B i) (was j e) lt before.1 in
-          omega (arith, least.1, before.0) in
-        (omega (arith, on.0), ap S' to ∙ stays (A j) not_i on.1) ]
+        let le : j ≤ B i = low j (was j e) (omega (arith, on.0)) in
+        let lt : j < B i = omega (arith, there) in
+        let least = old.after_least j (B i) (was j e) lt before.1 in
+        omega (arith, least.1, before.0) in
+        (omega (arith, on.0), ap S' to ∙ stays (A j) not_i on.1)
+  ]
 
   after_least : (j k : ℕ) → S' j ≡ 0 → j < k → S' k ≡ 0 → (0 < A' j) × (A' j ≤ k)
   after_least j k e lt f = elim (cases_eq j (B i)) [
-      inl here ↦
+    | inl here ↦
         let to : A' j ≡ A i = ap A' here ∙ after_here in
         let above : i < k = elim (cases_lt k i) [
-            inl below ↦ absurd (let le = low k (was k f) below in omega arith)
-          | inr le ↦ let n = other k f in omega arith ] in
+          | inl below ↦ absurd (let le = low k (was k f) below in omega arith)
+          | inr le ↦ let n = other k f in omega arith
+        ] in
         let h = high k (was k f) above in (omega (arith, h.0), omega (arith, h.1))
     | inr there ↦
         let to : A' j ≡ A j = after_same j there (other j e) in
-        let h = old.after_least j k (was j e) lt (was k f) in (omega (arith, h.0), omega (arith, h.1)) ]
+        let h = old.after_least j k (was j e) lt (was k f) in (omega (arith, h.0), omega (arith, h.1))
+  ]
 
   before_ok : (j : ℕ) → 0 < j → S' j ≡ 0 → (B' j < j) × (S' (B' j) ≡ 0)
   before_ok j up e = elim (cases_eq j (A i)) [
-      inl here ↦
+    | inl here ↦
         let to : B' j ≡ B i = ap B' here ∙ before_here in
         let there = after_up (λ z. omega arith) in
         (omega (arith, there.0, before.0), ap S' to ∙ stays (B i) (λ z. omega (arith, before.0)) before.1)
@@ -69,48 +72,54 @@ module _ (S B A S' B' A' : ℕ → ℕ) (i : ℕ) (old : Linked S B A) (positive
         let to : B' j ≡ B j = before_same j there in
         let on = old.before_ok j up (was j e) in
         let not_i : B j ≢ i = λ z.
-          let h = high j (was j e) (omega (arith, on.0)) in
-          let a = after_up (λ y. omega (arith, h.0)) in
-          let lt : A i < j = omega (arith, h.1, there) in
-          let most = old.before_most j (A i) up (was j e) lt a.1 in
-          omega (arith, a.0) in
-        (omega (arith, on.0), ap S' to ∙ stays (B j) not_i on.1) ]
+        let h = high j (was j e) (omega (arith, on.0)) in
+        let a = after_up (λ y. omega (arith, h.0)) in
+        let lt : A i < j = omega (arith, h.1, there) in
+        let most = old.before_most j (A i) up (was j e) lt a.1 in
+        omega (arith, a.0) in
+        (omega (arith, on.0), ap S' to ∙ stays (B j) not_i on.1)
+  ]
 
   before_most : (j k : ℕ) → 0 < j → S' j ≡ 0 → k < j → S' k ≡ 0 → k ≤ B' j
   before_most j k up e lt f = elim (cases_eq j (A i)) [
-      inl here ↦
+    | inl here ↦
         let to : B' j ≡ B i = ap B' here ∙ before_here in
         elim (cases_lt k i) [
-            inl below ↦ let le = low k (was k f) below in omega arith
+          | inl below ↦ let le = low k (was k f) below in omega arith
           | inr le ↦
               let n = other k f in
-              let h = high k (was k f) (omega arith) in absurd (omega (arith, h.1)) ]
+              let h = high k (was k f) (omega arith) in absurd (omega (arith, h.1))
+        ]
     | inr there ↦
         let to : B' j ≡ B j = before_same j there in
-        let le = old.before_most j k up (was j e) lt (was k f) in omega arith ]
+        let le = old.before_most j k up (was j e) lt (was k f) in omega arith
+  ]
 
   last_ok : S' (B' 0) ≡ 0
   last_ok = elim (cases_eq 0 (A i)) [
-      inl here ↦ ap S' (ap B' here ∙ before_here) ∙ stays (B i) (λ z. omega (arith, before.0)) before.1
+    | inl here ↦ ap S' (ap B' here ∙ before_here) ∙ stays (B i) (λ z. omega (arith, before.0)) before.1
     | inr there ↦
         let to : B' 0 ≡ B 0 = before_same 0 there in
         let not_i : B 0 ≢ i = λ z.
-          let a = after_up (λ y. there (sym y)) in
-          let le = old.last_most (A i) a.1 in omega (arith, a.0) in
-        ap S' to ∙ stays (B 0) not_i old.last_ok ]
+        let a = after_up (λ y. there (sym y)) in
+        let le = old.last_most (A i) a.1 in omega (arith, a.0) in
+        ap S' to ∙ stays (B 0) not_i old.last_ok
+  ]
 
   last_most : (k : ℕ) → S' k ≡ 0 → k ≤ B' 0
   last_most k f = elim (cases_eq 0 (A i)) [
-      inl here ↦
+    | inl here ↦
         let to : B' 0 ≡ B i = ap B' here ∙ before_here in
         elim (cases_lt k i) [
-            inl below ↦ let le = low k (was k f) below in omega arith
+          | inl below ↦ let le = low k (was k f) below in omega arith
           | inr le ↦
               let n = other k f in
-              let h = high k (was k f) (omega arith) in absurd (omega (arith, h.0)) ]
+              let h = high k (was k f) (omega arith) in absurd (omega (arith, h.0))
+        ]
     | inr there ↦
         let to : B' 0 ≡ B 0 = before_same 0 there in
-        let le = old.last_most k (was k f) in omega arith ]
+        let le = old.last_most k (was k f) in omega arith
+  ]
 
   pub Linked-take : Linked S' B' A'
   Linked-take = record {
@@ -120,7 +129,8 @@ module _ (S B A S' B' A' : ℕ → ℕ) (i : ℕ) (old : Linked S B A) (positive
     before_ok = before_ok;
     before_most = before_most;
     last_ok = last_ok;
-    last_most = last_most }
+    last_most = last_most;
+  }
 
 -- the cell i is put in, behind the last free cell b below it
 module _ (S B A S' B' A' : ℕ → ℕ) (i b : ℕ) (old : Linked S B A) (taken : S i ≢ 0) (free : S' i ≡ 0)
@@ -143,93 +153,110 @@ module _ (S B A S' B' A' : ℕ → ℕ) (i b : ℕ) (old : Linked S B A) (taken 
       let h = old.after_ok b behind up in
       let n = other_put (A b) h.1 in
       elim (cases_lt (A b) i) [
-          inl lt ↦ absurd (let le = nearest (A b) lt h.1 in omega (arith, h.0))
-        | inr le ↦ (omega arith, h.1) ]
+        | inl lt ↦ absurd (let le = nearest (A b) lt h.1 in omega (arith, h.0))
+        | inr le ↦ (omega arith, h.1)
+      ]
 
   high_put : (k : ℕ) → S k ≡ 0 → i < k → (0 < A b) × (A b ≤ k)
   high_put k e lt = old.after_least b k behind (omega arith) e
 
   after_ok_put : (j : ℕ) → S' j ≡ 0 → A' j ≢ 0 → (j < A' j) × (S' (A' j) ≡ 0)
   after_ok_put j e up = elim (cases_eq j i) [
-      inl here ↦
+    | inl here ↦
         let to : A' j ≡ A b = ap A' here ∙ after_i in
         let h = on_put (λ z. up (to ∙ z)) in (omega (arith, h.0), ap S' to ∙ stays_put (A b) h.1)
     | inr n ↦ elim (cases_eq j b) [
-          inl here ↦ let to : A' j ≡ i = ap A' here ∙ after_b in (omega arith, ap S' to ∙ free)
-        | inr m ↦
-            let to : A' j ≡ A j = after_same j m n in
-            let h = old.after_ok j (was_put j n e) (λ z. up (to ∙ z)) in (omega (arith, h.0), ap S' to ∙ stays_put (A j) h.1) ] ]
+      | inl here ↦ let to : A' j ≡ i = ap A' here ∙ after_b in (omega arith, ap S' to ∙ free)
+      | inr m ↦
+          let to : A' j ≡ A j = after_same j m n in
+          let h = old.after_ok j (was_put j n e) (λ z. up (to ∙ z)) in (omega (arith, h.0), ap S' to ∙ stays_put (A j) h.1)
+    ]
+  ]
 
   after_least_put : (j k : ℕ) → S' j ≡ 0 → j < k → S' k ≡ 0 → (0 < A' j) × (A' j ≤ k)
   after_least_put j k e lt f = elim (cases_eq j i) [
-      inl here ↦
+    | inl here ↦
         let to : A' j ≡ A b = ap A' here ∙ after_i in
         let h = high_put k (was_put k (λ z. omega arith) f) (omega arith) in (omega (arith, h.0), omega (arith, h.1))
     | inr n ↦ elim (cases_eq j b) [
-          inl here ↦
-            let to : A' j ≡ i = ap A' here ∙ after_b in
-            let above : i ≤ k = elim (cases_lt k i) [
-                inl low ↦ absurd (let le = nearest k low (was_put k (λ z. omega arith) f) in omega arith)
-              | inr le ↦ le ] in
-            (omega arith, omega arith)
-        | inr m ↦
-            let to : A' j ≡ A j = after_same j m n in
-            elim (cases_eq k i) [
-                inl there ↦
-                  let le : j ≤ b = nearest j (omega arith) (was_put j n e) in
-                  let h = old.after_least j b (was_put j n e) (omega arith) behind in (omega (arith, h.0), omega (arith, h.1))
-              | inr l ↦ let h = old.after_least j k (was_put j n e) lt (was_put k l f) in (omega (arith, h.0), omega (arith, h.1)) ] ] ]
+      | inl here ↦
+          let to : A' j ≡ i = ap A' here ∙ after_b in
+          let above : i ≤ k = elim (cases_lt k i) [
+            | inl low ↦ absurd (let le = nearest k low (was_put k (λ z. omega arith) f) in omega arith)
+            | inr le ↦ le
+          ] in
+          (omega arith, omega arith)
+      | inr m ↦
+          let to : A' j ≡ A j = after_same j m n in
+          elim (cases_eq k i) [
+            | inl there ↦
+                let le : j ≤ b = nearest j (omega arith) (was_put j n e) in
+                let h = old.after_least j b (was_put j n e) (omega arith) behind in (omega (arith, h.0), omega (arith, h.1))
+            | inr l ↦ let h = old.after_least j k (was_put j n e) lt (was_put k l f) in (omega (arith, h.0), omega (arith, h.1))
+          ]
+    ]
+  ]
 
   before_ok_put : (j : ℕ) → 0 < j → S' j ≡ 0 → (B' j < j) × (S' (B' j) ≡ 0)
   before_ok_put j up e = elim (cases_eq j i) [
-      inl here ↦ let to : B' j ≡ b = ap B' here ∙ before_i in (omega arith, ap S' to ∙ stays_put b behind)
+    | inl here ↦ let to : B' j ≡ b = ap B' here ∙ before_i in (omega arith, ap S' to ∙ stays_put b behind)
     | inr n ↦ elim (cases_eq j (A b)) [
-          inl here ↦
-            let to : B' j ≡ i = ap B' here ∙ before_a in
-            let h = on_put (λ z. omega arith) in (omega (arith, h.0), ap S' to ∙ free)
-        | inr m ↦
-            let to : B' j ≡ B j = before_same j m n in
-            let h = old.before_ok j up (was_put j n e) in (omega (arith, h.0), ap S' to ∙ stays_put (B j) h.1) ] ]
+      | inl here ↦
+          let to : B' j ≡ i = ap B' here ∙ before_a in
+          let h = on_put (λ z. omega arith) in (omega (arith, h.0), ap S' to ∙ free)
+      | inr m ↦
+          let to : B' j ≡ B j = before_same j m n in
+          let h = old.before_ok j up (was_put j n e) in (omega (arith, h.0), ap S' to ∙ stays_put (B j) h.1)
+    ]
+  ]
 
   before_most_put : (j k : ℕ) → 0 < j → S' j ≡ 0 → k < j → S' k ≡ 0 → k ≤ B' j
   before_most_put j k up e lt f = elim (cases_eq j i) [
-      inl here ↦
+    | inl here ↦
         let to : B' j ≡ b = ap B' here ∙ before_i in
         let le = nearest k (omega arith) (was_put k (λ z. omega arith) f) in omega arith
     | inr n ↦ elim (cases_eq j (A b)) [
-          inl here ↦
-            let to : B' j ≡ i = ap B' here ∙ before_a in
-            elim (cases_lt i k) [
-                inl above ↦ let h = high_put k (was_put k (λ z. omega arith) f) above in absurd (omega (arith, h.1))
-              | inr le ↦ omega arith ]
-        | inr m ↦
-            let to : B' j ≡ B j = before_same j m n in
-            elim (cases_eq k i) [
-                inl there ↦
-                  let h = high_put j (was_put j n e) (omega arith) in
-                  let a = on_put (λ z. omega (arith, h.0)) in
-                  let most = old.before_most j (A b) up (was_put j n e) (omega (arith, h.1, m)) a.1 in omega (arith, a.0)
-              | inr l ↦ let le = old.before_most j k up (was_put j n e) lt (was_put k l f) in omega arith ] ] ]
+      | inl here ↦
+          let to : B' j ≡ i = ap B' here ∙ before_a in
+          elim (cases_lt i k) [
+            | inl above ↦ let h = high_put k (was_put k (λ z. omega arith) f) above in absurd (omega (arith, h.1))
+            | inr le ↦ omega arith
+          ]
+      | inr m ↦
+          let to : B' j ≡ B j = before_same j m n in
+          elim (cases_eq k i) [
+            | inl there ↦
+                let h = high_put j (was_put j n e) (omega arith) in
+                let a = on_put (λ z. omega (arith, h.0)) in
+                let most = old.before_most j (A b) up (was_put j n e) (omega (arith, h.1, m)) a.1 in omega (arith, a.0)
+            | inr l ↦ let le = old.before_most j k up (was_put j n e) lt (was_put k l f) in omega arith
+          ]
+    ]
+  ]
 
   last_ok_put : S' (B' 0) ≡ 0
   last_ok_put = elim (cases_eq 0 (A b)) [
-      inl here ↦ ap S' (ap B' here ∙ before_a) ∙ free
-    | inr there ↦ ap S' (before_same 0 there (λ z. omega arith)) ∙ stays_put (B 0) old.last_ok ]
+    | inl here ↦ ap S' (ap B' here ∙ before_a) ∙ free
+    | inr there ↦ ap S' (before_same 0 there (λ z. omega arith)) ∙ stays_put (B 0) old.last_ok
+  ]
 
   last_most_put : (k : ℕ) → S' k ≡ 0 → k ≤ B' 0
   last_most_put k f = elim (cases_eq 0 (A b)) [
-      inl here ↦
+    | inl here ↦
         let to : B' 0 ≡ i = ap B' here ∙ before_a in
         elim (cases_lt i k) [
-            inl above ↦ let h = high_put k (was_put k (λ z. omega arith) f) above in absurd (omega (arith, h.0))
-          | inr le ↦ omega arith ]
+          | inl above ↦ let h = high_put k (was_put k (λ z. omega arith) f) above in absurd (omega (arith, h.0))
+          | inr le ↦ omega arith
+        ]
     | inr there ↦
         let to : B' 0 ≡ B 0 = before_same 0 there (λ z. omega arith) in
         elim (cases_eq k i) [
-            inl here ↦
+          | inl here ↦
               let a = on_put (λ z. there (sym z)) in
               let le = old.last_most (A b) a.1 in omega (arith, a.0)
-          | inr l ↦ let le = old.last_most k (was_put k l f) in omega arith ] ]
+          | inr l ↦ let le = old.last_most k (was_put k l f) in omega arith
+        ]
+  ]
 
   pub Linked-put : Linked S' B' A'
   Linked-put = record {
@@ -239,4 +266,5 @@ module _ (S B A S' B' A' : ℕ → ℕ) (i b : ℕ) (old : Linked S B A) (taken 
     before_ok = before_ok_put;
     before_most = before_most_put;
     last_ok = last_ok_put;
-    last_most = last_most_put }
+    last_most = last_most_put;
+  }

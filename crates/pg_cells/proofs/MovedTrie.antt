@@ -1,29 +1,29 @@
 -- The trie after a family, or none, was settled with one sign more.
-use Rattle.std.proofs.Common.{◌≡◌, ◌≢◌, ℕ, ◌+◌, ◌-◌, ◌<◌, ◌≤◌, ◌⊎◌, max, inl, inr, Bool, true, false, not, cond, ◌&&◌, ◌||◌, T, nat_eq, nat_le, List, [], ◌∷◌, ◌++◌, filter, length, Option, None, Some, slice_get, refl, sym, ◌∙◌, ap, subst, arith}
-use Rattle.std.proofs.lemmas.Bool.{cases_Bool, cases_eq, eq-eqb, ne_eqb, eqb-true, both_ways, false≢true, or_left, or_right, or_cases, and_parts, not-true}
+use Rattle.std.proofs.Common.{◌≡◌, ◌≢◌, ℕ, ◌+◌, ◌-◌, ◌<◌, ◌≤◌, max, inl, inr, Bool, true, false, not, cond, nat_eq, nat_le, List, [], ◌∷◌, ◌++◌, length, Some, slice_get, refl, sym, ◌∙◌, ap, arith}
+use Rattle.std.proofs.lemmas.Bool.{cases_eq, eq-eqb, ne_eqb, eqb-true, both_ways, false≢true, or_left, or_right, or_cases, and_parts, not-true}
 use Rattle.std.proofs.lemmas.List.{length-map}
-use Rattle.std.specs.List.{list_any, list_all, range_with_len}
-use Rattle.std.specs.FinMap.{find, put}
-use Rattle.pg_types.specs.Placement.{Family, Families, family_at, without_family, least_base, with_one_sign, cell_of, placed}
+use Rattle.std.specs.List.{list_any, list_all}
+use Rattle.std.specs.FinMap.{put}
+use Rattle.pg_types.specs.Placement.{Family, Families, family_at, without_family, least_base, with_one_sign, cell_of}
 use Rattle.pg_cells.specs.declared.fit.Slot.{Slot}
 use Rattle.pg_cells.specs.Lists.{Row, sign_at, child_at, base_at}
-use Rattle.pg_cells.specs.Fit.{signs_of, slot_of, fits_row}
-use Rattle.pg_cells.specs.Moves.{Gives, Drops, Outside, CanSettle, Moved}
+use Rattle.pg_cells.specs.Fit.{signs_of, slot_of}
+use Rattle.pg_cells.specs.Moves.{Outside, CanSettle, Moved}
 use Rattle.pg_cells.specs.Store.{taken_in}
 use Rattle.pg_cells.specs.Held.{Trie}
-use Rattle.pg_cells.specs.Laid.{Laid, IsParent, IsTrie, standing}
+use Rattle.pg_cells.specs.Laid.{IsTrie, standing}
 use Rattle.pg_cells.proofs.StringMaps.{order, find_put_same, find_put_other, find_without_same, find_without_other, sorted_put, sorted_without, equal_or_not}
 use Rattle.pg_cells.proofs.PlacementLaws.{size_of, taken_put, taken_without}
-use Rattle.pg_cells.proofs.LaidLaws.{sign_stands, stands_sign}
+use Rattle.pg_cells.proofs.LaidLaws.{sign_stands}
 use Rattle.pg_cells.proofs.OneSign.{filter_more, length_one_more, any_one_more}
 use Rattle.pg_cells.proofs.Slots.{slot_or_none, slot_has, has_slot, outside_or, outside_here}
 use Rattle.pg_cells.proofs.SettleRoom.{new_free, slots_free, parent_outside, parent_not_new}
 use Rattle.pg_cells.proofs.Settled.{Settles, settles}
 use Rattle.pg_cells.proofs.SettledValues.{HasValues, values_settle}
-use Rattle.pg_cells.proofs.StringCells.{IsCellOf, cell_parts}
+use Rattle.pg_cells.proofs.StringCells.{cell_parts}
 use Rattle.pg_cells.proofs.Joined.{not_nil}
 use Rattle.pg_cells.proofs.Owned.{Owned}
-use Rattle.pg_cells.proofs.Cleared.{rest_sorted, others_outside, sign_outside, child_outside, value_outside, sign_inside, taken_owner, other_flag, flag_other, least_same}
+use Rattle.pg_cells.proofs.Cleared.{others_outside, sign_outside, child_outside, value_outside, taken_owner, other_flag, flag_other, least_same}
 
 module _ {V : Type 0} (n : ℕ) (r new : Row V) (t : Trie V) (trie : IsTrie n r t) (p : List ℕ) (parent : ℕ) (parent_is : cell_of t.families p ≡ Some parent)
     (was base : ℕ) (slots : List (Slot V)) (slot : Slot V) (own : Owned n r t p was slots) (can : CanSettle n r was slots slot parent) (moved : Moved n r new was base slots slot parent) where
@@ -53,13 +53,15 @@ module _ {V : Type 0} (n : ℕ) (r new : Row V) (t : Trie V) (trie : IsTrie n r 
   -- a cell of the new row: that of a slot, that of the new sign, or as before
   link_sign : (i : ℕ) → sign_at new i ≡ sign_at moved.took i
   link_sign i = elim (cases_eq i parent) [
-      inl e ↦ ap (sign_at new) e ∙ moved.links.sign_is ∙ ap (sign_at moved.flagged) (sym e)
-    | inr other ↦ moved.links.elsewhere.signs i other ] ∙ moved.flags.signs i
+    | inl e ↦ ap (sign_at new) e ∙ moved.links.sign_is ∙ ap (sign_at moved.flagged) (sym e)
+    | inr other ↦ moved.links.elsewhere.signs i other
+  ] ∙ moved.flags.signs i
 
   link_value : (i : ℕ) → slice_get new.values i ≡ slice_get moved.took.values i
   link_value i = elim (cases_eq i parent) [
-      inl e ↦ ap (slice_get new.values) e ∙ moved.links.value_is ∙ ap (slice_get moved.flagged.values) (sym e)
-    | inr other ↦ moved.links.elsewhere.values i other ] ∙ moved.flags.values i
+    | inl e ↦ ap (slice_get new.values) e ∙ moved.links.value_is ∙ ap (slice_get moved.flagged.values) (sym e)
+    | inr other ↦ moved.links.elsewhere.values i other
+  ] ∙ moved.flags.values i
 
   link_child : (i : ℕ) → i ≢ parent → child_at new i ≡ child_at moved.took i
   link_child i other = moved.links.elsewhere.children i other ∙ moved.flags.children i
@@ -104,9 +106,13 @@ module _ {V : Type 0} (n : ℕ) (r new : Row V) (t : Trie V) (trie : IsTrie n r 
 
   -- a cell that is taken after the giving up is none of the new ones
   old_outside : (i : ℕ) → sign_at moved.dropped i ≢ 0 → Outside base slots i × (i ≢ base + slot.sign)
-  old_outside i up = (elim (outside_or base slots i) [
-      inl h ↦ absurd (up (ap (sign_at moved.dropped) h.2 ∙ free_slot h.0 h.1 h.3))
-    | inr out ↦ out ], (λ e. up (ap (sign_at moved.dropped) e ∙ fresh)))
+  old_outside i up = (
+    elim (outside_or base slots i) [
+      | inl h ↦ absurd (up (ap (sign_at moved.dropped) h.2 ∙ free_slot h.0 h.1 h.3))
+      | inr out ↦ out
+    ],
+    (λ e. up (ap (sign_at moved.dropped) e ∙ fresh)),
+  )
 
   -- no other family stands at the base
   no_other : (q : List ℕ) (g : Family) → q ≢ p → family_at t.families q ≡ Some g → g.base ≢ base
@@ -127,20 +133,23 @@ module _ {V : Type 0} (n : ℕ) (r new : Row V) (t : Trie V) (trie : IsTrie n r 
 
   now_test : (q : List ℕ) (g : Family) (y : ℕ) → q ≢ p → family_at t.families q ≡ Some g → 0 < y → nat_eq (sign_at new (g.base + y)) y ≡ nat_eq (sign_at r (g.base + y)) y
   now_test q g y other at up = elim (cases_eq (sign_at r (g.base + y)) y) [
-      inl is ↦
+    | inl is ↦
         let k = kept q g y other at is in
         let out = old_outside (g.base + y) (λ z. let e = k.1 in omega arith) in
         eq-eqb (sign_at new (g.base + y)) y (out_sign (g.base + y) out.0 out.1 ∙ k.1) ∙ sym (eq-eqb (sign_at r (g.base + y)) y is)
-    | inr off ↦ ne_eqb (sign_at new (g.base + y)) y (not_now off) ∙ sym (ne_eqb (sign_at r (g.base + y)) y off) ]
+    | inr off ↦ ne_eqb (sign_at new (g.base + y)) y (not_now off) ∙ sym (ne_eqb (sign_at r (g.base + y)) y off)
+  ]
     where
       not_now : sign_at r (g.base + y) ≢ y → sign_at new (g.base + y) ≢ y
       not_now off z = elim (outside_or base slots (g.base + y)) [
-          inl h ↦
+        | inl h ↦
             let sign = ap (sign_at new) h.2 ∙ slot_sign_now h.0 h.1 h.3 in
             no_other q g other at (let w = h.2 in omega arith)
         | inr out ↦ elim (cases_eq (g.base + y) (base + slot.sign)) [
-              inl e ↦ let sign = ap (sign_at new) e ∙ new_sign_now in no_other q g other at (omega arith)
-            | inr old ↦ off (came q g y other at up (sym (out_sign (g.base + y) out old) ∙ z)) ] ]
+          | inl e ↦ let sign = ap (sign_at new) e ∙ new_sign_now in no_other q g other at (omega arith)
+          | inr old ↦ off (came q g y other at up (sym (out_sign (g.base + y) out old) ∙ z))
+        ]
+      ]
 
   positive_base : 0 < base
   positive_base = let from = moved.least.from in let low = at_least_one (nat_le (length slots + 1) 4) moved.top in omega arith
@@ -160,66 +169,74 @@ module _ {V : Type 0} (n : ℕ) (r new : Row V) (t : Trie V) (trie : IsTrie n r 
   members_now =
       ap (with_one_sign slot.sign) own.signs
       ∙ sym (filter_more own.test (λ x. nat_eq (sign_at new (base + x)) x) slot.sign 1 n (omega arith) same
-          (eq-eqb (sign_at new (base + slot.sign)) slot.sign new_sign_now)
-          (own.none_test slot.sign can.sign.0 can.new) (let h = can.sign.0 in omega arith) (let h = can.sign.1 in omega arith))
+      (eq-eqb (sign_at new (base + slot.sign)) slot.sign new_sign_now)
+      (own.none_test slot.sign can.sign.0 can.new) (let h = can.sign.0 in omega arith) (let h = can.sign.1 in omega arith))
     where
       same : (x : ℕ) → 0 < x → x ≢ slot.sign → nat_eq (sign_at new (base + x)) x ≡ own.test x
       same x up other = elim (slot_or_none slots x) [
-          inl h ↦ eq-eqb (sign_at new (base + x)) x (slot_sign_now x h.0 h.1) ∙ sym (own.some_test x h.0 h.1)
+        | inl h ↦ eq-eqb (sign_at new (base + x)) x (slot_sign_now x h.0 h.1) ∙ sym (own.some_test x h.0 h.1)
         | inr none ↦
             ne_eqb (sign_at new (base + x)) x (λ z.
-              let same_sign = out_sign (base + x) (outside_here base slots x none) (λ e. other (omega arith)) in
-              let is : sign_at moved.dropped (base + x) ≡ x = sym same_sign ∙ z in
-              let o = taken_owner n r moved.gave moved.dropped t trie p was slots own moved.gives moved.drops (base + x) (λ w. omega arith) in
-              no_other o.1.0 o.1.1 o.1.2 o.1.3 (let e = o.1.4 in omega arith))
-            ∙ sym (own.none_test x up none) ]
+            let same_sign = out_sign (base + x) (outside_here base slots x none) (λ e. other (omega arith)) in
+            let is : sign_at moved.dropped (base + x) ≡ x = sym same_sign ∙ z in
+            let o = taken_owner n r moved.gave moved.dropped t trie p was slots own moved.gives moved.drops (base + x) (λ w. omega arith) in
+            no_other o.1.0 o.1.1 o.1.2 o.1.3 (let e = o.1.4 in omega arith))
+            ∙ sym (own.none_test x up none)
+      ]
 
   owned_now : (i : ℕ) → sign_at new i ≢ 0 → (q : List ℕ) × (g : Family) × (family_at families q ≡ Some g) × (i ≡ g.base + sign_at new i)
   owned_now i up = elim (outside_or base slots i) [
-      inl h ↦ (p, family, here, h.2 ∙ ap (λ x. base + x) (sym (ap (sign_at new) h.2 ∙ slot_sign_now h.0 h.1 h.3)))
+    | inl h ↦ (p, family, here, h.2 ∙ ap (λ x. base + x) (sym (ap (sign_at new) h.2 ∙ slot_sign_now h.0 h.1 h.3)))
     | inr out ↦ elim (cases_eq i (base + slot.sign)) [
-          inl e ↦ (p, family, here, e ∙ ap (λ x. base + x) (sym (ap (sign_at new) e ∙ new_sign_now)))
-        | inr other ↦
-            let same = out_sign i out other in
-            let o = taken_owner n r moved.gave moved.dropped t trie p was slots own moved.gives moved.drops i (λ z. up (same ∙ z)) in
-            (o.1.0, o.1.1, there o.1.0 o.1.2 ∙ o.1.3, o.1.4 ∙ ap (λ x. o.1.1.base + x) (sym same)) ] ]
+      | inl e ↦ (p, family, here, e ∙ ap (λ x. base + x) (sym (ap (sign_at new) e ∙ new_sign_now)))
+      | inr other ↦
+          let same = out_sign i out other in
+          let o = taken_owner n r moved.gave moved.dropped t trie p was slots own moved.gives moved.drops i (λ z. up (same ∙ z)) in
+          (o.1.0, o.1.1, there o.1.0 o.1.2 ∙ o.1.3, o.1.4 ∙ ap (λ x. o.1.1.base + x) (sym same))
+    ]
+  ]
 
   small_now : (i : ℕ) → sign_at new i ≤ n
   small_now i = elim (outside_or base slots i) [
-      inl h ↦ let is = ap (sign_at new) h.2 ∙ slot_sign_now h.0 h.1 h.3 in let le = (own.stand h.0 h.1 h.3).1 in omega arith
+    | inl h ↦ let is = ap (sign_at new) h.2 ∙ slot_sign_now h.0 h.1 h.3 in let le = (own.stand h.0 h.1 h.3).1 in omega arith
     | inr out ↦ elim (cases_eq i (base + slot.sign)) [
-          inl e ↦ let is = ap (sign_at new) e ∙ new_sign_now in let le = can.sign.1 in omega arith
-        | inr other ↦ elim (cases_eq (sign_at new i) 0) [
-              inl z ↦ omega arith
-            | inr up ↦
-                let same = out_sign i out other in
-                let o = taken_owner n r moved.gave moved.dropped t trie p was slots own moved.gives moved.drops i (λ z. up (same ∙ z)) in
-                let old = sign_outside n r moved.gave moved.dropped t trie p was slots own moved.gives moved.drops i o.0 in
-                let le = trie.laid.small i in omega arith ] ] ]
+      | inl e ↦ let is = ap (sign_at new) e ∙ new_sign_now in let le = can.sign.1 in omega arith
+      | inr other ↦ elim (cases_eq (sign_at new i) 0) [
+        | inl z ↦ omega arith
+        | inr up ↦
+            let same = out_sign i out other in
+            let o = taken_owner n r moved.gave moved.dropped t trie p was slots own moved.gives moved.drops i (λ z. up (same ∙ z)) in
+            let old = sign_outside n r moved.gave moved.dropped t trie p was slots own moved.gives moved.drops i o.0 in
+            let le = trie.laid.small i in omega arith
+      ]
+    ]
+  ]
 
   flag_now : (q : List ℕ) (g : Family) → family_at families q ≡ Some g → base_at new g.base ≡ true
   flag_now q g at = elim (equal_or_not q p) [
-      inl e ↦
+    | inl e ↦
         let same : Some g ≡ Some family = sym at ∙ ap (family_at families) e.0 ∙ here in
         let is : g ≡ family = cc in
         ap (λ (h : Family). base_at new h.base) is ∙ moved.links.elsewhere.bases base ∙ moved.flags.base_is
     | inr e ↦
         let old = sym (there q e.0) ∙ at in
-        base_now g.base (no_other q g e.0 old) ∙ other_flag n r moved.gave moved.dropped t trie p was slots own moved.gives moved.drops q g e.0 old ]
+        base_now g.base (no_other q g e.0 old) ∙ other_flag n r moved.gave moved.dropped t trie p was slots own moved.gives moved.drops q g e.0 old
+  ]
 
   flagged_now : (b : ℕ) → base_at new b ≡ true → (q : List ℕ) × (g : Family) × (family_at families q ≡ Some g) × (g.base ≡ b)
   flagged_now b e = elim (cases_eq b base) [
-      inl same ↦ (p, family, here, sym same)
+    | inl same ↦ (p, family, here, sym same)
     | inr other ↦
         let o = flag_other n r moved.gave moved.dropped t trie p was slots own moved.gives moved.drops b (sym (base_now b other) ∙ e) in
-        (o.0, o.1, there o.0 o.2 ∙ o.3, o.4) ]
+        (o.0, o.1, there o.0 o.2 ∙ o.3, o.4)
+  ]
 
   step : Settles n r new (family_at t.families) (family_at families) p family
   step =
       let cell = cell_parts t.families p parent parent_is in
       let stands = sign_stands n r (family_at t.families) trie.laid cell.front cell.family cell.last cell.at cell.has in
       let parent_sign : sign_at moved.dropped parent ≡ cell.last =
-          sign_outside n r moved.gave moved.dropped t trie p was slots own moved.gives moved.drops parent can.parent_other ∙ ap (sign_at r) cell.is ∙ stands.2 in
+      sign_outside n r moved.gave moved.dropped t trie p was slots own moved.gives moved.drops parent can.parent_other ∙ ap (sign_at r) cell.is ∙ stands.2 in
       record {
         here = here;
         there = there;
@@ -235,33 +252,36 @@ module _ {V : Type 0} (n : ℕ) (r new : Row V) (t : Trie V) (trie : IsTrie n r 
         members = members_now;
         filled = not_nil slot.sign (signs_of slots);
         own_down = λ y g at.
-          let below = own.below y g at in
-          (slot_sign_now y below.0 below.1, slot_child_now y below.0 below.1 ∙ below.2);
+            let below = own.below y g at in
+            (slot_sign_now y below.0 below.1, slot_child_now y below.0 below.1 ∙ below.2);
         own_up = λ y up is down. elim (slot_or_none slots y) [
-            inl h ↦
+          | inl h ↦
               let child = slot_child_now y h.0 h.1 in
               let above = own.above y h.0 h.1 (omega arith) in (above.0, above.1, above.2 ∙ sym child)
           | inr none ↦ absurd (elim (cases_eq y slot.sign) [
-                inl e ↦ let z = ap (λ x. child_at new (base + x)) e ∙ new_child_now in omega arith
-              | inr other ↦
-                  let old : sign_at moved.dropped (base + y) ≡ y = sym (out_sign (base + y) (outside_here base slots y none) (λ e. other (omega arith))) ∙ is in
-                  let o = taken_owner n r moved.gave moved.dropped t trie p was slots own moved.gives moved.drops (base + y) (λ w. omega arith) in
-                  no_other o.1.0 o.1.1 o.1.2 o.1.3 (let e = o.1.4 in omega arith) ]) ];
+            | inl e ↦ let z = ap (λ x. child_at new (base + x)) e ∙ new_child_now in omega arith
+            | inr other ↦
+                let old : sign_at moved.dropped (base + y) ≡ y = sym (out_sign (base + y) (outside_here base slots y none) (λ e. other (omega arith))) ∙ is in
+                let o = taken_owner n r moved.gave moved.dropped t trie p was slots own moved.gives moved.drops (base + y) (λ w. omega arith) in
+                no_other o.1.0 o.1.1 o.1.2 o.1.3 (let e = o.1.4 in omega arith)
+          ])
+        ];
         test = now_test;
         child = λ q g y other at up is no_child.
-          let k = kept q g y other at is in
-          let out = old_outside (g.base + y) (λ z. let e = k.1 in omega arith) in
-          let not_parent : g.base + y ≢ parent = λ e.
-              let sign : y ≡ cell.last = sym is ∙ ap (sign_at r) (e ∙ cell.is) ∙ stands.2 in
-              let bases : g.base ≡ cell.family.base = let w = cell.is in omega arith in
-              let fronts = trie.laid.apart q cell.front g cell.family at cell.at bases in
-              no_child ((λ i. fronts i ++ sign i ∷ []) ∙ sym cell.whole) in
-          out_child (g.base + y) out.0 out.1 not_parent ∙ child_outside n r moved.gave moved.dropped t trie p was slots own moved.gives moved.drops (g.base + y) k.0;
+            let k = kept q g y other at is in
+            let out = old_outside (g.base + y) (λ z. let e = k.1 in omega arith) in
+            let not_parent : g.base + y ≢ parent = λ e.
+            let sign : y ≡ cell.last = sym is ∙ ap (sign_at r) (e ∙ cell.is) ∙ stands.2 in
+            let bases : g.base ≡ cell.family.base = let w = cell.is in omega arith in
+            let fronts = trie.laid.apart q cell.front g cell.family at cell.at bases in
+            no_child ((λ i. fronts i ++ sign i ∷ []) ∙ sym cell.whole) in
+            out_child (g.base + y) out.0 out.1 not_parent ∙ child_outside n r moved.gave moved.dropped t trie p was slots own moved.gives moved.drops (g.base + y) k.0;
         base = no_other;
         owned = owned_now;
         small = small_now;
         flag = flag_now;
-        flagged = flagged_now }
+        flagged = flagged_now;
+      }
 
   has_new : list_any (nat_eq slot.sign) (with_one_sign slot.sign (signs_of slots)) ≡ true
   has_new = any_one_more slot.sign slot.sign (signs_of slots) ∙ or_left (nat_eq slot.sign slot.sign) (list_any (nat_eq slot.sign) (signs_of slots)) (eq-eqb slot.sign slot.sign refl)
@@ -273,16 +293,19 @@ module _ {V : Type 0} (n : ℕ) (r new : Row V) (t : Trie V) (trie : IsTrie n r 
     has = has_new;
     value = new_value_now;
     own = λ y other has. elim (or_cases (nat_eq y slot.sign) (list_any (nat_eq y) (signs_of slots)) (sym (any_one_more slot.sign y (signs_of slots)) ∙ has)) [
-        inl e ↦ absurd (other (eqb-true y slot.sign e))
-      | inr e ↦ let found = has_slot slots y e in own.value y found.0 found.1 ∙ sym (slot_value_now y found.0 found.1) ];
+      | inl e ↦ absurd (other (eqb-true y slot.sign e))
+      | inr e ↦ let found = has_slot slots y e in own.value y found.0 found.1 ∙ sym (slot_value_now y found.0 found.1)
+    ];
     own_none = λ y other none. elim (slot_or_none slots y) [
-        inl h ↦ absurd (both_ways (list_any (nat_eq y) (with_one_sign slot.sign (signs_of slots))) none
+      | inl h ↦ absurd (both_ways (list_any (nat_eq y) (with_one_sign slot.sign (signs_of slots))) none
           (any_one_more slot.sign y (signs_of slots) ∙ or_right (nat_eq y slot.sign) (list_any (nat_eq y) (signs_of slots)) (slot_has slots y h.0 h.1)))
-      | inr no_slot ↦ own.no_value y no_slot ];
+      | inr no_slot ↦ own.no_value y no_slot
+    ];
     elsewhere = λ q g y other at up is.
-      let k = kept q g y other at is in
-      let out = old_outside (g.base + y) (λ z. let e = k.1 in omega arith) in
-      out_value (g.base + y) out.0 out.1 ∙ value_outside n r moved.gave moved.dropped t trie p was slots own moved.gives moved.drops (g.base + y) k.0 }
+        let k = kept q g y other at is in
+        let out = old_outside (g.base + y) (λ z. let e = k.1 in omega arith) in
+        out_value (g.base + y) out.0 out.1 ∙ value_outside n r moved.gave moved.dropped t trie p was slots own moved.gives moved.drops (g.base + y) k.0;
+  }
 
   dropped_count : taken_in moved.dropped ≡ taken_in moved.gave
   dropped_count = elim moved.drops [ inl h ↦ ap taken_in h.1 | inr h ↦ h.1.count ]
@@ -298,11 +321,25 @@ module _ {V : Type 0} (n : ℕ) (r new : Row V) (t : Trie V) (trie : IsTrie n r 
   trie_moved = record {
     sorted = sorted_put p family (without_family t.families p) (sorted_without p t.families trie.sorted);
     laid = settles n r new (family_at t.families) (family_at families) p family trie.laid step;
-    count = omega (arith, moved.gives.count, dropped_count, moved.puts.count, moved.takes.count, moved.flags.count, moved.links.count, trie.count, own.size,
-      taken_put p family (without_family t.families p) (sorted_without p t.families trie.sorted), taken_without p t.families trie.sorted,
-      ap size_of (find_without_same p t.families), length_one_more slot.sign (signs_of slots) lacks, length-map slots (λ (k : Slot V). k.sign));
+    count = omega (
+      arith,
+      moved.gives.count,
+      dropped_count,
+      moved.puts.count,
+      moved.takes.count,
+      moved.flags.count,
+      moved.links.count,
+      trie.count,
+      own.size,
+      taken_put p family (without_family t.families p) (sorted_without p t.families trie.sorted),
+      taken_without p t.families trie.sorted,
+      ap size_of (find_without_same p t.families),
+      length_one_more slot.sign (signs_of slots) lacks,
+      length-map slots (λ (k : Slot V). k.sign),
+    );
     ordered = sorted_put (p ++ slot.sign ∷ []) slot.value t.values trie.ordered;
-    has = values_settle n r new t trie families p slot.sign slot.value family told }
+    has = values_settle n r new t trie families p slot.sign slot.value family told;
+  }
 
   -- the base is the least one of the placement
   pub base_is : base ≡ least_base n (without_family t.families p) (with_one_sign slot.sign (signs_of slots))

@@ -1,20 +1,20 @@
 -- What the slots of a family, or of none, tell of the trie.
-use Rattle.std.proofs.Common.{◌≡◌, ◌≢◌, ℕ, ◌+◌, ◌<◌, ◌≤◌, ◌⊎◌, inl, inr, Bool, true, false, cond, T, nat_eq, List, [], ◌∷◌, ◌++◌, filter, length, Option, None, Some, suc, zero, refl, sym, ◌∙◌, ap, subst, arith}
-use Rattle.std.proofs.lemmas.Bool.{cases_Bool, cases_eq, eq-eqb, ne_eqb, eqb-true, both_ways}
+use Rattle.std.proofs.Common.{◌≡◌, ◌≢◌, ℕ, ◌+◌, ◌<◌, ◌≤◌, inl, inr, Bool, true, false, cond, nat_eq, List, [], ◌∷◌, ◌++◌, filter, length, Option, None, Some, suc, zero, refl, sym, ◌∙◌, ap, arith}
+use Rattle.std.proofs.lemmas.Bool.{cases_Bool, eq-eqb, ne_eqb}
 use Rattle.std.proofs.lemmas.List.{length-map}
 use Rattle.std.specs.List.{list_any, range_with_len}
 use Rattle.std.specs.FinMap.{find}
-use Rattle.pg_types.specs.Placement.{Family, Families, family_at, cell_of}
+use Rattle.pg_types.specs.Placement.{Family, family_at}
 use Rattle.pg_cells.specs.declared.fit.Slot.{Slot}
-use Rattle.pg_cells.specs.Lists.{Row, sign_at, child_at, base_at}
+use Rattle.pg_cells.specs.Lists.{Row, sign_at, child_at}
 use Rattle.pg_cells.specs.Fit.{signs_of, slot_of}
-use Rattle.pg_cells.specs.Moves.{AreDistinct, Tells, Collected, Outside}
+use Rattle.pg_cells.specs.Moves.{AreDistinct, Collected}
 use Rattle.pg_cells.specs.Held.{Trie}
-use Rattle.pg_cells.specs.Laid.{Laid, IsParent, IsTrie, standing, value_in}
+use Rattle.pg_cells.specs.Laid.{IsTrie, value_in}
 use Rattle.pg_cells.proofs.StringMaps.{order}
 use Rattle.pg_cells.proofs.PlacementLaws.{size_of, cell_of_last}
 use Rattle.pg_cells.proofs.LaidLaws.{sign_stands, stands_sign}
-use Rattle.pg_cells.proofs.Slots.{slot_has, has_slot, slot_or_none}
+use Rattle.pg_cells.proofs.Slots.{slot_has, has_slot}
 use Rattle.pg_cells.proofs.StringCells.{parts_cell, parts_none}
 
 pub record Owned {V : Type 0} (n : ℕ) (r : Row V) (t : Trie V) (p : List ℕ) (was : ℕ) (slots : List (Slot V)) : Type 0 where
@@ -51,13 +51,14 @@ module _ {V : Type 0} (n : ℕ) (r : Row V) (t : Trie V) (trie : IsTrie n r t) (
     above = λ y k e. cc;
     value = λ y k e. cc;
     no_value = λ y e.
-      trie.has (p ++ y ∷ [])
-      ∙ ap (value_in r) (cell_of_last t.families p y ∙ ap (λ o. elim o as (λ _. Option ℕ) [ None ↦ None | Some g ↦ cond (list_any (nat_eq y) g.signs) (Some (g.base + y)) None ]) none);
+        trie.has (p ++ y ∷ [])
+        ∙ ap (value_in r) (cell_of_last t.families p y ∙ ap (λ o. elim o as (λ _. Option ℕ) [ None ↦ None | Some g ↦ cond (list_any (nat_eq y) g.signs) (Some (g.base + y)) None ]) none);
     size = ap size_of none;
     test = λ x. false;
     signs = sym (filter_none 1 n);
     some_test = λ x k e. cc;
-    none_test = λ x up e. refl }
+    none_test = λ x up e. refl;
+  }
     where
       filter_none : (a m : ℕ) → filter (λ _. false) (range_with_len a m) ≡ []
       filter_none a zero = refl
@@ -80,8 +81,9 @@ module _ {V : Type 0} (n : ℕ) (r : Row V) (t : Trie V) (trie : IsTrie n r t) (
 
     not_in : (y : ℕ) → slot_of slots y ≡ None → list_any (nat_eq y) f.signs ≡ false
     not_in y none = elim (cases_Bool (list_any (nat_eq y) f.signs)) [
-        inl e ↦ absurd (let found = in_slot y e in let x = sym none ∙ found.1 in cc)
-      | inr e ↦ e ]
+      | inl e ↦ absurd (let found = in_slot y e in let x = sym none ∙ found.1 in cc)
+      | inr e ↦ e
+    ]
 
     pub owned_some : Owned n r t p f.base slots
     owned_some = record {
@@ -93,20 +95,21 @@ module _ {V : Type 0} (n : ℕ) (r : Row V) (t : Trie V) (trie : IsTrie n r t) (
       own_base = λ g gat. (ap (λ (h : Family). h.base) (is_f g gat), up);
       has = λ g y gat positive is. stands_in y positive (ap (λ (h : Family). sign_at r (h.base + y)) (sym (is_f g gat)) ∙ is);
       below = λ y g gat.
-        let parent = trie.laid.parent p y g gat in
-        let same = is_f parent.above parent.at in
-        let found = stands_in y parent.positive (ap (λ (h : Family). sign_at r (h.base + y)) (sym same) ∙ parent.sign) in
-        (found.0, found.1, (c.told y found.0 found.1).child ∙ ap (λ (h : Family). child_at r (h.base + y)) (sym same) ∙ parent.child);
+          let parent = trie.laid.parent p y g gat in
+          let same = is_f parent.above parent.at in
+          let found = stands_in y parent.positive (ap (λ (h : Family). sign_at r (h.base + y)) (sym same) ∙ parent.sign) in
+          (found.0, found.1, (c.told y found.0 found.1).child ∙ ap (λ (h : Family). child_at r (h.base + y)) (sym same) ∙ parent.child);
       above = λ y k e positive.
-        let told = c.told y k e in
-        let s = sign_stands n r (family_at t.families) trie.laid p f y at (slot_in y k e) in
-        let child : k.child ≡ child_at r (f.base + y) = told.child in
-        let down = trie.laid.child p y f at s.0 s.2 (omega arith) in
-        (down.0, down.1, down.2 ∙ sym child);
+          let told = c.told y k e in
+          let s = sign_stands n r (family_at t.families) trie.laid p f y at (slot_in y k e) in
+          let child : k.child ≡ child_at r (f.base + y) = told.child in
+          let down = trie.laid.child p y f at s.0 s.2 (omega arith) in
+          (down.0, down.1, down.2 ∙ sym child);
       value = λ y k e. trie.has (p ++ y ∷ []) ∙ ap (value_in r) (parts_cell t.families p y f at (slot_in y k e)) ∙ (c.told y k e).value;
       no_value = λ y e. trie.has (p ++ y ∷ []) ∙ ap (value_in r) (parts_none t.families p y f at (not_in y e));
       size = ap size_of at ∙ ap length (trie.laid.members p f at ∙ sym c.signs) ∙ length-map slots (λ (k : Slot V). k.sign);
       test = λ x. nat_eq (sign_at r (f.base + x)) x;
       signs = c.signs;
       some_test = λ x k e. eq-eqb (sign_at r (f.base + x)) x (c.told x k e).sign;
-      none_test = λ x positive e. ne_eqb (sign_at r (f.base + x)) x (λ z. let found = stands_in x positive z in let w = sym e ∙ found.1 in cc) }
+      none_test = λ x positive e. ne_eqb (sign_at r (f.base + x)) x (λ z. let found = stands_in x positive z in let w = sym e ∙ found.1 in cc);
+    }

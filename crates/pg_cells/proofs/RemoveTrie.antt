@@ -1,21 +1,21 @@
 -- What `remove` needs to know, and what it leaves.
-use Rattle.std.proofs.Common.{◌≡◌, ◌≢◌, ℕ, ◌+◌, ◌<◌, ◌≤◌, ◌⊎◌, inl, inr, Bool, true, false, not, cond, T, nat_eq, List, [], ◌∷◌, ◌++◌, filter, length, Option, None, Some, suc, zero, refl, sym, ◌∙◌, ap, subst, arith}
-use Rattle.std.proofs.lemmas.Bool.{cases_Bool, cases_eq, cases_lt, eq-eqb, ne_eqb, both_ways, false≢true}
-use Rattle.std.proofs.lemmas.List.{get_or_past, same_from_push}
+use Rattle.std.proofs.Common.{◌≡◌, ◌≢◌, ℕ, ◌+◌, ◌<◌, ◌≤◌, inl, inr, Bool, true, false, not, cond, nat_eq, List, [], ◌∷◌, ◌++◌, filter, length, Option, None, Some, suc, zero, refl, sym, ◌∙◌, ap, subst, arith}
+use Rattle.std.proofs.lemmas.Bool.{eq-eqb, ne_eqb, false≢true}
+use Rattle.std.proofs.lemmas.List.{same_from_push}
 use Rattle.std.specs.List.{list_any, range_with_len}
 use Rattle.std.specs.Option.{option_map}
-use Rattle.std.specs.FinMap.{find, put}
+use Rattle.std.specs.FinMap.{put}
 use Rattle.pg_types.specs.Placement.{Family, Families, family_at, without_family, without_sign, cell_of, base_of}
-use Rattle.pg_cells.specs.Lists.{Row, sign_at, child_at, base_at}
-use Rattle.pg_cells.specs.Writes.{Frees, SetsBase, SetsChild}
+use Rattle.pg_cells.specs.Lists.{Row, sign_at, child_at}
+use Rattle.pg_cells.specs.Writes.{Frees, SetsBase}
 use Rattle.pg_cells.specs.Moves.{Prunes}
 use Rattle.pg_cells.specs.Held.{Trie}
-use Rattle.pg_cells.specs.Laid.{Laid, IsParent, IsTrie, standing, value_in}
+use Rattle.pg_cells.specs.Laid.{IsTrie, standing}
 use Rattle.pg_cells.proofs.LinkedLists.{taken_within}
 use Rattle.pg_cells.proofs.StringMaps.{order, without_key}
 use Rattle.pg_cells.proofs.LaidLaws.{sign_stands, has_range}
 use Rattle.pg_cells.proofs.Settled.{not_longer}
-use Rattle.pg_cells.proofs.StringCells.{IsCellOf, cell_parts, parts_none, cell_taken, cells_apart, child_is, base_parts}
+use Rattle.pg_cells.proofs.StringCells.{cell_parts, cell_taken, cells_apart, child_is}
 use Rattle.pg_cells.proofs.Removing.{signs_left, left_stands}
 use Rattle.pg_cells.proofs.RemovedSign.{trie_left}
 use Rattle.pg_cells.proofs.RemovedFamily.{trie_gone}
@@ -43,10 +43,12 @@ sign_left : (fs : Families) (p : List ℕ) (s : ℕ) (f : Family) → family_at 
 unfolding without_sign
 sign_left fs p s f at some =
     ap (λ o. elim o as (λ _. Families) [
-        None ↦ fs
+      | None ↦ fs
       | Some g ↦ elim (filter (λ x. not (nat_eq s x)) g.signs) as (λ _. Families) [
-          [] ↦ without_family fs p
-        | x ∷ xs ↦ put order p (record { base = g.base; signs = x ∷ xs }) fs ] ]) at
+        | [] ↦ without_family fs p
+        | x ∷ xs ↦ put order p (record { base = g.base; signs = x ∷ xs }) fs
+      ]
+    ]) at
     ∙ by (signs_left s f.signs) some
   where
     by : (xs : List ℕ) → xs ≢ [] → (elim xs as (λ _. Families) [ [] ↦ without_family fs p | x ∷ ys ↦ put order p (record { base = f.base; signs = x ∷ ys }) fs ]) ≡ put order p (record { base = f.base; signs = xs }) fs
@@ -57,10 +59,12 @@ sign_last : (fs : Families) (p : List ℕ) (s : ℕ) (f : Family) → family_at 
 unfolding without_sign
 sign_last fs p s f at none =
     ap (λ o. elim o as (λ _. Families) [
-        None ↦ fs
+      | None ↦ fs
       | Some g ↦ elim (filter (λ x. not (nat_eq s x)) g.signs) as (λ _. Families) [
-          [] ↦ without_family fs p
-        | x ∷ xs ↦ put order p (record { base = g.base; signs = x ∷ xs }) fs ] ]) at
+        | [] ↦ without_family fs p
+        | x ∷ xs ↦ put order p (record { base = g.base; signs = x ∷ xs }) fs
+      ]
+    ]) at
     ∙ ap (λ xs. elim xs as (λ _. Families) [ [] ↦ without_family fs p | x ∷ ys ↦ put order p (record { base = f.base; signs = x ∷ ys }) fs ]) none
 
 no_base : (o : Option Family) → option_map (λ f. f.base) o ≡ None → o ≡ None
@@ -102,7 +106,7 @@ module _ {V : Type 0} (n : ℕ) (r : Row V) (t : Trie V) (trie : IsTrie n r t) (
   pub parent_kept : (freed : Row V) → Frees r freed (base + s) → sign_at freed parent ≢ 0
   parent_kept freed frees z =
       cell_taken n r t trie p parent parent_is (sym (frees.elsewhere.signs parent (λ e.
-        not_longer p s (sym (cells_apart n r t trie p (p ++ s ∷ []) cell (parent_is ∙ ap Some (e ∙ cell_same)) cell_is)))) ∙ z)
+      not_longer p s (sym (cells_apart n r t trie p (p ++ s ∷ []) cell (parent_is ∙ ap Some (e ∙ cell_same)) cell_is)))) ∙ z)
 
   pub trie_removed : (freed new : Row V) → Frees r freed (base + s) → Prunes n freed new base parent → IsTrie n new (removed t p s)
   trie_removed freed new frees prunes =
@@ -111,12 +115,13 @@ module _ {V : Type 0} (n : ℕ) (r : Row V) (t : Trie V) (trie : IsTrie n r t) (
       let gone = no_base (family_at t.families (p ++ s ∷ [])) childless in
       let left : signs_left s f.0.signs ≡ standing n freed base = left_stands n r freed t trie p f.0 f.1 s f.2 here.sign_is here.elsewhere.signs ∙ ap (standing n freed) base_same in
       elim prunes [
-          inl h ↦
+        | inl h ↦
             let some : signs_left s f.0.signs ≢ [] = λ e. h.0 (sym left ∙ e) in
             subst (λ fs. IsTrie n new (record { families = fs; values = without_key (p ++ s ∷ []) t.values })) (sym (sign_left t.families p s f.0 f.1 some))
-              (subst (λ k. IsTrie n k (record { families = put order p (record { base = f.0.base; signs = signs_left s f.0.signs }) t.families; values = without_key (p ++ s ∷ []) t.values })) (sym h.1)
-                (trie_left n r freed t trie p parent parent_is f.0 f.1 s f.2 gone here some))
+            (subst (λ k. IsTrie n k (record { families = put order p (record { base = f.0.base; signs = signs_left s f.0.signs }) t.families; values = without_key (p ++ s ∷ []) t.values })) (sym h.1)
+            (trie_left n r freed t trie p parent parent_is f.0 f.1 s f.2 gone here some))
         | inr h ↦
             let none : signs_left s f.0.signs ≡ [] = left ∙ h.1 in
             subst (λ fs. IsTrie n new (record { families = fs; values = without_key (p ++ s ∷ []) t.values })) (sym (sign_last t.families p s f.0 f.1 none))
-              (trie_gone n r freed h.0 new t trie p parent parent_is f.0 f.1 s f.2 gone here h.2 (subst (λ b. SetsBase h.0 new b false) (sym base_same) h.3) none) ]
+            (trie_gone n r freed h.0 new t trie p parent parent_is f.0 f.1 s f.2 gone here h.2 (subst (λ b. SetsBase h.0 new b false) (sym base_same) h.3) none)
+      ]

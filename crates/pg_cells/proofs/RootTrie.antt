@@ -1,23 +1,20 @@
 -- The row whose cells the root has taken holds the root alone.
-use Rattle.std.proofs.Common.{◌≡◌, ◌≢◌, ℕ, ◌+◌, ◌<◌, ◌≤◌, ◌⊎◌, inl, inr, Bool, true, false, cond, ◌||◌, ◌&&◌, T, nat_eq, List, [], ◌∷◌, ◌++◌, length, map, filter, Option, None, Some, slice_get, suc, zero, refl, sym, ◌∙◌, ap, subst, arith, zero-add}
-use Rattle.std.proofs.lemmas.Bool.{cases_Bool, cases_eq, cases_lt, false≢true, or_cases, or_left, or_right, eqb-true, eq-eqb, ne_eqb, both_ways}
+use Rattle.std.proofs.Common.{◌≡◌, ◌≢◌, ℕ, ◌+◌, ◌<◌, ◌≤◌, inl, inr, Bool, true, false, cond, ◌||◌, ◌&&◌, T, nat_eq, List, [], ◌∷◌, ◌++◌, length, map, filter, None, Some, slice_get, suc, zero, refl, sym, ◌∙◌, ap, subst, arith, zero-add}
+use Rattle.std.proofs.lemmas.Bool.{cases_eq, cases_lt, false≢true, eq-eqb, ne_eqb}
 use Rattle.std.proofs.lemmas.List.{length-map, append-nil}
 use Rattle.std.proofs.lemmas.List.FromFn.{length-range_with_len}
-use Rattle.std.specs.declared.cmp.Ordering.{Ordering}
-use Rattle.std.specs.declared.cmp.Ordering.TheVariants.{Less, Equal, Greater}
+use Rattle.std.specs.declared.cmp.Ordering.TheVariants.{Less, Equal}
 use Rattle.std.specs.Ordering.{nat_cmp, is_lt, ordering_then}
 use Rattle.std.specs.Cmp.{nat_cmp_is}
 use Rattle.std.specs.List.{list_any, range_with_len}
 use Rattle.std.specs.FinMap.{find, is_sorted}
 use Rattle.std.specs.FinMap.Entries.{below_all}
-use Rattle.pg_types.specs.Placement.{Family, Families, family_at, root, cell_in, cell_after, cell_of, taken}
-use Rattle.pg_cells.specs.Lists.{Row, sign_at, child_at, base_at}
-use Rattle.pg_cells.specs.Store.{taken_in}
+use Rattle.pg_types.specs.Placement.{Family, family_at, root, cell_after, cell_of, taken}
+use Rattle.pg_cells.specs.Lists.{Row, sign_at, base_at}
 use Rattle.pg_cells.specs.Writes.{SetsBase}
-use Rattle.pg_cells.specs.Held.{Trie}
 use Rattle.pg_cells.specs.Laid.{Laid, IsParent, IsTrie, standing, value_in}
 use Rattle.pg_cells.specs.Root.{IsPlanted}
-use Rattle.pg_cells.proofs.StringMaps.{order, same_string, equal_or_not}
+use Rattle.pg_cells.proofs.StringMaps.{order, equal_or_not}
 use Rattle.pg_cells.proofs.LaidLaws.{range_has, has_range}
 
 -- a test that all numbers of a range pass keeps the range
@@ -62,18 +59,20 @@ module _ {V : Type 0} (blank : V) where
   find_long : (y z : ℕ) (q xs : List ℕ) → find order (y ∷ z ∷ q) (blanks blank xs) ≡ None
   find_long y z q [] = refl
   find_long y z q (x ∷ xs) = elim (equal_or_not (y ∷ z ∷ q) (x ∷ [])) [
-      inl h ↦ absurd (let e = h.0 in cc)
-    | inr h ↦ ap (λ b. cond b (Some blank) (find order (y ∷ z ∷ q) (blanks blank xs))) h.1 ∙ find_long y z q xs ]
+    | inl h ↦ absurd (let e = h.0 in cc)
+    | inr h ↦ ap (λ b. cond b (Some blank) (find order (y ∷ z ∷ q) (blanks blank xs))) h.1 ∙ find_long y z q xs
+  ]
 
   find_one : (y : ℕ) (xs : List ℕ) → find order (y ∷ []) (blanks blank xs) ≡ cond (list_any (nat_eq y) xs) (Some blank) None
   find_one y [] = refl
   find_one y (x ∷ xs) = elim (equal_or_not (y ∷ []) (x ∷ [])) [
-      inl h ↦
+    | inl h ↦
         let same : y ≡ x = let e = h.0 in cc in
         ap (λ b. cond b (Some blank) (find order (y ∷ []) (blanks blank xs))) h.1 ∙ ap (λ b. cond (b || list_any (nat_eq y) xs) (Some blank) None) (sym (eq-eqb y x same))
     | inr h ↦
         let other : nat_eq y x ≡ false = ne_eqb y x (λ z. h.0 (ap (λ n. n ∷ []) z)) in
-        ap (λ b. cond b (Some blank) (find order (y ∷ []) (blanks blank xs))) h.1 ∙ find_one y xs ∙ ap (λ b. cond (b || list_any (nat_eq y) xs) (Some blank) None) (sym other) ]
+        ap (λ b. cond b (Some blank) (find order (y ∷ []) (blanks blank xs))) h.1 ∙ find_one y xs ∙ ap (λ b. cond (b || list_any (nat_eq y) xs) (Some blank) None) (sym other)
+  ]
 
   -- only the empty prefix has a family
   root_only : (n : ℕ) (p : List ℕ) (f : Family) → family_at (root n) p ≡ Some f → (p ≡ []) × (f ≡ record { base = 0; signs = range_with_len 1 n })
@@ -92,10 +91,12 @@ module _ {V : Type 0} (blank : V) where
     -- a taken cell is that of a sign of the root
     taken_in_root : (i : ℕ) → sign_at r i ≢ 0 → (0 < i) × (i < n + 1)
     taken_in_root i up = elim (cases_eq i 0) [
-        inl z ↦ absurd (up (ap (sign_at r) z ∙ sets.signs 0 ∙ planted.zero_free))
+      | inl z ↦ absurd (up (ap (sign_at r) z ∙ sets.signs 0 ∙ planted.zero_free))
       | inr p ↦ elim (cases_lt i (n + 1)) [
-            inl lt ↦ (omega arith, lt)
-          | inr le ↦ absurd (up (sets.signs i ∙ planted.free i le)) ] ]
+        | inl lt ↦ (omega arith, lt)
+        | inr le ↦ absurd (up (sets.signs i ∙ planted.free i le))
+      ]
+    ]
 
     whole_root : Family
     whole_root = record { base = 0; signs = range_with_len 1 n }
@@ -104,25 +105,28 @@ module _ {V : Type 0} (blank : V) where
     root_laid = record {
       root = refl;
       members = λ p f at.
-        let h = root_only n p f at in
-        ap (λ (g : Family). g.signs) h.1
-        ∙ sym (filter_all (λ x. nat_eq (sign_at r (0 + x)) x) 1 n (λ x le lt. eq-eqb (sign_at r (0 + x)) x (ap (sign_at r) (zero-add x) ∙ stands x (omega arith) (omega arith))))
-        ∙ ap (λ (g : Family). standing n r g.base) (sym h.1);
+          let h = root_only n p f at in
+          ap (λ (g : Family). g.signs) h.1
+          ∙ sym (filter_all (λ x. nat_eq (sign_at r (0 + x)) x) 1 n (λ x le lt. eq-eqb (sign_at r (0 + x)) x (ap (sign_at r) (zero-add x) ∙ stands x (omega arith) (omega arith))))
+          ∙ ap (λ (g : Family). standing n r g.base) (sym h.1);
       filled = λ p f at e.
-        let h = root_only n p f at in
-        let none : length (range_with_len 1 n) ≡ 0 = ap length (sym (ap (λ (g : Family). g.signs) h.1) ∙ e) in
-        omega (arith, length-range_with_len 1 n);
+          let h = root_only n p f at in
+          let none : length (range_with_len 1 n) ≡ 0 = ap length (sym (ap (λ (g : Family). g.signs) h.1) ∙ e) in
+          omega (arith, length-range_with_len 1 n);
       parent = no_parent;
       child = λ p x g at up is down. absurd (let none = sets.children (g.base + x) ∙ planted.children (g.base + x) in omega arith);
       apart = λ p q f g a b e. (root_only n p f a).0 ∙ sym (root_only n q g b).0;
       owned = λ i up. let h = taken_in_root i up in ([], record { base = 0; signs = range_with_len 1 n }, refl, sym (zero-add i) ∙ ap (λ x. 0 + x) (sym (stands i h.0 h.1)));
       small = λ i. elim (cases_eq (sign_at r i) 0) [
-          inl z ↦ omega arith
-        | inr up ↦ let h = taken_in_root i up in let s = stands i h.0 h.1 in omega (arith, h.1) ];
+        | inl z ↦ omega arith
+        | inr up ↦ let h = taken_in_root i up in let s = stands i h.0 h.1 in omega (arith, h.1)
+      ];
       flag = λ p f at. ap (λ (g : Family). base_at r g.base) (root_only n p f at).1 ∙ sets.base_is;
       flagged = λ b e. elim (cases_eq b 0) [
-          inl z ↦ ([], record { base = 0; signs = range_with_len 1 n }, refl, sym z)
-        | inr up ↦ absurd (false≢true (sym (sets.bases b up ∙ planted.bases b) ∙ e)) ] }
+        | inl z ↦ ([], record { base = 0; signs = range_with_len 1 n }, refl, sym z)
+        | inr up ↦ absurd (false≢true (sym (sets.bases b up ∙ planted.bases b) ∙ e))
+      ];
+    }
       where
         no_parent : (p : List ℕ) (x : ℕ) (f : Family) → family_at (root n) (p ++ x ∷ []) ≡ Some f → IsParent r (family_at (root n)) p x f
         no_parent [] x f e = cc
@@ -134,15 +138,18 @@ module _ {V : Type 0} (blank : V) where
       laid = root_laid;
       count = omega (arith, sets.count, planted.count, root_taken);
       ordered = blanks_sorted blank 1 n;
-      has = has }
+      has = has;
+    }
       where
         root_taken : taken (root n) ≡ n
         root_taken = ap length (append-nil (map (λ s. 0 + s) (range_with_len 1 n))) ∙ length-map (range_with_len 1 n) (λ s. 0 + s) ∙ length-range_with_len 1 n
+
         value_here : (y : ℕ) (b : Bool) → list_any (nat_eq y) (range_with_len 1 n) ≡ b → cond b (Some blank) None ≡ value_in r (cond b (Some (0 + y)) None)
         value_here y true e =
             let in_range = range_any 1 n y e in
             sym (ap (slice_get r.values) (zero-add y) ∙ sets.values y ∙ planted.values y (omega (arith, in_range.0)) (omega (arith, in_range.1)))
         value_here y false e = refl
+
         has : (q : List ℕ) → find order q (blanks blank (range_with_len 1 n)) ≡ value_in r (cell_of (root n) q)
         has [] = find_empty (range_with_len 1 n)
         has (y ∷ []) = find_one y (range_with_len 1 n) ∙ value_here y (list_any (nat_eq y) (range_with_len 1 n)) refl

@@ -1,10 +1,9 @@
 -- What a write of one cell changes, of a row whose parts are of one length.
-use Rattle.std.proofs.Common.{◌≡◌, ◌≢◌, ℕ, ◌+◌, ◌<◌, ◌≤◌, min, Bool, false, List, [], ◌∷◌, length, get_or, set, slice_get, Option, None, Some, suc, zero, refl, sym, ◌∙◌, ap, arith, cond, nat_eq}
+use Rattle.std.proofs.Common.{◌≡◌, ◌≢◌, ℕ, ◌<◌, Bool, false, List, [], ◌∷◌, length, get_or, set, slice_get, Some, suc, zero, refl, sym, ◌∙◌, ap, arith, cond, nat_eq}
 use Rattle.std.proofs.lemmas.List.{length-set, length-map, get_or-set_same, get_or-set_other, get_or_default}
 use Rattle.pg_cells.specs.declared.cell.Cell.{Cell}
-use Rattle.pg_cells.specs.Lists.{Row, row_of, child_seen, sign_at, child_at, base_at, IsFree, with_taken, with_free, with_child, with_value, with_base}
-use Rattle.pg_cells.specs.Store.{how_many, taken_in}
-use Rattle.pg_cells.specs.Writes.{Elsewhere, Takes, Frees, SetsChild, SetsValue, SetsBase}
+use Rattle.pg_cells.specs.Lists.{row_of, child_seen, sign_at, child_at, IsFree, with_taken, with_free, with_child, with_value, with_base}
+use Rattle.pg_cells.specs.Writes.{Takes, Frees, SetsChild, SetsValue, SetsBase}
 use Rattle.pg_cells.proofs.LinkedLists.{free_within, taken_within}
 use Rattle.pg_cells.proofs.StoreSteps.{how_many_set}
 
@@ -46,11 +45,13 @@ module _ {V : Type 0} (cells : List (Cell V)) (i : ℕ) where
           children = λ j n. get_or-set_other (row_of cells).children i j child 0 n;
           values = λ j n. set_there (row_of cells).values i j value n;
           bases = λ b. refl;
-          size = length-set (row_of cells).signs i sign };
+          size = length-set (row_of cells).signs i sign;
+        };
         sign_is = get_or-set_same (row_of cells).signs i sign 0 lt;
         child_is = get_or-set_same (row_of cells).children i child 0 (omega (arith, children_even));
         value_is = set_here (row_of cells).values i value (omega (arith, values_even));
-        count = omega (arith, how_many_set (row_of cells).signs i sign lt) }
+        count = omega (arith, how_many_set (row_of cells).signs i sign lt);
+      }
 
   pub row_frees : sign_at (row_of cells) i ≢ 0 → Frees (row_of cells) (with_free (row_of cells) i) i
   row_frees up =
@@ -61,10 +62,12 @@ module _ {V : Type 0} (cells : List (Cell V)) (i : ℕ) where
           children = λ j n. get_or-set_other (row_of cells).children i j 0 0 n;
           values = λ j n. refl;
           bases = λ b. refl;
-          size = length-set (row_of cells).signs i 0 };
+          size = length-set (row_of cells).signs i 0;
+        };
         sign_is = get_or-set_same (row_of cells).signs i 0 0 lt;
         child_is = get_or-set_same (row_of cells).children i 0 0 (omega (arith, children_even));
-        count = omega (arith, how_many_set (row_of cells).signs i 0 lt) }
+        count = omega (arith, how_many_set (row_of cells).signs i 0 lt);
+      }
 
   pub row_child : (child : ℕ) → sign_at (row_of cells) i ≢ 0 → SetsChild (row_of cells) (with_child (row_of cells) i child) i child
   row_child child up =
@@ -75,11 +78,13 @@ module _ {V : Type 0} (cells : List (Cell V)) (i : ℕ) where
           children = λ j n. get_or-set_other (row_of cells).children i j child 0 n;
           values = λ j n. refl;
           bases = λ b. refl;
-          size = refl };
+          size = refl;
+        };
         sign_is = refl;
         child_is = get_or-set_same (row_of cells).children i child 0 (omega (arith, children_even));
         value_is = refl;
-        count = refl }
+        count = refl;
+      }
 
   pub row_value : (value : V) → sign_at (row_of cells) i ≢ 0 → SetsValue (row_of cells) (with_value (row_of cells) i value) i value
   row_value value up =
@@ -90,11 +95,13 @@ module _ {V : Type 0} (cells : List (Cell V)) (i : ℕ) where
           children = λ j n. refl;
           values = λ j n. set_there (row_of cells).values i j value n;
           bases = λ b. refl;
-          size = refl };
+          size = refl;
+        };
         sign_is = refl;
         child_is = refl;
         value_is = set_here (row_of cells).values i value (omega (arith, values_even));
-        count = refl }
+        count = refl;
+      }
 
   pub row_base : (flag : Bool) → i < length (row_of cells).signs → SetsBase (row_of cells) (with_base (row_of cells) i flag) i flag
   row_base flag lt = record {
@@ -104,4 +111,5 @@ module _ {V : Type 0} (cells : List (Cell V)) (i : ℕ) where
     base_is = get_or-set_same (row_of cells).bases i flag false (omega (arith, bases_even));
     bases = λ b n. get_or-set_other (row_of cells).bases i b flag false n;
     size = refl;
-    count = refl }
+    count = refl;
+  }

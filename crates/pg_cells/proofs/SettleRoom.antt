@@ -1,10 +1,10 @@
 -- There is room to settle a family: past the last cell, and where the search finds its base.
-use Rattle.std.proofs.Common.{◌≡◌, ◌≢◌, ℕ, ◌+◌, ◌<◌, ◌≤◌, ◌⊎◌, max, inl, inr, Bool, true, false, not, cond, ◌&&◌, nat_eq, List, [], ◌∷◌, length, Option, None, Some, refl, sym, ◌∙◌, ap, subst, arith}
-use Rattle.std.proofs.lemmas.Bool.{cases_Bool, cases_eq, cases_lt, eq-eqb, eqb-true, false≢true, and_parts, and_from, or_cases, or_left, or_right}
-use Rattle.std.proofs.lemmas.List.{get_or_default, get_or_past}
+use Rattle.std.proofs.Common.{◌≡◌, ◌≢◌, ℕ, ◌+◌, ◌<◌, ◌≤◌, max, inl, inr, Bool, true, false, not, nat_eq, List, [], ◌∷◌, length, Some, refl, sym, ◌∙◌, ap, arith}
+use Rattle.std.proofs.lemmas.Bool.{cases_Bool, cases_eq, eq-eqb, eqb-true, false≢true, and_parts, and_from, or_cases, or_left, or_right}
+use Rattle.std.proofs.lemmas.List.{get_or_default}
 use Rattle.std.specs.List.{list_any, list_all}
 use Rattle.pg_cells.specs.declared.fit.Slot.{Slot}
-use Rattle.pg_cells.specs.Lists.{Row, sign_at, child_at, base_at, IsFree}
+use Rattle.pg_cells.specs.Lists.{Row, sign_at, base_at, IsFree}
 use Rattle.pg_cells.specs.Fit.{signs_of, slot_of, fits_row}
 use Rattle.pg_cells.specs.Store.{IsTop}
 use Rattle.pg_cells.specs.Writes.{Takes, SetsBase}
@@ -20,8 +20,9 @@ all_has test [] y h e = absurd (false≢true e)
 all_has test (x ∷ xs) y h e =
     let parts = and_parts (test x) (list_all test xs) h in
     elim (or_cases (nat_eq y x) (list_any (nat_eq y) xs) e) [
-        inl same ↦ ap test (eqb-true y x same) ∙ parts.0
-      | inr rest ↦ all_has test xs y parts.1 rest ]
+      | inl same ↦ ap test (eqb-true y x same) ∙ parts.0
+      | inr rest ↦ all_has test xs y parts.1 rest
+    ]
 
 module _ {V : Type 0} (n : ℕ) (old gave dropped : Row V) (was : ℕ) (slots : List (Slot V)) (slot : Slot V) (parent : ℕ)
     (can : CanSettle n old was slots slot parent) (gives : Gives old gave was slots) (drops : Drops gave dropped was) where
@@ -37,19 +38,22 @@ module _ {V : Type 0} (n : ℕ) (old gave dropped : Row V) (was : ℕ) (slots : 
   -- a cell that is taken now was taken
   pub was_taken : (i : ℕ) → sign_at dropped i ≢ 0 → sign_at old i ≢ 0
   was_taken i up = elim (outside_or was slots i) [
-      inl h ↦ absurd (up (dropped_sign i ∙ ap (sign_at gave) h.2 ∙ gives.free h.0 h.1 h.3))
-    | inr out ↦ λ z. up (outside_sign i out ∙ z) ]
+    | inl h ↦ absurd (up (dropped_sign i ∙ ap (sign_at gave) h.2 ∙ gives.free h.0 h.1 h.3))
+    | inr out ↦ λ z. up (outside_sign i out ∙ z)
+  ]
 
   module _ (top : ℕ) (is_top : IsTop dropped.signs top) (m : ℕ) (is_m : m ≡ max top 1) where
     pub room_within : m + n < length dropped.signs
     room_within = elim (cases_eq top 0) [
-        inl z ↦ let h = can.room parent can.parent_taken in omega (arith, dropped_size)
-      | inr up ↦ let h = can.room top (was_taken top (is_top.used (omega arith))) in omega (arith, dropped_size) ]
+      | inl z ↦ let h = can.room parent can.parent_taken in omega (arith, dropped_size)
+      | inr up ↦ let h = can.room top (was_taken top (is_top.used (omega arith))) in omega (arith, dropped_size)
+    ]
 
     past_free : (y : ℕ) → 0 < y → sign_at dropped (m + y) ≡ 0
     past_free y up = elim (cases_eq (sign_at dropped (m + y)) 0) [
-        inl z ↦ z
-      | inr taken ↦ absurd (let le = is_top.most (m + y) taken in omega arith) ]
+      | inl z ↦ z
+      | inr taken ↦ absurd (let le = is_top.most (m + y) taken in omega arith)
+    ]
 
     old_base : base_at old m ≡ true → m ≢ was → ⊥
     old_base e other =
@@ -59,12 +63,15 @@ module _ {V : Type 0} (n : ℕ) (old gave dropped : Row V) (was : ℕ) (slots : 
 
     no_base : base_at dropped m ≡ false
     no_base = elim (cases_Bool (base_at dropped m)) [
-        inr e ↦ e
+      | inr e ↦ e
       | inl e ↦ absurd (elim drops [
-          inl h ↦ old_base (sym (ap (λ (r : Row V). base_at r m) h.1 ∙ gives.others.bases m) ∙ e) (λ z. let x = h.0 in omega arith)
+        | inl h ↦ old_base (sym (ap (λ (r : Row V). base_at r m) h.1 ∙ gives.others.bases m) ∙ e) (λ z. let x = h.0 in omega arith)
         | inr h ↦ elim (cases_eq m was) [
-            inl same ↦ false≢true (sym (ap (base_at dropped) same ∙ h.1.base_is) ∙ e)
-          | inr other ↦ old_base (sym (h.1.bases m other ∙ gives.others.bases m) ∙ e) other ] ]) ]
+          | inl same ↦ false≢true (sym (ap (base_at dropped) same ∙ h.1.base_is) ∙ e)
+          | inr other ↦ old_base (sym (h.1.bases m other ∙ gives.others.bases m) ∙ e) other
+        ]
+      ])
+    ]
 
     pub room_fits : fits_row dropped (slot.sign ∷ signs_of slots) m ≡ true
     room_fits = and_from (not (base_at dropped m)) (list_all (λ y. nat_eq (sign_at dropped (m + y)) 0) (slot.sign ∷ signs_of slots)) (ap not no_base)
@@ -72,8 +79,9 @@ module _ {V : Type 0} (n : ℕ) (old gave dropped : Row V) (was : ℕ) (slots : 
       where
         positive : (y : ℕ) → list_any (nat_eq y) (slot.sign ∷ signs_of slots) ≡ true → 0 < y
         positive y e = elim (or_cases (nat_eq y slot.sign) (list_any (nat_eq y) (signs_of slots)) e) [
-            inl same ↦ let is = eqb-true y slot.sign same in let up = can.sign.0 in omega arith
-          | inr there ↦ let found = has_slot slots y there in (can.stand y found.0 found.1).0 ]
+          | inl same ↦ let is = eqb-true y slot.sign same in let up = can.sign.0 in omega arith
+          | inr there ↦ let found = has_slot slots y there in (can.stand y found.0 found.1).0
+        ]
 
     module _ (base : ℕ) (near : base ≤ m) (fits : fits_row dropped (slot.sign ∷ signs_of slots) base ≡ true) where
       tests : list_all (λ y. nat_eq (sign_at dropped (base + y)) 0) (slot.sign ∷ signs_of slots) ≡ true
@@ -103,8 +111,9 @@ module _ {V : Type 0} (n : ℕ) (old gave dropped : Row V) (was : ℕ) (slots : 
         -- the parent's cell is none of the new ones
         pub parent_outside : Outside base slots parent
         parent_outside = elim (outside_or base slots parent) [
-            inl h ↦ absurd (can.parent_taken (sym (outside_sign parent can.parent_other) ∙ ap (sign_at dropped) h.2 ∙ slots_free h.0 h.1 h.3))
-          | inr out ↦ out ]
+          | inl h ↦ absurd (can.parent_taken (sym (outside_sign parent can.parent_other) ∙ ap (sign_at dropped) h.2 ∙ slots_free h.0 h.1 h.3))
+          | inr out ↦ out
+        ]
 
         pub parent_not_new : parent ≢ base + slot.sign
         parent_not_new e = can.parent_taken (sym (outside_sign parent can.parent_other) ∙ ap (sign_at dropped) e ∙ new_free)

@@ -1,6 +1,6 @@
 -- The one law behind each step that changes one family: where the row tells the family as it is now, and each other family as
 -- before, the families lie in the row.
-use Rattle.std.proofs.Common.{◌≡◌, ◌≢◌, ℕ, ◌+◌, ◌<◌, ◌≤◌, ◌⊎◌, inl, inr, Bool, true, false, cond, nat_eq, List, [], ◌∷◌, ◌++◌, filter, length, Option, None, Some, suc, zero, refl, sym, ◌∙◌, ap, subst, arith}
+use Rattle.std.proofs.Common.{◌≡◌, ◌≢◌, ℕ, ◌+◌, ◌<◌, ◌≤◌, inl, inr, Bool, true, cond, nat_eq, List, [], ◌∷◌, ◌++◌, filter, length, Option, Some, suc, zero, refl, sym, ◌∙◌, ap, subst, arith}
 use Rattle.std.proofs.lemmas.Bool.{eq-eqb, eqb-true}
 use Rattle.std.proofs.lemmas.List.{length_push, same_from_push}
 use Rattle.std.specs.List.{range_with_len}
@@ -66,12 +66,13 @@ module _ {V : Type 0} (n : ℕ) (r new : Row V) (F G : List ℕ → Option Famil
 
   members_now : (q : List ℕ) (g : Family) → G q ≡ Some g → g.signs ≡ standing n new g.base
   members_now q g at = elim (equal_or_not q p) [
-      inl e ↦ let same = is_f q g e.0 at in ap (λ (h : Family). h.signs) same ∙ step.members ∙ ap (λ (h : Family). standing n new h.base) (sym same)
-    | inr e ↦ laid.members q g (was q g e.0 at) ∙ stands_too q g e.0 (was q g e.0 at) ]
+    | inl e ↦ let same = is_f q g e.0 at in ap (λ (h : Family). h.signs) same ∙ step.members ∙ ap (λ (h : Family). standing n new h.base) (sym same)
+    | inr e ↦ laid.members q g (was q g e.0 at) ∙ stands_too q g e.0 (was q g e.0 at)
+  ]
 
   parent_now : (q : List ℕ) (x : ℕ) (g : Family) → G (q ++ x ∷ []) ≡ Some g → IsParent new G q x g
   parent_now q x g at = elim (equal_or_not (q ++ x ∷ []) p) [
-      inl e ↦
+    | inl e ↦
         let parts = same_from_push q step.front x step.last (e.0 ∙ step.whole) in
         let same = is_f (q ++ x ∷ []) g e.0 at in
         record {
@@ -80,25 +81,29 @@ module _ {V : Type 0} (n : ℕ) (r new : Row V) (F G : List ℕ → Option Famil
           sign = ap (λ y. sign_at new (step.above.base + y)) parts.1 ∙ step.above_sign ∙ sym parts.1;
           child = ap (λ y. child_at new (step.above.base + y)) parts.1 ∙ step.above_child ∙ ap (λ (h : Family). h.base) (sym same);
           base = subst (λ (h : Family). 0 < h.base) (sym same) step.base_up;
-          positive = let e = parts.1 in let u = step.last_up in omega arith }
+          positive = let e = parts.1 in let u = step.last_up in omega arith;
+        }
     | inr e ↦
         let old = laid.parent q x g (was (q ++ x ∷ []) g e.0 at) in
         elim (equal_or_not q p) [
-            inl h ↦
+          | inl h ↦
               let own = step.own_down x g (ap (λ l. F (l ++ x ∷ [])) (sym h.0) ∙ was (q ++ x ∷ []) g e.0 at) in
               record { above = f; at = ap G h.0 ∙ step.here; sign = own.0; child = own.1; base = old.base; positive = old.positive }
           | inr h ↦ record {
-              above = old.above;
-              at = now q old.above h.0 old.at;
-              sign = is_same_test (sign_at new (old.above.base + x)) (sign_at r (old.above.base + x)) x (step.test q old.above x h.0 old.at old.positive) old.sign;
-              child = step.child q old.above x h.0 old.at old.positive old.sign e.0 ∙ old.child;
-              base = old.base;
-              positive = old.positive } ] ]
+            above = old.above;
+            at = now q old.above h.0 old.at;
+            sign = is_same_test (sign_at new (old.above.base + x)) (sign_at r (old.above.base + x)) x (step.test q old.above x h.0 old.at old.positive) old.sign;
+            child = step.child q old.above x h.0 old.at old.positive old.sign e.0 ∙ old.child;
+            base = old.base;
+            positive = old.positive;
+          }
+        ]
+  ]
 
   child_now : (q : List ℕ) (x : ℕ) (g : Family) → G q ≡ Some g → 0 < x → sign_at new (g.base + x) ≡ x → 0 < child_at new (g.base + x)
       → (h : Family) × (G (q ++ x ∷ []) ≡ Some h) × (h.base ≡ child_at new (g.base + x))
   child_now q x g at up is down = elim (equal_or_not q p) [
-      inl e ↦
+    | inl e ↦
         let same = is_f q g e.0 at in
         let own = step.own_up x up (ap (λ (h : Family). sign_at new (h.base + x)) (sym same) ∙ is) (subst (λ (h : Family). 0 < child_at new (h.base + x)) same down) in
         (own.0, now (q ++ x ∷ []) own.0 (λ z. not_longer q x (z ∙ sym e.0)) (ap (λ l. F (l ++ x ∷ [])) e.0 ∙ own.1), own.2 ∙ ap (λ (h : Family). child_at new (h.base + x)) (sym same))
@@ -106,7 +111,7 @@ module _ {V : Type 0} (n : ℕ) (r new : Row V) (F G : List ℕ → Option Famil
         let old_at = was q g e.0 at in
         let old_sign = is_same_test (sign_at r (g.base + x)) (sign_at new (g.base + x)) x (sym (step.test q g x e.0 old_at up)) is in
         elim (equal_or_not (q ++ x ∷ []) p) [
-            inl h ↦
+          | inl h ↦
               let parts = same_from_push q step.front x step.last (h.0 ∙ step.whole) in
               let family : Some g ≡ Some step.above = sym old_at ∙ ap F parts.0 ∙ step.above_at in
               let same : g ≡ step.above = cc in
@@ -114,28 +119,35 @@ module _ {V : Type 0} (n : ℕ) (r new : Row V) (F G : List ℕ → Option Famil
           | inr h ↦
               let child = step.child q g x e.0 old_at up old_sign h.0 in
               let old = laid.child q x g old_at up old_sign (omega arith) in
-              (old.0, now (q ++ x ∷ []) old.0 h.0 old.1, old.2 ∙ sym child) ] ]
+              (old.0, now (q ++ x ∷ []) old.0 h.0 old.1, old.2 ∙ sym child)
+        ]
+  ]
 
   apart_now : (q u : List ℕ) (g h : Family) → G q ≡ Some g → G u ≡ Some h → g.base ≡ h.base → q ≡ u
   apart_now q u g h a b e = elim (equal_or_not q p) [
-      inl qe ↦ elim (equal_or_not u p) [
-          inl ue ↦ qe.0 ∙ sym ue.0
-        | inr ue ↦ absurd (step.base u h ue.0 (was u h ue.0 b) (sym e ∙ ap (λ (k : Family). k.base) (is_f q g qe.0 a))) ]
+    | inl qe ↦ elim (equal_or_not u p) [
+      | inl ue ↦ qe.0 ∙ sym ue.0
+      | inr ue ↦ absurd (step.base u h ue.0 (was u h ue.0 b) (sym e ∙ ap (λ (k : Family). k.base) (is_f q g qe.0 a)))
+    ]
     | inr qe ↦ elim (equal_or_not u p) [
-          inl ue ↦ absurd (step.base q g qe.0 (was q g qe.0 a) (e ∙ ap (λ (k : Family). k.base) (is_f u h ue.0 b)))
-        | inr ue ↦ laid.apart q u g h (was q g qe.0 a) (was u h ue.0 b) e ] ]
+      | inl ue ↦ absurd (step.base q g qe.0 (was q g qe.0 a) (e ∙ ap (λ (k : Family). k.base) (is_f u h ue.0 b)))
+      | inr ue ↦ laid.apart q u g h (was q g qe.0 a) (was u h ue.0 b) e
+    ]
+  ]
 
   pub settles : Laid n new G
   settles = record {
     root = step.there [] (λ e. not_empty step.front step.last (sym step.whole ∙ sym e)) ∙ laid.root;
     members = members_now;
     filled = λ q g at. elim (equal_or_not q p) [
-        inl e ↦ λ z. step.filled (ap (λ (h : Family). h.signs) (sym (is_f q g e.0 at)) ∙ z)
-      | inr e ↦ laid.filled q g (was q g e.0 at) ];
+      | inl e ↦ λ z. step.filled (ap (λ (h : Family). h.signs) (sym (is_f q g e.0 at)) ∙ z)
+      | inr e ↦ laid.filled q g (was q g e.0 at)
+    ];
     parent = parent_now;
     child = child_now;
     apart = apart_now;
     owned = step.owned;
     small = step.small;
     flag = step.flag;
-    flagged = step.flagged }
+    flagged = step.flagged;
+  }

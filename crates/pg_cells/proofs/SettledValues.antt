@@ -1,14 +1,13 @@
 -- The values after one family has one sign more.
-use Rattle.std.proofs.Common.{◌≡◌, ◌≢◌, ℕ, ◌+◌, ◌<◌, ◌≤◌, ◌⊎◌, inl, inr, Bool, true, false, cond, T, nat_eq, List, [], ◌∷◌, ◌++◌, Option, None, Some, slice_get, refl, sym, ◌∙◌, ap, subst, arith}
-use Rattle.std.proofs.lemmas.Bool.{cases_Bool, cases_eq}
-use Rattle.std.proofs.lemmas.List.{same_from_push}
+use Rattle.std.proofs.Common.{◌≡◌, ◌≢◌, ℕ, ◌+◌, ◌<◌, inl, inr, Bool, true, false, cond, nat_eq, List, [], ◌∷◌, ◌++◌, Option, None, Some, slice_get, refl, sym, ◌∙◌, ap}
+use Rattle.std.proofs.lemmas.Bool.{cases_Bool}
 use Rattle.std.specs.List.{list_any}
 use Rattle.std.specs.FinMap.{find, put}
-use Rattle.pg_types.specs.Placement.{Family, Families, family_at, cell_in, cell_of}
+use Rattle.pg_types.specs.Placement.{Family, Families, family_at, cell_of}
 use Rattle.pg_cells.specs.Lists.{Row, sign_at}
 use Rattle.pg_cells.specs.Held.{Trie}
-use Rattle.pg_cells.specs.Laid.{Laid, IsTrie, value_in}
-use Rattle.pg_cells.specs.OneTrie.{HasLast, last_of}
+use Rattle.pg_cells.specs.Laid.{IsTrie, value_in}
+use Rattle.pg_cells.specs.OneTrie.{last_of}
 use Rattle.pg_cells.proofs.StringMaps.{order, find_put_same, find_put_other, equal_or_not}
 use Rattle.pg_cells.proofs.PlacementLaws.{cell_of_last}
 use Rattle.pg_cells.proofs.LaidLaws.{sign_stands}
@@ -30,7 +29,7 @@ module _ {V : Type 0} (n : ℕ) (r new : Row V) (t : Trie V) (trie : IsTrie n r 
   -- a string of another family keeps its value
   elsewhere_value : (q : List ℕ) (y : ℕ) → q ≢ p → (o : Option Family) → family_at t.families q ≡ o
       → value_in r (elim o as (λ _. Option ℕ) [ None ↦ None | Some g ↦ cond (list_any (nat_eq y) g.signs) (Some (g.base + y)) None ])
-        ≡ value_in new (elim o as (λ _. Option ℕ) [ None ↦ None | Some g ↦ cond (list_any (nat_eq y) g.signs) (Some (g.base + y)) None ])
+      ≡ value_in new (elim o as (λ _. Option ℕ) [ None ↦ None | Some g ↦ cond (list_any (nat_eq y) g.signs) (Some (g.base + y)) None ])
   elsewhere_value q y other None at = refl
   elsewhere_value q y other (Some g) at = by (list_any (nat_eq y) g.signs) refl
     where
@@ -42,32 +41,36 @@ module _ {V : Type 0} (n : ℕ) (r new : Row V) (t : Trie V) (trie : IsTrie n r 
 
   at_last : (q : List ℕ) (y : ℕ) → find order (q ++ y ∷ []) (put order (p ++ s ∷ []) v t.values) ≡ value_in new (cell_of fs (q ++ y ∷ []))
   at_last q y = elim (equal_or_not (q ++ y ∷ []) (p ++ s ∷ [])) [
-      inl e ↦
+    | inl e ↦
         ap (λ x. find order x (put order (p ++ s ∷ []) v t.values)) e.0 ∙ find_put_same (p ++ s ∷ []) v t.values
         ∙ sym (ap (λ x. value_in new (cell_of fs x)) e.0 ∙ ap (value_in new) (parts_cell fs p s f told.here told.has) ∙ told.value)
     | inr e ↦
         find_put_other (q ++ y ∷ []) (p ++ s ∷ []) v t.values e.0
         ∙ elim (equal_or_not q p) [
-            inl same ↦
+          | inl same ↦
               let other : y ≢ s = λ z. e.0 (λ i. same.0 i ++ z i ∷ []) in
               elim (cases_Bool (list_any (nat_eq y) f.signs)) [
-                  inl has ↦ ap (λ x. find order (x ++ y ∷ []) t.values) same.0 ∙ told.own y other has
+                | inl has ↦ ap (λ x. find order (x ++ y ∷ []) t.values) same.0 ∙ told.own y other has
                     ∙ sym (ap (λ x. value_in new (cell_of fs (x ++ y ∷ []))) same.0 ∙ ap (value_in new) (parts_cell fs p y f told.here has))
                 | inr lacks ↦ ap (λ x. find order (x ++ y ∷ []) t.values) same.0 ∙ told.own_none y other lacks
-                    ∙ sym (ap (λ x. value_in new (cell_of fs (x ++ y ∷ []))) same.0 ∙ ap (value_in new) (parts_none fs p y f told.here lacks)) ]
+                    ∙ sym (ap (λ x. value_in new (cell_of fs (x ++ y ∷ []))) same.0 ∙ ap (value_in new) (parts_none fs p y f told.here lacks))
+              ]
           | inr other ↦
               trie.has (q ++ y ∷ [])
               ∙ ap (value_in r) (cell_of_last t.families q y)
               ∙ elsewhere_value q y other.0 (family_at t.families q) refl
               ∙ sym (ap (value_in new) (cell_of_last fs q y
-                  ∙ ap (λ o. elim o as (λ _. Option ℕ) [ None ↦ None | Some g ↦ cond (list_any (nat_eq y) g.signs) (Some (g.base + y)) None ]) (told.there q other.0))) ] ]
+              ∙ ap (λ o. elim o as (λ _. Option ℕ) [ None ↦ None | Some g ↦ cond (list_any (nat_eq y) g.signs) (Some (g.base + y)) None ]) (told.there q other.0)))
+        ]
+  ]
 
   pub values_settle : (q : List ℕ) → find order q (put order (p ++ s ∷ []) v t.values) ≡ value_in new (cell_of fs q)
   values_settle q = elim (last_of q) [
-      inl e ↦
+    | inl e ↦
         ap (λ x. find order x (put order (p ++ s ∷ []) v t.values)) e
         ∙ find_put_other [] (p ++ s ∷ []) v t.values (λ z. not_empty p s (sym z))
         ∙ trie.has []
         ∙ sym (ap (λ x. value_in new (cell_of fs x)) e)
     | inr h ↦
-        ap (λ x. find order x (put order (p ++ s ∷ []) v t.values)) h.whole ∙ at_last h.front h.last ∙ sym (ap (λ x. value_in new (cell_of fs x)) h.whole) ]
+        ap (λ x. find order x (put order (p ++ s ∷ []) v t.values)) h.whole ∙ at_last h.front h.last ∙ sym (ap (λ x. value_in new (cell_of fs x)) h.whole)
+  ]

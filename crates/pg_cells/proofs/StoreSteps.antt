@@ -1,8 +1,7 @@
 -- What the store keeps, when a cell is taken, given up, written or added.
-use Rattle.std.proofs.Common.{◌≡◌, ◌≢◌, ℕ, ◌+◌, ◌-◌, ◌<◌, ◌≤◌, ◌^◌, min, max, List, [], ◌∷◌, ◌++◌, inl, inr, refl, sym, ◌∙◌, ap, subst, arith, length, get_or, set, take, drop, map, zero, suc, slice_get, false}
+use Rattle.std.proofs.Common.{◌≡◌, ◌≢◌, ℕ, ◌+◌, ◌-◌, ◌<◌, ◌≤◌, ◌^◌, min, max, List, [], ◌∷◌, ◌++◌, inl, inr, refl, sym, ◌∙◌, ap, subst, arith, length, get_or, set, take, drop, zero, suc, slice_get, false}
 use Rattle.std.proofs.lemmas.Bool.{cases_eq, cases_lt}
-use Rattle.std.proofs.lemmas.List.{take_at, length-set, length-map, length_push, get_or-set_same, get_or-set_other, get_or_default, get_or_past, get_or-append_right, get_or_append_left}
-use Rattle.std.proofs.lemmas.Option.{slice_get_past}
+use Rattle.std.proofs.lemmas.List.{take_at, length-set, length-map, length_push, get_or-set_same, get_or-set_other, get_or_default, get_or_past}
 use Rattle.pg_cells.specs.declared.cell.Cell.{Cell}
 use Rattle.pg_cells.specs.Lists.{Row, Lists, lists, row_of, sign_at, IsFree, with_taken, with_free, with_child, with_more}
 use Rattle.pg_cells.specs.Linked.{Linked, AreLinked}
@@ -35,15 +34,16 @@ Linked-elsewhere : (S B A A' : ℕ → ℕ) → Linked S B A → ((j : ℕ) → 
 Linked-elsewhere S B A A' old same = record {
   head = old.head;
   after_ok = λ j e up.
-    let to : A' j ≡ A j = same j e in
-    let h = old.after_ok j e (λ z. up (to ∙ z)) in (omega (arith, h.0), ap S to ∙ h.1);
+      let to : A' j ≡ A j = same j e in
+      let h = old.after_ok j e (λ z. up (to ∙ z)) in (omega (arith, h.0), ap S to ∙ h.1);
   after_least = λ j k e lt f.
-    let to : A' j ≡ A j = same j e in
-    let h = old.after_least j k e lt f in (omega (arith, h.0), omega (arith, h.1));
+      let to : A' j ≡ A j = same j e in
+      let h = old.after_least j k e lt f in (omega (arith, h.0), omega (arith, h.1));
   before_ok = old.before_ok;
   before_most = old.before_most;
   last_ok = old.last_ok;
-  last_most = old.last_most }
+  last_most = old.last_most;
+}
 
 module _ {V : Type 0} (old new : List (Cell V)) (top taken : ℕ) (kept : IsKept old top taken) (size : length new ≡ length old) where
   -- a value or a flag is written
@@ -52,7 +52,8 @@ module _ {V : Type 0} (old new : List (Cell V)) (top taken : ℕ) (kept : IsKept
     linked = subst (λ ls. AreLinked ls) (sym e) (subst (λ ss. Linked (λ j. get_or ss j 1) (λ j. get_or (lists old).befores j 0) (λ j. get_or (lists old).afters j 0)) (sym signs) kept.linked);
     small = let h = kept.small in omega arith;
     greatest = subst (λ ss. IsTop ss top) (sym signs ∙ sym (ap (λ (ls : Lists V). ls.row.signs) e)) kept.greatest;
-    count = kept.count ∙ ap how_many (sym signs ∙ sym (ap (λ (ls : Lists V). ls.row.signs) e)) }
+    count = kept.count ∙ ap how_many (sym signs ∙ sym (ap (λ (ls : Lists V). ls.row.signs) e));
+  }
 
   -- the child of a taken cell is written
   pub kept_child : (i x : ℕ) → sign_at (row_of old) i ≢ 0 → lists new ≡ record (lists old) { row = with_child (lists old).row i x; afters = set (lists old).afters i x } → IsKept new top taken
@@ -60,12 +61,14 @@ module _ {V : Type 0} (old new : List (Cell V)) (top taken : ℕ) (kept : IsKept
     linked = subst (λ ls. AreLinked ls) (sym e) (Linked-elsewhere _ _ _ _ kept.linked (λ j free. get_or-set_other (lists old).afters i j x 0 (λ z. not_free (subst (λ k. IsFree (row_of old) k) z free))));
     small = let h = kept.small in omega arith;
     greatest = subst (λ ss. IsTop ss top) (sym (ap (λ (ls : Lists V). ls.row.signs) e)) kept.greatest;
-    count = kept.count ∙ ap how_many (sym (ap (λ (ls : Lists V). ls.row.signs) e)) }
+    count = kept.count ∙ ap how_many (sym (ap (λ (ls : Lists V). ls.row.signs) e));
+  }
     where
       not_free : IsFree (row_of old) i → ⊥
       not_free free = taken_i (elim (cases_lt i (length (row_of old).signs)) [
-          inl lt ↦ get_or_default (row_of old).signs i 0 1 lt ∙ free
-        | inr le ↦ get_or_past (row_of old).signs i 0 le ])
+        | inl lt ↦ get_or_default (row_of old).signs i 0 1 lt ∙ free
+        | inr le ↦ get_or_past (row_of old).signs i 0 le
+      ])
 
   -- a free cell is taken
   pub kept_taken : (i sign : ℕ) (value : V) (child r : ℕ) → i < length old → IsFree (row_of old) i → sign ≢ 0 → (lists new).row ≡ with_taken (lists old).row i sign value child → AreLinked (lists new) → r ≡ max top i
@@ -74,26 +77,34 @@ module _ {V : Type 0} (old new : List (Cell V)) (top taken : ℕ) (kept : IsKept
     linked = linked;
     small = let h = kept.small in omega arith;
     greatest = subst (λ ss. IsTop ss r) (sym signs) (record { most = most; within = within; used = used });
-    count = omega (arith, was, kept.count, how_many_set (row_of old).signs i sign in_i, ap how_many signs) }
+    count = omega (arith, was, kept.count, how_many_set (row_of old).signs i sign in_i, ap how_many signs);
+  }
     where
       signs : (row_of new).signs ≡ set (row_of old).signs i sign
       signs = ap (λ (x : Row V). x.signs) e
+
       in_i : i < length (row_of old).signs
       in_i = omega (arith, length-map old (λ c. c.sign))
+
       was : get_or (row_of old).signs i 0 ≡ 0
       was = get_or_default (row_of old).signs i 0 1 in_i ∙ free
+
       most : (j : ℕ) → get_or (set (row_of old).signs i sign) j 0 ≢ 0 → j ≤ r
       most j up = elim (cases_eq j i) [
-          inl here ↦ omega arith
-        | inr n ↦ let h = kept.greatest.most j (λ z. up (get_or-set_other (row_of old).signs i j sign 0 n ∙ z)) in omega arith ]
+        | inl here ↦ omega arith
+        | inr n ↦ let h = kept.greatest.most j (λ z. up (get_or-set_other (row_of old).signs i j sign 0 n ∙ z)) in omega arith
+      ]
+
       within : r < length (set (row_of old).signs i sign)
       within = let h = kept.greatest.within in omega (arith, in_i, length-set (row_of old).signs i sign)
+
       used : 0 < r → get_or (set (row_of old).signs i sign) r 0 ≢ 0
       used up = elim (cases_eq r i) [
-          inl here ↦ λ z. positive (sym (get_or-set_same (row_of old).signs i sign 0 in_i) ∙ ap (λ j. get_or (set (row_of old).signs i sign) j 0) (sym here) ∙ z)
+        | inl here ↦ λ z. positive (sym (get_or-set_same (row_of old).signs i sign 0 in_i) ∙ ap (λ j. get_or (set (row_of old).signs i sign) j 0) (sym here) ∙ z)
         | inr n ↦
             let same : r ≡ top = omega arith in
-            λ z. kept.greatest.used (omega arith) (ap (λ j. get_or (row_of old).signs j 0) (sym same) ∙ sym (get_or-set_other (row_of old).signs i r sign 0 n) ∙ z) ]
+            λ z. kept.greatest.used (omega arith) (ap (λ j. get_or (row_of old).signs j 0) (sym same) ∙ sym (get_or-set_other (row_of old).signs i r sign 0 n) ∙ z)
+      ]
 
   -- a taken cell is given up
   pub kept_freed : (i r : ℕ) → i < length old → sign_at (row_of old) i ≢ 0 → (lists new).row ≡ with_free (lists old).row i → AreLinked (lists new)
@@ -102,16 +113,20 @@ module _ {V : Type 0} (old new : List (Cell V)) (top taken : ℕ) (kept : IsKept
     linked = linked;
     small = let h = kept.small in omega arith;
     greatest = record { most = all; within = let h = kept.greatest.within in omega (arith, ap length signs, length-set (row_of old).signs i 0); used = used };
-    count = omega (arith, kept.count, how_many_set (row_of old).signs i 0 in_i, ap how_many signs) }
+    count = omega (arith, kept.count, how_many_set (row_of old).signs i 0 in_i, ap how_many signs);
+  }
     where
       signs : (row_of new).signs ≡ set (row_of old).signs i 0
       signs = ap (λ (x : Row V). x.signs) e
+
       in_i : i < length (row_of old).signs
       in_i = omega (arith, length-map old (λ c. c.sign))
+
       all : (k : ℕ) → sign_at (row_of new) k ≢ 0 → k ≤ r
       all k here = most k (kept.greatest.most k (λ z. here (ap (λ ss. get_or ss k 0) signs ∙ elim (cases_eq k i) [
-          inl same ↦ ap (λ j. get_or (set (row_of old).signs i 0) j 0) same ∙ get_or-set_same (row_of old).signs i 0 0 in_i
-        | inr n ↦ get_or-set_other (row_of old).signs i k 0 0 n ∙ z ]))) here
+        | inl same ↦ ap (λ j. get_or (set (row_of old).signs i 0) j 0) same ∙ get_or-set_same (row_of old).signs i 0 0 in_i
+        | inr n ↦ get_or-set_other (row_of old).signs i k 0 0 n ∙ z
+      ]))) here
 
 pub some_taken : {V : Type 0} (cells : List (Cell V)) (top taken i : ℕ) → IsKept cells top taken → sign_at (row_of cells) i ≢ 0 → 1 ≤ taken
 some_taken cells top taken i kept up = omega (arith, kept.count, how_many_set (row_of cells).signs i 0 (taken_within (row_of cells) i up))
@@ -136,7 +151,8 @@ module _ {V : Type 0} where
     children = get_or_push r.children 0;
     bases = get_or_push r.bases false;
     values = λ i lt. slice_get_append r.values (value ∷ []) i (omega arith);
-    taken = how_many_push r.signs }
+    taken = how_many_push r.signs;
+  }
 
   pub extends_trans : (a b c : Row V) → Extends a b → Extends b c → Extends a c
   extends_trans a b c p q = record {
@@ -145,7 +161,8 @@ module _ {V : Type 0} where
     children = λ i. q.children i ∙ p.children i;
     bases = λ i. q.bases i ∙ p.bases i;
     values = λ i lt. q.values i (let h = p.longer in omega arith) ∙ p.values i lt;
-    taken = q.taken ∙ p.taken }
+    taken = q.taken ∙ p.taken;
+  }
 
   pub kept_extended : (old new : List (Cell V)) (top taken : ℕ) → IsKept old top taken → AreLinked (lists new) → length new < 2 ^ 32 → Extends (row_of old) (row_of new) → IsKept new top taken
   kept_extended old new top taken kept linked small more = record {
@@ -154,14 +171,16 @@ module _ {V : Type 0} where
     greatest = record {
       most = λ i up. kept.greatest.most i (λ z. up (more.signs i ∙ z));
       within = let h = kept.greatest.within in let k = more.longer in omega arith;
-      used = λ up z. kept.greatest.used up (sym (more.signs top) ∙ z) };
-    count = kept.count ∙ sym more.taken }
+      used = λ up z. kept.greatest.used up (sym (more.signs top) ∙ z);
+    };
+    count = kept.count ∙ sym more.taken;
+  }
 
   -- one cell more
   pub extended_once : (start : Row V) (cells new : List (Cell V)) (value : V) → Extends start (row_of cells) → row_of new ≡ with_more (row_of cells) value → Extends start (row_of new)
   extended_once start cells new value more e = subst (Extends start) (sym e)
       (extends_trans start (row_of cells) (with_more (row_of cells) value) more
-        (extends_more (row_of cells) value (length-map cells (λ c. c.value) ∙ sym (length-map cells (λ c. c.sign)))))
+      (extends_more (row_of cells) value (length-map cells (λ c. c.value) ∙ sym (length-map cells (λ c. c.sign)))))
 
   pub longer_once : (cells new : List (Cell V)) (value : V) → row_of new ≡ with_more (row_of cells) value → length new ≡ length cells + 1
   longer_once cells new value e =

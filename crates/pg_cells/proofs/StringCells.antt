@@ -1,6 +1,6 @@
 -- The cell of a string, its base, its value and the family below it, in a row that holds the trie.
-use Rattle.std.proofs.Common.{◌≡◌, ◌≢◌, ℕ, ◌+◌, ◌<◌, ◌≤◌, ◌⊎◌, inl, inr, Bool, true, false, cond, T, nat_eq, List, [], ◌∷◌, ◌++◌, length, Option, None, Some, slice_get, suc, zero, refl, sym, ◌∙◌, ap, subst, arith, zero-add}
-use Rattle.std.proofs.lemmas.Bool.{cases_Bool, cases_eq, cases_lt, eq-eqb, ne_eqb, eqb-true, both_ways}
+use Rattle.std.proofs.Common.{◌≡◌, ◌≢◌, ℕ, ◌+◌, ◌<◌, ◌≤◌, inl, inr, true, false, cond, nat_eq, List, [], ◌∷◌, ◌++◌, length, Option, None, Some, slice_get, refl, sym, ◌∙◌, ap, arith, zero-add}
+use Rattle.std.proofs.lemmas.Bool.{cases_Bool, cases_eq, cases_lt, eq-eqb, ne_eqb, both_ways}
 use Rattle.std.proofs.lemmas.List.{get_or_past}
 use Rattle.std.specs.List.{list_any, range_with_len}
 use Rattle.std.specs.Option.{option_map}
@@ -9,8 +9,8 @@ use Rattle.pg_types.specs.Placement.{Family, Families, family_at, cell_in, cell_
 use Rattle.pg_cells.specs.Lists.{Row, sign_at, child_at, base_at}
 use Rattle.pg_cells.specs.Writes.{SetsValue}
 use Rattle.pg_cells.specs.Held.{Trie}
-use Rattle.pg_cells.specs.Laid.{Laid, IsParent, IsTrie, standing, value_in}
-use Rattle.pg_cells.specs.OneTrie.{HasLast, last_of}
+use Rattle.pg_cells.specs.Laid.{IsTrie, value_in}
+use Rattle.pg_cells.specs.OneTrie.{last_of}
 use Rattle.pg_cells.proofs.StringMaps.{order, find_put_same, find_put_other, sorted_put, equal_or_not}
 use Rattle.pg_cells.proofs.LinkedLists.{taken_within}
 use Rattle.pg_cells.proofs.RootTrie.{any_range}
@@ -32,18 +32,20 @@ cell_from : (o : Option Family) (x cell : ℕ) → (elim o as (λ _. Option ℕ)
     → (f : Family) × (o ≡ Some f) × (list_any (nat_eq x) f.signs ≡ true) × (cell ≡ f.base + x)
 cell_from None x cell e = cc
 cell_from (Some f) x cell e = elim (cases_Bool (list_any (nat_eq x) f.signs)) [
-    inl has ↦
+  | inl has ↦
       let same : Some (f.base + x) ≡ Some cell = ap (λ b. cond b (Some (f.base + x)) None) (sym has) ∙ e in
       (f, refl, has, let is : cell ≡ f.base + x = cc in is)
-  | inr lacks ↦ absurd (let none : None ≡ Some cell = ap (λ b. cond b (Some (f.base + x)) None) (sym lacks) ∙ e in cc) ]
+  | inr lacks ↦ absurd (let none : None ≡ Some cell = ap (λ b. cond b (Some (f.base + x)) None) (sym lacks) ∙ e in cc)
+]
 
 pub cell_parts : (fs : Families) (q : List ℕ) (cell : ℕ) → cell_of fs q ≡ Some cell → IsCellOf fs q cell
 cell_parts fs q cell e = elim (last_of q) [
-    inl empty ↦ absurd (let none : cell_of fs [] ≡ Some cell = ap (cell_of fs) (sym empty) ∙ e in cc)
+  | inl empty ↦ absurd (let none : cell_of fs [] ≡ Some cell = ap (cell_of fs) (sym empty) ∙ e in cc)
   | inr h ↦
       let here : cell_in fs h.front h.last ≡ Some cell = sym (cell_of_last fs h.front h.last) ∙ ap (cell_of fs) (sym h.whole) ∙ e in
       let f = cell_from (family_at fs h.front) h.last cell here in
-      record { front = h.front; last = h.last; whole = h.whole; family = f.0; at = f.1; has = f.2; is = f.3 } ]
+      record { front = h.front; last = h.last; whole = h.whole; family = f.0; at = f.1; has = f.2; is = f.3 }
+]
 
 pub parts_cell : (fs : Families) (p : List ℕ) (x : ℕ) (f : Family) → family_at fs p ≡ Some f → list_any (nat_eq x) f.signs ≡ true → cell_of fs (p ++ x ∷ []) ≡ Some (f.base + x)
 parts_cell fs p x f at has =
@@ -81,20 +83,21 @@ module _ {V : Type 0} (n : ℕ) (r : Row V) (t : Trie V) (trie : IsTrie n r t) w
       let s = sign_stands n r (family_at t.families) trie.laid c.front c.family c.last c.at c.has in
       let child : child_at r cell ≡ child_at r (c.family.base + c.last) = ap (child_at r) c.is in
       elim (cases_eq (child_at r cell) 0) [
-          inl z ↦ none c z (family_at t.families q) refl ∙ ap (λ b. cond b None (Some (child_at r cell))) (sym (eq-eqb (child_at r cell) 0 z))
+        | inl z ↦ none c z (family_at t.families q) refl ∙ ap (λ b. cond b None (Some (child_at r cell))) (sym (eq-eqb (child_at r cell) 0 z))
         | inr up ↦
             let down = trie.laid.child c.front c.last c.family c.at s.0 s.2 (omega arith) in
             ap (base_of t.families) c.whole ∙ ap (option_map (λ (f : Family). f.base)) down.1 ∙ ap Some (down.2 ∙ sym child)
-            ∙ ap (λ b. cond b None (Some (child_at r cell))) (sym (ne_eqb (child_at r cell) 0 up)) ]
-      where
-        none : (c : IsCellOf t.families q cell) → child_at r cell ≡ 0 → (o : Option Family) → family_at t.families q ≡ o → option_map (λ f. f.base) (family_at t.families q) ≡ None
-        none c z None is = ap (option_map (λ (f : Family). f.base)) is
-        none c z (Some f) is =
-            let up = trie.laid.parent c.front c.last f (ap (family_at t.families) (sym c.whole) ∙ is) in
-            let same : Some up.above ≡ Some c.family = sym up.at ∙ c.at in
-            let above : up.above ≡ c.family = cc in
-            let child : child_at r cell ≡ f.base = ap (child_at r) c.is ∙ ap (λ (g : Family). child_at r (g.base + c.last)) (sym above) ∙ up.child in
-            absurd (let base = up.base in omega arith)
+            ∙ ap (λ b. cond b None (Some (child_at r cell))) (sym (ne_eqb (child_at r cell) 0 up))
+      ]
+    where
+      none : (c : IsCellOf t.families q cell) → child_at r cell ≡ 0 → (o : Option Family) → family_at t.families q ≡ o → option_map (λ f. f.base) (family_at t.families q) ≡ None
+      none c z None is = ap (option_map (λ (f : Family). f.base)) is
+      none c z (Some f) is =
+          let up = trie.laid.parent c.front c.last f (ap (family_at t.families) (sym c.whole) ∙ is) in
+          let same : Some up.above ≡ Some c.family = sym up.at ∙ c.at in
+          let above : up.above ≡ c.family = cc in
+          let child : child_at r cell ≡ f.base = ap (child_at r) c.is ∙ ap (λ (g : Family). child_at r (g.base + c.last)) (sym above) ∙ up.child in
+          absurd (let base = up.base in omega arith)
 
   -- a base is an index of the row
   pub base_within : (p : List ℕ) (base : ℕ) → base_of t.families p ≡ Some base → base < length r.bases
@@ -102,8 +105,9 @@ module _ {V : Type 0} (n : ℕ) (r : Row V) (t : Trie V) (trie : IsTrie n r t) w
       let b = base_parts t.families p base e in
       let flag : base_at r base ≡ true = ap (base_at r) (sym b.2) ∙ trie.laid.flag p b.0 b.1 in
       elim (cases_lt base (length r.bases)) [
-          inl lt ↦ lt
-        | inr le ↦ absurd (both_ways (base_at r base) (get_or_past r.bases base false le) flag) ]
+        | inl lt ↦ lt
+        | inr le ↦ absurd (both_ways (base_at r base) (get_or_past r.bases base false le) flag)
+      ]
 
   pub root_within : 1 ≤ n → n < length r.signs
   root_within some =
@@ -116,17 +120,19 @@ module _ {V : Type 0} (n : ℕ) (r : Row V) (t : Trie V) (trie : IsTrie n r t) w
       let b = base_parts t.families p base e in
       let there : sign_at r (base + s) ≡ sign_at r (b.0.base + s) = ap (λ y. sign_at r (y + s)) (sym b.2) in
       elim (cases_eq (sign_at r (base + s)) s) [
-          inl is ↦
+        | inl is ↦
             parts_cell t.families p s b.0 b.1 (stands_sign n r (family_at t.families) trie.laid p b.0 s b.1 (omega arith) (sym there ∙ is))
             ∙ ap (λ y. Some (y + s)) b.2 ∙ ap (λ x. cond x (Some (base + s)) None) (sym (eq-eqb (sign_at r (base + s)) s is))
         | inr other ↦
             parts_none t.families p s b.0 b.1 (lacks b.0 b.1 (λ z. other (there ∙ z)))
-            ∙ ap (λ x. cond x (Some (base + s)) None) (sym (ne_eqb (sign_at r (base + s)) s other)) ]
-      where
-        lacks : (f : Family) → family_at t.families p ≡ Some f → sign_at r (f.base + s) ≢ s → list_any (nat_eq s) f.signs ≡ false
-        lacks f at other = elim (cases_Bool (list_any (nat_eq s) f.signs)) [
-            inl has ↦ absurd (other (sign_stands n r (family_at t.families) trie.laid p f s at has).2)
-          | inr no_sign ↦ no_sign ]
+            ∙ ap (λ x. cond x (Some (base + s)) None) (sym (ne_eqb (sign_at r (base + s)) s other))
+      ]
+    where
+      lacks : (f : Family) → family_at t.families p ≡ Some f → sign_at r (f.base + s) ≢ s → list_any (nat_eq s) f.signs ≡ false
+      lacks f at other = elim (cases_Bool (list_any (nat_eq s) f.signs)) [
+        | inl has ↦ absurd (other (sign_stands n r (family_at t.families) trie.laid p f s at has).2)
+        | inr no_sign ↦ no_sign
+      ]
 
   -- a string's cell is its own
   pub cells_apart : (q p : List ℕ) (cell : ℕ) → cell_of t.families q ≡ Some cell → cell_of t.families p ≡ Some cell → q ≡ p
@@ -147,18 +153,24 @@ module _ {V : Type 0} (n : ℕ) (r : Row V) (t : Trie V) (trie : IsTrie n r t) w
     laid = laid_alike (family_at t.families) trie.laid r' signs children w.elsewhere.bases;
     count = w.count ∙ trie.count;
     ordered = sorted_put q v t.values trie.ordered;
-    has = has }
+    has = has;
+  }
     where
       signs : (i : ℕ) → sign_at r' i ≡ sign_at r i
       signs i = elim (cases_eq i cell) [ inl is ↦ ap (sign_at r') is ∙ w.sign_is ∙ ap (sign_at r) (sym is) | inr other ↦ w.elsewhere.signs i other ]
+
       children : (i : ℕ) → child_at r' i ≡ child_at r i
       children i = elim (cases_eq i cell) [ inl is ↦ ap (child_at r') is ∙ w.child_is ∙ ap (child_at r) (sym is) | inr other ↦ w.elsewhere.children i other ]
+
       other_value : (p : List ℕ) → p ≢ q → (o : Option ℕ) → cell_of t.families p ≡ o → value_in r o ≡ value_in r' o
       other_value p n None is = refl
       other_value p n (Some i) is = elim (cases_eq i cell) [
-          inl same ↦ absurd (n (cells_apart p q cell (is ∙ ap Some same) e))
-        | inr other ↦ sym (w.elsewhere.values i other) ]
+        | inl same ↦ absurd (n (cells_apart p q cell (is ∙ ap Some same) e))
+        | inr other ↦ sym (w.elsewhere.values i other)
+      ]
+
       has : (p : List ℕ) → find order p (put order q v t.values) ≡ value_in r' (cell_of t.families p)
       has p = elim (equal_or_not p q) [
-          inl h ↦ ap (λ y. find order y (put order q v t.values)) h.0 ∙ find_put_same q v t.values ∙ sym (ap (λ y. value_in r' (cell_of t.families y)) h.0 ∙ ap (value_in r') e ∙ w.value_is)
-        | inr h ↦ find_put_other p q v t.values h.0 ∙ trie.has p ∙ other_value p h.0 (cell_of t.families p) refl ]
+        | inl h ↦ ap (λ y. find order y (put order q v t.values)) h.0 ∙ find_put_same q v t.values ∙ sym (ap (λ y. value_in r' (cell_of t.families y)) h.0 ∙ ap (value_in r') e ∙ w.value_is)
+        | inr h ↦ find_put_other p q v t.values h.0 ∙ trie.has p ∙ other_value p h.0 (cell_of t.families p) refl
+      ]

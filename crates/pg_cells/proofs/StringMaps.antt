@@ -1,5 +1,5 @@
 -- Maps from strings, as lists of entries in the order of the strings: what is found after an entry is put or taken away.
-use Rattle.std.proofs.Common.{◌≡◌, ◌≢◌, ℕ, ◌+◌, ◌≤◌, ◌⊎◌, inl, inr, Bool, true, false, not, cond, ◌&&◌, ◌||◌, T, List, [], ◌∷◌, ◌++◌, length, Option, None, Some, refl, sym, ◌∙◌, ap, subst, arith}
+use Rattle.std.proofs.Common.{◌≡◌, ◌≢◌, ℕ, ◌⊎◌, inl, inr, Bool, true, false, not, cond, ◌&&◌, T, List, [], ◌∷◌, None, Some, refl, sym, ◌∙◌, ap, subst}
 use Rattle.std.proofs.lemmas.Bool.{cases_Bool, false≢true, or_cases, or_left, or_right}
 use Rattle.std.proofs.lemmas.Cmp.{nat_list_cmp_total}
 use Rattle.std.specs.declared.cmp.Ordering.{Ordering}
@@ -8,7 +8,7 @@ use Rattle.std.specs.Ordering.{nat_cmp, eq_by_cmp, is_eq, is_lt}
 use Rattle.std.specs.Cmp.{tied_itself}
 use Rattle.std.specs.Cmp.Lexicographic.{slice_cmp}
 use Rattle.std.specs.FinMap.{slice_cmp-IsAntisymmetric, nat_cmp-IsAntisymmetric, find, put, is_sorted}
-use Rattle.std.specs.FinMap.Entries.{where_key, find-put, find-where_key, is_sorted-put, is_sorted-where_key, same_entries, below_all, by_order}
+use Rattle.std.specs.FinMap.Entries.{find-put, find-where_key, is_sorted-put, is_sorted-where_key, same_entries, below_all}
 use Rattle.std.specs.List.{list_any}
 pub use Rattle.pg_cells.specs.Held.{without_key}
 
@@ -33,16 +33,18 @@ same_itself p = ap is_eq (tied_itself nat_list_cmp_total p)
 -- two strings are equal, or they are not
 pub equal_or_not : (q p : List ℕ) → ((q ≡ p) × (same_string q p ≡ true)) ⊎ ((q ≢ p) × (same_string q p ≡ false))
 equal_or_not q p = elim (cases_Bool (same_string q p)) [
-    inl e ↦ inl (same_from q p e, e)
-  | inr e ↦ inr ((λ z. false≢true (sym e ∙ ap (λ x. same_string x p) z ∙ same_itself p)), e) ]
+  | inl e ↦ inl (same_from q p e, e)
+  | inr e ↦ inr ((λ z. false≢true (sym e ∙ ap (λ x. same_string x p) z ∙ same_itself p)), e)
+]
 
 pub same_no : (q p : List ℕ) → q ≢ p → same_string q p ≡ false
 same_no q p n = elim (equal_or_not q p) [ inl h ↦ absurd (n h.0) | inr h ↦ h.1 ]
 
 not_swapped : (q p : List ℕ) → not (same_string p q) ≡ not (same_string q p)
 not_swapped q p = elim (equal_or_not q p) [
-    inl h ↦ ap not (ap (λ x. same_string p x) h.0 ∙ same_itself p ∙ sym h.1)
-  | inr h ↦ ap not (same_no p q (λ z. h.0 (sym z)) ∙ sym h.1) ]
+  | inl h ↦ ap not (ap (λ x. same_string p x) h.0 ∙ same_itself p ∙ sym h.1)
+  | inr h ↦ ap not (same_no p q (λ z. h.0 (sym z)) ∙ sym h.1)
+]
 
 first_part : (a b : Bool) → T (a && b) → T a
 first_part true b h = tt
@@ -114,19 +116,26 @@ module _ {X : Type 0} where
   pub any_found : (es : List (List ℕ × X)) → T (is_sorted order es) → (test : X → Bool) → list_any (λ e. test e.1) es ≡ true → (p : List ℕ) × (v : X) × (find order p es ≡ Some v) × (test v ≡ true)
   any_found [] h test e = absurd (false≢true e)
   any_found (x ∷ xs) h test e = elim (or_cases (test x.1) (list_any (λ e. test e.1) xs) e) [
-      inl here ↦ (x.0, x.1, ap (λ b. cond b (Some x.1) (find order x.0 xs)) (same_itself x.0), here)
+    | inl here ↦ (x.0, x.1, ap (λ b. cond b (Some x.1) (find order x.0 xs)) (same_itself x.0), here)
     | inr there ↦
-        let rest = any_found xs (tail_sorted x xs h) test there in
-        (rest.0, rest.1, elim (equal_or_not rest.0 x.0) [
-            inl same ↦ absurd (let none = find_below x.0 xs (head_below x xs h) in let some = ap (λ q. find order q xs) (sym same.0) ∙ rest.2 in cc)
-          | inr other ↦ ap (λ b. cond b (Some x.1) (find order rest.0 xs)) other.1 ∙ rest.2 ], rest.3) ]
+        let rest = any_found xs (tail_sorted x xs h) test there in (
+          rest.0,
+          rest.1,
+          elim (equal_or_not rest.0 x.0) [
+            | inl same ↦ absurd (let none = find_below x.0 xs (head_below x xs h) in let some = ap (λ q. find order q xs) (sym same.0) ∙ rest.2 in cc)
+            | inr other ↦ ap (λ b. cond b (Some x.1) (find order rest.0 xs)) other.1 ∙ rest.2
+          ],
+          rest.3,
+        )
+  ]
 
   -- and what is found is an entry
   pub found_any : (es : List (List ℕ × X)) (test : X → Bool) (p : List ℕ) (v : X) → find order p es ≡ Some v → test v ≡ true → list_any (λ e. test e.1) es ≡ true
   found_any [] test p v at h = cc
   found_any (x ∷ xs) test p v at h = elim (cases_Bool (same_string p x.0)) [
-      inl same ↦
+    | inl same ↦
         let value : Some x.1 ≡ Some v = ap (λ b. cond b (Some x.1) (find order p xs)) (sym same) ∙ at in
         let is : x.1 ≡ v = cc in
         or_left (test x.1) (list_any (λ e. test e.1) xs) (ap test is ∙ h)
-    | inr other ↦ or_right (test x.1) (list_any (λ e. test e.1) xs) (found_any xs test p v (ap (λ b. cond b (Some x.1) (find order p xs)) (sym other) ∙ at) h) ]
+    | inr other ↦ or_right (test x.1) (list_any (λ e. test e.1) xs) (found_any xs test p v (ap (λ b. cond b (Some x.1) (find order p xs)) (sym other) ∙ at) h)
+  ]

@@ -1,11 +1,10 @@
 -- What the cells are seen as: the families by their placement, and the value of each string that has a cell.
-use Rattle.std.specs.Prelude.{ℕ, List, [], ◌∷◌, Option, None, Some, slice_get, refl, not}
+use Rattle.std.specs.Prelude.{ℕ, List, refl, not}
 use Rattle.std.specs.Ordering.{nat_cmp, eq_by_cmp}
 use Rattle.std.specs.Cmp.Lexicographic.{slice_cmp}
 use Rattle.std.specs.FinMap.Entries.{where_key}
 use Rattle.std.specs.Coded.{Coded, code_by, coded×, coded_ℕ, coded_list}
 use Rattle.pg_types.specs.Placement.{Family, Families}
-use Rattle.pg_cells.specs.Lists.{Row}
 
 -- the number of signs of the table; the families; and the values in the order of the strings
 pub record Held (V : Type 0) : Type 0 where

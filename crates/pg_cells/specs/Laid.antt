@@ -1,11 +1,11 @@
 -- That the families lie in the row of cells.
-use Rattle.std.specs.Prelude.{◌≡◌, ◌≢◌, ℕ, ◌+◌, ◌<◌, ◌≤◌, T, Bool, true, nat_eq, List, [], ◌∷◌, ◌++◌, filter, Option, None, Some, slice_get}
+use Rattle.std.specs.Prelude.{◌≡◌, ◌≢◌, ℕ, ◌+◌, ◌<◌, ◌≤◌, T, true, nat_eq, List, [], ◌∷◌, ◌++◌, filter, Option, None, Some, slice_get}
 use Rattle.std.specs.List.{range_with_len}
 use Rattle.std.specs.Ordering.{nat_cmp}
 use Rattle.std.specs.Cmp.Lexicographic.{slice_cmp}
 use Rattle.std.specs.FinMap.{find}
 use Rattle.std.specs.FinMap.Entries.{is_sorted}
-use Rattle.pg_types.specs.Placement.{Family, Families, family_at, cell_of, taken}
+use Rattle.pg_types.specs.Placement.{Family, family_at, cell_of, taken}
 use Rattle.pg_cells.specs.Lists.{Row, sign_at, child_at, base_at}
 use Rattle.pg_cells.specs.Store.{taken_in}
 use Rattle.pg_types.specs.declared.limits.TheConstants.{SIGNS_MAX}

@@ -1,5 +1,5 @@
 -- A row of cells holds at most one trie.
-use Rattle.std.proofs.Common.{◌≡◌, ◌≢◌, ℕ, ◌+◌, ◌<◌, ◌≤◌, ◌⊎◌, inl, inr, List, [], ◌∷◌, ◌++◌, length, Option, None, Some, suc, zero, refl, sym, ◌∙◌, ap, subst, arith}
+use Rattle.std.proofs.Common.{◌≡◌, ℕ, ◌+◌, ◌<◌, ◌≤◌, ◌⊎◌, inl, inr, List, [], ◌∷◌, ◌++◌, length, Option, None, Some, suc, zero, refl, sym, ◌∙◌, ap, subst, arith}
 use Rattle.std.proofs.Math.Logic.{∥∥₁_prop, ∥∥₁_elim}
 use Rattle.std.proofs.lemmas.List.{length_push}
 use Rattle.std.proofs.lemmas.Cmp.{nat_list_cmp_total}
@@ -10,10 +10,10 @@ use Rattle.std.specs.FinMap.Entries.{same_entries}
 use Rattle.std.specs.List.{range_with_len}
 use Rattle.std.specs.Coded.{Coded, Coded-set}
 use mathlib.Core.HLevel.{Σ_prop_path}
-use Rattle.pg_types.specs.Placement.{Family, Families, family_at, cell_of}
-use Rattle.pg_cells.specs.Lists.{Row, child_at, sign_at}
+use Rattle.pg_types.specs.Placement.{Family, family_at, cell_of}
+use Rattle.pg_cells.specs.Lists.{Row, child_at}
 use Rattle.pg_cells.specs.Held.{Trie, trie_code}
-use Rattle.pg_cells.specs.Laid.{Laid, IsParent, IsTrie, standing, value_in}
+use Rattle.pg_cells.specs.Laid.{Laid, IsTrie, standing, value_in}
 
 -- a string is empty, or has a last sign
 pub record HasLast (p : List ℕ) : Type 0 where
@@ -24,8 +24,9 @@ pub record HasLast (p : List ℕ) : Type 0 where
 pub last_of : (p : List ℕ) → (p ≡ []) ⊎ HasLast p
 last_of [] = inl refl
 last_of (x ∷ xs) = inr (elim (last_of xs) [
-    inl e ↦ record { front = []; last = x; whole = ap (λ l. x ∷ l) e }
-  | inr h ↦ record { front = x ∷ h.front; last = h.last; whole = ap (λ l. x ∷ l) h.whole } ])
+  | inl e ↦ record { front = []; last = x; whole = ap (λ l. x ∷ l) e }
+  | inr h ↦ record { front = x ∷ h.front; last = h.last; whole = ap (λ l. x ∷ l) h.whole }
+])
 
 module _ {V : Type 0} (n : ℕ) (r : Row V) where
   -- a family of one placement is a family of the other
@@ -36,6 +37,7 @@ module _ {V : Type 0} (n : ℕ) (r : Row V) where
       at_root p f at e =
           let same : Some (record { base = 0; signs = range_with_len 1 n }) ≡ Some f = sym a.root ∙ ap F (sym e) ∙ at in
           ap G e ∙ b.root ∙ same
+
       by : (k : ℕ) (p : List ℕ) (f : Family) → length p ≤ k → F p ≡ Some f → (p ≡ []) ⊎ HasLast p → G p ≡ Some f
       by k p f le at (inl e) = at_root p f at e
       by zero p f le at (inr h) = absurd (omega (arith, ap length h.whole, length_push h.front h.last))
@@ -60,9 +62,9 @@ module _ {V : Type 0} (n : ℕ) (r : Row V) where
   pub same_trie : (t u : Trie V) → IsTrie n r t → IsTrie n r u → t ≡ u
   same_trie t u a b =
       let families : t.families ≡ u.families = same_entries (slice_cmp nat_cmp) nat_list_cmp_total (slice_cmp-IsAntisymmetric nat_cmp-IsAntisymmetric) t.families u.families a.sorted b.sorted
-          (same_found (family_at t.families) (family_at u.families) a.laid b.laid) in
+      (same_found (family_at t.families) (family_at u.families) a.laid b.laid) in
       let values : t.values ≡ u.values = same_entries (slice_cmp nat_cmp) nat_list_cmp_total (slice_cmp-IsAntisymmetric nat_cmp-IsAntisymmetric) t.values u.values a.ordered b.ordered
-          (λ q. a.has q ∙ ap (λ fs. value_in r (cell_of fs q)) families ∙ sym (b.has q)) in
+      (λ q. a.has q ∙ ap (λ fs. value_in r (cell_of fs q)) families ∙ sym (b.has q)) in
       λ i. record { families = families i; values = values i }
 
 -- the trie that a row holds
@@ -72,7 +74,7 @@ Kept {V} n r = (t : Trie V) × ∥ IsTrie n r t ∥₁
 pub Kept-prop : {V : Type 0} → Coded V → (n : ℕ) (r : Row V) → IsProp (Kept n r)
 Kept-prop {V} code n r a b =
     Σ_prop_path (λ t. ∥∥₁_prop)
-        (∥∥₁_elim a.1 (Coded-set (trie_code code) a.0 b.0) (λ x. ∥∥₁_elim b.1 (Coded-set (trie_code code) a.0 b.0) (λ y. same_trie n r a.0 b.0 x y)))
+    (∥∥₁_elim a.1 (Coded-set (trie_code code) a.0 b.0) (λ x. ∥∥₁_elim b.1 (Coded-set (trie_code code) a.0 b.0) (λ y. same_trie n r a.0 b.0 x y)))
 
 -- a kept trie is any that the row holds
 pub settled : {V : Type 0} → Coded V → (n : ℕ) (r : Row V) (kept : Kept n r) (t : Trie V) → IsTrie n r t → kept.0 ≡ t

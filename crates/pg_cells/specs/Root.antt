@@ -1,5 +1,5 @@
 -- The root of a table.
-use Rattle.std.specs.Prelude.{◌≡◌, ◌≢◌, ℕ, ◌+◌, ◌<◌, ◌≤◌, Bool, false, List, [], ◌∷◌, map, length, slice_get, Some}
+use Rattle.std.specs.Prelude.{◌≡◌, ◌≢◌, ℕ, ◌+◌, ◌<◌, ◌≤◌, false, [], ◌∷◌, map, length, slice_get, Some}
 use Rattle.std.specs.List.{range_with_len}
 use Rattle.pg_types.specs.Placement.{root}
 use Rattle.pg_cells.specs.Lists.{Row, sign_at, child_at, base_at}

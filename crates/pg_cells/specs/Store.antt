@@ -2,7 +2,7 @@
 use Rattle.std.specs.Prelude.{◌≡◌, ◌≢◌, ℕ, ◌+◌, ◌<◌, ◌≤◌, ◌^◌, min, Bool, List, [], ◌∷◌, length, get_or, slice_get, false, refl}
 use Rattle.std.specs.Coded.{Coded, code_by, coded×, coded_ℕ, coded_bool, coded_list}
 use Rattle.pg_cells.specs.declared.cell.Cell.{Cell}
-use Rattle.pg_cells.specs.Lists.{Row, Lists, lists, row_of, sign_at, child_at, base_at}
+use Rattle.pg_cells.specs.Lists.{Row, lists, row_of, sign_at, child_at, base_at}
 use Rattle.pg_cells.specs.Linked.{AreLinked}
 
 abbrev pub row_code : {V : Type 0} → Coded V → Coded (Row V)

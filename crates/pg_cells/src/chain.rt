@@ -3,19 +3,11 @@ ghost use Rattle.std.specs.Prelude.{◌≡◌, ◌≢◌, ℕ, ◌+◌, ◌-◌,
 ghost use Rattle.pg_cells.specs.Lists.{lists, with_taken, with_free, with_more, sign_at, IsFree};
 ghost use Rattle.pg_cells.specs.Linked.{AreLinked};
 
-use crate::cell::{
-    Cell, after_of, before_of, set_after, set_before, set_free, set_taken, sign_of,
-};
+use crate::cell::{Cell, after_of, before_of, set_after, set_before, set_free, set_taken, sign_of};
 use std::alloc::AllocError;
 
 /// Takes a free cell out of the list.
-pub fn take_cell<V: Copy>(
-    cells: &mut [Cell<V>],
-    cell: usize,
-    sign: u16,
-    value: V,
-    child: usize,
-)
+pub fn take_cell<V: Copy>(cells: &mut [Cell<V>], cell: usize, sign: u16, value: V, child: usize)
     requires linked { AreLinked (lists cells.old) }
     requires small { length cells.old < 2 ^ 32 }
     requires cell { (0 < cell) × (cell < length cells.old) }

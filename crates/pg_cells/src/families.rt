@@ -10,11 +10,11 @@ ghost use Rattle.pg_cells.specs.OneTrie.{Kept, Kept-prop};
 ghost use Rattle.pg_cells.specs.Root.{root_held};
 
 use crate::fit::Slot;
-use crate::store::Store;
 use crate::moves::collect;
 use crate::prune::drop_bare;
 use crate::root::{clear, plant};
 use crate::settle::settle;
+use crate::store::Store;
 use pg_types::{SIGNS_MAX, Sign};
 use std::alloc::{AllocError, Global};
 use std::marker::Model;

@@ -21,7 +21,11 @@ pub struct Slot<V> {
 pub fn sign_or_free<V: Copy>(cells: &[Cell<V>], cell: usize) -> u16
     ensures { result ≡ sign_at (lists cells.now).row cell }
 {
-    if cell < cells.len() { sign_of(cells, cell) } else { 0 }
+    if cell < cells.len() {
+        sign_of(cells, cell)
+    } else {
+        0
+    }
 }
 
 // Whether a cell's index is the base of a family.

@@ -1,4 +1,4 @@
-//! The families of a trie in one row of cells.
+//! The families of a trie in one row of cells, each at the least base at which it fits; free cells are linked in rising order.
 #![tactic(auto)]
 
 mod cell;
@@ -10,5 +10,7 @@ mod prune;
 mod root;
 mod settle;
 mod store;
+#[cfg(test)]
+mod tests;
 
 pub use families::Cells;

@@ -136,7 +136,13 @@ impl<V: Copy> Store<V> {
         requires child { slot.child < length self.old.signs }
         ensures { Takes self.old self.new cell slot.sign slot.value slot.child }
     {
-        take_cell(self.cells.as_mut_slice(), cell, slot.sign, slot.value, slot.child);
+        take_cell(
+            self.cells.as_mut_slice(),
+            cell,
+            slot.sign,
+            slot.value,
+            slot.child,
+        );
         self.top = self.top.max(cell);
         self.taken += 1;
     }

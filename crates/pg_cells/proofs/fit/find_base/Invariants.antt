@@ -8,7 +8,8 @@ invariant-loop-at g l = record {
   from : l.low + l.first ≤ l.at;
   bound : l.at ≤ l.room + l.first;
   free : IsFree (lists l.cells).row l.at;
-  first : (k : ℕ) → l.low ≤ k → k + l.first < l.at → fits_row (lists l.cells).row (l.sign ∷ signs_of l.slots) k ≡ false }
+  first : (k : ℕ) → l.low ≤ k → k + l.first < l.at → fits_row (lists l.cells).row (l.sign ∷ signs_of l.slots) k ≡ false;
+}
 
 abbrev pub decreases-loop-at : goal.decreases-loop-at
 decreases-loop-at g l = l.room + l.first - l.at

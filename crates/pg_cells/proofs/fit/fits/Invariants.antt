@@ -1,4 +1,4 @@
-use Rattle.std.proofs.Common.{◌≡◌, ◌+◌, Bool, true, false, nat_eq, take}
+use Rattle.std.proofs.Common.{◌≡◌, ◌+◌, true, nat_eq, take}
 use Rattle.std.specs.List.{list_all}
 use Rattle.pg_cells.specs.Lists.{lists, sign_at}
 use Rattle.pg_cells.specs.Fit.{signs_of}

@@ -1,6 +1,5 @@
-use Rattle.std.proofs.Common.{◌≡◌, ◌+◌, ◌-◌, ℕ, arith, subst, sym}
-use Rattle.pg_cells.specs.Moves.{Collected}
-use Rattle.pg_cells.proofs.Collecting.{collected_none, collected_step}
+use Rattle.std.proofs.Common.{◌-◌, arith}
+use Rattle.pg_cells.proofs.Collecting.{collected_step}
 use Rattle.pg_cells.proofs.moves.collect.Goals as goal
 
 pub loop-sign-preserved : goal.loop-sign-preserved

@@ -1,6 +1,4 @@
-use Rattle.std.proofs.Common.{◌≡◌, ◌≢◌, ℕ, ◌+◌, ◌<◌, ◌≤◌, [], nat_eq, sym, ◌∙◌, arith}
-use Rattle.pg_cells.specs.Lists.{sign_at}
-use Rattle.pg_cells.specs.Laid.{standing}
+use Rattle.std.proofs.Common.{sym, ◌∙◌, arith}
 use Rattle.pg_cells.proofs.RemoveTrie.{none_stands, some_stands}
 use Rattle.pg_cells.proofs.prune.is_bare.Goals as goal
 

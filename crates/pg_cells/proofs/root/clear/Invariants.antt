@@ -6,4 +6,5 @@ abbrev pub invariant-loop-cell : goal.invariant-loop-cell
 invariant-loop-cell g l = record {
   signs : (i : ℕ) → i < l.cell → sign_at l.store i ≡ 0;
   bases : (b : ℕ) → b < l.cell → base_at l.store b ≡ false;
-  size : length l.store.signs ≡ length l.initial.store.signs }
+  size : length l.store.signs ≡ length l.initial.store.signs;
+}

@@ -1,4 +1,4 @@
-use Rattle.std.proofs.Common.{◌≡◌, ◌<◌, ◌≤◌, ℕ, ◌+◌, arith, length}
+use Rattle.std.proofs.Common.{◌≤◌, arith}
 use Rattle.pg_cells.proofs.SettleRoom.{room_within, room_fits, can_put, can_take, parent_stays}
 use Rattle.pg_cells.proofs.settle.settle.Goals as goal
 

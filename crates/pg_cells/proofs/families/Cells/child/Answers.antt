@@ -1,16 +1,7 @@
-use Rattle.std.proofs.Common.{◌≡◌, ◌≢◌, ℕ, ◌+◌, ◌<◌, ◌≤◌, List, [], ◌∷◌, ◌++◌, map, Option, Some, None, length, ap, sym, subst, refl, ◌∙◌, arith, cond, nat_eq}
-use Rattle.std.proofs.lemmas.Bool.{eq-eqb, ne_eqb}
-use Rattle.std.specs.List.{range_with_len}
-use Rattle.std.specs.FinMap.{find, put}
-use Rattle.pg_types.specs.Placement.{root, cell_of, base_of}
-use Rattle.pg_cells.specs.Lists.{Row, sign_at}
-use Rattle.pg_cells.specs.Held.{Trie, Held}
-use Rattle.pg_cells.specs.Laid.{AreKept, IsTrie}
-use Rattle.pg_cells.specs.OneTrie.{Kept, settled, held}
-use Rattle.pg_cells.specs.Root.{root_held}
-use Rattle.pg_cells.proofs.StringMaps.{order}
-use Rattle.pg_cells.proofs.StringCells.{cell_taken, value_is, child_is, found_is, base_within, root_within, cells_apart, value_written}
-use Rattle.pg_cells.proofs.RootTrie.{root_trie}
+use Rattle.std.proofs.Common.{◌≡◌, Some, None, ap, sym, subst, ◌∙◌, cond, nat_eq}
+use Rattle.pg_types.specs.Placement.{cell_of, base_of}
+use Rattle.pg_cells.specs.Held.{Held}
+use Rattle.pg_cells.proofs.StringCells.{cell_taken, child_is}
 use Rattle.pg_cells.proofs.families.Cells.child.Goals as goal
 
 pub child-requires : goal.child-requires
@@ -20,4 +11,4 @@ pub returns : goal.returns
 returns g c q e =
     let is = child_is c.self.inside.signs c.self.inside.store c.self.inside.laid.0 c.self.invariant.trie q c.args.cell (subst (λ (h : Held g.row.V.Denot). cell_of h.families q ≡ Some c.args.cell) (sym c.self.view_is) e) in
     subst (λ (h : Held g.row.V.Denot). base_of h.families q ≡ cond (nat_eq c.child.result 0) None (Some c.child.result)) c.self.view_is
-        (is ∙ ap (λ x. cond (nat_eq x 0) None (Some x)) (sym c.child.ensures))
+    (is ∙ ap (λ x. cond (nat_eq x 0) None (Some x)) (sym c.child.ensures))

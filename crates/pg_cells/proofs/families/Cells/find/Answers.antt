@@ -1,16 +1,9 @@
-use Rattle.std.proofs.Common.{◌≡◌, ◌≢◌, ℕ, ◌+◌, ◌<◌, ◌≤◌, List, [], ◌∷◌, ◌++◌, map, Option, Some, None, length, ap, sym, subst, refl, ◌∙◌, arith, cond, nat_eq}
+use Rattle.std.proofs.Common.{◌≡◌, ◌≢◌, ◌+◌, ◌≤◌, [], ◌∷◌, ◌++◌, Some, None, ap, sym, subst, ◌∙◌, arith, cond}
 use Rattle.std.proofs.lemmas.Bool.{eq-eqb, ne_eqb}
-use Rattle.std.specs.List.{range_with_len}
-use Rattle.std.specs.FinMap.{find, put}
-use Rattle.pg_types.specs.Placement.{root, cell_of, base_of}
-use Rattle.pg_cells.specs.Lists.{Row, sign_at}
-use Rattle.pg_cells.specs.Held.{Trie, Held}
-use Rattle.pg_cells.specs.Laid.{AreKept, IsTrie}
-use Rattle.pg_cells.specs.OneTrie.{Kept, settled, held}
-use Rattle.pg_cells.specs.Root.{root_held}
-use Rattle.pg_cells.proofs.StringMaps.{order}
-use Rattle.pg_cells.proofs.StringCells.{cell_taken, value_is, child_is, found_is, base_within, root_within, cells_apart, value_written}
-use Rattle.pg_cells.proofs.RootTrie.{root_trie}
+use Rattle.pg_types.specs.Placement.{cell_of, base_of}
+use Rattle.pg_cells.specs.Lists.{sign_at}
+use Rattle.pg_cells.specs.Held.{Held}
+use Rattle.pg_cells.proofs.StringCells.{found_is, base_within}
 use Rattle.pg_cells.proofs.families.Cells.find.Goals as goal
 
 pub overflow_add-cell : goal.overflow_add-cell
@@ -30,7 +23,7 @@ returns-then-sign-s g c p e =
     let found = found_is c.self.inside.signs c.self.inside.store c.self.inside.laid.0 c.self.invariant.trie p c.args.base c.args.s at c.requires.sign.0 signs in
     let is : sign_at c.self.inside.store (c.args.base + c.args.s) ≡ c.args.s = sym c.sign.ensures ∙ c.if-sign-s.true in
     subst (λ (h : Held g.row.V.Denot). Some (c.args.base + c.args.s) ≡ cell_of h.families (p ++ c.args.s ∷ [])) c.self.view_is
-        (sym (found ∙ ap (λ b. cond b (Some (c.args.base + c.args.s)) None) (eq-eqb (sign_at c.self.inside.store (c.args.base + c.args.s)) c.args.s is)))
+    (sym (found ∙ ap (λ b. cond b (Some (c.args.base + c.args.s)) None) (eq-eqb (sign_at c.self.inside.store (c.args.base + c.args.s)) c.args.s is)))
 
 pub returns-else-sign-s : goal.returns-else-sign-s
 returns-else-sign-s g c p e =
@@ -39,4 +32,4 @@ returns-else-sign-s g c p e =
     let found = found_is c.self.inside.signs c.self.inside.store c.self.inside.laid.0 c.self.invariant.trie p c.args.base c.args.s at c.requires.sign.0 signs in
     let other : sign_at c.self.inside.store (c.args.base + c.args.s) ≢ c.args.s = λ z. c.if-sign-s.false (c.sign.ensures ∙ z) in
     subst (λ (h : Held g.row.V.Denot). None ≡ cell_of h.families (p ++ c.args.s ∷ [])) c.self.view_is
-        (sym (found ∙ ap (λ b. cond b (Some (c.args.base + c.args.s)) None) (ne_eqb (sign_at c.self.inside.store (c.args.base + c.args.s)) c.args.s other)))
+    (sym (found ∙ ap (λ b. cond b (Some (c.args.base + c.args.s)) None) (ne_eqb (sign_at c.self.inside.store (c.args.base + c.args.s)) c.args.s other)))

@@ -1,15 +1,11 @@
-use Rattle.std.proofs.Common.{◌≡◌, ◌≢◌, ℕ, ◌+◌, ◌<◌, ◌≤◌, List, [], ◌∷◌, ◌++◌, map, Option, Some, None, length, ap, sym, subst, refl, ◌∙◌, arith, cond, nat_eq}
-use Rattle.std.proofs.lemmas.Bool.{eq-eqb, ne_eqb}
+use Rattle.std.proofs.Common.{◌≡◌, [], ◌∷◌, map, ap, ◌∙◌, arith}
 use Rattle.std.specs.List.{range_with_len}
-use Rattle.std.specs.FinMap.{find, put}
-use Rattle.pg_types.specs.Placement.{root, cell_of, base_of}
-use Rattle.pg_cells.specs.Lists.{Row, sign_at}
+use Rattle.pg_types.specs.Placement.{root}
 use Rattle.pg_cells.specs.Held.{Trie, Held}
-use Rattle.pg_cells.specs.Laid.{AreKept, IsTrie}
+use Rattle.pg_cells.specs.Laid.{AreKept}
 use Rattle.pg_cells.specs.OneTrie.{Kept, settled, held}
 use Rattle.pg_cells.specs.Root.{root_held}
-use Rattle.pg_cells.proofs.StringMaps.{order}
-use Rattle.pg_cells.proofs.StringCells.{cell_taken, value_is, child_is, found_is, base_within, root_within, cells_apart, value_written}
+use Rattle.pg_cells.proofs.StringCells.{root_within}
 use Rattle.pg_cells.proofs.RootTrie.{root_trie}
 use Rattle.pg_cells.proofs.families.Cells.reset.Goals as goal
 
@@ -27,13 +23,13 @@ pub invariant_of-self : goal.invariant_of-self
 invariant_of-self g c =
     let trie = root_trie c.args.blank c.self.inside.signs c.plant.new.store c.set_base.new.self c.self.invariant.some c.plant.ensures.planted c.set_base.ensures in
     let all : (d : Kept c.self.inside.signs c.set_base.new.self) → AreKept c.self.inside.signs c.set_base.new.self d.0 =
-        λ d. record { trie = held g.row.V.coded c.self.inside.signs c.set_base.new.self d _ trie; some = c.self.invariant.some; few = c.self.invariant.few } in
+    λ d. record { trie = held g.row.V.coded c.self.inside.signs c.set_base.new.self d _ trie; some = c.self.invariant.some; few = c.self.invariant.few } in
     search all
 
 pub returns : goal.returns
 returns g c =
     let trie = root_trie c.args.blank c.self.inside.signs c.plant.new.store c.set_base.new.self c.self.invariant.some c.plant.ensures.planted c.set_base.ensures in
     let all : (d : Kept c.self.inside.signs c.set_base.new.self) → ◌≡◌ {A = Held g.row.V.Denot} (record { signs = c.self.inside.signs; families = d.0.families; values = d.0.values }) (root_held c.args.self.now.signs c.args.blank) =
-        λ d. ap (λ (t : Trie g.row.V.Denot). record { signs = c.self.inside.signs; families = t.families; values = t.values }) (settled g.row.V.coded c.self.inside.signs c.set_base.new.self d _ trie)
-            ∙ ap (λ (h : Held g.row.V.Denot). root_held h.signs c.args.blank) c.self.view_is in
+    λ d. ap (λ (t : Trie g.row.V.Denot). record { signs = c.self.inside.signs; families = t.families; values = t.values }) (settled g.row.V.coded c.self.inside.signs c.set_base.new.self d _ trie)
+    ∙ ap (λ (h : Held g.row.V.Denot). root_held h.signs c.args.blank) c.self.view_is in
     search all

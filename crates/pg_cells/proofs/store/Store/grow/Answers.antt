@@ -1,13 +1,6 @@
-use Rattle.std.proofs.Common.{◌≡◌, ◌≢◌, ◌<◌, ◌≤◌, ◌+◌, ℕ, refl, sym, ap, subst, ◌∙◌, length, arith, rules, true, set}
-use Rattle.std.proofs.lemmas.List.{length-map}
-use Rattle.pg_cells.specs.Lists.{Row, lists, row_of, sign_at, IsFree, with_base, with_value, with_child, with_taken, with_free}
-use Rattle.pg_cells.proofs.LinkedLists.{free_within, taken_within}
-use Rattle.pg_cells.specs.Store.{IsKept, Extends}
-use Rattle.pg_cells.specs.Fit.{fits_row, signs_of}
-use Rattle.pg_cells.proofs.StoreSteps.{given_back, taken_le, kept_write, kept_child, kept_taken, kept_freed, kept_extended, extends_more, extends_trans}
+use Rattle.pg_cells.proofs.StoreSteps.{kept_extended}
 use Rattle.pg_cells.proofs.store.Store.grow.Goals as goal
 
 pub invariant_of-self : goal.invariant_of-self
 invariant_of-self g c =
     kept_extended c.self.inside.cells.items c.grow_cells.new.cells.items _ _ c.self.invariant c.grow_cells.ensures.linked c.grow_cells.ensures.small c.grow_cells.ensures.extends
-

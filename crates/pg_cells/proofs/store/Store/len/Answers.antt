@@ -1,7 +1,5 @@
-use Rattle.std.proofs.Common.{◌≡◌, ◌<◌, ℕ, sym, subst, ◌∙◌, length, arith}
-use Rattle.std.proofs.lemmas.List.{length-map}
-use Rattle.pg_cells.specs.Lists.{Row, row_of, sign_at, child_at}
-use Rattle.pg_cells.proofs.LinkedLists.{free_within}
+use Rattle.std.proofs.Common.{◌≡◌, ℕ, subst}
+use Rattle.pg_cells.specs.Lists.{Row, sign_at, child_at}
 use Rattle.pg_cells.proofs.RowWrites.{row_bare}
 use Rattle.pg_cells.proofs.store.Store.len.Goals as goal
 

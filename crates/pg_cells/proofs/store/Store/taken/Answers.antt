@@ -1,10 +1,5 @@
-use Rattle.std.proofs.Common.{◌≡◌, ◌≢◌, ◌<◌, ◌≤◌, ◌+◌, ℕ, refl, sym, ap, subst, ◌∙◌, length, arith, rules, true, set}
-use Rattle.std.proofs.lemmas.List.{length-map}
-use Rattle.pg_cells.specs.Lists.{Row, lists, row_of, sign_at, IsFree, with_base, with_value, with_child, with_taken, with_free}
-use Rattle.pg_cells.proofs.LinkedLists.{free_within, taken_within}
-use Rattle.pg_cells.specs.Store.{IsKept, Extends}
-use Rattle.pg_cells.specs.Fit.{fits_row, signs_of}
-use Rattle.pg_cells.proofs.StoreSteps.{given_back, taken_le, kept_write, kept_child, kept_taken, kept_freed, kept_extended, extends_more, extends_trans}
+use Rattle.std.proofs.Common.{arith}
+use Rattle.pg_cells.proofs.StoreSteps.{taken_le}
 use Rattle.pg_cells.proofs.store.Store.taken.Goals as goal
 
 pub returns-clause-small : goal.returns-clause-small
@@ -13,4 +8,3 @@ returns-clause-small g c =
     let small = c.self.invariant.small in
     let count = c.self.invariant.count in
     omega arith
-
