@@ -1,0 +1,103 @@
+-- One sign more of a family is collected.
+use Rattle.std.proofs.Common.{◌≡◌, ◌≢◌, ℕ, ◌+◌, inl, inr, Bool, true, false, cond, nat_eq, List, [], ◌∷◌, ◌++◌, filter, length, take, get_or, None, Some, suc, zero, refl, sym, ◌∙◌, ap, subst, arith, add-zero}
+use Rattle.std.proofs.lemmas.Bool.{cases_lt, eq-eqb, ne_eqb}
+use Rattle.std.proofs.lemmas.List.{append-nil, length_push, map_push, take-append-le, take_at, get_or_append_left, get_or_push, length-map}
+use Rattle.std.specs.List.{range_with_len}
+use Rattle.pg_cells.specs.declared.fit.Slot.{Slot}
+use Rattle.pg_cells.specs.Lists.{Row, sign_at}
+use Rattle.pg_cells.specs.Fit.{signs_of, slot_of}
+use Rattle.pg_cells.specs.Moves.{AreDistinct, Tells, Collected, Collects}
+use Rattle.pg_cells.proofs.Slots.{slot_push, slot_back}
+
+-- the last number of a range passes, or it does not
+filter_last : (t : ℕ → Bool) (a n : ℕ) → filter t (range_with_len a (suc n)) ≡ filter t (range_with_len a n) ++ cond (t (a + n)) ((a + n) ∷ []) []
+filter_last t a zero = ap (λ x. cond (t x) (x ∷ []) []) (sym (add-zero a))
+filter_last t a (suc n) =
+    let rest = filter_last t (a + 1) n in
+    let last : (a + 1) + n ≡ a + suc n = omega arith in
+    let whole : filter t (range_with_len (a + 1) (suc n)) ≡ filter t (range_with_len (a + 1) n) ++ cond (t (a + suc n)) ((a + suc n) ∷ []) [] =
+    rest ∙ ap (λ x. filter t (range_with_len (a + 1) n) ++ cond (t x) (x ∷ []) []) last in
+    ap (λ l. cond (t a) (a ∷ l) l) whole ∙ out (t a) (filter t (range_with_len (a + 1) n)) (cond (t (a + suc n)) ((a + suc n) ∷ []) [])
+  where
+    out : (b : Bool) (xs ys : List ℕ) → cond b (a ∷ (xs ++ ys)) (xs ++ ys) ≡ cond b (a ∷ xs) xs ++ ys
+    out true xs ys = refl
+    out false xs ys = refl
+
+module _ {V : Type 0} (r : Row V) (base : ℕ) where
+  pub collected_none : Collected 0 r base []
+  collected_none = record {
+    signs = refl;
+    told = λ x s e. cc;
+    distinct = λ k lt. absurd (omega arith);
+    late = λ y lt. refl;
+  }
+
+  -- a sign that does not stand
+  collected_less : (m : ℕ) (slots : List (Slot V)) → Collected m r base slots → sign_at r (base + (m + 1)) ≢ m + 1 → Collected (m + 1) r base slots
+  collected_less m slots c off = record {
+    signs =
+        c.signs ∙ sym (append-nil (filter (λ x. nat_eq (sign_at r (base + x)) x) (range_with_len 1 m)))
+        ∙ ap (λ b. filter (λ x. nat_eq (sign_at r (base + x)) x) (range_with_len 1 m) ++ cond b ((1 + m) ∷ []) []) (sym fails)
+        ∙ sym (filter_last (λ x. nat_eq (sign_at r (base + x)) x) 1 m)
+        ∙ ap (λ k. filter (λ x. nat_eq (sign_at r (base + x)) x) (range_with_len 1 k)) more;
+    told = c.told;
+    distinct = c.distinct;
+    late = λ y lt. c.late y (omega arith);
+  }
+    where
+      same : 1 + m ≡ m + 1
+      same = omega arith
+
+      more : suc m ≡ m + 1
+      more = omega arith
+
+      fails : nat_eq (sign_at r (base + (1 + m))) (1 + m) ≡ false
+      fails = ne_eqb (sign_at r (base + (1 + m))) (1 + m) (λ z. off (ap (λ k. sign_at r (base + k)) (sym same) ∙ z ∙ same))
+
+  distinct_push : (m : ℕ) (slots : List (Slot V)) (y : Slot V) → Collected m r base slots → y.sign ≡ m + 1 → AreDistinct (slots ++ y ∷ [])
+  distinct_push m slots y c is k lt = elim (cases_lt k (length slots)) [
+    | inl early ↦
+        let front : take k (slots ++ y ∷ []) ≡ take k slots = take-append-le k slots (y ∷ []) (omega arith) in
+        let sign : get_or (signs_of (slots ++ y ∷ [])) k 0 ≡ get_or (signs_of slots) k 0 =
+        ap (λ l. get_or l k 0) (map_push (λ (z : Slot V). z.sign) slots y) ∙ get_or_append_left (signs_of slots) (y.sign ∷ []) 0 k (omega (arith, length-map slots (λ (z : Slot V). z.sign))) in
+        (λ t. slot_of (front t) (sign t)) ∙ c.distinct k early
+    | inr late ↦
+        let size : length slots ≡ k = omega (arith, length_push slots y) in
+        let front : take k (slots ++ y ∷ []) ≡ slots = take_at slots (y ∷ []) k size in
+        let sign : get_or (signs_of (slots ++ y ∷ [])) k 0 ≡ y.sign =
+        ap (λ l. get_or l k 0) (map_push (λ (z : Slot V). z.sign) slots y) ∙ get_or_push (signs_of slots) y.sign 0 k (length-map slots (λ (z : Slot V). z.sign) ∙ size) in
+        (λ t. slot_of (front t) (sign t)) ∙ c.late y.sign (omega arith)
+  ]
+
+  -- a sign that stands
+  collected_more : (m : ℕ) (slots : List (Slot V)) (y : Slot V) → Collected m r base slots → Tells r base (m + 1) y → y.sign ≡ m + 1 → Collected (m + 1) r base (slots ++ y ∷ [])
+  collected_more m slots y c tells is = record {
+    signs =
+        map_push (λ (z : Slot V). z.sign) slots y ∙ ap (λ k. signs_of slots ++ k ∷ []) (is ∙ sym same) ∙ ap (λ l. l ++ (1 + m) ∷ []) c.signs
+        ∙ ap (λ b. filter (λ x. nat_eq (sign_at r (base + x)) x) (range_with_len 1 m) ++ cond b ((1 + m) ∷ []) []) (sym passes)
+        ∙ sym (filter_last (λ x. nat_eq (sign_at r (base + x)) x) 1 m)
+        ∙ ap (λ k. filter (λ x. nat_eq (sign_at r (base + x)) x) (range_with_len 1 k)) more;
+    told = λ x s e. elim (slot_push slots y x s e) [
+      | inl h ↦ c.told x s h
+      | inr h ↦ subst (λ z. Tells r base z s) (sym (h.1 ∙ is)) (subst (Tells r base (m + 1)) (sym h.2) tells)
+    ];
+    distinct = distinct_push m slots y c is;
+    late = λ z lt.
+        slot_back slots (y ∷ []) z (c.late z (omega arith))
+        ∙ ap (λ b. cond b (Some y) None) (ne_eqb y.sign z (λ e. omega arith));
+  }
+    where
+      same : 1 + m ≡ m + 1
+      same = omega arith
+
+      more : suc m ≡ m + 1
+      more = omega arith
+
+      passes : nat_eq (sign_at r (base + (1 + m))) (1 + m) ≡ true
+      passes = eq-eqb (sign_at r (base + (1 + m))) (1 + m) (ap (λ k. sign_at r (base + k)) same ∙ tells.sign ∙ sym same)
+
+  pub collected_step : (m x k : ℕ) (slots new : List (Slot V)) → x ≡ m + 1 → k ≡ m + 1 → Collected m r base slots → Collects r base x slots new → Collected k r base new
+  collected_step m x k slots new e d c step = elim step [
+    | inl h ↦ subst (λ j. Collected j r base new) (sym d) (subst (Collected (m + 1) r base) (sym h.1) (collected_less m slots c (λ z. h.0 (ap (λ j. sign_at r (base + j)) e ∙ z ∙ sym e))))
+    | inr h ↦ subst (λ j. Collected j r base new) (sym d) (subst (Collected (m + 1) r base) (sym h.3) (collected_more m slots h.0 c (subst (λ j. Tells r base j h.0) e h.1) (h.2 ∙ e)))
+  ]

@@ -1,0 +1,161 @@
+-- The list through the free cells, in the lists of the cells' parts, when a cell is taken, given up or added.
+use Rattle.std.proofs.Common.{◌≡◌, ◌≢◌, ℕ, ◌<◌, ◌≤◌, ◌∷◌, ◌++◌, [], List, inl, inr, refl, sym, ◌∙◌, ap, subst, arith, length, get_or, set, map, zero, suc, false, ◌-◌}
+use Rattle.std.proofs.lemmas.Bool.{cases_eq, cases_lt}
+use Rattle.std.proofs.lemmas.List.{get_or-set_same, get_or-set_other, get_or_past, get_or_default, length-set, length-map, map_push, length_push, set_at}
+use Rattle.pg_cells.specs.declared.cell.Cell.{Cell}
+use Rattle.pg_cells.specs.Lists.{Row, Lists, lists, row_of, child_seen, IsFree, sign_at, before_at, after_at, with_befores, with_afters, with_taken, with_free, with_more}
+use Rattle.pg_cells.specs.Linked.{Linked, AreLinked}
+use Rattle.pg_cells.proofs.LinkedSteps.{Linked-take, Linked-put}
+
+-- the lists of the links are as long as that of the signs
+pub record AreEven {V : Type 0} (ls : Lists V) : Type 0 where
+  pub befores : length ls.befores ≡ length ls.row.signs
+  pub afters : length ls.afters ≡ length ls.row.signs
+
+pub lists_even : {V : Type 0} (cells : List (Cell V)) → AreEven (lists cells)
+lists_even cells = record {
+  befores = length-map cells (λ c. c.before) ∙ sym (length-map cells (λ c. c.sign));
+  afters = length-map cells (λ c. c.link) ∙ sym (length-map cells (λ c. c.sign));
+}
+
+module _ {V : Type 0} where
+  -- a free cell is in the row
+  pub free_within : (r : Row V) (i : ℕ) → IsFree r i → i < length r.signs
+  free_within r i free = elim (cases_lt i (length r.signs)) [
+    | inl lt ↦ lt
+    | inr le ↦ absurd (let past = get_or_past r.signs i 1 le in omega arith)
+  ]
+
+  -- and so is a taken one
+  pub taken_within : (r : Row V) (i : ℕ) → sign_at r i ≢ 0 → i < length r.signs
+  taken_within r i taken = elim (cases_lt i (length r.signs)) [
+    | inl lt ↦ lt
+    | inr le ↦ absurd (taken (get_or_past r.signs i 0 le))
+  ]
+
+  -- a taken one is not free
+  pub not_free : (r : Row V) (i : ℕ) → sign_at r i ≢ 0 → IsFree r i → ⊥
+  not_free r i taken free = taken (get_or_default r.signs i 0 1 (free_within r i free) ∙ free)
+
+  -- what a cell's taking leaves, where b and a are the free cells before and after it
+  abbrev pub lists_taken : Lists V → ℕ → ℕ → ℕ → ℕ → V → ℕ → Lists V
+  lists_taken ls i b a sign value child = record {
+    row = with_taken ls.row i sign value child;
+    befores = set ls.befores a b;
+    afters = set (set ls.afters b a) i child;
+  }
+
+  pub linked_taken : (ls : Lists V) (i sign : ℕ) (value : V) (child : ℕ) → AreLinked ls → AreEven ls → 0 < i → IsFree ls.row i → sign ≢ 0
+      → AreLinked (lists_taken ls i (before_at ls i) (after_at ls i) sign value child)
+  linked_taken ls i sign value child old even positive free taken =
+      let S : ℕ → ℕ = λ j. get_or ls.row.signs j 1 in
+      let B : ℕ → ℕ = λ j. get_or ls.befores j 0 in
+      let A : ℕ → ℕ = λ j. get_or ls.afters j 0 in
+      let before = old.before_ok i positive free in
+      let in_i : i < length ls.row.signs = free_within ls.row i free in
+      let in_b : B i < length ls.afters = let h : B i < i = before.0 in omega (arith, even.afters) in
+      let in_a : A i < length ls.befores = elim (cases_eq (A i) 0) [
+        | inl z ↦ omega (arith, even.befores)
+        | inr up ↦ let h = free_within ls.row (A i) (old.after_ok i free up).1 in omega (arith, even.befores)
+      ] in
+      Linked-take S B A _ _ _ i old positive free (λ z. taken (sym (get_or-set_same ls.row.signs i sign 1 in_i) ∙ z))
+      (λ j n. get_or-set_other ls.row.signs i j sign 1 n)
+      (get_or-set_other (set ls.afters (B i) (A i)) i (B i) child 0 (λ z. let h : B i < i = before.0 in omega arith) ∙ get_or-set_same ls.afters (B i) (A i) 0 in_b)
+      (λ j n m. get_or-set_other (set ls.afters (B i) (A i)) i j child 0 m ∙ get_or-set_other ls.afters (B i) j (A i) 0 n)
+      (get_or-set_same ls.befores (A i) (B i) 0 in_a)
+      (λ j n. get_or-set_other ls.befores (A i) j (B i) 0 n)
+
+  -- what a cell's giving up leaves, where b and a are the free cells before and after it
+  abbrev pub lists_freed : Lists V → ℕ → ℕ → ℕ → Lists V
+  lists_freed ls i b a = record {
+    row = with_free ls.row i;
+    befores = set (set ls.befores a i) i b;
+    afters = set (set ls.afters b i) i a;
+  }
+
+  pub linked_freed : (ls : Lists V) (i b : ℕ) → AreLinked ls → AreEven ls → i < length ls.row.signs → sign_at ls.row i ≢ 0 → b < i → IsFree ls.row b
+      → ((k : ℕ) → k < i → IsFree ls.row k → k ≤ b) → AreLinked (lists_freed ls i b (after_at ls b))
+  linked_freed ls i b old even in_i taken below behind nearest =
+      let S : ℕ → ℕ = λ j. get_or ls.row.signs j 1 in
+      let B : ℕ → ℕ = λ j. get_or ls.befores j 0 in
+      let A : ℕ → ℕ = λ j. get_or ls.afters j 0 in
+      let a : ℕ = A b in
+      let in_b : b < length ls.afters = omega (arith, even.afters) in
+      let in_a : A b < length ls.befores = elim (cases_eq (A b) 0) [
+        | inl z ↦ omega (arith, even.befores)
+        | inr up ↦ let h = free_within ls.row (A b) (old.after_ok b behind up).1 in omega (arith, even.befores)
+      ] in
+      let not_a : A b ≢ i = λ z. elim (cases_eq (A b) 0) [
+        | inl y ↦ omega arith
+        | inr up ↦ not_free ls.row i taken (subst (λ j. S j ≡ 0) z (old.after_ok b behind up).1)
+      ] in
+      Linked-put S B A _ _ _ i b old (not_free ls.row i taken) (get_or-set_same ls.row.signs i 0 1 in_i) below behind nearest
+      (λ j n. get_or-set_other ls.row.signs i j 0 1 n)
+      (get_or-set_other (set ls.afters b i) i b (A b) 0 (λ z. omega arith) ∙ get_or-set_same ls.afters b i 0 in_b)
+      (get_or-set_same (set ls.afters b i) i (A b) 0 (omega (arith, length-set ls.afters b i, even.afters)))
+      (λ j n m. get_or-set_other (set ls.afters b i) i j (A b) 0 m ∙ get_or-set_other ls.afters b j i 0 n)
+      (get_or-set_same (set ls.befores (A b) i) i b 0 (omega (arith, length-set ls.befores (A b) i, even.befores)))
+      (get_or-set_other (set ls.befores (A b) i) i (A b) b 0 not_a ∙ get_or-set_same ls.befores (A b) i 0 in_a)
+      (λ j n m. get_or-set_other (set ls.befores (A b) i) i j b 0 m ∙ get_or-set_other ls.befores (A b) j i 0 n)
+
+  -- the writes of a cell's taking, one after another
+  pub after_taking : (l0 l1 l2 l3 : Lists V) (i b a sign : ℕ) (value : V) (child : ℕ) → b ≡ before_at l0 i → a ≡ after_at l0 i
+      → l1 ≡ with_afters l0 b a → l2 ≡ with_befores l1 a b → l3 ≡ record l2 { row = with_taken l2.row i sign value child; afters = set l2.afters i child }
+      → AreLinked (lists_taken l0 i (before_at l0 i) (after_at l0 i) sign value child) → AreLinked l3
+  after_taking l0 l1 l2 l3 i b a sign value child eb ea e1 e2 e3 linked =
+      let last : Lists V → Lists V = λ ls. record ls { row = with_taken ls.row i sign value child; afters = set ls.afters i child } in
+      let whole : l3 ≡ lists_taken l0 i (before_at l0 i) (after_at l0 i) sign value child =
+      e3 ∙ ap last e2 ∙ ap (λ ls. last (with_befores ls a b)) e1 ∙ (λ t. lists_taken l0 i (eb t) (ea t) sign value child) in
+      subst (λ ls. AreLinked ls) (sym whole) linked
+
+  -- the writes of a cell's giving up, one after another
+  pub after_freeing : (l0 l1 l2 l3 : Lists V) (i b a : ℕ) → a ≡ after_at l0 b
+      → l1 ≡ with_afters l0 b i → l2 ≡ with_befores l1 a i → l3 ≡ record { row = with_free l2.row i; befores = set l2.befores i b; afters = set l2.afters i a }
+      → AreLinked (lists_freed l0 i b (after_at l0 b)) → AreLinked l3
+  after_freeing l0 l1 l2 l3 i b a ea e1 e2 e3 linked =
+      let last : Lists V → Lists V = λ ls. record { row = with_free ls.row i; befores = set ls.befores i b; afters = set ls.afters i a } in
+      let whole : l3 ≡ lists_freed l0 i b (after_at l0 b) =
+      e3 ∙ ap last e2 ∙ ap (λ ls. last (with_befores ls a i)) e1 ∙ (λ t. lists_freed l0 i b (ea t)) in
+      subst (λ ls. AreLinked ls) (sym whole) linked
+
+-- the default, put at the end, is not seen
+get_or_push_default : {A : Type 0} (xs : List A) (d : A) (j : ℕ) → get_or (xs ++ d ∷ []) j d ≡ get_or xs j d
+get_or_push_default [] d zero = refl
+get_or_push_default [] d (suc j) = refl
+get_or_push_default (x ∷ xs) d zero = refl
+get_or_push_default (x ∷ xs) d (suc j) = get_or_push_default xs d j
+
+get_or_map_push : {A : Type 0} (f : A → ℕ) (xs : List A) (c : A) (d : ℕ) (j : ℕ) → f c ≡ d → get_or (map f (xs ++ c ∷ [])) j d ≡ get_or (map f xs) j d
+get_or_map_push f xs c d j e = ap (λ l. get_or l j d) (map_push f xs c ∙ ap (λ y. map f xs ++ y ∷ []) e) ∙ get_or_push_default (map f xs) d j
+
+-- a taken cell at the end changes no link
+pub linked_push : {V : Type 0} (cells new : List (Cell V)) (c : Cell V) → new ≡ cells ++ c ∷ [] → c.sign ≡ 1 → c.before ≡ 0 → c.link ≡ 0 → AreLinked (lists cells) → AreLinked (lists new)
+linked_push cells new c e sign before link old =
+    let S = λ (j : ℕ). get_or_map_push (λ x. x.sign) cells c 1 j sign in
+    let B = λ (j : ℕ). get_or_map_push (λ x. x.before) cells c 0 j before in
+    let A = λ (j : ℕ). get_or_map_push (λ x. x.link) cells c 0 j link in
+    let whole : ◌≡◌ {A = (ℕ → ℕ) × (ℕ → ℕ) × (ℕ → ℕ)} ((λ j. get_or (map (λ x. x.sign) cells) j 1), (λ j. get_or (map (λ x. x.before) cells) j 0), (λ j. get_or (map (λ x. x.link) cells) j 0))
+    ((λ j. get_or (map (λ x. x.sign) (cells ++ c ∷ [])) j 1), (λ j. get_or (map (λ x. x.before) (cells ++ c ∷ [])) j 0), (λ j. get_or (map (λ x. x.link) (cells ++ c ∷ [])) j 0)) =
+    λ t. ((λ j. sym (S j) t), (λ j. sym (B j) t), (λ j. sym (A j) t)) in
+    subst (λ l. AreLinked (lists l)) (sym e) (subst (λ (f : (ℕ → ℕ) × (ℕ → ℕ) × (ℕ → ℕ)). Linked f.0 f.1 f.2) whole old)
+
+set_push : {A : Type 0} (xs : List A) (x y : A) (i : ℕ) → length xs ≡ i → set (xs ++ x ∷ []) i y ≡ xs ++ y ∷ []
+set_push xs x y i e = set_at xs x [] y i e
+
+-- a taken cell at the end that is given up is a free cell at the end
+pub row_push : {V : Type 0} (cells new : List (Cell V)) (c : Cell V) (r : Row V) → new ≡ cells ++ c ∷ [] → c.sign ≡ 1 → c.link ≡ 0 → c.is_base ≡ false
+    → r ≡ with_free (row_of new) (length new - 1) → r ≡ with_more (row_of cells) c.value
+row_push {V = V} cells new c r e sign link base freed =
+    let n : length (cells ++ c ∷ []) - 1 ≡ length cells = omega (arith, length_push cells c) in
+    freed ∙ ap (λ l. with_free (row_of l) (length l - 1)) e ∙ ap (with_free (row_of (cells ++ c ∷ []))) n ∙ (λ t. record {
+      signs = (ap (λ l. set l (length cells) 0) (map_push (λ (x : Cell V). x.sign) cells c) ∙ set_push (map (λ x. x.sign) cells) c.sign 0 (length cells) (length-map cells (λ x. x.sign))) t;
+      children = (ap (λ l. set l (length cells) 0) (map_push child_seen cells c) ∙ set_push (map child_seen cells) (child_seen c) 0 (length cells) (length-map cells child_seen)) t;
+      values = map_push (λ (x : Cell V). x.value) cells c t;
+      bases = (map_push (λ (x : Cell V). x.is_base) cells c ∙ ap (λ b. map (λ (x : Cell V). x.is_base) cells ++ b ∷ []) base) t;
+    })
+
+-- a free cell stays free where its sign stays
+pub free_kept : {V : Type 0} (old new : Row V) (i : ℕ) → length new.signs ≡ length old.signs → sign_at new i ≡ sign_at old i → IsFree old i → IsFree new i
+free_kept old new i size same free =
+    let lt = free_within old i free in
+    get_or_default new.signs i 1 0 (omega arith) ∙ same ∙ get_or_default old.signs i 0 1 lt ∙ free

@@ -1,0 +1,22 @@
+use Rattle.std.proofs.Common.{◌+◌, take, sym, subst, ◌∙◌, arith}
+use Rattle.pg_cells.specs.Moves.{Gives}
+use Rattle.pg_cells.proofs.Slots.{slot_here, outside_here}
+use Rattle.pg_cells.proofs.MoveSteps.{gives_more}
+use Rattle.pg_cells.proofs.moves.give_up.Goals as goal
+
+pub free-requires-clause-cell : goal.free-requires-clause-cell
+free-requires-clause-cell g c =
+    let here = slot_here c.args.slots.now c.loop-slot.slot-index c.slot-item.result c.slot-item.is c.loop-slot-test.true c.requires.distinct in
+    let h = c.requires.taken c.slot-item.result.sign c.slot-item.result here.1 in omega (arith, h.0)
+
+pub free-requires-clause-taken : goal.free-requires-clause-taken
+free-requires-clause-taken g c z =
+    let here = slot_here c.args.slots.now c.loop-slot.slot-index c.slot-item.result c.slot-item.is c.loop-slot-test.true c.requires.distinct in
+    let h = c.requires.taken c.slot-item.result.sign c.slot-item.result here.1 in
+    h.1 (sym (c.loop-slot.invariant.others.signs (c.args.base + c.slot-item.result.sign) (outside_here c.args.base (take c.loop-slot.slot-index c.args.slots.now) c.slot-item.result.sign here.0)) ∙ z)
+
+pub loop-slot-preserved : goal.loop-slot-preserved
+loop-slot-preserved g c =
+    let here = slot_here c.args.slots.now c.loop-slot.slot-index c.slot-item.result c.slot-item.is c.loop-slot-test.true c.requires.distinct in
+    subst (Gives c.args.store.now c.free.new.self c.args.base) (sym here.2)
+    (gives_more c.args.store.now c.loop-slot.store c.free.new.self c.args.base (take c.loop-slot.slot-index c.args.slots.now) c.slot-item.result here.0 c.loop-slot.invariant c.free.ensures)

@@ -1,0 +1,10 @@
+use Rattle.std.proofs.Common.{◌≡◌, ℕ, ◌<◌, false, length}
+use Rattle.pg_cells.specs.Lists.{sign_at, base_at}
+use Rattle.pg_cells.proofs.root.clear.Given as goal
+
+abbrev pub invariant-loop-cell : goal.invariant-loop-cell
+invariant-loop-cell g l = record {
+  signs : (i : ℕ) → i < l.cell → sign_at l.store i ≡ 0;
+  bases : (b : ℕ) → b < l.cell → base_at l.store b ≡ false;
+  size : length l.store.signs ≡ length l.initial.store.signs;
+}

@@ -1,0 +1,37 @@
+use Rattle.std.proofs.Common.{◌≡◌, ◌≢◌, ◌<◌, ◌≤◌, ℕ, sym, ap, subst, ◌∙◌, length, arith, take, drop, ◌++◌}
+use Rattle.std.proofs.lemmas.List.{length-map}
+use Rattle.pg_cells.specs.Lists.{row_of, sign_at, with_free}
+use Rattle.pg_cells.proofs.LinkedLists.{taken_within}
+use Rattle.pg_cells.specs.Writes.{Frees}
+use Rattle.pg_cells.proofs.RowWrites.{row_frees}
+use Rattle.pg_cells.proofs.StoreSteps.{given_back, kept_freed, some_taken}
+use Rattle.pg_cells.proofs.store.Store.free.Goals as goal
+
+pub invariant_of-self : goal.invariant_of-self
+invariant_of-self g c =
+    let size : length c.free_cell.new.cells ≡ c.self.inside.cells.len = omega arith in
+    let same : length c.free_cell.new.cells ≡ length c.self.inside.cells.items = omega arith in
+    let back = given_back c.free_cell.new.cells c.self.inside.cells.items c.self.inside.cells.len size in
+    let seen : c.as_slice.result.now ≡ c.free_cell.new.cells = c.as_slice.ensures.value ∙ back in
+    let taken : sign_at (row_of c.self.inside.cells.items) c.args.cell ≢ 0 = λ z. c.requires.taken (subst (λ r. sign_at r c.args.cell ≡ 0) c.self.view_is z) in
+    let within : c.args.cell < length c.self.inside.cells.items = omega (arith, taken_within (row_of c.self.inside.cells.items) c.args.cell taken, length-map c.self.inside.cells.items (λ x. x.sign)) in
+    let r = c.taken_up_to-self-inside.result in
+    let top = c.taken_up_to-self-inside.ensures in
+    rw back
+    (kept_freed c.self.inside.cells.items c.free_cell.new.cells _ _ c.self.invariant same c.args.cell r within taken
+    (c.free_cell.ensures.row ∙ ap (λ cells. with_free (row_of cells) c.args.cell) c.as_mut_slice.ensures.value) c.free_cell.ensures.linked
+    top.below (subst (λ cells. 0 < r → sign_at (row_of cells) r ≢ 0) seen top.used)
+    (subst (λ cells. (k : ℕ) → k ≤ c.self.inside.top → sign_at (row_of cells) k ≢ 0 → k ≤ r) seen top.most))
+
+pub overflow_sub-self : goal.overflow_sub-self
+overflow_sub-self g c =
+    some_taken c.self.inside.cells.items c.self.inside.top c.self.inside.taken c.args.cell c.self.invariant
+    (λ z. c.requires.taken (subst (λ r. sign_at r c.args.cell ≡ 0) c.self.view_is z))
+
+pub returns : goal.returns
+returns g c =
+    let size : length c.free_cell.new.cells ≡ c.self.inside.cells.len = omega arith in
+    let left : row_of (take c.self.inside.cells.len (c.free_cell.new.cells ++ drop (length c.free_cell.new.cells) c.self.inside.cells.items)) ≡ with_free (row_of c.self.inside.cells.items) c.args.cell =
+    ap row_of (given_back c.free_cell.new.cells c.self.inside.cells.items c.self.inside.cells.len size) ∙ c.free_cell.ensures.row ∙ ap (λ cells. with_free (row_of cells) c.args.cell) c.as_mut_slice.ensures.value in
+    subst (λ r. Frees r (row_of (take c.self.inside.cells.len (c.free_cell.new.cells ++ drop (length c.free_cell.new.cells) c.self.inside.cells.items))) c.args.cell) c.self.view_is
+    (subst (λ r. Frees (row_of c.self.inside.cells.items) r c.args.cell) (sym left) (row_frees c.self.inside.cells.items c.args.cell (λ z. c.requires.taken (subst (λ r. sign_at r c.args.cell ≡ 0) c.self.view_is z))))

@@ -1,0 +1,35 @@
+use Rattle.std.proofs.Common.{◌≡◌, ◌<◌, sym, ap, subst, ◌∙◌, length, arith, take, drop, ◌++◌}
+use Rattle.std.proofs.lemmas.List.{length-map}
+use Rattle.pg_cells.specs.Lists.{row_of, IsFree, with_taken}
+use Rattle.pg_cells.proofs.LinkedLists.{free_within}
+use Rattle.pg_cells.specs.Writes.{Takes}
+use Rattle.pg_cells.proofs.RowWrites.{row_takes}
+use Rattle.pg_cells.proofs.StoreSteps.{given_back, taken_le, kept_taken}
+use Rattle.pg_cells.proofs.store.Store.take.Goals as goal
+
+pub overflow_add-self : goal.overflow_add-self
+overflow_add-self g c =
+    let le = taken_le c.self.inside.cells.items in
+    let small = c.self.invariant.small in
+    let count = c.self.invariant.count in
+    omega arith
+
+pub invariant_of-self : goal.invariant_of-self
+invariant_of-self g c =
+    let size : length c.take_cell.new.cells ≡ c.self.inside.cells.len = omega arith in
+    let same : length c.take_cell.new.cells ≡ length c.self.inside.cells.items = omega arith in
+    let value = c.as_mut_slice.ensures.value in
+    let free : IsFree (row_of c.self.inside.cells.items) c.args.cell = subst (λ r. IsFree r c.args.cell) (sym c.self.view_is) c.requires.free in
+    let within : c.args.cell < length c.self.inside.cells.items = omega (arith, free_within (row_of c.self.inside.cells.items) c.args.cell free, length-map c.self.inside.cells.items (λ x. x.sign)) in
+    let max = c.max-self-inside.ensures in
+    rw (given_back c.take_cell.new.cells c.self.inside.cells.items c.self.inside.cells.len size)
+    (kept_taken c.self.inside.cells.items c.take_cell.new.cells _ _ c.self.invariant same c.args.cell c.args.slot.sign c.args.slot.value c.args.slot.child _ within free c.requires.sign
+    (c.take_cell.ensures.row ∙ ap (λ cells. with_taken (row_of cells) c.args.cell c.args.slot.sign c.args.slot.value c.args.slot.child) value) c.take_cell.ensures.linked max)
+
+pub returns : goal.returns
+returns g c =
+    let size : length c.take_cell.new.cells ≡ c.self.inside.cells.len = omega arith in
+    let left : row_of (take c.self.inside.cells.len (c.take_cell.new.cells ++ drop (length c.take_cell.new.cells) c.self.inside.cells.items)) ≡ with_taken (row_of c.self.inside.cells.items) c.args.cell c.args.slot.sign c.args.slot.value c.args.slot.child =
+    ap row_of (given_back c.take_cell.new.cells c.self.inside.cells.items c.self.inside.cells.len size) ∙ c.take_cell.ensures.row ∙ ap (λ cells. with_taken (row_of cells) c.args.cell c.args.slot.sign c.args.slot.value c.args.slot.child) c.as_mut_slice.ensures.value in
+    subst (λ r. Takes r (row_of (take c.self.inside.cells.len (c.take_cell.new.cells ++ drop (length c.take_cell.new.cells) c.self.inside.cells.items))) c.args.cell c.args.slot.sign c.args.slot.value c.args.slot.child) c.self.view_is
+    (subst (λ r. Takes (row_of c.self.inside.cells.items) r c.args.cell c.args.slot.sign c.args.slot.value c.args.slot.child) (sym left) (row_takes c.self.inside.cells.items c.args.cell c.args.slot.sign c.args.slot.value c.args.slot.child (subst (λ r. IsFree r c.args.cell) (sym c.self.view_is) c.requires.free) c.requires.sign))

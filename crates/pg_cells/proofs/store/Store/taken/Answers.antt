@@ -1,0 +1,10 @@
+use Rattle.std.proofs.Common.{arith}
+use Rattle.pg_cells.proofs.StoreSteps.{taken_le}
+use Rattle.pg_cells.proofs.store.Store.taken.Goals as goal
+
+pub returns-clause-small : goal.returns-clause-small
+returns-clause-small g c =
+    let le = taken_le c.self.inside.cells.items in
+    let small = c.self.invariant.small in
+    let count = c.self.invariant.count in
+    omega arith

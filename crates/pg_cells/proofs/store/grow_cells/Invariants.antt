@@ -1,0 +1,15 @@
+use Rattle.std.proofs.Common.{◌<◌, ◌^◌, ◌-◌, length}
+use Rattle.pg_cells.specs.Lists.{lists, row_of}
+use Rattle.pg_cells.specs.Linked.{AreLinked}
+use Rattle.pg_cells.specs.Store.{Extends}
+use Rattle.pg_cells.proofs.store.grow_cells.Given as goal
+
+abbrev pub invariant-grow : goal.invariant-grow
+invariant-grow g l = record {
+  linked : AreLinked (lists l.cells.items);
+  small : length l.cells.items < 2 ^ 32;
+  extends : Extends (row_of l.initial.cells.items) (row_of l.cells.items);
+}
+
+abbrev pub decreases-grow : goal.decreases-grow
+decreases-grow g l = l.count - length l.cells.items

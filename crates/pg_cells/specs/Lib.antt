@@ -1,0 +1,10 @@
+pub mod Fit
+pub mod Held
+pub mod Laid
+pub mod Linked
+pub mod Lists
+pub mod Moves
+pub mod OneTrie
+pub mod Root
+pub mod Store
+pub mod Writes

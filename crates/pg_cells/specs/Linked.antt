@@ -1,0 +1,17 @@
+-- The list through the free cells: each free cell once, in rising order. Cell 0 is always free and is the head of the list;
+-- the cell before it is the last one, and 0 ends the list.
+use Rattle.std.specs.Prelude.{◌≡◌, ◌≢◌, ℕ, ◌<◌, ◌≤◌, get_or}
+use Rattle.pg_cells.specs.Lists.{Lists}
+
+-- S is 0 at the free cells, and B and A give the free cell before and after
+pub record Linked (S B A : ℕ → ℕ) : Type 0 where
+  pub head : S 0 ≡ 0
+  pub after_ok : (i : ℕ) → S i ≡ 0 → A i ≢ 0 → (i < A i) × (S (A i) ≡ 0)
+  pub after_least : (i j : ℕ) → S i ≡ 0 → i < j → S j ≡ 0 → (0 < A i) × (A i ≤ j)
+  pub before_ok : (i : ℕ) → 0 < i → S i ≡ 0 → (B i < i) × (S (B i) ≡ 0)
+  pub before_most : (i j : ℕ) → 0 < i → S i ≡ 0 → j < i → S j ≡ 0 → j ≤ B i
+  pub last_ok : S (B 0) ≡ 0
+  pub last_most : (j : ℕ) → S j ≡ 0 → j ≤ B 0
+
+abbrev pub AreLinked : {V : Type 0} → Lists V → Type 0
+AreLinked ls = Linked (λ j. get_or ls.row.signs j 1) (λ j. get_or ls.befores j 0) (λ j. get_or ls.afters j 0)

@@ -1,0 +1,101 @@
+-- What a family's cells leave when they are collected, given up and put at another base.
+use Rattle.std.specs.Prelude.{◌≡◌, ◌≢◌, ℕ, ◌+◌, ◌-◌, ◌<◌, ◌≤◌, ◌⊎◌, max, true, false, nat_le, if◌then◌else◌, List, [], ◌∷◌, ◌++◌, length, take, get_or, slice_get, None, Some}
+use Rattle.pg_cells.specs.declared.fit.Slot.{Slot}
+use Rattle.pg_cells.specs.Lists.{Row, sign_at, child_at, base_at}
+use Rattle.pg_types.specs.Placement.{few_signs, far_below}
+use Rattle.pg_cells.specs.Store.{taken_in, IsTop}
+use Rattle.pg_cells.specs.Writes.{Takes, SetsBase, SetsChild}
+use Rattle.pg_cells.specs.Fit.{signs_of, slot_of, fits_row, IsLeast}
+use Rattle.pg_cells.specs.Laid.{standing}
+
+-- the lowest base that is tried for so many signs, where t is the top
+abbrev pub lowest_from : ℕ → ℕ → ℕ → ℕ
+lowest_from n count t = if nat_le count few_signs then 1 else max 1 (t - max far_below n)
+
+module _ {V : Type 0} where
+  -- no two slots have one sign
+  abbrev pub AreDistinct : List (Slot V) → Type 0
+  AreDistinct slots = (k : ℕ) → k < length slots → slot_of (take k slots) (get_or (signs_of slots) k 0) ≡ None
+
+  -- the cell is none of those that the slots have at the base
+  abbrev pub Outside : ℕ → List (Slot V) → ℕ → Type 0
+  Outside base slots i = (x : ℕ) → i ≡ base + x → slot_of slots x ≡ None
+
+  -- cells outside of the slots', and all flags, are as before
+  pub record Others (old new : Row V) (base : ℕ) (slots : List (Slot V)) : Type 0 where
+    pub signs : (i : ℕ) → Outside base slots i → sign_at new i ≡ sign_at old i
+    pub children : (i : ℕ) → Outside base slots i → child_at new i ≡ child_at old i
+    pub values : (i : ℕ) → Outside base slots i → slice_get new.values i ≡ slice_get old.values i
+    pub bases : (b : ℕ) → base_at new b ≡ base_at old b
+    pub size : length new.signs ≡ length old.signs
+
+  -- the cells of the slots are given up
+  pub record Gives (old new : Row V) (base : ℕ) (slots : List (Slot V)) : Type 0 where
+    pub others : Others old new base slots
+    pub free : (x : ℕ) (slot : Slot V) → slot_of slots x ≡ Some slot → sign_at new (base + x) ≡ 0
+    pub count : taken_in new + length slots ≡ taken_in old
+
+  -- the slots stand in their cells at the base
+  pub record Puts (old new : Row V) (base : ℕ) (slots : List (Slot V)) : Type 0 where
+    pub others : Others old new base slots
+    pub at : (x : ℕ) (slot : Slot V) → slot_of slots x ≡ Some slot
+        → (sign_at new (base + x) ≡ x) × (child_at new (base + x) ≡ slot.child) × (slice_get new.values (base + x) ≡ Some slot.value)
+    pub count : taken_in new ≡ taken_in old + length slots
+
+  -- what a slot tells of the cell of the sign x at the base
+  pub record Tells (r : Row V) (base x : ℕ) (slot : Slot V) : Type 0 where
+    pub sign : sign_at r (base + x) ≡ x
+    pub child : slot.child ≡ child_at r (base + x)
+    pub value : slice_get r.values (base + x) ≡ Some slot.value
+
+  -- the slots are those of the family at the base, up to the sign n
+  pub record Collected (n : ℕ) (r : Row V) (base : ℕ) (slots : List (Slot V)) : Type 0 where
+    pub signs : signs_of slots ≡ standing n r base
+    pub told : (x : ℕ) (slot : Slot V) → slot_of slots x ≡ Some slot → Tells r base x slot
+    pub distinct : AreDistinct slots
+    pub late : (y : ℕ) → n < y → slot_of slots y ≡ None
+
+  -- the slot of the cell of the sign x is added, where the sign stands at the base
+  abbrev pub Collects : Row V → ℕ → ℕ → List (Slot V) → List (Slot V) → Type 0
+  Collects r base x old new =
+      ((sign_at r (base + x) ≢ x) × (new ≡ old)) ⊎ ((slot : Slot V) × (Tells r base x slot) × (slot.sign ≡ x) × (new ≡ old ++ slot ∷ []))
+
+  -- the base of a family is dropped, where there is one
+  abbrev pub Drops : Row V → Row V → ℕ → Type 0
+  Drops old new was = ((was ≡ 0) × (new ≡ old)) ⊎ ((0 < was) × (SetsBase old new was false))
+
+  -- what lets a family be settled: where its slots stand, that there is room past the last cell, and that each base has a cell
+  pub record CanSettle (n : ℕ) (r : Row V) (was : ℕ) (slots : List (Slot V)) (slot : Slot V) (parent : ℕ) : Type 0 where
+    pub distinct : AreDistinct slots
+    pub stand : (x : ℕ) (k : Slot V) → slot_of slots x ≡ Some k → (0 < x) × (x ≤ n) × (sign_at r (was + x) ≢ 0) × (k.child < length r.signs)
+    pub new : slot_of slots slot.sign ≡ None
+    pub sign : (0 < slot.sign) × (slot.sign ≤ n)
+    pub child : slot.child ≡ 0
+    pub parent_taken : sign_at r parent ≢ 0
+    pub parent_other : Outside was slots parent
+    pub room : (i : ℕ) → sign_at r i ≢ 0 → i + n + 1 < length r.signs
+    pub rooted : (b : ℕ) → base_at r b ≡ true → b ≢ was → 0 < b → (y : ℕ) × (0 < y) × (sign_at r (b + y) ≢ 0) × (Outside was slots (b + y))
+
+  -- a family gave up its cells and its base, and was put with one sign more at the least base
+  pub record Moved (n : ℕ) (old new : Row V) (was base : ℕ) (slots : List (Slot V)) (slot : Slot V) (parent : ℕ) : Type 0 where
+    pub gave : Row V
+    pub dropped : Row V
+    pub settled : Row V
+    pub took : Row V
+    pub flagged : Row V
+    pub gives : Gives old gave was slots
+    pub drops : Drops gave dropped was
+    pub top : ℕ
+    pub is_top : IsTop dropped.signs top
+    pub least : IsLeast (fits_row dropped (slot.sign ∷ signs_of slots)) (lowest_from n (length slots + 1) top) base
+    pub near : base ≤ max 1 top
+    pub puts : Puts dropped settled base slots
+    pub takes : Takes settled took (base + slot.sign) slot.sign slot.value slot.child
+    pub flags : SetsBase took flagged base true
+    pub links : SetsChild flagged new parent base
+
+  -- the family at the base is taken away from its parent, where no sign stands there
+  abbrev pub Prunes : ℕ → Row V → Row V → ℕ → ℕ → Type 0
+  Prunes n old new base parent =
+      ((standing n old base ≢ []) × (new ≡ old))
+      ⊎ ((mid : Row V) × (standing n old base ≡ []) × (SetsChild old mid parent 0) × (SetsBase mid new base false))

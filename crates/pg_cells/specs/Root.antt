@@ -1,0 +1,30 @@
+-- The root of a table.
+use Rattle.std.specs.Prelude.{◌≡◌, ◌≢◌, ℕ, ◌+◌, ◌<◌, ◌≤◌, false, [], ◌∷◌, map, length, slice_get, Some}
+use Rattle.std.specs.List.{range_with_len}
+use Rattle.pg_types.specs.Placement.{root}
+use Rattle.pg_cells.specs.Lists.{Row, sign_at, child_at, base_at}
+use Rattle.pg_cells.specs.Store.{taken_in}
+use Rattle.pg_cells.specs.Held.{Held}
+
+-- the root family alone, each value blank
+abbrev pub root_held : {V : Type 0} → ℕ → V → Held V
+root_held n blank = record { signs = n; families = root n; values = map (λ x. (x ∷ [], blank)) (range_with_len 1 n) }
+
+module _ {V : Type 0} where
+  -- the signs from 1 on and below k stand in their own cells, and nothing else is taken
+  pub record IsPlanted (k : ℕ) (blank : V) (r : Row V) : Type 0 where
+    pub stand : (i : ℕ) → 0 < i → i < k → sign_at r i ≡ i
+    pub free : (i : ℕ) → k ≤ i → sign_at r i ≡ 0
+    pub zero_free : sign_at r 0 ≡ 0
+    pub children : (i : ℕ) → child_at r i ≡ 0
+    pub values : (i : ℕ) → 0 < i → i < k → slice_get r.values i ≡ Some blank
+    pub bases : (b : ℕ) → base_at r b ≡ false
+    pub count : taken_in r + 1 ≡ k
+
+  -- a cell is cleared: it is free and no base
+  pub record Clears (old new : Row V) (cell : ℕ) : Type 0 where
+    pub sign_is : sign_at new cell ≡ 0
+    pub signs : (j : ℕ) → j ≢ cell → sign_at new j ≡ sign_at old j
+    pub base_is : base_at new cell ≡ false
+    pub bases : (b : ℕ) → b ≢ cell → base_at new b ≡ base_at old b
+    pub size : length new.signs ≡ length old.signs

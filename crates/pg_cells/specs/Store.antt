@@ -1,0 +1,50 @@
+-- What the store of cells keeps, and how its row is stored and grows.
+use Rattle.std.specs.Prelude.{◌≡◌, ◌≢◌, ℕ, ◌+◌, ◌<◌, ◌≤◌, ◌^◌, min, Bool, List, [], ◌∷◌, length, get_or, slice_get, false, refl}
+use Rattle.std.specs.Coded.{Coded, code_by, coded×, coded_ℕ, coded_bool, coded_list}
+use Rattle.pg_cells.specs.declared.cell.Cell.{Cell}
+use Rattle.pg_cells.specs.Lists.{Row, lists, row_of, sign_at, child_at, base_at}
+use Rattle.pg_cells.specs.Linked.{AreLinked}
+
+abbrev pub row_code : {V : Type 0} → Coded V → Coded (Row V)
+row_code {V} code =
+    code_by
+    (List ℕ × (List ℕ × (List V × List Bool)))
+    (coded× (coded_list coded_ℕ) (coded× (coded_list coded_ℕ) (coded× (coded_list code) (coded_list coded_bool))))
+    (λ r. (r.signs, (r.children, (r.values, r.bases))))
+    (λ p. record { signs = p.0; children = p.1.0; values = p.1.1.0; bases = p.1.1.1 })
+    (λ _. refl)
+
+-- t is the greatest place of a sign that is not 0, or 0 where there is none
+pub record IsTop (signs : List ℕ) (t : ℕ) : Type 0 where
+  pub most : (i : ℕ) → get_or signs i 0 ≢ 0 → i ≤ t
+  pub within : t < length signs
+  pub used : 0 < t → get_or signs t 0 ≢ 0
+
+-- how many are not 0
+abbrev pub how_many : List ℕ → ℕ
+how_many [] = 0
+how_many (x ∷ xs) = min x 1 + how_many xs
+
+module _ {V : Type 0} where
+  -- how many cells are taken
+  abbrev pub taken_in : Row V → ℕ
+  taken_in r = how_many r.signs
+
+  pub record IsKept (cells : List (Cell V)) (top taken : ℕ) : Type 0 where
+    pub linked : AreLinked (lists cells)
+    pub small : length cells < 2 ^ 32
+    pub greatest : IsTop (row_of cells).signs top
+    pub count : taken ≡ taken_in (row_of cells)
+
+  -- the new row is the old one with free cells at its end
+  pub record Extends (old new : Row V) : Type 0 where
+    pub longer : length old.signs ≤ length new.signs
+    pub signs : (i : ℕ) → sign_at new i ≡ sign_at old i
+    pub children : (i : ℕ) → child_at new i ≡ child_at old i
+    pub bases : (i : ℕ) → base_at new i ≡ base_at old i
+    pub values : (i : ℕ) → i < length old.signs → slice_get new.values i ≡ slice_get old.values i
+    pub taken : taken_in new ≡ taken_in old
+
+  -- one free cell
+  abbrev pub one_free : V → Row V
+  one_free value = record { signs = 0 ∷ []; children = 0 ∷ []; values = value ∷ []; bases = false ∷ [] }

@@ -1,0 +1,171 @@
+//! The families of a trie, each with its cells at its base.
+ghost use Rattle.std.specs.Prelude.{◌≡◌, ◌≢◌, ℕ, ◌+◌, ◌<◌, ◌≤◌, List, [], ◌∷◌, ◌++◌, Some, None, IfOk, OnOk, OnErr, ◌==◌, ◌&&◌, ◌^◌, nat_lt, nat_eq, if◌then◌else◌};
+ghost use Rattle.std.specs.FinMap.{find, put};
+ghost use Rattle.std.specs.Cmp.Lexicographic.{slice_cmp};
+ghost use Rattle.std.specs.Ordering.{nat_cmp};
+ghost use Rattle.pg_types.specs.Placement.{taken, top, cell_of, base_of, with_sign, without_sign};
+ghost use Rattle.pg_cells.specs.Held.{Held, without_key};
+ghost use Rattle.pg_cells.specs.Lists.{sign_at};
+ghost use Rattle.pg_cells.specs.OneTrie.{Kept, Kept-prop};
+ghost use Rattle.pg_cells.specs.Root.{root_held};
+
+use crate::fit::Slot;
+use crate::moves::collect;
+use crate::prune::drop_bare;
+use crate::root::{clear, plant};
+use crate::settle::settle;
+use crate::store::Store;
+use pg_types::{SIGNS_MAX, Sign};
+use std::alloc::{AllocError, Global};
+use std::marker::Model;
+
+/// Families of cells, each with a value.
+#[derive(Drop)]
+pub struct Cells<V: Copy> {
+    signs: u16,
+    store: Store<V>,
+    moving: Vec<Slot<V>>,
+    ghost laid: { Kept signs store } by { Kept-prop V.code signs store },
+}
+
+impl<V: Copy> Model for Cells<V> {
+    ghost use Rattle.pg_cells.specs.Held.{Held, held_code};
+    ghost use Rattle.pg_cells.specs.Laid.{AreKept};
+
+    ghost Value = { Held V };
+
+    ghost coded = { held_code V.code };
+
+    ghost view = { λ c. record { signs = c.signs; families = c.laid.0.families; values = c.laid.0.values } };
+
+    ghost invariant = { λ c. AreKept c.signs c.store c.laid.0 };
+}
+
+impl<V: Copy> Cells<V> {
+    /// The root family alone, each value `blank`.
+    pub fn new(alloc: Global, signs: u16, blank: V) -> Result<Cells<V>, AllocError>
+        requires { (1 ≤ signs) × (signs ≤ SIGNS_MAX) }
+        ensures { IfOk result (λ c. c ≡ root_held signs blank) }
+    {
+        let mut store = Store::new(alloc, blank)?;
+        store.grow(signs as usize + 1, blank)?;
+        plant(&mut store, signs, blank);
+        store.set_base(0, true);
+        Ok(Cells {
+            signs,
+            store,
+            moving: Vec::new(alloc),
+        })
+    }
+
+    /// The cell of the sign in the family with the base, or `None` where the family lacks the sign.
+    pub fn find(&self, base: usize, s: Sign) -> Option<usize>
+        requires base { (p : List ℕ) × (base_of self.now.families p ≡ Some base) }
+        requires sign { (1 ≤ s) × (s ≤ self.now.signs) }
+        ensures { (p : List ℕ) → base_of self.now.families p ≡ Some base → result ≡ cell_of self.now.families (p ++ s ∷ []) }
+    {
+        let _cells = self.store.len();
+        let cell = base + s as usize;
+        if self.store.sign(cell) == s {
+            Some(cell)
+        } else {
+            None
+        }
+    }
+
+    /// The base of the family below the cell's string, 0 for none.
+    pub fn child(&self, cell: usize) -> usize
+        requires { (q : List ℕ) × (cell_of self.now.families q ≡ Some cell) }
+        ensures { (q : List ℕ) → cell_of self.now.families q ≡ Some cell → base_of self.now.families q ≡ (if result == 0 then None else Some result) }
+    {
+        self.store.child(cell)
+    }
+
+    /// The value of the cell's string.
+    pub fn value(&self, cell: usize) -> V
+        requires { (q : List ℕ) × (cell_of self.now.families q ≡ Some cell) }
+        ensures { (q : List ℕ) → cell_of self.now.families q ≡ Some cell → find (slice_cmp nat_cmp) q self.now.values ≡ Some result }
+    {
+        self.store.value(cell)
+    }
+
+    /// Adds the sign to the family below the parent's string, with the value, and gives its cell.
+    ///
+    /// A new family is put at the least base that fits; a sign joins a family in place where its cell is free; else the
+    /// family gives up its cells and is put anew. A cell that was told before may then be another's; the parent's is not.
+    pub fn add(&mut self, parent: usize, s: Sign, v: V) -> Result<usize, AllocError>
+        requires parent { (q : List ℕ) × ((cell_of self.old.families q ≡ Some parent) × (cell_of self.old.families (q ++ s ∷ []) ≡ None)) }
+        requires sign { (1 ≤ s) × (s ≤ self.old.signs) }
+        ensures held { (q : List ℕ) → cell_of self.old.families q ≡ Some parent → OnOk result (self.new ≡ record self.old { families = with_sign self.old.signs self.old.families q s; values = put (slice_cmp nat_cmp) (q ++ s ∷ []) v self.old.values }) }
+        ensures cell { (q : List ℕ) → cell_of self.old.families q ≡ Some parent → IfOk result (λ cell. cell_of self.new.families (q ++ s ∷ []) ≡ Some cell) }
+        ensures err { OnErr result (self.new ≡ self.old) }
+    {
+        self.store.make_room(self.signs as usize + 2, v)?;
+        let slot = Slot {
+            value: v,
+            child: 0,
+            sign: s,
+        };
+        let base = self.store.child(parent);
+        let _cells = self.store.len();
+        if joins(&self.store, base, s) {
+            let cell = base + s as usize;
+            self.store.take(cell, slot);
+            return Ok(cell);
+        }
+        collect(&self.store, base, self.signs, &mut self.moving)?;
+        let slots = self.moving.as_slice();
+        let placed = settle(&mut self.store, slots, slot, parent, base, self.signs);
+        Ok(placed + s as usize)
+    }
+
+    /// Takes the sign away from the family below the parent's string. A family without a sign is gone.
+    pub fn remove(&mut self, parent: usize, s: Sign)
+        requires parent { (q : List ℕ) × (cell : ℕ) × ((cell_of self.old.families q ≡ Some parent) × (cell_of self.old.families (q ++ s ∷ []) ≡ Some cell) × (base_of self.old.families (q ++ s ∷ []) ≡ None)) }
+        ensures { (q : List ℕ) → cell_of self.old.families q ≡ Some parent → self.new ≡ record self.old { families = without_sign self.old.families q s; values = without_key (q ++ s ∷ []) self.old.values } }
+    {
+        let _cells = self.store.len();
+        let base = self.store.child(parent);
+        self.store.free(base + s as usize);
+        drop_bare(&mut self.store, base, parent, self.signs);
+    }
+
+    /// Gives the cell's string the value.
+    pub fn set_value(&mut self, cell: usize, v: V)
+        requires { (q : List ℕ) × (cell_of self.old.families q ≡ Some cell) }
+        ensures { (q : List ℕ) → cell_of self.old.families q ≡ Some cell → self.new ≡ record self.old { values = put (slice_cmp nat_cmp) q v self.old.values } }
+    {
+        self.store.set_value(cell, v);
+    }
+
+    /// The root family alone, each value `blank`.
+    pub fn reset(&mut self, blank: V)
+        ensures { self.new ≡ root_held self.old.signs blank }
+    {
+        clear(&mut self.store);
+        plant(&mut self.store, self.signs, blank);
+        self.store.set_base(0, true);
+    }
+
+    /// The greatest taken cell.
+    pub fn top(&self) -> usize
+        ensures { result ≡ top self.now.families }
+    {
+        self.store.top()
+    }
+
+    /// The number of taken cells.
+    pub fn taken(&self) -> usize
+        ensures { result ≡ taken self.now.families }
+    {
+        self.store.taken()
+    }
+}
+
+// Whether a sign may join the family at the base in place.
+fn joins<V: Copy>(store: &Store<V>, base: usize, s: Sign) -> bool
+    requires { base < 2 ^ 32 }
+    ensures { result ≡ (nat_lt 0 base && nat_eq (sign_at store.now (base + s)) 0) }
+{
+    base != 0 && store.sign(base + s as usize) == 0
+}

@@ -1,0 +1,16 @@
+//! The families of a trie in one row of cells, each at the least base at which it fits; free cells are linked in rising order.
+#![tactic(auto)]
+
+mod cell;
+mod chain;
+mod families;
+mod fit;
+mod moves;
+mod prune;
+mod root;
+mod settle;
+mod store;
+#[cfg(test)]
+mod tests;
+
+pub use families::Cells;

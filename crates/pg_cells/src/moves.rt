@@ -1,0 +1,78 @@
+//! A family gives up its cells and is put at another base.
+ghost use Rattle.std.specs.Prelude.{◌≡◌, ◌≢◌, ℕ, ◌+◌, ◌<◌, ◌≤◌, ◌^◌, length, take, Some, [], OnOk};
+ghost use Rattle.pg_cells.specs.declared.fit.Slot.{Slot as SlotOf};
+ghost use Rattle.pg_cells.specs.Lists.{sign_at, IsFree};
+ghost use Rattle.pg_cells.specs.Fit.{slot_of};
+ghost use Rattle.pg_cells.specs.Moves.{AreDistinct, Gives, Puts, Collected, Collects};
+
+use crate::fit::Slot;
+use crate::store::Store;
+use pg_types::SIGNS_MAX;
+use std::alloc::AllocError;
+
+/// Gives up the cells that the slots have at a base.
+pub fn give_up<V: Copy>(store: &mut Store<V>, base: usize, slots: &[Slot<V>])
+    requires distinct { AreDistinct slots.now }
+    requires base { base < 2 ^ 32 }
+    requires taken { (x : ℕ) (slot : SlotOf V) → slot_of slots.now x ≡ Some slot → (0 < x) × (sign_at store.old (base + x) ≢ 0) }
+    ensures { Gives store.old store.new base slots.now }
+{
+    for slot in slots {
+        store.free(base + slot.sign as usize);
+    }
+}
+
+/// Puts the slots into their cells at a base.
+pub fn put<V: Copy>(store: &mut Store<V>, base: usize, slots: &[Slot<V>])
+    requires distinct { AreDistinct slots.now }
+    requires base { base < 2 ^ 32 }
+    requires free { (x : ℕ) (slot : SlotOf V) → slot_of slots.now x ≡ Some slot → (0 < x) × (IsFree store.old (base + x)) × (slot.child < length store.old.signs) }
+    ensures { Puts store.old store.new base slots.now }
+{
+    for slot in slots {
+        store.take(base + slot.sign as usize, *slot);
+    }
+}
+
+/// Collects what the cells of the family at a base hold, by rising sign; nothing where the base is 0.
+pub fn collect<V: Copy>(
+    store: &Store<V>,
+    base: usize,
+    signs: u16,
+    slots: &mut Vec<Slot<V>>,
+) -> Result<(), AllocError>
+    requires base { base < 2 ^ 32 }
+    requires signs { signs ≤ SIGNS_MAX }
+    ensures none { base ≡ 0 → OnOk result (slots.new.items ≡ []) }
+    ensures some { 0 < base → OnOk result (Collected signs store.now base slots.new.items) }
+{
+    slots.clear();
+    if base == 0 {
+        return Ok(());
+    }
+    for sign in 1..signs + 1 {
+        collect_sign(store, base, sign, slots)?;
+    }
+    Ok(())
+}
+
+// Adds the slot of a sign, where the sign stands at the base.
+fn collect_sign<V: Copy>(
+    store: &Store<V>,
+    base: usize,
+    sign: u16,
+    slots: &mut Vec<Slot<V>>,
+) -> Result<(), AllocError>
+    requires base { base < 2 ^ 32 }
+    requires sign { 0 < sign }
+    ensures { OnOk result (Collects store.now base sign slots.old.items slots.new.items) }
+{
+    let cell = base + sign as usize;
+    if store.sign(cell) != sign {
+        return Ok(());
+    }
+    let child = store.child(cell);
+    let value = store.value(cell);
+    slots.push(Slot { value, child, sign })?;
+    Ok(())
+}

@@ -1,0 +1,62 @@
+//! A family is put at the least base that fits.
+ghost use Rattle.std.specs.Prelude.{◌≡◌, ◌≢◌, ℕ, ◌+◌, ◌<◌, ◌≤◌, ◌^◌, max, length};
+ghost use Rattle.pg_cells.specs.Moves.{Drops, Moved, CanSettle, lowest_from};
+
+use crate::fit::Slot;
+use crate::moves::{give_up, put};
+use crate::store::Store;
+use pg_types::SIGNS_MAX;
+
+/// A family of at most this many signs is placed from base 1 on.
+const FEW_SIGNS: usize = 4;
+
+/// A greater one is placed from so far below the top on, or as far as there are signs.
+const FAR_BELOW: usize = 255;
+
+// The lowest base that is tried.
+fn lowest_base(signs: u16, count: usize, top: usize) -> usize
+    ensures { result ≡ lowest_from signs count top }
+{
+    if count <= FEW_SIGNS {
+        1
+    } else {
+        top.saturating_sub(FAR_BELOW.max(signs as usize)).max(1)
+    }
+}
+
+// Drops the base of a family; 0 is that of none.
+fn drop_base<V: Copy>(store: &mut Store<V>, base: usize)
+    requires { base < length store.old.signs }
+    ensures { Drops store.old store.new base }
+{
+    if base != 0 {
+        store.set_base(base, false);
+    }
+}
+
+/// Gives up the cells of a family, whose slots these are, and puts it with one sign more below its parent. Answers its base.
+pub fn settle<V: Copy>(
+    store: &mut Store<V>,
+    slots: &[Slot<V>],
+    slot: Slot<V>,
+    parent: usize,
+    was: usize,
+    signs: u16,
+) -> usize
+    requires can { CanSettle signs store.old was slots.now slot parent }
+    requires was { was < length store.old.signs }
+    requires signs { signs ≤ SIGNS_MAX }
+    ensures { Moved signs store.old store.new was result slots.now slot parent }
+{
+    let _cells = store.len();
+    give_up(store, was, slots);
+    drop_base(store, was);
+    let top = store.top();
+    let low = lowest_base(signs, slots.len() + 1, top);
+    let base = store.find_base(slots, slot.sign, low, top.max(1));
+    put(store, base, slots);
+    store.take(base + slot.sign as usize, slot);
+    store.set_base(base, true);
+    store.set_child(parent, base);
+    base
+}

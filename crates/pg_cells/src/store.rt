@@ -1,0 +1,221 @@
+//! The store: one vector of cells, whose free ones are linked in rising order.
+ghost use Rattle.std.specs.Prelude.{◌≡◌, ◌≢◌, ℕ, ◌+◌, ◌-◌, ◌<◌, ◌≤◌, ◌^◌, true, ◌∷◌, length, slice_get, Some, IfOk, OnOk, OnErr};
+ghost use Rattle.pg_cells.specs.Lists.{lists, row_of, sign_at, child_at, base_at, IsFree};
+ghost use Rattle.pg_cells.specs.Linked.{AreLinked};
+ghost use Rattle.pg_cells.specs.Fit.{fits_row, signs_of, IsLeast};
+ghost use Rattle.pg_cells.specs.Store.{one_free, taken_in, IsTop, Extends};
+ghost use Rattle.pg_cells.specs.Writes.{Takes, Frees, SetsChild, SetsValue, SetsBase};
+
+use crate::cell::{Cell, child_of, set_base, set_child, set_value, sign_of, value_of};
+use crate::chain::{free_cell, push_cell, take_cell};
+use crate::fit::{Slot, find_base, sign_or_free};
+use std::alloc::{AllocError, Global};
+use std::marker::Model;
+
+/// The cells. Cell 0 is never taken.
+#[derive(Drop)]
+pub struct Store<V: Copy> {
+    cells: Vec<Cell<V>>,
+    top: usize,
+    taken: usize,
+}
+
+impl<V: Copy> Model for Store<V> {
+    ghost use Rattle.pg_cells.specs.Lists.{Row, row_of};
+    ghost use Rattle.pg_cells.specs.Store.{row_code, IsKept};
+
+    ghost Value = { Row V };
+
+    ghost coded = { row_code V.code };
+
+    ghost view = { λ s. row_of s.cells.items };
+
+    ghost invariant = { λ s. IsKept s.cells.items s.top s.taken };
+}
+
+impl<V: Copy> Store<V> {
+    /// One free cell.
+    pub fn new(alloc: Global, value: V) -> Result<Store<V>, AllocError>
+        ensures { IfOk result (λ s. s ≡ one_free value) }
+    {
+        let mut cells = Vec::new(alloc);
+        cells.push(Cell {
+            value,
+            link: 0,
+            before: 0,
+            sign: 0,
+            is_base: false,
+        })?;
+        Ok(Store {
+            cells,
+            top: 0,
+            taken: 0,
+        })
+    }
+
+    /// The sign of a cell, 0 in a free one and past the end.
+    pub fn sign(&self, cell: usize) -> u16
+        ensures { result ≡ sign_at self.now cell }
+    {
+        sign_or_free(self.cells.as_slice(), cell)
+    }
+
+    /// The base of the child family of a taken cell, 0 for none.
+    pub fn child(&self, cell: usize) -> usize
+        requires { sign_at self.now cell ≢ 0 }
+        ensures { result ≡ child_at self.now cell }
+    {
+        child_of(self.cells.as_slice(), cell)
+    }
+
+    /// The value of a taken cell.
+    pub fn value(&self, cell: usize) -> V
+        requires { sign_at self.now cell ≢ 0 }
+        ensures { slice_get self.now.values cell ≡ Some result }
+    {
+        value_of(self.cells.as_slice(), cell)
+    }
+
+    /// The greatest taken cell.
+    pub fn top(&self) -> usize
+        ensures { IsTop self.now.signs result }
+    {
+        self.top
+    }
+
+    /// The number of taken cells.
+    pub fn taken(&self) -> usize
+        ensures taken { result ≡ taken_in self.now }
+        ensures small { result < 2 ^ 32 }
+    {
+        self.taken
+    }
+
+    /// The number of cells.
+    pub fn len(&self) -> usize
+        ensures len { result ≡ length self.now.signs }
+        ensures small { result < 2 ^ 32 }
+        ensures positive { 0 < result }
+        ensures even { length self.now.bases ≡ length self.now.signs }
+        ensures zero { sign_at self.now 0 ≡ 0 }
+        ensures bare { (i : ℕ) → sign_at self.now i ≡ 0 → child_at self.now i ≡ 0 }
+    {
+        self.cells.len()
+    }
+
+    /// Sets the base of the child family of a taken cell.
+    pub fn set_child(&mut self, cell: usize, child: usize)
+        requires taken { sign_at self.old cell ≢ 0 }
+        requires child { child < length self.old.signs }
+        ensures { SetsChild self.old self.new cell child }
+    {
+        set_child(self.cells.as_mut_slice(), cell, child);
+    }
+
+    /// Sets the value of a taken cell.
+    pub fn set_value(&mut self, cell: usize, value: V)
+        requires { sign_at self.old cell ≢ 0 }
+        ensures { SetsValue self.old self.new cell value }
+    {
+        set_value(self.cells.as_mut_slice(), cell, value);
+    }
+
+    /// Says whether a cell's index is the base of a family.
+    pub fn set_base(&mut self, cell: usize, is_base: bool)
+        requires { cell < length self.old.signs }
+        ensures { SetsBase self.old self.new cell is_base }
+    {
+        set_base(self.cells.as_mut_slice(), cell, is_base);
+    }
+
+    /// Takes a free cell.
+    pub fn take(&mut self, cell: usize, slot: Slot<V>)
+        requires cell { 0 < cell }
+        requires free { IsFree self.old cell }
+        requires sign { slot.sign ≢ 0 }
+        requires child { slot.child < length self.old.signs }
+        ensures { Takes self.old self.new cell slot.sign slot.value slot.child }
+    {
+        take_cell(
+            self.cells.as_mut_slice(),
+            cell,
+            slot.sign,
+            slot.value,
+            slot.child,
+        );
+        self.top = self.top.max(cell);
+        self.taken += 1;
+    }
+
+    /// Gives up a taken cell.
+    pub fn free(&mut self, cell: usize)
+        requires cell { 0 < cell }
+        requires taken { sign_at self.old cell ≢ 0 }
+        ensures { Frees self.old self.new cell }
+    {
+        free_cell(self.cells.as_mut_slice(), cell);
+        self.top = taken_up_to(self.cells.as_slice(), self.top);
+        self.taken -= 1;
+    }
+
+    /// Adds free cells until there are `count`. Refused: the cells that were there are as before.
+    pub fn grow(&mut self, count: usize, value: V) -> Result<(), AllocError>
+        ensures extends { Extends self.old self.new }
+        ensures length { OnOk result (count ≤ length self.new.signs) }
+    {
+        grow_cells(&mut self.cells, count, value)
+    }
+
+    /// Makes room past the greatest taken cell: `more` cells. Refused: the cells that were there are as before.
+    pub fn make_room(&mut self, more: usize, value: V) -> Result<(), AllocError>
+        requires { more < 2 ^ 32 }
+        ensures extends { Extends self.old self.new }
+        ensures room { OnOk result ((i : ℕ) → sign_at self.old i ≢ 0 → i + more ≤ length self.new.signs) }
+    {
+        let count = self.top + more;
+        self.grow(count, value)
+    }
+
+    /// The least base from `low` on at which the sign and those of the slots may stand; at `room` they may.
+    pub fn find_base(&self, slots: &[Slot<V>], sign: u16, low: usize, room: usize) -> usize
+        requires low { low ≤ room }
+        requires within { room + sign < length self.now.signs }
+        requires room { fits_row self.now (sign ∷ signs_of slots.now) room ≡ true }
+        ensures least { IsLeast (fits_row self.now (sign ∷ signs_of slots.now)) low result }
+        ensures room { result ≤ room }
+    {
+        find_base(self.cells.as_slice(), slots, sign, low, room)
+    }
+}
+
+// The last taken cell up to a cell, or 0.
+fn taken_up_to<V: Copy>(cells: &[Cell<V>], cell: usize) -> usize
+    requires { cell < length cells.now }
+    ensures below { result ≤ cell }
+    ensures used { 0 < result → sign_at (lists cells.now).row result ≢ 0 }
+    ensures most { (k : ℕ) → k ≤ cell → sign_at (lists cells.now).row k ≢ 0 → k ≤ result }
+{
+    let mut at = cell;
+    while at > 0 && sign_of(cells, at) == 0 {
+        at -= 1;
+    }
+    at
+}
+
+// Adds free cells until there are `count`, as long as an index fits its link.
+fn grow_cells<V: Copy>(cells: &mut Vec<Cell<V>>, count: usize, value: V) -> Result<(), AllocError>
+    requires linked { AreLinked (lists cells.old.items) }
+    requires small { length cells.old.items < 2 ^ 32 }
+    ensures linked { AreLinked (lists cells.new.items) }
+    ensures small { length cells.new.items < 2 ^ 32 }
+    ensures extends { Extends (row_of cells.old.items) (row_of cells.new.items) }
+    ensures length { OnOk result (count ≤ length cells.new.items) }
+{
+    if count >= 1 << 32 {
+        return Err(AllocError);
+    }
+    'grow: while cells.len() < count {
+        push_cell(cells, value)?;
+    }
+    Ok(())
+}
