@@ -1,0 +1,18 @@
+-- A scan of the plans finds what the map of the listed calls holds.
+use Rattle.std.proofs.Common.{◌≡◌, ℕ, List, [], ◌∷◌, map, refl, ◌∙◌, sym, arith}
+use Rattle.std.specs.Prelude.{find, ◌==◌}
+use Rattle.std.specs.Option.{option_map}
+use Rattle.std.specs.Ordering.{nat_cmp}
+use Rattle.std.specs.Cmp.{unsigned_tied, nat_cmp_total}
+use Rattle.std.specs.FinMap as fin
+use Rattle.std.proofs.lemmas.Grind.{common_steps}
+use Rattle.pg_outside.specs.Calls.{listed_calls, planned}
+use Rattle.pg_outside.specs.declared.plans.Plan.{Plan}
+
+kept_found : (plans : List Plan) (number : ℕ) → option_map (λ plan. plan.keep) (find (λ plan. plan.call == number) plans) ≡ fin.find nat_cmp number (map planned plans)
+kept_found [] number = refl
+kept_found (plan ∷ plans) number = grind (arith, common_steps, kept_found plans number, unsigned_tied number plan.call)
+
+-- what the plan of a call keeps, where it is listed
+pub kept_of : (plans : List Plan) (number : ℕ) → option_map (λ plan. plan.keep) (find (λ plan. plan.call == number) plans) ≡ fin.get (listed_calls plans) number
+kept_of plans number = kept_found plans number ∙ sym (fin.get-from_entries nat_cmp_total (map planned plans) number)

@@ -1,0 +1,41 @@
+-- What files and sinks hold, told or not, and what a call may change of it.
+use Rattle.std.specs.Prelude.{◌≡◌, ℕ, ◌+◌, ◌<◌, List, ◌++◌, take, length, Option, Some, MatchOption, IfSome, ◌⊎◌}
+use Rattle.std.specs.Cmp.Lexicographic.{slice_cmp}
+use Rattle.std.specs.Ordering.{nat_cmp}
+use Rattle.std.specs.FinMap as map
+
+-- the files by their names: a finite map from the bytes of a name to the bytes of the file
+abbrev pub FileMap : Type 0
+FileMap = map.FinMap (slice_cmp nat_cmp) (List ℕ)
+
+-- the file of this name, if there is one
+abbrev pub file_at : FileMap → List ℕ → Option (List ℕ)
+file_at files name = map.get files name
+
+-- files that are told after the call were told before it, and are the same
+abbrev pub KeepsHeld : Option FileMap → Option FileMap → Type 0
+KeepsHeld old new = IfSome new (λ files. old ≡ Some files)
+
+-- these are the first bytes, one more than the limit, of a file that has more than the limit
+abbrev pub IsCut : Option (List ℕ) → ℕ → List ℕ → Type 0
+IsCut file limit front = MatchOption file ⊥ (λ bytes. (limit < length bytes) × (front ≡ take (limit + 1) bytes))
+
+-- where files are told after the call, they are those told before it with this file set to these bytes
+abbrev pub WasWritten : Option FileMap → Option FileMap → List ℕ → List ℕ → Type 0
+WasWritten old new name bytes = IfSome new (λ after. MatchOption old ⊥ (λ before. after ≡ map.insert before name bytes))
+
+-- these files are those before, with this file as it was or set to a prefix of these bytes
+abbrev pub HasPart : FileMap → FileMap → List ℕ → List ℕ → Type 0
+HasPart before after name bytes = (after ≡ before) ⊎ ((kept : ℕ) × (after ≡ map.insert before name (take kept bytes)))
+
+-- where files are told after the call, they were told before it, and this file is as it was or a prefix of these bytes
+abbrev pub WasPartWritten : Option FileMap → Option FileMap → List ℕ → List ℕ → Type 0
+WasPartWritten old new name bytes = IfSome new (λ after. MatchOption old ⊥ (λ before. HasPart before after name bytes))
+
+-- where the sink's bytes are told after the call, they are those told before it and then this text
+abbrev pub WasPut : Option (List ℕ) → Option (List ℕ) → List ℕ → Type 0
+WasPut old new text = IfSome new (λ after. MatchOption old ⊥ (λ before. after ≡ before ++ text))
+
+-- where the sink's bytes are told after the call, they are those told before it and then a prefix of this text
+abbrev pub WasPartPut : Option (List ℕ) → Option (List ℕ) → List ℕ → Type 0
+WasPartPut old new text = IfSome new (λ after. MatchOption old ⊥ (λ before. (kept : ℕ) × (after ≡ before ++ take kept text)))

@@ -1,0 +1,7 @@
+-- The count of faults of the files of the system.
+use Rattle.std.specs.Prelude.{ℕ}
+use Rattle.pg_outside.specs.declared.host_files.HostFiles.{HostFiles}
+
+-- the faults, which are those of every name
+abbrev pub file_faults : {R File Dir : Type 0} → HostFiles R File Dir → ℕ
+file_faults files = files.failed

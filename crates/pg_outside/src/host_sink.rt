@@ -1,0 +1,55 @@
+//! The adapter over standard output.
+ghost use Rattle.std.specs.Prelude.{◌≡◌, ◌≤◌, None, OnOk, OnErr};
+ghost use Rattle.std.specs.Io.KnownBytes.{Appends};
+ghost use Rattle.pg_outside.specs.Content.{WasPut, WasPartPut};
+ghost use Rattle.pg_outside.specs.Faults.{Rose};
+ghost use Rattle.pg_outside.specs.Host.{AppendsPart};
+
+use super::host_files::write_bytes;
+use super::outside::{Failed, Sink};
+use std::io::Write;
+
+/// A writer as a sink, with a count of faults. It tells no content. A write that fails or takes
+/// none of its bytes is a fault.
+#[derive(Drop)]
+pub struct HostSink<W: Write + Drop> {
+    writer: W,
+    failed: u64,
+}
+
+impl<W: Write + Drop> HostSink<W> {
+    ghost use Rattle.pg_outside.specs.HostSink.{writer_faults, writer_of};
+
+    /// A sink over this writer, with no fault so far.
+    pub fn new(writer: W) -> HostSink<W>
+        ensures { writer_faults result ≡ 0 }
+    {
+        HostSink { writer, failed: 0 }
+    }
+}
+
+impl<W: Write + Drop> Sink for HostSink<W> {
+    ghost use Rattle.pg_outside.specs.HostSink.{writer_faults, writer_of};
+
+    ghost contents = { λ _. None };
+
+    ghost faults = { writer_faults };
+
+    fn put(&mut self, bytes: &[u8]) -> Result<(), Failed>
+        // As for all sinks.
+        ensures whole { OnOk result (WasPut None None bytes.now) }
+        ensures part { OnErr result (WasPartPut None None bytes.now) }
+        ensures later { writer_faults self.old ≤ writer_faults self.new }
+        ensures failed { OnErr result (Rose (writer_faults self.old) (writer_faults self.new)) }
+
+        // The writer gets the bytes, where it says which it holds.
+        ensures written { OnOk result (Appends (W.contents (writer_of self.old)) (W.contents (writer_of self.new)) bytes.now) }
+        ensures part_written { OnErr result (AppendsPart (W.contents (writer_of self.old)) (W.contents (writer_of self.new)) bytes.now) }
+    {
+        let result = write_bytes(&mut self.writer, bytes);
+        if result.is_err() {
+            self.failed = self.failed.saturating_add(1);
+        }
+        result
+    }
+}

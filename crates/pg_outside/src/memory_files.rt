@@ -1,0 +1,231 @@
+//! Files in memory that can fail at a chosen call.
+ghost use Rattle.std.specs.Prelude.{◌≡◌, ◌≢◌, ℕ, ◌+◌, ◌-◌, ◌^◌, ◌<◌, ◌≤◌, ◌⊎◌, List, [], take, length, min, Option, Some, None, OnOk, OnErr, IsOk, IsErr, IsSome, IfSome, IfNone, OnSome, IsErrOf};
+ghost use Rattle.std.specs.Option.{option_copied, option_map};
+ghost use Rattle.std.specs.FinMap as fin;
+ghost use Rattle.pg_outside.specs.Content.{file_at, KeepsHeld, IsCut, WasWritten, WasPartWritten};
+ghost use Rattle.pg_outside.specs.Faults.{next_count, Rose, NoneFell, EachRose, SameCounts, SameOthers};
+
+use super::missing::note_name;
+use super::outside::{Failed, Files, ReadError};
+use super::plans::{Plan, Plans};
+use super::stored::{StoredFile, bytes_of, read_bytes, store};
+use std::alloc::{AllocError, Global};
+
+/// Files in memory, which always tell what they hold, and reads and writes of which can be made
+/// to fail.
+///
+/// A listed call raises both counts of every name. A read of a missing name raises the read
+/// faults of that name alone. A write that finds no memory raises the write faults of every name.
+/// Nothing else raises a count.
+#[derive(Drop)]
+pub struct MemoryFiles {
+    alloc: Global,
+    files: Vec<StoredFile>,
+    /// The names of the reads that found no file.
+    missing: Vec<String>,
+    plans: Plans,
+    /// The faults that count for every name.
+    reads_failed: u64,
+    writes_failed: u64,
+}
+
+impl MemoryFiles {
+    ghost use Rattle.pg_outside.specs.MemoryFiles.{files_of, room_of, reads_failed_of, writes_failed_of, calls_of, listed_of, next_listed};
+
+    /// No file, no call so far and none that is to fail.
+    pub fn new(alloc: Global) -> MemoryFiles
+        ensures files { files_of result ≡ fin.empty }
+        ensures listed { listed_of result ≡ fin.empty }
+        ensures calls { calls_of result ≡ 0 }
+        ensures reads { (name : List ℕ) → reads_failed_of result name ≡ 0 }
+        ensures writes { (name : List ℕ) → writes_failed_of result name ≡ 0 }
+    {
+        MemoryFiles {
+            alloc,
+            files: Vec::new(alloc),
+            missing: Vec::new(alloc),
+            plans: Plans::new(alloc),
+            reads_failed: 0,
+            writes_failed: 0,
+        }
+    }
+
+    /// Sets the file of this name, with room for at least `room` bytes. It is no call that counts.
+    ///
+    /// # Errors
+    /// Where there is not enough memory; all is then as before.
+    pub fn add(&mut self, name: &str, bytes: &[u8], room: usize) -> Result<(), AllocError>
+        ensures ok { OnOk result (files_of self.new ≡ fin.insert (files_of self.old) name.now bytes.now) }
+        ensures room { OnOk result (room ≤ room_of self.new name.now) }
+        ensures rooms { NoneFell (room_of self.old) (room_of self.new) }
+
+        // Refused, the files and their room are as before.
+        ensures err { OnErr result (files_of self.new ≡ files_of self.old) }
+        ensures err_rooms { OnErr result (SameCounts (room_of self.old) (room_of self.new)) }
+
+        // Calls and counts are as before in both cases.
+        ensures listed { listed_of self.new ≡ listed_of self.old }
+        ensures calls { calls_of self.new ≡ calls_of self.old }
+        ensures reads { SameCounts (reads_failed_of self.old) (reads_failed_of self.new) }
+        ensures writes { SameCounts (writes_failed_of self.old) (writes_failed_of self.new) }
+    {
+        store(self.alloc, &mut self.files, name, bytes, room)
+    }
+
+    /// Lets the read or write with this number fail, counted from 1 over both kinds. A failing
+    /// write leaves the file as before for `None`. For `Some(k)` it sets the file to the first `k`
+    /// bytes of those handed to it, at most all. Listed anew, a call has the later `keep`.
+    ///
+    /// # Errors
+    /// Where there is not enough memory; all is then as before.
+    pub fn fail_at(&mut self, call: u64, keep: Option<usize>) -> Result<(), AllocError>
+        ensures ok { OnOk result (listed_of self.new ≡ fin.insert (listed_of self.old) call keep) }
+        ensures err { OnErr result (listed_of self.new ≡ listed_of self.old) }
+
+        // All else is as before in both cases.
+        ensures files { files_of self.new ≡ files_of self.old }
+        ensures rooms { SameCounts (room_of self.old) (room_of self.new) }
+        ensures calls { calls_of self.new ≡ calls_of self.old }
+        ensures reads { SameCounts (reads_failed_of self.old) (reads_failed_of self.new) }
+        ensures writes { SameCounts (writes_failed_of self.old) (writes_failed_of self.new) }
+    {
+        self.plans.list(call, keep)
+    }
+
+    /// Lends the file of this name. `None` comes exactly where it is missing.
+    pub fn bytes(&self, name: &str) -> Option<&[u8]>
+        ensures { option_copied result ≡ file_at (files_of self.now) name.now }
+    {
+        bytes_of(&self.files, name)
+    }
+
+    /// Counts a call. Where it is listed, it gives its plan and raises both counts of every name.
+    fn next_plan(&mut self) -> Option<Plan>
+        ensures plan { option_map (λ plan. plan.keep) result ≡ next_listed self.old }
+        ensures files { self.new.files ≡ self.old.files }
+        ensures alloc { self.new.alloc ≡ self.old.alloc }
+        ensures missing { self.new.missing ≡ self.old.missing }
+        ensures listed { listed_of self.new ≡ listed_of self.old }
+        ensures calls { calls_of self.new ≡ next_count (calls_of self.old) }
+        ensures reads { self.old.reads_failed ≤ self.new.reads_failed }
+        ensures writes { self.old.writes_failed ≤ self.new.writes_failed }
+        ensures reads_rose { OnSome result (self.new.reads_failed ≡ next_count self.old.reads_failed) }
+        ensures writes_rose { OnSome result (self.new.writes_failed ≡ next_count self.old.writes_failed) }
+        ensures reads_same { IfNone result (self.new.reads_failed ≡ self.old.reads_failed) }
+        ensures writes_same { IfNone result (self.new.writes_failed ≡ self.old.writes_failed) }
+    {
+        let plan = self.plans.next();
+        if plan.is_some() {
+            self.reads_failed = self.reads_failed.saturating_add(1);
+            self.writes_failed = self.writes_failed.saturating_add(1);
+        }
+        plan
+    }
+}
+
+impl Files for MemoryFiles {
+    ghost use Rattle.pg_outside.specs.MemoryFiles.{files_of, room_of, reads_failed_of, writes_failed_of, calls_of, listed_of, next_listed};
+
+    ghost held = { λ memory. Some (files_of memory) };
+
+    ghost read_faults = { reads_failed_of };
+
+    ghost write_faults = { writes_failed_of };
+
+    fn read(
+        &mut self,
+        alloc: Global,
+        name: &str,
+        limit: usize,
+        into: &mut Vec<u8>,
+    ) -> Result<(), ReadError>
+        requires empty { into.old.items ≡ [] }
+        requires limit { limit < 2 ^ 64 - 1 }
+
+        // As for all files.
+        ensures held { KeepsHeld (Some (files_of self.old)) (Some (files_of self.new)) }
+        ensures reads { NoneFell (reads_failed_of self.old) (reads_failed_of self.new) }
+        ensures writes { NoneFell (writes_failed_of self.old) (writes_failed_of self.new) }
+        ensures fits { OnOk result (length into.new.items ≤ limit) }
+        ensures cut { IsErrOf result ReadError.TooLong → length into.new.items ≡ limit + 1 }
+        ensures file { OnOk result (IfSome (Some (files_of self.new)) (λ files. file_at files name.now ≡ Some into.new.items)) }
+        ensures cut_file { IsErrOf result ReadError.TooLong → IfSome (Some (files_of self.new)) (λ files. IsCut (file_at files name.now) limit into.new.items) }
+        ensures failed { IsErrOf result ReadError.Failed → Rose (reads_failed_of self.old name.now) (reads_failed_of self.new name.now) }
+
+        // The call is counted, and the calls that are to fail stay listed.
+        ensures calls { calls_of self.new ≡ next_count (calls_of self.old) }
+        ensures listed { listed_of self.new ≡ listed_of self.old }
+        ensures rooms { SameCounts (room_of self.old) (room_of self.new) }
+
+        // A listed read fails and raises both counts of every name.
+        ensures listed_fails { IsSome (next_listed self.old) → IsErrOf result ReadError.Failed }
+        ensures listed_reads { IsSome (next_listed self.old) → EachRose (reads_failed_of self.old) (reads_failed_of self.new) }
+        ensures listed_writes { IsSome (next_listed self.old) → EachRose (writes_failed_of self.old) (writes_failed_of self.new) }
+
+        // Else only a missing name fails, and raises its own read faults alone.
+        ensures found { next_listed self.old ≡ None → IsSome (file_at (files_of self.old) name.now) → IsErrOf result ReadError.Failed → ⊥ }
+        ensures found_reads { next_listed self.old ≡ None → IsSome (file_at (files_of self.old) name.now) → SameCounts (reads_failed_of self.old) (reads_failed_of self.new) }
+        ensures missing_reads { next_listed self.old ≡ None → SameOthers (reads_failed_of self.old) (reads_failed_of self.new) name.now }
+        ensures memory_reads { IsErrOf result ReadError.Memory → SameCounts (reads_failed_of self.old) (reads_failed_of self.new) }
+        ensures unlisted_writes { next_listed self.old ≡ None → SameCounts (writes_failed_of self.old) (writes_failed_of self.new) }
+    {
+        match self.next_plan() {
+            Some(_) => Err(ReadError::Failed),
+            None => match bytes_of(&self.files, name) {
+                Some(bytes) => read_bytes(bytes, limit, into),
+                None => {
+                    note_name(alloc, &mut self.missing, name)?;
+                    Err(ReadError::Failed)
+                }
+            },
+        }
+    }
+
+    fn write(&mut self, name: &str, bytes: &[u8]) -> Result<(), Failed>
+        // As for all files.
+        ensures whole { OnOk result (WasWritten (Some (files_of self.old)) (Some (files_of self.new)) name.now bytes.now) }
+        ensures part { OnErr result (WasPartWritten (Some (files_of self.old)) (Some (files_of self.new)) name.now bytes.now) }
+        ensures reads { NoneFell (reads_failed_of self.old) (reads_failed_of self.new) }
+        ensures writes { NoneFell (writes_failed_of self.old) (writes_failed_of self.new) }
+        ensures failed { OnErr result (Rose (writes_failed_of self.old name.now) (writes_failed_of self.new name.now)) }
+
+        // The call is counted, and the calls that are to fail stay listed.
+        ensures calls { calls_of self.new ≡ next_count (calls_of self.old) }
+        ensures listed { listed_of self.new ≡ listed_of self.old }
+        ensures rooms { NoneFell (room_of self.old) (room_of self.new) }
+
+        // A listed write fails. The file is as before, or the bytes that the call keeps, and it
+        // is these where it is there and they are within its room.
+        ensures listed_fails { IsSome (next_listed self.old) → IsErr result }
+        ensures listed_reads { IsSome (next_listed self.old) → EachRose (reads_failed_of self.old) (reads_failed_of self.new) }
+        ensures keeps_none { next_listed self.old ≡ Some None → files_of self.new ≡ files_of self.old }
+        ensures keeps { (keep : ℕ) → next_listed self.old ≡ Some (Some keep) → (files_of self.new ≡ files_of self.old) ⊎ (files_of self.new ≡ fin.insert (files_of self.old) name.now (take keep bytes.now)) }
+        ensures keeps_within { (keep : ℕ) → next_listed self.old ≡ Some (Some keep) → IsSome (file_at (files_of self.old) name.now) → min keep (length bytes.now) ≤ room_of self.old name.now → files_of self.new ≡ fin.insert (files_of self.old) name.now (take keep bytes.now) }
+
+        // Any other fails only where memory is wanted, and changes no file then.
+        ensures within { next_listed self.old ≡ None → IsSome (file_at (files_of self.old) name.now) → length bytes.now ≤ room_of self.old name.now → IsOk result }
+        ensures unlisted_files { next_listed self.old ≡ None → OnErr result (files_of self.new ≡ files_of self.old) }
+
+        // A failed write raises the write faults of every name. Nothing else raises a count.
+        ensures failed_writes { OnErr result (EachRose (writes_failed_of self.old) (writes_failed_of self.new)) }
+        ensures ok_writes { OnOk result (SameCounts (writes_failed_of self.old) (writes_failed_of self.new)) }
+        ensures unlisted_reads { next_listed self.old ≡ None → SameCounts (reads_failed_of self.old) (reads_failed_of self.new) }
+    {
+        match self.next_plan() {
+            Some(plan) => {
+                if let Some(keep) = plan.keep {
+                    let kept = &bytes[..keep.min(bytes.len())];
+                    let _ = store(self.alloc, &mut self.files, name, kept, 0);
+                }
+                Err(Failed)
+            }
+            None => {
+                if store(self.alloc, &mut self.files, name, bytes, 0).is_err() {
+                    self.writes_failed = self.writes_failed.saturating_add(1);
+                    return Err(Failed);
+                }
+                Ok(())
+            }
+        }
+    }
+}

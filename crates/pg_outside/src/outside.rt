@@ -1,0 +1,110 @@
+//! The two traits through which a command reads, writes and prints.
+ghost use Rattle.std.specs.Prelude.{◌≡◌, ℕ, ◌+◌, ◌-◌, ◌^◌, ◌<◌, ◌≤◌, List, [], length, Option, OnOk, OnErr, IfSome, IsErrOf};
+ghost use Rattle.pg_outside.specs.Content.{FileMap, file_at, KeepsHeld, IsCut, WasWritten, WasPartWritten, WasPut, WasPartPut};
+ghost use Rattle.pg_outside.specs.Faults.{Rose, NoneFell};
+
+use std::alloc::{AllocError, Global};
+use thiserror::Error;
+
+/// Why a read gave no file.
+#[derive(Clone, Copy, Debug, PartialEq, Eq, Error)]
+pub enum ReadError {
+    /// The file could not be read; the read faults of its name rose.
+    #[error("the file could not be read")]
+    Failed,
+    /// The file has more bytes than the limit.
+    #[error("the file is longer than its limit")]
+    TooLong,
+    /// There was not enough memory.
+    #[error("out of memory")]
+    Memory,
+}
+
+impl From<AllocError> for ReadError {
+    ghost use Rattle.pg_outside.specs.declared.outside.ReadError.TheVariants.{Memory};
+
+    ghost from_gives = { λ _ error. error ≡ Memory };
+
+    fn from(_error: AllocError) -> ReadError {
+        ReadError::Memory
+    }
+}
+
+/// A write or a put failed; the count of faults rose.
+#[derive(Clone, Copy, Debug, PartialEq, Eq, Error)]
+#[error("the bytes could not be written")]
+pub struct Failed;
+
+/// Files that are read and written whole, by name.
+///
+/// An object may tell what it holds, as `held`, or tell nothing. It counts the faults of reading
+/// and of writing each name, and no count ever falls. A count rose where it is greater than
+/// before, or has reached 2^64 - 1.
+pub trait Files {
+    ghost held: { Self → Option FileMap };
+
+    ghost read_faults: { Self → List ℕ → ℕ };
+
+    ghost write_faults: { Self → List ℕ → ℕ };
+
+    /// Reads a file of at most `limit` bytes into `into`, which is empty before. The limit is below
+    /// 2^64 - 1.
+    ///
+    /// # Errors
+    /// `TooLong` where the file has more than `limit` bytes; `into` then has its first
+    /// `limit + 1` bytes. `Failed` where the read faults of `name` rose. `Memory` may always
+    /// come. After `Failed` and `Memory` nothing is said of `into`.
+    fn read(
+        &mut self,
+        alloc: Global,
+        name: &str,
+        limit: usize,
+        into: &mut Vec<u8>,
+    ) -> Result<(), ReadError>
+        requires empty { into.old.items ≡ [] }
+        requires limit { limit < 2 ^ 64 - 1 }
+
+        // Every read leaves the files as they were, and no count falls.
+        ensures held { KeepsHeld (held self.old) (held self.new) }
+        ensures reads { NoneFell (read_faults self.old) (read_faults self.new) }
+        ensures writes { NoneFell (write_faults self.old) (write_faults self.new) }
+
+        // The lengths hold whether the files are told or not.
+        ensures fits { OnOk result (length into.new.items ≤ limit) }
+        ensures cut { IsErrOf result ReadError.TooLong → length into.new.items ≡ limit + 1 }
+
+        ensures file { OnOk result (IfSome (held self.new) (λ files. file_at files name.now ≡ Some into.new.items)) }
+        ensures cut_file { IsErrOf result ReadError.TooLong → IfSome (held self.new) (λ files. IsCut (file_at files name.now) limit into.new.items) }
+        ensures failed { IsErrOf result ReadError.Failed → Rose (read_faults self.old name.now) (read_faults self.new name.now) };
+
+    /// Sets the file of this name to `bytes`, and leaves all others as they were.
+    ///
+    /// # Errors
+    /// Where the write faults of `name` rose; the file is then as before or a prefix of `bytes`.
+    fn write(&mut self, name: &str, bytes: &[u8]) -> Result<(), Failed>
+        ensures whole { OnOk result (WasWritten (held self.old) (held self.new) name.now bytes.now) }
+        ensures part { OnErr result (WasPartWritten (held self.old) (held self.new) name.now bytes.now) }
+        ensures reads { NoneFell (read_faults self.old) (read_faults self.new) }
+        ensures writes { NoneFell (write_faults self.old) (write_faults self.new) }
+        ensures failed { OnErr result (Rose (write_faults self.old name.now) (write_faults self.new name.now)) };
+}
+
+/// Where lines are printed.
+///
+/// An object may tell what was put, as `contents`, or tell nothing. It counts its faults, and the
+/// count never falls.
+pub trait Sink {
+    ghost contents: { Self → Option (List ℕ) };
+
+    ghost faults: { Self → ℕ };
+
+    /// Appends `bytes`.
+    ///
+    /// # Errors
+    /// Where the faults rose; a prefix of `bytes` was then appended.
+    fn put(&mut self, bytes: &[u8]) -> Result<(), Failed>
+        ensures whole { OnOk result (WasPut (contents self.old) (contents self.new) bytes.now) }
+        ensures part { OnErr result (WasPartPut (contents self.old) (contents self.new) bytes.now) }
+        ensures later { faults self.old ≤ faults self.new }
+        ensures failed { OnErr result (Rose (faults self.old) (faults self.new)) };
+}
