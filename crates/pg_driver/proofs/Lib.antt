@@ -1,1 +1,13 @@
 pub mod RunRows
+pub mod Reaches
+pub mod MarkSteps
+pub mod Puts
+pub mod Rooms
+pub mod Walks
+pub mod WordSteps
+pub mod TallyLaw
+pub mod Choices
+pub mod Layouts
+pub mod PassSteps
+pub mod LevelSteps
+pub mod RunSteps

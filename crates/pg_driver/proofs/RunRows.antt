@@ -9,6 +9,7 @@ use Rattle.pg_patterns.specs.Values.{joined}
 use Rattle.pg_select.specs.Sights.{Candidate, Pass, tally, sights}
 use Rattle.pg_driver.specs.Dots.{order}
 use Rattle.pg_driver.specs.Runs.{Source, Run, PassLine, LevelLine, run}
+use Rattle.pg_driver.specs.Begun.{begun}
 
 -- a word of these signs, with these hyphens, and with weight 1 everywhere
 abbrev word : List ℕ → List Bool → Word
@@ -126,10 +127,10 @@ dont_care_passes : pass_numbers dont_care ≡ ((1, 2, 1), sums 0 0 1, (2, 1, 1),
 dont_care_passes = refl
 
 -- the number of passes that cannot be skipped: all seven where each of length 2 left a candidate, three where there is no word
-passes_left : (run (source (a_b ∷ word (1 ∷ 2 ∷ 3 ∷ 1 ∷ []) (false ∷ false ∷ false ∷ false ∷ []) ∷ [])) (one_level (level 2 3 1 1 1)) [] None).begun ≡ 7
+passes_left : begun (source (a_b ∷ word (1 ∷ 2 ∷ 3 ∷ 1 ∷ []) (false ∷ false ∷ false ∷ false ∷ []) ∷ [])) (one_level (level 2 3 1 1 1)) [] ≡ 7
 passes_left = refl
 
-passes_skipped : (run (source []) (one_level (level 2 3 1 1 1)) [] None).begun ≡ 3
+passes_skipped : begun (source []) (one_level (level 2 3 1 1 1)) [] ≡ 3
 passes_skipped = refl
 
 -- the layouts along the first run

@@ -1,2 +1,7 @@
 pub mod Dots
 pub mod Runs
+pub mod Begun
+pub mod Views
+pub mod Counting
+pub mod Settling
+pub mod Sound

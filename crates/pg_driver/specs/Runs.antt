@@ -1,6 +1,6 @@
 -- The run: levels, passes and what they record.
-use Rattle.std.specs.Prelude.{ℕ, ◌+◌, ◌-◌, ◌==◌, nat_lt, Bool, true, false, not, ◌&&◌, ◌||◌, if◌then◌else◌, List, [], ◌∷◌, ◌++◌, length, map, filter, fold, sum_by, Option, None, Some}
-use Rattle.std.specs.List.{flat_map, list_all, list_any, range_with_len, enumerate_from}
+use Rattle.std.specs.Prelude.{ℕ, ◌+◌, ◌-◌, nat_lt, Bool, true, false, not, if◌then◌else◌, List, [], ◌∷◌, ◌++◌, length, map, filter, fold, sum_by, Option, None, Some}
+use Rattle.std.specs.List.{flat_map, range_with_len, enumerate_from}
 use Rattle.std.specs.Option.{option_map}
 use Rattle.std.specs.FinMap.Entries.{put}
 use Rattle.pg_types.specs.declared.marks.Totals.{Totals}
@@ -101,24 +101,12 @@ line_of source level pass s cs = record {
   layout = layout_of (state_after source.signs level pass s cs);
 }
 
--- a pass that is done, and whether it left no candidate
-pub record Done : Type 0 where
-  pub len : ℕ
-  pub dot : ℕ
-  pub left_none : Bool
-
--- how far a level is: the state, the lines of the passes that have a candidate, the chosen, the passes that are done, and how many
--- of them cannot be skipped
+-- how far a level is: the state, the lines of the passes that have a candidate, those of the levels below included, and how many
+-- windows the level has chosen
 pub record LevelState : Type 0 where
   pub state : State
   pub lines : List PassLine
   pub chosen : ℕ
-  pub done : List Done
-  pub begun : ℕ
-
--- a pass can be skipped where one that is shorter by a sign, with the same dot or the dot before, left no candidate
-abbrev pub is_skippable : List Done → Pass → Bool
-is_skippable done pass = list_any (λ d. d.left_none && (d.len + 1 == pass.len && (d.dot == pass.dot || d.dot + 1 == pass.dot))) done
 
 -- a level after a pass with these candidates
 abbrev pub after_candidates : Source → LevelParams → LevelState → Pass → List Candidate → LevelState
@@ -126,21 +114,23 @@ after_candidates source level l pass cs = record {
   state = state_after source.signs level pass l.state cs;
   lines = if nat_lt 0 (length cs) then l.lines ++ line_of source level pass l.state cs ∷ [] else l.lines;
   chosen = l.chosen + length (chosen_of level cs);
-  done = record { len = pass.len; dot = pass.dot; left_none = list_all (λ c. not (is_left (fate level c))) cs } ∷ l.done;
-  begun = l.begun + (if is_skippable l.done pass then 0 else 1);
 }
+
+-- the candidates of a pass
+abbrev pub candidates_of : Source → State → Pass → List Candidate
+candidates_of source s pass = tally (sights source.minima source.words pass s.patterns s.hopeless)
 
 -- a level after a pass
 abbrev pub after_pass : Source → LevelParams → LevelState → Pass → LevelState
-after_pass source level l pass = after_candidates source level l pass (tally (sights source.minima source.words pass l.state.patterns l.state.hopeless))
+after_pass source level l pass = after_candidates source level l pass (candidates_of source l.state pass)
 
--- the passes of a level: each length, and each dot in its order
+-- the passes of a length: each dot in its order
+abbrev pub passes_of_length : ℕ → ℕ → List Pass
+passes_of_length number len = map (λ dot. record { level = number; len = len; dot = dot }) (order len)
+
+-- the passes of a level: each length, and each dot of it
 abbrev pub passes_of : ℕ → LevelParams → List Pass
-passes_of number level = flat_map (λ len. map (λ dot. record { level = number; len = len; dot = dot }) (order len)) (range_with_len level.pat_start (level.pat_finish + 1 - level.pat_start))
-
--- a level begins with nothing hopeless
-abbrev pub level_start : State → LevelState
-level_start s = record { state = record s { hopeless = [] }; lines = []; chosen = 0; done = []; begun = 0 }
+passes_of number level = flat_map (passes_of_length number) (range_with_len level.pat_start (level.pat_finish + 1 - level.pat_start))
 
 -- the state at a level's end: nothing is hopeless, and the families lose the cells of strings that are no prefix of a pattern's
 abbrev pub state_at_end : State → State
@@ -150,29 +140,39 @@ state_at_end s = record { patterns = s.patterns; hopeless = []; families = optio
 abbrev pub layout_with_tails : State → Option (ℕ × ℕ × ℕ)
 layout_with_tails s = option_map (λ fs. (taken fs, top fs, tails s.patterns)) s.families
 
--- a run: its state, what it recorded, and how many passes cannot be skipped
+-- a run: its state, and what it recorded
 pub record Run : Type 0 where
   pub state : State
   pub passes : List PassLine
   pub levels : List LevelLine
-  pub begun : ℕ
 
--- a run after a level that ended so
+-- a level begins with nothing hopeless
+abbrev pub level_start : Run → LevelState
+level_start r = record { state = record r.state { hopeless = [] }; lines = r.passes; chosen = 0 }
+
+-- a run after a level that ended with this state
 abbrev pub after_level_state : Source → ℕ → Run → LevelState → State → Run
 after_level_state source number r l s = record {
   state = s;
-  passes = r.passes ++ l.lines;
+  passes = l.lines;
   levels = r.levels ++ record { level = number; chosen = l.chosen; after = totals source.minima source.words s.patterns; layout = layout_with_tails s } ∷ [];
-  begun = r.begun + l.begun;
 }
 
 abbrev pub ended_level : Source → ℕ → Run → LevelState → Run
 ended_level source number r l = after_level_state source number r l (state_at_end l.state)
 
+-- a level after all its passes
+abbrev pub level_of : Source → Run → ℕ × LevelParams → LevelState
+level_of source r e = fold (after_pass source e.1) (level_start r) (passes_of e.0 e.1)
+
 -- a run after a level
 abbrev pub after_level : Source → Run → ℕ × LevelParams → Run
-after_level source r e = ended_level source e.0 r (fold (after_pass source e.1) (level_start r.state) (passes_of e.0 e.1))
+after_level source r e = ended_level source e.0 r (level_of source r e)
 
--- the run from starting patterns and their families, where these are told
+-- a run begins with its starting patterns and their families, where these are told
+abbrev pub run_start : List ((List ℕ × ℕ) × ℕ) → Option Families → Run
+run_start S families = record { state = record { patterns = S; hopeless = []; families = families }; passes = []; levels = [] }
+
+-- the run over the levels of the parameters
 abbrev pub run : Source → Parameters → List ((List ℕ × ℕ) × ℕ) → Option Families → Run
-run source parameters S families = fold (after_level source) (record { state = record { patterns = S; hopeless = []; families = families }; passes = []; levels = []; begun = 0 }) (enumerate_from parameters.start parameters.levels)
+run source parameters S families = fold (after_level source) (run_start S families) (enumerate_from parameters.start parameters.levels)

@@ -1,2 +1,19 @@
-//! Stub.
+//! The driver: the run over levels and passes, for any engine.
 #![tactic(auto)]
+
+mod candidates;
+mod counted;
+mod dots;
+mod levels;
+mod level;
+mod marks;
+mod pass;
+mod records;
+mod run;
+mod sums;
+mod words;
+
+pub use levels::generate;
+pub use records::{LevelRecord, PassRecord};
+pub use run::Run;
+pub use sums::totals;

@@ -1,0 +1,42 @@
+-- What every record of a run keeps, and what a run is seen as.
+use Rattle.std.specs.Prelude.{◌≡◌, ℕ, ◌+◌, ◌^◌, ◌<◌, ◌≤◌, nat_lt, if◌then◌else◌, List, [], ◌∷◌, ◌++◌, Option, All}
+use Rattle.pg_types.specs.declared.marks.Layout.{Layout}
+use Rattle.pg_types.specs.declared.marks.Totals.{Totals}
+use Rattle.pg_driver.specs.declared.records.PassRecord.{PassRecord}
+use Rattle.pg_driver.specs.declared.records.LevelRecord.{LevelRecord}
+use Rattle.pg_driver.specs.Counting.{sum_of}
+
+-- the sums of totals together are below 2^40
+abbrev pub IsSmall : Totals → Type 0
+IsSmall t = sum_of t < 2 ^ 40
+
+-- a pass chooses and gives up no more than its candidates, and its totals are small
+pub record IsSoundPass (r : PassRecord) : Type 0 where
+  pub settled : r.chosen + r.hopeless ≤ r.candidates
+  pub before : IsSmall r.before
+
+-- the totals after a level are small
+pub record IsSoundLevel (r : LevelRecord) : Type 0 where
+  pub after : IsSmall r.after
+
+-- what a run has recorded so far: the records of its passes and levels, and how many windows the level that goes on has chosen
+pub record Recorded : Type 0 where
+  pub passes : List PassRecord
+  pub levels : List LevelRecord
+  pub chosen : ℕ
+
+-- with a pass more, which has a record where it has a candidate
+abbrev pub with_pass : Recorded → PassRecord → Recorded
+with_pass r pass = record r { passes = if nat_lt 0 pass.candidates then r.passes ++ pass ∷ [] else r.passes; chosen = r.chosen + pass.chosen }
+
+-- with the end of a level
+abbrev pub with_level : Recorded → ℕ → Totals → Option Layout → Recorded
+with_level r level after layout = record r { levels = r.levels ++ record { level = level; chosen = r.chosen; after = after; layout = layout } ∷ []; chosen = 0 }
+
+-- a run that is done: its patterns, its records, the totals of the patterns, and the layout at its start
+pub record Finished : Type 0 where
+  pub patterns : List ((List ℕ × ℕ) × ℕ)
+  pub passes : List PassRecord
+  pub levels : List LevelRecord
+  pub totals : Totals
+  pub first_layout : Option Layout

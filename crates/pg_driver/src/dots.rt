@@ -1,0 +1,21 @@
+//! The order of the dots of a length.
+ghost use Rattle.std.specs.Prelude.{◌≡◌, ◌≤◌};
+ghost use Rattle.pg_types.specs.declared.limits.TheConstants.{LENGTH_MAX};
+ghost use Rattle.pg_driver.specs.Dots.{dot_at as place_of};
+
+/// The dot at place `k`, counted from 0, of the passes of a length: from the middle outwards, first to the left where the length
+/// is even, and first to the right where it is odd (the organ-pipe order of patgen 2.4).
+pub fn dot_at(len: u8, k: u8) -> u8
+    requires len { len ≤ LENGTH_MAX }
+    requires place { k ≤ len }
+    ensures dot { result ≡ place_of len k }
+    ensures within { result ≤ len }
+{
+    let middle = len / 2;
+    let step = (k + 1) / 2;
+    if (len + k) % 2 == 0 {
+        middle + step
+    } else {
+        middle - step
+    }
+}
