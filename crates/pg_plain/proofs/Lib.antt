@@ -1,0 +1,10 @@
+pub mod Tests
+pub mod Greatest
+pub mod Orders
+pub mod Maps
+pub mod Rows
+pub mod Strings
+pub mod Starts
+pub mod Covers
+pub mod Counted
+pub mod Entered

@@ -1,0 +1,10 @@
+use Rattle.std.proofs.Common.{nat_cmp, ◌∙◌}
+use Rattle.std.specs.Cmp.Lexicographic.{slice_cmp}
+use Rattle.pg_plain.proofs.Maps.{sorted_from}
+use Rattle.pg_plain.proofs.Counted.{next_above}
+use Rattle.pg_plain.proofs.counts.next_behind.Goals as goal
+
+pub returns : goal.returns
+returns c =
+    next_above c.args.counts.now.entries c.next.new.self c.range-behind.result c.args.at.now c.set.new.self (c.in_ok-window.window.now, c.in_ok-window.sums.now) (sorted_from (slice_cmp nat_cmp) c.args.counts.now.entries c.range-behind.ensures.ordered)
+    (c.range-behind.ensures.between tt) c.in_ok-window.ensures.steps (c.set.ensures ∙ c.signs.ensures.value)

@@ -1,0 +1,12 @@
+use Rattle.std.proofs.Common.{◌≡◌, true, length, sym, ap, subst, ◌∙◌}
+use Rattle.pg_patterns.specs.Values.{is_entry}
+use Rattle.pg_plain.proofs.Counted.{counted_len}
+use Rattle.pg_plain.proofs.Entered.{window_entry}
+use Rattle.pg_plain.proofs.engine.PlainEngineEngine.choose.Goals as goal
+
+pub invariant_of-self-clause-entries : goal.invariant_of-self-clause-entries
+invariant_of-self-clause-entries c =
+    let size : length c.signs.result.now ≡ c.args.self.now.pass.len = ap (λ x. length x) c.signs.ensures.value ∙ counted_len c.args.self.now.counts.entries c.args.at.now c.args.self.now.pass.len c.requires c.args.self.now.windows in
+    c.raise_in.ensures.kept c.args.self.now.entries
+    (subst (λ k. is_entry (k, c.args.self.now.pass.level) ≡ true) (sym c.new-place.ensures)
+     (window_entry c.signs.result.now c.args.self.now.pass.dot c.args.self.now.pass.level c.args.self.now.pass.len size c.signs.ensures.signs c.args.self.now.len.0 c.args.self.now.len.1 c.args.self.now.dot c.args.self.now.level.0 c.args.self.now.level.1))

@@ -1,0 +1,4 @@
+pub mod Strings
+pub mod Forces
+pub mod Walks
+pub mod Engines

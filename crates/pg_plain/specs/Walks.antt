@@ -1,0 +1,25 @@
+-- The entries that apply in a word, from string to string.
+use Rattle.std.specs.Prelude.{ℕ, ◌+◌, ◌-◌, Bool, not, ◌&&◌, nat_le, nat_eq, List, length}
+use Rattle.std.specs.List.{starts_with}
+use Rattle.std.specs.Cmp.Lexicographic.{pointwise}
+use Rattle.pg_patterns.specs.Values.{stands_at, applies}
+
+-- the signs of k are q, which stand in a word from i on, and its dot is at position p
+abbrev pub is_row : List ℕ → ℕ → ℕ → List ℕ × ℕ → Bool
+is_row q i p k = pointwise nat_eq k.0 q && nat_eq (i + k.1) p
+
+-- the string r begins with q and is longer
+abbrev pub goes_on : List ℕ → List ℕ → Bool
+goes_on q r = starts_with nat_eq r q && not (pointwise nat_eq r q)
+
+-- the signs of k stand in w from i on, with its dot at position p
+abbrev pub begins : List ℕ → ℕ → ℕ → List ℕ × ℕ → Bool
+begins w i p k = nat_eq (i + k.1) p && stands_at k.0 w i
+
+-- the same, for at least n signs
+abbrev pub longer : List ℕ → ℕ → ℕ → ℕ → List ℕ × ℕ → Bool
+longer w i n p k = begins w i p k && nat_le n (length k.0)
+
+-- the signs of k stand in w with the dot at position p, and not before i
+abbrev pub later : List ℕ → ℕ → ℕ → List ℕ × ℕ → Bool
+later w i p k = applies w p k && nat_le i (p - k.1)

@@ -1,0 +1,79 @@
+//! The windows that are counted in a pass, in the order of signs, each with its sums of good and bad weights.
+ghost use Rattle.std.specs.Prelude.{◌≡◌, ℕ, true, [], ◌∷◌, nat_eq, length, OnOk, OnErr, IsOk, MatchOption};
+ghost use Rattle.std.specs.Bool.{OnTrue, OnFalse};
+ghost use Rattle.std.specs.List.{list_all};
+ghost use Rattle.pg_select.specs.Meanings.{AreSmall, sums_of, with_weight, with_sight, is_counted, above};
+
+use pg_types::Cursor;
+use std::alloc::AllocError;
+use std::collections::BTreeMap;
+use std::ops::Bound;
+
+/// Adds `weight` to the good or the bad sum of a window. A window that is counted already takes no memory.
+pub fn add(
+    counts: &mut BTreeMap<Cursor, (u64, u64)>,
+    window: Cursor,
+    good: bool,
+    weight: u64,
+) -> Result<(), AllocError>
+    requires { AreSmall (with_weight (sums_of counts.old.entries window) good weight) }
+    ensures ok { OnOk result (counts.new.entries ≡ with_sight counts.old.entries (record { window = window; good = good; weight = weight })) }
+    ensures there { is_counted counts.old.entries window ≡ true → IsOk result }
+    ensures err { OnErr result (counts.new.entries ≡ counts.old.entries) }
+    ensures kept { (len : ℕ) → length window ≡ len → list_all (λ e. nat_eq (length e.0) len) counts.old.entries ≡ true → list_all (λ e. nat_eq (length e.0) len) counts.new.entries ≡ true }
+{
+    if add_there(counts, &window, good, weight) {
+        return Ok(());
+    }
+    counts.insert(window, added((0, 0), good, weight))?;
+    Ok(())
+}
+
+/// Adds to the sums of a window that is counted; false where it is not.
+fn add_there(
+    counts: &mut BTreeMap<Cursor, (u64, u64)>,
+    window: &Cursor,
+    good: bool,
+    weight: u64,
+) -> bool
+    requires { AreSmall (with_weight (sums_of counts.old.entries window.now) good weight) }
+    ensures told { result ≡ is_counted counts.old.entries window.now }
+    ensures there { OnTrue result (counts.new.entries ≡ with_sight counts.old.entries (record { window = window.now; good = good; weight = weight })) }
+    ensures absent { OnFalse result (counts.new.entries ≡ counts.old.entries) }
+{
+    match counts.get_mut(window) {
+        None => false,
+        Some(sums) => {
+            let more = added(*sums, good, weight);
+            *sums = more;
+            true
+        }
+    }
+}
+
+/// Sums with one weight more.
+fn added(sums: (u64, u64), good: bool, weight: u64) -> (u64, u64)
+    requires { AreSmall (with_weight sums good weight) }
+    ensures { result ≡ with_weight sums good weight }
+{
+    if good {
+        (sums.0 + weight, sums.1)
+    } else {
+        (sums.0, sums.1 + weight)
+    }
+}
+
+/// Moves the cursor to the least window that is greater, and gives its sums; none where there is no such window. It takes no
+/// memory.
+pub fn next_behind(
+    counts: &BTreeMap<Cursor, (u64, u64)>,
+    at: &mut Cursor,
+) -> Option<(u64, u64)>
+    ensures { MatchOption result ((above at.old counts.now.entries ≡ []) × (at.new ≡ at.old)) (λ sums. above at.old counts.now.entries ≡ (at.new, sums) ∷ above at.new counts.now.entries) }
+{
+    let mut behind = counts.range((Bound::Excluded(&*at), Bound::Unbounded));
+    let (window, sums) = behind.next()?;
+    let sums = *sums;
+    at.set(window.signs());
+    Some(sums)
+}

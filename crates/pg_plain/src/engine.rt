@@ -1,0 +1,115 @@
+//! The plain engine.
+ghost use Rattle.std.specs.Prelude.{◌≡◌, ℕ, ◌≤◌, true, nat_eq, length};
+ghost use Rattle.std.specs.List.{list_all};
+ghost use Rattle.pg_types.specs.declared.limits.TheConstants.{LEVEL_MAX, LENGTH_MAX};
+ghost use Rattle.pg_patterns.specs.Values.{is_entry};
+ghost use Rattle.pg_plain.specs.Strings.{is_string};
+
+use crate::counts::{add, next_behind};
+use crate::pass::Pass;
+use crate::places::{map_of, put_in, raise_in, set_of};
+use crate::walk::walk;
+use pg_dict::WordRef;
+use pg_patterns::{PatternSet, Place};
+use pg_select::{Engine, WordState};
+use pg_types::{Cursor, Layout, Sign, Weight};
+use std::alloc::{AllocError, Global};
+use std::collections::BTreeMap;
+
+/// An [`Engine`] over ordered maps, which tells no families.
+///
+/// A word costs a look-up for each of its strings up to the longest that a pattern begins with. A window that is counted,
+/// chosen or given up costs a look-up, and to begin a pass or end a level costs at most the size of what is emptied.
+#[derive(Drop)]
+pub struct PlainEngine {
+    signs: u16,
+    patterns: BTreeMap<Place, u8>,
+    hopeless: BTreeMap<Place, ()>,
+    counts: BTreeMap<Cursor, (u64, u64)>,
+    pass: Pass,
+    begun: u64,
+    ghost entries: { list_all is_entry patterns.entries ≡ true },
+    ghost strings: { list_all (λ e. is_string e.0) hopeless.entries ≡ true },
+    ghost windows: { list_all (λ e. nat_eq (length e.0) pass.len) counts.entries ≡ true },
+    ghost level: { (1 ≤ pass.level) × (pass.level ≤ LEVEL_MAX) },
+    ghost len: { (1 ≤ pass.len) × (pass.len ≤ LENGTH_MAX) },
+    ghost dot: { pass.dot ≤ pass.len },
+}
+
+impl PlainEngine {
+    ghost use Rattle.std.specs.Prelude.{◌≡◌, IfOk};
+    ghost use Rattle.pg_plain.specs.Engines.{meaning_of, fresh};
+
+    /// An engine with the greatest sign `signs` whose patterns are those of `start`. Nothing is hopeless or counted, no pass
+    /// was begun, and the engine is tidy.
+    pub fn new(alloc: Global, signs: u16, start: &PatternSet) -> Result<PlainEngine, AllocError>
+        ensures { IfOk result (λ engine. meaning_of engine ≡ fresh signs start.now) }
+    {
+        Ok(PlainEngine {
+            signs,
+            patterns: map_of(alloc, start)?,
+            hopeless: BTreeMap::new(alloc),
+            counts: BTreeMap::new(alloc),
+            pass: Pass {
+                level: 1,
+                len: 1,
+                dot: 0,
+            },
+            begun: 0,
+        })
+    }
+}
+
+impl Engine for PlainEngine {
+    ghost use Rattle.pg_plain.specs.Engines.{meaning_of};
+
+    ghost meaning = { meaning_of };
+
+    fn begin_pass(&mut self, level: u8, len: u8, dot: u8) {
+        self.counts.clear();
+        self.pass = Pass { level, len, dot };
+        self.begun += 1;
+    }
+
+    fn hyphenate(&self, w: WordRef<'_>, out: &mut WordState) {
+        *out = WordState::new();
+        walk(&self.patterns, w.signs, &self.pass, out);
+        walk(&self.hopeless, w.signs, &self.pass, out);
+    }
+
+    fn count(&mut self, window: &[Sign], good: bool, weight: Weight) -> Result<(), AllocError> {
+        let mut at = Cursor::start();
+        at.set(window);
+        add(&mut self.counts, at, good, u64::from(weight))?;
+        Ok(())
+    }
+
+    fn next_candidate(&self, at: &mut Cursor) -> Option<(u64, u64)> {
+        next_behind(&self.counts, at)
+    }
+
+    fn choose(&mut self, at: &Cursor) -> Result<(), AllocError> {
+        let place = Place::new(at.signs(), self.pass.dot);
+        raise_in(&mut self.patterns, place, self.pass.level)?;
+        Ok(())
+    }
+
+    fn give_up(&mut self, at: &Cursor) -> Result<(), AllocError> {
+        let place = Place::new(at.signs(), self.pass.dot);
+        put_in(&mut self.hopeless, place)?;
+        Ok(())
+    }
+
+    fn end_level(&mut self) -> Result<(), AllocError> {
+        self.hopeless.clear();
+        Ok(())
+    }
+
+    fn copy_patterns(&self, alloc: Global) -> Result<PatternSet, AllocError> {
+        set_of(alloc, &self.patterns)
+    }
+
+    fn layout(&self) -> Option<Layout> {
+        None
+    }
+}
