@@ -1,0 +1,4 @@
+pub mod Parts
+pub mod Sevens
+pub mod Fronts
+pub mod SelectedSigns
