@@ -1,5 +1,5 @@
 -- The first bytes of a file, one more than a file may have, are read as the whole file is.
-use Rattle.std.proofs.Common.{◌≡◌, ℕ, ◌+◌, ◌<◌, ◌≤◌, nat_lt, Bool, true, false, cond, List, [], ◌∷◌, length, take, Option, None, Some, Result, Ok, Err, IfSome, MatchOption, sym, refl, ap, ◌∙◌, arith}
+use Rattle.std.proofs.Common.{◌≡◌, ℕ, ◌+◌, ◌<◌, ◌≤◌, ◌==◌, nat_lt, Bool, true, false, cond, List, [], ◌∷◌, length, take, Option, None, Some, Result, Ok, Err, IfSome, MatchOption, sym, refl, ap, ◌∙◌, arith}
 use Rattle.std.proofs.lemmas.Bool.{ltb-true, ltb-false, lt-ltb}
 use Rattle.std.proofs.lemmas.List.{take_all, length-take-le}
 use Rattle.std.specs.Option.{option_map}
@@ -7,12 +7,14 @@ use Rattle.pg_types.specs.declared.limits.TheConstants.{FILE_MAX}
 use Rattle.pg_types.specs.declared.refusals.Refusal.{Refusal}
 use Rattle.pg_types.specs.declared.refusals.ReadingError.{ReadingError}
 use Rattle.pg_types.specs.declared.refusals.ReadingError.TheVariants as reader
-use Rattle.pg_types.specs.Parameters.{parameters}
-use Rattle.pg_types.specs.Reading.{Fails}
+use Rattle.pg_types.specs.declared.refusals.Kind.TheVariants.{ParametersTooLong, DictionaryTooLong}
+use Rattle.pg_types.specs.Lines.{lines}
+use Rattle.pg_types.specs.Parameters.{parameters, parameters_of, items, demands, refusal_from, refused_at}
+use Rattle.pg_types.specs.Reading.{Fails, unless}
 use Rattle.pg_outside.specs.Content.{FileMap, file_at, IsCut}
 use Rattle.pg_translate.specs.Alphabets.{Alphabet}
-use Rattle.pg_dict.specs.Words.{words}
-use Rattle.pg_top.specs.Reads.{only_empty, read_as}
+use Rattle.pg_dict.specs.Words.{words, words_from, refused}
+use Rattle.pg_top.specs.Reads.{not_built, only_empty, read_as}
 use Rattle.pg_top.specs.Stops.{StopsInput, stop_of}
 use Rattle.pg_top.specs.declared.inputs.Input.{Input}
 
@@ -45,14 +47,19 @@ abbrev pub IsReadByFront : {Y : Type 0} → (List ℕ → Result Y Refusal) → 
 IsReadByFront parse = (whole : List ℕ) → parse (take (FILE_MAX + 1) whole) ≡ parse whole
 
 pub parameters-front : IsReadByFront parameters
-parameters-front whole = limited _ _ FILE_MAX whole
+parameters-front whole = limited (Err (refused_at 0 ParametersTooLong)) (λ bytes. unless (refusal_from 1 (demands (items bytes)) (items bytes)) (parameters_of (items bytes))) FILE_MAX whole
 
 pub words-front : (t : Alphabet) → IsReadByFront (words t)
-words-front t whole = limited _ _ FILE_MAX whole
+words-front t whole = limited (Err (refused 0 DictionaryTooLong 0)) (λ bytes. words_from t 1 1 (lines bytes)) FILE_MAX whole
 
 pub only_empty-front : {Y : Type 0} (y : Y) → IsReadByFront (only_empty y)
 only_empty-front y [] = refl
 only_empty-front y (b ∷ bs) = refl
+
+-- a file that has bytes is refused where only one without any is accepted
+pub only_empty_refuses : {Y : Type 0} (y : Y) (bytes : List ℕ) → (length bytes == 0) ≡ false → only_empty y bytes ≡ Err not_built
+only_empty_refuses y [] filled = cc
+only_empty_refuses y (b ∷ bs) filled = refl
 
 -- a file that is not too long is its first bytes
 pub front_of_held : (held : Option FileMap) (name bytes : List ℕ) (n : ℕ) → IfSome held (λ files. file_at files name ≡ Some bytes) → length bytes ≤ n → IfSome held (λ files. option_map (take (n + 1)) (file_at files name) ≡ Some bytes)

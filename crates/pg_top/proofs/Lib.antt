@@ -2,3 +2,4 @@ pub mod Parts
 pub mod Sevens
 pub mod Fronts
 pub mod SelectedSigns
+pub mod Selecting

@@ -1,5 +1,5 @@
 -- Parts of a text that is put piece by piece.
-use Rattle.std.proofs.Common.{◌≡◌, ℕ, zero, suc, ◌+◌, List, [], ◌∷◌, ◌++◌, length, take, Option, None, Some, sym, refl, ap, ◌∙◌, append_assoc}
+use Rattle.std.proofs.Common.{◌≡◌, ℕ, zero, suc, ◌+◌, List, [], ◌∷◌, ◌++◌, length, take, Option, None, Some, Result, Ok, Err, OnErr, sym, refl, ap, ◌∙◌, append_assoc}
 use Rattle.std.proofs.Math.Seq.{take-append-add}
 use Rattle.pg_outside.specs.Content.{WasPut, WasPartPut}
 
@@ -8,6 +8,16 @@ front_of : (k : ℕ) (a b : List ℕ) → (j : ℕ) × (take j (a ++ b) ≡ take
 front_of zero a b = (0, refl)
 front_of (suc k) [] b = (0, refl)
 front_of (suc k) (x ∷ a) b = let rest : (j : ℕ) × (take j (a ++ b) ≡ take k a) = front_of k a b in (suc rest.0, ap (λ t. x ∷ t) rest.1)
+
+-- what is so is so where there is an error
+pub on_err : {X E : Type 0} (r : Result X E) {P : Type 0} → P → OnErr r P
+on_err (Ok x) p = tt
+on_err (Err e) p = p
+
+-- what follows from what is so where there is an error
+pub on_err_also : {X E : Type 0} (r : Result X E) {P Q : Type 0} → (P → Q) → OnErr r P → OnErr r Q
+on_err_also (Ok x) f p = tt
+on_err_also (Err e) f p = f p
 
 -- where a part of the first piece was put, a part of all was
 pub part_of_first : (old new : Option (List ℕ)) (a b : List ℕ) → WasPartPut old new a → WasPartPut old new (a ++ b)

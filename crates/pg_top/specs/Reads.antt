@@ -13,14 +13,22 @@ use Rattle.pg_top.specs.Requests.{GenerateNames}
 use Rattle.pg_top.specs.declared.inputs.Input.{Input}
 use Rattle.pg_top.specs.declared.inputs.Input.TheVariants.{Translate, Parameters as ParametersFile, Patterns, Dictionary}
 
+-- the refusal of a file whose reader is not built yet
+abbrev pub not_built : Refusal
+not_built = record { kind = NotBuilt; line = 0; column = 0 }
+
 -- a file that is accepted only where it has no bytes, and means this value then; its reader is not built yet
 abbrev pub only_empty : {Y : Type 0} → Y → List ℕ → Result Y Refusal
 only_empty y [] = Ok y
-only_empty y (b ∷ bs) = Err (record { kind = NotBuilt; line = 0; column = 0 })
+only_empty y (b ∷ bs) = Err not_built
 
 -- the file of a name, read by the rules of its kind; none where the name is not held
 abbrev pub read_as : {Y : Type 0} → (List ℕ → Result Y Refusal) → FileMap → List ℕ → Option (Result Y Refusal)
 read_as parse files name = option_map parse (file_at files name)
+
+-- no patterns
+abbrev pub no_patterns : List ((List ℕ × ℕ) × ℕ)
+no_patterns = []
 
 -- the inputs of `generate`
 abbrev pub table_in : FileMap → GenerateNames → Option (Result Alphabet Refusal)
@@ -30,7 +38,7 @@ abbrev pub parameters_in : FileMap → GenerateNames → Option (Result Paramete
 parameters_in files n = read_as parameters files n.params
 
 abbrev pub start_in : FileMap → GenerateNames → Option (Result (List ((List ℕ × ℕ) × ℕ)) Refusal)
-start_in files n = read_as (only_empty []) files n.patterns
+start_in files n = read_as (only_empty no_patterns) files n.patterns
 
 abbrev pub words_in : Alphabet → FileMap → GenerateNames → Option (Result (List Word) Refusal)
 words_in t files n = read_as (words t) files n.dict

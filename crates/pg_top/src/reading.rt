@@ -12,7 +12,7 @@ ghost use Rattle.pg_dict.specs.Words.{words};
 ghost use Rattle.pg_patterns.specs.Values.{SignsUpTo};
 ghost use Rattle.pg_top.specs.Commands.{texts_of};
 ghost use Rattle.pg_top.specs.Outcomes.{outcome_of, generated};
-ghost use Rattle.pg_top.specs.Reads.{only_empty, read_as};
+ghost use Rattle.pg_top.specs.Reads.{not_built as not_built_refusal, no_patterns, only_empty, read_as};
 ghost use Rattle.pg_top.specs.Requests.{ToGenerate};
 ghost use Rattle.pg_top.specs.Stops.{stop_of, StopsFront, StopsInput, StopsGenerate};
 
@@ -61,7 +61,9 @@ fn read_front<F: Files>(
 }
 
 /// The refusal of a file that has bytes, and whose reader is not built yet.
-fn not_built() -> ReadingError {
+fn not_built() -> ReadingError
+    ensures { result ≡ ReadingError.Refused not_built_refusal }
+{
     ReadingError::Refused(Refusal {
         kind: Kind::NotBuilt,
         line: 0,
@@ -82,7 +84,7 @@ fn table_of(alloc: Global, bytes: &[u8]) -> Result<Table, ReadingError>
 
 /// The patterns of a pattern file. Only a file of no bytes is accepted yet, and has none.
 fn patterns_of(alloc: Global, bytes: &[u8]) -> Result<PatternSet, ReadingError>
-    ensures { Gives (λ patterns. patterns) result (only_empty [] bytes.now) }
+    ensures { Gives (λ patterns. patterns) result (only_empty no_patterns bytes.now) }
 {
     if !bytes.is_empty() {
         return Err(not_built());
@@ -135,9 +137,9 @@ fn read_start<F: Files>(alloc: Global, name: &str, files: &mut F) -> Result<Patt
     ensures held { KeepsHeld (F.held files.old) (F.held files.new) }
     ensures reads { NoneFell (F.read_faults files.old) (F.read_faults files.new) }
     ensures writes { NoneFell (F.write_faults files.old) (F.write_faults files.new) }
-    ensures ok { IfOk result (λ start. IfSome (F.held files.new) (λ files. read_as (only_empty []) files name.now ≡ Some (Ok start))) }
+    ensures ok { IfOk result (λ start. IfSome (F.held files.new) (λ files. read_as (only_empty no_patterns) files name.now ≡ Some (Ok start))) }
     ensures empty { IfOk result (λ start. start ≡ []) }
-    ensures stopped { IfErr result (StopsInput (only_empty []) Input.Patterns name.now (F.held files.new) (F.read_faults files.old) (F.read_faults files.new)) }
+    ensures stopped { IfErr result (StopsInput (only_empty no_patterns) Input.Patterns name.now (F.held files.new) (F.read_faults files.old) (F.read_faults files.new)) }
 {
     let bytes = read_front(alloc, Input::Patterns, name, files)?;
     match patterns_of(alloc, &bytes) {

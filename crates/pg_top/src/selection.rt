@@ -31,13 +31,14 @@ fn select(alloc: Global, inputs: &Inputs) -> Result<Run, AllocError>
 {
     let signs = inputs.table.letters() + 1;
     let mut engine = PlainEngine::new(alloc, signs, &inputs.start)?;
-    generate(
+    let run = generate(
         alloc,
         &mut engine,
         &inputs.dictionary,
         &inputs.table,
         &inputs.params,
-    )
+    )?;
+    Ok(run)
 }
 
 /// Does the run of the inputs, and builds all that is written and printed.

@@ -1,8 +1,8 @@
 //! The one call of the program.
-ghost use Rattle.std.specs.Prelude.{◌≡◌, ◌∷◌, [], IfOk, IfErr, IfSome};
+ghost use Rattle.std.specs.Prelude.{◌≡◌, ◌∷◌, [], IfOk, IfErr, IfSome, None, Some};
 ghost use Rattle.pg_outside.specs.Content.{KeepsHeld, WasPut};
 ghost use Rattle.pg_outside.specs.Faults.{NoneFell};
-ghost use Rattle.pg_top.specs.Answers.{Call, OfFiles, OfRequest, LeavesFiles, PutsRefusal, WritesAll, SomeRose, IsFault, IsFaultOf, IsComplete};
+ghost use Rattle.pg_top.specs.Answers.{Call, OfFiles, OfRequest, LeavesFiles, PutsRefusal, WritesAll, SomeRose, IsFault, IsComplete};
 ghost use Rattle.pg_top.specs.Commands.{texts_of, words_of};
 ghost use Rattle.pg_top.specs.Outcomes.{Writes, outcome_of};
 ghost use Rattle.pg_top.specs.PrintedLines.{usage_line};
@@ -46,7 +46,7 @@ fn generate<F: Files, O: Sink>(
     ensures refused { result ≡ Status.Refused → IfSome (F.held files.new) (λ files. PutsRefusal (O.contents out.old) (O.contents out.new) (outcome_of files (ToGenerate (texts_of names.now)))) }
     ensures done { result ≡ Status.Done → OfFiles (F.held files.old) (F.held files.new) (λ before after. WritesAll before after (O.contents out.old) (O.contents out.new) (outcome_of before (ToGenerate (texts_of names.now)))) }
     ensures fault { result ≡ Status.Fault → SomeRose (Some (ToGenerate (texts_of names.now))) (F.read_faults files.old) (F.read_faults files.new) (F.write_faults files.old) (F.write_faults files.new) (O.faults out.old) (O.faults out.new) }
-    ensures faulted { result ≡ Status.Fault → IsFaultOf (record { held_old = F.held files.old; held_new = F.held files.new; reads_old = F.read_faults files.old; reads_new = F.read_faults files.new; writes_old = F.write_faults files.old; writes_new = F.write_faults files.new; text_old = O.contents out.old; text_new = O.contents out.new; puts_old = O.faults out.old; puts_new = O.faults out.new }) (ToGenerate (texts_of names.now)) }
+    ensures faulted { result ≡ Status.Fault → IsFault (record { held_old = F.held files.old; held_new = F.held files.new; reads_old = F.read_faults files.old; reads_new = F.read_faults files.new; writes_old = F.write_faults files.old; writes_new = F.write_faults files.new; text_old = O.contents out.old; text_new = O.contents out.new; puts_old = O.faults out.old; puts_new = O.faults out.new }) (Some (ToGenerate (texts_of names.now))) }
     ensures complete { ¬ SomeRose (Some (ToGenerate (texts_of names.now))) (F.read_faults files.old) (F.read_faults files.new) (F.write_faults files.old) (F.write_faults files.new) (O.faults out.old) (O.faults out.new) → IsComplete result (F.held files.old) (F.held files.new) (Some (ToGenerate (texts_of names.now))) }
 {
     match prepare(alloc, names, files) {

@@ -4,9 +4,9 @@ use Rattle.pg_top.proofs.printed.count_lines.Given as goal
 
 abbrev pub invariant-lines : goal.invariant-lines
 invariant-lines l = record {
-  counted : l.count + length (lines l.rest.now) ≡ length (lines l.text.now);
-  few : l.count + length l.rest.now ≤ length l.text.now;
+  counted : l.count + length (lines l.rest) ≡ length (lines l.text);
+  few : l.count + length l.rest ≤ length l.text;
 }
 
 abbrev pub decreases-lines : goal.decreases-lines
-decreases-lines l = length l.rest.now
+decreases-lines l = length l.rest
