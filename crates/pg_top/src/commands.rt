@@ -42,3 +42,18 @@ pub enum Command<'a> {
     /// To select patterns and write them.
     Generate(Names<'a>),
 }
+
+impl<'a> Command<'a> {
+    ghost use Rattle.std.specs.Prelude.{◌≡◌};
+    ghost use Rattle.pg_top.specs.Commands.{asked_by, texts_of};
+    ghost use Rattle.pg_top.specs.Requests.{ToGenerate};
+
+    /// The names that `generate`, the one command, is given.
+    pub fn names(&self) -> &Names<'a>
+        ensures { asked_by self.now ≡ ToGenerate (texts_of result.now) }
+    {
+        match self {
+            Command::Generate(names) => names,
+        }
+    }
+}

@@ -8,10 +8,12 @@ mod printed;
 mod puts;
 mod reading;
 mod selection;
+#[cfg(test)]
+mod tests;
 mod top;
 pub mod words;
 
 pub use answers::{Status, exit_code};
 pub use commands::{Command, Names};
-pub use words::command;
 pub use top::run;
+pub use words::command;

@@ -1,5 +1,5 @@
 //! The one call of the program.
-ghost use Rattle.std.specs.Prelude.{◌≡◌, ◌∷◌, [], IfOk, IfErr, IfSome, None, Some};
+ghost use Rattle.std.specs.Prelude.{◌≡◌, ◌⊎◌, ◌∷◌, [], IfOk, IfErr, IfSome, None, Some};
 ghost use Rattle.pg_outside.specs.Content.{KeepsHeld, WasPut};
 ghost use Rattle.pg_outside.specs.Faults.{NoneFell};
 ghost use Rattle.pg_top.specs.Answers.{Call, OfFiles, OfRequest, LeavesFiles, PutsRefusal, WritesAll, SomeRose, IsFault, IsComplete};
@@ -10,7 +10,7 @@ ghost use Rattle.pg_top.specs.Requests.{ToGenerate, request_of};
 ghost use Rattle.pg_top.specs.Stops.{StopsGenerate};
 
 use crate::answers::Status;
-use crate::commands::{Command, Names};
+use crate::commands::Names;
 use crate::inputs::Stop;
 use crate::printed::{READING, USAGE, WRITING, refused_line};
 use crate::puts::{answer, put_fault};
@@ -47,7 +47,7 @@ fn generate<F: Files, O: Sink>(
     ensures done { result ≡ Status.Done → OfFiles (F.held files.old) (F.held files.new) (λ before after. WritesAll before after (O.contents out.old) (O.contents out.new) (outcome_of before (ToGenerate (texts_of names.now)))) }
     ensures fault { result ≡ Status.Fault → SomeRose (Some (ToGenerate (texts_of names.now))) (F.read_faults files.old) (F.read_faults files.new) (F.write_faults files.old) (F.write_faults files.new) (O.faults out.old) (O.faults out.new) }
     ensures faulted { result ≡ Status.Fault → IsFault (record { held_old = F.held files.old; held_new = F.held files.new; reads_old = F.read_faults files.old; reads_new = F.read_faults files.new; writes_old = F.write_faults files.old; writes_new = F.write_faults files.new; text_old = O.contents out.old; text_new = O.contents out.new; puts_old = O.faults out.old; puts_new = O.faults out.new }) (Some (ToGenerate (texts_of names.now))) }
-    ensures complete { ¬ SomeRose (Some (ToGenerate (texts_of names.now))) (F.read_faults files.old) (F.read_faults files.new) (F.write_faults files.old) (F.write_faults files.new) (O.faults out.old) (O.faults out.new) → IsComplete result (F.held files.old) (F.held files.new) (Some (ToGenerate (texts_of names.now))) }
+    ensures complete { SomeRose (Some (ToGenerate (texts_of names.now))) (F.read_faults files.old) (F.read_faults files.new) (F.write_faults files.old) (F.write_faults files.new) (O.faults out.old) (O.faults out.new) ⊎ IsComplete result (F.held files.old) (F.held files.new) (Some (ToGenerate (texts_of names.now))) }
 {
     match prepare(alloc, names, files) {
         Ok(texts) => match files.write(names.output, &texts.patterns) {
@@ -90,10 +90,10 @@ pub fn run<F: Files, O: Sink>(
     ensures done { result ≡ Status.Done → OfRequest (request_of (words_of words.now)) (λ request. OfFiles (F.held files.old) (F.held files.new) (λ before after. WritesAll before after (O.contents out.old) (O.contents out.new) (outcome_of before request))) }
     ensures fault { result ≡ Status.Fault → SomeRose (request_of (words_of words.now)) (F.read_faults files.old) (F.read_faults files.new) (F.write_faults files.old) (F.write_faults files.new) (O.faults out.old) (O.faults out.new) }
     ensures faulted { result ≡ Status.Fault → IsFault (record { held_old = F.held files.old; held_new = F.held files.new; reads_old = F.read_faults files.old; reads_new = F.read_faults files.new; writes_old = F.write_faults files.old; writes_new = F.write_faults files.new; text_old = O.contents out.old; text_new = O.contents out.new; puts_old = O.faults out.old; puts_new = O.faults out.new }) (request_of (words_of words.now)) }
-    ensures complete { ¬ SomeRose (request_of (words_of words.now)) (F.read_faults files.old) (F.read_faults files.new) (F.write_faults files.old) (F.write_faults files.new) (O.faults out.old) (O.faults out.new) → IsComplete result (F.held files.old) (F.held files.new) (request_of (words_of words.now)) }
+    ensures complete { SomeRose (request_of (words_of words.now)) (F.read_faults files.old) (F.read_faults files.new) (F.write_faults files.old) (F.write_faults files.new) (O.faults out.old) (O.faults out.new) ⊎ IsComplete result (F.held files.old) (F.held files.new) (request_of (words_of words.now)) }
 {
     match command(words) {
         None => answer(out, USAGE, Status::Usage),
-        Some(Command::Generate(names)) => generate(alloc, &names, files, out),
+        Some(command) => generate(alloc, command.names(), files, out),
     }
 }

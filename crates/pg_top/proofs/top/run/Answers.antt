@@ -1,8 +1,14 @@
-use Rattle.std.proofs.Common.{subst}
-use Rattle.pg_top.specs.Answers.{SomeRose, IsComplete}
+use Rattle.std.proofs.Common.{◌≡◌, ◌∙◌, ap, subst, sym, Some}
+use Rattle.pg_top.specs.Answers.{IsFault}
+use Rattle.pg_top.specs.declared.answers.Status.TheVariants.{Fault}
 use Rattle.pg_top.proofs.top.run.Goals as goal
 
-pub returns-in-Some-Generate-clause-complete : goal.returns-in-Some-Generate-clause-complete
-returns-in-Some-Generate-clause-complete g c =
-    subst (λ request. ¬ SomeRose request (g.F.Files.read_faults c.args.files.now) (g.F.Files.read_faults c.generate.new.files) (g.F.Files.write_faults c.args.files.now) (g.F.Files.write_faults c.generate.new.files) (g.O.Sink.faults c.args.out.now) (g.O.Sink.faults c.generate.new.out) → IsComplete c.generate.result (g.F.Files.held c.args.files.now) (g.F.Files.held c.generate.new.files) request)
-      c.in-Some-Generate.ensures c.generate.ensures.complete
+pub returns-in-Some-clause-faulted : goal.returns-in-Some-clause-faulted
+returns-in-Some-clause-faulted g c =
+    subst (λ request. c.generate.result ≡ Fault → IsFault (record {
+      held_old = g.F.Files.held c.args.files.now; held_new = g.F.Files.held c.generate.new.files;
+      reads_old = g.F.Files.read_faults c.args.files.now; reads_new = g.F.Files.read_faults c.generate.new.files;
+      writes_old = g.F.Files.write_faults c.args.files.now; writes_new = g.F.Files.write_faults c.generate.new.files;
+      text_old = g.O.Sink.contents c.args.out.now; text_new = g.O.Sink.contents c.generate.new.out;
+      puts_old = g.O.Sink.faults c.args.out.now; puts_new = g.O.Sink.faults c.generate.new.out;
+    }) request) (ap Some (sym c.names.ensures) ∙ c.in-Some.ensures) c.generate.ensures.faulted
