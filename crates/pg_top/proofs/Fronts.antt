@@ -1,0 +1,92 @@
+-- The first bytes of a file, one more than a file may have, are read as the whole file is.
+use Rattle.std.proofs.Common.{◌≡◌, ℕ, ◌+◌, ◌<◌, ◌≤◌, ◌==◌, nat_lt, Bool, true, false, cond, List, [], ◌∷◌, length, take, Option, None, Some, Result, Ok, Err, IfSome, MatchOption, sym, refl, ap, ◌∙◌, arith}
+use Rattle.std.proofs.lemmas.Bool.{ltb-true, ltb-false, lt-ltb}
+use Rattle.std.proofs.lemmas.List.{take_all, length-take-le}
+use Rattle.std.specs.Option.{option_map}
+use Rattle.pg_types.specs.declared.limits.TheConstants.{FILE_MAX}
+use Rattle.pg_types.specs.declared.refusals.Refusal.{Refusal}
+use Rattle.pg_types.specs.declared.refusals.ReadingError.{ReadingError}
+use Rattle.pg_types.specs.declared.refusals.ReadingError.TheVariants as reader
+use Rattle.pg_types.specs.declared.refusals.Kind.TheVariants.{ParametersTooLong, DictionaryTooLong}
+use Rattle.pg_types.specs.Lines.{lines}
+use Rattle.pg_types.specs.Parameters.{parameters, parameters_of, items, demands, refusal_from, refused_at}
+use Rattle.pg_types.specs.Reading.{Fails, unless}
+use Rattle.pg_outside.specs.Content.{FileMap, file_at, IsCut}
+use Rattle.pg_translate.specs.Alphabets.{Alphabet}
+use Rattle.pg_dict.specs.Words.{words, words_from, refused}
+use Rattle.pg_top.specs.Reads.{not_built, only_empty, read_as}
+use Rattle.pg_top.specs.Stops.{StopsInput, stop_of}
+use Rattle.pg_top.specs.declared.inputs.Input.{Input}
+
+-- the first bytes of a text, one more than a number
+abbrev first_bytes : ℕ → List ℕ → List ℕ
+first_bytes n whole = take (n + 1) whole
+
+-- a text that is longer than the number has first bytes that are longer, and any other is its first bytes
+is_long : (n : ℕ) (whole : List ℕ) → nat_lt n (length whole) ≡ true → nat_lt n (length (first_bytes n whole)) ≡ true
+is_long n whole e =
+    let longer : n < length whole = ltb-true n (length whole) e in
+    let size : length (first_bytes n whole) ≡ n + 1 = length-take-le (n + 1) whole (omega arith) in
+    lt-ltb n (length (first_bytes n whole)) (omega arith)
+
+is_whole : (n : ℕ) (whole : List ℕ) → nat_lt n (length whole) ≡ false → first_bytes n whole ≡ whole
+is_whole n whole e =
+    let shorter : length whole ≤ n = ltb-false n (length whole) e in
+    take_all (n + 1) whole (omega arith)
+
+-- a reader that refuses what is longer than the number tells no more from the whole than from its first bytes
+limited : {Y : Type 0} (refusal : Y) (rest : List ℕ → Y) (n : ℕ) (whole : List ℕ) → cond (nat_lt n (length (first_bytes n whole))) refusal (rest (first_bytes n whole)) ≡ cond (nat_lt n (length whole)) refusal (rest whole)
+limited refusal rest n whole =
+    elim (nat_lt n (length whole)) as (λ b. nat_lt n (length whole) ≡ b → cond (nat_lt n (length (first_bytes n whole))) refusal (rest (first_bytes n whole)) ≡ cond b refusal (rest whole)) [
+      | true ↦ λ e. ap (λ b. cond b refusal (rest (first_bytes n whole))) (is_long n whole e)
+      | false ↦ λ e. ap (λ text. cond (nat_lt n (length text)) refusal (rest text)) (is_whole n whole e) ∙ ap (λ b. cond b refusal (rest whole)) e
+    ] refl
+
+-- reading the first bytes of a file, one more than it may have, gives what reading the whole gives
+abbrev pub IsReadByFront : {Y : Type 0} → (List ℕ → Result Y Refusal) → Type 0
+IsReadByFront parse = (whole : List ℕ) → parse (take (FILE_MAX + 1) whole) ≡ parse whole
+
+pub parameters-front : IsReadByFront parameters
+parameters-front whole = limited (Err (refused_at 0 ParametersTooLong)) (λ bytes. unless (refusal_from 1 (demands (items bytes)) (items bytes)) (parameters_of (items bytes))) FILE_MAX whole
+
+pub words-front : (t : Alphabet) → IsReadByFront (words t)
+words-front t whole = limited (Err (refused 0 DictionaryTooLong 0)) (λ bytes. words_from t 1 1 (lines bytes)) FILE_MAX whole
+
+pub only_empty-front : {Y : Type 0} (y : Y) → IsReadByFront (only_empty y)
+only_empty-front y [] = refl
+only_empty-front y (b ∷ bs) = refl
+
+-- a file that has bytes is refused where only one without any is accepted
+pub only_empty_refuses : {Y : Type 0} (y : Y) (bytes : List ℕ) → (length bytes == 0) ≡ false → only_empty y bytes ≡ Err not_built
+only_empty_refuses y [] filled = cc
+only_empty_refuses y (b ∷ bs) filled = refl
+
+-- a file that is not too long is its first bytes
+pub front_of_held : (held : Option FileMap) (name bytes : List ℕ) (n : ℕ) → IfSome held (λ files. file_at files name ≡ Some bytes) → length bytes ≤ n → IfSome held (λ files. option_map (take (n + 1)) (file_at files name) ≡ Some bytes)
+front_of_held None name bytes n e few = tt
+front_of_held (Some files) name bytes n e few = ap (option_map (take (n + 1))) e ∙ ap Some (take_all (n + 1) bytes (omega arith))
+
+-- of a file that is too long the first bytes were read
+front_of_cut : (file : Option (List ℕ)) (bytes : List ℕ) (n : ℕ) → IsCut file n bytes → option_map (take (n + 1)) file ≡ Some bytes
+front_of_cut None bytes n cut = absurd cut
+front_of_cut (Some whole) bytes n cut = ap Some (sym cut.1)
+
+pub front_of_cut_held : (held : Option FileMap) (name bytes : List ℕ) (n : ℕ) → IfSome held (λ files. IsCut (file_at files name) n bytes) → IfSome held (λ files. option_map (take (n + 1)) (file_at files name) ≡ Some bytes)
+front_of_cut_held None name bytes n cut = tt
+front_of_cut_held (Some files) name bytes n cut = front_of_cut (file_at files name) bytes n cut
+
+-- what the first bytes of a file are read as, the file is read as
+file_as_front : {Y : Type 0} (parse : List ℕ → Result Y Refusal) → IsReadByFront parse → (file : Option (List ℕ)) (bytes : List ℕ) → option_map (take (FILE_MAX + 1)) file ≡ Some bytes → option_map parse file ≡ Some (parse bytes)
+file_as_front parse front None bytes e = cc
+file_as_front parse front (Some whole) bytes e =
+    let same : take (FILE_MAX + 1) whole ≡ bytes = cc in
+    ap Some (sym (front whole) ∙ ap parse same)
+
+pub read_by_front : {Y : Type 0} (parse : List ℕ → Result Y Refusal) → IsReadByFront parse → (held : Option FileMap) (name bytes : List ℕ) (reading : Result Y Refusal) → IfSome held (λ files. option_map (take (FILE_MAX + 1)) (file_at files name) ≡ Some bytes) → parse bytes ≡ reading → IfSome held (λ files. read_as parse files name ≡ Some reading)
+read_by_front parse front None name bytes reading e r = tt
+read_by_front parse front (Some files) name bytes reading e r = file_as_front parse front (file_at files name) bytes e ∙ ap Some r
+
+-- a reader that failed on the first bytes stops the input
+pub stopped_by_front : {Y : Type 0} (parse : List ℕ → Result Y Refusal) → IsReadByFront parse → (input : Input) (held : Option FileMap) (name bytes : List ℕ) (before now : List ℕ → ℕ) (error : ReadingError) → IfSome held (λ files. option_map (take (FILE_MAX + 1)) (file_at files name) ≡ Some bytes) → Fails error (parse bytes) → StopsInput parse input name held before now (stop_of input error)
+stopped_by_front parse front input held name bytes before now (reader.Refused r) e failed = (refl, read_by_front parse front held name bytes (Err r) e failed)
+stopped_by_front parse front input held name bytes before now reader.Memory e failed = tt

@@ -1,0 +1,5 @@
+pub mod Parts
+pub mod Sevens
+pub mod Fronts
+pub mod SelectedSigns
+pub mod Selecting

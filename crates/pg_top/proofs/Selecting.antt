@@ -1,0 +1,40 @@
+-- What the driver gives is the selection.
+use Rattle.std.proofs.Common.{◌≡◌, ℕ, ◌+◌, List, [], None, ap, ◌∙◌, subst, sym}
+use Rattle.std.proofs.lemmas.List.Elements.{All-nil}
+use Rattle.std.specs.List.{All}
+use Rattle.pg_types.specs.Parameters.{Parameters}
+use Rattle.pg_translate.specs.Alphabets.{Alphabet, letters_of}
+use Rattle.pg_dict.specs.Word.{Word, SignsAtMost}
+use Rattle.pg_patterns.specs.Texts.{pattern_text}
+use Rattle.pg_patterns.specs.Values.{SignsUpTo}
+use Rattle.pg_plain.specs.Engines.{fresh}
+use Rattle.pg_select.specs.Meanings.{Meaning}
+use Rattle.pg_select.specs.Sums.{totals}
+use Rattle.pg_driver.specs.Views.{minima_of, run_from}
+use Rattle.pg_top.specs.PrintedLines.{done_line}
+use Rattle.pg_types.specs.declared.marks.Totals.{Totals}
+use Rattle.pg_top.specs.Selection.{source_of, selected, selected_text, selected_totals}
+use Rattle.pg_top.proofs.SelectedSigns.{SignsUpTo-run}
+
+-- the final patterns of the run from a fresh engine with the signs of the table
+pub final_patterns : (t : Alphabet) (words : List Word) (parameters : Parameters) (m : Meaning) (n : ℕ) (S : List ((List ℕ × ℕ) × ℕ)) → m ≡ fresh n S → n ≡ letters_of t + 1 → (run_from t words parameters m).state.patterns ≡ selected t parameters S words
+unfolding selected
+final_patterns t words parameters m n S e f = ap (λ x. (run_from t words parameters x).state.patterns) (e ∙ ap (λ k. fresh k S) f)
+
+pub final_totals : (t : Alphabet) (words : List Word) (parameters : Parameters) (S P : List ((List ℕ × ℕ) × ℕ)) → P ≡ selected t parameters S words → totals (minima_of t) words P ≡ selected_totals t parameters S words
+unfolding selected_totals
+final_totals t words parameters S P e = ap (totals (minima_of t) words) e
+
+pub final_text : (t : Alphabet) (words : List Word) (parameters : Parameters) (S P : List ((List ℕ × ℕ) × ℕ)) → P ≡ selected t parameters S words → pattern_text t P ≡ selected_text t parameters S words
+unfolding selected_text
+final_text t words parameters S P e = ap (pattern_text t) e
+
+-- their signs are those of the table
+pub final_signs : (t : Alphabet) (words : List Word) (parameters : Parameters) (S P : List ((List ℕ × ℕ) × ℕ)) → P ≡ selected t parameters S words → S ≡ [] → SignsAtMost (letters_of t + 1) words → SignsUpTo (letters_of t + 1) P
+unfolding selected
+final_signs t words parameters S P e f signs =
+    subst (SignsUpTo (letters_of t + 1)) (sym e) (SignsUpTo-run (letters_of t + 1) (source_of t words) parameters S None signs (subst (SignsUpTo (letters_of t + 1)) (sym f) (All-nil _)))
+
+-- the same pattern file and the same totals have the same line
+pub done_line_same : (a b : List ℕ) (s u : Totals) → a ≡ b → s ≡ u → done_line a s ≡ done_line b u
+done_line_same a b s u e f = ap (λ text. done_line text s) e ∙ ap (done_line b) f

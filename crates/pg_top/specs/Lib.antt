@@ -1,0 +1,10 @@
+pub mod Requests
+pub mod Commands
+pub mod Statuses
+pub mod PrintedLines
+pub mod Puts
+pub mod Selection
+pub mod Reads
+pub mod Outcomes
+pub mod Answers
+pub mod Stops

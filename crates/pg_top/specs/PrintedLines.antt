@@ -1,0 +1,39 @@
+-- The lines that are printed.
+use Rattle.std.specs.Prelude.{ℕ, ◌==◌, if◌then◌else◌, List, [], ◌++◌, length, codes, decimal}
+use Rattle.pg_types.specs.Lines.{lines}
+use Rattle.pg_types.specs.Refusals.{number_of, name_of}
+use Rattle.pg_types.specs.declared.marks.Totals.{Totals}
+use Rattle.pg_types.specs.declared.refusals.Refusal.{Refusal}
+use Rattle.pg_top.specs.declared.inputs.Input.{Input}
+use Rattle.pg_top.specs.declared.inputs.Input.TheVariants.{Translate, Parameters, Patterns, Dictionary}
+
+-- where words are no command
+abbrev pub usage_line : List ℕ
+usage_line = codes "usage: patgen COMMAND NAMES [OPTIONS]\n"
+
+-- where `generate` is done: how many lines the pattern file has, and the totals of its patterns
+abbrev pub done_line : List ℕ → Totals → List ℕ
+done_line patterns t = codes "done: " ++ decimal (length (lines patterns)) ++ codes " patterns, " ++ decimal t.good ++ codes " good, " ++ decimal t.bad ++ codes " bad, " ++ decimal t.missed ++ codes " missed\n"
+
+-- the word for an input in a line of refusal
+abbrev pub word_of : Input → List ℕ
+word_of Translate = codes "translate"
+word_of Parameters = codes "parameters"
+word_of Patterns = codes "patterns"
+word_of Dictionary = codes "dictionary"
+
+-- where in an input the refused place is: an item of the parameters, a line and a column of the others
+abbrev pub place_of : Input → Refusal → List ℕ
+place_of Parameters r = codes " item " ++ decimal r.line
+place_of input r = codes " line " ++ decimal r.line ++ codes " column " ++ decimal r.column
+
+-- where an input is refused; a refusal with line 0 has no place
+abbrev pub refused_line : Input → Refusal → List ℕ
+refused_line input r = codes "refused: " ++ word_of input ++ codes " " ++ decimal (number_of r.kind) ++ codes " " ++ name_of r.kind ++ (if r.line == 0 then [] else place_of input r) ++ codes "\n"
+
+-- where the file of a name could not be read, or not be written
+abbrev pub reading_line : List ℕ → List ℕ
+reading_line name = codes "fault: reading " ++ name ++ codes "\n"
+
+abbrev pub writing_line : List ℕ → List ℕ
+writing_line name = codes "fault: writing " ++ name ++ codes "\n"

@@ -1,0 +1,19 @@
+//! The one call of the program: it reads the words of a command, reads its files, does it, writes and prints.
+#![tactic(auto)]
+
+pub mod answers;
+pub mod commands;
+pub mod inputs;
+mod printed;
+mod puts;
+mod reading;
+mod selection;
+#[cfg(test)]
+mod tests;
+mod top;
+pub mod words;
+
+pub use answers::{Status, exit_code};
+pub use commands::{Command, Names};
+pub use top::run;
+pub use words::command;

@@ -1,0 +1,98 @@
+//! The lines that are printed.
+ghost use Rattle.std.specs.Prelude.{◌≡◌, ◌++◌, ◌==◌, [], if◌then◌else◌, length, decimal, OnOk, IfOk};
+ghost use Rattle.pg_types.specs.Lines.{lines};
+ghost use Rattle.pg_top.specs.PrintedLines.{done_line as done_line_of, refused_line as refused_line_of, word_of, place_of};
+
+use crate::inputs::Input;
+use itoa::Buffer;
+use pg_types::{Refusal, Totals, next_line};
+use std::alloc::{AllocError, Global};
+
+/// What is printed where words are no command.
+pub const USAGE: &[u8] = b"usage: patgen COMMAND NAMES [OPTIONS]\n";
+
+/// The front of the line where a file could not be read.
+pub const READING: &[u8] = b"fault: reading ";
+
+/// The front of the line where a file could not be written.
+pub const WRITING: &[u8] = b"fault: writing ";
+
+/// Appends a text and a number to a line.
+fn push_number(line: &mut Vec<u8>, text: &[u8], number: u64) -> Result<(), AllocError>
+    ensures { OnOk result (line.new.items ≡ line.old.items ++ text.now ++ decimal number) }
+{
+    let mut digits = Buffer::new();
+    line.extend_from_slice(text)?;
+    line.extend_from_slice(digits.format(number).as_bytes())
+}
+
+/// How many lines a text has.
+fn count_lines(text: &[u8]) -> usize
+    ensures { result ≡ length (lines text.now) }
+{
+    let mut count = 0;
+    let mut rest = text;
+    'lines: while let Some((_, after)) = next_line(rest) {
+        count += 1;
+        rest = after;
+    }
+    count
+}
+
+/// The line where `generate` is done: how many lines the pattern file has, and the totals of its patterns.
+pub fn done_line(alloc: Global, patterns: &[u8], totals: &Totals) -> Result<Vec<u8>, AllocError>
+    ensures { IfOk result (λ line. line.items ≡ done_line_of patterns.now totals.now) }
+{
+    let mut line = Vec::new(alloc);
+    push_number(&mut line, b"done: ", count_lines(patterns) as u64)?;
+    push_number(&mut line, b" patterns, ", totals.good)?;
+    push_number(&mut line, b" good, ", totals.bad)?;
+    push_number(&mut line, b" bad, ", totals.missed)?;
+    line.extend_from_slice(b" missed\n")?;
+    Ok(line)
+}
+
+/// The word for an input in a line of refusal.
+fn word(input: Input) -> &'static [u8]
+    ensures { result.now ≡ word_of input }
+{
+    match input {
+        Input::Translate => b"translate",
+        Input::Parameters => b"parameters",
+        Input::Patterns => b"patterns",
+        Input::Dictionary => b"dictionary",
+    }
+}
+
+/// Appends where in an input the refused place is.
+fn push_place(line: &mut Vec<u8>, input: Input, refusal: &Refusal) -> Result<(), AllocError>
+    ensures { OnOk result (line.new.items ≡ line.old.items ++ place_of input refusal.now) }
+{
+    match input {
+        Input::Parameters => push_number(line, b" item ", u64::from(refusal.line)),
+        Input::Translate | Input::Patterns | Input::Dictionary => {
+            push_number(line, b" line ", u64::from(refusal.line))?;
+            push_number(line, b" column ", u64::from(refusal.column))
+        }
+    }
+}
+
+/// The line of a refusal.
+pub fn refused_line(
+    alloc: Global,
+    input: Input,
+    refusal: &Refusal,
+) -> Result<Vec<u8>, AllocError>
+    ensures { IfOk result (λ line. line.items ≡ refused_line_of input refusal.now) }
+{
+    let mut line = Vec::from_slice(alloc, b"refused: ")?;
+    line.extend_from_slice(word(input))?;
+    push_number(&mut line, b" ", u64::from(refusal.kind.number()))?;
+    line.extend_from_slice(b" ")?;
+    line.extend_from_slice(refusal.kind.name().as_bytes())?;
+    if refusal.line != 0 {
+        push_place(&mut line, input, refusal)?;
+    }
+    line.extend_from_slice(b"\n")?;
+    Ok(line)
+}

@@ -1,0 +1,196 @@
+//! The readers of the input files.
+ghost use Rattle.std.specs.Prelude.{◌≡◌, ◌+◌, [], take, IfOk, IfErr, IfSome, OnOk, Some, Ok, Err};
+ghost use Rattle.std.specs.Option.{option_map};
+ghost use Rattle.pg_types.specs.Parameters.{parameters};
+ghost use Rattle.pg_types.specs.Reading.{Gives};
+ghost use Rattle.pg_outside.specs.Content.{KeepsHeld, file_at};
+ghost use Rattle.pg_outside.specs.Faults.{NoneFell};
+ghost use Rattle.pg_translate.specs.Alphabets.{letters_of};
+ghost use Rattle.pg_translate.specs.Tables.{default_alphabet};
+ghost use Rattle.pg_dict.specs.Word.{SignsAtMost};
+ghost use Rattle.pg_dict.specs.Words.{words};
+ghost use Rattle.pg_patterns.specs.Values.{SignsUpTo};
+ghost use Rattle.pg_top.specs.Commands.{texts_of};
+ghost use Rattle.pg_top.specs.Outcomes.{outcome_of, generated};
+ghost use Rattle.pg_top.specs.Reads.{not_built as not_built_refusal, no_patterns, only_empty, read_as};
+ghost use Rattle.pg_top.specs.Requests.{ToGenerate};
+ghost use Rattle.pg_top.specs.Stops.{stop_of, StopsFront, StopsInput, StopsGenerate};
+
+use crate::commands::Names;
+use crate::inputs::{Input, Stop};
+use pg_dict::Dictionary;
+use pg_outside::{Files, ReadError};
+use pg_patterns::PatternSet;
+use pg_translate::Table;
+use pg_types::{FILE_MAX, Kind, Params, ReadingError, Refusal, read_params};
+use std::alloc::Global;
+
+/// What `generate` reads.
+#[derive(Drop)]
+pub struct Inputs {
+    /// The table of the translate file.
+    pub table: Table,
+    /// The parameters.
+    pub params: Params,
+    /// The starting patterns.
+    pub start: PatternSet,
+    /// The words.
+    pub dictionary: Dictionary,
+}
+
+/// Reads a file, or of one that is too long the first bytes, one more than a file may have.
+fn read_front<F: Files>(
+    alloc: Global,
+    input: Input,
+    name: &str,
+    files: &mut F,
+) -> Result<Vec<u8>, Stop>
+    ensures held { KeepsHeld (F.held files.old) (F.held files.new) }
+    ensures reads { NoneFell (F.read_faults files.old) (F.read_faults files.new) }
+    ensures writes { NoneFell (F.write_faults files.old) (F.write_faults files.new) }
+    ensures front { IfOk result (λ bytes. IfSome (F.held files.new) (λ files. option_map (take (FILE_MAX + 1)) (file_at files name.now) ≡ Some bytes.items)) }
+    ensures stopped { IfErr result (StopsFront input name.now (F.read_faults files.old) (F.read_faults files.new)) }
+{
+    let mut bytes = Vec::new(alloc);
+    match files.read(alloc, name, FILE_MAX, &mut bytes) {
+        Ok(()) => Ok(bytes),
+        Err(ReadError::TooLong) => Ok(bytes),
+        Err(ReadError::Failed) => Err(Stop::Unread(input)),
+        Err(ReadError::Memory) => Err(Stop::Memory),
+    }
+}
+
+/// The refusal of a file that has bytes, and whose reader is not built yet.
+fn not_built() -> ReadingError
+    ensures { result ≡ ReadingError.Refused not_built_refusal }
+{
+    ReadingError::Refused(Refusal {
+        kind: Kind::NotBuilt,
+        line: 0,
+        column: 0,
+    })
+}
+
+/// The table of a translate file. Only a file of no bytes is accepted yet, and means the default table.
+fn table_of(alloc: Global, bytes: &[u8]) -> Result<Table, ReadingError>
+    ensures { Gives (λ table. table) result (only_empty default_alphabet bytes.now) }
+{
+    if !bytes.is_empty() {
+        return Err(not_built());
+    }
+    let table = Table::default_letters(alloc)?;
+    Ok(table)
+}
+
+/// The patterns of a pattern file. Only a file of no bytes is accepted yet, and has none.
+fn patterns_of(alloc: Global, bytes: &[u8]) -> Result<PatternSet, ReadingError>
+    ensures { Gives (λ patterns. patterns) result (only_empty no_patterns bytes.now) }
+{
+    if !bytes.is_empty() {
+        return Err(not_built());
+    }
+    Ok(PatternSet::empty(alloc))
+}
+
+/// Why a command stops at an input whose reader failed.
+fn stop(input: Input, error: ReadingError) -> Stop
+    ensures { result ≡ stop_of input error }
+{
+    match error {
+        ReadingError::Refused(refusal) => Stop::Refused(input, refusal),
+        ReadingError::Memory => Stop::Memory,
+    }
+}
+
+/// Reads the translate file.
+fn read_table<F: Files>(alloc: Global, name: &str, files: &mut F) -> Result<Table, Stop>
+    ensures held { KeepsHeld (F.held files.old) (F.held files.new) }
+    ensures reads { NoneFell (F.read_faults files.old) (F.read_faults files.new) }
+    ensures writes { NoneFell (F.write_faults files.old) (F.write_faults files.new) }
+    ensures ok { IfOk result (λ table. IfSome (F.held files.new) (λ files. read_as (only_empty default_alphabet) files name.now ≡ Some (Ok table))) }
+    ensures stopped { IfErr result (StopsInput (only_empty default_alphabet) Input.Translate name.now (F.held files.new) (F.read_faults files.old) (F.read_faults files.new)) }
+{
+    let bytes = read_front(alloc, Input::Translate, name, files)?;
+    match table_of(alloc, &bytes) {
+        Ok(table) => Ok(table),
+        Err(error) => Err(stop(Input::Translate, error)),
+    }
+}
+
+/// Reads the parameters.
+fn read_parameters<F: Files>(alloc: Global, name: &str, files: &mut F) -> Result<Params, Stop>
+    ensures held { KeepsHeld (F.held files.old) (F.held files.new) }
+    ensures reads { NoneFell (F.read_faults files.old) (F.read_faults files.new) }
+    ensures writes { NoneFell (F.write_faults files.old) (F.write_faults files.new) }
+    ensures ok { IfOk result (λ params. IfSome (F.held files.new) (λ files. read_as parameters files name.now ≡ Some (Ok params))) }
+    ensures stopped { IfErr result (StopsInput parameters Input.Parameters name.now (F.held files.new) (F.read_faults files.old) (F.read_faults files.new)) }
+{
+    let bytes = read_front(alloc, Input::Parameters, name, files)?;
+    match read_params(alloc, &bytes) {
+        Ok(params) => Ok(params),
+        Err(error) => Err(stop(Input::Parameters, error)),
+    }
+}
+
+/// Reads the starting patterns.
+fn read_start<F: Files>(alloc: Global, name: &str, files: &mut F) -> Result<PatternSet, Stop>
+    ensures held { KeepsHeld (F.held files.old) (F.held files.new) }
+    ensures reads { NoneFell (F.read_faults files.old) (F.read_faults files.new) }
+    ensures writes { NoneFell (F.write_faults files.old) (F.write_faults files.new) }
+    ensures ok { IfOk result (λ start. IfSome (F.held files.new) (λ files. read_as (only_empty no_patterns) files name.now ≡ Some (Ok start))) }
+    ensures empty { IfOk result (λ start. start ≡ []) }
+    ensures stopped { IfErr result (StopsInput (only_empty no_patterns) Input.Patterns name.now (F.held files.new) (F.read_faults files.old) (F.read_faults files.new)) }
+{
+    let bytes = read_front(alloc, Input::Patterns, name, files)?;
+    match patterns_of(alloc, &bytes) {
+        Ok(start) => Ok(start),
+        Err(error) => Err(stop(Input::Patterns, error)),
+    }
+}
+
+/// Reads the dictionary under a table.
+fn read_dictionary<F: Files>(
+    alloc: Global,
+    table: &Table,
+    name: &str,
+    files: &mut F,
+) -> Result<Dictionary, Stop>
+    ensures held { KeepsHeld (F.held files.old) (F.held files.new) }
+    ensures reads { NoneFell (F.read_faults files.old) (F.read_faults files.new) }
+    ensures writes { NoneFell (F.write_faults files.old) (F.write_faults files.new) }
+    ensures ok { IfOk result (λ dictionary. IfSome (F.held files.new) (λ files. read_as (words table.now) files name.now ≡ Some (Ok dictionary))) }
+    ensures signs { IfOk result (SignsAtMost (letters_of table.now + 1)) }
+    ensures stopped { IfErr result (StopsInput (words table.now) Input.Dictionary name.now (F.held files.new) (F.read_faults files.old) (F.read_faults files.new)) }
+{
+    let bytes = read_front(alloc, Input::Dictionary, name, files)?;
+    match Dictionary::read(alloc, table, &bytes) {
+        Ok(dictionary) => Ok(dictionary),
+        Err(error) => Err(stop(Input::Dictionary, error)),
+    }
+}
+
+/// Reads what `generate` reads, in its order, up to the first refusal or fault.
+pub fn read_inputs<F: Files>(
+    alloc: Global,
+    names: &Names<'_>,
+    files: &mut F,
+) -> Result<Inputs, Stop>
+    ensures held { KeepsHeld (F.held files.old) (F.held files.new) }
+    ensures reads { NoneFell (F.read_faults files.old) (F.read_faults files.new) }
+    ensures writes { NoneFell (F.write_faults files.old) (F.write_faults files.new) }
+    ensures ok { IfOk result (λ inputs. IfSome (F.held files.new) (λ files. outcome_of files (ToGenerate (texts_of names.now)) ≡ generated (texts_of names.now) inputs.table inputs.params inputs.start inputs.dictionary)) }
+    ensures signs { IfOk result (λ inputs. SignsAtMost (letters_of inputs.table + 1) inputs.dictionary) }
+    ensures start { IfOk result (λ inputs. inputs.start ≡ []) }
+    ensures stopped { IfErr result (StopsGenerate (texts_of names.now) (F.held files.new) (F.read_faults files.old) (F.read_faults files.new)) }
+{
+    let table = read_table(alloc, names.translate, files)?;
+    let params = read_parameters(alloc, names.params, files)?;
+    let start = read_start(alloc, names.patterns, files)?;
+    let dictionary = read_dictionary(alloc, &table, names.dict, files)?;
+    Ok(Inputs {
+        table,
+        params,
+        start,
+        dictionary,
+    })
+}
