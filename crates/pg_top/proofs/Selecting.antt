@@ -1,7 +1,6 @@
 -- What the driver gives is the selection.
 use Rattle.std.proofs.Common.{◌≡◌, ℕ, ◌+◌, List, [], None, ap, ◌∙◌, subst, sym}
 use Rattle.std.proofs.lemmas.List.Elements.{All-nil}
-use Rattle.std.specs.List.{All}
 use Rattle.pg_types.specs.Parameters.{Parameters}
 use Rattle.pg_translate.specs.Alphabets.{Alphabet, letters_of}
 use Rattle.pg_dict.specs.Word.{Word, SignsAtMost}

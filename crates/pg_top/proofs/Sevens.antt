@@ -1,5 +1,5 @@
 -- Words that are not seven.
-use Rattle.std.proofs.Common.{◌≡◌, ℕ, ◌≢◌, List, [], ◌∷◌, length, Option, None, refl}
+use Rattle.std.proofs.Common.{◌≡◌, ℕ, ◌≢◌, List, [], ◌∷◌, length, None, refl}
 use Rattle.pg_top.specs.Requests.{request_of}
 
 -- they ask for nothing

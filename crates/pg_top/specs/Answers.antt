@@ -8,7 +8,7 @@ use Rattle.pg_top.specs.Puts.{PutOrRose}
 use Rattle.pg_top.specs.Reads.{name_of, AcceptedBefore}
 use Rattle.pg_top.specs.Requests.{GenerateNames, Request, ToGenerate}
 use Rattle.pg_top.specs.declared.answers.Status.{Status}
-use Rattle.pg_top.specs.declared.answers.Status.TheVariants.{Done, Yes, No, Usage, Refused, Fault, Memory}
+use Rattle.pg_top.specs.declared.answers.Status.TheVariants.{Done, Usage, Refused, Fault, Memory}
 use Rattle.pg_top.specs.declared.inputs.Input.{Input}
 
 -- where files are told after the call, they were told before it, and this is so of both

@@ -1,5 +1,5 @@
 -- What is put where a put may fail.
-use Rattle.std.specs.Prelude.{◌≡◌, ℕ, List, Option, ◌⊎◌}
+use Rattle.std.specs.Prelude.{ℕ, List, Option, ◌⊎◌}
 use Rattle.pg_outside.specs.Content.{WasPut, WasPartPut}
 use Rattle.pg_outside.specs.Faults.{Rose}
 

@@ -1,5 +1,5 @@
 -- What a command reads.
-use Rattle.std.specs.Prelude.{◌≡◌, ℕ, List, [], ◌∷◌, Option, None, Some, Result, Ok, Err}
+use Rattle.std.specs.Prelude.{ℕ, List, [], ◌∷◌, Option, None, Some, Result, Ok, Err}
 use Rattle.std.specs.Option.{option_map}
 use Rattle.pg_types.specs.Parameters.{Parameters, parameters}
 use Rattle.pg_types.specs.declared.refusals.Kind.TheVariants.{NotBuilt}

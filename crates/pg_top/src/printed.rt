@@ -78,11 +78,7 @@ fn push_place(line: &mut Vec<u8>, input: Input, refusal: &Refusal) -> Result<(),
 }
 
 /// The line of a refusal.
-pub fn refused_line(
-    alloc: Global,
-    input: Input,
-    refusal: &Refusal,
-) -> Result<Vec<u8>, AllocError>
+pub fn refused_line(alloc: Global, input: Input, refusal: &Refusal) -> Result<Vec<u8>, AllocError>
     ensures { IfOk result (λ line. line.items ≡ refused_line_of input refusal.now) }
 {
     let mut line = Vec::from_slice(alloc, b"refused: ")?;

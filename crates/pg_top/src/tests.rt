@@ -4,7 +4,9 @@ use std::alloc::{AllocError, Global};
 use std::test::Fail;
 
 const PARAMETERS: &[u8] = b"1 1 2 2 1 1 2\n";
+
 const WORDS: &[u8] = b"ta-bel\nka-bel\n";
+
 const DONE: &[u8] = b"done: 1 patterns, 2 good, 0 bad, 0 missed\n";
 
 /// The words of a line.
@@ -37,21 +39,76 @@ fn answers(rt: HostRuntime) -> Result<(), Fail> {
     let table: [([&[u8]; 4], Status, &[u8], &[u8]); 12] = [
         // The stored run; no word under the default letters.
         ([b"", PARAMETERS, b"", WORDS], Status::Done, DONE, b"a1b\n"),
-        ([b"", PARAMETERS, b"", b""], Status::Done, b"done: 0 patterns, 0 good, 0 bad, 0 missed\n", b""),
+        (
+            [b"", PARAMETERS, b"", b""],
+            Status::Done,
+            b"done: 0 patterns, 0 good, 0 bad, 0 missed\n",
+            b"",
+        ),
         // No level is run.
-        ([b"", b"2 1 y", b"", WORDS], Status::Done, b"done: 0 patterns, 0 good, 0 bad, 2 missed\n", b""),
+        (
+            [b"", b"2 1 y", b"", WORDS],
+            Status::Done,
+            b"done: 0 patterns, 0 good, 0 bad, 2 missed\n",
+            b"",
+        ),
         // Refused parameters.
-        ([b"", b"1 1 2 2 1 0 5", b"", WORDS], Status::Refused, b"refused: parameters 202 OutOfRange item 6\n", b"x"),
-        ([b"", b"1 1 2 2 1 1", b"", WORDS], Status::Refused, b"refused: parameters 203 Missing item 7\n", b"x"),
-        ([b"", b"2 1 x", b"", WORDS], Status::Refused, b"refused: parameters 204 Extra item 3\n", b"x"),
+        (
+            [b"", b"1 1 2 2 1 0 5", b"", WORDS],
+            Status::Refused,
+            b"refused: parameters 202 OutOfRange item 6\n",
+            b"x",
+        ),
+        (
+            [b"", b"1 1 2 2 1 1", b"", WORDS],
+            Status::Refused,
+            b"refused: parameters 203 Missing item 7\n",
+            b"x",
+        ),
+        (
+            [b"", b"2 1 x", b"", WORDS],
+            Status::Refused,
+            b"refused: parameters 204 Extra item 3\n",
+            b"x",
+        ),
         // Refused dictionaries.
-        ([b"", PARAMETERS, b"", b"abc\ncba\na:d\n"], Status::Refused, b"refused: dictionary 401 DictionaryCharacter line 3 column 2\n", b"x"),
-        ([b"", PARAMETERS, b"", b"ab-{0}c\n"], Status::Refused, b"refused: dictionary 404 BadWeight line 1 column 4\n", b"x"),
+        (
+            [b"", PARAMETERS, b"", b"abc\ncba\na:d\n"],
+            Status::Refused,
+            b"refused: dictionary 401 DictionaryCharacter line 3 column 2\n",
+            b"x",
+        ),
+        (
+            [b"", PARAMETERS, b"", b"ab-{0}c\n"],
+            Status::Refused,
+            b"refused: dictionary 404 BadWeight line 1 column 4\n",
+            b"x",
+        ),
         // Files whose readers are not built yet, and the first refusal in the order of reading.
-        ([b" ", b"x", b"", WORDS], Status::Refused, b"refused: translate 900 NotBuilt\n", b"x"),
-        ([b"", PARAMETERS, b"a1b\n", b"ab:c"], Status::Refused, b"refused: patterns 900 NotBuilt\n", b"x"),
-        ([b"", b"x", b"a1b\n", WORDS], Status::Refused, b"refused: parameters 201 BadNumber item 1\n", b"x"),
-        ([b"", b"0 1", b"", WORDS], Status::Refused, b"refused: parameters 202 OutOfRange item 1\n", b"x"),
+        (
+            [b" ", b"x", b"", WORDS],
+            Status::Refused,
+            b"refused: translate 900 NotBuilt\n",
+            b"x",
+        ),
+        (
+            [b"", PARAMETERS, b"a1b\n", b"ab:c"],
+            Status::Refused,
+            b"refused: patterns 900 NotBuilt\n",
+            b"x",
+        ),
+        (
+            [b"", b"x", b"a1b\n", WORDS],
+            Status::Refused,
+            b"refused: parameters 201 BadNumber item 1\n",
+            b"x",
+        ),
+        (
+            [b"", b"0 1", b"", WORDS],
+            Status::Refused,
+            b"refused: parameters 202 OutOfRange item 1\n",
+            b"x",
+        ),
     ];
     for (inputs, status, printed, written) in table {
         let mut held = files(alloc, inputs)?;
@@ -81,7 +138,11 @@ fn failed_calls(rt: HostRuntime) -> Result<(), Fail> {
             let mut held = files(alloc, [b"", PARAMETERS, b"", WORDS])?;
             held.fail_at(call, keep)?;
             let mut out = MemorySink::new(alloc, 100)?;
-            assert_eq!(rt; run(alloc, &words, &mut held, &mut out), Status::Fault, "call {call}");
+            assert_eq!(rt;
+                run(alloc, &words, &mut held, &mut out),
+                Status::Fault,
+                "call {call}"
+            );
             assert_eq!(rt; out.bytes(), printed, "call {call}");
             let wanted = if keep.is_some() { written } else { b"x" };
             assert_eq!(rt; held.bytes("O").ok_or("no file")?, wanted, "call {call}");
@@ -105,7 +166,11 @@ fn missing_files(rt: HostRuntime) -> Result<(), Fail> {
         let words = words(alloc, line)?;
         let mut held = files(alloc, [b"", PARAMETERS, b"", WORDS])?;
         let mut out = MemorySink::new(alloc, 100)?;
-        assert_eq!(rt; run(alloc, &words, &mut held, &mut out), Status::Fault, "{line}");
+        assert_eq!(rt;
+            run(alloc, &words, &mut held, &mut out),
+            Status::Fault,
+            "{line}"
+        );
         assert_eq!(rt; out.bytes(), printed, "{line}");
     }
     Ok(())
@@ -128,7 +193,11 @@ fn failed_puts(rt: HostRuntime) -> Result<(), Fail> {
         held.fail_at(call, None)?;
         let mut out = MemorySink::new(alloc, 100)?;
         out.fail_at(put, keep)?;
-        assert_eq!(rt; run(alloc, &words, &mut held, &mut out), Status::Fault, "put {put}");
+        assert_eq!(rt;
+            run(alloc, &words, &mut held, &mut out),
+            Status::Fault,
+            "put {put}"
+        );
         assert_eq!(rt; out.bytes(), printed, "put {put}");
         assert_eq!(rt; held.bytes("O").ok_or("no file")?, written, "put {put}");
     }
@@ -153,8 +222,15 @@ fn usage(rt: HostRuntime) -> Result<(), Fail> {
         let words = words(alloc, line)?;
         let mut held = MemoryFiles::new(alloc);
         let mut out = MemorySink::new(alloc, 100)?;
-        assert_eq!(rt; run(alloc, &words, &mut held, &mut out), Status::Usage, "{line}");
-        assert_eq!(rt; out.bytes(), b"usage: patgen COMMAND NAMES [OPTIONS]\n".as_slice());
+        assert_eq!(rt;
+            run(alloc, &words, &mut held, &mut out),
+            Status::Usage,
+            "{line}"
+        );
+        assert_eq!(rt;
+            out.bytes(),
+            b"usage: patgen COMMAND NAMES [OPTIONS]\n".as_slice()
+        );
     }
     let statuses = [
         (Status::Done, 0),

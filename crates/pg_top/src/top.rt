@@ -77,12 +77,7 @@ fn generate<F: Files, O: Sink>(
 /// - `Done`: all that was asked for was written whole.
 ///
 /// After all answers but `Done` and `Fault` the files are as they were.
-pub fn run<F: Files, O: Sink>(
-    alloc: Global,
-    words: &[String],
-    files: &mut F,
-    out: &mut O,
-) -> Status
+pub fn run<F: Files, O: Sink>(alloc: Global, words: &[String], files: &mut F, out: &mut O) -> Status
     ensures usage { result ≡ Status.Usage → (request_of (words_of words.now) ≡ None) × WasPut (O.contents out.old) (O.contents out.new) usage_line }
     ensures unchanged { LeavesFiles result → KeepsHeld (F.held files.old) (F.held files.new) }
     ensures silent { result ≡ Status.Memory → WasPut (O.contents out.old) (O.contents out.new) [] }

@@ -1,5 +1,4 @@
 use Rattle.std.proofs.Common.{◌++◌, ◌∷◌, []}
-use Rattle.pg_outside.specs.Content.{WasPut, WasPartPut}
 use Rattle.pg_top.proofs.Parts.{on_err, on_err_also, part_of_first, part_of_second, both_put}
 use Rattle.pg_top.proofs.puts.put_parts.Goals as goal
 

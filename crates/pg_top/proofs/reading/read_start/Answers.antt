@@ -1,8 +1,5 @@
 use Rattle.std.proofs.Common.{◌≡◌, Ok, subst}
-use Rattle.pg_types.specs.Parameters.{parameters}
 use Rattle.pg_types.specs.Reading.{Fails}
-use Rattle.pg_translate.specs.Tables.{default_alphabet}
-use Rattle.pg_dict.specs.Words.{words}
 use Rattle.pg_top.specs.Reads.{only_empty, no_patterns}
 use Rattle.pg_top.specs.declared.inputs.Input.TheVariants.{Patterns}
 use Rattle.pg_top.proofs.Fronts.{read_by_front, stopped_by_front, only_empty-front}

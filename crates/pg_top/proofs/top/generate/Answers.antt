@@ -1,4 +1,4 @@
-use Rattle.std.proofs.Common.{rules, inl}
+use Rattle.std.proofs.Common.{inl}
 use Rattle.pg_top.proofs.top.generate.Goals as goal
 
 pub returns-in-Err-Unread-clause-faulted : goal.returns-in-Err-Unread-clause-faulted
