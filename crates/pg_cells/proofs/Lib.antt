@@ -3,6 +3,7 @@ pub mod CellWrites
 pub mod Cleared
 pub mod Collecting
 pub mod FitSteps
+pub mod HeldLaws
 pub mod Joined
 pub mod LaidLaws
 pub mod LinkedLists

@@ -1,5 +1,6 @@
 pub mod Fit
 pub mod Held
+pub mod IsHeld
 pub mod Laid
 pub mod Linked
 pub mod Lists

@@ -5,6 +5,7 @@ ghost use Rattle.std.specs.Cmp.Lexicographic.{slice_cmp};
 ghost use Rattle.std.specs.Ordering.{nat_cmp};
 ghost use Rattle.pg_types.specs.Placement.{taken, top, cell_of, base_of, with_sign, without_sign};
 ghost use Rattle.pg_cells.specs.Held.{Held, without_key};
+ghost use Rattle.pg_cells.specs.IsHeld.{IsHeld};
 ghost use Rattle.pg_cells.specs.Lists.{sign_at};
 ghost use Rattle.pg_cells.specs.OneTrie.{Kept, Kept-prop};
 ghost use Rattle.pg_cells.specs.Root.{root_held};
@@ -56,6 +57,15 @@ impl<V: Copy> Cells<V> {
             store,
             moving: Vec::new(alloc),
         })
+    }
+
+    /// The number of signs of the table.
+    pub fn signs(&self) -> u16
+        ensures signs { result ≡ self.now.signs }
+        ensures held { IsHeld self.now }
+    {
+        let _cells = self.store.len();
+        self.signs
     }
 
     /// The cell of the sign in the family with the base, or `None` where the family lacks the sign.

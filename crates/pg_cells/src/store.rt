@@ -97,6 +97,7 @@ impl<V: Copy> Store<V> {
         ensures small { result < 2 ^ 32 }
         ensures positive { 0 < result }
         ensures even { length self.now.bases ≡ length self.now.signs }
+        ensures values { length self.now.values ≡ length self.now.signs }
         ensures zero { sign_at self.now 0 ≡ 0 }
         ensures bare { (i : ℕ) → sign_at self.now i ≡ 0 → child_at self.now i ≡ 0 }
     {
