@@ -4,7 +4,7 @@ use Rattle.pg_top.proofs.selection.make_texts.Goals as goal
 
 pub returns-clause-patterns : goal.returns-clause-patterns
 returns-clause-patterns c =
-    c.in_ok-patterns.ensures ∙ final_text c.args.inputs.now.table c.args.inputs.now.dictionary c.args.inputs.now.params c.args.inputs.now.start c.patterns.result.now (c.patterns.ensures ∙ c.in_ok-run.ensures.patterns)
+    c.in_ok-patterns.ensures.text ∙ final_text c.args.inputs.now.table c.args.inputs.now.dictionary c.args.inputs.now.params c.args.inputs.now.start c.patterns.result.now (c.patterns.ensures ∙ c.in_ok-run.ensures.patterns)
 
 pub returns-clause-lines : goal.returns-clause-lines
 returns-clause-lines c =
