@@ -21,8 +21,9 @@ use Rattle.pg_cells.proofs.StringCells.{IsCellOf, cell_parts, parts_cell, cell_t
 module _ {V : Type 0} (n : ℕ) (r : Row V) (t : Trie V) (trie : IsTrie n r t) (even : length r.values ≡ length r.signs) where
   in_values : (cell : ℕ) → cell < length r.signs → (v : V) × (slice_get r.values cell ≡ Some v)
   in_values cell lt = elim ((slice_get_cases r.values cell).1) [
-      inl h ↦ (h.0, h.2)
-    | inr h ↦ absurd (omega (arith, h.0)) ]
+    | inl h ↦ (h.0, h.2)
+    | inr h ↦ absurd (omega (arith, h.0))
+  ]
 
   has_cell : (q : List ℕ) (v : V) (o : Option ℕ) → cell_of t.families q ≡ o → find order q t.values ≡ Some v → (cell : ℕ) × (cell_of t.families q ≡ Some cell)
   has_cell q v None is e = absurd (let none = trie.has q ∙ ap (value_in r) is in let x = sym none ∙ e in cc)
@@ -50,8 +51,9 @@ module _ {V : Type 0} (n : ℕ) (r : Row V) (t : Trie V) (trie : IsTrie n r t) (
 
   closed : (p : List ℕ) (x : ℕ) (more : List ℕ) → cell_of t.families (p ++ x ∷ []) ≡ None → cell_of t.families ((p ++ x ∷ []) ++ more) ≡ None
   closed p x more none = elim (last_of more) [
-      inl e ↦ ap (cell_of t.families) (ap (λ l. (p ++ x ∷ []) ++ l) e ∙ append-nil (p ++ x ∷ [])) ∙ none
-    | inr h ↦ by h (cell_of t.families ((p ++ x ∷ []) ++ more)) refl ]
+    | inl e ↦ ap (cell_of t.families) (ap (λ l. (p ++ x ∷ []) ++ l) e ∙ append-nil (p ++ x ∷ [])) ∙ none
+    | inr h ↦ by h (cell_of t.families ((p ++ x ∷ []) ++ more)) refl
+  ]
     where
       by : HasLast more → (o : Option ℕ) → cell_of t.families ((p ++ x ∷ []) ++ more) ≡ o → cell_of t.families ((p ++ x ∷ []) ++ more) ≡ None
       by h None is = is
@@ -75,21 +77,22 @@ module _ {V : Type 0} (n : ℕ) (r : Row V) (t : Trie V) (trie : IsTrie n r t) (
     sorted = trie.sorted;
     ordered = trie.ordered;
     valued = λ q cell e.
-      let v = in_values cell (taken_within r cell (cell_taken n r t trie q cell e)) in
-      (v.0, trie.has q ∙ ap (value_in r) e ∙ v.1);
+        let v = in_values cell (taken_within r cell (cell_taken n r t trie q cell e)) in
+        (v.0, trie.has q ∙ ap (value_in r) e ∙ v.1);
     celled = λ q v e. has_cell q v (cell_of t.families q) refl e;
     signs = λ p x cell e.
-      let c = cell_parts t.families (p ++ x ∷ []) cell e in
-      let parts = same_from_push p c.front x c.last c.whole in
-      let s = sign_stands n r (family_at t.families) trie.laid c.front c.family c.last c.at c.has in
-      (let is = parts.1 in let up = s.0 in omega arith, let is = parts.1 in let le = s.1 in omega arith);
+        let c = cell_parts t.families (p ++ x ∷ []) cell e in
+        let parts = same_from_push p c.front x c.last c.whole in
+        let s = sign_stands n r (family_at t.families) trie.laid c.front c.family c.last c.at c.has in
+        (let is = parts.1 in let up = s.0 in omega arith, let is = parts.1 in let le = s.1 in omega arith);
     apart = cells_apart n r t trie;
     root = ap (option_map (λ (f : Family). f.base)) trie.laid.root;
     alone = λ x low high.
-      parts_cell t.families [] x (record { base = 0; signs = range_with_len 1 n }) trie.laid.root (any_range 1 n x low (omega arith)) ∙ ap Some (zero-add x);
+        parts_cell t.families [] x (record { base = 0; signs = range_with_len 1 n }) trie.laid.root (any_range 1 n x low (omega arith)) ∙ ap Some (zero-add x);
     based = λ p x base e. let f = base_parts t.families (p ++ x ∷ []) base e in family_cell p x f.0 f.1;
     filled = λ p base e.
-      let f = base_parts t.families p base e in
-      let y = first_of f.0.signs (trie.laid.filled p f.0 f.1) in
-      (y.0, f.0.base + y.0, parts_cell t.families p y.0 f.0 f.1 y.1);
-    closed = closed }
+        let f = base_parts t.families p base e in
+        let y = first_of f.0.signs (trie.laid.filled p f.0 f.1) in
+        (y.0, f.0.base + y.0, parts_cell t.families p y.0 f.0 f.1 y.1);
+    closed = closed;
+  }
