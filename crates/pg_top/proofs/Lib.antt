@@ -3,3 +3,4 @@ pub mod Sevens
 pub mod Fronts
 pub mod SelectedSigns
 pub mod Selecting
+pub mod OutcomeRows

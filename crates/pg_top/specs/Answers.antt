@@ -8,7 +8,7 @@ use Rattle.pg_top.specs.Puts.{PutOrRose}
 use Rattle.pg_top.specs.Reads.{name_of, AcceptedBefore}
 use Rattle.pg_top.specs.Requests.{GenerateNames, Request, ToGenerate}
 use Rattle.pg_top.specs.declared.answers.Status.{Status}
-use Rattle.pg_top.specs.declared.answers.Status.TheVariants.{Done, Usage, Refused, Fault, Memory}
+use Rattle.pg_top.specs.declared.answers.Status.TheVariants.{Done, Yes, No, Usage, Refused, Fault, Memory}
 use Rattle.pg_top.specs.declared.inputs.Input.{Input}
 
 -- where files are told after the call, they were told before it, and this is so of both
@@ -18,6 +18,16 @@ OfFiles old new P = IfSome new (λ after. MatchOption old ⊥ (λ before. P befo
 -- this is so of what the words ask for; they are a command
 abbrev pub OfRequest : Option Request → (Request → Type 0) → Type 0
 OfRequest request P = MatchOption request ⊥ P
+
+-- the answers that a call may give: of words that are no command usage or a fault, and of `generate` all but usage, yes and no
+abbrev pub MayAnswer : Option Request → Status → Type 0
+MayAnswer None Usage = Unit {0}
+MayAnswer None Fault = Unit {0}
+MayAnswer None other = ⊥
+MayAnswer (Some (ToGenerate n)) Yes = ⊥
+MayAnswer (Some (ToGenerate n)) No = ⊥
+MayAnswer (Some (ToGenerate n)) Usage = ⊥
+MayAnswer (Some (ToGenerate n)) other = Unit {0}
 
 -- after these answers every file is as it was
 abbrev pub LeavesFiles : Status → Type 0

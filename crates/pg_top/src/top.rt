@@ -2,7 +2,7 @@
 ghost use Rattle.std.specs.Prelude.{◌≡◌, ◌⊎◌, ◌∷◌, [], IfOk, IfErr, IfSome, None, Some};
 ghost use Rattle.pg_outside.specs.Content.{KeepsHeld, WasPut};
 ghost use Rattle.pg_outside.specs.Faults.{NoneFell};
-ghost use Rattle.pg_top.specs.Answers.{Call, OfFiles, OfRequest, LeavesFiles, PutsRefusal, WritesAll, SomeRose, IsFault, IsComplete};
+ghost use Rattle.pg_top.specs.Answers.{Call, OfFiles, OfRequest, MayAnswer, LeavesFiles, PutsRefusal, WritesAll, SomeRose, IsFault, IsComplete};
 ghost use Rattle.pg_top.specs.Commands.{texts_of, words_of};
 ghost use Rattle.pg_top.specs.Outcomes.{Writes, outcome_of};
 ghost use Rattle.pg_top.specs.PrintedLines.{usage_line};
@@ -40,7 +40,7 @@ fn generate<F: Files, O: Sink>(
     files: &mut F,
     out: &mut O,
 ) -> Status
-    ensures usage { ¬ (result ≡ Status.Usage) }
+    ensures answers { MayAnswer (Some (ToGenerate (texts_of names.now))) result }
     ensures unchanged { LeavesFiles result → KeepsHeld (F.held files.old) (F.held files.new) }
     ensures silent { result ≡ Status.Memory → WasPut (O.contents out.old) (O.contents out.new) [] }
     ensures refused { result ≡ Status.Refused → IfSome (F.held files.new) (λ files. PutsRefusal (O.contents out.old) (O.contents out.new) (outcome_of files (ToGenerate (texts_of names.now)))) }
@@ -78,6 +78,7 @@ fn generate<F: Files, O: Sink>(
 ///
 /// After all answers but `Done` and `Fault` the files are as they were.
 pub fn run<F: Files, O: Sink>(alloc: Global, words: &[String], files: &mut F, out: &mut O) -> Status
+    ensures answers { MayAnswer (request_of (words_of words.now)) result }
     ensures usage { result ≡ Status.Usage → (request_of (words_of words.now) ≡ None) × WasPut (O.contents out.old) (O.contents out.new) usage_line }
     ensures unchanged { LeavesFiles result → KeepsHeld (F.held files.old) (F.held files.new) }
     ensures silent { result ≡ Status.Memory → WasPut (O.contents out.old) (O.contents out.new) [] }
