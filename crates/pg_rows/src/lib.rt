@@ -1,0 +1,5 @@
+//! Worked runs of the driver over the plain engine, with their records and totals.
+#![tactic(auto)]
+
+#[cfg(test)]
+mod runs;
