@@ -1,7 +1,7 @@
 -- The numbers and names of the refusals, as they are printed.
 use Rattle.std.specs.Prelude.{ℕ, List, codes}
 use Rattle.pg_types.specs.declared.refusals.Kind.{Kind}
-use Rattle.pg_types.specs.declared.refusals.Kind.TheVariants.{TranslateTooLong, BadMinima, BadMark, BadSpelling, SpellingClash, TooManyLetters, BadNumber, OutOfRange, Missing, Extra, ParametersTooLong, PatternCharacter, PatternTooLong, PatternsTooLong, DictionaryCharacter, WordTooLong, DictionaryTooLong, BadWeight, TableTooLong, BadTable, OtherTable, NotBuilt}
+use Rattle.pg_types.specs.declared.refusals.Kind.TheVariants.{TranslateTooLong, BadMinima, BadMark, BadSpelling, SpellingClash, TooManyLetters, BadNumber, OutOfRange, Missing, Extra, ParametersTooLong, PatternCharacter, PatternTooLong, PatternsTooLong, DictionaryCharacter, WordTooLong, DictionaryTooLong, BadWeight, TableTooLong, BadTable, OtherTable}
 
 -- the number of a refusal: hundreds tell the file, the rest counts the reasons
 abbrev pub number_of : Kind → ℕ
@@ -26,7 +26,6 @@ number_of BadWeight = 404
 number_of TableTooLong = 601
 number_of BadTable = 602
 number_of OtherTable = 603
-number_of NotBuilt = 900
 
 -- the name of a refusal
 abbrev pub name_of : Kind → List ℕ
@@ -51,4 +50,3 @@ name_of BadWeight = codes "BadWeight"
 name_of TableTooLong = codes "TableTooLong"
 name_of BadTable = codes "BadTable"
 name_of OtherTable = codes "OtherTable"
-name_of NotBuilt = codes "NotBuilt"

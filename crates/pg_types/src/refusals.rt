@@ -51,8 +51,6 @@ pub enum Kind {
     BadTable,
     /// A packed table file belongs to a table with another number of letters.
     OtherTable,
-    /// The file has bytes, and its reader is not built yet.
-    NotBuilt,
 }
 
 impl Kind {
@@ -82,7 +80,6 @@ impl Kind {
             Kind::TableTooLong => 601,
             Kind::BadTable => 602,
             Kind::OtherTable => 603,
-            Kind::NotBuilt => 900,
         }
     }
 
@@ -112,7 +109,6 @@ impl Kind {
             Kind::TableTooLong => "TableTooLong",
             Kind::BadTable => "BadTable",
             Kind::OtherTable => "OtherTable",
-            Kind::NotBuilt => "NotBuilt",
         }
     }
 }
