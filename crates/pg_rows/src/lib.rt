@@ -2,6 +2,10 @@
 #![tactic(auto)]
 
 #[cfg(test)]
+mod plain;
+#[cfg(test)]
 mod runs;
 #[cfg(test)]
 mod sample;
+#[cfg(test)]
+mod unskipped;

@@ -1,0 +1,10 @@
+use Rattle.std.proofs.Common.{◌*◌}
+use Rattle.pg_types.specs.declared.limits.TheConstants.{WEIGHT_MAX}
+use Rattle.pg_rows.specs.Keeping.{AreAtMost, KeepsPass}
+use Rattle.pg_rows.proofs.plain.count_word.Given as goal
+
+abbrev pub invariant-positions : goal.invariant-positions
+invariant-positions g l = record {
+  kept : KeepsPass (g.E.Engine.meaning l.fn.e) (g.E.Engine.meaning l.e);
+  sums : AreAtMost (g.E.Engine.meaning l.e).counts (WEIGHT_MAX * l.seen);
+}

@@ -1,0 +1,10 @@
+use Rattle.std.proofs.Common.{◌*◌}
+use Rattle.pg_types.specs.declared.limits.TheConstants.{WEIGHT_MAX}
+use Rattle.pg_rows.specs.Keeping.{AreAtMost, KeepsPass}
+use Rattle.pg_rows.proofs.plain.count_words.Given as goal
+
+abbrev pub invariant-words : goal.invariant-words
+invariant-words g l = record {
+  kept : KeepsPass (g.E.Engine.meaning l.fn.e) (g.E.Engine.meaning l.e);
+  sums : AreAtMost (g.E.Engine.meaning l.e).counts (WEIGHT_MAX * l.seen);
+}
