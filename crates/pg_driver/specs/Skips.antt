@@ -2,7 +2,6 @@
 use Rattle.std.specs.Prelude.{◌≡◌, ℕ, ◌+◌, ◌≤◌, Bool, true, false, List, [], slice_index_or, replicate}
 use Rattle.pg_types.specs.declared.limits.TheConstants.{LENGTH_MAX}
 use Rattle.pg_select.specs.Meanings.{Meaning}
-use Rattle.pg_select.specs.Sights.{Pass}
 use Rattle.pg_select.specs.Laws.{IsClosed}
 use Rattle.pg_driver.specs.Runs.{Source}
 use Rattle.pg_driver.specs.Begun.{Done, Walk, CountedRun, is_skippable}
@@ -29,15 +28,15 @@ pub record Tells (number len : ℕ) (flags : ClosedDots) (done : List Done) : Ty
   pub beyond : (n dot : ℕ) → len + 2 ≤ n → is_skippable done (record { level = number; len = n; dot = dot }) ≡ false
 
 -- each pass of a level that can be skipped sees nothing
-abbrev pub AreClosed : Source → ℕ → Meaning → List Done → Type 0
-AreClosed source number m done = (len dot : ℕ) → is_skippable done (record { level = number; len = len; dot = dot }) ≡ true → IsClosed source.minima source.words (record { level = number; len = len; dot = dot }) m.patterns m.hopeless
+abbrev pub AreClosed : Source → ℕ → Walk → Type 0
+AreClosed source number w = (len dot : ℕ) → is_skippable w.done (record { level = number; len = len; dot = dot }) ≡ true → IsClosed source.minima source.words (record { level = number; len = len; dot = dot }) w.level.state.patterns w.level.state.hopeless
 
 -- an engine, the records and the flags are as far in a level, at a length, as a walk that does every pass
 pub record IsAt (source : Source) (number len : ℕ) (m : Meaning) (r : Recorded) (flags : ClosedDots) (w : Walk) : Type 0 where
   pub level : level_state_of m r.passes r.chosen ≡ w.level
   pub begun : r.begun ≡ w.begun
   pub tells : Tells number len flags w.done
-  pub closed : AreClosed source number m w.done
+  pub closed : AreClosed source number w
 
 -- the walk of a level begins
 abbrev pub walk_start : Meaning → Recorded → Walk

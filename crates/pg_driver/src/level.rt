@@ -85,7 +85,8 @@ fn run_or_skip<E: Engine>(
     }
     let record = run_pass(e, d, t, level, pass)?;
     closed.set(pass.dot, record.left_none());
-    records.add_pass(record)
+    records.add_pass(record)?;
+    Ok(())
 }
 
 /// Does the passes of a length, dot by dot, but those that can be skipped.
