@@ -1,10 +1,11 @@
 //! Runs over small word lists. Expected numbers were worked out by hand from the rules.
+use crate::sample::Draw;
 use pg_dict::Dictionary;
 use pg_driver::{Run, generate};
 use pg_patterns::PatternSet;
 use pg_plain::PlainEngine;
 use pg_translate::Table;
-use pg_types::{Params, Totals, read_params};
+use pg_types::{Totals, read_params};
 use std::alloc::{AllocError, Global};
 use std::test::Fail;
 
@@ -61,12 +62,18 @@ fn entries(alloc: Global, patterns: &PatternSet) -> Result<String, AllocError> {
     Ok(text)
 }
 
-/// Does the run of a row over the plain engine.
-fn run_of(alloc: Global, row: &Row) -> Result<Run, Fail> {
-    let table = Table::read(alloc, LETTERS)?;
-    let dictionary = Dictionary::read(alloc, &table, row.dictionary)?;
-    let params = read_params(alloc, row.parameters)?;
-    let start = PatternSet::read(alloc, &table, row.start)?;
+/// Does the run of these four files over the plain engine. A translate file of no bytes means the default letters.
+pub(crate) fn run_of(
+    alloc: Global,
+    translate: &[u8],
+    dictionary: &[u8],
+    parameters: &[u8],
+    start: &[u8],
+) -> Result<Run, Fail> {
+    let table = Table::read(alloc, translate)?;
+    let dictionary = Dictionary::read(alloc, &table, dictionary)?;
+    let params = read_params(alloc, parameters)?;
+    let start = PatternSet::read(alloc, &table, start)?;
     let mut engine = PlainEngine::new(alloc, table.letters() + 1, &start)?;
     let run = generate(alloc, &mut engine, &dictionary, &table, &params)?;
     Ok(run)
@@ -150,7 +157,13 @@ const ROWS: [Row; 8] = [
 #[test]
 fn worked_runs(rt: HostRuntime) -> Result<(), Fail> {
     for row in ROWS.iter() {
-        let run = run_of(rt.alloc(), row)?;
+        let run = run_of(
+            rt.alloc(),
+            LETTERS,
+            row.dictionary,
+            row.parameters,
+            row.start,
+        )?;
         assert_eq!(rt; entries(rt.alloc(), run.patterns())?.as_str(), row.patterns);
         assert_eq!(rt; records(rt.alloc(), &run)?.as_str(), row.records);
         assert_eq!(rt; sums(run.totals()), row.totals);
@@ -167,25 +180,23 @@ fn a_product_past_32_bits(rt: HostRuntime) -> Result<(), Fail> {
         text.extend_from_slice(b"9ab-c\n")?;
     }
     text.extend_from_slice(b"2ab-c\n")?;
-    let table = Table::read(alloc, LETTERS)?;
-    let dictionary = Dictionary::read(alloc, &table, text.as_slice())?;
-    let params = read_params(alloc, b"1 1 1 15 1000000 1000000 1000000")?;
-    let mut engine = PlainEngine::new(alloc, table.letters() + 1, &PatternSet::empty(alloc))?;
-    let run = generate(alloc, &mut engine, &dictionary, &table, &params)?;
+    let parameters = b"1 1 1 15 1000000 1000000 1000000";
+    let run = run_of(alloc, LETTERS, text.as_slice(), parameters, b"")?;
     assert_eq!(rt; entries(alloc, run.patterns())?.as_str(), "[4] 0 1\n");
     assert_eq!(rt; sums(run.totals()), (4295, 0, 0));
     Ok(())
 }
 
-/// One word of the default letters, whose three hyphens no pattern reaches.
+/// One word of the default letters, drawn from the seed 1, whose three hyphens no pattern reaches.
 #[test]
 fn one_word_of_the_default_letters(rt: HostRuntime) -> Result<(), Fail> {
     let alloc = rt.alloc();
-    let table = Table::default_letters(alloc)?;
-    let dictionary = Dictionary::read(alloc, &table, b"so-ni-gi-din\n")?;
-    let params = read_params(alloc, b"1 2 1 3 1 2 20 2 4 2 1 8")?;
-    let mut engine = PlainEngine::new(alloc, table.letters() + 1, &PatternSet::empty(alloc))?;
-    let run = generate(alloc, &mut engine, &dictionary, &table, &params)?;
+    let mut text = Vec::new(alloc);
+    let mut draw = Draw { state: 1 };
+    draw.push_word(&mut text)?;
+    assert_eq!(rt; text.as_slice(), b"so-ni-gi-din\n".as_slice());
+    let parameters = b"1 2 1 3 1 2 20 2 4 2 1 8";
+    let run = run_of(alloc, b"", text.as_slice(), parameters, b"")?;
     assert_eq!(rt; run.patterns().len(), 0);
     assert_eq!(rt; sums(run.totals()), (0, 0, 3));
     Ok(())
