@@ -1,5 +1,6 @@
 pub mod AddTrie
 pub mod CellWrites
+pub mod CellsStay
 pub mod Cleared
 pub mod Collecting
 pub mod FitSteps
@@ -28,3 +29,4 @@ pub mod Slots
 pub mod StoreSteps
 pub mod StringCells
 pub mod StringMaps
+pub mod Walking

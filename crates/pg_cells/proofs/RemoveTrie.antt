@@ -39,7 +39,7 @@ abbrev pub removed : {V : Type 0} → Trie V → List ℕ → ℕ → Trie V
 removed t p s = record { families = without_sign t.families p s; values = without_key (p ++ s ∷ []) t.values }
 
 -- the step of the placement, in its two cases
-sign_left : (fs : Families) (p : List ℕ) (s : ℕ) (f : Family) → family_at fs p ≡ Some f → signs_left s f.signs ≢ [] → without_sign fs p s ≡ put order p (record { base = f.base; signs = signs_left s f.signs }) fs
+pub sign_left : (fs : Families) (p : List ℕ) (s : ℕ) (f : Family) → family_at fs p ≡ Some f → signs_left s f.signs ≢ [] → without_sign fs p s ≡ put order p (record { base = f.base; signs = signs_left s f.signs }) fs
 unfolding without_sign
 sign_left fs p s f at some =
     ap (λ o. elim o as (λ _. Families) [
@@ -55,7 +55,7 @@ sign_left fs p s f at some =
     by [] n = absurd (n refl)
     by (x ∷ xs) n = refl
 
-sign_last : (fs : Families) (p : List ℕ) (s : ℕ) (f : Family) → family_at fs p ≡ Some f → signs_left s f.signs ≡ [] → without_sign fs p s ≡ without_family fs p
+pub sign_last : (fs : Families) (p : List ℕ) (s : ℕ) (f : Family) → family_at fs p ≡ Some f → signs_left s f.signs ≡ [] → without_sign fs p s ≡ without_family fs p
 unfolding without_sign
 sign_last fs p s f at none =
     ap (λ o. elim o as (λ _. Families) [

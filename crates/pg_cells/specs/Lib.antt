@@ -8,4 +8,5 @@ pub mod Moves
 pub mod OneTrie
 pub mod Root
 pub mod Store
+pub mod Walks
 pub mod Writes

@@ -9,6 +9,7 @@ ghost use Rattle.pg_cells.specs.IsHeld.{IsHeld};
 ghost use Rattle.pg_cells.specs.Lists.{sign_at};
 ghost use Rattle.pg_cells.specs.OneTrie.{Kept, Kept-prop};
 ghost use Rattle.pg_cells.specs.Root.{root_held};
+ghost use Rattle.pg_cells.specs.Walks.{EndsBefore};
 
 use crate::fit::Slot;
 use crate::moves::collect;
@@ -46,12 +47,14 @@ impl<V: Copy> Cells<V> {
     /// The root family alone, each value `blank`.
     pub fn new(alloc: Global, signs: u16, blank: V) -> Result<Cells<V>, AllocError>
         requires { (1 ≤ signs) × (signs ≤ SIGNS_MAX) }
-        ensures { IfOk result (λ c. c ≡ root_held signs blank) }
+        ensures held { IfOk result (λ c. c ≡ root_held signs blank) }
+        ensures kept { IfOk result (λ c. IsHeld c) }
     {
         let mut store = Store::new(alloc, blank)?;
         store.grow(signs as usize + 1, blank)?;
         plant(&mut store, signs, blank);
         store.set_base(0, true);
+        let _length = store.len();
         Ok(Cells {
             signs,
             store,
@@ -68,11 +71,13 @@ impl<V: Copy> Cells<V> {
         self.signs
     }
 
-    /// The cell of the sign in the family with the base, or `None` where the family lacks the sign.
+    /// The cell of the sign in the family with the base, or `None` where the family lacks the sign. Then no string that
+    /// begins with this one has a value.
     pub fn find(&self, base: usize, s: Sign) -> Option<usize>
         requires base { (p : List ℕ) × (base_of self.now.families p ≡ Some base) }
         requires sign { (1 ≤ s) × (s ≤ self.now.signs) }
-        ensures { (p : List ℕ) → base_of self.now.families p ≡ Some base → result ≡ cell_of self.now.families (p ++ s ∷ []) }
+        ensures cell { (p : List ℕ) → base_of self.now.families p ≡ Some base → result ≡ cell_of self.now.families (p ++ s ∷ []) }
+        ensures none { (p : List ℕ) → base_of self.now.families p ≡ Some base → result ≡ None → EndsBefore self.now.values (p ++ s ∷ []) }
     {
         let _cells = self.store.len();
         let cell = base + s as usize;
@@ -83,11 +88,14 @@ impl<V: Copy> Cells<V> {
         }
     }
 
-    /// The base of the family below the cell's string, 0 for none.
+    /// The base of the family below the cell's string, 0 for none. It tells whether a longer string has a value.
     pub fn child(&self, cell: usize) -> usize
         requires { (q : List ℕ) × (cell_of self.now.families q ≡ Some cell) }
-        ensures { (q : List ℕ) → cell_of self.now.families q ≡ Some cell → base_of self.now.families q ≡ (if result == 0 then None else Some result) }
+        ensures base { (q : List ℕ) → cell_of self.now.families q ≡ Some cell → base_of self.now.families q ≡ (if result == 0 then None else Some result) }
+        ensures none { (q : List ℕ) → cell_of self.now.families q ≡ Some cell → result ≡ 0 → (x : ℕ) → EndsBefore self.now.values (q ++ x ∷ []) }
+        ensures some { (q : List ℕ) → cell_of self.now.families q ≡ Some cell → 0 < result → (x : ℕ) × (v : V) × (find (slice_cmp nat_cmp) (q ++ x ∷ []) self.now.values ≡ Some v) }
     {
+        let _cells = self.store.len();
         self.store.child(cell)
     }
 
@@ -108,6 +116,7 @@ impl<V: Copy> Cells<V> {
         requires sign { (1 ≤ s) × (s ≤ self.old.signs) }
         ensures held { (q : List ℕ) → cell_of self.old.families q ≡ Some parent → OnOk result (self.new ≡ record self.old { families = with_sign self.old.signs self.old.families q s; values = put (slice_cmp nat_cmp) (q ++ s ∷ []) v self.old.values }) }
         ensures cell { (q : List ℕ) → cell_of self.old.families q ≡ Some parent → IfOk result (λ cell. cell_of self.new.families (q ++ s ∷ []) ≡ Some cell) }
+        ensures kept { OnOk result (IsHeld self.new) }
         ensures err { OnErr result (self.new ≡ self.old) }
     {
         self.store.make_room(self.signs as usize + 2, v)?;
@@ -121,40 +130,50 @@ impl<V: Copy> Cells<V> {
         if joins(&self.store, base, s) {
             let cell = base + s as usize;
             self.store.take(cell, slot);
+            let _length = self.store.len();
             return Ok(cell);
         }
         collect(&self.store, base, self.signs, &mut self.moving)?;
         let slots = self.moving.as_slice();
         let placed = settle(&mut self.store, slots, slot, parent, base, self.signs);
+        let _length = self.store.len();
         Ok(placed + s as usize)
     }
 
-    /// Takes the sign away from the family below the parent's string. A family without a sign is gone.
+    /// Takes the sign away from the family below the parent's string. A family without a sign is gone. Every other string
+    /// keeps its cell.
     pub fn remove(&mut self, parent: usize, s: Sign)
         requires parent { (q : List ℕ) × (cell : ℕ) × ((cell_of self.old.families q ≡ Some parent) × (cell_of self.old.families (q ++ s ∷ []) ≡ Some cell) × (base_of self.old.families (q ++ s ∷ []) ≡ None)) }
-        ensures { (q : List ℕ) → cell_of self.old.families q ≡ Some parent → self.new ≡ record self.old { families = without_sign self.old.families q s; values = without_key (q ++ s ∷ []) self.old.values } }
+        ensures held { (q : List ℕ) → cell_of self.old.families q ≡ Some parent → self.new ≡ record self.old { families = without_sign self.old.families q s; values = without_key (q ++ s ∷ []) self.old.values } }
+        ensures cells { (q : List ℕ) → cell_of self.old.families q ≡ Some parent → (p : List ℕ) → p ≢ q ++ s ∷ [] → cell_of self.new.families p ≡ cell_of self.old.families p }
+        ensures kept { IsHeld self.new }
     {
         let _cells = self.store.len();
         let base = self.store.child(parent);
         self.store.free(base + s as usize);
         drop_bare(&mut self.store, base, parent, self.signs);
+        let _length = self.store.len();
     }
 
     /// Gives the cell's string the value.
     pub fn set_value(&mut self, cell: usize, v: V)
         requires { (q : List ℕ) × (cell_of self.old.families q ≡ Some cell) }
-        ensures { (q : List ℕ) → cell_of self.old.families q ≡ Some cell → self.new ≡ record self.old { values = put (slice_cmp nat_cmp) q v self.old.values } }
+        ensures held { (q : List ℕ) → cell_of self.old.families q ≡ Some cell → self.new ≡ record self.old { values = put (slice_cmp nat_cmp) q v self.old.values } }
+        ensures kept { IsHeld self.new }
     {
         self.store.set_value(cell, v);
+        let _length = self.store.len();
     }
 
     /// The root family alone, each value `blank`.
     pub fn reset(&mut self, blank: V)
-        ensures { self.new ≡ root_held self.old.signs blank }
+        ensures held { self.new ≡ root_held self.old.signs blank }
+        ensures kept { IsHeld self.new }
     {
         clear(&mut self.store);
         plant(&mut self.store, self.signs, blank);
         self.store.set_base(0, true);
+        let _length = self.store.len();
     }
 
     /// The greatest taken cell.

@@ -12,5 +12,7 @@ mod settle;
 mod store;
 #[cfg(test)]
 mod tests;
+mod walks;
 
 pub use families::Cells;
+pub use walks::{enter, step};

@@ -1,6 +1,14 @@
-//! Cells of a table with one sign.
-use crate::Cells;
+//! Cells of a table with one sign, and cells against a slow list of families.
+ghost use Rattle.std.specs.Prelude.{◌≡◌, ◌<◌, ◌≤◌, ℕ, List, Some, IfSome};
+ghost use Rattle.pg_types.specs.Placement.{cell_of};
+
+use crate::{Cells, step};
+use families::Families;
+use pg_types::Sign;
+use std::process::Abort;
 use std::test::Fail;
+
+mod families;
 
 #[test]
 fn one_sign(rt: HostRuntime) -> Result<(), Fail> {
@@ -11,5 +19,114 @@ fn one_sign(rt: HostRuntime) -> Result<(), Fail> {
     assert_eq!(rt; cells.value(2), 8);
     assert_eq!(rt; cells.taken(), 2);
     assert_eq!(rt; cells.top(), 2);
+    Ok(())
+}
+
+/// The signs of the table.
+const SIGNS: Sign = 40;
+
+/// The steps.
+const STEPS: usize = 3_000;
+
+/// A row of numbers that a seed gives.
+#[derive(Drop)]
+struct Draws(u64);
+
+impl Draws {
+    // The next number, below `count`.
+    fn draw(&mut self, count: usize) -> usize
+        ensures { 0 < count → result < count }
+    {
+        let product = self.0.wrapping_mul(1_103_515_245).wrapping_add(12_345);
+        self.0 = product % (1 << 31);
+        (self.0 as usize / 65_536) % count.max(1)
+    }
+}
+
+/// The cell of a string.
+fn cell_of(cells: &Cells<u32>, string: &[Sign]) -> Option<usize>
+    ensures { IfSome result (λ cell. (q : List ℕ) × (cell_of cells.now.families q ≡ Some cell)) }
+{
+    let mut at = None;
+    for s in string {
+        if *s < 1 || cells.signs() < *s {
+            return None;
+        }
+        at = Some(step(cells, at, *s)?);
+    }
+    at
+}
+
+/// The base of the family of a prefix.
+fn base_of(cells: &Cells<u32>, prefix: &[Sign]) -> Option<usize> {
+    if prefix.is_empty() {
+        return Some(0);
+    }
+    let cell = cell_of(cells, prefix)?;
+    Some(cells.child(cell))
+}
+
+/// Adds the sign below the string of a cell, or removes it where it is there and no family is below it.
+fn change(cells: &mut Cells<u32>, parent: usize, s: Sign) -> Result<(), Fail>
+    requires parent { (q : List ℕ) × (cell_of cells.old.families q ≡ Some parent) }
+    requires sign { (1 ≤ s) × (s ≤ cells.old.signs) }
+{
+    match step(cells, Some(parent), s) {
+        None => {
+            cells.add(parent, s, 0)?;
+        }
+        Some(cell) => {
+            if cells.child(cell) == 0 {
+                cells.remove(parent, s);
+            }
+        }
+    }
+    Ok(())
+}
+
+/// One step, on both.
+fn take_step(
+    cells: &mut Cells<u32>,
+    families: &mut Families,
+    draws: &mut Draws,
+) -> Result<(), Fail> {
+    let used = families.used_cells()?;
+    let parent = used.get(draws.draw(used.len())).copied().unwrap_or(0);
+    let s = 1 + draws.draw(usize::from(SIGNS)) as Sign;
+    let Some(string) = families.string_of(parent)? else {
+        return Err(Fail::new("a used cell has a string"));
+    };
+    let Some(cell) = cell_of(cells, string.as_slice()) else {
+        return Err(Fail::new("the string has a cell"));
+    };
+    if cells.signs() < s {
+        return Err(Fail::new("a sign of the table"));
+    }
+    change(cells, cell, s)?;
+    families.change(string.as_slice(), s)?;
+    Ok(())
+}
+
+/// Compares the top, the number of taken cells and each base.
+fn compare(rt: &impl Abort, cells: &Cells<u32>, families: &Families) -> Result<(), Fail> {
+    let used = families.used_cells()?;
+    assert_eq!(rt; cells.taken(), used.len());
+    assert_eq!(rt; cells.top(), used.last().copied().unwrap_or(0));
+    for family in families.list() {
+        assert_eq!(rt; base_of(cells, family.prefix.as_slice()), Some(family.base));
+    }
+    Ok(())
+}
+
+#[test]
+fn against_a_slow_list_of_families(rt: HostRuntime) -> Result<(), Fail> {
+    let mut cells = Cells::new(rt.alloc(), SIGNS, 0_u32)?;
+    let mut families = Families::new(rt.alloc(), SIGNS)?;
+    let mut draws = Draws(5);
+    for _ in 0..STEPS {
+        take_step(&mut cells, &mut families, &mut draws)?;
+        compare(&rt, &cells, &families)?;
+    }
+    assert_eq!(rt; cells.taken(), 2_933);
     Ok(())
 }

@@ -29,7 +29,8 @@ bare_lines : (b : Bool) (ls : List PassLine) (l : PassLine) → map bare_line (c
 bare_lines true ls l = map_push bare_line ls l
 bare_lines false ls l = refl
 
-bare_pass : (source : Source) (level : LevelParams) (l : LevelState) (pass : Pass) → bare_level (after_pass source level l pass) ≡ after_pass source level (bare_level l) pass
+-- after a pass, and at a level's end
+pub bare_pass : (source : Source) (level : LevelParams) (l : LevelState) (pass : Pass) → bare_level (after_pass source level l pass) ≡ after_pass source level (bare_level l) pass
 bare_pass source level l pass =
     let cs = candidates_of source l.state pass in
     ap (λ (lines : List PassLine). record { state = bare_state (after_pass source level l pass).state; lines = lines; chosen = l.chosen + length (chosen_of level cs) }) (bare_lines (nat_lt 0 (length cs)) l.lines (line_of source level pass l.state cs))
@@ -38,7 +39,7 @@ bare_passes : (source : Source) (level : LevelParams) (ps : List Pass) (l : Leve
 bare_passes source level [] l = refl
 bare_passes source level (p ∷ ps) l = bare_passes source level ps (after_pass source level l p) ∙ ap (λ (x : LevelState). fold (after_pass source level) x ps) (bare_pass source level l p)
 
-bare_end : (source : Source) (number : ℕ) (r : Run) (l : LevelState) → bare_run (ended_level source number r l) ≡ ended_level source number (bare_run r) (bare_level l)
+pub bare_end : (source : Source) (number : ℕ) (r : Run) (l : LevelState) → bare_run (ended_level source number r l) ≡ ended_level source number (bare_run r) (bare_level l)
 bare_end source number r l =
     let line : LevelLine = record { level = number; chosen = l.chosen; after = totals source.minima source.words l.state.patterns; layout = layout_with_tails (state_at_end l.state) } in
     ap (λ (lines : List LevelLine). record { state = bare_state (state_at_end l.state); passes = map bare_line l.lines; levels = lines }) (map_push bare_level_line r.levels line)

@@ -1,8 +1,7 @@
--- A step of a level: a pass, and then the rest.
-use Rattle.std.proofs.Common.{◌≡◌, ℕ, ◌+◌, ◌-◌, ◌<◌, Bool, true, false, cond, nat_lt, List, [], ◌∷◌, ◌++◌, length, map, fold, refl, sym, ap, ◌∙◌}
-use Rattle.std.specs.List.{flat_map, range_with_len}
+-- What a pass records, and the passes of a length.
+use Rattle.std.proofs.Common.{◌≡◌, ℕ, ◌+◌, ◌-◌, ◌<◌, Bool, true, false, cond, nat_lt, List, [], ◌∷◌, ◌++◌, length, map, refl, ap, ◌∙◌}
+use Rattle.std.specs.List.{range_with_len}
 use Rattle.std.proofs.lemmas.List.{map_push}
-use Rattle.std.proofs.lemmas.List.Sums.{fold-append}
 use Rattle.pg_types.specs.declared.parameters.LevelParams.{LevelParams}
 use Rattle.pg_translate.specs.Alphabets.{Alphabet}
 use Rattle.pg_dict.specs.Word.{Word}
@@ -10,7 +9,7 @@ use Rattle.pg_select.specs.Meanings.{Meaning}
 use Rattle.pg_select.specs.Sights.{Pass, Candidate}
 use Rattle.pg_driver.specs.declared.records.PassRecord.{PassRecord}
 use Rattle.pg_driver.specs.Dots.{dot_at}
-use Rattle.pg_driver.specs.Runs.{Source, PassLine, LevelState, after_candidates, after_pass, chosen_of, line_of, passes_of_length, state_after}
+use Rattle.pg_driver.specs.Runs.{Source, PassLine, after_candidates, chosen_of, line_of, state_after}
 use Rattle.pg_driver.specs.Sound.{Recorded, with_pass}
 use Rattle.pg_driver.specs.Views.{level_state_of, minima_of, pass_line, source_of, state_of}
 use Rattle.pg_driver.proofs.Reaches.{range_step}
@@ -47,19 +46,3 @@ passes_from number len k end = map (λ dot. record { level = number; len = len; 
 
 pub passes_step : (number len k end : ℕ) → k < end → passes_from number len k end ≡ pass_at number len k ∷ passes_from number len (k + 1) end
 passes_step number len k end before = ap (λ ks. map (λ dot. record { level = number; len = len; dot = dot }) (map (dot_at len) ks)) (range_step k end before)
-
--- a pass, and then the rest of its length
-pub dot_step : (source : Source) (level : LevelParams) (number len k end : ℕ) (s n whole : LevelState) → k < end → n ≡ after_pass source level s (pass_at number len k)
-    → fold (after_pass source level) s (passes_from number len k end) ≡ whole → fold (after_pass source level) n (passes_from number len (k + 1) end) ≡ whole
-dot_step source level number len k end s n whole before is left =
-    ap (λ (x : LevelState). fold (after_pass source level) x (passes_from number len (k + 1) end)) is ∙ ap (fold (after_pass source level) s) (sym (passes_step number len k end before)) ∙ left
-
--- a length, and then the rest of its level
-pub length_step : (source : Source) (level : LevelParams) (number len end : ℕ) (s n whole : LevelState) → len < end → n ≡ fold (after_pass source level) s (passes_of_length number len)
-    → fold (after_pass source level) s (flat_map (passes_of_length number) (range_with_len len (end - len))) ≡ whole → fold (after_pass source level) n (flat_map (passes_of_length number) (range_with_len (len + 1) (end - (len + 1)))) ≡ whole
-length_step source level number len end s n whole before is left =
-    let rest : List Pass = flat_map (passes_of_length number) (range_with_len (len + 1) (end - (len + 1))) in
-    ap (λ (x : LevelState). fold (after_pass source level) x rest) is
-    ∙ sym (fold-append (after_pass source level) s (passes_of_length number len) rest)
-    ∙ ap (λ ls. fold (after_pass source level) s (flat_map (passes_of_length number) ls)) (sym (range_step len end before))
-    ∙ left

@@ -13,3 +13,7 @@ pub mod LevelSteps
 pub mod RunSteps
 pub mod FamilyLaw
 pub mod BegunLaw
+pub mod BegunFamilies
+pub mod SkipFlags
+pub mod SkipLaw
+pub mod SkipSteps

@@ -5,3 +5,4 @@ pub mod Views
 pub mod Counting
 pub mod Settling
 pub mod Sound
+pub mod Skips

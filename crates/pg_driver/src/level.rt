@@ -1,14 +1,16 @@
 //! The passes of a level.
 ghost use Rattle.std.specs.Prelude.{◌≡◌, ◌≤◌, ◌<◌, ◌+◌, ◌-◌, ◌*◌, ◌^◌, [], true, fold, IfOk, OnOk};
-ghost use Rattle.std.specs.List.{range_with_len, flat_map};
 ghost use Rattle.pg_types.specs.declared.limits.TheConstants.{LENGTH_MAX, LEVEL_MAX};
 ghost use Rattle.pg_types.specs.Parameters.{IsLevel};
 ghost use Rattle.pg_dict.specs.Word.{SignsAtMost};
-ghost use Rattle.pg_driver.specs.Runs.{candidates_of, line_of, state_after, after_pass, passes_of_length, passes_of, after_level};
+ghost use Rattle.pg_driver.specs.Runs.{candidates_of, line_of, state_after, passes_of_length, passes_of};
+ghost use Rattle.pg_driver.specs.Begun.{Walk, walk_on, count_level};
+ghost use Rattle.pg_driver.specs.Skips.{IsAt, walk_start, counted_run_of};
 ghost use Rattle.pg_driver.specs.Sound.{IsSoundPass};
-ghost use Rattle.pg_driver.specs.Views.{pass_of, pass_line, source_of, state_of, level_state_of, run_of};
+ghost use Rattle.pg_driver.specs.Views.{pass_of, pass_line, source_of, state_of, level_state_of};
 
 use crate::candidates::settle_all;
+use crate::closed::Closed;
 use crate::dots::dot_at;
 use crate::pass::Pass;
 use crate::records::{PassRecord, Records};
@@ -55,7 +57,39 @@ fn run_pass<E: Engine>(
     })
 }
 
-/// Does the passes of a length, dot by dot.
+/// Does a pass and records it; or skips it, where that can have no candidate.
+fn run_or_skip<E: Engine>(
+    e: &mut E,
+    d: &Dictionary,
+    t: &Table,
+    level: &LevelParams,
+    pass: Pass,
+    closed: &mut Closed,
+    records: &mut Records,
+) -> Result<(), AllocError>
+    requires level { IsLevel level.now }
+    requires begun { (E.meaning e.old).begun < 2 ^ 60 }
+    requires few { records.old.begun < 2 ^ 60 }
+    requires chosen { records.old.chosen + 2 ^ 26 < 2 ^ 60 }
+    requires signs { SignsAtMost (E.meaning e.old).signs d.now }
+    ensures ok { OnOk result ((w : Walk) → IsAt (source_of t.now d.now (E.meaning e.old)) pass.level pass.len (E.meaning e.old) records.old closed.old w → IsAt (source_of t.now d.now (E.meaning e.old)) pass.level pass.len (E.meaning e.new) records.new closed.new (walk_on (source_of t.now d.now (E.meaning e.old)) level.now w (pass_of pass))) }
+    ensures levels { OnOk result (records.new.levels ≡ records.old.levels) }
+    ensures begun { OnOk result ((E.meaning e.new).begun + records.old.begun ≡ (E.meaning e.old).begun + records.new.begun) }
+    ensures few { OnOk result (records.new.begun ≤ records.old.begun + 1) }
+    ensures chosen { OnOk result (records.new.chosen ≤ records.old.chosen + 2 ^ 26) }
+    ensures signs { (E.meaning e.new).signs ≡ (E.meaning e.old).signs }
+{
+    if closed.is_skippable(pass.dot) {
+        closed.set(pass.dot, true);
+        return Ok(());
+    }
+    let record = run_pass(e, d, t, level, pass)?;
+    closed.set(pass.dot, record.left_none());
+    records.add_pass(record)?;
+    Ok(())
+}
+
+/// Does the passes of a length, dot by dot, but those that can be skipped.
 fn run_length<E: Engine>(
     e: &mut E,
     d: &Dictionary,
@@ -63,17 +97,20 @@ fn run_length<E: Engine>(
     level: &LevelParams,
     number: u8,
     len: u8,
+    closed: &mut Closed,
     records: &mut Records,
 ) -> Result<(), AllocError>
     requires level { IsLevel level.now }
     requires number { (1 ≤ number) × (number ≤ LEVEL_MAX) }
     requires len { (1 ≤ len) × (len ≤ LENGTH_MAX) }
     requires begun { (E.meaning e.old).begun + 16 < 2 ^ 60 }
+    requires few { records.old.begun + 16 < 2 ^ 60 }
     requires chosen { records.old.chosen + 16 * 2 ^ 26 < 2 ^ 60 }
     requires signs { SignsAtMost (E.meaning e.old).signs d.now }
-    ensures ok { OnOk result (level_state_of (E.meaning e.new) records.new.passes records.new.chosen ≡ fold (after_pass (source_of t.now d.now (E.meaning e.old)) level.now) (level_state_of (E.meaning e.old) records.old.passes records.old.chosen) (passes_of_length number len)) }
+    ensures ok { OnOk result ((w : Walk) → IsAt (source_of t.now d.now (E.meaning e.old)) number len (E.meaning e.old) records.old closed.old w → IsAt (source_of t.now d.now (E.meaning e.old)) number len (E.meaning e.new) records.new closed.new (fold (walk_on (source_of t.now d.now (E.meaning e.old)) level.now) w (passes_of_length number len))) }
     ensures levels { OnOk result (records.new.levels ≡ records.old.levels) }
-    ensures begun { OnOk result ((E.meaning e.new).begun ≤ (E.meaning e.old).begun + 16) }
+    ensures begun { OnOk result ((E.meaning e.new).begun + records.old.begun ≡ (E.meaning e.old).begun + records.new.begun) }
+    ensures few { OnOk result (records.new.begun ≤ records.old.begun + 16) }
     ensures chosen { OnOk result (records.new.chosen ≤ records.old.chosen + 16 * 2 ^ 26) }
     ensures signs { (E.meaning e.new).signs ≡ (E.meaning e.old).signs }
 {
@@ -85,13 +122,12 @@ fn run_length<E: Engine>(
             len,
             dot,
         };
-        let record = run_pass(e, d, t, level, pass)?;
-        records.add_pass(record)?;
+        run_or_skip(e, d, t, level, pass, closed, records)?;
     }
     Ok(())
 }
 
-/// Does all passes of a level, length by length.
+/// Does all passes of a level, length by length, but those that can be skipped.
 fn run_lengths<E: Engine>(
     e: &mut E,
     d: &Dictionary,
@@ -103,16 +139,21 @@ fn run_lengths<E: Engine>(
     requires level { IsLevel level.now }
     requires number { (1 ≤ number) × (number ≤ LEVEL_MAX) }
     requires begun { (E.meaning e.old).begun + 240 < 2 ^ 60 }
+    requires few { records.old.begun + 240 < 2 ^ 60 }
     requires chosen { records.old.chosen ≡ 0 }
     requires signs { SignsAtMost (E.meaning e.old).signs d.now }
-    ensures ok { OnOk result (level_state_of (E.meaning e.new) records.new.passes records.new.chosen ≡ fold (after_pass (source_of t.now d.now (E.meaning e.old)) level.now) (level_state_of (E.meaning e.old) records.old.passes 0) (passes_of number level.now)) }
+    ensures ok { OnOk result (level_state_of (E.meaning e.new) records.new.passes records.new.chosen ≡ (fold (walk_on (source_of t.now d.now (E.meaning e.old)) level.now) (walk_start (E.meaning e.old) records.old) (passes_of number level.now)).level) }
+    ensures counted { OnOk result (records.new.begun ≡ (fold (walk_on (source_of t.now d.now (E.meaning e.old)) level.now) (walk_start (E.meaning e.old) records.old) (passes_of number level.now)).begun) }
     ensures levels { OnOk result (records.new.levels ≡ records.old.levels) }
-    ensures begun { OnOk result ((E.meaning e.new).begun ≤ (E.meaning e.old).begun + 240) }
+    ensures begun { OnOk result ((E.meaning e.new).begun + records.old.begun ≡ (E.meaning e.old).begun + records.new.begun) }
+    ensures few { OnOk result (records.new.begun ≤ records.old.begun + 240) }
     ensures signs { (E.meaning e.new).signs ≡ (E.meaning e.old).signs }
 {
+    let mut closed = Closed::new();
     let end = level.pat_finish + 1;
     'lengths: for len in level.pat_start..end {
-        run_length(e, d, t, level, number, len, records)?;
+        run_length(e, d, t, level, number, len, &mut closed, records)?;
+        closed.next_length();
     }
     Ok(())
 }
@@ -130,12 +171,14 @@ pub fn run_level<E: Engine>(
     requires number { (1 ≤ number) × (number ≤ LEVEL_MAX) }
     requires hopeless { (E.meaning e.old).hopeless ≡ [] }
     requires begun { (E.meaning e.old).begun + 240 < 2 ^ 60 }
+    requires few { records.old.begun + 240 < 2 ^ 60 }
     requires chosen { records.old.chosen ≡ 0 }
     requires signs { SignsAtMost (E.meaning e.old).signs d.now }
-    ensures ok { OnOk result (run_of (E.meaning e.new) records.new.passes records.new.levels ≡ after_level (source_of t.now d.now (E.meaning e.old)) (run_of (E.meaning e.old) records.old.passes records.old.levels) (number, level.now)) }
+    ensures ok { OnOk result (counted_run_of (E.meaning e.new) records.new ≡ count_level (source_of t.now d.now (E.meaning e.old)) (counted_run_of (E.meaning e.old) records.old) (number, level.now)) }
     ensures hopeless { OnOk result ((E.meaning e.new).hopeless ≡ []) }
     ensures tidy { OnOk result ((E.meaning e.new).tidy ≡ true) }
-    ensures begun { OnOk result ((E.meaning e.new).begun ≤ (E.meaning e.old).begun + 240) }
+    ensures begun { OnOk result ((E.meaning e.new).begun + records.old.begun ≡ (E.meaning e.old).begun + records.new.begun) }
+    ensures few { OnOk result (records.new.begun ≤ records.old.begun + 240) }
     ensures chosen { OnOk result (records.new.chosen ≡ 0) }
     ensures signs { (E.meaning e.new).signs ≡ (E.meaning e.old).signs }
 {

@@ -2,6 +2,7 @@
 #![tactic(auto)]
 
 mod candidates;
+mod closed;
 mod counted;
 mod dots;
 mod level;

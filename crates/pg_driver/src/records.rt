@@ -28,6 +28,19 @@ pub struct PassRecord {
     pub layout: Option<Layout>,
 }
 
+impl PassRecord {
+    ghost use Rattle.std.specs.Prelude.{◌≡◌, ◌+◌, ◌==◌};
+    ghost use Rattle.pg_driver.specs.Sound.{IsSoundPass};
+
+    /// Whether the pass left no candidate: it chose or gave up each of them.
+    pub(crate) fn left_none(&self) -> bool
+        requires { IsSoundPass self.now }
+        ensures { result ≡ (self.now.chosen + self.now.hopeless == self.now.candidates) }
+    {
+        self.chosen + self.hopeless == self.candidates
+    }
+}
+
 /// What a run records of a level.
 #[derive(Clone, Copy, Debug, PartialEq, Eq)]
 pub struct LevelRecord {
@@ -47,6 +60,7 @@ pub struct Records {
     passes: Vec<PassRecord>,
     levels: Vec<LevelRecord>,
     chosen: u64,
+    begun: u64,
 }
 
 impl Model for Records {
@@ -55,7 +69,7 @@ impl Model for Records {
 
     ghost Value = { Recorded };
 
-    ghost view = { λ r. record { passes = r.passes.items; levels = r.levels.items; chosen = r.chosen } };
+    ghost view = { λ r. record { passes = r.passes.items; levels = r.levels.items; chosen = r.chosen; begun = r.begun } };
 
     ghost invariant = { λ r. All IsSoundPass r.passes.items × All IsSoundLevel r.levels.items };
 }
@@ -66,21 +80,24 @@ impl Records {
 
     /// No record. It takes no memory.
     pub fn new(alloc: Global) -> Records
-        ensures { result ≡ record { passes = []; levels = []; chosen = 0 } }
+        ensures { result ≡ record { passes = []; levels = []; chosen = 0; begun = 0 } }
     {
         Records {
             passes: Vec::new(alloc),
             levels: Vec::new(alloc),
             chosen: 0,
+            begun: 0,
         }
     }
 
-    /// Adds the record of a pass, where that has a candidate. After an error nothing is said of the records.
+    /// Counts a pass that was begun, and adds its record where it has a candidate. After an error nothing is said of the records.
     pub fn add_pass(&mut self, pass: PassRecord) -> Result<(), AllocError>
         requires sound { IsSoundPass pass }
         requires room { self.old.chosen + pass.chosen < 2 ^ 64 }
+        requires few { self.old.begun + 1 < 2 ^ 64 }
         ensures { OnOk result (self.new ≡ with_pass self.old pass) }
     {
+        self.begun += 1;
         self.chosen += pass.chosen;
         if pass.candidates > 0 {
             self.passes.push(pass)?;
@@ -122,5 +139,12 @@ impl Records {
         ensures sound { All IsSoundLevel result.now }
     {
         self.levels.as_slice()
+    }
+
+    /// How many passes were begun.
+    pub fn begun(&self) -> u64
+        ensures { result ≡ self.now.begun }
+    {
+        self.begun
     }
 }

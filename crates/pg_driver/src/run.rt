@@ -22,7 +22,7 @@ impl Model for Run {
 
     ghost Value = { Finished };
 
-    ghost view = { λ r. record { patterns = r.patterns; passes = r.records.passes; levels = r.records.levels; totals = r.totals; first_layout = r.first_layout } };
+    ghost view = { λ r. record { patterns = r.patterns; passes = r.records.passes; levels = r.records.levels; totals = r.totals; first_layout = r.first_layout; begun = r.records.begun } };
 
     ghost invariant = { λ r. IsSmall r.totals };
 }
@@ -39,7 +39,7 @@ impl Run {
         first_layout: Option<Layout>,
     ) -> Run
         requires { IsSmall totals }
-        ensures { result ≡ record { patterns = patterns; passes = records.passes; levels = records.levels; totals = totals; first_layout = first_layout } }
+        ensures { result ≡ record { patterns = patterns; passes = records.passes; levels = records.levels; totals = totals; first_layout = first_layout; begun = records.begun } }
     {
         Run {
             patterns,
@@ -85,5 +85,12 @@ impl Run {
         ensures { result ≡ self.now.first_layout }
     {
         self.first_layout
+    }
+
+    /// How many passes were begun. The others were skipped.
+    pub fn begun(&self) -> u64
+        ensures { result ≡ self.now.begun }
+    {
+        self.records.begun()
     }
 }

@@ -1,20 +1,23 @@
 -- The first bytes of a file, one more than a file may have, are read as the whole file is.
-use Rattle.std.proofs.Common.{◌≡◌, ℕ, ◌+◌, ◌<◌, ◌≤◌, ◌==◌, nat_lt, true, false, cond, List, [], ◌∷◌, length, take, Option, None, Some, Result, Err, IfSome, sym, refl, ap, ◌∙◌, arith}
+use Rattle.std.proofs.Common.{◌≡◌, ℕ, ◌+◌, ◌<◌, ◌≤◌, nat_lt, true, false, cond, List, [], ◌∷◌, length, map, take, Option, None, Some, Result, Err, IfSome, sym, refl, ap, ◌∙◌, arith}
 use Rattle.std.proofs.lemmas.Bool.{ltb-true, ltb-false, lt-ltb}
 use Rattle.std.proofs.lemmas.List.{take_all, length-take-le}
+use Rattle.std.specs.List.{onto_first}
 use Rattle.std.specs.Option.{option_map}
 use Rattle.pg_types.specs.declared.limits.TheConstants.{FILE_MAX}
 use Rattle.pg_types.specs.declared.refusals.Refusal.{Refusal}
 use Rattle.pg_types.specs.declared.refusals.ReadingError.{ReadingError}
 use Rattle.pg_types.specs.declared.refusals.ReadingError.TheVariants as reader
-use Rattle.pg_types.specs.declared.refusals.Kind.TheVariants.{ParametersTooLong, DictionaryTooLong}
-use Rattle.pg_types.specs.Lines.{lines}
+use Rattle.pg_types.specs.declared.refusals.Kind.TheVariants.{TranslateTooLong, ParametersTooLong, PatternsTooLong, DictionaryTooLong}
+use Rattle.pg_types.specs.Lines.{lines, pieces_at, is_line_feed, without_cr}
 use Rattle.pg_types.specs.Parameters.{parameters, parameters_of, items, demands, refusal_from, refused_at}
 use Rattle.pg_types.specs.Reading.{Fails, unless}
 use Rattle.pg_outside.specs.Content.{FileMap, file_at, IsCut}
 use Rattle.pg_translate.specs.Alphabets.{Alphabet}
+use Rattle.pg_translate.specs.Tables.{table, table_of}
 use Rattle.pg_dict.specs.Words.{words, words_from, refused}
-use Rattle.pg_top.specs.Reads.{not_built, only_empty, read_as}
+use Rattle.pg_patterns.specs.Starts.{start, entries_from, joined_entries}
+use Rattle.pg_top.specs.Reads.{read_as}
 use Rattle.pg_top.specs.Stops.{StopsInput, stop_of}
 use Rattle.pg_top.specs.declared.inputs.Input.{Input}
 
@@ -52,14 +55,37 @@ parameters-front whole = limited (Err (refused_at 0 ParametersTooLong)) (λ byte
 pub words-front : (t : Alphabet) → IsReadByFront (words t)
 words-front t whole = limited (Err (refused 0 DictionaryTooLong 0)) (λ bytes. words_from t 1 1 (lines bytes)) FILE_MAX whole
 
-pub only_empty-front : {Y : Type 0} (y : Y) → IsReadByFront (only_empty y)
-only_empty-front y [] = refl
-only_empty-front y (b ∷ bs) = refl
+pub start-front : (t : Alphabet) → IsReadByFront (start t)
+start-front t whole = limited (Err (record { kind = PatternsTooLong; line = 0; column = 0 })) (λ bytes. joined_entries (entries_from t 1 (lines bytes))) FILE_MAX whole
 
--- a file that has bytes is refused where only one without any is accepted
-pub only_empty_refuses : {Y : Type 0} (y : Y) (bytes : List ℕ) → (length bytes == 0) ≡ false → only_empty y bytes ≡ Err not_built
-only_empty_refuses y [] filled = cc
-only_empty_refuses y (b ∷ bs) filled = refl
+-- a text that has a byte has a piece
+onto_first_filled : (b : ℕ) (pieces : List (List ℕ)) → (first : List ℕ) × (later : List (List ℕ)) × (onto_first b pieces ≡ first ∷ later)
+onto_first_filled b [] = (b ∷ [], [], refl)
+onto_first_filled b (piece ∷ pieces) = (b ∷ piece, pieces, refl)
+
+pieces_filled : (b : ℕ) (bs : List ℕ) → (first : List ℕ) × (later : List (List ℕ)) × (pieces_at is_line_feed (b ∷ bs) ≡ first ∷ later)
+pieces_filled b bs =
+    elim (is_line_feed b) as (λ ends. (first : List ℕ) × (later : List (List ℕ)) × (cond ends ([] ∷ pieces_at is_line_feed bs) (onto_first b (pieces_at is_line_feed bs)) ≡ first ∷ later)) [
+      | true ↦ ([], pieces_at is_line_feed bs, refl)
+      | false ↦ onto_first_filled b (pieces_at is_line_feed bs)
+    ]
+
+-- a translate file that is too long is refused before all else
+too_long_by_pieces : (size : ℕ) (pieces : List (List ℕ)) (first : List ℕ) (later : List (List ℕ)) → pieces ≡ first ∷ later → nat_lt FILE_MAX size ≡ true → table_of size (map without_cr pieces) ≡ Err (record { kind = TranslateTooLong; line = 0; column = 0 })
+too_long_by_pieces size pieces first later cut long = rw (cut, long) refl
+
+table_too_long : (bytes : List ℕ) → nat_lt FILE_MAX (length bytes) ≡ true → table bytes ≡ Err (record { kind = TranslateTooLong; line = 0; column = 0 })
+table_too_long [] long = cc
+table_too_long (b ∷ bs) long =
+    let cut : (first : List ℕ) × (later : List (List ℕ)) × (pieces_at is_line_feed (b ∷ bs) ≡ first ∷ later) = pieces_filled b bs in
+    too_long_by_pieces (length (b ∷ bs)) (pieces_at is_line_feed (b ∷ bs)) cut.0 cut.1 cut.2 long
+
+pub table-front : IsReadByFront table
+table-front whole =
+    elim (nat_lt FILE_MAX (length whole)) as (λ b. nat_lt FILE_MAX (length whole) ≡ b → table (take (FILE_MAX + 1) whole) ≡ table whole) [
+      | true ↦ λ e. table_too_long (first_bytes FILE_MAX whole) (is_long FILE_MAX whole e) ∙ sym (table_too_long whole e)
+      | false ↦ λ e. ap table (is_whole FILE_MAX whole e)
+    ] refl
 
 -- a file that is not too long is its first bytes
 pub front_of_held : (held : Option FileMap) (name bytes : List ℕ) (n : ℕ) → IfSome held (λ files. file_at files name ≡ Some bytes) → length bytes ≤ n → IfSome held (λ files. option_map (take (n + 1)) (file_at files name) ≡ Some bytes)

@@ -1,6 +1,5 @@
 -- What the driver gives is the selection.
-use Rattle.std.proofs.Common.{◌≡◌, ℕ, ◌+◌, List, [], None, ap, ◌∙◌, subst, sym}
-use Rattle.std.proofs.lemmas.List.Elements.{All-nil}
+use Rattle.std.proofs.Common.{◌≡◌, ℕ, ◌+◌, List, None, ap, ◌∙◌, subst, sym}
 use Rattle.pg_types.specs.Parameters.{Parameters}
 use Rattle.pg_translate.specs.Alphabets.{Alphabet, letters_of}
 use Rattle.pg_dict.specs.Word.{Word, SignsAtMost}
@@ -29,10 +28,10 @@ unfolding selected_text
 final_text t words parameters S P e = ap (pattern_text t) e
 
 -- their signs are those of the table
-pub final_signs : (t : Alphabet) (words : List Word) (parameters : Parameters) (S P : List ((List ℕ × ℕ) × ℕ)) → P ≡ selected t parameters S words → S ≡ [] → SignsAtMost (letters_of t + 1) words → SignsUpTo (letters_of t + 1) P
+pub final_signs : (t : Alphabet) (words : List Word) (parameters : Parameters) (S P : List ((List ℕ × ℕ) × ℕ)) → P ≡ selected t parameters S words → SignsUpTo (letters_of t + 1) S → SignsAtMost (letters_of t + 1) words → SignsUpTo (letters_of t + 1) P
 unfolding selected
-final_signs t words parameters S P e f signs =
-    subst (SignsUpTo (letters_of t + 1)) (sym e) (SignsUpTo-run (letters_of t + 1) (source_of t words) parameters S None signs (subst (SignsUpTo (letters_of t + 1)) (sym f) (All-nil _)))
+final_signs t words parameters S P e start signs =
+    subst (SignsUpTo (letters_of t + 1)) (sym e) (SignsUpTo-run (letters_of t + 1) (source_of t words) parameters S None signs start)
 
 -- the same pattern file and the same totals have the same line
 pub done_line_same : (a b : List ℕ) (s u : Totals) → a ≡ b → s ≡ u → done_line a s ≡ done_line b u

@@ -38,7 +38,7 @@ abbrev pub outcome_of : FileMap → Request → Outcome
 outcome_of files (ToGenerate n) =
     after_input Translate (table_in files n) (λ t.
     after_input ParametersFile (parameters_in files n) (λ parameters.
-    after_input Patterns (start_in files n) (λ S.
+    after_input Patterns (start_in t files n) (λ S.
     after_input Dictionary (words_in t files n) (λ words. generated n t parameters S words))))
 
 -- the files after all writes

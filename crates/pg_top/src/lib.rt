@@ -7,6 +7,8 @@ pub mod inputs;
 mod printed;
 mod puts;
 mod reading;
+#[cfg(test)]
+mod rows;
 mod selection;
 #[cfg(test)]
 mod tests;

@@ -6,13 +6,14 @@ ghost use Rattle.pg_types.specs.Reading.{Gives};
 ghost use Rattle.pg_outside.specs.Content.{KeepsHeld, file_at};
 ghost use Rattle.pg_outside.specs.Faults.{NoneFell};
 ghost use Rattle.pg_translate.specs.Alphabets.{letters_of};
-ghost use Rattle.pg_translate.specs.Tables.{default_alphabet};
+ghost use Rattle.pg_translate.specs.Tables.{table as table_of_file};
 ghost use Rattle.pg_dict.specs.Word.{SignsAtMost};
 ghost use Rattle.pg_dict.specs.Words.{words};
+ghost use Rattle.pg_patterns.specs.Starts.{start};
 ghost use Rattle.pg_patterns.specs.Values.{SignsUpTo};
 ghost use Rattle.pg_top.specs.Commands.{texts_of};
 ghost use Rattle.pg_top.specs.Outcomes.{outcome_of, generated};
-ghost use Rattle.pg_top.specs.Reads.{not_built as not_built_refusal, no_patterns, only_empty, read_as};
+ghost use Rattle.pg_top.specs.Reads.{read_as};
 ghost use Rattle.pg_top.specs.Requests.{ToGenerate};
 ghost use Rattle.pg_top.specs.Stops.{stop_of, StopsFront, StopsInput, StopsGenerate};
 
@@ -22,7 +23,7 @@ use pg_dict::Dictionary;
 use pg_outside::{Files, ReadError};
 use pg_patterns::PatternSet;
 use pg_translate::Table;
-use pg_types::{FILE_MAX, Kind, Params, ReadingError, Refusal, read_params};
+use pg_types::{FILE_MAX, Params, ReadingError, read_params};
 use std::alloc::Global;
 
 /// What `generate` reads.
@@ -60,38 +61,6 @@ fn read_front<F: Files>(
     }
 }
 
-/// The refusal of a file that has bytes, and whose reader is not built yet.
-fn not_built() -> ReadingError
-    ensures { result ≡ ReadingError.Refused not_built_refusal }
-{
-    ReadingError::Refused(Refusal {
-        kind: Kind::NotBuilt,
-        line: 0,
-        column: 0,
-    })
-}
-
-/// The table of a translate file. Only a file of no bytes is accepted yet, and means the default table.
-fn table_of(alloc: Global, bytes: &[u8]) -> Result<Table, ReadingError>
-    ensures { Gives (λ table. table) result (only_empty default_alphabet bytes.now) }
-{
-    if !bytes.is_empty() {
-        return Err(not_built());
-    }
-    let table = Table::default_letters(alloc)?;
-    Ok(table)
-}
-
-/// The patterns of a pattern file. Only a file of no bytes is accepted yet, and has none.
-fn patterns_of(alloc: Global, bytes: &[u8]) -> Result<PatternSet, ReadingError>
-    ensures { Gives (λ patterns. patterns) result (only_empty no_patterns bytes.now) }
-{
-    if !bytes.is_empty() {
-        return Err(not_built());
-    }
-    Ok(PatternSet::empty(alloc))
-}
-
 /// Why a command stops at an input whose reader failed.
 fn stop(input: Input, error: ReadingError) -> Stop
     ensures { result ≡ stop_of input error }
@@ -107,11 +76,11 @@ fn read_table<F: Files>(alloc: Global, name: &str, files: &mut F) -> Result<Tabl
     ensures held { KeepsHeld (F.held files.old) (F.held files.new) }
     ensures reads { NoneFell (F.read_faults files.old) (F.read_faults files.new) }
     ensures writes { NoneFell (F.write_faults files.old) (F.write_faults files.new) }
-    ensures ok { IfOk result (λ table. IfSome (F.held files.new) (λ files. read_as (only_empty default_alphabet) files name.now ≡ Some (Ok table))) }
-    ensures stopped { IfErr result (StopsInput (only_empty default_alphabet) Input.Translate name.now (F.held files.new) (F.read_faults files.old) (F.read_faults files.new)) }
+    ensures ok { IfOk result (λ table. IfSome (F.held files.new) (λ files. read_as table_of_file files name.now ≡ Some (Ok table))) }
+    ensures stopped { IfErr result (StopsInput table_of_file Input.Translate name.now (F.held files.new) (F.read_faults files.old) (F.read_faults files.new)) }
 {
     let bytes = read_front(alloc, Input::Translate, name, files)?;
-    match table_of(alloc, &bytes) {
+    match Table::read(alloc, &bytes) {
         Ok(table) => Ok(table),
         Err(error) => Err(stop(Input::Translate, error)),
     }
@@ -132,18 +101,23 @@ fn read_parameters<F: Files>(alloc: Global, name: &str, files: &mut F) -> Result
     }
 }
 
-/// Reads the starting patterns.
-fn read_start<F: Files>(alloc: Global, name: &str, files: &mut F) -> Result<PatternSet, Stop>
+/// Reads the starting patterns under a table.
+fn read_start<F: Files>(
+    alloc: Global,
+    table: &Table,
+    name: &str,
+    files: &mut F,
+) -> Result<PatternSet, Stop>
     ensures held { KeepsHeld (F.held files.old) (F.held files.new) }
     ensures reads { NoneFell (F.read_faults files.old) (F.read_faults files.new) }
     ensures writes { NoneFell (F.write_faults files.old) (F.write_faults files.new) }
-    ensures ok { IfOk result (λ start. IfSome (F.held files.new) (λ files. read_as (only_empty no_patterns) files name.now ≡ Some (Ok start))) }
-    ensures empty { IfOk result (λ start. start ≡ []) }
-    ensures stopped { IfErr result (StopsInput (only_empty no_patterns) Input.Patterns name.now (F.held files.new) (F.read_faults files.old) (F.read_faults files.new)) }
+    ensures ok { IfOk result (λ patterns. IfSome (F.held files.new) (λ files. read_as (start table.now) files name.now ≡ Some (Ok patterns))) }
+    ensures known { IfOk result (SignsUpTo (letters_of table.now + 1)) }
+    ensures stopped { IfErr result (StopsInput (start table.now) Input.Patterns name.now (F.held files.new) (F.read_faults files.old) (F.read_faults files.new)) }
 {
     let bytes = read_front(alloc, Input::Patterns, name, files)?;
-    match patterns_of(alloc, &bytes) {
-        Ok(start) => Ok(start),
+    match PatternSet::read(alloc, table, &bytes) {
+        Ok(patterns) => Ok(patterns),
         Err(error) => Err(stop(Input::Patterns, error)),
     }
 }
@@ -180,12 +154,12 @@ pub fn read_inputs<F: Files>(
     ensures writes { NoneFell (F.write_faults files.old) (F.write_faults files.new) }
     ensures ok { IfOk result (λ inputs. IfSome (F.held files.new) (λ files. outcome_of files (ToGenerate (texts_of names.now)) ≡ generated (texts_of names.now) inputs.table inputs.params inputs.start inputs.dictionary)) }
     ensures signs { IfOk result (λ inputs. SignsAtMost (letters_of inputs.table + 1) inputs.dictionary) }
-    ensures start { IfOk result (λ inputs. inputs.start ≡ []) }
+    ensures start { IfOk result (λ inputs. SignsUpTo (letters_of inputs.table + 1) inputs.start) }
     ensures stopped { IfErr result (StopsGenerate (texts_of names.now) (F.held files.new) (F.read_faults files.old) (F.read_faults files.new)) }
 {
     let table = read_table(alloc, names.translate, files)?;
     let params = read_parameters(alloc, names.params, files)?;
-    let start = read_start(alloc, names.patterns, files)?;
+    let start = read_start(alloc, &table, names.patterns, files)?;
     let dictionary = read_dictionary(alloc, &table, names.dict, files)?;
     Ok(Inputs {
         table,

@@ -1,5 +1,5 @@
 //! The selection of patterns, and the texts that it gives.
-ghost use Rattle.std.specs.Prelude.{◌≡◌, ◌+◌, [], IfOk};
+ghost use Rattle.std.specs.Prelude.{◌≡◌, ◌+◌, IfOk};
 ghost use Rattle.pg_translate.specs.Alphabets.{letters_of};
 ghost use Rattle.pg_dict.specs.Word.{SignsAtMost};
 ghost use Rattle.pg_patterns.specs.Values.{SignsUpTo};
@@ -24,7 +24,7 @@ pub struct Texts {
 /// Does the run of the inputs.
 fn select(alloc: Global, inputs: &Inputs) -> Result<Run, AllocError>
     requires signs { SignsAtMost (letters_of inputs.now.table + 1) inputs.now.dictionary }
-    requires start { inputs.now.start ≡ [] }
+    requires start { SignsUpTo (letters_of inputs.now.table + 1) inputs.now.start }
     ensures patterns { IfOk result (λ run. run.patterns ≡ selected inputs.now.table inputs.now.params inputs.now.start inputs.now.dictionary) }
     ensures totals { IfOk result (λ run. run.totals ≡ selected_totals inputs.now.table inputs.now.params inputs.now.start inputs.now.dictionary) }
     ensures signs { IfOk result (λ run. SignsUpTo (letters_of inputs.now.table + 1) run.patterns) }
@@ -44,7 +44,7 @@ fn select(alloc: Global, inputs: &Inputs) -> Result<Run, AllocError>
 /// Does the run of the inputs, and builds all that is written and printed.
 pub fn make_texts(alloc: Global, inputs: &Inputs) -> Result<Texts, AllocError>
     requires signs { SignsAtMost (letters_of inputs.now.table + 1) inputs.now.dictionary }
-    requires start { inputs.now.start ≡ [] }
+    requires start { SignsUpTo (letters_of inputs.now.table + 1) inputs.now.start }
     ensures patterns { IfOk result (λ texts. texts.patterns.items ≡ selected_text inputs.now.table inputs.now.params inputs.now.start inputs.now.dictionary) }
     ensures lines { IfOk result (λ texts. texts.lines.items ≡ done_line_of (selected_text inputs.now.table inputs.now.params inputs.now.start inputs.now.dictionary) (selected_totals inputs.now.table inputs.now.params inputs.now.start inputs.now.dictionary)) }
 {

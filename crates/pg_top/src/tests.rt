@@ -7,10 +7,8 @@ const PARAMETERS: &[u8] = b"1 1 2 2 1 1 2\n";
 
 const WORDS: &[u8] = b"ta-bel\nka-bel\n";
 
-const DONE: &[u8] = b"done: 1 patterns, 2 good, 0 bad, 0 missed\n";
-
 /// The words of a line.
-fn words(alloc: Global, line: &str) -> Result<Vec<String>, AllocError> {
+pub(crate) fn words(alloc: Global, line: &str) -> Result<Vec<String>, AllocError> {
     let mut words = Vec::new(alloc);
     for word in line.split_whitespace() {
         words.push(String::from_str(alloc, word)?)?;
@@ -19,106 +17,16 @@ fn words(alloc: Global, line: &str) -> Result<Vec<String>, AllocError> {
 }
 
 /// The translate file, the parameters, the starting patterns and the dictionary, and outputs that hold one byte.
-fn files(alloc: Global, inputs: [&[u8]; 4]) -> Result<MemoryFiles, AllocError> {
+pub(crate) fn files(alloc: Global, inputs: [&[u8]; 4]) -> Result<MemoryFiles, AllocError> {
     let mut files = MemoryFiles::new(alloc);
     let [translate, params, patterns, dict] = inputs;
     files.add("T", translate, 0)?;
     files.add("A", params, 0)?;
     files.add("P", patterns, 0)?;
     files.add("D", dict, 0)?;
-    files.add("O", b"x", 64)?;
+    files.add("O", b"x", 128)?;
     files.add("R", b"x", 64)?;
     Ok(files)
-}
-
-/// `generate` on given inputs: its answer, what is printed, and the pattern file.
-#[test]
-fn answers(rt: HostRuntime) -> Result<(), Fail> {
-    let alloc = rt.alloc();
-    let words = words(alloc, "generate D P O T A R")?;
-    let table: [([&[u8]; 4], Status, &[u8], &[u8]); 12] = [
-        // The stored run; no word under the default letters.
-        ([b"", PARAMETERS, b"", WORDS], Status::Done, DONE, b"a1b\n"),
-        (
-            [b"", PARAMETERS, b"", b""],
-            Status::Done,
-            b"done: 0 patterns, 0 good, 0 bad, 0 missed\n",
-            b"",
-        ),
-        // No level is run.
-        (
-            [b"", b"2 1 y", b"", WORDS],
-            Status::Done,
-            b"done: 0 patterns, 0 good, 0 bad, 2 missed\n",
-            b"",
-        ),
-        // Refused parameters.
-        (
-            [b"", b"1 1 2 2 1 0 5", b"", WORDS],
-            Status::Refused,
-            b"refused: parameters 202 OutOfRange item 6\n",
-            b"x",
-        ),
-        (
-            [b"", b"1 1 2 2 1 1", b"", WORDS],
-            Status::Refused,
-            b"refused: parameters 203 Missing item 7\n",
-            b"x",
-        ),
-        (
-            [b"", b"2 1 x", b"", WORDS],
-            Status::Refused,
-            b"refused: parameters 204 Extra item 3\n",
-            b"x",
-        ),
-        // Refused dictionaries.
-        (
-            [b"", PARAMETERS, b"", b"abc\ncba\na:d\n"],
-            Status::Refused,
-            b"refused: dictionary 401 DictionaryCharacter line 3 column 2\n",
-            b"x",
-        ),
-        (
-            [b"", PARAMETERS, b"", b"ab-{0}c\n"],
-            Status::Refused,
-            b"refused: dictionary 404 BadWeight line 1 column 4\n",
-            b"x",
-        ),
-        // Files whose readers are not built yet, and the first refusal in the order of reading.
-        (
-            [b" ", b"x", b"", WORDS],
-            Status::Refused,
-            b"refused: translate 900 NotBuilt\n",
-            b"x",
-        ),
-        (
-            [b"", PARAMETERS, b"a1b\n", b"ab:c"],
-            Status::Refused,
-            b"refused: patterns 900 NotBuilt\n",
-            b"x",
-        ),
-        (
-            [b"", b"x", b"a1b\n", WORDS],
-            Status::Refused,
-            b"refused: parameters 201 BadNumber item 1\n",
-            b"x",
-        ),
-        (
-            [b"", b"0 1", b"", WORDS],
-            Status::Refused,
-            b"refused: parameters 202 OutOfRange item 1\n",
-            b"x",
-        ),
-    ];
-    for (inputs, status, printed, written) in table {
-        let mut held = files(alloc, inputs)?;
-        let mut out = MemorySink::new(alloc, 100)?;
-        assert_eq!(rt; run(alloc, &words, &mut held, &mut out), status);
-        assert_eq!(rt; out.bytes(), printed);
-        assert_eq!(rt; held.bytes("O").ok_or("no file")?, written);
-        assert_eq!(rt; held.bytes("R").ok_or("no file")?, b"x".as_slice());
-    }
-    Ok(())
 }
 
 /// Each call on the files fails in turn: what is printed and what the output holds, with two bytes kept and with none.
@@ -200,6 +108,57 @@ fn failed_puts(rt: HostRuntime) -> Result<(), Fail> {
         );
         assert_eq!(rt; out.bytes(), printed, "put {put}");
         assert_eq!(rt; held.bytes("O").ok_or("no file")?, written, "put {put}");
+    }
+    Ok(())
+}
+
+/// A run makes the calls that it needs and no other: it stops reading at the first refusal, it writes once, and it puts its lines
+/// at once.
+#[test]
+fn no_further_calls(rt: HostRuntime) -> Result<(), Fail> {
+    let alloc = rt.alloc();
+    let words = words(alloc, "generate D P O T A R")?;
+    let mut held = files(alloc, [b" 1\n", PARAMETERS, b"", WORDS])?;
+    held.fail_at(2, None)?;
+    held.fail_at(8, None)?;
+    let table: [(Status, &[u8]); 3] = [
+        (
+            Status::Refused,
+            b"refused: translate 102 BadMinima line 1 column 3\n",
+        ),
+        (Status::Fault, b"fault: reading T\n"),
+        (Status::Done, b"done: 1 patterns, 2 good, 0 bad, 0 missed\n"),
+    ];
+    for (status, printed) in table {
+        let mut out = MemorySink::new(alloc, 100)?;
+        out.fail_at(4, None)?;
+        if status != Status::Fault {
+            out.fail_at(2, None)?;
+        }
+        assert_eq!(rt; run(alloc, &words, &mut held, &mut out), status);
+        assert_eq!(rt; out.bytes(), printed);
+        held.add("T", b"", 0)?;
+    }
+    Ok(())
+}
+
+/// Two inputs may have one name, and a name may begin with one dash.
+#[test]
+fn other_names(rt: HostRuntime) -> Result<(), Fail> {
+    let alloc = rt.alloc();
+    for line in ["generate T P O T A R", "generate P P -o P A R"] {
+        let words = words(alloc, line)?;
+        let mut held = files(alloc, [b"", PARAMETERS, b"", WORDS])?;
+        let mut out = MemorySink::new(alloc, 100)?;
+        assert_eq!(rt;
+            run(alloc, &words, &mut held, &mut out),
+            Status::Done,
+            "{line}"
+        );
+        assert_eq!(rt;
+            out.bytes(),
+            b"done: 0 patterns, 0 good, 0 bad, 0 missed\n".as_slice()
+        );
     }
     Ok(())
 }

@@ -1,7 +1,10 @@
 use Rattle.std.proofs.Common.{◌≡◌, ◌+◌, ◌*◌, ◌^◌, ◌≤◌, fold}
-use Rattle.pg_driver.specs.Runs.{after_pass, passes_of_length}
-use Rattle.pg_driver.specs.Views.{level_state_of, source_of}
+use Rattle.pg_driver.specs.Begun.{Walk, walk_on}
+use Rattle.pg_driver.specs.Runs.{passes_of_length}
+use Rattle.pg_driver.specs.Skips.{IsAt}
+use Rattle.pg_driver.specs.Views.{source_of}
 use Rattle.pg_driver.proofs.LevelSteps.{passes_from}
+use Rattle.pg_driver.proofs.SkipSteps.{Reaches}
 use Rattle.pg_driver.proofs.level.run_length.Given as goal
 
 abbrev pub invariant-dots : goal.invariant-dots
@@ -10,9 +13,10 @@ invariant-dots g l =
     let m = g.E.Engine.meaning l.e in
     let source = source_of l.t l.d m0 in
     record {
-      whole : fold (after_pass source l.level) (level_state_of m l.records.passes l.records.chosen) (passes_from l.number l.len l.k l.end) ≡ fold (after_pass source l.level) (level_state_of m0 l.fn.records.passes l.fn.records.chosen) (passes_of_length l.number l.len);
+      reaches : (w : Walk) → IsAt source l.number l.len m0 l.fn.records l.fn.closed w → Reaches source l.level l.number l.len m l.records l.closed (passes_from l.number l.len l.k l.end) (fold (walk_on source l.level) w (passes_of_length l.number l.len));
       signs : m.signs ≡ m0.signs;
-      begun : m.begun ≡ m0.begun + l.k;
+      begun : m.begun + l.fn.records.begun ≡ m0.begun + l.records.begun;
+      passes : l.records.begun ≤ l.fn.records.begun + l.k;
       chosen : l.records.chosen ≤ l.fn.records.chosen + 2 ^ 26 * l.k;
       levels : l.records.levels ≡ l.fn.records.levels;
       few : l.k ≤ l.len + 1;

@@ -7,8 +7,10 @@ use Rattle.pg_cells.specs.declared.fit.Slot.{Slot}
 use Rattle.pg_cells.specs.Lists.{sign_at, child_at}
 use Rattle.pg_cells.specs.Moves.{CanSettle, Collected}
 use Rattle.pg_cells.specs.Held.{Trie, Held}
+use Rattle.pg_cells.specs.IsHeld.{IsHeld}
 use Rattle.pg_cells.specs.Laid.{AreKept}
 use Rattle.pg_cells.specs.OneTrie.{Kept, settled, held}
+use Rattle.pg_cells.proofs.HeldLaws.{is_held}
 use Rattle.pg_cells.proofs.StringMaps.{order}
 use Rattle.pg_cells.proofs.StringCells.{cells_apart}
 use Rattle.pg_cells.proofs.AddTrie.{added, trie_extended, parent_taken, child_within, joins_trie, joins_cell, joins_free, moved_near, settles_can, settles_trie, settles_cell}
@@ -254,3 +256,37 @@ pub overflow_add-result : goal.overflow_add-result
 overflow_add-result g c =
     let near = moved_near c.self.inside.signs c.make_room.new.self c.settle-placed.new.store c.child-base.result c.settle-placed.result c.as_slice-slots.result.now (record { value = c.args.v; child = 0; sign = c.args.s }) c.args.parent c.settle-placed.ensures in
     let len = c.len-cells.ensures.len in let small = c.len-cells.ensures.small in let range = c.ranges.s in omega arith
+
+pub returns-then-joins-clause-kept : goal.returns-then-joins-clause-kept
+returns-then-joins-clause-kept g c =
+    let at : cell_of c.self.inside.laid.0.families c.requires.parent.0 ≡ Some c.args.parent = subst (λ (h : Held g.row.V.Denot). cell_of h.families c.requires.parent.0 ≡ Some c.args.parent) (sym c.self.view_is) c.requires.parent.1.0 in
+    let lacks : cell_of c.self.inside.laid.0.families (c.requires.parent.0 ++ c.args.s ∷ []) ≡ None = subst (λ (h : Held g.row.V.Denot). cell_of h.families (c.requires.parent.0 ++ c.args.s ∷ []) ≡ None) (sym c.self.view_is) c.requires.parent.1.1 in
+    let high : c.args.s ≤ c.self.inside.signs = subst (λ (h : Held g.row.V.Denot). c.args.s ≤ h.signs) (sym c.self.view_is) c.requires.sign.1 in
+    let test : (nat_lt 0 c.child-base.result && nat_eq (sign_at c.make_room.new.self (c.child-base.result + c.args.s)) 0) ≡ true = sym c.joins.ensures ∙ c.if-joins.true in
+    let parts = and_parts (nat_lt 0 c.child-base.result) (nat_eq (sign_at c.make_room.new.self (c.child-base.result + c.args.s)) 0) test in
+    let up : 0 < c.child-base.result = ltb-true 0 c.child-base.result parts.0 in
+    let free : sign_at c.make_room.new.self (c.child-base.result + c.args.s) ≡ 0 = eqb-true (sign_at c.make_room.new.self (c.child-base.result + c.args.s)) 0 parts.1 in
+    let trie = joins_trie c.self.inside.signs c.self.inside.store c.make_room.new.self c.self.inside.laid.0 c.self.invariant.trie c.in_ok-make_room.ensures.extends c.requires.parent.0 c.args.parent at c.args.s c.requires.sign.0 high lacks c.child-base.result c.child-base.ensures up free c.take.new.self c.args.v c.take.ensures in
+    let all : (d : Kept c.self.inside.signs c.take.new.self) → IsHeld (record { signs = c.self.inside.signs; families = d.0.families; values = d.0.values }) =
+    λ d. is_held c.self.inside.signs c.take.new.self d.0 (held g.row.V.coded c.self.inside.signs c.take.new.self d _ trie) c.len-length.ensures.values in
+    search all
+
+pub returns-clause-kept : goal.returns-clause-kept
+returns-clause-kept g c =
+    let at : cell_of c.self.inside.laid.0.families c.requires.parent.0 ≡ Some c.args.parent = subst (λ (h : Held g.row.V.Denot). cell_of h.families c.requires.parent.0 ≡ Some c.args.parent) (sym c.self.view_is) c.requires.parent.1.0 in
+    let lacks : cell_of c.self.inside.laid.0.families (c.requires.parent.0 ++ c.args.s ∷ []) ≡ None = subst (λ (h : Held g.row.V.Denot). cell_of h.families (c.requires.parent.0 ++ c.args.s ∷ []) ≡ None) (sym c.self.view_is) c.requires.parent.1.1 in
+    let high : c.args.s ≤ c.self.inside.signs = subst (λ (h : Held g.row.V.Denot). c.args.s ≤ h.signs) (sym c.self.view_is) c.requires.sign.1 in
+    let none : c.child-base.result ≡ 0 → c.as_slice-slots.result.now ≡ [] = λ z. c.as_slice-slots.ensures.value ∙ c.in_ok-collect.ensures.none z in
+    let some : 0 < c.child-base.result → Collected c.self.inside.signs c.make_room.new.self c.child-base.result c.as_slice-slots.result.now =
+    λ up. subst (Collected c.self.inside.signs c.make_room.new.self c.child-base.result) (sym c.as_slice-slots.ensures.value) (c.in_ok-collect.ensures.some up) in
+    let fails : (nat_lt 0 c.child-base.result && nat_eq (sign_at c.make_room.new.self (c.child-base.result + c.args.s)) 0) ≡ false = sym c.joins.ensures ∙ c.if-joins.false in
+    let no_join : 0 < c.child-base.result → sign_at c.make_room.new.self (c.child-base.result + c.args.s) ≢ 0 = λ up z.
+    both_ways (nat_lt 0 c.child-base.result && nat_eq (sign_at c.make_room.new.self (c.child-base.result + c.args.s)) 0) fails
+    (and_from (nat_lt 0 c.child-base.result) (nat_eq (sign_at c.make_room.new.self (c.child-base.result + c.args.s)) 0) (lt-ltb 0 c.child-base.result up) (eq-eqb (sign_at c.make_room.new.self (c.child-base.result + c.args.s)) 0 z)) in
+    let slot : Slot g.row.V.Denot = record { value = c.args.v; child = 0; sign = c.args.s } in
+    let can : CanSettle c.self.inside.signs c.make_room.new.self c.child-base.result c.as_slice-slots.result.now slot c.args.parent =
+    settles_can c.self.inside.signs c.self.inside.store c.make_room.new.self c.self.inside.laid.0 c.self.invariant.trie c.in_ok-make_room.ensures.extends c.requires.parent.0 c.args.parent at c.args.s c.requires.sign.0 high lacks c.child-base.result c.child-base.ensures c.as_slice-slots.result.now none some no_join slot refl refl c.len-cells.ensures.even c.in_ok-make_room.ensures.room in
+    let trie = settles_trie c.self.inside.signs c.self.inside.store c.make_room.new.self c.self.inside.laid.0 c.self.invariant.trie c.in_ok-make_room.ensures.extends c.requires.parent.0 c.args.parent at c.args.s c.requires.sign.0 high lacks c.child-base.result c.child-base.ensures c.as_slice-slots.result.now none some no_join c.settle-placed.new.store c.settle-placed.result slot refl can c.settle-placed.ensures in
+    let all : (d : Kept c.self.inside.signs c.settle-placed.new.store) → IsHeld (record { signs = c.self.inside.signs; families = d.0.families; values = d.0.values }) =
+    λ d. is_held c.self.inside.signs c.settle-placed.new.store d.0 (held g.row.V.coded c.self.inside.signs c.settle-placed.new.store d _ trie) c.len-length-2.ensures.values in
+    search all

@@ -3,7 +3,10 @@ use Rattle.std.proofs.lemmas.Bool.{eq-eqb, ne_eqb}
 use Rattle.pg_types.specs.Placement.{cell_of, base_of}
 use Rattle.pg_cells.specs.Lists.{sign_at}
 use Rattle.pg_cells.specs.Held.{Held}
+use Rattle.pg_cells.specs.IsHeld.{IsHeld}
+use Rattle.pg_cells.proofs.HeldLaws.{is_held}
 use Rattle.pg_cells.proofs.StringCells.{found_is, base_within}
+use Rattle.pg_cells.proofs.Walking.{ends_before}
 use Rattle.pg_cells.proofs.families.Cells.find.Goals as goal
 
 pub overflow_add-cell : goal.overflow_add-cell
@@ -16,8 +19,8 @@ overflow_add-cell g c =
     let range = c.ranges.s in
     omega arith
 
-pub returns-then-sign-s : goal.returns-then-sign-s
-returns-then-sign-s g c p e =
+pub returns-then-sign-s-clause-cell : goal.returns-then-sign-s-clause-cell
+returns-then-sign-s-clause-cell g c p e =
     let at : base_of c.self.inside.laid.0.families p ≡ Some c.args.base = subst (λ (h : Held g.row.V.Denot). base_of h.families p ≡ Some c.args.base) (sym c.self.view_is) e in
     let signs : c.args.s ≤ c.self.inside.signs = subst (λ (h : Held g.row.V.Denot). c.args.s ≤ h.signs) (sym c.self.view_is) c.requires.sign.1 in
     let found = found_is c.self.inside.signs c.self.inside.store c.self.inside.laid.0 c.self.invariant.trie p c.args.base c.args.s at c.requires.sign.0 signs in
@@ -25,11 +28,16 @@ returns-then-sign-s g c p e =
     subst (λ (h : Held g.row.V.Denot). Some (c.args.base + c.args.s) ≡ cell_of h.families (p ++ c.args.s ∷ [])) c.self.view_is
     (sym (found ∙ ap (λ b. cond b (Some (c.args.base + c.args.s)) None) (eq-eqb (sign_at c.self.inside.store (c.args.base + c.args.s)) c.args.s is)))
 
-pub returns-else-sign-s : goal.returns-else-sign-s
-returns-else-sign-s g c p e =
+pub returns-else-sign-s-clause-cell : goal.returns-else-sign-s-clause-cell
+returns-else-sign-s-clause-cell g c p e =
     let at : base_of c.self.inside.laid.0.families p ≡ Some c.args.base = subst (λ (h : Held g.row.V.Denot). base_of h.families p ≡ Some c.args.base) (sym c.self.view_is) e in
     let signs : c.args.s ≤ c.self.inside.signs = subst (λ (h : Held g.row.V.Denot). c.args.s ≤ h.signs) (sym c.self.view_is) c.requires.sign.1 in
     let found = found_is c.self.inside.signs c.self.inside.store c.self.inside.laid.0 c.self.invariant.trie p c.args.base c.args.s at c.requires.sign.0 signs in
     let other : sign_at c.self.inside.store (c.args.base + c.args.s) ≢ c.args.s = λ z. c.if-sign-s.false (c.sign.ensures ∙ z) in
     subst (λ (h : Held g.row.V.Denot). None ≡ cell_of h.families (p ++ c.args.s ∷ [])) c.self.view_is
     (sym (found ∙ ap (λ b. cond b (Some (c.args.base + c.args.s)) None) (ne_eqb (sign_at c.self.inside.store (c.args.base + c.args.s)) c.args.s other)))
+
+pub returns-else-sign-s-clause-none : goal.returns-else-sign-s-clause-none
+returns-else-sign-s-clause-none g c p e _ =
+    let told : IsHeld c.args.self.now = subst (λ (h : Held g.row.V.Denot). IsHeld h) c.self.view_is (is_held c.self.inside.signs c.self.inside.store c.self.inside.laid.0 c.self.invariant.trie c.len-cells.ensures.values) in
+    ends_before c.args.self.now told p c.args.s (sym (returns-else-sign-s-clause-cell g c p e))

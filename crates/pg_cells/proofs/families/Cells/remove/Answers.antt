@@ -1,8 +1,11 @@
 use Rattle.std.proofs.Common.{◌≡◌, [], ◌∷◌, ◌++◌, Some, None, ap, sym, subst, ◌∙◌, arith}
 use Rattle.pg_types.specs.Placement.{cell_of, base_of, without_sign}
 use Rattle.pg_cells.specs.Held.{Trie, Held, without_key}
+use Rattle.pg_cells.specs.IsHeld.{IsHeld}
 use Rattle.pg_cells.specs.Laid.{AreKept}
 use Rattle.pg_cells.specs.OneTrie.{Kept, settled, held}
+use Rattle.pg_cells.proofs.CellsStay.{cells_stay}
+use Rattle.pg_cells.proofs.HeldLaws.{is_held}
 use Rattle.pg_cells.proofs.StringCells.{cells_apart, cell_taken}
 use Rattle.pg_cells.proofs.RemoveTrie.{removed, sign_taken, base_in, parent_kept, trie_removed}
 use Rattle.pg_cells.proofs.families.Cells.remove.Goals as goal
@@ -67,8 +70,8 @@ invariant_of-self g c =
     λ d. record { trie = held g.row.V.coded c.self.inside.signs c.drop_bare.new.store d _ trie; some = c.self.invariant.some; few = c.self.invariant.few } in
     search all
 
-pub returns : goal.returns
-returns g c q e =
+pub returns-clause-held : goal.returns-clause-held
+returns-clause-held g c q e =
     let at : cell_of c.self.inside.laid.0.families c.requires.parent.0 ≡ Some c.args.parent = subst (λ (h : Held g.row.V.Denot). cell_of h.families c.requires.parent.0 ≡ Some c.args.parent) (sym c.self.view_is) c.requires.parent.2.0 in
     let there : cell_of c.self.inside.laid.0.families (c.requires.parent.0 ++ c.args.s ∷ []) ≡ Some c.requires.parent.1 = subst (λ (h : Held g.row.V.Denot). cell_of h.families (c.requires.parent.0 ++ c.args.s ∷ []) ≡ Some c.requires.parent.1) (sym c.self.view_is) c.requires.parent.2.1 in
     let childless : base_of c.self.inside.laid.0.families (c.requires.parent.0 ++ c.args.s ∷ []) ≡ None = subst (λ (h : Held g.row.V.Denot). base_of h.families (c.requires.parent.0 ++ c.args.s ∷ []) ≡ None) (sym c.self.view_is) c.requires.parent.2.2 in
@@ -79,3 +82,20 @@ returns g c q e =
     ∙ ap (λ (h : Held g.row.V.Denot). record h { families = without_sign h.families c.requires.parent.0 c.args.s; values = without_key (c.requires.parent.0 ++ c.args.s ∷ []) h.values }) c.self.view_is
     ∙ ap (λ z. record c.args.self.now { families = without_sign c.args.self.now.families z c.args.s; values = without_key (z ++ c.args.s ∷ []) c.args.self.now.values }) same in
     search all
+
+pub returns-clause-kept : goal.returns-clause-kept
+returns-clause-kept g c =
+    let at : cell_of c.self.inside.laid.0.families c.requires.parent.0 ≡ Some c.args.parent = subst (λ (h : Held g.row.V.Denot). cell_of h.families c.requires.parent.0 ≡ Some c.args.parent) (sym c.self.view_is) c.requires.parent.2.0 in
+    let there : cell_of c.self.inside.laid.0.families (c.requires.parent.0 ++ c.args.s ∷ []) ≡ Some c.requires.parent.1 = subst (λ (h : Held g.row.V.Denot). cell_of h.families (c.requires.parent.0 ++ c.args.s ∷ []) ≡ Some c.requires.parent.1) (sym c.self.view_is) c.requires.parent.2.1 in
+    let childless : base_of c.self.inside.laid.0.families (c.requires.parent.0 ++ c.args.s ∷ []) ≡ None = subst (λ (h : Held g.row.V.Denot). base_of h.families (c.requires.parent.0 ++ c.args.s ∷ []) ≡ None) (sym c.self.view_is) c.requires.parent.2.2 in
+    let trie = trie_removed c.self.inside.signs c.self.inside.store c.self.inside.laid.0 c.self.invariant.trie c.requires.parent.0 c.args.parent at c.args.s c.requires.parent.1 there childless c.child-base.result c.child-base.ensures c.free.new.self c.drop_bare.new.store c.free.ensures c.drop_bare.ensures in
+    let all : (d : Kept c.self.inside.signs c.drop_bare.new.store) → IsHeld (record { signs = c.self.inside.signs; families = d.0.families; values = d.0.values }) =
+    λ d. is_held c.self.inside.signs c.drop_bare.new.store d.0 (held g.row.V.coded c.self.inside.signs c.drop_bare.new.store d _ trie) c.len-length.ensures.values in
+    search all
+
+pub returns-clause-cells : goal.returns-clause-cells
+returns-clause-cells g c q e p other =
+    let at : cell_of c.self.inside.laid.0.families c.requires.parent.0 ≡ Some c.args.parent = subst (λ (h : Held g.row.V.Denot). cell_of h.families c.requires.parent.0 ≡ Some c.args.parent) (sym c.self.view_is) c.requires.parent.2.0 in
+    let same : c.requires.parent.0 ≡ q = cells_apart c.self.inside.signs c.self.inside.store c.self.inside.laid.0 c.self.invariant.trie c.requires.parent.0 q c.args.parent at (subst (λ (h : Held g.row.V.Denot). cell_of h.families q ≡ Some c.args.parent) (sym c.self.view_is) e) in
+    let there : cell_of c.args.self.now.families (q ++ c.args.s ∷ []) ≡ Some c.requires.parent.1 = subst (λ y. cell_of c.args.self.now.families (y ++ c.args.s ∷ []) ≡ Some c.requires.parent.1) same c.requires.parent.2.1 in
+    ap (λ (h : Held g.row.V.Denot). cell_of h.families p) (returns-clause-held g c q e) ∙ cells_stay c.args.self.now.families q c.args.s c.requires.parent.1 there p other

@@ -1,0 +1,159 @@
+-- Laws of walks: where a string has no cell, and what entering a sign leaves of the values.
+use Rattle.std.proofs.Common.{◌≡◌, ◌≢◌, ℕ, ◌+◌, ◌-◌, ◌<◌, ◌≤◌, inl, inr, cond, nat_eq, List, [], ◌∷◌, ◌++◌, length, take, drop, get_or, Option, None, Some, refl, sym, ◌∙◌, ap, subst, arith}
+use Rattle.std.proofs.lemmas.Bool.{eq-eqb, ne_eqb}
+use Rattle.std.proofs.lemmas.List.{append_assoc, take_more, drop_more, take-append-drop, append-nil, length-take, get_or-take}
+use Rattle.std.proofs.lemmas.Grind.{get_or_after_one}
+use Rattle.std.specs.List.{list_any}
+use Rattle.std.specs.Option.{option_map}
+use Rattle.std.specs.FinMap.{find, put}
+use Rattle.pg_types.specs.Placement.{Family, Families, family_at, cell_in, cell_of, base_of, with_sign, enter, enter_after}
+use Rattle.pg_cells.specs.Held.{Held}
+use Rattle.pg_cells.specs.IsHeld.{IsHeld}
+use Rattle.pg_cells.specs.Walks.{EndsBefore, StepsBy, Steps, AddsBlanks}
+use Rattle.pg_cells.proofs.StringMaps.{order, equal_or_not, find_put_same, find_put_other}
+use Rattle.pg_cells.proofs.PlacementLaws.{cell_of_last}
+
+-- where there is no family, it has no sign
+no_family : (o : Option Family) (x : ℕ) → option_map (λ f. f.base) o ≡ None
+    → (elim o as (λ _. Option ℕ) [ None ↦ None | Some f ↦ cond (list_any (nat_eq x) f.signs) (Some (f.base + x)) None ]) ≡ None
+no_family None x e = refl
+no_family (Some f) x e = cc
+
+pub childless : (fs : Families) (q : List ℕ) (x : ℕ) → base_of fs q ≡ None → cell_of fs (q ++ x ∷ []) ≡ None
+childless fs q x e = cell_of_last fs q x ∙ no_family (family_at fs q) x e
+
+-- the signs behind the first, which are walked one by one
+pub within_way : (w : List ℕ) (i : ℕ) → i < length (take (length w - 1) (drop 1 w)) → i + 1 < length w
+within_way w i lt = omega (arith, length-take (length w - 1) (drop 1 w))
+
+pub way_sign : (w : List ℕ) (i : ℕ) → i + 1 < length w → get_or (take (length w - 1) (drop 1 w)) i 0 ≡ get_or w (i + 1) 0
+way_sign w i lt =
+    let le : i < length w - 1 = omega arith in
+    let same : 1 + i ≡ i + 1 = omega arith in
+    get_or-take (length w - 1) (drop 1 w) i 0 le ∙ get_or_after_one w i 0 ∙ ap (λ k. get_or w k 0) same
+
+-- one sign further on the way to w
+pub way_more : (w : List ℕ) (i : ℕ) → i + 1 < length w → take (i + 1 + 1) w ≡ take (i + 1) w ++ get_or w (i + 1) 0 ∷ []
+way_more w i lt = take_more w (i + 1) 0 lt
+
+-- the start of the way
+pub enter_first : (n : ℕ) (fs : Families) (w : List ℕ) → 0 < length w → enter_after n fs (take 1 w) (drop 1 w) ≡ enter n fs w
+enter_first n fs [] some = absurd (omega arith)
+enter_first n fs (s ∷ q) some = refl
+
+module _ {V : Type 0} where
+  -- where a string has no cell, no string that begins with it has a value
+  pub ends_before : (h : Held V) → IsHeld h → (p : List ℕ) (x : ℕ) → cell_of h.families (p ++ x ∷ []) ≡ None → EndsBefore h.values (p ++ x ∷ [])
+  ends_before h held p x none more = by (find order ((p ++ x ∷ []) ++ more) h.values) refl
+    where
+      by : (o : Option V) → find order ((p ++ x ∷ []) ++ more) h.values ≡ o → find order ((p ++ x ∷ []) ++ more) h.values ≡ None
+      by None is = is
+      by (Some v) is =
+          let cell = held.celled ((p ++ x ∷ []) ++ more) v is in
+          let none : None ≡ Some cell.0 = sym (held.closed p x more none) ∙ cell.1 in
+          absurd (let no : ⊥ = cc in no)
+
+  -- where there is no base, no string goes on
+  pub none_below : (h : Held V) → IsHeld h → (q : List ℕ) (base : ℕ) → base_of h.families q ≡ cond (nat_eq base 0) None (Some base) → base ≡ 0 → (x : ℕ) → EndsBefore h.values (q ++ x ∷ [])
+  none_below h held q base e z x = ends_before h held q x (childless h.families q x (e ∙ ap (λ b. cond b None (Some base)) (eq-eqb base 0 z)))
+
+  -- and where there is one, some string does
+  pub some_below : (h : Held V) → IsHeld h → (q : List ℕ) (base : ℕ) → base_of h.families q ≡ cond (nat_eq base 0) None (Some base) → 0 < base → (x : ℕ) × (v : V) × (find order (q ++ x ∷ []) h.values ≡ Some v)
+  some_below h held q base e up =
+      let other : base ≢ 0 = λ z. omega arith in
+      let below = held.filled q base (e ∙ ap (λ b. cond b None (Some base)) (ne_eqb base 0 other)) in
+      let value = held.valued (q ++ below.0 ∷ []) below.1 below.2 in
+      (below.0, value.0, value.1)
+
+  -- a sign that is entered below a string on the way to w
+  pub blank_added : (w : List ℕ) (blank : V) (old new : List (List ℕ × V)) (k : ℕ) → find order (take k w) old ≡ None → new ≡ put order (take k w) blank old → AddsBlanks w blank old new
+  blank_added w blank old new k none is = record {
+    keeps = λ q v e. ap (find order q) is ∙ elim (equal_or_not q (take k w)) [
+      | inl h ↦ absurd (let no : None ≡ Some v = sym none ∙ ap (λ y. find order y old) (sym h.0) ∙ e in cc)
+      | inr h ↦ find_put_other q (take k w) blank old h.0 ∙ e
+    ];
+    blanks = λ q v e d. elim (equal_or_not q (take k w)) [
+      | inl h ↦
+          let there : Some blank ≡ Some v = sym (find_put_same (take k w) blank old) ∙ ap (λ y. find order y (put order (take k w) blank old)) (sym h.0) ∙ ap (find order q) (sym is) ∙ d in
+          (let same : v ≡ blank = cc in same, k, h.0)
+      | inr h ↦ absurd (let no : None ≡ Some v = sym e ∙ sym (find_put_other q (take k w) blank old h.0) ∙ ap (find order q) (sym is) ∙ d in cc)
+    ];
+  }
+
+  pub none_added : (w : List ℕ) (blank : V) (old new : List (List ℕ × V)) → new ≡ old → AddsBlanks w blank old new
+  none_added w blank old new is = record {
+    keeps = λ q v e. ap (find order q) is ∙ e;
+    blanks = λ q v e d. absurd (let no : None ≡ Some v = sym e ∙ ap (find order q) (sym is) ∙ d in cc);
+  }
+
+  -- blanks that are added in turn
+  pub more_added : (w : List ℕ) (blank : V) (old mid new : List (List ℕ × V)) → AddsBlanks w blank old mid → AddsBlanks w blank mid new → AddsBlanks w blank old new
+  more_added w blank old mid new a b = record {
+    keeps = λ q v e. b.keeps q v (a.keeps q v e);
+    blanks = λ q v e d. by q v e d (find order q mid) refl;
+  }
+    where
+      by : (q : List ℕ) (v : V) → find order q old ≡ None → find order q new ≡ Some v → (o : Option V) → find order q mid ≡ o → (v ≡ blank) × (k : ℕ) × (q ≡ take k w)
+      by q v e d None is = b.blanks q v is d
+      by q v e d (Some u) is =
+          let same : Some v ≡ Some u = sym d ∙ b.keeps q u is in
+          let there : v ≡ u = cc in
+          let first = a.blanks q u e is in
+          (there ∙ first.0, first.1, first.2)
+
+  -- a string without a value had none before
+  pub still_none : (w : List ℕ) (blank : V) (old new : List (List ℕ × V)) → AddsBlanks w blank old new → (q : List ℕ) → find order q new ≡ None → find order q old ≡ None
+  still_none w blank old new a q none = by (find order q old) refl
+    where
+      by : (o : Option V) → find order q old ≡ o → find order q old ≡ None
+      by None is = is
+      by (Some v) is = absurd (let no : None ≡ Some v = sym none ∙ a.keeps q v is in cc)
+
+  -- the families after a step
+  pub step_families : (old new : Held V) (q : List ℕ) (s : ℕ) (blank : V) → Steps old new q s blank
+      → new.families ≡ (elim (cell_in old.families q s) as (λ _. Families) [ Some cell ↦ old.families | None ↦ with_sign old.signs old.families q s ])
+  step_families old new q s blank steps = by (cell_of old.families (q ++ s ∷ [])) refl
+    where
+      by : (o : Option ℕ) → cell_of old.families (q ++ s ∷ []) ≡ o
+          → new.families ≡ (elim (cell_in old.families q s) as (λ _. Families) [ Some cell ↦ old.families | None ↦ with_sign old.signs old.families q s ])
+      by o is =
+          let there : cell_in old.families q s ≡ o = sym (cell_of_last old.families q s) ∙ is in
+          at o (subst (λ x. StepsBy x old new q s blank) is steps)
+          ∙ sym (ap (λ x. elim x as (λ _. Families) [ Some cell ↦ old.families | None ↦ with_sign old.signs old.families q s ]) there)
+        where
+          at : (x : Option ℕ) → StepsBy x old new q s blank → new.families ≡ (elim x as (λ _. Families) [ Some cell ↦ old.families | None ↦ with_sign old.signs old.families q s ])
+          at None e = ap (λ (h : Held V). h.families) e
+          at (Some cell) e = ap (λ (h : Held V). h.families) e
+
+  pub step_signs : (old new : Held V) (q : List ℕ) (s : ℕ) (blank : V) → Steps old new q s blank → new.signs ≡ old.signs
+  step_signs old new q s blank steps = by (cell_of old.families (q ++ s ∷ [])) steps
+    where
+      by : (o : Option ℕ) → StepsBy o old new q s blank → new.signs ≡ old.signs
+      by None e = ap (λ (h : Held V). h.signs) e
+      by (Some cell) e = ap (λ (h : Held V). h.signs) e
+
+  -- the values after a step on the way to w
+  pub step_values : (w : List ℕ) (old new : Held V) (k : ℕ) (q : List ℕ) (s : ℕ) (blank : V) → IsHeld old → take k w ≡ q ++ s ∷ [] → Steps old new q s blank → AddsBlanks w blank old.values new.values
+  step_values w old new k q s blank held way steps = by (cell_of old.families (q ++ s ∷ [])) refl steps
+    where
+      by : (o : Option ℕ) → cell_of old.families (q ++ s ∷ []) ≡ o → StepsBy o old new q s blank → AddsBlanks w blank old.values new.values
+      by None is e =
+          let none : find order (take k w) old.values ≡ None = ap (λ y. find order y old.values) way ∙ sym (ap (λ y. find order y old.values) (append-nil (q ++ s ∷ []))) ∙ ends_before old held q s is [] in
+          blank_added w blank old.values new.values k none (ap (λ (h : Held V). h.values) e ∙ ap (λ y. put order y blank old.values) (sym way))
+      by (Some cell) is e = none_added w blank old.values new.values (ap (λ (h : Held V). h.values) e)
+
+  pub enter_more : (n : ℕ) (old new : Held V) (w : List ℕ) (i : ℕ) (blank : V) → old.signs ≡ n → i + 1 < length w → Steps old new (take (i + 1) w) (get_or w (i + 1) 0) blank
+      → enter_after n new.families (take (i + 1 + 1) w) (drop (i + 1 + 1) w) ≡ enter_after n old.families (take (i + 1) w) (drop (i + 1) w)
+  enter_more n old new w i blank signs lt steps =
+      let p = take (i + 1) w in
+      let s = get_or w (i + 1) 0 in
+      let families = step_families old new p s blank steps in
+      ap (λ l. enter_after n new.families l (drop (i + 1 + 1) w)) (way_more w i lt)
+      ∙ ap (λ l. enter_after n l (p ++ s ∷ []) (drop (i + 1 + 1) w)) (families ∙ ap (λ m. elim (cell_in old.families p s) as (λ _. Families) [ Some cell ↦ old.families | None ↦ with_sign m old.families p s ]) signs)
+      ∙ sym (ap (enter_after n old.families p) (drop_more w (i + 1) 0 lt))
+
+  -- the string that a refused step does not reach has no value
+  pub not_reached : (values : List (List ℕ × V)) (w : List ℕ) (i : ℕ) → i + 1 < length w → EndsBefore values (take (i + 1) w ++ get_or w (i + 1) 0 ∷ []) → find order w values ≡ None
+  not_reached values w i lt ends =
+      ap (λ q. find order q values) (sym (take-append-drop (i + 1 + 1) w) ∙ ap (λ l. l ++ drop (i + 1 + 1) w) (way_more w i lt))
+      ∙ ends (drop (i + 1 + 1) w)

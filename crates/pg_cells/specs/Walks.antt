@@ -1,0 +1,30 @@
+-- Walks from string to string by their cells, and what entering a string leaves.
+use Rattle.std.specs.Prelude.{◌≡◌, ℕ, List, [], ◌∷◌, ◌++◌, take, Option, None, Some}
+use Rattle.std.specs.Ordering.{nat_cmp}
+use Rattle.std.specs.Cmp.Lexicographic.{slice_cmp}
+use Rattle.std.specs.FinMap.{find, put}
+use Rattle.pg_types.specs.Placement.{Families, cell_of, with_sign}
+use Rattle.pg_cells.specs.Held.{Held}
+
+-- where a walk stands: at the empty string, or at the string that has the cell
+abbrev pub IsAt : Families → Option ℕ → List ℕ → Type 0
+IsAt fs None q = q ≡ []
+IsAt fs (Some cell) q = cell_of fs q ≡ Some cell
+
+module _ {V : Type 0} where
+  -- no string that begins with q has a value
+  abbrev pub EndsBefore : List (List ℕ × V) → List ℕ → Type 0
+  EndsBefore values q = (more : List ℕ) → find (slice_cmp nat_cmp) (q ++ more) values ≡ None
+
+  -- the sign s below the string q has a cell as before, or it gets one and the value
+  abbrev pub StepsBy : Option ℕ → Held V → Held V → List ℕ → ℕ → V → Type 0
+  StepsBy None old new q s v = new ≡ record old { families = with_sign old.signs old.families q s; values = put (slice_cmp nat_cmp) (q ++ s ∷ []) v old.values }
+  StepsBy (Some cell) old new q s v = new ≡ old
+
+  abbrev pub Steps : Held V → Held V → List ℕ → ℕ → V → Type 0
+  Steps old new q s v = StepsBy (cell_of old.families (q ++ s ∷ [])) old new q s v
+
+  -- each string keeps its value, and one that had none is on the way to w and has the blank
+  pub record AddsBlanks (w : List ℕ) (blank : V) (old new : List (List ℕ × V)) : Type 0 where
+    pub keeps : (q : List ℕ) (v : V) → find (slice_cmp nat_cmp) q old ≡ Some v → find (slice_cmp nat_cmp) q new ≡ Some v
+    pub blanks : (q : List ℕ) (v : V) → find (slice_cmp nat_cmp) q old ≡ None → find (slice_cmp nat_cmp) q new ≡ Some v → (v ≡ blank) × (k : ℕ) × (q ≡ take k w)
