@@ -10,7 +10,7 @@ use std::alloc::{AllocError, Global};
 use std::test::Fail;
 
 /// Minima 1 and 1, and the letters a, b and c.
-const LETTERS: &[u8] = b" 1 1\n a\n b\n c\n";
+pub(crate) const LETTERS: &[u8] = b" 1 1\n a\n b\n c\n";
 
 /// What a run is made of, and the numbers that it is to give.
 struct Row {

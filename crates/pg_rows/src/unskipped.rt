@@ -53,6 +53,7 @@ fn the_same_run_without_skipping(rt: HostRuntime) -> Result<(), Fail> {
         assert_eq!(rt; run.passes(), passes.as_slice());
         assert_eq!(rt; run.levels(), plain.levels.as_slice());
         assert_eq!(rt; run.totals(), plain.totals);
+        assert_eq!(rt; run.begun(), plain.needed() as u64);
         assert!(rt; plain.needed() < plain.passes.len());
     }
     Ok(())
