@@ -329,6 +329,7 @@ fn run_pass<E: Engine>(
     e.begin_pass(pass.level, pass.len, pass.dot);
     count_words(e, d, t, pass)?;
     settle_all(e, level, &mut record)?;
+    record.layout = e.layout();
     Ok(record)
 }
 
@@ -348,6 +349,9 @@ fn run_passes<E: Engine>(
     ensures begun { OnOk result ((E.meaning e.new).begun ≤ vec_len passes.new) }
     ensures signs { OnOk result ((E.meaning e.new).signs ≡ (E.meaning e.old).signs) }
 {
+    if level.pat_finish > 4 {
+        return Err(Fail::new("a length above 4"));
+    }
     let mut chosen = 0_u64;
     'passes: for (len, dot) in PASSES {
         if len < level.pat_start || level.pat_finish < len {
@@ -368,7 +372,7 @@ fn run_passes<E: Engine>(
     Ok(chosen)
 }
 
-/// Does the run of the levels, of which each has lengths of at most 4. The engine tells no families.
+/// Does the run of the levels, of which each has lengths of at most 4.
 pub(crate) fn run_plainly<E: Engine>(
     alloc: Global,
     e: &mut E,
@@ -393,7 +397,7 @@ pub(crate) fn run_plainly<E: Engine>(
             level: number,
             chosen,
             after: totals(e, d, t),
-            layout: None,
+            layout: e.layout(),
         })?;
     }
     let totals = totals(e, d, t);
