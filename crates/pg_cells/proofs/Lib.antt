@@ -4,6 +4,7 @@ pub mod CellsStay
 pub mod Cleared
 pub mod Collecting
 pub mod FitSteps
+pub mod FreeWalks
 pub mod HeldLaws
 pub mod Joined
 pub mod LaidLaws

@@ -37,19 +37,23 @@ pub fn free_cell<V: Copy>(cells: &mut [Cell<V>], cell: usize)
     put_after(cells, cell, before);
 }
 
-// The last free cell below a cell.
+// The last free cell below a cell. It is sought from the cell down and, side by side, along the free cells from the first.
 fn free_below<V: Copy>(cells: &[Cell<V>], cell: usize) -> usize
+    requires linked { AreLinked (lists cells.now) }
     requires cell { (0 < cell) × (cell ≤ length cells.now) }
-    requires head { IsFree (lists cells.now).row 0 }
     ensures below { result < cell }
     ensures free { IsFree (lists cells.now).row result }
     ensures last { (k : ℕ) → k < cell → IsFree (lists cells.now).row k → k ≤ result }
 {
     let mut at = cell - 1;
-    while sign_of(cells, at) != 0 {
+    let mut free = 0;
+    let mut after = after_of(cells, free);
+    while sign_of(cells, at) != 0 && 0 < after && after < cell {
         at -= 1;
+        free = after;
+        after = after_of(cells, free);
     }
-    at
+    if 0 < after && after < cell { at } else { free }
 }
 
 // Puts a cell into the list behind the free cell before it.

@@ -51,8 +51,10 @@ fn fits<V: Copy>(cells: &[Cell<V>], slots: &[Slot<V>], base: usize) -> bool
     true
 }
 
-// The first free cell from a cell on.
+// The first free cell from a cell on. It is sought from the cell on and, side by side, along the free cells from the first.
 fn free_from<V: Copy>(cells: &[Cell<V>], cell: usize, bound: usize) -> usize
+    requires linked { AreLinked (lists cells.now) }
+    requires positive { 0 < cell }
     requires below { cell ≤ bound }
     requires bound { bound < length cells.now }
     requires free { sign_at (lists cells.now).row bound ≡ 0 }
@@ -62,10 +64,12 @@ fn free_from<V: Copy>(cells: &[Cell<V>], cell: usize, bound: usize) -> usize
     ensures first { (k : ℕ) → cell ≤ k → k < result → sign_at (lists cells.now).row k ≢ 0 }
 {
     let mut at = cell;
-    while sign_of(cells, at) != 0 {
+    let mut free = after_of(cells, 0);
+    while sign_of(cells, at) != 0 && free < cell {
         at += 1;
+        free = after_of(cells, free);
     }
-    at
+    if free < cell { at } else { free }
 }
 
 /// The least base from `low` on at which the sign and those of the slots may stand; at `room` they may.
@@ -77,6 +81,7 @@ pub fn find_base<V: Copy>(
     room: usize,
 ) -> usize
     requires linked { AreLinked (lists cells.now) }
+    requires positive { 0 < sign }
     requires low { low ≤ room }
     requires within { room + sign < length cells.now }
     requires small { length cells.now < 2 ^ 32 }

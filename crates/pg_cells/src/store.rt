@@ -179,6 +179,7 @@ impl<V: Copy> Store<V> {
 
     /// The least base from `low` on at which the sign and those of the slots may stand; at `room` they may.
     pub fn find_base(&self, slots: &[Slot<V>], sign: u16, low: usize, room: usize) -> usize
+        requires positive { 0 < sign }
         requires low { low ≤ room }
         requires within { room + sign < length self.now.signs }
         requires room { fits_row self.now (sign ∷ signs_of slots.now) room ≡ true }

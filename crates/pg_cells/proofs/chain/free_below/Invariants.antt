@@ -1,9 +1,15 @@
-use Rattle.std.proofs.Common.{ℕ, ◌<◌, ◌≤◌}
-use Rattle.pg_cells.specs.Lists.{lists, IsFree}
+use Rattle.std.proofs.Common.{◌≡◌, ℕ, ◌<◌, ◌≤◌}
+use Rattle.pg_cells.specs.Lists.{lists, IsFree, after_at}
 use Rattle.pg_cells.proofs.chain.free_below.Given as goal
 
-abbrev pub invariant-loop-at : goal.invariant-loop-at
-invariant-loop-at g l = record { below : l.at < l.cell; last : (k : ℕ) → k < l.cell → IsFree (lists l.cells).row k → k ≤ l.at }
+abbrev pub invariant-loop-free : goal.invariant-loop-free
+invariant-loop-free g l = record {
+  below : l.at < l.cell;
+  last : (k : ℕ) → k < l.cell → IsFree (lists l.cells).row k → k ≤ l.at;
+  free : IsFree (lists l.cells).row l.free;
+  before : l.free < l.cell;
+  after : l.after ≡ after_at (lists l.cells) l.free;
+}
 
-abbrev pub decreases-loop-at : goal.decreases-loop-at
-decreases-loop-at g l = l.at
+abbrev pub decreases-loop-free : goal.decreases-loop-free
+decreases-loop-free g l = l.at

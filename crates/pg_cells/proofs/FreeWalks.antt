@@ -1,0 +1,34 @@
+-- The list through the free cells, gone along from the first.
+use Rattle.std.proofs.Common.{◌≡◌, ◌≢◌, ℕ, ◌<◌, ◌≤◌, inl, inr, get_or, arith}
+use Rattle.std.proofs.lemmas.Bool.{cases_lt}
+use Rattle.std.proofs.lemmas.List.{get_or_default}
+use Rattle.pg_cells.specs.Lists.{Lists, sign_at, after_at, IsFree}
+use Rattle.pg_cells.specs.Linked.{AreLinked}
+use Rattle.pg_cells.proofs.LinkedLists.{free_within}
+
+module _ {V : Type 0} where
+  -- a is a free cell, and none lies before it from the cell on
+  pub record IsNext (ls : Lists V) (cell bound a : ℕ) : Type 0 where
+    pub free : IsFree ls.row a
+    pub near : a ≤ bound
+    pub first : (k : ℕ) → cell ≤ k → k < a → IsFree ls.row k → ⊥
+
+  pub next_free : (ls : Lists V) → AreLinked ls → (cell bound free : ℕ) → free < cell → cell ≤ bound → IsFree ls.row free → IsFree ls.row bound → IsNext ls cell bound (after_at ls free)
+  next_free ls linked cell bound free lt le here there =
+      let least = linked.after_least free bound here (omega arith) there in
+      let up : after_at ls free ≢ 0 = λ z. let some = least.0 in omega arith in
+      let ok = linked.after_ok free here up in
+      record {
+        free = ok.1;
+        near = least.1;
+        first = λ k from before is. let far = (linked.after_least free k here (omega arith) is).1 in omega arith;
+      }
+
+  -- no free cell lies between a free cell and a later one than the next
+  pub last_free : (ls : Lists V) → AreLinked ls → (cell free k : ℕ) → IsFree ls.row free → (0 < after_at ls free → cell ≤ after_at ls free) → k < cell → IsFree ls.row k → k ≤ free
+  last_free ls linked cell free k here far lt is = elim (cases_lt free k) [
+    | inl less ↦
+        let least = linked.after_least free k here less is in
+        absurd (let beyond = far least.0 in let near = least.1 in omega arith)
+    | inr le ↦ le
+  ]
