@@ -36,11 +36,6 @@ way_sign w i lt =
 pub way_more : (w : List ℕ) (i : ℕ) → i + 1 < length w → take (i + 1 + 1) w ≡ take (i + 1) w ++ get_or w (i + 1) 0 ∷ []
 way_more w i lt = take_more w (i + 1) 0 lt
 
--- the start of the way
-pub enter_first : (n : ℕ) (fs : Families) (w : List ℕ) → 0 < length w → enter_after n fs (take 1 w) (drop 1 w) ≡ enter n fs w
-enter_first n fs [] some = absurd (omega arith)
-enter_first n fs (s ∷ q) some = refl
-
 -- a sign in the family of a string, which is new where no string has its cell
 abbrev pub entered : ℕ → Families → List ℕ → ℕ → Families
 entered n fs p s = elim (cell_in fs p s) [ Some cell ↦ fs | None ↦ with_sign n fs p s ]
