@@ -1,4 +1,4 @@
-//! Cells of a table with one sign, and cells against a slow list of families.
+//! Cells of small tables, and cells against a slow list of families.
 ghost use Rattle.std.specs.Prelude.{◌≡◌, ◌<◌, ◌≤◌, ℕ, List, Some, IfSome};
 ghost use Rattle.pg_types.specs.Placement.{cell_of};
 
@@ -19,6 +19,34 @@ fn one_sign(rt: HostRuntime) -> Result<(), Fail> {
     assert_eq!(rt; cells.value(2), 8);
     assert_eq!(rt; cells.taken(), 2);
     assert_eq!(rt; cells.top(), 2);
+    Ok(())
+}
+
+/// Steps in a table of the edge and three letters: each adds the second sign below the first. The fourth moves a family. In the end
+/// all but the first are taken back.
+#[test]
+fn small_steps(rt: HostRuntime) -> Result<(), Fail> {
+    let mut cells = Cells::new(rt.alloc(), 4, 0_u32)?;
+    assert_eq!(rt; (cells.taken(), cells.top()), (4, 4));
+    let steps: [([Sign; 2], usize, usize); 6] = [
+        ([2, 3], 5, 5),
+        ([3, 2], 6, 6),
+        ([3, 4], 7, 8),
+        ([2, 1], 8, 9),
+        ([4, 1], 9, 10),
+        ([1, 2], 10, 10),
+    ];
+    for ([first, second], taken, top) in steps {
+        change_at(&mut cells, &[first], second)?;
+        assert_eq!(rt; (cells.taken(), cells.top()), (taken, top));
+    }
+    assert_eq!(rt; base_of(&cells, &[2]), Some(6));
+    assert_eq!(rt; cell_of(&cells, &[2, 1]), Some(7));
+    assert_eq!(rt; cell_of(&cells, &[2, 3]), Some(9));
+    for [first, second] in [[3, 2], [3, 4], [2, 1], [4, 1], [1, 2]] {
+        change_at(&mut cells, &[first], second)?;
+    }
+    assert_eq!(rt; (cells.taken(), cells.top()), (5, 9));
     Ok(())
 }
 
@@ -84,6 +112,17 @@ fn change(cells: &mut Cells<u32>, parent: usize, s: Sign) -> Result<(), Fail>
     Ok(())
 }
 
+/// Adds the sign below a string, or removes it where it is there and no family is below it.
+fn change_at(cells: &mut Cells<u32>, string: &[Sign], s: Sign) -> Result<(), Fail> {
+    let Some(cell) = cell_of(cells, string) else {
+        return Err(Fail::new("the string has a cell"));
+    };
+    if s < 1 || cells.signs() < s {
+        return Err(Fail::new("a sign of the table"));
+    }
+    change(cells, cell, s)
+}
+
 /// One step, on both.
 fn take_step(
     cells: &mut Cells<u32>,
@@ -96,13 +135,7 @@ fn take_step(
     let Some(string) = families.string_of(parent)? else {
         return Err(Fail::new("a used cell has a string"));
     };
-    let Some(cell) = cell_of(cells, string.as_slice()) else {
-        return Err(Fail::new("the string has a cell"));
-    };
-    if cells.signs() < s {
-        return Err(Fail::new("a sign of the table"));
-    }
-    change(cells, cell, s)?;
+    change_at(cells, string.as_slice(), s)?;
     families.change(string.as_slice(), s)?;
     Ok(())
 }
