@@ -1,10 +1,8 @@
 -- The list through the free cells, gone along from the first.
-use Rattle.std.proofs.Common.{◌≡◌, ◌≢◌, ℕ, ◌<◌, ◌≤◌, inl, inr, get_or, arith}
+use Rattle.std.proofs.Common.{◌≢◌, ℕ, ◌<◌, ◌≤◌, inl, inr, arith}
 use Rattle.std.proofs.lemmas.Bool.{cases_lt}
-use Rattle.std.proofs.lemmas.List.{get_or_default}
-use Rattle.pg_cells.specs.Lists.{Lists, sign_at, after_at, IsFree}
+use Rattle.pg_cells.specs.Lists.{Lists, after_at, IsFree}
 use Rattle.pg_cells.specs.Linked.{AreLinked}
-use Rattle.pg_cells.proofs.LinkedLists.{free_within}
 
 module _ {V : Type 0} where
   -- a is a free cell, and none lies before it from the cell on

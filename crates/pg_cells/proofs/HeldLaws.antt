@@ -1,22 +1,22 @@
 -- What is always true of what the cells are seen as.
-use Rattle.std.proofs.Common.{◌≡◌, ◌≢◌, ℕ, ◌+◌, ◌<◌, ◌≤◌, ◌⊎◌, inl, inr, Bool, true, false, cond, T, nat_eq, List, [], ◌∷◌, ◌++◌, length, Option, None, Some, slice_get, suc, zero, refl, sym, ◌∙◌, ap, subst, arith, zero-add}
-use Rattle.std.proofs.lemmas.Bool.{cases_Bool, eq-eqb, or_left}
+use Rattle.std.proofs.Common.{◌≡◌, ◌≢◌, ℕ, ◌+◌, ◌<◌, ◌≤◌, ◌⊎◌, inl, inr, Bool, true, false, cond, nat_eq, List, [], ◌∷◌, ◌++◌, filter, length, Option, None, Some, slice_get, suc, zero, refl, sym, ◌∙◌, ap, arith, zero-add}
+use Rattle.std.proofs.lemmas.Bool.{eq-eqb, or_left}
 use Rattle.std.proofs.lemmas.List.{length_push, append_assoc, append-nil, same_from_push}
 use Rattle.std.proofs.lemmas.Option.{slice_get_cases}
 use Rattle.std.specs.List.{list_any, range_with_len}
-use Rattle.std.specs.Option.{option_map}
+use Rattle.std.specs.Option.{option_map, is_some}
 use Rattle.std.specs.FinMap.{find}
-use Rattle.pg_types.specs.Placement.{Family, Families, family_at, cell_of, base_of}
+use Rattle.pg_types.specs.Placement.{Family, family_at, cell_of, base_of}
 use Rattle.pg_cells.specs.Lists.{Row, sign_at}
-use Rattle.pg_cells.specs.Held.{Held, Trie}
+use Rattle.pg_cells.specs.Held.{Trie}
 use Rattle.pg_cells.specs.IsHeld.{IsHeld}
-use Rattle.pg_cells.specs.Laid.{Laid, IsParent, IsTrie, standing, value_in}
+use Rattle.pg_cells.specs.Laid.{IsTrie, value_in}
 use Rattle.pg_cells.specs.OneTrie.{HasLast, last_of}
 use Rattle.pg_cells.proofs.LinkedLists.{taken_within}
 use Rattle.pg_cells.proofs.StringMaps.{order}
-use Rattle.pg_cells.proofs.LaidLaws.{sign_stands, stands_sign}
+use Rattle.pg_cells.proofs.LaidLaws.{same_filter, sign_stands, stands_sign}
 use Rattle.pg_cells.proofs.RootTrie.{any_range}
-use Rattle.pg_cells.proofs.StringCells.{IsCellOf, cell_parts, parts_cell, cell_taken, cells_apart, base_parts}
+use Rattle.pg_cells.proofs.StringCells.{cell_parts, parts_cell, cell_taken, cells_apart, base_parts, found_is}
 
 module _ {V : Type 0} (n : ℕ) (r : Row V) (t : Trie V) (trie : IsTrie n r t) (even : length r.values ≡ length r.signs) where
   in_values : (cell : ℕ) → cell < length r.signs → (v : V) × (slice_get r.values cell ≡ Some v)
@@ -72,6 +72,22 @@ module _ {V : Type 0} (n : ℕ) (r : Row V) (t : Trie V) (trie : IsTrie n r t) (
   first_of [] some = absurd (some refl)
   first_of (y ∷ ys) some = (y, or_left (nat_eq y y) (list_any (nat_eq y) ys) (eq-eqb y y refl))
 
+  bases : (p q : List ℕ) (base : ℕ) → base_of t.families p ≡ Some base → base_of t.families q ≡ Some base → p ≡ q
+  bases p q base d e =
+      let f = base_parts t.families p base d in
+      let g = base_parts t.families q base e in
+      trie.laid.apart p q f.0 g.0 f.1 g.1 (f.2 ∙ sym g.2)
+
+  members : (p : List ℕ) (f : Family) → family_at t.families p ≡ Some f → f.signs ≡ filter (λ x. is_some (cell_of t.families (p ++ x ∷ []))) (range_with_len 1 n)
+  members p f at =
+      trie.laid.members p f at
+      ∙ same_filter (λ x. nat_eq (sign_at r (f.base + x)) x) (λ x. is_some (cell_of t.families (p ++ x ∷ []))) 1 n
+      (λ x low high. shown (nat_eq (sign_at r (f.base + x)) x) (f.base + x) ∙ ap is_some (sym (found_is n r t trie p f.base x (ap (option_map (λ (g : Family). g.base)) at) low (omega arith))))
+    where
+      shown : (b : Bool) (cell : ℕ) → b ≡ is_some (cond b (Some cell) None)
+      shown true cell = refl
+      shown false cell = refl
+
   pub is_held : IsHeld (record { signs = n; families = t.families; values = t.values })
   is_held = record {
     sorted = trie.sorted;
@@ -95,4 +111,6 @@ module _ {V : Type 0} (n : ℕ) (r : Row V) (t : Trie V) (trie : IsTrie n r t) (
         let y = first_of f.0.signs (trie.laid.filled p f.0 f.1) in
         (y.0, f.0.base + y.0, parts_cell t.families p y.0 f.0 f.1 y.1);
     closed = closed;
+    bases = bases;
+    members = members;
   }

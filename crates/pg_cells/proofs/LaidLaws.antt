@@ -1,5 +1,5 @@
 -- What follows where families lie in a row of cells.
-use Rattle.std.proofs.Common.{◌≡◌, ◌≢◌, ℕ, ◌+◌, ◌<◌, ◌≤◌, inl, inr, Bool, true, not, cond, ◌||◌, T, nat_eq, List, ◌∷◌, filter, Option, Some, suc, zero, sym, ◌∙◌, ap, arith}
+use Rattle.std.proofs.Common.{◌≡◌, ◌≢◌, ℕ, ◌+◌, ◌<◌, ◌≤◌, inl, inr, Bool, true, not, cond, ◌||◌, T, nat_eq, List, ◌∷◌, filter, Option, Some, suc, zero, refl, sym, ◌∙◌, ap, arith}
 use Rattle.std.proofs.lemmas.Bool.{cases_Bool, cases_eq, false≢true, or_cases, or_left, or_right, eqb-true, eq-eqb, ne_eqb, both_ways}
 use Rattle.std.specs.List.{list_any, range_with_len}
 use Rattle.std.specs.FinMap.{is_sorted}
@@ -42,6 +42,13 @@ has_range test a (suc n) x le lt passes = elim (cases_eq x a) [
         | inr no_here ↦ ap (λ b. list_any (nat_eq x) (cond b (a ∷ filter test (range_with_len (a + 1) n)) (filter test (range_with_len (a + 1) n)))) no_here ∙ rest
       ]
 ]
+
+-- tests that agree on a range leave the same of it
+pub same_filter : (t u : ℕ → Bool) (a n : ℕ) → ((x : ℕ) → a ≤ x → x < a + n → t x ≡ u x) → filter t (range_with_len a n) ≡ filter u (range_with_len a n)
+same_filter t u a zero h = refl
+same_filter t u a (suc n) h =
+    let rest = same_filter t u (a + 1) n (λ x le lt. h x (omega arith) (omega arith)) in
+    λ i. cond (h a (omega arith) (omega arith) i) (a ∷ rest i) (rest i)
 
 module _ {V : Type 0} (n : ℕ) (r : Row V) (F : List ℕ → Option Family) (laid : Laid n r F) where
   -- a sign of a family stands at its base

@@ -1,5 +1,5 @@
 -- Laws of walks: where a string has no cell, and what entering a sign leaves of the values.
-use Rattle.std.proofs.Common.{◌≡◌, ◌≢◌, ℕ, ◌+◌, ◌-◌, ◌<◌, ◌≤◌, inl, inr, cond, nat_eq, List, [], ◌∷◌, ◌++◌, length, take, drop, get_or, Option, None, Some, refl, sym, ◌∙◌, ap, subst, arith}
+use Rattle.std.proofs.Common.{◌≡◌, ◌≢◌, ℕ, ◌+◌, ◌-◌, ◌<◌, inl, inr, cond, nat_eq, List, [], ◌∷◌, ◌++◌, length, take, drop, get_or, Option, None, Some, refl, sym, ◌∙◌, ap, subst, arith}
 use Rattle.std.proofs.lemmas.Bool.{eq-eqb, ne_eqb}
 use Rattle.std.proofs.lemmas.List.{append_assoc, take_more, drop_more, take-append-drop, append-nil, length-take, get_or-take}
 use Rattle.std.proofs.lemmas.Grind.{get_or_after_one}
@@ -40,6 +40,21 @@ way_more w i lt = take_more w (i + 1) 0 lt
 pub enter_first : (n : ℕ) (fs : Families) (w : List ℕ) → 0 < length w → enter_after n fs (take 1 w) (drop 1 w) ≡ enter n fs w
 enter_first n fs [] some = absurd (omega arith)
 enter_first n fs (s ∷ q) some = refl
+
+-- a sign in the family of a string, which is new where no string has its cell
+abbrev pub entered : ℕ → Families → List ℕ → ℕ → Families
+entered n fs p s = elim (cell_in fs p s) [ Some cell ↦ fs | None ↦ with_sign n fs p s ]
+
+-- the last sign of a string is entered last
+enter_after_last : (n : ℕ) (fs : Families) (a q : List ℕ) (s : ℕ) → enter_after n fs a (q ++ s ∷ []) ≡ entered n (enter_after n fs a q) (a ++ q) s
+enter_after_last n fs a [] s = ap (λ p. entered n fs p s) (sym (append-nil a))
+enter_after_last n fs a (t ∷ q) s =
+    enter_after_last n (entered n fs a t) (a ++ t ∷ []) q s
+    ∙ ap (λ p. entered n (enter_after n (entered n fs a t) (a ++ t ∷ []) q) p s) (append_assoc a (t ∷ []) q)
+
+enter_last : (n : ℕ) (fs : Families) (w : List ℕ) (s : ℕ) → 0 < length w → enter n fs (w ++ s ∷ []) ≡ entered n (enter n fs w) w s
+enter_last n fs [] s some = absurd (omega arith)
+enter_last n fs (t ∷ q) s some = enter_after_last n fs (t ∷ []) q s
 
 module _ {V : Type 0} where
   -- where a string has no cell, no string that begins with it has a value
@@ -151,6 +166,18 @@ module _ {V : Type 0} where
       ap (λ l. enter_after n new.families l (drop (i + 1 + 1) w)) (way_more w i lt)
       ∙ ap (λ l. enter_after n l (p ++ s ∷ []) (drop (i + 1 + 1) w)) (families ∙ ap (λ m. elim (cell_in old.families p s) as (λ _. Families) [ Some cell ↦ old.families | None ↦ with_sign m old.families p s ]) signs)
       ∙ sym (ap (enter_after n old.families p) (drop_more w (i + 1) 0 lt))
+
+  -- so much of w is entered
+  pub front_more : (n : ℕ) (fs : Families) (old new : Held V) (w : List ℕ) (i : ℕ) (blank : V) → old.signs ≡ n → i + 1 < length w → Steps old new (take (i + 1) w) (get_or w (i + 1) 0) blank
+      → old.families ≡ enter n fs (take (i + 1) w) → new.families ≡ enter n fs (take (i + 1 + 1) w)
+  front_more n fs old new w i blank signs lt steps front =
+      let p = take (i + 1) w in
+      let s = get_or w (i + 1) 0 in
+      step_families old new p s blank steps
+      ∙ ap (λ m. entered m old.families p s) signs
+      ∙ ap (λ g. entered n g p s) front
+      ∙ sym (enter_last n fs p s (omega (arith, length-take (i + 1) w)))
+      ∙ sym (ap (enter n fs) (way_more w i lt))
 
   -- the string that a refused step does not reach has no value
   pub not_reached : (values : List (List ℕ × V)) (w : List ℕ) (i : ℕ) → i + 1 < length w → EndsBefore values (take (i + 1) w ++ get_or w (i + 1) 0 ∷ []) → find order w values ≡ None

@@ -1,10 +1,12 @@
 -- What is always true of what the cells are seen as, told by strings.
-use Rattle.std.specs.Prelude.{◌≡◌, ℕ, ◌≤◌, T, List, [], ◌∷◌, ◌++◌, ◌⊎◌, Option, None, Some}
+use Rattle.std.specs.Prelude.{◌≡◌, ℕ, ◌≤◌, T, List, [], ◌∷◌, ◌++◌, filter, None, Some}
+use Rattle.std.specs.List.{range_with_len}
+use Rattle.std.specs.Option.{is_some}
 use Rattle.std.specs.Ordering.{nat_cmp}
 use Rattle.std.specs.Cmp.Lexicographic.{slice_cmp}
 use Rattle.std.specs.FinMap.{find}
 use Rattle.std.specs.FinMap.Entries.{is_sorted}
-use Rattle.pg_types.specs.Placement.{cell_of, base_of}
+use Rattle.pg_types.specs.Placement.{Family, family_at, cell_of, base_of}
 use Rattle.pg_cells.specs.Held.{Held}
 
 pub record IsHeld {V : Type 0} (h : Held V) : Type 0 where
@@ -26,3 +28,7 @@ pub record IsHeld {V : Type 0} (h : Held V) : Type 0 where
   pub filled : (p : List ℕ) (base : ℕ) → base_of h.families p ≡ Some base → (x : ℕ) × (cell : ℕ) × (cell_of h.families (p ++ x ∷ []) ≡ Some cell)
   -- where a string has no cell, no longer one has
   pub closed : (p : List ℕ) (x : ℕ) (more : List ℕ) → cell_of h.families (p ++ x ∷ []) ≡ None → cell_of h.families ((p ++ x ∷ []) ++ more) ≡ None
+  -- no two families have one base
+  pub bases : (p q : List ℕ) (base : ℕ) → base_of h.families p ≡ Some base → base_of h.families q ≡ Some base → p ≡ q
+  -- the signs of a family are, in rising order, those that have a cell below its string
+  pub members : (p : List ℕ) (f : Family) → family_at h.families p ≡ Some f → f.signs ≡ filter (λ x. is_some (cell_of h.families (p ++ x ∷ []))) (range_with_len 1 h.signs)

@@ -110,12 +110,14 @@ impl<V: Copy> Cells<V> {
     /// Adds the sign to the family below the parent's string, with the value, and gives its cell.
     ///
     /// A new family is put at the least base that fits; a sign joins a family in place where its cell is free; else the
-    /// family gives up its cells and is put anew. A cell that was told before may then be another's; the parent's is not.
+    /// family gives up its cells and is put anew. A cell in it that was told before may then be another's. The parent and each
+    /// other string outside of the family keep their cells.
     pub fn add(&mut self, parent: usize, s: Sign, v: V) -> Result<usize, AllocError>
         requires parent { (q : List ℕ) × ((cell_of self.old.families q ≡ Some parent) × (cell_of self.old.families (q ++ s ∷ []) ≡ None)) }
         requires sign { (1 ≤ s) × (s ≤ self.old.signs) }
         ensures held { (q : List ℕ) → cell_of self.old.families q ≡ Some parent → OnOk result (self.new ≡ record self.old { families = with_sign self.old.signs self.old.families q s; values = put (slice_cmp nat_cmp) (q ++ s ∷ []) v self.old.values }) }
         ensures cell { (q : List ℕ) → cell_of self.old.families q ≡ Some parent → IfOk result (λ cell. cell_of self.new.families (q ++ s ∷ []) ≡ Some cell) }
+        ensures cells { (q : List ℕ) → cell_of self.old.families q ≡ Some parent → OnOk result ((p : List ℕ) → ((x : ℕ) → p ≢ q ++ x ∷ []) → cell_of self.new.families p ≡ cell_of self.old.families p) }
         ensures kept { OnOk result (IsHeld self.new) }
         ensures err { OnErr result (self.new ≡ self.old) }
     {

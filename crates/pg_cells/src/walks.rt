@@ -1,5 +1,5 @@
 //! Walks from string to string, and the entering of a string.
-ghost use Rattle.std.specs.Prelude.{◌≡◌, ◌<◌, ◌≤◌, ℕ, ◌+◌, List, [], ◌∷◌, ◌++◌, length, All, Some, None, IfOk, OnOk, OnErr};
+ghost use Rattle.std.specs.Prelude.{◌≡◌, ◌<◌, ◌≤◌, ℕ, ◌+◌, List, [], ◌∷◌, ◌++◌, length, take, All, Some, None, IfOk, OnOk, OnErr};
 ghost use Rattle.std.specs.FinMap.{find};
 ghost use Rattle.std.specs.Cmp.Lexicographic.{slice_cmp};
 ghost use Rattle.std.specs.Ordering.{nat_cmp};
@@ -63,12 +63,13 @@ fn step_or_add<V: Copy>(
 
 /// Gives each prefix of the string a cell, a new one with the value `blank`, and answers the cell of the string.
 ///
-/// Refused: some of the prefixes may have a cell, with the value `blank`, and the string has none.
+/// Refused: a shorter prefix is entered in its place. The string had no value.
 pub fn enter<V: Copy>(cells: &mut Cells<V>, signs: &[Sign], blank: V) -> Result<usize, AllocError>
     requires some { 0 < length signs.now }
     requires signs { All (λ s. (1 ≤ s) × (s ≤ cells.old.signs)) signs.now }
     ensures cell { IfOk result (λ cell. cell_of cells.new.families signs.now ≡ Some cell) }
     ensures families { OnOk result (cells.new.families ≡ enter cells.old.signs cells.old.families signs.now) }
+    ensures part { OnErr result ((k : ℕ) × (k < length signs.now) × (cells.new.families ≡ enter cells.old.signs cells.old.families (take k signs.now))) }
     ensures blanks { AddsBlanks signs.now blank cells.old.values cells.new.values }
     ensures held { IsHeld cells.new }
     ensures signs { cells.new.signs ≡ cells.old.signs }

@@ -1,5 +1,7 @@
 -- What `insert` of a record leaves: the records of old, with that one record at one place.
-use Rattle.std.proofs.Common.{◌≡◌, ℕ, ◌+◌, ◌≤◌, List, [], ◌∷◌, ◌++◌, length, slice_get, Some, sym, ◌∙◌, ap, arith, refl, subst, inl, inr, if◌then◌else◌}
+use Rattle.std.proofs.Common.{◌≡◌, ℕ, ◌+◌, ◌≤◌, List, [], ◌∷◌, ◌++◌, length, slice_get, Some, sym, ◌∙◌, ap, arith, refl, subst, inl, inr, ◌⊎◌, if◌then◌else◌}
+use Rattle.std.proofs.lemmas.List.{get_or_push, length_push}
+use Rattle.std.proofs.lemmas.Option.{slice_get-get_or}
 use Rattle.std.specs.List.{position_or_len}
 use Rattle.indexmap.specs.IndexSet.{insert_key}
 use Rattle.pg_outputs.specs.declared.records.Record.{Record}
@@ -13,6 +15,8 @@ pub record IsPut (old new : List Record) (r : Record) (index : ℕ) : Type 0 whe
   pub shared : AreShared new
   pub list : list_of new (index + 1) ≡ (r.value, r.dot) ∷ list_of old r.next
   pub there : (i : ℕ) → slice_get old i ≡ Some r → (index ≡ i) × (new ≡ old)
+  pub at : slice_get new index ≡ Some r
+  pub adds : (new ≡ old) ⊎ (new ≡ old ++ r ∷ [])
   pub added : Lacks old r → (index ≡ length old) × (new ≡ old ++ r ∷ [])
   pub grows : Grows old new
 
@@ -22,6 +26,8 @@ put_there old r shared h = record {
   shared = shared;
   list = list_of-at old (position_or_len (is_same r) old) r h.at (shared.back _ r h.at);
   there = λ i at. (shared.apart _ i r h.at at, refl);
+  at = h.at;
+  adds = inl refl;
   added = λ lacks. absurd (lacks _ h.at);
   grows = grows_none old;
 }
@@ -32,6 +38,8 @@ put_last old r shared back lacks = record {
   shared = shared_push old r shared lacks back;
   list = list_of-new old r;
   there = λ i at. absurd (lacks i at);
+  at = slice_get-get_or (old ++ r ∷ []) (length old) r (omega (arith, length_push old r)) ∙ ap Some (get_or_push old r r (length old) refl);
+  adds = inr refl;
   added = λ _. (refl, refl);
   grows = grows_push old r;
 }

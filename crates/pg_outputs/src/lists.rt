@@ -1,7 +1,8 @@
 //! The lists, kept as records that they share.
-ghost use Rattle.std.specs.Prelude.{◌≡◌, ℕ, ◌+◌, ◌-◌, ◌<◌, ◌≤◌, ◌↔◌, ◌≢◌, List, [], ◌∷◌, ◌++◌, length, slice_get, Some, None, Ok, IsNone, IfSome, IfOk, OnErr, MatchOption};
+ghost use Rattle.std.specs.Prelude.{◌≡◌, ℕ, ◌+◌, ◌-◌, ◌<◌, ◌≤◌, ◌↔◌, ◌≢◌, ◌⊎◌, List, [], ◌∷◌, ◌++◌, length, slice_get, Some, None, Ok, IsNone, IfSome, IfOk, OnOk, OnErr, MatchOption};
 ghost use Rattle.indexmap.specs.IndexSet.{index_set_len};
 ghost use Rattle.pg_outputs.specs.Lists.{list_of, Grows, OneHeadEach, IsRecordOf, Lacks};
+ghost use Rattle.pg_outputs.specs.Records.{AreShared};
 
 use crate::records::Record;
 use indexmap::IndexSet;
@@ -46,8 +47,11 @@ impl Outputs {
         ensures head { IfOk result (λ h. (0 < h) × (h ≤ length self.new)) }
         ensures there { (i : ℕ) → slice_get self.old i ≡ Some (record { value = value; dot = dot; next = next }) → (result ≡ Ok (i + 1)) × (self.new ≡ self.old) }
         ensures added { Lacks self.old (record { value = value; dot = dot; next = next }) → IfOk result (λ h. (h ≡ length self.old + 1) × (self.new ≡ self.old ++ record { value = value; dot = dot; next = next } ∷ [])) }
+        ensures record { IfOk result (λ h. IsRecordOf self.new h (record { value = value; dot = dot; next = next })) }
+        ensures adds { OnOk result ((self.new ≡ self.old) ⊎ (self.new ≡ self.old ++ record { value = value; dot = dot; next = next } ∷ [])) }
         ensures grows { Grows self.old self.new }
         ensures one_head { OneHeadEach self.new }
+        ensures shared { AreShared self.new }
         ensures err { OnErr result (self.new ≡ self.old) }
     {
         let (index, _) = self.records.insert_full(Record { value, dot, next })?;
@@ -59,6 +63,7 @@ impl Outputs {
         ensures found { MatchOption result (Lacks self.now (record { value = value; dot = dot; next = next })) (λ h. IsRecordOf self.now h (record { value = value; dot = dot; next = next })) }
         ensures list { IfSome result (λ h. list_of self.now h ≡ (value, dot) ∷ list_of self.now next) }
         ensures one_head { OneHeadEach self.now }
+        ensures shared { AreShared self.now }
     {
         let index = self.records.get_index_of(&Record { value, dot, next })?;
         Some(head_at(&self.records, index))
@@ -81,6 +86,7 @@ impl Outputs {
     pub fn len(&self) -> u64
         ensures len { result ≡ length self.now }
         ensures one_head { OneHeadEach self.now }
+        ensures shared { AreShared self.now }
     {
         self.records.len() as u64
     }

@@ -1,8 +1,9 @@
-use Rattle.std.proofs.Common.{◌≡◌, ◌+◌, [], ◌∷◌, ◌++◌, take, get_or, ap, sym, subst, ◌∙◌}
+use Rattle.std.proofs.Common.{◌+◌, [], ◌∷◌, ◌++◌, take, get_or, ap, sym, subst, ◌∙◌}
 use Rattle.std.proofs.lemmas.Result.{err_from_is_err_and}
 use Rattle.pg_types.specs.Placement.{cell_of}
+use Rattle.pg_cells.specs.Held.{Held}
 use Rattle.pg_cells.specs.Walks.{EndsBefore, Steps}
-use Rattle.pg_cells.proofs.Walking.{within_way, way_sign, way_more, enter_more, more_added, step_values, step_signs, still_none, not_reached}
+use Rattle.pg_cells.proofs.Walking.{within_way, way_sign, way_more, enter_more, front_more, more_added, step_values, step_signs, still_none, not_reached}
 use Rattle.pg_cells.proofs.walks.enter.Goals as goal
 
 pub loop-s-preserved : goal.loop-s-preserved
@@ -20,6 +21,7 @@ loop-s-preserved g c =
       families =
           enter_more c.args.cells.now.signs c.loop-s.cells c.step_or_add.new.cells c.args.signs.now c.loop-s.s-index c.args.blank c.loop-s.invariant.signs lt steps
           ∙ c.loop-s.invariant.families;
+      front = front_more c.args.cells.now.signs c.args.cells.now.families c.loop-s.cells c.step_or_add.new.cells c.args.signs.now c.loop-s.s-index c.args.blank c.loop-s.invariant.signs lt steps c.loop-s.invariant.front;
       blanks =
           more_added c.args.signs.now c.args.blank c.args.cells.now.values c.loop-s.cells.values c.step_or_add.new.cells.values c.loop-s.invariant.blanks
           (step_values c.args.signs.now c.loop-s.cells c.step_or_add.new.cells (c.loop-s.s-index + 1 + 1) (take (c.loop-s.s-index + 1) c.args.signs.now) (get_or c.args.signs.now (c.loop-s.s-index + 1) 0) c.args.blank c.loop-s.invariant.held way steps);
@@ -35,3 +37,9 @@ returns-in_err-cell-clause-err g c =
     subst (λ s. EndsBefore c.loop-s.cells.values (take (c.loop-s.s-index + 1) c.args.signs.now ++ s ∷ [])) (way_sign c.args.signs.now c.loop-s.s-index lt)
     (c.in_err-cell.ensures.ends (take (c.loop-s.s-index + 1) c.args.signs.now) c.loop-s.invariant.at) in
     rw (err.1) (still_none c.args.signs.now c.args.blank c.args.cells.now.values c.loop-s.cells.values c.loop-s.invariant.blanks c.args.signs.now (not_reached c.loop-s.cells.values c.args.signs.now c.loop-s.s-index lt ends))
+
+pub returns-in_err-cell-clause-part : goal.returns-in_err-cell-clause-part
+returns-in_err-cell-clause-part g c =
+    let err = err_from_is_err_and c.from_residual.result c.from_residual.ensures.1 in
+    let lt = within_way c.args.signs.now c.loop-s.s-index c.loop-s-test.true in
+    rw (err.1) (c.loop-s.s-index + 1, lt, ap (λ (h : Held g.row.V.Denot). h.families) c.in_err-cell.ensures.err ∙ c.loop-s.invariant.front)

@@ -8,6 +8,7 @@ abbrev pub invariant-loop-s : goal.invariant-loop-s
 invariant-loop-s g l = record {
   at : cell_of l.cells.families (take (l.s-index + 1) l.signs) ≡ Some l.cell;
   families : enter_after l.fn.cells.signs l.cells.families (take (l.s-index + 1) l.signs) (drop (l.s-index + 1) l.signs) ≡ enter l.fn.cells.signs l.fn.cells.families l.signs;
+  front : l.cells.families ≡ enter l.fn.cells.signs l.fn.cells.families (take (l.s-index + 1) l.signs);
   blanks : AddsBlanks l.signs l.blank l.fn.cells.values l.cells.values;
   held : IsHeld l.cells;
   signs : l.cells.signs ≡ l.fn.cells.signs;

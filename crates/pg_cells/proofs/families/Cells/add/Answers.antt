@@ -14,6 +14,7 @@ use Rattle.pg_cells.proofs.HeldLaws.{is_held}
 use Rattle.pg_cells.proofs.StringMaps.{order}
 use Rattle.pg_cells.proofs.StringCells.{cells_apart}
 use Rattle.pg_cells.proofs.AddTrie.{added, trie_extended, parent_taken, child_within, joins_trie, joins_cell, joins_free, moved_near, settles_can, settles_trie, settles_cell}
+use Rattle.pg_cells.proofs.CellsStay.{cells_outside}
 use Rattle.pg_cells.proofs.families.Cells.add.Goals as goal
 
 pub invariant_of-self-inside : goal.invariant_of-self-inside
@@ -290,3 +291,11 @@ returns-clause-kept g c =
     let all : (d : Kept c.self.inside.signs c.settle-placed.new.store) → IsHeld (record { signs = c.self.inside.signs; families = d.0.families; values = d.0.values }) =
     λ d. is_held c.self.inside.signs c.settle-placed.new.store d.0 (held g.row.V.coded c.self.inside.signs c.settle-placed.new.store d _ trie) c.len-length-2.ensures.values in
     search all
+
+pub returns-then-joins-clause-cells : goal.returns-then-joins-clause-cells
+returns-then-joins-clause-cells g c q e p other =
+    ap (λ (h : Held g.row.V.Denot). cell_of h.families p) (returns-then-joins-clause-held g c q e) ∙ cells_outside c.args.self.now.signs c.args.self.now.families q c.args.s p other
+
+pub returns-clause-cells : goal.returns-clause-cells
+returns-clause-cells g c q e p other =
+    ap (λ (h : Held g.row.V.Denot). cell_of h.families p) (returns-clause-held g c q e) ∙ cells_outside c.args.self.now.signs c.args.self.now.families q c.args.s p other

@@ -36,3 +36,17 @@ returns-clause-grows c = (inserted _ _ _ (record { value = c.args.value; dot = c
 
 pub returns-clause-one_head : goal.returns-clause-one_head
 returns-clause-one_head c = one_head_each _ (inserted _ _ _ (record { value = c.args.value; dot = c.args.dot; next = c.args.next }) _ c.self.view_is c.self.invariant c.requires c.in_ok-index.ensures.keys c.in_ok-index.ensures.index).shared
+
+pub returns-in_err-index-clause-shared : goal.returns-in_err-index-clause-shared
+returns-in_err-index-clause-shared c = rw c.in_err-index.ensures.err c.self.invariant
+
+pub returns-clause-record : goal.returns-clause-record
+returns-clause-record c =
+    let put = (inserted _ _ _ (record { value = c.args.value; dot = c.args.dot; next = c.args.next }) _ c.self.view_is c.self.invariant c.requires c.in_ok-index.ensures.keys c.in_ok-index.ensures.index) in
+    (c.in_ok-index.index, c.head_at.ensures, put.at)
+
+pub returns-clause-adds : goal.returns-clause-adds
+returns-clause-adds c = (inserted _ _ _ (record { value = c.args.value; dot = c.args.dot; next = c.args.next }) _ c.self.view_is c.self.invariant c.requires c.in_ok-index.ensures.keys c.in_ok-index.ensures.index).adds
+
+pub returns-clause-shared : goal.returns-clause-shared
+returns-clause-shared c = (inserted _ _ _ (record { value = c.args.value; dot = c.args.dot; next = c.args.next }) _ c.self.view_is c.self.invariant c.requires c.in_ok-index.ensures.keys c.in_ok-index.ensures.index).shared

@@ -1,6 +1,7 @@
 use Rattle.std.proofs.Common.{◌≡◌, ◌+◌, ◌∷◌, Some, slice_get, sym, subst}
 use Rattle.pg_outputs.specs.declared.records.Record.{Record}
 use Rattle.pg_outputs.specs.Lists.{list_of, OneHeadEach, Lacks}
+use Rattle.pg_outputs.specs.Records.{AreShared}
 use Rattle.pg_outputs.proofs.ListLaws.{list_of-at, one_head_each}
 use Rattle.pg_outputs.proofs.RecordLaws.{nowhere, found_at}
 use Rattle.pg_outputs.proofs.lists.Outputs.find.Goals as goal
@@ -29,3 +30,9 @@ returns-clause-list c =
 
 pub returns-clause-one_head : goal.returns-clause-one_head
 returns-clause-one_head c = subst OneHeadEach c.self.view_is (one_head_each _ c.self.invariant)
+
+pub returns-in_err-index-clause-shared : goal.returns-in_err-index-clause-shared
+returns-in_err-index-clause-shared c = subst AreShared c.self.view_is c.self.invariant
+
+pub returns-clause-shared : goal.returns-clause-shared
+returns-clause-shared c = subst AreShared c.self.view_is c.self.invariant
