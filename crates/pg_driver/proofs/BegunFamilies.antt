@@ -6,8 +6,9 @@ use Rattle.pg_types.specs.Parameters.{Parameters}
 use Rattle.pg_types.specs.Placement.{Families}
 use Rattle.pg_select.specs.Sights.{Pass}
 use Rattle.pg_driver.specs.Begun.{CountedRun, Walk, begun, count_level, ended_walk, walk_on}
+use Rattle.pg_driver.specs.Laws.{bare_level, bare_run}
 use Rattle.pg_driver.specs.Runs.{LevelState, Run, Source, level_start, passes_of, run_start}
-use Rattle.pg_driver.proofs.FamilyLaw.{bare_end, bare_level, bare_pass, bare_run}
+use Rattle.pg_driver.proofs.FamilyLaw.{bare_end, bare_pass}
 
 -- a walk and a counted run without their families and layouts
 abbrev bare_walk : Walk → Walk

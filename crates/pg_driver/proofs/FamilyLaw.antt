@@ -7,23 +7,8 @@ use Rattle.pg_types.specs.Parameters.{Parameters}
 use Rattle.pg_types.specs.Placement.{Families}
 use Rattle.pg_select.specs.Sights.{Pass}
 use Rattle.pg_select.specs.Sums.{totals}
-use Rattle.pg_driver.specs.Runs.{Source, State, PassLine, LevelLine, LevelState, Run, after_pass, after_level, candidates_of, chosen_of, ended_level, layout_with_tails, level_of, level_start, line_of, passes_of, run, run_start, state_at_end}
-
--- a state, lines, a level and a run without their families and layouts
-abbrev pub bare_state : State → State
-bare_state s = record s { families = None }
-
-abbrev pub bare_line : PassLine → PassLine
-bare_line l = record l { layout = None }
-
-abbrev pub bare_level_line : LevelLine → LevelLine
-bare_level_line l = record l { layout = None }
-
-abbrev pub bare_level : LevelState → LevelState
-bare_level l = record { state = bare_state l.state; lines = map bare_line l.lines; chosen = l.chosen }
-
-abbrev pub bare_run : Run → Run
-bare_run r = record { state = bare_state r.state; passes = map bare_line r.passes; levels = map bare_level_line r.levels }
+use Rattle.pg_driver.specs.Laws.{bare_level, bare_level_line, bare_line, bare_run, bare_state}
+use Rattle.pg_driver.specs.Runs.{Source, PassLine, LevelLine, LevelState, Run, after_pass, after_level, candidates_of, chosen_of, ended_level, layout_with_tails, level_of, level_start, line_of, passes_of, run, run_start, state_at_end}
 
 bare_lines : (b : Bool) (ls : List PassLine) (l : PassLine) → map bare_line (cond b (ls ++ l ∷ []) ls) ≡ cond b (map bare_line ls ++ bare_line l ∷ []) (map bare_line ls)
 bare_lines true ls l = map_push bare_line ls l

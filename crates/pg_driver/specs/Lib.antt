@@ -6,3 +6,4 @@ pub mod Counting
 pub mod Settling
 pub mod Sound
 pub mod Skips
+pub mod Laws

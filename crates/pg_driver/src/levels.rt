@@ -75,6 +75,7 @@ pub fn generate<E: Engine>(
     ensures totals { IfOk result (λ r. r.totals ≡ totals_of_words (minima_of t.now) d.now (run_from t.now d.now p.now (E.meaning e.old)).state.patterns) }
     ensures first_layout { IfOk result (λ r. option_map numbers_with_tails r.first_layout ≡ layout_with_tails (state_of (E.meaning e.old))) }
     ensures engine { OnOk result (state_of (E.meaning e.new) ≡ (run_from t.now d.now p.now (E.meaning e.old)).state) }
+    ensures hopeless { OnOk result ((E.meaning e.new).hopeless ≡ []) }
     ensures tidy { OnOk result ((E.meaning e.new).tidy ≡ true) }
     ensures begun { OnOk result ((E.meaning e.new).begun ≡ (E.meaning e.old).begun + begun_in (source_of t.now d.now (E.meaning e.old)) p.now (E.meaning e.old).patterns) }
     ensures counted { IfOk result (λ r. r.begun ≡ begun_in (source_of t.now d.now (E.meaning e.old)) p.now (E.meaning e.old).patterns) }

@@ -5,6 +5,7 @@ mod candidates;
 mod closed;
 mod counted;
 mod dots;
+pub mod laws;
 mod level;
 mod levels;
 mod marks;

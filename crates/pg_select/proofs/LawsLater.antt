@@ -64,18 +64,13 @@ pub uncovered_back : (a b : Bool) → (a ≡ true → b ≡ true) → not b ≡ 
 uncovered_back true b more is = cc (more refl)
 uncovered_back false b more is = refl
 
--- the first law
-pub counted_back : (pass : Pass) (P P' : List ((List ℕ × ℕ) × ℕ)) (H H' : Hopeless) (w : Word) (p : ℕ) (good : Bool) → Later pass.level P H P' H' → counted_at pass P' H' w p ≡ Some good → counted_at pass P H w p ≡ Some good
-counted_back pass P P' H H' w p good later is =
-    let parts = some_parts (fits w.signs p pass.len pass.dot && not (covered pass.level P' H' (window w.signs p pass.len pass.dot) pass.dot)) (counts_as pass.level (status_at P' w p)) good is in
-    let tests = and_parts (fits w.signs p pass.len pass.dot) (not (covered pass.level P' H' (window w.signs p pass.len pass.dot) pass.dot)) parts.0 in
-    some_from (fits w.signs p pass.len pass.dot && not (covered pass.level P H (window w.signs p pass.len pass.dot) pass.dot)) (counts_as pass.level (status_at P w p)) good
-    (and_from (fits w.signs p pass.len pass.dot) (not (covered pass.level P H (window w.signs p pass.len pass.dot) pass.dot)) tests.0
-    (uncovered_back (covered pass.level P H (window w.signs p pass.len pass.dot) pass.dot) (covered pass.level P' H' (window w.signs p pass.len pass.dot) pass.dot) (later.covers (window w.signs p pass.len pass.dot) pass.dot) tests.1))
-    (⊎_elim
-    (λ (same : value_at P' w.signs p ≡ value_at P w.signs p). ap (λ (v : ℕ). counts_as pass.level (status hyphen care v)) (sym same) ∙ parts.1)
-    (λ (raised : value_at P' w.signs p ≡ pass.level). absurd (none_some good (sym (none_at_level hyphen care pass.level) ∙ ap (λ (v : ℕ). counts_as pass.level (status hyphen care v)) (sym raised) ∙ parts.1)))
-    (later.values w.signs p))
+-- the first law: of the status of a position, and of the position with its window
+pub status_back : (level : ℕ) (P P' : List ((List ℕ × ℕ) × ℕ)) (H H' : Hopeless) (w : Word) (p : ℕ) (good : Bool) → Later level P H P' H' → counts_as level (status_at P' w p) ≡ Some good → counts_as level (status_at P w p) ≡ Some good
+status_back level P P' H H' w p good later is =
+    ⊎_elim
+    (λ (same : value_at P' w.signs p ≡ value_at P w.signs p). ap (λ (v : ℕ). counts_as level (status hyphen care v)) (sym same) ∙ is)
+    (λ (raised : value_at P' w.signs p ≡ level). absurd (none_some good (sym (none_at_level hyphen care level) ∙ ap (λ (v : ℕ). counts_as level (status hyphen care v)) (sym raised) ∙ is)))
+    (later.values w.signs p)
   where
     hyphen : Bool
     hyphen = slice_index_or w.hyphens p false
@@ -85,6 +80,15 @@ counted_back pass P P' H H' w p good later is =
 
     none_some : (g : Bool) → None ≡ Some g → ⊥
     none_some g is = cc
+
+pub counted_back : (pass : Pass) (P P' : List ((List ℕ × ℕ) × ℕ)) (H H' : Hopeless) (w : Word) (p : ℕ) (good : Bool) → Later pass.level P H P' H' → counted_at pass P' H' w p ≡ Some good → counted_at pass P H w p ≡ Some good
+counted_back pass P P' H H' w p good later is =
+    let parts = some_parts (fits w.signs p pass.len pass.dot && not (covered pass.level P' H' (window w.signs p pass.len pass.dot) pass.dot)) (counts_as pass.level (status_at P' w p)) good is in
+    let tests = and_parts (fits w.signs p pass.len pass.dot) (not (covered pass.level P' H' (window w.signs p pass.len pass.dot) pass.dot)) parts.0 in
+    some_from (fits w.signs p pass.len pass.dot && not (covered pass.level P H (window w.signs p pass.len pass.dot) pass.dot)) (counts_as pass.level (status_at P w p)) good
+    (and_from (fits w.signs p pass.len pass.dot) (not (covered pass.level P H (window w.signs p pass.len pass.dot) pass.dot)) tests.0
+    (uncovered_back (covered pass.level P H (window w.signs p pass.len pass.dot) pass.dot) (covered pass.level P' H' (window w.signs p pass.len pass.dot) pass.dot) (later.covers (window w.signs p pass.len pass.dot) pass.dot) tests.1))
+    (status_back pass.level P P' H H' w p good later parts.1)
 
 nil_parts : {X : Type 0} (xs ys : List X) → xs ++ ys ≡ [] → (xs ≡ []) × (ys ≡ [])
 nil_parts [] ys is = (refl, is)

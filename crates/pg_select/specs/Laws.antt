@@ -11,7 +11,7 @@ use Rattle.pg_dict.specs.Word.{Word, IsWord, letters_of}
 use Rattle.pg_patterns.specs.Places.{place_cmp, same_place}
 use Rattle.pg_patterns.specs.Values.{value_of, raise, applies, value_at}
 use Rattle.pg_select.specs.Meanings.{Meaning, with_sight, given_up}
-use Rattle.pg_select.specs.Sights.{Pass, Minima, Sight, Candidate, sights, same_signs, candidates, good_of, bad_of, tally, counted_at}
+use Rattle.pg_select.specs.Sights.{Pass, Minima, Sight, Candidate, sights, same_signs, candidates, good_of, bad_of, tally, counted_at, counts_as}
 use Rattle.pg_select.specs.Statuses.{status_at}
 use Rattle.pg_select.specs.Sums.{totals}
 use Rattle.pg_select.specs.Windows.{Hopeless, covered}
@@ -120,7 +120,11 @@ LaterRaised = (level : ℕ) (P : List ((List ℕ × ℕ) × ℕ)) (H : Hopeless)
 abbrev pub LaterHopeless : Type 0
 LaterHopeless = (level : ℕ) (P : List ((List ℕ × ℕ) × ℕ)) (H : Hopeless) (k : List ℕ × ℕ) → Later level P H P (put place_cmp k (tt {0}) H)
 
--- a position that is counted later in a level was counted before, and as the same
+-- a position whose status counts later in a level counted before, and as the same
+abbrev pub StatusBack : Type 0
+StatusBack = (level : ℕ) (P P' : List ((List ℕ × ℕ) × ℕ)) (H H' : Hopeless) (w : Word) (p : ℕ) (good : Bool) → Later level P H P' H' → counts_as level (status_at P' w p) ≡ Some good → counts_as level (status_at P w p) ≡ Some good
+
+-- the same of a position whose window fits and is not covered
 abbrev pub CountedBack : Type 0
 CountedBack = (pass : Pass) (P P' : List ((List ℕ × ℕ) × ℕ)) (H H' : Hopeless) (w : Word) (p : ℕ) (good : Bool) → Later pass.level P H P' H' → counted_at pass P' H' w p ≡ Some good → counted_at pass P H w p ≡ Some good
 

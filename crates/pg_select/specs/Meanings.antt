@@ -1,5 +1,5 @@
 -- What an engine means: the patterns and the counts that it holds, and what each of its calls makes of them.
-use Rattle.std.specs.Prelude.{◌≡◌, ℕ, ◌+◌, ◌<◌, ◌≤◌, ◌^◌, Bool, true, false, if◌then◌else◌, List, [], length, map, filter, unwrap_or, Option, None, Some, MatchOption, All, get_or, is_some}
+use Rattle.std.specs.Prelude.{◌≡◌, ℕ, ◌+◌, ◌<◌, ◌≤◌, ◌^◌, Bool, true, false, if◌then◌else◌, List, [], length, map, filter, unwrap_or, Option, None, Some, MatchOption, All, get_or, is_some, take}
 use Rattle.std.specs.Option.{option_map}
 use Rattle.std.specs.Ordering.{nat_cmp, is_lt}
 use Rattle.std.specs.Cmp.Lexicographic.{slice_cmp}
@@ -80,10 +80,11 @@ given_up m u tidy = record m { hopeless = put place_cmp (u, m.pass.dot) (tt {0})
 abbrev pub ended : Meaning → Meaning
 ended m = record m { hopeless = []; families = option_map (kept (map (λ e. e.0.0) m.patterns)) m.families; tidy = true }
 
--- all but the families and tidiness stayed as it was; told families are told still
-pub record KeepsButFamilies (old new : Meaning) : Type 0 where
+-- all but the families and tidiness stayed as it was; families that are told took in a front of the string, its first k signs
+pub record KeepsButFamilies (u : List ℕ) (old new : Meaning) : Type 0 where
   pub kept : new ≡ record old { families = new.families; tidy = new.tidy }
-  pub told : is_some new.families ≡ is_some old.families
+  pub k : ℕ
+  pub part : new.families ≡ entered old (take k u)
 
 -- the values of the positions of a word are those that the patterns give
 abbrev pub SetsValues : Meaning → List ℕ → List ℕ → Type 0

@@ -53,14 +53,14 @@ pub trait Engine {
     fn choose(&mut self, at: &Cursor) -> Result<(), AllocError>
         requires { is_counted (meaning self.old).counts at.now ≡ true }
         ensures ok { OnOk result (meaning self.new ≡ chosen (meaning self.old) at.now (meaning self.new).tidy) }
-        ensures err { OnErr result (KeepsButFamilies (meaning self.old) (meaning self.new)) };
+        ensures err { OnErr result (KeepsButFamilies at.now (meaning self.old) (meaning self.new)) };
 
     /// Makes the window at the cursor hopeless at the dot of the pass, to the end of the level. Families that are told take in the
     /// window; a refused call may leave part of that.
     fn give_up(&mut self, at: &Cursor) -> Result<(), AllocError>
         requires { is_counted (meaning self.old).counts at.now ≡ true }
         ensures ok { OnOk result (meaning self.new ≡ given_up (meaning self.old) at.now (meaning self.new).tidy) }
-        ensures err { OnErr result (KeepsButFamilies (meaning self.old) (meaning self.new)) };
+        ensures err { OnErr result (KeepsButFamilies at.now (meaning self.old) (meaning self.new)) };
 
     /// Ends the level: nothing is hopeless any more, and families that are told lose the cells that no pattern needs. Afterwards
     /// the engine is tidy.

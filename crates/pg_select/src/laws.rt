@@ -1,5 +1,5 @@
 //! Laws of the definitions of this crate. A call does nothing; its contract is the law.
-ghost use Rattle.pg_select.specs.Laws.{CandidatesInOrder, CandidatesAreSeen, CountsAreTally, PositionsAreFew, CandidatesAreFew, TotalsAreSmall, SightsAreLight, SumsAreParts, CandidatesAreLow, ChosenGetLevel, OthersStay, NoneFalls, RaisesWhereItApplies, GivenUpKeepsValues, RaisedCovers, HopelessCovers, GivenUpCovers, LaterAtOnce, LaterStill, LaterRaised, LaterHopeless, CountedBack, ClosedLater, CountedShorter, ClosedLonger, LaterSettled, ClosedWhenCovered, ClosedAtEnd};
+ghost use Rattle.pg_select.specs.Laws.{CandidatesInOrder, CandidatesAreSeen, CountsAreTally, PositionsAreFew, CandidatesAreFew, TotalsAreSmall, SightsAreLight, SumsAreParts, CandidatesAreLow, ChosenGetLevel, OthersStay, NoneFalls, RaisesWhereItApplies, GivenUpKeepsValues, RaisedCovers, HopelessCovers, GivenUpCovers, LaterAtOnce, LaterStill, LaterRaised, LaterHopeless, StatusBack, CountedBack, ClosedLater, CountedShorter, ClosedLonger, LaterSettled, ClosedWhenCovered, ClosedAtEnd};
 
 /// The candidates of a pass are the windows that it sees. They stand strictly in the order of signs, so each once.
 pub fn candidates_in_order()
@@ -54,6 +54,7 @@ pub fn levels_go_on()
 
 /// Within a level a position that is no longer counted is not counted later, so a pass that sees nothing sees nothing later.
 pub fn closed_stays_closed()
+    ensures statuses { StatusBack }
     ensures counted { CountedBack }
     ensures closed { ClosedLater }
 {}
