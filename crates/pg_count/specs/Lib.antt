@@ -1,0 +1,5 @@
+pub mod Bounds
+pub mod Counting
+pub mod Counts
+pub mod Least
+pub mod Tally

@@ -1,0 +1,93 @@
+//! The windows that are counted in a pass.
+ghost use Rattle.std.specs.Prelude.{◌≡◌, ◌≤◌, true, [], ◌∷◌, length, IfOk, OnOk, OnErr, IsOk, MatchOption};
+ghost use Rattle.pg_types.specs.declared.limits.TheConstants.{LENGTH_MAX, SIGNS_MAX, WEIGHT_MAX};
+ghost use Rattle.pg_count.specs.Counts.{AreSmall, SignsWithin, sums_of, with_weight, with_count, is_counted, above};
+ghost use Rattle.pg_count.specs.Counting.{IsCounting};
+
+use crate::least::least;
+use crate::tally::Tally;
+use pg_cells::{Cells, enter};
+use pg_types::{Cursor, LENGTH_MAX, Sign, Weight};
+use std::alloc::{AllocError, Global};
+use std::marker::Model;
+
+/// The windows that are counted in a pass, each with its sums of good and bad weights.
+///
+/// A window's signs lead from cell to cell, and the last cell holds its sums. The memory of the cells stays for later passes.
+#[derive(Drop)]
+pub struct CountTrie {
+    cells: Cells<Tally>,
+    len: u8,
+}
+
+impl Model for CountTrie {
+    ghost use Rattle.pg_count.specs.Counting.{Counting};
+
+    ghost Value = { Counting };
+
+    ghost use Rattle.pg_count.specs.Counting.{counting_of, AreCounting};
+
+    ghost view = { λ t. counting_of t.cells t.len };
+
+    ghost invariant = { λ t. AreCounting t.cells t.len };
+}
+
+impl CountTrie {
+    /// No window is counted, and a window has one sign.
+    pub fn new(alloc: Global, signs: u16) -> Result<CountTrie, AllocError>
+        requires { (1 ≤ signs) × (signs ≤ SIGNS_MAX) }
+        ensures { IfOk result (λ counts. counts ≡ record { signs = signs; len = 1; counts = [] }) }
+    {
+        let cells = Cells::new(alloc, signs, Tally::none())?;
+        Ok(CountTrie { cells, len: 1 })
+    }
+
+    /// Begins a pass with windows of so many signs: no window is counted. It takes no memory.
+    pub fn begin(&mut self, len: u8)
+        requires { (1 ≤ len) × (len ≤ LENGTH_MAX) }
+        ensures { self.new ≡ record self.old { len = len; counts = [] } }
+    {
+        self.cells.reset(Tally::none());
+        self.len = len;
+    }
+
+    /// How many signs a window has.
+    pub fn window_len(&self) -> u8
+        ensures len { result ≡ self.now.len }
+        ensures kept { IsCounting self.now }
+    {
+        self.len
+    }
+
+    /// Adds `weight` to the good or the bad sum of a window. A window that is counted already takes no memory.
+    pub fn add(&mut self, window: &[Sign], good: bool, weight: Weight) -> Result<(), AllocError>
+        requires len { length window.now ≡ self.old.len }
+        requires signs { SignsWithin self.old.signs window.now }
+        requires weight { weight ≤ WEIGHT_MAX }
+        requires small { AreSmall (with_weight (sums_of self.old.counts window.now) good weight) }
+        ensures ok { OnOk result (self.new ≡ record self.old { counts = with_count self.old.counts window.now good weight }) }
+        ensures there { is_counted self.old.counts window.now ≡ true → IsOk result }
+        ensures err { OnErr result (self.new ≡ self.old) }
+    {
+        let cell = enter(&mut self.cells, window, Tally::none())?;
+        let tally = self.cells.value(cell);
+        self.cells.set_value(cell, tally.with(good, weight));
+        Ok(())
+    }
+
+    /// Moves the cursor to the least counted window that is greater, and gives its good and bad sums; none exactly where there is
+    /// no such window, and the cursor stays. It takes no memory.
+    pub fn next(&self, at: &mut Cursor) -> Option<(u64, u64)>
+        ensures { MatchOption result ((above at.old self.now.counts ≡ []) × (at.new ≡ at.old)) (λ sums. above at.old self.now.counts ≡ (at.new, sums) ∷ above at.new self.now.counts) }
+    {
+        let mut room = [0; LENGTH_MAX as usize];
+        let path = &mut room[..usize::from(self.len)];
+        match least(&self.cells, 0, at.signs(), path) {
+            None => None,
+            Some(sums) => {
+                at.set(path);
+                Some(sums)
+            }
+        }
+    }
+}

@@ -1,0 +1,11 @@
+//! The windows that are counted in a pass, each with its sums of good and bad weights, in packed cells.
+#![tactic(auto)]
+
+mod bound;
+mod counts;
+mod least;
+mod tally;
+#[cfg(test)]
+mod tests;
+
+pub use counts::CountTrie;
