@@ -141,3 +141,11 @@ are_kept cells records is = record {
     string q head at =
         let cell = is.held.celled q head at in
         record { some = string_some cells q cell.0 cell.1; few = (is.heads q head at).short; signs = string_signs cells is.held q cell.0 cell.1 }
+
+-- the values of a string are entries of patterns
+pub string_entries : (cells : Held ℕ) (records : List Record) → IsTrie cells records → (q : List ℕ) (head : ℕ) → find order q cells.values ≡ Some head → list_all is_entry (entries_of as_value q (list_of records head)) ≡ true
+string_entries cells records is q head at =
+    let h = is.heads q head at in
+    let cell = is.held.celled q head at in
+    let string : IsString cells.signs q = record { some = string_some cells q cell.0 cell.1; few = h.short; signs = string_signs cells is.held q cell.0 cell.1 } in
+    all_tests is_entry (entries_of as_value q (list_of records head)) (values_entries cells.signs q string 0 (list_of records head) h.rises h.dots)

@@ -12,9 +12,14 @@ ghost use Rattle.pg_trie.specs.declared.mark.TheConstants.{HOPELESS};
 ghost use Rattle.pg_trie.specs.Lists.{outputs_at};
 ghost use Rattle.pg_trie.specs.Maps.{AreKept};
 
+use crate::copy::entries;
+use crate::prune::prune;
 use crate::raise::raised;
+use crate::renew::{fresh_heads, renew};
+use crate::strings::strings;
 use pg_cells::Cells;
 use pg_outputs::Outputs;
+use pg_patterns::PatternSet;
 use pg_types::{Layout, Sign};
 use std::alloc::{AllocError, Global};
 use std::marker::Model;
@@ -25,6 +30,7 @@ use std::marker::Model;
 /// the mark [`HOPELESS`](crate::HOPELESS) of its dot. Equal ends of lists share their records.
 #[derive(Drop)]
 pub struct PatternTrie {
+    alloc: Global,
     cells: Cells<u64>,
     outputs: Outputs,
 }
@@ -47,6 +53,7 @@ impl PatternTrie {
         ensures { IfOk result (λ t. t ≡ record { signs = signs; families = root signs; patterns = []; hopeless = []; records = [] }) }
     {
         Ok(PatternTrie {
+            alloc,
             cells: Cells::new(alloc, signs, 0)?,
             outputs: Outputs::new(alloc),
         })
@@ -64,6 +71,7 @@ impl PatternTrie {
         ensures raised { OnOk result (value ≤ LEVEL_MAX → self.new ≡ record self.old { patterns = raise self.old.patterns (signs.now, dot) value; families = enter self.old.signs self.old.families signs.now; records = self.new.records }) }
         ensures marked { OnOk result (value ≡ HOPELESS → self.new ≡ record self.old { hopeless = put place_cmp (signs.now, dot) (tt {0}) self.old.hopeless; families = enter self.old.signs self.old.families signs.now; records = self.new.records }) }
         ensures err { OnErr result (self.new ≡ record self.old { families = self.new.families; records = self.new.records }) }
+        ensures signs { self.new.signs ≡ self.old.signs }
     {
         let cell = pg_cells::enter(&mut self.cells, signs, 0)?;
         let head = self.cells.value(cell);
@@ -98,6 +106,32 @@ impl PatternTrie {
         ensures kept { AreKept self.now }
     {
         &self.outputs
+    }
+
+    /// Deletes the hopeless marks: a string of several signs that is no prefix of a pattern's loses its cell, and there is no
+    /// record that the values do not need. It takes its memory before it changes anything.
+    pub fn delete_hopeless(&mut self) -> Result<(), AllocError>
+        ensures ok { OnOk result (self.new ≡ record self.old { hopeless = []; families = kept (map (λ e. e.0.0) self.old.patterns) self.old.families; records = self.new.records }) }
+        ensures tails { OnOk result (length self.new.records ≡ tails self.old.patterns) }
+        ensures err { OnErr result (self.new ≡ self.old) }
+        ensures signs { self.new.signs ≡ self.old.signs }
+    {
+        let strings = strings(self.alloc, &self.cells)?;
+        let mut fresh = Outputs::new(self.alloc);
+        let heads = fresh_heads(self.alloc, &self.cells, &strings, &self.outputs, &mut fresh)?;
+        renew(&mut self.cells, &strings, &heads);
+        prune(&mut self.cells, &strings);
+        let _records = fresh.len();
+        self.outputs = fresh;
+        Ok(())
+    }
+
+    /// The patterns.
+    pub fn copy(&self, alloc: Global) -> Result<PatternSet, AllocError>
+        ensures { IfOk result (λ patterns. patterns ≡ self.now.patterns) }
+    {
+        let entries = entries(alloc, &self.cells, &self.outputs)?;
+        Ok(PatternSet::from_entries(entries))
     }
 
     /// How many cells are taken, the greatest of them, and as tails how many records the lists have. Entering may leave records

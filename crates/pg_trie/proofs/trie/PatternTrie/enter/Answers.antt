@@ -5,6 +5,7 @@ use Rattle.pg_types.specs.Placement.{enter}
 use Rattle.pg_cells.specs.Held.{Held}
 use Rattle.pg_trie.specs.declared.mark.TheConstants.{HOPELESS}
 use Rattle.pg_trie.specs.Lists.{entered}
+use Rattle.pg_trie.specs.Maps.{Maps}
 use Rattle.pg_trie.proofs.Changes.{SameMaps, blanks_stay, records_stay, both_stay, Enters, enters, same_view, raised_view, marked_view}
 use Rattle.pg_trie.proofs.trie.PatternTrie.enter.Goals as goal
 
@@ -76,3 +77,12 @@ pub returns-clause-marked : goal.returns-clause-marked
 returns-clause-marked c is =
     marked_view c.self.inside.cells c.enter.new.cells c.set_value.new.self c.self.inside.outputs c.raised.new.outputs c.args.signs.now (c.args.value, c.args.dot) c.args.self.now c.self.view_is (standing c) (entering c)
     (le-ltb c.args.value HOPELESS (omega arith)) (signs_kept c) (families_kept c)
+
+pub returns-in_err-cell-clause-signs : goal.returns-in_err-cell-clause-signs
+returns-in_err-cell-clause-signs c = c.enter.ensures.signs ∙ ap (λ (m : Maps). m.signs) c.self.view_is
+
+pub returns-in_err-head-clause-signs : goal.returns-in_err-head-clause-signs
+returns-in_err-head-clause-signs c = c.enter.ensures.signs ∙ ap (λ (m : Maps). m.signs) c.self.view_is
+
+pub returns-clause-signs : goal.returns-clause-signs
+returns-clause-signs c = signs_kept c ∙ ap (λ (m : Maps). m.signs) c.self.view_is
