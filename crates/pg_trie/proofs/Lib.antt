@@ -1,0 +1,16 @@
+pub mod Changes
+pub mod Deleted
+pub mod Entered
+pub mod Found
+pub mod Gathered
+pub mod Kept
+pub mod KeptFamilies
+pub mod KeptStrings
+pub mod Listed
+pub mod Listing
+pub mod Pruning
+pub mod Rebuilt
+pub mod Renewing
+pub mod Rising
+pub mod Rooted
+pub mod TailsLaw

@@ -1,0 +1,26 @@
+use Rattle.std.proofs.Common.{sym, ap, ◌∙◌}
+use Rattle.std.proofs.lemmas.Bool.{lt-ltb, le-ltb}
+use Rattle.pg_outputs.specs.Lists.{list_of}
+use Rattle.pg_outputs.proofs.ListLaws.{list_of-zero}
+use Rattle.pg_trie.specs.declared.mark.TheConstants.{HOPELESS}
+use Rattle.pg_trie.specs.Renewed.{values_in, AreNeeded}
+use Rattle.pg_trie.proofs.Listing.{on_value}
+use Rattle.pg_trie.proofs.Renewing.{needed_value, needed_mark}
+use Rattle.pg_trie.proofs.renew.+fresh_head.Goals as goal
+
+pub returns-in_default-clause-list : goal.returns-in_default-clause-list
+returns-in_default-clause-list t c = list_of-zero c.args.fresh.now ∙ sym (ap values_in c.in_default.ensures.list)
+
+pub returns-then-value-lt-HOPELESS-clause-needed : goal.returns-then-value-lt-HOPELESS-clause-needed
+returns-then-value-lt-HOPELESS-clause-needed t c =
+    on_value (AreNeeded c.args.fresh.now c.cons.new.self (values_in (list_of c.args.outputs.now c.args.head))) c.cons.result
+    (λ h e.
+    needed_value c.args.fresh.now c.fresh_head.new.fresh c.cons.new.self c.in-Some.value c.in-Some.dot c.in_ok-rest.rest (list_of c.args.outputs.now c.in-Some.next) (list_of c.args.outputs.now c.args.head) c.in-Some.ensures.list
+    (lt-ltb c.in-Some.value HOPELESS c.if-value-lt-HOPELESS.true) c.in_ok-rest.ensures.needed c.in_ok-rest.ensures.list c.cons.ensures.grows
+    (λ i at. (c.cons.ensures.there i at).1)
+    (λ lacks. (let added = c.cons.ensures.added lacks in rw e at added).1))
+
+pub returns-else-value-lt-HOPELESS-clause-needed : goal.returns-else-value-lt-HOPELESS-clause-needed
+returns-else-value-lt-HOPELESS-clause-needed t c =
+    needed_mark c.args.fresh.now c.fresh_head.new.fresh c.in-Some.value c.in-Some.dot (list_of c.args.outputs.now c.in-Some.next) (list_of c.args.outputs.now c.args.head) c.in-Some.ensures.list
+    (le-ltb c.in-Some.value HOPELESS c.if-value-lt-HOPELESS.false) c.in_ok-rest.ensures.needed

@@ -1,0 +1,24 @@
+use Rattle.std.proofs.Common.{◌+◌, ◌<◌, [], length, subst, arith, rules}
+use Rattle.pg_trie.specs.Strings.{PutsBelow}
+use Rattle.pg_trie.proofs.Listing.{strings_start, strings_step, get_there}
+use Rattle.pg_trie.proofs.strings.strings.Goals as goal
+
+pub loop-i-init : goal.loop-i-init
+loop-i-init c = record {
+  inside = omega arith;
+  strings = strings_start c.args.cells.now c.signs-held.ensures.held c.push_family.new.strings.items
+      (subst (λ l. PutsBelow c.args.cells.now [] (c.args.cells.now.signs + 1) l c.push_family.new.strings.items) c.new-strings.ensures.items c.in_ok-push_family.ensures);
+}
+
+pub push_below-requires-clause-sound : goal.push_below-requires-clause-sound
+push_below-requires-clause-sound c k at = c.loop-i.invariant.strings.sound c.loop-i.i k at
+
+pub loop-i-preserved : goal.loop-i-preserved
+loop-i-preserved c =
+    let lt : c.loop-i.i < length c.loop-i.strings.items = first_of (omega arith, search rules) in
+    let k = get_there c.loop-i.strings.items c.loop-i.i lt in
+    let puts = c.in_ok-push_below.ensures k.0 k.1 in
+    record {
+      inside = omega (arith, puts.longer);
+      strings = strings_step c.args.cells.now c.signs-held.ensures.held c.loop-i.i c.loop-i.strings.items c.push_below.new.strings.items k.0 c.loop-i.invariant.strings k.1 puts;
+    }

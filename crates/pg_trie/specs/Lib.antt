@@ -1,0 +1,6 @@
+pub mod IsTrie
+pub mod Lists
+pub mod Maps
+pub mod Pruned
+pub mod Renewed
+pub mod Strings

@@ -1,0 +1,66 @@
+-- Which strings lose their cells, and what that makes of the families.
+use Rattle.std.specs.Prelude.{◌≡◌, ◌≢◌, ℕ, ◌<◌, ◌≤◌, ◌⊎◌, Bool, true, false, List, [], ◌∷◌, ◌++◌, filter, length, slice_get, None, Some, is_some}
+use Rattle.std.specs.List.{flat_map}
+use Rattle.std.specs.Ordering.{nat_cmp}
+use Rattle.std.specs.Cmp.Lexicographic.{slice_cmp}
+use Rattle.std.specs.FinMap.{find}
+use Rattle.pg_types.specs.Placement.{Family, Families, cell_of, without_sign}
+use Rattle.pg_cells.specs.Held.{Held, without_key}
+use Rattle.pg_cells.specs.IsHeld.{IsHeld}
+use Rattle.pg_cells.specs.Walks.{EndsBefore}
+
+-- a family with the signs whose strings pass the test, or none where no sign does
+abbrev pub kept_one : (List ℕ → Bool) → List ℕ × Family → Families
+kept_one keep e = elim (filter (λ s. keep (e.0 ++ s ∷ [])) e.1.signs) [
+  | [] ↦ []
+  | x ∷ xs ↦ (e.0, record { base = e.1.base; signs = x ∷ xs }) ∷ []
+]
+
+-- the families with the strings that pass the test
+abbrev pub kept_by : (List ℕ → Bool) → Families → Families
+kept_by keep fs = flat_map (kept_one keep) fs
+
+-- the string lost its cell: it has several signs, no list, and no string goes on from it
+pub record IsDropped (old new : Held ℕ) (q : List ℕ) : Type 0 where
+  pub front : List ℕ
+  pub last : ℕ
+  pub whole : q ≡ front ++ last ∷ []
+  pub several : front ≢ []
+  pub blank : find (slice_cmp nat_cmp) q old.values ≡ Some 0
+  pub ends : (x : ℕ) → EndsBefore old.values (q ++ x ∷ [])
+  pub families : new.families ≡ without_sign old.families front last
+  pub values : new.values ≡ without_key q old.values
+
+-- why a string keeps its cell: it has none, or one sign, or a list, or some string goes on from it
+abbrev pub IsNeeded : Held ℕ → List ℕ → Type 0
+IsNeeded old q = (cell_of old.families q ≡ None) ⊎ ((length q ≤ 1) ⊎ (((v : ℕ) × (find (slice_cmp nat_cmp) q old.values ≡ Some v) × (v ≢ 0)) ⊎ ((x : ℕ) × (v : ℕ) × (find (slice_cmp nat_cmp) (q ++ x ∷ []) old.values ≡ Some v))))
+
+-- the string lost its cell where that was not needed, and else nothing changed
+pub record Drops (old new : Held ℕ) (q : List ℕ) : Type 0 where
+  pub held : IsHeld new
+  pub signs : new.signs ≡ old.signs
+  pub either : ((new ≡ old) × IsNeeded old q) ⊎ IsDropped old new q
+
+-- the test tells which strings are to keep their cells: those of one sign, those with a list, and those from which a string that
+-- keeps its cell goes on
+pub record IsKeep (keep : List ℕ → Bool) (h : Held ℕ) : Type 0 where
+  pub single : (q : List ℕ) → length q ≤ 1 → keep q ≡ true
+  pub listed : (q : List ℕ) (v : ℕ) → find (slice_cmp nat_cmp) q h.values ≡ Some v → v ≢ 0 → keep q ≡ true
+  pub goes_on : (q : List ℕ) (x : ℕ) → keep (q ++ x ∷ []) ≡ true → keep q ≡ true
+  pub blank : (q : List ℕ) → 1 < length q → find (slice_cmp nat_cmp) q h.values ≡ Some 0 → ((x v : ℕ) → find (slice_cmp nat_cmp) (q ++ x ∷ []) h.values ≡ Some v → keep (q ++ x ∷ []) ≡ false) → keep q ≡ false
+
+-- the strings from the number i on that are not to keep their cells have lost them
+pub record PrunesFrom (keep : List ℕ → Bool) (old : Held ℕ) (strings : List (List ℕ × ℕ)) (i : ℕ) (new : Held ℕ) : Type 0 where
+  pub held : IsHeld new
+  pub signs : new.signs ≡ old.signs
+  pub either : (q : List ℕ) → (find (slice_cmp nat_cmp) q new.values ≡ find (slice_cmp nat_cmp) q old.values) ⊎ ((find (slice_cmp nat_cmp) q new.values ≡ None) × (keep q ≡ false))
+  pub gone : (j : ℕ) (k : List ℕ × ℕ) → i ≤ j → slice_get strings j ≡ Some k → keep k.0 ≡ false → find (slice_cmp nat_cmp) k.0 new.values ≡ None
+  pub families : new.families ≡ kept_by (λ q. is_some (find (slice_cmp nat_cmp) q new.values)) old.families
+
+-- the strings that are not to keep their cells have lost them
+pub record Prunes (keep : List ℕ → Bool) (old new : Held ℕ) : Type 0 where
+  pub held : IsHeld new
+  pub signs : new.signs ≡ old.signs
+  pub stays : (q : List ℕ) → keep q ≡ true → find (slice_cmp nat_cmp) q new.values ≡ find (slice_cmp nat_cmp) q old.values
+  pub gone : (q : List ℕ) → keep q ≡ false → find (slice_cmp nat_cmp) q new.values ≡ None
+  pub families : new.families ≡ kept_by keep old.families

@@ -1,0 +1,71 @@
+//! The values of a trie as entries of patterns.
+ghost use Rattle.std.specs.Prelude.{◌≡◌, ◌≤◌, ◌++◌, true, length, IfOk, OnOk};
+ghost use Rattle.std.specs.List.{list_all};
+ghost use Rattle.pg_types.specs.declared.limits.TheConstants.{PATTERN_SIGNS_MAX};
+ghost use Rattle.pg_patterns.specs.Values.{is_entry, joined};
+ghost use Rattle.pg_outputs.specs.Lists.{list_of};
+ghost use Rattle.pg_trie.specs.IsTrie.{IsTrie};
+ghost use Rattle.pg_trie.specs.Maps.{maps_of, entries_of, as_value};
+ghost use Rattle.pg_trie.specs.Strings.{AreStrings};
+
+use crate::mark::HOPELESS;
+use crate::strings::{strings, value_of};
+use pg_cells::Cells;
+use pg_outputs::Outputs;
+use pg_patterns::Place;
+use std::alloc::{AllocError, Global};
+
+// Puts the values of a string's list behind the entries.
+fn push_values(
+    outputs: &Outputs,
+    head: u64,
+    string: &Place,
+    entries: &mut Vec<(Place, u8)>,
+) -> Result<(), AllocError>
+    requires head { head ≤ length outputs.now }
+    requires few { length string.now.0 ≤ PATTERN_SIGNS_MAX }
+    ensures { OnOk result (entries.new.items ≡ entries.old.items ++ entries_of as_value string.now.0 (list_of outputs.now head)) }
+{
+    let mut at = head;
+    while let Some((value, dot, next)) = outputs.first(at) {
+        if value < HOPELESS {
+            entries.push((Place::new(string.signs(), dot), value))?;
+        }
+        at = next;
+    }
+    Ok(())
+}
+
+// The values of the strings, each with its place.
+fn gather(
+    alloc: Global,
+    cells: &Cells<u64>,
+    strings: &[Place],
+    outputs: &Outputs,
+) -> Result<Vec<(Place, u8)>, AllocError>
+    requires trie { IsTrie cells.now outputs.now }
+    requires strings { AreStrings cells.now strings.now }
+    ensures sound { IfOk result (λ entries. list_all is_entry entries.items ≡ true) }
+    ensures joined { IfOk result (λ entries. joined entries.items ≡ (maps_of cells.now outputs.now).patterns) }
+{
+    let mut entries = Vec::new(alloc);
+    for string in strings {
+        let head = value_of(cells, string.signs());
+        push_values(outputs, head, string, &mut entries)?;
+    }
+    Ok(entries)
+}
+
+/// The values of all strings, each with its place.
+pub fn entries(
+    alloc: Global,
+    cells: &Cells<u64>,
+    outputs: &Outputs,
+) -> Result<Vec<(Place, u8)>, AllocError>
+    requires { IsTrie cells.now outputs.now }
+    ensures sound { IfOk result (λ entries. list_all is_entry entries.items ≡ true) }
+    ensures joined { IfOk result (λ entries. joined entries.items ≡ (maps_of cells.now outputs.now).patterns) }
+{
+    let strings = strings(alloc, cells)?;
+    gather(alloc, cells, &strings, outputs)
+}

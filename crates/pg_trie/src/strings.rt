@@ -1,0 +1,107 @@
+//! The strings that have a cell.
+ghost use Rattle.std.specs.Prelude.{◌≡◌, ℕ, ◌+◌, ◌<◌, ◌≤◌, List, [], ◌∷◌, ◌++◌, length, slice_get, Some, All, IfOk, OnOk};
+ghost use Rattle.std.specs.FinMap.{find};
+ghost use Rattle.std.specs.Cmp.Lexicographic.{slice_cmp};
+ghost use Rattle.std.specs.Ordering.{nat_cmp};
+ghost use Rattle.pg_types.specs.declared.limits.TheConstants.{PATTERN_SIGNS_MAX, SIGNS_MAX};
+ghost use Rattle.pg_types.specs.Placement.{cell_of, base_of};
+ghost use Rattle.pg_trie.specs.Strings.{AreShort, IsString, PutsBelow, AreStringsTo, AreStrings};
+
+use pg_cells::{Cells, step};
+use pg_patterns::Place;
+use pg_types::{PATTERN_SIGNS_MAX, Sign};
+use std::alloc::{AllocError, Global};
+
+/// The cell of a string, or `None` where it has none.
+pub fn find_cell(cells: &Cells<u64>, signs: &[Sign]) -> Option<usize>
+    requires { All (λ s. (1 ≤ s) × (s ≤ cells.now.signs)) signs.now }
+    ensures { result ≡ cell_of cells.now.families signs.now }
+{
+    let _held = cells.signs();
+    let mut at = None;
+    for s in signs {
+        at = Some(step(cells, at, *s)?);
+    }
+    at
+}
+
+/// The value of a string that has a cell.
+pub fn value_of(cells: &Cells<u64>, signs: &[Sign]) -> u64
+    requires { All (λ s. (1 ≤ s) × (s ≤ cells.now.signs)) signs.now }
+    ensures { (v : ℕ) → find (slice_cmp nat_cmp) signs.now cells.now.values ≡ Some v → result ≡ v }
+{
+    let _held = cells.signs();
+    match find_cell(cells, signs) {
+        Some(cell) => cells.value(cell),
+        None => 0,
+    }
+}
+
+// The place before a string with one sign more.
+fn longer(prefix: &[Sign], s: Sign) -> Place
+    requires { length prefix.now < PATTERN_SIGNS_MAX }
+    ensures { result ≡ (prefix.now ++ s ∷ [], 0) }
+{
+    let mut signs = [0; PATTERN_SIGNS_MAX];
+    signs[..prefix.len()].copy_from_slice(prefix);
+    signs[prefix.len()] = s;
+    Place::new(&signs[..prefix.len() + 1], 0)
+}
+
+// Puts the strings of a family behind the others.
+fn push_family(
+    cells: &Cells<u64>,
+    prefix: &[Sign],
+    base: usize,
+    strings: &mut Vec<Place>,
+) -> Result<(), AllocError>
+    requires base { base_of cells.now.families prefix.now ≡ Some base }
+    requires short { AreShort cells.now }
+    requires signs { cells.now.signs ≤ SIGNS_MAX }
+    ensures { OnOk result (PutsBelow cells.now prefix.now (cells.now.signs + 1) strings.old.items strings.new.items) }
+{
+    for s in 1..cells.signs() + 1 {
+        if cells.find(base, s).is_some() {
+            strings.push(longer(prefix, s))?;
+        }
+    }
+    Ok(())
+}
+
+// Puts the strings with one sign more than that with the number `i` behind the others.
+fn push_below(cells: &Cells<u64>, strings: &mut Vec<Place>, i: usize) -> Result<(), AllocError>
+    requires inside { i < length strings.old.items }
+    requires sound { (k : List ℕ × ℕ) → slice_get strings.old.items i ≡ Some k → IsString cells.now k.0 }
+    requires short { AreShort cells.now }
+    requires signs { cells.now.signs ≤ SIGNS_MAX }
+    ensures { OnOk result ((k : List ℕ × ℕ) → slice_get strings.old.items i ≡ Some k → PutsBelow cells.now k.0 (cells.now.signs + 1) strings.old.items strings.new.items) }
+{
+    let _held = cells.signs();
+    let prefix = Place::new(strings[i].signs(), 0);
+    let Some(cell) = find_cell(cells, prefix.signs()) else {
+        return Ok(());
+    };
+    match cells.child(cell) {
+        0 => Ok(()),
+        base => push_family(cells, prefix.signs(), base, strings),
+    }
+}
+
+/// The strings that have a cell, each before those with one sign more.
+pub fn strings(alloc: Global, cells: &Cells<u64>) -> Result<Vec<Place>, AllocError>
+    requires short { AreShort cells.now }
+    requires signs { cells.now.signs ≤ SIGNS_MAX }
+    ensures { IfOk result (λ strings. AreStrings cells.now strings.items) }
+{
+    let _held = cells.signs();
+    let mut strings = Vec::new(alloc);
+    push_family(cells, &[], 0, &mut strings)?;
+    for i in 0..usize::MAX {
+        if i == strings.len() {
+            return Ok(strings);
+        }
+        push_below(cells, &mut strings, i)?;
+    }
+    let _count = strings.len();
+    Ok(strings)
+}
