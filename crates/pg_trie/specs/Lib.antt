@@ -1,0 +1,3 @@
+pub mod IsTrie
+pub mod Lists
+pub mod Maps

@@ -1,0 +1,65 @@
+-- What a pattern trie is seen as: two maps from places, the families of its strings, and the records of its lists.
+use Rattle.std.specs.Prelude.{◌≡◌, ℕ, ◌≤◌, nat_lt, nat_le, nat_eq, if◌then◌else◌, Bool, true, ◌&&◌, T, List, [], ◌∷◌, length, Option, None, Some, All}
+use Rattle.std.specs.List.{flat_map, list_all}
+use Rattle.std.specs.FinMap.Entries.{is_sorted}
+use Rattle.pg_types.specs.declared.limits.TheConstants.{PATTERN_SIGNS_MAX, SIGNS_MAX}
+use Rattle.pg_types.specs.Placement.{Families}
+use Rattle.pg_patterns.specs.Places.{place_cmp}
+use Rattle.pg_patterns.specs.Values.{IsPatternMap, SignsUpTo}
+use Rattle.pg_outputs.specs.declared.records.Record.{Record}
+use Rattle.pg_outputs.specs.Lists.{list_of}
+use Rattle.pg_cells.specs.Held.{Held}
+use Rattle.pg_trie.specs.declared.mark.TheConstants.{HOPELESS}
+
+-- the greatest sign; the families of the strings; the values and the hopeless marks by their places; and the records of the lists
+pub record Maps : Type 0 where
+  pub signs : ℕ
+  pub families : Families
+  pub patterns : List ((List ℕ × ℕ) × ℕ)
+  pub hopeless : List ((List ℕ × ℕ) × Unit {0})
+  pub records : List Record
+
+-- what a value of a list is in the map of values: itself, and a mark is nothing
+abbrev pub as_value : ℕ → Option ℕ
+as_value v = if nat_lt v HOPELESS then Some v else None
+
+-- what it is in the map of hopeless marks
+abbrev pub as_mark : ℕ → Option (Unit {0})
+as_mark v = if nat_lt v HOPELESS then None else Some (tt {0})
+
+module _ {X : Type 0} (pick : ℕ → Option X) where
+  -- an entry before others, where there is one
+  abbrev pub with_entry : List ℕ × ℕ → Option X → List ((List ℕ × ℕ) × X) → List ((List ℕ × ℕ) × X)
+  with_entry k None es = es
+  with_entry k (Some v) es = (k, v) ∷ es
+
+  -- the entries of a string by its list
+  abbrev pub entries_of : List ℕ → List (ℕ × ℕ) → List ((List ℕ × ℕ) × X)
+  entries_of q [] = []
+  entries_of q (x ∷ xs) = with_entry (q, x.1) (pick x.0) (entries_of q xs)
+
+  -- the entries of all strings by the lists of their heads
+  unfoldable pub entries : (ℕ → List (ℕ × ℕ)) → List (List ℕ × ℕ) → List ((List ℕ × ℕ) × X)
+  entries f values = flat_map (λ e. entries_of e.0 (f e.1)) values
+
+-- cells whose values are heads of lists, as maps
+abbrev pub maps_of : Held ℕ → List Record → Maps
+maps_of cells records = record {
+  signs = cells.signs;
+  families = cells.families;
+  patterns = entries as_value (list_of records) cells.values;
+  hopeless = entries as_mark (list_of records) cells.values;
+  records = records;
+}
+
+-- a place has 1 to 32 signs, each 1 to n, and its dot is at most their number
+abbrev pub is_place : ℕ → List ℕ × ℕ → Bool
+is_place n k = nat_le 1 (length k.0) && nat_le (length k.0) PATTERN_SIGNS_MAX && list_all (λ s. nat_le 1 s && nat_le s n) k.0 && nat_le k.1 (length k.0)
+
+-- what every trie keeps: the values are those of a map of patterns, and each hopeless mark stands once, in order, at a place
+pub record AreKept (m : Maps) : Type 0 where
+  pub signs : m.signs ≤ SIGNS_MAX
+  pub patterns : IsPatternMap m.patterns
+  pub known : SignsUpTo m.signs m.patterns
+  pub sorted : T (is_sorted place_cmp m.hopeless)
+  pub places : list_all (λ e. is_place m.signs e.0) m.hopeless ≡ true

@@ -1,0 +1,115 @@
+//! The pattern trie.
+ghost use Rattle.std.specs.Prelude.{◌≡◌, ℕ, ◌+◌, ◌<◌, ◌≤◌, List, [], ◌∷◌, ◌++◌, length, map, All, Some, None, IfOk, OnOk, OnErr};
+ghost use Rattle.std.specs.FinMap.Entries.{put};
+ghost use Rattle.pg_types.specs.declared.limits.TheConstants.{LEVEL_MAX, PATTERN_SIGNS_MAX, SIGNS_MAX};
+ghost use Rattle.pg_types.specs.Placement.{cell_of, root, enter, kept, taken, top};
+ghost use Rattle.pg_types.specs.Tails.{tails};
+ghost use Rattle.pg_patterns.specs.Places.{place_cmp};
+ghost use Rattle.pg_patterns.specs.Values.{raise};
+ghost use Rattle.pg_outputs.specs.Lists.{list_of};
+ghost use Rattle.pg_cells.specs.Walks.{IsAt};
+ghost use Rattle.pg_trie.specs.declared.mark.TheConstants.{HOPELESS};
+ghost use Rattle.pg_trie.specs.Lists.{outputs_at};
+ghost use Rattle.pg_trie.specs.Maps.{AreKept};
+
+use crate::raise::raised;
+use pg_cells::Cells;
+use pg_outputs::Outputs;
+use pg_types::{Layout, Sign};
+use std::alloc::{AllocError, Global};
+use std::marker::Model;
+
+/// Two maps from places: the values of the patterns, and the hopeless marks.
+///
+/// Each string has a cell, whose value is the head of the string's list: its values and marks by rising dot, a value before
+/// the mark [`HOPELESS`](crate::HOPELESS) of its dot. Equal ends of lists share their records.
+#[derive(Drop)]
+pub struct PatternTrie {
+    cells: Cells<u64>,
+    outputs: Outputs,
+}
+
+impl Model for PatternTrie {
+    ghost use Rattle.pg_trie.specs.Maps.{Maps, maps_of};
+    ghost use Rattle.pg_trie.specs.IsTrie.{IsTrie};
+
+    ghost Value = { Maps };
+
+    ghost view = { λ t. maps_of t.cells t.outputs };
+
+    ghost invariant = { λ t. IsTrie t.cells t.outputs };
+}
+
+impl PatternTrie {
+    /// The trie of signs up to `signs`, with neither a value nor a mark.
+    pub fn new(alloc: Global, signs: u16) -> Result<PatternTrie, AllocError>
+        requires { (1 ≤ signs) × (signs ≤ SIGNS_MAX) }
+        ensures { IfOk result (λ t. t ≡ record { signs = signs; families = root signs; patterns = []; hopeless = []; records = [] }) }
+    {
+        Ok(PatternTrie {
+            cells: Cells::new(alloc, signs, 0)?,
+            outputs: Outputs::new(alloc),
+        })
+    }
+
+    /// Raises the value at the dot of a string, or marks it hopeless for the value [`HOPELESS`](crate::HOPELESS).
+    ///
+    /// Refused: the maps are as before; some of the string's signs may have cells, and there may be further records.
+    pub fn enter(&mut self, signs: &[Sign], dot: u8, value: u8) -> Result<(), AllocError>
+        requires some { 0 < length signs.now }
+        requires few { length signs.now ≤ PATTERN_SIGNS_MAX }
+        requires signs { All (λ s. (1 ≤ s) × (s ≤ self.old.signs)) signs.now }
+        requires dot { dot ≤ length signs.now }
+        requires value { (1 ≤ value) × (value ≤ HOPELESS) }
+        ensures raised { OnOk result (value ≤ LEVEL_MAX → self.new ≡ record self.old { patterns = raise self.old.patterns (signs.now, dot) value; families = enter self.old.signs self.old.families signs.now; records = self.new.records }) }
+        ensures marked { OnOk result (value ≡ HOPELESS → self.new ≡ record self.old { hopeless = put place_cmp (signs.now, dot) (tt {0}) self.old.hopeless; families = enter self.old.signs self.old.families signs.now; records = self.new.records }) }
+        ensures err { OnErr result (self.new ≡ record self.old { families = self.new.families; records = self.new.records }) }
+    {
+        let cell = pg_cells::enter(&mut self.cells, signs, 0)?;
+        let head = self.cells.value(cell);
+        let head = raised(&mut self.outputs, head, value, dot)?;
+        self.cells.set_value(cell, head);
+        Ok(())
+    }
+
+    /// Goes from a cell, or from the start for `None`, to the cell of the string with the sign added. `None` tells that no
+    /// string has a cell there; then no string that begins with this one has a value or a mark. It takes no memory.
+    pub fn step(&self, at: Option<usize>, s: Sign) -> Option<usize>
+        requires at { (q : List ℕ) × (IsAt self.now.families at q) }
+        requires sign { (1 ≤ s) × (s ≤ self.now.signs) }
+        ensures cell { (q : List ℕ) → IsAt self.now.families at q → result ≡ cell_of self.now.families (q ++ s ∷ []) }
+        ensures none { (q : List ℕ) → IsAt self.now.families at q → result ≡ None → (more : List ℕ) → outputs_at self.now.patterns self.now.hopeless ((q ++ s ∷ []) ++ more) ≡ [] }
+    {
+        pg_cells::step(&self.cells, at, s)
+    }
+
+    /// The head of the list of the cell's string, by [`PatternTrie::outputs`]. It takes no memory.
+    pub fn head(&self, cell: usize) -> u64
+        requires { (q : List ℕ) × (cell_of self.now.families q ≡ Some cell) }
+        ensures list { (q : List ℕ) → cell_of self.now.families q ≡ Some cell → list_of self.now.records result ≡ outputs_at self.now.patterns self.now.hopeless q }
+        ensures inside { result ≤ length self.now.records }
+    {
+        self.cells.value(cell)
+    }
+
+    /// The lists of all strings.
+    pub fn outputs(&self) -> &Outputs
+        ensures records { result.now ≡ self.now.records }
+        ensures kept { AreKept self.now }
+    {
+        &self.outputs
+    }
+
+    /// How many cells are taken, the greatest of them, and as tails how many records the lists have. Entering may leave records
+    /// that no list uses, so the tails are those of the patterns right after [`PatternTrie::delete_hopeless`]. It takes no
+    /// memory.
+    pub fn layout(&self) -> Layout
+        ensures { result ≡ record { taken = taken self.now.families; top = top self.now.families; tails = length self.now.records } }
+    {
+        Layout {
+            taken: self.cells.taken() as u64,
+            top: self.cells.top() as u64,
+            tails: self.outputs.len(),
+        }
+    }
+}
