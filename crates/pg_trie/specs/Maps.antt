@@ -1,5 +1,5 @@
 -- What a pattern trie is seen as: two maps from places, the families of its strings, and the records of its lists.
-use Rattle.std.specs.Prelude.{◌≡◌, ℕ, ◌≤◌, nat_lt, nat_le, nat_eq, if◌then◌else◌, Bool, true, ◌&&◌, T, List, [], ◌∷◌, length, Option, None, Some, All}
+use Rattle.std.specs.Prelude.{◌≡◌, ℕ, ◌≤◌, nat_lt, nat_le, if◌then◌else◌, Bool, true, ◌&&◌, T, List, [], ◌∷◌, length, Option, None, Some}
 use Rattle.std.specs.List.{flat_map, list_all}
 use Rattle.std.specs.FinMap.Entries.{is_sorted}
 use Rattle.pg_types.specs.declared.limits.TheConstants.{PATTERN_SIGNS_MAX, SIGNS_MAX}
