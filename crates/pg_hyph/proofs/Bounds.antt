@@ -1,18 +1,9 @@
 -- The greatest force of all strings of a word: within each bound on the forces of those that stand in it, and over each of them.
-use Rattle.std.proofs.Common.{◌≡◌, ℕ, ◌+◌, ◌<◌, ◌≤◌, max, nat_eq, true, false, cond, inl, inr, List, [], ◌∷◌, ◌++◌, length, refl, sym, ap, subst, ◌∙◌, append_assoc, arith, length-append}
+use Rattle.std.proofs.Common.{◌≡◌, ℕ, ◌+◌, ◌≤◌, max, nat_eq, true, false, cond, inl, inr, List, [], ◌∷◌, ◌++◌, length, refl, sym, ap, subst, ◌∙◌, append_assoc, arith, length-append}
 use Rattle.std.proofs.lemmas.Bool.{eqb-true, eq-eqb}
 use Rattle.pg_hyph.specs.Walks.{by_list, by_strings, by_starts}
-use Rattle.pg_hyph.proofs.Members.{In}
+use Rattle.pg_hyph.proofs.Members.{In, most, most_first, most_rest}
 use Rattle.pg_hyph.proofs.Cuts.{Cut}
-
-most : (a b n : ℕ) → a ≤ n → b ≤ n → max a b ≤ n
-most a b n p q = omega arith
-
-most_first : (a b n : ℕ) → n ≤ a → n ≤ max a b
-most_first a b n low = omega arith
-
-most_rest : (a b n : ℕ) → n ≤ b → n ≤ max a b
-most_rest a b n low = omega arith
 
 list_within : (force : ℕ × ℕ → ℕ) (start p n : ℕ) (xs : List (ℕ × ℕ)) → ((x : ℕ × ℕ) → In x xs → start + x.1 ≡ p → force x ≤ n) → by_list force start xs p ≤ n
 list_within force start p n [] each = omega arith

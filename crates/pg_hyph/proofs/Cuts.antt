@@ -1,5 +1,5 @@
 -- A word that is cut around a string whose dot is at a position, and windows that are cut so.
-use Rattle.std.proofs.Common.{◌≡◌, ℕ, zero, suc, ◌+◌, ◌-◌, ◌<◌, ◌≤◌, true, ◌&&◌, nat_le, nat_eq, List, [], ◌∷◌, ◌++◌, length, take, drop, refl, sym, ap, subst, ◌∙◌, append_assoc, arith, length-append, length-drop}
+use Rattle.std.proofs.Common.{◌≡◌, ℕ, suc, ◌+◌, ◌-◌, ◌≤◌, true, nat_le, nat_eq, List, [], ◌∷◌, ◌++◌, length, take, drop, refl, sym, ap, ◌∙◌, append_assoc, arith, length-append, length-drop}
 use Rattle.std.specs.Cmp.Lexicographic.{pointwise, bytes_decides}
 use Rattle.std.proofs.lemmas.Bool.{and_parts, and_from, le-leb, leb-true}
 use Rattle.std.proofs.lemmas.List.{take-append-drop, length-take-le, take_at, drop_at, drop-append-le}
@@ -57,7 +57,7 @@ module _ (w : List ℕ) (p len dot : ℕ) (fit : fits w p len dot ≡ true) wher
   room : p - dot + len ≤ length w
   room = leb-true (p - dot + len) (length w) (and_parts (nat_le dot p) (nat_le (p - dot + len) (length w)) fit).1
 
-  pub window_length : length (window w p len dot) ≡ len
+  window_length : length (window w p len dot) ≡ len
   window_length =
       let left : length (drop (p - dot) w) ≡ length w - (p - dot) = length-drop (p - dot) w in
       let inside : p - dot + len ≤ length w = room in

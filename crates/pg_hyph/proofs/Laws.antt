@@ -1,13 +1,11 @@
 -- The values and the covers of a word, by the lists of its strings.
-use Rattle.std.proofs.Common.{◌≡◌, ℕ, ◌+◌, ◌<◌, ◌≤◌, max, Bool, true, false, cond, ◌&&◌, ◌||◌, nat_le, nat_lt, inl, inr, List, length, get_or, replicate, Some, refl, sym, ap, subst, ◌∙◌, arith}
-use Rattle.std.specs.FinMap.Entries.{find}
+use Rattle.std.proofs.Common.{◌≡◌, ℕ, ◌+◌, ◌<◌, ◌≤◌, max, Bool, true, false, cond, ◌&&◌, nat_le, nat_lt, inl, inr, List, length, get_or, replicate, refl, sym, ap, subst, ◌∙◌, arith}
 use Rattle.std.specs.List.{list_any}
 use Rattle.std.proofs.lemmas.Bool.{and_parts, and_from, or_cases, or_left, or_right, le-leb, leb-true, lt-ltb}
 use Rattle.std.proofs.lemmas.List.{get_or-replicate}
 use Rattle.pg_types.specs.declared.limits.TheConstants.{LEVEL_MAX, WORD_LETTERS_MAX}
-use Rattle.pg_patterns.specs.Places.{place_cmp}
-use Rattle.pg_patterns.specs.Values.{applies, best, value_at, is_entry}
-use Rattle.pg_select.specs.Windows.{Hopeless, window, fits, covered}
+use Rattle.pg_patterns.specs.Values.{applies, value_at, is_entry}
+use Rattle.pg_select.specs.Windows.{window, fits, covered}
 use Rattle.pg_trie.specs.declared.mark.TheConstants.{HOPELESS}
 use Rattle.pg_trie.specs.Lists.{outputs_at}
 use Rattle.pg_trie.specs.Maps.{Maps, AreKept, is_place}
@@ -110,10 +108,10 @@ module _ (m : Maps) (kept : AreKept m) where
             let stands = cut_applies (window w p pass.len pass.dot) q x.1 pass.dot inner in
             elim (in_outputs m.patterns m.hopeless q x here) [
               | inl found ↦ or_left (list_any (λ e. nat_le pass.level e.1 && applies (window w p pass.len pass.dot) pass.dot e.0) m.patterns) (list_any (λ e. applies (window w p pass.len pass.dot) pass.dot e.0) m.hopeless)
-                (in_any (λ e. nat_le pass.level e.1 && applies (window w p pass.len pass.dot) pass.dot e.0) m.patterns ((q, x.1), x.0) (found_in (q, x.1) x.0 m.patterns found)
-                (and_from (nat_le pass.level x.0) (applies (window w p pass.len pass.dot) pass.dot (q, x.1)) parts.0 stands))
+                  (in_any (λ e. nat_le pass.level e.1 && applies (window w p pass.len pass.dot) pass.dot e.0) m.patterns ((q, x.1), x.0) (found_in (q, x.1) x.0 m.patterns found)
+                  (and_from (nat_le pass.level x.0) (applies (window w p pass.len pass.dot) pass.dot (q, x.1)) parts.0 stands))
               | inr mark ↦ or_right (list_any (λ e. nat_le pass.level e.1 && applies (window w p pass.len pass.dot) pass.dot e.0) m.patterns) (list_any (λ e. applies (window w p pass.len pass.dot) pass.dot e.0) m.hopeless)
-                (in_any (λ e. applies (window w p pass.len pass.dot) pass.dot e.0) m.hopeless ((q, x.1), tt {0}) (found_in (q, x.1) (tt {0}) m.hopeless mark.1) stands)
+                  (in_any (λ e. applies (window w p pass.len pass.dot) pass.dot e.0) m.hopeless ((q, x.1), tt {0}) (found_in (q, x.1) (tt {0}) m.hopeless mark.1) stands)
             ]
 
     -- what stands in the window, with a value of at least the level, covers in the lists of the word

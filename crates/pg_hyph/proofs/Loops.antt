@@ -2,7 +2,7 @@
 use Rattle.std.proofs.Common.{◌≡◌, ℕ, ◌+◌, ◌-◌, ◌<◌, ◌≤◌, max, List, [], ◌∷◌, ◌++◌, length, take, drop, get_or, refl, sym, ap, subst, ◌∙◌, append_assoc, arith, length-append, length-drop}
 use Rattle.std.proofs.lemmas.List.{append-nil, drop_more, drop_all, take_more, get_or-drop, length-take-le}
 use Rattle.pg_types.specs.declared.limits.TheConstants.{WORD_LETTERS_MAX}
-use Rattle.pg_hyph.specs.Forces.{Raises, RaisesAt}
+use Rattle.pg_hyph.specs.Forces.{Raises}
 use Rattle.pg_hyph.specs.Walks.{by_list, by_strings, by_starts}
 
 abbrev pub Level : (ℕ → ℕ) → (ℕ → ℕ) → (ℕ → ℕ) → (ℕ → ℕ) → Type 0
@@ -14,30 +14,12 @@ step now new part left more whole p q r = omega arith
 end : (now left whole : ℕ) → left ≡ 0 → max now left ≡ whole → now ≡ whole
 end now left whole p q = omega arith
 
-pub level_step : (left part more whole before now new : ℕ → ℕ) → ((p : ℕ) → left p ≡ max (part p) (more p)) → Level left whole before now → Raises part now new → Level more whole before new
+level_step : (left part more whole before now new : ℕ → ℕ) → ((p : ℕ) → left p ≡ max (part p) (more p)) → Level left whole before now → Raises part now new → Level more whole before new
 level_step left part more whole before now new split level raises p inside =
     step (now p) (new p) (part p) (left p) (more p) (max (before p) (whole p)) (raises p inside) (split p) (level p inside)
 
-pub level_end : (left whole before now : ℕ → ℕ) → ((p : ℕ) → left p ≡ 0) → Level left whole before now → Raises whole before now
+level_end : (left whole before now : ℕ → ℕ) → ((p : ℕ) → left p ≡ 0) → Level left whole before now → Raises whole before now
 level_end left whole before now none level p inside = end (now p) (left p) (max (before p) (whole p)) (none p) (level p inside)
-
--- one element of a list is taken in
-pub list_step : (force : ℕ × ℕ → ℕ) (start : ℕ) (xs rest : List (ℕ × ℕ)) (x : ℕ × ℕ) (whole before now new : ℕ → ℕ) → xs ≡ x ∷ rest
-    → Level (by_list force start xs) whole before now → RaisesAt (start + x.1) (force x) now new → Level (by_list force start rest) whole before new
-list_step force start xs rest x whole before now new cut level raises p inside =
-    step (now p) (new p) (by_list force start (x ∷ []) p) (by_list force start xs p) (by_list force start rest p) (max (before p) (whole p))
-    (raises p inside ∙ ap (λ n. max (now p) n) (alone _)) (ap (λ (ys : List (ℕ × ℕ)). by_list force start ys p) cut ∙ grouped _ _) (level p inside)
-  where
-    alone : (n : ℕ) → n ≡ max n 0
-    alone n = omega arith
-
-    grouped : (a b : ℕ) → max a b ≡ max (max a 0) b
-    grouped a b = omega arith
-
--- nothing is left of a list
-pub list_end : (force : ℕ × ℕ → ℕ) (start : ℕ) (xs : List (ℕ × ℕ)) (whole before now : ℕ → ℕ) → xs ≡ [] → Level (by_list force start xs) whole before now → Raises whole before now
-list_end force start xs whole before now none level =
-    level_end (by_list force start xs) whole before now (λ p. ap (λ (ys : List (ℕ × ℕ)). by_list force start ys p) none) level
 
 ahead : (w : List ℕ) (stop s : ℕ) → stop < length w → s ≡ get_or w stop 0 → drop stop w ≡ s ∷ drop (stop + 1) w
 ahead w stop s inside is = drop_more w stop 0 inside ∙ ap (λ n. n ∷ drop (stop + 1) w) (sym is)
@@ -64,7 +46,7 @@ module _ (force : ℕ → ℕ × ℕ → ℕ) (F : List ℕ → List (ℕ × ℕ
       (strings_none start p (q ++ s ∷ []) rest (λ t more. ap F (append_assoc q (s ∷ []) (t ∷ more)) ∙ none s (t ∷ more)))
 
   -- where no string that begins with the next one has a list, nothing is left
-  pub strings_stop : (start p s : ℕ) (q rest : List ℕ) → ((more : List ℕ) → F ((q ++ s ∷ []) ++ more) ≡ []) → by_strings force F start q (s ∷ rest) p ≡ 0
+  strings_stop : (start p s : ℕ) (q rest : List ℕ) → ((more : List ℕ) → F ((q ++ s ∷ []) ++ more) ≡ []) → by_strings force F start q (s ∷ rest) p ≡ 0
   strings_stop start p s q rest none =
       none_left (by_list (force (length (q ++ s ∷ []))) start (F (q ++ s ∷ [])) p) (by_strings force F start (q ++ s ∷ []) rest p)
       (ap (λ (ys : List (ℕ × ℕ)). by_list (force (length (q ++ s ∷ []))) start ys p) (ap F (sym (append-nil (q ++ s ∷ []))) ∙ none []))

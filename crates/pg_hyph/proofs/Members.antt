@@ -1,6 +1,6 @@
 -- What is in a list, and what is found in a map.
-use Rattle.std.proofs.Common.{◌≡◌, ℕ, zero, suc, ◌+◌, ◌<◌, ◌≤◌, max, Bool, true, false, cond, ◌&&◌, ◌||◌, T, ◌⊎◌, inl, inr, ⊎_elim, List, [], ◌∷◌, ◌++◌, Some, refl, sym, ap, subst, ◌∙◌, arith}
-use Rattle.std.specs.declared.cmp.Ordering.TheVariants.{Less, Equal, Greater}
+use Rattle.std.proofs.Common.{◌≡◌, ℕ, zero, suc, ◌+◌, ◌<◌, ◌≤◌, max, Bool, true, false, cond, T, ◌⊎◌, inl, inr, ⊎_elim, List, [], ◌∷◌, ◌++◌, Some, refl, sym, ap, subst, ◌∙◌, arith}
+use Rattle.std.specs.declared.cmp.Ordering.TheVariants.{Less, Greater}
 use Rattle.std.specs.Ordering.{is_eq, is_lt, eq_by_cmp, ordering_reverse}
 use Rattle.std.specs.Cmp.{tied_itself}
 use Rattle.std.specs.FinMap.Entries.{find, is_sorted, below_all}
@@ -114,13 +114,14 @@ module _ {X : Type 0} where
         | false ↦ λ apart there. inr (found_in k v es there)
       ] refl found
 
-most_first : (a b n : ℕ) → n ≤ a → n ≤ max a b
+-- what is over the greater of two numbers, and within it
+pub most_first : (a b n : ℕ) → n ≤ a → n ≤ max a b
 most_first a b n low = omega arith
 
-most_rest : (a b n : ℕ) → n ≤ b → n ≤ max a b
+pub most_rest : (a b n : ℕ) → n ≤ b → n ≤ max a b
 most_rest a b n low = omega arith
 
-most : (a b n : ℕ) → a ≤ n → b ≤ n → max a b ≤ n
+pub most : (a b n : ℕ) → a ≤ n → b ≤ n → max a b ≤ n
 most a b n p q = omega arith
 
 module _ (test : List ℕ × ℕ → Bool) where

@@ -9,10 +9,11 @@ use Rattle.pg_hyph.specs.declared.pass.Pass.{Pass}
 abbrev pub bit : Bool → ℕ
 bit b = if b then 1 else 0
 
--- the value of each position, and 1 for a cover
+-- the value of each position
 abbrev pub values_of : Positions → ℕ → ℕ
 values_of s p = get_or s.values p 0
 
+-- for each position 1 where its window is covered, else 0
 abbrev pub covers_of : Positions → ℕ → ℕ
 covers_of s p = bit (get_or s.covers p false)
 
@@ -37,9 +38,10 @@ value_given v = if nat_lt v HOPELESS then v else 0
 abbrev pub is_within : Pass → ℕ → ℕ → Bool
 is_within pass n d = nat_le d pass.dot && nat_le (n + pass.dot) (pass.len + d)
 
--- the force of a value or mark of a string of n signs, with its dot, on the value of the position of the dot, and on the cover
+-- the value that a value or mark of a string of n signs, with its dot, gives to the position of the dot
 abbrev pub gives : ℕ → ℕ × ℕ → ℕ
 gives n x = value_given x.0
 
+-- 1 where it covers the window of that position: it is at least the level, as a mark always is, and its string stands in the window
 abbrev pub knocks_out : Pass → ℕ → ℕ × ℕ → ℕ
 knocks_out pass n x = bit (nat_le pass.level x.0 && is_within pass n x.1)

@@ -3,6 +3,8 @@
 
 mod pass;
 mod records;
+#[cfg(test)]
+mod tests;
 mod walk;
 mod word;
 
