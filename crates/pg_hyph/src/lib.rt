@@ -1,0 +1,11 @@
+//! The hyphenator: the values and the covers of the positions of a word, by the lists of a pattern trie.
+#![tactic(auto)]
+
+mod pass;
+mod records;
+#[cfg(test)]
+mod tests;
+mod walk;
+mod word;
+
+pub use word::hyphenate;
