@@ -1,6 +1,6 @@
 -- What changes of the cells and of the records make of the maps.
-use Rattle.std.proofs.Common.{◌≡◌, ℕ, ◌≤◌, max, true, false, cond, T, nat_lt, nat_eq, List, length, take, Option, None, Some, unwrap_or, inl, inr, refl, sym, ◌∙◌, ap, subst, arith}
-use Rattle.std.proofs.lemmas.List.{length-take}
+use Rattle.std.proofs.Common.{◌≡◌, ℕ, ◌<◌, ◌≤◌, max, true, false, cond, T, nat_lt, nat_eq, List, length, take, Option, None, Some, unwrap_or, inl, inr, refl, sym, ◌∙◌, ap, subst, arith}
+use Rattle.std.proofs.lemmas.List.{length-take, take_all}
 use Rattle.std.specs.Ordering.{eq_by_cmp}
 use Rattle.std.specs.FinMap.Entries.{find, put, is_sorted, find-put, is_sorted-put, same_entries}
 use Rattle.pg_types.specs.declared.limits.TheConstants.{PATTERN_SIGNS_MAX}
@@ -250,3 +250,14 @@ marked_view old cells cells' start records q x m seen s e mark signs families =
     let patterns_are : (maps_of cells' records).patterns ≡ m.patterns = r.0 ∙ s.patterns ∙ ap (λ (m : Maps). m.patterns) seen in
     let marks_are : (maps_of cells' records).hopeless ≡ put place_cmp (q, x.1) (tt {0}) m.hopeless = r.1 ∙ ap (λ H. put place_cmp (q, x.1) (tt {0}) H) (s.hopeless ∙ ap (λ (m : Maps). m.hopeless) seen) in
     λ i. record { signs = signs_are i; families = families_are i; patterns = patterns_are i; hopeless = marks_are i; records = records }
+
+-- a front of a string that is entered, seen from outside
+pub part_seen : (old new : Held ℕ) (records : List Record) (m : Maps) (q : List ℕ) → maps_of old records ≡ m → (k : ℕ) × (k < length q) × (new.families ≡ enter old.signs old.families (take k q)) → (k : ℕ) × (k ≤ length q) × (new.families ≡ enter m.signs m.families (take k q))
+part_seen old new records m q view part = (part.0, less_upto part.0 (length q) part.1, part.2 ∙ ap (λ (x : Maps). enter x.signs x.families (take part.0 q)) view)
+  where
+    less_upto : (a b : ℕ) → a < b → a ≤ b
+    less_upto a b less = omega arith
+
+-- and the whole string
+pub whole_seen : (old new : Held ℕ) (records : List Record) (m : Maps) (q : List ℕ) → maps_of old records ≡ m → new.families ≡ enter old.signs old.families q → (k : ℕ) × (k ≤ length q) × (new.families ≡ enter m.signs m.families (take k q))
+whole_seen old new records m q view whole = (length q, omega arith, whole ∙ ap (λ (x : Maps). enter x.signs x.families q) view ∙ ap (λ x. enter m.signs m.families x) (sym (take_all (length q) q (omega arith))))

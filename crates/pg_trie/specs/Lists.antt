@@ -5,6 +5,8 @@ use Rattle.std.specs.List.{flat_map, range_with_len}
 use Rattle.std.specs.FinMap.Entries.{find}
 use Rattle.pg_patterns.specs.Places.{place_cmp}
 use Rattle.pg_trie.specs.declared.mark.TheConstants.{HOPELESS}
+pub use Rattle.pg_cells.specs.Walks.{IsAt}
+pub use Rattle.pg_outputs.specs.Lists.{list_of}
 
 -- a value at a dot, as a list
 abbrev pub value_part : Option ℕ → ℕ → List (ℕ × ℕ)

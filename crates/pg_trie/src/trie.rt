@@ -1,5 +1,5 @@
 //! The pattern trie.
-ghost use Rattle.std.specs.Prelude.{◌≡◌, ℕ, ◌+◌, ◌<◌, ◌≤◌, List, [], ◌∷◌, ◌++◌, length, map, All, Some, None, IfOk, OnOk, OnErr};
+ghost use Rattle.std.specs.Prelude.{◌≡◌, ℕ, ◌+◌, ◌<◌, ◌≤◌, List, [], ◌∷◌, ◌++◌, length, map, take, All, Some, None, IfOk, OnOk, OnErr};
 ghost use Rattle.std.specs.FinMap.Entries.{put};
 ghost use Rattle.pg_types.specs.declared.limits.TheConstants.{LEVEL_MAX, PATTERN_SIGNS_MAX, SIGNS_MAX};
 ghost use Rattle.pg_types.specs.Placement.{cell_of, root, enter, kept, taken, top};
@@ -71,6 +71,7 @@ impl PatternTrie {
         ensures raised { OnOk result (value ≤ LEVEL_MAX → self.new ≡ record self.old { patterns = raise self.old.patterns (signs.now, dot) value; families = enter self.old.signs self.old.families signs.now; records = self.new.records }) }
         ensures marked { OnOk result (value ≡ HOPELESS → self.new ≡ record self.old { hopeless = put place_cmp (signs.now, dot) (tt {0}) self.old.hopeless; families = enter self.old.signs self.old.families signs.now; records = self.new.records }) }
         ensures err { OnErr result (self.new ≡ record self.old { families = self.new.families; records = self.new.records }) }
+        ensures part { OnErr result ((k : ℕ) × (k ≤ length signs.now) × (self.new.families ≡ enter self.old.signs self.old.families (take k signs.now))) }
         ensures signs { self.new.signs ≡ self.old.signs }
     {
         let cell = pg_cells::enter(&mut self.cells, signs, 0)?;

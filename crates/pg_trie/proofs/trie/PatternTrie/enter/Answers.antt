@@ -6,7 +6,7 @@ use Rattle.pg_cells.specs.Held.{Held}
 use Rattle.pg_trie.specs.declared.mark.TheConstants.{HOPELESS}
 use Rattle.pg_trie.specs.Lists.{entered}
 use Rattle.pg_trie.specs.Maps.{Maps}
-use Rattle.pg_trie.proofs.Changes.{SameMaps, blanks_stay, records_stay, both_stay, Enters, enters, same_view, raised_view, marked_view}
+use Rattle.pg_trie.proofs.Changes.{SameMaps, blanks_stay, records_stay, both_stay, Enters, enters, same_view, raised_view, marked_view, part_seen, whole_seen}
 use Rattle.pg_trie.proofs.trie.PatternTrie.enter.Goals as goal
 
 pub invariant_of-self : goal.invariant_of-self
@@ -86,3 +86,15 @@ returns-in_err-head-clause-signs c = c.enter.ensures.signs ∙ ap (λ (m : Maps)
 
 pub returns-clause-signs : goal.returns-clause-signs
 returns-clause-signs c = signs_kept c ∙ ap (λ (m : Maps). m.signs) c.self.view_is
+
+-- where the cells find no memory
+pub returns-in_err-cell-clause-part : goal.returns-in_err-cell-clause-part
+returns-in_err-cell-clause-part c =
+    let err = err_from_is_err_and c.from_residual.result c.from_residual.ensures.1 in
+    rw (err.1) (part_seen c.self.inside.cells c.enter.new.cells c.self.inside.outputs c.args.self.now c.args.signs.now c.self.view_is c.in_err-cell.ensures.part)
+
+-- where the records find none, the whole string is entered
+pub returns-in_err-head-clause-part : goal.returns-in_err-head-clause-part
+returns-in_err-head-clause-part c =
+    let err = err_from_is_err_and c.from_residual-in_err-head.result c.from_residual-in_err-head.ensures.1 in
+    rw (err.1) (whole_seen c.self.inside.cells c.enter.new.cells c.self.inside.outputs c.args.self.now c.args.signs.now c.self.view_is c.in_ok-cell.ensures.families)
