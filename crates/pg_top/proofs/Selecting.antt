@@ -5,19 +5,24 @@ use Rattle.pg_translate.specs.Alphabets.{Alphabet, letters_of}
 use Rattle.pg_dict.specs.Word.{Word, SignsAtMost}
 use Rattle.pg_patterns.specs.Texts.{pattern_text}
 use Rattle.pg_patterns.specs.Values.{SignsUpTo}
-use Rattle.pg_plain.specs.Engines.{fresh}
+use Rattle.pg_packed.specs.Engines.{fresh}
+use Rattle.pg_packed.specs.Starts.{entered_all}
 use Rattle.pg_select.specs.Meanings.{Meaning}
 use Rattle.pg_select.specs.Sums.{totals}
+use Rattle.pg_driver.specs.Runs.{Run}
 use Rattle.pg_driver.specs.Views.{minima_of, run_from}
+use Rattle.pg_driver.proofs.FamilyLaw.{run_without_families}
 use Rattle.pg_top.specs.PrintedLines.{done_line}
 use Rattle.pg_types.specs.declared.marks.Totals.{Totals}
 use Rattle.pg_top.specs.Selection.{source_of, selected, selected_text, selected_totals}
 use Rattle.pg_top.proofs.SelectedSigns.{SignsUpTo-run}
 
--- the final patterns of the run from a fresh engine with the signs of the table
+-- the final patterns of the run from a fresh engine with the signs of the table; its families change nothing of them
 pub final_patterns : (t : Alphabet) (words : List Word) (parameters : Parameters) (m : Meaning) (n : ℕ) (S : List ((List ℕ × ℕ) × ℕ)) → m ≡ fresh n S → n ≡ letters_of t + 1 → (run_from t words parameters m).state.patterns ≡ selected t parameters S words
 unfolding selected
-final_patterns t words parameters m n S e f = ap (λ x. (run_from t words parameters x).state.patterns) (e ∙ ap (λ k. fresh k S) f)
+final_patterns t words parameters m n S e f =
+    ap (λ x. (run_from t words parameters x).state.patterns) (e ∙ ap (λ k. fresh k S) f)
+    ∙ ap (λ (r : Run). r.state.patterns) (run_without_families (source_of t words) parameters S (entered_all (letters_of t + 1) S))
 
 pub final_totals : (t : Alphabet) (words : List Word) (parameters : Parameters) (S P : List ((List ℕ × ℕ) × ℕ)) → P ≡ selected t parameters S words → totals (minima_of t) words P ≡ selected_totals t parameters S words
 unfolding selected_totals

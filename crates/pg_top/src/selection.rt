@@ -9,7 +9,7 @@ ghost use Rattle.pg_top.specs.Selection.{selected, selected_text, selected_total
 use crate::printed::done_line;
 use crate::reading::Inputs;
 use pg_driver::{Run, generate};
-use pg_plain::PlainEngine;
+use pg_packed::PackedEngine;
 use std::alloc::{AllocError, Global};
 
 /// What `generate` writes and prints.
@@ -30,7 +30,7 @@ fn select(alloc: Global, inputs: &Inputs) -> Result<Run, AllocError>
     ensures signs { IfOk result (λ run. SignsUpTo (letters_of inputs.now.table + 1) run.patterns) }
 {
     let signs = inputs.table.letters() + 1;
-    let mut engine = PlainEngine::new(alloc, signs, &inputs.start)?;
+    let mut engine = PackedEngine::new(alloc, signs, &inputs.start)?;
     let run = generate(
         alloc,
         &mut engine,

@@ -1,7 +1,14 @@
-use Rattle.std.proofs.Common.{◌+◌, ◌∙◌, ap}
-use Rattle.pg_plain.specs.Engines.{meaning_of}
+use Rattle.std.proofs.Common.{◌≡◌, ◌+◌, ◌∙◌, ap}
+use Rattle.pg_translate.specs.Alphabets.{letters_of}
+use Rattle.pg_select.specs.Meanings.{Meaning}
+use Rattle.pg_packed.specs.Engines.{meaning_of}
 use Rattle.pg_top.proofs.Selecting.{final_patterns, final_totals, final_signs}
 use Rattle.pg_top.proofs.selection.select.Goals as goal
+
+pub generate-requires-clause-signs : goal.generate-requires-clause-signs
+generate-requires-clause-signs c k d inside j e there =
+    let same : c.in_ok-engine.engine.trie.signs ≡ letters_of c.args.inputs.now.table + 1 = ap (λ (m : Meaning). m.signs) c.in_ok-engine.ensures ∙ ap (λ n. n + 1) c.letters-signs.ensures.value in
+    rw same (c.requires.signs k d inside j e there)
 
 pub returns-clause-patterns : goal.returns-clause-patterns
 returns-clause-patterns c =

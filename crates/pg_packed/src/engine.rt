@@ -1,0 +1,108 @@
+//! The packed engine.
+ghost use Rattle.std.specs.Prelude.{◌≡◌, ◌≤◌, true, length};
+ghost use Rattle.pg_types.specs.declared.limits.TheConstants.{LEVEL_MAX};
+ghost use Rattle.pg_types.specs.Tails.{tails};
+
+use crate::start::trie_of;
+use pg_count::CountTrie;
+use pg_dict::WordRef;
+use pg_hyph::hyphenate;
+use pg_patterns::PatternSet;
+use pg_select::{Engine, WordState};
+use pg_trie::{HOPELESS, PatternTrie};
+use pg_types::{Cursor, Layout, Sign, Weight};
+use std::alloc::{AllocError, Global};
+
+/// An [`Engine`] over tries in packed cells, which tells its families.
+///
+/// The patterns and the hopeless places share one trie, and the counts have another, whose windows have the length of the pass.
+/// To hyphenate a word goes along it from cell to cell from each of its positions on.
+#[derive(Drop)]
+pub struct PackedEngine {
+    trie: PatternTrie,
+    counts: CountTrie,
+    level: u8,
+    dot: u8,
+    begun: u64,
+    tidy: bool,
+    ghost one_alphabet: { counts.signs ≡ trie.signs },
+    ghost level_bounds: { (1 ≤ level) × (level ≤ LEVEL_MAX) },
+    ghost dot_inside: { dot ≤ counts.len },
+    ghost tidy_tails: { tidy ≡ true → length trie.records ≡ tails trie.patterns },
+}
+
+impl PackedEngine {
+    ghost use Rattle.std.specs.Prelude.{◌≡◌, ◌≤◌, IfOk};
+    ghost use Rattle.pg_types.specs.declared.limits.TheConstants.{SIGNS_MAX};
+    ghost use Rattle.pg_patterns.specs.Values.{SignsUpTo};
+    ghost use Rattle.pg_packed.specs.Engines.{meaning_of, fresh};
+
+    /// An engine with the greatest sign `signs` whose patterns are those of `start`. Nothing is hopeless or counted, no pass
+    /// was begun, and the engine is tidy. Its families are those after the patterns are entered in their order.
+    pub fn new(alloc: Global, signs: u16, start: &PatternSet) -> Result<PackedEngine, AllocError>
+        requires signs { (1 ≤ signs) × (signs ≤ SIGNS_MAX) }
+        requires known { SignsUpTo signs start.now }
+        ensures { IfOk result (λ engine. meaning_of engine ≡ fresh signs start.now) }
+    {
+        Ok(PackedEngine {
+            trie: trie_of(alloc, signs, start)?,
+            counts: CountTrie::new(alloc, signs)?,
+            level: 1,
+            dot: 0,
+            begun: 0,
+            tidy: true,
+        })
+    }
+}
+
+impl Engine for PackedEngine {
+    ghost use Rattle.pg_packed.specs.Engines.{meaning_of};
+
+    ghost meaning = { meaning_of };
+
+    fn begin_pass(&mut self, level: u8, len: u8, dot: u8) {
+        self.counts.begin(len);
+        self.level = level;
+        self.dot = dot;
+        self.begun += 1;
+    }
+
+    fn hyphenate(&self, w: WordRef<'_>, out: &mut WordState) {
+        let len = self.counts.window_len();
+        hyphenate(&self.trie, w, self.level, len, self.dot, out);
+    }
+
+    fn count(&mut self, window: &[Sign], good: bool, weight: Weight) -> Result<(), AllocError> {
+        self.counts.add(window, good, weight)
+    }
+
+    fn next_candidate(&self, at: &mut Cursor) -> Option<(u64, u64)> {
+        self.counts.next(at)
+    }
+
+    fn choose(&mut self, at: &Cursor) -> Result<(), AllocError> {
+        let _len = self.counts.window_len();
+        self.tidy = false;
+        self.trie.enter(at.signs(), self.dot, self.level)
+    }
+
+    fn give_up(&mut self, at: &Cursor) -> Result<(), AllocError> {
+        let _len = self.counts.window_len();
+        self.tidy = false;
+        self.trie.enter(at.signs(), self.dot, HOPELESS)
+    }
+
+    fn end_level(&mut self) -> Result<(), AllocError> {
+        self.trie.delete_hopeless()?;
+        self.tidy = true;
+        Ok(())
+    }
+
+    fn copy_patterns(&self, alloc: Global) -> Result<PatternSet, AllocError> {
+        self.trie.copy(alloc)
+    }
+
+    fn layout(&self) -> Option<Layout> {
+        Some(self.trie.layout())
+    }
+}

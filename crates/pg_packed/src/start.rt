@@ -1,0 +1,36 @@
+//! The trie of the patterns that a run starts with.
+ghost use Rattle.std.specs.Prelude.{◌≡◌, ◌≤◌, length, IfOk};
+ghost use Rattle.pg_types.specs.declared.limits.TheConstants.{SIGNS_MAX};
+ghost use Rattle.pg_types.specs.Tails.{tails};
+ghost use Rattle.pg_patterns.specs.Values.{SignsUpTo};
+ghost use Rattle.pg_packed.specs.Starts.{AreEntered};
+
+use pg_patterns::{Entry, PatternSet};
+use pg_trie::PatternTrie;
+use std::alloc::{AllocError, Global};
+
+// The trie in which the patterns were entered in their order.
+fn entered(alloc: Global, signs: u16, start: &PatternSet) -> Result<PatternTrie, AllocError>
+    requires signs { (1 ≤ signs) × (signs ≤ SIGNS_MAX) }
+    requires known { SignsUpTo signs start.now }
+    ensures { IfOk result (λ trie. AreEntered signs start.now trie) }
+{
+    let mut trie = PatternTrie::new(alloc, signs)?;
+    for i in 0..start.len() {
+        let Entry { signs, dot, value } = start.entry(i);
+        trie.enter(signs, dot, value)?;
+    }
+    Ok(trie)
+}
+
+/// The trie of the patterns, which were entered in their order. It has no record but those that they need.
+pub fn trie_of(alloc: Global, signs: u16, start: &PatternSet) -> Result<PatternTrie, AllocError>
+    requires signs { (1 ≤ signs) × (signs ≤ SIGNS_MAX) }
+    requires known { SignsUpTo signs start.now }
+    ensures value { IfOk result (λ trie. AreEntered signs start.now trie) }
+    ensures tails { IfOk result (λ trie. length trie.records ≡ tails start.now) }
+{
+    let mut trie = entered(alloc, signs, start)?;
+    trie.delete_hopeless()?;
+    Ok(trie)
+}
