@@ -4,11 +4,11 @@ use Rattle.std.proofs.lemmas.Bool.{cases_Bool, cases_eq, eq-eqb, ne_eqb, both_wa
 use Rattle.std.proofs.lemmas.List.{length-map}
 use Rattle.std.specs.List.{list_any, list_all}
 use Rattle.std.specs.FinMap.{is_sorted}
-use Rattle.pg_types.specs.Placement.{Family, Families, family_at, without_family, is_used, is_base, fits_at, lowest_base, least_base, with_one_sign, top}
+use Rattle.pg_types.specs.Placement.{Family, Families, family_at, without_family, is_used, is_base, fits_at, lowest_base, least_base, with_one_sign, top, IsLeast}
 use Rattle.pg_cells.specs.declared.fit.Slot.{Slot}
 use Rattle.pg_cells.specs.Lists.{Row, sign_at, child_at, base_at}
 use Rattle.pg_cells.specs.Store.{IsTop}
-use Rattle.pg_cells.specs.Fit.{signs_of, slot_of, fits_row, IsLeast}
+use Rattle.pg_cells.specs.Fit.{signs_of, slot_of, fits_row}
 use Rattle.pg_cells.specs.Moves.{Gives, Drops, Outside, lowest_from}
 use Rattle.pg_cells.specs.Held.{Trie}
 use Rattle.pg_cells.specs.Laid.{IsTrie}

@@ -2,10 +2,10 @@
 use Rattle.std.specs.Prelude.{◌≡◌, ◌≢◌, ℕ, ◌+◌, ◌-◌, ◌<◌, ◌≤◌, ◌⊎◌, max, true, false, nat_le, if◌then◌else◌, List, [], ◌∷◌, ◌++◌, length, take, get_or, slice_get, None, Some}
 use Rattle.pg_cells.specs.declared.fit.Slot.{Slot}
 use Rattle.pg_cells.specs.Lists.{Row, sign_at, child_at, base_at}
-use Rattle.pg_types.specs.Placement.{far_below}
+use Rattle.pg_types.specs.Placement.{far_below, IsLeast}
 use Rattle.pg_cells.specs.Store.{taken_in, IsTop}
 use Rattle.pg_cells.specs.Writes.{Takes, SetsBase, SetsChild}
-use Rattle.pg_cells.specs.Fit.{signs_of, slot_of, fits_row, IsLeast}
+use Rattle.pg_cells.specs.Fit.{signs_of, slot_of, fits_row}
 use Rattle.pg_cells.specs.Laid.{standing}
 
 -- the lowest base that is tried for so many signs, where t is the top

@@ -28,7 +28,11 @@ fn base_below<V: Copy, const FEW: usize>(cells: &Cells<V, FEW>, at: Option<usize
 
 /// Goes from a cell, or from the start for `None`, to the cell of the string with the sign added. `None` tells that no
 /// string that begins with this one has a value.
-pub fn step<V: Copy, const FEW: usize>(cells: &Cells<V, FEW>, at: Option<usize>, s: Sign) -> Option<usize>
+pub fn step<V: Copy, const FEW: usize>(
+    cells: &Cells<V, FEW>,
+    at: Option<usize>,
+    s: Sign,
+) -> Option<usize>
     requires at { (q : List ℕ) × (IsAt cells.now.families at q) }
     requires sign { (1 ≤ s) × (s ≤ cells.now.signs) }
     ensures cell { (q : List ℕ) → IsAt cells.now.families at q → result ≡ cell_of cells.now.families (q ++ s ∷ []) }
@@ -64,7 +68,11 @@ fn step_or_add<V: Copy, const FEW: usize>(
 /// Gives each prefix of the string a cell, a new one with the value `blank`, and answers the cell of the string.
 ///
 /// Refused: a shorter prefix is entered in its place. The string had no value.
-pub fn enter<V: Copy, const FEW: usize>(cells: &mut Cells<V, FEW>, signs: &[Sign], blank: V) -> Result<usize, AllocError>
+pub fn enter<V: Copy, const FEW: usize>(
+    cells: &mut Cells<V, FEW>,
+    signs: &[Sign],
+    blank: V,
+) -> Result<usize, AllocError>
     requires some { 0 < length signs.now }
     requires signs { All (λ s. (1 ≤ s) × (s ≤ cells.old.signs)) signs.now }
     ensures cell { IfOk result (λ cell. cell_of cells.new.families signs.now ≡ Some cell) }

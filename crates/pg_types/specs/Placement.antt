@@ -1,6 +1,6 @@
 -- Where the families of a trie lie in one row of cells. A family has a prefix, a base and a set of signs, and its sign s has
 -- the cell base + s. A placement is the list of the families in the order of their prefixes.
-use Rattle.std.specs.Prelude.{ℕ, suc, zero, ◌+◌, ◌-◌, max, Bool, true, false, if◌then◌else◌, not, ◌&&◌, ◌||◌, nat_eq, nat_lt, nat_le, List, [], ◌∷◌, ◌++◌, length, map, filter, fold, Option, Some, None}
+use Rattle.std.specs.Prelude.{◌≡◌, ℕ, suc, zero, ◌+◌, ◌-◌, ◌<◌, ◌≤◌, max, Bool, true, false, if◌then◌else◌, not, ◌&&◌, ◌||◌, nat_eq, nat_lt, nat_le, List, [], ◌∷◌, ◌++◌, length, map, filter, fold, Option, Some, None}
 use Rattle.std.specs.List.{flat_map, list_any, list_all, range_with_len, starts_with}
 use Rattle.std.specs.Ordering.{nat_cmp, eq_by_cmp}
 use Rattle.std.specs.Cmp.Lexicographic.{slice_cmp}
@@ -66,6 +66,12 @@ lowest_base few n fs count = if nat_le count few then 1 else max 1 (top fs - max
 abbrev pub first_from : (ℕ → Bool) → ℕ → ℕ → ℕ
 first_from test zero b = b
 first_from test (suc more) b = elim (test b) [ true ↦ b | false ↦ first_from test more (b + 1) ]
+
+-- b is the least number from low on that passes the test
+pub record IsLeast (test : ℕ → Bool) (low b : ℕ) : Type 0 where
+  pub from : low ≤ b
+  pub passes : test b ≡ true
+  pub first : (k : ℕ) → low ≤ k → k < b → test k ≡ false
 
 -- the least base at which the signs may stand. One that is past the top always serves
 abbrev pub least_base : ℕ → ℕ → Families → List ℕ → ℕ
