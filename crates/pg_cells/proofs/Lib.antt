@@ -31,3 +31,9 @@ pub mod StoreSteps
 pub mod StringCells
 pub mod StringMaps
 pub mod Walking
+mod GivenMembers
+mod LinkLaws
+mod Unlinked
+mod Relinked
+mod SteppedLinks
+mod RootLinks
