@@ -70,6 +70,16 @@ module _ {V : Type 0} (h : Held V) (held : IsHeld h) where
         least = λ z less is. (omega arith, omega arith);
       })
 
+  -- the first of which is 1
+  pub root_first : IsNext (goes_on h.values []) 0 1
+  root_first =
+      let x = held.filled [] 0 held.root in
+      let sign = held.signs [] x.0 x.1 x.2 in
+      record {
+        found = λ up. (omega arith, cell_goes [] 1 1 (held.alone 1 (omega arith) (let low = sign.0 in let high = sign.1 in omega arith)));
+        least = λ z lt is. (omega arith, omega arith);
+      }
+
   pub root_last : (p : List ℕ) (s cell : ℕ) → cell_of h.families (p ++ s ∷ []) ≡ Some cell → cell ≡ h.signs → IsNext (goes_on h.values p) s 0
   root_last p s cell e same =
       let at = root_cell p s cell e (omega arith) in
