@@ -216,8 +216,10 @@ impl<V: Copy, const FEW: usize> Placed<V, FEW> {
 
     /// The greatest taken cell.
     pub fn top(&self) -> usize
-        ensures { result ≡ top self.now.families }
+        ensures top { result ≡ top self.now.families }
+        ensures small { result < 2 ^ 32 }
     {
+        let _cells = self.store.len();
         self.store.top()
     }
 

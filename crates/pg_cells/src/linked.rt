@@ -1,5 +1,5 @@
 //! The families of a trie with links from sign to sign.
-ghost use Rattle.std.specs.Prelude.{◌≡◌, ◌≢◌, ℕ, ◌+◌, ◌<◌, ◌≤◌, List, [], ◌∷◌, ◌++◌, Some, None, IfOk, IfSome, OnOk, OnErr, ◌==◌, if◌then◌else◌};
+ghost use Rattle.std.specs.Prelude.{◌≡◌, ◌≢◌, ℕ, ◌+◌, ◌<◌, ◌≤◌, ◌^◌, List, [], ◌∷◌, ◌++◌, Some, None, IfOk, IfSome, OnOk, OnErr, ◌==◌, if◌then◌else◌};
 ghost use Rattle.std.specs.FinMap.{find, put};
 ghost use Rattle.std.specs.Cmp.Lexicographic.{slice_cmp};
 ghost use Rattle.std.specs.Ordering.{nat_cmp};
@@ -184,7 +184,8 @@ impl<V: Copy, const FEW: usize> Cells<V, FEW> {
 
     /// The greatest taken cell.
     pub fn top(&self) -> usize
-        ensures { result ≡ top self.now.families }
+        ensures top { result ≡ top self.now.families }
+        ensures small { result < 2 ^ 32 }
     {
         self.placed.top()
     }

@@ -1,8 +1,7 @@
 -- A trie whose hopeless marks are deleted.
-use Rattle.std.proofs.Common.{◌≡◌, ◌≢◌, ℕ, ◌+◌, ◌<◌, ◌≤◌, Bool, true, false, nat_eq, nat_lt, nat_le, List, [], ◌∷◌, ◌++◌, length, map, drop, Option, None, Some, inl, inr, refl, sym, ◌∙◌, ap, subst, arith, append_assoc}
+use Rattle.std.proofs.Common.{◌≡◌, ◌≢◌, ℕ, ◌+◌, ◌<◌, ◌≤◌, Bool, true, false, nat_eq, nat_lt, nat_le, List, [], ◌∷◌, ◌++◌, length, map, drop, Option, None, Some, inl, inr, refl, sym, ◌∙◌, ap, subst, arith, append_assoc, get_or}
 use Rattle.std.proofs.lemmas.Bool.{cases_Bool, or_cases, or_left, or_right, le-leb, leb-true}
 use Rattle.std.proofs.lemmas.List.{append-nil, length_push}
-use Rattle.std.proofs.lemmas.Option.{slice_get_within}
 use Rattle.std.specs.List.{list_any, starts_with}
 use Rattle.std.specs.FinMap.Entries.{find, same_entries}
 use Rattle.pg_types.specs.Placement.{cell_of, keeps_cell, kept}
@@ -19,11 +18,9 @@ use Rattle.pg_trie.specs.Lists.{rank, Rises, DotsUpTo}
 use Rattle.pg_trie.specs.Maps.{Maps, maps_of, as_value, as_mark}
 use Rattle.pg_trie.specs.Pruned.{kept_by, IsKeep, Prunes}
 use Rattle.pg_trie.specs.Renewed.{values_in, AreFresh, Renews}
-use Rattle.pg_trie.specs.Strings.{AreStrings}
 use Rattle.pg_trie.proofs.Found.{found_first, found_in, found_at, find-entries}
 use Rattle.pg_trie.proofs.Rising.{rises_less, as_value_is, as_mark_is}
 use Rattle.pg_trie.proofs.Changes.{sorted_values, sorted_marks}
-use Rattle.pg_trie.proofs.Listing.{every_string}
 use Rattle.pg_trie.proofs.Pruning.{not_both, none_some}
 use Rattle.pg_trie.proofs.Renewing.{value_kept, mark_left}
 use Rattle.pg_trie.proofs.KeptStrings.{begins, begun, begun_less, has_value, without_values, with_values, any_entries, any_find, find_any}
@@ -70,16 +67,15 @@ pub record HasFresh (cells : Held ℕ) (records : List Record) (cells' : Held �
   pub lists : (q : List ℕ) (u : ℕ) → find order q cells.values ≡ Some u → (head : ℕ) × (find order q cells'.values ≡ Some head) × (head ≤ length fresh) × (list_of fresh head ≡ values_in (list_of records u))
   pub back : (q : List ℕ) (head : ℕ) → find order q cells'.values ≡ Some head → (u : ℕ) × (find order q cells.values ≡ Some u)
 
-pub has_fresh : (cells : Held ℕ) (records : List Record) (strings : List (List ℕ × ℕ)) (fresh : List Record) (heads : List ℕ) (cells' : Held ℕ) → IsHeld cells → AreStrings cells strings → AreFresh cells records strings (length strings) fresh heads → Renews cells strings (length strings) heads cells' → HasFresh cells records cells' fresh
-has_fresh cells records strings fresh heads cells' held listing f r = record {
+pub has_fresh : (cells : Held ℕ) (records : List Record) (fresh : List Record) (heads : List ℕ) (cells' : Held ℕ) → IsHeld cells → AreFresh cells records fresh heads → Renews cells heads cells' → HasFresh cells records cells' fresh
+has_fresh cells records fresh heads cells' held f r = record {
   held = r.held;
   signs = r.signs;
   families = r.families;
   lists = λ q u at.
       let cell = held.celled q u at in
-      let there = every_string cells held strings listing q cell.0 cell.1 in
-      let g = r.given there.0 (q, 0) (slice_get_within strings there.0 (q, 0) there.2) there.2 in
-      (g.head, g.has, f.inside g.number g.head g.beside, f.lists g.number g.head g.entry u g.beside g.at (ap (λ p. find order p cells.values) g.string ∙ at));
+      let head = f.1.lists q cell.0 u cell.1 (f.2 q cell.0 cell.1) at in
+      (get_or heads u 0, r.given q u at, head.inside, head.list);
   back = λ q head at.
       let cell = r.held.celled q head at in
       held.valued q cell.0 (ap (λ fs. cell_of fs q) (sym r.families) ∙ cell.1);

@@ -1,10 +1,8 @@
 -- New records and new heads, string by string.
-use Rattle.std.proofs.Common.{◌≡◌, ◌≢◌, ℕ, ◌+◌, ◌<◌, ◌≤◌, ◌⊎◌, true, false, cond, nat_lt, List, [], ◌∷◌, ◌++◌, length, slice_get, None, Some, inl, inr, refl, sym, ◌∙◌, ap, subst, arith}
-use Rattle.std.proofs.lemmas.Bool.{cases_lt}
+use Rattle.std.proofs.Common.{◌≡◌, ◌≢◌, ℕ, ◌+◌, ◌<◌, ◌≤◌, ◌⊎◌, true, false, cond, nat_lt, List, [], ◌∷◌, ◌++◌, length, get_or, set, slice_get, Some, inl, inr, refl, sym, ◌∙◌, ap, subst, arith, get_or-set_other, get_or-set_same, length-set}
+use Rattle.std.proofs.lemmas.Bool.{cases_lt, cases_eq, lt-ltb, le-ltb}
 use Rattle.std.proofs.lemmas.List.{length_push}
-use Rattle.std.proofs.lemmas.Option.{slice_get_within}
 use Rattle.std.specs.FinMap.Entries.{find, put}
-use Rattle.std.specs.List.{All}
 use Rattle.pg_types.specs.Placement.{cell_of}
 use Rattle.pg_outputs.specs.declared.records.Record.{Record}
 use Rattle.pg_outputs.specs.Lists.{list_of, Grows, Lacks}
@@ -14,15 +12,20 @@ use Rattle.pg_cells.specs.Held.{Held}
 use Rattle.pg_cells.specs.IsHeld.{IsHeld}
 use Rattle.pg_cells.proofs.StringMaps.{order, same_string, equal_or_not, find_put_same, find_put_other}
 use Rattle.pg_trie.specs.declared.mark.TheConstants.{HOPELESS}
-use Rattle.pg_trie.specs.Renewed.{values_in, AreNeeded, AreFresh, IsGiven, Renews}
-use Rattle.pg_trie.specs.Strings.{AreStrings}
-use Rattle.pg_trie.proofs.Listing.{get_longer, get_last, get_either, get_there}
+use Rattle.pg_trie.specs.Renewed.{values_in, AreNeeded, IsFreshHead, AreFreshTo, RenewsTo, Renews}
 
 pub value_kept : (v d : ℕ) (rest : List (ℕ × ℕ)) → nat_lt v HOPELESS ≡ true → values_in ((v, d) ∷ rest) ≡ (v, d) ∷ values_in rest
 value_kept v d rest e = ap (λ b. cond b ((v, d) ∷ values_in rest) (values_in rest)) e
 
 pub mark_left : (v d : ℕ) (rest : List (ℕ × ℕ)) → nat_lt v HOPELESS ≡ false → values_in ((v, d) ∷ rest) ≡ values_in rest
 mark_left v d rest e = ap (λ b. cond b ((v, d) ∷ values_in rest) (values_in rest)) e
+
+-- a number other than n is below n where it is below the next
+same_test : (c n : ℕ) → c ≢ n → nat_lt c n ≡ nat_lt c (n + 1)
+same_test c n other = elim (cases_lt c n) [
+  | inl lt ↦ lt-ltb c n lt ∙ sym (lt-ltb c (n + 1) (omega arith))
+  | inr le ↦ le-ltb c n le ∙ sym (le-ltb c (n + 1) (omega arith))
+]
 
 -- one more record: it is there, or its head alone is new
 cons_list : (old new : List Record) (r : Record) → ((i : ℕ) → slice_get old i ≡ Some r → new ≡ old) → (Lacks old r → new ≡ old ++ r ∷ []) → (h : ℕ) → length old < h → h ≤ length new → list_of new h ≡ (r.value, r.dot) ∷ list_of old r.next
@@ -54,97 +57,115 @@ needed_mark old new v d rest list is mark needed = subst (AreNeeded old new) (sy
 pub needed_none : (old : List Record) (list : List (ℕ × ℕ)) → AreNeeded old old list
 needed_none old list h low high = absurd (omega arith)
 
--- the strings' heads, one by one
-pub fresh_start : (cells : Held ℕ) (records : List Record) (strings : List (List ℕ × ℕ)) (fresh : List Record) → length fresh ≡ 0 → AreFresh cells records strings 0 fresh []
-fresh_start cells records strings fresh none = record {
-  size = refl;
-  inside = λ j head at. absurd (let no : None ≡ Some head = at in cc);
-  lists = λ j head k old at. absurd (let no : None ≡ Some head = at in cc);
+-- no head is told yet
+pub fresh_start : (cells : Held ℕ) (records : List Record) (fresh : List Record) (heads : List ℕ) → length fresh ≡ 0 → length heads ≡ length records + 1 → AreFreshTo cells records 0 fresh heads
+fresh_start cells records fresh heads none size = record {
+  size = size;
+  lists = λ q cell u at lt there. absurd (omega arith);
   needed = λ h low high. absurd (omega arith);
 }
 
-pub fresh_step : (cells : Held ℕ) (records : List Record) (strings : List (List ℕ × ℕ)) (i : ℕ) (old new : List Record) (heads after : List ℕ) (k : List ℕ × ℕ) (u head : ℕ)
-    → AreFresh cells records strings i old heads → slice_get strings i ≡ Some k → find order k.0 cells.values ≡ Some u → Grows old new → head ≤ length new → list_of new head ≡ values_in (list_of records u)
-    → AreNeeded old new (values_in (list_of records u)) → after ≡ heads ++ head ∷ [] → AreFresh cells records strings (i + 1) new after
-fresh_step cells records strings i old new heads after k u head f at has grows inside list needed is = subst (AreFresh cells records strings (i + 1) new) (sym is) (record {
-  size = omega (arith, length_push heads head, f.size);
-  inside = λ j x there. elim (get_either heads head j x there) [ inl before ↦ omega (arith, f.inside j x before, grows.longer) | inr e ↦ omega arith ];
-  lists = λ j x y v there string value. by j x y v there string value (cases_lt j i);
+-- a cell that no string has
+pub fresh_skip : (cells : Held ℕ) (records : List Record) (cell : ℕ) (fresh : List Record) (heads : List ℕ) → AreFreshTo cells records cell fresh heads → ((q : List ℕ) → cell_of cells.families q ≡ Some cell → ⊥) → AreFreshTo cells records (cell + 1) fresh heads
+fresh_skip cells records cell fresh heads f none = record {
+  size = f.size;
+  lists = λ q c u at lt there. elim (cases_eq c cell) [
+    | inl e ↦ absurd (none q (at ∙ ap Some e))
+    | inr other ↦ f.lists q c u at (omega arith) there
+  ];
+  needed = f.needed;
+}
+
+-- the new head of the string that has the cell
+pub fresh_step : (cells : Held ℕ) (records : List Record) → IsHeld cells → (cell : ℕ) (old new : List Record) (heads after : List ℕ) (q : List ℕ) (u head : ℕ)
+    → AreFreshTo cells records cell old heads → cell_of cells.families q ≡ Some cell → find order q cells.values ≡ Some u → u ≤ length records → Grows old new → head ≤ length new → list_of new head ≡ values_in (list_of records u)
+    → AreNeeded old new (values_in (list_of records u)) → after ≡ set heads u head → AreFreshTo cells records (cell + 1) new after
+fresh_step cells records held cell old new heads after q u head f at has within grows inside list needed is = subst (AreFreshTo cells records (cell + 1) new) (sym is) (record {
+  size = length-set heads u head ∙ f.size;
+  lists = λ r c v there lt value. by r c v there lt value (cases_eq v u);
   needed = λ h low high. elim (cases_lt (length old) h) [
-    | inl lt ↦ (k.0, u, has, needed h lt high)
+    | inl lt ↦ (q, u, has, needed h lt high)
     | inr ge ↦ let n = f.needed h low ge in (n.0, n.1, n.2, (n.3.0, n.3.1 ∙ ap (λ l. n.3.0 ++ l) (sym (grows.same h ge))))
   ];
 })
   where
-    by : (j x : ℕ) (y : List ℕ × ℕ) (v : ℕ) → slice_get (heads ++ head ∷ []) j ≡ Some x → slice_get strings j ≡ Some y → find order y.0 cells.values ≡ Some v → (j < i) ⊎ (i ≤ j) → list_of new x ≡ values_in (list_of records v)
-    by j x y v there string value (inl lt) = before (get_either heads head j x there)
+    by : (r : List ℕ) (c v : ℕ) → cell_of cells.families r ≡ Some c → c < cell + 1 → find order r cells.values ≡ Some v → (v ≡ u) ⊎ (v ≢ u) → IsFreshHead records v new (get_or (set heads u head) v 0)
+    by r c v there lt value (inl e) =
+        let here : get_or (set heads u head) v 0 ≡ head = ap (λ k. get_or (set heads u head) k 0) e ∙ get_or-set_same heads u head 0 (omega (arith, f.size)) in
+        record { inside = omega (arith, here, inside); list = ap (list_of new) here ∙ list ∙ ap (λ k. values_in (list_of records k)) (sym e) }
+    by r c v there lt value (inr n) =
+        let here : get_or (set heads u head) v 0 ≡ get_or heads v 0 = get_or-set_other heads u v head 0 n in
+        let before = f.lists r c v there (early r c v there lt value n) value in
+        record {
+          inside = omega (arith, here, before.inside, grows.longer);
+          list = ap (list_of new) here ∙ grows.same (get_or heads v 0) before.inside ∙ before.list;
+        }
       where
-        before : (slice_get heads j ≡ Some x) ⊎ (x ≡ head) → list_of new x ≡ values_in (list_of records v)
-        before (inl b) = grows.same x (f.inside j x b) ∙ f.lists j x y v b string value
-        before (inr e) =
-            let g = get_there heads j (omega (arith, f.size)) in
-            let both : Some g.0 ≡ Some x = sym (get_longer heads (head ∷ []) j g.0 g.1) ∙ there in
-            let same : g.0 ≡ x = cc in
-            let b : slice_get heads j ≡ Some x = g.1 ∙ ap Some same in
-            grows.same x (f.inside j x b) ∙ f.lists j x y v b string value
-    by j x y v there string value (inr ge) =
-        let within : j < length (heads ++ head ∷ []) = slice_get_within (heads ++ head ∷ []) j x there in
-        let e : j ≡ i = omega (arith, length_push heads head, f.size) in
-        let size : j ≡ length heads = omega (arith, f.size) in
-        let both : Some x ≡ Some head = sym there ∙ ap (slice_get (heads ++ head ∷ [])) size ∙ get_last heads head in
-        let x_is : x ≡ head = cc in
-        let strings_same : Some y ≡ Some k = sym string ∙ ap (slice_get strings) e ∙ at in
-        let y_is : y ≡ k = cc in
-        let values_same : Some v ≡ Some u = sym value ∙ ap (λ (z : List ℕ × ℕ). find order z.0 cells.values) y_is ∙ has in
-        let v_is : v ≡ u = cc in
-        ap (list_of new) x_is ∙ list ∙ ap (λ n. values_in (list_of records n)) (sym v_is)
+        early : (r : List ℕ) (c v : ℕ) → cell_of cells.families r ≡ Some c → c < cell + 1 → find order r cells.values ≡ Some v → v ≢ u → c < cell
+        early r c v there lt value n = elim (cases_eq c cell) [
+          | inl e ↦
+              let same : r ≡ q = held.apart r q cell (there ∙ ap Some e) at in
+              let both : Some v ≡ Some u = sym value ∙ ap (λ p. find order p cells.values) same ∙ has in
+              absurd (let is : v ≡ u = cc in n is)
+          | inr other ↦ omega arith
+        ]
 
--- strings get their heads, one by one
-pub renew_start : (old : Held ℕ) (strings : List (List ℕ × ℕ)) (heads : List ℕ) → IsHeld old → Renews old strings 0 heads old
-renew_start old strings heads held = record { held = held; signs = refl; families = refl; given = λ j k lt at. absurd (omega arith) }
+-- strings get their heads, cell by cell
+pub renew_start : (old : Held ℕ) (heads : List ℕ) → IsHeld old → RenewsTo old 0 heads old
+renew_start old heads held = record { held = held; signs = refl; families = refl; given = λ q cell u at there. there ∙ ap (λ b. Some (cond b (get_or heads u 0) u)) (sym (le-ltb cell 0 (omega arith))) }
 
-pub renew_step : (old mid new : Held ℕ) (strings : List (List ℕ × ℕ)) (i : ℕ) (heads : List ℕ) (k : List ℕ × ℕ) (head : ℕ) → Renews old strings i heads mid → slice_get strings i ≡ Some k → slice_get heads i ≡ Some head → IsHeld new → new ≡ record mid { values = put order k.0 head mid.values } → Renews old strings (i + 1) heads new
-renew_step old mid new strings i heads k head r at beside held is = record {
+pub renew_skip : (old mid : Held ℕ) (cell : ℕ) (heads : List ℕ) → RenewsTo old cell heads mid → ((q : List ℕ) → cell_of mid.families q ≡ Some cell → ⊥) → RenewsTo old (cell + 1) heads mid
+renew_skip old mid cell heads r none = record {
+  held = r.held;
+  signs = r.signs;
+  families = r.families;
+  given = λ q c u at there. elim (cases_eq c cell) [
+    | inl e ↦ absurd (none q (ap (λ fs. cell_of fs q) r.families ∙ at ∙ ap Some e))
+    | inr other ↦ r.given q c u at there ∙ ap (λ b. Some (cond b (get_or heads u 0) u)) (same_test c cell other)
+  ];
+}
+
+pub renew_step : (old mid new : Held ℕ) (cell : ℕ) (heads : List ℕ) (k : List ℕ) (head : ℕ) → IsHeld old → RenewsTo old cell heads mid → cell_of mid.families k ≡ Some cell → find order k mid.values ≡ Some head → IsHeld new → new ≡ record mid { values = put order k (get_or heads head 0) mid.values } → RenewsTo old (cell + 1) heads new
+renew_step old mid new cell heads k head old_held r at has held is = record {
   held = held;
   signs = ap (λ (h : Held ℕ). h.signs) is ∙ r.signs;
   families = ap (λ (h : Held ℕ). h.families) is ∙ r.families;
-  given = λ j y lt there. by j y lt there (equal_or_not y.0 k.0);
+  given = λ q c u there value. by q c u there value (equal_or_not q k);
 }
   where
-    values : new.values ≡ put order k.0 head mid.values
+    values : new.values ≡ put order k (get_or heads head 0) mid.values
     values = ap (λ (h : Held ℕ). h.values) is
 
-    by : (j : ℕ) (y : List ℕ × ℕ) → j < i + 1 → slice_get strings j ≡ Some y → ((y.0 ≡ k.0) × (same_string y.0 k.0 ≡ true)) ⊎ ((y.0 ≢ k.0) × (same_string y.0 k.0 ≡ false)) → IsGiven strings heads new.values y.0
-    by j y lt there (inl h) = record {
-      number = i;
-      head = head;
-      entry = k;
-      at = at;
-      string = sym h.0;
-      beside = beside;
-      has = ap (find order y.0) values ∙ ap (λ q. find order q (put order k.0 head mid.values)) h.0 ∙ find_put_same k.0 head mid.values;
-    }
-    by j y lt there (inr h) = elim (cases_lt j i) [
-      | inl l ↦
-          let g = r.given j y l there in
-          record { number = g.number; head = g.head; entry = g.entry; at = g.at; string = g.string; beside = g.beside; has = ap (find order y.0) values ∙ find_put_other y.0 k.0 head mid.values h.0 ∙ g.has }
-      | inr ge ↦
-          let e : j ≡ i = omega arith in
-          let both : Some y ≡ Some k = sym there ∙ ap (slice_get strings) e ∙ at in
-          let y_is : y ≡ k = cc in
-          absurd (h.0 (ap (λ (x : List ℕ × ℕ). x.0) y_is))
-    ]
+    k_old : cell_of old.families k ≡ Some cell
+    k_old = ap (λ fs. cell_of fs k) (sym r.families) ∙ at
 
--- the strings are the same where the families are
-pub same_strings : (old new : Held ℕ) (items : List (List ℕ × ℕ)) → AreStrings old items → new.families ≡ old.families → new.signs ≡ old.signs → AreStrings new items
-same_strings old new items s families signs = record {
-  sound = λ j k at.
-      let x = s.sound j k at in
-      record {
-        celled = (x.celled.0, ap (λ fs. cell_of fs k.0) families ∙ x.celled.1);
-        known = subst (λ n. All (λ y. (1 ≤ y) × (y ≤ n)) k.0) (sym signs) x.known;
-        few = x.few;
-      };
-  below = λ j k lt at y cell there. s.below j k lt at y cell (ap (λ fs. cell_of fs (k.0 ++ y ∷ [])) (sym families) ∙ there);
-  roots = λ y cell there. s.roots y cell (ap (λ fs. cell_of fs (y ∷ [])) (sym families) ∙ there);
+    by : (q : List ℕ) (c u : ℕ) → cell_of old.families q ≡ Some c → find order q old.values ≡ Some u → ((q ≡ k) × (same_string q k ≡ true)) ⊎ ((q ≢ k) × (same_string q k ≡ false)) → find order q new.values ≡ Some (cond (nat_lt c (cell + 1)) (get_or heads u 0) u)
+    by q c u there value (inl h) =
+        let cells : Some c ≡ Some cell = sym there ∙ ap (cell_of old.families) h.0 ∙ k_old in
+        let c_is : c ≡ cell = cc in
+        let before : find order q mid.values ≡ Some u = r.given q c u there value ∙ ap (λ b. Some (cond b (get_or heads u 0) u)) (le-ltb c cell (omega arith)) in
+        let both : Some head ≡ Some u = sym has ∙ ap (λ p. find order p mid.values) (sym h.0) ∙ before in
+        let same : head ≡ u = cc in
+        ap (find order q) values ∙ ap (λ p. find order p (put order k (get_or heads head 0) mid.values)) h.0 ∙ find_put_same k (get_or heads head 0) mid.values
+        ∙ ap (λ x. Some (get_or heads x 0)) same ∙ ap (λ b. Some (cond b (get_or heads u 0) u)) (sym (lt-ltb c (cell + 1) (omega arith)))
+    by q c u there value (inr h) =
+        let other : c ≢ cell = λ e. h.0 (old_held.apart q k cell (there ∙ ap Some e) k_old) in
+        ap (find order q) values ∙ find_put_other q k (get_or heads head 0) mid.values h.0 ∙ r.given q c u there value ∙ ap (λ b. Some (cond b (get_or heads u 0) u)) (same_test c cell other)
+
+-- a string whose cell is not reached has its old head
+pub old_head : (old mid : Held ℕ) (cell : ℕ) (heads : List ℕ) (q : List ℕ) (head : ℕ) → IsHeld old → RenewsTo old cell heads mid → cell_of mid.families q ≡ Some cell → find order q mid.values ≡ Some head → find order q old.values ≡ Some head
+old_head old mid cell heads q head held r at has =
+    let at_old : cell_of old.families q ≡ Some cell = ap (λ fs. cell_of fs q) (sym r.families) ∙ at in
+    let u = held.valued q cell at_old in
+    let same : find order q mid.values ≡ Some u.0 = r.given q cell u.0 at_old u.1 ∙ ap (λ b. Some (cond b (get_or heads u.0 0) u.0)) (le-ltb cell cell (omega arith)) in
+    u.1 ∙ sym same ∙ has
+
+pub renewed : (old new : Held ℕ) (n : ℕ) (heads : List ℕ) → IsHeld old → RenewsTo old n heads new → ((q : List ℕ) (cell : ℕ) → cell_of old.families q ≡ Some cell → cell < n) → Renews old heads new
+renewed old new n heads held r all = record {
+  held = r.held;
+  signs = r.signs;
+  families = r.families;
+  given = λ q u there.
+      let cell = held.celled q u there in
+      r.given q cell.0 u cell.1 there ∙ ap (λ b. Some (cond b (get_or heads u 0) u)) (lt-ltb cell.0 n (all q cell.0 cell.1));
 }

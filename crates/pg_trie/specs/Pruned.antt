@@ -1,5 +1,5 @@
 -- Which strings lose their cells, and what that makes of the families.
-use Rattle.std.specs.Prelude.{◌≡◌, ◌≢◌, ℕ, ◌<◌, ◌≤◌, ◌⊎◌, Bool, true, false, List, [], ◌∷◌, ◌++◌, filter, length, slice_get, None, Some, is_some}
+use Rattle.std.specs.Prelude.{◌≡◌, ◌≢◌, ℕ, ◌<◌, ◌≤◌, ◌⊎◌, Bool, true, false, List, [], ◌∷◌, ◌++◌, filter, length, None, Some, is_some}
 use Rattle.std.specs.List.{flat_map}
 use Rattle.std.specs.Ordering.{nat_cmp}
 use Rattle.std.specs.Cmp.Lexicographic.{slice_cmp}
@@ -40,6 +40,7 @@ pub record Drops (old new : Held ℕ) (q : List ℕ) : Type 0 where
   pub held : IsHeld new
   pub signs : new.signs ≡ old.signs
   pub either : ((new ≡ old) × IsNeeded old q) ⊎ IsDropped old new q
+  pub cells : (r : List ℕ) → r ≢ q → cell_of new.families r ≡ cell_of old.families r
 
 -- the test tells which strings are to keep their cells: those of one sign, those with a list, and those from which a string that
 -- keeps its cell goes on
@@ -49,13 +50,31 @@ pub record IsKeep (keep : List ℕ → Bool) (h : Held ℕ) : Type 0 where
   pub goes_on : (q : List ℕ) (x : ℕ) → keep (q ++ x ∷ []) ≡ true → keep q ≡ true
   pub blank : (q : List ℕ) → 1 < length q → find (slice_cmp nat_cmp) q h.values ≡ Some 0 → ((x v : ℕ) → find (slice_cmp nat_cmp) (q ++ x ∷ []) h.values ≡ Some v → keep (q ++ x ∷ []) ≡ false) → keep q ≡ false
 
--- the strings from the number i on that are not to keep their cells have lost them
-pub record PrunesFrom (keep : List ℕ → Bool) (old : Held ℕ) (strings : List (List ℕ × ℕ)) (i : ℕ) (new : Held ℕ) : Type 0 where
+-- some strings that are not to keep their cells have lost them
+pub record PrunesSome (keep : List ℕ → Bool) (old new : Held ℕ) : Type 0 where
   pub held : IsHeld new
   pub signs : new.signs ≡ old.signs
   pub either : (q : List ℕ) → (find (slice_cmp nat_cmp) q new.values ≡ find (slice_cmp nat_cmp) q old.values) ⊎ ((find (slice_cmp nat_cmp) q new.values ≡ None) × (keep q ≡ false))
-  pub gone : (j : ℕ) (k : List ℕ × ℕ) → i ≤ j → slice_get strings j ≡ Some k → keep k.0 ≡ false → find (slice_cmp nat_cmp) k.0 new.values ≡ None
   pub families : new.families ≡ kept_by (λ q. is_some (find (slice_cmp nat_cmp) q new.values)) old.families
+
+-- the string r goes on from q
+abbrev pub IsBelow : List ℕ → List ℕ → Type 0
+IsBelow q r = (x : ℕ) × (more : List ℕ) × (r ≡ q ++ x ∷ more)
+
+-- of the strings that go on from q by a sign before s, or by any where s is 0, those that are not to keep their cells have lost
+-- them; other strings are as before
+pub record PrunesTo (old new : Held ℕ) (q : List ℕ) (s : ℕ) : Type 0 where
+  pub held : IsHeld new
+  pub signs : new.signs ≡ old.signs
+  pub less : (r : List ℕ) (v : ℕ) → find (slice_cmp nat_cmp) r new.values ≡ Some v → find (slice_cmp nat_cmp) r old.values ≡ Some v
+  pub elsewhere : (r : List ℕ) → (IsBelow q r → ⊥) → (find (slice_cmp nat_cmp) r new.values ≡ find (slice_cmp nat_cmp) r old.values) × (cell_of new.families r ≡ cell_of old.families r)
+  pub some : (keep : List ℕ → Bool) (start : Held ℕ) → IsKeep keep start → IsHeld start → PrunesSome keep start old → PrunesSome keep start new
+  pub gone : (keep : List ℕ → Bool) (start : Held ℕ) → IsKeep keep start → IsHeld start → PrunesSome keep start old
+      → (x : ℕ) (more : List ℕ) → (s ≡ 0) ⊎ (x < s) → keep (q ++ x ∷ more) ≡ false → find (slice_cmp nat_cmp) (q ++ x ∷ more) new.values ≡ None
+
+-- of all that go on from q
+abbrev pub PrunesBelow : Held ℕ → Held ℕ → List ℕ → Type 0
+PrunesBelow old new q = PrunesTo old new q 0
 
 -- the strings that are not to keep their cells have lost them
 pub record Prunes (keep : List ℕ → Bool) (old new : Held ℕ) : Type 0 where

@@ -39,7 +39,7 @@ fn push_values(
 // The values of the strings, each with its place.
 fn gather(
     alloc: Global,
-    cells: &Cells<u64, FEW_SIGNS>,
+    cells: &Cells<u32, FEW_SIGNS>,
     strings: &[Place],
     outputs: &Outputs,
 ) -> Result<Vec<(Place, u8)>, AllocError>
@@ -59,7 +59,7 @@ fn gather(
 /// The values of all strings, each with its place.
 pub fn entries(
     alloc: Global,
-    cells: &Cells<u64, FEW_SIGNS>,
+    cells: &Cells<u32, FEW_SIGNS>,
     outputs: &Outputs,
 ) -> Result<Vec<(Place, u8)>, AllocError>
     requires { IsTrie cells.now outputs.now }

@@ -1,44 +1,54 @@
 //! The strings that lose their cells when nothing is hopeless any more.
-ghost use Rattle.std.specs.Prelude.{◌≡◌, ℕ, ◌≤◌, Bool, List, All};
+ghost use Rattle.std.specs.Prelude.{◌≡◌, ℕ, ◌+◌, ◌≤◌, Bool, List, [], ◌∷◌, ◌++◌, length, Some};
+ghost use Rattle.pg_types.specs.declared.limits.TheConstants.{PATTERN_SIGNS_MAX, SIGNS_MAX};
+ghost use Rattle.pg_types.specs.Placement.{cell_of};
 ghost use Rattle.pg_cells.specs.IsHeld.{IsHeld};
-ghost use Rattle.pg_trie.specs.Pruned.{Drops, IsKeep, Prunes};
-ghost use Rattle.pg_trie.specs.Strings.{AreStrings};
+ghost use Rattle.pg_trie.specs.Pruned.{Drops, IsKeep, Prunes, PrunesBelow};
+ghost use Rattle.pg_trie.specs.Strings.{AreShort};
 
 use crate::mark::FEW_SIGNS;
-use crate::strings::find_cell;
-use pg_cells::Cells;
-use pg_patterns::Place;
-use pg_types::Sign;
+use pg_cells::{Cells, step};
+use pg_types::{PATTERN_SIGNS_MAX, Sign};
 
 // Takes the cell of a string of several signs away, where it has no list and no string goes on from it.
-fn drop_blank(cells: &mut Cells<u64, FEW_SIGNS>, string: &[Sign])
+fn drop_blank(cells: &mut Cells<u32, FEW_SIGNS>, parent: usize, cell: usize, s: Sign)
     requires held { IsHeld cells.old }
-    requires signs { All (λ s. (1 ≤ s) × (s ≤ cells.old.signs)) string.now }
-    ensures { Drops cells.old cells.new string.now }
+    requires cell { (q : List ℕ) × ((cell_of cells.old.families q ≡ Some parent) × (cell_of cells.old.families (q ++ s ∷ []) ≡ Some cell)) }
+    ensures { (q : List ℕ) → cell_of cells.old.families q ≡ Some parent → Drops cells.old cells.new (q ++ s ∷ []) }
 {
-    let Some((last, front)) = string.split_last() else {
-        return;
-    };
-    let Some(parent) = find_cell(cells, front) else {
-        return;
-    };
-    let Some(cell) = find_cell(cells, string) else {
-        return;
-    };
     if cells.value(cell) == 0 && cells.child(cell) == 0 {
-        cells.remove(parent, *last);
+        cells.remove(parent, s);
+    }
+}
+
+// Takes the cells of all strings away that go on from the cell's string and have no list, where no string goes on from them that
+// stays. A string below it has at most so many signs more.
+fn prune_below(cells: &mut Cells<u32, FEW_SIGNS>, cell: usize, more: usize)
+    requires held { IsHeld cells.old }
+    requires short { AreShort cells.old }
+    requires cell { (q : List ℕ) × ((cell_of cells.old.families q ≡ Some cell) × (PATTERN_SIGNS_MAX ≤ length q + more)) }
+    ensures { (q : List ℕ) → cell_of cells.old.families q ≡ Some cell → PrunesBelow cells.old cells.new q }
+{
+    let mut s = cells.first_sign(cell);
+    while s != 0 {
+        let Some(below) = step(cells, Some(cell), s) else {
+            return;
+        };
+        let next = cells.next_sign(below);
+        prune_below(cells, below, more - 1);
+        drop_blank(cells, cell, below, s);
+        s = next;
     }
 }
 
 /// Takes the cells of all strings away that have several signs and no list, where no string goes on from them that stays.
-pub fn prune(cells: &mut Cells<u64, FEW_SIGNS>, strings: &[Place])
+pub fn prune(cells: &mut Cells<u32, FEW_SIGNS>)
     requires held { IsHeld cells.old }
-    requires strings { AreStrings cells.old strings.now }
+    requires short { AreShort cells.old }
+    requires signs { cells.old.signs ≤ SIGNS_MAX }
     ensures { (keep : List ℕ → Bool) → IsKeep keep cells.old → Prunes keep cells.old cells.new }
 {
-    let mut i = strings.len();
-    while i > 0 {
-        i -= 1;
-        drop_blank(cells, strings[i].signs());
+    for s in 1..cells.signs() + 1 {
+        prune_below(cells, usize::from(s), PATTERN_SIGNS_MAX);
     }
 }

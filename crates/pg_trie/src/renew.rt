@@ -1,16 +1,17 @@
 //! The lists of the strings without their hopeless marks, in new records.
-ghost use Rattle.std.specs.Prelude.{◌≡◌, ◌<◌, ◌≤◌, length, IfOk, OnOk};
+ghost use Rattle.std.specs.Prelude.{◌≡◌, ◌+◌, ◌<◌, ◌≤◌, ℕ, List, length, Some, IfOk, OnOk};
+ghost use Rattle.std.specs.FinMap.{find};
+ghost use Rattle.std.specs.Cmp.Lexicographic.{slice_cmp};
+ghost use Rattle.std.specs.Ordering.{nat_cmp};
 ghost use Rattle.pg_outputs.specs.Lists.{list_of, Grows};
 ghost use Rattle.pg_cells.specs.IsHeld.{IsHeld};
 ghost use Rattle.pg_trie.specs.IsTrie.{IsTrie};
-ghost use Rattle.pg_trie.specs.Renewed.{values_in, AreNeeded, AreFresh, Renews};
-ghost use Rattle.pg_trie.specs.Strings.{AreStrings};
+ghost use Rattle.pg_trie.specs.Renewed.{values_in, AreNeeded, AreFreshTo, AreFresh, Renews};
 
 use crate::mark::{FEW_SIGNS, HOPELESS};
-use crate::strings::{find_cell, value_of};
+use crate::raise::cell_head;
 use pg_cells::Cells;
 use pg_outputs::Outputs;
-use pg_patterns::Place;
 use std::alloc::{AllocError, Global};
 
 // The head of a list's values without its mark, among the new records.
@@ -32,37 +33,66 @@ fn fresh_head(outputs: &Outputs, head: u64, fresh: &mut Outputs) -> Result<u64, 
     }
 }
 
-/// The heads of the strings' values, in their order, among new records. There is no record but those of their ends.
-pub fn fresh_heads(
-    alloc: Global,
-    cells: &Cells<u64, FEW_SIGNS>,
-    strings: &[Place],
-    outputs: &Outputs,
-    fresh: &mut Outputs,
-) -> Result<Vec<u64>, AllocError>
-    requires trie { IsTrie cells.now outputs.now }
-    requires strings { AreStrings cells.now strings.now }
-    requires empty { length fresh.old ≡ 0 }
-    ensures { IfOk result (λ heads. AreFresh cells.now outputs.now strings.now (length strings.now) fresh.new heads.items) }
+// The heads of the empty list, one more than so many.
+fn no_heads(alloc: Global, count: u64) -> Result<Vec<u32>, AllocError>
+    ensures { IfOk result (λ heads. length heads.items ≡ count + 1) }
 {
     let mut heads = Vec::new(alloc);
-    for string in strings {
-        let head = value_of(cells, string.signs());
-        heads.push(fresh_head(outputs, head, fresh)?)?;
+    'fill: while (heads.len() as u64) <= count {
+        heads.push(0)?;
     }
     Ok(heads)
 }
 
-/// Gives each string its head.
-pub fn renew(cells: &mut Cells<u64, FEW_SIGNS>, strings: &[Place], heads: &[u64])
-    requires held { IsHeld cells.old }
-    requires strings { AreStrings cells.old strings.now }
-    requires heads { length heads.now ≡ length strings.now }
-    ensures { Renews cells.old strings.now (length strings.now) heads.now cells.new }
+// The new head of the string with the cell, beside its old one.
+fn renew_cell(
+    cells: &Cells<u32, FEW_SIGNS>,
+    cell: usize,
+    outputs: &Outputs,
+    fresh: &mut Outputs,
+    heads: &mut [u32],
+) -> Result<(), AllocError>
+    requires trie { IsTrie cells.now outputs.now }
+    requires heads { AreFreshTo cells.now outputs.now cell fresh.old heads.old }
+    ensures { OnOk result (AreFreshTo cells.now outputs.now (cell + 1) fresh.new heads.new) }
 {
-    for i in 0..strings.len() {
-        if let Some(cell) = find_cell(cells, strings[i].signs()) {
-            cells.set_value(cell, heads[i]);
+    let Some(head) = cells.value_at(cell) else {
+        return Ok(());
+    };
+    let new_head = fresh_head(outputs, u64::from(head), fresh)?;
+    heads[head as usize] = cell_head(new_head)?;
+    Ok(())
+}
+
+/// The new heads of the strings' values by their old heads, among new records. There is no record but those of their ends.
+pub fn fresh_heads(
+    alloc: Global,
+    cells: &Cells<u32, FEW_SIGNS>,
+    outputs: &Outputs,
+    fresh: &mut Outputs,
+) -> Result<Vec<u32>, AllocError>
+    requires trie { IsTrie cells.now outputs.now }
+    requires empty { length fresh.old ≡ 0 }
+    ensures { IfOk result (λ heads. AreFresh cells.now outputs.now fresh.new heads.items) }
+{
+    let mut heads = no_heads(alloc, outputs.len())?;
+    let top = cells.top();
+    for cell in 0..top + 1 {
+        renew_cell(cells, cell, outputs, fresh, heads.as_mut_slice())?;
+    }
+    Ok(heads)
+}
+
+/// Gives each string its new head.
+pub fn renew(cells: &mut Cells<u32, FEW_SIGNS>, heads: &[u32])
+    requires held { IsHeld cells.old }
+    requires heads { (q : List ℕ) (u : ℕ) → find (slice_cmp nat_cmp) q cells.old.values ≡ Some u → u < length heads.now }
+    ensures { Renews cells.old heads.now cells.new }
+{
+    let top = cells.top();
+    for cell in 0..top + 1 {
+        if let Some(head) = cells.value_at(cell) {
+            cells.set_value(cell, heads[head as usize]);
         }
     }
 }

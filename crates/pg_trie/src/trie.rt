@@ -15,9 +15,8 @@ ghost use Rattle.pg_trie.specs.Maps.{AreKept};
 use crate::copy::entries;
 use crate::mark::FEW_SIGNS;
 use crate::prune::prune;
-use crate::raise::raised;
+use crate::raise::raised_head;
 use crate::renew::{fresh_heads, renew};
-use crate::strings::strings;
 use pg_cells::Cells;
 use pg_outputs::Outputs;
 use pg_patterns::PatternSet;
@@ -32,7 +31,7 @@ use std::marker::Model;
 #[derive(Drop)]
 pub struct PatternTrie {
     alloc: Global,
-    cells: Cells<u64, FEW_SIGNS>,
+    cells: Cells<u32, FEW_SIGNS>,
     outputs: Outputs,
 }
 
@@ -77,7 +76,7 @@ impl PatternTrie {
     {
         let cell = pg_cells::enter(&mut self.cells, signs, 0)?;
         let head = self.cells.value(cell);
-        let head = raised(&mut self.outputs, head, value, dot)?;
+        let head = raised_head(&mut self.outputs, head, value, dot)?;
         self.cells.set_value(cell, head);
         Ok(())
     }
@@ -99,7 +98,7 @@ impl PatternTrie {
         ensures list { (q : List ℕ) → cell_of self.now.families q ≡ Some cell → list_of self.now.records result ≡ outputs_at self.now.patterns self.now.hopeless q }
         ensures inside { result ≤ length self.now.records }
     {
-        self.cells.value(cell)
+        u64::from(self.cells.value(cell))
     }
 
     /// The lists of all strings.
@@ -118,11 +117,10 @@ impl PatternTrie {
         ensures err { OnErr result (self.new ≡ self.old) }
         ensures signs { self.new.signs ≡ self.old.signs }
     {
-        let strings = strings(self.alloc, &self.cells)?;
         let mut fresh = Outputs::new(self.alloc);
-        let heads = fresh_heads(self.alloc, &self.cells, &strings, &self.outputs, &mut fresh)?;
-        renew(&mut self.cells, &strings, &heads);
-        prune(&mut self.cells, &strings);
+        let heads = fresh_heads(self.alloc, &self.cells, &self.outputs, &mut fresh)?;
+        renew(&mut self.cells, &heads);
+        prune(&mut self.cells);
         let _records = fresh.len();
         self.outputs = fresh;
         Ok(())

@@ -1,10 +1,25 @@
-use Rattle.std.proofs.Common.{◌≡◌, ◌++◌, ◌∷◌, [], None, sym, ◌∙◌}
+use Rattle.std.proofs.Common.{◌≡◌, ℕ, [], ◌∷◌, ◌++◌, Some, inr, refl, ap, subst, ◌∙◌}
 use Rattle.pg_types.specs.Placement.{cell_of}
-use Rattle.pg_trie.proofs.Pruning.{drops_frontless}
+use Rattle.pg_cells.specs.Held.{Held}
+use Rattle.pg_cells.proofs.LinkLaws.{some_string}
 use Rattle.pg_trie.proofs.prune.drop_blank.Goals as goal
 
-pub returns-in_default-find_cell : goal.returns-in_default-find_cell
-returns-in_default-find_cell c =
-    let whole : c.args.string.now ≡ c.in-Some.front.now ++ c.in-Some.last.now ∷ [] = c.in-Some.ensures.cases.0 in
-    let none : cell_of c.args.cells.now.families c.in-Some.front.now ≡ None = sym c.find_cell.ensures ∙ c.in_default-find_cell.is in
-    drops_frontless c.args.cells.now c.args.string.now c.in-Some.front.now c.in-Some.last.now c.requires.held whole none
+pub returns-then-child-eq0 : goal.returns-then-child-eq0
+returns-then-child-eq0 c q e =
+    let same : c.requires.cell.0 ≡ q = c.requires.held.apart c.requires.cell.0 q c.args.parent c.requires.cell.1.0 e in
+    let at : cell_of c.args.cells.now.families (q ++ c.args.s ∷ []) ≡ Some c.args.cell = subst (λ p. cell_of c.args.cells.now.families (p ++ c.args.s ∷ []) ≡ Some c.args.cell) same c.requires.cell.1.1 in
+    record {
+      held = c.remove.ensures.kept;
+      signs = ap (λ (h : Held ℕ). h.signs) (c.remove.ensures.held q e);
+      either = inr (record {
+        front = q;
+        last = c.args.s;
+        whole = refl;
+        several = some_string c.args.cells.now.families q c.args.parent e;
+        blank = c.value.ensures (q ++ c.args.s ∷ []) at ∙ ap Some c.if-value-eq0.true;
+        ends = λ x. c.child.ensures.none (q ++ c.args.s ∷ []) at c.if-child-eq0.true x;
+        families = ap (λ (h : Held ℕ). h.families) (c.remove.ensures.held q e);
+        values = ap (λ (h : Held ℕ). h.values) (c.remove.ensures.held q e);
+      });
+      cells = c.remove.ensures.cells q e;
+    }

@@ -1,5 +1,5 @@
-use Rattle.pg_trie.specs.Renewed.{AreFresh}
+use Rattle.pg_trie.specs.Renewed.{AreFreshTo}
 use Rattle.pg_trie.proofs.renew.fresh_heads.Given as goal
 
-abbrev pub invariant-loop-string : goal.invariant-loop-string
-invariant-loop-string l = AreFresh l.cells l.outputs l.strings l.string-index l.fresh l.heads.items
+abbrev pub invariant-loop-cell : goal.invariant-loop-cell
+invariant-loop-cell l = AreFreshTo l.cells l.outputs l.cell l.fresh l.heads.items

@@ -1,26 +1,27 @@
-use Rattle.std.proofs.Common.{◌≡◌, ℕ, ◌<◌, List, None, Some, length, get_or, sym, ap, ◌∙◌, arith}
-use Rattle.pg_types.specs.Placement.{cell_of}
-use Rattle.pg_trie.proofs.Listing.{get_there, get_index}
-use Rattle.pg_trie.proofs.Renewing.{renew_step}
+use Rattle.std.proofs.Common.{refl, arith}
+use Rattle.pg_cells.proofs.StringCells.{cell_within}
+use Rattle.pg_trie.proofs.Renewing.{renew_start, renew_skip, renew_step, old_head, renewed}
 use Rattle.pg_trie.proofs.renew.renew.Goals as goal
 use Rattle.pg_trie.proofs.renew.renew.Goals.{in-Some, in_default}
 
-pub loop-i-preserved : goal.loop-i-preserved
-loop-i-preserved c =
-    let k = get_there c.args.strings.now c.loop-i.i c.loop-i-test.true in
-    let below : c.loop-i.i < length c.args.heads.now = omega arith in
-    let head = get_there c.args.heads.now c.loop-i.i below in
-    let same : c.signs.result.now ≡ k.0.0 = c.signs.ensures.value ∙ ap (λ (x : List ℕ × ℕ). x.0) (c.index-strings-i.is ∙ get_index c.args.strings.now c.loop-i.i k.0 c.index-strings-i.result k.1) in
-    let head_is : get_or c.args.heads.now c.loop-i.i 0 ≡ head.0 = get_index c.args.heads.now c.loop-i.i head.0 0 head.1 in
-    let old_cell = (c.requires.strings.sound c.loop-i.i k.0 k.1).celled in
-    let now_cell : cell_of c.loop-i.cells.families k.0.0 ≡ Some old_cell.0 = ap (λ fs. cell_of fs k.0.0) c.loop-i.invariant.families ∙ old_cell.1 in
-    elim c.match-find_cell.branch [
-      | in-Some w ↦
-          let there : cell_of c.loop-i.cells.families k.0.0 ≡ Some w.in-Some.cell = ap (cell_of c.loop-i.cells.families) (sym same) ∙ sym w.in-Some.ensures in
-          rw w.cells-is
-          (renew_step c.args.cells.now c.loop-i.cells w.set_value.new.self c.args.strings.now c.loop-i.i c.args.heads.now k.0 (get_or c.args.heads.now c.loop-i.i 0) c.loop-i.invariant k.1 (head.1 ∙ ap Some (sym head_is)) w.set_value.ensures.kept
-          (w.set_value.ensures.held k.0.0 there))
-      | in_default w ↦
-          let none : cell_of c.loop-i.cells.families k.0.0 ≡ None = ap (cell_of c.loop-i.cells.families) (sym same) ∙ sym c.find_cell.ensures ∙ w.in_default.is in
-          absurd (let n : None ≡ Some old_cell.0 = sym none ∙ now_cell in cc)
-    ]
+pub loop-cell-init : goal.loop-cell-init
+loop-cell-init c = renew_start c.args.cells.now c.args.heads.now c.requires.held
+
+pub bounds-heads-head : goal.bounds-heads-head
+bounds-heads-head c =
+    let s = c.in-Some.ensures.some in
+    c.requires.heads s.0 c.in-Some.head (old_head c.args.cells.now c.loop-cell.cells c.loop-cell.cell c.args.heads.now s.0 c.in-Some.head c.requires.held c.loop-cell.invariant s.1 s.2)
+
+pub loop-cell-preserved : goal.loop-cell-preserved
+loop-cell-preserved c = elim c.match-value_at.branch [
+  | in-Some w ↦
+      let s = w.in-Some.ensures.some in
+      rw w.cells-is
+      (renew_step c.args.cells.now c.loop-cell.cells w.set_value.new.self c.loop-cell.cell c.args.heads.now s.0 w.in-Some.head c.requires.held c.loop-cell.invariant s.1 s.2 w.set_value.ensures.kept (w.set_value.ensures.held s.0 s.1))
+  | in_default w ↦ rw w.cells-is (renew_skip c.args.cells.now c.loop-cell.cells c.loop-cell.cell c.args.heads.now c.loop-cell.invariant (w.in_default.ensures.none refl))
+]
+
+pub returns : goal.returns
+returns c =
+    renewed c.args.cells.now c.loop-cell.cells c.loop-cell.cell c.args.heads.now c.requires.held c.loop-cell.invariant
+    (λ q cell at. (let within = cell_within c.args.cells.now.families q cell at in let top = c.top-top.ensures.top in let done = c.loop-cell-test.false in omega arith))
