@@ -1,7 +1,8 @@
 -- No item holds a blank, a TAB, an LF or a CR, so none stands where a line ends.
-use Rattle.std.proofs.Common.{◌≡◌, ℕ, ◌+◌, ◌<◌, ◌≤◌, ◌==◌, Bool, true, false, not, ◌||◌, List, [], ◌∷◌, ◌++◌, length, take, Option, Some, None, refl, sym, ap, ◌∙◌, subst, arith, suc, zero}
+use Rattle.std.proofs.Common.{◌≡◌, ℕ, ◌+◌, ◌<◌, ◌≤◌, ◌==◌, Bool, true, false, not, ◌||◌, List, [], ◌∷◌, ◌++◌, length, take, get_or, slice_index, Option, Some, None, MatchOption, IfSome, refl, sym, ap, ◌∙◌, subst, arith, suc, zero}
 use Rattle.std.specs.List.{list_any, list_all}
-use Rattle.std.proofs.lemmas.Bool.{and_parts, or_parts, not-true, true≢false, ne_eqb, leb-true}
+use Rattle.std.specs.Option.{option_or}
+use Rattle.std.proofs.lemmas.Bool.{and_parts, or_parts, not-true, true≢false, false_from_ne_true, eq-eqb, ne_eqb, leb-true}
 use Rattle.std.proofs.lemmas.List.Folds.{list_any-append}
 use Rattle.pg_types.specs.declared.marks.Mark.{Mark}
 use Rattle.pg_types.specs.declared.marks.Mark.TheVariants.{Nothing, Error, Missed, Found, DontCare}
@@ -9,7 +10,7 @@ use Rattle.pg_translate.specs.declared.items.Place.{Place}
 use Rattle.pg_translate.specs.declared.items.Place.TheVariants.{Dictionary, Patterns}
 use Rattle.pg_translate.specs.Alphabets.{Alphabet}
 use Rattle.pg_translate.specs.Spellings.{is_digit, is_space}
-use Rattle.pg_translate.specs.Tokens.{Token, Letter, Digit, Weight, Marked, Edge, item_at, is_ended}
+use Rattle.pg_translate.specs.Tokens.{Token, Letter, Digit, Weight, Marked, Edge, letter_at, digit_at, weight_at, mark_at, item_at, is_ended}
 use Rattle.pg_translate.specs.Items.{IsItem, IsWeight, IsMark}
 use Rattle.pg_translate.specs.Rules.{KeepsRules}
 use Rattle.pg_translate.proofs.ItemLaws.{ReadsMark, four_marks}
@@ -74,3 +75,36 @@ ended_none t rules place text ended = by_item text ended (item_at t place text) 
         apart : (size : ℕ) → 0 < size → list_any is_space (take size (b ∷ bs)) ≡ false → ⊥
         apart zero some unbroken = absurd (omega arith)
         apart (suc size) some unbroken = true≢false (sym (ended_space b ended) ∙ (or_parts (is_space b) (list_any is_space (take size bs)) unbroken).0)
+
+-- where nothing is chosen, neither value is there
+none_parts : (o p : Option (Token × ℕ)) → option_or o p ≡ None → (o ≡ None) × (p ≡ None)
+none_parts None p none = (refl, none)
+none_parts (Some x) p none = absurd (cc)
+
+-- where a spelling or a mark stands, the line goes on
+pub letter_begun : (t : Alphabet) → KeepsRules t → (text : List ℕ) (x : Token × ℕ) → letter_at t.spellings text ≡ Some x → is_ended text ≡ false
+letter_begun t rules text x found = false_from_ne_true _ (λ ended. apart (none_parts (letter_at t.spellings text) _ (ended_none t rules Dictionary text ended)).0)
+  where
+    apart : letter_at t.spellings text ≡ None → ⊥
+    apart none = let both : None ≡ Some x = sym none ∙ found in absurd (cc)
+
+pub mark_begun : (t : Alphabet) → KeepsRules t → (text : List ℕ) (x : Token × ℕ) → mark_at t.marks text ≡ Some x → is_ended text ≡ false
+mark_begun t rules text x found = false_from_ne_true _ (λ ended. apart (ended_none t rules Dictionary text ended))
+  where
+    apart : item_at t Dictionary text ≡ None → ⊥
+    apart none =
+        let behind_letter = none_parts (letter_at t.spellings text) (option_or (digit_at text) (option_or (weight_at text) (mark_at t.marks text))) none in
+        let behind_digit = none_parts (digit_at text) (option_or (weight_at text) (mark_at t.marks text)) behind_letter.1 in
+        let behind_weight = none_parts (weight_at text) (mark_at t.marks text) behind_digit.1 in
+        let both : None ≡ Some x = sym behind_weight.1 ∙ found in
+        absurd (cc)
+
+-- the same of the answer of a look-up
+pub some_letter_begun : (t : Alphabet) → KeepsRules t → (text : List ℕ) (found : Option (ℕ × ℕ)) → MatchOption found (letter_at t.spellings text ≡ None) (λ l. letter_at t.spellings text ≡ Some (Letter l.0, l.1)) → IfSome found (λ _. is_ended text ≡ false)
+some_letter_begun t rules text None is = tt
+some_letter_begun t rules text (Some l) is = letter_begun t rules text (Letter l.0, l.1) is
+
+-- the fourth mark is found where its byte stands
+pub fourth_mark : (marks text : List ℕ) → 0 < length text → ¬ (get_or text 0 0 ≡ slice_index marks 0) → ¬ (get_or text 0 0 ≡ slice_index marks 1) → ¬ (get_or text 0 0 ≡ slice_index marks 2) → get_or text 0 0 ≡ slice_index marks 3 → mark_at marks text ≡ Some (Marked DontCare, 1)
+fourth_mark marks [] some first second third fourth = absurd (omega arith)
+fourth_mark marks (b ∷ bs) some first second third fourth = rw (ne_eqb _ _ first, ne_eqb _ _ second, ne_eqb _ _ third, eq-eqb _ _ fourth) refl
