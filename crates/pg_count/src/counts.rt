@@ -1,7 +1,7 @@
 //! The windows that are counted in a pass.
 ghost use Rattle.std.specs.Prelude.{◌≡◌, ◌≤◌, true, [], ◌∷◌, length, IfOk, OnOk, OnErr, IsOk, MatchOption};
 ghost use Rattle.pg_types.specs.declared.limits.TheConstants.{LENGTH_MAX, SIGNS_MAX, WEIGHT_MAX};
-ghost use Rattle.pg_count.specs.Counts.{AreSmall, SignsWithin, sums_of, with_weight, with_count, is_counted, above};
+ghost use Rattle.pg_types.specs.Counts.{AreSmall, SignsWithin, sums_of, with_weight, with_count, is_counted, above};
 ghost use Rattle.pg_count.specs.Counting.{IsCounting};
 
 use crate::least::least;

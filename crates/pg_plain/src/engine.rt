@@ -8,12 +8,11 @@ ghost use Rattle.pg_plain.specs.Strings.{is_string};
 
 use crate::counts::{add, next_behind};
 use crate::index::Index;
-use crate::pass::Pass;
 use crate::places::{map_of, put_in, raise_in, set_of};
 use crate::walk::walk;
 use pg_dict::WordRef;
 use pg_patterns::{PatternSet, Place};
-use pg_select::{Engine, WordState};
+use pg_select::{Engine, Pass, WordState};
 use pg_types::{Cursor, Layout, Sign, Weight};
 use std::alloc::{AllocError, Global};
 use std::collections::BTreeMap;

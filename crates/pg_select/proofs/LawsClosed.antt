@@ -13,7 +13,8 @@ use Rattle.pg_patterns.specs.Places.{place_cmp}
 use Rattle.pg_patterns.specs.Values.{raise, applies}
 use Rattle.pg_select.specs.Statuses.{status_at, weight_at}
 use Rattle.pg_select.specs.Windows.{Hopeless, window, fits, covered}
-use Rattle.pg_select.specs.Sights.{Pass, Minima, Sight, Candidate, counts_as, counted_at, sight_at, sights_in, sights, same_signs, candidates, good_of, bad_of, tally}
+use Rattle.pg_select.specs.declared.pass.Pass.{Pass}
+use Rattle.pg_select.specs.Sights.{Minima, Sight, Candidate, counts_as, counted_at, sight_at, sights_in, sights, same_signs, candidates, good_of, bad_of, tally}
 use Rattle.pg_select.specs.Laws.{Later, raised_all, hopeless_all}
 use Rattle.pg_select.proofs.LawsTally.{same_window, seen_as}
 use Rattle.pg_select.proofs.LawsValues.{covered_raised, covered_hopeless}

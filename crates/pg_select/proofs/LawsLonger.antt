@@ -8,7 +8,8 @@ use Rattle.pg_dict.specs.Word.{Word}
 use Rattle.pg_patterns.specs.Values.{stands_at, applies}
 use Rattle.pg_select.specs.Statuses.{status_at}
 use Rattle.pg_select.specs.Windows.{Hopeless, window, fits, covered}
-use Rattle.pg_select.specs.Sights.{Pass, Minima, counts_as, counted_at, sights}
+use Rattle.pg_select.specs.declared.pass.Pass.{Pass}
+use Rattle.pg_select.specs.Sights.{Minima, counts_as, counted_at, sights}
 use Rattle.pg_select.specs.Laws.{longer_behind, longer_before}
 use Rattle.pg_select.proofs.LawsLater.{some_parts, some_from, uncovered_back, closed_more}
 

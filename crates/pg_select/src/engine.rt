@@ -1,7 +1,8 @@
 //! The contract of an engine, which holds patterns and counts windows.
 ghost use Rattle.std.specs.Prelude.{◌≡◌, ◌≤◌, ◌<◌, ◌+◌, ◌^◌, ◌∷◌, [], true, length, IfOk, OnOk, OnErr, IsOk, MatchOption};
 ghost use Rattle.pg_types.specs.declared.limits.TheConstants.{LEVEL_MAX, LENGTH_MAX, WEIGHT_MAX, WORD_LETTERS_MAX};
-ghost use Rattle.pg_select.specs.Meanings.{Meaning, AreSmall, SignsWithin, KeepsButFamilies, SetsValues, SetsCovers, IsLayout, sums_of, with_weight, is_counted, above, begun_pass, counted, chosen, given_up, ended};
+ghost use Rattle.pg_types.specs.Counts.{AreSmall, SignsWithin, sums_of, with_weight, is_counted, above};
+ghost use Rattle.pg_select.specs.Meanings.{Meaning, KeepsButFamilies, SetsValues, SetsCovers, IsLayout, begun_pass, counted, chosen, given_up, ended};
 
 use crate::word_state::WordState;
 use pg_dict::WordRef;
