@@ -24,6 +24,20 @@ pub record Meaning : Type 0 where
   pub begun : ℕ
   pub tidy : Bool
 
+-- an engine that was just made: it has these patterns and tells these families; nothing is hopeless or counted, no pass was begun, and
+-- it is tidy
+abbrev pub new_engine : ℕ → List ((List ℕ × ℕ) × ℕ) → Option Families → Meaning
+new_engine signs P families = record {
+  signs = signs;
+  patterns = P;
+  hopeless = [];
+  counts = [];
+  pass = record { level = 1; len = 1; dot = 0 };
+  families = families;
+  begun = 0;
+  tidy = true;
+}
+
 -- the counts with one sight more
 abbrev pub with_sight : Counts → Sight → Counts
 with_sight counts s = with_count counts s.window s.good s.weight
