@@ -7,3 +7,5 @@ pub mod AnyPositions
 pub mod Positions
 pub mod Meanings
 pub mod Laws
+pub mod LawsSteps
+pub mod LawsClosedDots
