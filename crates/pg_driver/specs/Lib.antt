@@ -11,3 +11,6 @@ pub mod Traces
 pub mod Accounts
 pub mod Layouts
 pub mod Told
+pub mod DotSets
+pub mod OpenPositions
+pub mod OpenLevels
