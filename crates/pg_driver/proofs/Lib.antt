@@ -17,3 +17,8 @@ pub mod BegunFamilies
 pub mod SkipFlags
 pub mod SkipLaw
 pub mod SkipSteps
+pub mod DotBits
+pub mod OpenPositions
+pub mod OpenPlaces
+pub mod OpenSteps
+pub mod OpenLevels

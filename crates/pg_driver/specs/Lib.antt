@@ -7,3 +7,10 @@ pub mod Settling
 pub mod Sound
 pub mod Skips
 pub mod Laws
+pub mod Traces
+pub mod Accounts
+pub mod Layouts
+pub mod Told
+pub mod DotSets
+pub mod OpenPositions
+pub mod OpenLevels

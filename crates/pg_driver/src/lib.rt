@@ -2,13 +2,17 @@
 #![tactic(auto)]
 
 mod candidates;
+mod carried_totals;
 mod closed;
 mod counted;
+mod dot_set;
 mod dots;
 pub mod laws;
 mod level;
 mod levels;
 mod marks;
+mod open_passes;
+mod open_positions;
 mod pass;
 mod records;
 mod run;
