@@ -43,11 +43,7 @@ impl<R: rt::Files + Drop> HostFiles<R> {
 impl<R: rt::Files + Drop> Files for HostFiles<R> {
     ghost use Rattle.pg_outside.specs.HostFiles.{file_faults};
 
-    ghost held = { λ _. None };
-
-    ghost read_faults = { λ files _. file_faults files };
-
-    ghost write_faults = { λ files _. file_faults files };
+    ghost shown = { λ files. record { held = None; read_faults = λ _. file_faults files; write_faults = λ _. file_faults files } };
 
     fn read(
         &mut self,

@@ -31,9 +31,7 @@ impl<W: Write + Drop> HostSink<W> {
 impl<W: Write + Drop> Sink for HostSink<W> {
     ghost use Rattle.pg_outside.specs.HostSink.{writer_faults, writer_of};
 
-    ghost contents = { λ _. None };
-
-    ghost faults = { writer_faults };
+    ghost shown = { λ sink. record { text = None; faults = writer_faults sink } };
 
     fn put(&mut self, bytes: &[u8]) -> Result<(), Failed>
         // As for all sinks.

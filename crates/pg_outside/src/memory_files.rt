@@ -126,11 +126,7 @@ impl MemoryFiles {
 impl Files for MemoryFiles {
     ghost use Rattle.pg_outside.specs.MemoryFiles.{files_of, room_of, reads_failed_of, writes_failed_of, calls_of, listed_of, next_listed};
 
-    ghost held = { λ memory. Some (files_of memory) };
-
-    ghost read_faults = { reads_failed_of };
-
-    ghost write_faults = { writes_failed_of };
+    ghost shown = { λ memory. record { held = Some (files_of memory); read_faults = reads_failed_of memory; write_faults = writes_failed_of memory } };
 
     fn read(
         &mut self,

@@ -100,9 +100,7 @@ impl MemorySink {
 impl Sink for MemorySink {
     ghost use Rattle.pg_outside.specs.MemorySink.{sink_bytes, sink_room, sink_faults, puts_of, listed_puts, next_listed_put};
 
-    ghost contents = { λ sink. Some (sink_bytes sink) };
-
-    ghost faults = { sink_faults };
+    ghost shown = { λ sink. record { text = Some (sink_bytes sink); faults = sink_faults sink } };
 
     fn put(&mut self, bytes: &[u8]) -> Result<(), Failed>
         // As for all sinks.
