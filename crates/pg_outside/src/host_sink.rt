@@ -3,10 +3,10 @@ ghost use Rattle.std.specs.Prelude.{◌≡◌, ◌≤◌, None, OnOk, OnErr};
 ghost use Rattle.std.specs.Io.KnownBytes.{Appends};
 ghost use Rattle.pg_outside.specs.Content.{WasPut, WasPartPut};
 ghost use Rattle.pg_outside.specs.Faults.{Rose};
-ghost use Rattle.pg_outside.specs.Host.{AppendsPart};
+ghost use Rattle.pg_outside.specs.Streams.{AppendsPart};
 
-use super::host_files::write_bytes;
 use super::outside::{Failed, Sink};
+use super::streams::write_bytes;
 use std::io::Write;
 
 /// A writer as a sink, with a count of faults. It tells no content. A write that fails or takes
