@@ -4,6 +4,7 @@ ghost use Rattle.pg_outside.specs.Content.{FilesShown, SinkShown, KeepsHeld, IsF
 ghost use Rattle.pg_outside.specs.Faults.{Rose, RoseFor, NoneFell};
 
 use std::alloc::{AllocError, Global};
+use std::io;
 use thiserror::Error;
 
 /// Why a read gave no file.
@@ -30,10 +31,26 @@ impl From<AllocError> for ReadError {
     }
 }
 
+impl From<io::Error> for ReadError {
+    ghost use Rattle.pg_outside.specs.declared.outside.ReadError.TheVariants.{Failed};
+
+    ghost from_gives = { λ _ error. error ≡ Failed };
+
+    fn from(_error: io::Error) -> ReadError {
+        ReadError::Failed
+    }
+}
+
 /// A write or a put failed; the count of faults rose.
 #[derive(Clone, Copy, Debug, PartialEq, Eq, Error)]
 #[error("the bytes could not be written")]
 pub struct Failed;
+
+impl From<io::Error> for Failed {
+    fn from(_error: io::Error) -> Failed {
+        Failed
+    }
+}
 
 /// Files that are read and written whole, by name.
 ///
