@@ -1,0 +1,4 @@
+pub mod Fronts
+pub mod ReportTexts
+pub mod PattmpTexts
+pub mod CellsTexts
