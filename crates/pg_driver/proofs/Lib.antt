@@ -22,3 +22,5 @@ pub mod OpenPositions
 pub mod OpenPlaces
 pub mod OpenSteps
 pub mod OpenLevels
+pub mod CarriedTotals
+pub mod OpenTraces
