@@ -2,7 +2,7 @@ pub mod Bools
 pub mod Greatest
 pub mod Orders
 pub mod Maps
-pub mod Rows
+pub mod OneString
 pub mod Indexed
 pub mod Strings
 pub mod Starts
