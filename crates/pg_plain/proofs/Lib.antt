@@ -9,3 +9,4 @@ pub mod Starts
 pub mod Covers
 pub mod Counted
 pub mod Entered
+pub mod Known
