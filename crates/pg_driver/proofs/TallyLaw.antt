@@ -10,7 +10,7 @@ use Rattle.pg_patterns.proofs.Ordered.{equal_is}
 use Rattle.pg_select.specs.Meanings.{Counts, with_weight, sums_of, with_sight}
 use Rattle.pg_select.specs.Sights.{Sight, same_signs, with_window, good_of, bad_of, tally}
 use Rattle.pg_driver.proofs.Puts.{cmp}
-use Rattle.pg_driver.specs.Settling.{candidate_of}
+use Rattle.pg_driver.specs.Choosing.{candidate_of}
 
 abbrev Windows : Type 0
 Windows = List (List ℕ × Unit {0})

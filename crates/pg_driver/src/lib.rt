@@ -1,11 +1,10 @@
 //! The driver: the run over levels and passes, for any engine.
 #![tactic(auto)]
 
-mod candidates;
+mod choices;
 mod closed;
 mod counted;
 mod dots;
-pub mod laws;
 mod level;
 mod levels;
 mod marks;
