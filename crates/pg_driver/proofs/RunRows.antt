@@ -159,7 +159,10 @@ cells = cells_account 4 (root 4) [] (trace (source two_words) (one_level (level 
 layout_at_start : cells.start ≡ record { taken = 4; top = 4; tails = 0 }
 layout_at_start = refl
 
-layouts_of_passes : map (λ (p : Pass × ℕ × ℕ). (p.0.dot, p.1)) cells.passes ≡ (1, 7, 8) ∷ (0, 9, 10) ∷ (2, 10, 10) ∷ []
+abbrev by_dot : Pass × ℕ × ℕ → ℕ × ℕ × ℕ
+by_dot p = (p.0.dot, p.1, p.2)
+
+layouts_of_passes : map by_dot cells.passes ≡ (1, 7, 8) ∷ (0, 9, 10) ∷ (2, 10, 10) ∷ []
 unfolding with_sign
 layouts_of_passes = refl
 
