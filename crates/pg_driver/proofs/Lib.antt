@@ -15,3 +15,10 @@ pub mod SkipLaw
 pub mod LevelSteps
 pub mod RunSteps
 pub mod ToldSteps
+pub mod DotBits
+pub mod OpenPositions
+pub mod OpenPlaces
+pub mod OpenSteps
+pub mod OpenLevels
+pub mod CarriedTotals
+pub mod OpenTraces

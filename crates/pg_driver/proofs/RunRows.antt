@@ -5,11 +5,13 @@ use Rattle.pg_types.specs.declared.parameters.LevelParams.{LevelParams}
 use Rattle.pg_types.specs.Parameters.{Parameters}
 use Rattle.pg_types.specs.Placement.{root, with_sign}
 use Rattle.pg_dict.specs.Word.{Word}
-use Rattle.pg_select.specs.Sights.{Candidate, Pass, tally, sights}
+use Rattle.pg_select.specs.declared.pass.Pass.{Pass}
+use Rattle.pg_select.specs.Sights.{Candidate, tally, sights}
 use Rattle.pg_driver.specs.Dots.{order}
 use Rattle.pg_driver.specs.Accounts.{Account, LevelLine, PassLine, account, begun}
 use Rattle.pg_driver.specs.Layouts.{CellsAccount, cells_account}
-use Rattle.pg_driver.specs.Traces.{Patterns, Source, final_patterns, trace}
+use Rattle.pg_select.specs.Windows.{Patterns}
+use Rattle.pg_driver.specs.Traces.{Source, final_patterns, trace}
 
 -- a word of these signs, with these hyphens, and with weight 1 everywhere
 abbrev word : List ℕ → List Bool → Word

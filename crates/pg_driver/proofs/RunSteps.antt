@@ -12,8 +12,8 @@ use Rattle.pg_types.specs.Parameters.{Parameters}
 use Rattle.pg_types.specs.Placement.{Families, kept, taken, top}
 use Rattle.pg_types.specs.Tails.{tails}
 use Rattle.pg_select.specs.Meanings.{IsLayout, Meaning, ended}
-use Rattle.pg_select.specs.Sights.{Pass}
-use Rattle.pg_select.specs.Windows.{Hopeless as HopelessPlaces}
+use Rattle.pg_select.specs.declared.pass.Pass.{Pass}
+use Rattle.pg_select.specs.Windows.{Hopeless as HopelessPlaces, Patterns}
 use Rattle.pg_driver.specs.declared.records.LevelRecord.{LevelRecord}
 use Rattle.pg_driver.specs.Accounts.{LevelLine, begun, begun_among, chosen_by, has_candidate, level_line, pass_line, pass_lines, totals_by}
 use Rattle.pg_driver.specs.Layouts.{after_level, after_passes, at_level_end, final_families, layout_of, level_layout, levels_with_families, pass_layouts, strings_in}
@@ -21,7 +21,7 @@ use Rattle.pg_driver.specs.Levels.{AreRecorded, DidLevel, DidRun, all_made_by, l
 use Rattle.pg_driver.specs.Sound.{Recorded, with_level}
 use Rattle.pg_driver.specs.States.{State, state_at_end, state_of}
 use Rattle.pg_driver.specs.Told.{known_of, layout_told, level_layout_told, level_line_of, line_of}
-use Rattle.pg_driver.specs.Traces.{Known, LevelTrace, PassTrace, Patterns, Source, Trace, at_start, final_patterns, known_at_end, level_made, levels_made, passes_made, passes_of, patterns_after, trace}
+use Rattle.pg_driver.specs.Traces.{Known, LevelTrace, PassTrace, Source, Trace, at_start, final_patterns, known_at_end, level_made, levels_made, passes_made, passes_of, patterns_after, trace}
 use Rattle.pg_driver.proofs.WordSteps.{drop_place}
 
 -- the end of a level

@@ -9,7 +9,7 @@ use Rattle.std.proofs.lemmas.List.Elements.{filter-append}
 use Rattle.std.proofs.lemmas.List.Folds.{list_any-append}
 use Rattle.std.proofs.lemmas.List.Sums.{fold-append, sum_by_push}
 use Rattle.pg_types.specs.Placement.{Families, taken, top}
-use Rattle.pg_select.specs.Sights.{Pass}
+use Rattle.pg_select.specs.declared.pass.Pass.{Pass}
 use Rattle.pg_driver.specs.Accounts.{begun_among, chosen_by, has_candidate, is_skippable, left_none, makes_skippable}
 use Rattle.pg_driver.specs.Layouts.{after_pass, after_passes, pass_layouts, passes_with_families}
 use Rattle.pg_driver.specs.Levels.{layouts_in}

@@ -7,9 +7,10 @@ use Rattle.pg_types.specs.declared.marks.Layout.{Layout}
 use Rattle.pg_types.specs.declared.parameters.LevelParams.{LevelParams}
 use Rattle.pg_types.specs.Placement.{Families}
 use Rattle.pg_select.specs.Meanings.{Meaning}
-use Rattle.pg_select.specs.Sights.{Pass}
+use Rattle.pg_select.specs.declared.pass.Pass.{Pass}
 use Rattle.pg_select.specs.Laws.{IsClosed}
-use Rattle.pg_driver.specs.Traces.{Patterns, Known, Source, PassTrace, LevelTrace, Trace, patterns_after, final_patterns, known_at_end, passes_made, at_start}
+use Rattle.pg_select.specs.Windows.{Patterns}
+use Rattle.pg_driver.specs.Traces.{Known, Source, PassTrace, LevelTrace, Trace, patterns_after, final_patterns, known_at_end, passes_made, at_start}
 use Rattle.pg_driver.specs.Accounts.{pass_line, pass_lines, has_candidate, chosen_by, level_line, is_skippable, begun_among, begun}
 use Rattle.pg_driver.specs.Layouts.{pass_layouts, after_level, final_families, levels_with_families, level_layout}
 use Rattle.pg_driver.specs.Sound.{Recorded}

@@ -8,3 +8,6 @@ pub mod Told
 pub mod States
 pub mod Choosing
 pub mod Levels
+pub mod DotSets
+pub mod OpenPositions
+pub mod OpenLevels

@@ -6,7 +6,7 @@ use Rattle.pg_types.specs.Placement.{Families, taken, top}
 use Rattle.pg_select.specs.Meanings.{Meaning}
 use Rattle.pg_driver.specs.declared.pass.Pass.{Pass as HeldPass}
 use Rattle.pg_driver.specs.declared.records.PassRecord.{PassRecord}
-use Rattle.pg_select.specs.Sights.{Pass}
+use Rattle.pg_select.specs.declared.pass.Pass.{Pass}
 use Rattle.pg_driver.specs.Traces.{Known, Source, PassTrace, known_after, known_at_end, pass_made}
 use Rattle.pg_driver.specs.Accounts.{pass_line}
 use Rattle.pg_driver.specs.Layouts.{after_pass, after_passes}

@@ -11,13 +11,10 @@ use Rattle.pg_patterns.specs.Values.{raise}
 use Rattle.pg_select.specs.declared.choice.Choice.{Choice}
 use Rattle.pg_select.specs.declared.choice.Choice.TheVariants.{Hopeless, Chosen, Left}
 use Rattle.pg_select.specs.Choices.{choice}
-use Rattle.pg_select.specs.Windows.{Hopeless as HopelessPlaces}
-use Rattle.pg_select.specs.Sights.{Pass, Minima, Candidate, sights, tally}
+use Rattle.pg_select.specs.Windows.{Patterns, Hopeless as HopelessPlaces}
+use Rattle.pg_select.specs.declared.pass.Pass.{Pass}
+use Rattle.pg_select.specs.Sights.{Minima, Candidate, sights, tally}
 use Rattle.pg_driver.specs.Dots.{order}
-
--- patterns: to each place, which is signs with a dot, its value
-abbrev pub Patterns : Type 0
-Patterns = List ((List ℕ × ℕ) × ℕ)
 
 -- what a run is over: the minima of the table, and the words
 pub record Source : Type 0 where

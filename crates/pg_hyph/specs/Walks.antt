@@ -6,7 +6,7 @@ abbrev pub by_list : (ℕ × ℕ → ℕ) → ℕ → List (ℕ × ℕ) → ℕ 
 by_list force start [] p = 0
 by_list force start (x ∷ xs) p = max (if nat_eq (start + x.1) p then force x else 0) (by_list force start xs p)
 
--- the forces are those of strings of so many signs, and F gives the list of each string
+-- the forces are those of strings of so many signs, and F value_by the list of each string
 module _ (force : ℕ → ℕ × ℕ → ℕ) (F : List ℕ → List (ℕ × ℕ)) where
   -- the same for the strings that stand from `start` on, of which q is behind and the rest is ahead
   abbrev pub by_strings : ℕ → List ℕ → List ℕ → ℕ → ℕ

@@ -1,16 +1,16 @@
 -- What the driver gives is the selection.
-use Rattle.std.proofs.Common.{◌≡◌, ℕ, ◌+◌, List, None, ap, ◌∙◌, subst, sym}
+use Rattle.std.proofs.Common.{◌≡◌, ℕ, ◌+◌, List, None, Some, ap, ◌∙◌, subst, sym}
 use Rattle.pg_types.specs.Parameters.{Parameters}
 use Rattle.pg_translate.specs.Alphabets.{Alphabet, letters_of}
 use Rattle.pg_dict.specs.Word.{Word, SignsAtMost}
 use Rattle.pg_patterns.specs.Texts.{pattern_text}
 use Rattle.pg_patterns.specs.Values.{SignsUpTo}
-use Rattle.pg_packed.specs.Engines.{fresh}
 use Rattle.pg_packed.specs.Starts.{entered_all}
-use Rattle.pg_select.specs.Meanings.{Meaning}
+use Rattle.pg_select.specs.Meanings.{Meaning, new_engine}
 use Rattle.pg_select.specs.Sums.{totals}
 use Rattle.pg_driver.specs.Runs.{Run}
-use Rattle.pg_driver.specs.Views.{minima_of, run_from}
+use Rattle.pg_driver.specs.Told.{minima_of}
+use Rattle.pg_driver.specs.Views.{run_from}
 use Rattle.pg_driver.proofs.FamilyLaw.{run_without_families}
 use Rattle.pg_top.specs.PrintedLines.{done_line}
 use Rattle.pg_types.specs.declared.marks.Totals.{Totals}
@@ -18,10 +18,10 @@ use Rattle.pg_top.specs.Selection.{source_of, selected, selected_text, selected_
 use Rattle.pg_top.proofs.SelectedSigns.{SignsUpTo-run}
 
 -- the final patterns of the run from a fresh engine with the signs of the table; its families change nothing of them
-pub final_patterns : (t : Alphabet) (words : List Word) (parameters : Parameters) (m : Meaning) (n : ℕ) (S : List ((List ℕ × ℕ) × ℕ)) → m ≡ fresh n S → n ≡ letters_of t + 1 → (run_from t words parameters m).state.patterns ≡ selected t parameters S words
+pub final_patterns : (t : Alphabet) (words : List Word) (parameters : Parameters) (m : Meaning) (n : ℕ) (S : List ((List ℕ × ℕ) × ℕ)) → m ≡ new_engine n S (Some (entered_all n S)) → n ≡ letters_of t + 1 → (run_from t words parameters m).state.patterns ≡ selected t parameters S words
 unfolding selected
 final_patterns t words parameters m n S e f =
-    ap (λ x. (run_from t words parameters x).state.patterns) (e ∙ ap (λ k. fresh k S) f)
+    ap (λ x. (run_from t words parameters x).state.patterns) (e ∙ ap (λ k. new_engine k S (Some (entered_all k S))) f)
     ∙ ap (λ (r : Run). r.state.patterns) (run_without_families (source_of t words) parameters S (entered_all (letters_of t + 1) S))
 
 pub final_totals : (t : Alphabet) (words : List Word) (parameters : Parameters) (S P : List ((List ℕ × ℕ) × ℕ)) → P ≡ selected t parameters S words → totals (minima_of t) words P ≡ selected_totals t parameters S words

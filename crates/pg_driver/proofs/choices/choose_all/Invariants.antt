@@ -1,7 +1,7 @@
 use Rattle.std.proofs.Common.{◌≡◌, ◌+◌, ◌*◌, ◌≤◌, length, map}
 use Rattle.std.specs.List.{sum_by}
 use Rattle.pg_types.specs.declared.limits.TheConstants.{WEIGHT_MAX, FILE_MAX}
-use Rattle.pg_select.specs.Meanings.{above}
+use Rattle.pg_types.specs.Counts.{above}
 use Rattle.pg_driver.specs.Choosing.{candidate_of, with_candidates, no_choices}
 use Rattle.pg_driver.specs.States.{state_of}
 use Rattle.pg_driver.proofs.ChoiceSteps.{KeepsButState, state_with}
