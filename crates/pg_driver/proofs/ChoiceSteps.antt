@@ -19,12 +19,12 @@ use Rattle.pg_select.specs.Meanings.{Meaning}
 use Rattle.pg_select.specs.declared.pass.Pass.{Pass}
 use Rattle.pg_select.specs.Sights.{Candidate}
 use Rattle.pg_select.specs.Windows.{Hopeless as HopelessPlaces}
-use Rattle.pg_driver.specs.declared.candidates.Settled.{Settled}
+use Rattle.pg_driver.specs.declared.choices.Choices.{Choices}
 use Rattle.pg_driver.specs.Counting.{is_filled, weight_in}
-use Rattle.pg_driver.specs.Runs.{State, state_after, chosen_of, hopeless_of, settled_of, is_chosen, is_hopeless, is_left, fate}
+use Rattle.pg_driver.specs.Choosing.{candidate_of, with_candidates, HasChosen}
+use Rattle.pg_driver.specs.States.{State, state_of, state_after}
+use Rattle.pg_driver.specs.Traces.{choice_of, chosen_of, hopeless_of, entered_of, is_chosen, is_hopeless, is_left}
 use Rattle.pg_driver.proofs.Puts.{cmp}
-use Rattle.pg_driver.specs.Settling.{candidate_of, with_candidates, Settles}
-use Rattle.pg_driver.specs.Views.{state_of}
 
 abbrev Entry : Type 0
 Entry = List ℕ × (ℕ × ℕ)
@@ -63,58 +63,65 @@ pub bad_within : (counts : Counts) → sum_by (λ (c : Candidate). c.bad) (map c
 bad_within [] = omega arith
 bad_within (e ∷ es) = omega (arith, bad_within es, sum_by-cons (λ (c : Candidate). c.bad) (candidate_of e) (map candidate_of es), sum_by-cons (λ (e : Entry). e.1.0 + e.1.1) e es)
 
-abbrev state_with : List ((List ℕ × ℕ) × ℕ) → HopelessPlaces → Option Families → State
-state_with P H fs = record { patterns = P; hopeless = H; families = fs }
+abbrev state : List ((List ℕ × ℕ) × ℕ) → HopelessPlaces → Option Families → State
+state P H fs = record { known = record { patterns = P; hopeless = H }; families = fs }
 
-same_states : (P Q : List ((List ℕ × ℕ) × ℕ)) (H I : HopelessPlaces) (fs gs : Option Families) → P ≡ Q → H ≡ I → fs ≡ gs → state_with P H fs ≡ state_with Q I gs
-same_states P Q H I fs gs p q r = λ i. record { patterns = p i; hopeless = q i; families = r i }
+same_states : (P Q : List ((List ℕ × ℕ) × ℕ)) (H I : HopelessPlaces) (fs gs : Option Families) → P ≡ Q → H ≡ I → fs ≡ gs → state P H fs ≡ state Q I gs
+same_states P Q H I fs gs p q r = λ i. record { known = record { patterns = p i; hopeless = q i }; families = r i }
+
+-- the state after a pass that has these candidates
+abbrev pub state_with : ℕ → LevelParams → Pass → State → List Candidate → State
+state_with signs params pass s cs = state_after signs s.families (record { pass = pass; params = params; before = s.known; candidates = cs })
 
 families_append : (signs : ℕ) (xs ys : List Candidate) (o : Option Families) → option_map (λ fs. fold (λ fs c. enter signs fs c.window) fs (xs ++ ys)) o ≡ option_map (λ fs. fold (λ fs c. enter signs fs c.window) fs ys) (option_map (λ fs. fold (λ fs c. enter signs fs c.window) fs xs) o)
 families_append signs xs ys None = refl
 families_append signs xs ys (Some fs) = ap (λ (gs : Families). Some gs) (fold-append (λ (fs : Families) (c : Candidate). enter signs fs c.window) fs xs ys)
 
 -- some candidates, and then others
-pub state_append : (signs : ℕ) (level : LevelParams) (pass : Pass) (s : State) (xs ys : List Candidate) → state_after signs level pass s (xs ++ ys) ≡ state_after signs level pass (state_after signs level pass s xs) ys
-state_append signs level pass s xs ys =
+pub state_append : (signs : ℕ) (params : LevelParams) (pass : Pass) (s : State) (xs ys : List Candidate) → state_with signs params pass s (xs ++ ys) ≡ state_with signs params pass (state_with signs params pass s xs) ys
+state_append signs params pass s xs ys =
     same_states _ _ _ _ _ _
-    (ap (fold (λ P (c : Candidate). raise P (c.window, pass.dot) pass.level) s.patterns) (filter-append (λ c. is_chosen (fate level c)) xs ys) ∙ fold-append (λ P (c : Candidate). raise P (c.window, pass.dot) pass.level) s.patterns (chosen_of level xs) (chosen_of level ys))
-    (ap (fold (λ H (c : Candidate). put place_cmp (c.window, pass.dot) (tt {0}) H) s.hopeless) (filter-append (λ c. is_hopeless (fate level c)) xs ys) ∙ fold-append (λ H (c : Candidate). put place_cmp (c.window, pass.dot) (tt {0}) H) s.hopeless (hopeless_of level xs) (hopeless_of level ys))
-    (ap (λ (cs : List Candidate). option_map (λ fs. fold (λ fs c. enter signs fs c.window) fs cs) s.families) (filter-append (λ c. not (is_left (fate level c))) xs ys) ∙ families_append signs (settled_of level xs) (settled_of level ys) s.families)
+    (ap (fold (λ P (c : Candidate). raise P (c.window, pass.dot) pass.level) s.known.patterns) (filter-append (λ c. is_chosen (choice_of params c)) xs ys)
+    ∙ fold-append (λ P (c : Candidate). raise P (c.window, pass.dot) pass.level) s.known.patterns (chosen_of params xs) (chosen_of params ys))
+    (ap (fold (λ H (c : Candidate). put place_cmp (c.window, pass.dot) (tt {0}) H) s.known.hopeless) (filter-append (λ c. is_hopeless (choice_of params c)) xs ys)
+    ∙ fold-append (λ H (c : Candidate). put place_cmp (c.window, pass.dot) (tt {0}) H) s.known.hopeless (hopeless_of params xs) (hopeless_of params ys))
+    (ap (λ (cs : List Candidate). option_map (λ fs. fold (λ fs c. enter signs fs c.window) fs cs) s.families) (filter-append (λ c. not (is_left (choice_of params c))) xs ys)
+    ∙ families_append signs (entered_of params xs) (entered_of params ys) s.families)
 
 families_none : (o : Option Families) → option_map (λ fs. fs) o ≡ o
 families_none None = refl
 families_none (Some fs) = refl
 
 -- no candidate
-pub state_none : (signs : ℕ) (level : LevelParams) (pass : Pass) (s : State) → state_after signs level pass s [] ≡ s
-state_none signs level pass s = same_states _ _ _ _ _ _ refl refl (families_none s.families)
+pub state_none : (signs : ℕ) (params : LevelParams) (pass : Pass) (s : State) → state_with signs params pass s [] ≡ s
+state_none signs params pass s = same_states _ _ _ _ _ _ refl refl (families_none s.families)
 
-abbrev numbers : ℕ → ℕ → ℕ → ℕ → ℕ → Settled
+abbrev numbers : ℕ → ℕ → ℕ → ℕ → ℕ → Choices
 numbers a b c d e = record { candidates = a; chosen = b; hopeless = c; good = d; bad = e }
 
 same_numbers : (a b c d e f g h j k : ℕ) → a ≡ f → b ≡ g → c ≡ h → d ≡ j → e ≡ k → numbers a b c d e ≡ numbers f g h j k
 same_numbers a b c d e f g h j k p q r s t = λ i. record { candidates = p i; chosen = q i; hopeless = r i; good = s i; bad = t i }
 
-pub numbers_append : (level : LevelParams) (s : Settled) (xs ys : List Candidate) → with_candidates level s (xs ++ ys) ≡ with_candidates level (with_candidates level s xs) ys
-numbers_append level s xs ys =
-    let chosen = filter-append (λ (c : Candidate). is_chosen (fate level c)) xs ys in
-    let hopeless = filter-append (λ (c : Candidate). is_hopeless (fate level c)) xs ys in
+pub numbers_append : (params : LevelParams) (s : Choices) (xs ys : List Candidate) → with_candidates params s (xs ++ ys) ≡ with_candidates params (with_candidates params s xs) ys
+numbers_append params s xs ys =
+    let chosen = filter-append (λ (c : Candidate). is_chosen (choice_of params c)) xs ys in
+    let hopeless = filter-append (λ (c : Candidate). is_hopeless (choice_of params c)) xs ys in
     same_numbers _ _ _ _ _ _ _ _ _ _
     (omega (arith, length-append xs ys))
-    (omega (arith, ap (λ (cs : List Candidate). length cs) chosen, length-append (chosen_of level xs) (chosen_of level ys)))
-    (omega (arith, ap (λ (cs : List Candidate). length cs) hopeless, length-append (hopeless_of level xs) (hopeless_of level ys)))
-    (omega (arith, ap (λ (cs : List Candidate). sum_by (λ c. c.good) cs) chosen, sum_by-append (λ (c : Candidate). c.good) (chosen_of level xs) (chosen_of level ys)))
-    (omega (arith, ap (λ (cs : List Candidate). sum_by (λ c. c.bad) cs) chosen, sum_by-append (λ (c : Candidate). c.bad) (chosen_of level xs) (chosen_of level ys)))
+    (omega (arith, ap (λ (cs : List Candidate). length cs) chosen, length-append (chosen_of params xs) (chosen_of params ys)))
+    (omega (arith, ap (λ (cs : List Candidate). length cs) hopeless, length-append (hopeless_of params xs) (hopeless_of params ys)))
+    (omega (arith, ap (λ (cs : List Candidate). sum_by (λ c. c.good) cs) chosen, sum_by-append (λ (c : Candidate). c.good) (chosen_of params xs) (chosen_of params ys)))
+    (omega (arith, ap (λ (cs : List Candidate). sum_by (λ c. c.bad) cs) chosen, sum_by-append (λ (c : Candidate). c.bad) (chosen_of params xs) (chosen_of params ys)))
 
-pub numbers_none : (level : LevelParams) (s : Settled) → with_candidates level s [] ≡ s
-numbers_none level s = same_numbers _ _ _ _ _ _ _ _ _ _ (omega arith) (omega arith) (omega arith) (omega arith) (omega arith)
+pub numbers_none : (params : LevelParams) (s : Choices) → with_candidates params s [] ≡ s
+numbers_none params s = same_numbers _ _ _ _ _ _ _ _ _ _ (omega arith) (omega arith) (omega arith) (omega arith) (omega arith)
 
 -- what one candidate adds at most
-pub good_adds : (level : LevelParams) (s : Settled) (c : Candidate) → (with_candidates level s (c ∷ [])).good ≤ s.good + c.good
-good_adds level s c = elim (is_chosen (fate level c)) as (λ (b : Bool). s.good + sum_by (λ (c : Candidate). c.good) (cond b (c ∷ []) []) ≤ s.good + c.good) [ true ↦ omega arith | false ↦ omega arith ]
+pub good_adds : (params : LevelParams) (s : Choices) (c : Candidate) → (with_candidates params s (c ∷ [])).good ≤ s.good + c.good
+good_adds params s c = elim (is_chosen (choice_of params c)) as (λ (b : Bool). s.good + sum_by (λ (c : Candidate). c.good) (cond b (c ∷ []) []) ≤ s.good + c.good) [ true ↦ omega arith | false ↦ omega arith ]
 
-pub bad_adds : (level : LevelParams) (s : Settled) (c : Candidate) → (with_candidates level s (c ∷ [])).bad ≤ s.bad + c.bad
-bad_adds level s c = elim (is_chosen (fate level c)) as (λ (b : Bool). s.bad + sum_by (λ (c : Candidate). c.bad) (cond b (c ∷ []) []) ≤ s.bad + c.bad) [ true ↦ omega arith | false ↦ omega arith ]
+pub bad_adds : (params : LevelParams) (s : Choices) (c : Candidate) → (with_candidates params s (c ∷ [])).bad ≤ s.bad + c.bad
+bad_adds params s c = elim (is_chosen (choice_of params c)) as (λ (b : Bool). s.bad + sum_by (λ (c : Candidate). c.bad) (cond b (c ∷ []) []) ≤ s.bad + c.bad) [ true ↦ omega arith | false ↦ omega arith ]
 
 -- what the choice keeps
 abbrev pub KeepsButState : Meaning → Meaning → Type 0
@@ -123,8 +130,8 @@ KeepsButState old new = new ≡ record old { patterns = new.patterns; hopeless =
 pub keeps_on : (m0 m n : Meaning) → KeepsButState m0 m → KeepsButState m n → KeepsButState m0 n
 keeps_on m0 m n first then = then ∙ ap (λ (x : Meaning). record x { patterns = n.patterns; hopeless = n.hopeless; families = n.families; tidy = n.tidy }) first
 
--- a candidate that was settled, and then the rest
-pub state_step : (m0 m n : Meaning) (level : LevelParams) (c : Candidate) (cs : List Candidate) (whole : State) → KeepsButState m0 m → Settles m n level (c ∷ []) → state_after m0.signs level m0.pass (state_of m) (c ∷ cs) ≡ whole → state_after m0.signs level m0.pass (state_of n) cs ≡ whole
-state_step m0 m n level c cs whole kept settles left =
-    let here : state_of n ≡ state_after m0.signs level m0.pass (state_of m) (c ∷ []) = settles.state ∙ ap (λ (x : Meaning). state_after x.signs level x.pass (state_of m) (c ∷ [])) kept in
-    ap (λ (s : State). state_after m0.signs level m0.pass s cs) here ∙ sym (state_append m0.signs level m0.pass (state_of m) (c ∷ []) cs) ∙ left
+-- a candidate, and then the rest
+pub state_step : (m0 m n : Meaning) (params : LevelParams) (c : Candidate) (cs : List Candidate) (whole : State) → KeepsButState m0 m → HasChosen params (c ∷ []) m n → state_with m0.signs params m0.pass (state_of m) (c ∷ cs) ≡ whole → state_with m0.signs params m0.pass (state_of n) cs ≡ whole
+state_step m0 m n params c cs whole kept has left =
+    let here : state_of n ≡ state_with m0.signs params m0.pass (state_of m) (c ∷ []) = has.state ∙ ap (λ (x : Meaning). state_with x.signs params x.pass (state_of m) (c ∷ [])) kept in
+    ap (λ (s : State). state_with m0.signs params m0.pass s cs) here ∙ sym (state_append m0.signs params m0.pass (state_of m) (c ∷ []) cs) ∙ left
