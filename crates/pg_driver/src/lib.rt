@@ -1,13 +1,12 @@
 //! The driver: the run over levels and passes, for any engine.
 #![tactic(auto)]
 
-mod candidates;
 mod carried_totals;
+mod choices;
 mod closed;
 mod counted;
 mod dot_set;
 mod dots;
-pub mod laws;
 mod level;
 mod levels;
 mod marks;

@@ -7,7 +7,7 @@ ghost use Rattle.pg_dict.specs.Word.{IsWord, SignsAtMost};
 ghost use Rattle.pg_dict.specs.Lent.{word_of};
 ghost use Rattle.pg_select.specs.Statuses.{is_odd};
 ghost use Rattle.pg_driver.specs.Counting.{counting, HasRoom, TookRoom};
-ghost use Rattle.pg_driver.specs.Views.{pass_of};
+ghost use Rattle.pg_driver.specs.States.{pass_of};
 ghost use Rattle.pg_driver.specs.DotSets.{has_dot};
 ghost use Rattle.pg_driver.specs.OpenLevels.{closed_dots_after, position_after};
 ghost use Rattle.pg_driver.specs.OpenPositions.{counted_in, counted_of, IsPlaced};

@@ -1,4 +1,4 @@
-use Rattle.pg_driver.specs.Views.{pass_of}
+use Rattle.pg_driver.specs.States.{pass_of}
 use Rattle.pg_driver.specs.declared.open_positions.OpenPosition.{OpenPosition}
 use Rattle.pg_driver.specs.OpenLevels.{position_after}
 use Rattle.pg_driver.proofs.OpenSteps.{changed_step}

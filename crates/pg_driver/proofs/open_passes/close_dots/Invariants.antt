@@ -1,5 +1,5 @@
 use Rattle.std.proofs.Common.{◌≡◌, ◌++◌, map, take, drop}
-use Rattle.pg_driver.specs.Views.{pass_of}
+use Rattle.pg_driver.specs.States.{pass_of}
 use Rattle.pg_driver.specs.OpenLevels.{position_after}
 use Rattle.pg_driver.proofs.open_passes.close_dots.Given as goal
 
