@@ -6,145 +6,148 @@ use std::os::unix::fs::{MetadataExt, PermissionsExt, symlink};
 use std::test::Fail;
 use std::{fs, io, rt};
 
-/// The first name that is tried for a new file.
-const NEW: &str = "patgen-new-0";
+/// Whether the file of this name holds these bytes.
+fn holds<R: rt::Files + Alloc<A = Global>>(rt: &R, name: &str, bytes: &[u8]) -> bool {
+    fs::read(rt, name).is_ok_and(|held| held.as_slice() == bytes)
+}
 
-#[test]
-fn reads_of_real_files(rt: HostRuntime) -> Result<(), Fail> {
-    let alloc = rt.alloc();
-    let mut files = HostFiles::new(alloc, &rt);
-    fs::write(&rt, "D", b"a-b\n")?;
-    fs::create_dir(&rt, "F")?;
-    symlink(&rt, "D", "S")?;
-    let table: [(&str, usize, Result<(), ReadError>, &[u8]); 6] = [
-        ("D", 5, Ok(()), b"a-b\n"),
-        ("D", 4, Ok(()), b"a-b\n"),
-        ("S", 4, Ok(()), b"a-b\n"),
-        ("D", 3, Err(ReadError::TooLong), b"a-b\n"),
-        ("missing", 5, Err(ReadError::Failed), b""),
-        ("F", 5, Err(ReadError::Failed), b""),
-    ];
-    for (name, limit, wanted, bytes) in table {
-        let mut into = Vec::new(alloc);
-        assert_eq!(rt;
-            files.read(alloc, name, limit, &mut into),
-            wanted,
-            "{name}, limit {limit}"
-        );
-        assert_eq!(rt; into.as_slice(), bytes, "{name}, limit {limit}");
+/// Whether a new file stands in the folder that is worked in.
+fn is_new_file_left(rt: &impl rt::Files) -> bool {
+    fs::symlink_metadata(rt, "patgen-new-0").is_ok()
+}
+
+/// Writes the file of a name after a read of another.
+fn write_after_reading<R: rt::Files + Alloc<A = Global>>(
+    rt: &R,
+    read: &str,
+    name: &str,
+) -> Result<(), Failed> {
+    let mut files = HostFiles::new(rt.alloc(), rt);
+    let mut into = Vec::new(rt.alloc());
+    if files.read(rt.alloc(), read, 9, &mut into).is_err() {
+        return Ok(());
     }
-    Ok(())
+    files.write(name, b"a1b\n")
+}
+
+/// A file D and other names of it, a folder, and a link without a file.
+fn make_names(rt: &impl rt::Files) -> io::Result<()> {
+    fs::write(rt, "D", b"a-b\n")?;
+    fs::hard_link(rt, "D", "hard")?;
+    symlink(rt, "D", "soft")?;
+    symlink(rt, "later", "dangling")?;
+    fs::create_dir(rt, "folder")
 }
 
 #[test]
-fn a_file_is_replaced_as_a_whole(rt: HostRuntime) -> Result<(), Fail> {
-    let mut files = HostFiles::new(rt.alloc(), &rt);
-    files.write("O", b"longer than later")?;
-    fs::set_permissions(&rt, "O", Permissions::from_mode(0o640))?;
-    fs::hard_link(&rt, "O", "before")?;
-    fs::write(&rt, NEW, b"of another")?;
-    files.write("P", b"a1b\n")?;
-    files.write("./P", b"b1c\n")?;
-    files.write("O", b"a1b\n")?;
-    let table: [(&str, &[u8]); 4] = [
-        ("O", b"a1b\n"),
-        ("P", b"b1c\n"),
-        ("before", b"longer than later"),
-        (NEW, b"of another"),
+fn reads_of_real_files(rt: HostRuntime) -> Result<(), Fail> {
+    make_names(&rt)?;
+    let table: [(&str, usize, Result<(), ReadError>, &[u8]); 6] = [
+        ("D", 5, Ok(()), b"a-b\n"),
+        ("D", 4, Ok(()), b"a-b\n"),
+        ("soft", 4, Ok(()), b"a-b\n"),
+        ("D", 3, Err(ReadError::TooLong), b"a-b\n"),
+        ("missing", 5, Err(ReadError::Failed), b""),
+        ("folder", 5, Err(ReadError::Failed), b""),
     ];
-    for (name, bytes) in table {
-        assert_eq!(rt; fs::read(&rt, name)?.as_slice(), bytes, "{name}");
+    for (name, limit, wanted, bytes) in table {
+        let mut into = Vec::new(rt.alloc());
+        let result = HostFiles::new(rt.alloc(), &rt).read(rt.alloc(), name, limit, &mut into);
+        assert_eq!(rt; result, wanted);
+        assert_eq!(rt; into.as_slice(), bytes);
     }
-    assert_eq!(rt; fs::metadata(&rt, "O")?.mode() & 0o777, 0o640);
-    assert!(rt; !fs::exists(&rt, "patgen-new-1")?);
     Ok(())
 }
 
 #[test]
 fn what_was_read_is_not_written(rt: HostRuntime) -> Result<(), Fail> {
-    let alloc = rt.alloc();
-    let mut files = HostFiles::new(alloc, &rt);
-    fs::write(&rt, "D", b"a-b\n")?;
-    fs::hard_link(&rt, "D", "hard")?;
-    symlink(&rt, "D", "soft")?;
-    let mut into = Vec::new(alloc);
-    files.read(alloc, "D", 9, &mut into)?;
+    make_names(&rt)?;
     for name in ["D", "./D", "hard", "soft"] {
-        assert_eq!(rt; files.write(name, b"a1b\n"), Err(Failed), "{name}");
-        assert_eq!(rt;
-            fs::read(&rt, "D")?.as_slice(),
-            b"a-b\n".as_slice(),
-            "{name}"
-        );
-        assert!(rt; !fs::exists(&rt, NEW)?);
+        assert_eq!(rt; write_after_reading(&rt, "D", name), Err(Failed));
+        assert!(rt; holds(&rt, "D", b"a-b\n"));
+        assert!(rt; !is_new_file_left(&rt));
     }
-    assert!(rt; fs::symlink_metadata(&rt, "soft")?.is_symlink());
     Ok(())
 }
 
 #[test]
 fn names_that_are_not_written(rt: HostRuntime) -> Result<(), Fail> {
-    let mut files = HostFiles::new(rt.alloc(), &rt);
-    fs::create_dir(&rt, "F")?;
-    for name in ["F", ".", "", "missing/O", "O/", "/dev/full"] {
-        assert_eq!(rt; files.write(name, b"a1b\n"), Err(Failed), "{name}");
-        assert!(rt; !fs::exists(&rt, NEW)?, "{name}");
+    make_names(&rt)?;
+    for name in ["folder", ".", "", "missing/O", "O/", "/dev/full"] {
+        assert_eq!(rt; write_after_reading(&rt, "D", name), Err(Failed));
+        assert!(rt; !is_new_file_left(&rt));
     }
-    Ok(())
-}
-
-#[test]
-fn a_folder_without_permission(rt: HostRuntime) -> Result<(), Fail> {
-    let mut files = HostFiles::new(rt.alloc(), &rt);
-    fs::create_dir(&rt, "F")?;
-    if fs::metadata(&rt, "F")?.uid() == 0 {
-        println!(rt; "skipped as root: a folder without permission")?;
-        return Ok(());
-    }
-    files.write("F/O", b"a1b\n")?;
-    fs::set_permissions(&rt, "F", Permissions::from_mode(0o500))?;
-    let outcomes = [files.write("F/O", b"b1c\n"), files.write("F/P", b"b1c\n")];
-    let held = fs::read(&rt, "F/O")?;
-    fs::set_permissions(&rt, "F", Permissions::from_mode(0o700))?;
-    assert_eq!(rt; outcomes, [Err(Failed), Err(Failed)]);
-    assert_eq!(rt; held.as_slice(), b"a1b\n".as_slice());
     Ok(())
 }
 
 #[test]
 fn written_in_place(rt: HostRuntime) -> Result<(), Fail> {
-    let mut files = HostFiles::new(rt.alloc(), &rt);
-    fs::write(&rt, "target", b"longer than later")?;
-    symlink(&rt, "target", "soft")?;
-    symlink(&rt, "later", "dangling")?;
+    make_names(&rt)?;
+    fs::write(&rt, "other", b"x")?;
     for name in ["soft", "dangling", "/dev/null"] {
-        assert_eq!(rt; files.write(name, b"a1b\n"), Ok(()), "{name}");
+        assert_eq!(rt; write_after_reading(&rt, "other", name), Ok(()));
     }
-    for name in ["target", "later"] {
-        assert_eq!(rt;
-            fs::read(&rt, name)?.as_slice(),
-            b"a1b\n".as_slice(),
-            "{name}"
-        );
+    for name in ["D", "soft", "later"] {
+        assert!(rt; holds(&rt, name, b"a1b\n"));
     }
     assert!(rt; fs::symlink_metadata(&rt, "soft")?.is_symlink());
     Ok(())
 }
 
-/// Writes O over this system, and gives the outcome and what O then holds.
+#[test]
+fn a_file_is_replaced_as_a_whole(rt: HostRuntime) -> Result<(), Fail> {
+    make_names(&rt)?;
+    fs::write(&rt, "patgen-new-0", b"x")?;
+    fs::set_permissions(&rt, "D", Permissions::from_mode(0o640))?;
+    for name in ["D", "./D", "N", "folder/N"] {
+        assert_eq!(rt; write_after_reading(&rt, "patgen-new-0", name), Ok(()));
+        assert!(rt; holds(&rt, name, b"a1b\n"));
+    }
+    assert!(rt; holds(&rt, "hard", b"a-b\n"));
+    assert!(rt; holds(&rt, "patgen-new-0", b"x"));
+    assert_eq!(rt; fs::metadata(&rt, "D")?.mode() & 0o777, 0o640);
+    assert!(rt; !fs::exists(&rt, "patgen-new-1")?);
+    Ok(())
+}
+
+/// Writes a file that is there and one that is not in this folder, where it may not be written to.
+fn written_within(
+    rt: &(impl rt::Files + Alloc<A = Global>),
+) -> io::Result<[Result<(), Failed>; 2]> {
+    fs::set_permissions(rt, "folder", Permissions::from_mode(0o500))?;
+    let outcomes = [
+        write_after_reading(rt, "D", "folder/O"),
+        write_after_reading(rt, "D", "folder/N"),
+    ];
+    fs::set_permissions(rt, "folder", Permissions::from_mode(0o700))?;
+    Ok(outcomes)
+}
+
+#[test]
+fn a_folder_without_permission(rt: HostRuntime) -> Result<(), Fail> {
+    make_names(&rt)?;
+    fs::write(&rt, "folder/O", b"x")?;
+    if fs::metadata(&rt, "folder")?.uid() == 0 {
+        println!(rt; "skipped as root: a folder without permission")?;
+        return Ok(());
+    }
+    assert_eq!(rt; written_within(&rt)?, [Err(Failed), Err(Failed)]);
+    assert!(rt; holds(&rt, "folder/O", b"x"));
+    Ok(())
+}
+
+/// Writes O over a system whose calls go so.
 fn written_over<R: rt::Files + Alloc<A = Global>>(
     rt: &R,
     calls: &[Call],
     broken: Broken,
-) -> io::Result<(Result<(), Failed>, Vec<u8>)> {
-    fs::write(rt, "O", b"old")?;
+) -> Result<(), Failed> {
     let system = ScriptedSystem {
         system: rt,
         calls,
         broken,
     };
-    let result = HostFiles::new(rt.alloc(), &system).write("O", b"a1b\n");
-    Ok((result, fs::read(rt, "O")?))
+    HostFiles::new(rt.alloc(), &system).write("O", b"a1b\n")
 }
 
 #[test]
@@ -169,10 +172,10 @@ fn steps_that_fail(rt: HostRuntime) -> Result<(), Fail> {
         (&[], Broken::Rename, Err(Failed), b"old"),
     ];
     for (calls, broken, wanted, bytes) in table {
-        let (result, held) = written_over(&rt, calls, broken)?;
-        assert_eq!(rt; result, wanted);
-        assert_eq!(rt; held.as_slice(), bytes);
-        assert!(rt; !fs::exists(&rt, NEW)?);
+        fs::write(&rt, "O", b"old")?;
+        assert_eq!(rt; written_over(&rt, calls, broken), wanted);
+        assert!(rt; holds(&rt, "O", bytes));
+        assert!(rt; !is_new_file_left(&rt));
     }
     Ok(())
 }
