@@ -4,7 +4,7 @@ use std::alloc::Global;
 use std::fs::Permissions;
 use std::os::unix::fs::{MetadataExt, PermissionsExt, symlink};
 use std::test::Fail;
-use std::{fs, io, rt};
+use std::{env, fs, io, rt};
 
 /// Whether the file of this name holds these bytes.
 fn holds<R: rt::Files + Alloc<A = Global>>(rt: &R, name: &str, bytes: &[u8]) -> bool {
@@ -30,8 +30,17 @@ fn write_after_reading<R: rt::Files + Alloc<A = Global>>(
     files.write(name, b"a1b\n")
 }
 
-/// A file D and other names of it, a folder, and a link without a file.
-fn make_names(rt: &impl rt::Files) -> io::Result<()> {
+/// Goes into an empty folder of the test's own.
+pub(super) fn enter_folder(rt: &(impl rt::Files + rt::Env + Alloc), name: &str) -> io::Result<()> {
+    let _ = fs::remove_dir_all(rt, name);
+    fs::create_dir_all(rt, name)?;
+    env::set_current_dir(rt, name)
+}
+
+/// Goes into an empty folder, and makes there a file D and other names of it, a folder, and a link
+/// without a file.
+fn make_names(rt: &(impl rt::Files + rt::Env + Alloc), name: &str) -> io::Result<()> {
+    enter_folder(rt, name)?;
     fs::write(rt, "D", b"a-b\n")?;
     fs::hard_link(rt, "D", "hard")?;
     symlink(rt, "D", "soft")?;
@@ -41,7 +50,7 @@ fn make_names(rt: &impl rt::Files) -> io::Result<()> {
 
 #[test]
 fn reads_of_real_files(rt: HostRuntime) -> Result<(), Fail> {
-    make_names(&rt)?;
+    make_names(&rt, "out/tests/reads_of_real_files")?;
     let table: [(&str, usize, Result<(), ReadError>, &[u8]); 6] = [
         ("D", 5, Ok(()), b"a-b\n"),
         ("D", 4, Ok(()), b"a-b\n"),
@@ -61,7 +70,7 @@ fn reads_of_real_files(rt: HostRuntime) -> Result<(), Fail> {
 
 #[test]
 fn what_was_read_is_not_written(rt: HostRuntime) -> Result<(), Fail> {
-    make_names(&rt)?;
+    make_names(&rt, "out/tests/what_was_read_is_not_written")?;
     for name in ["D", "./D", "hard", "soft"] {
         assert_eq!(rt; write_after_reading(&rt, "D", name), Err(Failed));
         assert!(rt; holds(&rt, "D", b"a-b\n"));
@@ -72,7 +81,7 @@ fn what_was_read_is_not_written(rt: HostRuntime) -> Result<(), Fail> {
 
 #[test]
 fn names_that_are_not_written(rt: HostRuntime) -> Result<(), Fail> {
-    make_names(&rt)?;
+    make_names(&rt, "out/tests/names_that_are_not_written")?;
     for name in ["folder", ".", "", "missing/O", "O/", "/dev/full"] {
         assert_eq!(rt; write_after_reading(&rt, "D", name), Err(Failed));
         assert!(rt; !is_new_file_left(&rt));
@@ -82,7 +91,7 @@ fn names_that_are_not_written(rt: HostRuntime) -> Result<(), Fail> {
 
 #[test]
 fn written_in_place(rt: HostRuntime) -> Result<(), Fail> {
-    make_names(&rt)?;
+    make_names(&rt, "out/tests/written_in_place")?;
     fs::write(&rt, "other", b"x")?;
     for name in ["soft", "dangling", "/dev/null"] {
         assert_eq!(rt; write_after_reading(&rt, "other", name), Ok(()));
@@ -96,7 +105,7 @@ fn written_in_place(rt: HostRuntime) -> Result<(), Fail> {
 
 #[test]
 fn a_file_is_replaced_as_a_whole(rt: HostRuntime) -> Result<(), Fail> {
-    make_names(&rt)?;
+    make_names(&rt, "out/tests/a_file_is_replaced_as_a_whole")?;
     fs::write(&rt, "patgen-new-0", b"x")?;
     fs::set_permissions(&rt, "D", Permissions::from_mode(0o640))?;
     for name in ["D", "./D", "N", "folder/N"] {
@@ -125,7 +134,7 @@ fn written_within(
 
 #[test]
 fn a_folder_without_permission(rt: HostRuntime) -> Result<(), Fail> {
-    make_names(&rt)?;
+    make_names(&rt, "out/tests/a_folder_without_permission")?;
     fs::write(&rt, "folder/O", b"x")?;
     if fs::metadata(&rt, "folder")?.uid() == 0 {
         println!(rt; "skipped as root: a folder without permission")?;
@@ -152,6 +161,7 @@ fn written_over<R: rt::Files + Alloc<A = Global>>(
 
 #[test]
 fn steps_that_fail(rt: HostRuntime) -> Result<(), Fail> {
+    enter_folder(&rt, "out/tests/steps_that_fail")?;
     let table: [(&[Call], Broken, Result<(), Failed>, &[u8]); 7] = [
         (&[], Broken::Nothing, Ok(()), b"a1b\n"),
         (
