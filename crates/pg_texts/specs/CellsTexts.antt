@@ -22,9 +22,13 @@ pass_cells_text p = pass_front p.0 ++ used_text p.1 p.2 ++ codes "\n"
 abbrev pub passes_cells_text : List (Pass × ℕ × ℕ) → ℕ → List ℕ
 passes_cells_text passes level = flat_map pass_cells_text (filter (λ p. p.0.level == level) passes)
 
+-- the line of a level
+abbrev pub level_cells_line : ℕ × Layout → List ℕ
+level_cells_line l = level_front l.0 ++ layout_text l.1
+
 -- the lines of a level: those of its passes, and then its own
 abbrev pub level_cells_text : List (Pass × ℕ × ℕ) → ℕ × Layout → List ℕ
-level_cells_text passes l = passes_cells_text passes l.0 ++ level_front l.0 ++ layout_text l.1
+level_cells_text passes l = passes_cells_text passes l.0 ++ level_cells_line l
 
 -- the cells file
 abbrev pub cells_text : CellsAccount → List ℕ

@@ -40,18 +40,23 @@ weight_text other weight = if weight == other then [] else number_text weight
 abbrev pub letter_text : Alphabet → Word → ℕ → List ℕ
 letter_text t w p = spelling_of t (slice_index w.signs (p - 1))
 
--- a position between two letters: the letter before it, the mark of its status, and its weight where it is not the word's
-abbrev pub position_text : Alphabet → Patterns → Word → ℕ → List ℕ
-position_text t P w p = letter_text t w p ++ mark_text t (status_of_position (minima_of t) P w p) ++ weight_text w.weight (weight_at w p)
+-- a position between two letters: the letter before it, its mark, and its weight where it is not the word's
+abbrev pub position_text : Alphabet → (ℕ → Mark) → Word → ℕ → List ℕ
+position_text t marks w p = letter_text t w p ++ mark_text t (marks p) ++ weight_text w.weight (weight_at w p)
 
--- a word of n letters: the positions 2 to n, which stand between two letters, and then the last letter
-abbrev pub word_text : Alphabet → Patterns → Word → List ℕ
-word_text t P w = flat_map (position_text t P w) (range_with_len 2 (length w.signs - 3)) ++ letter_text t w (length w.signs - 1) ++ codes "\n"
+-- a word of n letters, where its positions have these marks: the positions 2 to n, which stand between two letters, and then the
+-- last letter
+abbrev pub word_text : Alphabet → (ℕ → Mark) → Word → List ℕ
+word_text t marks w = flat_map (position_text t marks w) (range_with_len 2 (length w.signs - 3)) ++ letter_text t w (length w.signs - 1) ++ codes "\n"
+
+-- the status of each position of a word, in reach or not
+abbrev pub statuses : Alphabet → Patterns → Word → ℕ → Mark
+statuses t P w = status_of_position (minima_of t) P w
 
 -- a line for each word, behind a line with this word weight: the word's weight where it is another, and the word
 abbrev pub lines_behind : Alphabet → Patterns → ℕ → List Word → List ℕ
 lines_behind t P weight [] = []
-lines_behind t P weight (w ∷ ws) = weight_text weight w.weight ++ word_text t P w ++ lines_behind t P w.weight ws
+lines_behind t P weight (w ∷ ws) = weight_text weight w.weight ++ word_text t (statuses t P w) w ++ lines_behind t P w.weight ws
 
 -- the list: a line for each word that takes part
 abbrev pub pattmp_text : Alphabet → Patterns → List Word → List ℕ

@@ -18,13 +18,19 @@ warning_line value level = codes "warning: starting value " ++ decimal value ++ 
 abbrev pub warning_text : ℕ → Parameters → List ℕ
 warning_text largest parameters = if nat_le parameters.start parameters.finish && nat_le parameters.start largest then warning_line largest parameters.start else []
 
+-- `C candidates, X chosen, H hopeless, Y left`
+abbrev pub counts_text : PassLine → List ℕ
+counts_text p =
+    decimal p.candidates ++ codes " candidates, " ++ decimal p.chosen ++ codes " chosen, "
+    ++ decimal p.hopeless ++ codes " hopeless, " ++ decimal (p.candidates - p.chosen - p.hopeless) ++ codes " left"
+
+-- `A good, E bad`, the sums over the chosen
+abbrev pub sums_text : PassLine → List ℕ
+sums_text p = decimal p.good ++ codes " good, " ++ decimal p.bad ++ codes " bad"
+
 -- the line of a pass
 abbrev pub pass_text : PassLine → List ℕ
-pass_text p =
-    pass_front p.pass ++ totals_text p.before ++ codes "; "
-    ++ decimal p.candidates ++ codes " candidates, " ++ decimal p.chosen ++ codes " chosen, "
-    ++ decimal p.hopeless ++ codes " hopeless, " ++ decimal (p.candidates - p.chosen - p.hopeless) ++ codes " left; "
-    ++ decimal p.good ++ codes " good, " ++ decimal p.bad ++ codes " bad\n"
+pass_text p = pass_front p.pass ++ totals_text p.before ++ codes "; " ++ counts_text p ++ codes "; " ++ sums_text p ++ codes "\n"
 
 -- the line of a level
 abbrev pub level_line_text : LevelLine → List ℕ
