@@ -4,7 +4,7 @@ use Rattle.std.specs.List.{enumerate_from}
 use Rattle.pg_types.specs.declared.parameters.LevelParams.{LevelParams}
 use Rattle.pg_types.specs.Parameters.{Parameters}
 use Rattle.pg_types.specs.Placement.{Families}
-use Rattle.pg_select.specs.Sights.{Pass}
+use Rattle.pg_select.specs.declared.pass.Pass.{Pass}
 use Rattle.pg_driver.specs.Begun.{CountedRun, Walk, begun, count_level, ended_walk, walk_on}
 use Rattle.pg_driver.specs.Laws.{bare_level, bare_run}
 use Rattle.pg_driver.specs.Runs.{LevelState, Run, Source, level_start, passes_of, run_start}

@@ -1,7 +1,7 @@
 -- The walk that counts the passes which cannot be skipped goes through the states of the run.
 use Rattle.std.proofs.Common.{◌≡◌, ℕ, List, [], ◌∷◌, fold, refl, ap, ◌∙◌}
 use Rattle.pg_types.specs.declared.parameters.LevelParams.{LevelParams}
-use Rattle.pg_select.specs.Sights.{Pass}
+use Rattle.pg_select.specs.declared.pass.Pass.{Pass}
 use Rattle.pg_driver.specs.Runs.{Source, LevelState, after_level, after_pass, ended_level, level_start, passes_of}
 use Rattle.pg_driver.specs.Begun.{CountedRun, Walk, count_level, walk_on}
 

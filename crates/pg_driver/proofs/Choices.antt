@@ -14,8 +14,10 @@ use Rattle.pg_types.specs.declared.parameters.LevelParams.{LevelParams}
 use Rattle.pg_types.specs.Placement.{Families, enter}
 use Rattle.pg_patterns.specs.Places.{place_cmp}
 use Rattle.pg_patterns.specs.Values.{raise}
-use Rattle.pg_select.specs.Meanings.{Meaning, Counts, above, is_counted}
-use Rattle.pg_select.specs.Sights.{Pass, Candidate}
+use Rattle.pg_types.specs.Counts.{Counts, above, is_counted}
+use Rattle.pg_select.specs.Meanings.{Meaning}
+use Rattle.pg_select.specs.declared.pass.Pass.{Pass}
+use Rattle.pg_select.specs.Sights.{Candidate}
 use Rattle.pg_select.specs.Windows.{Hopeless as HopelessPlaces}
 use Rattle.pg_driver.specs.declared.candidates.Settled.{Settled}
 use Rattle.pg_driver.specs.Counting.{is_filled, weight_in}

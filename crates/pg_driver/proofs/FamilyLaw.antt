@@ -5,7 +5,7 @@ use Rattle.std.proofs.lemmas.List.{map_push}
 use Rattle.pg_types.specs.declared.parameters.LevelParams.{LevelParams}
 use Rattle.pg_types.specs.Parameters.{Parameters}
 use Rattle.pg_types.specs.Placement.{Families}
-use Rattle.pg_select.specs.Sights.{Pass}
+use Rattle.pg_select.specs.declared.pass.Pass.{Pass}
 use Rattle.pg_select.specs.Sums.{totals}
 use Rattle.pg_driver.specs.Laws.{bare_level, bare_level_line, bare_line, bare_run, bare_state}
 use Rattle.pg_driver.specs.Runs.{Source, PassLine, LevelLine, LevelState, Run, after_pass, after_level, candidates_of, chosen_of, ended_level, layout_with_tails, level_of, level_start, line_of, passes_of, run, run_start, state_at_end}

@@ -6,7 +6,8 @@ use Rattle.pg_types.specs.declared.parameters.LevelParams.{LevelParams}
 use Rattle.pg_translate.specs.Alphabets.{Alphabet}
 use Rattle.pg_dict.specs.Word.{Word}
 use Rattle.pg_select.specs.Meanings.{Meaning}
-use Rattle.pg_select.specs.Sights.{Pass, Candidate}
+use Rattle.pg_select.specs.declared.pass.Pass.{Pass}
+use Rattle.pg_select.specs.Sights.{Candidate}
 use Rattle.pg_driver.specs.declared.records.PassRecord.{PassRecord}
 use Rattle.pg_driver.specs.Dots.{dot_at}
 use Rattle.pg_driver.specs.Runs.{Source, PassLine, after_candidates, chosen_of, line_of, state_after}

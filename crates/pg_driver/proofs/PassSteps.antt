@@ -8,7 +8,8 @@ use Rattle.pg_types.specs.declared.parameters.LevelParams.{LevelParams}
 use Rattle.pg_translate.specs.Alphabets.{Alphabet}
 use Rattle.pg_dict.specs.Word.{Word}
 use Rattle.pg_select.specs.Meanings.{Meaning, IsLayout, begun_pass}
-use Rattle.pg_select.specs.Sights.{Pass, Sight, Candidate, sights}
+use Rattle.pg_select.specs.declared.pass.Pass.{Pass}
+use Rattle.pg_select.specs.Sights.{Sight, Candidate, sights}
 use Rattle.pg_select.specs.Sums.{totals}
 use Rattle.pg_driver.specs.declared.candidates.Settled.{Settled}
 use Rattle.pg_driver.specs.Counting.{counting}

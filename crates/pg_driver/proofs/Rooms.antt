@@ -8,8 +8,10 @@ use Rattle.std.proofs.lemmas.Bool.{and_parts, leb-true}
 use Rattle.std.proofs.lemmas.List.{length-take, length-drop}
 use Rattle.pg_types.specs.declared.limits.TheConstants.{WEIGHT_MAX, FILE_MAX}
 use Rattle.pg_dict.specs.Word.{Word, IsWord}
-use Rattle.pg_select.specs.Meanings.{Counts, AreSmall, sums_of, with_weight, with_sight}
-use Rattle.pg_select.specs.Sights.{Pass, Sight, sight_at, counts_as}
+use Rattle.pg_types.specs.Counts.{Counts, AreSmall, sums_of, with_weight}
+use Rattle.pg_select.specs.Meanings.{with_sight}
+use Rattle.pg_select.specs.declared.pass.Pass.{Pass}
+use Rattle.pg_select.specs.Sights.{Sight, sight_at, counts_as}
 use Rattle.pg_select.specs.Statuses.{status_at, weight_at}
 use Rattle.pg_select.specs.Windows.{Hopeless, window, fits, covered}
 use Rattle.pg_driver.specs.Counting.{HasRoom, TookRoom}

@@ -3,7 +3,8 @@ use Rattle.std.proofs.Common.{◌≡◌, ℕ, ◌+◌, ◌-◌, ◌<◌, ◌≤�
 use Rattle.std.specs.List.{flat_map, range_with_len}
 use Rattle.std.proofs.lemmas.List.Sums.{fold-append}
 use Rattle.pg_dict.specs.Word.{Word, IsWord}
-use Rattle.pg_select.specs.Meanings.{Meaning, Counts, with_sight}
+use Rattle.pg_types.specs.Counts.{Counts}
+use Rattle.pg_select.specs.Meanings.{Meaning, with_sight}
 use Rattle.pg_select.specs.Positions.{Positions}
 use Rattle.pg_select.specs.Sights.{Minima, Sight, sight_at, sights_in, sights}
 use Rattle.pg_driver.specs.Counting.{counting, IsRead, HasRoom, TookRoom}

@@ -3,7 +3,8 @@ use Rattle.std.specs.Prelude.{ℕ, ◌+◌, ◌==◌, Bool, not, ◌&&◌, ◌||
 use Rattle.std.specs.List.{list_all, list_any, enumerate_from}
 use Rattle.pg_types.specs.declared.parameters.LevelParams.{LevelParams}
 use Rattle.pg_types.specs.Parameters.{Parameters}
-use Rattle.pg_select.specs.Sights.{Pass, Candidate}
+use Rattle.pg_select.specs.declared.pass.Pass.{Pass}
+use Rattle.pg_select.specs.Sights.{Candidate}
 use Rattle.pg_driver.specs.Runs.{Source, LevelState, Run, fate, is_left, candidates_of, after_candidates, level_start, ended_level, passes_of, run_start}
 
 -- a pass that is done, and whether it left no candidate

@@ -9,7 +9,8 @@ use Rattle.pg_types.specs.declared.marks.Mark.{Mark}
 use Rattle.pg_types.specs.declared.marks.Mark.TheVariants.{Found, Error, Missed}
 use Rattle.pg_types.specs.declared.marks.Totals.{Totals}
 use Rattle.pg_dict.specs.Word.{Word, IsWord}
-use Rattle.pg_select.specs.Meanings.{Meaning, Counts, SignsWithin, SetsValues, SetsCovers, with_sight}
+use Rattle.pg_types.specs.Counts.{Counts, SignsWithin}
+use Rattle.pg_select.specs.Meanings.{Meaning, SetsValues, SetsCovers, with_sight}
 use Rattle.pg_select.specs.Positions.{Positions}
 use Rattle.pg_select.specs.Sights.{Sight}
 use Rattle.pg_select.specs.Sums.{is_found, is_error, is_missed, weight_of}

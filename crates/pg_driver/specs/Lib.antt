@@ -7,3 +7,7 @@ pub mod Settling
 pub mod Sound
 pub mod Skips
 pub mod Laws
+pub mod Traces
+pub mod Accounts
+pub mod Layouts
+pub mod Told

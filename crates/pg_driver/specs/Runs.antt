@@ -15,7 +15,8 @@ use Rattle.pg_select.specs.declared.choice.Choice.{Choice}
 use Rattle.pg_select.specs.declared.choice.Choice.TheVariants.{Hopeless, Chosen, Left}
 use Rattle.pg_select.specs.Choices.{choice}
 use Rattle.pg_select.specs.Windows.{Hopeless as HopelessPlaces}
-use Rattle.pg_select.specs.Sights.{Pass, Minima, Candidate, sights, tally}
+use Rattle.pg_select.specs.declared.pass.Pass.{Pass}
+use Rattle.pg_select.specs.Sights.{Minima, Candidate, sights, tally}
 use Rattle.pg_select.specs.Sums.{totals}
 use Rattle.pg_driver.specs.Dots.{order}
 

@@ -1,7 +1,7 @@
 //! The choice among the candidates of a pass.
 ghost use Rattle.std.specs.Prelude.{◌≡◌, ◌≤◌, ◌<◌, ◌+◌, ◌^◌, ◌∷◌, [], true, map, IfOk, OnOk};
 ghost use Rattle.pg_types.specs.Parameters.{IsLevel};
-ghost use Rattle.pg_select.specs.Meanings.{is_counted};
+ghost use Rattle.pg_types.specs.Counts.{is_counted};
 ghost use Rattle.pg_driver.specs.Counting.{HasRoom};
 ghost use Rattle.pg_driver.specs.Runs.{state_after};
 ghost use Rattle.pg_driver.specs.Settling.{with_candidates, none_settled, candidate_of, Settles};

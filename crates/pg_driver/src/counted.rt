@@ -3,7 +3,7 @@ ghost use Rattle.std.specs.Prelude.{◌≡◌, ◌≤◌, ◌<◌, ◌+◌, ◌*
 ghost use Rattle.pg_types.specs.declared.limits.TheConstants.{WORD_LETTERS_MAX};
 ghost use Rattle.pg_dict.specs.Word.{IsWord, letters_of};
 ghost use Rattle.pg_dict.specs.Lent.{word_of};
-ghost use Rattle.pg_select.specs.Meanings.{SignsWithin};
+ghost use Rattle.pg_types.specs.Counts.{SignsWithin};
 ghost use Rattle.pg_select.specs.Sights.{sight_at, sights_in, counts_as as counts_as_of};
 ghost use Rattle.pg_select.specs.Statuses.{status_at, weight_at};
 ghost use Rattle.pg_select.specs.Sums.{marks_in};

@@ -2,7 +2,7 @@
 ghost use Rattle.std.specs.Prelude.{◌≡◌, ◌≤◌, ◌+◌, ◌*◌, length};
 ghost use Rattle.pg_dict.specs.Word.{IsWord, SignsAtMost, letters_of};
 ghost use Rattle.pg_dict.specs.Lent.{word_of};
-ghost use Rattle.pg_select.specs.Meanings.{SignsWithin};
+ghost use Rattle.pg_types.specs.Counts.{SignsWithin};
 ghost use Rattle.pg_select.specs.Sums.{totals as totals_of_words, marks_in};
 ghost use Rattle.pg_driver.specs.Counting.{with_marks, HasRoomFor, TookRoomFor};
 ghost use Rattle.pg_driver.specs.Sound.{IsSmall};

@@ -9,7 +9,7 @@ use Rattle.pg_select.specs.Windows.{window, fits, covered}
 use Rattle.pg_trie.specs.declared.mark.TheConstants.{HOPELESS}
 use Rattle.pg_trie.specs.Lists.{outputs_at}
 use Rattle.pg_trie.specs.Maps.{Maps, AreKept, is_place}
-use Rattle.pg_hyph.specs.declared.pass.Pass.{Pass}
+use Rattle.pg_select.specs.declared.pass.Pass.{Pass}
 use Rattle.pg_hyph.specs.Forces.{bit, value_given, is_within, gives, knocks_out, Raises}
 use Rattle.pg_hyph.specs.Walks.{by_starts}
 use Rattle.pg_hyph.proofs.Members.{In, all_in, in_any, any_in, in_found, found_in, in_best, best_within}

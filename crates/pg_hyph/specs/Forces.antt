@@ -3,7 +3,7 @@ use Rattle.std.specs.Prelude.{◌≡◌, ℕ, ◌+◌, ◌<◌, Bool, false, ◌
 use Rattle.pg_types.specs.declared.limits.TheConstants.{WORD_LETTERS_MAX}
 use Rattle.pg_select.specs.Positions.{Positions}
 use Rattle.pg_trie.specs.declared.mark.TheConstants.{HOPELESS}
-use Rattle.pg_hyph.specs.declared.pass.Pass.{Pass}
+use Rattle.pg_select.specs.declared.pass.Pass.{Pass}
 
 -- 1 where the test holds, else 0
 abbrev pub bit : Bool → ℕ

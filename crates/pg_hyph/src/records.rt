@@ -5,8 +5,7 @@ ghost use Rattle.pg_outputs.specs.Lists.{list_of};
 ghost use Rattle.pg_hyph.specs.Forces.{Raises, RaisesAt, IsRoomy, values_of, covers_of, value_given, gives, knocks_out, is_within};
 ghost use Rattle.pg_hyph.specs.Walks.{by_list};
 
-use crate::pass::Pass;
-use pg_select::WordState;
+use pg_select::{Pass, WordState};
 use pg_trie::{HOPELESS, PatternTrie};
 use pg_types::WORD_LETTERS_MAX;
 

@@ -1,14 +1,13 @@
 //! The strings of a word that have cells.
 ghost use Rattle.std.specs.Prelude.{◌≡◌, ◌+◌, ◌≤◌, [], length, drop};
 ghost use Rattle.pg_types.specs.declared.limits.TheConstants.{WORD_LETTERS_MAX};
-ghost use Rattle.pg_select.specs.Meanings.{SignsWithin};
+ghost use Rattle.pg_types.specs.Counts.{SignsWithin};
 ghost use Rattle.pg_trie.specs.Lists.{outputs_at};
 ghost use Rattle.pg_hyph.specs.Forces.{Raises, IsRoomy, values_of, covers_of, gives, knocks_out};
 ghost use Rattle.pg_hyph.specs.Walks.{by_strings, by_starts};
 
-use crate::pass::Pass;
 use crate::records::take_list;
-use pg_select::WordState;
+use pg_select::{Pass, WordState};
 use pg_trie::PatternTrie;
 use pg_types::Sign;
 

@@ -3,12 +3,11 @@ ghost use Rattle.std.specs.Prelude.{◌≡◌, ℕ, ◌+◌, ◌<◌, ◌≤◌,
 ghost use Rattle.pg_types.specs.declared.limits.TheConstants.{LEVEL_MAX, LENGTH_MAX, WORD_LETTERS_MAX};
 ghost use Rattle.pg_patterns.specs.Values.{value_at};
 ghost use Rattle.pg_select.specs.Windows.{window, fits, covered};
-ghost use Rattle.pg_select.specs.Meanings.{SignsWithin};
+ghost use Rattle.pg_types.specs.Counts.{SignsWithin};
 
-use crate::pass::Pass;
 use crate::walk::walk;
 use pg_dict::WordRef;
-use pg_select::WordState;
+use pg_select::{Pass, WordState};
 use pg_trie::PatternTrie;
 
 /// The value of each position of a word by the patterns of a trie, and for each position whose window of the pass fits in the

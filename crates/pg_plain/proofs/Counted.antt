@@ -13,7 +13,8 @@ use Rattle.std.specs.List.{list_all}
 use Rattle.std.specs.Map.{lookup, set_value}
 use Rattle.std.specs.Ordering.{is_lt}
 use Rattle.pg_types.specs.Signs.{is_sign}
-use Rattle.pg_select.specs.Meanings.{Counts, SignsWithin, sums_of, with_weight, with_sight, is_counted, above}
+use Rattle.pg_types.specs.Counts.{Counts, SignsWithin, sums_of, with_weight, is_counted, above}
+use Rattle.pg_select.specs.Meanings.{with_sight}
 use Rattle.pg_plain.proofs.Bools.{both_true}
 use Rattle.pg_plain.proofs.Maps.{insert-put, lookup-find, set_value-put, all_put, find_good, above_next}
 

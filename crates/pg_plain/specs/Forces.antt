@@ -2,7 +2,7 @@
 use Rattle.std.specs.Prelude.{◌≡◌, ℕ, ◌+◌, ◌<◌, Bool, false, ◌&&◌, nat_le, nat_eq, if◌then◌else◌, List, [], ◌∷◌, length, max, get_or}
 use Rattle.pg_types.specs.declared.limits.TheConstants.{WORD_LETTERS_MAX}
 use Rattle.pg_select.specs.Positions.{Positions}
-use Rattle.pg_plain.specs.declared.pass.Pass.{Pass}
+use Rattle.pg_select.specs.declared.pass.Pass.{Pass}
 
 -- the greatest force of the entries whose places pass the test, 0 where there is none
 abbrev pub greatest : {X : Type 0} → ((List ℕ × ℕ) × X → ℕ) → (List ℕ × ℕ → Bool) → List ((List ℕ × ℕ) × X) → ℕ

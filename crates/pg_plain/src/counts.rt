@@ -2,7 +2,8 @@
 ghost use Rattle.std.specs.Prelude.{◌≡◌, ℕ, true, [], ◌∷◌, nat_eq, length, OnOk, OnErr, IsOk, MatchOption};
 ghost use Rattle.std.specs.Bool.{OnTrue, OnFalse};
 ghost use Rattle.std.specs.List.{list_all};
-ghost use Rattle.pg_select.specs.Meanings.{AreSmall, sums_of, with_weight, with_sight, is_counted, above};
+ghost use Rattle.pg_types.specs.Counts.{AreSmall, sums_of, with_weight, is_counted, above};
+ghost use Rattle.pg_select.specs.Meanings.{with_sight};
 
 use pg_types::Cursor;
 use std::alloc::AllocError;

@@ -8,12 +8,11 @@ ghost use Rattle.pg_plain.specs.Strings.{is_string};
 
 use crate::counts::{add, next_behind};
 use crate::index::Index;
-use crate::pass::Pass;
 use crate::places::{map_of, put_in, raise_in, set_of};
 use crate::walk::walk;
 use pg_dict::WordRef;
 use pg_patterns::{PatternSet, Place};
-use pg_select::{Engine, WordState};
+use pg_select::{Engine, Pass, WordState};
 use pg_types::{Cursor, Layout, Sign, Weight};
 use std::alloc::{AllocError, Global};
 use std::collections::BTreeMap;
@@ -51,12 +50,13 @@ pub struct PlainEngine {
 
 impl PlainEngine {
     ghost use Rattle.std.specs.Prelude.{◌≡◌, IfOk};
-    ghost use Rattle.pg_plain.specs.Engines.{meaning_of, fresh};
+    ghost use Rattle.pg_select.specs.Meanings.{new_engine};
+    ghost use Rattle.pg_plain.specs.Engines.{meaning_of};
 
     /// An engine with the greatest sign `signs` whose patterns are those of `start`. Nothing is hopeless or counted, no pass
     /// was begun, and the engine is tidy.
     pub fn new(alloc: Global, signs: u16, start: &PatternSet) -> Result<PlainEngine, AllocError>
-        ensures { IfOk result (λ engine. meaning_of engine ≡ fresh signs start.now) }
+        ensures { IfOk result (λ engine. meaning_of engine ≡ new_engine signs start.now None) }
     {
         let mut pattern_index = Index::new(alloc, PATTERN_SLOTS)?;
         let patterns = map_of(alloc, start, &mut pattern_index)?;
@@ -112,6 +112,12 @@ impl Engine for PlainEngine {
         at.set(window);
         add(&mut self.counts, at, good, u64::from(weight))?;
         Ok(())
+    }
+
+    fn sums(&self, window: &[Sign]) -> Option<(u64, u64)> {
+        let mut at = Cursor::start();
+        at.set(window);
+        self.counts.get(&at).copied()
     }
 
     fn next_candidate(&self, at: &mut Cursor) -> Option<(u64, u64)> {

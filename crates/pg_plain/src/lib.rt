@@ -5,7 +5,6 @@ mod counts;
 pub mod engine;
 mod force;
 mod index;
-mod pass;
 mod places;
 #[cfg(test)]
 mod tests;

@@ -1,6 +1,6 @@
 //! What the engine gives on small words, whose signs are the edge 1, a 2, b 3 and c 4.
 ghost use Rattle.std.specs.Prelude.{◌≡◌, ℕ, ◌+◌, ◌<◌, ◌≤◌, List, length};
-ghost use Rattle.pg_select.specs.Meanings.{sums_of};
+ghost use Rattle.pg_types.specs.Counts.{sums_of};
 
 use crate::PlainEngine;
 use pg_dict::WordRef;

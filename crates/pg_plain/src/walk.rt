@@ -10,9 +10,8 @@ ghost use Rattle.pg_plain.specs.Walks.{is_row, goes_on, begins};
 
 use crate::force::Force;
 use crate::index::Index;
-use crate::pass::Pass;
 use pg_patterns::Place;
-use pg_select::WordState;
+use pg_select::{Pass, WordState};
 use pg_types::{PATTERN_SIGNS_MAX, Sign, WORD_LETTERS_MAX};
 use std::collections::BTreeMap;
 use std::ops::Bound;

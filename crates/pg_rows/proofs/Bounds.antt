@@ -3,7 +3,8 @@ use Rattle.std.proofs.Common.{◌≡◌, ℕ, ◌+◌, ◌≤◌, Bool, true, fa
 use Rattle.std.specs.Cmp.Lexicographic.{slice_cmp, nat_list_cmp_total}
 use Rattle.std.specs.FinMap.Entries.{find, find-put}
 use Rattle.std.specs.Ordering.{eq_by_cmp}
-use Rattle.pg_select.specs.Meanings.{Counts, sums_of, with_weight, with_sight}
+use Rattle.pg_types.specs.Counts.{Counts, sums_of, with_weight}
+use Rattle.pg_select.specs.Meanings.{with_sight}
 use Rattle.pg_rows.specs.Keeping.{AreAtMost}
 
 -- both sums are at most n

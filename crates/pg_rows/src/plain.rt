@@ -5,7 +5,7 @@ ghost use Rattle.pg_types.specs.declared.limits.TheConstants.{LENGTH_MAX, LEVEL_
 ghost use Rattle.pg_types.specs.Parameters.{IsLevel};
 ghost use Rattle.pg_dict.specs.Word.{IsWord, SignsAtMost};
 ghost use Rattle.pg_dict.specs.Lent.{word_of};
-ghost use Rattle.pg_select.specs.Meanings.{SignsWithin, is_counted};
+ghost use Rattle.pg_types.specs.Counts.{SignsWithin, is_counted};
 ghost use Rattle.pg_rows.specs.Keeping.{AreAtMost, KeepsPass};
 
 use pg_dict::{Dictionary, WordRef};

@@ -18,7 +18,8 @@ use Rattle.pg_patterns.proofs.Ordered.{equal_is}
 use Rattle.pg_patterns.proofs.Joins.{only, value_of_raise}
 use Rattle.pg_select.specs.Statuses.{status_at, weight_at}
 use Rattle.pg_select.specs.Windows.{Hopeless, window, fits, covered}
-use Rattle.pg_select.specs.Sights.{Pass, Minima, Sight, counts_as, sight_at, sights_in, sights, with_window, candidates}
+use Rattle.pg_select.specs.declared.pass.Pass.{Pass}
+use Rattle.pg_select.specs.Sights.{Minima, Sight, counts_as, sight_at, sights_in, sights, with_window, candidates}
 use Rattle.pg_select.proofs.LawsTally.{cmp, window_exact, seen_as}
 
 -- a test of all windows with one more

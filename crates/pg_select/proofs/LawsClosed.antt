@@ -13,7 +13,8 @@ use Rattle.pg_patterns.specs.Places.{place_cmp}
 use Rattle.pg_patterns.specs.Values.{raise, applies}
 use Rattle.pg_select.specs.Statuses.{status_at, weight_at}
 use Rattle.pg_select.specs.Windows.{Hopeless, window, fits, covered}
-use Rattle.pg_select.specs.Sights.{Pass, Minima, Sight, Candidate, counts_as, counted_at, sight_at, sights_in, sights, same_signs, candidates, good_of, bad_of, tally}
+use Rattle.pg_select.specs.declared.pass.Pass.{Pass}
+use Rattle.pg_select.specs.Sights.{Minima, Sight, Candidate, counts_as, counted_at, sight_at, sights_in, sights, same_signs, candidates, good_of, bad_of, tally}
 use Rattle.pg_select.specs.Laws.{Later, raised_all, hopeless_all}
 use Rattle.pg_select.proofs.LawsTally.{same_window, seen_as}
 use Rattle.pg_select.proofs.LawsValues.{covered_raised, covered_hopeless}
@@ -36,7 +37,7 @@ later_settled level dot P H raised hopeless =
     later_still level P (raised_all level dot P raised) (raised_all level dot P raised) H H (hopeless_all dot H hopeless) (later_all_raised level dot P H raised) (later_all_hopeless level dot (raised_all level dot P raised) H hopeless)
 
 -- a window is that of one of the candidates
-abbrev is_among : List ℕ → List Candidate → Bool
+abbrev pub is_among : List ℕ → List Candidate → Bool
 is_among u cs = list_any (λ (c : Candidate). same_signs u c.window) cs
 
 -- a window stands with its dot in one with the same signs
@@ -93,7 +94,7 @@ closed_when_covered m words pass P P' H H' later all =
         let parts = some_parts (fits w.signs p pass.len pass.dot && not (covered pass.level P' H' (window w.signs p pass.len pass.dot) pass.dot)) (counts_as pass.level (status_at P' w p)) g is in
         not-true (covered pass.level P' H' (window w.signs p pass.len pass.dot) pass.dot) (and_parts (fits w.signs p pass.len pass.dot) (not (covered pass.level P' H' (window w.signs p pass.len pass.dot) pass.dot)) parts.0).1
 
-all_weaker : {X : Type 0} (t s : X → Bool) → ((x : X) → t x ≡ true → s x ≡ true) → (xs : List X) → list_all t xs ≡ true → list_all s xs ≡ true
+pub all_weaker : {X : Type 0} (t s : X → Bool) → ((x : X) → t x ≡ true → s x ≡ true) → (xs : List X) → list_all t xs ≡ true → list_all s xs ≡ true
 all_weaker t s more [] all = refl
 all_weaker t s more (x ∷ xs) all = let parts = and_parts (t x) (list_all t xs) all in and_from (s x) (list_all s xs) (more x parts.0) (all_weaker t s more xs parts.1)
 

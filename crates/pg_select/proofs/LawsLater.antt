@@ -10,7 +10,8 @@ use Rattle.pg_patterns.specs.Places.{place_cmp}
 use Rattle.pg_patterns.specs.Values.{raise, applies, value_at}
 use Rattle.pg_select.specs.Statuses.{is_odd, status, status_at, weight_at}
 use Rattle.pg_select.specs.Windows.{Hopeless, window, fits, covered}
-use Rattle.pg_select.specs.Sights.{Pass, Minima, counts_as, counted_at, sight_at, sights_in, sights}
+use Rattle.pg_select.specs.declared.pass.Pass.{Pass}
+use Rattle.pg_select.specs.Sights.{Minima, counts_as, counted_at, sight_at, sights_in, sights}
 use Rattle.pg_select.specs.Laws.{Later}
 use Rattle.pg_select.proofs.LawsTally.{seen_as}
 use Rattle.pg_select.proofs.LawsValues.{raised_to, covered_raised, covered_hopeless}

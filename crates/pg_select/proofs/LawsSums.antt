@@ -17,7 +17,8 @@ use Rattle.pg_translate.specs.Reach.{positions}
 use Rattle.pg_dict.specs.Word.{Word, IsWord, letters_of}
 use Rattle.pg_select.specs.Statuses.{status_at, weight_at}
 use Rattle.pg_select.specs.Windows.{Hopeless, window}
-use Rattle.pg_select.specs.Sights.{Pass, Minima, Sight, counted_at, sight_at, sights_in, sights, same_signs, with_window, candidates, good_of, bad_of}
+use Rattle.pg_select.specs.declared.pass.Pass.{Pass}
+use Rattle.pg_select.specs.Sights.{Minima, Sight, counted_at, sight_at, sights_in, sights, same_signs, with_window, candidates, good_of, bad_of}
 use Rattle.pg_select.specs.Sums.{is_found, is_error, is_missed, weight_of, marks_in, totals}
 use Rattle.pg_select.specs.Laws.{AreFew, positions_in}
 use Rattle.pg_select.proofs.LawsTally.{cmp, seen_as, keys_length}

@@ -11,7 +11,8 @@ use Rattle.std.specs.List.{list_any}
 use Rattle.std.proofs.lemmas.List.Sums.{sum_by-cons}
 use Rattle.pg_patterns.proofs.Ordered.{sorted_at, equal_is}
 use Rattle.pg_select.specs.Sights.{Sight, Candidate, same_signs, with_window, candidates, good_of, bad_of, tally}
-use Rattle.pg_select.specs.Meanings.{Counts, sums_of, with_weight, with_sight}
+use Rattle.pg_types.specs.Counts.{Counts, sums_of, with_weight}
+use Rattle.pg_select.specs.Meanings.{with_sight}
 use Rattle.pg_select.specs.Laws.{entry_of}
 
 abbrev pub cmp : List ℕ → List ℕ → Ordering

@@ -11,7 +11,8 @@ use Rattle.pg_dict.specs.Word.{Word, IsWord, letters_of}
 use Rattle.pg_patterns.specs.Places.{place_cmp, same_place}
 use Rattle.pg_patterns.specs.Values.{value_of, raise, applies, value_at}
 use Rattle.pg_select.specs.Meanings.{Meaning, with_sight, given_up}
-use Rattle.pg_select.specs.Sights.{Pass, Minima, Sight, Candidate, sights, same_signs, candidates, good_of, bad_of, tally, counted_at, counts_as}
+use Rattle.pg_select.specs.declared.pass.Pass.{Pass}
+use Rattle.pg_select.specs.Sights.{Minima, Sight, Candidate, sights, same_signs, candidates, good_of, bad_of, tally, counted_at, counts_as}
 use Rattle.pg_select.specs.Statuses.{status_at}
 use Rattle.pg_select.specs.Sums.{totals}
 use Rattle.pg_select.specs.Windows.{Hopeless, covered}

@@ -3,6 +3,9 @@ pub mod Choices
 pub mod Windows
 pub mod Sights
 pub mod Sums
+pub mod AnyPositions
 pub mod Positions
 pub mod Meanings
 pub mod Laws
+pub mod LawsSteps
+pub mod LawsClosedDots

@@ -1,20 +1,16 @@
 -- What an engine means: the patterns and the counts that it holds, and what each of its calls makes of them.
-use Rattle.std.specs.Prelude.{◌≡◌, ℕ, ◌+◌, ◌<◌, ◌≤◌, ◌^◌, Bool, true, false, if◌then◌else◌, List, [], length, map, filter, unwrap_or, Option, None, Some, MatchOption, All, get_or, is_some, take}
+use Rattle.std.specs.Prelude.{◌≡◌, ℕ, ◌+◌, ◌<◌, Bool, true, false, List, [], length, map, Option, None, Some, MatchOption, get_or, take}
 use Rattle.std.specs.Option.{option_map}
-use Rattle.std.specs.Ordering.{nat_cmp, is_lt}
-use Rattle.std.specs.Cmp.Lexicographic.{slice_cmp}
-use Rattle.std.specs.FinMap.Entries.{put, find}
+use Rattle.std.specs.FinMap.Entries.{put}
 use Rattle.pg_types.specs.declared.marks.Layout.{Layout}
+use Rattle.pg_types.specs.Counts.{Counts, with_count}
 use Rattle.pg_types.specs.Placement.{Families, taken, top, enter, kept}
 use Rattle.pg_types.specs.Tails.{tails}
 use Rattle.pg_patterns.specs.Places.{place_cmp}
 use Rattle.pg_patterns.specs.Values.{value_at, raise}
 use Rattle.pg_select.specs.Windows.{Hopeless, window, fits, covered}
-use Rattle.pg_select.specs.Sights.{Pass, Sight}
-
--- the windows that are counted, in the order of signs, each with its sums of good and bad weights
-abbrev pub Counts : Type 0
-Counts = List (List ℕ × (ℕ × ℕ))
+use Rattle.pg_select.specs.declared.pass.Pass.{Pass}
+use Rattle.pg_select.specs.Sights.{Sight}
 
 -- the greatest sign; the patterns and the hopeless places; the windows that are counted in the pass; the pass; the families of the
 -- strings, where they are told; how many passes were begun; and whether nothing was chosen or given up since a level ended
@@ -28,33 +24,23 @@ pub record Meaning : Type 0 where
   pub begun : ℕ
   pub tidy : Bool
 
--- the sums of a window, 0 and 0 where it is not counted
-abbrev pub sums_of : Counts → List ℕ → ℕ × ℕ
-sums_of counts u = unwrap_or (find (slice_cmp nat_cmp) u counts) (0, 0)
-
--- sums with one weight more
-abbrev pub with_weight : ℕ × ℕ → Bool → ℕ → ℕ × ℕ
-with_weight sums good weight = if good then (sums.0 + weight, sums.1) else (sums.0, sums.1 + weight)
+-- an engine that was just made: it has these patterns and tells these families; nothing is hopeless or counted, no pass was begun, and
+-- it is tidy
+abbrev pub new_engine : ℕ → List ((List ℕ × ℕ) × ℕ) → Option Families → Meaning
+new_engine signs P families = record {
+  signs = signs;
+  patterns = P;
+  hopeless = [];
+  counts = [];
+  pass = record { level = 1; len = 1; dot = 0 };
+  families = families;
+  begun = 0;
+  tidy = true;
+}
 
 -- the counts with one sight more
 abbrev pub with_sight : Counts → Sight → Counts
-with_sight counts s = put (slice_cmp nat_cmp) s.window (with_weight (sums_of counts s.window) s.good s.weight) counts
-
--- a window is counted
-abbrev pub is_counted : Counts → List ℕ → Bool
-is_counted counts u = is_some (find (slice_cmp nat_cmp) u counts)
-
--- the counts of the windows that are greater than u
-abbrev pub above : List ℕ → Counts → Counts
-above u counts = filter (λ e. is_lt (slice_cmp nat_cmp u e.0)) counts
-
--- both sums are below 2^60
-abbrev pub AreSmall : ℕ × ℕ → Type 0
-AreSmall sums = (sums.0 < 2 ^ 60) × (sums.1 < 2 ^ 60)
-
--- each sign is at least 1, and at most the greatest
-abbrev pub SignsWithin : ℕ → List ℕ → Type 0
-SignsWithin n signs = All (λ s. (1 ≤ s) × (s ≤ n)) signs
+with_sight counts s = with_count counts s.window s.good s.weight
 
 -- a pass has begun: nothing is counted in it
 abbrev pub begun_pass : Meaning → ℕ → ℕ → ℕ → Meaning

@@ -8,15 +8,10 @@ use Rattle.std.specs.FinMap.Entries.{put}
 use Rattle.pg_types.specs.declared.marks.Mark.{Mark}
 use Rattle.pg_types.specs.declared.marks.Mark.TheVariants.{Nothing, Error, Missed, Found, DontCare}
 use Rattle.pg_dict.specs.Word.{Word}
+use Rattle.pg_select.specs.declared.pass.Pass.{Pass}
 use Rattle.pg_translate.specs.Reach.{positions}
 use Rattle.pg_select.specs.Statuses.{is_odd, status_at, weight_at}
 use Rattle.pg_select.specs.Windows.{Hopeless, window, fits, covered}
-
--- a pass: its level, and the length and the dot of its windows
-pub record Pass : Type 0 where
-  pub level : ℕ
-  pub len : ℕ
-  pub dot : ℕ
 
 -- the minima that say which positions are in reach
 pub record Minima : Type 0 where

@@ -17,6 +17,10 @@ status hyphen care value = if care then (if hyphen then (if is_odd value then Fo
 abbrev pub status_at : List ((List ℕ × ℕ) × ℕ) → Word → ℕ → Mark
 status_at P w p = status (slice_index_or w.hyphens p false) (slice_index_or w.cares p true) (value_at P w.signs p)
 
+-- the status of a position out of reach, where the value counts as 0
+abbrev pub status_out_of_reach : Word → ℕ → Mark
+status_out_of_reach w p = status (slice_index_or w.hyphens p false) (slice_index_or w.cares p true) 0
+
 -- the weight of a position
 abbrev pub weight_at : Word → ℕ → ℕ
 weight_at w p = slice_index w.weights p

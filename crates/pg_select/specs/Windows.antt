@@ -3,6 +3,10 @@ use Rattle.std.specs.Prelude.{ℕ, ◌+◌, ◌-◌, nat_le, Bool, ◌&&◌, ◌
 use Rattle.std.specs.List.{list_any}
 use Rattle.pg_patterns.specs.Values.{applies}
 
+-- patterns, as a map from places to values in the order of places
+abbrev pub Patterns : Type 0
+Patterns = List ((List ℕ × ℕ) × ℕ)
+
 -- a set of hopeless places, as a map from places in their order
 abbrev pub Hopeless : Type 0
 Hopeless = List ((List ℕ × ℕ) × Unit {0})

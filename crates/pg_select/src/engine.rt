@@ -1,7 +1,8 @@
 //! The contract of an engine, which holds patterns and counts windows.
 ghost use Rattle.std.specs.Prelude.{◌≡◌, ◌≤◌, ◌<◌, ◌+◌, ◌^◌, ◌∷◌, [], true, length, IfOk, OnOk, OnErr, IsOk, MatchOption};
 ghost use Rattle.pg_types.specs.declared.limits.TheConstants.{LEVEL_MAX, LENGTH_MAX, WEIGHT_MAX, WORD_LETTERS_MAX};
-ghost use Rattle.pg_select.specs.Meanings.{Meaning, AreSmall, SignsWithin, KeepsButFamilies, SetsValues, SetsCovers, IsLayout, sums_of, with_weight, is_counted, above, begun_pass, counted, chosen, given_up, ended};
+ghost use Rattle.pg_types.specs.Counts.{AreSmall, SignsWithin, counted_sums, sums_of, with_weight, is_counted, above};
+ghost use Rattle.pg_select.specs.Meanings.{Meaning, KeepsButFamilies, SetsValues, SetsCovers, IsLayout, begun_pass, counted, chosen, given_up, ended};
 
 use crate::word_state::WordState;
 use pg_dict::WordRef;
@@ -42,6 +43,12 @@ pub trait Engine {
         ensures ok { OnOk result (meaning self.new ≡ counted (meaning self.old) window.now good weight) }
         ensures there { is_counted (meaning self.old).counts window.now ≡ true → IsOk result }
         ensures err { OnErr result (meaning self.new ≡ meaning self.old) };
+
+    /// The good and the bad sum of a window; none exactly where it is not counted. It takes no memory.
+    fn sums(&self, window: &[Sign]) -> Option<(u64, u64)>
+        requires len { length window.now ≡ (meaning self.now).pass.len }
+        requires signs { SignsWithin (meaning self.now).signs window.now }
+        ensures { result ≡ counted_sums (meaning self.now).counts window.now };
 
     /// Moves the cursor to the least counted window that is greater, and gives its good and bad sums; none exactly where there is
     /// no such window, and the cursor stays. It takes no memory.

@@ -1,5 +1,7 @@
 //! Laws of the definitions of this crate. A call does nothing; its contract is the law.
 ghost use Rattle.pg_select.specs.Laws.{CandidatesInOrder, CandidatesAreSeen, CountsAreTally, PositionsAreFew, CandidatesAreFew, TotalsAreSmall, SightsAreLight, SumsAreParts, CandidatesAreLow, ChosenGetLevel, OthersStay, NoneFalls, RaisesWhereItApplies, GivenUpKeepsValues, RaisedCovers, HopelessCovers, GivenUpCovers, LaterAtOnce, LaterStill, LaterRaised, LaterHopeless, StatusBack, CountedBack, ClosedLater, CountedShorter, ClosedLonger, LaterSettled, ClosedWhenCovered, ClosedAtEnd};
+ghost use Rattle.pg_select.specs.LawsSteps.{BelowByLargest, UpToAtStart, NextIsBelow, UpToAfter, CoversUpToAtStart, CoversUpToLonger, CoversUpToAfter, LengthStep, NothingCovered, ValuesAfter, CoversAfter, CountedAreUncovered, TotalsAfter};
+ghost use Rattle.pg_select.specs.LawsClosedDots.{TellsAtStart, TellsLonger, TellsAfter, DoneByStatus, DoneWhenClosed, DoneLonger, DoneAfter, RaisedStop, HopelessStop, LeftStay, UncountedStay};
 
 /// The candidates of a pass are the windows that it sees. They stand strictly in the order of signs, so each once.
 pub fn candidates_in_order()
@@ -70,4 +72,53 @@ pub fn closed_when_longer()
 pub fn closed_at_end()
     ensures covered { ClosedWhenCovered }
     ensures settled { ClosedAtEnd }
+{}
+
+/// Where the starting patterns of a level have no value as great as it, its passes lead to none above it.
+pub fn values_up_to_the_level()
+    ensures largest { BelowByLargest }
+    ensures start { UpToAtStart }
+    ensures after { UpToAfter }
+    ensures next { NextIsBelow }
+{}
+
+/// Where no string longer than a length covers, a window of the next length is covered where one of the two shorter ones in it is.
+pub fn covers_by_length()
+    ensures none { NothingCovered }
+    ensures start { CoversUpToAtStart }
+    ensures longer { CoversUpToLonger }
+    ensures after { CoversUpToAfter }
+    ensures step { LengthStep }
+{}
+
+/// A pass changes the values of the positions whose windows it chooses, and the covers of its own windows at its own dot.
+pub fn passes_change()
+    ensures values { ValuesAfter }
+    ensures covers { CoversAfter }
+    ensures counted { CountedAreUncovered }
+{}
+
+/// A pass adds to the totals, or takes from them, the sums of the candidates that it chooses.
+pub fn totals_by_the_chosen()
+    ensures { TotalsAfter }
+{}
+
+/// A position whose window was chosen does not count any more, and one whose window was made hopeless is covered at the dot. Any
+/// other that counts keeps its status and its covers.
+pub fn positions_after_a_pass()
+    ensures raised { RaisedStop }
+    ensures hopeless { HopelessStop }
+    ensures left { LeftStay }
+    ensures uncounted { UncountedStay }
+{}
+
+/// Closed dots tell what counts at a position, from the start of a level through its passes and lengths.
+pub fn closed_dots_tell()
+    ensures start { TellsAtStart }
+    ensures longer { TellsLonger }
+    ensures after { TellsAfter }
+    ensures by_status { DoneByStatus }
+    ensures when_closed { DoneWhenClosed }
+    ensures done_longer { DoneLonger }
+    ensures done_after { DoneAfter }
 {}

@@ -55,7 +55,7 @@ keeps head index table = record {
   right_some = table.head_sound.right_some;
   right_few = table.head_sound.right_few;
   four = refl;
-  marks_good = table.head_sound.marks_good;
+  marks_pass = table.head_sound.marks_pass;
   letters_few = let count : length index.firsts.items ≡ letters_in (pairs index) = table.index_sound.letters in let few : length index.firsts.items ≤ 2000 = table.few in omega arith;
   signs_low = table.index_sound.signs;
   signs_high = λ s among. sign_within (pairs index) s among;

@@ -7,7 +7,7 @@ use Rattle.pg_translate.specs.declared.spellings.TheConstants.{SPELLING_MAX}
 abbrev pub is_digit : ℕ → Bool
 is_digit b = nat_le 48 b && nat_le b 57
 
--- whether a byte is a blank, a TAB, an LF or a CR, which no spelling holds; LF ends a line, so none of a file has it
+-- whether a byte is a blank, a TAB, an LF or a CR, which no spelling holds and which is no mark
 abbrev pub is_space : ℕ → Bool
 is_space b = b == 32 || b == 9 || b == 10 || b == 13
 

@@ -8,7 +8,7 @@ use Rattle.pg_types.specs.declared.refusals.Refusal.{Refusal}
 use Rattle.pg_types.specs.Lines.{lines, pieces_at}
 use Rattle.pg_types.specs.Reading.{first_refusal}
 use Rattle.pg_translate.specs.Alphabets.{Alphabet}
-use Rattle.pg_translate.specs.Spellings.{is_digit, is_spelling, clash}
+use Rattle.pg_translate.specs.Spellings.{is_digit, is_space, is_spelling, clash}
 
 -- a refusal with its place, where a check fails
 abbrev pub check : Bool → Kind → ℕ → ℕ → List Refusal
@@ -53,14 +53,18 @@ mark_in head column default = if in_column head column == 32 then default else i
 abbrev pub marks_of : List ℕ → List ℕ
 marks_of head = mark_in head 5 46 ∷ mark_in head 6 45 ∷ mark_in head 7 42 ∷ mark_in head 8 63 ∷ []
 
--- a mark is no digit, TAB, CR or brace, and differs from those before it
+-- a mark is no digit, blank, TAB, LF, CR or brace, and differs from those before it
 abbrev pub mark_fails : List ℕ → ℕ → Bool
-mark_fails earlier mark = is_digit mark || mark == 9 || mark == 13 || mark == 123 || list_any (λ other. other == mark) earlier
+mark_fails earlier mark = is_digit mark || is_space mark || mark == 123 || list_any (λ other. other == mark) earlier
 
 -- the checks of the marks, from a column on
-abbrev pub mark_checks : ℕ → List ℕ → List ℕ → List Refusal
-mark_checks column earlier [] = []
-mark_checks column earlier (mark ∷ marks) = check (mark_fails earlier mark) BadMark 1 column ++ mark_checks (column + 1) (mark ∷ earlier) marks
+abbrev pub mark_checks_from : ℕ → List ℕ → List ℕ → List Refusal
+mark_checks_from column earlier [] = []
+mark_checks_from column earlier (mark ∷ marks) = check (mark_fails earlier mark) BadMark 1 column ++ mark_checks_from (column + 1) (mark ∷ earlier) marks
+
+-- the checks of the marks, of which the first stands in column 5
+abbrev pub mark_checks : List ℕ → List Refusal
+mark_checks marks = mark_checks_from 5 [] marks
 
 -- the checks of the minima: the left pair and the right pair
 abbrev pub minima_checks : List ℕ → List Refusal
@@ -68,7 +72,7 @@ minima_checks head = check (pair_fails (pair_at head 1) (pair_at head 3)) BadMin
 
 -- the checks of the head: the minima and the marks
 abbrev pub head_checks : List ℕ → List Refusal
-head_checks head = minima_checks head ++ mark_checks 5 [] (marks_of head)
+head_checks head = minima_checks head ++ mark_checks (marks_of head)
 
 -- a byte before a line; a blank at the line's end is dropped
 abbrev pub unless_blank_end : ℕ → List ℕ → List ℕ

@@ -1,8 +1,8 @@
 //! The head of a translate file: the minima and the mark bytes.
 ghost use Rattle.std.specs.Prelude.{◌≡◌, ◌<◌, ◌≤◌, ◌∷◌, [], true, false, not, List, MatchOption, IfSome, MatchResult, Ok, Err, IfOk, OnOk, ◌+◌};
-ghost use Rattle.pg_translate.specs.Rules.{are_marks};
 ghost use Rattle.pg_translate.specs.Tables as table;
 
+use crate::reading::is_space;
 use pg_types::{Kind, Refusal};
 
 /// The greatest minimum of a table.
@@ -87,11 +87,7 @@ fn mark_in(head: &[u8], column: usize, default: u8) -> u8
 fn mark_fails(earlier: &[u8], mark: u8) -> bool
     ensures { result ≡ table.mark_fails earlier.now mark }
 {
-    mark.is_ascii_digit()
-        || mark == b'\t'
-        || mark == b'\r'
-        || mark == b'{'
-        || earlier.contains(&mark)
+    mark.is_ascii_digit() || is_space(mark) || mark == b'{' || earlier.contains(&mark)
 }
 
 /// The two minima of a head, or the refusal of the first pair that fails.
@@ -130,8 +126,7 @@ fn bad_mark(column: u32) -> Refusal
 
 /// Whether the mark bytes of a head are marks, one after the other, or the refusal of the first that is none.
 fn check_marks(error: u8, missed: u8, found: u8, dont_care: u8) -> Result<(), Refusal>
-    ensures answer { MatchResult result (λ m. table.mark_checks 5 [] (error ∷ missed ∷ found ∷ dont_care ∷ []) ≡ []) (λ r. table.outcome (table.mark_checks 5 [] (error ∷ missed ∷ found ∷ dont_care ∷ [])) ≡ Err r) }
-    ensures good { OnOk result (are_marks [] (error ∷ missed ∷ found ∷ dont_care ∷ []) ≡ true) }
+    ensures { MatchResult result (λ _. table.mark_checks (error ∷ missed ∷ found ∷ dont_care ∷ []) ≡ []) (λ r. table.outcome (table.mark_checks (error ∷ missed ∷ found ∷ dont_care ∷ [])) ≡ Err r) }
 {
     if mark_fails(&[], error) {
         return Err(bad_mark(5));

@@ -1,7 +1,7 @@
 use Rattle.std.proofs.Common.{◌≡◌, length, map, refl, ap, ◌∙◌, arith}
 use Rattle.std.specs.List.{sum_by}
 use Rattle.std.proofs.lemmas.List.{length-map}
-use Rattle.pg_select.specs.Meanings.{Counts, above}
+use Rattle.pg_types.specs.Counts.{Counts, above}
 use Rattle.pg_select.specs.Sights.{Candidate}
 use Rattle.pg_driver.specs.Runs.{state_after}
 use Rattle.pg_driver.specs.Settling.{with_candidates, none_settled, candidate_of}

@@ -1,7 +1,7 @@
 use Rattle.std.proofs.Common.{◌≡◌, ◌+◌, ◌*◌, ◌≤◌, length, map}
 use Rattle.std.specs.List.{sum_by}
 use Rattle.pg_types.specs.declared.limits.TheConstants.{WEIGHT_MAX, FILE_MAX}
-use Rattle.pg_select.specs.Meanings.{above}
+use Rattle.pg_types.specs.Counts.{above}
 use Rattle.pg_driver.specs.Runs.{state_after}
 use Rattle.pg_driver.specs.Settling.{candidate_of, with_candidates, none_settled}
 use Rattle.pg_driver.specs.Views.{state_of}

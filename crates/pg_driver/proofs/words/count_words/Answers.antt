@@ -2,7 +2,8 @@ use Rattle.std.proofs.Common.{◌+◌, ℕ, List, drop, ap, subst, sym, ◌∙�
 use Rattle.std.specs.List.{flat_map, sum_by}
 use Rattle.pg_dict.specs.Lent.{word_of}
 use Rattle.pg_dict.specs.Word.{Word, letters_of}
-use Rattle.pg_select.specs.Meanings.{Meaning, SignsWithin}
+use Rattle.pg_types.specs.Counts.{SignsWithin}
+use Rattle.pg_select.specs.Meanings.{Meaning}
 use Rattle.pg_select.specs.Sights.{sights, sights_in}
 use Rattle.pg_select.specs.Sums.{marks_in}
 use Rattle.pg_driver.specs.Counting.{counting, with_marks}

@@ -1,6 +1,6 @@
 use Rattle.std.proofs.Common.{ℕ, sym, subst}
 use Rattle.pg_dict.specs.Lent.{word_of}
-use Rattle.pg_select.specs.Meanings.{SignsWithin}
+use Rattle.pg_types.specs.Counts.{SignsWithin}
 use Rattle.pg_driver.proofs.WordSteps.{signs_within}
 use Rattle.pg_rows.proofs.plain.count_words.Goals as goal
 

@@ -1,5 +1,5 @@
 -- The windows that are counted in a pass, in the order of signs, each with its sums of good and bad weights.
-use Rattle.std.specs.Prelude.{ℕ, ◌+◌, ◌<◌, ◌≤◌, ◌^◌, Bool, if◌then◌else◌, List, filter, unwrap_or, All, is_some}
+use Rattle.std.specs.Prelude.{ℕ, ◌+◌, ◌<◌, ◌≤◌, ◌^◌, Bool, if◌then◌else◌, List, filter, unwrap_or, Option, All, is_some}
 use Rattle.std.specs.Ordering.{nat_cmp, is_lt}
 use Rattle.std.specs.Cmp.Lexicographic.{slice_cmp}
 use Rattle.std.specs.FinMap.Entries.{put, find}
@@ -7,9 +7,13 @@ use Rattle.std.specs.FinMap.Entries.{put, find}
 abbrev pub Counts : Type 0
 Counts = List (List ℕ × (ℕ × ℕ))
 
+-- the sums of a window that is counted, and none of another
+abbrev pub counted_sums : Counts → List ℕ → Option (ℕ × ℕ)
+counted_sums counts u = find (slice_cmp nat_cmp) u counts
+
 -- the sums of a window, 0 and 0 where it is not counted
 abbrev pub sums_of : Counts → List ℕ → ℕ × ℕ
-sums_of counts u = unwrap_or (find (slice_cmp nat_cmp) u counts) (0, 0)
+sums_of counts u = unwrap_or (counted_sums counts u) (0, 0)
 
 -- sums with one weight more
 abbrev pub with_weight : ℕ × ℕ → Bool → ℕ → ℕ × ℕ
@@ -21,7 +25,7 @@ with_count counts u good weight = put (slice_cmp nat_cmp) u (with_weight (sums_o
 
 -- a window is counted
 abbrev pub is_counted : Counts → List ℕ → Bool
-is_counted counts u = is_some (find (slice_cmp nat_cmp) u counts)
+is_counted counts u = is_some (counted_sums counts u)
 
 -- the counts of the windows that are greater than u
 abbrev pub above : List ℕ → Counts → Counts

@@ -1,4 +1,4 @@
-//! The pass of an engine.
+//! A pass of a level.
 
 /// A pass: its level, and the length and the dot of its windows.
 #[derive(Clone, Copy, Debug)]
@@ -7,6 +7,6 @@ pub struct Pass {
     pub level: u8,
     /// How many signs a window has, 1 to [`LENGTH_MAX`](pg_types::LENGTH_MAX).
     pub len: u8,
-    /// How many of them stand before the dot.
+    /// How many of them stand before the dot, 0 to `len`.
     pub dot: u8,
 }

@@ -1,0 +1,4 @@
+pub mod Cuts
+pub mod FirstPart
+pub mod Least
+mod DifferenceRows

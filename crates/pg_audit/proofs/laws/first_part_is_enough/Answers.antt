@@ -1,0 +1,5 @@
+use Rattle.pg_audit.proofs.FirstPart.{first_part}
+use Rattle.pg_audit.proofs.laws.first_part_is_enough.Goals as goal
+
+pub returns : goal.returns
+returns c = first_part

@@ -1,0 +1,4 @@
+pub mod Joins
+pub mod Layouts
+pub mod WordSteps
+mod TextRows
