@@ -44,7 +44,7 @@ pub took_more : (a b c : Counts) (n k m : ℕ) → TookRoom a b n → TookRoom b
 took_more a b c n k m first then within = record { sorted = then.sorted; filled = then.filled; few = omega (arith, first.few, then.few); light = omega (arith, first.light, then.light) }
 
 -- a sight takes the room of one position
-took_with : (counts : Counts) (s : Sight) (n : ℕ) → HasRoom counts n → is_lt (slice_cmp nat_cmp [] s.window) ≡ true → s.weight ≤ WEIGHT_MAX → TookRoom counts (with_sight counts s) 1
+pub took_with : (counts : Counts) (s : Sight) (n : ℕ) → HasRoom counts n → is_lt (slice_cmp nat_cmp [] s.window) ≡ true → s.weight ≤ WEIGHT_MAX → TookRoom counts (with_sight counts s) 1
 took_with counts s n room filled small =
     let sums = with_weight (sums_of counts s.window) s.good s.weight in
     record {
@@ -63,7 +63,7 @@ filled : (u : List ℕ) → 1 ≤ length u → is_lt (slice_cmp nat_cmp [] u) �
 filled [] long = absurd (omega arith)
 filled (x ∷ xs) long = refl
 
-window_filled : (w : List ℕ) (p len d : ℕ) → 1 ≤ len → fits w p len d ≡ true → is_lt (slice_cmp nat_cmp [] (window w p len d)) ≡ true
+pub window_filled : (w : List ℕ) (p len d : ℕ) → 1 ≤ len → fits w p len d ≡ true → is_lt (slice_cmp nat_cmp [] (window w p len d)) ≡ true
 window_filled w p len d long fit =
     let inside : p - d + len ≤ length w = leb-true (p - d + len) (length w) (and_parts (nat_le d p) (nat_le (p - d + len) (length w)) fit).1 in
     filled (window w p len d) (omega (arith, length-take len (drop (p - d) w), length-drop (p - d) w))

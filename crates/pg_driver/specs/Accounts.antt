@@ -4,7 +4,8 @@ use Rattle.std.specs.List.{flat_map, list_all, list_any}
 use Rattle.pg_types.specs.declared.marks.Totals.{Totals}
 use Rattle.pg_select.specs.declared.pass.Pass.{Pass}
 use Rattle.pg_select.specs.Sums.{totals}
-use Rattle.pg_driver.specs.Traces.{Patterns, Source, PassTrace, LevelTrace, Trace, choice_of, is_left, chosen_in, hopeless_in, patterns_after, final_patterns}
+use Rattle.pg_select.specs.Windows.{Patterns}
+use Rattle.pg_driver.specs.Traces.{Source, PassTrace, LevelTrace, Trace, choice_of, is_left, chosen_in, hopeless_in, patterns_after, final_patterns}
 
 -- the line of a pass: the totals before it, how many candidates it has, and how many of them it chose and found hopeless, with the
 -- sums of good and of bad of the chosen

@@ -5,7 +5,8 @@ use Rattle.pg_types.specs.declared.marks.Layout.{Layout}
 use Rattle.pg_types.specs.Placement.{Families, enter, kept, taken, top}
 use Rattle.pg_types.specs.Tails.{tails}
 use Rattle.pg_select.specs.declared.pass.Pass.{Pass}
-use Rattle.pg_driver.specs.Traces.{Patterns, PassTrace, LevelTrace, Trace, entered_in, patterns_after}
+use Rattle.pg_select.specs.Windows.{Patterns}
+use Rattle.pg_driver.specs.Traces.{PassTrace, LevelTrace, Trace, entered_in, patterns_after}
 use Rattle.pg_driver.specs.Accounts.{has_candidate}
 
 -- the strings of patterns, in the order of signs

@@ -11,14 +11,10 @@ use Rattle.pg_patterns.specs.Values.{raise}
 use Rattle.pg_select.specs.declared.choice.Choice.{Choice}
 use Rattle.pg_select.specs.declared.choice.Choice.TheVariants.{Hopeless, Chosen, Left}
 use Rattle.pg_select.specs.Choices.{choice}
-use Rattle.pg_select.specs.Windows.{Hopeless as HopelessPlaces}
+use Rattle.pg_select.specs.Windows.{Patterns, Hopeless as HopelessPlaces}
 use Rattle.pg_select.specs.declared.pass.Pass.{Pass}
 use Rattle.pg_select.specs.Sights.{Minima, Candidate, sights, tally}
 use Rattle.pg_driver.specs.Dots.{order}
-
--- patterns: to each place, which is signs with a dot, its value
-abbrev pub Patterns : Type 0
-Patterns = List ((List ℕ × ℕ) × ℕ)
 
 -- what a run is over: the minima of the table, and the words
 pub record Source : Type 0 where
@@ -64,17 +60,27 @@ abbrev pub is_left : Choice → Bool
 is_left Left = true
 is_left other = false
 
+-- of candidates, those that are chosen, those that are hopeless, and both of these together, in their order
+abbrev pub chosen_of : LevelParams → List Candidate → List Candidate
+chosen_of params cs = filter (λ c. is_chosen (choice_of params c)) cs
+
+abbrev pub hopeless_of : LevelParams → List Candidate → List Candidate
+hopeless_of params cs = filter (λ c. is_hopeless (choice_of params c)) cs
+
+abbrev pub entered_of : LevelParams → List Candidate → List Candidate
+entered_of params cs = filter (λ c. not (is_left (choice_of params c))) cs
+
 -- the candidates that a pass chose
 abbrev pub chosen_in : PassTrace → List Candidate
-chosen_in p = filter (λ c. is_chosen (choice_of p.params c)) p.candidates
+chosen_in p = chosen_of p.params p.candidates
 
 -- those that it found hopeless
 abbrev pub hopeless_in : PassTrace → List Candidate
-hopeless_in p = filter (λ c. is_hopeless (choice_of p.params c)) p.candidates
+hopeless_in p = hopeless_of p.params p.candidates
 
 -- both of these together, in the order of signs: they are entered into the cells
 abbrev pub entered_in : PassTrace → List Candidate
-entered_in p = filter (λ c. not (is_left (choice_of p.params c))) p.candidates
+entered_in p = entered_of p.params p.candidates
 
 -- what is known after a pass: each chosen window has the level as its value at the dot, and each hopeless one is hopeless there
 abbrev pub known_after : PassTrace → Known
@@ -101,9 +107,13 @@ passes_made source params known (pass ∷ passes) = pass_made source params know
 abbrev pub known_at_end : Known → List PassTrace → Known
 known_at_end known passes = fold (λ _ p. known_after p) known passes
 
--- the passes of a level in their order: each length, and each dot of it
+-- the passes of a length: each dot in its order
+abbrev pub passes_of_length : ℕ → ℕ → List Pass
+passes_of_length number len = map (λ dot. record { level = number; len = len; dot = dot }) (order len)
+
+-- the passes of a level in their order: those of each length
 abbrev pub passes_of : ℕ → LevelParams → List Pass
-passes_of number params = flat_map (λ len. map (λ dot. record { level = number; len = len; dot = dot }) (order len)) (range_with_len params.pat_start (params.pat_finish + 1 - params.pat_start))
+passes_of number params = flat_map (passes_of_length number) (range_with_len params.pat_start (params.pat_finish + 1 - params.pat_start))
 
 -- a level begins with these patterns and with nothing hopeless
 abbrev pub at_start : Patterns → Known

@@ -14,7 +14,7 @@ pub struct Closed {
 }
 
 impl Model for Closed {
-    ghost use Rattle.pg_driver.specs.Skips.{ClosedDots};
+    ghost use Rattle.pg_driver.specs.Levels.{ClosedDots};
 
     ghost Value = { ClosedDots };
 
@@ -24,7 +24,7 @@ impl Model for Closed {
 impl Closed {
     ghost use Rattle.std.specs.Prelude.{◌≡◌, ◌≤◌, ◌+◌, ◌==◌, ◌&&◌, ◌||◌, ℕ, false};
     ghost use Rattle.pg_types.specs.declared.limits.TheConstants.{LENGTH_MAX};
-    ghost use Rattle.pg_driver.specs.Skips.{is_set, unset};
+    ghost use Rattle.pg_driver.specs.Levels.{is_set, unset};
 
     /// No flag is set, as where a level begins.
     pub fn new() -> Closed

@@ -9,7 +9,8 @@ ghost use Rattle.pg_select.specs.Statuses.{status_at, weight_at};
 ghost use Rattle.pg_select.specs.Sums.{marks_in};
 ghost use Rattle.pg_select.specs.Windows.{fits as fits_in};
 ghost use Rattle.pg_driver.specs.Counting.{counting, with_mark, with_marks, HasRoom, HasRoomFor, TookRoom, TookRoomFor, IsRead};
-ghost use Rattle.pg_driver.specs.Views.{minima_of, pass_of};
+ghost use Rattle.pg_driver.specs.States.{pass_of};
+ghost use Rattle.pg_driver.specs.Told.{minima_of};
 
 use crate::marks::{add_mark, mark_at, positions};
 use crate::pass::Pass;
@@ -36,78 +37,78 @@ fn counted(pass: Pass, w: &WordRef<'_>, found: &WordState, p: usize, mark: Mark)
 
 /// Counts the window at position `p` of a word, which has this status, where it counts in the pass.
 fn count_at<E: Engine>(
-    e: &mut E,
+    engine: &mut E,
     pass: Pass,
     w: &WordRef<'_>,
     found: &WordState,
     p: usize,
     mark: Mark,
 ) -> Result<(), AllocError>
-    requires pass { (E.meaning e.old).pass ≡ pass_of pass }
-    requires read { IsRead (E.meaning e.old) (word_of w.now) found.now }
+    requires pass { (E.meaning engine.old).pass ≡ pass_of pass }
+    requires read { IsRead (E.meaning engine.old) (word_of w.now) found.now }
     requires within { p < length w.now.signs.now }
-    requires mark { mark ≡ status_at (E.meaning e.old).patterns (word_of w.now) p }
-    requires room { HasRoom (E.meaning e.old).counts 1 }
-    ensures ok { OnOk result (E.meaning e.new ≡ counting (E.meaning e.old) (sight_at (E.meaning e.old).pass (E.meaning e.old).patterns (E.meaning e.old).hopeless (word_of w.now) p)) }
-    ensures err { OnErr result (E.meaning e.new ≡ E.meaning e.old) }
+    requires mark { mark ≡ status_at (E.meaning engine.old).patterns (word_of w.now) p }
+    requires room { HasRoom (E.meaning engine.old).counts 1 }
+    ensures ok { OnOk result (E.meaning engine.new ≡ counting (E.meaning engine.old) (sight_at (E.meaning engine.old).pass (E.meaning engine.old).patterns (E.meaning engine.old).hopeless (word_of w.now) p)) }
+    ensures err { OnErr result (E.meaning engine.new ≡ E.meaning engine.old) }
 {
     if let Some(good) = counted(pass, w, found, p, mark) {
         let from = p - usize::from(pass.dot);
         let window = &w.signs[from..from + usize::from(pass.len)];
-        e.count(window, good, w.weights[p])?;
+        engine.count(window, good, w.weights[p])?;
     }
     Ok(())
 }
 
 /// Counts position `p` of a word, and adds it to the totals.
 fn see<E: Engine>(
-    e: &mut E,
+    engine: &mut E,
     pass: Pass,
     w: &WordRef<'_>,
     found: &WordState,
     p: usize,
     sums: &mut Totals,
 ) -> Result<(), AllocError>
-    requires pass { (E.meaning e.old).pass ≡ pass_of pass }
-    requires read { IsRead (E.meaning e.old) (word_of w.now) found.now }
+    requires pass { (E.meaning engine.old).pass ≡ pass_of pass }
+    requires read { IsRead (E.meaning engine.old) (word_of w.now) found.now }
     requires within { p < length w.now.signs.now }
-    requires room { HasRoom (E.meaning e.old).counts 1 }
+    requires room { HasRoom (E.meaning engine.old).counts 1 }
     requires room_for { HasRoomFor sums.old 1 }
-    ensures ok { OnOk result (E.meaning e.new ≡ counting (E.meaning e.old) (sight_at (E.meaning e.old).pass (E.meaning e.old).patterns (E.meaning e.old).hopeless (word_of w.now) p)) }
-    ensures sums { OnOk result (sums.new ≡ with_mark sums.old (status_at (E.meaning e.old).patterns (word_of w.now) p) (weight_at (word_of w.now) p)) }
-    ensures err { OnErr result (E.meaning e.new ≡ E.meaning e.old) }
+    ensures ok { OnOk result (E.meaning engine.new ≡ counting (E.meaning engine.old) (sight_at (E.meaning engine.old).pass (E.meaning engine.old).patterns (E.meaning engine.old).hopeless (word_of w.now) p)) }
+    ensures sums { OnOk result (sums.new ≡ with_mark sums.old (status_at (E.meaning engine.old).patterns (word_of w.now) p) (weight_at (word_of w.now) p)) }
+    ensures err { OnErr result (E.meaning engine.new ≡ E.meaning engine.old) }
 {
     let mark = mark_at(w, found, p);
     *sums = add_mark(*sums, mark, w.weights[p]);
-    count_at(e, pass, w, found, p, mark)
+    count_at(engine, pass, w, found, p, mark)
 }
 
 /// Counts the positions of a word, and adds them to the totals. What `found` holds does not matter.
 pub fn count_word<E: Engine>(
-    e: &mut E,
-    t: &Table,
+    engine: &mut E,
+    table: &Table,
     pass: Pass,
     w: &WordRef<'_>,
     found: &mut WordState,
     sums: &mut Totals,
 ) -> Result<(), AllocError>
-    requires pass { (E.meaning e.old).pass ≡ pass_of pass }
+    requires pass { (E.meaning engine.old).pass ≡ pass_of pass }
     requires word { IsWord (word_of w.now) }
-    requires signs { SignsWithin (E.meaning e.old).signs w.now.signs.now }
-    requires room { HasRoom (E.meaning e.old).counts (letters_of (word_of w.now)) }
+    requires signs { SignsWithin (E.meaning engine.old).signs w.now.signs.now }
+    requires room { HasRoom (E.meaning engine.old).counts (letters_of (word_of w.now)) }
     requires room_for { HasRoomFor sums.old (letters_of (word_of w.now)) }
-    ensures ok { OnOk result (E.meaning e.new ≡ counting (E.meaning e.old) (sights_in (minima_of t.now) (E.meaning e.old).pass (E.meaning e.old).patterns (E.meaning e.old).hopeless (word_of w.now))) }
-    ensures sums { OnOk result (sums.new ≡ with_marks sums.old (marks_in (minima_of t.now) (E.meaning e.old).patterns (word_of w.now))) }
-    ensures took { OnOk result (TookRoom (E.meaning e.old).counts (E.meaning e.new).counts (letters_of (word_of w.now))) }
+    ensures ok { OnOk result (E.meaning engine.new ≡ counting (E.meaning engine.old) (sights_in (minima_of table.now) (E.meaning engine.old).pass (E.meaning engine.old).patterns (E.meaning engine.old).hopeless (word_of w.now))) }
+    ensures sums { OnOk result (sums.new ≡ with_marks sums.old (marks_in (minima_of table.now) (E.meaning engine.old).patterns (word_of w.now))) }
+    ensures took { OnOk result (TookRoom (E.meaning engine.old).counts (E.meaning engine.new).counts (letters_of (word_of w.now))) }
     ensures took_for { OnOk result (TookRoomFor sums.old sums.new (letters_of (word_of w.now))) }
-    ensures signs { (E.meaning e.new).signs ≡ (E.meaning e.old).signs }
+    ensures signs { (E.meaning engine.new).signs ≡ (E.meaning engine.old).signs }
 {
-    let Some((first, end)) = positions(t, w) else {
+    let Some((first, end)) = positions(table, w) else {
         return Ok(());
     };
-    e.hyphenate(*w, found);
+    engine.hyphenate(*w, found);
     'positions: for p in first..end {
-        see(e, pass, w, found, p, sums)?;
+        see(engine, pass, w, found, p, sums)?;
     }
     Ok(())
 }

@@ -25,16 +25,16 @@ pub fn no_totals() -> Totals
 }
 
 /// The first position of a word in reach, and the place behind the last one; none where the word takes no part.
-pub fn positions(t: &Table, w: &WordRef<'_>) -> Option<(usize, usize)>
+pub fn positions(table: &Table, w: &WordRef<'_>) -> Option<(usize, usize)>
     requires { IsWord (word_of w.now) }
-    ensures none { IfNone result (positions_of t.now.left t.now.right (length w.now.signs.now) ≡ []) }
-    ensures some { IfSome result (λ r. positions_of t.now.left t.now.right (length w.now.signs.now) ≡ range_with_len r.0 (r.1 - r.0)) }
+    ensures none { IfNone result (positions_of table.now.left table.now.right (length w.now.signs.now) ≡ []) }
+    ensures some { IfSome result (λ r. positions_of table.now.left table.now.right (length w.now.signs.now) ≡ range_with_len r.0 (r.1 - r.0)) }
     ensures within { IfSome result (λ r. r.1 ≤ length w.now.signs.now) }
     ensures few { IfSome result (λ r. r.1 - r.0 ≤ letters_of (word_of w.now)) }
 {
     // A minimum is at least 1, so that there are no more positions than letters.
-    let _least = t.left();
-    let (first, last) = t.reach(w.signs.len())?;
+    let _least = table.left();
+    let (first, last) = table.reach(w.signs.len())?;
     Some((first, last + 1))
 }
 

@@ -1,5 +1,5 @@
 //! The windows that are counted in a pass, in the order of signs, each with its sums of good and bad weights.
-ghost use Rattle.std.specs.Prelude.{◌≡◌, ℕ, true, [], ◌∷◌, nat_eq, length, OnOk, OnErr, IsOk, MatchOption};
+ghost use Rattle.std.specs.Prelude.{◌≡◌, ℕ, Bool, true, List, [], ◌∷◌, OnOk, OnErr, IsOk, MatchOption};
 ghost use Rattle.std.specs.Bool.{OnTrue, OnFalse};
 ghost use Rattle.std.specs.List.{list_all};
 ghost use Rattle.pg_types.specs.Counts.{AreSmall, sums_of, with_weight, is_counted, above};
@@ -21,7 +21,7 @@ pub fn add(
     ensures ok { OnOk result (counts.new.entries ≡ with_sight counts.old.entries (record { window = window; good = good; weight = weight })) }
     ensures there { is_counted counts.old.entries window ≡ true → IsOk result }
     ensures err { OnErr result (counts.new.entries ≡ counts.old.entries) }
-    ensures kept { (len : ℕ) → length window ≡ len → list_all (λ e. nat_eq (length e.0) len) counts.old.entries ≡ true → list_all (λ e. nat_eq (length e.0) len) counts.new.entries ≡ true }
+    ensures windows { (good : List ℕ → Bool) → good window ≡ true → list_all (λ e. good e.0) counts.old.entries ≡ true → list_all (λ e. good e.0) counts.new.entries ≡ true }
 {
     if add_there(counts, &window, good, weight) {
         return Ok(());

@@ -21,7 +21,7 @@ fn value_at(map: &BTreeMap<Place, u8>, place: &Place) -> u8
     }
 }
 
-/// Raises the value of `place` to `value`.
+/// RaisesBy the value of `place` to `value`.
 pub fn raise_in(map: &mut BTreeMap<Place, u8>, place: Place, value: u8) -> Result<(), AllocError>
     ensures ok { OnOk result (map.new.entries ≡ raise map.old.entries place value) }
     ensures err { OnErr result (map.new.entries ≡ map.old.entries) }

@@ -39,7 +39,7 @@ value_up_to level k (e ∷ es) upto =
     by_test true o here rest = here
     by_test false o here rest = rest
 
-up_to_raised : (level dot n : ℕ) (P : Patterns) (cs : List Candidate) → level ≤ n → IsUpTo n P → IsUpTo n (raised_all level dot P cs)
+pub up_to_raised : (level dot n : ℕ) (P : Patterns) (cs : List Candidate) → level ≤ n → IsUpTo n P → IsUpTo n (raised_all level dot P cs)
 up_to_raised level dot n P [] within upto = upto
 up_to_raised level dot n P (c ∷ cs) within upto =
     let low : value_of P (c.window, dot) ≤ n = value_up_to n (c.window, dot) P upto in
@@ -115,3 +115,11 @@ next_is_below level P upto = all_weaker (λ (e : (List ℕ × ℕ) × ℕ). nat_
   where
     above : (n : ℕ) → nat_le n level ≡ true → not (nat_le (level + 1) n) ≡ true
     above n is = let low : n ≤ level = leb-true n level is in ap not (lt-leb (level + 1) n (omega arith))
+
+-- the greatest value is the least that all are up to
+up_to_more : (n k : ℕ) (P : Patterns) → n ≤ k → IsUpTo n P → IsUpTo k P
+up_to_more n k P more upto = all_weaker (λ (e : (List ℕ × ℕ) × ℕ). nat_le e.1 n) (λ (e : (List ℕ × ℕ) × ℕ). nat_le e.1 k) (λ e is. let low : e.1 ≤ n = leb-true e.1 n is in le-leb e.1 k (omega arith)) P upto
+
+pub up_to_largest : (P : Patterns) → IsUpTo (largest P) P
+up_to_largest [] = refl
+up_to_largest (e ∷ es) = and_from (nat_le e.1 (largest (e ∷ es))) (list_all (λ (x : (List ℕ × ℕ) × ℕ). nat_le x.1 (largest (e ∷ es))) es) (le-leb e.1 (largest (e ∷ es)) (omega arith)) (up_to_more (largest es) (largest (e ∷ es)) es (omega arith) (up_to_largest es))

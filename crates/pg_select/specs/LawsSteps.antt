@@ -45,7 +45,10 @@ NothingCovered = (level : ℕ) (P : Patterns) (u : List ℕ) (d : ℕ) → IsBel
 abbrev pub IsUpTo : ℕ → Patterns → Type 0
 IsUpTo level P = list_all (λ e. nat_le e.1 level) P ≡ true
 
--- so it is at a level's start
+-- so it is with the greatest value, and at a level's start
+abbrev pub UpToLargest : Type 0
+UpToLargest = (P : Patterns) → IsUpTo (largest P) P
+
 abbrev pub UpToAtStart : Type 0
 UpToAtStart = (level : ℕ) (P : Patterns) → IsBelow level P → IsUpTo level P
 

@@ -1,6 +1,6 @@
 //! Laws of the definitions of this crate. A call does nothing; its contract is the law.
 ghost use Rattle.pg_select.specs.Laws.{CandidatesInOrder, CandidatesAreSeen, CountsAreTally, PositionsAreFew, CandidatesAreFew, TotalsAreSmall, SightsAreLight, SumsAreParts, CandidatesAreLow, ChosenGetLevel, OthersStay, NoneFalls, RaisesWhereItApplies, GivenUpKeepsValues, RaisedCovers, HopelessCovers, GivenUpCovers, LaterAtOnce, LaterStill, LaterRaised, LaterHopeless, StatusBack, CountedBack, ClosedLater, CountedShorter, ClosedLonger, LaterSettled, ClosedWhenCovered, ClosedAtEnd};
-ghost use Rattle.pg_select.specs.LawsSteps.{BelowByLargest, UpToAtStart, NextIsBelow, UpToAfter, CoversUpToAtStart, CoversUpToLonger, CoversUpToAfter, LengthStep, NothingCovered, ValuesAfter, CoversAfter, CountedAreUncovered, TotalsAfter};
+ghost use Rattle.pg_select.specs.LawsSteps.{BelowByLargest, UpToLargest, UpToAtStart, NextIsBelow, UpToAfter, CoversUpToAtStart, CoversUpToLonger, CoversUpToAfter, LengthStep, NothingCovered, ValuesAfter, CoversAfter, CountedAreUncovered, TotalsAfter};
 ghost use Rattle.pg_select.specs.LawsClosedDots.{TellsAtStart, TellsLonger, TellsAfter, DoneByStatus, DoneWhenClosed, DoneLonger, DoneAfter, RaisedStop, HopelessStop, LeftStay, UncountedStay};
 
 /// The candidates of a pass are the windows that it sees. They stand strictly in the order of signs, so each once.
@@ -77,6 +77,7 @@ pub fn closed_at_end()
 /// Where the starting patterns of a level have no value as great as it, its passes lead to none above it.
 pub fn values_up_to_the_level()
     ensures largest { BelowByLargest }
+    ensures up_to_largest { UpToLargest }
     ensures start { UpToAtStart }
     ensures after { UpToAfter }
     ensures next { NextIsBelow }

@@ -10,7 +10,8 @@ use Rattle.pg_packed.specs.Starts.{entered_all}
 use Rattle.pg_select.specs.Meanings.{Meaning}
 use Rattle.pg_select.specs.Sums.{totals}
 use Rattle.pg_driver.specs.Runs.{Run}
-use Rattle.pg_driver.specs.Views.{minima_of, run_from}
+use Rattle.pg_driver.specs.Told.{minima_of}
+use Rattle.pg_driver.specs.Views.{run_from}
 use Rattle.pg_driver.proofs.FamilyLaw.{run_without_families}
 use Rattle.pg_top.specs.PrintedLines.{done_line}
 use Rattle.pg_types.specs.declared.marks.Totals.{Totals}

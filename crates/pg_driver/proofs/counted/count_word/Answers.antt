@@ -17,7 +17,7 @@ see-requires-clause-pass g c = ap (λ (m : Meaning). m.pass) c.positions.invaria
 
 pub see-requires-clause-read : goal.see-requires-clause-read
 see-requires-clause-read g c =
-    let m0 = g.E.Engine.meaning c.args.e.now in
+    let m0 = g.E.Engine.meaning c.args.engine.now in
     let read : IsRead m0 (word_of c.args.w.now) c.hyphenate.new.out = record { word = c.requires.word; signs = c.requires.signs; values = c.hyphenate.ensures.values; covers = c.hyphenate.ensures.covers } in
     read_on m0 _ (word_of c.args.w.now) _ c.positions.invariant.kept read
 
@@ -26,8 +26,8 @@ see-requires-clause-room g c = room_left _ _ _ _ 1 c.requires.room c.positions.i
 
 pub positions-preserved : goal.positions-preserved
 positions-preserved g c =
-    let m0 = g.E.Engine.meaning c.args.e.now in
-    let m = g.E.Engine.meaning c.positions.e in
+    let m0 = g.E.Engine.meaning c.args.engine.now in
+    let m = g.E.Engine.meaning c.positions.engine in
     let w = word_of c.args.w.now in
     let kept = c.positions.invariant.kept in
     let within : c.positions.p < length w.signs = omega (arith, c.positions-test.true, c.in-Some.ensures.within) in
