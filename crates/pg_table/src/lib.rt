@@ -1,0 +1,9 @@
+//! A packed table of patterns: a file of cells and records that is read in place, and the text of such a file.
+#![tactic(auto)]
+
+mod cell;
+mod head;
+mod limits;
+mod numbers;
+
+pub use limits::TABLE_MAX;
