@@ -1,1 +1,3 @@
+pub mod FormLaws
+pub mod Ranges
 mod TableRows

@@ -28,9 +28,13 @@ cell_at b at = record { sign = u16_at b (cell_start at); child = u32_at b (cell_
 abbrev pub record_start : ℕ → ℕ → ℕ
 record_start n i = cell_start n + 6 * i
 
+-- the record that begins at a place
+abbrev pub read_record : List ℕ → ℕ → Record
+read_record b start = record { value = slice_index b start; dot = slice_index b (start + 1); next = u32_at b (start + 2) }
+
 -- the record with this number
 abbrev pub record_at : List ℕ → ℕ → Record
-record_at b i = let start = record_start (head_of b).cells i in record { value = slice_index b start; dot = slice_index b (start + 1); next = u32_at b (start + 2) }
+record_at b i = read_record b (record_start (head_of b).cells i)
 
 -- all records
 abbrev pub records_of : List ℕ → List Record
@@ -40,9 +44,13 @@ records_of b = map (record_at b) (range_with_len 0 (head_of b).records)
 abbrev pub file_len : Head → ℕ
 file_len h = 16 + 10 * h.cells + 6 * h.records
 
--- a file begins as it should, and its numbers are in their ranges and agree with its length
+-- the numbers of a head are in their ranges, and agree with the length of the file
+abbrev pub fits_head : Head → ℕ → Bool
+fits_head h len = nat_eq len (file_len h) && nat_le len TABLE_MAX && nat_le 1 h.signs && nat_le h.signs SIGNS_MAX && nat_lt h.signs h.cells
+
+-- a file begins as it should, and its numbers agree with its length
 abbrev pub has_head : List ℕ → Bool
-has_head b = let h = head_of b in starts_with nat_eq b file_mark && nat_eq (length b) (file_len h) && nat_le (length b) TABLE_MAX && nat_le 1 h.signs && nat_le h.signs SIGNS_MAX && nat_lt h.signs h.cells
+has_head b = starts_with nat_eq b file_mark && fits_head (head_of b) (length b)
 
 -- a cell may stand at its place: up to the greatest sign, cell 0 has no sign and each other has its number as its sign; a cell
 -- without a sign is unused, so all of it is 0; and its numbers are in their ranges

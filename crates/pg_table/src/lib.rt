@@ -5,5 +5,8 @@ mod cell;
 mod head;
 mod limits;
 mod numbers;
+mod record;
+mod view;
 
 pub use limits::TABLE_MAX;
+pub use view::TableView;
