@@ -1,4 +1,5 @@
 pub mod Numbers
 pub mod Forms
 pub mod Lookups
+pub mod Raising
 pub mod Texts

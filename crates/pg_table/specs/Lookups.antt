@@ -16,10 +16,14 @@ use Rattle.pg_table.specs.Forms.{head_of, cell_at, records_of}
 abbrev pub has_sign : List ℕ → ℕ → ℕ → Bool
 has_sign b base s = nat_lt (base + s) (head_of b).cells && nat_eq (cell_at b (base + s)).sign s
 
+-- the list whose head is h
+abbrev pub list_in : List ℕ → ℕ → List (ℕ × ℕ)
+list_in b h = list_of (records_of b) h
+
 -- the list of the string q below the family at the base, each value with its dot. It is empty where a cell is missing
 abbrev pub lookup_from : List ℕ → ℕ → List ℕ → List (ℕ × ℕ)
 lookup_from b base [] = []
-lookup_from b base (s ∷ []) = if has_sign b base s then list_of (records_of b) (cell_at b (base + s)).head else []
+lookup_from b base (s ∷ []) = if has_sign b base s then list_in b (cell_at b (base + s)).head else []
 lookup_from b base (s ∷ t ∷ q) = if has_sign b base s && nat_lt 0 (cell_at b (base + s)).child then lookup_from b (cell_at b (base + s)).child (t ∷ q) else []
 
 -- the list of the string q
@@ -42,7 +46,7 @@ greatest f (x ∷ xs) = max (f x) (greatest f xs)
 
 -- the value that the n signs of w from i on give to position p, which is their dot p - i
 abbrev pub value_from : List ℕ → List ℕ → ℕ → ℕ → ℕ → ℕ
-value_from b w p i n = if nat_le i p && nat_le (p - i) n && nat_le (i + n) (length w) then table_entry b (take n (drop i w)) (p - i) else 0
+value_from b w p i n = if nat_le (i + n) (length w) && (nat_le i p && nat_le (p - i) n) then table_entry b (take n (drop i w)) (p - i) else 0
 
 -- the value of position p of w: the greatest of all strings of 1 to 32 signs that stand in w
 unfoldable pub table_value : List ℕ → List ℕ → ℕ → ℕ

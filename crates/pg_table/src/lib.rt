@@ -7,6 +7,7 @@ mod limits;
 mod numbers;
 mod record;
 mod view;
+mod walk;
 
 pub use limits::TABLE_MAX;
 pub use view::TableView;
