@@ -1,6 +1,9 @@
 pub mod FileRecords
 pub mod FormLaws
 pub mod Levels
+pub mod MarkSteps
 pub mod Ranges
+pub mod Reaches
 mod TableRows
 pub mod Walks
+pub mod WordSteps

@@ -6,8 +6,10 @@ mod head;
 mod limits;
 mod numbers;
 mod record;
+mod totals;
 mod view;
 mod walk;
 
 pub use limits::TABLE_MAX;
+pub use totals::table_totals;
 pub use view::TableView;
