@@ -1,4 +1,5 @@
-use Rattle.std.proofs.Common.{◌≡◌, ◌≤◌, ◌<◌, ◌+◌, ◌-◌, ℕ, true, false, length, slice_index_or, ap, ◌∙◌, arith}
+use Rattle.std.proofs.Common.{◌≡◌, ◌≤◌, ◌<◌, ◌+◌, ◌-◌, ℕ, Bool, true, false, length, slice_index_or, ap, ◌∙◌, arith}
+use Rattle.std.proofs.lemmas.List.{get_or_default}
 use Rattle.pg_dict.specs.Lent.{word_of}
 use Rattle.pg_dict.specs.Word.{letters_of}
 use Rattle.pg_select.specs.Statuses.{status, weight_at}
@@ -16,7 +17,9 @@ positions-preserved c =
     let within : p < length w.signs = omega (arith, c.positions-test.true, c.in-Some.ensures.within) in
     let small : weight_at w p ≤ WEIGHT_MAX = weight_small w p c.requires.word within in
     let mark : c.status-mark.result ≡ mark_of b w p =
-    c.status-mark.ensures ∙ ap (λ (v : ℕ). status (slice_index_or w.hyphens p false) (slice_index_or w.cares p true) v) (c.value.ensures ∙ c.values.ensures.values p within) in
+    c.status-mark.ensures
+    ∙ ap (λ (x : Bool). status (slice_index_or w.hyphens p false) x c.value.result) (get_or_default w.cares p false true (omega (arith, c.requires.word.cares_len)))
+    ∙ ap (λ (v : ℕ). status (slice_index_or w.hyphens p false) (slice_index_or w.cares p true) v) (c.value.ensures ∙ c.values.ensures.values p within) in
     let sums : c.add_mark-sums.result ≡ with_mark c.positions.sums (mark_of b w p) (weight_at w p) =
     c.add_mark-sums.ensures ∙ ap (λ (x : Mark). with_mark c.positions.sums x (weight_at w p)) mark in
     let took : sum_of c.add_mark-sums.result ≤ sum_of c.positions.sums + weight_at w p = rw sums (mark_took c.positions.sums (mark_of b w p) (weight_at w p)) in
