@@ -1,7 +1,9 @@
+pub mod FileParts
 pub mod FileRecords
 pub mod FormLaws
 pub mod Levels
 pub mod MarkSteps
+pub mod Parts
 pub mod Ranges
 pub mod Reaches
 mod TableRows
