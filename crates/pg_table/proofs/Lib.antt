@@ -1,0 +1,11 @@
+pub mod FileParts
+pub mod FileRecords
+pub mod FormLaws
+pub mod Levels
+pub mod MarkSteps
+pub mod Parts
+pub mod Ranges
+pub mod Reaches
+mod TableRows
+pub mod Walks
+pub mod WordSteps
