@@ -22,3 +22,4 @@ pub mod OpenSteps
 pub mod OpenLevels
 pub mod CarriedTotals
 pub mod OpenTraces
+pub mod ReadySteps
