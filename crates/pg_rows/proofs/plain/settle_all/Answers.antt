@@ -1,4 +1,4 @@
-use Rattle.pg_driver.proofs.Choices.{counted_above}
+use Rattle.pg_driver.proofs.ChoiceSteps.{counted_above}
 use Rattle.pg_rows.proofs.plain.settle_all.Goals as goal
 
 pub settle-requires-clause-counted : goal.settle-requires-clause-counted
