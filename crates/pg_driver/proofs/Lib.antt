@@ -23,3 +23,4 @@ pub mod OpenLevels
 pub mod CarriedTotals
 pub mod OpenTraces
 pub mod ReadySteps
+mod DotRows

@@ -62,6 +62,11 @@ impl Engine for PackedEngine {
 
     ghost meaning = { meaning_of };
 
+    fn kept(&self) {
+        let _len = self.counts.window_len();
+        let _lists = self.trie.outputs();
+    }
+
     fn begin_pass(&mut self, level: u8, len: u8, dot: u8) {
         self.counts.begin(len);
         self.level = level;

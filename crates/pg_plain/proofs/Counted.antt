@@ -1,6 +1,6 @@
 -- A weight added to a window, and the walk over the windows.
 use Rattle.std.proofs.Common.{◌≡◌, ℕ, ◌≤◌, Bool, true, false, cond, ◌&&◌, T, List, [], ◌∷◌, length, Option, Some, None, is_some, unwrap_or, nat_eq, nat_cmp, sym, refl, ap, ◌∙◌}
-use Rattle.std.proofs.lemmas.Bool.{le-leb, eqb-true, eq-eqb}
+use Rattle.std.proofs.lemmas.Bool.{le-leb, eqb-true}
 use Rattle.std.proofs.lemmas.List.Elements.{All-head, All-tail}
 use Rattle.std.specs.declared.cmp.Ordering.TheVariants.{Equal}
 use Rattle.std.specs.declared.ops.Bound.TheVariants.{Excluded, Unbounded}
@@ -45,17 +45,21 @@ added_there C E u good weight sums n sorted there more written =
     written ∙ set_value-put (slice_cmp nat_cmp) nat_list_cmp_total u n sums C sorted found
     ∙ ap (λ x. put (slice_cmp nat_cmp) u x C) (more ∙ ap (λ o. with_weight (unwrap_or o (0, 0)) good weight) (sym found))
 
--- windows of one length stay so
-pub windows_put : (C : Counts) (u : List ℕ) (n : ℕ × ℕ) (len : ℕ) → length u ≡ len → list_all (λ e. nat_eq (length e.0) len) C ≡ true → list_all (λ e. nat_eq (length e.0) len) (put (slice_cmp nat_cmp) u n C) ≡ true
-windows_put C u n len size all = all_put (slice_cmp nat_cmp) (λ (e : List ℕ × (ℕ × ℕ)). nat_eq (length e.0) len) same_window u n C (eq-eqb (length u) len size) all
+-- windows that pass a test stay so
+pub windows_put : (good : List ℕ → Bool) (C : Counts) (u : List ℕ) (n : ℕ × ℕ) → good u ≡ true → list_all (λ e. good e.0) C ≡ true → list_all (λ e. good e.0) (put (slice_cmp nat_cmp) u n C) ≡ true
+windows_put good C u n new all = all_put (slice_cmp nat_cmp) (λ (e : List ℕ × (ℕ × ℕ)). good e.0) same_window u n C new all
+
+-- and a window that is counted does
+pub counted_good : (good : List ℕ → Bool) (C : Counts) (u : List ℕ) → is_counted C u ≡ true → list_all (λ e. good e.0) C ≡ true → good u ≡ true
+counted_good good C u there all = by_find (find (slice_cmp nat_cmp) u C) refl there
+  where
+    by_find : (o : Option (ℕ × ℕ)) → find (slice_cmp nat_cmp) u C ≡ o → is_some o ≡ true → good u ≡ true
+    by_find None is there = cc
+    by_find (Some sums) is there = find_good (slice_cmp nat_cmp) (λ (e : List ℕ × (ℕ × ℕ)). good e.0) same_window u sums C is all
 
 -- a window that is counted has that length
 pub counted_len : (C : Counts) (u : List ℕ) (len : ℕ) → is_counted C u ≡ true → list_all (λ e. nat_eq (length e.0) len) C ≡ true → length u ≡ len
-counted_len C u len there all = by_find (find (slice_cmp nat_cmp) u C) refl there
-  where
-    by_find : (o : Option (ℕ × ℕ)) → find (slice_cmp nat_cmp) u C ≡ o → is_some o ≡ true → length u ≡ len
-    by_find None is there = cc
-    by_find (Some sums) is there = eqb-true (length u) len (find_good (slice_cmp nat_cmp) (λ (e : List ℕ × (ℕ × ℕ)). nat_eq (length e.0) len) same_window u sums C is all)
+counted_len C u len there all = eqb-true (length u) len (counted_good (λ (v : List ℕ). nat_eq (length v) len) C u there all)
 
 between_above : (u : List ℕ) (C : Counts) → entries_between (slice_cmp nat_cmp) (Excluded u) Unbounded C ≡ above u C
 between_above u [] = refl

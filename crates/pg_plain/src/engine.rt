@@ -3,8 +3,8 @@ ghost use Rattle.std.specs.Prelude.{◌≡◌, ℕ, ◌≤◌, true, nat_eq, len
 ghost use Rattle.std.specs.List.{list_all};
 ghost use Rattle.pg_types.specs.declared.limits.TheConstants.{LEVEL_MAX, LENGTH_MAX};
 ghost use Rattle.pg_patterns.specs.Values.{is_entry};
-ghost use Rattle.pg_plain.specs.Indexes.{is_indexed};
-ghost use Rattle.pg_plain.specs.Strings.{is_string};
+ghost use Rattle.pg_plain.specs.Indexes.{AreIndexed};
+ghost use Rattle.pg_plain.specs.Strings.{is_string, has_signs_up_to};
 
 use crate::counts::{add, next_behind};
 use crate::index::Index;
@@ -40,8 +40,11 @@ pub struct PlainEngine {
     begun: u64,
     ghost entries: { list_all is_entry patterns.entries ≡ true },
     ghost strings: { list_all (λ e. is_string e.0) hopeless.entries ≡ true },
-    ghost indexed: { list_all (λ e. is_indexed pattern_index.fronts.items pattern_index.strings.items e.0.0) patterns.entries ≡ true },
-    ghost hopeless_indexed: { list_all (λ e. is_indexed hopeless_index.fronts.items hopeless_index.strings.items e.0.0) hopeless.entries ≡ true },
+    ghost indexed: { AreIndexed pattern_index.fronts.items pattern_index.strings.items patterns.entries },
+    ghost hopeless_indexed: { AreIndexed hopeless_index.fronts.items hopeless_index.strings.items hopeless.entries },
+    ghost known: { list_all (λ e. has_signs_up_to signs e.0.0) patterns.entries ≡ true },
+    ghost hopeless_known: { list_all (λ e. has_signs_up_to signs e.0.0) hopeless.entries ≡ true },
+    ghost counts_known: { list_all (λ e. has_signs_up_to signs e.0) counts.entries ≡ true },
     ghost windows: { list_all (λ e. nat_eq (length e.0) pass.len) counts.entries ≡ true },
     ghost level: { (1 ≤ pass.level) × (pass.level ≤ LEVEL_MAX) },
     ghost len: { (1 ≤ pass.len) × (pass.len ≤ LENGTH_MAX) },
@@ -50,12 +53,14 @@ pub struct PlainEngine {
 
 impl PlainEngine {
     ghost use Rattle.std.specs.Prelude.{◌≡◌, IfOk};
+    ghost use Rattle.pg_patterns.specs.Values.{SignsUpTo};
     ghost use Rattle.pg_select.specs.Meanings.{new_engine};
     ghost use Rattle.pg_plain.specs.Engines.{meaning_of};
 
     /// An engine with the greatest sign `signs` whose patterns are those of `start`. Nothing is hopeless or counted, no pass
     /// was begun, and the engine is tidy.
     pub fn new(alloc: Global, signs: u16, start: &PatternSet) -> Result<PlainEngine, AllocError>
+        requires { SignsUpTo signs start.now }
         ensures { IfOk result (λ engine. meaning_of engine ≡ new_engine signs start.now None) }
     {
         let mut pattern_index = Index::new(alloc, PATTERN_SLOTS)?;
@@ -82,6 +87,12 @@ impl Engine for PlainEngine {
     ghost use Rattle.pg_plain.specs.Engines.{meaning_of};
 
     ghost meaning = { meaning_of };
+
+    fn kept(&self) {
+        let _patterns = self.patterns.len();
+        let _hopeless = self.hopeless.len();
+        let _counts = self.counts.len();
+    }
 
     fn begin_pass(&mut self, level: u8, len: u8, dot: u8) {
         self.counts.clear();

@@ -1,14 +1,17 @@
 -- What an engine means: the patterns and the counts that it holds, and what each of its calls makes of them.
-use Rattle.std.specs.Prelude.{◌≡◌, ℕ, ◌+◌, ◌<◌, Bool, true, false, List, [], length, map, Option, None, Some, MatchOption, get_or, take}
+use Rattle.std.specs.Prelude.{◌≡◌, ℕ, ◌+◌, ◌<◌, Bool, true, false, T, List, [], length, map, Option, None, Some, MatchOption, All, get_or, take}
 use Rattle.std.specs.Option.{option_map}
-use Rattle.std.specs.FinMap.Entries.{put}
+use Rattle.std.specs.Ordering.{nat_cmp}
+use Rattle.std.specs.Cmp.Lexicographic.{slice_cmp}
+use Rattle.std.specs.FinMap.Entries.{put, is_sorted}
 use Rattle.pg_types.specs.declared.marks.Layout.{Layout}
-use Rattle.pg_types.specs.Counts.{Counts, with_count}
+use Rattle.pg_types.specs.Counts.{Counts, SignsWithin, with_count, is_counted}
 use Rattle.pg_types.specs.Placement.{Families, taken, top, enter, kept}
 use Rattle.pg_types.specs.Tails.{tails}
 use Rattle.pg_patterns.specs.Places.{place_cmp}
-use Rattle.pg_patterns.specs.Values.{value_at, raise}
-use Rattle.pg_select.specs.Windows.{Hopeless, window, fits, covered}
+use Rattle.pg_patterns.specs.Values.{IsPatternMap, SignsUpTo, raise}
+use Rattle.pg_select.specs.Positions.{HasValues, HasCovers}
+use Rattle.pg_select.specs.Windows.{Hopeless}
 use Rattle.pg_select.specs.declared.pass.Pass.{Pass}
 use Rattle.pg_select.specs.Sights.{Sight}
 
@@ -23,6 +26,16 @@ pub record Meaning : Type 0 where
   pub families : Option Families
   pub begun : ℕ
   pub tidy : Bool
+
+-- what every engine keeps: its patterns are a map of patterns, so that they stand in order and each value is 1 to 9; its hopeless
+-- places and its counts stand in order; and no sign is above the greatest
+pub record IsKept (m : Meaning) : Type 0 where
+  pub patterns : IsPatternMap m.patterns
+  pub hopeless_order : T (is_sorted place_cmp m.hopeless)
+  pub counts_order : T (is_sorted (slice_cmp nat_cmp) m.counts)
+  pub pattern_signs : SignsUpTo m.signs m.patterns
+  pub hopeless_signs : All (λ e. SignsWithin m.signs e.0.0) m.hopeless
+  pub counted_signs : (u : List ℕ) → is_counted m.counts u ≡ true → SignsWithin m.signs u
 
 -- an engine that was just made: it has these patterns and tells these families; nothing is hopeless or counted, no pass was begun, and
 -- it is tidy
@@ -74,11 +87,11 @@ pub record KeepsButFamilies (u : List ℕ) (old new : Meaning) : Type 0 where
 
 -- the values of the positions of a word are those that the patterns give
 abbrev pub SetsValues : Meaning → List ℕ → List ℕ → Type 0
-SetsValues m w values = (p : ℕ) → p < length w → get_or values p 0 ≡ value_at m.patterns w p
+SetsValues m w values = HasValues m.patterns w values
 
 -- the covers are right at each position whose window fits in the word
 abbrev pub SetsCovers : Meaning → List ℕ → List Bool → Type 0
-SetsCovers m w covers = (p : ℕ) → p < length w → fits w p m.pass.len m.pass.dot ≡ true → get_or covers p false ≡ covered m.pass.level m.patterns m.hopeless (window w p m.pass.len m.pass.dot) m.pass.dot
+SetsCovers m w covers = HasCovers m.pass m.patterns m.hopeless w covers
 
 -- the numbers of the families; none where they are not told. The tails are those of the patterns where the engine is tidy
 abbrev pub IsLayout : Meaning → Option Layout → Type 0

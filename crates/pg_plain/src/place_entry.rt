@@ -1,28 +1,28 @@
-//! What an entry of a map of places does at its dot.
+//! What an entry of a map of places gives at its dot.
 ghost use Rattle.std.specs.Prelude.{◌≡◌, ℕ, Bool};
 
-/// What an entry does at the position of its dot in a word: it gives a value, and it may cover the window there.
-pub trait Force {
-    ghost gives: { Self → ℕ };
+/// What a map has at a place: in a word an entry gives a value to the position of its dot, and it may cover the window there.
+pub trait PlaceEntry {
+    ghost given: { Self → ℕ };
 
-    ghost knocks_out: { ℕ → Self → Bool };
+    ghost covers_at: { ℕ → Self → Bool };
 
     /// The value that it gives, 0 where it gives none.
     fn value(&self) -> u8
-        ensures { result ≡ gives self.now };
+        ensures { result ≡ given self.now };
 
     /// Whether it covers a window, in which it stands, at `level`.
     fn covers(&self, level: u8) -> bool
-        ensures { result ≡ knocks_out level self.now };
+        ensures { result ≡ covers_at level self.now };
 }
 
 /// The value of a pattern covers at its level and at those below.
-impl Force for u8 {
+impl PlaceEntry for u8 {
     ghost use Rattle.std.specs.Prelude.{nat_le};
 
-    ghost gives = { λ value. value };
+    ghost given = { λ value. value };
 
-    ghost knocks_out = { λ level value. nat_le level value };
+    ghost covers_at = { λ level value. nat_le level value };
 
     fn value(&self) -> u8 {
         *self
@@ -34,12 +34,12 @@ impl Force for u8 {
 }
 
 /// A hopeless place gives no value, and covers.
-impl Force for () {
+impl PlaceEntry for () {
     ghost use Rattle.std.specs.Prelude.{true};
 
-    ghost gives = { λ _. 0 };
+    ghost given = { λ _. 0 };
 
-    ghost knocks_out = { λ _ _. true };
+    ghost covers_at = { λ _ _. true };
 
     fn value(&self) -> u8 {
         0
