@@ -30,8 +30,14 @@ fn run_levels<E: Engine>(
     requires begun { (E.meaning engine.old).begun < 2 ^ 59 }
     requires none { records.old ≡ record { passes = []; levels = []; chosen = 0; begun = 0 } }
     requires signs { SignsAtMost (E.meaning engine.old).signs dictionary.now }
-    ensures run { OnOk result (DidRun (over table.now dictionary.now) (run_from table.now dictionary.now params.now (E.meaning engine.old)) (E.meaning engine.old) (E.meaning engine.new) records.new) }
-    ensures totals { IfOk result (λ totals. totals ≡ totals_by (over table.now dictionary.now) (E.meaning engine.new).patterns) }
+    ensures run {
+        OnOk result (DidRun (over table.now dictionary.now)
+            (run_from table.now dictionary.now params.now (E.meaning engine.old)) (E.meaning engine.old)
+            (E.meaning engine.new) records.new)
+    }
+    ensures totals {
+        IfOk result (λ totals. totals ≡ totals_by (over table.now dictionary.now) (E.meaning engine.new).patterns)
+    }
     ensures small { IfOk result IsSmall }
     ensures tidy { OnOk result ((E.meaning engine.new).tidy ≡ true) }
     ensures begun { OnOk result ((E.meaning engine.new).begun ≡ (E.meaning engine.old).begun + records.new.begun) }
@@ -80,12 +86,19 @@ pub fn generate<E: Engine>(
     requires tidy { (E.meaning engine.old).tidy ≡ true }
     requires begun { (E.meaning engine.old).begun < 2 ^ 59 }
     requires signs { SignsAtMost (E.meaning engine.old).signs dictionary.now }
-    ensures patterns { IfOk result (λ r. r.patterns ≡ patterns_from table.now dictionary.now params.now (E.meaning engine.old)) }
-    ensures account { IfOk result (λ r. account_of r ≡ account_from table.now dictionary.now params.now (E.meaning engine.old)) }
+    ensures patterns {
+        IfOk result (λ r. r.patterns ≡ patterns_from table.now dictionary.now params.now (E.meaning engine.old))
+    }
+    ensures account {
+        IfOk result (λ r. account_of r ≡ account_from table.now dictionary.now params.now (E.meaning engine.old))
+    }
     ensures cells { IfOk result (TellsCells (cells_from table.now dictionary.now params.now (E.meaning engine.old))) }
     ensures begun { IfOk result (λ r. r.begun ≡ begun_from table.now dictionary.now params.now (E.meaning engine.old)) }
     ensures kept { IfOk result (λ r. (E.meaning engine.new).patterns ≡ r.patterns) }
-    ensures families { OnOk result ((E.meaning engine.new).families ≡ families_from table.now dictionary.now params.now (E.meaning engine.old)) }
+    ensures families {
+        OnOk result ((E.meaning engine.new).families
+            ≡ families_from table.now dictionary.now params.now (E.meaning engine.old))
+    }
     ensures hopeless { OnOk result ((E.meaning engine.new).hopeless ≡ []) }
     ensures tidy { OnOk result ((E.meaning engine.new).tidy ≡ true) }
     ensures counted { IfOk result (λ r. (E.meaning engine.new).begun ≡ (E.meaning engine.old).begun + r.begun) }

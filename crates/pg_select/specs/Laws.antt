@@ -22,8 +22,8 @@ abbrev pub CandidatesInOrder : Type 0
 CandidatesInOrder = (counted : List CountedPosition) (i j : ℕ) (d : List ℕ) → i < j → j < length (candidates counted) → slice_cmp nat_cmp (slice_index_or (candidates counted) i d) (slice_index_or (candidates counted) j d) ≡ Less
 
 -- the candidates are the windows that are counted
-abbrev pub CandidatesAreSeen : Type 0
-CandidatesAreSeen = (counted : List CountedPosition) (u : List ℕ) → list_any (same_signs u) (candidates counted) ≡ list_any (λ s. same_signs u s.window) counted
+abbrev pub CandidatesAreCounted : Type 0
+CandidatesAreCounted = (counted : List CountedPosition) (u : List ℕ) → list_any (same_signs u) (candidates counted) ≡ list_any (λ s. same_signs u s.window) counted
 
 -- the entry of the counts that a candidate is
 abbrev pub entry_of : Candidate → List ℕ × (ℕ × ℕ)

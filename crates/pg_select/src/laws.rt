@@ -1,12 +1,12 @@
 //! Laws of the definitions of this crate. A call does nothing; its contract is the law.
-ghost use Rattle.pg_select.specs.Laws.{CandidatesInOrder, CandidatesAreSeen, CountsAreTally, PositionsAreFew, CandidatesAreFew, TotalsAreSmall, CountedAreLight, SumsAreParts, CandidatesAreLow, ChosenGetLevel, OthersStay, NoneFalls, RaisesWhereItApplies, GivenUpKeepsValues, RaisedCovers, HopelessCovers, GivenUpCovers, LaterAtOnce, LaterStill, LaterRaised, LaterHopeless, StatusBack, CountedBack, ClosedLater, CountedShorter, ClosedLonger, LaterSettled, ClosedWhenCovered, ClosedAtEnd};
+ghost use Rattle.pg_select.specs.Laws.{CandidatesInOrder, CandidatesAreCounted, CountsAreTally, PositionsAreFew, CandidatesAreFew, TotalsAreSmall, CountedAreLight, SumsAreParts, CandidatesAreLow, ChosenGetLevel, OthersStay, NoneFalls, RaisesWhereItApplies, GivenUpKeepsValues, RaisedCovers, HopelessCovers, GivenUpCovers, LaterAtOnce, LaterStill, LaterRaised, LaterHopeless, StatusBack, CountedBack, ClosedLater, CountedShorter, ClosedLonger, LaterSettled, ClosedWhenCovered, ClosedAtEnd};
 ghost use Rattle.pg_select.specs.LawsSteps.{BelowByLargest, UpToLargest, UpToAtStart, NextIsBelow, UpToAfter, CoversUpToAtStart, CoversUpToLonger, CoversUpToAfter, LengthStep, NothingCovered, ValuesAfter, CoversAfter, CountedAreUncovered, TotalsAfter};
 ghost use Rattle.pg_select.specs.LawsClosedDots.{TellsAtStart, TellsLonger, TellsAfter, DoneByStatus, DoneWhenClosed, DoneLonger, DoneAfter, RaisedStop, HopelessStop, LeftStay, UncountedStay};
 
 /// The candidates of a pass are the windows that it counts. They stand strictly in the order of signs, so each once.
 pub fn candidates_in_order()
     ensures order { CandidatesInOrder }
-    ensures counted { CandidatesAreSeen }
+    ensures counted { CandidatesAreCounted }
 {}
 
 /// Counting what a pass counts, one position after the other, gives its candidates with their sums of good and bad weights.
