@@ -1,4 +1,4 @@
--- What every record of a run keeps, and what a run is seen as.
+-- What every record of a run keeps, and what a run is counted as.
 use Rattle.std.specs.Prelude.{ℕ, ◌+◌, ◌^◌, ◌<◌, ◌≤◌, nat_lt, if◌then◌else◌, List, [], ◌∷◌, ◌++◌, Option}
 use Rattle.pg_types.specs.declared.marks.Layout.{Layout}
 use Rattle.pg_types.specs.declared.marks.Totals.{Totals}
