@@ -4,7 +4,7 @@ ghost use Rattle.pg_types.specs.declared.limits.TheConstants.{LENGTH_MAX};
 ghost use Rattle.pg_types.specs.Parameters.{IsLevel};
 ghost use Rattle.pg_dict.specs.Word.{SignsAtMost};
 ghost use Rattle.pg_select.specs.LawsSteps.{IsBelow};
-ghost use Rattle.pg_select.specs.Sights.{sights};
+ghost use Rattle.pg_select.specs.CountedPositions.{counted_positions};
 ghost use Rattle.pg_driver.specs.Accounts.{totals_by};
 ghost use Rattle.pg_driver.specs.Counting.{counting, HasRoom};
 ghost use Rattle.pg_driver.specs.LevelCounting.{ArePlaced, CanGoOn, GoesOnAfter, IsReady, TellsTotals};
@@ -89,7 +89,7 @@ impl Counting {
             (known_of (E.meaning engine.old)) self.now }
         ensures ok { OnOk result (E.meaning engine.new
             ≡ counting (E.meaning engine.old)
-            (sights (minima_of table.now) dictionary.now pass (E.meaning engine.old).patterns
+            (counted_positions (minima_of table.now) dictionary.now pass (E.meaning engine.old).patterns
             (E.meaning engine.old).hopeless)) }
         ensures totals { IfOk result (λ before. before
             ≡ totals_by (over table.now dictionary.now) (E.meaning engine.old).patterns) }

@@ -5,7 +5,7 @@ ghost use Rattle.pg_types.specs.declared.limits.TheConstants.{WORD_LETTERS_MAX};
 ghost use Rattle.pg_translate.specs.Reach.{positions as positions_of};
 ghost use Rattle.pg_dict.specs.Word.{IsWord, letters_of};
 ghost use Rattle.pg_dict.specs.Lent.{word_of};
-ghost use Rattle.pg_select.specs.Sights.{counts_as as counts_as_of};
+ghost use Rattle.pg_select.specs.CountedPositions.{counts_as as counts_as_of};
 ghost use Rattle.pg_select.specs.Statuses.{status as status_of};
 ghost use Rattle.pg_select.specs.Windows.{fits as fits_in};
 ghost use Rattle.pg_driver.specs.Counting.{with_mark, sum_of};

@@ -4,7 +4,7 @@ ghost use Rattle.pg_types.specs.declared.limits.TheConstants.{LENGTH_MAX};
 ghost use Rattle.pg_types.specs.Counts.{SignsWithin};
 ghost use Rattle.pg_dict.specs.Word.{IsWord, SignsAtMost};
 ghost use Rattle.pg_dict.specs.Lent.{word_of};
-ghost use Rattle.pg_select.specs.Sights.{counts_as as counts_as_of};
+ghost use Rattle.pg_select.specs.CountedPositions.{counts_as as counts_as_of};
 ghost use Rattle.pg_driver.specs.Told.{minima_of};
 ghost use Rattle.pg_driver.specs.DotSets.{is_full, longer_dots};
 ghost use Rattle.pg_driver.specs.OpenPositions.{with_closed};

@@ -4,7 +4,7 @@ ghost use Rattle.pg_types.specs.Counts.{SignsWithin};
 ghost use Rattle.pg_types.specs.declared.limits.TheConstants.{WORD_LETTERS_MAX};
 ghost use Rattle.pg_dict.specs.Word.{IsWord, SignsAtMost, letters_of};
 ghost use Rattle.pg_dict.specs.Lent.{word_of};
-ghost use Rattle.pg_select.specs.Sights.{sight_at, sights, sights_in, counts_as as counts_as_of};
+ghost use Rattle.pg_select.specs.CountedPositions.{counted_positions_at, counted_positions, counted_positions_in, counts_as as counts_as_of};
 ghost use Rattle.pg_select.specs.Statuses.{status_at, weight_at};
 ghost use Rattle.pg_select.specs.Sums.{marks_in, totals as totals_of_words};
 ghost use Rattle.pg_select.specs.Windows.{fits as fits_in};
@@ -53,7 +53,7 @@ fn count_at<E: Engine>(
     requires room { HasRoom (E.meaning engine.old).counts 1 }
     ensures ok { OnOk result (E.meaning engine.new
         ≡ counting (E.meaning engine.old)
-        (sight_at (E.meaning engine.old).pass (E.meaning engine.old).patterns (E.meaning engine.old).hopeless
+        (counted_positions_at (E.meaning engine.old).pass (E.meaning engine.old).patterns (E.meaning engine.old).hopeless
         (word_of w.now) p)) }
     ensures err { OnErr result (E.meaning engine.new ≡ E.meaning engine.old) }
 {
@@ -82,7 +82,7 @@ fn count_position<E: Engine>(
     requires room_for { HasRoomFor sums.old 1 }
     ensures ok { OnOk result (E.meaning engine.new
         ≡ counting (E.meaning engine.old)
-        (sight_at (E.meaning engine.old).pass (E.meaning engine.old).patterns (E.meaning engine.old).hopeless
+        (counted_positions_at (E.meaning engine.old).pass (E.meaning engine.old).patterns (E.meaning engine.old).hopeless
         (word_of w.now) p)) }
     ensures sums { OnOk result (sums.new
         ≡ with_mark sums.old (status_at (E.meaning engine.old).patterns (word_of w.now) p)
@@ -111,7 +111,7 @@ pub fn count_word<E: Engine>(
     requires room_for { HasRoomFor sums.old (letters_of (word_of w.now)) }
     ensures ok { OnOk result (E.meaning engine.new
         ≡ counting (E.meaning engine.old)
-        (sights_in (minima_of table.now) (E.meaning engine.old).pass (E.meaning engine.old).patterns
+        (counted_positions_in (minima_of table.now) (E.meaning engine.old).pass (E.meaning engine.old).patterns
         (E.meaning engine.old).hopeless (word_of w.now))) }
     ensures sums { OnOk result (sums.new
         ≡ with_marks sums.old (marks_in (minima_of table.now) (E.meaning engine.old).patterns (word_of w.now))) }
@@ -143,7 +143,7 @@ pub fn count_words<E: Engine>(
     requires signs { SignsAtMost (E.meaning engine.old).signs dictionary.now }
     ensures ok { OnOk result (E.meaning engine.new
         ≡ counting (E.meaning engine.old)
-        (sights (minima_of table.now) dictionary.now (E.meaning engine.old).pass (E.meaning engine.old).patterns
+        (counted_positions (minima_of table.now) dictionary.now (E.meaning engine.old).pass (E.meaning engine.old).patterns
         (E.meaning engine.old).hopeless)) }
     ensures totals { IfOk result (λ sums. sums
         ≡ totals_of_words (minima_of table.now) dictionary.now (E.meaning engine.old).patterns) }
