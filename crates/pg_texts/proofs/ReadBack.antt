@@ -16,7 +16,7 @@ use Rattle.pg_translate.specs.declared.items.Place.TheVariants.{Dictionary}
 use Rattle.pg_dict.specs.Word.{Word, IsWord, SignsAtMost}
 use Rattle.pg_dict.specs.Words.{LineWord, line_of, line_word, words}
 use Rattle.pg_dict.specs.Written.{AreMarksOf, word_tokens, letters_among, IsLine, file_of, LinesGive}
-use Rattle.pg_driver.specs.Traces.{Patterns}
+use Rattle.pg_select.specs.Windows.{Patterns}
 use Rattle.pg_texts.specs.PattmpTexts.{takes_part, taking_part, weight_text, word_text, statuses, lines_behind, pattmp_text}
 use Rattle.pg_texts.proofs.WordItems.{IsDictionaryItem, SpellsLetters, inner_positions, word_items, word_items_tokens, word_items_joined, word_items_each, word_items_few}
 use Rattle.pg_texts.proofs.WordMarks.{statuses_are_marks}

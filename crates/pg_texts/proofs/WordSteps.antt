@@ -11,7 +11,7 @@ use Rattle.pg_dict.specs.Word.{Word, IsWord, SignsAtMost}
 use Rattle.pg_types.specs.Counts.{SignsWithin}
 use Rattle.pg_patterns.specs.Values.{value_at}
 use Rattle.pg_select.specs.Statuses.{status}
-use Rattle.pg_driver.specs.Traces.{Patterns}
+use Rattle.pg_select.specs.Windows.{Patterns}
 use Rattle.pg_texts.proofs.Ranges.{same_over_range}
 use Rattle.pg_texts.specs.Found.{status_found}
 use Rattle.pg_texts.specs.PattmpTexts.{takes_part, taking_part, weight_text, position_text, word_text, statuses, lines_behind, letter_text}

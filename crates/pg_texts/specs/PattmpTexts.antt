@@ -9,7 +9,7 @@ use Rattle.pg_dict.specs.Word.{Word}
 use Rattle.pg_select.specs.Sights.{Minima}
 use Rattle.pg_select.specs.Statuses.{weight_at}
 use Rattle.pg_select.specs.AnyPositions.{status_of_position}
-use Rattle.pg_driver.specs.Traces.{Patterns}
+use Rattle.pg_select.specs.Windows.{Patterns}
 
 -- the minima of a table
 abbrev pub minima_of : Alphabet → Minima

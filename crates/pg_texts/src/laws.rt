@@ -4,7 +4,7 @@ ghost use Rattle.pg_types.specs.declared.limits.TheConstants.{FILE_MAX};
 ghost use Rattle.pg_translate.specs.Alphabets.{letters_of};
 ghost use Rattle.pg_dict.specs.Word.{Word, IsWord, SignsAtMost};
 ghost use Rattle.pg_dict.specs.Words.{words as words_of};
-ghost use Rattle.pg_driver.specs.Traces.{Patterns};
+ghost use Rattle.pg_select.specs.Windows.{Patterns};
 ghost use Rattle.pg_texts.specs.PattmpTexts.{pattmp_text, taking_part};
 
 use pg_dict::laws::{files_are_read, lines_are_read, words_are_read};
