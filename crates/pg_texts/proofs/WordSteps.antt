@@ -12,6 +12,7 @@ use Rattle.pg_types.specs.Counts.{SignsWithin}
 use Rattle.pg_patterns.specs.Values.{value_at}
 use Rattle.pg_select.specs.Statuses.{status}
 use Rattle.pg_driver.specs.Traces.{Patterns}
+use Rattle.pg_texts.proofs.Ranges.{same_over_range}
 use Rattle.pg_texts.specs.Found.{status_found}
 use Rattle.pg_texts.specs.PattmpTexts.{takes_part, taking_part, weight_text, position_text, word_text, statuses, lines_behind, letter_text}
 
@@ -56,13 +57,6 @@ by_test false hyphen care value = refl
 -- the statuses that are found are those of the positions
 pub found_status : (t : Alphabet) (P : Patterns) (w : Word) (values : List ℕ) (r : ℕ × ℕ) (p : ℕ) → reach t.left t.right (length w.signs) ≡ Some r → slice_index values p ≡ value_at P w.signs p → status_found values r w p ≡ statuses t P w p
 found_status t P w values r p is value = rw (reach_test t.left t.right (length w.signs) r p is, value) (by_test (nat_le r.0 p && nat_le p r.1) (slice_index_or w.hyphens p false) (slice_index_or w.cares p true) (value_at P w.signs p))
-
-same_over_range : (f g : ℕ → List ℕ) (a n : ℕ) → ((p : ℕ) → a ≤ p → p < a + n → f p ≡ g p) → flat_map f (range_with_len a n) ≡ flat_map g (range_with_len a n)
-same_over_range f g a zero same = refl
-same_over_range f g a (suc n) same =
-    let here : f a ≡ g a = same a (omega arith) (omega arith) in
-    let rest : flat_map f (range_with_len (a + 1) n) ≡ flat_map g (range_with_len (a + 1) n) = same_over_range f g (a + 1) n (λ p low high. same p (omega arith) (omega arith)) in
-    rw (here, rest) refl
 
 -- the text of a word by marks that agree at each position
 pub same_marks : (t : Alphabet) (marks others : ℕ → Mark) (w : Word) → ((p : ℕ) → p < length w.signs → marks p ≡ others p) → 3 ≤ length w.signs → word_text t marks w ≡ word_text t others w

@@ -3,6 +3,7 @@
 
 mod cells;
 mod fronts;
+pub mod laws;
 mod numbers;
 mod pattmp;
 mod rates;

@@ -6,6 +6,7 @@ ghost use Rattle.pg_dict.specs.Word.{SignsAtMost};
 ghost use Rattle.pg_dict.specs.Words.{words};
 ghost use Rattle.pg_texts.specs.PattmpTexts as pattmp;
 
+use crate::laws::lists_are_read;
 use crate::word::{push_weight, push_word};
 use pg_dict::Dictionary;
 use pg_select::{Engine, WordState};
@@ -25,8 +26,10 @@ pub fn pattmp_text<E: Engine>(
 ) -> Result<Vec<u8>, AllocError>
     requires signs { SignsAtMost (E.meaning engine.now).signs dictionary.now }
     requires letters { SignsAtMost (letters_of table.now + 1) dictionary.now }
-    ensures { IfOk result (λ text. text.items ≡ pattmp.pattmp_text table.now (E.meaning engine.now).patterns dictionary.now) }
+    ensures text { IfOk result (λ text. text.items ≡ pattmp.pattmp_text table.now (E.meaning engine.now).patterns dictionary.now) }
+    ensures read_back { IfOk result (λ text. length text.items ≤ FILE_MAX → words table.now text.items ≡ Ok (pattmp.taking_part table.now dictionary.now)) }
 {
+    lists_are_read(table);
     let mut text = Vec::new(alloc);
     let mut found = WordState::new();
     let mut weight = 1;

@@ -2,7 +2,7 @@
 ghost use Rattle.std.specs.Prelude.{◌≡◌, ℕ, ◌+◌, ◌≤◌, ◌⊎◌, ◌++◌, List, Some, None, true, false, length};
 ghost use Rattle.std.specs.List.{list_any};
 ghost use Rattle.pg_translate.specs.Alphabets.{letters_of, spelling_of};
-ghost use Rattle.pg_translate.specs.Cuts.{cut, tokens_of};
+ghost use Rattle.pg_translate.specs.Cuts.{cut};
 ghost use Rattle.pg_translate.specs.Items.{IsItem, IsCut, IsPrefix, IsLongest};
 ghost use Rattle.pg_translate.specs.Rules.{KeepsRules};
 ghost use Rattle.pg_translate.specs.Spellings.{is_space};
@@ -37,9 +37,10 @@ pub fn cuts_agree(table: &Table, place: Place)
     keeps_rules(table);
 }
 
-/// The cut of a line, which is taken item by item, is its longest cut into items.
+/// The cut of a line, which is taken item by item, is its longest cut into items: its items, the column of each, and what is
+/// left of the line.
 pub fn cut_is_longest(table: &Table, place: Place)
-    ensures { (line : List ℕ) → IsLongest table.now place line (tokens_of (cut table.now place line)) }
+    ensures { (line : List ℕ) → IsLongest table.now place 1 line (cut table.now place line) }
 {
     keeps_rules(table);
 }
