@@ -7,5 +7,6 @@ pub mod Parts
 pub mod Ranges
 pub mod Reaches
 mod TableRows
+pub mod TableCells
 pub mod Walks
 pub mod WordSteps
