@@ -7,6 +7,7 @@ pub mod Parts
 pub mod Ranges
 pub mod Reaches
 mod TableRows
+pub mod Recorded
 pub mod TableCells
 pub mod Walks
 pub mod WordSteps
