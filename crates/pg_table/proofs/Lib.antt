@@ -9,5 +9,6 @@ pub mod Reaches
 mod TableRows
 pub mod Recorded
 pub mod TableCells
+pub mod TableRecords
 pub mod Walks
 pub mod WordSteps
