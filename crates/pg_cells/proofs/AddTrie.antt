@@ -47,56 +47,56 @@ without_none fs p sorted none = same_maps (without_family fs p) fs (sorted_witho
 ])
 
 -- the step of the placement, in its three cases
-pub sign_new : (n : ℕ) (fs : Families) (p : List ℕ) (s : ℕ) → T (is_sorted order fs) → family_at fs p ≡ None
-    → with_sign n fs p s ≡ put order p (record { base = least_base n (without_family fs p) (s ∷ []); signs = s ∷ [] }) (without_family fs p)
+pub sign_new : (few n : ℕ) (fs : Families) (p : List ℕ) (s : ℕ) → T (is_sorted order fs) → family_at fs p ≡ None
+    → with_sign few n fs p s ≡ put order p (record { base = least_base few n (without_family fs p) (s ∷ []); signs = s ∷ [] }) (without_family fs p)
 unfolding with_sign
-sign_new n fs p s sorted none =
+sign_new few n fs p s sorted none =
     ap (λ o. elim o as (λ _. Families) [
-      | None ↦ placed n fs p (s ∷ [])
+      | None ↦ placed few n fs p (s ∷ [])
       | Some f ↦ elim (is_used fs (f.base + s)) as (λ _. Families) [
         | false ↦ put order p (record { base = f.base; signs = with_one_sign s f.signs }) fs
-        | true ↦ placed n (without_family fs p) p (with_one_sign s f.signs)
+        | true ↦ placed few n (without_family fs p) p (with_one_sign s f.signs)
       ]
     ]) none
-    ∙ ap (λ l. put order p (record { base = least_base n l (s ∷ []); signs = s ∷ [] }) l) (sym (without_none fs p sorted none))
+    ∙ ap (λ l. put order p (record { base = least_base few n l (s ∷ []); signs = s ∷ [] }) l) (sym (without_none fs p sorted none))
 
-pub sign_joins : (n : ℕ) (fs : Families) (p : List ℕ) (s : ℕ) (f : Family) → family_at fs p ≡ Some f → is_used fs (f.base + s) ≡ false
-    → with_sign n fs p s ≡ put order p (record { base = f.base; signs = with_one_sign s f.signs }) fs
+pub sign_joins : (few n : ℕ) (fs : Families) (p : List ℕ) (s : ℕ) (f : Family) → family_at fs p ≡ Some f → is_used fs (f.base + s) ≡ false
+    → with_sign few n fs p s ≡ put order p (record { base = f.base; signs = with_one_sign s f.signs }) fs
 unfolding with_sign
-sign_joins n fs p s f at free =
+sign_joins few n fs p s f at free =
     ap (λ o. elim o as (λ _. Families) [
-      | None ↦ placed n fs p (s ∷ [])
+      | None ↦ placed few n fs p (s ∷ [])
       | Some f ↦ elim (is_used fs (f.base + s)) as (λ _. Families) [
         | false ↦ put order p (record { base = f.base; signs = with_one_sign s f.signs }) fs
-        | true ↦ placed n (without_family fs p) p (with_one_sign s f.signs)
+        | true ↦ placed few n (without_family fs p) p (with_one_sign s f.signs)
       ]
     ]) at
     ∙ ap (λ b. elim b as (λ _. Families) [
       | false ↦ put order p (record { base = f.base; signs = with_one_sign s f.signs }) fs
-      | true ↦ placed n (without_family fs p) p (with_one_sign s f.signs)
+      | true ↦ placed few n (without_family fs p) p (with_one_sign s f.signs)
     ]) free
 
-pub sign_moves : (n : ℕ) (fs : Families) (p : List ℕ) (s : ℕ) (f : Family) → family_at fs p ≡ Some f → is_used fs (f.base + s) ≡ true
-    → with_sign n fs p s ≡ placed n (without_family fs p) p (with_one_sign s f.signs)
+pub sign_moves : (few n : ℕ) (fs : Families) (p : List ℕ) (s : ℕ) (f : Family) → family_at fs p ≡ Some f → is_used fs (f.base + s) ≡ true
+    → with_sign few n fs p s ≡ placed few n (without_family fs p) p (with_one_sign s f.signs)
 unfolding with_sign
-sign_moves n fs p s f at used =
+sign_moves few n fs p s f at used =
     ap (λ o. elim o as (λ _. Families) [
-      | None ↦ placed n fs p (s ∷ [])
+      | None ↦ placed few n fs p (s ∷ [])
       | Some f ↦ elim (is_used fs (f.base + s)) as (λ _. Families) [
         | false ↦ put order p (record { base = f.base; signs = with_one_sign s f.signs }) fs
-        | true ↦ placed n (without_family fs p) p (with_one_sign s f.signs)
+        | true ↦ placed few n (without_family fs p) p (with_one_sign s f.signs)
       ]
     ]) at
     ∙ ap (λ b. elim b as (λ _. Families) [
       | false ↦ put order p (record { base = f.base; signs = with_one_sign s f.signs }) fs
-      | true ↦ placed n (without_family fs p) p (with_one_sign s f.signs)
+      | true ↦ placed few n (without_family fs p) p (with_one_sign s f.signs)
     ]) used
 
 -- the trie that `add` leaves
-abbrev pub added : {V : Type 0} → ℕ → Trie V → List ℕ → ℕ → V → Trie V
-added n t p s v = record { families = with_sign n t.families p s; values = put order (p ++ s ∷ []) v t.values }
+abbrev pub added : {V : Type 0} → ℕ → ℕ → Trie V → List ℕ → ℕ → V → Trie V
+added few n t p s v = record { families = with_sign few n t.families p s; values = put order (p ++ s ∷ []) v t.values }
 
-module _ {V : Type 0} (n : ℕ) (r : Row V) (t : Trie V) (trie : IsTrie n r t) (p : List ℕ) (parent : ℕ) (parent_is : cell_of t.families p ≡ Some parent)
+module _ {V : Type 0} (few n : ℕ) (r : Row V) (t : Trie V) (trie : IsTrie n r t) (p : List ℕ) (parent : ℕ) (parent_is : cell_of t.families p ≡ Some parent)
     (s : ℕ) (low : 1 ≤ s) (high : s ≤ n) (lacks : cell_of t.families (p ++ s ∷ []) ≡ None) where
   -- the family lacks the sign
   lacks_sign : (f : Family) → family_at t.families p ≡ Some f → list_any (nat_eq s) f.signs ≡ false
@@ -116,10 +116,10 @@ module _ {V : Type 0} (n : ℕ) (r : Row V) (t : Trie V) (trie : IsTrie n r t) (
   ]
 
   -- a sign joins in place
-  pub trie_joins : (f : Family) → family_at t.families p ≡ Some f → sign_at r (f.base + s) ≡ 0 → (new : Row V) (v : V) → Takes r new (f.base + s) s v 0 → IsTrie n new (added n t p s v)
+  pub trie_joins : (f : Family) → family_at t.families p ≡ Some f → sign_at r (f.base + s) ≡ 0 → (new : Row V) (v : V) → Takes r new (f.base + s) s v 0 → IsTrie n new (added few n t p s v)
   trie_joins f at free new v takes =
       subst (λ fs. IsTrie n new (record { families = fs; values = put order (p ++ s ∷ []) v t.values }))
-      (sym (sign_joins n t.families p s f at (join_free f at free)))
+      (sym (sign_joins few n t.families p s f at (join_free f at free)))
       (trie_joined n r new t trie p parent parent_is f at s low high v (lacks_sign f at) free takes)
 
   module _ (was : ℕ) (slots : List (Slot V)) (own : Owned n r t p was slots) where
@@ -190,21 +190,21 @@ module _ {V : Type 0} (n : ℕ) (r : Row V) (t : Trie V) (trie : IsTrie n r t) (
             )
 
     -- the family, or none, is settled with the sign
-    pub trie_settles : (new : Row V) (base : ℕ) (slot : Slot V) → slot.sign ≡ s → CanSettle n r was slots slot parent → Moved n r new was base slots slot parent
-        → with_sign n t.families p s ≡ put order p (record { base = least_base n (without_family t.families p) (with_one_sign s (signs_of slots)); signs = with_one_sign s (signs_of slots) }) (without_family t.families p)
-        → IsTrie n new (added n t p s slot.value)
+    pub trie_settles : (new : Row V) (base : ℕ) (slot : Slot V) → slot.sign ≡ s → CanSettle n r was slots slot parent → Moved few n r new was base slots slot parent
+        → with_sign few n t.families p s ≡ put order p (record { base = least_base few n (without_family t.families p) (with_one_sign s (signs_of slots)); signs = with_one_sign s (signs_of slots) }) (without_family t.families p)
+        → IsTrie n new (added few n t p s slot.value)
     trie_settles new base slot is can moved step =
-        let whole = trie_moved n r new t trie p parent parent_is was base slots slot own can moved in
-        let least = base_is n r new t trie p parent parent_is was base slots slot own can moved in
-        let families : put order p (record { base = base; signs = with_one_sign slot.sign (signs_of slots) }) (without_family t.families p) ≡ with_sign n t.families p s =
+        let whole = trie_moved few n r new t trie p parent parent_is was base slots slot own can moved in
+        let least = base_is few n r new t trie p parent parent_is was base slots slot own can moved in
+        let families : put order p (record { base = base; signs = with_one_sign slot.sign (signs_of slots) }) (without_family t.families p) ≡ with_sign few n t.families p s =
         (λ i. put order p (record { base = least i; signs = with_one_sign slot.sign (signs_of slots) }) (without_family t.families p))
-        ∙ (λ i. put order p (record { base = least_base n (without_family t.families p) (with_one_sign (is i) (signs_of slots)); signs = with_one_sign (is i) (signs_of slots) }) (without_family t.families p))
+        ∙ (λ i. put order p (record { base = least_base few n (without_family t.families p) (with_one_sign (is i) (signs_of slots)); signs = with_one_sign (is i) (signs_of slots) }) (without_family t.families p))
         ∙ sym step in
         subst (IsTrie n new) (λ i. record { families = families i; values = put order (p ++ is i ∷ []) slot.value t.values }) whole
 
 -- the base of a family that was moved is in the row
-pub moved_near : {V : Type 0} (n : ℕ) (r new : Row V) (was base : ℕ) (slots : List (Slot V)) (slot : Slot V) (parent : ℕ) → Moved n r new was base slots slot parent → base ≤ length r.signs + 1
-moved_near {V} n r new was base slots slot parent moved =
+pub moved_near : {V : Type 0} (few n : ℕ) (r new : Row V) (was base : ℕ) (slots : List (Slot V)) (slot : Slot V) (parent : ℕ) → Moved few n r new was base slots slot parent → base ≤ length r.signs + 1
+moved_near {V} few n r new was base slots slot parent moved =
     let size : length moved.dropped.signs ≡ length moved.gave.signs = elim moved.drops [ inl h ↦ ap (λ (k : Row V). length k.signs) h.1 | inr h ↦ h.1.size ] in
     omega (arith, moved.near, moved.is_top.within, moved.gives.others.size)
 
@@ -214,7 +214,7 @@ cond_none true k None e is = refl
 cond_none true k (Some f) e is = cc
 cond_none false k o e is = cc
 
-module _ {V : Type 0} (n : ℕ) (old r : Row V) (t : Trie V) (before : IsTrie n old t) (more : Extends old r) (p : List ℕ) (parent : ℕ) (parent_is : cell_of t.families p ≡ Some parent)
+module _ {V : Type 0} (few n : ℕ) (old r : Row V) (t : Trie V) (before : IsTrie n old t) (more : Extends old r) (p : List ℕ) (parent : ℕ) (parent_is : cell_of t.families p ≡ Some parent)
     (s : ℕ) (low : 1 ≤ s) (high : s ≤ n) (lacks : cell_of t.families (p ++ s ∷ []) ≡ None) (base : ℕ) (base_is_child : base ≡ child_at r parent) where
   pub grown : IsTrie n r t
   grown = trie_extended n old r t before more
@@ -243,16 +243,16 @@ module _ {V : Type 0} (n : ℕ) (old r : Row V) (t : Trie V) (before : IsTrie n 
   ]
 
   -- the sign joins
-  pub joins_trie : 0 < base → sign_at r (base + s) ≡ 0 → (new : Row V) (v : V) → Takes r new (base + s) s v 0 → IsTrie n new (added n t p s v)
+  pub joins_trie : 0 < base → sign_at r (base + s) ≡ 0 → (new : Row V) (v : V) → Takes r new (base + s) s v 0 → IsTrie n new (added few n t p s v)
   joins_trie up free new v takes =
       let f = some_family up in
-      trie_joins n r t grown p parent parent_is s low high lacks f.0 f.1 (ap (λ b. sign_at r (b + s)) f.2 ∙ free) new v (subst (λ b. Takes r new (b + s) s v 0) (sym f.2) takes)
+      trie_joins few n r t grown p parent parent_is s low high lacks f.0 f.1 (ap (λ b. sign_at r (b + s)) f.2 ∙ free) new v (subst (λ b. Takes r new (b + s) s v 0) (sym f.2) takes)
 
-  pub joins_cell : 0 < base → sign_at r (base + s) ≡ 0 → cell_of (with_sign n t.families p s) (p ++ s ∷ []) ≡ Some (base + s)
+  pub joins_cell : 0 < base → sign_at r (base + s) ≡ 0 → cell_of (with_sign few n t.families p s) (p ++ s ∷ []) ≡ Some (base + s)
   joins_cell up free =
       let f = some_family up in
-      let unused = join_free n r t grown p parent parent_is s low high lacks f.0 f.1 (ap (λ b. sign_at r (b + s)) f.2 ∙ free) in
-      ap (λ fs. cell_of fs (p ++ s ∷ [])) (sign_joins n t.families p s f.0 f.1 unused)
+      let unused = join_free few n r t grown p parent parent_is s low high lacks f.0 f.1 (ap (λ b. sign_at r (b + s)) f.2 ∙ free) in
+      ap (λ fs. cell_of fs (p ++ s ∷ [])) (sign_joins few n t.families p s f.0 f.1 unused)
       ∙ parts_cell (put order p (joined f.0 s) t.families) p s (joined f.0 s) (find_put_same p (joined f.0 s) t.families)
       (any_one_more s s f.0.signs ∙ or_left (nat_eq s s) (list_any (nat_eq s) f.0.signs) (eq-eqb s s refl))
       ∙ ap (λ b. Some (b + s)) f.2
@@ -282,31 +282,31 @@ module _ {V : Type 0} (n : ℕ) (old r : Row V) (t : Trie V) (before : IsTrie n 
 
     pub settles_can : (slot : Slot V) → slot.sign ≡ s → slot.child ≡ 0 → length r.bases ≡ length r.signs → ((i : ℕ) → sign_at old i ≢ 0 → i + (n + 2) ≤ length r.signs) → CanSettle n r base slots slot parent
     settles_can slot is no_child even room =
-        can_settle n r t grown p parent parent_is s low high lacks base slots owned slot is no_child even (λ i up. room i (λ z. up (more.signs i ∙ z)))
+        can_settle few n r t grown p parent parent_is s low high lacks base slots owned slot is no_child even (λ i up. room i (λ z. up (more.signs i ∙ z)))
 
     -- the step of the placement, where the sign does not join
-    pub settles_step : with_sign n t.families p s ≡ put order p (record { base = least_base n (without_family t.families p) (with_one_sign s (signs_of slots)); signs = with_one_sign s (signs_of slots) }) (without_family t.families p)
+    pub settles_step : with_sign few n t.families p s ≡ put order p (record { base = least_base few n (without_family t.families p) (with_one_sign s (signs_of slots)); signs = with_one_sign s (signs_of slots) }) (without_family t.families p)
     settles_step = elim (cases_eq base 0) [
       | inl z ↦
-          sign_new n t.families p s grown.sorted (no_family z)
-          ∙ ap (λ l. put order p (record { base = least_base n (without_family t.families p) (with_one_sign s (signs_of l)); signs = with_one_sign s (signs_of l) }) (without_family t.families p)) (sym (none z))
+          sign_new few n t.families p s grown.sorted (no_family z)
+          ∙ ap (λ l. put order p (record { base = least_base few n (without_family t.families p) (with_one_sign s (signs_of l)); signs = with_one_sign s (signs_of l) }) (without_family t.families p)) (sym (none z))
       | inr up ↦
           let f = some_family (omega arith) in
           let used = taken_used n r t.families grown.sorted grown.laid (f.0.base + s) (λ z. no_join (omega arith) (ap (λ b. sign_at r (b + s)) (sym f.2) ∙ z)) in
           let signs : f.0.signs ≡ signs_of slots = grown.laid.members p f.0 f.1 ∙ ap (standing n r) f.2 ∙ sym (some (omega arith)).signs in
-          sign_moves n t.families p s f.0 f.1 used
-          ∙ ap (λ xs. put order p (record { base = least_base n (without_family t.families p) (with_one_sign s xs); signs = with_one_sign s xs }) (without_family t.families p)) signs
+          sign_moves few n t.families p s f.0 f.1 used
+          ∙ ap (λ xs. put order p (record { base = least_base few n (without_family t.families p) (with_one_sign s xs); signs = with_one_sign s xs }) (without_family t.families p)) signs
     ]
 
-    module _ (new : Row V) (at : ℕ) (slot : Slot V) (is : slot.sign ≡ s) (can : CanSettle n r base slots slot parent) (moved : Moved n r new base at slots slot parent) where
-      pub settles_trie : IsTrie n new (added n t p s slot.value)
-      settles_trie = trie_settles n r t grown p parent parent_is s low high lacks base slots owned new at slot is can moved settles_step
+    module _ (new : Row V) (at : ℕ) (slot : Slot V) (is : slot.sign ≡ s) (can : CanSettle n r base slots slot parent) (moved : Moved few n r new base at slots slot parent) where
+      pub settles_trie : IsTrie n new (added few n t p s slot.value)
+      settles_trie = trie_settles few n r t grown p parent parent_is s low high lacks base slots owned new at slot is can moved settles_step
 
-      pub settles_cell : cell_of (with_sign n t.families p s) (p ++ s ∷ []) ≡ Some (at + s)
+      pub settles_cell : cell_of (with_sign few n t.families p s) (p ++ s ∷ []) ≡ Some (at + s)
       settles_cell =
-          let least = base_is n r new t grown p parent parent_is base at slots slot owned can moved in
-          let same : least_base n (without_family t.families p) (with_one_sign s (signs_of slots)) ≡ at =
-          ap (λ x. least_base n (without_family t.families p) (with_one_sign x (signs_of slots))) (sym is) ∙ sym least in
+          let least = base_is few n r new t grown p parent parent_is base at slots slot owned can moved in
+          let same : least_base few n (without_family t.families p) (with_one_sign s (signs_of slots)) ≡ at =
+          ap (λ x. least_base few n (without_family t.families p) (with_one_sign x (signs_of slots))) (sym is) ∙ sym least in
           ap (λ fs. cell_of fs (p ++ s ∷ [])) (settles_step ∙ ap (λ b. put order p (record { base = b; signs = with_one_sign s (signs_of slots) }) (without_family t.families p)) same)
           ∙ parts_cell (put order p (record { base = at; signs = with_one_sign s (signs_of slots) }) (without_family t.families p)) p s (record { base = at; signs = with_one_sign s (signs_of slots) })
           (find_put_same p (record { base = at; signs = with_one_sign s (signs_of slots) }) (without_family t.families p))

@@ -71,35 +71,35 @@ cells_stay fs q s cell is p other =
     ]
 
 -- a sign that is added leaves the other families
-other_families : (n : ℕ) (fs : Families) (q : List ℕ) (s : ℕ) (p : List ℕ) → p ≢ q → family_at (with_sign n fs q s) p ≡ family_at fs p
+other_families : (few n : ℕ) (fs : Families) (q : List ℕ) (s : ℕ) (p : List ℕ) → p ≢ q → family_at (with_sign few n fs q s) p ≡ family_at fs p
 unfolding with_sign
-other_families n fs q s p other = by (family_at fs q)
+other_families few n fs q s p other = by (family_at fs q)
   where
     used : (f : Family) (b : Bool) → family_at (elim b as (λ _. Families) [
       | false ↦ put order q (record { base = f.base; signs = with_one_sign s f.signs }) fs
-      | true ↦ placed n (without_family fs q) q (with_one_sign s f.signs)
+      | true ↦ placed few n (without_family fs q) q (with_one_sign s f.signs)
     ]) p ≡ family_at fs p
     used f false = find_put_other p q (record { base = f.base; signs = with_one_sign s f.signs }) fs other
     used f true =
-        find_put_other p q (record { base = least_base n (without_family fs q) (with_one_sign s f.signs); signs = with_one_sign s f.signs }) (without_family fs q) other
+        find_put_other p q (record { base = least_base few n (without_family fs q) (with_one_sign s f.signs); signs = with_one_sign s f.signs }) (without_family fs q) other
         ∙ find_without_other p q fs other
 
     by : (o : Option Family) → family_at (elim o as (λ _. Families) [
-      | None ↦ placed n fs q (s ∷ [])
+      | None ↦ placed few n fs q (s ∷ [])
       | Some f ↦ elim (is_used fs (f.base + s)) as (λ _. Families) [
         | false ↦ put order q (record { base = f.base; signs = with_one_sign s f.signs }) fs
-        | true ↦ placed n (without_family fs q) q (with_one_sign s f.signs)
+        | true ↦ placed few n (without_family fs q) q (with_one_sign s f.signs)
       ]
     ]) p ≡ family_at fs p
-    by None = find_put_other p q (record { base = least_base n fs (s ∷ []); signs = s ∷ [] }) fs other
+    by None = find_put_other p q (record { base = least_base few n fs (s ∷ []); signs = s ∷ [] }) fs other
     by (Some f) = used f (is_used fs (f.base + s))
 
 -- and each string outside of its family its cell
-pub cells_outside : (n : ℕ) (fs : Families) (q : List ℕ) (s : ℕ) (p : List ℕ) → ((x : ℕ) → p ≢ q ++ x ∷ []) → cell_of (with_sign n fs q s) p ≡ cell_of fs p
-cells_outside n fs q s p other = elim (last_of p) [
-  | inl e ↦ ap (cell_of (with_sign n fs q s)) e ∙ sym (ap (cell_of fs) e)
+pub cells_outside : (few n : ℕ) (fs : Families) (q : List ℕ) (s : ℕ) (p : List ℕ) → ((x : ℕ) → p ≢ q ++ x ∷ []) → cell_of (with_sign few n fs q s) p ≡ cell_of fs p
+cells_outside few n fs q s p other = elim (last_of p) [
+  | inl e ↦ ap (cell_of (with_sign few n fs q s)) e ∙ sym (ap (cell_of fs) e)
   | inr h ↦
-      ap (cell_of (with_sign n fs q s)) h.whole ∙ cell_of_last (with_sign n fs q s) h.front h.last
-      ∙ ap (λ o. cell_told o h.last) (other_families n fs q s h.front (λ z. other h.last (h.whole ∙ ap (λ l. l ++ h.last ∷ []) z)))
+      ap (cell_of (with_sign few n fs q s)) h.whole ∙ cell_of_last (with_sign few n fs q s) h.front h.last
+      ∙ ap (λ o. cell_told o h.last) (other_families few n fs q s h.front (λ z. other h.last (h.whole ∙ ap (λ l. l ++ h.last ∷ []) z)))
       ∙ sym (ap (cell_of fs) h.whole ∙ cell_of_last fs h.front h.last)
 ]

@@ -4,11 +4,11 @@ use Rattle.std.proofs.lemmas.Bool.{cases_Bool, cases_eq, eq-eqb, ne_eqb, both_wa
 use Rattle.std.proofs.lemmas.List.{length-map}
 use Rattle.std.specs.List.{list_any, list_all}
 use Rattle.std.specs.FinMap.{is_sorted}
-use Rattle.pg_types.specs.Placement.{Family, Families, family_at, without_family, is_used, is_base, fits_at, lowest_base, least_base, with_one_sign, top}
+use Rattle.pg_types.specs.Placement.{Family, Families, family_at, without_family, is_used, is_base, fits_at, lowest_base, least_base, with_one_sign, top, IsLeast}
 use Rattle.pg_cells.specs.declared.fit.Slot.{Slot}
 use Rattle.pg_cells.specs.Lists.{Row, sign_at, child_at, base_at}
 use Rattle.pg_cells.specs.Store.{IsTop}
-use Rattle.pg_cells.specs.Fit.{signs_of, slot_of, fits_row, IsLeast}
+use Rattle.pg_cells.specs.Fit.{signs_of, slot_of, fits_row}
 use Rattle.pg_cells.specs.Moves.{Gives, Drops, Outside, lowest_from}
 use Rattle.pg_cells.specs.Held.{Trie}
 use Rattle.pg_cells.specs.Laid.{IsTrie}
@@ -172,16 +172,16 @@ module _ {V : Type 0} (n : ℕ) (r gave dropped : Row V) (t : Trie V) (trie : Is
       (λ i. not (base_test b i) && list_all (λ x. free_test (b + x) i) (s ∷ signs_of slots))
       ∙ ap (λ x. not (is_base (without_family t.families p) b) && x) (sym (all_one_more (λ x. not (is_used (without_family t.families p) (b + x))) s (signs_of slots)))
 
-  pub least_same : (s base top_now : ℕ) → slot_of slots s ≡ None → IsTop dropped.signs top_now → IsLeast (fits_row dropped (s ∷ signs_of slots)) (lowest_from n (length slots + 1) top_now) base → base ≤ max 1 top_now
-      → base ≡ least_base n (without_family t.families p) (with_one_sign s (signs_of slots))
-  least_same s base top_now lacks is_top least near =
+  pub least_same : (few s base top_now : ℕ) → slot_of slots s ≡ None → IsTop dropped.signs top_now → IsLeast (fits_row dropped (s ∷ signs_of slots)) (lowest_from few n (length slots + 1) top_now) base → base ≤ max 1 top_now
+      → base ≡ least_base few n (without_family t.families p) (with_one_sign s (signs_of slots))
+  least_same few s base top_now lacks is_top least near =
       let same = top_same top_now is_top in
       let count : length slots + 1 ≡ length (with_one_sign s (signs_of slots)) =
       ap (λ k. k + 1) (sym (length-map slots (λ (k : Slot V). k.sign))) ∙ sym (length_one_more s (signs_of slots) (no_sign (list_any (nat_eq s) (signs_of slots)) refl)) in
-      let low : lowest_from n (length slots + 1) top_now ≡ lowest_base n (without_family t.families p) (length (with_one_sign s (signs_of slots))) = λ i. lowest_from n (count i) (same i) in
-      sym (first_is (fits_at (without_family t.families p) (with_one_sign s (signs_of slots))) (top (without_family t.families p)) (lowest_base n (without_family t.families p) (length (with_one_sign s (signs_of slots)))) base
+      let low : lowest_from few n (length slots + 1) top_now ≡ lowest_base few n (without_family t.families p) (length (with_one_sign s (signs_of slots))) = λ i. lowest_from few n (count i) (same i) in
+      sym (first_is (fits_at (without_family t.families p) (with_one_sign s (signs_of slots))) (top (without_family t.families p)) (lowest_base few n (without_family t.families p) (length (with_one_sign s (signs_of slots)))) base
       (subst (λ k. k ≤ base) low least.from)
-      (let some = at_least_one (nat_le (length (with_one_sign s (signs_of slots))) 4) (top (without_family t.families p)) in omega arith)
+      (let some = at_least_one (nat_le (length (with_one_sign s (signs_of slots))) few) (top (without_family t.families p)) in omega arith)
       (sym (fit_same s base) ∙ least.passes)
       (λ k l lt. sym (fit_same s k) ∙ least.first k (subst (λ j. j ≤ k) (sym low) l) lt))
     where

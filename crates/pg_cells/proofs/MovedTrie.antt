@@ -25,8 +25,8 @@ use Rattle.pg_cells.proofs.Joined.{not_nil}
 use Rattle.pg_cells.proofs.Owned.{Owned}
 use Rattle.pg_cells.proofs.Cleared.{others_outside, sign_outside, child_outside, value_outside, taken_owner, other_flag, flag_other, least_same}
 
-module _ {V : Type 0} (n : ℕ) (r new : Row V) (t : Trie V) (trie : IsTrie n r t) (p : List ℕ) (parent : ℕ) (parent_is : cell_of t.families p ≡ Some parent)
-    (was base : ℕ) (slots : List (Slot V)) (slot : Slot V) (own : Owned n r t p was slots) (can : CanSettle n r was slots slot parent) (moved : Moved n r new was base slots slot parent) where
+module _ {V : Type 0} (few n : ℕ) (r new : Row V) (t : Trie V) (trie : IsTrie n r t) (p : List ℕ) (parent : ℕ) (parent_is : cell_of t.families p ≡ Some parent)
+    (was base : ℕ) (slots : List (Slot V)) (slot : Slot V) (own : Owned n r t p was slots) (can : CanSettle n r was slots slot parent) (moved : Moved few n r new was base slots slot parent) where
   -- the family as it is now, and all families
   abbrev pub family : Family
   family = record { base = base; signs = with_one_sign slot.sign (signs_of slots) }
@@ -152,7 +152,7 @@ module _ {V : Type 0} (n : ℕ) (r new : Row V) (t : Trie V) (trie : IsTrie n r 
       ]
 
   positive_base : 0 < base
-  positive_base = let from = moved.least.from in let low = at_least_one (nat_le (length slots + 1) 4) moved.top in omega arith
+  positive_base = let from = moved.least.from in let low = at_least_one (nat_le (length slots + 1) few) moved.top in omega arith
     where
       at_least_one : (b : Bool) (k : ℕ) → 1 ≤ cond b 1 (max 1 (k - max 255 n))
       at_least_one true k = omega arith
@@ -342,5 +342,5 @@ module _ {V : Type 0} (n : ℕ) (r new : Row V) (t : Trie V) (trie : IsTrie n r 
   }
 
   -- the base is the least one of the placement
-  pub base_is : base ≡ least_base n (without_family t.families p) (with_one_sign slot.sign (signs_of slots))
-  base_is = least_same n r moved.gave moved.dropped t trie p was slots own moved.gives moved.drops slot.sign base moved.top can.new moved.is_top moved.least moved.near
+  pub base_is : base ≡ least_base few n (without_family t.families p) (with_one_sign slot.sign (signs_of slots))
+  base_is = least_same n r moved.gave moved.dropped t trie p was slots own moved.gives moved.drops few slot.sign base moved.top can.new moved.is_top moved.least moved.near

@@ -10,6 +10,7 @@ use Rattle.std.specs.List.{list_any, flat_map}
 use Rattle.std.specs.FinMap.{find, put, is_sorted}
 use Rattle.std.specs.FinMap.Entries.{by_order}
 use Rattle.pg_types.specs.Placement.{Family, Families, family_at, without_family, cells_of, used_cells, taken, top, is_used, is_base, first_from, cell_in, cell_after, cell_of}
+use Rattle.pg_types.proofs.LeastBase.{used_le_top}
 use Rattle.pg_cells.proofs.StringMaps.{order, equal_or_not, any_found, found_any, find_below, below_less, head_below, tail_sorted}
 
 -- a test of some element of lists joined end to end
@@ -59,26 +60,12 @@ base_had fs h b e =
 pub had_base : (fs : Families) (p : List ℕ) (f : Family) → family_at fs p ≡ Some f → is_base fs f.base ≡ true
 had_base fs p f at = found_any fs (λ g. nat_eq f.base g.base) p f at (eq-eqb f.base f.base refl)
 
--- the greatest of a list
-fold_max_ge : (xs : List ℕ) (a : ℕ) → a ≤ fold max a xs
-fold_max_ge [] a = omega arith
-fold_max_ge (x ∷ xs) a = let rest = fold_max_ge xs (max a x) in omega arith
-
-fold_max_has : (xs : List ℕ) (a i : ℕ) → list_any (nat_eq i) xs ≡ true → i ≤ fold max a xs
-fold_max_has [] a i e = absurd (false≢true e)
-fold_max_has (x ∷ xs) a i e = elim (or_cases (nat_eq i x) (list_any (nat_eq i) xs) e) [
-  | inl here ↦ let is = eqb-true i x here in let rest = fold_max_ge xs (max a x) in omega arith
-  | inr there ↦ fold_max_has xs (max a x) i there
-]
-
+-- no number of a list is past a bound
 fold_max_le : (xs : List ℕ) (a t : ℕ) → a ≤ t → ((i : ℕ) → list_any (nat_eq i) xs ≡ true → i ≤ t) → fold max a xs ≤ t
 fold_max_le [] a t le h = le
 fold_max_le (x ∷ xs) a t le h =
     let here : x ≤ t = h x (or_left (nat_eq x x) (list_any (nat_eq x) xs) (eq-eqb x x refl)) in
     fold_max_le xs (max a x) t (omega arith) (λ i e. h i (or_right (nat_eq i x) (list_any (nat_eq i) xs) e))
-
-pub used_le_top : (fs : Families) (i : ℕ) → is_used fs i ≡ true → i ≤ top fs
-used_le_top fs i e = fold_max_has (used_cells fs) 0 i e
 
 -- the top is the greatest used cell, or 0
 pub top_is : (fs : Families) (t : ℕ) → ((i : ℕ) → is_used fs i ≡ true → i ≤ t) → (0 < t → is_used fs t ≡ true) → t ≡ top fs

@@ -6,7 +6,7 @@ use Rattle.std.proofs.lemmas.Grind.{get_or_after_one}
 use Rattle.std.specs.List.{list_any}
 use Rattle.std.specs.Option.{option_map}
 use Rattle.std.specs.FinMap.{find, put}
-use Rattle.pg_types.specs.Placement.{Family, Families, family_at, cell_in, cell_of, base_of, with_sign, enter, enter_after}
+use Rattle.pg_types.specs.Placement.{Family, Families, family_at, cell_in, cell_of, base_of, with_sign, enter_by, enter_after}
 use Rattle.pg_cells.specs.Held.{Held}
 use Rattle.pg_cells.specs.IsHeld.{IsHeld}
 use Rattle.pg_cells.specs.Walks.{EndsBefore, StepsBy, Steps, AddsBlanks}
@@ -37,19 +37,19 @@ pub way_more : (w : List ℕ) (i : ℕ) → i + 1 < length w → take (i + 1 + 1
 way_more w i lt = take_more w (i + 1) 0 lt
 
 -- a sign in the family of a string, which is new where no string has its cell
-abbrev pub entered : ℕ → Families → List ℕ → ℕ → Families
-entered n fs p s = elim (cell_in fs p s) [ Some cell ↦ fs | None ↦ with_sign n fs p s ]
+abbrev pub entered : ℕ → ℕ → Families → List ℕ → ℕ → Families
+entered few n fs p s = elim (cell_in fs p s) [ Some cell ↦ fs | None ↦ with_sign few n fs p s ]
 
 -- the last sign of a string is entered last
-enter_after_last : (n : ℕ) (fs : Families) (a q : List ℕ) (s : ℕ) → enter_after n fs a (q ++ s ∷ []) ≡ entered n (enter_after n fs a q) (a ++ q) s
-enter_after_last n fs a [] s = ap (λ p. entered n fs p s) (sym (append-nil a))
-enter_after_last n fs a (t ∷ q) s =
-    enter_after_last n (entered n fs a t) (a ++ t ∷ []) q s
-    ∙ ap (λ p. entered n (enter_after n (entered n fs a t) (a ++ t ∷ []) q) p s) (append_assoc a (t ∷ []) q)
+enter_after_last : (few n : ℕ) (fs : Families) (a q : List ℕ) (s : ℕ) → enter_after few n fs a (q ++ s ∷ []) ≡ entered few n (enter_after few n fs a q) (a ++ q) s
+enter_after_last few n fs a [] s = ap (λ p. entered few n fs p s) (sym (append-nil a))
+enter_after_last few n fs a (t ∷ q) s =
+    enter_after_last few n (entered few n fs a t) (a ++ t ∷ []) q s
+    ∙ ap (λ p. entered few n (enter_after few n (entered few n fs a t) (a ++ t ∷ []) q) p s) (append_assoc a (t ∷ []) q)
 
-enter_last : (n : ℕ) (fs : Families) (w : List ℕ) (s : ℕ) → 0 < length w → enter n fs (w ++ s ∷ []) ≡ entered n (enter n fs w) w s
-enter_last n fs [] s some = absurd (omega arith)
-enter_last n fs (t ∷ q) s some = enter_after_last n fs (t ∷ []) q s
+enter_last : (few n : ℕ) (fs : Families) (w : List ℕ) (s : ℕ) → 0 < length w → enter_by few n fs (w ++ s ∷ []) ≡ entered few n (enter_by few n fs w) w s
+enter_last few n fs [] s some = absurd (omega arith)
+enter_last few n fs (t ∷ q) s some = enter_after_last few n fs (t ∷ []) q s
 
 module _ {V : Type 0} where
   -- where a string has no cell, no string that begins with it has a value
@@ -120,59 +120,59 @@ module _ {V : Type 0} where
       by (Some v) is = absurd (let no : None ≡ Some v = sym none ∙ a.keeps q v is in cc)
 
   -- the families after a step
-  pub step_families : (old new : Held V) (q : List ℕ) (s : ℕ) (blank : V) → Steps old new q s blank
-      → new.families ≡ (elim (cell_in old.families q s) as (λ _. Families) [ Some cell ↦ old.families | None ↦ with_sign old.signs old.families q s ])
-  step_families old new q s blank steps = by (cell_of old.families (q ++ s ∷ [])) refl
+  pub step_families : (few : ℕ) (old new : Held V) (q : List ℕ) (s : ℕ) (blank : V) → Steps few old new q s blank
+      → new.families ≡ (elim (cell_in old.families q s) as (λ _. Families) [ Some cell ↦ old.families | None ↦ with_sign few old.signs old.families q s ])
+  step_families few old new q s blank steps = by (cell_of old.families (q ++ s ∷ [])) refl
     where
       by : (o : Option ℕ) → cell_of old.families (q ++ s ∷ []) ≡ o
-          → new.families ≡ (elim (cell_in old.families q s) as (λ _. Families) [ Some cell ↦ old.families | None ↦ with_sign old.signs old.families q s ])
+          → new.families ≡ (elim (cell_in old.families q s) as (λ _. Families) [ Some cell ↦ old.families | None ↦ with_sign few old.signs old.families q s ])
       by o is =
           let there : cell_in old.families q s ≡ o = sym (cell_of_last old.families q s) ∙ is in
-          at o (subst (λ x. StepsBy x old new q s blank) is steps)
-          ∙ sym (ap (λ x. elim x as (λ _. Families) [ Some cell ↦ old.families | None ↦ with_sign old.signs old.families q s ]) there)
+          at o (subst (λ x. StepsBy few x old new q s blank) is steps)
+          ∙ sym (ap (λ x. elim x as (λ _. Families) [ Some cell ↦ old.families | None ↦ with_sign few old.signs old.families q s ]) there)
         where
-          at : (x : Option ℕ) → StepsBy x old new q s blank → new.families ≡ (elim x as (λ _. Families) [ Some cell ↦ old.families | None ↦ with_sign old.signs old.families q s ])
+          at : (x : Option ℕ) → StepsBy few x old new q s blank → new.families ≡ (elim x as (λ _. Families) [ Some cell ↦ old.families | None ↦ with_sign few old.signs old.families q s ])
           at None e = ap (λ (h : Held V). h.families) e
           at (Some cell) e = ap (λ (h : Held V). h.families) e
 
-  pub step_signs : (old new : Held V) (q : List ℕ) (s : ℕ) (blank : V) → Steps old new q s blank → new.signs ≡ old.signs
-  step_signs old new q s blank steps = by (cell_of old.families (q ++ s ∷ [])) steps
+  pub step_signs : (few : ℕ) (old new : Held V) (q : List ℕ) (s : ℕ) (blank : V) → Steps few old new q s blank → new.signs ≡ old.signs
+  step_signs few old new q s blank steps = by (cell_of old.families (q ++ s ∷ [])) steps
     where
-      by : (o : Option ℕ) → StepsBy o old new q s blank → new.signs ≡ old.signs
+      by : (o : Option ℕ) → StepsBy few o old new q s blank → new.signs ≡ old.signs
       by None e = ap (λ (h : Held V). h.signs) e
       by (Some cell) e = ap (λ (h : Held V). h.signs) e
 
   -- the values after a step on the way to w
-  pub step_values : (w : List ℕ) (old new : Held V) (k : ℕ) (q : List ℕ) (s : ℕ) (blank : V) → IsHeld old → take k w ≡ q ++ s ∷ [] → Steps old new q s blank → AddsBlanks w blank old.values new.values
-  step_values w old new k q s blank held way steps = by (cell_of old.families (q ++ s ∷ [])) refl steps
+  pub step_values : (few : ℕ) (w : List ℕ) (old new : Held V) (k : ℕ) (q : List ℕ) (s : ℕ) (blank : V) → IsHeld old → take k w ≡ q ++ s ∷ [] → Steps few old new q s blank → AddsBlanks w blank old.values new.values
+  step_values few w old new k q s blank held way steps = by (cell_of old.families (q ++ s ∷ [])) refl steps
     where
-      by : (o : Option ℕ) → cell_of old.families (q ++ s ∷ []) ≡ o → StepsBy o old new q s blank → AddsBlanks w blank old.values new.values
+      by : (o : Option ℕ) → cell_of old.families (q ++ s ∷ []) ≡ o → StepsBy few o old new q s blank → AddsBlanks w blank old.values new.values
       by None is e =
           let none : find order (take k w) old.values ≡ None = ap (λ y. find order y old.values) way ∙ sym (ap (λ y. find order y old.values) (append-nil (q ++ s ∷ []))) ∙ ends_before old held q s is [] in
           blank_added w blank old.values new.values k none (ap (λ (h : Held V). h.values) e ∙ ap (λ y. put order y blank old.values) (sym way))
       by (Some cell) is e = none_added w blank old.values new.values (ap (λ (h : Held V). h.values) e)
 
-  pub enter_more : (n : ℕ) (old new : Held V) (w : List ℕ) (i : ℕ) (blank : V) → old.signs ≡ n → i + 1 < length w → Steps old new (take (i + 1) w) (get_or w (i + 1) 0) blank
-      → enter_after n new.families (take (i + 1 + 1) w) (drop (i + 1 + 1) w) ≡ enter_after n old.families (take (i + 1) w) (drop (i + 1) w)
-  enter_more n old new w i blank signs lt steps =
+  pub enter_more : (few n : ℕ) (old new : Held V) (w : List ℕ) (i : ℕ) (blank : V) → old.signs ≡ n → i + 1 < length w → Steps few old new (take (i + 1) w) (get_or w (i + 1) 0) blank
+      → enter_after few n new.families (take (i + 1 + 1) w) (drop (i + 1 + 1) w) ≡ enter_after few n old.families (take (i + 1) w) (drop (i + 1) w)
+  enter_more few n old new w i blank signs lt steps =
       let p = take (i + 1) w in
       let s = get_or w (i + 1) 0 in
-      let families = step_families old new p s blank steps in
-      ap (λ l. enter_after n new.families l (drop (i + 1 + 1) w)) (way_more w i lt)
-      ∙ ap (λ l. enter_after n l (p ++ s ∷ []) (drop (i + 1 + 1) w)) (families ∙ ap (λ m. elim (cell_in old.families p s) as (λ _. Families) [ Some cell ↦ old.families | None ↦ with_sign m old.families p s ]) signs)
-      ∙ sym (ap (enter_after n old.families p) (drop_more w (i + 1) 0 lt))
+      let families = step_families few old new p s blank steps in
+      ap (λ l. enter_after few n new.families l (drop (i + 1 + 1) w)) (way_more w i lt)
+      ∙ ap (λ l. enter_after few n l (p ++ s ∷ []) (drop (i + 1 + 1) w)) (families ∙ ap (λ m. elim (cell_in old.families p s) as (λ _. Families) [ Some cell ↦ old.families | None ↦ with_sign few m old.families p s ]) signs)
+      ∙ sym (ap (enter_after few n old.families p) (drop_more w (i + 1) 0 lt))
 
   -- so much of w is entered
-  pub front_more : (n : ℕ) (fs : Families) (old new : Held V) (w : List ℕ) (i : ℕ) (blank : V) → old.signs ≡ n → i + 1 < length w → Steps old new (take (i + 1) w) (get_or w (i + 1) 0) blank
-      → old.families ≡ enter n fs (take (i + 1) w) → new.families ≡ enter n fs (take (i + 1 + 1) w)
-  front_more n fs old new w i blank signs lt steps front =
+  pub front_more : (few n : ℕ) (fs : Families) (old new : Held V) (w : List ℕ) (i : ℕ) (blank : V) → old.signs ≡ n → i + 1 < length w → Steps few old new (take (i + 1) w) (get_or w (i + 1) 0) blank
+      → old.families ≡ enter_by few n fs (take (i + 1) w) → new.families ≡ enter_by few n fs (take (i + 1 + 1) w)
+  front_more few n fs old new w i blank signs lt steps front =
       let p = take (i + 1) w in
       let s = get_or w (i + 1) 0 in
-      step_families old new p s blank steps
-      ∙ ap (λ m. entered m old.families p s) signs
-      ∙ ap (λ g. entered n g p s) front
-      ∙ sym (enter_last n fs p s (omega (arith, length-take (i + 1) w)))
-      ∙ sym (ap (enter n fs) (way_more w i lt))
+      step_families few old new p s blank steps
+      ∙ ap (λ m. entered few m old.families p s) signs
+      ∙ ap (λ g. entered few n g p s) front
+      ∙ sym (enter_last few n fs p s (omega (arith, length-take (i + 1) w)))
+      ∙ sym (ap (enter_by few n fs) (way_more w i lt))
 
   -- the string that a refused step does not reach has no value
   pub not_reached : (values : List (List ℕ × V)) (w : List ℕ) (i : ℕ) → i + 1 < length w → EndsBefore values (take (i + 1) w ++ get_or w (i + 1) 0 ∷ []) → find order w values ≡ None

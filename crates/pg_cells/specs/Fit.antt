@@ -1,5 +1,5 @@
--- When signs may stand at a base, told of the cells; and the least such base.
-use Rattle.std.specs.Prelude.{◌≡◌, ℕ, ◌+◌, ◌<◌, ◌≤◌, Bool, true, false, not, ◌&&◌, nat_eq, List, map, Option}
+-- When signs may stand at a base, told of the cells.
+use Rattle.std.specs.Prelude.{ℕ, ◌+◌, Bool, not, ◌&&◌, nat_eq, List, map, Option}
 use Rattle.std.specs.List.{list_all, find}
 use Rattle.pg_cells.specs.declared.fit.Slot.{Slot}
 use Rattle.pg_cells.specs.Lists.{Row, sign_at, base_at}
@@ -13,9 +13,3 @@ slot_of slots x = find (λ k. nat_eq k.sign x) slots
 
 abbrev pub fits_row : {V : Type 0} → Row V → List ℕ → ℕ → Bool
 fits_row r signs b = not (base_at r b) && list_all (λ s. nat_eq (sign_at r (b + s)) 0) signs
-
--- b is the least number from low on that passes the test
-pub record IsLeast (test : ℕ → Bool) (low b : ℕ) : Type 0 where
-  pub from : low ≤ b
-  pub passes : test b ≡ true
-  pub first : (k : ℕ) → low ≤ k → k < b → test k ≡ false

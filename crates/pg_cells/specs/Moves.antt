@@ -2,15 +2,15 @@
 use Rattle.std.specs.Prelude.{◌≡◌, ◌≢◌, ℕ, ◌+◌, ◌-◌, ◌<◌, ◌≤◌, ◌⊎◌, max, true, false, nat_le, if◌then◌else◌, List, [], ◌∷◌, ◌++◌, length, take, get_or, slice_get, None, Some}
 use Rattle.pg_cells.specs.declared.fit.Slot.{Slot}
 use Rattle.pg_cells.specs.Lists.{Row, sign_at, child_at, base_at}
-use Rattle.pg_types.specs.Placement.{few_signs, far_below}
+use Rattle.pg_types.specs.Placement.{far_below, IsLeast}
 use Rattle.pg_cells.specs.Store.{taken_in, IsTop}
 use Rattle.pg_cells.specs.Writes.{Takes, SetsBase, SetsChild}
-use Rattle.pg_cells.specs.Fit.{signs_of, slot_of, fits_row, IsLeast}
+use Rattle.pg_cells.specs.Fit.{signs_of, slot_of, fits_row}
 use Rattle.pg_cells.specs.Laid.{standing}
 
 -- the lowest base that is tried for so many signs, where t is the top
-abbrev pub lowest_from : ℕ → ℕ → ℕ → ℕ
-lowest_from n count t = if nat_le count few_signs then 1 else max 1 (t - max far_below n)
+abbrev pub lowest_from : ℕ → ℕ → ℕ → ℕ → ℕ
+lowest_from few n count t = if nat_le count few then 1 else max 1 (t - max far_below n)
 
 module _ {V : Type 0} where
   -- no two slots have one sign
@@ -77,7 +77,7 @@ module _ {V : Type 0} where
     pub rooted : (b : ℕ) → base_at r b ≡ true → b ≢ was → 0 < b → (y : ℕ) × (0 < y) × (sign_at r (b + y) ≢ 0) × (Outside was slots (b + y))
 
   -- a family gave up its cells and its base, and was put with one sign more at the least base
-  pub record Moved (n : ℕ) (old new : Row V) (was base : ℕ) (slots : List (Slot V)) (slot : Slot V) (parent : ℕ) : Type 0 where
+  pub record Moved (few n : ℕ) (old new : Row V) (was base : ℕ) (slots : List (Slot V)) (slot : Slot V) (parent : ℕ) : Type 0 where
     pub gave : Row V
     pub dropped : Row V
     pub settled : Row V
@@ -87,7 +87,7 @@ module _ {V : Type 0} where
     pub drops : Drops gave dropped was
     pub top : ℕ
     pub is_top : IsTop dropped.signs top
-    pub least : IsLeast (fits_row dropped (slot.sign ∷ signs_of slots)) (lowest_from n (length slots + 1) top) base
+    pub least : IsLeast (fits_row dropped (slot.sign ∷ signs_of slots)) (lowest_from few n (length slots + 1) top) base
     pub near : base ≤ max 1 top
     pub puts : Puts dropped settled base slots
     pub takes : Takes settled took (base + slot.sign) slot.sign slot.value slot.child

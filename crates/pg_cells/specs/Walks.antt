@@ -17,12 +17,12 @@ module _ {V : Type 0} where
   EndsBefore values q = (more : List ℕ) → find (slice_cmp nat_cmp) (q ++ more) values ≡ None
 
   -- the sign s below the string q has a cell as before, or it gets one and the value
-  abbrev pub StepsBy : Option ℕ → Held V → Held V → List ℕ → ℕ → V → Type 0
-  StepsBy None old new q s v = new ≡ record old { families = with_sign old.signs old.families q s; values = put (slice_cmp nat_cmp) (q ++ s ∷ []) v old.values }
-  StepsBy (Some cell) old new q s v = new ≡ old
+  abbrev pub StepsBy : ℕ → Option ℕ → Held V → Held V → List ℕ → ℕ → V → Type 0
+  StepsBy few None old new q s v = new ≡ record old { families = with_sign few old.signs old.families q s; values = put (slice_cmp nat_cmp) (q ++ s ∷ []) v old.values }
+  StepsBy few (Some cell) old new q s v = new ≡ old
 
-  abbrev pub Steps : Held V → Held V → List ℕ → ℕ → V → Type 0
-  Steps old new q s v = StepsBy (cell_of old.families (q ++ s ∷ [])) old new q s v
+  abbrev pub Steps : ℕ → Held V → Held V → List ℕ → ℕ → V → Type 0
+  Steps few old new q s v = StepsBy few (cell_of old.families (q ++ s ∷ [])) old new q s v
 
   -- each string keeps its value, and one that had none is on the way to w and has the blank
   pub record AddsBlanks (w : List ℕ) (blank : V) (old new : List (List ℕ × V)) : Type 0 where

@@ -21,16 +21,17 @@ use pg_types::{SIGNS_MAX, Sign};
 use std::alloc::{AllocError, Global};
 use std::marker::Model;
 
-/// Families of cells, each with a value.
+/// Families of cells, each cell with a value. A family of up to `FEW` signs is placed from base 1 on, a greater one near the
+/// greatest cell.
 #[derive(Drop)]
-pub struct Cells<V: Copy> {
+pub struct Cells<V: Copy, const FEW: usize> {
     signs: u16,
     store: Store<V>,
     moving: Vec<Slot<V>>,
     ghost laid: { Kept signs store } by { Kept-prop V.code signs store },
 }
 
-impl<V: Copy> Model for Cells<V> {
+impl<V: Copy, const FEW: usize> Model for Cells<V, FEW> {
     ghost use Rattle.pg_cells.specs.Held.{Held, held_code};
     ghost use Rattle.pg_cells.specs.Laid.{AreKept};
 
@@ -43,9 +44,9 @@ impl<V: Copy> Model for Cells<V> {
     ghost invariant = { λ c. AreKept c.signs c.store c.laid.0 };
 }
 
-impl<V: Copy> Cells<V> {
+impl<V: Copy, const FEW: usize> Cells<V, FEW> {
     /// The root family alone, each value `blank`.
-    pub fn new(alloc: Global, signs: u16, blank: V) -> Result<Cells<V>, AllocError>
+    pub fn new(alloc: Global, signs: u16, blank: V) -> Result<Cells<V, FEW>, AllocError>
         requires { (1 ≤ signs) × (signs ≤ SIGNS_MAX) }
         ensures held { IfOk result (λ c. c ≡ root_held signs blank) }
         ensures kept { IfOk result (λ c. IsHeld c) }
@@ -115,7 +116,7 @@ impl<V: Copy> Cells<V> {
     pub fn add(&mut self, parent: usize, s: Sign, v: V) -> Result<usize, AllocError>
         requires parent { (q : List ℕ) × ((cell_of self.old.families q ≡ Some parent) × (cell_of self.old.families (q ++ s ∷ []) ≡ None)) }
         requires sign { (1 ≤ s) × (s ≤ self.old.signs) }
-        ensures held { (q : List ℕ) → cell_of self.old.families q ≡ Some parent → OnOk result (self.new ≡ record self.old { families = with_sign self.old.signs self.old.families q s; values = put (slice_cmp nat_cmp) (q ++ s ∷ []) v self.old.values }) }
+        ensures held { (q : List ℕ) → cell_of self.old.families q ≡ Some parent → OnOk result (self.new ≡ record self.old { families = with_sign FEW self.old.signs self.old.families q s; values = put (slice_cmp nat_cmp) (q ++ s ∷ []) v self.old.values }) }
         ensures cell { (q : List ℕ) → cell_of self.old.families q ≡ Some parent → IfOk result (λ cell. cell_of self.new.families (q ++ s ∷ []) ≡ Some cell) }
         ensures cells { (q : List ℕ) → cell_of self.old.families q ≡ Some parent → OnOk result ((p : List ℕ) → ((x : ℕ) → p ≢ q ++ x ∷ []) → cell_of self.new.families p ≡ cell_of self.old.families p) }
         ensures kept { OnOk result (IsHeld self.new) }
@@ -137,7 +138,7 @@ impl<V: Copy> Cells<V> {
         }
         collect(&self.store, base, self.signs, &mut self.moving)?;
         let slots = self.moving.as_slice();
-        let placed = settle(&mut self.store, slots, slot, parent, base, self.signs);
+        let placed = settle(&mut self.store, slots, slot, parent, base, FEW, self.signs);
         let _length = self.store.len();
         Ok(placed + s as usize)
     }

@@ -1,8 +1,9 @@
 //! The search for a base, along the free cells.
 ghost use Rattle.std.specs.Prelude.{◌≡◌, ◌≢◌, ℕ, ◌+◌, ◌<◌, ◌≤◌, ◌^◌, Bool, true, ◌∷◌, length, map};
+ghost use Rattle.pg_types.specs.Placement.{IsLeast};
 ghost use Rattle.pg_cells.specs.Lists.{lists, sign_at, base_at};
 ghost use Rattle.pg_cells.specs.Linked.{AreLinked};
-ghost use Rattle.pg_cells.specs.Fit.{fits_row, signs_of, IsLeast};
+ghost use Rattle.pg_cells.specs.Fit.{fits_row, signs_of};
 
 use crate::cell::{Cell, after_of, is_base_of, sign_of};
 

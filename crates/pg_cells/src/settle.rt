@@ -7,17 +7,14 @@ use crate::moves::{give_up, put};
 use crate::store::Store;
 use pg_types::SIGNS_MAX;
 
-/// A family of at most this many signs is placed from base 1 on.
-const FEW_SIGNS: usize = 4;
-
-/// A greater one is placed from so far below the top on, or as far as there are signs.
+/// A family of more than a few signs is placed from so far below the top on, or as far as there are signs.
 const FAR_BELOW: usize = 255;
 
 // The lowest base that is tried.
-fn lowest_base(signs: u16, count: usize, top: usize) -> usize
-    ensures { result ≡ lowest_from signs count top }
+fn lowest_base(few: usize, signs: u16, count: usize, top: usize) -> usize
+    ensures { result ≡ lowest_from few signs count top }
 {
-    if count <= FEW_SIGNS {
+    if count <= few {
         1
     } else {
         top.saturating_sub(FAR_BELOW.max(signs as usize)).max(1)
@@ -41,18 +38,19 @@ pub fn settle<V: Copy>(
     slot: Slot<V>,
     parent: usize,
     was: usize,
+    few: usize,
     signs: u16,
 ) -> usize
     requires can { CanSettle signs store.old was slots.now slot parent }
     requires was { was < length store.old.signs }
     requires signs { signs ≤ SIGNS_MAX }
-    ensures { Moved signs store.old store.new was result slots.now slot parent }
+    ensures { Moved few signs store.old store.new was result slots.now slot parent }
 {
     let _cells = store.len();
     give_up(store, was, slots);
     drop_base(store, was);
     let top = store.top();
-    let low = lowest_base(signs, slots.len() + 1, top);
+    let low = lowest_base(few, signs, slots.len() + 1, top);
     let base = store.find_base(slots, slot.sign, low, top.max(1));
     put(store, base, slots);
     store.take(base + slot.sign as usize, slot);

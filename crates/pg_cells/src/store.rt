@@ -1,8 +1,9 @@
 //! The store: one vector of cells, whose free ones are linked in rising order.
 ghost use Rattle.std.specs.Prelude.{◌≡◌, ◌≢◌, ℕ, ◌+◌, ◌-◌, ◌<◌, ◌≤◌, ◌^◌, true, ◌∷◌, length, slice_get, Some, IfOk, OnOk, OnErr};
+ghost use Rattle.pg_types.specs.Placement.{IsLeast};
 ghost use Rattle.pg_cells.specs.Lists.{lists, row_of, sign_at, child_at, base_at, IsFree};
 ghost use Rattle.pg_cells.specs.Linked.{AreLinked};
-ghost use Rattle.pg_cells.specs.Fit.{fits_row, signs_of, IsLeast};
+ghost use Rattle.pg_cells.specs.Fit.{fits_row, signs_of};
 ghost use Rattle.pg_cells.specs.Store.{one_free, taken_in, IsTop, Extends};
 ghost use Rattle.pg_cells.specs.Writes.{Takes, Frees, SetsChild, SetsValue, SetsBase};
 

@@ -12,7 +12,7 @@ mod families;
 
 #[test]
 fn one_sign(rt: HostRuntime) -> Result<(), Fail> {
-    let mut cells = Cells::new(rt.alloc(), 1, 7_u32)?;
+    let mut cells = Cells::<u32, 4>::new(rt.alloc(), 1, 7)?;
     assert_eq!(rt; cells.add(1, 1, 8)?, 2);
     assert_eq!(rt; cells.child(1), 1);
     assert_eq!(rt; cells.find(1, 1), Some(2));
@@ -26,7 +26,7 @@ fn one_sign(rt: HostRuntime) -> Result<(), Fail> {
 /// all but the first are taken back.
 #[test]
 fn small_steps(rt: HostRuntime) -> Result<(), Fail> {
-    let mut cells = Cells::new(rt.alloc(), 4, 0_u32)?;
+    let mut cells = Cells::<u32, 4>::new(rt.alloc(), 4, 0)?;
     assert_eq!(rt; (cells.taken(), cells.top()), (4, 4));
     let steps: [([Sign; 2], usize, usize); 6] = [
         ([2, 3], 5, 5),
@@ -72,7 +72,7 @@ impl Draws {
 }
 
 /// The cell of a string.
-fn cell_of(cells: &Cells<u32>, string: &[Sign]) -> Option<usize>
+fn cell_of(cells: &Cells<u32, 4>, string: &[Sign]) -> Option<usize>
     ensures { IfSome result (λ cell. (q : List ℕ) × (cell_of cells.now.families q ≡ Some cell)) }
 {
     let mut at = None;
@@ -86,7 +86,7 @@ fn cell_of(cells: &Cells<u32>, string: &[Sign]) -> Option<usize>
 }
 
 /// The base of the family of a prefix.
-fn base_of(cells: &Cells<u32>, prefix: &[Sign]) -> Option<usize> {
+fn base_of(cells: &Cells<u32, 4>, prefix: &[Sign]) -> Option<usize> {
     if prefix.is_empty() {
         return Some(0);
     }
@@ -95,7 +95,7 @@ fn base_of(cells: &Cells<u32>, prefix: &[Sign]) -> Option<usize> {
 }
 
 /// Adds the sign below the string of a cell, or removes it where it is there and no family is below it.
-fn change(cells: &mut Cells<u32>, parent: usize, s: Sign) -> Result<(), Fail>
+fn change(cells: &mut Cells<u32, 4>, parent: usize, s: Sign) -> Result<(), Fail>
     requires parent { (q : List ℕ) × (cell_of cells.old.families q ≡ Some parent) }
     requires sign { (1 ≤ s) × (s ≤ cells.old.signs) }
 {
@@ -113,7 +113,7 @@ fn change(cells: &mut Cells<u32>, parent: usize, s: Sign) -> Result<(), Fail>
 }
 
 /// Adds the sign below a string, or removes it where it is there and no family is below it.
-fn change_at(cells: &mut Cells<u32>, string: &[Sign], s: Sign) -> Result<(), Fail> {
+fn change_at(cells: &mut Cells<u32, 4>, string: &[Sign], s: Sign) -> Result<(), Fail> {
     let Some(cell) = cell_of(cells, string) else {
         return Err(Fail::new("the string has a cell"));
     };
@@ -125,7 +125,7 @@ fn change_at(cells: &mut Cells<u32>, string: &[Sign], s: Sign) -> Result<(), Fai
 
 /// One step, on both.
 fn take_step(
-    cells: &mut Cells<u32>,
+    cells: &mut Cells<u32, 4>,
     families: &mut Families,
     draws: &mut Draws,
 ) -> Result<(), Fail> {
@@ -141,7 +141,7 @@ fn take_step(
 }
 
 /// Compares the top, the number of taken cells and each base.
-fn compare(rt: &impl Abort, cells: &Cells<u32>, families: &Families) -> Result<(), Fail> {
+fn compare(rt: &impl Abort, cells: &Cells<u32, 4>, families: &Families) -> Result<(), Fail> {
     let used = families.used_cells()?;
     assert_eq!(rt; cells.taken(), used.len());
     assert_eq!(rt; cells.top(), used.last().copied().unwrap_or(0));
@@ -153,8 +153,8 @@ fn compare(rt: &impl Abort, cells: &Cells<u32>, families: &Families) -> Result<(
 
 #[test]
 fn against_a_slow_list_of_families(rt: HostRuntime) -> Result<(), Fail> {
-    let mut cells = Cells::new(rt.alloc(), SIGNS, 0_u32)?;
-    let mut families = Families::new(rt.alloc(), SIGNS)?;
+    let mut cells = Cells::<u32, 4>::new(rt.alloc(), SIGNS, 0)?;
+    let mut families = Families::new(rt.alloc(), SIGNS, 4)?;
     let mut draws = Draws(5);
     for _ in 0..STEPS {
         take_step(&mut cells, &mut families, &mut draws)?;

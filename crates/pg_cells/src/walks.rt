@@ -3,7 +3,7 @@ ghost use Rattle.std.specs.Prelude.{◌≡◌, ◌<◌, ◌≤◌, ℕ, ◌+◌,
 ghost use Rattle.std.specs.FinMap.{find};
 ghost use Rattle.std.specs.Cmp.Lexicographic.{slice_cmp};
 ghost use Rattle.std.specs.Ordering.{nat_cmp};
-ghost use Rattle.pg_types.specs.Placement.{cell_of, base_of, enter};
+ghost use Rattle.pg_types.specs.Placement.{cell_of, base_of, enter_by};
 ghost use Rattle.pg_cells.specs.IsHeld.{IsHeld};
 ghost use Rattle.pg_cells.specs.Walks.{IsAt, EndsBefore, Steps, AddsBlanks};
 
@@ -12,7 +12,7 @@ use pg_types::Sign;
 use std::alloc::AllocError;
 
 // The base of the family below a cell's string, or of the root at the start.
-fn base_below<V: Copy>(cells: &Cells<V>, at: Option<usize>) -> Option<usize>
+fn base_below<V: Copy, const FEW: usize>(cells: &Cells<V, FEW>, at: Option<usize>) -> Option<usize>
     requires { (q : List ℕ) × (IsAt cells.now.families at q) }
     ensures { (q : List ℕ) → IsAt cells.now.families at q → result ≡ base_of cells.now.families q }
 {
@@ -28,7 +28,11 @@ fn base_below<V: Copy>(cells: &Cells<V>, at: Option<usize>) -> Option<usize>
 
 /// Goes from a cell, or from the start for `None`, to the cell of the string with the sign added. `None` tells that no
 /// string that begins with this one has a value.
-pub fn step<V: Copy>(cells: &Cells<V>, at: Option<usize>, s: Sign) -> Option<usize>
+pub fn step<V: Copy, const FEW: usize>(
+    cells: &Cells<V, FEW>,
+    at: Option<usize>,
+    s: Sign,
+) -> Option<usize>
     requires at { (q : List ℕ) × (IsAt cells.now.families at q) }
     requires sign { (1 ≤ s) × (s ≤ cells.now.signs) }
     ensures cell { (q : List ℕ) → IsAt cells.now.families at q → result ≡ cell_of cells.now.families (q ++ s ∷ []) }
@@ -40,15 +44,15 @@ pub fn step<V: Copy>(cells: &Cells<V>, at: Option<usize>, s: Sign) -> Option<usi
 }
 
 // Goes from a cell to that of its string with the sign added, which is new where no string has it.
-fn step_or_add<V: Copy>(
-    cells: &mut Cells<V>,
+fn step_or_add<V: Copy, const FEW: usize>(
+    cells: &mut Cells<V, FEW>,
     parent: usize,
     s: Sign,
     blank: V,
 ) -> Result<usize, AllocError>
     requires parent { (q : List ℕ) × (cell_of cells.old.families q ≡ Some parent) }
     requires sign { (1 ≤ s) × (s ≤ cells.old.signs) }
-    ensures steps { (q : List ℕ) → cell_of cells.old.families q ≡ Some parent → OnOk result (Steps cells.old cells.new q s blank) }
+    ensures steps { (q : List ℕ) → cell_of cells.old.families q ≡ Some parent → OnOk result (Steps FEW cells.old cells.new q s blank) }
     ensures cell { (q : List ℕ) → cell_of cells.old.families q ≡ Some parent → IfOk result (λ cell. cell_of cells.new.families (q ++ s ∷ []) ≡ Some cell) }
     ensures err { OnErr result (cells.new ≡ cells.old) }
     ensures ends { (q : List ℕ) → cell_of cells.old.families q ≡ Some parent → OnErr result (EndsBefore cells.old.values (q ++ s ∷ [])) }
@@ -64,12 +68,16 @@ fn step_or_add<V: Copy>(
 /// Gives each prefix of the string a cell, a new one with the value `blank`, and answers the cell of the string.
 ///
 /// Refused: a shorter prefix is entered in its place. The string had no value.
-pub fn enter<V: Copy>(cells: &mut Cells<V>, signs: &[Sign], blank: V) -> Result<usize, AllocError>
+pub fn enter<V: Copy, const FEW: usize>(
+    cells: &mut Cells<V, FEW>,
+    signs: &[Sign],
+    blank: V,
+) -> Result<usize, AllocError>
     requires some { 0 < length signs.now }
     requires signs { All (λ s. (1 ≤ s) × (s ≤ cells.old.signs)) signs.now }
     ensures cell { IfOk result (λ cell. cell_of cells.new.families signs.now ≡ Some cell) }
-    ensures families { OnOk result (cells.new.families ≡ enter cells.old.signs cells.old.families signs.now) }
-    ensures part { OnErr result ((k : ℕ) × (k < length signs.now) × (cells.new.families ≡ enter cells.old.signs cells.old.families (take k signs.now))) }
+    ensures families { OnOk result (cells.new.families ≡ enter_by FEW cells.old.signs cells.old.families signs.now) }
+    ensures part { OnErr result ((k : ℕ) × (k < length signs.now) × (cells.new.families ≡ enter_by FEW cells.old.signs cells.old.families (take k signs.now))) }
     ensures blanks { AddsBlanks signs.now blank cells.old.values cells.new.values }
     ensures held { IsHeld cells.new }
     ensures signs { cells.new.signs ≡ cells.old.signs }

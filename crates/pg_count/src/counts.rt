@@ -5,7 +5,7 @@ ghost use Rattle.pg_count.specs.Counts.{AreSmall, SignsWithin, sums_of, with_wei
 ghost use Rattle.pg_count.specs.Counting.{IsCounting};
 
 use crate::least::least;
-use crate::tally::Tally;
+use crate::tally::{FEW_SIGNS, Tally};
 use pg_cells::{Cells, enter};
 use pg_types::{Cursor, LENGTH_MAX, Sign, Weight};
 use std::alloc::{AllocError, Global};
@@ -16,7 +16,7 @@ use std::marker::Model;
 /// A window's signs lead from cell to cell, and the last cell holds its sums. The memory of the cells stays for later passes.
 #[derive(Drop)]
 pub struct CountTrie {
-    cells: Cells<Tally>,
+    cells: Cells<Tally, FEW_SIGNS>,
     len: u8,
 }
 

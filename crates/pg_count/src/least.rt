@@ -5,7 +5,7 @@ ghost use Rattle.pg_count.specs.Bounds.{first_sign};
 ghost use Rattle.pg_count.specs.Least.{NoneAt, NoneAbove, LeastAt, LeastAbove};
 
 use crate::bound::{first_of, passes, rest_of};
-use crate::tally::Tally;
+use crate::tally::{FEW_SIGNS, Tally};
 use pg_cells::Cells;
 use pg_types::Sign;
 
@@ -14,7 +14,7 @@ use pg_types::Sign;
 /// path. It takes no memory.
 #[cycle(least)]
 pub fn least(
-    cells: &Cells<Tally>,
+    cells: &Cells<Tally, FEW_SIGNS>,
     base: usize,
     bound: &[Sign],
     path: &mut [Sign],
@@ -34,7 +34,7 @@ pub fn least(
 // The same among the strings that go on by the sign.
 #[cycle(least)]
 fn least_at(
-    cells: &Cells<Tally>,
+    cells: &Cells<Tally, FEW_SIGNS>,
     base: usize,
     s: Sign,
     bound: &[Sign],
@@ -65,7 +65,7 @@ fn least_at(
 
 // The same where the sign is the last.
 fn last_at(
-    cells: &Cells<Tally>,
+    cells: &Cells<Tally, FEW_SIGNS>,
     cell: usize,
     s: Sign,
     bound: &[Sign],

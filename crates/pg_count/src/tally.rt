@@ -5,6 +5,9 @@ ghost use Rattle.pg_count.specs.Counts.{AreSmall, with_weight};
 use pg_types::Weight;
 use std::marker::Model;
 
+/// Of the windows' families each is placed near the top, since their layout is told to no one.
+pub const FEW_SIGNS: usize = 0;
+
 /// No good sum is so great; it stands in the tally of a string that is not counted.
 const NOT_COUNTED: u64 = u64::MAX;
 

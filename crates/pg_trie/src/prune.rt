@@ -4,13 +4,14 @@ ghost use Rattle.pg_cells.specs.IsHeld.{IsHeld};
 ghost use Rattle.pg_trie.specs.Pruned.{Drops, IsKeep, Prunes};
 ghost use Rattle.pg_trie.specs.Strings.{AreStrings};
 
+use crate::mark::FEW_SIGNS;
 use crate::strings::find_cell;
 use pg_cells::Cells;
 use pg_patterns::Place;
 use pg_types::Sign;
 
 // Takes the cell of a string of several signs away, where it has no list and no string goes on from it.
-fn drop_blank(cells: &mut Cells<u64>, string: &[Sign])
+fn drop_blank(cells: &mut Cells<u64, FEW_SIGNS>, string: &[Sign])
     requires held { IsHeld cells.old }
     requires signs { All (λ s. (1 ≤ s) × (s ≤ cells.old.signs)) string.now }
     ensures { Drops cells.old cells.new string.now }
@@ -30,7 +31,7 @@ fn drop_blank(cells: &mut Cells<u64>, string: &[Sign])
 }
 
 /// Takes the cells of all strings away that have several signs and no list, where no string goes on from them that stays.
-pub fn prune(cells: &mut Cells<u64>, strings: &[Place])
+pub fn prune(cells: &mut Cells<u64, FEW_SIGNS>, strings: &[Place])
     requires held { IsHeld cells.old }
     requires strings { AreStrings cells.old strings.now }
     ensures { (keep : List ℕ → Bool) → IsKeep keep cells.old → Prunes keep cells.old cells.new }

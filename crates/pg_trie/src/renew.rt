@@ -6,7 +6,7 @@ ghost use Rattle.pg_trie.specs.IsTrie.{IsTrie};
 ghost use Rattle.pg_trie.specs.Renewed.{values_in, AreNeeded, AreFresh, Renews};
 ghost use Rattle.pg_trie.specs.Strings.{AreStrings};
 
-use crate::mark::HOPELESS;
+use crate::mark::{FEW_SIGNS, HOPELESS};
 use crate::strings::{find_cell, value_of};
 use pg_cells::Cells;
 use pg_outputs::Outputs;
@@ -35,7 +35,7 @@ fn fresh_head(outputs: &Outputs, head: u64, fresh: &mut Outputs) -> Result<u64, 
 /// The heads of the strings' values, in their order, among new records. There is no record but those of their ends.
 pub fn fresh_heads(
     alloc: Global,
-    cells: &Cells<u64>,
+    cells: &Cells<u64, FEW_SIGNS>,
     strings: &[Place],
     outputs: &Outputs,
     fresh: &mut Outputs,
@@ -54,7 +54,7 @@ pub fn fresh_heads(
 }
 
 /// Gives each string its head.
-pub fn renew(cells: &mut Cells<u64>, strings: &[Place], heads: &[u64])
+pub fn renew(cells: &mut Cells<u64, FEW_SIGNS>, strings: &[Place], heads: &[u64])
     requires held { IsHeld cells.old }
     requires strings { AreStrings cells.old strings.now }
     requires heads { length heads.now ≡ length strings.now }

@@ -7,13 +7,14 @@ ghost use Rattle.pg_types.specs.declared.limits.TheConstants.{PATTERN_SIGNS_MAX,
 ghost use Rattle.pg_types.specs.Placement.{cell_of, base_of};
 ghost use Rattle.pg_trie.specs.Strings.{AreShort, IsString, PutsBelow, AreStringsTo, AreStrings};
 
+use crate::mark::FEW_SIGNS;
 use pg_cells::{Cells, step};
 use pg_patterns::Place;
 use pg_types::{PATTERN_SIGNS_MAX, Sign};
 use std::alloc::{AllocError, Global};
 
 /// The cell of a string, or `None` where it has none.
-pub fn find_cell(cells: &Cells<u64>, signs: &[Sign]) -> Option<usize>
+pub fn find_cell(cells: &Cells<u64, FEW_SIGNS>, signs: &[Sign]) -> Option<usize>
     requires { All (λ s. (1 ≤ s) × (s ≤ cells.now.signs)) signs.now }
     ensures { result ≡ cell_of cells.now.families signs.now }
 {
@@ -26,7 +27,7 @@ pub fn find_cell(cells: &Cells<u64>, signs: &[Sign]) -> Option<usize>
 }
 
 /// The value of a string that has a cell.
-pub fn value_of(cells: &Cells<u64>, signs: &[Sign]) -> u64
+pub fn value_of(cells: &Cells<u64, FEW_SIGNS>, signs: &[Sign]) -> u64
     requires { All (λ s. (1 ≤ s) × (s ≤ cells.now.signs)) signs.now }
     ensures { (v : ℕ) → find (slice_cmp nat_cmp) signs.now cells.now.values ≡ Some v → result ≡ v }
 {
@@ -50,7 +51,7 @@ fn longer(prefix: &[Sign], s: Sign) -> Place
 
 // Puts the strings of a family behind the others.
 fn push_family(
-    cells: &Cells<u64>,
+    cells: &Cells<u64, FEW_SIGNS>,
     prefix: &[Sign],
     base: usize,
     strings: &mut Vec<Place>,
@@ -69,7 +70,11 @@ fn push_family(
 }
 
 // Puts the strings with one sign more than that with the number `i` behind the others.
-fn push_below(cells: &Cells<u64>, strings: &mut Vec<Place>, i: usize) -> Result<(), AllocError>
+fn push_below(
+    cells: &Cells<u64, FEW_SIGNS>,
+    strings: &mut Vec<Place>,
+    i: usize,
+) -> Result<(), AllocError>
     requires inside { i < length strings.old.items }
     requires sound { (k : List ℕ × ℕ) → slice_get strings.old.items i ≡ Some k → IsString cells.now k.0 }
     requires short { AreShort cells.now }
@@ -88,7 +93,7 @@ fn push_below(cells: &Cells<u64>, strings: &mut Vec<Place>, i: usize) -> Result<
 }
 
 /// The strings that have a cell, each before those with one sign more.
-pub fn strings(alloc: Global, cells: &Cells<u64>) -> Result<Vec<Place>, AllocError>
+pub fn strings(alloc: Global, cells: &Cells<u64, FEW_SIGNS>) -> Result<Vec<Place>, AllocError>
     requires short { AreShort cells.now }
     requires signs { cells.now.signs ≤ SIGNS_MAX }
     ensures { IfOk result (λ strings. AreStrings cells.now strings.items) }

@@ -13,6 +13,7 @@ ghost use Rattle.pg_trie.specs.Lists.{outputs_at};
 ghost use Rattle.pg_trie.specs.Maps.{AreKept};
 
 use crate::copy::entries;
+use crate::mark::FEW_SIGNS;
 use crate::prune::prune;
 use crate::raise::raised;
 use crate::renew::{fresh_heads, renew};
@@ -31,7 +32,7 @@ use std::marker::Model;
 #[derive(Drop)]
 pub struct PatternTrie {
     alloc: Global,
-    cells: Cells<u64>,
+    cells: Cells<u64, FEW_SIGNS>,
     outputs: Outputs,
 }
 

@@ -119,18 +119,18 @@ three_tails : tails (((2 ∷ [], 0), 1) ∷ ((2 ∷ [], 1), 3) ∷ ((3 ∷ [], 1
 three_tails = refl
 
 -- a table of one sign
-one_sign : base_of (with_sign 1 (root 1) (1 ∷ []) 1) (1 ∷ []) ≡ Some 1
+one_sign : base_of (with_sign 4 1 (root 1) (1 ∷ []) 1) (1 ∷ []) ≡ Some 1
 unfolding with_sign
 one_sign = refl
 
-one_sign_cell : cell_of (with_sign 1 (root 1) (1 ∷ []) 1) (1 ∷ 1 ∷ []) ≡ Some 2
+one_sign_cell : cell_of (with_sign 4 1 (root 1) (1 ∷ []) 1) (1 ∷ 1 ∷ []) ≡ Some 2
 unfolding with_sign
 one_sign_cell = refl
 
-one_sign_twice : cell_of (with_sign 1 (with_sign 1 (root 1) (1 ∷ []) 1) (1 ∷ 1 ∷ []) 1) (1 ∷ 1 ∷ 1 ∷ []) ≡ Some 3
+one_sign_twice : cell_of (with_sign 4 1 (with_sign 4 1 (root 1) (1 ∷ []) 1) (1 ∷ 1 ∷ []) 1) (1 ∷ 1 ∷ 1 ∷ []) ≡ Some 3
 unfolding with_sign
 one_sign_twice = refl
 
-one_sign_twice_base : base_of (with_sign 1 (with_sign 1 (root 1) (1 ∷ []) 1) (1 ∷ 1 ∷ []) 1) (1 ∷ 1 ∷ []) ≡ Some 2
+one_sign_twice_base : base_of (with_sign 4 1 (with_sign 4 1 (root 1) (1 ∷ []) 1) (1 ∷ 1 ∷ []) 1) (1 ∷ 1 ∷ []) ≡ Some 2
 unfolding with_sign
 one_sign_twice_base = refl

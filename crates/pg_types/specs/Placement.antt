@@ -1,6 +1,6 @@
 -- Where the families of a trie lie in one row of cells. A family has a prefix, a base and a set of signs, and its sign s has
 -- the cell base + s. A placement is the list of the families in the order of their prefixes.
-use Rattle.std.specs.Prelude.{ℕ, suc, zero, ◌+◌, ◌-◌, max, Bool, true, false, if◌then◌else◌, not, ◌&&◌, ◌||◌, nat_eq, nat_lt, nat_le, List, [], ◌∷◌, ◌++◌, length, map, filter, fold, Option, Some, None}
+use Rattle.std.specs.Prelude.{◌≡◌, ℕ, suc, zero, ◌+◌, ◌-◌, ◌<◌, ◌≤◌, max, Bool, true, false, if◌then◌else◌, not, ◌&&◌, ◌||◌, nat_eq, nat_lt, nat_le, List, [], ◌∷◌, ◌++◌, length, map, filter, fold, Option, Some, None}
 use Rattle.std.specs.List.{flat_map, list_any, list_all, range_with_len, starts_with}
 use Rattle.std.specs.Ordering.{nat_cmp, eq_by_cmp}
 use Rattle.std.specs.Cmp.Lexicographic.{slice_cmp}
@@ -16,11 +16,11 @@ pub record Family : Type 0 where
 abbrev pub Families : Type 0
 Families = List (List ℕ × Family)
 
--- a family of at most this many signs is placed from base 1 on
+-- in the placement of patterns, a family of at most this many signs is placed from base 1 on
 abbrev pub few_signs : ℕ
 few_signs = 4
 
--- and a greater one from so far below the top on, or as far as there are signs
+-- a greater one is placed from so far below the top on, or as far as there are signs
 abbrev pub far_below : ℕ
 far_below = 255
 
@@ -58,22 +58,28 @@ is_base fs b = list_any (λ e. nat_eq b e.1.base) fs
 abbrev pub fits_at : Families → List ℕ → ℕ → Bool
 fits_at fs signs b = not (is_base fs b) && list_all (λ s. not (is_used fs (b + s))) signs
 
--- the lowest base that is tried for so many signs, in a table of n signs
-abbrev pub lowest_base : ℕ → Families → ℕ → ℕ
-lowest_base n fs count = if nat_le count few_signs then 1 else max 1 (top fs - max far_below n)
+-- the lowest base that is tried for so many signs, in a table of n signs, where up to few signs are placed from base 1 on
+abbrev pub lowest_base : ℕ → ℕ → Families → ℕ → ℕ
+lowest_base few n fs count = if nat_le count few then 1 else max 1 (top fs - max far_below n)
 
 -- the first number from b on that passes the test, of so many more
 abbrev pub first_from : (ℕ → Bool) → ℕ → ℕ → ℕ
 first_from test zero b = b
 first_from test (suc more) b = elim (test b) [ true ↦ b | false ↦ first_from test more (b + 1) ]
 
+-- b is the least number from low on that passes the test
+pub record IsLeast (test : ℕ → Bool) (low b : ℕ) : Type 0 where
+  pub from : low ≤ b
+  pub passes : test b ≡ true
+  pub first : (k : ℕ) → low ≤ k → k < b → test k ≡ false
+
 -- the least base at which the signs may stand. One that is past the top always serves
-abbrev pub least_base : ℕ → Families → List ℕ → ℕ
-least_base n fs signs = first_from (fits_at fs signs) (top fs) (lowest_base n fs (length signs))
+abbrev pub least_base : ℕ → ℕ → Families → List ℕ → ℕ
+least_base few n fs signs = first_from (fits_at fs signs) (top fs) (lowest_base few n fs (length signs))
 
 -- the families with one more, placed at the least base
-abbrev pub placed : ℕ → Families → List ℕ → List ℕ → Families
-placed n fs p signs = put (slice_cmp nat_cmp) p (record { base = least_base n fs signs; signs = signs }) fs
+abbrev pub placed : ℕ → ℕ → Families → List ℕ → List ℕ → Families
+placed few n fs p signs = put (slice_cmp nat_cmp) p (record { base = least_base few n fs signs; signs = signs }) fs
 
 -- the signs, in rising order, with s
 abbrev pub with_one_sign : ℕ → List ℕ → List ℕ
@@ -82,12 +88,12 @@ with_one_sign s (x ∷ xs) = if nat_lt s x then s ∷ x ∷ xs else (if nat_eq s
 
 -- the families of a table of n signs with s in the family of the prefix p: a new family is placed with its one sign; a sign
 -- joins in place where its cell is unused; else the family gives up its cells and its base, and is placed anew with s
-unfoldable pub with_sign : ℕ → Families → List ℕ → ℕ → Families
-with_sign n fs p s = elim (family_at fs p) [
-  | None ↦ placed n fs p (s ∷ [])
+unfoldable pub with_sign : ℕ → ℕ → Families → List ℕ → ℕ → Families
+with_sign few n fs p s = elim (family_at fs p) [
+  | None ↦ placed few n fs p (s ∷ [])
   | Some f ↦ elim (is_used fs (f.base + s)) [
     | false ↦ put (slice_cmp nat_cmp) p (record { base = f.base; signs = with_one_sign s f.signs }) fs
-    | true ↦ placed n (without_family fs p) p (with_one_sign s f.signs)
+    | true ↦ placed few n (without_family fs p) p (with_one_sign s f.signs)
   ]
 ]
 
@@ -127,14 +133,22 @@ abbrev pub base_of : Families → List ℕ → Option ℕ
 base_of fs p = option_map (λ f. f.base) (family_at fs p)
 
 -- the families with each sign of q, in turn, in the family of the string before it, which begins with p
-abbrev pub enter_after : ℕ → Families → List ℕ → List ℕ → Families
-enter_after n fs p [] = fs
-enter_after n fs p (s ∷ q) = enter_after n (elim (cell_in fs p s) [ Some cell ↦ fs | None ↦ with_sign n fs p s ]) (p ++ s ∷ []) q
+abbrev pub enter_after : ℕ → ℕ → Families → List ℕ → List ℕ → Families
+enter_after few n fs p [] = fs
+enter_after few n fs p (s ∷ q) = enter_after few n (elim (cell_in fs p s) [ Some cell ↦ fs | None ↦ with_sign few n fs p s ]) (p ++ s ∷ []) q
 
--- the families after the string is entered. Its first sign is in the root
+-- the families after the string is entered, where up to few signs are placed from base 1 on. Its first sign is in the root
+abbrev pub enter_by : ℕ → ℕ → Families → List ℕ → Families
+enter_by few n fs [] = fs
+enter_by few n fs (s ∷ q) = enter_after few n fs (s ∷ []) q
+
+-- the families of patterns after the string is entered
 abbrev pub enter : ℕ → Families → List ℕ → Families
-enter n fs [] = fs
-enter n fs (s ∷ q) = enter_after n fs (s ∷ []) q
+enter n fs q = enter_by few_signs n fs q
+
+-- the families of patterns after the strings are entered in their order, from the root alone
+abbrev pub entered_all : ℕ → List (List ℕ) → Families
+entered_all n strings = fold (enter n) (root n) strings
 
 -- whether a string keeps its cell at a level's end: it has one sign, or it is a prefix of a string that stays
 abbrev pub keeps_cell : List (List ℕ) → List ℕ → Bool

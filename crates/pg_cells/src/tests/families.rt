@@ -13,11 +13,12 @@ pub struct Family {
     pub signs: Vec<Sign>,
 }
 
-/// The families of a table with so many signs.
+/// The families of a table with so many signs, where up to a few signs are placed from base 1 on.
 #[derive(Drop)]
 pub struct Families {
     alloc: Global,
     signs: Sign,
+    few: usize,
     list: Vec<Family>,
 }
 
@@ -36,7 +37,7 @@ fn push_cells(family: &Family, cells: &mut Vec<usize>) -> Result<(), AllocError>
 
 impl Families {
     /// The root alone.
-    pub fn new(alloc: Global, signs: Sign) -> Result<Families, AllocError> {
+    pub fn new(alloc: Global, signs: Sign, few: usize) -> Result<Families, AllocError> {
         let mut root = Family {
             prefix: Vec::new(alloc),
             base: 0,
@@ -47,7 +48,12 @@ impl Families {
         }
         let mut list = Vec::new(alloc);
         list.push(root)?;
-        Ok(Families { alloc, signs, list })
+        Ok(Families {
+            alloc,
+            signs,
+            few,
+            list,
+        })
     }
 
     /// The families.
@@ -160,7 +166,7 @@ impl Families {
     // The lowest base that is tried for so many signs.
     fn lowest_base(&self, count: usize, used: &[usize]) -> usize {
         let top = used.last().copied().unwrap_or(0);
-        if count <= 4 {
+        if count <= self.few {
             1
         } else {
             top.saturating_sub(usize::from(self.signs).max(255)).max(1)

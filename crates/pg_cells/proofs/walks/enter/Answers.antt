@@ -11,22 +11,22 @@ loop-s-preserved g c =
     let lt = within_way c.args.signs.now c.loop-s.s-index c.loop-s-test.true in
     let sign = way_sign c.args.signs.now c.loop-s.s-index lt in
     let way = way_more c.args.signs.now c.loop-s.s-index lt in
-    let steps : Steps c.loop-s.cells c.step_or_add.new.cells (take (c.loop-s.s-index + 1) c.args.signs.now) (get_or c.args.signs.now (c.loop-s.s-index + 1) 0) c.args.blank =
-    subst (λ s. Steps c.loop-s.cells c.step_or_add.new.cells (take (c.loop-s.s-index + 1) c.args.signs.now) s c.args.blank) sign
+    let steps : Steps g.row.FEW c.loop-s.cells c.step_or_add.new.cells (take (c.loop-s.s-index + 1) c.args.signs.now) (get_or c.args.signs.now (c.loop-s.s-index + 1) 0) c.args.blank =
+    subst (λ s. Steps g.row.FEW c.loop-s.cells c.step_or_add.new.cells (take (c.loop-s.s-index + 1) c.args.signs.now) s c.args.blank) sign
     (c.in_ok-cell.ensures.steps (take (c.loop-s.s-index + 1) c.args.signs.now) c.loop-s.invariant.at) in
     record {
       at =
           ap (cell_of c.step_or_add.new.cells.families) (way ∙ ap (λ s. take (c.loop-s.s-index + 1) c.args.signs.now ++ s ∷ []) (sym sign))
           ∙ c.in_ok-cell.ensures.cell (take (c.loop-s.s-index + 1) c.args.signs.now) c.loop-s.invariant.at;
       families =
-          enter_more c.args.cells.now.signs c.loop-s.cells c.step_or_add.new.cells c.args.signs.now c.loop-s.s-index c.args.blank c.loop-s.invariant.signs lt steps
+          enter_more g.row.FEW c.args.cells.now.signs c.loop-s.cells c.step_or_add.new.cells c.args.signs.now c.loop-s.s-index c.args.blank c.loop-s.invariant.signs lt steps
           ∙ c.loop-s.invariant.families;
-      front = front_more c.args.cells.now.signs c.args.cells.now.families c.loop-s.cells c.step_or_add.new.cells c.args.signs.now c.loop-s.s-index c.args.blank c.loop-s.invariant.signs lt steps c.loop-s.invariant.front;
+      front = front_more g.row.FEW c.args.cells.now.signs c.args.cells.now.families c.loop-s.cells c.step_or_add.new.cells c.args.signs.now c.loop-s.s-index c.args.blank c.loop-s.invariant.signs lt steps c.loop-s.invariant.front;
       blanks =
           more_added c.args.signs.now c.args.blank c.args.cells.now.values c.loop-s.cells.values c.step_or_add.new.cells.values c.loop-s.invariant.blanks
-          (step_values c.args.signs.now c.loop-s.cells c.step_or_add.new.cells (c.loop-s.s-index + 1 + 1) (take (c.loop-s.s-index + 1) c.args.signs.now) (get_or c.args.signs.now (c.loop-s.s-index + 1) 0) c.args.blank c.loop-s.invariant.held way steps);
+          (step_values g.row.FEW c.args.signs.now c.loop-s.cells c.step_or_add.new.cells (c.loop-s.s-index + 1 + 1) (take (c.loop-s.s-index + 1) c.args.signs.now) (get_or c.args.signs.now (c.loop-s.s-index + 1) 0) c.args.blank c.loop-s.invariant.held way steps);
       held = c.in_ok-cell.ensures.kept;
-      signs = step_signs c.loop-s.cells c.step_or_add.new.cells (take (c.loop-s.s-index + 1) c.args.signs.now) (get_or c.args.signs.now (c.loop-s.s-index + 1) 0) c.args.blank steps ∙ c.loop-s.invariant.signs;
+      signs = step_signs g.row.FEW c.loop-s.cells c.step_or_add.new.cells (take (c.loop-s.s-index + 1) c.args.signs.now) (get_or c.args.signs.now (c.loop-s.s-index + 1) 0) c.args.blank steps ∙ c.loop-s.invariant.signs;
     }
 
 pub returns-in_err-cell-clause-err : goal.returns-in_err-cell-clause-err
