@@ -7,5 +7,11 @@ pub mod Parts
 pub mod Ranges
 pub mod Reaches
 mod TableRows
+pub mod Recorded
+pub mod RecordedStrings
+pub mod TableCells
+pub mod TableLookups
+pub mod TableRecords
+pub mod TableText
 pub mod Walks
 pub mod WordSteps
