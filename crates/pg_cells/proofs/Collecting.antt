@@ -1,11 +1,12 @@
 -- One sign more of a family is collected.
-use Rattle.std.proofs.Common.{◌≡◌, ◌≢◌, ℕ, ◌+◌, inl, inr, Bool, true, false, cond, nat_eq, List, [], ◌∷◌, ◌++◌, filter, length, take, get_or, None, Some, suc, zero, refl, sym, ◌∙◌, ap, subst, arith, add-zero}
-use Rattle.std.proofs.lemmas.Bool.{cases_lt, eq-eqb, ne_eqb}
+use Rattle.std.proofs.Common.{◌≡◌, ◌≢◌, ℕ, ◌+◌, ◌-◌, ◌<◌, ◌≤◌, inl, inr, Bool, true, false, cond, nat_eq, List, [], ◌∷◌, ◌++◌, filter, length, take, get_or, None, Some, suc, zero, refl, sym, ◌∙◌, ap, subst, arith, add-zero, add-one}
+use Rattle.std.proofs.lemmas.Bool.{cases_lt, eq-eqb, eqb-true, ne_eqb}
 use Rattle.std.proofs.lemmas.List.{append-nil, length_push, map_push, take-append-le, take_at, get_or_append_left, get_or_push, length-map}
 use Rattle.std.specs.List.{range_with_len}
 use Rattle.pg_cells.specs.declared.fit.Slot.{Slot}
 use Rattle.pg_cells.specs.Lists.{Row, sign_at}
 use Rattle.pg_cells.specs.Fit.{signs_of, slot_of}
+use Rattle.pg_cells.specs.Members.{IsNext, ArePassing, number_before}
 use Rattle.pg_cells.specs.Moves.{AreDistinct, Tells, Collected, Collects}
 use Rattle.pg_cells.proofs.Slots.{slot_push, slot_back}
 
@@ -22,6 +23,10 @@ filter_last t a (suc n) =
     out : (b : Bool) (xs ys : List ℕ) → cond b (a ∷ (xs ++ ys)) (xs ++ ys) ≡ cond b (a ∷ xs) xs ++ ys
     out true xs ys = refl
     out false xs ys = refl
+
+-- the number before the index after k
+pub number_next : (xs : List ℕ) (k : ℕ) → number_before xs (k + 1) ≡ get_or xs k 0
+number_next xs k = ap (λ j. get_or (0 ∷ xs) j 0) (add-one k)
 
 module _ {V : Type 0} (r : Row V) (base : ℕ) where
   pub collected_none : Collected 0 r base []
@@ -96,8 +101,43 @@ module _ {V : Type 0} (r : Row V) (base : ℕ) where
       passes : nat_eq (sign_at r (base + (1 + m))) (1 + m) ≡ true
       passes = eq-eqb (sign_at r (base + (1 + m))) (1 + m) (ap (λ k. sign_at r (base + k)) same ∙ tells.sign ∙ sym same)
 
-  pub collected_step : (m x k : ℕ) (slots new : List (Slot V)) → x ≡ m + 1 → k ≡ m + 1 → Collected m r base slots → Collects r base x slots new → Collected k r base new
-  collected_step m x k slots new e d c step = elim step [
-    | inl h ↦ subst (λ j. Collected j r base new) (sym d) (subst (Collected (m + 1) r base) (sym h.1) (collected_less m slots c (λ z. h.0 (ap (λ j. sign_at r (base + j)) e ∙ z ∙ sym e))))
-    | inr h ↦ subst (λ j. Collected j r base new) (sym d) (subst (Collected (m + 1) r base) (sym h.3) (collected_more m slots h.0 c (subst (λ j. Tells r base j h.0) e h.1) (h.2 ∙ e)))
-  ]
+  -- signs that do not stand
+  collected_gap : (m gap : ℕ) (slots : List (Slot V)) → ((y : ℕ) → m < y → y ≤ m + gap → sign_at r (base + y) ≢ y) → Collected m r base slots → Collected (m + gap) r base slots
+  collected_gap m zero slots none c = let same : m ≡ m + 0 = omega arith in subst (λ k. Collected k r base slots) same c
+  collected_gap m (suc gap) slots none c =
+      let same : m + gap + 1 ≡ m + suc gap = omega arith in
+      subst (λ k. Collected k r base slots) same
+      (collected_less (m + gap) slots (collected_gap m gap slots (λ y low le. none y low (omega arith)) c) (none (m + gap + 1) (omega arith) (omega arith)))
+
+  collected_up : (m k : ℕ) (slots : List (Slot V)) → m ≤ k → ((y : ℕ) → m < y → y ≤ k → sign_at r (base + y) ≢ y) → Collected m r base slots → Collected k r base slots
+  collected_up m k slots le none c =
+      let same : m + (k - m) ≡ k = omega arith in
+      subst (λ j. Collected j r base slots) same (collected_gap m (k - m) slots (λ y low up. none y low (omega arith)) c)
+
+  -- the next sign that stands
+  pub collected_next : (m x : ℕ) (slots new : List (Slot V)) → IsNext (λ z. nat_eq (sign_at r (base + z)) z) m x → 0 < x → Collected m r base slots → Collects r base x slots new → Collected x r base new
+  collected_next m x slots new next up c step =
+      let found = next.found up in
+      let same : x - 1 + 1 ≡ x = omega arith in
+      let before : Collected (x - 1) r base slots = collected_up m (x - 1) slots (let less = found.0 in omega arith)
+      (λ y low le e. let least = next.least y low (eq-eqb (sign_at r (base + y)) y e) in let most = least.1 in omega arith) c in
+      elim step [
+        | inl h ↦ absurd (h.0 (eqb-true (sign_at r (base + x)) x found.1))
+        | inr h ↦ subst (λ j. Collected j r base new) same (subst (Collected (x - 1 + 1) r base) (sym h.3)
+            (collected_more (x - 1) slots h.0 before (subst (λ j. Tells r base j h.0) (sym same) h.1) (h.2 ∙ sym same)))
+      ]
+
+  -- no further sign stands
+  pub collected_end : (m n : ℕ) (slots : List (Slot V)) → m ≤ n → IsNext (λ z. nat_eq (sign_at r (base + z)) z) m 0 → Collected m r base slots → Collected n r base slots
+  collected_end m n slots le next c =
+      collected_up m n slots le (λ y low up e. let least = next.least y low (eq-eqb (sign_at r (base + y)) y e) in let no = least.0 in omega arith) c
+
+  -- the last sign that is collected is within the table
+  pub last_within : (n : ℕ) (xs : List ℕ) → ((i : ℕ) → sign_at r i ≤ n) → ArePassing (λ z. nat_eq (sign_at r (base + z)) z) xs → number_before xs (length xs) ≤ n
+  last_within n [] small are = omega arith
+  last_within n (x ∷ xs) small are =
+      let k = length xs in
+      let last = are.each k (omega arith) in
+      let stands : sign_at r (base + get_or (x ∷ xs) k 0) ≡ get_or (x ∷ xs) k 0 = eqb-true (sign_at r (base + get_or (x ∷ xs) k 0)) (get_or (x ∷ xs) k 0) (last.1.found last.0).1 in
+      let le = small (base + get_or (x ∷ xs) k 0) in
+      omega arith

@@ -31,3 +31,9 @@ pub mod StoreSteps
 pub mod StringCells
 pub mod StringMaps
 pub mod Walking
+pub mod GivenMembers
+pub mod LinkLaws
+pub mod Unlinked
+mod Relinked
+mod SteppedLinks
+mod RootLinks

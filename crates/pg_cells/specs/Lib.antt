@@ -3,6 +3,8 @@ pub mod Held
 pub mod IsHeld
 pub mod Laid
 pub mod Linked
+pub mod Links
+pub mod Members
 pub mod Lists
 pub mod Moves
 pub mod OneTrie

@@ -1,19 +1,20 @@
 //! The families of a trie, each with its cells at its base.
-ghost use Rattle.std.specs.Prelude.{◌≡◌, ◌≢◌, ℕ, ◌+◌, ◌<◌, ◌≤◌, List, [], ◌∷◌, ◌++◌, Some, None, IfOk, OnOk, OnErr, ◌==◌, ◌&&◌, ◌^◌, nat_lt, nat_eq, if◌then◌else◌};
+ghost use Rattle.std.specs.Prelude.{◌≡◌, ◌≢◌, ℕ, ◌+◌, ◌<◌, ◌≤◌, List, [], ◌∷◌, ◌++◌, Some, None, IfOk, OnOk, OnErr, ◌==◌, ◌&&◌, ◌^◌, false, true, length, slice_index, nat_lt, nat_eq, MatchBool, if◌then◌else◌};
 ghost use Rattle.std.specs.FinMap.{find, put};
 ghost use Rattle.std.specs.Cmp.Lexicographic.{slice_cmp};
 ghost use Rattle.std.specs.Ordering.{nat_cmp};
-ghost use Rattle.pg_types.specs.Placement.{taken, top, cell_of, base_of, with_sign, without_sign};
+ghost use Rattle.pg_types.specs.Placement.{taken, top, cell_of, base_of, joins_at, with_sign, without_sign};
 ghost use Rattle.pg_cells.specs.Held.{Held, without_key};
 ghost use Rattle.pg_cells.specs.IsHeld.{IsHeld};
 ghost use Rattle.pg_cells.specs.Lists.{sign_at};
+ghost use Rattle.pg_cells.specs.Members.{ArePassing, IsAlone, HasOther, has_sign};
 ghost use Rattle.pg_cells.specs.OneTrie.{Kept, Kept-prop};
 ghost use Rattle.pg_cells.specs.Root.{root_held};
 ghost use Rattle.pg_cells.specs.Walks.{EndsBefore};
 
 use crate::fit::Slot;
 use crate::moves::collect;
-use crate::prune::drop_bare;
+use crate::prune::drop_family;
 use crate::root::{clear, plant};
 use crate::settle::settle;
 use crate::store::Store;
@@ -24,14 +25,14 @@ use std::marker::Model;
 /// Families of cells, each cell with a value. A family of up to `FEW` signs is placed from base 1 on, a greater one near the
 /// greatest cell.
 #[derive(Drop)]
-pub struct Cells<V: Copy, const FEW: usize> {
+pub struct Placed<V: Copy, const FEW: usize> {
     signs: u16,
     store: Store<V>,
     moving: Vec<Slot<V>>,
     ghost laid: { Kept signs store } by { Kept-prop V.code signs store },
 }
 
-impl<V: Copy, const FEW: usize> Model for Cells<V, FEW> {
+impl<V: Copy, const FEW: usize> Model for Placed<V, FEW> {
     ghost use Rattle.pg_cells.specs.Held.{Held, held_code};
     ghost use Rattle.pg_cells.specs.Laid.{AreKept};
 
@@ -44,9 +45,9 @@ impl<V: Copy, const FEW: usize> Model for Cells<V, FEW> {
     ghost invariant = { λ c. AreKept c.signs c.store c.laid.0 };
 }
 
-impl<V: Copy, const FEW: usize> Cells<V, FEW> {
+impl<V: Copy, const FEW: usize> Placed<V, FEW> {
     /// The root family alone, each value `blank`.
-    pub fn new(alloc: Global, signs: u16, blank: V) -> Result<Cells<V, FEW>, AllocError>
+    pub fn new(alloc: Global, signs: u16, blank: V) -> Result<Placed<V, FEW>, AllocError>
         requires { (1 ≤ signs) × (signs ≤ SIGNS_MAX) }
         ensures held { IfOk result (λ c. c ≡ root_held signs blank) }
         ensures kept { IfOk result (λ c. IsHeld c) }
@@ -56,7 +57,7 @@ impl<V: Copy, const FEW: usize> Cells<V, FEW> {
         plant(&mut store, signs, blank);
         store.set_base(0, true);
         let _length = store.len();
-        Ok(Cells {
+        Ok(Placed {
             signs,
             store,
             moving: Vec::new(alloc),
@@ -108,14 +109,34 @@ impl<V: Copy, const FEW: usize> Cells<V, FEW> {
         self.store.value(cell)
     }
 
-    /// Adds the sign to the family below the parent's string, with the value, and gives its cell.
+    /// Whether the sign joins the family below the parent's string in place.
+    pub fn is_joining(&self, parent: usize, s: Sign) -> bool
+        requires parent { (q : List ℕ) × ((cell_of self.now.families q ≡ Some parent) × (cell_of self.now.families (q ++ s ∷ []) ≡ None)) }
+        requires sign { (1 ≤ s) × (s ≤ self.now.signs) }
+        ensures { (q : List ℕ) → cell_of self.now.families q ≡ Some parent → result ≡ joins_at self.now.families q s }
+    {
+        let base = self.store.child(parent);
+        let _cells = self.store.len();
+        joins(&self.store, base, s)
+    }
+
+    /// Adds the sign to the family below the parent's string, with the value, and gives its cell. The members are the family's
+    /// signs, where the sign does not join it in place.
     ///
     /// A new family is put at the least base that fits; a sign joins a family in place where its cell is free; else the
     /// family gives up its cells and is put anew. A cell in it that was told before may then be another's. The parent and each
     /// other string outside of the family keep their cells.
-    pub fn add(&mut self, parent: usize, s: Sign, v: V) -> Result<usize, AllocError>
+    pub fn add(
+        &mut self,
+        parent: usize,
+        s: Sign,
+        v: V,
+        members: &[Sign],
+    ) -> Result<usize, AllocError>
         requires parent { (q : List ℕ) × ((cell_of self.old.families q ≡ Some parent) × (cell_of self.old.families (q ++ s ∷ []) ≡ None)) }
         requires sign { (1 ≤ s) × (s ≤ self.old.signs) }
+        requires positive { (k : ℕ) → k < length members.now → 0 < slice_index members.now k }
+        requires members { (q : List ℕ) → cell_of self.old.families q ≡ Some parent → joins_at self.old.families q s ≡ false → ArePassing (has_sign self.old.families q) members.now }
         ensures held { (q : List ℕ) → cell_of self.old.families q ≡ Some parent → OnOk result (self.new ≡ record self.old { families = with_sign FEW self.old.signs self.old.families q s; values = put (slice_cmp nat_cmp) (q ++ s ∷ []) v self.old.values }) }
         ensures cell { (q : List ℕ) → cell_of self.old.families q ≡ Some parent → IfOk result (λ cell. cell_of self.new.families (q ++ s ∷ []) ≡ Some cell) }
         ensures cells { (q : List ℕ) → cell_of self.old.families q ≡ Some parent → OnOk result ((p : List ℕ) → ((x : ℕ) → p ≢ q ++ x ∷ []) → cell_of self.new.families p ≡ cell_of self.old.families p) }
@@ -136,17 +157,18 @@ impl<V: Copy, const FEW: usize> Cells<V, FEW> {
             let _length = self.store.len();
             return Ok(cell);
         }
-        collect(&self.store, base, self.signs, &mut self.moving)?;
+        collect(&self.store, base, members, &mut self.moving)?;
         let slots = self.moving.as_slice();
         let placed = settle(&mut self.store, slots, slot, parent, base, FEW, self.signs);
         let _length = self.store.len();
         Ok(placed + s as usize)
     }
 
-    /// Takes the sign away from the family below the parent's string. A family without a sign is gone. Every other string
-    /// keeps its cell.
-    pub fn remove(&mut self, parent: usize, s: Sign)
+    /// Takes the sign away from the family below the parent's string, whose one sign it is where it is told to be alone. A family
+    /// without a sign is gone. Every other string keeps its cell.
+    pub fn remove(&mut self, parent: usize, s: Sign, is_alone: bool)
         requires parent { (q : List ℕ) × (cell : ℕ) × ((cell_of self.old.families q ≡ Some parent) × (cell_of self.old.families (q ++ s ∷ []) ≡ Some cell) × (base_of self.old.families (q ++ s ∷ []) ≡ None)) }
+        requires alone { (q : List ℕ) → cell_of self.old.families q ≡ Some parent → MatchBool is_alone (IsAlone self.old.families q s) (HasOther self.old.families q s) }
         ensures held { (q : List ℕ) → cell_of self.old.families q ≡ Some parent → self.new ≡ record self.old { families = without_sign self.old.families q s; values = without_key (q ++ s ∷ []) self.old.values } }
         ensures cells { (q : List ℕ) → cell_of self.old.families q ≡ Some parent → (p : List ℕ) → p ≢ q ++ s ∷ [] → cell_of self.new.families p ≡ cell_of self.old.families p }
         ensures kept { IsHeld self.new }
@@ -154,7 +176,7 @@ impl<V: Copy, const FEW: usize> Cells<V, FEW> {
         let _cells = self.store.len();
         let base = self.store.child(parent);
         self.store.free(base + s as usize);
-        drop_bare(&mut self.store, base, parent, self.signs);
+        drop_family(&mut self.store, base, parent, is_alone);
         let _length = self.store.len();
     }
 

@@ -5,6 +5,9 @@ mod cell;
 mod chain;
 mod families;
 mod fit;
+mod linked;
+mod links;
+mod member;
 mod moves;
 mod prune;
 mod root;
@@ -14,5 +17,5 @@ mod store;
 mod tests;
 mod walks;
 
-pub use families::Cells;
+pub use linked::Cells;
 pub use walks::{enter, step};

@@ -1,13 +1,14 @@
 //! A family gives up its cells and is put at another base.
-ghost use Rattle.std.specs.Prelude.{◌≡◌, ◌≢◌, ℕ, ◌+◌, ◌<◌, ◌≤◌, ◌^◌, length, take, Some, [], OnOk};
+ghost use Rattle.std.specs.Prelude.{◌≡◌, ◌≢◌, ℕ, ◌+◌, ◌<◌, ◌≤◌, ◌^◌, length, take, nat_eq, slice_index, Some, [], OnOk};
 ghost use Rattle.pg_cells.specs.declared.fit.Slot.{Slot as SlotOf};
 ghost use Rattle.pg_cells.specs.Lists.{sign_at, IsFree};
 ghost use Rattle.pg_cells.specs.Fit.{slot_of};
+ghost use Rattle.pg_cells.specs.Members.{ArePassing};
 ghost use Rattle.pg_cells.specs.Moves.{AreDistinct, Gives, Puts, Collected, Collects};
 
 use crate::fit::Slot;
 use crate::store::Store;
-use pg_types::SIGNS_MAX;
+use pg_types::Sign;
 use std::alloc::AllocError;
 
 /// Gives up the cells that the slots have at a base.
@@ -34,24 +35,21 @@ pub fn put<V: Copy>(store: &mut Store<V>, base: usize, slots: &[Slot<V>])
     }
 }
 
-/// Collects what the cells of the family at a base hold, by rising sign; nothing where the base is 0.
+/// Collects what the cells of the family at a base hold, by rising sign, where the members are its signs.
 pub fn collect<V: Copy>(
     store: &Store<V>,
     base: usize,
-    signs: u16,
+    members: &[Sign],
     slots: &mut Vec<Slot<V>>,
 ) -> Result<(), AllocError>
     requires base { base < 2 ^ 32 }
-    requires signs { signs ≤ SIGNS_MAX }
-    ensures none { base ≡ 0 → OnOk result (slots.new.items ≡ []) }
-    ensures some { 0 < base → OnOk result (Collected signs store.now base slots.new.items) }
+    requires members { (k : ℕ) → k < length members.now → 0 < slice_index members.now k }
+    ensures none { members.now ≡ [] → OnOk result (slots.new.items ≡ []) }
+    ensures some { (n : ℕ) → ((i : ℕ) → sign_at store.now i ≤ n) → ArePassing (λ x. nat_eq (sign_at store.now (base + x)) x) members.now → OnOk result (Collected n store.now base slots.new.items) }
 {
     slots.clear();
-    if base == 0 {
-        return Ok(());
-    }
-    for sign in 1..signs + 1 {
-        collect_sign(store, base, sign, slots)?;
+    for sign in members {
+        collect_sign(store, base, *sign, slots)?;
     }
     Ok(())
 }

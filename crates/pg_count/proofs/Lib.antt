@@ -5,3 +5,4 @@ pub mod Bounding
 pub mod Counted
 pub mod Nexting
 pub mod Searching
+mod Chaining

@@ -8,7 +8,7 @@ use crate::least::least;
 use crate::sums::sums_in;
 use crate::tally::{FEW_SIGNS, Tally};
 use pg_cells::{Cells, enter};
-use pg_types::{Cursor, LENGTH_MAX, Sign, Weight};
+use pg_types::{Cursor, EDGE, LENGTH_MAX, Sign, Weight};
 use std::alloc::{AllocError, Global};
 use std::marker::Model;
 
@@ -92,7 +92,7 @@ impl CountTrie {
     {
         let mut room = [0; LENGTH_MAX as usize];
         let path = &mut room[..usize::from(self.len)];
-        match least(&self.cells, 0, at.signs(), path) {
+        match least(&self.cells, 0, EDGE, at.signs(), path) {
             None => None,
             Some(sums) => {
                 at.set(path);

@@ -1,6 +1,8 @@
 //! The search for the least counted string above a bound.
-ghost use Rattle.std.specs.Prelude.{◌≡◌, ◌<◌, ◌≤◌, ℕ, List, [], ◌∷◌, ◌++◌, length, Some, None, MatchOption};
+ghost use Rattle.std.specs.Prelude.{◌≡◌, ◌<◌, ◌≤◌, ◌-◌, ℕ, List, [], ◌∷◌, ◌++◌, length, Some, None, MatchOption};
 ghost use Rattle.pg_types.specs.Placement.{base_of, cell_of};
+ghost use Rattle.pg_cells.specs.IsHeld.{IsHeld};
+ghost use Rattle.pg_cells.specs.Members.{IsNextSign};
 ghost use Rattle.pg_count.specs.Bounds.{first_sign};
 ghost use Rattle.pg_count.specs.Least.{NoneAt, NoneAbove, LeastAt, LeastAbove};
 
@@ -9,44 +11,82 @@ use crate::tally::{FEW_SIGNS, Tally};
 use pg_cells::Cells;
 use pg_types::Sign;
 
+// The sign after one of the signs of the family with the base, 0 for none.
+fn sign_after(cells: &Cells<Tally, FEW_SIGNS>, base: usize, s: Sign) -> Sign
+    requires held { IsHeld cells.now }
+    requires base { (p : List ℕ) × (cell : ℕ) × ((base_of cells.now.families p ≡ Some base) × (cell_of cells.now.families (p ++ s ∷ []) ≡ Some cell)) }
+    ensures { (p : List ℕ) → base_of cells.now.families p ≡ Some base → IsNextSign cells.now.values p s result }
+{
+    match cells.find(base, s) {
+        Some(cell) => cells.next_sign(cell),
+        None => 0,
+    }
+}
+
+// The least sign of the family with the base that is not below another, 0 for none. It is that sign itself, where the family has
+// it; else it is sought from the family's first sign on.
+fn sign_from(cells: &Cells<Tally, FEW_SIGNS>, base: usize, first: Sign, from: Sign) -> Sign
+    requires held { IsHeld cells.now }
+    requires base { (p : List ℕ) × ((base_of cells.now.families p ≡ Some base) × IsNextSign cells.now.values p 0 first) }
+    requires from { 1 ≤ from }
+    ensures { (p : List ℕ) → base_of cells.now.families p ≡ Some base → IsNextSign cells.now.values p (from - 1) result }
+{
+    if cells.signs() < from {
+        return 0;
+    }
+    if cells.find(base, from).is_some() {
+        return from;
+    }
+    let mut s = first;
+    while s != 0 && s < from {
+        s = sign_after(cells, base, s);
+    }
+    s
+}
+
 /// Finds the least counted string above the bound that goes on, by as many signs as the path has, from the string of the family
-/// with the base. The path becomes those signs, and the answer is the string's sums; where there is none, nothing is said of the
-/// path. It takes no memory.
+/// with the base and the first sign. The path becomes those signs, and the answer is the string's sums; where there is none,
+/// nothing is said of the path. It goes along the signs of the families, and takes no memory.
 #[cycle(least)]
 pub fn least(
     cells: &Cells<Tally, FEW_SIGNS>,
     base: usize,
+    first: Sign,
     bound: &[Sign],
     path: &mut [Sign],
 ) -> Option<(u64, u64)>
-    requires base { (p : List ℕ) × (base_of cells.now.families p ≡ Some base) }
+    requires held { IsHeld cells.now }
+    requires base { (p : List ℕ) × ((base_of cells.now.families p ≡ Some base) × IsNextSign cells.now.values p 0 first) }
     requires some { 0 < length path.old }
     ensures { (p : List ℕ) → base_of cells.now.families p ≡ Some base → MatchOption result (NoneAbove cells.now.values p bound.now (length path.old)) (λ sums. LeastAbove cells.now.values p bound.now path.new sums) }
 {
-    for s in first_of(bound)..=cells.signs() {
-        if let Some(sums) = least_at(cells, base, s, bound, path) {
+    let mut s = sign_from(cells, base, first, first_of(bound));
+    while s != 0 {
+        let cell = cells.find(base, s)?;
+        if let Some(sums) = least_at(cells, cell, s, bound, path) {
             return Some(sums);
         }
+        s = cells.next_sign(cell);
     }
     None
 }
 
-// The same among the strings that go on by the sign.
+// The same among the strings that go on by the sign, whose string has the cell.
 #[cycle(least)]
 fn least_at(
     cells: &Cells<Tally, FEW_SIGNS>,
-    base: usize,
+    cell: usize,
     s: Sign,
     bound: &[Sign],
     path: &mut [Sign],
 ) -> Option<(u64, u64)>
-    requires base { (p : List ℕ) × (base_of cells.now.families p ≡ Some base) }
+    requires held { IsHeld cells.now }
+    requires cell { (p : List ℕ) × (cell_of cells.now.families (p ++ s ∷ []) ≡ Some cell) }
     requires some { 0 < length path.old }
     requires from { first_sign bound.now ≤ s }
-    requires sign { (1 ≤ s) × (s ≤ cells.now.signs) }
-    ensures { (p : List ℕ) → base_of cells.now.families p ≡ Some base → MatchOption result (NoneAt cells.now.values p bound.now (length path.old) s) (λ sums. LeastAt cells.now.values p bound.now s path.new sums) }
+    requires sign { 1 ≤ s }
+    ensures { (p : List ℕ) → cell_of cells.now.families (p ++ s ∷ []) ≡ Some cell → MatchOption result (NoneAt cells.now.values p bound.now (length path.old) s) (λ sums. LeastAt cells.now.values p bound.now s path.new sums) }
 {
-    let cell = cells.find(base, s)?;
     if path.len() == 1 {
         return last_at(cells, cell, s, bound, path);
     }
@@ -54,7 +94,8 @@ fn least_at(
     if below == 0 {
         return None;
     }
-    match least(cells, below, rest_of(bound, s), &mut path[1..]) {
+    let first = cells.first_sign(cell);
+    match least(cells, below, first, rest_of(bound, s), &mut path[1..]) {
         None => None,
         Some(sums) => {
             path[0] = s;

@@ -86,6 +86,10 @@ abbrev pub with_one_sign : ℕ → List ℕ → List ℕ
 with_one_sign s [] = s ∷ []
 with_one_sign s (x ∷ xs) = if nat_lt s x then s ∷ x ∷ xs else (if nat_eq s x then x ∷ xs else x ∷ with_one_sign s xs)
 
+-- whether s joins the family of the prefix p in place: there is a family, and the cell of s is unused
+abbrev pub joins_at : Families → List ℕ → ℕ → Bool
+joins_at fs p s = elim (family_at fs p) [ None ↦ false | Some f ↦ not (is_used fs (f.base + s)) ]
+
 -- the families of a table of n signs with s in the family of the prefix p: a new family is placed with its one sign; a sign
 -- joins in place where its cell is unused; else the family gives up its cells and its base, and is placed anew with s
 unfoldable pub with_sign : ℕ → ℕ → Families → List ℕ → ℕ → Families

@@ -1,6 +1,11 @@
-use Rattle.std.proofs.Common.{◌-◌}
+use Rattle.std.proofs.Common.{◌≡◌, ◌+◌, nat_eq, []}
+use Rattle.pg_cells.specs.Lists.{sign_at}
+use Rattle.pg_cells.specs.Members.{ArePassing, number_before}
 use Rattle.pg_cells.specs.Moves.{Collected}
 use Rattle.pg_cells.proofs.moves.collect.Given as goal
 
 abbrev pub invariant-loop-sign : goal.invariant-loop-sign
-invariant-loop-sign g l = Collected (l.sign - 1) l.store l.base l.slots.items
+invariant-loop-sign g l = record {
+  none : l.members ≡ [] → l.slots.items ≡ [];
+  some : ArePassing (λ x. nat_eq (sign_at l.store (l.base + x)) x) l.members → Collected (number_before l.members l.sign-index) l.store l.base l.slots.items;
+}

@@ -1,6 +1,10 @@
 use Rattle.std.proofs.Common.{◌≡◌, ℕ, [], length, take, replicate, refl, arith, length-take}
+use Rattle.pg_cells.proofs.LinkLaws.{root_first}
 use Rattle.pg_count.proofs.Nexting.{none_next, least_next}
 use Rattle.pg_count.proofs.counts.CountTrie.next.Goals as goal
+
+pub least-requires-clause-base : goal.least-requires-clause-base
+least-requires-clause-base c = ([], (c.self.invariant.held.root, root_first c.self.inside.cells c.self.invariant.held))
 
 pub set-requires-clause-signs : goal.set-requires-clause-signs
 set-requires-clause-signs c = (c.in-Some.ensures [] c.self.invariant.held.root 0).are_signs

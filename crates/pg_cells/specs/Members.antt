@@ -1,0 +1,41 @@
+-- The next sign of a family: told by a test, and by the strings of a map.
+use Rattle.std.specs.Prelude.{◌≡◌, ◌≢◌, ℕ, ◌<◌, ◌≤◌, Bool, true, false, List, [], ◌∷◌, ◌++◌, length, get_or}
+use Rattle.std.specs.Option.{is_some}
+use Rattle.std.specs.Ordering.{nat_cmp}
+use Rattle.std.specs.Cmp.Lexicographic.{slice_cmp}
+use Rattle.std.specs.FinMap.{find}
+use Rattle.pg_types.specs.Placement.{Families, cell_of}
+
+-- y is the least number greater than x that passes the test, or 0 where there is none
+pub record IsNext (test : ℕ → Bool) (x y : ℕ) : Type 0 where
+  pub found : 0 < y → (x < y) × (test y ≡ true)
+  pub least : (z : ℕ) → x < z → test z ≡ true → (0 < y) × (y ≤ z)
+
+-- whether the string p with the sign added has a value
+abbrev pub goes_on : {X : Type 0} → List (List ℕ × X) → List ℕ → ℕ → Bool
+goes_on values p s = is_some (find (slice_cmp nat_cmp) (p ++ s ∷ []) values)
+
+-- y is the least sign greater than s by which a string with a value goes on from p, or 0 where there is none
+abbrev pub IsNextSign : {X : Type 0} → List (List ℕ × X) → List ℕ → ℕ → ℕ → Type 0
+IsNextSign values p s y = IsNext (goes_on values p) s y
+
+-- whether the family below the string has the sign
+abbrev pub has_sign : Families → List ℕ → ℕ → Bool
+has_sign fs p s = is_some (cell_of fs (p ++ s ∷ []))
+
+-- the number before the index k of a list, 0 before the first
+abbrev pub number_before : List ℕ → ℕ → ℕ
+number_before xs k = get_or (0 ∷ xs) k 0
+
+-- the list has the numbers that pass the test, but for 0, in rising order
+pub record ArePassing (test : ℕ → Bool) (xs : List ℕ) : Type 0 where
+  pub each : (k : ℕ) → k < length xs → (0 < get_or xs k 0) × IsNext test (number_before xs k) (get_or xs k 0)
+  pub last : IsNext test (number_before xs (length xs)) 0
+
+-- the family below the string has no sign but s
+abbrev pub IsAlone : Families → List ℕ → ℕ → Type 0
+IsAlone fs p s = (x : ℕ) → x ≢ s → has_sign fs p x ≡ false
+
+-- it has another sign
+abbrev pub HasOther : Families → List ℕ → ℕ → Type 0
+HasOther fs p s = (x : ℕ) × (x ≢ s) × (has_sign fs p x ≡ true)

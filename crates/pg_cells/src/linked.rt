@@ -1,0 +1,189 @@
+//! The families of a trie with links from sign to sign.
+ghost use Rattle.std.specs.Prelude.{◌≡◌, ◌≢◌, ℕ, ◌+◌, ◌<◌, ◌≤◌, List, [], ◌∷◌, ◌++◌, Some, None, IfOk, OnOk, OnErr, ◌==◌, if◌then◌else◌};
+ghost use Rattle.std.specs.FinMap.{find, put};
+ghost use Rattle.std.specs.Cmp.Lexicographic.{slice_cmp};
+ghost use Rattle.std.specs.Ordering.{nat_cmp};
+ghost use Rattle.pg_types.specs.Placement.{taken, top, cell_of, base_of, with_sign, without_sign};
+ghost use Rattle.pg_cells.specs.Held.{Held, without_key};
+ghost use Rattle.pg_cells.specs.IsHeld.{IsHeld};
+ghost use Rattle.pg_cells.specs.Members.{IsNextSign};
+ghost use Rattle.pg_cells.specs.Root.{root_held};
+ghost use Rattle.pg_cells.specs.Walks.{EndsBefore};
+
+use crate::families::Placed;
+use crate::links::{is_alone, link, list_moving, sign_after, sign_before};
+use crate::member::Member;
+use pg_types::{SIGNS_MAX, Sign};
+use std::alloc::{AllocError, Global};
+use std::marker::Model;
+
+/// Families of cells, each cell with a value. A family of up to `FEW` signs is placed from base 1 on, a greater one near the
+/// greatest cell.
+#[derive(Drop)]
+pub struct Cells<V: Copy, const FEW: usize> {
+    placed: Placed<Member<V>, FEW>,
+    members: Vec<Sign>,
+}
+
+impl<V: Copy, const FEW: usize> Model for Cells<V, FEW> {
+    ghost use Rattle.pg_cells.specs.Held.{Held, held_code};
+    ghost use Rattle.pg_cells.specs.Links.{unlinked, AreLinks};
+
+    ghost Value = { Held V };
+
+    ghost coded = { held_code V.code };
+
+    ghost view = { λ c. unlinked c.placed };
+
+    ghost invariant = { λ c. AreLinks c.placed };
+}
+
+impl<V: Copy, const FEW: usize> Cells<V, FEW> {
+    /// The root family alone, each value `blank`.
+    pub fn new(alloc: Global, signs: u16, blank: V) -> Result<Cells<V, FEW>, AllocError>
+        requires { (1 ≤ signs) × (signs ≤ SIGNS_MAX) }
+        ensures held { IfOk result (λ c. c ≡ root_held signs blank) }
+        ensures kept { IfOk result (λ c. IsHeld c) }
+    {
+        let placed = Placed::new(alloc, signs, Member::alone(blank))?;
+        Ok(Cells {
+            placed,
+            members: Vec::new(alloc),
+        })
+    }
+
+    /// The number of signs of the table.
+    pub fn signs(&self) -> u16
+        ensures signs { result ≡ self.now.signs }
+        ensures held { IsHeld self.now }
+    {
+        self.placed.signs()
+    }
+
+    /// The cell of the sign in the family with the base, or `None` where the family lacks the sign. Then no string that
+    /// begins with this one has a value.
+    pub fn find(&self, base: usize, s: Sign) -> Option<usize>
+        requires base { (p : List ℕ) × (base_of self.now.families p ≡ Some base) }
+        requires sign { (1 ≤ s) × (s ≤ self.now.signs) }
+        ensures cell { (p : List ℕ) → base_of self.now.families p ≡ Some base → result ≡ cell_of self.now.families (p ++ s ∷ []) }
+        ensures none { (p : List ℕ) → base_of self.now.families p ≡ Some base → result ≡ None → EndsBefore self.now.values (p ++ s ∷ []) }
+    {
+        self.placed.find(base, s)
+    }
+
+    /// The base of the family below the cell's string, 0 for none. It tells whether a longer string has a value.
+    pub fn child(&self, cell: usize) -> usize
+        requires { (q : List ℕ) × (cell_of self.now.families q ≡ Some cell) }
+        ensures base { (q : List ℕ) → cell_of self.now.families q ≡ Some cell → base_of self.now.families q ≡ (if result == 0 then None else Some result) }
+        ensures none { (q : List ℕ) → cell_of self.now.families q ≡ Some cell → result ≡ 0 → (x : ℕ) → EndsBefore self.now.values (q ++ x ∷ []) }
+        ensures some { (q : List ℕ) → cell_of self.now.families q ≡ Some cell → 0 < result → (x : ℕ) × (v : V) × (find (slice_cmp nat_cmp) (q ++ x ∷ []) self.now.values ≡ Some v) }
+    {
+        self.placed.child(cell)
+    }
+
+    /// The first sign of the family below the cell's string, 0 for none.
+    pub fn first_sign(&self, cell: usize) -> Sign
+        requires { (q : List ℕ) × (cell_of self.now.families q ≡ Some cell) }
+        ensures { (q : List ℕ) → cell_of self.now.families q ≡ Some cell → IsNextSign self.now.values q 0 result }
+    {
+        self.placed.value(cell).first
+    }
+
+    /// The next sign of the family that the cell is in, 0 for none.
+    pub fn next_sign(&self, cell: usize) -> Sign
+        requires { (q : List ℕ) × (cell_of self.now.families q ≡ Some cell) }
+        ensures { (p : List ℕ) (s : ℕ) → cell_of self.now.families (p ++ s ∷ []) ≡ Some cell → IsNextSign self.now.values p s result }
+    {
+        let signs = self.placed.signs();
+        if cell < usize::from(signs) {
+            cell as Sign + 1
+        } else if cell == usize::from(signs) {
+            0
+        } else {
+            self.placed.value(cell).next
+        }
+    }
+
+    /// The value of the cell's string.
+    pub fn value(&self, cell: usize) -> V
+        requires { (q : List ℕ) × (cell_of self.now.families q ≡ Some cell) }
+        ensures { (q : List ℕ) → cell_of self.now.families q ≡ Some cell → find (slice_cmp nat_cmp) q self.now.values ≡ Some result }
+    {
+        self.placed.value(cell).value
+    }
+
+    /// Adds the sign to the family below the parent's string, with the value, and gives its cell.
+    ///
+    /// A new family is put at the least base that fits; a sign joins a family in place where its cell is free; else the
+    /// family gives up its cells and is put anew. A cell in it that was told before may then be another's. The parent and each
+    /// other string outside of the family keep their cells.
+    pub fn add(&mut self, parent: usize, s: Sign, v: V) -> Result<usize, AllocError>
+        requires parent { (q : List ℕ) × ((cell_of self.old.families q ≡ Some parent) × (cell_of self.old.families (q ++ s ∷ []) ≡ None)) }
+        requires sign { (1 ≤ s) × (s ≤ self.old.signs) }
+        ensures held { (q : List ℕ) → cell_of self.old.families q ≡ Some parent → OnOk result (self.new ≡ record self.old { families = with_sign FEW self.old.signs self.old.families q s; values = put (slice_cmp nat_cmp) (q ++ s ∷ []) v self.old.values }) }
+        ensures cell { (q : List ℕ) → cell_of self.old.families q ≡ Some parent → IfOk result (λ cell. cell_of self.new.families (q ++ s ∷ []) ≡ Some cell) }
+        ensures cells { (q : List ℕ) → cell_of self.old.families q ≡ Some parent → OnOk result ((p : List ℕ) → ((x : ℕ) → p ≢ q ++ x ∷ []) → cell_of self.new.families p ≡ cell_of self.old.families p) }
+        ensures kept { OnOk result (IsHeld self.new) }
+        ensures err { OnErr result (self.new ≡ self.old) }
+    {
+        let base = self.placed.child(parent);
+        let before = sign_before(&self.placed, parent, base, s);
+        let after = sign_after(&self.placed, parent, base, before);
+        list_moving(&self.placed, parent, base, s, &mut self.members)?;
+        let member = Member {
+            value: v,
+            next: after,
+            first: 0,
+        };
+        let cell = self.placed.add(parent, s, member, self.members.as_slice())?;
+        link(&mut self.placed, parent, before, s);
+        Ok(cell)
+    }
+
+    /// Takes the sign away from the family below the parent's string. A family without a sign is gone. Every other string
+    /// keeps its cell.
+    pub fn remove(&mut self, parent: usize, s: Sign)
+        requires parent { (q : List ℕ) × (cell : ℕ) × ((cell_of self.old.families q ≡ Some parent) × (cell_of self.old.families (q ++ s ∷ []) ≡ Some cell) × (base_of self.old.families (q ++ s ∷ []) ≡ None)) }
+        ensures held { (q : List ℕ) → cell_of self.old.families q ≡ Some parent → self.new ≡ record self.old { families = without_sign self.old.families q s; values = without_key (q ++ s ∷ []) self.old.values } }
+        ensures cells { (q : List ℕ) → cell_of self.old.families q ≡ Some parent → (p : List ℕ) → p ≢ q ++ s ∷ [] → cell_of self.new.families p ≡ cell_of self.old.families p }
+        ensures kept { IsHeld self.new }
+    {
+        let base = self.placed.child(parent);
+        let before = sign_before(&self.placed, parent, base, s);
+        let after = sign_after(&self.placed, parent, base, s);
+        self.placed.remove(parent, s, is_alone(before, after));
+        link(&mut self.placed, parent, before, after);
+    }
+
+    /// Gives the cell's string the value.
+    pub fn set_value(&mut self, cell: usize, v: V)
+        requires { (q : List ℕ) × (cell_of self.old.families q ≡ Some cell) }
+        ensures held { (q : List ℕ) → cell_of self.old.families q ≡ Some cell → self.new ≡ record self.old { values = put (slice_cmp nat_cmp) q v self.old.values } }
+        ensures kept { IsHeld self.new }
+    {
+        let member = self.placed.value(cell);
+        self.placed.set_value(cell, Member { value: v, ..member });
+    }
+
+    /// The root family alone, each value `blank`.
+    pub fn reset(&mut self, blank: V)
+        ensures held { self.new ≡ root_held self.old.signs blank }
+        ensures kept { IsHeld self.new }
+    {
+        self.placed.reset(Member::alone(blank));
+    }
+
+    /// The greatest taken cell.
+    pub fn top(&self) -> usize
+        ensures { result ≡ top self.now.families }
+    {
+        self.placed.top()
+    }
+
+    /// The number of taken cells.
+    pub fn taken(&self) -> usize
+        ensures { result ≡ taken self.now.families }
+    {
+        self.placed.taken()
+    }
+}

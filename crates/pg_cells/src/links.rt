@@ -1,0 +1,140 @@
+//! The links from sign to sign of a family. A family's signs are linked in rising order: the string that they follow has the
+//! first one, and each has the next.
+ghost use Rattle.std.specs.Prelude.{◌≡◌, ◌≢◌, ℕ, ◌<◌, ◌≤◌, ◌⊎◌, ◌==◌, ◌&&◌, nat_eq, true, false, length, List, [], ◌∷◌, ◌++◌, Some, None, OnOk, slice_index, if◌then◌else◌};
+ghost use Rattle.pg_types.specs.Placement.{cell_of, base_of, joins_at};
+ghost use Rattle.pg_cells.specs.IsHeld.{IsHeld};
+ghost use Rattle.pg_cells.specs.Members.{IsNextSign, goes_on, has_sign, ArePassing};
+ghost use Rattle.pg_cells.specs.Links.{AreLinks, IsBefore, with_link};
+
+use crate::families::Placed;
+use crate::member::Member;
+use pg_types::Sign;
+use std::alloc::AllocError;
+
+/// The sign behind `s` in the family below the parent's string, which has the base; the first one for 0. The answer is 0 where
+/// there is none.
+pub fn sign_after<V: Copy, const FEW: usize>(
+    cells: &Placed<Member<V>, FEW>,
+    parent: usize,
+    base: usize,
+    s: Sign,
+) -> Sign
+    requires links { AreLinks cells.now }
+    requires parent { (q : List ℕ) × ((cell_of cells.now.families q ≡ Some parent) × (base_of cells.now.families q ≡ (if base == 0 then None else Some base)) × ((s ≡ 0) ⊎ (goes_on cells.now.values q s ≡ true))) }
+    ensures { (q : List ℕ) → cell_of cells.now.families q ≡ Some parent → IsNextSign cells.now.values q s result }
+{
+    if s == 0 {
+        return cells.value(parent).first;
+    }
+    if base == 0 {
+        return 0;
+    }
+    match cells.find(base, s) {
+        Some(cell) => cells.value(cell).next,
+        None => 0,
+    }
+}
+
+/// The greatest sign below `s` in the family below the parent's string, which has the base; 0 where there is none.
+pub fn sign_before<V: Copy, const FEW: usize>(
+    cells: &Placed<Member<V>, FEW>,
+    parent: usize,
+    base: usize,
+    s: Sign,
+) -> Sign
+    requires links { AreLinks cells.now }
+    requires parent { (q : List ℕ) × ((cell_of cells.now.families q ≡ Some parent) × (base_of cells.now.families q ≡ (if base == 0 then None else Some base))) }
+    requires sign { 0 < s }
+    ensures { (q : List ℕ) → cell_of cells.now.families q ≡ Some parent → IsBefore cells.now.values q s result }
+{
+    let mut before = 0;
+    let mut next = sign_after(cells, parent, base, 0);
+    while next != 0 && next < s {
+        before = next;
+        next = sign_after(cells, parent, base, before);
+    }
+    before
+}
+
+/// Lists the signs of the family below the parent's string, which has the base, in rising order.
+pub fn list_signs<V: Copy, const FEW: usize>(
+    cells: &Placed<Member<V>, FEW>,
+    parent: usize,
+    base: usize,
+    signs: &mut Vec<Sign>,
+) -> Result<(), AllocError>
+    requires links { AreLinks cells.now }
+    requires parent { (q : List ℕ) × ((cell_of cells.now.families q ≡ Some parent) × (base_of cells.now.families q ≡ (if base == 0 then None else Some base))) }
+    ensures positive { OnOk result ((k : ℕ) → k < length signs.new.items → 0 < slice_index signs.new.items k) }
+    ensures signs { (q : List ℕ) → cell_of cells.now.families q ≡ Some parent → OnOk result (ArePassing (goes_on cells.now.values q) signs.new.items) }
+{
+    signs.clear();
+    let mut next = sign_after(cells, parent, base, 0);
+    while next != 0 {
+        signs.push(next)?;
+        next = sign_after(cells, parent, base, next);
+    }
+    Ok(())
+}
+
+/// Lists the signs of the family below the parent's string, which has the base, where `s` does not join it in place.
+pub fn list_moving<V: Copy, const FEW: usize>(
+    cells: &Placed<Member<V>, FEW>,
+    parent: usize,
+    base: usize,
+    s: Sign,
+    signs: &mut Vec<Sign>,
+) -> Result<(), AllocError>
+    requires links { AreLinks cells.now }
+    requires parent { (q : List ℕ) × ((cell_of cells.now.families q ≡ Some parent) × (cell_of cells.now.families (q ++ s ∷ []) ≡ None) × (base_of cells.now.families q ≡ (if base == 0 then None else Some base))) }
+    requires sign { (1 ≤ s) × (s ≤ cells.now.signs) }
+    ensures positive { OnOk result ((k : ℕ) → k < length signs.new.items → 0 < slice_index signs.new.items k) }
+    ensures signs { (q : List ℕ) → cell_of cells.now.families q ≡ Some parent → joins_at cells.now.families q s ≡ false → OnOk result (ArePassing (has_sign cells.now.families q) signs.new.items) }
+{
+    if cells.is_joining(parent, s) {
+        signs.clear();
+        return Ok(());
+    }
+    list_signs(cells, parent, base, signs)?;
+    Ok(())
+}
+
+/// Whether a sign is alone in its family, by the signs before and after it.
+pub fn is_alone(before: Sign, after: Sign) -> bool
+    ensures { result ≡ (nat_eq before 0 && nat_eq after 0) }
+{
+    before == 0 && after == 0
+}
+
+/// Links the sign `to` behind `s` in the family below the parent's string, as the first one for 0.
+pub fn link<V: Copy, const FEW: usize>(
+    cells: &mut Placed<Member<V>, FEW>,
+    parent: usize,
+    s: Sign,
+    to: Sign,
+)
+    requires held { IsHeld cells.old }
+    requires parent { (q : List ℕ) × ((cell_of cells.old.families q ≡ Some parent) × ((s ≡ 0) ⊎ (goes_on cells.old.values q s ≡ true))) }
+    ensures linked { (q : List ℕ) → cell_of cells.old.families q ≡ Some parent → cells.new ≡ with_link cells.old q s to }
+    ensures kept { IsHeld cells.new }
+{
+    if s == 0 {
+        let member = cells.value(parent);
+        cells.set_value(
+            parent,
+            Member {
+                first: to,
+                ..member
+            },
+        );
+        return;
+    }
+    let base = cells.child(parent);
+    if base == 0 {
+        return;
+    }
+    if let Some(cell) = cells.find(base, s) {
+        let member = cells.value(cell);
+        cells.set_value(cell, Member { next: to, ..member });
+    }
+}
