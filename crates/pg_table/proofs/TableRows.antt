@@ -5,7 +5,7 @@ use Rattle.pg_types.specs.Placement.{with_sign}
 use Rattle.pg_types.specs.declared.marks.Totals.{Totals}
 use Rattle.pg_dict.specs.Word.{Word}
 use Rattle.pg_outputs.specs.Lists.{list_of}
-use Rattle.pg_select.specs.Sights.{Minima}
+use Rattle.pg_select.specs.CountedPositions.{Minima}
 use Rattle.pg_table.specs.Numbers.{u16_at, u32_at, u16_bytes, u32_bytes}
 use Rattle.pg_table.specs.Forms.{is_well_formed}
 use Rattle.pg_table.specs.Lookups.{lookup, table_entry, table_value, table_totals}

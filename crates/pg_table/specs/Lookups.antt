@@ -7,7 +7,7 @@ use Rattle.pg_types.specs.declared.marks.Totals.{Totals}
 use Rattle.pg_translate.specs.Reach.{positions}
 use Rattle.pg_dict.specs.Word.{Word}
 use Rattle.pg_outputs.specs.Lists.{list_of}
-use Rattle.pg_select.specs.Sights.{Minima}
+use Rattle.pg_select.specs.CountedPositions.{Minima}
 use Rattle.pg_select.specs.Statuses.{status, weight_at}
 use Rattle.pg_select.specs.Sums.{totals_of}
 use Rattle.pg_table.specs.Forms.{head_of, cell_at, records_of}

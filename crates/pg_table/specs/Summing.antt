@@ -5,7 +5,7 @@ use Rattle.pg_types.specs.declared.marks.Mark.{Mark}
 use Rattle.pg_types.specs.declared.marks.Mark.TheVariants.{Found, Error, Missed}
 use Rattle.pg_types.specs.declared.marks.Totals.{Totals}
 use Rattle.pg_translate.specs.Alphabets.{Alphabet}
-use Rattle.pg_select.specs.Sights.{Minima}
+use Rattle.pg_select.specs.CountedPositions.{Minima}
 use Rattle.pg_select.specs.Sums.{is_found, is_error, is_missed, weight_of}
 
 -- the minima of a table of letters

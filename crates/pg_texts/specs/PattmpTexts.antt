@@ -6,7 +6,7 @@ use Rattle.pg_types.specs.declared.marks.Mark.TheVariants.{Nothing}
 use Rattle.pg_translate.specs.Alphabets.{Alphabet, spelling_of, mark_byte_of}
 use Rattle.pg_translate.specs.Reach.{reach}
 use Rattle.pg_dict.specs.Word.{Word}
-use Rattle.pg_select.specs.Sights.{Minima}
+use Rattle.pg_select.specs.CountedPositions.{Minima}
 use Rattle.pg_select.specs.Statuses.{weight_at}
 use Rattle.pg_select.specs.AnyPositions.{status_of_position}
 use Rattle.pg_select.specs.Windows.{Patterns}
