@@ -1,23 +1,23 @@
 -- The hyphenated list is a dictionary file of its words.
-use Rattle.std.proofs.Common.{◌≡◌, ℕ, ◌+◌, ◌-◌, ◌<◌, ◌≤◌, Bool, true, false, cond, not, List, [], ◌∷◌, ◌++◌, length, map, filter, get_or, codes, append_assoc, Option, None, Some, Ok, refl, sym, ap, subst, ◌∙◌, arith, inl, inr, suc, zero}
-use Rattle.std.specs.Prelude.{slice_index, if◌then◌else◌, All, ◌==◌, ◌||◌, ◌&&◌}
-use Rattle.std.specs.List.{flat_map, AllByRecursion, list_any, list_all}
+use Rattle.std.proofs.Common.{◌≡◌, ℕ, ◌+◌, ◌-◌, ◌≤◌, Bool, true, false, not, List, [], ◌∷◌, length, map, Some, Ok, refl, sym, ap, ◌∙◌, arith, inl, inr, suc, zero}
+use Rattle.std.specs.Prelude.{slice_index, All, ◌==◌, ◌||◌}
+use Rattle.std.specs.List.{AllByRecursion, list_any, list_all}
 use Rattle.std.proofs.lemmas.Bool.{cases_Bool, eqb-true}
 use Rattle.std.proofs.lemmas.List.Elements.{All-head, All-tail}
 use Rattle.std.proofs.lemmas.List.Folds.{list_any-append}
 use Rattle.pg_types.specs.declared.limits.TheConstants.{FILE_MAX, WORD_LETTERS_MAX}
 use Rattle.pg_types.specs.declared.marks.Mark.{Mark}
-use Rattle.pg_types.specs.Lines.{is_line_feed, without_cr}
+use Rattle.pg_types.specs.Lines.{is_line_feed}
 use Rattle.pg_translate.specs.Alphabets.{Alphabet, letters_of}
 use Rattle.pg_translate.specs.Spellings.{is_space}
 use Rattle.pg_translate.specs.Tokens.{Token}
 use Rattle.pg_translate.specs.Items.{IsItem, joined}
 use Rattle.pg_translate.specs.declared.items.Place.TheVariants.{Dictionary}
 use Rattle.pg_dict.specs.Word.{Word, IsWord, SignsAtMost}
-use Rattle.pg_dict.specs.Words.{LineWord, line_of, line_word, words}
+use Rattle.pg_dict.specs.Words.{line_of, line_word, words}
 use Rattle.pg_dict.specs.Written.{AreMarksOf, word_tokens, letters_among, IsLine, file_of, LinesGive}
 use Rattle.pg_select.specs.Windows.{Patterns}
-use Rattle.pg_texts.specs.PattmpTexts.{is_taking_part, words_taking_part, weight_text, word_text, statuses, lines_behind, pattmp_text}
+use Rattle.pg_texts.specs.PattmpTexts.{is_taking_part, words_taking_part, statuses, lines_behind, pattmp_text}
 use Rattle.pg_texts.proofs.WordItems.{IsDictionaryItem, SpellsLetters, inner_positions, word_items, word_items_tokens, word_items_joined, word_items_each, word_items_few}
 use Rattle.pg_texts.proofs.WordMarks.{statuses_are_marks}
 
