@@ -7,7 +7,7 @@ use Rattle.std.proofs.lemmas.List.{length-map}
 use Rattle.std.proofs.lemmas.Option.{slice_get-get_or}
 use Rattle.pg_translate.specs.declared.index.Index.{Index}
 use Rattle.pg_translate.specs.declared.items.Place.{Place}
-use Rattle.pg_translate.specs.Alphabets.{Alphabet, letters_of, letters_in, first_spelling, spelling_of}
+use Rattle.pg_translate.specs.Alphabets.{Alphabet, letters_of, letters_in, first_spelling, spelling_of, first_of}
 use Rattle.pg_translate.specs.Spellings.{is_spelling, IsAmong}
 use Rattle.pg_translate.specs.Tokens.{Letter}
 use Rattle.pg_translate.specs.Items.{IsItem}
@@ -15,7 +15,7 @@ use Rattle.pg_translate.specs.Rules.{KeepsRules}
 use Rattle.pg_translate.specs.declared.head.Head.{Head}
 use Rattle.pg_translate.specs.Heads.{marks_in}
 use Rattle.pg_translate.specs.Sound.{IsTable}
-use Rattle.pg_translate.specs.Fronts.{IsIndex, pairs, first_of, firsts_of}
+use Rattle.pg_translate.specs.Fronts.{IsIndex, pairs, firsts_of}
 use Rattle.pg_translate.specs.Texts.{text_of}
 use Rattle.pg_translate.proofs.Firsts.{find_among, found_passes}
 use Rattle.pg_translate.proofs.Walks.{sign_within}
