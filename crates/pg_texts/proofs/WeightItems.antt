@@ -1,6 +1,6 @@
 -- A weight that is written is an item of a dictionary line.
-use Rattle.std.proofs.Common.{◌≡◌, ℕ, ◌+◌, ◌-◌, ◌*◌, ◌/◌, ◌%◌, ◌<◌, ◌≤◌, ◌^◌, ◌==◌, Bool, true, false, cond, nat_lt, List, [], ◌∷◌, ◌++◌, length, map, fold, codes, decimal, refl, sym, ap, ◌∙◌, arith, inl, inr}
-use Rattle.std.specs.Prelude.{if◌then◌else◌, ◌&&◌, nat_le}
+use Rattle.std.proofs.Common.{◌≡◌, ℕ, ◌+◌, ◌-◌, ◌*◌, ◌/◌, ◌%◌, ◌<◌, ◌≤◌, ◌^◌, ◌==◌, true, nat_lt, List, [], ◌∷◌, ◌++◌, map, codes, decimal, refl, arith, inl, inr}
+use Rattle.std.specs.Prelude.{if◌then◌else◌}
 use Rattle.std.specs.List.{list_all, AllByRecursion}
 use Rattle.std.proofs.lemmas.Bool.{cases_Bool}
 use Rattle.std.proofs.lemmas.Bool.Decides.{nat_tests}
@@ -11,10 +11,10 @@ use Rattle.pg_types.specs.declared.limits.TheConstants.{WEIGHT_MAX}
 use Rattle.pg_translate.specs.Alphabets.{Alphabet}
 use Rattle.pg_translate.specs.Spellings.{is_digit}
 use Rattle.pg_translate.specs.Tokens.{Token, Digit, Weight}
-use Rattle.pg_translate.specs.Items.{IsItem, IsWeight, value_of}
+use Rattle.pg_translate.specs.Items.{IsItem, value_of}
 use Rattle.pg_translate.specs.declared.items.Place.TheVariants.{Dictionary}
 use Rattle.pg_dict.specs.Written.{number_token, weight_tokens}
-use Rattle.pg_texts.specs.PattmpTexts.{number_text, weight_text}
+use Rattle.pg_texts.specs.PattmpTexts.{number_text}
 
 -- digits that write a number
 record Writes (n : ℕ) (text : List ℕ) : Type 0 where

@@ -1,4 +1,4 @@
-use Rattle.pg_texts.proofs.ReadBack.{Laws, list_reads}
+use Rattle.pg_texts.proofs.ReadBack.{list_reads}
 use Rattle.pg_texts.proofs.laws.lists_are_read.Goals as goal
 
 pub returns : goal.returns
