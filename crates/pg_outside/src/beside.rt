@@ -1,5 +1,8 @@
 //! A new file of the system beside the one whose place it is to take.
 ghost use Rattle.std.specs.Prelude.{◌≡◌, [], ◌∷◌, None, OnOk, OnErr};
+ghost use Rattle.std.specs.Io.KnownBytes.{Appends};
+ghost use Rattle.pg_outside.specs.NewFile.{Wrote, Made};
+ghost use Rattle.pg_outside.specs.Streams.{AppendsPart};
 
 use super::outside::Failed;
 use super::replacement::NewFile;
@@ -76,7 +79,15 @@ impl<R: rt::Files> NewFile for FileBeside<'_, R> {
         Ok(())
     }
 
-    fn write(&mut self, bytes: &[u8]) -> Result<(), Failed> {
+    fn write(&mut self, bytes: &[u8]) -> Result<(), Failed>
+        // As for all new files.
+        ensures ok { OnOk result (Made None None (Wrote bytes.now ∷ [])) }
+        ensures err { OnErr result (Made None None []) }
+
+        // The file gets the bytes, where it says which it holds.
+        ensures written { OnOk result (Appends (R.File.contents self.old.file) (R.File.contents self.new.file) bytes.now) }
+        ensures part_written { OnErr result (AppendsPart (R.File.contents self.old.file) (R.File.contents self.new.file) bytes.now) }
+    {
         write_bytes(&mut self.file, bytes)
     }
 
