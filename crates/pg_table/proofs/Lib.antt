@@ -9,6 +9,7 @@ pub mod Reaches
 mod TableRows
 pub mod Recorded
 pub mod RecordedStrings
+pub mod Sharing
 pub mod TableCells
 pub mod TableLookups
 pub mod TableRecords
