@@ -1,6 +1,7 @@
 pub mod FileParts
 pub mod FileRecords
 pub mod FormLaws
+pub mod Groups
 pub mod Levels
 pub mod MarkSteps
 pub mod Parts
