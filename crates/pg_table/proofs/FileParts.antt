@@ -31,13 +31,26 @@ front n cells records = file_mark ++ u32_bytes n ++ u32_bytes (length cells) ++ 
 
 length-front : (n : ℕ) (cells : List Cell) (records : List Record) → length (front n cells records) ≡ 16
 length-front n cells records =
-    omega (arith, length-append (file_mark ++ u32_bytes n ++ u32_bytes (length cells)) (u32_bytes (length records)), length-append (file_mark ++ u32_bytes n) (u32_bytes (length cells)), length-append file_mark (u32_bytes n),
-      length-u32_bytes n, length-u32_bytes (length cells), length-u32_bytes (length records))
+    omega (
+      arith,
+      length-append (file_mark ++ u32_bytes n ++ u32_bytes (length cells)) (u32_bytes (length records)),
+      length-append (file_mark ++ u32_bytes n) (u32_bytes (length cells)),
+      length-append file_mark (u32_bytes n),
+      length-u32_bytes n,
+      length-u32_bytes (length cells),
+      length-u32_bytes (length records),
+    )
 
 pub length-file_of : (n : ℕ) (cells : List Cell) (records : List Record) → length (file_of n cells records) ≡ file_len (head_with n cells records)
 length-file_of n cells records =
-    omega (arith, length-append (front n cells records ++ flat_map cell_bytes cells) (flat_map record_bytes records), length-append (front n cells records) (flat_map cell_bytes cells), length-front n cells records,
-      length-parts cell_bytes 10 length-cell_bytes cells, length-parts record_bytes 6 length-record_bytes records)
+    omega (
+      arith,
+      length-append (front n cells records ++ flat_map cell_bytes cells) (flat_map record_bytes records),
+      length-append (front n cells records) (flat_map cell_bytes cells),
+      length-front n cells records,
+      length-parts cell_bytes 10 length-cell_bytes cells,
+      length-parts record_bytes 6 length-record_bytes records,
+    )
 
 pub has_mark : (n : ℕ) (cells : List Cell) (records : List Record) → starts_with nat_eq (file_of n cells records) file_mark ≡ true
 has_mark n cells records = refl

@@ -1,6 +1,8 @@
+pub mod EnteredStrings
 pub mod FileParts
 pub mod FileRecords
 pub mod FormLaws
+pub mod Groups
 pub mod Levels
 pub mod MarkSteps
 pub mod Parts
@@ -9,6 +11,7 @@ pub mod Reaches
 mod TableRows
 pub mod Recorded
 pub mod RecordedStrings
+pub mod Sharing
 pub mod TableCells
 pub mod TableLookups
 pub mod TableRecords

@@ -12,11 +12,9 @@ use Rattle.std.proofs.lemmas.List.Quantifiers.{position-Some}
 use Rattle.std.proofs.lemmas.List.Sums.{fold-append}
 use Rattle.std.proofs.lemmas.Option.{slice_get_within, slice_get_past, slice_get-get_or, get_or_from_slice_get}
 use Rattle.pg_types.specs.Tails.{suffixes, same_pair}
+use Rattle.pg_table.specs.Sharing.{Lists, with_ends}
 use Rattle.pg_table.specs.Texts.{with_list, head_among}
 use Rattle.pg_table.proofs.TableCells.{find_cases}
-
-abbrev pub Lists : Type 0
-Lists = List (List (ℕ × ℕ))
 
 abbrev pub same_list : List (ℕ × ℕ) → List (ℕ × ℕ) → Bool
 same_list = pointwise same_pair
@@ -92,6 +90,11 @@ pub record IsOrdered (Good : ℕ × ℕ → Type 0) (lists : Lists) (i : ℕ) (l
   pub good : Good first
   pub before : (rest ≡ []) ⊎ ((j : ℕ) × (j < i) × (slice_get lists j ≡ Some rest))
 
+-- the whole list comes behind its shorter ends
+pub ends_more : (lists : Lists) (x : ℕ × ℕ) (rest : List (ℕ × ℕ)) → with_ends lists (x ∷ rest) ≡ with_list (with_ends lists rest) (x ∷ rest)
+ends_more lists x rest =
+    ap (fold with_list lists) (reverse-append ((x ∷ rest) ∷ []) (suffixes rest)) ∙ fold-append with_list lists (reverse (suffixes rest)) ((x ∷ rest) ∷ [])
+
 module _ (Good : ℕ × ℕ → Type 0) where
   pub record AreOrdered (lists : Lists) : Type 0 where
     pub each : (i : ℕ) (l : List (ℕ × ℕ)) → slice_get lists i ≡ Some l → IsOrdered Good lists i l
@@ -135,14 +138,6 @@ module _ (Good : ℕ × ℕ → Type 0) where
           ];
         }
       ]
-
-  -- the ends of a list, from the shortest on
-  abbrev pub with_ends : Lists → List (ℕ × ℕ) → Lists
-  with_ends lists l = fold with_list lists (reverse (suffixes l))
-
-  pub ends_more : (lists : Lists) (x : ℕ × ℕ) (rest : List (ℕ × ℕ)) → with_ends lists (x ∷ rest) ≡ with_list (with_ends lists rest) (x ∷ rest)
-  ends_more lists x rest =
-      ap (fold with_list lists) (reverse-append ((x ∷ rest) ∷ []) (suffixes rest)) ∙ fold-append with_list lists (reverse (suffixes rest)) ((x ∷ rest) ∷ [])
 
   pub ends_taken : (lists : Lists) (l : List (ℕ × ℕ)) → All Good l → AreOrdered lists → Takes lists (with_ends lists l) l
   ends_taken lists [] good ordered = record { grows = record { keeps = λ i l at. at }; ordered = ordered; there = inl refl }

@@ -11,8 +11,9 @@ use Rattle.pg_patterns.specs.Texts.{strings_of, with_string}
 use Rattle.pg_types.proofs.Tests.{and_first, and_second}
 use Rattle.pg_patterns.proofs.Sound.{entry_bounds}
 use Rattle.pg_cells.proofs.StringMaps.{same_from}
+use Rattle.pg_table.specs.Sharing.{Lists, with_ends}
 use Rattle.pg_table.specs.Texts.{with_list, recorded}
-use Rattle.pg_table.proofs.Recorded.{Lists, Among, AreOrdered, Grows, Takes, with_ends, ends_taken}
+use Rattle.pg_table.proofs.Recorded.{Among, AreOrdered, Grows, Takes, ends_taken}
 use Rattle.pg_table.proofs.TableRecords.{IsGood}
 
 -- a fold over lists that are joined
@@ -22,7 +23,7 @@ fold_flat f g b (x ∷ xs) = fold-append f b (g x) (flat_map g xs) ∙ fold_flat
 
 -- the lists after more strings
 abbrev pub with_strings : List ((List ℕ × ℕ) × ℕ) → Lists → List (List ℕ) → Lists
-with_strings P lists qs = fold (λ ls q. with_ends IsGood ls (outputs_of P q)) lists qs
+with_strings P lists qs = fold (λ ls q. with_ends ls (outputs_of P q)) lists qs
 
 pub recorded_is : (P : List ((List ℕ × ℕ) × ℕ)) → recorded P ≡ with_strings P [] (strings_of P)
 recorded_is P = fold_flat with_list (λ q. reverse (suffixes (outputs_of P q))) [] (strings_of P)
@@ -80,12 +81,12 @@ pub strings_taken : (P : List ((List ℕ × ℕ) × ℕ)) → list_all is_entry 
 strings_taken P sound lists [] ordered = record { grows = record { keeps = λ i l at. at }; ordered = ordered; there = λ q is. absurd is }
 strings_taken P sound lists (r ∷ qs) ordered =
     let one = ends_taken IsGood lists (outputs_of P r) (outputs_good P r sound) ordered in
-    let rest = strings_taken P sound (with_ends IsGood lists (outputs_of P r)) qs one.ordered in
+    let rest = strings_taken P sound (with_ends lists (outputs_of P r)) qs one.ordered in
     record {
       grows = record { keeps = λ i l at. rest.grows.keeps i l (one.grows.keeps i l at) };
       ordered = rest.ordered;
       there = λ q is. elim is [
-        | inl same ↦ subst (λ s. (outputs_of P s ≡ []) ⊎ Among (with_strings P (with_ends IsGood lists (outputs_of P r)) qs) (outputs_of P s)) (sym same)
+        | inl same ↦ subst (λ s. (outputs_of P s ≡ []) ⊎ Among (with_strings P (with_ends lists (outputs_of P r)) qs) (outputs_of P s)) (sym same)
             (elim one.there [ inl none ↦ inl none | inr some ↦ inr (some.0, rest.grows.keeps some.0 (outputs_of P r) some.1) ])
         | inr later ↦ rest.there q later
       ];

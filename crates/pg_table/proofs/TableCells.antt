@@ -10,7 +10,8 @@ use Rattle.pg_types.specs.Placement.{Family, Families, family_at, is_used, cell_
 use Rattle.pg_cells.specs.Held.{Held}
 use Rattle.pg_cells.specs.IsHeld.{IsHeld}
 use Rattle.pg_cells.proofs.StringMaps.{order, same_string, same_from}
-use Rattle.pg_cells.proofs.PlacementLaws.{cell_used, used_le_top}
+use Rattle.pg_types.proofs.LeastBase.{used_le_top}
+use Rattle.pg_cells.proofs.PlacementLaws.{cell_used}
 use Rattle.pg_cells.proofs.StringCells.{IsCellOf, cell_parts, parts_cell, base_parts}
 use Rattle.pg_table.specs.declared.cell.Cell.{Cell}
 use Rattle.pg_table.specs.declared.head.Head.{Head}
@@ -125,9 +126,9 @@ module _ (h : Held ℕ) (held : IsHeld h) where
           let is = has_cell_told h.families c found.0 found.2 in inl (found.0, is, cell_with found.0 c is)
       | inr none ↦ inr (
         (λ q is.
-        let parts = cell_parts h.families q c is in
-        let some = string_among (has_cell h.families c) h.families parts.front parts.family parts.last parts.at parts.has (has_cell_from h.families c (parts.front ++ parts.last ∷ []) (ap (cell_of h.families) (sym parts.whole) ∙ is)) in
-        false≢true (sym none.1 ∙ some)),
+            let parts = cell_parts h.families q c is in
+            let some = string_among (has_cell h.families c) h.families parts.front parts.family parts.last parts.at parts.has (has_cell_from h.families c (parts.front ++ parts.last ∷ []) (ap (cell_of h.families) (sym parts.whole) ∙ is)) in
+            false≢true (sym none.1 ∙ some)),
         ap (λ o. option_map_or (cell_for h.families heads) o unused_cell) none.0,
       )
     ]

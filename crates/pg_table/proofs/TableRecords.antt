@@ -16,13 +16,10 @@ use Rattle.pg_outputs.specs.Lists.{list_of, OneHeadEach}
 use Rattle.pg_outputs.specs.Records.{AreShared}
 use Rattle.pg_outputs.proofs.ListLaws.{list_of-at, list_of-zero}
 use Rattle.pg_table.specs.Lookups.{greatest_at}
+use Rattle.pg_table.specs.Sharing.{Lists, turned, Shares}
 use Rattle.pg_table.specs.Texts.{head_among, record_of}
 use Rattle.pg_table.proofs.FormLaws.{IsSoundRecord}
-use Rattle.pg_table.proofs.Recorded.{Lists, Among, AreOrdered, IsOrdered, head_cases, head_within}
-
--- a value and its dot in the other order
-abbrev pub turned : ℕ × ℕ → ℕ × ℕ
-turned x = (x.1, x.0)
+use Rattle.pg_table.proofs.Recorded.{Among, AreOrdered, IsOrdered, head_cases, head_within}
 
 -- the dot and the value of a pattern
 pub record IsGood (x : ℕ × ℕ) : Type 0 where
@@ -30,7 +27,7 @@ pub record IsGood (x : ℕ × ℕ) : Type 0 where
   pub high : x.1 ≤ LEVEL_MAX
   pub dot : x.0 ≤ PATTERN_SIGNS_MAX
 
-turned_apart : (l m : List (ℕ × ℕ)) → map turned l ≡ map turned m → l ≡ m
+pub turned_apart : (l m : List (ℕ × ℕ)) → map turned l ≡ map turned m → l ≡ m
 turned_apart l m e = sym (back l) ∙ ap (map turned) e ∙ back m
   where
     back : (l : List (ℕ × ℕ)) → map turned (map turned l) ≡ l
@@ -92,13 +89,6 @@ module _ (lists : Lists) (ordered : AreOrdered IsGood lists) where
     | inl found ↦ ap (list_of records) found.1 ∙ list_at found.0 l found.2
     | inr none ↦ absurd (none.1 some.0 some.1)
   ]
-
--- the records stand for the lists in their order
-pub record Shares (records : List Record) (lists : Lists) : Type 0 where
-  pub size : length records ≡ length lists
-  pub each : (i : ℕ) (l : List (ℕ × ℕ)) → slice_get lists i ≡ Some l → list_of records (i + 1) ≡ map turned l
-  pub one_head : OneHeadEach records
-  pub shared : AreShared records
 
 module _ (records : List Record) (lists : Lists) (ordered : AreOrdered IsGood lists) (shares : Shares records lists) where
   -- a head that stands for a list is the list's

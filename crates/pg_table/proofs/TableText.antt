@@ -17,6 +17,8 @@ use Rattle.pg_table.specs.declared.cell.Cell.{Cell}
 use Rattle.pg_table.specs.declared.limits.TheConstants.{TABLE_MAX}
 use Rattle.pg_table.specs.Forms.{head_of, cell_at, records_of, file_len, is_well_formed}
 use Rattle.pg_table.specs.Lookups.{lookup, table_entry, greatest_at, list_in}
+use Rattle.pg_table.specs.Packed.{IsPacked}
+use Rattle.pg_table.specs.Sharing.{turned}
 use Rattle.pg_table.specs.Texts.{layout, recorded, head_in, record_of, cell_of_table, table_cells, table_records, file_of, table_text}
 use Rattle.pg_table.proofs.FormLaws.{IsSoundCell, IsSoundRecord, form_from}
 use Rattle.pg_table.proofs.FileParts.{AreSmall, head_with, head_is, cell_is, record_is, file_sound, records_are_those, length-file_of}
@@ -24,14 +26,7 @@ use Rattle.pg_table.proofs.Recorded.{head_within}
 use Rattle.pg_table.proofs.RecordedStrings.{recorded_ordered, recorded_known}
 use Rattle.pg_table.proofs.TableCells.{cell_within, cells_sound}
 use Rattle.pg_table.proofs.TableLookups.{HasCells, lookup_with, lookup_without}
-use Rattle.pg_table.proofs.TableRecords.{turned, sound_record, listed, entry_is}
-
--- the strings of the patterns have their cells
-pub record IsPacked (n : ℕ) (P : List ((List ℕ × ℕ) × ℕ)) (h : Held ℕ) : Type 0 where
-  pub held : IsHeld h
-  pub signs : h.signs ≡ n
-  pub families : h.families ≡ layout n P
-  pub entered : (q : List ℕ) → outputs_of P q ≢ [] → (c : ℕ) × (cell_of h.families q ≡ Some c)
+use Rattle.pg_table.proofs.TableRecords.{sound_record, listed, entry_is}
 
 module _ (n : ℕ) (P : List ((List ℕ × ℕ) × ℕ)) (h : Held ℕ) (sound : IsPatternMap P) (packed : IsPacked n P h) where
   abbrev cells : List Cell

@@ -1,9 +1,9 @@
 -- Walks along a word from cell to cell.
 use Rattle.std.proofs.Common.{◌≡◌, ℕ, suc, zero, ◌+◌, ◌-◌, ◌<◌, ◌≤◌, ◌≢◌, max, Bool, true, false, cond, ◌&&◌, nat_eq, nat_lt, nat_le, List, [], ◌∷◌, ◌++◌, length, take, drop, get_or, replicate, refl, sym, ◌∙◌, ap, subst, arith, inl, inr, append_assoc}
 use Rattle.std.specs.List.{range_with_len}
-use Rattle.std.proofs.Math.Bool.{and-true, true-and}
+use Rattle.std.proofs.Math.Seq.{take-add}
 use Rattle.std.proofs.lemmas.Bool.{cases_Bool, cases_lt, cases_eq, le-leb, lt-leb, leb-true, lt-ltb, le-ltb, eqb-true, eqb-false, eq-eqb, ne_eqb, and_parts}
-use Rattle.std.proofs.lemmas.List.{take-append-drop, take-take, drop-take, drop-drop, drop_more, append-nil}
+use Rattle.std.proofs.lemmas.List.{drop-drop, drop_more}
 use Rattle.pg_types.specs.declared.limits.TheConstants.{PATTERN_SIGNS_MAX}
 use Rattle.pg_table.specs.Forms.{head_of, cell_at}
 use Rattle.pg_table.specs.Lookups.{has_sign, list_in, lookup, lookup_from, greatest, greatest_at, value_from, table_value}
@@ -42,10 +42,6 @@ list_below b base s has child t more =
     ap (λ x. cond (has_sign b base s && x) (lookup_from b (cell_at b (base + s)).child (t ∷ more)) []) goes ∙ ap (λ x. cond (x && true) (lookup_from b (cell_at b (base + s)).child (t ∷ more)) []) has
 
 -- the signs from a start on, up to a stop and on
-pub take_split : (k m : ℕ) (xs : List ℕ) → take (k + m) xs ≡ take k xs ++ take m (drop k xs)
-take_split k m xs =
-    sym (take-append-drop k (take (k + m) xs)) ∙ ap (λ l. l ++ drop k (take (k + m) xs)) (take-take k (k + m) xs (omega arith)) ∙ ap (λ l. take k xs ++ l) (drop-take k m xs)
-
 pub record GoesOn (w : List ℕ) (start stop n : ℕ) : Type 0 where
   pub more : List ℕ
   pub whole : take n (drop start w) ≡ take (stop - start) (drop start w) ++ get_or w stop 0 ∷ more
@@ -61,7 +57,7 @@ goes_on w start stop n low high inside =
     let rest : drop k (drop start w) ≡ get_or w stop 0 ∷ drop (stop + 1) w = drop-drop k start w ∙ ap (λ j. drop j w) there ∙ drop_more w stop 0 (omega arith) in
     record {
       more = take m (drop (stop + 1) w);
-      whole = ap (λ j. take j (drop start w)) cut ∙ take_split k (suc m) (drop start w) ∙ ap (λ l. take k (drop start w) ++ take (suc m) l) rest;
+      whole = ap (λ j. take j (drop start w)) cut ∙ take-add k (suc m) (drop start w) ∙ ap (λ l. take k (drop start w) ++ take (suc m) l) rest;
       size = λ e. let none : m ≡ 0 = omega arith in ap (λ j. take j (drop (stop + 1) w)) none;
       longer = λ lt.
           let some : m ≡ suc (m - 1) = omega arith in

@@ -2,6 +2,8 @@
 #![tactic(auto)]
 
 mod cell;
+mod entering;
+mod error;
 mod head;
 mod limits;
 mod numbers;
@@ -10,6 +12,7 @@ mod totals;
 mod view;
 mod walk;
 
+pub use error::TableError;
 pub use limits::TABLE_MAX;
 pub use totals::table_totals;
 pub use view::TableView;
