@@ -5,7 +5,8 @@ use Rattle.std.proofs.lemmas.List.{get_or_past}
 use Rattle.std.specs.List.{list_any, range_with_len}
 use Rattle.std.specs.Option.{option_map}
 use Rattle.std.specs.FinMap.{find, put}
-use Rattle.pg_types.specs.Placement.{Family, Families, family_at, cell_in, cell_of, base_of}
+use Rattle.pg_types.specs.Placement.{Family, Families, family_at, cell_in, cell_of, base_of, top}
+use Rattle.pg_types.proofs.LeastBase.{used_le_top}
 use Rattle.pg_cells.specs.Lists.{Row, sign_at, child_at, base_at}
 use Rattle.pg_cells.specs.Writes.{SetsValue}
 use Rattle.pg_cells.specs.Held.{Trie}
@@ -14,7 +15,7 @@ use Rattle.pg_cells.specs.OneTrie.{last_of}
 use Rattle.pg_cells.proofs.StringMaps.{order, find_put_same, find_put_other, sorted_put, equal_or_not}
 use Rattle.pg_cells.proofs.LinkedLists.{taken_within}
 use Rattle.pg_cells.proofs.RootTrie.{any_range}
-use Rattle.pg_cells.proofs.PlacementLaws.{cell_of_last}
+use Rattle.pg_cells.proofs.PlacementLaws.{cell_of_last, cell_used}
 use Rattle.pg_cells.proofs.LaidLaws.{sign_stands, stands_sign, laid_alike}
 
 -- the string q has the cell: it is a sign of a family
@@ -73,6 +74,14 @@ module _ {V : Type 0} (n : ℕ) (r : Row V) (t : Trie V) (trie : IsTrie n r t) w
       let s = sign_stands n r (family_at t.families) trie.laid c.front c.family c.last c.at c.has in
       let same : sign_at r cell ≡ c.last = ap (sign_at r) c.is ∙ s.2 in
       omega (arith, s.0)
+
+  -- a taken cell is that of a string
+  pub string_there : (cell : ℕ) → sign_at r cell ≢ 0 → (q : List ℕ) × (cell_of t.families q ≡ Some cell)
+  string_there cell taken =
+      let o = trie.laid.owned cell taken in
+      let s = sign_at r cell in
+      let has = stands_sign n r (family_at t.families) trie.laid o.0 o.1 s o.2 (omega arith) (ap (sign_at r) (sym o.3)) in
+      (o.0 ++ s ∷ [], parts_cell t.families o.0 s o.1 o.2 has ∙ ap Some (sym o.3))
 
   pub value_is : (q : List ℕ) (cell : ℕ) (v : V) → cell_of t.families q ≡ Some cell → slice_get r.values cell ≡ Some v → find order q t.values ≡ Some v
   value_is q cell v e at = trie.has q ∙ ap (value_in r) e ∙ at
@@ -174,3 +183,11 @@ module _ {V : Type 0} (n : ℕ) (r : Row V) (t : Trie V) (trie : IsTrie n r t) w
         | inl h ↦ ap (λ y. find order y (put order q v t.values)) h.0 ∙ find_put_same q v t.values ∙ sym (ap (λ y. value_in r' (cell_of t.families y)) h.0 ∙ ap (value_in r') e ∙ w.value_is)
         | inr h ↦ find_put_other p q v t.values h.0 ∙ trie.has p ∙ other_value p h.0 (cell_of t.families p) refl
       ]
+
+-- no cell of a string is past the top
+pub cell_within : (fs : Families) (q : List ℕ) (cell : ℕ) → cell_of fs q ≡ Some cell → cell ≤ top fs
+cell_within fs q cell e =
+    let c = cell_parts fs q cell e in
+    let le = used_le_top fs (c.family.base + c.last) (cell_used fs c.front c.family c.last c.at c.has) in
+    let is = c.is in
+    omega arith

@@ -1,5 +1,5 @@
 //! The families of a trie, each with its cells at its base.
-ghost use Rattle.std.specs.Prelude.{◌≡◌, ◌≢◌, ℕ, ◌+◌, ◌<◌, ◌≤◌, List, [], ◌∷◌, ◌++◌, Some, None, IfOk, OnOk, OnErr, ◌==◌, ◌&&◌, ◌^◌, false, true, length, slice_index, nat_lt, nat_eq, MatchBool, if◌then◌else◌};
+ghost use Rattle.std.specs.Prelude.{◌≡◌, ◌≢◌, ℕ, ◌+◌, ◌<◌, ◌≤◌, List, [], ◌∷◌, ◌++◌, Some, None, IfOk, IfSome, OnOk, OnErr, ◌==◌, ◌&&◌, ◌^◌, false, true, length, slice_index, nat_lt, nat_eq, MatchBool, if◌then◌else◌};
 ghost use Rattle.std.specs.FinMap.{find, put};
 ghost use Rattle.std.specs.Cmp.Lexicographic.{slice_cmp};
 ghost use Rattle.std.specs.Ordering.{nat_cmp};
@@ -107,6 +107,19 @@ impl<V: Copy, const FEW: usize> Placed<V, FEW> {
         ensures { (q : List ℕ) → cell_of self.now.families q ≡ Some cell → find (slice_cmp nat_cmp) q self.now.values ≡ Some result }
     {
         self.store.value(cell)
+    }
+
+    /// The value of the string that has the cell, or `None` where no string has it.
+    pub fn value_at(&self, cell: usize) -> Option<V>
+        ensures some { IfSome result (λ v. (q : List ℕ) × (cell_of self.now.families q ≡ Some cell) × (find (slice_cmp nat_cmp) q self.now.values ≡ Some v)) }
+        ensures none { result ≡ None → (q : List ℕ) → cell_of self.now.families q ≡ Some cell → ⊥ }
+    {
+        let _cells = self.store.len();
+        if self.store.sign(cell) == 0 {
+            None
+        } else {
+            Some(self.store.value(cell))
+        }
     }
 
     /// Whether the sign joins the family below the parent's string in place.

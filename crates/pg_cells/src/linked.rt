@@ -1,5 +1,5 @@
 //! The families of a trie with links from sign to sign.
-ghost use Rattle.std.specs.Prelude.{◌≡◌, ◌≢◌, ℕ, ◌+◌, ◌<◌, ◌≤◌, List, [], ◌∷◌, ◌++◌, Some, None, IfOk, OnOk, OnErr, ◌==◌, if◌then◌else◌};
+ghost use Rattle.std.specs.Prelude.{◌≡◌, ◌≢◌, ℕ, ◌+◌, ◌<◌, ◌≤◌, List, [], ◌∷◌, ◌++◌, Some, None, IfOk, IfSome, OnOk, OnErr, ◌==◌, if◌then◌else◌};
 ghost use Rattle.std.specs.FinMap.{find, put};
 ghost use Rattle.std.specs.Cmp.Lexicographic.{slice_cmp};
 ghost use Rattle.std.specs.Ordering.{nat_cmp};
@@ -110,6 +110,15 @@ impl<V: Copy, const FEW: usize> Cells<V, FEW> {
         ensures { (q : List ℕ) → cell_of self.now.families q ≡ Some cell → find (slice_cmp nat_cmp) q self.now.values ≡ Some result }
     {
         self.placed.value(cell).value
+    }
+
+    /// The value of the string that has the cell, or `None` where no string has it.
+    pub fn value_at(&self, cell: usize) -> Option<V>
+        ensures some { IfSome result (λ v. (q : List ℕ) × (cell_of self.now.families q ≡ Some cell) × (find (slice_cmp nat_cmp) q self.now.values ≡ Some v)) }
+        ensures none { result ≡ None → (q : List ℕ) → cell_of self.now.families q ≡ Some cell → ⊥ }
+    {
+        let member = self.placed.value_at(cell)?;
+        Some(member.value)
     }
 
     /// Adds the sign to the family below the parent's string, with the value, and gives its cell.
