@@ -12,7 +12,7 @@ use Rattle.std.proofs.lemmas.List.Elements.{filter-append}
 use Rattle.std.proofs.lemmas.List.Sums.{fold-append, sum_by-append, sum_by-cons}
 use Rattle.pg_types.specs.declared.parameters.LevelParams.{LevelParams}
 use Rattle.pg_types.specs.Placement.{Families, enter}
-use Rattle.pg_patterns.specs.Places.{place_cmp}
+use Rattle.pg_patterns.specs.DottedSigns.{dotted_cmp}
 use Rattle.pg_patterns.specs.Values.{raise}
 use Rattle.pg_types.specs.Counts.{Counts, above, is_counted}
 use Rattle.pg_select.specs.Meanings.{Meaning}
@@ -83,8 +83,8 @@ state_append signs params pass s xs ys =
     same_states _ _ _ _ _ _
     (ap (fold (λ P (c : Candidate). raise P (c.window, pass.dot) pass.level) s.known.patterns) (filter-append (λ c. is_chosen (choice_of params c)) xs ys)
     ∙ fold-append (λ P (c : Candidate). raise P (c.window, pass.dot) pass.level) s.known.patterns (chosen_of params xs) (chosen_of params ys))
-    (ap (fold (λ H (c : Candidate). put place_cmp (c.window, pass.dot) (tt {0}) H) s.known.hopeless) (filter-append (λ c. is_hopeless (choice_of params c)) xs ys)
-    ∙ fold-append (λ H (c : Candidate). put place_cmp (c.window, pass.dot) (tt {0}) H) s.known.hopeless (hopeless_of params xs) (hopeless_of params ys))
+    (ap (fold (λ H (c : Candidate). put dotted_cmp (c.window, pass.dot) (tt {0}) H) s.known.hopeless) (filter-append (λ c. is_hopeless (choice_of params c)) xs ys)
+    ∙ fold-append (λ H (c : Candidate). put dotted_cmp (c.window, pass.dot) (tt {0}) H) s.known.hopeless (hopeless_of params xs) (hopeless_of params ys))
     (ap (λ (cs : List Candidate). option_map (λ fs. fold (λ fs c. enter signs fs c.window) fs cs) s.families) (filter-append (λ c. not (is_left (choice_of params c))) xs ys)
     ∙ families_append signs (entered_of params xs) (entered_of params ys) s.families)
 

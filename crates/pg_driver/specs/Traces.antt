@@ -6,7 +6,7 @@ use Rattle.std.specs.FinMap.Entries.{put}
 use Rattle.pg_types.specs.declared.parameters.LevelParams.{LevelParams}
 use Rattle.pg_types.specs.Parameters.{Parameters}
 use Rattle.pg_dict.specs.Word.{Word}
-use Rattle.pg_patterns.specs.Places.{place_cmp}
+use Rattle.pg_patterns.specs.DottedSigns.{dotted_cmp}
 use Rattle.pg_patterns.specs.Values.{raise}
 use Rattle.pg_select.specs.declared.choice.Choice.{Choice}
 use Rattle.pg_select.specs.declared.choice.Choice.TheVariants.{Hopeless, Chosen, Left}
@@ -86,7 +86,7 @@ entered_in p = entered_of p.params p.candidates
 abbrev pub known_after : PassTrace → Known
 known_after p = record {
   patterns = fold (λ P c. raise P (c.window, p.pass.dot) p.pass.level) p.before.patterns (chosen_in p);
-  hopeless = fold (λ H c. put place_cmp (c.window, p.pass.dot) (tt {0}) H) p.before.hopeless (hopeless_in p);
+  hopeless = fold (λ H c. put dotted_cmp (c.window, p.pass.dot) (tt {0}) H) p.before.hopeless (hopeless_in p);
 }
 
 -- a pass that is made when this is known

@@ -8,7 +8,7 @@ use Rattle.pg_patterns.specs.Values.{applies, value_at, is_entry}
 use Rattle.pg_select.specs.Windows.{window, fits, is_within, covered}
 use Rattle.pg_trie.specs.declared.mark.TheConstants.{HOPELESS}
 use Rattle.pg_trie.specs.Lists.{outputs_at}
-use Rattle.pg_trie.specs.Maps.{Maps, AreKept, is_place}
+use Rattle.pg_trie.specs.Maps.{Maps, AreKept, is_dotted}
 use Rattle.pg_select.specs.declared.pass.Pass.{Pass}
 use Rattle.pg_select.specs.Positions.{bit, Raises}
 use Rattle.pg_hyph.specs.ListValues.{value_given, value_by, cover_by}
@@ -39,7 +39,7 @@ record IsIn (k : List ℕ × ℕ) : Type 0 where
   some : 1 ≤ length k.0
   dot : k.1 ≤ length k.0
 
-place_in : (n : ℕ) (k : List ℕ × ℕ) → is_place n k ≡ true → IsIn k
+place_in : (n : ℕ) (k : List ℕ × ℕ) → is_dotted n k ≡ true → IsIn k
 place_in n k is =
     let a = and_parts _ _ is in
     let b = and_parts _ _ a.0 in
@@ -71,7 +71,7 @@ module _ (m : Maps) (kept : AreKept m) where
       outputs_value m.patterns m.hopeless e.0.0 e.1 e.0.1 sound.dot (in_found m.patterns e kept.patterns.sorted here)
 
   mark_place : (e : (List ℕ × ℕ) × Unit {0}) → In e m.hopeless → IsIn e.0
-  mark_place e here = place_in m.signs e.0 (all_in (λ (x : (List ℕ × ℕ) × Unit {0}). is_place m.signs x.0) m.hopeless e kept.places here)
+  mark_place e here = place_in m.signs e.0 (all_in (λ (x : (List ℕ × ℕ) × Unit {0}). is_dotted m.signs x.0) m.hopeless e kept.places here)
 
   mark_listed : (e : (List ℕ × ℕ) × Unit {0}) → In e m.hopeless → In (HOPELESS, e.0.1) (lists e.0.0)
   mark_listed e here = outputs_mark m.patterns m.hopeless e.0.0 e.0.1 (mark_place e here).dot (in_found m.hopeless e kept.sorted here)

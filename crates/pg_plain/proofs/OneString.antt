@@ -6,7 +6,7 @@ use Rattle.std.specs.Cmp.Lexicographic.{slice_cmp, pointwise, bytes_decides}
 use Rattle.std.specs.Ordering.{is_le, is_gt}
 use Rattle.std.specs.FinMap.Entries.{is_sorted, is_sorted-where_key}
 use Rattle.std.specs.List.{starts_with, list_all, list_any}
-use Rattle.pg_patterns.specs.Places.{place_cmp}
+use Rattle.pg_patterns.specs.DottedSigns.{dotted_cmp}
 use Rattle.pg_select.specs.Positions.{Positions}
 use Rattle.pg_select.specs.Positions.{RaisesAt, values_of, covers_of}
 use Rattle.pg_plain.specs.Greatest.{RaisesBy}
@@ -17,8 +17,8 @@ use Rattle.pg_plain.proofs.Orders.{second_half, first_half, upto_itself, prefix_
 
 -- the entries of q that are left are the first of rest
 pub record StringLeft {X : Type 0} (value cover : (List ℕ × ℕ) × X → ℕ) (q : List ℕ) (i : ℕ) (es rest : List ((List ℕ × ℕ) × X)) (before now : Positions) : Type 0 where
-  pub sorted : T (is_sorted place_cmp rest)
-  pub from : list_all (λ e. is_le (place_cmp (q, 0) e.0)) rest ≡ true
+  pub sorted : T (is_sorted dotted_cmp rest)
+  pub from : list_all (λ e. is_le (dotted_cmp (q, 0) e.0)) rest ≡ true
   pub going : list_any (λ e. goes_on q e.0.0) rest ≡ list_any (λ e. goes_on q e.0.0) es
   pub values : Level value (values_of now) (has_signs_at q i) rest (values_of before) (has_signs_at q i) es
   pub covers : Level cover (covers_of now) (has_signs_at q i) rest (covers_of before) (has_signs_at q i) es
@@ -36,21 +36,21 @@ string_at : (q : List ℕ) (i p : ℕ) (k : List ℕ × ℕ) → has_signs_at q 
 string_at q i p k row =
     subst (λ r. is_gt (slice_cmp nat_cmp q r) ≡ false) (sym (same_is k.0 q (and_first _ _ row))) (upto_itself q)
 
-kept_from : (q : List ℕ) (k f : List ℕ × ℕ) → f ≡ (q, 0) → is_gt (slice_cmp nat_cmp q k.0) ≡ false → range_contains place_cmp (Included f) Unbounded k ≡ true
+kept_from : (q : List ℕ) (k f : List ℕ × ℕ) → f ≡ (q, 0) → is_gt (slice_cmp nat_cmp q k.0) ≡ false → range_contains dotted_cmp (Included f) Unbounded k ≡ true
 kept_from q k f is low =
-    both_true _ _ (subst (λ x. is_le (place_cmp x k) ≡ true) (sym is) (from_string q k low)) refl
+    both_true _ _ (subst (λ x. is_le (dotted_cmp x k) ≡ true) (sym is) (from_string q k low)) refl
 
 module _ {X : Type 0} (value cover : (List ℕ × ℕ) × X → ℕ) (q : List ℕ) (i : ℕ) (es : List ((List ℕ × ℕ) × X)) where
-  pub string_begins : (f : List ℕ × ℕ) (rest : List ((List ℕ × ℕ) × X)) (before : Positions) → f ≡ (q, 0) → T (is_sorted place_cmp es) → rest ≡ entries_between place_cmp (Included f) Unbounded es → StringLeft value cover q i es rest before before
+  pub string_begins : (f : List ℕ × ℕ) (rest : List ((List ℕ × ℕ) × X)) (before : Positions) → f ≡ (q, 0) → T (is_sorted dotted_cmp es) → rest ≡ entries_between dotted_cmp (Included f) Unbounded es → StringLeft value cover q i es rest before before
   string_begins f rest before is sorted cut =
       subst (λ x. StringLeft value cover q i es x before before) (sym cut) (record {
-        sorted = is_sorted-where_key place_cmp (range_contains place_cmp (Included f) Unbounded) es sorted;
-        from = all_weaker (λ (e : (List ℕ × ℕ) × X). range_contains place_cmp (Included f) Unbounded e.0) (λ (e : (List ℕ × ℕ) × X). is_le (place_cmp (q, 0) e.0)) (entries_between place_cmp (Included f) Unbounded es)
-            (λ e in_range. subst (λ x. is_le (place_cmp x e.0) ≡ true) is (and_first _ _ in_range)) (all_filter (λ (e : (List ℕ × ℕ) × X). range_contains place_cmp (Included f) Unbounded e.0) es);
-        going = any_filter (λ (e : (List ℕ × ℕ) × X). goes_on q e.0.0) (λ (e : (List ℕ × ℕ) × X). range_contains place_cmp (Included f) Unbounded e.0) es
+        sorted = is_sorted-where_key dotted_cmp (range_contains dotted_cmp (Included f) Unbounded) es sorted;
+        from = all_weaker (λ (e : (List ℕ × ℕ) × X). range_contains dotted_cmp (Included f) Unbounded e.0) (λ (e : (List ℕ × ℕ) × X). is_le (dotted_cmp (q, 0) e.0)) (entries_between dotted_cmp (Included f) Unbounded es)
+            (λ e in_range. subst (λ x. is_le (dotted_cmp x e.0) ≡ true) is (and_first _ _ in_range)) (all_filter (λ (e : (List ℕ × ℕ) × X). range_contains dotted_cmp (Included f) Unbounded e.0) es);
+        going = any_filter (λ (e : (List ℕ × ℕ) × X). goes_on q e.0.0) (λ (e : (List ℕ × ℕ) × X). range_contains dotted_cmp (Included f) Unbounded e.0) es
             (λ e goes. kept_from q e.0 f is (prefix_upto q e.0.0 (and_first _ _ goes)));
-        values = λ p inside. ap (λ n. max (values_of before p) n) (greatest-filter value (has_signs_at q i p) (λ (e : (List ℕ × ℕ) × X). range_contains place_cmp (Included f) Unbounded e.0) es (λ e row. kept_from q e.0 f is (string_at q i p e.0 row)));
-        covers = λ p inside. ap (λ n. max (covers_of before p) n) (greatest-filter cover (has_signs_at q i p) (λ (e : (List ℕ × ℕ) × X). range_contains place_cmp (Included f) Unbounded e.0) es (λ e row. kept_from q e.0 f is (string_at q i p e.0 row)));
+        values = λ p inside. ap (λ n. max (values_of before p) n) (greatest-filter value (has_signs_at q i p) (λ (e : (List ℕ × ℕ) × X). range_contains dotted_cmp (Included f) Unbounded e.0) es (λ e row. kept_from q e.0 f is (string_at q i p e.0 row)));
+        covers = λ p inside. ap (λ n. max (covers_of before p) n) (greatest-filter cover (has_signs_at q i p) (λ (e : (List ℕ × ℕ) × X). range_contains dotted_cmp (Included f) Unbounded e.0) es (λ e row. kept_from q e.0 f is (string_at q i p e.0 row)));
       })
 
   pub string_steps : (e : (List ℕ × ℕ) × X) (rest left : List ((List ℕ × ℕ) × X)) (before now new : Positions) → left ≡ e ∷ rest → StringLeft value cover q i es left before now → pointwise nat_eq e.0.0 q ≡ true

@@ -11,7 +11,7 @@ use crate::index::Index;
 use crate::places::{map_of, put_in, raise_in, set_of};
 use crate::walk::walk;
 use pg_dict::WordRef;
-use pg_patterns::{PatternSet, Place};
+use pg_patterns::{PatternSet, DottedSigns};
 use pg_select::{Engine, Pass, WordState};
 use pg_types::{Cursor, Layout, Sign, Weight};
 use std::alloc::{AllocError, Global};
@@ -31,9 +31,9 @@ const HOPELESS_SLOTS: usize = 524_288;
 #[derive(Drop)]
 pub struct PlainEngine {
     signs: u16,
-    patterns: BTreeMap<Place, u8>,
+    patterns: BTreeMap<DottedSigns, u8>,
     pattern_index: Index,
-    hopeless: BTreeMap<Place, ()>,
+    hopeless: BTreeMap<DottedSigns, ()>,
     hopeless_index: Index,
     counts: BTreeMap<Cursor, (u64, u64)>,
     pass: Pass,
@@ -137,7 +137,7 @@ impl Engine for PlainEngine {
 
     fn choose(&mut self, at: &Cursor) -> Result<(), AllocError> {
         let signs = at.signs();
-        let place = Place::new(signs, self.pass.dot);
+        let place = DottedSigns::new(signs, self.pass.dot);
         self.pattern_index.enter(signs);
         raise_in(&mut self.patterns, place, self.pass.level)?;
         Ok(())
@@ -145,7 +145,7 @@ impl Engine for PlainEngine {
 
     fn give_up(&mut self, at: &Cursor) -> Result<(), AllocError> {
         let signs = at.signs();
-        let place = Place::new(signs, self.pass.dot);
+        let place = DottedSigns::new(signs, self.pass.dot);
         self.hopeless_index.enter(signs);
         put_in(&mut self.hopeless, place)?;
         Ok(())

@@ -22,7 +22,7 @@ use std::ops::Bound;
 /// on it asks the index for each string of the word, up to the first with which no longer string of the map begins, and looks
 /// up in the map those that the index cannot exclude.
 pub fn walk<F: PlaceEntry>(
-    map: &BTreeMap<Place, F>,
+    map: &BTreeMap<DottedSigns, F>,
     index: &Index,
     w: &[Sign],
     pass: &Pass,
@@ -42,7 +42,7 @@ pub fn walk<F: PlaceEntry>(
 
 /// Raises them by the entries whose signs stand in the word from `i` on, the shorter ones first.
 fn raise_from<F: PlaceEntry>(
-    map: &BTreeMap<Place, F>,
+    map: &BTreeMap<DottedSigns, F>,
     index: &Index,
     w: &[Sign],
     i: usize,
@@ -70,7 +70,7 @@ fn raise_from<F: PlaceEntry>(
 /// Raises them by the entries whose signs are `q`, which stand in the word from `i` on. It is false only where no longer string
 /// of the map begins with `q`.
 fn raise_by_string<F: PlaceEntry>(
-    map: &BTreeMap<Place, F>,
+    map: &BTreeMap<DottedSigns, F>,
     index: &Index,
     q: &[Sign],
     i: usize,
@@ -99,7 +99,7 @@ fn raise_by_string<F: PlaceEntry>(
 
 /// The same, by a look-up in the map.
 fn look_up<F: PlaceEntry>(
-    map: &BTreeMap<Place, F>,
+    map: &BTreeMap<DottedSigns, F>,
     q: &[Sign],
     i: usize,
     pass: &Pass,
@@ -113,7 +113,7 @@ fn look_up<F: PlaceEntry>(
         map.now.entries) out.old out.new }
     ensures ends { result ≡ false → list_any (λ e. goes_on q.now e.0.0) map.now.entries ≡ false }
 {
-    let first = Place::new(q, 0);
+    let first = DottedSigns::new(q, 0);
     for (place, entry) in map.range((Bound::Included(&first), Bound::Unbounded)) {
         if place.signs() != q {
             return place.signs().starts_with(q);
@@ -125,7 +125,7 @@ fn look_up<F: PlaceEntry>(
 
 /// Raises them by an entry whose signs stand in the word from `i` on.
 fn raise_by_entry<F: PlaceEntry>(
-    place: &Place,
+    place: &DottedSigns,
     entry: &F,
     i: usize,
     pass: &Pass,

@@ -7,7 +7,7 @@ use Rattle.std.specs.Ordering.{eq_by_cmp}
 use Rattle.std.specs.FinMap.Entries.{put, find, by_order}
 use Rattle.std.proofs.lemmas.Bool.{and_parts, and_from, or_right, le-leb, lt-leb, leb-true, leb-false, eqb-true, not-true}
 use Rattle.pg_dict.specs.Word.{Word}
-use Rattle.pg_patterns.specs.Places.{place_cmp, place_exact}
+use Rattle.pg_patterns.specs.DottedSigns.{dotted_cmp, dotted_exact}
 use Rattle.pg_patterns.specs.Values.{value_of, raise, largest}
 use Rattle.pg_select.specs.declared.pass.Pass.{Pass}
 use Rattle.pg_select.specs.Laws.{raised_all, hopeless_all}
@@ -18,14 +18,14 @@ use Rattle.pg_select.proofs.LawsClosed.{all_weaker}
 use Rattle.pg_select.proofs.LawsRaised.{AreLong, passing_long}
 
 -- a test of all entries, with one more
-all_put : {X : Type 0} (t : (List ℕ × ℕ) × X → Bool) (k : List ℕ × ℕ) (v : X) (es : List ((List ℕ × ℕ) × X)) → t (k, v) ≡ true → list_all t es ≡ true → list_all t (put place_cmp k v es) ≡ true
+all_put : {X : Type 0} (t : (List ℕ × ℕ) × X → Bool) (k : List ℕ × ℕ) (v : X) (es : List ((List ℕ × ℕ) × X)) → t (k, v) ≡ true → list_all t es ≡ true → list_all t (put dotted_cmp k v es) ≡ true
 all_put t k v [] here all = and_from (t (k, v)) true here refl
 all_put {X} t k v (e ∷ es) here all =
     let parts = and_parts (t e) (list_all t es) all in
-    elim (place_cmp k e.0) as (λ (r : Ordering). place_cmp k e.0 ≡ r → list_all t (by_order r ((k, v) ∷ e ∷ es) ((e.0, v) ∷ es) (e ∷ put place_cmp k v es)) ≡ true) [
+    elim (dotted_cmp k e.0) as (λ (r : Ordering). dotted_cmp k e.0 ≡ r → list_all t (by_order r ((k, v) ∷ e ∷ es) ((e.0, v) ∷ es) (e ∷ put dotted_cmp k v es)) ≡ true) [
       | Less ↦ λ r. and_from (t (k, v)) (list_all t (e ∷ es)) here all
-      | Equal ↦ λ r. and_from (t (e.0, v)) (list_all t es) (ap (λ (x : List ℕ × ℕ). t (x, v)) (sym (place_exact k e.0 r)) ∙ here) parts.1
-      | Greater ↦ λ r. and_from (t e) (list_all t (put place_cmp k v es)) parts.0 (all_put t k v es here parts.1)
+      | Equal ↦ λ r. and_from (t (e.0, v)) (list_all t es) (ap (λ (x : List ℕ × ℕ). t (x, v)) (sym (dotted_exact k e.0 r)) ∙ here) parts.1
+      | Greater ↦ λ r. and_from (t e) (list_all t (put dotted_cmp k v es)) parts.0 (all_put t k v es here parts.1)
     ] refl
 
 -- what values are up to, through a pass
@@ -33,7 +33,7 @@ value_up_to : (level : ℕ) (k : List ℕ × ℕ) (P : Patterns) → IsUpTo leve
 value_up_to level k [] upto = omega arith
 value_up_to level k (e ∷ es) upto =
     let parts = and_parts (nat_le e.1 level) (list_all (λ (x : (List ℕ × ℕ) × ℕ). nat_le x.1 level) es) upto in
-    by_test (eq_by_cmp place_cmp k e.0) (find place_cmp k es) (leb-true e.1 level parts.0) (value_up_to level k es parts.1)
+    by_test (eq_by_cmp dotted_cmp k e.0) (find dotted_cmp k es) (leb-true e.1 level parts.0) (value_up_to level k es parts.1)
   where
     by_test : (b : Bool) (o : Option ℕ) → e.1 ≤ level → unwrap_or o 0 ≤ level → unwrap_or (cond b (Some e.1) o) 0 ≤ level
     by_test true o here rest = here
@@ -64,7 +64,7 @@ short_hopeless dot len H [] long short = short
 short_hopeless dot len H (c ∷ cs) long short =
     let parts = and_parts (nat_eq (length c.window) len) (list_all (λ (x : Candidate). nat_eq (length x.window) len) cs) long in
     let size : length c.window ≡ len = eqb-true (length c.window) len parts.0 in
-    short_hopeless dot len (put place_cmp (c.window, dot) (tt {0}) H) cs parts.1 (all_put (λ (e : (List ℕ × ℕ) × Unit {0}). nat_le (length e.0.0) len) (c.window, dot) (tt {0}) H (le-leb (length c.window) len (omega arith)) short)
+    short_hopeless dot len (put dotted_cmp (c.window, dot) (tt {0}) H) cs parts.1 (all_put (λ (e : (List ℕ × ℕ) × Unit {0}). nat_le (length e.0.0) len) (c.window, dot) (tt {0}) H (le-leb (length c.window) len (omega arith)) short)
 
 pub covers_up_to_longer : (level len : ℕ) (P : Patterns) (H : Hopeless) → CoversUpTo level len P H → CoversUpTo level (len + 1) P H
 covers_up_to_longer level len P H short = record {

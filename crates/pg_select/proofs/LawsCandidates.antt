@@ -12,7 +12,7 @@ use Rattle.std.proofs.lemmas.List.Folds.{list_all-append}
 use Rattle.std.proofs.lemmas.List.Sums.{AllPass-from_list_all}
 use Rattle.pg_dict.specs.Word.{Word}
 use Rattle.pg_translate.specs.Reach.{positions}
-use Rattle.pg_patterns.specs.Places.{place_cmp, same_place, place_exact}
+use Rattle.pg_patterns.specs.DottedSigns.{dotted_cmp, same_dotted, dotted_exact}
 use Rattle.pg_patterns.specs.Values.{value_of, raise, applies, stands_at}
 use Rattle.pg_types.proofs.Tests.{equal_is}
 use Rattle.pg_patterns.proofs.Joins.{only, value_of_raise}
@@ -81,9 +81,9 @@ below : (level : ℕ) (P : List ((List ℕ × ℕ) × ℕ)) (u : List ℕ) (d : 
 below level [] u d low none = omega arith
 below level (e ∷ es) u d low none =
     let parts = or_parts (nat_le level e.1 && applies u d e.0) (list_any (λ (x : (List ℕ × ℕ) × ℕ). nat_le level x.1 && applies u d x.0) es) none in
-    elim (eq_by_cmp place_cmp (u, d) e.0) as (λ (b : Bool). eq_by_cmp place_cmp (u, d) e.0 ≡ b → unwrap_or (cond b (Some e.1) (find place_cmp (u, d) es)) 0 < level) [
+    elim (eq_by_cmp dotted_cmp (u, d) e.0) as (λ (b : Bool). eq_by_cmp dotted_cmp (u, d) e.0 ≡ b → unwrap_or (cond b (Some e.1) (find dotted_cmp (u, d) es)) 0 < level) [
       | true ↦ λ b.
-          let there : applies u d e.0 ≡ true = ap (applies u d) (sym (place_exact (u, d) e.0 (equal_is (place_cmp (u, d) e.0) b))) ∙ applies_itself u d in
+          let there : applies u d e.0 ≡ true = ap (applies u d) (sym (dotted_exact (u, d) e.0 (equal_is (dotted_cmp (u, d) e.0) b))) ∙ applies_itself u d in
           leb-false level e.1 (first (nat_le level e.1) (applies u d e.0) there parts.0)
       | false ↦ λ b. below level es u d low parts.1
     ] refl
@@ -126,7 +126,7 @@ candidates_are_low m words pass P H low i d inside =
     ltb-true _ pass.level (AllPass-from_list_all (λ (u : List ℕ). nat_lt (value_of P (u, pass.dot)) pass.level) (candidates (counted_positions m words pass P H)) all i d inside)
 
 -- a place is the same as itself
-same_itself : (k : List ℕ × ℕ) → same_place k k ≡ true
+same_itself : (k : List ℕ × ℕ) → same_dotted k k ≡ true
 same_itself k = and_from (pointwise nat_eq k.0 k.0) (nat_eq k.1 k.1) (itself k.0) (eq-eqb k.1 k.1 refl)
 
 -- and gets exactly the level when it is chosen
@@ -143,11 +143,11 @@ chosen_get_level m words pass P H low i d inside = gets _ (candidates_are_low m 
         ∙ greater (value_of P (u, pass.dot)) pass.level less
 
 -- the value of a raised place is the greater, and those of others stay
-pub others_stay : (P : List ((List ℕ × ℕ) × ℕ)) (j k : List ℕ × ℕ) (v : ℕ) → same_place k j ≡ false → value_of (raise P j v) k ≡ value_of P k
+pub others_stay : (P : List ((List ℕ × ℕ) × ℕ)) (j k : List ℕ × ℕ) (v : ℕ) → same_dotted k j ≡ false → value_of (raise P j v) k ≡ value_of P k
 others_stay P j k v other = value_of_raise P j k v ∙ ap (λ b. max (only b v) (value_of P k)) other ∙ none (value_of P k)
   where
     none : (n : ℕ) → max 0 n ≡ n
     none n = omega arith
 
 pub none_falls : (P : List ((List ℕ × ℕ) × ℕ)) (j k : List ℕ × ℕ) (v : ℕ) → value_of P k ≤ value_of (raise P j v) k
-none_falls P j k v = let is : value_of (raise P j v) k ≡ max (only (same_place k j) v) (value_of P k) = value_of_raise P j k v in omega arith
+none_falls P j k v = let is : value_of (raise P j v) k ≡ max (only (same_dotted k j) v) (value_of P k) = value_of_raise P j k v in omega arith

@@ -9,7 +9,7 @@ use Rattle.std.proofs.lemmas.Bool.{and_parts, and_from, not-true, or_cases, or_l
 use Rattle.std.proofs.lemmas.List.Folds.{list_all-append}
 use Rattle.pg_dict.specs.Word.{Word}
 use Rattle.pg_translate.specs.Reach.{positions}
-use Rattle.pg_patterns.specs.Places.{place_cmp}
+use Rattle.pg_patterns.specs.DottedSigns.{dotted_cmp}
 use Rattle.pg_patterns.specs.Values.{raise, applies}
 use Rattle.pg_select.specs.Statuses.{status_at, weight_at}
 use Rattle.pg_select.specs.Windows.{Hopeless, window, fits, covered}
@@ -29,7 +29,7 @@ later_all_raised level dot P H (c ∷ cs) =
 later_all_hopeless : (level dot : ℕ) (P : List ((List ℕ × ℕ) × ℕ)) (H : Hopeless) (cs : List Candidate) → Later level P H P (hopeless_all dot H cs)
 later_all_hopeless level dot P H [] = later_at_once level P H
 later_all_hopeless level dot P H (c ∷ cs) =
-    later_still level P P P H (put place_cmp (c.window, dot) (tt {0}) H) (hopeless_all dot (put place_cmp (c.window, dot) (tt {0}) H) cs) (later_hopeless level P H (c.window, dot)) (later_all_hopeless level dot P (put place_cmp (c.window, dot) (tt {0}) H) cs)
+    later_still level P P P H (put dotted_cmp (c.window, dot) (tt {0}) H) (hopeless_all dot (put dotted_cmp (c.window, dot) (tt {0}) H) cs) (later_hopeless level P H (c.window, dot)) (later_all_hopeless level dot P (put dotted_cmp (c.window, dot) (tt {0}) H) cs)
 
 -- a pass leads to a later point
 pub later_settled : (level dot : ℕ) (P : List ((List ℕ × ℕ) × ℕ)) (H : Hopeless) (raised hopeless : List Candidate) → Later level P H (raised_all level dot P raised) (hopeless_all dot H hopeless)
@@ -59,9 +59,9 @@ covered_all_hopeless : (level dot : ℕ) (P : List ((List ℕ × ℕ) × ℕ)) (
 covered_all_hopeless level dot P H u [] among = cc
 covered_all_hopeless level dot P H u (c ∷ cs) among =
     ⊎_elim
-    (λ (same : same_signs u c.window ≡ true). (later_all_hopeless level dot P (put place_cmp (c.window, dot) (tt {0}) H) cs).covers u dot
+    (λ (same : same_signs u c.window ≡ true). (later_all_hopeless level dot P (put dotted_cmp (c.window, dot) (tt {0}) H) cs).covers u dot
     (covered_hopeless level P H (c.window, dot) u dot ∙ or_left (applies u dot (c.window, dot)) (covered level P H u dot) (stands_same u c.window dot same)))
-    (λ (rest : is_among u cs ≡ true). covered_all_hopeless level dot P (put place_cmp (c.window, dot) (tt {0}) H) u cs rest)
+    (λ (rest : is_among u cs ≡ true). covered_all_hopeless level dot P (put dotted_cmp (c.window, dot) (tt {0}) H) u cs rest)
     (or_cases (same_signs u c.window) (is_among u cs) among)
 
 -- what is counted of a window passes a test that fails where the window is counted still

@@ -6,7 +6,7 @@ use Rattle.std.proofs.lemmas.Bool.{and_parts, and_from, or_right}
 use Rattle.pg_types.specs.declared.marks.Mark.TheVariants.{Nothing, Error, Missed, Found}
 use Rattle.pg_dict.specs.Word.{Word}
 use Rattle.pg_translate.specs.Reach.{positions}
-use Rattle.pg_patterns.specs.Places.{place_cmp}
+use Rattle.pg_patterns.specs.DottedSigns.{dotted_cmp}
 use Rattle.pg_patterns.specs.Values.{raise, applies, value_at}
 use Rattle.pg_select.specs.Statuses.{is_odd, status, status_at, weight_at}
 use Rattle.pg_select.specs.Windows.{Hopeless, window, fits, covered}
@@ -45,7 +45,7 @@ later_raised level P H k = record {
   covers = λ u d is. covered_raised level P H k u d ∙ or_right (applies u d k) (covered level P H u d) is;
 }
 
-pub later_hopeless : (level : ℕ) (P : List ((List ℕ × ℕ) × ℕ)) (H : Hopeless) (k : List ℕ × ℕ) → Later level P H P (put place_cmp k (tt {0}) H)
+pub later_hopeless : (level : ℕ) (P : List ((List ℕ × ℕ) × ℕ)) (H : Hopeless) (k : List ℕ × ℕ) → Later level P H P (put dotted_cmp k (tt {0}) H)
 later_hopeless level P H k = record {
   values = λ w p. inl refl;
   covers = λ u d is. covered_hopeless level P H k u d ∙ or_right (applies u d k) (covered level P H u d) is;

@@ -10,7 +10,7 @@ use Rattle.std.proofs.lemmas.List.{take_all}
 use Rattle.std.proofs.lemmas.List.Folds.{list_all-map}
 use Rattle.pg_dict.specs.Word.{Word}
 use Rattle.pg_translate.specs.Reach.{positions}
-use Rattle.pg_patterns.specs.Places.{place_cmp}
+use Rattle.pg_patterns.specs.DottedSigns.{dotted_cmp}
 use Rattle.pg_patterns.specs.Values.{raise, applies, stands_at, value_at}
 use Rattle.pg_patterns.proofs.Joins.{only}
 use Rattle.pg_select.specs.Laws.{raised_all, hopeless_all}
@@ -217,7 +217,7 @@ cover_raised level dot P H u d (c ∷ cs) =
 cover_hopeless : (level dot : ℕ) (P : Patterns) (H : Hopeless) (u : List ℕ) (d : ℕ) (cs : List Candidate) → covered level P (hopeless_all dot H cs) u d ≡ (list_any (λ (c : Candidate). applies u d (c.window, dot)) cs || covered level P H u d)
 cover_hopeless level dot P H u d [] = refl
 cover_hopeless level dot P H u d (c ∷ cs) =
-    cover_hopeless level dot P (put place_cmp (c.window, dot) (tt {0}) H) u d cs
+    cover_hopeless level dot P (put dotted_cmp (c.window, dot) (tt {0}) H) u d cs
     ∙ ap (λ b. list_any (λ (x : Candidate). applies u d (x.window, dot)) cs || b) (covered_hopeless level P H (c.window, dot) u d)
     ∙ turned (applies u d (c.window, dot)) (list_any (λ (x : Candidate). applies u d (x.window, dot)) cs) (covered level P H u d)
 

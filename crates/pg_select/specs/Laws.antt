@@ -8,7 +8,7 @@ use Rattle.std.specs.FinMap.Entries.{put}
 use Rattle.pg_types.specs.declared.limits.TheConstants.{FILE_MAX}
 use Rattle.pg_translate.specs.Reach.{positions}
 use Rattle.pg_dict.specs.Word.{Word, IsWord, letters_of}
-use Rattle.pg_patterns.specs.Places.{place_cmp, same_place}
+use Rattle.pg_patterns.specs.DottedSigns.{dotted_cmp, same_dotted}
 use Rattle.pg_patterns.specs.Values.{value_of, raise, applies, value_at}
 use Rattle.pg_select.specs.Meanings.{Meaning, with_position, given_up}
 use Rattle.pg_select.specs.declared.pass.Pass.{Pass}
@@ -72,7 +72,7 @@ ChosenGetLevel = (m : Minima) (words : List Word) (pass : Pass) (P : Patterns) (
 
 -- a raise leaves the value of every other place
 abbrev pub OthersStay : Type 0
-OthersStay = (P : Patterns) (j k : List ℕ × ℕ) (v : ℕ) → same_place k j ≡ false → value_of (raise P j v) k ≡ value_of P k
+OthersStay = (P : Patterns) (j k : List ℕ × ℕ) (v : ℕ) → same_dotted k j ≡ false → value_of (raise P j v) k ≡ value_of P k
 
 -- and no value of a place falls
 abbrev pub NoneFalls : Type 0
@@ -93,7 +93,7 @@ RaisedCovers = (level : ℕ) (P : Patterns) (H : Hopeless) (k : List ℕ × ℕ)
 
 -- and so does a place that is made hopeless
 abbrev pub HopelessCovers : Type 0
-HopelessCovers = (level : ℕ) (P : Patterns) (H : Hopeless) (k : List ℕ × ℕ) (u : List ℕ) (d : ℕ) → covered level P (put place_cmp k (tt {0}) H) u d ≡ (applies u d k || covered level P H u d)
+HopelessCovers = (level : ℕ) (P : Patterns) (H : Hopeless) (k : List ℕ × ℕ) (u : List ℕ) (d : ℕ) → covered level P (put dotted_cmp k (tt {0}) H) u d ≡ (applies u d k || covered level P H u d)
 
 -- so a window that is given up covers each window in which it stands with its dot
 abbrev pub GivenUpCovers : Type 0
@@ -119,7 +119,7 @@ LaterRaised = (level : ℕ) (P : Patterns) (H : Hopeless) (k : List ℕ × ℕ) 
 
 -- and so does a place that is made hopeless
 abbrev pub LaterHopeless : Type 0
-LaterHopeless = (level : ℕ) (P : Patterns) (H : Hopeless) (k : List ℕ × ℕ) → Later level P H P (put place_cmp k (tt {0}) H)
+LaterHopeless = (level : ℕ) (P : Patterns) (H : Hopeless) (k : List ℕ × ℕ) → Later level P H P (put dotted_cmp k (tt {0}) H)
 
 -- a position whose status counts later in a level counted before, and as the same
 abbrev pub StatusBack : Type 0
@@ -159,7 +159,7 @@ raised_all level dot P cs = fold (λ P c. raise P (c.window, dot) level) P cs
 
 -- the hopeless places when those windows are made hopeless at the dot
 abbrev pub hopeless_all : ℕ → Hopeless → List Candidate → Hopeless
-hopeless_all dot H cs = fold (λ H c. put place_cmp (c.window, dot) (tt {0}) H) H cs
+hopeless_all dot H cs = fold (λ H c. put dotted_cmp (c.window, dot) (tt {0}) H) H cs
 
 -- a pass leads to a later point of its level, whatever it chooses and gives up
 abbrev pub LaterSettled : Type 0

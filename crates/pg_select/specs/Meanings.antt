@@ -8,7 +8,7 @@ use Rattle.pg_types.specs.declared.marks.Layout.{Layout}
 use Rattle.pg_types.specs.Counts.{Counts, SignsWithin, with_count, is_counted}
 use Rattle.pg_types.specs.Placement.{Families, taken, top, enter, kept}
 use Rattle.pg_types.specs.Tails.{tails}
-use Rattle.pg_patterns.specs.Places.{place_cmp}
+use Rattle.pg_patterns.specs.DottedSigns.{dotted_cmp}
 use Rattle.pg_patterns.specs.Values.{IsPatternMap, SignsUpTo, raise}
 use Rattle.pg_select.specs.Positions.{HasValues, HasCovers}
 use Rattle.pg_select.specs.Windows.{Patterns, Hopeless}
@@ -31,7 +31,7 @@ pub record Meaning : Type 0 where
 -- places and its counts stand in order; and no sign is above the greatest
 pub record IsKept (m : Meaning) : Type 0 where
   pub patterns : IsPatternMap m.patterns
-  pub hopeless_order : T (is_sorted place_cmp m.hopeless)
+  pub hopeless_order : T (is_sorted dotted_cmp m.hopeless)
   pub counts_order : T (is_sorted (slice_cmp nat_cmp) m.counts)
   pub pattern_signs : SignsUpTo m.signs m.patterns
   pub hopeless_signs : All (λ e. SignsWithin m.signs e.0.0) m.hopeless
@@ -73,7 +73,7 @@ chosen m u tidy = record m { patterns = raise m.patterns (u, m.pass.dot) m.pass.
 
 -- a window was given up: it is hopeless at the pass's dot. Nothing is said of tidiness
 abbrev pub given_up : Meaning → List ℕ → Bool → Meaning
-given_up m u tidy = record m { hopeless = put place_cmp (u, m.pass.dot) (tt {0}) m.hopeless; families = entered m u; tidy = tidy }
+given_up m u tidy = record m { hopeless = put dotted_cmp (u, m.pass.dot) (tt {0}) m.hopeless; families = entered m u; tidy = tidy }
 
 -- a level ended: nothing is hopeless, and the families lose the cells of strings that are no prefix of a pattern's
 abbrev pub ended : Meaning → Meaning

@@ -10,7 +10,7 @@ use Rattle.std.proofs.lemmas.List.Sums.{fold-append}
 use Rattle.std.proofs.lemmas.Option.{slice_get_within, slice_get-get_or, get_or_from_slice_get}
 use Rattle.pg_types.specs.Placement.{Families, root, enter, enter_after, cell_in, cell_of, with_sign, few_signs}
 use Rattle.pg_types.specs.Tails.{outputs_of}
-use Rattle.pg_patterns.specs.Places.{place_cmp}
+use Rattle.pg_patterns.specs.DottedSigns.{dotted_cmp}
 use Rattle.pg_patterns.specs.Values.{IsPatternMap, SignsUpTo}
 use Rattle.pg_patterns.proofs.Sound.{each_sign}
 use Rattle.pg_types.specs.Signs.{is_sign}

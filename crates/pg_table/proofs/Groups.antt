@@ -11,7 +11,7 @@ use Rattle.std.proofs.lemmas.List.Elements.{filter-append}
 use Rattle.std.proofs.Math.Seq.{take-add}
 use Rattle.std.proofs.lemmas.Option.{slice_get_within, slice_get-get_or, get_or_from_slice_get, slice_get_past}
 use Rattle.pg_types.specs.Tails.{outputs_of}
-use Rattle.pg_patterns.specs.Places.{place_cmp}
+use Rattle.pg_patterns.specs.DottedSigns.{dotted_cmp}
 use Rattle.pg_patterns.specs.Texts.{strings_of, with_string}
 use Rattle.pg_patterns.proofs.Ordered.{sorted_at}
 use Rattle.pg_patterns.proofs.Strings.{string_once, string_ends, equal_signs}
@@ -61,7 +61,7 @@ pub record AreApart (P : List Entry) (at : ℕ) : Type 0 where
   pub apart : (j k : ℕ) (e f : Entry) → j < at → at ≤ k → slice_get P j ≡ Some e → slice_get P k ≡ Some f → e.0.0 ≢ f.0.0
 
 -- of entries in order, those between two of one string are of that string
-upto : (q r : List ℕ) (a b : ℕ) → place_cmp (q, a) (r, b) ≡ Less → (slice_cmp nat_cmp q r ≡ Less) ⊎ (q ≡ r)
+upto : (q r : List ℕ) (a b : ℕ) → dotted_cmp (q, a) (r, b) ≡ Less → (slice_cmp nat_cmp q r ≡ Less) ⊎ (q ≡ r)
 upto q r a b less = by (slice_cmp nat_cmp q r) refl less
   where
     by : (o : Ordering) → slice_cmp nat_cmp q r ≡ o → ordering_then o (nat_cmp a b) ≡ Less → (slice_cmp nat_cmp q r ≡ Less) ⊎ (q ≡ r)
@@ -69,13 +69,13 @@ upto q r a b less = by (slice_cmp nat_cmp q r) refl less
     by Equal e l = inr (equal_signs q r e)
     by Greater e l = cc
 
-place_before : (P : List Entry) → T (is_sorted place_cmp P) → (i j : ℕ) (e f : Entry) → i < j → slice_get P i ≡ Some e → slice_get P j ≡ Some f → place_cmp e.0 f.0 ≡ Less
+place_before : (P : List Entry) → T (is_sorted dotted_cmp P) → (i j : ℕ) (e f : Entry) → i < j → slice_get P i ≡ Some e → slice_get P j ≡ Some f → dotted_cmp e.0 f.0 ≡ Less
 place_before P sorted i j e f low e_at f_at =
-    ap (λ (x : Entry). place_cmp x.0 f.0) (sym (get_or_from_slice_get P i e e e_at))
-    ∙ ap (λ (x : Entry). place_cmp (get_or P i e).0 x.0) (sym (get_or_from_slice_get P j f e f_at))
-    ∙ sorted_at place_cmp P i j e sorted low (slice_get_within P j f f_at)
+    ap (λ (x : Entry). dotted_cmp x.0 f.0) (sym (get_or_from_slice_get P i e e e_at))
+    ∙ ap (λ (x : Entry). dotted_cmp (get_or P i e).0 x.0) (sym (get_or_from_slice_get P j f e f_at))
+    ∙ sorted_at dotted_cmp P i j e sorted low (slice_get_within P j f f_at)
 
-pub between_same : (P : List Entry) → T (is_sorted place_cmp P) → (i j k : ℕ) (e f g : Entry) → i < j → j < k → slice_get P i ≡ Some e → slice_get P j ≡ Some f → slice_get P k ≡ Some g → e.0.0 ≡ g.0.0 → f.0.0 ≡ e.0.0
+pub between_same : (P : List Entry) → T (is_sorted dotted_cmp P) → (i j k : ℕ) (e f g : Entry) → i < j → j < k → slice_get P i ≡ Some e → slice_get P j ≡ Some f → slice_get P k ≡ Some g → e.0.0 ≡ g.0.0 → f.0.0 ≡ e.0.0
 between_same P sorted i j k e f g low high e_at f_at g_at same =
     elim (upto e.0.0 f.0.0 e.0.1 f.0.1 (place_before P sorted i j e f low e_at f_at)) [
       | inr one ↦ sym one
@@ -88,7 +88,7 @@ between_same P sorted i j k e f g low high e_at f_at g_at same =
       ]
     ]
 
-module _ (P : List Entry) (sorted : T (is_sorted place_cmp P)) (q : List ℕ) (at end : ℕ) (group : IsGroup P q at end) where
+module _ (P : List Entry) (sorted : T (is_sorted dotted_cmp P)) (q : List ℕ) (at end : ℕ) (group : IsGroup P q at end) where
   abbrev part : List Entry
   part = take (end - at) (drop at P)
 

@@ -8,7 +8,7 @@ use Rattle.std.proofs.lemmas.List.{length-map, same_lists}
 use Rattle.std.proofs.lemmas.Option.{slice_get-map, slice_get_within, get_or_from_slice_get, slice_get-get_or}
 use Rattle.pg_types.specs.declared.limits.TheConstants.{LEVEL_MAX, PATTERN_SIGNS_MAX}
 use Rattle.pg_types.specs.Tails.{outputs_of}
-use Rattle.pg_patterns.specs.Places.{place_cmp, same_place}
+use Rattle.pg_patterns.specs.DottedSigns.{dotted_cmp, same_dotted}
 use Rattle.pg_patterns.specs.Values.{IsPatternMap, best, value_of}
 use Rattle.pg_patterns.proofs.Kept.{value_of_sorted}
 use Rattle.pg_outputs.specs.declared.records.Record.{Record}
@@ -136,10 +136,10 @@ entry_is P q d sound = all P ∙ sym (value_of_sorted P (q, d) sound.sorted)
       | inr other ↦ ne_eqb x d other ∙ sym (ne_eqb d x (λ z. other (sym z)))
     ]
 
-    all : (es : List ((List ℕ × ℕ) × ℕ)) → greatest_at d (map turned (outputs_of es q)) ≡ best (same_place (q, d)) es
+    all : (es : List ((List ℕ × ℕ) × ℕ)) → greatest_at d (map turned (outputs_of es q)) ≡ best (same_dotted (q, d)) es
     all [] = refl
     all (e ∷ es) =
-        let rest : ℕ = best (same_place (q, d)) es in
+        let rest : ℕ = best (same_dotted (q, d)) es in
         elim (cases_Bool (pointwise nat_eq q e.0.0)) [
           | inl same ↦
               ap (λ t. greatest_at d (map turned (map (λ f. (f.0.1, f.1)) (cond t (e ∷ filter (λ f. pointwise nat_eq q f.0.0) es) (filter (λ f. pointwise nat_eq q f.0.0) es))))) same

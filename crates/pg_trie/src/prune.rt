@@ -31,7 +31,7 @@ fn drop_blank(cells: &mut Cells<u64, FEW_SIGNS>, string: &[Sign])
 }
 
 /// Takes the cells of all strings away that have several signs and no list, where no string goes on from them that stays.
-pub fn prune(cells: &mut Cells<u64, FEW_SIGNS>, strings: &[Place])
+pub fn prune(cells: &mut Cells<u64, FEW_SIGNS>, strings: &[DottedSigns])
     requires held { IsHeld cells.old }
     requires strings { AreStrings cells.old strings.now }
     ensures { (keep : List ℕ → Bool) → IsKeep keep cells.old → Prunes keep cells.old cells.new }

@@ -36,7 +36,7 @@ fn fresh_head(outputs: &Outputs, head: u64, fresh: &mut Outputs) -> Result<u64, 
 pub fn fresh_heads(
     alloc: Global,
     cells: &Cells<u64, FEW_SIGNS>,
-    strings: &[Place],
+    strings: &[DottedSigns],
     outputs: &Outputs,
     fresh: &mut Outputs,
 ) -> Result<Vec<u64>, AllocError>
@@ -54,7 +54,7 @@ pub fn fresh_heads(
 }
 
 /// Gives each string its head.
-pub fn renew(cells: &mut Cells<u64, FEW_SIGNS>, strings: &[Place], heads: &[u64])
+pub fn renew(cells: &mut Cells<u64, FEW_SIGNS>, strings: &[DottedSigns], heads: &[u64])
     requires held { IsHeld cells.old }
     requires strings { AreStrings cells.old strings.now }
     requires heads { length heads.now ≡ length strings.now }

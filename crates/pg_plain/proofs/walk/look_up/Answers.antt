@@ -1,7 +1,7 @@
 use Rattle.std.proofs.Common.{◌≡◌, false, true, nat_eq, sym, subst, ◌∙◌}
 use Rattle.std.specs.Cmp.Lexicographic.{pointwise}
 use Rattle.std.specs.List.{starts_with}
-use Rattle.pg_patterns.specs.Places.{place_cmp}
+use Rattle.pg_patterns.specs.DottedSigns.{dotted_cmp}
 use Rattle.pg_plain.specs.Greatest.{value_by, cover_by}
 use Rattle.pg_plain.proofs.Bools.{not_false, not_not}
 use Rattle.pg_plain.proofs.Maps.{sorted_from}
@@ -11,7 +11,7 @@ use Rattle.pg_plain.proofs.walk.look_up.Goals as goal
 pub loop-place-init : goal.loop-place-init
 loop-place-init g c =
     string_begins (value_by g.F.PlaceEntry.given) (cover_by g.F.PlaceEntry.covers_at c.args.pass.now) c.args.q.now c.args.i c.args.map.now.entries c.new-first.result c.into_iter-place-iterator.result c.args.out.now c.new-first.ensures
-    (sorted_from place_cmp c.args.map.now.entries c.range-place-items.ensures.ordered) (c.into_iter-place-iterator.ensures.into_iter_gives ∙ c.range-place-items.ensures.between tt)
+    (sorted_from dotted_cmp c.args.map.now.entries c.range-place-items.ensures.ordered) (c.into_iter-place-iterator.ensures.into_iter_gives ∙ c.range-place-items.ensures.between tt)
 
 pub returns-then-ne-clause-values : goal.returns-then-ne-clause-values
 returns-then-ne-clause-values g c =

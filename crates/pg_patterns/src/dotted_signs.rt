@@ -8,13 +8,13 @@ use std::marker::Model;
 /// Up to [`PATTERN_SIGNS_MAX`] signs and a dot, the number of signs before it. Places are ordered by their signs, a string
 /// before its extensions, and then by their dots.
 #[derive(Drop)]
-pub struct Place {
+pub struct DottedSigns {
     signs: [Sign; PATTERN_SIGNS_MAX],
     len: u8,
     dot: u8,
 }
 
-impl Model for Place {
+impl Model for DottedSigns {
     ghost use Rattle.std.specs.Prelude.{ℕ, ◌≤◌, List, take};
     ghost use Rattle.pg_types.specs.declared.limits.TheConstants.{PATTERN_SIGNS_MAX};
 
@@ -25,15 +25,15 @@ impl Model for Place {
     ghost invariant = { λ p. p.len ≤ PATTERN_SIGNS_MAX };
 }
 
-impl Place {
+impl DottedSigns {
     /// The place of `dot` among `signs`.
-    pub fn new(signs: &[Sign], dot: u8) -> Place
+    pub fn new(signs: &[Sign], dot: u8) -> DottedSigns
         requires { length signs.now ≤ PATTERN_SIGNS_MAX }
         ensures { result ≡ (signs.now, dot) }
     {
         let mut held = [0; PATTERN_SIGNS_MAX];
         held[..signs.len()].copy_from_slice(signs);
-        Place {
+        DottedSigns {
             signs: held,
             len: signs.len() as u8,
             dot,
@@ -56,51 +56,51 @@ impl Place {
     }
 }
 
-impl PartialEq for Place {
-    ghost use Rattle.pg_patterns.specs.Places.{same_place};
-    ghost use Rattle.pg_patterns.specs.Places.{place_partial_equiv};
+impl PartialEq for DottedSigns {
+    ghost use Rattle.pg_patterns.specs.DottedSigns.{same_dotted};
+    ghost use Rattle.pg_patterns.specs.DottedSigns.{dotted_partial_equiv};
 
-    ghost eq = { same_place };
+    ghost eq = { same_dotted };
 
-    ghost laws = { place_partial_equiv };
+    ghost laws = { dotted_partial_equiv };
 
     fn eq(&self, other: &Self) -> bool {
         self.dot() == other.dot() && self.signs() == other.signs()
     }
 }
 
-impl Eq for Place {
-    ghost use Rattle.pg_patterns.specs.Places.{place_equiv};
+impl Eq for DottedSigns {
+    ghost use Rattle.pg_patterns.specs.DottedSigns.{dotted_equiv};
 
-    ghost laws = { place_equiv };
+    ghost laws = { dotted_equiv };
 }
 
-impl PartialOrd for Place {
+impl PartialOrd for DottedSigns {
     ghost use Rattle.std.specs.Prelude.{Some};
-    ghost use Rattle.pg_patterns.specs.Places.{place_cmp};
-    ghost use Rattle.pg_patterns.specs.Places.{place_partial_order};
+    ghost use Rattle.pg_patterns.specs.DottedSigns.{dotted_cmp};
+    ghost use Rattle.pg_patterns.specs.DottedSigns.{dotted_partial_order};
 
-    ghost partial_cmp = { λ a b. Some (place_cmp a b) };
+    ghost partial_cmp = { λ a b. Some (dotted_cmp a b) };
 
-    ghost laws = { place_partial_order };
+    ghost laws = { dotted_partial_order };
 
     fn partial_cmp(&self, other: &Self) -> Option<Ordering> {
         Some(self.cmp(other))
     }
 }
 
-impl Ord for Place {
+impl Ord for DottedSigns {
     ghost use Rattle.std.specs.Prelude.{refl};
-    ghost use Rattle.pg_patterns.specs.Places.{place_cmp};
-    ghost use Rattle.pg_patterns.specs.Places.{place_total, place_ties};
+    ghost use Rattle.pg_patterns.specs.DottedSigns.{dotted_cmp};
+    ghost use Rattle.pg_patterns.specs.DottedSigns.{dotted_total, dotted_ties};
 
-    ghost cmp = { place_cmp };
+    ghost cmp = { dotted_cmp };
 
-    ghost total = { place_total };
+    ghost total = { dotted_total };
 
     ghost matches_partial_cmp = { λ a b. refl };
 
-    ghost matches_eq = { place_ties };
+    ghost matches_eq = { dotted_ties };
 
     fn cmp(&self, other: &Self) -> Ordering {
         self.signs()
