@@ -6,7 +6,7 @@ use Rattle.std.specs.Ordering.{is_lt, is_eq, is_gt, ordering_reverse}
 use Rattle.std.specs.Cmp.{IsTotalOrder}
 use Rattle.std.specs.FinMap.Entries.{put, find, is_sorted, below_all, by_order}
 use Rattle.std.specs.List.{list_all}
-use Rattle.pg_types.proofs.Tests.{is_true, holds, and_first, and_second, both_true, first_half, second_half, less_is, greater_is, equal_is, less_left}
+use Rattle.pg_types.proofs.BoolFacts.{is_true, holds, and_first, and_second, both_true, first_half, second_half, less_is, greater_is, equal_is, less_left}
 
 module _ {K : Type 0} (R : K → K → Ordering) (o : IsTotalOrder R) where
   -- what is after a key is after each key below it

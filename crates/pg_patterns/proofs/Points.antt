@@ -14,7 +14,7 @@ use Rattle.std.specs.Option.{option_map_or}
 use Rattle.pg_patterns.specs.DottedSigns.{dotted_cmp, dotted_total, same_dotted, dotted_ties, dotted_exact}
 use Rattle.pg_patterns.specs.Search.{is_after, begins_with, StandsAt, first_value}
 use Rattle.pg_patterns.specs.Texts.{digit_of}
-use Rattle.pg_types.proofs.Tests.{greater_is, less_left, equal_is}
+use Rattle.pg_types.proofs.BoolFacts.{greater_is, less_left, equal_is}
 use Rattle.pg_patterns.proofs.Ordered.{sorted_at, find_over, find_there, find_gap, all_before, first_before, first_at, first_not_before, sorted_drop, after_below}
 
 -- a number that is less is not more than one less

@@ -8,7 +8,7 @@ use Rattle.std.proofs.lemmas.List.Sums.{fold-append}
 use Rattle.pg_types.specs.Tails.{outputs_of, suffixes}
 use Rattle.pg_patterns.specs.Values.{IsPatternMap, is_entry}
 use Rattle.pg_patterns.specs.Texts.{strings_of, with_string}
-use Rattle.pg_types.proofs.Tests.{and_first, and_second}
+use Rattle.pg_types.proofs.BoolFacts.{and_first, and_second}
 use Rattle.pg_patterns.proofs.Sound.{entry_bounds}
 use Rattle.pg_cells.proofs.StringMaps.{same_from}
 use Rattle.pg_table.specs.Sharing.{Lists, with_ends}
