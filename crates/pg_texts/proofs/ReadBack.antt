@@ -24,7 +24,7 @@ use Rattle.pg_texts.proofs.WordMarks.{statuses_are_marks}
 -- the laws of items, of lines and of files
 pub record Laws (t : Alphabet) : Type 0 where
   pub spelled : SpellsLetters t
-  pub unbroken : (item : Token) (text : List ℕ) → IsItem t Dictionary item text → list_any is_space text ≡ false
+  pub items_lines : (items : List (Token × List ℕ)) → AllByRecursion (IsDictionaryItem t) items → IsLine (joined items)
   pub words_read : (before : ℕ) (w : Word) (marks : List Mark) → IsWord w → AreMarksOf w marks → line_word before (word_tokens before marks w) ≡ record { word = Some w; weight = w.weight }
   pub lines_read : (line weight : ℕ) (items : List (Token × List ℕ)) → AllByRecursion (IsDictionaryItem t) items → letters_among (map (λ item. item.0) items) ≤ WORD_LETTERS_MAX → line_of t line weight (joined items) ≡ Ok (line_word weight (map (λ item. item.0) items))
   pub files_read : (texts : List (List ℕ)) (all : List Word) → AllByRecursion IsLine texts → LinesGive t 1 texts all → length (file_of texts) ≤ FILE_MAX → words t (file_of texts) ≡ Ok all
@@ -56,39 +56,11 @@ lines_give : (t : Alphabet) → Laws t → (P : Patterns) (before : ℕ) (ws : L
 lines_give t laws P before [] known = tt
 lines_give t laws P before (w ∷ ws) known = (λ line. line_read t laws P before line w known.0, lines_give t laws P w.weight ws known.1)
 
--- items that are joined hold no blank, TAB, LF or CR
-items_unbroken : (t : Alphabet) → Laws t → (items : List (Token × List ℕ)) → AllByRecursion (IsDictionaryItem t) items → list_any is_space (joined items) ≡ false
-items_unbroken t laws [] each = refl
-items_unbroken t laws (item ∷ items) each = list_any-append is_space item.1 (joined items) ∙ rw (laws.unbroken item.0 item.1 each.0, items_unbroken t laws items each.1) refl
-
-or_none : (a b : Bool) → (a || b) ≡ false → (a ≡ false) × (b ≡ false)
-or_none true b none = cc
-or_none false b none = (refl, none)
-
-not_feed : (b : ℕ) → is_space b ≡ false → is_line_feed b ≡ false
-not_feed b none = elim (cases_Bool (is_line_feed b)) [ inr other ↦ other | inl here ↦ let same : b ≡ 10 = eqb-true b 10 here in let yes : is_space 10 ≡ false = rw same at none in cc ]
-
-not_return : (b : ℕ) → is_space b ≡ false → (b == 13) ≡ false
-not_return b none = elim (cases_Bool (b == 13)) [ inr other ↦ other | inl here ↦ let same : b ≡ 13 = eqb-true b 13 here in let yes : is_space 13 ≡ false = rw same at none in cc ]
-
--- a text without these is a line
-no_feed : (text : List ℕ) → list_any is_space text ≡ false → list_all (λ b. not (is_line_feed b)) text ≡ true
-no_feed [] none = refl
-no_feed (b ∷ bs) none = let parts = or_none (is_space b) (list_any is_space bs) none in rw (not_feed b parts.0) (no_feed bs parts.1)
-
-no_return : (text : List ℕ) → list_any is_space text ≡ false → (k : ℕ) → (slice_index text k == 13) ≡ false
-no_return [] none zero = refl
-no_return [] none (suc k) = refl
-no_return (b ∷ bs) none zero = not_return b (or_none (is_space b) (list_any is_space bs) none).0
-no_return (b ∷ bs) none (suc k) = no_return bs (or_none (is_space b) (list_any is_space bs) none).1 k
-
-is_line : (text : List ℕ) → list_any is_space text ≡ false → IsLine text
-is_line text none = record { whole = no_feed text none; ended = rw (no_return text none (length text - 1)) refl }
-
+-- each text is a line
 lines_are : (t : Alphabet) → Laws t → (P : Patterns) (before : ℕ) (ws : List Word) → AllByRecursion (IsKnown t) ws → AllByRecursion IsLine (texts_behind t P before ws)
 lines_are t laws P before [] known = tt
 lines_are t laws P before (w ∷ ws) known = (
-  is_line (joined (line_items t P before w)) (items_unbroken t laws (line_items t P before w) (word_items_each t before (statuses t P w) w laws.spelled known.0.word known.0.signs)),
+  laws.items_lines (line_items t P before w) (word_items_each t before (statuses t P w) w laws.spelled known.0.word known.0.signs),
   lines_are t laws P w.weight ws known.1,
 )
 
