@@ -11,7 +11,7 @@ ghost use Rattle.pg_plain.specs.Walks.{has_signs_at, goes_on, begins};
 
 use crate::index::Index;
 use crate::place_entry::PlaceEntry;
-use pg_patterns::Place;
+use pg_patterns::DottedSigns;
 use pg_select::{Pass, WordState};
 use pg_types::{PATTERN_SIGNS_MAX, Sign};
 use std::collections::BTreeMap;

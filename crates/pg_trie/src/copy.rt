@@ -12,7 +12,7 @@ use crate::mark::{FEW_SIGNS, HOPELESS};
 use crate::strings::{strings, value_of};
 use pg_cells::Cells;
 use pg_outputs::Outputs;
-use pg_patterns::Place;
+use pg_patterns::DottedSigns;
 use std::alloc::{AllocError, Global};
 
 // Puts the values of a string's list behind the entries.

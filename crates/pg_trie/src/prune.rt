@@ -7,7 +7,7 @@ ghost use Rattle.pg_trie.specs.Strings.{AreStrings};
 use crate::mark::FEW_SIGNS;
 use crate::strings::find_cell;
 use pg_cells::Cells;
-use pg_patterns::Place;
+use pg_patterns::DottedSigns;
 use pg_types::Sign;
 
 // Takes the cell of a string of several signs away, where it has no list and no string goes on from it.

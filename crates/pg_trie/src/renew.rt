@@ -10,7 +10,7 @@ use crate::mark::{FEW_SIGNS, HOPELESS};
 use crate::strings::{find_cell, value_of};
 use pg_cells::Cells;
 use pg_outputs::Outputs;
-use pg_patterns::Place;
+use pg_patterns::DottedSigns;
 use std::alloc::{AllocError, Global};
 
 // The head of a list's values without its mark, among the new records.

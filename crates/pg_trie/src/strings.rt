@@ -9,7 +9,7 @@ ghost use Rattle.pg_trie.specs.Strings.{AreShort, IsString, PutsBelow, AreString
 
 use crate::mark::FEW_SIGNS;
 use pg_cells::{Cells, step};
-use pg_patterns::Place;
+use pg_patterns::DottedSigns;
 use pg_types::{PATTERN_SIGNS_MAX, Sign};
 use std::alloc::{AllocError, Global};
 
