@@ -30,11 +30,19 @@ fn write_after_reading<R: rt::Files + Alloc<A = Global>>(
     files.write(name, b"a1b\n")
 }
 
-/// Goes into an empty folder of the test's own.
+/// Goes into an empty folder of this name, which is the test's own.
 pub(super) fn enter_folder(rt: &(impl rt::Files + rt::Env + Alloc), name: &str) -> io::Result<()> {
+    fs::create_dir_all(rt, "out/tests")?;
+    env::set_current_dir(rt, "out/tests")?;
     let _ = fs::remove_dir_all(rt, name);
-    fs::create_dir_all(rt, name)?;
+    fs::create_dir(rt, name)?;
     env::set_current_dir(rt, name)
+}
+
+/// Leaves the folder of this name, and removes it.
+pub(super) fn leave_folder(rt: &(impl rt::Files + rt::Env + Alloc), name: &str) -> io::Result<()> {
+    env::set_current_dir(rt, "..")?;
+    fs::remove_dir_all(rt, name)
 }
 
 /// Goes into an empty folder, and makes there a file D and other names of it, a folder, and a link
@@ -50,7 +58,7 @@ fn make_names(rt: &(impl rt::Files + rt::Env + Alloc), name: &str) -> io::Result
 
 #[test]
 fn reads_of_real_files(rt: HostRuntime) -> Result<(), Fail> {
-    make_names(&rt, "out/tests/reads_of_real_files")?;
+    make_names(&rt, "reads_of_real_files")?;
     let table: [(&str, usize, Result<(), ReadError>, &[u8]); 6] = [
         ("D", 5, Ok(()), b"a-b\n"),
         ("D", 4, Ok(()), b"a-b\n"),
@@ -65,33 +73,36 @@ fn reads_of_real_files(rt: HostRuntime) -> Result<(), Fail> {
         assert_eq!(rt; result, wanted);
         assert_eq!(rt; into.as_slice(), bytes);
     }
+    leave_folder(&rt, "reads_of_real_files")?;
     Ok(())
 }
 
 #[test]
 fn what_was_read_is_not_written(rt: HostRuntime) -> Result<(), Fail> {
-    make_names(&rt, "out/tests/what_was_read_is_not_written")?;
+    make_names(&rt, "what_was_read_is_not_written")?;
     for name in ["D", "./D", "hard", "soft"] {
         assert_eq!(rt; write_after_reading(&rt, "D", name), Err(Failed));
         assert!(rt; holds(&rt, "D", b"a-b\n"));
         assert!(rt; !is_new_file_left(&rt));
     }
+    leave_folder(&rt, "what_was_read_is_not_written")?;
     Ok(())
 }
 
 #[test]
 fn names_that_are_not_written(rt: HostRuntime) -> Result<(), Fail> {
-    make_names(&rt, "out/tests/names_that_are_not_written")?;
+    make_names(&rt, "names_that_are_not_written")?;
     for name in ["folder", ".", "", "missing/O", "O/", "/dev/full"] {
         assert_eq!(rt; write_after_reading(&rt, "D", name), Err(Failed));
         assert!(rt; !is_new_file_left(&rt));
     }
+    leave_folder(&rt, "names_that_are_not_written")?;
     Ok(())
 }
 
 #[test]
 fn written_in_place(rt: HostRuntime) -> Result<(), Fail> {
-    make_names(&rt, "out/tests/written_in_place")?;
+    make_names(&rt, "written_in_place")?;
     fs::write(&rt, "other", b"x")?;
     for name in ["soft", "dangling", "/dev/null"] {
         assert_eq!(rt; write_after_reading(&rt, "other", name), Ok(()));
@@ -100,12 +111,13 @@ fn written_in_place(rt: HostRuntime) -> Result<(), Fail> {
         assert!(rt; holds(&rt, name, b"a1b\n"));
     }
     assert!(rt; fs::symlink_metadata(&rt, "soft")?.is_symlink());
+    leave_folder(&rt, "written_in_place")?;
     Ok(())
 }
 
 #[test]
 fn a_file_is_replaced_as_a_whole(rt: HostRuntime) -> Result<(), Fail> {
-    make_names(&rt, "out/tests/a_file_is_replaced_as_a_whole")?;
+    make_names(&rt, "a_file_is_replaced_as_a_whole")?;
     fs::write(&rt, "patgen-new-0", b"x")?;
     fs::set_permissions(&rt, "D", Permissions::from_mode(0o640))?;
     for name in ["D", "./D", "N", "folder/N"] {
@@ -116,6 +128,7 @@ fn a_file_is_replaced_as_a_whole(rt: HostRuntime) -> Result<(), Fail> {
     assert!(rt; holds(&rt, "patgen-new-0", b"x"));
     assert_eq!(rt; fs::metadata(&rt, "D")?.mode() & 0o777, 0o640);
     assert!(rt; !fs::exists(&rt, "patgen-new-1")?);
+    leave_folder(&rt, "a_file_is_replaced_as_a_whole")?;
     Ok(())
 }
 
@@ -134,14 +147,16 @@ fn written_within(
 
 #[test]
 fn a_folder_without_permission(rt: HostRuntime) -> Result<(), Fail> {
-    make_names(&rt, "out/tests/a_folder_without_permission")?;
+    make_names(&rt, "a_folder_without_permission")?;
     fs::write(&rt, "folder/O", b"x")?;
     if fs::metadata(&rt, "folder")?.uid() == 0 {
         println!(rt; "skipped as root: a folder without permission")?;
+        leave_folder(&rt, "a_folder_without_permission")?;
         return Ok(());
     }
     assert_eq!(rt; written_within(&rt)?, [Err(Failed), Err(Failed)]);
     assert!(rt; holds(&rt, "folder/O", b"x"));
+    leave_folder(&rt, "a_folder_without_permission")?;
     Ok(())
 }
 
@@ -161,7 +176,7 @@ fn written_over<R: rt::Files + Alloc<A = Global>>(
 
 #[test]
 fn steps_that_fail(rt: HostRuntime) -> Result<(), Fail> {
-    enter_folder(&rt, "out/tests/steps_that_fail")?;
+    enter_folder(&rt, "steps_that_fail")?;
     let table: [(&[Call], Broken, Result<(), Failed>, &[u8]); 7] = [
         (&[], Broken::Nothing, Ok(()), b"a1b\n"),
         (
@@ -187,5 +202,6 @@ fn steps_that_fail(rt: HostRuntime) -> Result<(), Fail> {
         assert!(rt; holds(&rt, "O", bytes));
         assert!(rt; !is_new_file_left(&rt));
     }
+    leave_folder(&rt, "steps_that_fail")?;
     Ok(())
 }

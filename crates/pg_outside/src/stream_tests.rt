@@ -1,4 +1,4 @@
-use super::host_tests::enter_folder;
+use super::host_tests::{enter_folder, leave_folder};
 use super::scripted::{Call, Scripted};
 use super::streams::{read_within, write_bytes};
 use super::{Failed, HostSink, ReadError, Sink};
@@ -58,7 +58,7 @@ fn writes_go_on_to_the_end(rt: HostRuntime) -> Result<(), Fail> {
 
 #[test]
 fn a_writer_as_a_sink(rt: HostRuntime) -> Result<(), Fail> {
-    enter_folder(&rt, "out/tests/a_writer_as_a_sink")?;
+    enter_folder(&rt, "a_writer_as_a_sink")?;
     let mut sink = HostSink::new(fs::create(&rt, "S")?);
     sink.put(b"done: ")?;
     sink.put(b"1\n")?;
@@ -68,6 +68,7 @@ fn a_writer_as_a_sink(rt: HostRuntime) -> Result<(), Fail> {
         HostSink::new(fs::create(&rt, "/dev/full")?).put(b"2\n"),
         Err(Failed)
     );
+    leave_folder(&rt, "a_writer_as_a_sink")?;
     Ok(())
 }
 
