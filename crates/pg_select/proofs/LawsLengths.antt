@@ -1,12 +1,10 @@
 -- From a length to the next.
-use Rattle.std.proofs.Common.{◌≡◌, ℕ, ◌+◌, ◌-◌, ◌<◌, ◌≤◌, nat_le, nat_eq, Bool, true, false, not, ◌&&◌, ◌||◌, ⊎_elim, List, [], ◌∷◌, length, take, drop, refl, sym, ap, ◌∙◌, arith, length-take, length-drop}
+use Rattle.std.proofs.Common.{◌≡◌, ℕ, ◌+◌, ◌-◌, ◌<◌, ◌≤◌, nat_le, Bool, true, false, not, ◌&&◌, ◌||◌, ⊎_elim, List, [], ◌∷◌, length, refl, sym, ◌∙◌, arith}
 use Rattle.std.specs.List.{list_any, list_all}
-use Rattle.std.specs.Cmp.Lexicographic.{pointwise}
 use Rattle.std.proofs.lemmas.Bool.{and_parts, and_from, le-leb, leb-true, or_left, or_right, or_cases, cases_lt}
-use Rattle.std.proofs.lemmas.List.{take-take, drop-take, drop-drop}
 use Rattle.pg_patterns.specs.Values.{stands_at, applies}
 use Rattle.pg_select.specs.Windows.{Hopeless, window, fits, covered, Patterns}
-use Rattle.pg_select.proofs.LawsLonger.{part_length, stands_wider}
+use Rattle.pg_select.proofs.LawsLonger.{stands_wider}
 use Rattle.pg_select.specs.LawsSteps.{CoversUpTo, IsBelow}
 
 -- two tests that follow from one another are equal

@@ -1,5 +1,5 @@
 -- The status of a position, in reach or not.
-use Rattle.std.specs.Prelude.{ℕ, nat_eq, Bool, if◌then◌else◌, List, length}
+use Rattle.std.specs.Prelude.{ℕ, nat_eq, Bool, if◌then◌else◌, length}
 use Rattle.std.specs.List.{list_any}
 use Rattle.pg_types.specs.declared.marks.Mark.{Mark}
 use Rattle.pg_dict.specs.Word.{Word}
