@@ -5,7 +5,6 @@ ghost use Rattle.pg_outside.specs.Faults.{next_count};
 use super::beside::FileBeside;
 use super::outside::{Failed, Files, ReadError};
 use super::replacement::replace_by;
-use super::size_limit::is_past_size_limit;
 use super::streams::{read_within, write_bytes};
 use std::alloc::{AllocError, Global};
 use std::fs::{Metadata, OpenFile, OpenOptions, Permissions};
@@ -107,9 +106,6 @@ impl<R: rt::Files + Drop> HostFiles<R> {
         permissions: Option<Permissions>,
         bytes: &[u8],
     ) -> Result<(), Failed> {
-        if is_past_size_limit(bytes) {
-            return Err(Failed);
-        }
         let mut new = FileBeside::make(self.alloc, &self.system, name, permissions)?;
         replace_by(&mut new, bytes)
     }
@@ -136,9 +132,6 @@ impl<R: rt::Files + Drop> HostFiles<R> {
         }
         if !metadata.is_file() {
             return write_bytes(&mut file, bytes);
-        }
-        if is_past_size_limit(bytes) {
-            return Err(Failed);
         }
         file.set_len(0)?;
         write_bytes(&mut file, bytes)?;
