@@ -31,7 +31,7 @@ fn main(rt: HostRuntime) -> ExitCode {
             return ExitCode::from(NO_MEMORY);
         }
     }
-    let mut files = HostFiles::new(&rt);
+    let mut files = HostFiles::new(alloc, &rt);
     let mut out = HostSink::new(rt.stdout());
     ExitCode::from(exit_code(&run(alloc, &words, &mut files, &mut out)))
 }

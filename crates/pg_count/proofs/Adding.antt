@@ -5,7 +5,7 @@ use Rattle.pg_cells.specs.Held.{Held}
 use Rattle.pg_cells.specs.IsHeld.{IsHeld}
 use Rattle.pg_cells.specs.Walks.{AddsBlanks}
 use Rattle.pg_cells.proofs.StringMaps.{order}
-use Rattle.pg_count.specs.Counts.{SignsWithin, AreSmall, sums_of, with_weight, with_count, is_counted}
+use Rattle.pg_types.specs.Counts.{SignsWithin, AreSmall, sums_of, with_weight, with_count, is_counted}
 use Rattle.pg_count.specs.Counting.{Counting, IsCounting, AreCounting, counting_of, counts_in}
 use Rattle.pg_count.proofs.Counted.{counts_in-put, counts_in-blanks, sums_told, not_counted, counting_put}
 

@@ -4,7 +4,7 @@ use Rattle.std.specs.Ordering.{is_lt}
 use Rattle.std.specs.FinMap.Entries.{find, put, is_sorted, below_all}
 use Rattle.pg_cells.specs.Walks.{AddsBlanks}
 use Rattle.pg_cells.proofs.StringMaps.{order, same_string, equal_or_not, same_maps, find_put_same, find_put_other, sorted_put, find_below, head_below, tail_sorted}
-use Rattle.pg_count.specs.Counts.{SignsWithin, is_counted, sums_of}
+use Rattle.pg_types.specs.Counts.{SignsWithin, is_counted, sums_of}
 use Rattle.pg_count.specs.Counting.{Counting, IsCounting, Tallies, sums_at, counts_in}
 
 both : (a b : Bool) → T a → T b → T (a && b)

@@ -4,7 +4,7 @@ use Rattle.std.specs.declared.cmp.Ordering.TheVariants.{Less}
 use Rattle.std.specs.FinMap.Entries.{find}
 use Rattle.pg_cells.specs.Held.{Held}
 use Rattle.pg_cells.proofs.StringMaps.{order}
-use Rattle.pg_count.specs.Counts.{above}
+use Rattle.pg_types.specs.Counts.{above}
 use Rattle.pg_count.specs.Counting.{Counting, AreCounting, counting_of, counts_in, sums_at}
 use Rattle.pg_count.specs.Least.{NoneAbove, LeastAbove}
 use Rattle.pg_count.proofs.Above.{above_none, above_least}

@@ -8,7 +8,7 @@ use Rattle.std.specs.FinMap.Entries.{find, is_sorted}
 use Rattle.pg_types.specs.declared.limits.TheConstants.{LENGTH_MAX}
 use Rattle.pg_cells.specs.Held.{Held}
 use Rattle.pg_cells.specs.IsHeld.{IsHeld}
-use Rattle.pg_count.specs.Counts.{Counts, SignsWithin, is_counted}
+use Rattle.pg_types.specs.Counts.{Counts, SignsWithin, is_counted}
 
 -- the number of signs of the table; how many signs a window has; and the counts of the windows
 pub record Counting : Type 0 where

@@ -1,10 +1,11 @@
 //! The windows that are counted in a pass.
 ghost use Rattle.std.specs.Prelude.{◌≡◌, ◌≤◌, true, [], ◌∷◌, length, IfOk, OnOk, OnErr, IsOk, MatchOption};
 ghost use Rattle.pg_types.specs.declared.limits.TheConstants.{LENGTH_MAX, SIGNS_MAX, WEIGHT_MAX};
-ghost use Rattle.pg_count.specs.Counts.{AreSmall, SignsWithin, sums_of, with_weight, with_count, is_counted, above};
+ghost use Rattle.pg_types.specs.Counts.{AreSmall, SignsWithin, counted_sums, sums_of, with_weight, with_count, is_counted, above};
 ghost use Rattle.pg_count.specs.Counting.{IsCounting};
 
 use crate::least::least;
+use crate::sums::sums_in;
 use crate::tally::{FEW_SIGNS, Tally};
 use pg_cells::{Cells, enter};
 use pg_types::{Cursor, EDGE, LENGTH_MAX, Sign, Weight};
@@ -73,6 +74,15 @@ impl CountTrie {
         let tally = self.cells.value(cell);
         self.cells.set_value(cell, tally.with(good, weight));
         Ok(())
+    }
+
+    /// The good and the bad sum of a window; none exactly where it is not counted. It takes no memory.
+    pub fn sums(&self, window: &[Sign]) -> Option<(u64, u64)>
+        requires len { length window.now ≡ self.now.len }
+        requires signs { SignsWithin self.now.signs window.now }
+        ensures { result ≡ counted_sums self.now.counts window.now }
+    {
+        sums_in(&self.cells, window)
     }
 
     /// Moves the cursor to the least counted window that is greater, and gives its good and bad sums; none exactly where there is

@@ -4,6 +4,7 @@
 mod bound;
 mod counts;
 mod least;
+mod sums;
 mod tally;
 #[cfg(test)]
 mod tests;

@@ -1,6 +1,6 @@
 //! The sums of a string that may be counted.
 ghost use Rattle.std.specs.Prelude.{◌≡◌, unwrap_or, Some, None};
-ghost use Rattle.pg_count.specs.Counts.{AreSmall, with_weight};
+ghost use Rattle.pg_types.specs.Counts.{AreSmall, with_weight};
 
 use pg_types::Weight;
 use std::marker::Model;

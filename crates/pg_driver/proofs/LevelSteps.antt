@@ -1,48 +1,229 @@
--- What a pass records, and the passes of a length.
-use Rattle.std.proofs.Common.{◌≡◌, ℕ, ◌+◌, ◌-◌, ◌<◌, Bool, true, false, cond, nat_lt, List, [], ◌∷◌, ◌++◌, length, map, refl, ap, ◌∙◌}
-use Rattle.std.specs.List.{range_with_len}
-use Rattle.std.proofs.lemmas.List.{map_push}
+-- A step of a level: a pass that is done, one that is skipped, and the next length.
+use Rattle.std.proofs.Common.{◌≡◌, ℕ, ◌+◌, ◌-◌, ◌<◌, ◌==◌, nat_le, zero, Bool, true, false, not, ◌&&◌, List, [], ◌∷◌, ◌++◌, length, map, Option, None, Some, refl, sym, ap, subst, ◌∙◌, append_assoc, append-nil, arith}
+use Rattle.std.specs.List.{list_all, flat_map, range_with_len}
+use Rattle.std.specs.Option.{option_map}
+use Rattle.std.proofs.lemmas.Bool.{and_parts, leb-true, and_from}
+use Rattle.std.proofs.lemmas.Bool.Decides.{nat_tests}
+use Rattle.std.proofs.lemmas.List.Folds.{list_all-append}
+use Rattle.std.proofs.lemmas.List.Sums.{fold-append}
 use Rattle.pg_types.specs.declared.parameters.LevelParams.{LevelParams}
-use Rattle.pg_translate.specs.Alphabets.{Alphabet}
-use Rattle.pg_dict.specs.Word.{Word}
+use Rattle.pg_types.specs.Placement.{Families, taken, top}
 use Rattle.pg_select.specs.Meanings.{Meaning}
-use Rattle.pg_select.specs.Sights.{Pass, Candidate}
+use Rattle.pg_select.specs.declared.pass.Pass.{Pass}
+use Rattle.pg_select.specs.CountedPositions.{Candidate}
 use Rattle.pg_driver.specs.declared.records.PassRecord.{PassRecord}
+use Rattle.pg_driver.specs.Accounts.{PassLine, is_skippable, left_none}
 use Rattle.pg_driver.specs.Dots.{dot_at}
-use Rattle.pg_driver.specs.Runs.{Source, PassLine, after_candidates, chosen_of, line_of, state_after}
+use Rattle.pg_driver.specs.Layouts.{after_passes}
+use Rattle.pg_driver.specs.Levels.{AreClosed, AreRecorded, ClosedDots, GoesOn, IsAt, LevelStart, Tells, all_made_by, is_set, layouts_in, point, unset}
 use Rattle.pg_driver.specs.Sound.{Recorded, with_pass}
-use Rattle.pg_driver.specs.Views.{level_state_of, minima_of, pass_line, source_of, state_of}
+use Rattle.pg_driver.specs.States.{DidPass, State, made_by, state_after, state_at_end, state_of}
+use Rattle.pg_driver.specs.Told.{known_of}
+use Rattle.pg_driver.specs.Traces.{Known, PassTrace, Source, choice_of, is_left, known_after, known_at_end, pass_made, passes_made, passes_of_length}
+use Rattle.pg_driver.proofs.ChoiceSteps.{state_none, state_with}
 use Rattle.pg_driver.proofs.Reaches.{range_step}
+use Rattle.pg_driver.proofs.RecordSteps.{recorded_none, recorded_pass}
+use Rattle.pg_driver.proofs.SkipFlags.{Follows, tells_more, tells_next, tells_none}
+use Rattle.pg_driver.proofs.SkipLaw.{closed_on, left_none_is, skipped_none}
+use Rattle.pg_driver.proofs.TraceSteps.{state_push}
 
-lines_push : (b : Bool) (rs : List PassRecord) (r : PassRecord) (line : PassLine) → pass_line r ≡ line → map pass_line (cond b (rs ++ r ∷ []) rs) ≡ cond b (map pass_line rs ++ line ∷ []) (map pass_line rs)
-lines_push true rs r line is = map_push pass_line rs r ∙ ap (λ l. map pass_line rs ++ l ∷ []) is
-lines_push false rs r line is = refl
+-- the passes of a level
+abbrev pub pass_with : ℕ → ℕ → ℕ → Pass
+pass_with number len dot = record { level = number; len = len; dot = dot }
 
--- a pass that was recorded
-pub pass_recorded : (source : Source) (level : LevelParams) (pass : Pass) (m n : Meaning) (old new : Recorded) (r : PassRecord) (cs : List Candidate)
-    → state_of n ≡ state_after source.signs level pass (state_of m) cs → pass_line r ≡ line_of source level pass (state_of m) cs → new ≡ with_pass old r
-    → level_state_of n new.passes new.chosen ≡ after_candidates source level (level_state_of m old.passes old.chosen) pass cs
-pass_recorded source level pass m n old new r cs state line records =
-    let passes : new.passes ≡ cond (nat_lt 0 r.candidates) (old.passes ++ r ∷ []) old.passes = ap (λ (x : Recorded). x.passes) records in
-    let candidates : r.candidates ≡ length cs = ap (λ (x : PassLine). x.candidates) line in
-    let chosen : new.chosen ≡ old.chosen + length (chosen_of level cs) = ap (λ (x : Recorded). x.chosen) records ∙ ap (λ (x : PassLine). old.chosen + x.chosen) line in
-    let lines : map pass_line new.passes ≡ cond (nat_lt 0 (length cs)) (map pass_line old.passes ++ line_of source level pass (state_of m) cs ∷ []) (map pass_line old.passes) =
-    ap (map pass_line) passes
-    ∙ lines_push (nat_lt 0 r.candidates) old.passes r (line_of source level pass (state_of m) cs) line
-    ∙ ap (λ k. cond (nat_lt 0 k) (map pass_line old.passes ++ line_of source level pass (state_of m) cs ∷ []) (map pass_line old.passes)) candidates in
-    λ i. record { state = state i; lines = lines i; chosen = chosen i }
+at_itself : (n : ℕ) → nat_le n n ≡ true
+at_itself n = grind (arith, nat_tests)
 
--- what a run is over stays, as the number of signs does
-pub same_source : (t : Alphabet) (words : List Word) (m0 m : Meaning) → m.signs ≡ m0.signs → source_of t words m ≡ source_of t words m0
-same_source t words m0 m signs = ap (λ (n : ℕ). record { minima = minima_of t; signs = n; words = words }) signs
+short_push : (len : ℕ) (ps : List PassTrace) (q : PassTrace) → q.pass.len ≡ len → list_all (λ p. nat_le p.pass.len len) ps ≡ true → list_all (λ p. nat_le p.pass.len len) (ps ++ q ∷ []) ≡ true
+short_push len ps q is short =
+    list_all-append (λ (p : PassTrace). nat_le p.pass.len len) ps (q ∷ [])
+    ∙ and_from (list_all (λ p. nat_le p.pass.len len) ps) (list_all (λ p. nat_le p.pass.len len) (q ∷ [])) short (and_from (nat_le q.pass.len len) true (ap (λ n. nat_le n len) is ∙ at_itself len) refl)
 
--- the pass of a dot
-abbrev pub pass_at : ℕ → ℕ → ℕ → Pass
-pass_at number len k = record { level = number; len = len; dot = dot_at len k }
+longer_too : (n len : ℕ) → nat_le n len ≡ true → nat_le n (len + 1) ≡ true
+longer_too n len is = grind (arith, nat_tests)
+
+short_next : (len : ℕ) (ps : List PassTrace) → list_all (λ p. nat_le p.pass.len len) ps ≡ true → list_all (λ p. nat_le p.pass.len (len + 1)) ps ≡ true
+short_next len [] short = refl
+short_next len (p ∷ ps) short =
+    let parts = and_parts (nat_le p.pass.len len) (list_all (λ p. nat_le p.pass.len len) ps) short in
+    and_from (nat_le p.pass.len (len + 1)) (list_all (λ p. nat_le p.pass.len (len + 1)) ps) (longer_too p.pass.len len parts.0) (short_next len ps parts.1)
+
+families_begin : (signs : ℕ) (o : Option Families) → o ≡ option_map (λ fs. after_passes signs fs []) o
+families_begin signs None = refl
+families_begin signs (Some fs) = refl
+
+state_begins : (signs : ℕ) (s : State) → s ≡ state_at_end signs s []
+state_begins signs s = let families = families_begin signs s.families in λ i. record { known = s.known; families = families i }
+
+no_layouts : (signs : ℕ) (o : Option Families) (xs : List (Option (Pass × ℕ × ℕ))) → xs ≡ xs ++ layouts_in signs o []
+no_layouts signs None xs = sym (append-nil xs)
+no_layouts signs (Some fs) xs = sym (append-nil xs)
+
+plus_none : (n : ℕ) → n ≡ n + 0
+plus_none n = omega arith
+
+-- where a level begins
+pub at_level_start : (source : Source) (number len : ℕ) (m : Meaning) (r : Recorded) (flags : ClosedDots) → r.chosen ≡ 0 → flags.here ≡ unset → flags.longer ≡ unset → IsAt source number len (record { engine = m; records = r }) [] (point m r flags)
+at_level_start source number len m r flags chosen here longer = record {
+  signs = refl;
+  state = state_begins m.signs (state_of m);
+  records = record {
+    lines = sym (append-nil _);
+    layouts = no_layouts m.signs m.families _;
+    chosen = plus_none r.chosen;
+    begun = plus_none r.begun;
+    levels = refl;
+  };
+  short = refl;
+  tells = tells_none number len flags here longer;
+  closed = λ n dot is. cc;
+}
+
+module _ (source : Source) (params : LevelParams) (number len dot : ℕ) (m : Meaning) (start : LevelStart) (ps : List PassTrace) (r : Recorded) (old : ClosedDots) (at : IsAt source number len start ps (point m r old)) where
+  abbrev q : PassTrace
+  q = made_by source params m (pass_with number len dot)
+
+  -- the state after the pass
+  state_on : state_after m.signs m.families q ≡ state_at_end start.engine.signs (state_of start.engine) (ps ++ q ∷ [])
+  state_on =
+      let families : m.families ≡ (state_at_end start.engine.signs (state_of start.engine) ps).families = ap (λ (s : State). s.families) at.state in
+      ap (λ (n : ℕ). state_after n m.families q) at.signs ∙ ap (λ (o : Option Families). state_after start.engine.signs o q) families ∙ sym (state_push start.engine.signs (state_of start.engine) ps q)
+
+  short_on : list_all (λ p. nat_le p.pass.len len) (ps ++ q ∷ []) ≡ true
+  short_on = short_push len ps q refl at.short
+
+  tells_on : (b : Bool) (new : ClosedDots) → b ≡ left_none q → new.here ≡ old.here → Follows dot b old new → Tells number len new (ps ++ q ∷ [])
+  tells_on b new left here longer = tells_more number len dot source params (known_of m) old new ps at.tells here (subst (λ (b : Bool). Follows dot b old new) left longer)
+
+  closed_after : (n : Meaning) → state_of n ≡ state_after m.signs m.families q → AreClosed source number (ps ++ q ∷ []) (known_of n)
+  closed_after n state = subst (λ (known : Known). AreClosed source number (ps ++ q ∷ []) known) (sym (ap (λ (s : State). s.known) state)) (closed_on source params number len dot (known_of m) ps at.closed)
+
+-- a pass that is skipped changes nothing
+state_stays : (source : Source) (params : LevelParams) (pass : Pass) (m : Meaning) → (made_by source params m pass).candidates ≡ [] → state_of m ≡ state_after m.signs m.families (made_by source params m pass)
+state_stays source params pass m none = sym (state_none m.signs params pass (state_of m)) ∙ ap (λ (cs : List Candidate). state_with m.signs params pass (state_of m) cs) (sym none)
+
+none_left : (params : LevelParams) (q : PassTrace) → q.candidates ≡ [] → true ≡ left_none q
+none_left params q none = ap (λ (cs : List Candidate). list_all (λ c. not (is_left (choice_of q.params c))) cs) (sym none)
+
+module _ (source : Source) (params : LevelParams) (number len dot : ℕ) (m : Meaning) (r : Recorded) (old new : ClosedDots) where
+  -- a pass that was skipped
+  pub skipped_known : (start : LevelStart) (ps : List PassTrace) → is_set old.here dot ≡ true → IsAt source number len start ps (point m r old) → (made_by source params m (pass_with number len dot)).candidates ≡ []
+  skipped_known start ps flag at = skipped_none source params number len dot (known_of m) ps at.closed (at.tells.here dot ∙ flag)
+
+  pub skipped_on : is_set old.here dot ≡ true → new.here ≡ old.here → Follows dot true old new → GoesOn source number len (made_by source params m (pass_with number len dot) ∷ []) (point m r old) (point m r new)
+  skipped_on flag here longer = λ start ps at.
+      let q : PassTrace = made_by source params m (pass_with number len dot) in
+      let none : q.candidates ≡ [] = skipped_known start ps flag at in
+      let state = state_stays source params (pass_with number len dot) m none in
+      let on : IsAt source number len start (ps ++ q ∷ []) (point m r new) = record {
+        signs = at.signs;
+        state = state ∙ state_on source params number len dot m start ps r old at;
+        records = recorded_none source start.engine.signs start.engine.families ps q start.records r none at.short (at.tells.here dot ∙ flag) at.records;
+        short = short_on source params number len dot m start ps r old at;
+        tells = tells_on source params number len dot m start ps r old at true new (none_left params q none) here longer;
+        closed = closed_after source params number len dot m start ps r old at m state;
+      } in
+      (on, ap (λ (s : State). s.known) state)
+
+  -- a pass that was done
+  pub done_on : (n : Meaning) (s : Recorded) (rec : PassRecord) (b : Bool) → is_set old.here dot ≡ false → new.here ≡ old.here → Follows dot b old new → b ≡ (rec.chosen + rec.hopeless == rec.candidates) → n.signs ≡ m.signs
+      → DidPass source params (pass_with number len dot) m n rec → s ≡ with_pass r rec → GoesOn source number len (made_by source params m (pass_with number len dot) ∷ []) (point m r old) (point n s new)
+  done_on n s rec b flag here longer left signs did records = λ start ps at.
+      let q : PassTrace = made_by source params m (pass_with number len dot) in
+      let none : b ≡ left_none q = left ∙ ap (λ (x : PassLine). x.chosen + x.hopeless == x.candidates) did.line ∙ left_none_is params q.candidates in
+      let state : state_of n ≡ state_at_end start.engine.signs (state_of start.engine) (ps ++ q ∷ []) = did.state ∙ state_on source params number len dot m start ps r old at in
+      let layout = did.layout ∙ ap (λ (s : State). option_map (λ fs. (q.pass, taken fs, top fs)) s.families) state in
+      let on : IsAt source number len start (ps ++ q ∷ []) (point n s new) = record {
+        signs = signs ∙ at.signs;
+        state = state;
+        records = recorded_pass source start.engine.signs start.engine.families ps q start.records r s rec did.line layout records at.short (at.tells.here dot ∙ flag) at.records;
+        short = short_on source params number len dot m start ps r old at;
+        tells = tells_on source params number len dot m start ps r old at b new none here longer;
+        closed = closed_after source params number len dot m start ps r old at n did.state;
+      } in
+      (on, ap (λ (s : State). s.known) did.state)
+
+-- at the next length
+pub at_next : (source : Source) (number len : ℕ) (start : LevelStart) (ps : List PassTrace) (m : Meaning) (r : Recorded) (old new : ClosedDots) → new.here ≡ old.longer → new.longer ≡ unset → IsAt source number len start ps (point m r old) → IsAt source number (len + 1) start ps (point m r new)
+at_next source number len start ps m r old new here longer at = record {
+  signs = at.signs;
+  state = at.state;
+  records = at.records;
+  short = short_next len ps at.short;
+  tells = tells_next number len old new ps at.tells here longer;
+  closed = at.closed;
+}
+
+-- passes that were made, and those that are left and lead to a whole
+pub record Reaches (source : Source) (params : LevelParams) (number len : ℕ) (start : LevelStart) (m : Meaning) (r : Recorded) (flags : ClosedDots) (rest : List Pass) (whole : List PassTrace) (end : Known) : Type 0 where
+  pub done : List PassTrace
+  pub at : IsAt source number len start done (point m r flags)
+  pub left : done ++ all_made_by source params m rest ≡ whole
+  pub known : known_at_end (known_of m) (all_made_by source params m rest) ≡ end
+
+-- passes, and then others
+pub made_append : (source : Source) (params : LevelParams) (known : Known) (xs ys : List Pass) → passes_made source params known (xs ++ ys) ≡ passes_made source params known xs ++ passes_made source params (known_at_end known (passes_made source params known xs)) ys
+made_append source params known [] ys = refl
+made_append source params known (x ∷ xs) ys = ap (λ ps. pass_made source params known x ∷ ps) (made_append source params (known_after (pass_made source params known x)) xs ys)
+
+-- some passes of those that are left
+pub made_on : (source : Source) (params : LevelParams) (m n : Meaning) (xs rest : List Pass) (done whole : List PassTrace) → known_of n ≡ known_at_end (known_of m) (all_made_by source params m xs) → done ++ all_made_by source params m (xs ++ rest) ≡ whole
+    → (done ++ all_made_by source params m xs) ++ all_made_by source params n rest ≡ whole
+made_on source params m n xs rest done whole known left =
+    append_assoc done (all_made_by source params m xs) (all_made_by source params n rest)
+    ∙ ap (λ (k : Known). done ++ (all_made_by source params m xs ++ passes_made source params k rest)) known
+    ∙ ap (λ ps. done ++ ps) (sym (made_append source params (known_of m) xs rest))
+    ∙ left
+
+pub known_on : (source : Source) (params : LevelParams) (m n : Meaning) (xs rest : List Pass) (whole : Known) → known_of n ≡ known_at_end (known_of m) (all_made_by source params m xs)
+    → known_at_end (known_of m) (all_made_by source params m (xs ++ rest)) ≡ whole → known_at_end (known_of n) (all_made_by source params n rest) ≡ whole
+known_on source params m n xs rest whole known left =
+    ap (λ (k : Known). known_at_end k (passes_made source params k rest)) known
+    ∙ sym (fold-append (λ (_ : Known) (p : PassTrace). known_after p) (known_of m) (all_made_by source params m xs) (passes_made source params (known_at_end (known_of m) (all_made_by source params m xs)) rest))
+    ∙ ap (λ ps. known_at_end (known_of m) ps) (sym (made_append source params (known_of m) xs rest))
+    ∙ left
 
 -- the passes of a length from a place on
 abbrev pub passes_from : ℕ → ℕ → ℕ → ℕ → List Pass
-passes_from number len k end = map (λ dot. record { level = number; len = len; dot = dot }) (map (dot_at len) (range_with_len k (end - k)))
+passes_from number len k end = map (λ dot. pass_with number len dot) (map (dot_at len) (range_with_len k (end - k)))
 
-pub passes_step : (number len k end : ℕ) → k < end → passes_from number len k end ≡ pass_at number len k ∷ passes_from number len (k + 1) end
-passes_step number len k end before = ap (λ ks. map (λ dot. record { level = number; len = len; dot = dot }) (map (dot_at len) ks)) (range_step k end before)
+pub passes_step : (number len k end : ℕ) → k < end → passes_from number len k end ≡ pass_with number len (dot_at len k) ∷ passes_from number len (k + 1) end
+passes_step number len k end before = ap (λ ks. map (λ dot. pass_with number len dot) (map (dot_at len) ks)) (range_step k end before)
+
+pub all_from : (number len : ℕ) → passes_from number len 0 (len + 1) ≡ passes_of_length number len
+all_from number len = let all : len + 1 - 0 ≡ len + 1 = omega arith in ap (λ n. map (λ dot. pass_with number len dot) (map (dot_at len) (range_with_len 0 n))) all
+
+pub none_from : (number len end : ℕ) → passes_from number len end end ≡ []
+none_from number len end = let none : end - end ≡ zero = omega arith in ap (λ n. map (λ dot. pass_with number len dot) (map (dot_at len) (range_with_len end n))) none
+
+-- the passes of a level from a length on
+abbrev pub lengths_from : ℕ → ℕ → ℕ → List Pass
+lengths_from number len end = flat_map (passes_of_length number) (range_with_len len (end - len))
+
+pub lengths_step : (number len end : ℕ) → len < end → lengths_from number len end ≡ passes_of_length number len ++ lengths_from number (len + 1) end
+lengths_step number len end before = ap (flat_map (passes_of_length number)) (range_step len end before)
+
+pub no_lengths : (number end : ℕ) → lengths_from number end end ≡ []
+no_lengths number end = let none : end - end ≡ zero = omega arith in ap (λ n. flat_map (passes_of_length number) (range_with_len end n)) none
+
+-- some passes of those that are left
+pub reaches_on : (source : Source) (params : LevelParams) (number len : ℕ) (start : LevelStart) (m n : Meaning) (r s : Recorded) (old new : ClosedDots) (passes xs rest : List Pass) (whole : List PassTrace) (end : Known) → passes ≡ xs ++ rest
+    → GoesOn source number len (all_made_by source params m xs) (point m r old) (point n s new) → Reaches source params number len start m r old passes whole end → Reaches source params number len start n s new rest whole end
+reaches_on source params number len start m n r s old new passes xs rest whole end are on before =
+    let after = on start before.done before.at in
+    record {
+      done = before.done ++ all_made_by source params m xs;
+      at = after.0;
+      left = made_on source params m n xs rest before.done whole after.1 (ap (λ (ps : List Pass). before.done ++ all_made_by source params m ps) (sym are) ∙ before.left);
+      known = known_on source params m n xs rest end after.1 (ap (λ (ps : List Pass). known_at_end (known_of m) (all_made_by source params m ps)) (sym are) ∙ before.known);
+    }
+
+-- where no pass is left, all are done
+pub at_whole : (source : Source) (params : LevelParams) (number len : ℕ) (start : LevelStart) (m : Meaning) (r : Recorded) (flags : ClosedDots) (rest : List Pass) (whole : List PassTrace) (end : Known) → rest ≡ [] → Reaches source params number len start m r flags rest whole end
+    → IsAt source number len start whole (point m r flags) × (known_of m ≡ end)
+at_whole source params number len start m r flags rest whole end none reaches =
+    let at : IsAt source number len start whole (point m r flags) =
+    subst (λ (ps : List PassTrace). IsAt source number len start ps (point m r flags))
+    (sym (append-nil reaches.done) ∙ ap (λ (xs : List Pass). reaches.done ++ all_made_by source params m xs) (sym none) ∙ reaches.left)
+    reaches.at in
+    (at, ap (λ (xs : List Pass). known_at_end (known_of m) (all_made_by source params m xs)) (sym none) ∙ reaches.known)

@@ -1,60 +1,112 @@
 -- A pass, and what it records.
-use Rattle.std.proofs.Common.{◌≡◌, ℕ, ◌+◌, List, length, map, Option, ap, ◌∙◌, arith}
+use Rattle.std.proofs.Common.{◌≡◌, ℕ, ◌+◌, List, [], length, map, fold, Option, None, Some, refl, sym, ap, ◌∙◌, arith}
 use Rattle.std.specs.List.{sum_by}
-use Rattle.std.specs.Option.{option_map}
+use Rattle.std.specs.Option.{option_map, MatchOption}
 use Rattle.pg_types.specs.declared.marks.Layout.{Layout}
 use Rattle.pg_types.specs.declared.marks.Totals.{Totals}
 use Rattle.pg_types.specs.declared.parameters.LevelParams.{LevelParams}
+use Rattle.pg_types.specs.Placement.{Families, taken, top}
 use Rattle.pg_translate.specs.Alphabets.{Alphabet}
 use Rattle.pg_dict.specs.Word.{Word}
-use Rattle.pg_select.specs.Meanings.{Meaning, IsLayout, begun_pass}
-use Rattle.pg_select.specs.Sights.{Pass, Sight, Candidate, sights}
-use Rattle.pg_select.specs.Sums.{totals}
-use Rattle.pg_driver.specs.declared.candidates.Settled.{Settled}
+use Rattle.pg_select.specs.Meanings.{Meaning, IsLayout, begun_pass, with_position}
+use Rattle.pg_select.specs.declared.pass.Pass.{Pass}
+use Rattle.pg_select.specs.CountedPositions.{CountedPosition, Candidate, counted_positions}
+use Rattle.pg_driver.specs.declared.choices.Choices.{Choices}
+use Rattle.pg_driver.specs.declared.records.PassRecord.{PassRecord}
+use Rattle.pg_driver.specs.Accounts.{pass_line, totals_by}
+use Rattle.pg_driver.specs.Choosing.{HasChosen, candidate_of, no_choices, with_candidates}
 use Rattle.pg_driver.specs.Counting.{counting}
-use Rattle.pg_driver.specs.Runs.{Source, candidates_of, chosen_of, hopeless_of, layout_of, line_of, state_after}
-use Rattle.pg_driver.specs.Settling.{Settles, candidate_of, none_settled, with_candidates}
-use Rattle.pg_driver.specs.Views.{minima_of, numbers_of, pass_line, source_of, state_of}
-use Rattle.pg_driver.proofs.Layouts.{layout_is}
+use Rattle.pg_driver.specs.States.{DidPass, State, made_by, state_of, state_after}
+use Rattle.pg_driver.specs.Told.{layout_told, line_of, minima_of, over}
+use Rattle.pg_driver.specs.Traces.{PassTrace, Source, chosen_of, hopeless_of}
+use Rattle.pg_driver.proofs.ChoiceSteps.{state_with}
 use Rattle.pg_driver.proofs.TallyLaw.{tally_is}
 
 -- what a pass of an engine counts
-abbrev pub seen_in : Alphabet → List Word → Pass → Meaning → List Sight
-seen_in t words pass m = sights (minima_of t) words pass m.patterns m.hopeless
+abbrev pub seen_in : Alphabet → List Word → Pass → Meaning → List CountedPosition
+seen_in t words pass m = counted_positions (minima_of t) words pass m.patterns m.hopeless
 
 -- an engine after the walk of a pass
 abbrev pub counted_pass : Alphabet → List Word → Pass → Meaning → Meaning
 counted_pass t words pass m = counting (begun_pass m pass.level pass.len pass.dot) (seen_in t words pass m)
 
-pub counted_is : (t : Alphabet) (words : List Word) (pass : Pass) (m m1 m2 : Meaning) → m1 ≡ begun_pass m pass.level pass.len pass.dot → m2 ≡ counting m1 (sights (minima_of t) words m1.pass m1.patterns m1.hopeless) → m2 ≡ counted_pass t words pass m
-counted_is t words pass m m1 m2 begins counts = counts ∙ ap (λ (x : Meaning). counting x (sights (minima_of t) words x.pass x.patterns x.hopeless)) begins
+-- the pass, and its candidates
+abbrev pub pass_in : Alphabet → List Word → LevelParams → Pass → Meaning → PassTrace
+pass_in t words params pass m = made_by (over t words) params m pass
 
--- the candidates of the pass
-abbrev pub cands : Alphabet → List Word → Pass → Meaning → List Candidate
-cands t words pass m = candidates_of (source_of t words m) (state_of m) pass
-
-pub counts_are : (t : Alphabet) (words : List Word) (pass : Pass) (m m2 : Meaning) → m2 ≡ counted_pass t words pass m → map candidate_of m2.counts ≡ cands t words pass m
-counts_are t words pass m m2 is = ap (λ (x : Meaning). map candidate_of x.counts) is ∙ tally_is (seen_in t words pass m)
+pub counts_are : (t : Alphabet) (words : List Word) (params : LevelParams) (pass : Pass) (m m2 : Meaning) → m2 ≡ counted_pass t words pass m → map candidate_of m2.counts ≡ (pass_in t words params pass m).candidates
+counts_are t words params pass m m2 is = ap (λ (x : Meaning). map candidate_of x.counts) is ∙ tally_is (seen_in t words pass m)
 
 -- the state after the pass
-pub pass_state : (t : Alphabet) (words : List Word) (level : LevelParams) (pass : Pass) (m m2 n : Meaning) → m2 ≡ counted_pass t words pass m → Settles m2 n level (map candidate_of m2.counts) → state_of n ≡ state_after m.signs level pass (state_of m) (cands t words pass m)
-pass_state t words level pass m m2 n is settles =
-    settles.state
-    ∙ ap (λ (x : Meaning). state_after x.signs level x.pass (state_of x) (map candidate_of m2.counts)) is
-    ∙ ap (λ (cs : List Candidate). state_after m.signs level pass (state_of m) cs) (counts_are t words pass m m2 is)
+pub pass_state : (t : Alphabet) (words : List Word) (params : LevelParams) (pass : Pass) (m m2 n : Meaning) → m2 ≡ counted_pass t words pass m → HasChosen params (map candidate_of m2.counts) m2 n → state_of n ≡ state_after m.signs m.families (pass_in t words params pass m)
+pass_state t words params pass m m2 n is has =
+    has.state
+    ∙ ap (λ (x : Meaning). state_with x.signs params x.pass (state_of x) (map candidate_of m2.counts)) is
+    ∙ ap (λ (cs : List Candidate). state_with m.signs params pass (state_of m) cs) (counts_are t words params pass m m2 is)
 
 zero_plus : (n : ℕ) → 0 + n ≡ n
 zero_plus n = omega arith
 
+-- the numbers of a pass as a record
+abbrev pub record_with : Pass → Totals → Choices → Option Layout → PassRecord
+record_with pass before n layout = record {
+  level = pass.level;
+  len = pass.len;
+  dot = pass.dot;
+  before = before;
+  candidates = n.candidates;
+  chosen = n.chosen;
+  hopeless = n.hopeless;
+  good = n.good;
+  bad = n.bad;
+  layout = layout;
+}
+
 -- the line of the pass
-pub line_is : (source : Source) (level : LevelParams) (pass : Pass) (m n : Meaning) (cs : List Candidate) (before : Totals) (s : Settled) (layout : Option Layout)
-    → before ≡ totals source.minima source.words m.patterns → s ≡ with_candidates level none_settled cs → IsLayout n layout → state_of n ≡ state_after source.signs level pass (state_of m) cs
-    → pass_line (record { level = pass.level; len = pass.len; dot = pass.dot; before = before; candidates = s.candidates; chosen = s.chosen; hopeless = s.hopeless; good = s.good; bad = s.bad; layout = layout }) ≡ line_of source level pass (state_of m) cs
-line_is source level pass m n cs before s layout totals numbers tells state =
-    let candidates : s.candidates ≡ length cs = ap (λ (x : Settled). x.candidates) numbers ∙ zero_plus (length cs) in
-    let chosen : s.chosen ≡ length (chosen_of level cs) = ap (λ (x : Settled). x.chosen) numbers ∙ zero_plus (length (chosen_of level cs)) in
-    let hopeless : s.hopeless ≡ length (hopeless_of level cs) = ap (λ (x : Settled). x.hopeless) numbers ∙ zero_plus (length (hopeless_of level cs)) in
-    let good : s.good ≡ sum_by (λ (c : Candidate). c.good) (chosen_of level cs) = ap (λ (x : Settled). x.good) numbers ∙ zero_plus (sum_by (λ (c : Candidate). c.good) (chosen_of level cs)) in
-    let bad : s.bad ≡ sum_by (λ (c : Candidate). c.bad) (chosen_of level cs) = ap (λ (x : Settled). x.bad) numbers ∙ zero_plus (sum_by (λ (c : Candidate). c.bad) (chosen_of level cs)) in
-    let laid : option_map numbers_of layout ≡ layout_of (state_after source.signs level pass (state_of m) cs) = layout_is n layout tells ∙ ap layout_of state in
-    λ i. record { pass = pass; before = totals i; candidates = candidates i; chosen = chosen i; hopeless = hopeless i; good = good i; bad = bad i; layout = laid i }
+line_is : (source : Source) (params : LevelParams) (pass : Pass) (m : Meaning) (before : Totals) (n : Choices) (layout : Option Layout)
+    → before ≡ totals_by source m.patterns → n ≡ with_candidates params no_choices (made_by source params m pass).candidates → line_of (record_with pass before n layout) ≡ pass_line source (made_by source params m pass)
+line_is source params pass m before n layout totals numbers =
+    let cs : List Candidate = (made_by source params m pass).candidates in
+    let candidates : n.candidates ≡ length cs = ap (λ (x : Choices). x.candidates) numbers ∙ zero_plus (length cs) in
+    let chosen : n.chosen ≡ length (chosen_of params cs) = ap (λ (x : Choices). x.chosen) numbers ∙ zero_plus (length (chosen_of params cs)) in
+    let hopeless : n.hopeless ≡ length (hopeless_of params cs) = ap (λ (x : Choices). x.hopeless) numbers ∙ zero_plus (length (hopeless_of params cs)) in
+    let good : n.good ≡ sum_by (λ (c : Candidate). c.good) (chosen_of params cs) = ap (λ (x : Choices). x.good) numbers ∙ zero_plus (sum_by (λ (c : Candidate). c.good) (chosen_of params cs)) in
+    let bad : n.bad ≡ sum_by (λ (c : Candidate). c.bad) (chosen_of params cs) = ap (λ (x : Choices). x.bad) numbers ∙ zero_plus (sum_by (λ (c : Candidate). c.bad) (chosen_of params cs)) in
+    λ i. record { pass = pass; before = totals i; candidates = candidates i; chosen = chosen i; hopeless = hopeless i; good = good i; bad = bad i }
+
+-- the layout after it
+abbrev told : Pass → ℕ → ℕ → Option (Pass × ℕ × ℕ)
+told pass a b = let p : Pass × ℕ × ℕ = (pass, a, b) in Some p
+
+some_layout : (pass : Pass) (o : Option Families) (l : Layout) → MatchOption o ⊥ (λ fs. (l.taken ≡ taken fs) × (l.top ≡ top fs)) → told pass l.taken l.top ≡ option_map (λ fs. (pass, taken fs, top fs)) o
+some_layout pass None l is = absurd is
+some_layout pass (Some fs) l is = λ i. told pass (is.0 i) (is.1 i)
+
+layout_is : (pass : Pass) (before : Totals) (n : Choices) (m : Meaning) (o : Option Layout) → IsLayout m o → layout_told (record_with pass before n o) ≡ option_map (λ fs. (pass, taken fs, top fs)) m.families
+layout_is pass before n m None is = ap (option_map (λ fs. (pass, taken fs, top fs))) (sym is)
+layout_is pass before n m (Some l) is = some_layout pass m.families l is.0
+
+begun_kept : (params : LevelParams) (cs : List Candidate) (old new : Meaning) → HasChosen params cs old new → new.begun ≡ old.begun
+begun_kept params cs old new has = ap (λ (x : Meaning). x.begun) has.kept
+
+-- a pass that an engine counted and chose among
+pub did_pass : (t : Alphabet) (words : List Word) (params : LevelParams) (pass : Pass) (m m2 n : Meaning) (before : Totals) (numbers : Choices) (layout : Option Layout)
+    → m2 ≡ counted_pass t words pass m → before ≡ totals_by (over t words) m.patterns → HasChosen params (map candidate_of m2.counts) m2 n → numbers ≡ with_candidates params no_choices (map candidate_of m2.counts) → IsLayout n layout
+    → DidPass (over t words) params pass m n (record_with pass before numbers layout)
+did_pass t words params pass m m2 n before numbers layout counted totals has chosen tells = record {
+  state = pass_state t words params pass m m2 n counted has;
+  line = line_is (over t words) params pass m before numbers layout totals (chosen ∙ ap (λ (cs : List Candidate). with_candidates params no_choices cs) (counts_are t words params pass m m2 counted));
+  layout = layout_is pass before numbers n layout tells;
+  begun = begun_kept params (map candidate_of m2.counts) m2 n has ∙ ap (λ (x : Meaning). x.begun) counted;
+}
+
+-- an engine that counted what a pass counts, and then chose
+pub counted_as : (t : Alphabet) (words : List Word) (pass : Pass) (m m1 m2 : Meaning) → m1 ≡ begun_pass m pass.level pass.len pass.dot → m2 ≡ counting m1 (counted_positions (minima_of t) words pass m1.patterns m1.hopeless) → m2 ≡ counted_pass t words pass m
+counted_as t words pass m m1 m2 begins counts = counts ∙ ap (λ (x : Meaning). counting x (counted_positions (minima_of t) words pass x.patterns x.hopeless)) begins
+
+pub counts_kept : (t : Alphabet) (words : List Word) (params : LevelParams) (pass : Pass) (m m2 n : Meaning) → m2 ≡ counted_pass t words pass m → HasChosen params (map candidate_of m2.counts) m2 n → n.counts ≡ fold with_position [] (seen_in t words pass m)
+counts_kept t words params pass m m2 n counted has = ap (λ (x : Meaning). x.counts) has.kept ∙ ap (λ (x : Meaning). x.counts) counted
+
+pub numbers_are : (t : Alphabet) (words : List Word) (params : LevelParams) (pass : Pass) (m m2 : Meaning) (numbers : Choices) → m2 ≡ counted_pass t words pass m → numbers ≡ with_candidates params no_choices (map candidate_of m2.counts)
+    → numbers ≡ with_candidates params no_choices (pass_in t words params pass m).candidates
+numbers_are t words params pass m m2 numbers counted is = is ∙ ap (λ (cs : List Candidate). with_candidates params no_choices cs) (counts_are t words params pass m m2 counted)

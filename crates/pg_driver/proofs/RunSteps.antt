@@ -1,44 +1,99 @@
--- A step of a run: a level, and then the rest.
-use Rattle.std.proofs.Common.{◌≡◌, ℕ, ◌+◌, List, [], ◌∷◌, fold, drop, slice_get, Some, sym, ap, ◌∙◌, add_assoc}
-use Rattle.std.specs.List.{enumerate_from}
+-- A step of a run: a level, and what is read off the levels then.
+use Rattle.std.proofs.Common.{◌≡◌, ℕ, ◌+◌, ◌≤◌, Bool, true, List, [], ◌∷◌, ◌++◌, length, map, filter, fold, drop, slice_get, Option, None, Some, All, refl, sym, ap, subst, ◌∙◌, append_assoc, append-nil, add_assoc, arith}
+use Rattle.std.specs.List.{enumerate_from, flat_map}
+use Rattle.std.specs.Option.{option_map, MatchOption}
+use Rattle.std.proofs.lemmas.Grind.{flat_map-append}
+use Rattle.std.proofs.lemmas.List.{drop_all, map-append, map_push}
+use Rattle.std.proofs.lemmas.List.Sums.{fold-append, sum_by_push}
+use Rattle.pg_types.specs.declared.marks.Layout.{Layout}
+use Rattle.pg_types.specs.declared.marks.Totals.{Totals}
 use Rattle.pg_types.specs.declared.parameters.LevelParams.{LevelParams}
 use Rattle.pg_types.specs.Parameters.{Parameters}
-use Rattle.pg_select.specs.Meanings.{Meaning}
-use Rattle.pg_select.specs.Windows.{Hopeless as HopelessPlaces}
-use Rattle.pg_driver.specs.Begun.{CountedRun, begun, count_level}
-use Rattle.pg_driver.specs.Runs.{Source, level_start, run, run_start}
-use Rattle.pg_driver.specs.Skips.{counted_run_of, walk_start}
-use Rattle.pg_driver.specs.Sound.{Recorded}
-use Rattle.pg_driver.specs.Views.{level_state_of, run_of, state_of}
-use Rattle.pg_driver.proofs.BegunFamilies.{begun_with_families}
-use Rattle.pg_driver.proofs.BegunLaw.{counted_run}
+use Rattle.pg_types.specs.Placement.{Families, kept, taken, top}
+use Rattle.pg_types.specs.Tails.{tails}
+use Rattle.pg_select.specs.Meanings.{IsLayout, Meaning, ended}
+use Rattle.pg_select.specs.declared.pass.Pass.{Pass}
+use Rattle.pg_select.specs.Windows.{Hopeless as HopelessPlaces, Patterns}
+use Rattle.pg_driver.specs.declared.records.LevelRecord.{LevelRecord}
+use Rattle.pg_driver.specs.Accounts.{LevelLine, begun, begun_among, chosen_by, has_candidate, level_line, pass_line, pass_lines, totals_by}
+use Rattle.pg_driver.specs.Layouts.{after_level, after_passes, at_level_end, final_families, layout_of, level_layout, levels_with_families, pass_layouts, strings_in}
+use Rattle.pg_driver.specs.Levels.{AreRecorded, DidLevel, DidRun, all_made_by, layouts_in, level_layouts, run_layouts, state_after_level, state_after_run}
+use Rattle.pg_driver.specs.Sound.{Recorded, with_level}
+use Rattle.pg_driver.specs.States.{State, state_at_end, state_of}
+use Rattle.pg_driver.specs.Told.{known_of, layout_told, level_layout_told, level_line_of, line_of}
+use Rattle.pg_driver.specs.Traces.{Known, LevelTrace, PassTrace, Source, Trace, at_start, final_patterns, known_at_end, level_made, levels_made, passes_made, passes_of, patterns_after, trace}
 use Rattle.pg_driver.proofs.WordSteps.{drop_place}
 
--- a run of an engine with nothing hopeless begins so
-pub run_begins : (m : Meaning) (r : Recorded) → m.hopeless ≡ [] → r ≡ record { passes = []; levels = []; chosen = 0; begun = 0 } → counted_run_of m r ≡ record { run = run_start m.patterns m.families; begun = 0 }
-run_begins m r none is =
-    ap (λ (x : Recorded). counted_run_of m x) is
-    ∙ ap (λ (H : HopelessPlaces). record { run = record { state = record { patterns = m.patterns; hopeless = H; families = m.families }; passes = []; levels = [] }; begun = 0 }) none
+-- the end of a level
+families_end : (signs : ℕ) (l : LevelTrace) (P : Patterns) (o fo : Option Families) → P ≡ patterns_after l → o ≡ option_map (λ fs. after_passes signs fs l.passes) fo → option_map (kept (strings_in P)) o ≡ option_map (λ fs. after_level signs fs l) fo
+families_end signs l P o fo patterns families = ap (λ (Q : Patterns). option_map (kept (strings_in Q)) o) patterns ∙ ap (option_map (at_level_end l)) families ∙ composed fo
+  where
+    composed : (fo : Option Families) → option_map (at_level_end l) (option_map (λ fs. after_passes signs fs l.passes) fo) ≡ option_map (λ fs. after_level signs fs l) fo
+    composed None = refl
+    composed (Some fs) = refl
 
--- the run of an engine, and how many passes it begins
-pub run_is : (source : Source) (parameters : Parameters) (m n : Meaning) (r s : Recorded) → m.hopeless ≡ [] → r ≡ record { passes = []; levels = []; chosen = 0; begun = 0 }
-    → counted_run_of n s ≡ fold (count_level source) (counted_run_of m r) (enumerate_from parameters.start parameters.levels) → run_of n s.passes s.levels ≡ run source parameters m.patterns m.families
-run_is source parameters m n r s none is whole =
-    let levels = enumerate_from parameters.start parameters.levels in
-    let start : CountedRun = record { run = run_start m.patterns m.families; begun = 0 } in
-    ap (λ (x : CountedRun). x.run) whole ∙ ap (λ (x : CountedRun). (fold (count_level source) x levels).run) (run_begins m r none is) ∙ counted_run source levels start
+abbrev told : ℕ → Layout → Option (ℕ × Layout)
+told number l = let p : ℕ × Layout = (number, l) in Some p
 
-pub begun_is : (source : Source) (parameters : Parameters) (m n : Meaning) (r s : Recorded) → m.hopeless ≡ [] → r ≡ record { passes = []; levels = []; chosen = 0; begun = 0 }
-    → counted_run_of n s ≡ fold (count_level source) (counted_run_of m r) (enumerate_from parameters.start parameters.levels) → s.begun ≡ begun source parameters m.patterns
-begun_is source parameters m n r s none is whole =
-    let levels = enumerate_from parameters.start parameters.levels in
-    ap (λ (x : CountedRun). x.begun) whole
-    ∙ ap (λ (x : CountedRun). (fold (count_level source) x levels).begun) (run_begins m r none is)
-    ∙ begun_with_families source parameters m.patterns m.families
+some_layout : (number : ℕ) (P : Patterns) (o : Option Families) (l : Layout) → MatchOption o ⊥ (λ fs. (l.taken ≡ taken fs) × (l.top ≡ top fs)) → l.tails ≡ tails P → told number l ≡ option_map (λ fs. (number, layout_of fs P)) o
+some_layout number P None l is of_tails = absurd is
+some_layout number P (Some fs) l is of_tails = λ i. told number (record { taken = is.0 i; top = is.1 i; tails = of_tails i })
 
--- a level of an engine with nothing hopeless begins so
-pub walk_begins : (m : Meaning) (r : Recorded) → m.hopeless ≡ [] → walk_start m r ≡ record { level = level_start (run_of m r.passes r.levels); done = []; begun = r.begun }
-walk_begins m r none = ap (λ (H : HopelessPlaces). record { level = record (level_state_of m r.passes 0) { state = record (state_of m) { hopeless = H } }; done = []; begun = r.begun }) none
+-- the layout that a tidy engine tells
+pub layout_is : (number : ℕ) (n : Meaning) (o : Option Layout) → IsLayout n o → n.tidy ≡ true → option_map {U = ℕ × Layout} (λ l. (number, l)) o ≡ option_map (λ fs. (number, layout_of fs n.patterns)) n.families
+layout_is number n None is tidy = ap (option_map (λ fs. (number, layout_of fs n.patterns))) (sym is)
+layout_is number n (Some l) is tidy = some_layout number n.patterns n.families l is.0 (is.1 tidy)
+
+both_maps : (signs number : ℕ) (l : LevelTrace) (P : Patterns) (o : Option Families) → l.number ≡ number → P ≡ patterns_after l → option_map (λ fs. (number, layout_of fs P)) (option_map (λ fs. after_level signs fs l) o) ≡ option_map (λ fs. level_layout signs fs l) o
+both_maps signs number l P None same patterns = refl
+both_maps signs number l P (Some fs) same patterns = λ i. let p : ℕ × Layout = (sym same i, layout_of (after_level signs fs l) (patterns i)) in Some p
+
+module _ (source : Source) (number : ℕ) (params : LevelParams) (m0 m n : Meaning) (r0 r s : Recorded) (totals : Totals) (layout : Option Layout) (none : m0.hopeless ≡ []) where
+  abbrev level : LevelTrace
+  level = level_made source m0.patterns (number, params)
+
+  -- the passes of the level
+  abbrev passes : List PassTrace
+  passes = all_made_by source params m0 (passes_of number params)
+
+  same_passes : passes ≡ level.passes
+  same_passes = ap (λ (H : HopelessPlaces). passes_made source params (record { patterns = m0.patterns; hopeless = H }) (passes_of number params)) none
+
+  same_known : known_at_end (known_of m0) passes ≡ known_at_end (at_start m0.patterns) level.passes
+  same_known = ap (λ (H : HopelessPlaces). known_at_end (record { patterns = m0.patterns; hopeless = H }) (passes_made source params (record { patterns = m0.patterns; hopeless = H }) (passes_of number params))) none
+
+  patterns_end : state_of m ≡ state_at_end m0.signs (state_of m0) passes → m.patterns ≡ patterns_after level
+  patterns_end state = ap (λ (x : State). x.known.patterns) state ∙ ap (λ (k : Known). k.patterns) same_known
+
+  -- a level that was done
+  pub did_level : state_of m ≡ state_at_end m0.signs (state_of m0) passes → AreRecorded source m0.signs m0.families passes r0 r → r0.chosen ≡ 0 → n ≡ ended m → totals ≡ totals_by source n.patterns → IsLayout n layout → s ≡ with_level r number totals layout
+      → DidLevel source level m0 n r0 s
+  did_level state records chosen ends sums tells is =
+      let patterns : m.patterns ≡ patterns_after level = patterns_end state in
+      let after : n.patterns ≡ patterns_after level = ap (λ (x : Meaning). x.patterns) ends ∙ patterns in
+      let entered : m.families ≡ option_map (λ fs. after_passes m0.signs fs level.passes) m0.families = ap (λ (x : State). x.families) state ∙ ap (λ (ps : List PassTrace). option_map (λ fs. after_passes m0.signs fs ps) m0.families) same_passes in
+      let families : n.families ≡ option_map (λ fs. after_level m0.signs fs level) m0.families = ap (λ (x : Meaning). x.families) ends ∙ families_end m0.signs level m.patterns m.families m0.families patterns entered in
+      let hopeless : n.hopeless ≡ [] = ap (λ (x : Meaning). x.hopeless) ends in
+      let kept_passes : s.passes ≡ r.passes = ap (λ (x : Recorded). x.passes) is in
+      let own_record : LevelRecord = record { level = number; chosen = r.chosen; after = totals; layout = layout } in
+      let own : s.levels ≡ r.levels ++ own_record ∷ [] = ap (λ (x : Recorded). x.levels) is in
+      let count : r.chosen ≡ chosen_by level.passes = records.chosen ∙ ap (λ k. k + chosen_by passes) chosen ∙ zero_plus (chosen_by passes) ∙ ap chosen_by same_passes in
+      let sum : totals ≡ totals_by source (patterns_after level) = sums ∙ ap (totals_by source) after in
+      let line : level_line_of own_record ≡ level_line source level = λ i. record { level = number; chosen = count i; after = sum i } in
+      let tidy : n.tidy ≡ true = ap (λ (x : Meaning). x.tidy) ends in
+      let laid : option_map {U = ℕ × Layout} (λ l. (number, l)) layout ≡ option_map (λ fs. level_layout m0.signs fs level) m0.families =
+      layout_is number n layout tells tidy ∙ ap (option_map (λ fs. (number, layout_of fs n.patterns))) families ∙ both_maps m0.signs number level n.patterns m0.families refl after in
+      record {
+        state = λ i. record { known = record { patterns = after i; hopeless = hopeless i }; families = families i };
+        lines = ap (map line_of) kept_passes ∙ records.lines ∙ ap (λ (ps : List PassTrace). map line_of r0.passes ++ map (pass_line source) (filter has_candidate ps)) same_passes;
+        layouts = ap (map layout_told) kept_passes ∙ records.layouts ∙ ap (λ (ps : List PassTrace). map layout_told r0.passes ++ layouts_in m0.signs m0.families ps) same_passes;
+        levels = ap (map level_line_of) own ∙ map_push level_line_of r.levels own_record ∙ ap (λ (ls : List LevelRecord). map level_line_of ls ++ level_line_of own_record ∷ []) records.levels ∙ ap (λ (x : LevelLine). map level_line_of r0.levels ++ x ∷ []) line;
+        level_layouts = ap (map level_layout_told) own ∙ map_push level_layout_told r.levels own_record ∙ ap (λ (ls : List LevelRecord). map level_layout_told ls ++ option_map {U = ℕ × Layout} (λ l. (number, l)) layout ∷ []) records.levels ∙ ap (λ (x : Option (ℕ × Layout)). map level_layout_told r0.levels ++ x ∷ []) laid;
+        begun = ap (λ (x : Recorded). x.begun) is ∙ records.begun ∙ ap (λ (ps : List PassTrace). r0.begun + length (begun_among ps)) same_passes;
+      }
+    where
+      zero_plus : (k : ℕ) → 0 + k ≡ k
+      zero_plus k = omega arith
 
 -- the levels from a place on
 pub levels_step : (start i : ℕ) (levels : List LevelParams) (level : LevelParams) → slice_get levels i ≡ Some level → enumerate_from (start + i) (drop i levels) ≡ (start + i, level) ∷ enumerate_from (start + (i + 1)) (drop (i + 1) levels)
@@ -46,8 +101,132 @@ levels_step start i levels level at =
     ap (λ (ls : List LevelParams). enumerate_from (start + i) ls) (drop_place levels i level at)
     ∙ ap (λ (n : ℕ). (start + i, level) ∷ enumerate_from n (drop (i + 1) levels)) (add_assoc start i 1)
 
--- a level, and then the rest
-pub level_step : (source : Source) (start i : ℕ) (levels : List LevelParams) (level : LevelParams) (r n whole : CountedRun) → slice_get levels i ≡ Some level → n ≡ count_level source r (start + i, level)
-    → fold (count_level source) r (enumerate_from (start + i) (drop i levels)) ≡ whole → fold (count_level source) n (enumerate_from (start + (i + 1)) (drop (i + 1) levels)) ≡ whole
-level_step source start i levels level r n whole at is left =
-    ap (λ (x : CountedRun). fold (count_level source) x (enumerate_from (start + (i + 1)) (drop (i + 1) levels))) is ∙ ap (fold (count_level source) r) (sym (levels_step start i levels level at)) ∙ left
+-- levels with the families before them, and one more
+with_families_push : (signs : ℕ) (fs : Families) (run : Trace) (l : LevelTrace) → levels_with_families signs fs (run ++ l ∷ []) ≡ levels_with_families signs fs run ++ (l, final_families signs fs run) ∷ []
+with_families_push signs fs [] l = refl
+with_families_push signs fs (k ∷ run) l = ap (λ es. (k, fs) ∷ es) (with_families_push signs (after_level signs fs k) run l)
+
+one_list : {A B : Type 0} (f : A → List B) (xs : List A) (x : A) → flat_map f (xs ++ x ∷ []) ≡ flat_map f xs ++ f x
+one_list f xs x = flat_map-append f xs (x ∷ []) ∙ ap (λ ys. flat_map f xs ++ ys) (append-nil (f x))
+
+abbrev passes_laid : ℕ → LevelTrace × Families → List (Pass × ℕ × ℕ)
+passes_laid signs e = pass_layouts signs e.1 e.0.passes
+
+abbrev level_laid : ℕ → LevelTrace × Families → ℕ × Layout
+level_laid signs e = level_layout signs e.1 e.0
+
+run_layouts_push : (signs : ℕ) (o : Option Families) (run : Trace) (l : LevelTrace) → run_layouts signs o (run ++ l ∷ []) ≡ run_layouts signs o run ++ layouts_in signs (option_map (λ fs. final_families signs fs run) o) l.passes
+run_layouts_push signs None run l =
+    let none : PassTrace → Option (Pass × ℕ × ℕ) = λ _. None in
+    ap (map none) (one_list (λ (l : LevelTrace). filter has_candidate l.passes) run l) ∙ map-append none (flat_map (λ (l : LevelTrace). filter has_candidate l.passes) run) (filter has_candidate l.passes)
+run_layouts_push signs (Some fs) run l =
+    let some : Pass × ℕ × ℕ → Option (Pass × ℕ × ℕ) = λ x. Some x in
+    let last : LevelTrace × Families = (l, final_families signs fs run) in
+    ap (λ (es : List (LevelTrace × Families)). map some (flat_map (passes_laid signs) es)) (with_families_push signs fs run l)
+    ∙ ap (map some) (one_list (passes_laid signs) (levels_with_families signs fs run) last)
+    ∙ map-append some (flat_map (passes_laid signs) (levels_with_families signs fs run)) (passes_laid signs last)
+
+level_layouts_push : (signs : ℕ) (o : Option Families) (run : Trace) (l : LevelTrace) → level_layouts signs o (run ++ l ∷ []) ≡ level_layouts signs o run ++ option_map (λ fs. level_layout signs fs l) (option_map (λ fs. final_families signs fs run) o) ∷ []
+level_layouts_push signs None run l = map_push (λ (_ : LevelTrace). let none : Option (ℕ × Layout) = None in none) run l
+level_layouts_push signs (Some fs) run l =
+    let some : ℕ × Layout → Option (ℕ × Layout) = λ x. Some x in
+    let last : LevelTrace × Families = (l, final_families signs fs run) in
+    ap (λ (es : List (LevelTrace × Families)). map some (map (level_laid signs) es)) (with_families_push signs fs run l)
+    ∙ ap (map some) (map_push (level_laid signs) (levels_with_families signs fs run) last)
+    ∙ map_push some (map (level_laid signs) (levels_with_families signs fs run)) (level_laid signs last)
+
+families_push : (signs : ℕ) (o : Option Families) (run : Trace) (l : LevelTrace) → option_map (λ fs. final_families signs fs (run ++ l ∷ [])) o ≡ option_map (λ fs. after_level signs fs l) (option_map (λ fs. final_families signs fs run) o)
+families_push signs None run l = refl
+families_push signs (Some fs) run l = ap (λ (gs : Families). Some gs) (fold-append (after_level signs) fs run (l ∷ []))
+
+patterns_push : (S : Patterns) (run : Trace) (l : LevelTrace) → final_patterns S (run ++ l ∷ []) ≡ patterns_after l
+patterns_push S run l = fold-append (λ (_ : Patterns) (l : LevelTrace). patterns_after l) S run (l ∷ [])
+
+-- a level more
+pub run_push : (source : Source) (run : Trace) (l : LevelTrace) (m0 m n : Meaning) (r s : Recorded) → m.signs ≡ m0.signs → DidRun source run m0 m r → DidLevel source l m n r s → DidRun source (run ++ l ∷ []) m0 n s
+run_push source run l m0 m n r s signs before did =
+    let families : m.families ≡ option_map (λ fs. final_families m0.signs fs run) m0.families = ap (λ (x : State). x.families) before.state in
+    let patterns : n.patterns ≡ final_patterns m0.patterns (run ++ l ∷ []) = ap (λ (x : State). x.known.patterns) did.state ∙ sym (patterns_push m0.patterns run l) in
+    let hopeless : n.hopeless ≡ [] = ap (λ (x : State). x.known.hopeless) did.state in
+    let new : n.families ≡ option_map (λ fs. final_families m0.signs fs (run ++ l ∷ [])) m0.families =
+    ap (λ (x : State). x.families) did.state
+    ∙ ap (λ (k : ℕ). option_map (λ fs. after_level k fs l) m.families) signs
+    ∙ ap (option_map (λ fs. after_level m0.signs fs l)) families
+    ∙ sym (families_push m0.signs m0.families run l) in
+    record {
+      state = λ i. record { known = record { patterns = patterns i; hopeless = hopeless i }; families = new i };
+      lines = did.lines ∙ ap (λ ls. ls ++ pass_lines source l) before.lines ∙ sym (one_list (pass_lines source) run l);
+      layouts =
+          did.layouts
+          ∙ ap (λ ls. ls ++ layouts_in m.signs m.families l.passes) before.layouts
+          ∙ ap (λ (k : ℕ). run_layouts m0.signs m0.families run ++ layouts_in k m.families l.passes) signs
+          ∙ ap (λ (o : Option Families). run_layouts m0.signs m0.families run ++ layouts_in m0.signs o l.passes) families
+          ∙ sym (run_layouts_push m0.signs m0.families run l);
+      levels = did.levels ∙ ap (λ ls. ls ++ level_line source l ∷ []) before.levels ∙ sym (map_push (level_line source) run l);
+      level_layouts =
+          did.level_layouts
+          ∙ ap (λ ls. ls ++ option_map (λ fs. level_layout m.signs fs l) m.families ∷ []) before.level_layouts
+          ∙ ap (λ (k : ℕ). level_layouts m0.signs m0.families run ++ option_map (λ fs. level_layout k fs l) m.families ∷ []) signs
+          ∙ ap (λ (o : Option Families). level_layouts m0.signs m0.families run ++ option_map (λ fs. level_layout m0.signs fs l) o ∷ []) families
+          ∙ sym (level_layouts_push m0.signs m0.families run l);
+      begun = did.begun ∙ ap (λ k. k + length (begun_among l.passes)) before.begun ∙ sym (sum_by_push (λ (l : LevelTrace). length (begun_among l.passes)) run l);
+    }
+
+-- no level yet
+pub run_begins : (source : Source) (m : Meaning) (r : Recorded) → m.hopeless ≡ [] → r ≡ record { passes = []; levels = []; chosen = 0; begun = 0 } → DidRun source [] m m r
+run_begins source m r none is = record {
+  state = λ i. record { known = record { patterns = m.patterns; hopeless = none i }; families = none_yet m.signs m.families i };
+  lines = ap (λ (x : Recorded). map line_of x.passes) is;
+  layouts = ap (λ (x : Recorded). map layout_told x.passes) is ∙ no_layouts m.signs m.families;
+  levels = ap (λ (x : Recorded). map level_line_of x.levels) is;
+  level_layouts = ap (λ (x : Recorded). map level_layout_told x.levels) is ∙ no_level_layouts m.signs m.families;
+  begun = ap (λ (x : Recorded). x.begun) is;
+}
+  where
+    none_yet : (signs : ℕ) (o : Option Families) → o ≡ option_map (λ fs. final_families signs fs []) o
+    none_yet signs None = refl
+    none_yet signs (Some fs) = refl
+
+    no_layouts : (signs : ℕ) (o : Option Families) → [] ≡ run_layouts signs o []
+    no_layouts signs None = refl
+    no_layouts signs (Some fs) = refl
+
+    no_level_layouts : (signs : ℕ) (o : Option Families) → [] ≡ level_layouts signs o []
+    no_level_layouts signs None = refl
+    no_level_layouts signs (Some fs) = refl
+
+-- levels that were done, and those that are left and lead to a whole
+pub record RunReaches (source : Source) (m0 m : Meaning) (r : Recorded) (rest : List (ℕ × LevelParams)) (whole : Trace) : Type 0 where
+  pub done : Trace
+  pub did : DidRun source done m0 m r
+  pub left : done ++ levels_made source m.patterns rest ≡ whole
+
+-- a level of those that are left
+pub level_on : (source : Source) (m0 m n : Meaning) (r s : Recorded) (level : ℕ × LevelParams) (levels rest : List (ℕ × LevelParams)) (whole : Trace) → m.signs ≡ m0.signs → levels ≡ level ∷ rest → DidLevel source (level_made source m.patterns level) m n r s
+    → RunReaches source m0 m r levels whole → RunReaches source m0 n s rest whole
+level_on source m0 m n r s level levels rest whole signs first did before =
+    let l : LevelTrace = level_made source m.patterns level in
+    record {
+      done = before.done ++ l ∷ [];
+      did = run_push source before.done l m0 m n r s signs before.did did;
+      left =
+          append_assoc before.done (l ∷ []) (levels_made source n.patterns rest)
+          ∙ ap (λ (x : State). before.done ++ l ∷ levels_made source x.known.patterns rest) did.state
+          ∙ ap (λ (ls : List (ℕ × LevelParams)). before.done ++ levels_made source m.patterns ls) (sym first)
+          ∙ before.left;
+    }
+
+pub run_whole : (source : Source) (m0 m : Meaning) (r : Recorded) (rest : List (ℕ × LevelParams)) (whole : Trace) → rest ≡ [] → RunReaches source m0 m r rest whole → DidRun source whole m0 m r
+run_whole source m0 m r rest whole none reaches =
+    subst (λ (run : Trace). DidRun source run m0 m r)
+    (sym (append-nil reaches.done) ∙ ap (λ (ls : List (ℕ × LevelParams)). reaches.done ++ levels_made source m.patterns ls) (sym none) ∙ reaches.left)
+    reaches.did
+
+pub no_levels : (start i : ℕ) (levels : List LevelParams) → length levels ≤ i → enumerate_from (start + i) (drop i levels) ≡ []
+no_levels start i levels all = ap (enumerate_from (start + i)) (drop_all i levels all)
+
+pub all_levels : (start : ℕ) (levels : List LevelParams) → enumerate_from (start + 0) levels ≡ enumerate_from start levels
+all_levels start levels = ap (λ (n : ℕ). enumerate_from n levels) (none_more start)
+  where
+    none_more : (n : ℕ) → n + 0 ≡ n
+    none_more n = omega arith

@@ -1,8 +1,11 @@
 -- The flags tell which passes can be skipped.
-use Rattle.std.proofs.Common.{◌≡◌, ℕ, zero, suc, ◌+◌, ◌≤◌, ◌==◌, Bool, true, false, ◌&&◌, ◌||◌, List, [], ◌∷◌, get_or, replicate, refl, sym, ap, ◌∙◌, arith}
+use Rattle.std.proofs.Common.{◌≡◌, ℕ, zero, suc, ◌+◌, ◌≤◌, ◌==◌, Bool, true, false, ◌&&◌, ◌||◌, List, [], ◌∷◌, ◌++◌, get_or, replicate, refl, sym, ap, ◌∙◌, arith}
 use Rattle.std.proofs.lemmas.Bool.Decides.{nat_tests}
-use Rattle.pg_driver.specs.Begun.{Done, is_skippable}
-use Rattle.pg_driver.specs.Skips.{ClosedDots, Tells, is_set, unset}
+use Rattle.pg_types.specs.declared.parameters.LevelParams.{LevelParams}
+use Rattle.pg_driver.specs.Accounts.{is_skippable, left_none}
+use Rattle.pg_driver.specs.Levels.{ClosedDots, Tells, is_set, unset}
+use Rattle.pg_driver.specs.Traces.{Known, PassTrace, Source, pass_made}
+use Rattle.pg_driver.proofs.TraceSteps.{skippable_push}
 
 unset_at : (n i : ℕ) → get_or (replicate n false) i false ≡ false
 unset_at zero i = refl
@@ -36,26 +39,36 @@ dropped false t r s off = refl
 kept : (b t r s : Bool) → t ≡ true → ((b && (t && r)) || s) ≡ ((b && r) || s)
 kept b t r s on = ap (λ x. (b && (x && r)) || s) on
 
+-- what the flags tell after a pass
+abbrev pub Follows : ℕ → Bool → ClosedDots → ClosedDots → Type 0
+Follows dot b old new = (d : ℕ) → is_set new.longer d ≡ (b && (dot == d || dot + 1 == d) || is_set old.longer d)
+
 -- after a pass of the length
-pub tells_more : (number len dot : ℕ) (b : Bool) (old new : ClosedDots) (done : List Done) → Tells number len old done → new.here ≡ old.here
-    → ((d : ℕ) → is_set new.longer d ≡ (b && (dot == d || dot + 1 == d) || is_set old.longer d)) → Tells number len new (record { len = len; dot = dot; left_none = b } ∷ done)
-tells_more number len dot b old new done tells here longer = record {
-  here = λ d.
-      dropped b (len + 1 == len) (dot == d || dot + 1 == d) (is_skippable done (record { level = number; len = len; dot = d })) (not_here len)
-      ∙ tells.here d
-      ∙ ap (λ (fs : List Bool). is_set fs d) (sym here);
-  longer = λ d.
-      kept b (len + 1 == len + 1) (dot == d || dot + 1 == d) (is_skippable done (record { level = number; len = len + 1; dot = d })) (is_itself (len + 1))
-      ∙ ap (λ s. b && (dot == d || dot + 1 == d) || s) (tells.longer d)
-      ∙ sym (longer d);
-  beyond = λ n d far.
-      dropped b (len + 1 == n) (dot == d || dot + 1 == d) (is_skippable done (record { level = number; len = n; dot = d })) (not_beyond len n far)
-      ∙ tells.beyond n d far;
-}
+pub tells_more : (number len dot : ℕ) (source : Source) (params : LevelParams) (known : Known) (old new : ClosedDots) (ps : List PassTrace) → Tells number len old ps → new.here ≡ old.here
+    → Follows dot (left_none (pass_made source params known (record { level = number; len = len; dot = dot }))) old new → Tells number len new (ps ++ pass_made source params known (record { level = number; len = len; dot = dot }) ∷ [])
+tells_more number len dot source params known old new ps tells here longer =
+    let q : PassTrace = pass_made source params known (record { level = number; len = len; dot = dot }) in
+    let b : Bool = left_none q in
+    record {
+      here = λ d.
+          skippable_push ps q (record { level = number; len = len; dot = d })
+          ∙ dropped b (len + 1 == len) (dot == d || dot + 1 == d) (is_skippable ps (record { level = number; len = len; dot = d })) (not_here len)
+          ∙ tells.here d
+          ∙ ap (λ (fs : List Bool). is_set fs d) (sym here);
+      longer = λ d.
+          skippable_push ps q (record { level = number; len = len + 1; dot = d })
+          ∙ kept b (len + 1 == len + 1) (dot == d || dot + 1 == d) (is_skippable ps (record { level = number; len = len + 1; dot = d })) (is_itself (len + 1))
+          ∙ ap (λ s. b && (dot == d || dot + 1 == d) || s) (tells.longer d)
+          ∙ sym (longer d);
+      beyond = λ n d far.
+          skippable_push ps q (record { level = number; len = n; dot = d })
+          ∙ dropped b (len + 1 == n) (dot == d || dot + 1 == d) (is_skippable ps (record { level = number; len = n; dot = d })) (not_beyond len n far)
+          ∙ tells.beyond n d far;
+    }
 
 -- at the next length
-pub tells_next : (number len : ℕ) (old new : ClosedDots) (done : List Done) → Tells number len old done → new.here ≡ old.longer → new.longer ≡ unset → Tells number (len + 1) new done
-tells_next number len old new done tells here longer = record {
+pub tells_next : (number len : ℕ) (old new : ClosedDots) (ps : List PassTrace) → Tells number len old ps → new.here ≡ old.longer → new.longer ≡ unset → Tells number (len + 1) new ps
+tells_next number len old new ps tells here longer = record {
   here = λ dot. tells.longer dot ∙ ap (λ (fs : List Bool). is_set fs dot) (sym here);
   longer = λ dot. tells.beyond (len + 1 + 1) dot (omega arith) ∙ sym (none_set new.longer dot longer);
   beyond = λ n dot far. tells.beyond n dot (omega arith);

@@ -14,7 +14,7 @@ pub struct Closed {
 }
 
 impl Model for Closed {
-    ghost use Rattle.pg_driver.specs.Skips.{ClosedDots};
+    ghost use Rattle.pg_driver.specs.Levels.{ClosedDots};
 
     ghost Value = { ClosedDots };
 
@@ -24,7 +24,7 @@ impl Model for Closed {
 impl Closed {
     ghost use Rattle.std.specs.Prelude.{◌≡◌, ◌≤◌, ◌+◌, ◌==◌, ◌&&◌, ◌||◌, ℕ, false};
     ghost use Rattle.pg_types.specs.declared.limits.TheConstants.{LENGTH_MAX};
-    ghost use Rattle.pg_driver.specs.Skips.{is_set, unset};
+    ghost use Rattle.pg_driver.specs.Levels.{is_set, unset};
 
     /// No flag is set, as where a level begins.
     pub fn new() -> Closed
@@ -50,7 +50,8 @@ impl Closed {
     pub fn set(&mut self, dot: u8, left_none: bool)
         requires { dot ≤ LENGTH_MAX }
         ensures here { self.new.here ≡ self.old.here }
-        ensures longer { (d : ℕ) → is_set self.new.longer d ≡ (left_none && (dot == d || dot + 1 == d) || is_set self.old.longer d) }
+        ensures longer { (d : ℕ) → is_set self.new.longer d
+            ≡ (left_none && (dot == d || dot + 1 == d) || is_set self.old.longer d) }
     {
         let dot = usize::from(dot);
         self.longer[dot] |= left_none;

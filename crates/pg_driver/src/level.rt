@@ -1,89 +1,104 @@
 //! The passes of a level.
-ghost use Rattle.std.specs.Prelude.{◌≡◌, ◌≤◌, ◌<◌, ◌+◌, ◌-◌, ◌*◌, ◌^◌, [], true, fold, IfOk, OnOk};
-ghost use Rattle.pg_types.specs.declared.limits.TheConstants.{LENGTH_MAX, LEVEL_MAX};
+ghost use Rattle.std.specs.Prelude.{ℕ, ◌≡◌, ◌≤◌, ◌<◌, ◌+◌, ◌-◌, ◌*◌, ◌^◌, ◌∷◌, [], true, IfOk, OnOk};
+ghost use Rattle.pg_types.specs.declared.limits.TheConstants.{FILE_MAX, LENGTH_MAX, LEVEL_MAX};
 ghost use Rattle.pg_types.specs.Parameters.{IsLevel};
 ghost use Rattle.pg_dict.specs.Word.{SignsAtMost};
-ghost use Rattle.pg_driver.specs.Runs.{candidates_of, line_of, state_after, passes_of_length, passes_of};
-ghost use Rattle.pg_driver.specs.Begun.{Walk, walk_on, count_level};
-ghost use Rattle.pg_driver.specs.Skips.{IsAt, walk_start, counted_run_of};
-ghost use Rattle.pg_driver.specs.Sound.{IsSoundPass};
-ghost use Rattle.pg_driver.specs.Views.{pass_of, pass_line, source_of, state_of, level_state_of};
+ghost use Rattle.pg_select.specs.LawsSteps.{IsBelow};
+ghost use Rattle.pg_driver.specs.Accounts.{totals_by};
+ghost use Rattle.pg_driver.specs.LevelCounting.{IsReady, TellsTotals};
+ghost use Rattle.pg_driver.specs.Levels.{AreRecorded, DidLevel, GoesOn, all_made_by, point};
+ghost use Rattle.pg_driver.specs.Sound.{IsSmall, IsSoundPass, begun_before_pass, length_passes, level_passes};
+ghost use Rattle.pg_driver.specs.States.{DidPass, IsPass, made_by, state_of, state_at_end};
+ghost use Rattle.pg_driver.specs.Told.{known_of, over};
+ghost use Rattle.pg_driver.specs.Traces.{level_made, passes_of, passes_of_length};
 
-use crate::candidates::settle_all;
+use crate::choices::choose_all;
 use crate::closed::Closed;
+use crate::counting::Counting;
 use crate::dots::dot_at;
-use crate::pass::Pass;
 use crate::records::{PassRecord, Records};
-use crate::sums::totals;
-use crate::words::count_words;
 use pg_dict::Dictionary;
-use pg_select::Engine;
+use pg_select::{Engine, Pass};
 use pg_translate::Table;
-use pg_types::LevelParams;
-use std::alloc::AllocError;
+use pg_types::{LevelParams, Totals};
+use std::alloc::{AllocError, Global};
 
-/// Does a pass: counts its windows, and then settles its candidates.
+/// Does a pass: counts its windows, and then chooses among its candidates.
 fn run_pass<E: Engine>(
-    e: &mut E,
-    d: &Dictionary,
-    t: &Table,
-    level: &LevelParams,
+    engine: &mut E,
+    dictionary: &Dictionary,
+    table: &Table,
+    params: &LevelParams,
     pass: Pass,
+    counting: &mut Counting,
 ) -> Result<PassRecord, AllocError>
-    requires level { IsLevel level.now }
-    requires begun { (E.meaning e.old).begun < 2 ^ 60 }
-    requires signs { SignsAtMost (E.meaning e.old).signs d.now }
-    ensures ok { OnOk result (state_of (E.meaning e.new) ≡ state_after (E.meaning e.old).signs level.now (pass_of pass) (state_of (E.meaning e.old)) (candidates_of (source_of t.now d.now (E.meaning e.old)) (state_of (E.meaning e.old)) (pass_of pass))) }
-    ensures line { IfOk result (λ r. pass_line r ≡ line_of (source_of t.now d.now (E.meaning e.old)) level.now (pass_of pass) (state_of (E.meaning e.old)) (candidates_of (source_of t.now d.now (E.meaning e.old)) (state_of (E.meaning e.old)) (pass_of pass))) }
+    requires ranges { IsPass pass }
+    requires level { IsLevel params.now }
+    requires begun { (E.meaning engine.old).begun < begun_before_pass }
+    requires signs { SignsAtMost (E.meaning engine.old).signs dictionary.now }
+    requires ready { IsReady (over table.now dictionary.now) pass.level pass.len (known_of (E.meaning engine.old))
+        counting.old }
+    ensures done { IfOk result (DidPass (over table.now dictionary.now) params.now pass (E.meaning engine.old)
+        (E.meaning engine.new)) }
     ensures sound { IfOk result IsSoundPass }
-    ensures few { IfOk result (λ r. r.chosen ≤ 2 ^ 26) }
-    ensures begun { OnOk result ((E.meaning e.new).begun ≡ (E.meaning e.old).begun + 1) }
-    ensures signs { (E.meaning e.new).signs ≡ (E.meaning e.old).signs }
+    ensures few { IfOk result (λ r. r.chosen ≤ FILE_MAX) }
+    ensures ready { OnOk result (IsReady (over table.now dictionary.now) pass.level pass.len
+        (known_of (E.meaning engine.new)) counting.new) }
+    ensures signs { (E.meaning engine.new).signs ≡ (E.meaning engine.old).signs }
 {
-    e.begin_pass(pass.level, pass.len, pass.dot);
-    let before = count_words(e, d, t, pass)?;
-    let settled = settle_all(e, level)?;
+    engine.begin_pass(pass.level, pass.len, pass.dot);
+    let before = counting.count(engine, dictionary, table, pass)?;
+    let choices = choose_all(engine, params)?;
+    counting.after_choices(engine, dictionary, params, pass, choices);
     Ok(PassRecord {
         level: pass.level,
         len: pass.len,
         dot: pass.dot,
         before,
-        candidates: settled.candidates,
-        chosen: settled.chosen,
-        hopeless: settled.hopeless,
-        good: settled.good,
-        bad: settled.bad,
-        layout: e.layout(),
+        candidates: choices.candidates,
+        chosen: choices.chosen,
+        hopeless: choices.hopeless,
+        good: choices.good,
+        bad: choices.bad,
+        layout: engine.layout(),
     })
 }
 
 /// Does a pass and records it; or skips it, where that can have no candidate.
 fn run_or_skip<E: Engine>(
-    e: &mut E,
-    d: &Dictionary,
-    t: &Table,
-    level: &LevelParams,
+    engine: &mut E,
+    dictionary: &Dictionary,
+    table: &Table,
+    params: &LevelParams,
     pass: Pass,
     closed: &mut Closed,
+    counting: &mut Counting,
     records: &mut Records,
 ) -> Result<(), AllocError>
-    requires level { IsLevel level.now }
-    requires begun { (E.meaning e.old).begun < 2 ^ 60 }
-    requires few { records.old.begun < 2 ^ 60 }
-    requires chosen { records.old.chosen + 2 ^ 26 < 2 ^ 60 }
-    requires signs { SignsAtMost (E.meaning e.old).signs d.now }
-    ensures ok { OnOk result ((w : Walk) → IsAt (source_of t.now d.now (E.meaning e.old)) pass.level pass.len (E.meaning e.old) records.old closed.old w → IsAt (source_of t.now d.now (E.meaning e.old)) pass.level pass.len (E.meaning e.new) records.new closed.new (walk_on (source_of t.now d.now (E.meaning e.old)) level.now w (pass_of pass))) }
-    ensures levels { OnOk result (records.new.levels ≡ records.old.levels) }
-    ensures begun { OnOk result ((E.meaning e.new).begun + records.old.begun ≡ (E.meaning e.old).begun + records.new.begun) }
+    requires ranges { IsPass pass }
+    requires level { IsLevel params.now }
+    requires begun { (E.meaning engine.old).begun < begun_before_pass }
+    requires few { records.old.begun < begun_before_pass }
+    requires chosen { records.old.chosen + FILE_MAX < begun_before_pass }
+    requires signs { SignsAtMost (E.meaning engine.old).signs dictionary.now }
+    requires ready { IsReady (over table.now dictionary.now) pass.level pass.len (known_of (E.meaning engine.old))
+        counting.old }
+    ensures ok { OnOk result (GoesOn (over table.now dictionary.now) pass.level pass.len
+        (made_by (over table.now dictionary.now) params.now (E.meaning engine.old) pass ∷ [])
+        (point (E.meaning engine.old) records.old closed.old) (point (E.meaning engine.new) records.new closed.new)) }
+    ensures begun { OnOk result ((E.meaning engine.new).begun + records.old.begun ≡ (E.meaning engine.old).begun
+        + records.new.begun) }
     ensures few { OnOk result (records.new.begun ≤ records.old.begun + 1) }
-    ensures chosen { OnOk result (records.new.chosen ≤ records.old.chosen + 2 ^ 26) }
-    ensures signs { (E.meaning e.new).signs ≡ (E.meaning e.old).signs }
+    ensures chosen { OnOk result (records.new.chosen ≤ records.old.chosen + FILE_MAX) }
+    ensures ready { OnOk result (IsReady (over table.now dictionary.now) pass.level pass.len
+        (known_of (E.meaning engine.new)) counting.new) }
+    ensures signs { (E.meaning engine.new).signs ≡ (E.meaning engine.old).signs }
 {
     if closed.is_skippable(pass.dot) {
         closed.set(pass.dot, true);
         return Ok(());
     }
-    let record = run_pass(e, d, t, level, pass)?;
+    let record = run_pass(engine, dictionary, table, params, pass, counting)?;
     closed.set(pass.dot, record.left_none());
     records.add_pass(record)?;
     Ok(())
@@ -91,99 +106,151 @@ fn run_or_skip<E: Engine>(
 
 /// Does the passes of a length, dot by dot, but those that can be skipped.
 fn run_length<E: Engine>(
-    e: &mut E,
-    d: &Dictionary,
-    t: &Table,
-    level: &LevelParams,
+    engine: &mut E,
+    dictionary: &Dictionary,
+    table: &Table,
+    params: &LevelParams,
     number: u8,
     len: u8,
     closed: &mut Closed,
+    counting: &mut Counting,
     records: &mut Records,
 ) -> Result<(), AllocError>
-    requires level { IsLevel level.now }
+    requires level { IsLevel params.now }
     requires number { (1 ≤ number) × (number ≤ LEVEL_MAX) }
     requires len { (1 ≤ len) × (len ≤ LENGTH_MAX) }
-    requires begun { (E.meaning e.old).begun + 16 < 2 ^ 60 }
-    requires few { records.old.begun + 16 < 2 ^ 60 }
-    requires chosen { records.old.chosen + 16 * 2 ^ 26 < 2 ^ 60 }
-    requires signs { SignsAtMost (E.meaning e.old).signs d.now }
-    ensures ok { OnOk result ((w : Walk) → IsAt (source_of t.now d.now (E.meaning e.old)) number len (E.meaning e.old) records.old closed.old w → IsAt (source_of t.now d.now (E.meaning e.old)) number len (E.meaning e.new) records.new closed.new (fold (walk_on (source_of t.now d.now (E.meaning e.old)) level.now) w (passes_of_length number len))) }
-    ensures levels { OnOk result (records.new.levels ≡ records.old.levels) }
-    ensures begun { OnOk result ((E.meaning e.new).begun + records.old.begun ≡ (E.meaning e.old).begun + records.new.begun) }
-    ensures few { OnOk result (records.new.begun ≤ records.old.begun + 16) }
-    ensures chosen { OnOk result (records.new.chosen ≤ records.old.chosen + 16 * 2 ^ 26) }
-    ensures signs { (E.meaning e.new).signs ≡ (E.meaning e.old).signs }
+    requires begun { (E.meaning engine.old).begun + length_passes < begun_before_pass }
+    requires few { records.old.begun + length_passes < begun_before_pass }
+    requires chosen { records.old.chosen + length_passes * FILE_MAX < begun_before_pass }
+    requires signs { SignsAtMost (E.meaning engine.old).signs dictionary.now }
+    requires ready { IsReady (over table.now dictionary.now) number len (known_of (E.meaning engine.old))
+        counting.old }
+    ensures ok { OnOk result (GoesOn (over table.now dictionary.now) number len
+        (all_made_by (over table.now dictionary.now) params.now (E.meaning engine.old)
+        (passes_of_length number len)) (point (E.meaning engine.old) records.old closed.old)
+        (point (E.meaning engine.new) records.new closed.new)) }
+    ensures begun { OnOk result ((E.meaning engine.new).begun + records.old.begun ≡ (E.meaning engine.old).begun
+        + records.new.begun) }
+    ensures few { OnOk result (records.new.begun ≤ records.old.begun + length_passes) }
+    ensures chosen { OnOk result (records.new.chosen ≤ records.old.chosen + length_passes * FILE_MAX) }
+    ensures ready { OnOk result (IsReady (over table.now dictionary.now) number len
+        (known_of (E.meaning engine.new)) counting.new) }
+    ensures signs { (E.meaning engine.new).signs ≡ (E.meaning engine.old).signs }
 {
     let end = len + 1;
     'dots: for k in 0..end {
-        let dot = dot_at(len, k);
         let pass = Pass {
             level: number,
             len,
-            dot,
+            dot: dot_at(len, k),
         };
-        run_or_skip(e, d, t, level, pass, closed, records)?;
+        run_or_skip(
+            engine, dictionary, table, params, pass, closed, counting, records,
+        )?;
     }
     Ok(())
 }
 
 /// Does all passes of a level, length by length, but those that can be skipped.
 fn run_lengths<E: Engine>(
-    e: &mut E,
-    d: &Dictionary,
-    t: &Table,
-    level: &LevelParams,
+    engine: &mut E,
+    dictionary: &Dictionary,
+    table: &Table,
+    params: &LevelParams,
     number: u8,
+    counting: &mut Counting,
     records: &mut Records,
 ) -> Result<(), AllocError>
-    requires level { IsLevel level.now }
+    requires level { IsLevel params.now }
     requires number { (1 ≤ number) × (number ≤ LEVEL_MAX) }
-    requires begun { (E.meaning e.old).begun + 240 < 2 ^ 60 }
-    requires few { records.old.begun + 240 < 2 ^ 60 }
+    requires begun { (E.meaning engine.old).begun + level_passes < begun_before_pass }
+    requires few { records.old.begun + level_passes < begun_before_pass }
     requires chosen { records.old.chosen ≡ 0 }
-    requires signs { SignsAtMost (E.meaning e.old).signs d.now }
-    ensures ok { OnOk result (level_state_of (E.meaning e.new) records.new.passes records.new.chosen ≡ (fold (walk_on (source_of t.now d.now (E.meaning e.old)) level.now) (walk_start (E.meaning e.old) records.old) (passes_of number level.now)).level) }
-    ensures counted { OnOk result (records.new.begun ≡ (fold (walk_on (source_of t.now d.now (E.meaning e.old)) level.now) (walk_start (E.meaning e.old) records.old) (passes_of number level.now)).begun) }
-    ensures levels { OnOk result (records.new.levels ≡ records.old.levels) }
-    ensures begun { OnOk result ((E.meaning e.new).begun + records.old.begun ≡ (E.meaning e.old).begun + records.new.begun) }
-    ensures few { OnOk result (records.new.begun ≤ records.old.begun + 240) }
-    ensures signs { (E.meaning e.new).signs ≡ (E.meaning e.old).signs }
+    requires signs { SignsAtMost (E.meaning engine.old).signs dictionary.now }
+    requires ready { (len : ℕ) → IsReady (over table.now dictionary.now) number len
+        (known_of (E.meaning engine.old)) counting.old }
+    ensures state { OnOk result (state_of (E.meaning engine.new)
+        ≡ state_at_end (E.meaning engine.old).signs (state_of (E.meaning engine.old))
+        (all_made_by (over table.now dictionary.now) params.now (E.meaning engine.old)
+        (passes_of number params.now))) }
+    ensures records { OnOk result (AreRecorded (over table.now dictionary.now) (E.meaning engine.old).signs
+        (E.meaning engine.old).families
+        (all_made_by (over table.now dictionary.now) params.now (E.meaning engine.old)
+        (passes_of number params.now)) records.old records.new) }
+    ensures begun { OnOk result ((E.meaning engine.new).begun + records.old.begun ≡ (E.meaning engine.old).begun
+        + records.new.begun) }
+    ensures few { OnOk result (records.new.begun ≤ records.old.begun + level_passes) }
+    ensures ready { OnOk result (TellsTotals (over table.now dictionary.now) (E.meaning engine.new).patterns
+        counting.new) }
+    ensures signs { (E.meaning engine.new).signs ≡ (E.meaning engine.old).signs }
 {
     let mut closed = Closed::new();
-    let end = level.pat_finish + 1;
-    'lengths: for len in level.pat_start..end {
-        run_length(e, d, t, level, number, len, &mut closed, records)?;
+    let end = params.pat_finish + 1;
+    'lengths: for len in params.pat_start..end {
+        run_length(
+            engine,
+            dictionary,
+            table,
+            params,
+            number,
+            len,
+            &mut closed,
+            counting,
+            records,
+        )?;
         closed.next_length();
+        counting.next_length(len);
     }
     Ok(())
 }
 
-/// Does a level: its passes, and what stands at its end.
+/// Does a level, which begins with these totals: its passes, and what stands at its end. Gives the totals at its end. `greatest` is
+/// the greatest value of the starting patterns.
 pub fn run_level<E: Engine>(
-    e: &mut E,
-    d: &Dictionary,
-    t: &Table,
-    level: &LevelParams,
+    alloc: Global,
+    engine: &mut E,
+    dictionary: &Dictionary,
+    table: &Table,
+    params: &LevelParams,
     number: u8,
+    greatest: u8,
+    before: Totals,
     records: &mut Records,
-) -> Result<(), AllocError>
-    requires level { IsLevel level.now }
+) -> Result<Totals, AllocError>
+    requires level { IsLevel params.now }
     requires number { (1 ≤ number) × (number ≤ LEVEL_MAX) }
-    requires hopeless { (E.meaning e.old).hopeless ≡ [] }
-    requires begun { (E.meaning e.old).begun + 240 < 2 ^ 60 }
-    requires few { records.old.begun + 240 < 2 ^ 60 }
+    requires hopeless { (E.meaning engine.old).hopeless ≡ [] }
+    requires begun { (E.meaning engine.old).begun + level_passes < begun_before_pass }
+    requires few { records.old.begun + level_passes < begun_before_pass }
     requires chosen { records.old.chosen ≡ 0 }
-    requires signs { SignsAtMost (E.meaning e.old).signs d.now }
-    ensures ok { OnOk result (counted_run_of (E.meaning e.new) records.new ≡ count_level (source_of t.now d.now (E.meaning e.old)) (counted_run_of (E.meaning e.old) records.old) (number, level.now)) }
-    ensures hopeless { OnOk result ((E.meaning e.new).hopeless ≡ []) }
-    ensures tidy { OnOk result ((E.meaning e.new).tidy ≡ true) }
-    ensures begun { OnOk result ((E.meaning e.new).begun + records.old.begun ≡ (E.meaning e.old).begun + records.new.begun) }
-    ensures few { OnOk result (records.new.begun ≤ records.old.begun + 240) }
+    requires signs { SignsAtMost (E.meaning engine.old).signs dictionary.now }
+    requires below { greatest < number → IsBelow number (E.meaning engine.old).patterns }
+    requires totals { before ≡ totals_by (over table.now dictionary.now) (E.meaning engine.old).patterns }
+    ensures done { OnOk result (DidLevel (over table.now dictionary.now)
+        (level_made (over table.now dictionary.now) (E.meaning engine.old).patterns (number, params.now))
+        (E.meaning engine.old) (E.meaning engine.new) records.old records.new) }
+    ensures totals { IfOk result (λ after. after
+        ≡ totals_by (over table.now dictionary.now) (E.meaning engine.new).patterns) }
+    ensures small { IfOk result IsSmall }
+    ensures tidy { OnOk result ((E.meaning engine.new).tidy ≡ true) }
+    ensures begun { OnOk result ((E.meaning engine.new).begun + records.old.begun ≡ (E.meaning engine.old).begun
+        + records.new.begun) }
+    ensures few { OnOk result (records.new.begun ≤ records.old.begun + level_passes) }
     ensures chosen { OnOk result (records.new.chosen ≡ 0) }
-    ensures signs { (E.meaning e.new).signs ≡ (E.meaning e.old).signs }
+    ensures signs { (E.meaning engine.new).signs ≡ (E.meaning engine.old).signs }
 {
-    run_lengths(e, d, t, level, number, records)?;
-    e.end_level()?;
-    records.end_level(number, totals(e, d, t), e.layout())?;
-    Ok(())
+    let mut counting = Counting::start(alloc, engine, dictionary, table, number, greatest, before)?;
+    run_lengths(
+        engine,
+        dictionary,
+        table,
+        params,
+        number,
+        &mut counting,
+        records,
+    )?;
+    engine.end_level()?;
+    let after = counting.totals(engine, dictionary, table);
+    records.end_level(number, after, engine.layout())?;
+    Ok(after)
 }

@@ -1,13 +1,11 @@
 //! The run over all levels.
-ghost use Rattle.std.specs.Prelude.{◌≡◌, ◌≤◌, ◌<◌, ◌+◌, ◌*◌, ◌^◌, [], true, map, fold, length, IfOk, OnOk};
-ghost use Rattle.std.specs.List.{enumerate_from};
-ghost use Rattle.std.specs.Option.{option_map};
+ghost use Rattle.std.specs.Prelude.{◌≡◌, ◌≤◌, ◌<◌, ◌+◌, ◌*◌, ◌^◌, [], true, IfOk, OnOk};
+ghost use Rattle.pg_types.specs.declared.limits.TheConstants.{LEVEL_MAX};
 ghost use Rattle.pg_dict.specs.Word.{SignsAtMost};
-ghost use Rattle.pg_select.specs.Sums.{totals as totals_of_words};
-ghost use Rattle.pg_driver.specs.Runs.{layout_with_tails};
-ghost use Rattle.pg_driver.specs.Begun.{count_level, begun as begun_in};
-ghost use Rattle.pg_driver.specs.Skips.{counted_run_of};
-ghost use Rattle.pg_driver.specs.Views.{minima_of, source_of, state_of, run_from, pass_line, level_line, numbers_with_tails};
+ghost use Rattle.pg_driver.specs.Accounts.{totals_by};
+ghost use Rattle.pg_driver.specs.Levels.{DidRun};
+ghost use Rattle.pg_driver.specs.Sound.{IsSmall, begun_before_run, level_passes};
+ghost use Rattle.pg_driver.specs.Told.{TellsCells, account_from, account_of, begun_from, cells_from, families_from, over, patterns_from, run_from};
 
 use crate::level::run_level;
 use crate::records::Records;
@@ -16,43 +14,60 @@ use crate::sums::totals;
 use pg_dict::Dictionary;
 use pg_select::Engine;
 use pg_translate::Table;
-use pg_types::Params;
+use pg_types::{Params, Totals};
 use std::alloc::{AllocError, Global};
 
-/// Does the levels of the parameters, one after the other.
+/// Does the levels of the parameters, one after the other, and gives the totals at the end.
 fn run_levels<E: Engine>(
-    e: &mut E,
-    d: &Dictionary,
-    t: &Table,
-    p: &Params,
+    alloc: Global,
+    engine: &mut E,
+    dictionary: &Dictionary,
+    table: &Table,
+    params: &Params,
     records: &mut Records,
-) -> Result<(), AllocError>
-    requires hopeless { (E.meaning e.old).hopeless ≡ [] }
-    requires tidy { (E.meaning e.old).tidy ≡ true }
-    requires begun { (E.meaning e.old).begun < 2 ^ 59 }
-    requires few { records.old.begun < 2 ^ 59 }
-    requires chosen { records.old.chosen ≡ 0 }
-    requires signs { SignsAtMost (E.meaning e.old).signs d.now }
-    ensures ok { OnOk result (counted_run_of (E.meaning e.new) records.new ≡ fold (count_level (source_of t.now d.now (E.meaning e.old))) (counted_run_of (E.meaning e.old) records.old) (enumerate_from p.now.start p.now.levels)) }
-    ensures hopeless { OnOk result ((E.meaning e.new).hopeless ≡ []) }
-    ensures tidy { OnOk result ((E.meaning e.new).tidy ≡ true) }
-    ensures begun { OnOk result ((E.meaning e.new).begun + records.old.begun ≡ (E.meaning e.old).begun + records.new.begun) }
-    ensures few { OnOk result (records.new.begun ≤ records.old.begun + 240 * 9) }
-    ensures signs { (E.meaning e.new).signs ≡ (E.meaning e.old).signs }
+) -> Result<Totals, AllocError>
+    requires hopeless { (E.meaning engine.old).hopeless ≡ [] }
+    requires tidy { (E.meaning engine.old).tidy ≡ true }
+    requires begun { (E.meaning engine.old).begun < begun_before_run }
+    requires none { records.old ≡ record { passes = []; levels = []; chosen = 0; begun = 0 } }
+    requires signs { SignsAtMost (E.meaning engine.old).signs dictionary.now }
+    ensures run { OnOk result (DidRun (over table.now dictionary.now)
+        (run_from table.now dictionary.now params.now (E.meaning engine.old)) (E.meaning engine.old)
+        (E.meaning engine.new) records.new) }
+    ensures totals { IfOk result (λ totals. totals
+        ≡ totals_by (over table.now dictionary.now) (E.meaning engine.new).patterns) }
+    ensures small { IfOk result IsSmall }
+    ensures tidy { OnOk result ((E.meaning engine.new).tidy ≡ true) }
+    ensures begun { OnOk result ((E.meaning engine.new).begun ≡ (E.meaning engine.old).begun + records.new.begun) }
+    ensures few { OnOk result (records.new.begun ≤ LEVEL_MAX * level_passes) }
+    ensures signs { (E.meaning engine.new).signs ≡ (E.meaning engine.old).signs }
 {
-    let start = p.start();
+    let greatest = engine.copy_patterns(alloc)?.largest();
+    let mut sums = totals(engine, dictionary, table);
+    let start = params.start();
     // The last level is at most 9, and so is the number of levels.
-    let _last = p.finish();
-    let count = p.count();
+    let _last = params.finish();
+    let count = params.count();
     'levels: for i in 0..count {
-        run_level(e, d, t, p.level(i), start + i as u8, records)?;
+        let number = start + i as u8;
+        sums = run_level(
+            alloc,
+            engine,
+            dictionary,
+            table,
+            params.level(i),
+            number,
+            greatest,
+            sums,
+            records,
+        )?;
     }
-    Ok(())
+    Ok(sums)
 }
 
 /// Does the run of a dictionary from the patterns of an engine: level after level, and in a level a pass for each length and dot,
-/// which counts the windows at the positions that count, and then settles the candidates (Liang's thesis of 1983, patgen 2.4).
-/// The final patterns are left in the engine too.
+/// which counts the windows at the positions that count, and then chooses among the candidates (Liang's thesis of 1983, patgen
+/// 2.4). The final patterns are left in the engine too.
 ///
 /// A pass is skipped where one of the same level that is shorter by a sign, with the same dot or the dot before, left no candidate
 /// or was skipped. It would have no candidate, so the run is the one that does every pass.
@@ -60,32 +75,35 @@ fn run_levels<E: Engine>(
 /// The only error is want of memory. The engine's greatest sign is then as before, and nothing is said of the rest of it.
 pub fn generate<E: Engine>(
     alloc: Global,
-    e: &mut E,
-    d: &Dictionary,
-    t: &Table,
-    p: &Params,
+    engine: &mut E,
+    dictionary: &Dictionary,
+    table: &Table,
+    params: &Params,
 ) -> Result<Run, AllocError>
-    requires hopeless { (E.meaning e.old).hopeless ≡ [] }
-    requires tidy { (E.meaning e.old).tidy ≡ true }
-    requires begun { (E.meaning e.old).begun < 2 ^ 59 }
-    requires signs { SignsAtMost (E.meaning e.old).signs d.now }
-    ensures patterns { IfOk result (λ r. r.patterns ≡ (run_from t.now d.now p.now (E.meaning e.old)).state.patterns) }
-    ensures passes { IfOk result (λ r. map pass_line r.passes ≡ (run_from t.now d.now p.now (E.meaning e.old)).passes) }
-    ensures levels { IfOk result (λ r. map level_line r.levels ≡ (run_from t.now d.now p.now (E.meaning e.old)).levels) }
-    ensures totals { IfOk result (λ r. r.totals ≡ totals_of_words (minima_of t.now) d.now (run_from t.now d.now p.now (E.meaning e.old)).state.patterns) }
-    ensures first_layout { IfOk result (λ r. option_map numbers_with_tails r.first_layout ≡ layout_with_tails (state_of (E.meaning e.old))) }
-    ensures engine { OnOk result (state_of (E.meaning e.new) ≡ (run_from t.now d.now p.now (E.meaning e.old)).state) }
-    ensures hopeless { OnOk result ((E.meaning e.new).hopeless ≡ []) }
-    ensures tidy { OnOk result ((E.meaning e.new).tidy ≡ true) }
-    ensures begun { OnOk result ((E.meaning e.new).begun ≡ (E.meaning e.old).begun + begun_in (source_of t.now d.now (E.meaning e.old)) p.now (E.meaning e.old).patterns) }
-    ensures counted { IfOk result (λ r. r.begun ≡ begun_in (source_of t.now d.now (E.meaning e.old)) p.now (E.meaning e.old).patterns) }
-    ensures few { OnOk result ((E.meaning e.new).begun ≤ (E.meaning e.old).begun + 9 * 240) }
-    ensures signs { (E.meaning e.new).signs ≡ (E.meaning e.old).signs }
+    requires hopeless { (E.meaning engine.old).hopeless ≡ [] }
+    requires tidy { (E.meaning engine.old).tidy ≡ true }
+    requires begun { (E.meaning engine.old).begun < begun_before_run }
+    requires signs { SignsAtMost (E.meaning engine.old).signs dictionary.now }
+    ensures patterns { IfOk result (λ r. r.patterns
+        ≡ patterns_from table.now dictionary.now params.now (E.meaning engine.old)) }
+    ensures account { IfOk result (λ r. account_of r
+        ≡ account_from table.now dictionary.now params.now (E.meaning engine.old)) }
+    ensures cells { IfOk result (TellsCells (cells_from table.now dictionary.now params.now (E.meaning engine.old))) }
+    ensures begun { IfOk result (λ r. r.begun
+        ≡ begun_from table.now dictionary.now params.now (E.meaning engine.old)) }
+    ensures kept { IfOk result (λ r. (E.meaning engine.new).patterns ≡ r.patterns) }
+    ensures families { OnOk result ((E.meaning engine.new).families
+        ≡ families_from table.now dictionary.now params.now (E.meaning engine.old)) }
+    ensures hopeless { OnOk result ((E.meaning engine.new).hopeless ≡ []) }
+    ensures tidy { OnOk result ((E.meaning engine.new).tidy ≡ true) }
+    ensures counted { IfOk result (λ r. (E.meaning engine.new).begun ≡ (E.meaning engine.old).begun + r.begun) }
+    ensures few { OnOk result ((E.meaning engine.new).begun ≤ (E.meaning engine.old).begun
+        + LEVEL_MAX * level_passes) }
+    ensures signs { (E.meaning engine.new).signs ≡ (E.meaning engine.old).signs }
 {
-    let first_layout = e.layout();
+    let first_layout = engine.layout();
     let mut records = Records::new(alloc);
-    run_levels(e, d, t, p, &mut records)?;
-    let patterns = e.copy_patterns(alloc)?;
-    let totals = totals(e, d, t);
+    let totals = run_levels(alloc, engine, dictionary, table, params, &mut records)?;
+    let patterns = engine.copy_patterns(alloc)?;
     Ok(Run::new(patterns, records, totals, first_layout))
 }

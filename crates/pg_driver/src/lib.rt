@@ -1,15 +1,17 @@
 //! The driver: the run over levels and passes, for any engine.
 #![tactic(auto)]
 
-mod candidates;
+mod carried_totals;
+mod choices;
 mod closed;
-mod counted;
+mod counting;
+mod dot_set;
 mod dots;
-pub mod laws;
 mod level;
 mod levels;
 mod marks;
-mod pass;
+mod open_passes;
+mod open_positions;
 mod records;
 mod run;
 mod sums;

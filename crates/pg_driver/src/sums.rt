@@ -2,11 +2,11 @@
 ghost use Rattle.std.specs.Prelude.{◌≡◌, ◌≤◌, ◌+◌, ◌*◌, length};
 ghost use Rattle.pg_dict.specs.Word.{IsWord, SignsAtMost, letters_of};
 ghost use Rattle.pg_dict.specs.Lent.{word_of};
-ghost use Rattle.pg_select.specs.Meanings.{SignsWithin};
+ghost use Rattle.pg_types.specs.Counts.{SignsWithin};
 ghost use Rattle.pg_select.specs.Sums.{totals as totals_of_words, marks_in};
 ghost use Rattle.pg_driver.specs.Counting.{with_marks, HasRoomFor, TookRoomFor};
 ghost use Rattle.pg_driver.specs.Sound.{IsSmall};
-ghost use Rattle.pg_driver.specs.Views.{minima_of};
+ghost use Rattle.pg_driver.specs.Told.{minima_of};
 
 use crate::marks::{add_mark, mark_at, no_totals, positions};
 use pg_dict::{Dictionary, WordRef};
@@ -16,37 +16,38 @@ use pg_types::Totals;
 
 /// The totals of the words of a dictionary by the patterns of an engine: the sums of the weights of the positions in reach that
 /// are found, that are errors and that are missed. It takes no memory.
-pub fn totals<E: Engine>(e: &E, d: &Dictionary, t: &Table) -> Totals
-    requires { SignsAtMost (E.meaning e.now).signs d.now }
-    ensures value { result ≡ totals_of_words (minima_of t.now) d.now (E.meaning e.now).patterns }
+pub fn totals<E: Engine>(engine: &E, dictionary: &Dictionary, table: &Table) -> Totals
+    requires { SignsAtMost (E.meaning engine.now).signs dictionary.now }
+    ensures value { result ≡ totals_of_words (minima_of table.now) dictionary.now (E.meaning engine.now).patterns }
     ensures small { IsSmall result }
 {
     let mut found = WordState::new();
     let mut sums = no_totals();
-    'words: for i in 0..d.len() {
-        sums = add_word(e, t, &d.word(i), &mut found, sums);
+    'words: for i in 0..dictionary.len() {
+        sums = add_word(engine, table, &dictionary.word(i), &mut found, sums);
     }
     sums
 }
 
 /// The totals with the positions of a word more. What `found` holds does not matter.
 fn add_word<E: Engine>(
-    e: &E,
-    t: &Table,
+    engine: &E,
+    table: &Table,
     w: &WordRef<'_>,
     found: &mut WordState,
     sums: Totals,
 ) -> Totals
     requires word { IsWord (word_of w.now) }
-    requires signs { SignsWithin (E.meaning e.now).signs w.now.signs.now }
+    requires signs { SignsWithin (E.meaning engine.now).signs w.now.signs.now }
     requires room { HasRoomFor sums (letters_of (word_of w.now)) }
     ensures took { TookRoomFor sums result (letters_of (word_of w.now)) }
-    ensures value { result ≡ with_marks sums (marks_in (minima_of t.now) (E.meaning e.now).patterns (word_of w.now)) }
+    ensures value { result ≡ with_marks sums
+        (marks_in (minima_of table.now) (E.meaning engine.now).patterns (word_of w.now)) }
 {
-    let Some((first, end)) = positions(t, w) else {
+    let Some((first, end)) = positions(table, w) else {
         return sums;
     };
-    e.hyphenate(*w, found);
+    engine.hyphenate(*w, found);
     let mut sums = sums;
     'positions: for p in first..end {
         sums = add_mark(sums, mark_at(w, found, p), w.weights[p]);

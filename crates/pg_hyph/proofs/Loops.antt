@@ -2,7 +2,7 @@
 use Rattle.std.proofs.Common.{◌≡◌, ℕ, ◌+◌, ◌-◌, ◌<◌, ◌≤◌, max, List, [], ◌∷◌, ◌++◌, length, take, drop, get_or, refl, sym, ap, subst, ◌∙◌, append_assoc, arith, length-append, length-drop}
 use Rattle.std.proofs.lemmas.List.{append-nil, drop_more, drop_all, take_more, get_or-drop, length-take-le}
 use Rattle.pg_types.specs.declared.limits.TheConstants.{WORD_LETTERS_MAX}
-use Rattle.pg_hyph.specs.Forces.{Raises}
+use Rattle.pg_select.specs.Positions.{Raises}
 use Rattle.pg_hyph.specs.Walks.{by_list, by_strings, by_starts}
 
 abbrev pub Level : (ℕ → ℕ) → (ℕ → ℕ) → (ℕ → ℕ) → (ℕ → ℕ) → Type 0
@@ -36,69 +36,69 @@ longer w start stop s low inside is =
 none_left : (a b : ℕ) → a ≡ 0 → b ≡ 0 → max a b ≡ 0
 none_left a b p q = omega arith
 
-module _ (force : ℕ → ℕ × ℕ → ℕ) (F : List ℕ → List (ℕ × ℕ)) where
+module _ (number : ℕ → ℕ × ℕ → ℕ) (F : List ℕ → List (ℕ × ℕ)) where
   -- where no longer string has a list, nothing is left
-  strings_none : (start p : ℕ) (q rest : List ℕ) → ((s : ℕ) (more : List ℕ) → F (q ++ s ∷ more) ≡ []) → by_strings force F start q rest p ≡ 0
+  strings_none : (start p : ℕ) (q rest : List ℕ) → ((s : ℕ) (more : List ℕ) → F (q ++ s ∷ more) ≡ []) → by_strings number F start q rest p ≡ 0
   strings_none start p q [] none = refl
   strings_none start p q (s ∷ rest) none =
-      none_left (by_list (force (length (q ++ s ∷ []))) start (F (q ++ s ∷ [])) p) (by_strings force F start (q ++ s ∷ []) rest p)
-      (ap (λ (ys : List (ℕ × ℕ)). by_list (force (length (q ++ s ∷ []))) start ys p) (none s []))
+      none_left (by_list (number (length (q ++ s ∷ []))) start (F (q ++ s ∷ [])) p) (by_strings number F start (q ++ s ∷ []) rest p)
+      (ap (λ (ys : List (ℕ × ℕ)). by_list (number (length (q ++ s ∷ []))) start ys p) (none s []))
       (strings_none start p (q ++ s ∷ []) rest (λ t more. ap F (append_assoc q (s ∷ []) (t ∷ more)) ∙ none s (t ∷ more)))
 
   -- where no string that begins with the next one has a list, nothing is left
-  strings_stop : (start p s : ℕ) (q rest : List ℕ) → ((more : List ℕ) → F ((q ++ s ∷ []) ++ more) ≡ []) → by_strings force F start q (s ∷ rest) p ≡ 0
+  strings_stop : (start p s : ℕ) (q rest : List ℕ) → ((more : List ℕ) → F ((q ++ s ∷ []) ++ more) ≡ []) → by_strings number F start q (s ∷ rest) p ≡ 0
   strings_stop start p s q rest none =
-      none_left (by_list (force (length (q ++ s ∷ []))) start (F (q ++ s ∷ [])) p) (by_strings force F start (q ++ s ∷ []) rest p)
-      (ap (λ (ys : List (ℕ × ℕ)). by_list (force (length (q ++ s ∷ []))) start ys p) (ap F (sym (append-nil (q ++ s ∷ []))) ∙ none []))
+      none_left (by_list (number (length (q ++ s ∷ []))) start (F (q ++ s ∷ [])) p) (by_strings number F start (q ++ s ∷ []) rest p)
+      (ap (λ (ys : List (ℕ × ℕ)). by_list (number (length (q ++ s ∷ []))) start ys p) (ap F (sym (append-nil (q ++ s ∷ []))) ∙ none []))
       (strings_none start p (q ++ s ∷ []) rest (λ t more. none (t ∷ more)))
 
-module _ (force : ℕ → ℕ × ℕ → ℕ) (F : List ℕ → List (ℕ × ℕ)) (w : List ℕ) where
-  -- the strings that begin at a start and end at `stop` or before are taken in
+module _ (number : ℕ → ℕ × ℕ → ℕ) (F : List ℕ → List (ℕ × ℕ)) (w : List ℕ) where
+  -- the strings that begin at a start and end at `stop` or before were met
   abbrev pub AtStop : ℕ → ℕ → (ℕ → ℕ) → (ℕ → ℕ) → Type 0
-  AtStop start stop before now = Level (by_strings force F start (take (stop - start) (drop start w)) (drop stop w)) (by_strings force F start [] (drop start w)) before now
+  AtStop start stop before now = Level (by_strings number F start (take (stop - start) (drop start w)) (drop stop w)) (by_strings number F start [] (drop start w)) before now
 
   pub stop_first : (start : ℕ) (before : ℕ → ℕ) → AtStop start start before before
   stop_first start before p inside =
       let none : start - start ≡ 0 = omega arith in
-      ap (λ n. max (before p) (by_strings force F start (take n (drop start w)) (drop start w) p)) none
+      ap (λ n. max (before p) (by_strings number F start (take n (drop start w)) (drop start w) p)) none
 
   pub stop_next : (start stop s n : ℕ) (xs : List (ℕ × ℕ)) (before now new : ℕ → ℕ) → start ≤ stop → stop < length w → s ≡ get_or w stop 0 → n ≡ stop + 1 - start → xs ≡ F (take (stop - start) (drop start w) ++ s ∷ [])
-      → AtStop start stop before now → Raises (by_list (force n) start xs) now new → AtStop start (stop + 1) before new
+      → AtStop start stop before now → Raises (by_list (number n) start xs) now new → AtStop start (stop + 1) before new
   stop_next start stop s n xs before now new low inside is size list level raises =
       let q : List ℕ = take (stop - start) (drop start w) in
       let left : length (drop start w) ≡ length w - start = length-drop start w in
       let walked : length (take (stop - start) (drop start w)) ≡ stop - start = length-take-le (stop - start) (drop start w) (omega arith) in
       let more : length (q ++ s ∷ []) ≡ length (take (stop - start) (drop start w)) + 1 = length-append q (s ∷ []) in
       let long : n ≡ length (q ++ s ∷ []) = omega arith in
-      subst (λ (r : List ℕ). Level (by_strings force F start r (drop (stop + 1) w)) (by_strings force F start [] (drop start w)) before new) (sym (longer w start stop s low inside is))
-      (level_step (by_strings force F start q (drop stop w)) (by_list (force (length (q ++ s ∷ []))) start (F (q ++ s ∷ []))) (by_strings force F start (q ++ s ∷ []) (drop (stop + 1) w)) (by_strings force F start [] (drop start w)) before now new
-      (λ p. ap (λ (ys : List ℕ). by_strings force F start q ys p) (ahead w stop s inside is)) level
-      (subst (λ k. Raises (by_list (force k) start (F (q ++ s ∷ []))) now new) long (subst (λ (ys : List (ℕ × ℕ)). Raises (by_list (force n) start ys) now new) list raises)))
+      subst (λ (r : List ℕ). Level (by_strings number F start r (drop (stop + 1) w)) (by_strings number F start [] (drop start w)) before new) (sym (longer w start stop s low inside is))
+      (level_step (by_strings number F start q (drop stop w)) (by_list (number (length (q ++ s ∷ []))) start (F (q ++ s ∷ []))) (by_strings number F start (q ++ s ∷ []) (drop (stop + 1) w)) (by_strings number F start [] (drop start w)) before now new
+      (λ p. ap (λ (ys : List ℕ). by_strings number F start q ys p) (ahead w stop s inside is)) level
+      (subst (λ k. Raises (by_list (number k) start (F (q ++ s ∷ []))) now new) long (subst (λ (ys : List (ℕ × ℕ)). Raises (by_list (number n) start ys) now new) list raises)))
 
   -- no string that ends later has a list
   pub stop_here : (start stop s : ℕ) (before now : ℕ → ℕ) → stop < length w → s ≡ get_or w stop 0 → ((more : List ℕ) → F ((take (stop - start) (drop start w) ++ s ∷ []) ++ more) ≡ []) → AtStop start stop before now
-      → Raises (by_strings force F start [] (drop start w)) before now
+      → Raises (by_strings number F start [] (drop start w)) before now
   stop_here start stop s before now inside is none level =
       let q : List ℕ = take (stop - start) (drop start w) in
-      level_end (by_strings force F start q (drop stop w)) (by_strings force F start [] (drop start w)) before now
-      (λ p. ap (λ (ys : List ℕ). by_strings force F start q ys p) (ahead w stop s inside is) ∙ strings_stop force F start p s q (drop (stop + 1) w) none) level
+      level_end (by_strings number F start q (drop stop w)) (by_strings number F start [] (drop start w)) before now
+      (λ p. ap (λ (ys : List ℕ). by_strings number F start q ys p) (ahead w stop s inside is) ∙ strings_stop number F start p s q (drop (stop + 1) w) none) level
 
   -- the word ends
-  pub stop_last : (start stop : ℕ) (before now : ℕ → ℕ) → length w ≤ stop → AtStop start stop before now → Raises (by_strings force F start [] (drop start w)) before now
+  pub stop_last : (start stop : ℕ) (before now : ℕ → ℕ) → length w ≤ stop → AtStop start stop before now → Raises (by_strings number F start [] (drop start w)) before now
   stop_last start stop before now past level =
       let q : List ℕ = take (stop - start) (drop start w) in
-      level_end (by_strings force F start q (drop stop w)) (by_strings force F start [] (drop start w)) before now (λ p. ap (λ (ys : List ℕ). by_strings force F start q ys p) (drop_all stop w past)) level
+      level_end (by_strings number F start q (drop stop w)) (by_strings number F start [] (drop start w)) before now (λ p. ap (λ (ys : List ℕ). by_strings number F start q ys p) (drop_all stop w past)) level
 
-  -- the strings that begin before a start are taken in
+  -- the strings that begin before a start were met
   abbrev pub AtStart : ℕ → (ℕ → ℕ) → (ℕ → ℕ) → Type 0
-  AtStart start before now = Level (by_starts force F start (drop start w)) (by_starts force F 0 w) before now
+  AtStart start before now = Level (by_starts number F start (drop start w)) (by_starts number F 0 w) before now
 
-  pub start_next : (start : ℕ) (before now new : ℕ → ℕ) → start < length w → AtStart start before now → Raises (by_strings force F start [] (drop start w)) now new → AtStart (start + 1) before new
+  pub start_next : (start : ℕ) (before now new : ℕ → ℕ) → start < length w → AtStart start before now → Raises (by_strings number F start [] (drop start w)) now new → AtStart (start + 1) before new
   start_next start before now new inside level raises =
       let cut : drop start w ≡ get_or w start 0 ∷ drop (start + 1) w = drop_more w start 0 inside in
-      level_step (by_starts force F start (drop start w)) (by_strings force F start [] (drop start w)) (by_starts force F (start + 1) (drop (start + 1) w)) (by_starts force F 0 w) before now new
-      (λ p. ap (λ (ys : List ℕ). by_starts force F start ys p) cut ∙ ap (λ (ys : List ℕ). max (by_strings force F start [] ys p) (by_starts force F (start + 1) (drop (start + 1) w) p)) (sym cut)) level raises
+      level_step (by_starts number F start (drop start w)) (by_strings number F start [] (drop start w)) (by_starts number F (start + 1) (drop (start + 1) w)) (by_starts number F 0 w) before now new
+      (λ p. ap (λ (ys : List ℕ). by_starts number F start ys p) cut ∙ ap (λ (ys : List ℕ). max (by_strings number F start [] ys p) (by_starts number F (start + 1) (drop (start + 1) w) p)) (sym cut)) level raises
 
-  pub start_last : (start : ℕ) (before now : ℕ → ℕ) → length w ≤ start → AtStart start before now → Raises (by_starts force F 0 w) before now
+  pub start_last : (start : ℕ) (before now : ℕ → ℕ) → length w ≤ start → AtStart start before now → Raises (by_starts number F 0 w) before now
   start_last start before now past level =
-      level_end (by_starts force F start (drop start w)) (by_starts force F 0 w) before now (λ p. ap (λ (ys : List ℕ). by_starts force F start ys p) (drop_all start w past)) level
+      level_end (by_starts number F start (drop start w)) (by_starts number F 0 w) before now (λ p. ap (λ (ys : List ℕ). by_starts number F start ys p) (drop_all start w past)) level

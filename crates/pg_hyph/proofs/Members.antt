@@ -6,9 +6,10 @@ use Rattle.std.specs.Cmp.{tied_itself}
 use Rattle.std.specs.FinMap.Entries.{find, is_sorted, below_all}
 use Rattle.std.specs.List.{flat_map, range_with_len, list_all, list_any}
 use Rattle.std.proofs.lemmas.Bool.{cases_lt, and_parts, or_cases, or_left, or_right}
-use Rattle.pg_patterns.specs.Places.{place_cmp, place_total, place_exact}
+use Rattle.pg_patterns.specs.DottedSigns.{dotted_cmp, dotted_total, dotted_exact}
 use Rattle.pg_patterns.specs.Values.{best}
-use Rattle.pg_patterns.proofs.Ordered.{is_true, first_half, second_half, less_is, equal_is, find_there}
+use Rattle.pg_types.proofs.BoolFacts.{is_true, first_half, second_half, less_is, equal_is}
+use Rattle.pg_patterns.proofs.Ordered.{find_there}
 
 -- x is an element of the list
 abbrev pub In : {X : Type 0} → X → List X → Type 0
@@ -82,33 +83,33 @@ in_range d a (suc n) low high =
 
 module _ {X : Type 0} where
   -- a key below those of all entries is below that of each
-  below_in : (k : List ℕ × ℕ) (es : List ((List ℕ × ℕ) × X)) (e : (List ℕ × ℕ) × X) → T (below_all place_cmp k es) → In e es → place_cmp k e.0 ≡ Less
+  below_in : (k : List ℕ × ℕ) (es : List ((List ℕ × ℕ) × X)) (e : (List ℕ × ℕ) × X) → T (below_all dotted_cmp k es) → In e es → dotted_cmp k e.0 ≡ Less
   below_in k [] e below here = absurd here
   below_in k (y ∷ es) e below here =
       elim here [
-        | inl same ↦ ap (λ (x : (List ℕ × ℕ) × X). place_cmp k x.0) same ∙ less_is (place_cmp k y.0) (is_true _ (first_half (is_lt (place_cmp k y.0)) (below_all place_cmp k es) below))
-        | inr later ↦ below_in k es e (second_half (is_lt (place_cmp k y.0)) (below_all place_cmp k es) below) later
+        | inl same ↦ ap (λ (x : (List ℕ × ℕ) × X). dotted_cmp k x.0) same ∙ less_is (dotted_cmp k y.0) (is_true _ (first_half (is_lt (dotted_cmp k y.0)) (below_all dotted_cmp k es) below))
+        | inr later ↦ below_in k es e (second_half (is_lt (dotted_cmp k y.0)) (below_all dotted_cmp k es) below) later
       ]
 
   -- an entry of a map in order is found by its key
-  pub in_found : (es : List ((List ℕ × ℕ) × X)) (e : (List ℕ × ℕ) × X) → T (is_sorted place_cmp es) → In e es → find place_cmp e.0 es ≡ Some e.1
+  pub in_found : (es : List ((List ℕ × ℕ) × X)) (e : (List ℕ × ℕ) × X) → T (is_sorted dotted_cmp es) → In e es → find dotted_cmp e.0 es ≡ Some e.1
   in_found [] e sorted here = absurd here
   in_found (y ∷ es) e sorted here =
       elim here [
-        | inl same ↦ subst (λ (x : (List ℕ × ℕ) × X). find place_cmp x.0 (y ∷ es) ≡ Some x.1) (sym same) (find_there place_cmp y.0 y es (ap is_eq (tied_itself place_total y.0)))
+        | inl same ↦ subst (λ (x : (List ℕ × ℕ) × X). find dotted_cmp x.0 (y ∷ es) ≡ Some x.1) (sym same) (find_there dotted_cmp y.0 y es (ap is_eq (tied_itself dotted_total y.0)))
         | inr later ↦
-            let low : place_cmp y.0 e.0 ≡ Less = below_in y.0 es e (first_half (below_all place_cmp y.0 es) (is_sorted place_cmp es) sorted) later in
-            let high : place_cmp e.0 y.0 ≡ Greater = place_total.antisymm e.0 y.0 ∙ ap ordering_reverse low in
-            ap (λ r. cond (is_eq r) (Some y.1) (find place_cmp e.0 es)) high ∙ in_found es e (second_half (below_all place_cmp y.0 es) (is_sorted place_cmp es) sorted) later
+            let low : dotted_cmp y.0 e.0 ≡ Less = below_in y.0 es e (first_half (below_all dotted_cmp y.0 es) (is_sorted dotted_cmp es) sorted) later in
+            let high : dotted_cmp e.0 y.0 ≡ Greater = dotted_total.antisymm e.0 y.0 ∙ ap ordering_reverse low in
+            ap (λ r. cond (is_eq r) (Some y.1) (find dotted_cmp e.0 es)) high ∙ in_found es e (second_half (below_all dotted_cmp y.0 es) (is_sorted dotted_cmp es) sorted) later
       ]
 
   -- what is found is an entry
-  pub found_in : (k : List ℕ × ℕ) (v : X) (es : List ((List ℕ × ℕ) × X)) → find place_cmp k es ≡ Some v → In (k, v) es
+  pub found_in : (k : List ℕ × ℕ) (v : X) (es : List ((List ℕ × ℕ) × X)) → find dotted_cmp k es ≡ Some v → In (k, v) es
   found_in k v [] found = cc
   found_in k v (e ∷ es) found =
-      elim (eq_by_cmp place_cmp k e.0) as (λ b. eq_by_cmp place_cmp k e.0 ≡ b → cond b (Some e.1) (find place_cmp k es) ≡ Some v → In (k, v) (e ∷ es)) [
+      elim (eq_by_cmp dotted_cmp k e.0) as (λ b. eq_by_cmp dotted_cmp k e.0 ≡ b → cond b (Some e.1) (find dotted_cmp k es) ≡ Some v → In (k, v) (e ∷ es)) [
         | true ↦ λ tied there.
-            let key : k ≡ e.0 = place_exact k e.0 (equal_is (place_cmp k e.0) tied) in
+            let key : k ≡ e.0 = dotted_exact k e.0 (equal_is (dotted_cmp k e.0) tied) in
             let value : v ≡ e.1 = cc in
             inl (λ i. (key i, value i))
         | false ↦ λ apart there. inr (found_in k v es there)

@@ -1,2 +1,2 @@
-pub mod Forces
+pub mod ListValues
 pub mod Walks

@@ -1,17 +1,17 @@
 -- The lists of the strings of a word, one after the other.
 use Rattle.std.specs.Prelude.{ℕ, ◌+◌, nat_eq, if◌then◌else◌, List, [], ◌∷◌, ◌++◌, length, max}
 
--- the greatest force of a list at position p, where its string stands from `start` on
+-- the greatest number of a list at position p, where its string stands from `start` on
 abbrev pub by_list : (ℕ × ℕ → ℕ) → ℕ → List (ℕ × ℕ) → ℕ → ℕ
-by_list force start [] p = 0
-by_list force start (x ∷ xs) p = max (if nat_eq (start + x.1) p then force x else 0) (by_list force start xs p)
+by_list number start [] p = 0
+by_list number start (x ∷ xs) p = max (if nat_eq (start + x.1) p then number x else 0) (by_list number start xs p)
 
--- the forces are those of strings of so many signs, and F gives the list of each string
-module _ (force : ℕ → ℕ × ℕ → ℕ) (F : List ℕ → List (ℕ × ℕ)) where
+-- the numbers are those of strings of so many signs, and F value_by the list of each string
+module _ (number : ℕ → ℕ × ℕ → ℕ) (F : List ℕ → List (ℕ × ℕ)) where
   -- the same for the strings that stand from `start` on, of which q is behind and the rest is ahead
   abbrev pub by_strings : ℕ → List ℕ → List ℕ → ℕ → ℕ
   by_strings start q [] p = 0
-  by_strings start q (s ∷ rest) p = max (by_list (force (length (q ++ s ∷ []))) start (F (q ++ s ∷ [])) p) (by_strings start (q ++ s ∷ []) rest p)
+  by_strings start q (s ∷ rest) p = max (by_list (number (length (q ++ s ∷ []))) start (F (q ++ s ∷ [])) p) (by_strings start (q ++ s ∷ []) rest p)
 
   -- the same for the strings that stand from `start` or later on, where the word's rest stands
   abbrev pub by_starts : ℕ → List ℕ → ℕ → ℕ

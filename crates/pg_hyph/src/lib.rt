@@ -1,7 +1,6 @@
 //! The hyphenator: the values and the covers of the positions of a word, by the lists of a pattern trie.
 #![tactic(auto)]
 
-mod pass;
 mod records;
 #[cfg(test)]
 mod tests;

@@ -8,6 +8,17 @@ use Rattle.std.specs.FinMap as map
 abbrev pub FileMap : Type 0
 FileMap = map.FinMap (slice_cmp nat_cmp) (List ℕ)
 
+-- what files show at a moment: what they hold, told or not, and the counts of the faults of reading and of writing each name
+pub record FilesShown : Type 0 where
+  pub held : Option FileMap
+  pub read_faults : List ℕ → ℕ
+  pub write_faults : List ℕ → ℕ
+
+-- what a sink shows at a moment: what was put, told or not, and the count of its faults
+pub record SinkShown : Type 0 where
+  pub text : Option (List ℕ)
+  pub faults : ℕ
+
 -- the file of this name, if there is one
 abbrev pub file_at : FileMap → List ℕ → Option (List ℕ)
 file_at files name = map.get files name
@@ -19,6 +30,14 @@ KeepsHeld old new = IfSome new (λ files. old ≡ Some files)
 -- these are the first bytes, one more than the limit, of a file that has more than the limit
 abbrev pub IsCut : Option (List ℕ) → ℕ → List ℕ → Type 0
 IsCut file limit front = MatchOption file ⊥ (λ bytes. (limit < length bytes) × (front ≡ take (limit + 1) bytes))
+
+-- where files are told, the file of this name is these bytes
+abbrev pub IsFile : Option FileMap → List ℕ → List ℕ → Type 0
+IsFile held name bytes = IfSome held (λ files. file_at files name ≡ Some bytes)
+
+-- where files are told, the file of this name has more than the limit, and these are its first bytes, one more than the limit
+abbrev pub IsFileCut : Option FileMap → List ℕ → ℕ → List ℕ → Type 0
+IsFileCut held name limit front = IfSome held (λ files. IsCut (file_at files name) limit front)
 
 -- where files are told after the call, they are those told before it with this file set to these bytes
 abbrev pub WasWritten : Option FileMap → Option FileMap → List ℕ → List ℕ → Type 0

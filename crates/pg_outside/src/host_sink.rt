@@ -3,10 +3,10 @@ ghost use Rattle.std.specs.Prelude.{◌≡◌, ◌≤◌, None, OnOk, OnErr};
 ghost use Rattle.std.specs.Io.KnownBytes.{Appends};
 ghost use Rattle.pg_outside.specs.Content.{WasPut, WasPartPut};
 ghost use Rattle.pg_outside.specs.Faults.{Rose};
-ghost use Rattle.pg_outside.specs.Host.{AppendsPart};
+ghost use Rattle.pg_outside.specs.Streams.{AppendsPart};
 
-use super::host_files::write_bytes;
 use super::outside::{Failed, Sink};
+use super::streams::write_bytes;
 use std::io::Write;
 
 /// A writer as a sink, with a count of faults. It tells no content. A write that fails or takes
@@ -31,9 +31,7 @@ impl<W: Write + Drop> HostSink<W> {
 impl<W: Write + Drop> Sink for HostSink<W> {
     ghost use Rattle.pg_outside.specs.HostSink.{writer_faults, writer_of};
 
-    ghost contents = { λ _. None };
-
-    ghost faults = { writer_faults };
+    ghost shown = { λ sink. record { text = None; faults = writer_faults sink } };
 
     fn put(&mut self, bytes: &[u8]) -> Result<(), Failed>
         // As for all sinks.

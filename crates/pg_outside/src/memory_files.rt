@@ -2,8 +2,8 @@
 ghost use Rattle.std.specs.Prelude.{◌≡◌, ◌≢◌, ℕ, ◌+◌, ◌-◌, ◌^◌, ◌<◌, ◌≤◌, ◌⊎◌, List, [], take, length, min, Option, Some, None, OnOk, OnErr, IsOk, IsErr, IsSome, IfSome, IfNone, OnSome, IsErrOf};
 ghost use Rattle.std.specs.Option.{option_copied, option_map};
 ghost use Rattle.std.specs.FinMap as fin;
-ghost use Rattle.pg_outside.specs.Content.{file_at, KeepsHeld, IsCut, WasWritten, WasPartWritten};
-ghost use Rattle.pg_outside.specs.Faults.{next_count, Rose, NoneFell, EachRose, SameCounts, SameOthers};
+ghost use Rattle.pg_outside.specs.Content.{file_at, KeepsHeld, IsFile, IsFileCut, WasWritten, WasPartWritten};
+ghost use Rattle.pg_outside.specs.Faults.{next_count, RoseFor, NoneFell, SameCounts, SameOthers};
 
 use super::missing::note_name;
 use super::outside::{Failed, Files, ReadError};
@@ -124,13 +124,9 @@ impl MemoryFiles {
 }
 
 impl Files for MemoryFiles {
-    ghost use Rattle.pg_outside.specs.MemoryFiles.{files_of, room_of, reads_failed_of, writes_failed_of, calls_of, listed_of, next_listed};
+    ghost use Rattle.pg_outside.specs.MemoryFiles.{files_of, room_of, reads_failed_of, writes_failed_of, calls_of, listed_of, next_listed, IsListed, IsUnlisted, HasFile, SameFiles, SameReads, SameWrites, ReadsRose, WritesRose, KeepsFront, KeepsFrontWithin};
 
-    ghost held = { λ memory. Some (files_of memory) };
-
-    ghost read_faults = { reads_failed_of };
-
-    ghost write_faults = { writes_failed_of };
+    ghost shown = { λ memory. record { held = Some (files_of memory); read_faults = reads_failed_of memory; write_faults = writes_failed_of memory } };
 
     fn read(
         &mut self,
@@ -148,9 +144,9 @@ impl Files for MemoryFiles {
         ensures writes { NoneFell (writes_failed_of self.old) (writes_failed_of self.new) }
         ensures fits { OnOk result (length into.new.items ≤ limit) }
         ensures cut { IsErrOf result ReadError.TooLong → length into.new.items ≡ limit + 1 }
-        ensures file { OnOk result (IfSome (Some (files_of self.new)) (λ files. file_at files name.now ≡ Some into.new.items)) }
-        ensures cut_file { IsErrOf result ReadError.TooLong → IfSome (Some (files_of self.new)) (λ files. IsCut (file_at files name.now) limit into.new.items) }
-        ensures failed { IsErrOf result ReadError.Failed → Rose (reads_failed_of self.old name.now) (reads_failed_of self.new name.now) }
+        ensures file { OnOk result (IsFile (Some (files_of self.new)) name.now into.new.items) }
+        ensures cut_file { IsErrOf result ReadError.TooLong → IsFileCut (Some (files_of self.new)) name.now limit into.new.items }
+        ensures failed { IsErrOf result ReadError.Failed → RoseFor (reads_failed_of self.old) (reads_failed_of self.new) name.now }
 
         // The call is counted, and the calls that are to fail stay listed.
         ensures calls { calls_of self.new ≡ next_count (calls_of self.old) }
@@ -158,16 +154,16 @@ impl Files for MemoryFiles {
         ensures rooms { SameCounts (room_of self.old) (room_of self.new) }
 
         // A listed read fails and raises both counts of every name.
-        ensures listed_fails { IsSome (next_listed self.old) → IsErrOf result ReadError.Failed }
-        ensures listed_reads { IsSome (next_listed self.old) → EachRose (reads_failed_of self.old) (reads_failed_of self.new) }
-        ensures listed_writes { IsSome (next_listed self.old) → EachRose (writes_failed_of self.old) (writes_failed_of self.new) }
+        ensures listed_fails { IsListed self.old → IsErrOf result ReadError.Failed }
+        ensures listed_reads { IsListed self.old → ReadsRose self.old self.new }
+        ensures listed_writes { IsListed self.old → WritesRose self.old self.new }
 
         // Else only a missing name fails, and raises its own read faults alone.
-        ensures found { next_listed self.old ≡ None → IsSome (file_at (files_of self.old) name.now) → IsErrOf result ReadError.Failed → ⊥ }
-        ensures found_reads { next_listed self.old ≡ None → IsSome (file_at (files_of self.old) name.now) → SameCounts (reads_failed_of self.old) (reads_failed_of self.new) }
-        ensures missing_reads { next_listed self.old ≡ None → SameOthers (reads_failed_of self.old) (reads_failed_of self.new) name.now }
-        ensures memory_reads { IsErrOf result ReadError.Memory → SameCounts (reads_failed_of self.old) (reads_failed_of self.new) }
-        ensures unlisted_writes { next_listed self.old ≡ None → SameCounts (writes_failed_of self.old) (writes_failed_of self.new) }
+        ensures found { IsUnlisted self.old → HasFile self.old name.now → IsErrOf result ReadError.Failed → ⊥ }
+        ensures found_reads { IsUnlisted self.old → HasFile self.old name.now → SameReads self.old self.new }
+        ensures missing_reads { IsUnlisted self.old → SameOthers (reads_failed_of self.old) (reads_failed_of self.new) name.now }
+        ensures memory_reads { IsErrOf result ReadError.Memory → SameReads self.old self.new }
+        ensures unlisted_writes { IsUnlisted self.old → SameWrites self.old self.new }
     {
         match self.next_plan() {
             Some(_) => Err(ReadError::Failed),
@@ -187,7 +183,7 @@ impl Files for MemoryFiles {
         ensures part { OnErr result (WasPartWritten (Some (files_of self.old)) (Some (files_of self.new)) name.now bytes.now) }
         ensures reads { NoneFell (reads_failed_of self.old) (reads_failed_of self.new) }
         ensures writes { NoneFell (writes_failed_of self.old) (writes_failed_of self.new) }
-        ensures failed { OnErr result (Rose (writes_failed_of self.old name.now) (writes_failed_of self.new name.now)) }
+        ensures failed { OnErr result (RoseFor (writes_failed_of self.old) (writes_failed_of self.new) name.now) }
 
         // The call is counted, and the calls that are to fail stay listed.
         ensures calls { calls_of self.new ≡ next_count (calls_of self.old) }
@@ -196,20 +192,20 @@ impl Files for MemoryFiles {
 
         // A listed write fails. The file is as before, or the bytes that the call keeps, and it
         // is these where it is there and they are within its room.
-        ensures listed_fails { IsSome (next_listed self.old) → IsErr result }
-        ensures listed_reads { IsSome (next_listed self.old) → EachRose (reads_failed_of self.old) (reads_failed_of self.new) }
-        ensures keeps_none { next_listed self.old ≡ Some None → files_of self.new ≡ files_of self.old }
-        ensures keeps { (keep : ℕ) → next_listed self.old ≡ Some (Some keep) → (files_of self.new ≡ files_of self.old) ⊎ (files_of self.new ≡ fin.insert (files_of self.old) name.now (take keep bytes.now)) }
-        ensures keeps_within { (keep : ℕ) → next_listed self.old ≡ Some (Some keep) → IsSome (file_at (files_of self.old) name.now) → min keep (length bytes.now) ≤ room_of self.old name.now → files_of self.new ≡ fin.insert (files_of self.old) name.now (take keep bytes.now) }
+        ensures listed_fails { IsListed self.old → IsErr result }
+        ensures listed_reads { IsListed self.old → ReadsRose self.old self.new }
+        ensures keeps_none { next_listed self.old ≡ Some None → SameFiles self.old self.new }
+        ensures keeps { KeepsFront self.old self.new name.now bytes.now }
+        ensures keeps_within { KeepsFrontWithin self.old self.new name.now bytes.now }
 
         // Any other fails only where memory is wanted, and changes no file then.
-        ensures within { next_listed self.old ≡ None → IsSome (file_at (files_of self.old) name.now) → length bytes.now ≤ room_of self.old name.now → IsOk result }
-        ensures unlisted_files { next_listed self.old ≡ None → OnErr result (files_of self.new ≡ files_of self.old) }
+        ensures within { IsUnlisted self.old → HasFile self.old name.now → length bytes.now ≤ room_of self.old name.now → IsOk result }
+        ensures unlisted_files { IsUnlisted self.old → OnErr result (SameFiles self.old self.new) }
 
         // A failed write raises the write faults of every name. Nothing else raises a count.
-        ensures failed_writes { OnErr result (EachRose (writes_failed_of self.old) (writes_failed_of self.new)) }
-        ensures ok_writes { OnOk result (SameCounts (writes_failed_of self.old) (writes_failed_of self.new)) }
-        ensures unlisted_reads { next_listed self.old ≡ None → SameCounts (reads_failed_of self.old) (reads_failed_of self.new) }
+        ensures failed_writes { OnErr result (WritesRose self.old self.new) }
+        ensures ok_writes { OnOk result (SameWrites self.old self.new) }
+        ensures unlisted_reads { IsUnlisted self.old → SameReads self.old self.new }
     {
         match self.next_plan() {
             Some(plan) => {

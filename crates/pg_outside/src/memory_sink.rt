@@ -4,6 +4,7 @@ ghost use Rattle.std.specs.FinMap as fin;
 ghost use Rattle.pg_outside.specs.Content.{WasPut, WasPartPut};
 ghost use Rattle.pg_outside.specs.Faults.{next_count, Rose};
 
+use super::bounded_bytes::BoundedBytes;
 use super::outside::{Failed, Sink};
 use super::plans::Plans;
 use std::alloc::{AllocError, Global};
@@ -13,12 +14,9 @@ use std::alloc::{AllocError, Global};
 /// count. Every other put succeeds.
 #[derive(Drop)]
 pub struct MemorySink {
-    bytes: Vec<u8>,
-    room: usize,
+    held: BoundedBytes,
     plans: Plans,
     failed: u64,
-    ghost within: { length bytes.items ≤ room },
-    ghost reserved: { room ≤ vec_capacity bytes },
 }
 
 impl MemorySink {
@@ -35,10 +33,8 @@ impl MemorySink {
         ensures puts { IfOk result (λ sink. puts_of sink ≡ 0) }
         ensures listed { IfOk result (λ sink. listed_puts sink ≡ fin.empty) }
     {
-        let bytes = Vec::with_capacity(alloc, room)?;
         Ok(MemorySink {
-            bytes,
-            room,
+            held: BoundedBytes::new(alloc, room)?,
             plans: Plans::new(alloc),
             failed: 0,
         })
@@ -67,27 +63,13 @@ impl MemorySink {
     pub fn bytes(&self) -> &[u8]
         ensures { result.now ≡ sink_bytes self.now }
     {
-        self.bytes.as_slice()
-    }
-
-    /// Appends bytes for which the room suffices.
-    fn append(&mut self, bytes: &[u8])
-        requires { length (sink_bytes self.old) + length bytes.now ≤ sink_room self.old }
-        ensures bytes { sink_bytes self.new ≡ sink_bytes self.old ++ bytes.now }
-        ensures room { sink_room self.new ≡ sink_room self.old }
-        ensures faults { sink_faults self.new ≡ sink_faults self.old }
-        ensures plans { self.new.plans ≡ self.old.plans }
-    {
-        if self.bytes.extend_from_slice(bytes).is_err() {
-            unreachable!();
-        }
+        self.held.bytes.as_slice()
     }
 
     /// Counts a fault.
     fn fail(&mut self) -> Result<(), Failed>
         ensures failed { IsErr result }
-        ensures bytes { sink_bytes self.new ≡ sink_bytes self.old }
-        ensures room { sink_room self.new ≡ sink_room self.old }
+        ensures held { self.new.held ≡ self.old.held }
         ensures later { sink_faults self.old ≤ sink_faults self.new }
         ensures faults { sink_faults self.new ≡ next_count (sink_faults self.old) }
         ensures plans { self.new.plans ≡ self.old.plans }
@@ -98,11 +80,9 @@ impl MemorySink {
 }
 
 impl Sink for MemorySink {
-    ghost use Rattle.pg_outside.specs.MemorySink.{sink_bytes, sink_room, sink_faults, puts_of, listed_puts, next_listed_put};
+    ghost use Rattle.pg_outside.specs.MemorySink.{sink_bytes, sink_room, sink_faults, puts_of, listed_puts, next_listed_put, IsWithin, IsPast, SameBytes, PutsFront};
 
-    ghost contents = { λ sink. Some (sink_bytes sink) };
-
-    ghost faults = { sink_faults };
+    ghost shown = { λ sink. record { text = Some (sink_bytes sink); faults = sink_faults sink } };
 
     fn put(&mut self, bytes: &[u8]) -> Result<(), Failed>
         // As for all sinks.
@@ -119,28 +99,27 @@ impl Sink for MemorySink {
         // A put that is listed or past the room fails. Past the room it appends nothing, and else
         // a listed put appends what it keeps.
         ensures listed_fails { IsSome (next_listed_put self.old) → IsErr result }
-        ensures past_fails { sink_room self.old < length (sink_bytes self.old) + length bytes.now → IsErr result }
-        ensures past { sink_room self.old < length (sink_bytes self.old) + length bytes.now → sink_bytes self.new ≡ sink_bytes self.old }
-        ensures keeps_none { next_listed_put self.old ≡ Some None → sink_bytes self.new ≡ sink_bytes self.old }
-        ensures keeps { (keep : ℕ) → next_listed_put self.old ≡ Some (Some keep) → length (sink_bytes self.old) + length bytes.now ≤ sink_room self.old → sink_bytes self.new ≡ sink_bytes self.old ++ take keep bytes.now }
+        ensures past_fails { IsPast self.old bytes.now → IsErr result }
+        ensures past { IsPast self.old bytes.now → SameBytes self.old self.new }
+        ensures keeps_none { next_listed_put self.old ≡ Some None → SameBytes self.old self.new }
+        ensures keeps { PutsFront self.old self.new bytes.now }
 
         // Every other put succeeds and raises no count.
-        ensures succeeds { next_listed_put self.old ≡ None → length (sink_bytes self.old) + length bytes.now ≤ sink_room self.old → IsOk result }
+        ensures succeeds { next_listed_put self.old ≡ None → IsWithin self.old bytes.now → IsOk result }
         ensures ok_faults { OnOk result (sink_faults self.new ≡ sink_faults self.old) }
     {
-        let fits = bytes.len() <= self.room - self.bytes.len();
         let plan = self.plans.next();
-        if !fits {
+        if !self.held.has_room(bytes) {
             return self.fail();
         }
         match plan {
             None => {
-                self.append(bytes);
+                self.held.append(bytes);
                 Ok(())
             }
             Some(plan) => {
                 let keep = plan.keep.map_or(0, |keep| keep.min(bytes.len()));
-                self.append(&bytes[..keep]);
+                self.held.append(&bytes[..keep]);
                 self.fail()
             }
         }

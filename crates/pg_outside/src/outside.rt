@@ -1,9 +1,10 @@
 //! The two traits through which a command reads, writes and prints.
 ghost use Rattle.std.specs.Prelude.{◌≡◌, ℕ, ◌+◌, ◌-◌, ◌^◌, ◌<◌, ◌≤◌, List, [], length, Option, OnOk, OnErr, IfSome, IsErrOf};
-ghost use Rattle.pg_outside.specs.Content.{FileMap, file_at, KeepsHeld, IsCut, WasWritten, WasPartWritten, WasPut, WasPartPut};
-ghost use Rattle.pg_outside.specs.Faults.{Rose, NoneFell};
+ghost use Rattle.pg_outside.specs.Content.{FilesShown, SinkShown, KeepsHeld, IsFile, IsFileCut, WasWritten, WasPartWritten, WasPut, WasPartPut};
+ghost use Rattle.pg_outside.specs.Faults.{Rose, RoseFor, NoneFell};
 
 use std::alloc::{AllocError, Global};
+use std::io;
 use thiserror::Error;
 
 /// Why a read gave no file.
@@ -30,22 +31,34 @@ impl From<AllocError> for ReadError {
     }
 }
 
+impl From<io::Error> for ReadError {
+    ghost use Rattle.pg_outside.specs.declared.outside.ReadError.TheVariants.{Failed};
+
+    ghost from_gives = { λ _ error. error ≡ Failed };
+
+    fn from(_error: io::Error) -> ReadError {
+        ReadError::Failed
+    }
+}
+
 /// A write or a put failed; the count of faults rose.
 #[derive(Clone, Copy, Debug, PartialEq, Eq, Error)]
 #[error("the bytes could not be written")]
 pub struct Failed;
 
+impl From<io::Error> for Failed {
+    fn from(_error: io::Error) -> Failed {
+        Failed
+    }
+}
+
 /// Files that are read and written whole, by name.
 ///
-/// An object may tell what it holds, as `held`, or tell nothing. It counts the faults of reading
-/// and of writing each name, and no count ever falls. A count rose where it is greater than
+/// An object shows, as `shown`, what it holds, where it tells this, and the counts of the faults of
+/// reading and of writing each name. No count ever falls. A count rose where it is greater than
 /// before, or has reached 2^64 - 1.
 pub trait Files {
-    ghost held: { Self → Option FileMap };
-
-    ghost read_faults: { Self → List ℕ → ℕ };
-
-    ghost write_faults: { Self → List ℕ → ℕ };
+    ghost shown: { Self → FilesShown };
 
     /// Reads a file of at most `limit` bytes into `into`, which is empty before. The limit is below
     /// 2^64 - 1.
@@ -65,46 +78,46 @@ pub trait Files {
         requires limit { limit < 2 ^ 64 - 1 }
 
         // Every read leaves the files as they were, and no count falls.
-        ensures held { KeepsHeld (held self.old) (held self.new) }
-        ensures reads { NoneFell (read_faults self.old) (read_faults self.new) }
-        ensures writes { NoneFell (write_faults self.old) (write_faults self.new) }
+        ensures held { KeepsHeld (shown self.old).held (shown self.new).held }
+        ensures reads { NoneFell (shown self.old).read_faults (shown self.new).read_faults }
+        ensures writes { NoneFell (shown self.old).write_faults (shown self.new).write_faults }
 
         // The lengths hold whether the files are told or not.
         ensures fits { OnOk result (length into.new.items ≤ limit) }
         ensures cut { IsErrOf result ReadError.TooLong → length into.new.items ≡ limit + 1 }
 
-        ensures file { OnOk result (IfSome (held self.new) (λ files. file_at files name.now ≡ Some into.new.items)) }
-        ensures cut_file { IsErrOf result ReadError.TooLong → IfSome (held self.new) (λ files. IsCut (file_at files name.now) limit into.new.items) }
-        ensures failed { IsErrOf result ReadError.Failed → Rose (read_faults self.old name.now) (read_faults self.new name.now) };
+        // Where the files are told, the bytes are those of the file.
+        ensures file { OnOk result (IsFile (shown self.new).held name.now into.new.items) }
+        ensures cut_file { IsErrOf result ReadError.TooLong → IsFileCut (shown self.new).held name.now limit into.new.items }
+
+        ensures failed { IsErrOf result ReadError.Failed → RoseFor (shown self.old).read_faults (shown self.new).read_faults name.now };
 
     /// Sets the file of this name to `bytes`, and leaves all others as they were.
     ///
     /// # Errors
     /// Where the write faults of `name` rose; the file is then as before or a prefix of `bytes`.
     fn write(&mut self, name: &str, bytes: &[u8]) -> Result<(), Failed>
-        ensures whole { OnOk result (WasWritten (held self.old) (held self.new) name.now bytes.now) }
-        ensures part { OnErr result (WasPartWritten (held self.old) (held self.new) name.now bytes.now) }
-        ensures reads { NoneFell (read_faults self.old) (read_faults self.new) }
-        ensures writes { NoneFell (write_faults self.old) (write_faults self.new) }
-        ensures failed { OnErr result (Rose (write_faults self.old name.now) (write_faults self.new name.now)) };
+        ensures whole { OnOk result (WasWritten (shown self.old).held (shown self.new).held name.now bytes.now) }
+        ensures part { OnErr result (WasPartWritten (shown self.old).held (shown self.new).held name.now bytes.now) }
+        ensures reads { NoneFell (shown self.old).read_faults (shown self.new).read_faults }
+        ensures writes { NoneFell (shown self.old).write_faults (shown self.new).write_faults }
+        ensures failed { OnErr result (RoseFor (shown self.old).write_faults (shown self.new).write_faults name.now) };
 }
 
 /// Where lines are printed.
 ///
-/// An object may tell what was put, as `contents`, or tell nothing. It counts its faults, and the
+/// An object shows, as `shown`, what was put, where it tells this, and the count of its faults. The
 /// count never falls.
 pub trait Sink {
-    ghost contents: { Self → Option (List ℕ) };
-
-    ghost faults: { Self → ℕ };
+    ghost shown: { Self → SinkShown };
 
     /// Appends `bytes`.
     ///
     /// # Errors
     /// Where the faults rose; a prefix of `bytes` was then appended.
     fn put(&mut self, bytes: &[u8]) -> Result<(), Failed>
-        ensures whole { OnOk result (WasPut (contents self.old) (contents self.new) bytes.now) }
-        ensures part { OnErr result (WasPartPut (contents self.old) (contents self.new) bytes.now) }
-        ensures later { faults self.old ≤ faults self.new }
-        ensures failed { OnErr result (Rose (faults self.old) (faults self.new)) };
+        ensures whole { OnOk result (WasPut (shown self.old).text (shown self.new).text bytes.now) }
+        ensures part { OnErr result (WasPartPut (shown self.old).text (shown self.new).text bytes.now) }
+        ensures later { (shown self.old).faults ≤ (shown self.new).faults }
+        ensures failed { OnErr result (Rose (shown self.old).faults (shown self.new).faults) };
 }

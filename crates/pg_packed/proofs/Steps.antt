@@ -9,7 +9,7 @@ use Rattle.std.specs.FinMap.Entries.{put, find, is_sorted, below_all, by_order}
 use Rattle.std.specs.List.{All, list_all}
 use Rattle.pg_types.specs.Placement.{enter, kept}
 use Rattle.pg_types.specs.Signs.{is_sign}
-use Rattle.pg_patterns.specs.Places.{place_cmp, place_total}
+use Rattle.pg_patterns.specs.DottedSigns.{dotted_cmp, dotted_total}
 use Rattle.pg_patterns.specs.Values.{raise, IsPatternMap, SignsUpTo}
 use Rattle.pg_trie.specs.Maps.{Maps}
 use Rattle.pg_packed.specs.Starts.{entered_all, AreEntered}
@@ -31,31 +31,31 @@ less_is Greater p = absurd p
 abbrev Entries : Type 0
 Entries = List ((List ℕ × ℕ) × ℕ)
 
-below_get : (x k : List ℕ × ℕ) (v : ℕ) (es : Entries) (i : ℕ) → T (below_all place_cmp x es) → slice_get es i ≡ Some (k, v) → place_cmp x k ≡ Less
+below_get : (x k : List ℕ × ℕ) (v : ℕ) (es : Entries) (i : ℕ) → T (below_all dotted_cmp x es) → slice_get es i ≡ Some (k, v) → dotted_cmp x k ≡ Less
 below_get x k v [] zero below there = cc
 below_get x k v [] (suc i) below there = cc
-below_get x k v (e ∷ es) zero below there = subst (λ z. place_cmp x z.0 ≡ Less) (some_is e (k, v) there) (less_is _ (first_half _ _ below))
+below_get x k v (e ∷ es) zero below there = subst (λ z. dotted_cmp x z.0 ≡ Less) (some_is e (k, v) there) (less_is _ (first_half _ _ below))
 below_get x k v (e ∷ es) (suc i) below there = below_get x k v es i (second_half _ _ below) there
 
-after_first : (k : List ℕ × ℕ) (v : ℕ) (e : (List ℕ × ℕ) × ℕ) (es : Entries) (i : ℕ) → T (is_sorted place_cmp (e ∷ es)) → slice_get es i ≡ Some (k, v) → place_cmp k e.0 ≡ Greater
-after_first k v e es i sorted there = place_total.antisymm k e.0 ∙ ap ordering_reverse (below_get e.0 k v es i (first_half _ _ sorted) there)
+after_first : (k : List ℕ × ℕ) (v : ℕ) (e : (List ℕ × ℕ) × ℕ) (es : Entries) (i : ℕ) → T (is_sorted dotted_cmp (e ∷ es)) → slice_get es i ≡ Some (k, v) → dotted_cmp k e.0 ≡ Greater
+after_first k v e es i sorted there = dotted_total.antisymm k e.0 ∙ ap ordering_reverse (below_get e.0 k v es i (first_half _ _ sorted) there)
 
 -- the next of a list in order is put behind those before it
-put_next : (k : List ℕ × ℕ) (v : ℕ) (es : Entries) (i : ℕ) → T (is_sorted place_cmp es) → slice_get es i ≡ Some (k, v) → put place_cmp k v (take i es) ≡ take (suc i) es
+put_next : (k : List ℕ × ℕ) (v : ℕ) (es : Entries) (i : ℕ) → T (is_sorted dotted_cmp es) → slice_get es i ≡ Some (k, v) → put dotted_cmp k v (take i es) ≡ take (suc i) es
 put_next k v [] zero sorted there = cc
 put_next k v [] (suc i) sorted there = cc
 put_next k v (e ∷ es) zero sorted there = let same : (k, v) ≡ e = sym (some_is e (k, v) there) in ap (λ z. z ∷ []) same
 put_next k v (e ∷ es) (suc i) sorted there =
-    ap (λ r. by_order r ((k, v) ∷ e ∷ take i es) ((e.0, v) ∷ take i es) (e ∷ put place_cmp k v (take i es))) (after_first k v e es i sorted there)
+    ap (λ r. by_order r ((k, v) ∷ e ∷ take i es) ((e.0, v) ∷ take i es) (e ∷ put dotted_cmp k v (take i es))) (after_first k v e es i sorted there)
     ∙ ap (λ r. e ∷ r) (put_next k v es i (second_half _ _ sorted) there)
 
 -- its place has no value before
-not_before : (k : List ℕ × ℕ) (v : ℕ) (es : Entries) (i : ℕ) → T (is_sorted place_cmp es) → slice_get es i ≡ Some (k, v) → find place_cmp k (take i es) ≡ None
+not_before : (k : List ℕ × ℕ) (v : ℕ) (es : Entries) (i : ℕ) → T (is_sorted dotted_cmp es) → slice_get es i ≡ Some (k, v) → find dotted_cmp k (take i es) ≡ None
 not_before k v [] zero sorted there = cc
 not_before k v [] (suc i) sorted there = cc
 not_before k v (e ∷ es) zero sorted there = refl
 not_before k v (e ∷ es) (suc i) sorted there =
-    ap (λ r. cond (is_eq r) (Some e.1) (find place_cmp k (take i es))) (after_first k v e es i sorted there) ∙ not_before k v es i (second_half _ _ sorted) there
+    ap (λ r. cond (is_eq r) (Some e.1) (find dotted_cmp k (take i es))) (after_first k v e es i sorted there) ∙ not_before k v es i (second_half _ _ sorted) there
 
 greater_none : (v : ℕ) → max v 0 ≡ v
 greater_none v = omega arith
@@ -64,8 +64,8 @@ greater_none v = omega arith
 pub raised_next : (P Q : Entries) (i : ℕ) (k : List ℕ × ℕ) (v : ℕ) → IsPatternMap P → Q ≡ take i P → slice_get P i ≡ Some (k, v) → raise Q k v ≡ take (i + 1) P
 raised_next P Q i k v map same there =
     ap (λ x. raise x k v) same
-    ∙ ap (λ o. put place_cmp k (max v (unwrap_or o 0)) (take i P)) (not_before k v P i map.sorted there)
-    ∙ ap (λ n. put place_cmp k n (take i P)) (greater_none v)
+    ∙ ap (λ o. put dotted_cmp k (max v (unwrap_or o 0)) (take i P)) (not_before k v P i map.sorted there)
+    ∙ ap (λ n. put dotted_cmp k n (take i P)) (greater_none v)
     ∙ put_next k v P i map.sorted there ∙ ap (λ x. take x P) (sym (add-one i))
 
 fold_next : {X Y : Type 0} (f : Y → X → Y) (a : Y) (x : X) (xs : List X) (i : ℕ) → slice_get xs i ≡ Some x → fold f a (take (suc i) xs) ≡ f (fold f a (take i xs)) x

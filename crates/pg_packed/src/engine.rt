@@ -35,14 +35,17 @@ impl PackedEngine {
     ghost use Rattle.std.specs.Prelude.{◌≡◌, ◌≤◌, IfOk};
     ghost use Rattle.pg_types.specs.declared.limits.TheConstants.{SIGNS_MAX};
     ghost use Rattle.pg_patterns.specs.Values.{SignsUpTo};
-    ghost use Rattle.pg_packed.specs.Engines.{meaning_of, fresh};
+    ghost use Rattle.pg_select.specs.Meanings.{new_engine};
+    ghost use Rattle.pg_packed.specs.Engines.{meaning_of};
+    ghost use Rattle.pg_packed.specs.Starts.{entered_all};
 
     /// An engine with the greatest sign `signs` whose patterns are those of `start`. Nothing is hopeless or counted, no pass
     /// was begun, and the engine is tidy. Its families are those after the patterns are entered in their order.
     pub fn new(alloc: Global, signs: u16, start: &PatternSet) -> Result<PackedEngine, AllocError>
         requires signs { (1 ≤ signs) × (signs ≤ SIGNS_MAX) }
         requires known { SignsUpTo signs start.now }
-        ensures { IfOk result (λ engine. meaning_of engine ≡ fresh signs start.now) }
+        ensures { IfOk result (λ engine. meaning_of engine
+            ≡ new_engine signs start.now (Some (entered_all signs start.now))) }
     {
         Ok(PackedEngine {
             trie: trie_of(alloc, signs, start)?,
@@ -60,6 +63,11 @@ impl Engine for PackedEngine {
 
     ghost meaning = { meaning_of };
 
+    fn kept(&self) {
+        let _len = self.counts.window_len();
+        let _lists = self.trie.outputs();
+    }
+
     fn begin_pass(&mut self, level: u8, len: u8, dot: u8) {
         self.counts.begin(len);
         self.level = level;
@@ -74,6 +82,10 @@ impl Engine for PackedEngine {
 
     fn count(&mut self, window: &[Sign], good: bool, weight: Weight) -> Result<(), AllocError> {
         self.counts.add(window, good, weight)
+    }
+
+    fn sums(&self, window: &[Sign]) -> Option<(u64, u64)> {
+        self.counts.sums(window)
     }
 
     fn next_candidate(&self, at: &mut Cursor) -> Option<(u64, u64)> {

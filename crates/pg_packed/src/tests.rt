@@ -42,14 +42,15 @@ fn count<E: Engine>(e: &mut E) -> Result<(), AllocError>
     requires signs { (E.meaning e.old).signs ≡ 4 }
     requires len { (E.meaning e.old).pass.len ≡ 2 }
     requires none { (E.meaning e.old).counts ≡ [] }
-    ensures { OnOk result (E.meaning e.new ≡ record (E.meaning e.old) { counts = (2 ∷ 3 ∷ [], (0, 1)) ∷ (3 ∷ 2 ∷ [], (1, 0)) ∷ [] }) }
+    ensures { OnOk result (E.meaning e.new
+        ≡ record (E.meaning e.old) { counts = (2 ∷ 3 ∷ [], (0, 1)) ∷ (3 ∷ 2 ∷ [], (1, 0)) ∷ [] }) }
 {
     e.count(&[3, 2], true, 1)?;
     e.count(&[2, 3], false, 1)
 }
 
 /// Chooses the window `ba` and gives up `ab`.
-fn settle<E: Engine>(e: &mut E) -> Result<(), AllocError>
+fn choose_and_give_up<E: Engine>(e: &mut E) -> Result<(), AllocError>
     requires { (E.meaning e.old).counts ≡ (2 ∷ 3 ∷ [], (0, 1)) ∷ (3 ∷ 2 ∷ [], (1, 0)) ∷ [] }
     ensures { (E.meaning e.new).signs ≡ (E.meaning e.old).signs }
 {
@@ -60,7 +61,15 @@ fn settle<E: Engine>(e: &mut E) -> Result<(), AllocError>
     e.give_up(&at)
 }
 
-/// What a walk over the counted windows meets first.
+/// The sums of the windows `ba` and `bb`.
+fn sums<E: Engine>(e: &E) -> (Option<(u64, u64)>, Option<(u64, u64)>)
+    requires signs { (E.meaning e.now).signs ≡ 4 }
+    requires len { (E.meaning e.now).pass.len ≡ 2 }
+{
+    (e.sums(&[3, 2]), e.sums(&[3, 3]))
+}
+
+/// The least window that is counted, with its sums.
 fn first_candidate<E: Engine>(e: &E) -> (Cursor, Option<(u64, u64)>) {
     let mut at = Cursor::start();
     let sums = e.next_candidate(&mut at);
@@ -79,10 +88,11 @@ fn a_pass_over_a_start(rt: HostRuntime) -> Result<(), Fail> {
     engine.begin_pass(1, 2, 1);
     assert_eq!(rt; values(&engine), ([1, 2, 0], false));
     count(&mut engine)?;
-    let (at, sums) = first_candidate(&engine);
-    assert_eq!(rt; sums, Some((0, 1)));
+    assert_eq!(rt; sums(&engine), (Some((1, 0)), None));
+    let (at, least) = first_candidate(&engine);
+    assert_eq!(rt; least, Some((0, 1)));
     assert_eq!(rt; at.signs(), [2, 3].as_slice());
-    settle(&mut engine)?;
+    choose_and_give_up(&mut engine)?;
     assert_eq!(rt; values(&engine), ([1, 2, 1], true));
     engine.end_level()?;
     let layout = Layout {

@@ -6,9 +6,9 @@ use Rattle.std.specs.Ordering.{eq_by_cmp}
 use Rattle.std.specs.FinMap.Entries.{find, find-put, find_tied, same_entries}
 use Rattle.std.specs.List.{list_all, All}
 use Rattle.std.specs.List.Sorted.{IsPermutation}
-use Rattle.pg_patterns.specs.Places.{place_cmp, place_total, same_place, place_ties, place_exact}
+use Rattle.pg_patterns.specs.DottedSigns.{dotted_cmp, dotted_total, same_dotted, dotted_ties, dotted_exact}
 use Rattle.pg_patterns.specs.Values.{raise, value_of, best, joined, is_entry, IsPatternMap}
-use Rattle.pg_patterns.proofs.Ordered.{and_first, and_second, equal_is}
+use Rattle.pg_types.proofs.BoolFacts.{and_first, and_second, equal_is}
 use Rattle.pg_patterns.proofs.Sound.{raise_keeps, entry_bounds}
 
 -- v where the test passes, else 0
@@ -20,25 +20,25 @@ value_of_put true v r s tied = ap (λ x. max v (unwrap_or x 0)) (tied refl)
 value_of_put false v r s tied = omega arith
 
 -- a raise changes the value of its place alone
-pub value_of_raise : (P : List ((List ℕ × ℕ) × ℕ)) (j k : List ℕ × ℕ) (v : ℕ) → value_of (raise P j v) k ≡ max (only (same_place k j) v) (value_of P k)
+pub value_of_raise : (P : List ((List ℕ × ℕ) × ℕ)) (j k : List ℕ × ℕ) (v : ℕ) → value_of (raise P j v) k ≡ max (only (same_dotted k j) v) (value_of P k)
 value_of_raise P j k v =
-    ap (λ r. unwrap_or r 0) (find-put place_cmp place_total k j (max v (value_of P j)) P)
-    ∙ value_of_put (eq_by_cmp place_cmp k j) v (find place_cmp j P) (find place_cmp k P) (λ t. find_tied place_cmp place_total k j (equal_is _ t) P)
-    ∙ ap (λ t. max (only t v) (value_of P k)) (sym (place_ties k j))
+    ap (λ r. unwrap_or r 0) (find-put dotted_cmp dotted_total k j (max v (value_of P j)) P)
+    ∙ value_of_put (eq_by_cmp dotted_cmp k j) v (find dotted_cmp j P) (find dotted_cmp k P) (λ t. find_tied dotted_cmp dotted_total k j (equal_is _ t) P)
+    ∙ ap (λ t. max (only t v) (value_of P k)) (sym (dotted_ties k j))
 
 max_turned : (a b c : ℕ) → max b (max a c) ≡ max (max a b) c
 max_turned a b c = omega arith
 
 -- what was there and what is raised after it, in any order
-pub value_of_fold : (es P : List ((List ℕ × ℕ) × ℕ)) (k : List ℕ × ℕ) → value_of (fold (λ Q e. raise Q e.0 e.1) P es) k ≡ max (best (same_place k) es) (value_of P k)
+pub value_of_fold : (es P : List ((List ℕ × ℕ) × ℕ)) (k : List ℕ × ℕ) → value_of (fold (λ Q e. raise Q e.0 e.1) P es) k ≡ max (best (same_dotted k) es) (value_of P k)
 value_of_fold [] P k = omega arith
 value_of_fold (e ∷ es) P k =
     value_of_fold es (raise P e.0 e.1) k
-    ∙ ap (λ n. max (best (same_place k) es) n) (value_of_raise P e.0 k e.1)
-    ∙ max_turned (only (same_place k e.0) e.1) (best (same_place k) es) (value_of P k)
+    ∙ ap (λ n. max (best (same_dotted k) es) n) (value_of_raise P e.0 k e.1)
+    ∙ max_turned (only (same_dotted k e.0) e.1) (best (same_dotted k) es) (value_of P k)
 
-pub value_of_joined : (es : List ((List ℕ × ℕ) × ℕ)) (k : List ℕ × ℕ) → value_of (joined es) k ≡ best (same_place k) es
-value_of_joined es k = value_of_fold es [] k ∙ max_none (best (same_place k) es)
+pub value_of_joined : (es : List ((List ℕ × ℕ) × ℕ)) (k : List ℕ × ℕ) → value_of (joined es) k ≡ best (same_dotted k) es
+value_of_joined es k = value_of_fold es [] k ∙ max_none (best (same_dotted k) es)
   where
     max_none : (n : ℕ) → max n 0 ≡ n
     max_none n = omega arith
@@ -60,10 +60,10 @@ found_some : (n : ℕ) → 1 ≤ n → Some n ≡ found n
 found_some zero low = absurd (omega arith)
 found_some (suc n) low = refl
 
-find_found : (P : List ((List ℕ × ℕ) × ℕ)) (k : List ℕ × ℕ) → list_all is_entry P ≡ true → find place_cmp k P ≡ found (value_of P k)
+find_found : (P : List ((List ℕ × ℕ) × ℕ)) (k : List ℕ × ℕ) → list_all is_entry P ≡ true → find dotted_cmp k P ≡ found (value_of P k)
 find_found [] k sound = refl
 find_found (e ∷ es) k sound =
-    elim (eq_by_cmp place_cmp k e.0) as (λ t. cond t (Some e.1) (find place_cmp k es) ≡ found (unwrap_or (cond t (Some e.1) (find place_cmp k es)) 0)) [
+    elim (eq_by_cmp dotted_cmp k e.0) as (λ t. cond t (Some e.1) (find dotted_cmp k es) ≡ found (unwrap_or (cond t (Some e.1) (find dotted_cmp k es)) 0)) [
       | true ↦ found_some e.1 (entry_bounds e (and_first _ _ sound)).low
       | false ↦ find_found es k (and_second _ _ sound)
     ]
@@ -71,7 +71,7 @@ find_found (e ∷ es) k sound =
 -- maps with the same values are the same
 pub same_maps : (P Q : List ((List ℕ × ℕ) × ℕ)) → IsPatternMap P → IsPatternMap Q → ((k : List ℕ × ℕ) → value_of P k ≡ value_of Q k) → P ≡ Q
 same_maps P Q left right values =
-    same_entries place_cmp place_total place_exact P Q left.sorted right.sorted (λ k. find_found P k left.sound ∙ ap found (values k) ∙ sym (find_found Q k right.sound))
+    same_entries dotted_cmp dotted_total dotted_exact P Q left.sorted right.sorted (λ k. find_found P k left.sound ∙ ap found (values k) ∙ sym (find_found Q k right.sound))
 
 -- the greatest value is that of any order of the entries
 all_upto : (t : List ℕ × ℕ → Bool) (es : List ((List ℕ × ℕ) × ℕ)) (n : ℕ) → best t es ≤ n → All (λ (e : (List ℕ × ℕ) × ℕ). only (t e.0) e.1 ≤ n) es

@@ -11,10 +11,10 @@ use Rattle.std.specs.Cmp.{IsTotalOrder, IsStrictWeakOrder, nat_cmp_total}
 use Rattle.std.specs.FinMap.Entries.{find, is_sorted, below_all}
 use Rattle.std.specs.List.{list_all, All, dedup_from, dedup}
 use Rattle.std.specs.List.Sorted.{IsPermutation, IsSortedBy}
-use Rattle.pg_patterns.specs.Places.{place_cmp, place_total, same_place, place_ties, place_exact}
+use Rattle.pg_patterns.specs.DottedSigns.{dotted_cmp, dotted_total, same_dotted, dotted_ties, dotted_exact}
 use Rattle.pg_patterns.specs.Values.{value_of, best, joined, is_entry, IsPatternMap}
 use Rattle.pg_patterns.specs.Search.{entry_cmp}
-use Rattle.pg_patterns.proofs.Ordered.{and_first, and_second, both_true, equal_is, less_is, is_true, holds, first_half, second_half}
+use Rattle.pg_types.proofs.BoolFacts.{and_first, and_second, both_true, equal_is, less_is, is_true, holds, first_half, second_half}
 use Rattle.pg_patterns.proofs.Joins.{only, same_maps, joined_keeps, value_of_joined, best-IsPermutation}
 
 -- f does not come before e
@@ -27,7 +27,7 @@ InOrder [] = Unit {0}
 InOrder (e ∷ es) = (list_all (not_first e) es ≡ true) × InOrder es
 
 entry_total : IsTotalOrder entry_cmp
-entry_total = then_total (on_total (λ e. e.0) place_total) (back_total (on_total (λ e. e.1) nat_cmp_total))
+entry_total = then_total (on_total (λ e. e.0) dotted_total) (back_total (on_total (λ e. e.1) nat_cmp_total))
 
 pub entry_ranks : IsStrictWeakOrder (λ e f. is_lt (entry_cmp e f))
 entry_ranks = ranks_by entry_total (λ e. e)
@@ -69,53 +69,53 @@ value_upto a b after = upto (nat_cmp a b) (ranked a b (nat_cmp a b) refl) after
     upto Equal rank after = omega arith
     upto Greater rank after = omega arith
 
-later : (e f : (List ℕ × ℕ) × ℕ) → not_first e f ≡ true → (place_cmp e.0 f.0 ≡ Less) ⊎ ((place_cmp f.0 e.0 ≡ Equal) × (f.1 ≤ e.1))
-later e f after = by_case (rank_cases (place_cmp f.0 e.0) (nat_cmp e.1 f.1) (not_true _ after))
+later : (e f : (List ℕ × ℕ) × ℕ) → not_first e f ≡ true → (dotted_cmp e.0 f.0 ≡ Less) ⊎ ((dotted_cmp f.0 e.0 ≡ Equal) × (f.1 ≤ e.1))
+later e f after = by_case (rank_cases (dotted_cmp f.0 e.0) (nat_cmp e.1 f.1) (not_true _ after))
   where
-    by_case : (place_cmp f.0 e.0 ≡ Greater) ⊎ ((place_cmp f.0 e.0 ≡ Equal) × (is_lt (nat_cmp e.1 f.1) ≡ false)) → (place_cmp e.0 f.0 ≡ Less) ⊎ ((place_cmp f.0 e.0 ≡ Equal) × (f.1 ≤ e.1))
-    by_case (inl after) = inl (place_total.antisymm e.0 f.0 ∙ turn (place_cmp f.0 e.0) after)
+    by_case : (dotted_cmp f.0 e.0 ≡ Greater) ⊎ ((dotted_cmp f.0 e.0 ≡ Equal) × (is_lt (nat_cmp e.1 f.1) ≡ false)) → (dotted_cmp e.0 f.0 ≡ Less) ⊎ ((dotted_cmp f.0 e.0 ≡ Equal) × (f.1 ≤ e.1))
+    by_case (inl after) = inl (dotted_total.antisymm e.0 f.0 ∙ turn (dotted_cmp f.0 e.0) after)
     by_case (inr tied) = inr (tied.0, value_upto e.1 f.1 tied.1)
 
 -- of another place
-apart : (e f : (List ℕ × ℕ) × ℕ) → not_first e f ≡ true → same_place f.0 e.0 ≡ false → place_cmp e.0 f.0 ≡ Less
+apart : (e f : (List ℕ × ℕ) × ℕ) → not_first e f ≡ true → same_dotted f.0 e.0 ≡ false → dotted_cmp e.0 f.0 ≡ Less
 apart e f after other = by_case (later e f after)
   where
-    by_case : (place_cmp e.0 f.0 ≡ Less) ⊎ ((place_cmp f.0 e.0 ≡ Equal) × (f.1 ≤ e.1)) → place_cmp e.0 f.0 ≡ Less
+    by_case : (dotted_cmp e.0 f.0 ≡ Less) ⊎ ((dotted_cmp f.0 e.0 ≡ Equal) × (f.1 ≤ e.1)) → dotted_cmp e.0 f.0 ≡ Less
     by_case (inl less) = less
-    by_case (inr tied) = cc (place_ties f.0 e.0 ∙ ap is_eq tied.0, other)
+    by_case (inr tied) = cc (dotted_ties f.0 e.0 ∙ ap is_eq tied.0, other)
 
 -- a place before the first is before all
-below_rest : (x : List ℕ × ℕ) (e : (List ℕ × ℕ) × ℕ) (es : List ((List ℕ × ℕ) × ℕ)) → place_cmp x e.0 ≡ Less → list_all (not_first e) es ≡ true → T (below_all place_cmp x es)
+below_rest : (x : List ℕ × ℕ) (e : (List ℕ × ℕ) × ℕ) (es : List ((List ℕ × ℕ) × ℕ)) → dotted_cmp x e.0 ≡ Less → list_all (not_first e) es ≡ true → T (below_all dotted_cmp x es)
 below_rest x e [] less after = tt
 below_rest x e (f ∷ es) less after =
     holds _ (both_true _ _ (ap is_lt (by_case (later e f (and_first _ _ after)))) (is_true _ (below_rest x e es less (and_second _ _ after))))
   where
-    by_case : (place_cmp e.0 f.0 ≡ Less) ⊎ ((place_cmp f.0 e.0 ≡ Equal) × (f.1 ≤ e.1)) → place_cmp x f.0 ≡ Less
-    by_case (inl further) = place_total.trans x e.0 f.0 less further
-    by_case (inr tied) = ap (λ k. place_cmp x k) (place_exact f.0 e.0 tied.0) ∙ less
+    by_case : (dotted_cmp e.0 f.0 ≡ Less) ⊎ ((dotted_cmp f.0 e.0 ≡ Equal) × (f.1 ≤ e.1)) → dotted_cmp x f.0 ≡ Less
+    by_case (inl further) = dotted_total.trans x e.0 f.0 less further
+    by_case (inr tied) = ap (λ k. dotted_cmp x k) (dotted_exact f.0 e.0 tied.0) ∙ less
 
 -- a place before all has no value
-best_below : (x k : List ℕ × ℕ) (es : List ((List ℕ × ℕ) × ℕ)) → same_place k x ≡ true → T (below_all place_cmp x es) → best (same_place k) es ≡ 0
+best_below : (x k : List ℕ × ℕ) (es : List ((List ℕ × ℕ) × ℕ)) → same_dotted k x ≡ true → T (below_all dotted_cmp x es) → best (same_dotted k) es ≡ 0
 best_below x k [] same below = refl
 best_below x k (e ∷ es) same below =
-    let tied : place_cmp k x ≡ Equal = equal_is _ (sym (place_ties k x) ∙ same) in
-    let less : place_cmp k e.0 ≡ Less = place_total.congr k x e.0 tied ∙ less_is _ (is_true _ (first_half _ _ below)) in
-    let other : same_place k e.0 ≡ false = place_ties k e.0 ∙ ap is_eq less in
-    ap (λ t. max (only t e.1) (best (same_place k) es)) other ∙ ap (λ n. max 0 n) (best_below x k es same (second_half _ _ below))
+    let tied : dotted_cmp k x ≡ Equal = equal_is _ (sym (dotted_ties k x) ∙ same) in
+    let less : dotted_cmp k e.0 ≡ Less = dotted_total.congr k x e.0 tied ∙ less_is _ (is_true _ (first_half _ _ below)) in
+    let other : same_dotted k e.0 ≡ false = dotted_ties k e.0 ∙ ap is_eq less in
+    ap (λ t. max (only t e.1) (best (same_dotted k) es)) other ∙ ap (λ n. max 0 n) (best_below x k es same (second_half _ _ below))
 
 -- the list that keeps the first of each place is a map, whose values are the greatest
-kept_below : (x : List ℕ × ℕ) (e : (List ℕ × ℕ) × ℕ) (es : List ((List ℕ × ℕ) × ℕ)) → InOrder (e ∷ es) → place_cmp x e.0 ≡ Less → T (below_all place_cmp x (dedup_from (λ f g. same_place f.0 g.0) e es))
+kept_below : (x : List ℕ × ℕ) (e : (List ℕ × ℕ) × ℕ) (es : List ((List ℕ × ℕ) × ℕ)) → InOrder (e ∷ es) → dotted_cmp x e.0 ≡ Less → T (below_all dotted_cmp x (dedup_from (λ f g. same_dotted f.0 g.0) e es))
 kept_below x e [] order less = holds _ (both_true _ _ (ap is_lt less) refl)
 kept_below x e (f ∷ es) order less =
-    elim (same_place f.0 e.0) as (λ t. same_place f.0 e.0 ≡ t → T (below_all place_cmp x (cond t (dedup_from (λ f g. same_place f.0 g.0) e es) (e ∷ dedup_from (λ f g. same_place f.0 g.0) f es)))) [
+    elim (same_dotted f.0 e.0) as (λ t. same_dotted f.0 e.0 ≡ t → T (below_all dotted_cmp x (cond t (dedup_from (λ f g. same_dotted f.0 g.0) e es) (e ∷ dedup_from (λ f g. same_dotted f.0 g.0) f es)))) [
       | true ↦ λ same. kept_below x e es (and_second _ _ order.0, order.1.1) less
-      | false ↦ λ other. holds _ (both_true _ _ (ap is_lt less) (is_true _ (kept_below x f es order.1 (place_total.trans x e.0 f.0 less (apart e f (and_first _ _ order.0) other)))))
+      | false ↦ λ other. holds _ (both_true _ _ (ap is_lt less) (is_true _ (kept_below x f es order.1 (dotted_total.trans x e.0 f.0 less (apart e f (and_first _ _ order.0) other)))))
     ] refl
 
-kept_sorted : (e : (List ℕ × ℕ) × ℕ) (es : List ((List ℕ × ℕ) × ℕ)) → InOrder (e ∷ es) → T (is_sorted place_cmp (dedup_from (λ f g. same_place f.0 g.0) e es))
+kept_sorted : (e : (List ℕ × ℕ) × ℕ) (es : List ((List ℕ × ℕ) × ℕ)) → InOrder (e ∷ es) → T (is_sorted dotted_cmp (dedup_from (λ f g. same_dotted f.0 g.0) e es))
 kept_sorted e [] order = tt
 kept_sorted e (f ∷ es) order =
-    elim (same_place f.0 e.0) as (λ t. same_place f.0 e.0 ≡ t → T (is_sorted place_cmp (cond t (dedup_from (λ f g. same_place f.0 g.0) e es) (e ∷ dedup_from (λ f g. same_place f.0 g.0) f es)))) [
+    elim (same_dotted f.0 e.0) as (λ t. same_dotted f.0 e.0 ≡ t → T (is_sorted dotted_cmp (cond t (dedup_from (λ f g. same_dotted f.0 g.0) e es) (e ∷ dedup_from (λ f g. same_dotted f.0 g.0) f es)))) [
       | true ↦ λ same. kept_sorted e es (and_second _ _ order.0, order.1.1)
       | false ↦ λ other. holds _ (both_true _ _ (is_true _ (kept_below e.0 f es order.1 (apart e f (and_first _ _ order.0) other))) (is_true _ (kept_sorted f es order.1)))
     ] refl
@@ -135,36 +135,36 @@ first_or_rest false a n r is none = is ∙ sym (max_first n)
     max_first m = omega arith
 
 -- of the same place
-value_within : (e f : (List ℕ × ℕ) × ℕ) → not_first e f ≡ true → same_place f.0 e.0 ≡ true → f.1 ≤ e.1
+value_within : (e f : (List ℕ × ℕ) × ℕ) → not_first e f ≡ true → same_dotted f.0 e.0 ≡ true → f.1 ≤ e.1
 value_within e f after same = by_case (later e f after)
   where
-    by_case : (place_cmp e.0 f.0 ≡ Less) ⊎ ((place_cmp f.0 e.0 ≡ Equal) × (f.1 ≤ e.1)) → f.1 ≤ e.1
-    by_case (inl less) = cc (sym same ∙ place_ties f.0 e.0 ∙ ap is_eq (place_total.antisymm f.0 e.0 ∙ ap ordering_reverse less))
+    by_case : (dotted_cmp e.0 f.0 ≡ Less) ⊎ ((dotted_cmp f.0 e.0 ≡ Equal) × (f.1 ≤ e.1)) → f.1 ≤ e.1
+    by_case (inl less) = cc (sym same ∙ dotted_ties f.0 e.0 ∙ ap is_eq (dotted_total.antisymm f.0 e.0 ∙ ap ordering_reverse less))
     by_case (inr tied) = tied.1
 
-kept_value : (e : (List ℕ × ℕ) × ℕ) (es : List ((List ℕ × ℕ) × ℕ)) (k : List ℕ × ℕ) → InOrder (e ∷ es) → value_of (dedup_from (λ f g. same_place f.0 g.0) e es) k ≡ best (same_place k) (e ∷ es)
+kept_value : (e : (List ℕ × ℕ) × ℕ) (es : List ((List ℕ × ℕ) × ℕ)) (k : List ℕ × ℕ) → InOrder (e ∷ es) → value_of (dedup_from (λ f g. same_dotted f.0 g.0) e es) k ≡ best (same_dotted k) (e ∷ es)
 kept_value e [] k order =
-    ap (λ t. unwrap_or (cond t (Some e.1) None) 0) (sym (place_ties k e.0)) ∙ first_or_rest (same_place k e.0) e.1 0 None refl (λ _. refl)
+    ap (λ t. unwrap_or (cond t (Some e.1) None) 0) (sym (dotted_ties k e.0)) ∙ first_or_rest (same_dotted k e.0) e.1 0 None refl (λ _. refl)
 kept_value e (f ∷ es) k order =
-    elim (same_place f.0 e.0) as (λ t. same_place f.0 e.0 ≡ t → value_of (cond t (dedup_from (λ f g. same_place f.0 g.0) e es) (e ∷ dedup_from (λ f g. same_place f.0 g.0) f es)) k ≡ max (only (same_place k e.0) e.1) (max (only (same_place k f.0) f.1) (best (same_place k) es))) [
+    elim (same_dotted f.0 e.0) as (λ t. same_dotted f.0 e.0 ≡ t → value_of (cond t (dedup_from (λ f g. same_dotted f.0 g.0) e es) (e ∷ dedup_from (λ f g. same_dotted f.0 g.0) f es)) k ≡ max (only (same_dotted k e.0) e.1) (max (only (same_dotted k f.0) f.1) (best (same_dotted k) es))) [
       | true ↦ λ same.
-          let one : f.0 ≡ e.0 = place_exact f.0 e.0 (equal_is _ (sym (place_ties f.0 e.0) ∙ same)) in
+          let one : f.0 ≡ e.0 = dotted_exact f.0 e.0 (equal_is _ (sym (dotted_ties f.0 e.0) ∙ same)) in
           kept_value e es k (and_second _ _ order.0, order.1.1)
-          ∙ smaller_hidden (same_place k e.0) (same_place k f.0) e.1 f.1 (best (same_place k) es) (ap (λ x. same_place k x) (sym one)) (value_within e f (and_first _ _ order.0) same)
+          ∙ smaller_hidden (same_dotted k e.0) (same_dotted k f.0) e.1 f.1 (best (same_dotted k) es) (ap (λ x. same_dotted k x) (sym one)) (value_within e f (and_first _ _ order.0) same)
       | false ↦ λ other.
-          let less : place_cmp e.0 f.0 ≡ Less = apart e f (and_first _ _ order.0) other in
-          ap (λ t. unwrap_or (cond t (Some e.1) (find place_cmp k (dedup_from (λ f g. same_place f.0 g.0) f es))) 0) (sym (place_ties k e.0))
-          ∙ first_or_rest (same_place k e.0) e.1 (best (same_place k) (f ∷ es)) (find place_cmp k (dedup_from (λ f g. same_place f.0 g.0) f es)) (kept_value f es k order.1) (λ same. best_below e.0 k (f ∷ es) same (holds _ (both_true _ _ (ap is_lt less) (is_true _ (below_rest e.0 f es less order.1.0)))))
+          let less : dotted_cmp e.0 f.0 ≡ Less = apart e f (and_first _ _ order.0) other in
+          ap (λ t. unwrap_or (cond t (Some e.1) (find dotted_cmp k (dedup_from (λ f g. same_dotted f.0 g.0) f es))) 0) (sym (dotted_ties k e.0))
+          ∙ first_or_rest (same_dotted k e.0) e.1 (best (same_dotted k) (f ∷ es)) (find dotted_cmp k (dedup_from (λ f g. same_dotted f.0 g.0) f es)) (kept_value f es k order.1) (λ same. best_below e.0 k (f ∷ es) same (holds _ (both_true _ _ (ap is_lt less) (is_true _ (below_rest e.0 f es less order.1.0)))))
     ] refl
 
 -- a strictly sorted list finds its greatest values
-pub value_of_sorted : (es : List ((List ℕ × ℕ) × ℕ)) (k : List ℕ × ℕ) → T (is_sorted place_cmp es) → value_of es k ≡ best (same_place k) es
+pub value_of_sorted : (es : List ((List ℕ × ℕ) × ℕ)) (k : List ℕ × ℕ) → T (is_sorted dotted_cmp es) → value_of es k ≡ best (same_dotted k) es
 value_of_sorted [] k sorted = refl
 value_of_sorted (e ∷ es) k sorted =
-    ap (λ t. unwrap_or (cond t (Some e.1) (find place_cmp k es)) 0) (sym (place_ties k e.0))
-    ∙ first_or_rest (same_place k e.0) e.1 (best (same_place k) es) (find place_cmp k es) (value_of_sorted es k (second_half _ _ sorted)) (λ same. best_below e.0 k es same (first_half _ _ sorted))
+    ap (λ t. unwrap_or (cond t (Some e.1) (find dotted_cmp k es)) 0) (sym (dotted_ties k e.0))
+    ∙ first_or_rest (same_dotted k e.0) e.1 (best (same_dotted k) es) (find dotted_cmp k es) (value_of_sorted es k (second_half _ _ sorted)) (λ same. best_below e.0 k es same (first_half _ _ sorted))
 
-kept_whole : (es : List ((List ℕ × ℕ) × ℕ)) → InOrder es → T (is_sorted place_cmp (dedup (λ f g. same_place f.0 g.0) es)) × ((k : List ℕ × ℕ) → value_of (dedup (λ f g. same_place f.0 g.0) es) k ≡ best (same_place k) es)
+kept_whole : (es : List ((List ℕ × ℕ) × ℕ)) → InOrder es → T (is_sorted dotted_cmp (dedup (λ f g. same_dotted f.0 g.0) es)) × ((k : List ℕ × ℕ) → value_of (dedup (λ f g. same_dotted f.0 g.0) es) k ≡ best (same_dotted k) es)
 kept_whole [] order = (tt, λ k. refl)
 kept_whole (e ∷ es) order = (kept_sorted e es order, λ k. kept_value e es k order)
 
@@ -178,15 +178,15 @@ told_all [] all = refl
 told_all (e ∷ es) all = both_true _ _ (All-head (λ (e : (List ℕ × ℕ) × ℕ). is_entry e ≡ true) e es all) (told_all es (All-tail (λ (e : (List ℕ × ℕ) × ℕ). is_entry e ≡ true) e es all))
 
 -- sorted by place and falling value, without the later entries of a place, a list is joined
-pub joined_by_sort : (es fs gs : List ((List ℕ × ℕ) × ℕ)) → list_all is_entry es ≡ true → IsPermutation es fs → IsSortedBy (λ e f. is_lt (entry_cmp e f)) fs → gs ≡ dedup (λ f g. same_place f.0 g.0) fs → IsPatternMap gs × (gs ≡ joined es)
+pub joined_by_sort : (es fs gs : List ((List ℕ × ℕ) × ℕ)) → list_all is_entry es ≡ true → IsPermutation es fs → IsSortedBy (λ e f. is_lt (entry_cmp e f)) fs → gs ≡ dedup (λ f g. same_dotted f.0 g.0) fs → IsPatternMap gs × (gs ≡ joined es)
 joined_by_sort es fs gs sound moved sorted kept =
     let order : InOrder fs = in_order fs (sorted_far (λ e f. is_lt (entry_cmp e f)) entry_ranks fs sorted) in
     let whole = kept_whole fs order in
     let all : All (λ (e : (List ℕ × ℕ) × ℕ). is_entry e ≡ true) fs = All-permutation (λ (e : (List ℕ × ℕ) × ℕ). is_entry e ≡ true) es fs moved (all_told es sound) in
-    let left : list_all is_entry (dedup (λ f g. same_place f.0 g.0) fs) ≡ true = told_all _ (All-dedup (λ f g. same_place f.0 g.0) (λ (e : (List ℕ × ℕ) × ℕ). is_entry e ≡ true) fs all) in
-    let map : IsPatternMap (dedup (λ f g. same_place f.0 g.0) fs) = record { sorted = whole.0; sound = left } in
-    let same : dedup (λ f g. same_place f.0 g.0) fs ≡ joined es =
-    same_maps (dedup (λ f g. same_place f.0 g.0) fs) (joined es) map (joined_keeps es sound) (λ k. whole.1 k ∙ best-IsPermutation (same_place k) es fs moved ∙ sym (value_of_joined es k)) in
+    let left : list_all is_entry (dedup (λ f g. same_dotted f.0 g.0) fs) ≡ true = told_all _ (All-dedup (λ f g. same_dotted f.0 g.0) (λ (e : (List ℕ × ℕ) × ℕ). is_entry e ≡ true) fs all) in
+    let map : IsPatternMap (dedup (λ f g. same_dotted f.0 g.0) fs) = record { sorted = whole.0; sound = left } in
+    let same : dedup (λ f g. same_dotted f.0 g.0) fs ≡ joined es =
+    same_maps (dedup (λ f g. same_dotted f.0 g.0) fs) (joined es) map (joined_keeps es sound) (λ k. whole.1 k ∙ best-IsPermutation (same_dotted k) es fs moved ∙ sym (value_of_joined es k)) in
     (subst IsPatternMap (sym kept) map, kept ∙ same)
 
 -- a list in order is its own map

@@ -4,22 +4,22 @@ use Rattle.std.proofs.lemmas.List.Elements.{All-nil, All-cons, All-head, All-tai
 use Rattle.std.specs.declared.cmp.Ordering.TheVariants.{Less, Equal, Greater}
 use Rattle.std.specs.FinMap.Entries.{put, by_order}
 use Rattle.std.specs.List.{All}
-use Rattle.pg_patterns.specs.Places.{place_cmp}
+use Rattle.pg_patterns.specs.DottedSigns.{dotted_cmp}
 use Rattle.pg_patterns.specs.Values.{SignsUpTo, raise, value_of, joined}
 
 -- the signs of an entry are at most n
 abbrev Known : ℕ → (List ℕ × ℕ) × ℕ → Type 0
 Known n e = All (λ s. s ≤ n) e.0.0
 
-known_put : (n : ℕ) (k : List ℕ × ℕ) (v : ℕ) (P : List ((List ℕ × ℕ) × ℕ)) → All (λ s. s ≤ n) k.0 → SignsUpTo n P → SignsUpTo n (put place_cmp k v P)
+known_put : (n : ℕ) (k : List ℕ × ℕ) (v : ℕ) (P : List ((List ℕ × ℕ) × ℕ)) → All (λ s. s ≤ n) k.0 → SignsUpTo n P → SignsUpTo n (put dotted_cmp k v P)
 known_put n k v [] new all = All-cons (Known n) (k, v) [] new (All-nil (Known n))
 known_put n k v (e ∷ es) new all =
     let here = All-head (Known n) e es all in
     let rest = All-tail (Known n) e es all in
-    elim (place_cmp k e.0) as (λ o. SignsUpTo n (by_order o ((k, v) ∷ e ∷ es) ((e.0, v) ∷ es) (e ∷ put place_cmp k v es))) [
+    elim (dotted_cmp k e.0) as (λ o. SignsUpTo n (by_order o ((k, v) ∷ e ∷ es) ((e.0, v) ∷ es) (e ∷ put dotted_cmp k v es))) [
       | Less ↦ All-cons (Known n) (k, v) (e ∷ es) new all
       | Equal ↦ All-cons (Known n) (e.0, v) es here rest
-      | Greater ↦ All-cons (Known n) e (put place_cmp k v es) here (known_put n k v es new rest)
+      | Greater ↦ All-cons (Known n) e (put dotted_cmp k v es) here (known_put n k v es new rest)
     ]
 
 known_fold : (n : ℕ) (es P : List ((List ℕ × ℕ) × ℕ)) → SignsUpTo n P → SignsUpTo n es → SignsUpTo n (fold (λ Q e. raise Q e.0 e.1) P es)

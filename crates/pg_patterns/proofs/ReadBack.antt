@@ -11,12 +11,15 @@ use Rattle.pg_types.specs.declared.limits.TheConstants.{EDGE, PATTERN_SIGNS_MAX}
 use Rattle.pg_types.specs.Lines.{lines}
 use Rattle.pg_translate.specs.Alphabets.{Alphabet, letters_of, spelling_of, first_spelling}
 use Rattle.pg_translate.specs.Tokens.{Token, Letter, Digit, Edge}
-use Rattle.pg_patterns.specs.Places.{place_cmp, place_exact}
+use Rattle.pg_patterns.specs.DottedSigns.{dotted_cmp, dotted_exact}
 use Rattle.pg_patterns.specs.Values.{is_entry}
-use Rattle.pg_patterns.specs.Lines.{sign_of, signs_of, digits_from, digit_at_dot, entries_at, line_entries}
-use Rattle.pg_patterns.specs.Starts.{both_parts, entries_from}
+use Rattle.pg_translate.specs.Gaps.{sign_of, signs_of}
+use Rattle.pg_patterns.specs.Lines.{digit_at_dot, entries_at, line_entries}
+use Rattle.pg_patterns.proofs.Running.{digits_from, digits_are}
+use Rattle.pg_types.specs.Reading.{both_parts}
+use Rattle.pg_patterns.specs.Starts.{entries_from}
 use Rattle.pg_patterns.specs.Texts.{digit_of, line_from, pattern_line}
-use Rattle.pg_patterns.proofs.Ordered.{and_first, and_second, equal_is}
+use Rattle.pg_types.proofs.BoolFacts.{and_first, and_second, equal_is}
 use Rattle.pg_patterns.proofs.Sound.{entry_bounds}
 use Rattle.pg_patterns.proofs.Written.{IsRead, text_of, tokens_in, entries_of_items, unbroken_text, lines_line}
 
@@ -28,7 +31,7 @@ pub record ReadsItems (t : Alphabet) : Type 0 where
 
 -- the item of a digit, where a place has a value
 abbrev digit_items : List ((List ℕ × ℕ) × ℕ) → List ℕ × ℕ → List (Token × List ℕ)
-digit_items P k = option_map_or (λ v. (Digit v, (48 + v) ∷ []) ∷ []) (find place_cmp k P) []
+digit_items P k = option_map_or (λ v. (Digit v, (48 + v) ∷ []) ∷ []) (find dotted_cmp k P) []
 
 -- the item of a sign
 abbrev sign_item : Alphabet → ℕ → Token × List ℕ
@@ -41,8 +44,8 @@ items_from t P q dot (s ∷ ss) = digit_items P (q, dot) ++ sign_item t s ∷ it
 
 -- the values of a string from a dot on
 abbrev pub values_from : List ((List ℕ × ℕ) × ℕ) → List ℕ → ℕ → List ℕ → List (ℕ × ℕ)
-values_from P q dot [] = option_map_or (λ v. (dot, v) ∷ []) (find place_cmp (q, dot) P) []
-values_from P q dot (s ∷ ss) = option_map_or (λ v. (dot, v) ∷ []) (find place_cmp (q, dot) P) [] ++ values_from P q (dot + 1) ss
+values_from P q dot [] = option_map_or (λ v. (dot, v) ∷ []) (find dotted_cmp (q, dot) P) []
+values_from P q dot (s ∷ ss) = option_map_or (λ v. (dot, v) ∷ []) (find dotted_cmp (q, dot) P) [] ++ values_from P q (dot + 1) ss
 
 -- the entries of a string
 abbrev pub entries_of : List ((List ℕ × ℕ) × ℕ) → List ℕ → List ((List ℕ × ℕ) × ℕ)
@@ -53,7 +56,7 @@ text_append [] ys = refl
 text_append (x ∷ xs) ys = ap (λ z. x.1 ++ z) (text_append xs ys) ∙ sym (append_assoc x.1 (text_of xs) (text_of ys))
 
 digit_text : (P : List ((List ℕ × ℕ) × ℕ)) (k : List ℕ × ℕ) → digit_of P k ≡ text_of (digit_items P k)
-digit_text P k = elim (find place_cmp k P) as (λ o. option_map_or (λ v. (48 + v) ∷ []) o [] ≡ text_of (option_map_or (λ v. (Digit v, (48 + v) ∷ []) ∷ []) o [])) [ None ↦ refl | Some v ↦ refl ]
+digit_text P k = elim (find dotted_cmp k P) as (λ o. option_map_or (λ v. (48 + v) ∷ []) o [] ≡ text_of (option_map_or (λ v. (Digit v, (48 + v) ∷ []) ∷ []) o [])) [ None ↦ refl | Some v ↦ refl ]
 
 -- a line is the texts of its items, and LF
 line_text : (t : Alphabet) (P : List ((List ℕ × ℕ) × ℕ)) (q : List ℕ) (dot : ℕ) (ss : List ℕ) → line_from t P q dot ss ≡ text_of (items_from t P q dot ss) ++ 10 ∷ []
@@ -66,12 +69,12 @@ line_text t P q dot (s ∷ ss) =
     ∙ ap (λ x. x ++ 10 ∷ []) (append_assoc (text_of (digit_items P (q, dot))) (spelling_of t s) rest ∙ sym (text_append (digit_items P (q, dot)) (sign_item t s ∷ items_from t P q (dot + 1) ss)))
 
 -- the value that is found is that of an entry
-pub found_entry : (P : List ((List ℕ × ℕ) × ℕ)) (k : List ℕ × ℕ) (v : ℕ) → list_all is_entry P ≡ true → find place_cmp k P ≡ Some v → is_entry (k, v) ≡ true
+pub found_entry : (P : List ((List ℕ × ℕ) × ℕ)) (k : List ℕ × ℕ) (v : ℕ) → list_all is_entry P ≡ true → find dotted_cmp k P ≡ Some v → is_entry (k, v) ≡ true
 found_entry [] k v sound is = cc
 found_entry (e ∷ es) k v sound is =
-    elim (eq_by_cmp place_cmp k e.0) as (λ b. eq_by_cmp place_cmp k e.0 ≡ b → cond b (Some e.1) (find place_cmp k es) ≡ Some v → is_entry (k, v) ≡ true) [
+    elim (eq_by_cmp dotted_cmp k e.0) as (λ b. eq_by_cmp dotted_cmp k e.0 ≡ b → cond b (Some e.1) (find dotted_cmp k es) ≡ Some v → is_entry (k, v) ≡ true) [
       | true ↦ λ tied there.
-          let one : e.0 ≡ k = sym (place_exact k e.0 (equal_is _ tied)) in
+          let one : e.0 ≡ k = sym (dotted_exact k e.0 (equal_is _ tied)) in
           let same : e.1 ≡ v = cc in
           subst (λ (x : (List ℕ × ℕ) × ℕ). is_entry x ≡ true) (λ i. (one i, same i)) (and_first _ _ sound)
       | false ↦ λ apart further. found_entry es k v (and_second _ _ sound) further
@@ -83,7 +86,7 @@ read_append t (x ∷ xs) ys left right = (left.0, read_append t xs ys left.1 rig
 
 digit_read : (t : Alphabet) (P : List ((List ℕ × ℕ) × ℕ)) (k : List ℕ × ℕ) → ReadsItems t → list_all is_entry P ≡ true → AllByRecursion (IsRead t) (digit_items P k)
 digit_read t P k reads sound =
-    elim (find place_cmp k P) as (λ o. find place_cmp k P ≡ o → AllByRecursion (IsRead t) (option_map_or (λ v. (Digit v, (48 + v) ∷ []) ∷ []) o [])) [
+    elim (find dotted_cmp k P) as (λ o. find dotted_cmp k P ≡ o → AllByRecursion (IsRead t) (option_map_or (λ v. (Digit v, (48 + v) ∷ []) ∷ []) o [])) [
       | None ↦ λ is. tt
       | Some v ↦ λ is. (reads.digit v (entry_bounds (k, v) (found_entry P k v sound is)).high, tt)
     ] refl
@@ -108,7 +111,7 @@ signs_append xs ys = filter_map-append sign_of xs ys
 
 digit_signs : (P : List ((List ℕ × ℕ) × ℕ)) (k : List ℕ × ℕ) (more : List (Token × List ℕ)) → signs_of (tokens_in (digit_items P k ++ more)) ≡ signs_of (tokens_in more)
 digit_signs P k more =
-    elim (find place_cmp k P) as (λ o. signs_of (tokens_in (option_map_or (λ v. (Digit v, (48 + v) ∷ []) ∷ []) o [] ++ more)) ≡ signs_of (tokens_in more)) [ None ↦ refl | Some v ↦ refl ]
+    elim (find dotted_cmp k P) as (λ o. signs_of (tokens_in (option_map_or (λ v. (Digit v, (48 + v) ∷ []) ∷ []) o [] ++ more)) ≡ signs_of (tokens_in more)) [ None ↦ refl | Some v ↦ refl ]
 
 sign_is : (t : Alphabet) (s : ℕ) → sign_of (sign_item t s).0 ≡ Some s
 sign_is t s =
@@ -137,16 +140,16 @@ sign_digits : (t : Alphabet) (s dot digit : ℕ) (tokens : List Token) → digit
 sign_digits t s dot digit tokens =
     elim (s == EDGE) as (λ b. digits_from dot digit ((if b then Edge else Letter s) ∷ tokens) ≡ digit_at_dot dot digit ++ digits_from (dot + 1) 0 tokens) [ true ↦ refl | false ↦ refl ]
 
-digits_end : (P : List ((List ℕ × ℕ) × ℕ)) (k : List ℕ × ℕ) (dot : ℕ) → list_all is_entry P ≡ true → digits_from dot 0 (tokens_in (digit_items P k)) ≡ option_map_or (λ v. (dot, v) ∷ []) (find place_cmp k P) []
+digits_end : (P : List ((List ℕ × ℕ) × ℕ)) (k : List ℕ × ℕ) (dot : ℕ) → list_all is_entry P ≡ true → digits_from dot 0 (tokens_in (digit_items P k)) ≡ option_map_or (λ v. (dot, v) ∷ []) (find dotted_cmp k P) []
 digits_end P k dot sound =
-    elim (find place_cmp k P) as (λ o. find place_cmp k P ≡ o → digits_from dot 0 (tokens_in (option_map_or (λ v. (Digit v, (48 + v) ∷ []) ∷ []) o [])) ≡ option_map_or (λ v. (dot, v) ∷ []) o []) [
+    elim (find dotted_cmp k P) as (λ o. find dotted_cmp k P ≡ o → digits_from dot 0 (tokens_in (option_map_or (λ v. (Digit v, (48 + v) ∷ []) ∷ []) o [])) ≡ option_map_or (λ v. (dot, v) ∷ []) o []) [
       | None ↦ λ is. refl
       | Some v ↦ λ is. digit_there dot v (entry_bounds (k, v) (found_entry P k v sound is)).low
     ] refl
 
-digits_more : (t : Alphabet) (P : List ((List ℕ × ℕ) × ℕ)) (k : List ℕ × ℕ) (dot s : ℕ) (items : List (Token × List ℕ)) → list_all is_entry P ≡ true → digits_from dot 0 (tokens_in (digit_items P k ++ sign_item t s ∷ items)) ≡ option_map_or (λ v. (dot, v) ∷ []) (find place_cmp k P) [] ++ digits_from (dot + 1) 0 (tokens_in items)
+digits_more : (t : Alphabet) (P : List ((List ℕ × ℕ) × ℕ)) (k : List ℕ × ℕ) (dot s : ℕ) (items : List (Token × List ℕ)) → list_all is_entry P ≡ true → digits_from dot 0 (tokens_in (digit_items P k ++ sign_item t s ∷ items)) ≡ option_map_or (λ v. (dot, v) ∷ []) (find dotted_cmp k P) [] ++ digits_from (dot + 1) 0 (tokens_in items)
 digits_more t P k dot s items sound =
-    elim (find place_cmp k P) as (λ o. find place_cmp k P ≡ o → digits_from dot 0 (tokens_in (option_map_or (λ v. (Digit v, (48 + v) ∷ []) ∷ []) o [] ++ sign_item t s ∷ items)) ≡ option_map_or (λ v. (dot, v) ∷ []) o [] ++ digits_from (dot + 1) 0 (tokens_in items)) [
+    elim (find dotted_cmp k P) as (λ o. find dotted_cmp k P ≡ o → digits_from dot 0 (tokens_in (option_map_or (λ v. (Digit v, (48 + v) ∷ []) ∷ []) o [] ++ sign_item t s ∷ items)) ≡ option_map_or (λ v. (dot, v) ∷ []) o [] ++ digits_from (dot + 1) 0 (tokens_in items)) [
       | None ↦ λ is. sign_digits t s dot 0 (tokens_in items)
       | Some v ↦ λ is. sign_digits t s dot v (tokens_in items) ∙ ap (λ x. x ++ digits_from (dot + 1) 0 (tokens_in items)) (digit_there dot v (entry_bounds (k, v) (found_entry P k v sound is)).low)
     ] refl
@@ -154,11 +157,11 @@ digits_more t P k dot s items sound =
 digits_of_items : (t : Alphabet) (P : List ((List ℕ × ℕ) × ℕ)) (q : List ℕ) (dot : ℕ) (ss : List ℕ) → list_all is_entry P ≡ true → digits_from dot 0 (tokens_in (items_from t P q dot ss)) ≡ values_from P q dot ss
 digits_of_items t P q dot [] sound = digits_end P (q, dot) dot sound
 digits_of_items t P q dot (s ∷ ss) sound =
-    digits_more t P (q, dot) dot s (items_from t P q (dot + 1) ss) sound ∙ ap (λ x. option_map_or (λ v. (dot, v) ∷ []) (find place_cmp (q, dot) P) [] ++ x) (digits_of_items t P q (dot + 1) ss sound)
+    digits_more t P (q, dot) dot s (items_from t P q (dot + 1) ss) sound ∙ ap (λ x. option_map_or (λ v. (dot, v) ∷ []) (find dotted_cmp (q, dot) P) [] ++ x) (digits_of_items t P q (dot + 1) ss sound)
 
 entries_of_string : (t : Alphabet) (P : List ((List ℕ × ℕ) × ℕ)) (q : List ℕ) → list_all is_entry P ≡ true → line_entries (tokens_in (items_from t P q 0 q)) ≡ entries_of P q
 entries_of_string t P q sound =
-    ap (λ x. entries_at x (digits_from 0 0 (tokens_in (items_from t P q 0 q)))) (signs_from t P q 0 q) ∙ ap (entries_at q) (digits_of_items t P q 0 q sound)
+    ap (entries_at (signs_of (tokens_in (items_from t P q 0 q)))) (sym (digits_are (tokens_in (items_from t P q 0 q)))) ∙ ap (λ x. entries_at x (digits_from 0 0 (tokens_in (items_from t P q 0 q)))) (signs_from t P q 0 q) ∙ ap (entries_at q) (digits_of_items t P q 0 q sound)
 
 -- what is said of a string of the map
 pub record IsString (n : ℕ) (q : List ℕ) : Type 0 where

@@ -8,9 +8,9 @@ use Rattle.std.specs.FinMap.Entries.{put, find, by_order, is_sorted-put}
 use Rattle.std.specs.List.{list_all, All}
 use Rattle.pg_types.specs.declared.limits.TheConstants.{LEVEL_MAX, PATTERN_SIGNS_MAX}
 use Rattle.pg_types.specs.Signs.{is_sign}
-use Rattle.pg_patterns.specs.Places.{place_cmp, place_total}
+use Rattle.pg_patterns.specs.DottedSigns.{dotted_cmp, dotted_total}
 use Rattle.pg_patterns.specs.Values.{raise, value_of, largest, is_entry, IsPatternMap}
-use Rattle.pg_patterns.proofs.Ordered.{and_first, and_second, both_true}
+use Rattle.pg_types.proofs.BoolFacts.{and_first, and_second, both_true}
 
 -- what is said of an entry
 pub record EntryBounds (e : (List ℕ × ℕ) × ℕ) : Type 0 where
@@ -61,7 +61,7 @@ bounds_lent P Q i e q dot map same inside is signs at =
 pub value_of_bound : (P : List ((List ℕ × ℕ) × ℕ)) (k : List ℕ × ℕ) → list_all is_entry P ≡ true → value_of P k ≤ LEVEL_MAX
 value_of_bound [] k sound = omega arith
 value_of_bound (e ∷ es) k sound =
-    elim (eq_by_cmp place_cmp k e.0) as (λ t. unwrap_or (cond t (Some e.1) (find place_cmp k es)) 0 ≤ LEVEL_MAX) [
+    elim (eq_by_cmp dotted_cmp k e.0) as (λ t. unwrap_or (cond t (Some e.1) (find dotted_cmp k es)) 0 ≤ LEVEL_MAX) [
       | true ↦ (entry_bounds e (and_first _ _ sound)).high
       | false ↦ value_of_bound es k (and_second _ _ sound)
     ]
@@ -82,13 +82,13 @@ pub greatest_bound : (P es : List ((List ℕ × ℕ) × ℕ)) (n m : ℕ) → Is
 greatest_bound P es n m map same is =
     below_greatest n m (largest es) is (largest_bound es (subst (λ x. list_all is_entry x ≡ true) (sym same) map.sound))
 
-sound_put : (k : List ℕ × ℕ) (v : ℕ) (P : List ((List ℕ × ℕ) × ℕ)) → is_entry (k, v) ≡ true → list_all is_entry P ≡ true → list_all is_entry (put place_cmp k v P) ≡ true
+sound_put : (k : List ℕ × ℕ) (v : ℕ) (P : List ((List ℕ × ℕ) × ℕ)) → is_entry (k, v) ≡ true → list_all is_entry P ≡ true → list_all is_entry (put dotted_cmp k v P) ≡ true
 sound_put k v [] new sound = both_true _ _ new refl
 sound_put k v (e ∷ es) new sound =
     let here = entry_bounds e (and_first _ _ sound) in
     let put_in = entry_bounds (k, v) new in
     let tied : is_entry (e.0, v) ≡ true = entry_told (e.0, v) (record { some = here.some; few = here.few; signs = here.signs; dot = here.dot; low = put_in.low; high = put_in.high }) in
-    elim (place_cmp k e.0) as (λ o. list_all is_entry (by_order o ((k, v) ∷ e ∷ es) ((e.0, v) ∷ es) (e ∷ put place_cmp k v es)) ≡ true) [
+    elim (dotted_cmp k e.0) as (λ o. list_all is_entry (by_order o ((k, v) ∷ e ∷ es) ((e.0, v) ∷ es) (e ∷ put dotted_cmp k v es)) ≡ true) [
       | Less ↦ both_true _ _ new sound
       | Equal ↦ both_true _ _ tied (and_second _ _ sound)
       | Greater ↦ both_true _ _ (and_first _ _ sound) (sound_put k v es new (and_second _ _ sound))
@@ -102,6 +102,6 @@ raise_keeps P k v map new =
     let high : v ≤ LEVEL_MAX = new.high in
     let bounds : EntryBounds (k, max v (value_of P k)) = record { some = new.some; few = new.few; signs = new.signs; dot = new.dot; low = omega arith; high = omega arith } in
     record {
-      sorted = is_sorted-put place_cmp place_total k (max v (value_of P k)) P map.sorted;
+      sorted = is_sorted-put dotted_cmp dotted_total k (max v (value_of P k)) P map.sorted;
       sound = sound_put k (max v (value_of P k)) P (entry_told (k, max v (value_of P k)) bounds) map.sound;
     }

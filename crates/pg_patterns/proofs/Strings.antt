@@ -10,11 +10,12 @@ use Rattle.std.specs.Ordering.{is_eq, is_gt, ordering_then, ordering_reverse, Ma
 use Rattle.std.specs.FinMap.{nat_cmp-IsAntisymmetric, slice_cmp-IsAntisymmetric}
 use Rattle.std.specs.FinMap.Entries.{is_sorted}
 use Rattle.pg_translate.specs.Alphabets.{Alphabet}
-use Rattle.pg_patterns.specs.Places.{place_cmp, place_total}
+use Rattle.pg_patterns.specs.DottedSigns.{dotted_cmp, dotted_total}
 use Rattle.pg_patterns.specs.Values.{IsPatternMap, is_entry}
 use Rattle.pg_patterns.specs.Search.{is_after, StandsAt}
 use Rattle.pg_patterns.specs.Texts.{with_string, strings_of, pattern_line}
-use Rattle.pg_patterns.proofs.Ordered.{sorted_at, equal_is, greater_is, after_below}
+use Rattle.pg_types.proofs.BoolFacts.{equal_is, greater_is}
+use Rattle.pg_patterns.proofs.Ordered.{sorted_at, after_below}
 use Rattle.pg_patterns.proofs.Sound.{entry_bounds, entry_at}
 use Rattle.pg_patterns.proofs.Points.{same_signs, turned_after}
 
@@ -58,15 +59,15 @@ first_dot e =
     zero_upto Greater rank = absurd (omega arith)
 
 -- where the entries of a string begin, its first dot stands
-pub string_start : (P : List ((List ℕ × ℕ) × ℕ)) (i : ℕ) (e : (List ℕ × ℕ) × ℕ) → T (is_sorted place_cmp P) → i < length P → e ≡ get_or P i e → ((j : ℕ) (d : (List ℕ × ℕ) × ℕ) → j < i → is_after (e.0.0, 0) (get_or P j d) ≡ true) → StandsAt P (e.0.0, 0) i
+pub string_start : (P : List ((List ℕ × ℕ) × ℕ)) (i : ℕ) (e : (List ℕ × ℕ) × ℕ) → T (is_sorted dotted_cmp P) → i < length P → e ≡ get_or P i e → ((j : ℕ) (d : (List ℕ × ℕ) × ℕ) → j < i → is_after (e.0.0, 0) (get_or P j d) ≡ true) → StandsAt P (e.0.0, 0) i
 string_start P i e sorted inside is before =
     record {
       within = omega arith;
       before = before;
       behind = λ j d low high. ⊎_elim
           (λ further.
-          let less : place_cmp e.0 (get_or P j d).0 ≡ Less = ap (λ x. place_cmp x.0 (get_or P j d).0) (is ∙ get_or_default P i e d inside) ∙ sorted_at place_cmp P i j d sorted further high in
-          upto place_total (e.0.0, 0) e.0 (get_or P j d).0 (first_dot e) (ap is_gt less))
+          let less : dotted_cmp e.0 (get_or P j d).0 ≡ Less = ap (λ x. dotted_cmp x.0 (get_or P j d).0) (is ∙ get_or_default P i e d inside) ∙ sorted_at dotted_cmp P i j d sorted further high in
+          upto dotted_total (e.0.0, 0) e.0 (get_or P j d).0 (first_dot e) (ap is_gt less))
           (λ back. let one : j ≡ i = omega arith in ap (λ n. is_after (e.0.0, 0) (get_or P n d)) one ∙ ap (is_after (e.0.0, 0)) (sym (is ∙ get_or_default P i e d inside)) ∙ first_dot e)
           (cases_lt i j);
     }
@@ -76,11 +77,11 @@ pub next_string : (P : List ((List ℕ × ℕ) × ℕ)) (q : List ℕ) (i : ℕ)
 next_string P q i e map point inside is =
     let bounds = entry_bounds e (subst (λ x. is_entry x ≡ true) (sym is) (entry_at P i e map.sound inside)) in
     let less : slice_cmp nat_cmp q e.0.0 ≡ Less = later_string q e bounds.dot (ap (is_after (q, length q + 1)) is ∙ point.behind i e (omega arith) inside) in
-    let further : place_cmp (q, length q + 1) (e.0.0, 0) ≡ Less = ap (λ r. ordering_then r (nat_cmp (length q + 1) 0)) less in (
+    let further : dotted_cmp (q, length q + 1) (e.0.0, 0) ≡ Less = ap (λ r. ordering_then r (nat_cmp (length q + 1) 0)) less in (
       less,
       λ j d low.
-          let below : place_cmp (get_or P j d).0 (q, length q + 1) ≡ Less = place_total.antisymm (get_or P j d).0 (q, length q + 1) ∙ ap ordering_reverse (greater_is _ (point.before j d low)) in
-          after_below place_cmp place_total (get_or P j d).0 (q, length q + 1) (e.0.0, 0) below (turned_after (q, length q + 1) (e.0.0, 0) further),
+          let below : dotted_cmp (get_or P j d).0 (q, length q + 1) ≡ Less = dotted_total.antisymm (get_or P j d).0 (q, length q + 1) ∙ ap ordering_reverse (greater_is _ (point.before j d low)) in
+          after_below dotted_cmp dotted_total (get_or P j d).0 (q, length q + 1) (e.0.0, 0) below (turned_after (q, length q + 1) (e.0.0, 0) further),
     )
 
 -- a string before another is a string of its own

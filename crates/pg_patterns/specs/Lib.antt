@@ -1,4 +1,4 @@
-pub mod Places
+pub mod DottedSigns
 pub mod Values
 pub mod Search
 pub mod Lines

@@ -4,7 +4,7 @@ use Rattle.std.specs.Option.{option_map_or}
 use Rattle.std.specs.FinMap.Entries.{find}
 use Rattle.std.specs.Cmp.Lexicographic.{pointwise}
 use Rattle.pg_translate.specs.Alphabets.{Alphabet, spelling_of}
-use Rattle.pg_patterns.specs.Places.{place_cmp}
+use Rattle.pg_patterns.specs.DottedSigns.{dotted_cmp}
 
 -- a string before others, where the first of them is another
 abbrev pub with_string : List ℕ → List (List ℕ) → List (List ℕ)
@@ -18,7 +18,7 @@ strings_of (e ∷ es) = with_string e.0.0 (strings_of es)
 
 -- the digit of a place, where it has a value
 abbrev pub digit_of : List ((List ℕ × ℕ) × ℕ) → List ℕ × ℕ → List ℕ
-digit_of P k = option_map_or (λ v. (48 + v) ∷ []) (find place_cmp k P) []
+digit_of P k = option_map_or (λ v. (48 + v) ∷ []) (find dotted_cmp k P) []
 
 -- the line of a string from a dot on, before the signs that are left: at each dot its digit, and then the spelling of the sign
 abbrev pub line_from : Alphabet → List ((List ℕ × ℕ) × ℕ) → List ℕ → ℕ → List ℕ → List ℕ

@@ -4,15 +4,15 @@ use Rattle.std.specs.FinMap.Entries.{put, find, is_sorted}
 use Rattle.std.specs.List.{starts_with, list_all, All}
 use Rattle.pg_types.specs.declared.limits.TheConstants.{LEVEL_MAX, PATTERN_SIGNS_MAX}
 use Rattle.pg_types.specs.Signs.{is_sign}
-use Rattle.pg_patterns.specs.Places.{place_cmp}
+use Rattle.pg_patterns.specs.DottedSigns.{dotted_cmp}
 
 -- the value of a place, 0 where it has none
 abbrev pub value_of : List ((List ℕ × ℕ) × ℕ) → List ℕ × ℕ → ℕ
-value_of P k = unwrap_or (find place_cmp k P) 0
+value_of P k = unwrap_or (find dotted_cmp k P) 0
 
 -- the map with the value of k raised to v
 abbrev pub raise : List ((List ℕ × ℕ) × ℕ) → List ℕ × ℕ → ℕ → List ((List ℕ × ℕ) × ℕ)
-raise P k v = put place_cmp k (max v (value_of P k)) P
+raise P k v = put dotted_cmp k (max v (value_of P k)) P
 
 -- a list of entries as a map: equal places are joined by the greatest value
 abbrev pub joined : List ((List ℕ × ℕ) × ℕ) → List ((List ℕ × ℕ) × ℕ)
@@ -45,7 +45,7 @@ is_entry e = nat_le 1 (length e.0.0) && nat_le (length e.0.0) PATTERN_SIGNS_MAX 
 
 -- places stand in order, each once, and each entry is one of a pattern
 pub record IsPatternMap (P : List ((List ℕ × ℕ) × ℕ)) : Type 0 where
-  pub sorted : T (is_sorted place_cmp P)
+  pub sorted : T (is_sorted dotted_cmp P)
   pub sound : list_all is_entry P ≡ true
 
 -- every sign is at most n

@@ -2,7 +2,7 @@
 ghost use Rattle.std.specs.Prelude.{◌≡◌, ◌≤◌, ◌++◌, length, map, OnOk};
 ghost use Rattle.pg_patterns.specs.Lines.{entry_at};
 
-use crate::place::Place;
+use crate::dotted_signs::DottedSigns;
 use pg_types::{PATTERN_SIGNS_MAX, Sign};
 use std::alloc::AllocError;
 use std::marker::Model;
@@ -77,7 +77,7 @@ impl LineDraft {
     }
 
     /// Appends the entries of the line.
-    pub fn push_entries(&self, entries: &mut Vec<(Place, u8)>) -> Result<(), AllocError>
+    pub fn push_entries(&self, entries: &mut Vec<(DottedSigns, u8)>) -> Result<(), AllocError>
         ensures { OnOk result (entries.new.items ≡ entries.old.items ++ draft_entries self.now) }
     {
         if self.len == 0 {
@@ -86,7 +86,7 @@ impl LineDraft {
         let signs = &self.signs[..usize::from(self.len)];
         push_digits(signs, &self.digits[..usize::from(self.count)], entries)?;
         if self.digit != 0 {
-            entries.push((Place::new(signs, self.len), self.digit))?;
+            entries.push((DottedSigns::new(signs, self.len), self.digit))?;
         }
         Ok(())
     }
@@ -96,13 +96,13 @@ impl LineDraft {
 fn push_digits(
     signs: &[Sign],
     digits: &[(u8, u8)],
-    entries: &mut Vec<(Place, u8)>,
+    entries: &mut Vec<(DottedSigns, u8)>,
 ) -> Result<(), AllocError>
     requires { length signs.now ≤ PATTERN_SIGNS_MAX }
     ensures { OnOk result (entries.new.items ≡ entries.old.items ++ map (entry_at signs.now) digits.now) }
 {
     for digit in digits {
-        entries.push((Place::new(signs, digit.0), digit.1))?;
+        entries.push((DottedSigns::new(signs, digit.0), digit.1))?;
     }
     Ok(())
 }

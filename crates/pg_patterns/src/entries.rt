@@ -4,16 +4,16 @@ ghost use Rattle.std.specs.Bool.{OnTrue};
 ghost use Rattle.std.specs.FinMap.Entries.{is_sorted};
 ghost use Rattle.std.specs.List.{list_all};
 ghost use Rattle.std.specs.List.Sorted.{IsPartitionPoint};
-ghost use Rattle.pg_patterns.specs.Places.{place_cmp};
+ghost use Rattle.pg_patterns.specs.DottedSigns.{dotted_cmp};
 ghost use Rattle.pg_patterns.specs.Values.{IsPatternMap, is_entry, joined, raise};
 ghost use Rattle.pg_patterns.specs.Search.{is_after, begins_with};
 
-use crate::place::Place;
+use crate::dotted_signs::DottedSigns;
 use std::alloc::AllocError;
 
 /// How many entries stand before `place`. Where it comes after all of them, one comparison tells.
-fn seek(entries: &[(Place, u8)], place: &Place) -> usize
-    requires { T (is_sorted place_cmp entries.now) }
+fn seek(entries: &[(DottedSigns, u8)], place: &DottedSigns) -> usize
+    requires { T (is_sorted dotted_cmp entries.now) }
     ensures bound { result ≤ length entries.now }
     ensures point { IsPartitionPoint (λ e. is_after place.now e ≡ true) (λ e. is_after place.now e ≡ false) entries.now result }
 {
@@ -24,23 +24,27 @@ fn seek(entries: &[(Place, u8)], place: &Place) -> usize
 }
 
 /// Whether there is a last entry, and `place` comes after it, and so after each.
-fn comes_last(entries: &[(Place, u8)], place: &Place) -> bool
-    requires { T (is_sorted place_cmp entries.now) }
+fn comes_last(entries: &[(DottedSigns, u8)], place: &DottedSigns) -> bool
+    requires { T (is_sorted dotted_cmp entries.now) }
     ensures { OnTrue result (All (λ e. is_after place.now e ≡ true) entries.now) }
 {
     !entries.is_empty() && *place > entries[entries.len() - 1].0
 }
 
 /// Whether the entry at `at` is there, and is that of `place`.
-pub fn stands(entries: &[(Place, u8)], at: usize, place: &Place) -> bool
+pub fn stands(entries: &[(DottedSigns, u8)], at: usize, place: &DottedSigns) -> bool
     ensures { result ≡ begins_with place.now (drop at entries.now) }
 {
     at < entries.len() && *place == entries[at].0
 }
 
 /// Raises the value of `place` to `value`.
-pub fn raise_in(entries: &mut Vec<(Place, u8)>, place: Place, value: u8) -> Result<(), AllocError>
-    requires { T (is_sorted place_cmp entries.old.items) }
+pub fn raise_in(
+    entries: &mut Vec<(DottedSigns, u8)>,
+    place: DottedSigns,
+    value: u8,
+) -> Result<(), AllocError>
+    requires { T (is_sorted dotted_cmp entries.old.items) }
     ensures ok { OnOk result (entries.new.items ≡ raise entries.old.items place value) }
     ensures err { OnErr result (entries.new.items ≡ entries.old.items) }
 {
@@ -56,7 +60,7 @@ pub fn raise_in(entries: &mut Vec<(Place, u8)>, place: Place, value: u8) -> Resu
 
 /// Joins the entries of one place by the greatest value: they are sorted where they stand, by place and falling value, and
 /// the first of each place is kept.
-pub fn join(entries: &mut Vec<(Place, u8)>)
+pub fn join(entries: &mut Vec<(DottedSigns, u8)>)
     requires { list_all is_entry entries.old.items ≡ true }
     ensures { IsPatternMap entries.new.items × (entries.new.items ≡ joined entries.old.items) }
 {

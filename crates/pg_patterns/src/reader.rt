@@ -8,9 +8,9 @@ ghost use Rattle.pg_patterns.specs.Values.{SignsUpTo, is_entry};
 ghost use Rattle.pg_patterns.specs.Drafts.{IsDraft, draft_left, line_draft, with_sign};
 ghost use Rattle.pg_patterns.specs.Starts.{entries_from};
 
+use crate::dotted_signs::DottedSigns;
 use crate::draft::LineDraft;
-use crate::place::Place;
-use pg_translate::{Item, Place as LineKind, Table};
+use pg_translate::{Item, Place, Table};
 use pg_types::{EDGE, FILE_MAX, Kind, PATTERN_SIGNS_MAX, ReadingError, Refusal, Sign, next_line};
 use std::alloc::Global;
 
@@ -19,7 +19,7 @@ pub fn read_entries(
     alloc: Global,
     table: &Table,
     bytes: &[u8],
-) -> Result<Vec<(Place, u8)>, ReadingError>
+) -> Result<Vec<(DottedSigns, u8)>, ReadingError>
     requires { length bytes.now ≤ FILE_MAX }
     ensures value { Gives (λ entries. entries.items) result (entries_from table.now 1 (lines bytes.now)) }
     ensures sound { IfOk result (λ entries. list_all is_entry entries.items ≡ true) }
@@ -66,7 +66,7 @@ fn take_item<'a>(
     ensures kept { IfOk result (λ _. IsDraft (letters_of table.now + 1) draft.new) }
 {
     let column = (size - rest.len() + 1) as u32;
-    match table.item(LineKind::Patterns, rest) {
+    match table.item(Place::Patterns, rest) {
         Item::Letter(sign, after) => {
             add_sign(draft, sign, line, column)?;
             Ok(Some(after))

@@ -1,8 +1,8 @@
 //! A set of patterns.
 ghost use Rattle.std.specs.Prelude.{◌≡◌};
 
+use crate::dotted_signs::DottedSigns;
 use crate::entries::{join, raise_in};
-use crate::place::Place;
 use crate::reader::read_entries;
 use crate::text::push_lines;
 use pg_translate::{Table, laws};
@@ -17,7 +17,7 @@ use std::marker::Model;
 /// extensions, and then of their dots.
 #[derive(Drop)]
 pub struct PatternSet {
-    held: Vec<(Place, u8)>,
+    held: Vec<(DottedSigns, u8)>,
 }
 
 impl Model for PatternSet {
@@ -50,7 +50,7 @@ impl PatternSet {
     ghost use Rattle.pg_types.specs.declared.limits.TheConstants.{FILE_MAX, LEVEL_MAX, PATTERN_SIGNS_MAX};
     ghost use Rattle.pg_types.specs.Reading.{Gives};
     ghost use Rattle.pg_types.specs.Signs.{is_sign};
-    ghost use Rattle.pg_patterns.specs.Places.{place_cmp};
+    ghost use Rattle.pg_patterns.specs.DottedSigns.{dotted_cmp};
     ghost use Rattle.pg_patterns.specs.Values.{IsPatternMap, SignsUpTo, is_entry, raise, joined, largest};
     ghost use Rattle.pg_patterns.specs.Starts.{start};
     ghost use Rattle.pg_patterns.specs.Texts.{pattern_text};
@@ -84,10 +84,10 @@ impl PatternSet {
 
     /// The map of `entries`, which may stand in any order. Where a place has several, the greatest value counts. The vector is
     /// sorted where it stands, in O(n log n) comparisons, or O(n) where it is in order, and no memory is taken.
-    pub fn from_entries(mut entries: Vec<(Place, u8)>) -> PatternSet
+    pub fn from_entries(mut entries: Vec<(DottedSigns, u8)>) -> PatternSet
         requires { list_all is_entry entries.items ≡ true }
         ensures value { result ≡ joined entries.items }
-        ensures in_order { T (is_sorted place_cmp entries.items) → result ≡ entries.items }
+        ensures in_order { T (is_sorted dotted_cmp entries.items) → result ≡ entries.items }
     {
         join(&mut entries);
         PatternSet { held: entries }
@@ -104,7 +104,7 @@ impl PatternSet {
         ensures ok { OnOk result (self.new ≡ raise self.old (signs.now, dot) value) }
         ensures err { OnErr result (self.new ≡ self.old) }
     {
-        raise_in(&mut self.held, Place::new(signs, dot), value)?;
+        raise_in(&mut self.held, DottedSigns::new(signs, dot), value)?;
         Ok(())
     }
 

@@ -3,7 +3,7 @@ ghost use Rattle.std.specs.Prelude.{◌≡◌, true, IfOk, OnOk};
 ghost use Rattle.std.specs.List.{list_all};
 ghost use Rattle.pg_patterns.specs.Values.{SignsUpTo, is_entry, raise};
 
-use crate::{PatternSet, Place};
+use crate::{DottedSigns, PatternSet};
 use pg_translate::Table;
 use pg_types::{Kind, ReadingError, Refusal, Sign};
 use std::alloc::{AllocError, Global};
@@ -46,16 +46,16 @@ fn starting_patterns(rt: HostRuntime) -> Result<(), Fail> {
 }
 
 /// The entries of `1a2.b4`, `a3b`, `a1b` and `ab1c`, in another order.
-fn entries(alloc: Global) -> Result<Vec<(Place, u8)>, AllocError>
+fn entries(alloc: Global) -> Result<Vec<(DottedSigns, u8)>, AllocError>
     ensures { IfOk result (λ entries. list_all is_entry entries.items ≡ true) }
 {
     let mut entries = Vec::new(alloc);
-    entries.push((Place::new(&[2, 3, 4], 2), 1))?;
-    entries.push((Place::new(&[2, 3], 1), 3))?;
-    entries.push((Place::new(&[2, 1, 3], 3), 4))?;
-    entries.push((Place::new(&[2, 3], 1), 1))?;
-    entries.push((Place::new(&[2, 1, 3], 0), 1))?;
-    entries.push((Place::new(&[2, 1, 3], 1), 2))?;
+    entries.push((DottedSigns::new(&[2, 3, 4], 2), 1))?;
+    entries.push((DottedSigns::new(&[2, 3], 1), 3))?;
+    entries.push((DottedSigns::new(&[2, 1, 3], 3), 4))?;
+    entries.push((DottedSigns::new(&[2, 3], 1), 1))?;
+    entries.push((DottedSigns::new(&[2, 1, 3], 0), 1))?;
+    entries.push((DottedSigns::new(&[2, 1, 3], 1), 2))?;
     Ok(entries)
 }
 

@@ -1,19 +1,19 @@
 //! The text of a pattern file.
 ghost use Rattle.std.specs.Prelude.{◌≡◌, ◌+◌, ◌≤◌, ◌++◌, length, drop, All, OnOk, IfOk, IfSome};
 ghost use Rattle.pg_translate.specs.Alphabets.{letters_of};
-ghost use Rattle.pg_patterns.specs.Places.{same_place};
+ghost use Rattle.pg_patterns.specs.DottedSigns.{same_dotted};
 ghost use Rattle.pg_patterns.specs.Values.{IsPatternMap, SignsUpTo};
 ghost use Rattle.pg_patterns.specs.Search.{StandsAt, first_value};
 ghost use Rattle.pg_patterns.specs.Texts.{digit_of, pattern_line, pattern_text};
 
-use crate::place::Place;
+use crate::dotted_signs::DottedSigns;
 use pg_translate::Table;
 use pg_types::{LEVEL_MAX, PATTERN_SIGNS_MAX, Sign};
 use std::alloc::AllocError;
 
 /// Appends the lines of the strings of the entries.
 pub fn push_lines(
-    entries: &[(Place, u8)],
+    entries: &[(DottedSigns, u8)],
     table: &Table,
     text: &mut Vec<u8>,
 ) -> Result<(), AllocError>
@@ -31,7 +31,7 @@ pub fn push_lines(
 
 /// Appends the line of `signs`, whose entries begin at `at`, and gives where those of the next string begin.
 fn push_line(
-    entries: &[(Place, u8)],
+    entries: &[(DottedSigns, u8)],
     at: usize,
     signs: &[Sign],
     table: &Table,
@@ -58,7 +58,7 @@ fn push_line(
 /// Appends the digit of `dot` among `signs`, where the entry at `next` is theirs, and gives where the entry of the next dot
 /// would stand.
 fn push_digit(
-    entries: &[(Place, u8)],
+    entries: &[(DottedSigns, u8)],
     next: usize,
     signs: &[Sign],
     dot: usize,
@@ -79,12 +79,12 @@ fn push_digit(
 }
 
 /// The value of the entry at `at`, where it is that of `dot` among `signs`.
-fn value_at(entries: &[(Place, u8)], at: usize, signs: &[Sign], dot: usize) -> Option<u8>
+fn value_at(entries: &[(DottedSigns, u8)], at: usize, signs: &[Sign], dot: usize) -> Option<u8>
     requires { IsPatternMap entries.now }
     ensures value { result ≡ first_value (signs.now, dot) (drop at entries.now) }
     ensures low { IfSome result (λ value. value ≤ LEVEL_MAX) }
 {
-    if at < entries.len() && is_place(&entries[at].0, signs, dot) {
+    if at < entries.len() && is_dotted(&entries[at].0, signs, dot) {
         Some(entries[at].1)
     } else {
         None
@@ -92,8 +92,8 @@ fn value_at(entries: &[(Place, u8)], at: usize, signs: &[Sign], dot: usize) -> O
 }
 
 /// Whether the place is that of `dot` among `signs`.
-fn is_place(place: &Place, signs: &[Sign], dot: usize) -> bool
-    ensures { result ≡ same_place (signs.now, dot) place.now }
+fn is_dotted(place: &DottedSigns, signs: &[Sign], dot: usize) -> bool
+    ensures { result ≡ same_dotted (signs.now, dot) place.now }
 {
     usize::from(place.dot()) == dot && signs == place.signs()
 }

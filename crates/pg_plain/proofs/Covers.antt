@@ -8,7 +8,9 @@ use Rattle.pg_types.specs.declared.limits.TheConstants.{WORD_LETTERS_MAX}
 use Rattle.pg_patterns.specs.Values.{stands_at, applies, best, value_at, is_entry}
 use Rattle.pg_select.specs.Windows.{Hopeless, window, fits, covered}
 use Rattle.pg_plain.specs.Strings.{is_string}
-use Rattle.pg_plain.specs.Forces.{greatest, bit, within}
+use Rattle.pg_select.specs.Positions.{bit}
+use Rattle.pg_select.specs.Windows.{is_within}
+use Rattle.pg_plain.specs.Greatest.{greatest}
 use Rattle.pg_plain.proofs.Bools.{and_first, and_second, both_true, same_tests, all_weaker}
 
 entry_string : (e : (List ℕ × ℕ) × ℕ) → is_entry e ≡ true → is_string e.0 ≡ true
@@ -31,7 +33,7 @@ inner w p len dot k low high size =
     ∙ ap (λ x. take (length k.0) (drop x w)) from
 
 -- a place applies in a window that fits where it applies in the word, and stands within the window
-pub cover_law : (w : List ℕ) (p len dot : ℕ) (k : List ℕ × ℕ) → fits w p len dot ≡ true → applies (window w p len dot) dot k ≡ (applies w p k && within len dot k)
+pub cover_law : (w : List ℕ) (p len dot : ℕ) (k : List ℕ × ℕ) → fits w p len dot ≡ true → applies (window w p len dot) dot k ≡ (applies w p k && is_within len dot (length k.0) k.1)
 cover_law w p len dot k fit = same_tests _ _ out back
   where
     high : dot ≤ p
@@ -43,7 +45,7 @@ cover_law w p len dot k fit = same_tests _ _ out back
     size : length (window w p len dot) ≡ len
     size = let left : length (drop (p - dot) w) ≡ length w - (p - dot) = length-drop (p - dot) w in let there : p - dot + len ≤ length w = room in length-take-le len (drop (p - dot) w) (omega arith)
 
-    out : applies (window w p len dot) dot k ≡ true → (applies w p k && within len dot k) ≡ true
+    out : applies (window w p len dot) dot k ≡ true → (applies w p k && is_within len dot (length k.0) k.1) ≡ true
     out h =
         let low : k.1 ≤ dot = leb-true k.1 dot (and_first (nat_le k.1 dot) (stands_at k.0 (window w p len dot) (dot - k.1)) h) in
         let stands = and_second (nat_le k.1 dot) (stands_at k.0 (window w p len dot) (dot - k.1)) h in
@@ -53,15 +55,15 @@ cover_law w p len dot k fit = same_tests _ _ out back
         let there : k.0 ≡ take (length k.0) (drop (p - k.1) w) = signs ∙ inner w p len dot k low high fitting in
         let up : dot ≤ p = high in
         let space : p - dot + len ≤ length w = room in
-        both_true (applies w p k) (within len dot k)
+        both_true (applies w p k) (is_within len dot (length k.0) k.1)
         (both_true (nat_le k.1 p) (stands_at k.0 w (p - k.1)) (le-leb k.1 p (omega arith))
         (both_true (nat_le ((p - k.1) + length k.0) (length w)) (starts_with nat_eq (drop (p - k.1) w) k.0) (le-leb ((p - k.1) + length k.0) (length w) (omega arith)) ((bytes_decides k.0 (take (length k.0) (drop (p - k.1) w))).1 there)))
         (both_true (nat_le k.1 dot) (nat_le (length k.0 + dot) (len + k.1)) (le-leb k.1 dot low) (le-leb (length k.0 + dot) (len + k.1) (omega arith)))
 
-    back : (applies w p k && within len dot k) ≡ true → applies (window w p len dot) dot k ≡ true
+    back : (applies w p k && is_within len dot (length k.0) k.1) ≡ true → applies (window w p len dot) dot k ≡ true
     back h =
-        let all : applies w p k ≡ true = and_first (applies w p k) (within len dot k) h in
-        let inside : within len dot k ≡ true = and_second (applies w p k) (within len dot k) h in
+        let all : applies w p k ≡ true = and_first (applies w p k) (is_within len dot (length k.0) k.1) h in
+        let inside : is_within len dot (length k.0) k.1 ≡ true = and_second (applies w p k) (is_within len dot (length k.0) k.1) h in
         let low : k.1 ≤ dot = leb-true k.1 dot (and_first (nat_le k.1 dot) (nat_le (length k.0 + dot) (len + k.1)) inside) in
         let ends : length k.0 + dot ≤ len + k.1 = leb-true (length k.0 + dot) (len + k.1) (and_second (nat_le k.1 dot) (nat_le (length k.0 + dot) (len + k.1)) inside) in
         let fitting : (dot - k.1) + length k.0 ≤ len = omega arith in
@@ -108,9 +110,9 @@ best_greatest : (t : List ℕ × ℕ → Bool) (P : List ((List ℕ × ℕ) × �
 best_greatest t [] = refl
 best_greatest t (e ∷ es) = ap (λ n. max (cond (t e.0) e.1 0) n) (best_greatest t es)
 
-no_force : {X : Type 0} (t : List ℕ × ℕ → Bool) (es : List ((List ℕ × ℕ) × X)) → greatest (λ e. 0) t es ≡ 0
-no_force t [] = refl
-no_force t (e ∷ es) = let rest : greatest (λ e. 0) t es ≡ 0 = no_force t es in ap (λ n. max (cond (t e.0) 0 0) n) rest ∙ nothing (t e.0)
+none_given : {X : Type 0} (t : List ℕ × ℕ → Bool) (es : List ((List ℕ × ℕ) × X)) → greatest (λ e. 0) t es ≡ 0
+none_given t [] = refl
+none_given t (e ∷ es) = let rest : greatest (λ e. 0) t es ≡ 0 = none_given t es in ap (λ n. max (cond (t e.0) 0 0) n) rest ∙ nothing (t e.0)
   where
     nothing : (b : Bool) → max (cond b 0 0) 0 ≡ 0
     nothing true = refl
@@ -133,21 +135,21 @@ pub values_end : (P : List ((List ℕ × ℕ) × ℕ)) (H : Hopeless) (w x y z :
 values_end P H w x y z long start first second p inside =
     let room : p < WORD_LETTERS_MAX + 2 = omega arith in
     raised_value (get_or x p 0) (get_or y p 0) (get_or z p 0) (greatest (λ e. e.1) (applies w p) P) (greatest (λ e. 0) (applies w p) H) (value_at P w p)
-    (start_value x p start room) (best_greatest (applies w p) P) (no_force (applies w p) H) (first p room) (second p room)
+    (start_value x p start room) (best_greatest (applies w p) P) (none_given (applies w p) H) (first p room) (second p room)
 
 -- the covers of the windows that fit
 pub covers_end : (P : List ((List ℕ × ℕ) × ℕ)) (H : Hopeless) (level len dot : ℕ) (w : List ℕ) (x y z : List Bool) → length w ≤ WORD_LETTERS_MAX + 2 → x ≡ replicate (WORD_LETTERS_MAX + 2) false
-    → ((p : ℕ) → p < WORD_LETTERS_MAX + 2 → bit (get_or y p false) ≡ max (bit (get_or x p false)) (greatest (λ e. bit (nat_le level e.1 && within len dot e.0)) (applies w p) P))
-    → ((p : ℕ) → p < WORD_LETTERS_MAX + 2 → bit (get_or z p false) ≡ max (bit (get_or y p false)) (greatest (λ e. bit (within len dot e.0)) (applies w p) H))
+    → ((p : ℕ) → p < WORD_LETTERS_MAX + 2 → bit (get_or y p false) ≡ max (bit (get_or x p false)) (greatest (λ e. bit (nat_le level e.1 && is_within len dot (length e.0.0) e.0.1)) (applies w p) P))
+    → ((p : ℕ) → p < WORD_LETTERS_MAX + 2 → bit (get_or z p false) ≡ max (bit (get_or y p false)) (greatest (λ e. bit (is_within len dot (length e.0.0) e.0.1)) (applies w p) H))
     → (p : ℕ) → p < length w → fits w p len dot ≡ true → get_or z p false ≡ covered level P H (window w p len dot) dot
 covers_end P H level len dot w x y z long start first second p inside fit =
     let room : p < WORD_LETTERS_MAX + 2 = omega arith in
-    let law : (k : List ℕ × ℕ) → applies (window w p len dot) dot k ≡ (applies w p k && within len dot k) = λ k. cover_law w p len dot k fit in
-    let patterns : bit (list_any (λ e. nat_le level e.1 && applies (window w p len dot) dot e.0) P) ≡ greatest (λ e. bit (nat_le level e.1 && within len dot e.0)) (applies w p) P =
-    any_bit (λ (e : (List ℕ × ℕ) × ℕ). nat_le level e.1 && applies (window w p len dot) dot e.0) (λ (e : (List ℕ × ℕ) × ℕ). nat_le level e.1 && within len dot e.0) (applies w p) P
-    (λ e. ap (λ b. nat_le level e.1 && b) (law e.0) ∙ swap (nat_le level e.1) (applies w p e.0) (within len dot e.0)) in
-    let hopeless : bit (list_any (λ e. applies (window w p len dot) dot e.0) H) ≡ greatest (λ e. bit (within len dot e.0)) (applies w p) H =
-    any_bit (λ (e : (List ℕ × ℕ) × Unit {0}). applies (window w p len dot) dot e.0) (λ (e : (List ℕ × ℕ) × Unit {0}). within len dot e.0) (applies w p) H (λ e. law e.0) in
+    let law : (k : List ℕ × ℕ) → applies (window w p len dot) dot k ≡ (applies w p k && is_within len dot (length k.0) k.1) = λ k. cover_law w p len dot k fit in
+    let patterns : bit (list_any (λ e. nat_le level e.1 && applies (window w p len dot) dot e.0) P) ≡ greatest (λ e. bit (nat_le level e.1 && is_within len dot (length e.0.0) e.0.1)) (applies w p) P =
+    any_bit (λ (e : (List ℕ × ℕ) × ℕ). nat_le level e.1 && applies (window w p len dot) dot e.0) (λ (e : (List ℕ × ℕ) × ℕ). nat_le level e.1 && is_within len dot (length e.0.0) e.0.1) (applies w p) P
+    (λ e. ap (λ b. nat_le level e.1 && b) (law e.0) ∙ swap (nat_le level e.1) (applies w p e.0) (is_within len dot (length e.0.0) e.0.1)) in
+    let hopeless : bit (list_any (λ e. applies (window w p len dot) dot e.0) H) ≡ greatest (λ e. bit (is_within len dot (length e.0.0) e.0.1)) (applies w p) H =
+    any_bit (λ (e : (List ℕ × ℕ) × Unit {0}). applies (window w p len dot) dot e.0) (λ (e : (List ℕ × ℕ) × Unit {0}). is_within len dot (length e.0.0) e.0.1) (applies w p) H (λ e. law e.0) in
     same_bits (get_or z p false) (covered level P H (window w p len dot) dot)
     (joined_bits (list_any (λ e. nat_le level e.1 && applies (window w p len dot) dot e.0) P) (list_any (λ e. applies (window w p len dot) dot e.0) H) (bit (get_or x p false)) (bit (get_or y p false)) (bit (get_or z p false))
     (start_cover x p start room) (first p room ∙ ap (λ n. max (bit (get_or x p false)) n) (sym patterns)) (second p room ∙ ap (λ n. max (bit (get_or y p false)) n) (sym hopeless)))

@@ -6,24 +6,24 @@ use Rattle.std.specs.BTreeMap.{insert_entry}
 use Rattle.std.specs.FinMap.Entries.{put, find}
 use Rattle.std.specs.List.{list_all}
 use Rattle.pg_types.specs.Signs.{is_sign}
-use Rattle.pg_patterns.specs.Places.{place_cmp, place_total, place_exact}
+use Rattle.pg_patterns.specs.DottedSigns.{dotted_cmp, dotted_total, dotted_exact}
 use Rattle.pg_patterns.specs.Values.{raise, value_of, is_entry, IsPatternMap}
 use Rattle.pg_plain.specs.Strings.{is_string}
 use Rattle.pg_plain.proofs.Bools.{and_first, and_second, both_true}
 use Rattle.pg_plain.proofs.Maps.{insert-put, find_good, all_put, put_next}
 
 -- a value that is raised in a map
-pub raised_in : (P Q : List ((List ℕ × ℕ) × ℕ)) (k : List ℕ × ℕ) (v held n : ℕ) → held ≡ value_of P k → n ≡ max v held → Q ≡ insert_entry place_cmp P k n → Q ≡ raise P k v
+pub raised_in : (P Q : List ((List ℕ × ℕ) × ℕ)) (k : List ℕ × ℕ) (v held n : ℕ) → held ≡ value_of P k → n ≡ max v held → Q ≡ insert_entry dotted_cmp P k n → Q ≡ raise P k v
 raised_in P Q k v held n is greater entered =
-    entered ∙ insert-put place_cmp k n P ∙ ap (λ x. put place_cmp k x P) (greater ∙ ap (λ x. max v x) is)
+    entered ∙ insert-put dotted_cmp k n P ∙ ap (λ x. put dotted_cmp k x P) (greater ∙ ap (λ x. max v x) is)
 
-pub put_is : (H G : List ((List ℕ × ℕ) × Unit {0})) (k : List ℕ × ℕ) (x : Unit {0}) → G ≡ insert_entry place_cmp H k x → G ≡ put place_cmp k (tt {0}) H
-put_is H G k x entered = entered ∙ insert-put place_cmp k x H
+pub put_is : (H G : List ((List ℕ × ℕ) × Unit {0})) (k : List ℕ × ℕ) (x : Unit {0}) → G ≡ insert_entry dotted_cmp H k x → G ≡ put dotted_cmp k (tt {0}) H
+put_is H G k x entered = entered ∙ insert-put dotted_cmp k x H
 
 -- places that pass a test stay so
-pub places_in : {X : Type 0} (good : List ℕ × ℕ → Bool) (M N : List ((List ℕ × ℕ) × X)) (k : List ℕ × ℕ) (v : X) → N ≡ insert_entry place_cmp M k v → list_all (λ e. good e.0) M ≡ true → good k ≡ true → list_all (λ e. good e.0) N ≡ true
+pub places_in : {X : Type 0} (good : List ℕ × ℕ → Bool) (M N : List ((List ℕ × ℕ) × X)) (k : List ℕ × ℕ) (v : X) → N ≡ insert_entry dotted_cmp M k v → list_all (λ e. good e.0) M ≡ true → good k ≡ true → list_all (λ e. good e.0) N ≡ true
 places_in {X} good M N k v entered all new =
-    subst (λ x. list_all (λ (e : (List ℕ × ℕ) × X). good e.0) x ≡ true) (sym (entered ∙ insert-put place_cmp k v M)) (all_put place_cmp (λ (e : (List ℕ × ℕ) × X). good e.0) place_exact k v M new all)
+    subst (λ x. list_all (λ (e : (List ℕ × ℕ) × X). good e.0) x ≡ true) (sym (entered ∙ insert-put dotted_cmp k v M)) (all_put dotted_cmp (λ (e : (List ℕ × ℕ) × X). good e.0) dotted_exact k v M new all)
 
 greater_bounds : (v n : ℕ) → 1 ≤ v → v ≤ 9 → n ≤ 9 → (1 ≤ max v n) × (max v n ≤ 9)
 greater_bounds v n some most low = (omega arith, omega arith)
@@ -38,21 +38,21 @@ greater_entry k v n new low =
     both_true _ _ (both_true _ _ place (le-leb 1 (max v n) value.0)) (le-leb (max v n) 9 value.1)
 
 value_bound : (P : List ((List ℕ × ℕ) × ℕ)) (k : List ℕ × ℕ) → list_all is_entry P ≡ true → value_of P k ≤ 9
-value_bound P k all = by_find (find place_cmp k P) refl
+value_bound P k all = by_find (find dotted_cmp k P) refl
   where
-    by_find : (o : Option ℕ) → find place_cmp k P ≡ o → unwrap_or o 0 ≤ 9
+    by_find : (o : Option ℕ) → find dotted_cmp k P ≡ o → unwrap_or o 0 ≤ 9
     by_find None is = omega arith
-    by_find (Some v) is = leb-true v 9 (and_second _ _ (find_good place_cmp is_entry place_exact k v P is all))
+    by_find (Some v) is = leb-true v 9 (and_second _ _ (find_good dotted_cmp is_entry dotted_exact k v P is all))
 
 -- the entries of a map of patterns stay so
 pub entries_raise : (P : List ((List ℕ × ℕ) × ℕ)) (k : List ℕ × ℕ) (v : ℕ) → list_all is_entry P ≡ true → is_entry (k, v) ≡ true → list_all is_entry (raise P k v) ≡ true
 entries_raise P k v all new =
-    all_put place_cmp is_entry place_exact k (max v (value_of P k)) P (greater_entry k v (value_of P k) new (value_bound P k all)) all
+    all_put dotted_cmp is_entry dotted_exact k (max v (value_of P k)) P (greater_entry k v (value_of P k) new (value_bound P k all)) all
 
 -- the next entry of a map is entered behind those before it
-pub entered_next : (P M N : List ((List ℕ × ℕ) × ℕ)) (i : ℕ) (k : List ℕ × ℕ) (v : ℕ) → IsPatternMap P → M ≡ take i P → slice_get P i ≡ Some (k, v) → N ≡ insert_entry place_cmp M k v → N ≡ take (i + 1) P
+pub entered_next : (P M N : List ((List ℕ × ℕ) × ℕ)) (i : ℕ) (k : List ℕ × ℕ) (v : ℕ) → IsPatternMap P → M ≡ take i P → slice_get P i ≡ Some (k, v) → N ≡ insert_entry dotted_cmp M k v → N ≡ take (i + 1) P
 entered_next P M N i k v map same there entered =
-    entered ∙ ap (λ x. insert_entry place_cmp x k v) same ∙ insert-put place_cmp k v (take i P) ∙ put_next place_cmp place_total k v P i map.sorted there ∙ ap (λ x. take x P) (sym (add-one i))
+    entered ∙ ap (λ x. insert_entry dotted_cmp x k v) same ∙ insert-put dotted_cmp k v (take i P) ∙ put_next dotted_cmp dotted_total k v P i map.sorted there ∙ ap (λ x. take x P) (sym (add-one i))
 
 -- a counted window at a dot that is at most its length, with a level
 pub window_entry : (u : List ℕ) (dot level len : ℕ) → length u ≡ len → list_all is_sign u ≡ true → 1 ≤ len → len ≤ 15 → dot ≤ len → 1 ≤ level → level ≤ 9 → is_entry ((u, dot), level) ≡ true

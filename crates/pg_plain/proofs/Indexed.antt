@@ -6,8 +6,8 @@ use Rattle.std.proofs.Math.Seq.{take-length}
 use Rattle.std.specs.Cmp.Lexicographic.{pointwise, bytes_decides}
 use Rattle.std.specs.List.{starts_with, list_all, list_any}
 use Rattle.pg_plain.specs.Indexes.{slot_of, marked, is_indexed}
-use Rattle.pg_plain.specs.Forces.{greatest, Raises}
-use Rattle.pg_plain.specs.Walks.{is_row, goes_on}
+use Rattle.pg_plain.specs.Greatest.{greatest, RaisesBy}
+use Rattle.pg_plain.specs.Walks.{has_signs_at, goes_on}
 use Rattle.pg_plain.proofs.Bools.{and_first, and_second, both_true, no_test, any_none}
 use Rattle.pg_plain.proofs.Greatest.{greatest-none}
 
@@ -100,19 +100,19 @@ module _ (fronts strings : List Bool) (q : List ℕ) where
   itself : starts_with nat_eq q q ≡ true
   itself = (bytes_decides q (take (length q) q)).1 (sym (take-length q))
 
-  module _ {X : Type 0} (force : (List ℕ × ℕ) × X → ℕ) (i : ℕ) (es : List ((List ℕ × ℕ) × X)) (indexed : list_all (λ e. is_indexed fronts strings e.0.0) es ≡ true) (before : ℕ → ℕ) where
+  module _ {X : Type 0} (number : (List ℕ × ℕ) × X → ℕ) (i : ℕ) (es : List ((List ℕ × ℕ) × X)) (indexed : list_all (λ e. is_indexed fronts strings e.0.0) es ≡ true) (before : ℕ → ℕ) where
     -- no entry is of signs whose slot is not that of a string
-    pub row_no_string : get_or strings (slot_of (length fronts) q) false ≡ false → Raises force (is_row q i) es before before
-    row_no_string absent p inside =
-        max_with_zero (before p) (greatest force (is_row q i p) es)
-        (greatest-none force (λ k. is_indexed fronts strings k.0) (is_row q i p) es indexed
-        (λ k good. no_test (is_row q i p k) (λ row. sym (no_string k.0 absent good) ∙ and_first (pointwise nat_eq k.0 q) (nat_eq (i + k.1) p) row)))
+    pub string_not_there : get_or strings (slot_of (length fronts) q) false ≡ false → RaisesBy number (has_signs_at q i) es before before
+    string_not_there absent p inside =
+        max_with_zero (before p) (greatest number (has_signs_at q i p) es)
+        (greatest-none number (λ k. is_indexed fronts strings k.0) (has_signs_at q i p) es indexed
+        (λ k good. no_test (has_signs_at q i p k) (λ row. sym (no_string k.0 absent good) ∙ and_first (pointwise nat_eq k.0 q) (nat_eq (i + k.1) p) row)))
 
-    pub row_no_front : 0 < length q → get_or fronts (slot_of (length fronts) q) false ≡ false → Raises force (is_row q i) es before before
-    row_no_front some absent p inside =
-        max_with_zero (before p) (greatest force (is_row q i p) es)
-        (greatest-none force (λ k. is_indexed fronts strings k.0) (is_row q i p) es indexed
-        (λ k good. no_test (is_row q i p k) (λ row.
+    pub front_not_there : 0 < length q → get_or fronts (slot_of (length fronts) q) false ≡ false → RaisesBy number (has_signs_at q i) es before before
+    front_not_there some absent p inside =
+        max_with_zero (before p) (greatest number (has_signs_at q i p) es)
+        (greatest-none number (λ k. is_indexed fronts strings k.0) (has_signs_at q i p) es indexed
+        (λ k good. no_test (has_signs_at q i p k) (λ row.
         let is : k.0 ≡ q = (bytes_decides k.0 q).0 (and_first (pointwise nat_eq k.0 q) (nat_eq (i + k.1) p) row) in
         sym (no_front k.0 some absent good) ∙ subst (λ x. starts_with nat_eq x q ≡ true) (sym is) itself)))
 

@@ -2,10 +2,11 @@ pub mod Bools
 pub mod Greatest
 pub mod Orders
 pub mod Maps
-pub mod Rows
+pub mod OneString
 pub mod Indexed
 pub mod Strings
 pub mod Starts
 pub mod Covers
 pub mod Counted
 pub mod Entered
+pub mod Known

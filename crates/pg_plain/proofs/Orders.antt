@@ -10,7 +10,7 @@ use Rattle.std.specs.Ordering.{is_lt, is_le, is_gt, ordering_then, ordering_reve
 use Rattle.std.specs.FinMap.{nat_cmp-IsAntisymmetric, slice_cmp-IsAntisymmetric}
 use Rattle.std.specs.FinMap.Entries.{below_all}
 use Rattle.std.specs.List.{starts_with, list_all}
-use Rattle.pg_patterns.specs.Places.{place_cmp}
+use Rattle.pg_patterns.specs.DottedSigns.{dotted_cmp}
 use Rattle.pg_plain.proofs.Bools.{and_first, and_second, both_true}
 
 pub is_true : (b : Bool) → T b → b ≡ true
@@ -94,7 +94,7 @@ then_upto Equal s low first = first
 then_upto Greater s low first = sym low
 
 -- the places of strings that are not before q do not come before the first dot of q
-pub from_string : (q : List ℕ) (k : List ℕ × ℕ) → is_gt (slice_cmp nat_cmp q k.0) ≡ false → is_le (place_cmp (q, 0) k) ≡ true
+pub from_string : (q : List ℕ) (k : List ℕ × ℕ) → is_gt (slice_cmp nat_cmp q k.0) ≡ false → is_le (dotted_cmp (q, 0) k) ≡ true
 from_string q k low = then_upto (slice_cmp nat_cmp q k.0) (nat_cmp 0 k.1) low (first_dot k.1)
 
 upto_then : (r s : Ordering) → is_le (ordering_then r s) ≡ true → is_gt r ≡ false
@@ -102,7 +102,7 @@ upto_then Less s first = refl
 upto_then Equal s first = refl
 upto_then Greater s first = sym first
 
-pub string_from : (q : List ℕ) (k : List ℕ × ℕ) → is_le (place_cmp (q, 0) k) ≡ true → is_gt (slice_cmp nat_cmp q k.0) ≡ false
+pub string_from : (q : List ℕ) (k : List ℕ × ℕ) → is_le (dotted_cmp (q, 0) k) ≡ true → is_gt (slice_cmp nat_cmp q k.0) ≡ false
 string_from q k first = upto_then (slice_cmp nat_cmp q k.0) (nat_cmp 0 k.1) first
 
 less_upto : (r s : Ordering) → is_lt (ordering_then r s) ≡ true → not (is_gt r) ≡ true
@@ -111,7 +111,7 @@ less_upto Equal s less = refl
 less_upto Greater s less = less
 
 -- later entries are not of strings before that of an entry
-pub behind : {X : Type 0} (e : (List ℕ × ℕ) × X) (es : List ((List ℕ × ℕ) × X)) → T (below_all place_cmp e.0 es) → list_all (λ y. not (is_gt (slice_cmp nat_cmp e.0.0 y.0.0))) es ≡ true
+pub behind : {X : Type 0} (e : (List ℕ × ℕ) × X) (es : List ((List ℕ × ℕ) × X)) → T (below_all dotted_cmp e.0 es) → list_all (λ y. not (is_gt (slice_cmp nat_cmp e.0.0 y.0.0))) es ≡ true
 behind e [] below = refl
 behind e (y ∷ es) below =
     both_true _ _ (less_upto (slice_cmp nat_cmp e.0.0 y.0.0) (nat_cmp e.0.1 y.0.1) (is_true _ (first_half _ _ below))) (behind e es (second_half _ _ below))

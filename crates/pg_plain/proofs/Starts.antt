@@ -1,47 +1,45 @@
--- The entries of a word, taken in from string to string and from place to place.
+-- The entries of a word, met from string to string and from place to place.
 use Rattle.std.proofs.Common.{◌≡◌, ℕ, ◌+◌, ◌-◌, ◌<◌, ◌≤◌, Bool, true, false, not, List, length, take, drop, ap, subst, ◌∙◌, arith}
 use Rattle.std.specs.List.{list_all, list_any}
 use Rattle.pg_patterns.specs.Values.{applies}
 use Rattle.pg_select.specs.Positions.{Positions}
-use Rattle.pg_plain.specs.Forces.{Raises, IsRoomy, values_of, covers_of}
+use Rattle.pg_select.specs.Positions.{values_of, covers_of}
+use Rattle.pg_plain.specs.Greatest.{RaisesBy}
 use Rattle.pg_plain.specs.Strings.{is_string}
-use Rattle.pg_plain.specs.Walks.{is_row, goes_on, begins, longer, later}
+use Rattle.pg_plain.specs.Walks.{has_signs_at, goes_on, begins, longer, later}
 use Rattle.pg_plain.proofs.Bools.{not_false, all_not}
 use Rattle.pg_plain.proofs.Greatest.{Level, level_step, level_end, level_start}
 use Rattle.pg_plain.proofs.Strings.{longer_step, longer_first, longer_last, longer_out, longer_stops, later_step, later_first, later_last}
 
--- the entries whose places pass the tests are taken in, beside those that are left
+-- the entries whose places pass the tests were met, beside those that are left
 pub record Left {X : Type 0} (value cover : (List ℕ × ℕ) × X → ℕ) (left all : ℕ → List ℕ × ℕ → Bool) (es : List ((List ℕ × ℕ) × X)) (before now : Positions) : Type 0 where
   pub values : Level value (values_of now) left es (values_of before) all es
   pub covers : Level cover (covers_of now) left es (covers_of before) all es
-  pub roomy : IsRoomy now
 
 -- all of them are
 pub record Done {X : Type 0} (value cover : (List ℕ × ℕ) × X → ℕ) (all : ℕ → List ℕ × ℕ → Bool) (es : List ((List ℕ × ℕ) × X)) (before now : Positions) : Type 0 where
-  pub values : Raises value all es (values_of before) (values_of now)
-  pub covers : Raises cover all es (covers_of before) (covers_of now)
+  pub values : RaisesBy value all es (values_of before) (values_of now)
+  pub covers : RaisesBy cover all es (covers_of before) (covers_of now)
 
 cut_is : (w : List ℕ) (i n : ℕ) → take ((i + n) - i) (drop i w) ≡ take n (drop i w)
 cut_is w i n = let same : (i + n) - i ≡ n = omega arith in ap (λ x. take x (drop i w)) same
 
 module _ {X : Type 0} (value cover : (List ℕ × ℕ) × X → ℕ) (w : List ℕ) (es : List ((List ℕ × ℕ) × X)) (strings : list_all (λ e. is_string e.0) es ≡ true) where
-  pub start_begins : (i : ℕ) (before : Positions) → IsRoomy before → Left value cover (longer w i 1) (begins w i) es before before
-  start_begins i before roomy = record {
+  pub start_begins : (i : ℕ) (before : Positions) → Left value cover (longer w i 1) (begins w i) es before before
+  start_begins i before = record {
     values = level_start value is_string (longer w i 1) (begins w i) es (values_of before) strings (longer_first w i);
     covers = level_start cover is_string (longer w i 1) (begins w i) es (covers_of before) strings (longer_first w i);
-    roomy = roomy;
   }
 
   pub start_steps : (i n : ℕ) (q : List ℕ) (before now new : Positions) → i + n ≤ length w → q ≡ take ((i + n) - i) (drop i w) → Left value cover (longer w i n) (begins w i) es before now
-      → Raises value (is_row q i) es (values_of now) (values_of new) → Raises cover (is_row q i) es (covers_of now) (covers_of new) → IsRoomy new → Left value cover (longer w i (n + 1)) (begins w i) es before new
-  start_steps i n q before now new inside cut left raised covered roomy =
+      → RaisesBy value (has_signs_at q i) es (values_of now) (values_of new) → RaisesBy cover (has_signs_at q i) es (covers_of now) (covers_of new) → Left value cover (longer w i (n + 1)) (begins w i) es before new
+  start_steps i n q before now new inside cut left raised covered =
       let is : q ≡ take n (drop i w) = cut ∙ cut_is w i n in
       record {
-        values = level_step value is_string (longer w i n) (is_row (take n (drop i w)) i) (longer w i (n + 1)) (begins w i) es es (values_of now) (values_of new) (values_of before) strings
-            (λ p k string. longer_step w i n inside p k) left.values (subst (λ x. Raises value (is_row x i) es (values_of now) (values_of new)) is raised);
-        covers = level_step cover is_string (longer w i n) (is_row (take n (drop i w)) i) (longer w i (n + 1)) (begins w i) es es (covers_of now) (covers_of new) (covers_of before) strings
-            (λ p k string. longer_step w i n inside p k) left.covers (subst (λ x. Raises cover (is_row x i) es (covers_of now) (covers_of new)) is covered);
-        roomy = roomy;
+        values = level_step value is_string (longer w i n) (has_signs_at (take n (drop i w)) i) (longer w i (n + 1)) (begins w i) es es (values_of now) (values_of new) (values_of before) strings
+            (λ p k string. longer_step w i n inside p k) left.values (subst (λ x. RaisesBy value (has_signs_at x i) es (values_of now) (values_of new)) is raised);
+        covers = level_step cover is_string (longer w i n) (has_signs_at (take n (drop i w)) i) (longer w i (n + 1)) (begins w i) es es (covers_of now) (covers_of new) (covers_of before) strings
+            (λ p k string. longer_step w i n inside p k) left.covers (subst (λ x. RaisesBy cover (has_signs_at x i) es (covers_of now) (covers_of new)) is covered);
       }
 
   -- the next string would reach over the end of the word
@@ -68,19 +66,17 @@ module _ {X : Type 0} (value cover : (List ℕ × ℕ) × X → ℕ) (w : List �
     covers = level_end cover is_string (longer w i 33) (begins w i) es es (covers_of now) (covers_of before) strings (longer_last w i) left.covers;
   }
 
-  pub walk_begins : (before : Positions) → IsRoomy before → Left value cover (later w 0) (applies w) es before before
-  walk_begins before roomy = record {
+  pub walk_begins : (before : Positions) → Left value cover (later w 0) (applies w) es before before
+  walk_begins before = record {
     values = level_start value is_string (later w 0) (applies w) es (values_of before) strings (λ p k string. later_first w p k);
     covers = level_start cover is_string (later w 0) (applies w) es (covers_of before) strings (λ p k string. later_first w p k);
-    roomy = roomy;
   }
 
   pub walk_steps : (i : ℕ) (before now new : Positions) → Left value cover (later w i) (applies w) es before now
-      → Raises value (begins w i) es (values_of now) (values_of new) → Raises cover (begins w i) es (covers_of now) (covers_of new) → IsRoomy new → Left value cover (later w (i + 1)) (applies w) es before new
-  walk_steps i before now new left raised covered roomy = record {
+      → RaisesBy value (begins w i) es (values_of now) (values_of new) → RaisesBy cover (begins w i) es (covers_of now) (covers_of new) → Left value cover (later w (i + 1)) (applies w) es before new
+  walk_steps i before now new left raised covered = record {
     values = level_step value is_string (later w i) (begins w i) (later w (i + 1)) (applies w) es es (values_of now) (values_of new) (values_of before) strings (λ p k string. later_step w i p k) left.values raised;
     covers = level_step cover is_string (later w i) (begins w i) (later w (i + 1)) (applies w) es es (covers_of now) (covers_of new) (covers_of before) strings (λ p k string. later_step w i p k) left.covers covered;
-    roomy = roomy;
   }
 
   pub walk_ends : (before now : Positions) → Left value cover (later w (length w)) (applies w) es before now → Done value cover (applies w) es before now

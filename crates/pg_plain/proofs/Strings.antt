@@ -6,7 +6,7 @@ use Rattle.std.specs.Cmp.Lexicographic.{pointwise, bytes_decides}
 use Rattle.std.specs.List.{starts_with}
 use Rattle.pg_patterns.specs.Values.{stands_at, applies}
 use Rattle.pg_plain.specs.Strings.{is_string}
-use Rattle.pg_plain.specs.Walks.{is_row, goes_on, begins, longer, later}
+use Rattle.pg_plain.specs.Walks.{has_signs_at, goes_on, begins, longer, later}
 use Rattle.pg_plain.proofs.Bools.{and_first, and_second, both_true, same_tests, no_test, not_true, either_left, either_right}
 
 -- what it means that k begins in w at i, with its dot at p
@@ -36,27 +36,27 @@ cut_len : (w : List ℕ) (i n : ℕ) → i + n ≤ length w → length (take n (
 cut_len w i n inside = length-take-le n (drop i w) (left_len w i n inside)
 
 -- a string of at least n signs has n signs, or more
-pub longer_step : (w : List ℕ) (i n : ℕ) → i + n ≤ length w → (p : ℕ) (k : List ℕ × ℕ) → longer w i n p k ≡ (is_row (take n (drop i w)) i p k || longer w i (n + 1) p k)
+pub longer_step : (w : List ℕ) (i n : ℕ) → i + n ≤ length w → (p : ℕ) (k : List ℕ × ℕ) → longer w i n p k ≡ (has_signs_at (take n (drop i w)) i p k || longer w i (n + 1) p k)
 longer_step w i n inside p k = same_tests _ _ cut joined
   where
-    cut : longer w i n p k ≡ true → (is_row (take n (drop i w)) i p k || longer w i (n + 1) p k) ≡ true
+    cut : longer w i n p k ≡ true → (has_signs_at (take n (drop i w)) i p k || longer w i (n + 1) p k) ≡ true
     cut h =
         let starts : begins w i p k ≡ true = and_first (begins w i p k) (nat_le n (length k.0)) h in
         let parts : Begins w i p k = begins_parts w i p k starts in
         let size : n ≤ length k.0 = leb-true n (length k.0) (and_second (begins w i p k) (nat_le n (length k.0)) h) in
         let dot : i + k.1 ≡ p = parts.dot in
         ⊎_elim
-        (λ (more : n < length k.0). either_right (is_row (take n (drop i w)) i p k) (longer w i (n + 1) p k) (both_true (begins w i p k) (nat_le (n + 1) (length k.0)) starts (le-leb (n + 1) (length k.0) (omega arith))))
+        (λ (more : n < length k.0). either_right (has_signs_at (take n (drop i w)) i p k) (longer w i (n + 1) p k) (both_true (begins w i p k) (nat_le (n + 1) (length k.0)) starts (le-leb (n + 1) (length k.0) (omega arith))))
         (λ (most : length k.0 ≤ n).
         let same : length k.0 ≡ n = omega arith in
         let signs : k.0 ≡ take n (drop i w) = subst (λ x. k.0 ≡ take x (drop i w)) same parts.signs in
-        either_left (is_row (take n (drop i w)) i p k) (longer w i (n + 1) p k) (both_true (pointwise nat_eq k.0 (take n (drop i w))) (nat_eq (i + k.1) p) ((bytes_decides k.0 (take n (drop i w))).1 signs) (eq-eqb (i + k.1) p dot)))
+        either_left (has_signs_at (take n (drop i w)) i p k) (longer w i (n + 1) p k) (both_true (pointwise nat_eq k.0 (take n (drop i w))) (nat_eq (i + k.1) p) ((bytes_decides k.0 (take n (drop i w))).1 signs) (eq-eqb (i + k.1) p dot)))
         (cases_lt n (length k.0))
 
-    joined : (is_row (take n (drop i w)) i p k || longer w i (n + 1) p k) ≡ true → longer w i n p k ≡ true
+    joined : (has_signs_at (take n (drop i w)) i p k || longer w i (n + 1) p k) ≡ true → longer w i n p k ≡ true
     joined h =
         ⊎_elim
-        (λ (row : is_row (take n (drop i w)) i p k ≡ true).
+        (λ (row : has_signs_at (take n (drop i w)) i p k ≡ true).
         let signs : k.0 ≡ take n (drop i w) = (bytes_decides k.0 (take n (drop i w))).0 (and_first (pointwise nat_eq k.0 (take n (drop i w))) (nat_eq (i + k.1) p) row) in
         let size : length k.0 ≡ n = ap (λ x. length x) signs ∙ cut_len w i n inside in
         let starts : begins w i p k ≡ true = begins_from w i p k (record {
@@ -68,7 +68,7 @@ longer_step w i n inside p k = same_tests _ _ cut joined
         (λ (more : longer w i (n + 1) p k ≡ true).
         let size : n + 1 ≤ length k.0 = leb-true (n + 1) (length k.0) (and_second (begins w i p k) (nat_le (n + 1) (length k.0)) more) in
         both_true (begins w i p k) (nat_le n (length k.0)) (and_first (begins w i p k) (nat_le (n + 1) (length k.0)) more) (le-leb n (length k.0) (omega arith)))
-        (or_cases (is_row (take n (drop i w)) i p k) (longer w i (n + 1) p k) h)
+        (or_cases (has_signs_at (take n (drop i w)) i p k) (longer w i (n + 1) p k) h)
 
 -- each string has at least one sign
 pub longer_first : (w : List ℕ) (i p : ℕ) (k : List ℕ × ℕ) → is_string k ≡ true → longer w i 1 p k ≡ begins w i p k

@@ -1,5 +1,5 @@
 -- What a plain engine means.
-use Rattle.std.specs.Prelude.{ℕ, true, List, [], None}
+use Rattle.std.specs.Prelude.{true, None}
 use Rattle.pg_select.specs.Meanings.{Meaning}
 use Rattle.pg_plain.specs.declared.engine.PlainEngine.{PlainEngine}
 
@@ -10,21 +10,8 @@ meaning_of e = record {
   patterns = e.patterns.entries;
   hopeless = e.hopeless.entries;
   counts = e.counts.entries;
-  pass = record { level = e.pass.level; len = e.pass.len; dot = e.pass.dot };
+  pass = e.pass;
   families = None;
   begun = e.begun;
-  tidy = true;
-}
-
--- an engine that was just made: it has these patterns, and nothing is hopeless or counted
-abbrev pub fresh : ℕ → List ((List ℕ × ℕ) × ℕ) → Meaning
-fresh signs P = record {
-  signs = signs;
-  patterns = P;
-  hopeless = [];
-  counts = [];
-  pass = record { level = 1; len = 1; dot = 0 };
-  families = None;
-  begun = 0;
   tidy = true;
 }

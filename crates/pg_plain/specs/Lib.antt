@@ -1,5 +1,5 @@
 pub mod Strings
 pub mod Indexes
-pub mod Forces
+pub mod Greatest
 pub mod Walks
 pub mod Engines

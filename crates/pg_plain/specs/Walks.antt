@@ -5,8 +5,8 @@ use Rattle.std.specs.Cmp.Lexicographic.{pointwise}
 use Rattle.pg_patterns.specs.Values.{stands_at, applies}
 
 -- the signs of k are q, which stand in a word from i on, and its dot is at position p
-abbrev pub is_row : List ℕ → ℕ → ℕ → List ℕ × ℕ → Bool
-is_row q i p k = pointwise nat_eq k.0 q && nat_eq (i + k.1) p
+abbrev pub has_signs_at : List ℕ → ℕ → ℕ → List ℕ × ℕ → Bool
+has_signs_at q i p k = pointwise nat_eq k.0 q && nat_eq (i + k.1) p
 
 -- the string r begins with q and is longer
 abbrev pub goes_on : List ℕ → List ℕ → Bool

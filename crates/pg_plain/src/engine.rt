@@ -3,17 +3,16 @@ ghost use Rattle.std.specs.Prelude.{◌≡◌, ℕ, ◌≤◌, true, nat_eq, len
 ghost use Rattle.std.specs.List.{list_all};
 ghost use Rattle.pg_types.specs.declared.limits.TheConstants.{LEVEL_MAX, LENGTH_MAX};
 ghost use Rattle.pg_patterns.specs.Values.{is_entry};
-ghost use Rattle.pg_plain.specs.Indexes.{is_indexed};
-ghost use Rattle.pg_plain.specs.Strings.{is_string};
+ghost use Rattle.pg_plain.specs.Indexes.{AreIndexed};
+ghost use Rattle.pg_plain.specs.Strings.{is_string, has_signs_up_to};
 
 use crate::counts::{add, next_behind};
 use crate::index::Index;
-use crate::pass::Pass;
 use crate::places::{map_of, put_in, raise_in, set_of};
 use crate::walk::walk;
 use pg_dict::WordRef;
-use pg_patterns::{PatternSet, Place};
-use pg_select::{Engine, WordState};
+use pg_patterns::{PatternSet, DottedSigns};
+use pg_select::{Engine, Pass, WordState};
 use pg_types::{Cursor, Layout, Sign, Weight};
 use std::alloc::{AllocError, Global};
 use std::collections::BTreeMap;
@@ -32,17 +31,20 @@ const HOPELESS_SLOTS: usize = 524_288;
 #[derive(Drop)]
 pub struct PlainEngine {
     signs: u16,
-    patterns: BTreeMap<Place, u8>,
+    patterns: BTreeMap<DottedSigns, u8>,
     pattern_index: Index,
-    hopeless: BTreeMap<Place, ()>,
+    hopeless: BTreeMap<DottedSigns, ()>,
     hopeless_index: Index,
     counts: BTreeMap<Cursor, (u64, u64)>,
     pass: Pass,
     begun: u64,
     ghost entries: { list_all is_entry patterns.entries ≡ true },
     ghost strings: { list_all (λ e. is_string e.0) hopeless.entries ≡ true },
-    ghost indexed: { list_all (λ e. is_indexed pattern_index.fronts.items pattern_index.strings.items e.0.0) patterns.entries ≡ true },
-    ghost hopeless_indexed: { list_all (λ e. is_indexed hopeless_index.fronts.items hopeless_index.strings.items e.0.0) hopeless.entries ≡ true },
+    ghost indexed: { AreIndexed pattern_index.fronts.items pattern_index.strings.items patterns.entries },
+    ghost hopeless_indexed: { AreIndexed hopeless_index.fronts.items hopeless_index.strings.items hopeless.entries },
+    ghost known: { list_all (λ e. has_signs_up_to signs e.0.0) patterns.entries ≡ true },
+    ghost hopeless_known: { list_all (λ e. has_signs_up_to signs e.0.0) hopeless.entries ≡ true },
+    ghost counts_known: { list_all (λ e. has_signs_up_to signs e.0) counts.entries ≡ true },
     ghost windows: { list_all (λ e. nat_eq (length e.0) pass.len) counts.entries ≡ true },
     ghost level: { (1 ≤ pass.level) × (pass.level ≤ LEVEL_MAX) },
     ghost len: { (1 ≤ pass.len) × (pass.len ≤ LENGTH_MAX) },
@@ -51,12 +53,15 @@ pub struct PlainEngine {
 
 impl PlainEngine {
     ghost use Rattle.std.specs.Prelude.{◌≡◌, IfOk};
-    ghost use Rattle.pg_plain.specs.Engines.{meaning_of, fresh};
+    ghost use Rattle.pg_patterns.specs.Values.{SignsUpTo};
+    ghost use Rattle.pg_select.specs.Meanings.{new_engine};
+    ghost use Rattle.pg_plain.specs.Engines.{meaning_of};
 
     /// An engine with the greatest sign `signs` whose patterns are those of `start`. Nothing is hopeless or counted, no pass
     /// was begun, and the engine is tidy.
     pub fn new(alloc: Global, signs: u16, start: &PatternSet) -> Result<PlainEngine, AllocError>
-        ensures { IfOk result (λ engine. meaning_of engine ≡ fresh signs start.now) }
+        requires { SignsUpTo signs start.now }
+        ensures { IfOk result (λ engine. meaning_of engine ≡ new_engine signs start.now None) }
     {
         let mut pattern_index = Index::new(alloc, PATTERN_SLOTS)?;
         let patterns = map_of(alloc, start, &mut pattern_index)?;
@@ -82,6 +87,12 @@ impl Engine for PlainEngine {
     ghost use Rattle.pg_plain.specs.Engines.{meaning_of};
 
     ghost meaning = { meaning_of };
+
+    fn kept(&self) {
+        let _patterns = self.patterns.len();
+        let _hopeless = self.hopeless.len();
+        let _counts = self.counts.len();
+    }
 
     fn begin_pass(&mut self, level: u8, len: u8, dot: u8) {
         self.counts.clear();
@@ -114,13 +125,19 @@ impl Engine for PlainEngine {
         Ok(())
     }
 
+    fn sums(&self, window: &[Sign]) -> Option<(u64, u64)> {
+        let mut at = Cursor::start();
+        at.set(window);
+        self.counts.get(&at).copied()
+    }
+
     fn next_candidate(&self, at: &mut Cursor) -> Option<(u64, u64)> {
         next_behind(&self.counts, at)
     }
 
     fn choose(&mut self, at: &Cursor) -> Result<(), AllocError> {
         let signs = at.signs();
-        let place = Place::new(signs, self.pass.dot);
+        let place = DottedSigns::new(signs, self.pass.dot);
         self.pattern_index.enter(signs);
         raise_in(&mut self.patterns, place, self.pass.level)?;
         Ok(())
@@ -128,7 +145,7 @@ impl Engine for PlainEngine {
 
     fn give_up(&mut self, at: &Cursor) -> Result<(), AllocError> {
         let signs = at.signs();
-        let place = Place::new(signs, self.pass.dot);
+        let place = DottedSigns::new(signs, self.pass.dot);
         self.hopeless_index.enter(signs);
         put_in(&mut self.hopeless, place)?;
         Ok(())

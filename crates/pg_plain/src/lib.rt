@@ -3,9 +3,8 @@
 
 mod counts;
 pub mod engine;
-mod force;
 mod index;
-mod pass;
+mod place_entry;
 mod places;
 #[cfg(test)]
 mod tests;

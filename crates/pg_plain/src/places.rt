@@ -2,17 +2,17 @@
 ghost use Rattle.std.specs.Prelude.{◌≡◌, ℕ, Bool, true, List, OnOk, OnErr, IfOk};
 ghost use Rattle.std.specs.List.{list_all};
 ghost use Rattle.std.specs.FinMap.Entries.{put};
-ghost use Rattle.pg_patterns.specs.Places.{place_cmp};
+ghost use Rattle.pg_patterns.specs.DottedSigns.{dotted_cmp};
 ghost use Rattle.pg_patterns.specs.Values.{raise, value_of, is_entry};
-ghost use Rattle.pg_plain.specs.Indexes.{is_indexed};
+ghost use Rattle.pg_plain.specs.Indexes.{AreIndexed};
 
 use crate::index::Index;
-use pg_patterns::{Entry, PatternSet, Place};
+use pg_patterns::{Entry, PatternSet, DottedSigns};
 use std::alloc::{AllocError, Global};
 use std::collections::BTreeMap;
 
 /// The value of a place, 0 where it has none.
-fn value_at(map: &BTreeMap<Place, u8>, place: &Place) -> u8
+fn value_at(map: &BTreeMap<DottedSigns, u8>, place: &DottedSigns) -> u8
     ensures { result ≡ value_of map.now.entries place.now }
 {
     match map.get(place) {
@@ -21,12 +21,14 @@ fn value_at(map: &BTreeMap<Place, u8>, place: &Place) -> u8
     }
 }
 
-/// Raises the value of `place` to `value`.
-pub fn raise_in(map: &mut BTreeMap<Place, u8>, place: Place, value: u8) -> Result<(), AllocError>
+/// RaisesBy the value of `place` to `value`.
+pub fn raise_in(map: &mut BTreeMap<DottedSigns, u8>, place: DottedSigns, value: u8) -> Result<(), AllocError>
     ensures ok { OnOk result (map.new.entries ≡ raise map.old.entries place value) }
     ensures err { OnErr result (map.new.entries ≡ map.old.entries) }
-    ensures kept { list_all is_entry map.old.entries ≡ true → is_entry (place, value) ≡ true → list_all is_entry map.new.entries ≡ true }
-    ensures places { (good : List ℕ × ℕ → Bool) → list_all (λ e. good e.0) map.old.entries ≡ true → good place ≡ true → list_all (λ e. good e.0) map.new.entries ≡ true }
+    ensures kept { list_all is_entry map.old.entries ≡ true → is_entry (place, value) ≡ true
+        → list_all is_entry map.new.entries ≡ true }
+    ensures places { (good : List ℕ × ℕ → Bool) → list_all (λ e. good e.0) map.old.entries ≡ true → good place
+        ≡ true → list_all (λ e. good e.0) map.new.entries ≡ true }
 {
     let held = value_at(map, &place);
     map.insert(place, value.max(held))?;
@@ -34,10 +36,11 @@ pub fn raise_in(map: &mut BTreeMap<Place, u8>, place: Place, value: u8) -> Resul
 }
 
 /// Puts `place` into a set.
-pub fn put_in(set: &mut BTreeMap<Place, ()>, place: Place) -> Result<(), AllocError>
-    ensures ok { OnOk result (set.new.entries ≡ put place_cmp place (tt {0}) set.old.entries) }
+pub fn put_in(set: &mut BTreeMap<DottedSigns, ()>, place: DottedSigns) -> Result<(), AllocError>
+    ensures ok { OnOk result (set.new.entries ≡ put dotted_cmp place (tt {0}) set.old.entries) }
     ensures err { OnErr result (set.new.entries ≡ set.old.entries) }
-    ensures places { (good : List ℕ × ℕ → Bool) → list_all (λ e. good e.0) set.old.entries ≡ true → good place ≡ true → list_all (λ e. good e.0) set.new.entries ≡ true }
+    ensures places { (good : List ℕ × ℕ → Bool) → list_all (λ e. good e.0) set.old.entries ≡ true → good place
+        ≡ true → list_all (λ e. good e.0) set.new.entries ≡ true }
 {
     set.insert(place, ())?;
     Ok(())
@@ -48,28 +51,28 @@ pub fn map_of(
     alloc: Global,
     patterns: &PatternSet,
     index: &mut Index,
-) -> Result<BTreeMap<Place, u8>, AllocError>
+) -> Result<BTreeMap<DottedSigns, u8>, AllocError>
     ensures value { IfOk result (λ map. map.entries ≡ patterns.now) }
     ensures sound { IfOk result (λ map. list_all is_entry map.entries ≡ true) }
-    ensures indexed { IfOk result (λ map. list_all (λ e. is_indexed index.new.fronts.items index.new.strings.items e.0.0) map.entries ≡ true) }
+    ensures indexed { IfOk result (λ map. AreIndexed index.new.fronts.items index.new.strings.items map.entries) }
 {
     let mut map = BTreeMap::new(alloc);
     for i in 0..patterns.len() {
         let Entry { signs, dot, value } = patterns.entry(i);
         index.enter(signs);
-        map.insert(Place::new(signs, dot), value)?;
+        map.insert(DottedSigns::new(signs, dot), value)?;
     }
     Ok(map)
 }
 
 /// The set of the patterns of a map. It takes O(n), as the entries stand in order.
-pub fn set_of(alloc: Global, map: &BTreeMap<Place, u8>) -> Result<PatternSet, AllocError>
+pub fn set_of(alloc: Global, map: &BTreeMap<DottedSigns, u8>) -> Result<PatternSet, AllocError>
     requires { list_all is_entry map.now.entries ≡ true }
     ensures { IfOk result (λ patterns. patterns ≡ map.now.entries) }
 {
     let mut entries = Vec::new(alloc);
     for (place, value) in map.iter() {
-        entries.push((Place::new(place.signs(), place.dot()), *value))?;
+        entries.push((DottedSigns::new(place.signs(), place.dot()), *value))?;
     }
     Ok(PatternSet::from_entries(entries))
 }

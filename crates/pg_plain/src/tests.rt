@@ -1,144 +1,96 @@
-//! What the engine gives on small words, whose signs are the edge 1, a 2, b 3 and c 4.
-ghost use Rattle.std.specs.Prelude.{◌≡◌, ℕ, ◌+◌, ◌<◌, ◌≤◌, List, length};
-ghost use Rattle.pg_select.specs.Meanings.{sums_of};
+//! A pass over a small start. The signs are the edge 1, a 2, b 3 and c 4.
+ghost use Rattle.std.specs.Prelude.{◌≡◌, ◌≤◌, [], ◌∷◌, IfOk, OnOk};
 
 use crate::PlainEngine;
 use pg_dict::WordRef;
 use pg_patterns::PatternSet;
 use pg_select::{Engine, WordState};
-use pg_types::{Cursor, Sign};
+use pg_types::Cursor;
 use std::alloc::{AllocError, Global};
 use std::test::Fail;
 
-/// Raises the value at a dot of a pattern of two signs.
-fn raise(
-    set: &mut PatternSet,
-    first: Sign,
-    second: Sign,
-    dot: u8,
-    value: u8,
-) -> Result<(), AllocError>
-    requires first { 1 ≤ first }
-    requires second { 1 ≤ second }
-    requires dot { dot ≤ 2 }
-    requires value { (1 ≤ value) × (value ≤ 9) }
+/// The patterns `1a2b` and `c2b`.
+fn start(alloc: Global) -> Result<PatternSet, AllocError>
+    ensures { IfOk result (λ set. set ≡ ((2 ∷ 3 ∷ [], 0), 1) ∷ ((2 ∷ 3 ∷ [], 1), 2) ∷ ((4 ∷ 3 ∷ [], 1), 2) ∷ []) }
 {
-    set.raise(&[first, second], dot, value)
+    let mut set = PatternSet::empty(alloc);
+    set.raise(&[4, 3], 1, 2)?;
+    set.raise(&[2, 3], 1, 2)?;
+    set.raise(&[2, 3], 0, 1)?;
+    Ok(set)
 }
 
-/// The values of the positions 2 and 3 of the word `ab-a`.
-fn values<E: Engine>(e: &E) -> (u8, u8)
+/// The values of the positions 1 to 3 of the word `aba`, and whether the window at position 3 is covered.
+fn values<E: Engine>(e: &E) -> ([u8; 3], bool)
     requires { (E.meaning e.now).signs ≡ 4 }
 {
     let word = WordRef {
         signs: &[1, 2, 3, 2, 1],
-        hyphens: &[false, false, false, true, false],
-        weights: &[1, 1, 1, 1, 1],
+        hyphens: &[false; 5],
+        weights: &[1; 5],
         weight: 1,
-        cares: &[true, true, true, true, true],
+        cares: &[true; 5],
     };
     let mut state = WordState::new();
     e.hyphenate(word, &mut state);
-    (state.value(2), state.value(3))
+    let values = [state.value(1), state.value(2), state.value(3)];
+    (values, state.covered(3))
 }
 
-/// Counts a window of two signs once.
-fn see<E: Engine>(e: &mut E, first: Sign, second: Sign, good: bool) -> Result<(), Fail>
+/// Counts the window `ba` as good and `ab` as bad.
+fn count<E: Engine>(e: &mut E) -> Result<(), AllocError>
     requires signs { (E.meaning e.old).signs ≡ 4 }
     requires len { (E.meaning e.old).pass.len ≡ 2 }
-    requires room { (u : List ℕ) → ((sums_of (E.meaning e.old).counts u).0 ≤ 1000) × ((sums_of (E.meaning e.old).counts u).1 ≤ 1000) }
-    ensures signs { (E.meaning e.new).signs ≡ 4 }
-    ensures begun { (E.meaning e.new).begun ≡ (E.meaning e.old).begun }
-    ensures len { (E.meaning e.new).pass.len ≡ 2 }
-    ensures room { (n : ℕ) → ((u : List ℕ) → ((sums_of (E.meaning e.old).counts u).0 ≤ n) × ((sums_of (E.meaning e.old).counts u).1 ≤ n)) → (u : List ℕ) → ((sums_of (E.meaning e.new).counts u).0 ≤ n + 1) × ((sums_of (E.meaning e.new).counts u).1 ≤ n + 1) }
+    requires none { (E.meaning e.old).counts ≡ [] }
+    ensures { OnOk result (E.meaning e.new
+        ≡ record (E.meaning e.old) { counts = (2 ∷ 3 ∷ [], (0, 1)) ∷ (3 ∷ 2 ∷ [], (1, 0)) ∷ [] }) }
 {
-    if first < 1 || 4 < first || second < 1 || 4 < second {
-        return Err(Fail::new("a sign of a, b and c"));
-    }
-    e.count(&[first, second], good, 1)?;
-    Ok(())
+    e.count(&[3, 2], true, 1)?;
+    e.count(&[2, 3], false, 1)
 }
 
-/// The windows that are counted, in their order, with their sums.
-fn candidates<E: Engine>(alloc: Global, e: &E) -> Result<Vec<(Sign, Sign, u64, u64)>, Fail> {
-    let mut found = Vec::new(alloc);
+/// Chooses the window `ba` and gives up `ab`.
+fn choose_and_give_up<E: Engine>(e: &mut E) -> Result<(), AllocError>
+    requires { (E.meaning e.old).counts ≡ (2 ∷ 3 ∷ [], (0, 1)) ∷ (3 ∷ 2 ∷ [], (1, 0)) ∷ [] }
+    ensures { (E.meaning e.new).signs ≡ (E.meaning e.old).signs }
+{
     let mut at = Cursor::start();
-    for _ in 0..9 {
-        let Some((good, bad)) = e.next_candidate(&mut at) else {
-            break;
-        };
-        let [first, second] = at.signs() else {
-            return Err(Fail::new("a window of two signs"));
-        };
-        found.push((*first, *second, good, bad))?;
-    }
-    Ok(found)
+    at.set(&[3, 2]);
+    e.choose(&at)?;
+    at.set(&[2, 3]);
+    e.give_up(&at)
 }
 
-/// The windows that are counted in a pass of level 1 that sees these windows, good or bad.
-fn pass<E: Engine>(
-    alloc: Global,
-    e: &mut E,
-    dot: u8,
-    seen: &[(Sign, Sign, bool)],
-) -> Result<Vec<(Sign, Sign, u64, u64)>, Fail>
-    requires signs { (E.meaning e.old).signs ≡ 4 }
-    requires begun { (E.meaning e.old).begun < 9 }
-    requires dot { dot ≤ 2 }
-    requires few { length seen.now < 100 }
-    ensures signs { (E.meaning e.new).signs ≡ 4 }
-    ensures begun { (E.meaning e.new).begun ≡ (E.meaning e.old).begun + 1 }
+/// The sums of the windows `ba` and `bb`.
+fn sums<E: Engine>(e: &E) -> (Option<(u64, u64)>, Option<(u64, u64)>)
+    requires signs { (E.meaning e.now).signs ≡ 4 }
+    requires len { (E.meaning e.now).pass.len ≡ 2 }
 {
-    e.begin_pass(1, 2, dot);
-    for window in seen {
-        see(e, window.0, window.1, window.2)?;
-    }
-    candidates(alloc, e)
+    (e.sums(&[3, 2]), e.sums(&[3, 3]))
+}
+
+/// The least window that is counted, with its sums.
+fn first_candidate<E: Engine>(e: &E) -> (Cursor, Option<(u64, u64)>) {
+    let mut at = Cursor::start();
+    let sums = e.next_candidate(&mut at);
+    (at, sums)
 }
 
 #[test]
-fn the_same_values_from_both_engines(rt: HostRuntime) -> Result<(), Fail> {
-    let mut start = PatternSet::empty(rt.alloc());
-    raise(&mut start, 3, 4, 1, 1)?;
-    raise(&mut start, 2, 3, 1, 2)?;
-    raise(&mut start, 2, 3, 1, 1)?;
-    raise(&mut start, 1, 2, 2, 1)?;
-    let engine = PlainEngine::new(rt.alloc(), 4, &start)?;
-    assert_eq!(rt; values(&engine), (2, 0));
-    assert_eq!(rt; engine.copy_patterns(rt.alloc())?.len(), 3);
-    Ok(())
-}
-
-#[test]
-fn one_pattern_of_three_passes(rt: HostRuntime) -> Result<(), Fail> {
-    let mut engine = PlainEngine::new(rt.alloc(), 4, &PatternSet::empty(rt.alloc()))?;
-    let first = pass(
-        rt.alloc(),
-        &mut engine,
-        1,
-        &[(2, 3, false), (3, 4, true), (2, 3, false), (3, 2, true)],
-    )?;
-    assert_eq!(rt;
-        first.as_slice(),
-        [(2, 3, 0, 2), (3, 2, 1, 0), (3, 4, 1, 0)].as_slice()
-    );
-    let second = pass(
-        rt.alloc(),
-        &mut engine,
-        0,
-        &[(3, 4, false), (4, 1, true), (3, 2, false), (2, 1, true)],
-    )?;
-    assert_eq!(rt;
-        second.as_slice(),
-        [(2, 1, 1, 0), (3, 2, 0, 1), (3, 4, 0, 1), (4, 1, 1, 0)].as_slice()
-    );
-    let third = pass(
-        rt.alloc(),
-        &mut engine,
-        2,
-        &[(1, 2, false), (2, 3, true), (1, 2, false), (2, 3, true)],
-    )?;
-    assert_eq!(rt; third.as_slice(), [(1, 2, 0, 2), (2, 3, 2, 0)].as_slice());
+fn a_pass_over_a_start(rt: HostRuntime) -> Result<(), Fail> {
+    let mut engine = PlainEngine::new(rt.alloc(), 4, &start(rt.alloc())?)?;
+    assert_eq!(rt; engine.layout(), None);
+    engine.begin_pass(1, 2, 1);
+    assert_eq!(rt; values(&engine), ([1, 2, 0], false));
+    count(&mut engine)?;
+    assert_eq!(rt; sums(&engine), (Some((1, 0)), None));
+    let (at, least) = first_candidate(&engine);
+    assert_eq!(rt; least, Some((0, 1)));
+    assert_eq!(rt; at.signs(), [2, 3].as_slice());
+    choose_and_give_up(&mut engine)?;
+    assert_eq!(rt; values(&engine), ([1, 2, 1], true));
     engine.end_level()?;
+    assert_eq!(rt; values(&engine), ([1, 2, 1], true));
+    assert_eq!(rt; engine.copy_patterns(rt.alloc())?.len(), 4);
     Ok(())
 }

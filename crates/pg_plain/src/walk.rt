@@ -1,31 +1,28 @@
 //! The entries that apply in a word.
-ghost use Rattle.std.specs.Prelude.{◌≡◌, ℕ, ◌+◌, ◌<◌, ◌≤◌, ◌&&◌, true, false, length};
+ghost use Rattle.std.specs.Prelude.{◌≡◌, ◌+◌, ◌<◌, ◌≤◌, true, false, length};
 ghost use Rattle.std.specs.List.{list_all, list_any};
 ghost use Rattle.pg_types.specs.declared.limits.TheConstants.{WORD_LETTERS_MAX};
 ghost use Rattle.pg_patterns.specs.Values.{applies};
-ghost use Rattle.pg_plain.specs.Forces.{IsRoomy, Raises, RaisesAt, bit, values_of, covers_of, value_force, cover_force, within};
-ghost use Rattle.pg_plain.specs.Indexes.{is_indexed};
+ghost use Rattle.pg_select.specs.Positions.{RaisesValues, RaisesCovers, RaisesAt, values_of, covers_of};
+ghost use Rattle.pg_plain.specs.Greatest.{greatest_at, value_by, cover_by};
+ghost use Rattle.pg_plain.specs.Indexes.{AreIndexed};
 ghost use Rattle.pg_plain.specs.Strings.{is_string};
-ghost use Rattle.pg_plain.specs.Walks.{is_row, goes_on, begins};
+ghost use Rattle.pg_plain.specs.Walks.{has_signs_at, goes_on, begins};
 
-use crate::force::Force;
 use crate::index::Index;
-use crate::pass::Pass;
-use pg_patterns::Place;
-use pg_select::WordState;
-use pg_types::{PATTERN_SIGNS_MAX, Sign, WORD_LETTERS_MAX};
+use crate::place_entry::PlaceEntry;
+use pg_patterns::DottedSigns;
+use pg_select::{Pass, WordState};
+use pg_types::{PATTERN_SIGNS_MAX, Sign};
 use std::collections::BTreeMap;
 use std::ops::Bound;
 
-/// The most positions of a word.
-const ROOM: usize = WORD_LETTERS_MAX + 2;
-
-/// Takes in each entry whose signs stand in the word `w`: it raises the value of the position of its dot to its own, and covers
-/// the window of that position where it stands in it and covers at the level of the pass. It takes no memory. From each place
+/// Raises the values and covers of a word by each entry whose signs stand in it: the value of the position of its dot to its own,
+/// and it covers the window of that position where it stands in it and covers at the level of the pass. It takes no memory. From each place
 /// on it asks the index for each string of the word, up to the first with which no longer string of the map begins, and looks
 /// up in the map those that the index cannot exclude.
-pub fn walk<F: Force>(
-    map: &BTreeMap<Place, F>,
+pub fn walk<F: PlaceEntry>(
+    map: &BTreeMap<DottedSigns, F>,
     index: &Index,
     w: &[Sign],
     pass: &Pass,
@@ -33,20 +30,19 @@ pub fn walk<F: Force>(
 )
     requires len { length w.now ≤ WORD_LETTERS_MAX + 2 }
     requires strings { list_all (λ e. is_string e.0) map.now.entries ≡ true }
-    requires indexed { list_all (λ e. is_indexed index.now.fronts.items index.now.strings.items e.0.0) map.now.entries ≡ true }
-    requires roomy { IsRoomy out.old }
-    ensures values { Raises (value_force F.gives) (applies w.now) map.now.entries (values_of out.old) (values_of out.new) }
-    ensures covers { Raises (cover_force F.knocks_out pass.now) (applies w.now) map.now.entries (covers_of out.old) (covers_of out.new) }
-    ensures roomy { IsRoomy out.new }
+    requires indexed { AreIndexed index.now.fronts.items index.now.strings.items map.now.entries }
+    ensures values { RaisesValues (greatest_at (value_by F.given) (applies w.now) map.now.entries) out.old out.new }
+    ensures covers { RaisesCovers (greatest_at (cover_by F.covers_at pass.now) (applies w.now) map.now.entries)
+        out.old out.new }
 {
     for i in 0..w.len() {
-        start(map, index, w, i, pass, out);
+        raise_from(map, index, w, i, pass, out);
     }
 }
 
-/// Takes in the entries whose signs stand in the word from `i` on, the shorter ones first.
-fn start<F: Force>(
-    map: &BTreeMap<Place, F>,
+/// Raises them by the entries whose signs stand in the word from `i` on, the shorter ones first.
+fn raise_from<F: PlaceEntry>(
+    map: &BTreeMap<DottedSigns, F>,
     index: &Index,
     w: &[Sign],
     i: usize,
@@ -56,26 +52,25 @@ fn start<F: Force>(
     requires len { length w.now ≤ WORD_LETTERS_MAX + 2 }
     requires inside { i ≤ length w.now }
     requires strings { list_all (λ e. is_string e.0) map.now.entries ≡ true }
-    requires indexed { list_all (λ e. is_indexed index.now.fronts.items index.now.strings.items e.0.0) map.now.entries ≡ true }
-    requires roomy { IsRoomy out.old }
-    ensures values { Raises (value_force F.gives) (begins w.now i) map.now.entries (values_of out.old) (values_of out.new) }
-    ensures covers { Raises (cover_force F.knocks_out pass.now) (begins w.now i) map.now.entries (covers_of out.old) (covers_of out.new) }
-    ensures roomy { IsRoomy out.new }
+    requires indexed { AreIndexed index.now.fronts.items index.now.strings.items map.now.entries }
+    ensures values { RaisesValues (greatest_at (value_by F.given) (begins w.now i) map.now.entries) out.old out.new }
+    ensures covers { RaisesCovers (greatest_at (cover_by F.covers_at pass.now) (begins w.now i) map.now.entries)
+        out.old out.new }
 {
     for n in 1..PATTERN_SIGNS_MAX + 1 {
         if n > w.len() - i {
             return;
         }
-        if !row(map, index, &w[i..i + n], i, pass, out) {
+        if !raise_by_string(map, index, &w[i..i + n], i, pass, out) {
             return;
         }
     }
 }
 
-/// Takes in the entries whose signs are `q`, which stand in the word from `i` on. It is false only where no longer string of
-/// the map begins with `q`.
-fn row<F: Force>(
-    map: &BTreeMap<Place, F>,
+/// Raises them by the entries whose signs are `q`, which stand in the word from `i` on. It is false only where no longer string
+/// of the map begins with `q`.
+fn raise_by_string<F: PlaceEntry>(
+    map: &BTreeMap<DottedSigns, F>,
     index: &Index,
     q: &[Sign],
     i: usize,
@@ -85,12 +80,12 @@ fn row<F: Force>(
     requires some { 0 < length q.now }
     requires few { length q.now ≤ 32 }
     requires inside { i ≤ WORD_LETTERS_MAX + 2 }
-    requires indexed { list_all (λ e. is_indexed index.now.fronts.items index.now.strings.items e.0.0) map.now.entries ≡ true }
-    requires roomy { IsRoomy out.old }
-    ensures values { Raises (value_force F.gives) (is_row q.now i) map.now.entries (values_of out.old) (values_of out.new) }
-    ensures covers { Raises (cover_force F.knocks_out pass.now) (is_row q.now i) map.now.entries (covers_of out.old) (covers_of out.new) }
+    requires indexed { AreIndexed index.now.fronts.items index.now.strings.items map.now.entries }
+    ensures values { RaisesValues (greatest_at (value_by F.given) (has_signs_at q.now i) map.now.entries) out.old
+        out.new }
+    ensures covers { RaisesCovers (greatest_at (cover_by F.covers_at pass.now) (has_signs_at q.now i)
+        map.now.entries) out.old out.new }
     ensures ends { result ≡ false → list_any (λ e. goes_on q.now e.0.0) map.now.entries ≡ false }
-    ensures roomy { IsRoomy out.new }
 {
     let slot = index.slot(q);
     if !index.may_begin(slot) {
@@ -103,8 +98,8 @@ fn row<F: Force>(
 }
 
 /// The same, by a look-up in the map.
-fn look_up<F: Force>(
-    map: &BTreeMap<Place, F>,
+fn look_up<F: PlaceEntry>(
+    map: &BTreeMap<DottedSigns, F>,
     q: &[Sign],
     i: usize,
     pass: &Pass,
@@ -112,50 +107,35 @@ fn look_up<F: Force>(
 ) -> bool
     requires few { length q.now ≤ 32 }
     requires inside { i ≤ WORD_LETTERS_MAX + 2 }
-    requires roomy { IsRoomy out.old }
-    ensures values { Raises (value_force F.gives) (is_row q.now i) map.now.entries (values_of out.old) (values_of out.new) }
-    ensures covers { Raises (cover_force F.knocks_out pass.now) (is_row q.now i) map.now.entries (covers_of out.old) (covers_of out.new) }
+    ensures values { RaisesValues (greatest_at (value_by F.given) (has_signs_at q.now i) map.now.entries) out.old
+        out.new }
+    ensures covers { RaisesCovers (greatest_at (cover_by F.covers_at pass.now) (has_signs_at q.now i)
+        map.now.entries) out.old out.new }
     ensures ends { result ≡ false → list_any (λ e. goes_on q.now e.0.0) map.now.entries ≡ false }
-    ensures roomy { IsRoomy out.new }
 {
-    let first = Place::new(q, 0);
-    for (place, force) in map.range((Bound::Included(&first), Bound::Unbounded)) {
+    let first = DottedSigns::new(q, 0);
+    for (place, entry) in map.range((Bound::Included(&first), Bound::Unbounded)) {
         if place.signs() != q {
             return place.signs().starts_with(q);
         }
-        take_in(place, force, i, pass, out);
+        raise_by_entry(place, entry, i, pass, out);
     }
     false
 }
 
-/// Takes in an entry whose signs stand in the word from `i` on.
-fn take_in<F: Force>(place: &Place, force: &F, i: usize, pass: &Pass, out: &mut WordState)
-    requires inside { i ≤ WORD_LETTERS_MAX + 2 }
-    requires roomy { IsRoomy out.old }
-    ensures values { RaisesAt (i + place.now.1) (F.gives force.now) (values_of out.old) (values_of out.new) }
-    ensures covers { RaisesAt (i + place.now.1) (bit (F.knocks_out pass.now.level force.now && within pass.now.len pass.now.dot place.now)) (covers_of out.old) (covers_of out.new) }
-    ensures roomy { IsRoomy out.new }
+/// Raises them by an entry whose signs stand in the word from `i` on.
+fn raise_by_entry<F: PlaceEntry>(
+    place: &DottedSigns,
+    entry: &F,
+    i: usize,
+    pass: &Pass,
+    out: &mut WordState,
+)
+    requires { i ≤ WORD_LETTERS_MAX + 2 }
+    ensures values { RaisesAt (i + place.now.1) (F.given entry.now) (values_of out.old) (values_of out.new) }
+    ensures covers { RaisesAt (i + place.now.1) (cover_by F.covers_at pass.now (place.now, entry.now))
+        (covers_of out.old) (covers_of out.new) }
 {
-    let p = i + usize::from(place.dot());
-    if p < ROOM {
-        let value = out.value(p).max(force.value());
-        let covered = out.covered(p) | covers(place, force, pass);
-        out.set(p, value, covered);
-    }
-}
-
-/// Whether an entry covers the window at its dot in the pass.
-fn covers<F: Force>(place: &Place, force: &F, pass: &Pass) -> bool
-    ensures { result ≡ (F.knocks_out pass.now.level force.now && within pass.now.len pass.now.dot place.now) }
-{
-    force.covers(pass.level) && is_within(place, pass)
-}
-
-/// Whether a place that stands in a word with its dot at a position stands in the window of that position.
-fn is_within(place: &Place, pass: &Pass) -> bool
-    ensures { result ≡ within pass.now.len pass.now.dot place.now }
-{
-    let ends_within = place.signs().len() + usize::from(pass.dot)
-        <= usize::from(pass.len) + usize::from(place.dot());
-    place.dot() <= pass.dot && ends_within
+    let covered = entry.covers(pass.level) && pass.has_within(place.signs().len(), place.dot());
+    out.raise(i + usize::from(place.dot()), entry.value(), covered);
 }

@@ -6,27 +6,27 @@ use Rattle.std.specs.Ordering.{is_eq, eq_by_cmp}
 use Rattle.std.specs.List.{list_any}
 use Rattle.std.specs.FinMap.Entries.{put, find, by_order}
 use Rattle.std.proofs.lemmas.Bool.{le-leb, cases_lt, and_parts}
-use Rattle.pg_patterns.specs.Places.{place_cmp, place_exact}
+use Rattle.pg_patterns.specs.DottedSigns.{dotted_cmp, dotted_exact}
 use Rattle.pg_patterns.specs.Values.{value_of, raise, best, applies, value_at}
-use Rattle.pg_patterns.proofs.Ordered.{equal_is}
+use Rattle.pg_types.proofs.BoolFacts.{equal_is}
 use Rattle.pg_patterns.proofs.Joins.{only}
 use Rattle.pg_select.specs.Windows.{Hopeless, covered}
 
 -- a greater value at a place is the greatest wherever the place passes
-best_put : (t : List ℕ × ℕ → Bool) (k : List ℕ × ℕ) (v : ℕ) (es : List ((List ℕ × ℕ) × ℕ)) → value_of es k ≤ v → best t (put place_cmp k v es) ≡ max (only (t k) v) (best t es)
+best_put : (t : List ℕ × ℕ → Bool) (k : List ℕ × ℕ) (v : ℕ) (es : List ((List ℕ × ℕ) × ℕ)) → value_of es k ≤ v → best t (put dotted_cmp k v es) ≡ max (only (t k) v) (best t es)
 best_put t k v [] low = refl
 best_put t k v (e ∷ es) low =
-    elim (place_cmp k e.0) as (λ (r : Ordering). place_cmp k e.0 ≡ r → best t (by_order r ((k, v) ∷ e ∷ es) ((e.0, v) ∷ es) (e ∷ put place_cmp k v es)) ≡ max (only (t k) v) (max (only (t e.0) e.1) (best t es))) [
+    elim (dotted_cmp k e.0) as (λ (r : Ordering). dotted_cmp k e.0 ≡ r → best t (by_order r ((k, v) ∷ e ∷ es) ((e.0, v) ∷ es) (e ∷ put dotted_cmp k v es)) ≡ max (only (t k) v) (max (only (t e.0) e.1) (best t es))) [
       | Less ↦ λ r. refl
       | Equal ↦ λ r.
-          let found : value_of (e ∷ es) k ≡ e.1 = ap (λ x. unwrap_or (cond (is_eq x) (Some e.1) (find place_cmp k es)) 0) r in
+          let found : value_of (e ∷ es) k ≡ e.1 = ap (λ x. unwrap_or (cond (is_eq x) (Some e.1) (find dotted_cmp k es)) 0) r in
           let here : e.1 ≤ v = omega arith in
-          ap (λ x. max (only (t x) v) (best t es)) (sym (place_exact k e.0 r))
+          ap (λ x. max (only (t x) v) (best t es)) (sym (dotted_exact k e.0 r))
           ∙ over (t k) e.1 v (best t es) here
-          ∙ ap (λ x. max (only (t k) v) (max (only (t x) e.1) (best t es))) (place_exact k e.0 r)
+          ∙ ap (λ x. max (only (t k) v) (max (only (t x) e.1) (best t es))) (dotted_exact k e.0 r)
       | Greater ↦ λ r.
-          let found : value_of (e ∷ es) k ≡ value_of es k = ap (λ x. unwrap_or (cond (is_eq x) (Some e.1) (find place_cmp k es)) 0) r in
-          let rest : best t (put place_cmp k v es) ≡ max (only (t k) v) (best t es) = best_put t k v es (omega arith) in
+          let found : value_of (e ∷ es) k ≡ value_of es k = ap (λ x. unwrap_or (cond (is_eq x) (Some e.1) (find dotted_cmp k es)) 0) r in
+          let rest : best t (put dotted_cmp k v es) ≡ max (only (t k) v) (best t es) = best_put t k v es (omega arith) in
           ap (λ n. max (only (t e.0) e.1) n) rest ∙ turned (only (t e.0) e.1) (only (t k) v) (best t es)
     ] refl
   where
@@ -41,9 +41,9 @@ best_put t k v (e ∷ es) low =
 value_within : (t : List ℕ × ℕ → Bool) (k : List ℕ × ℕ) (es : List ((List ℕ × ℕ) × ℕ)) → t k ≡ true → value_of es k ≤ best t es
 value_within t k [] pass = omega arith
 value_within t k (e ∷ es) pass =
-    elim (eq_by_cmp place_cmp k e.0) as (λ (b : Bool). eq_by_cmp place_cmp k e.0 ≡ b → unwrap_or (cond b (Some e.1) (find place_cmp k es)) 0 ≤ max (only (t e.0) e.1) (best t es)) [
+    elim (eq_by_cmp dotted_cmp k e.0) as (λ (b : Bool). eq_by_cmp dotted_cmp k e.0 ≡ b → unwrap_or (cond b (Some e.1) (find dotted_cmp k es)) 0 ≤ max (only (t e.0) e.1) (best t es)) [
       | true ↦ λ b.
-          let there : only (t e.0) e.1 ≡ e.1 = ap (λ x. only x e.1) (ap t (sym (place_exact k e.0 (equal_is (place_cmp k e.0) b))) ∙ pass) in
+          let there : only (t e.0) e.1 ≡ e.1 = ap (λ x. only x e.1) (ap t (sym (dotted_exact k e.0 (equal_is (dotted_cmp k e.0) b))) ∙ pass) in
           omega arith
       | false ↦ λ b. let rest : value_of es k ≤ best t es = value_within t k es pass in omega arith
     ] refl
@@ -71,15 +71,15 @@ raised_to P k level w p = by_test (applies w p k) (raised_value P k level w p)
         (cases_lt (value_at P w p) level)
 
 -- an entry more that passes where the one of its place did
-any_put : {X : Type 0} (t : (List ℕ × ℕ) × X → Bool) (k : List ℕ × ℕ) (v : X) (es : List ((List ℕ × ℕ) × X)) → ((x : X) → t (k, x) ≡ true → t (k, v) ≡ true) → list_any t (put place_cmp k v es) ≡ (t (k, v) || list_any t es)
+any_put : {X : Type 0} (t : (List ℕ × ℕ) × X → Bool) (k : List ℕ × ℕ) (v : X) (es : List ((List ℕ × ℕ) × X)) → ((x : X) → t (k, x) ≡ true → t (k, v) ≡ true) → list_any t (put dotted_cmp k v es) ≡ (t (k, v) || list_any t es)
 any_put t k v [] more = refl
 any_put {X} t k v (e ∷ es) more =
-    elim (place_cmp k e.0) as (λ (r : Ordering). place_cmp k e.0 ≡ r → list_any t (by_order r ((k, v) ∷ e ∷ es) ((e.0, v) ∷ es) (e ∷ put place_cmp k v es)) ≡ (t (k, v) || (t e || list_any t es))) [
+    elim (dotted_cmp k e.0) as (λ (r : Ordering). dotted_cmp k e.0 ≡ r → list_any t (by_order r ((k, v) ∷ e ∷ es) ((e.0, v) ∷ es) (e ∷ put dotted_cmp k v es)) ≡ (t (k, v) || (t e || list_any t es))) [
       | Less ↦ λ r. refl
       | Equal ↦ λ r.
-          ap (λ (x : List ℕ × ℕ). t (x, v) || list_any t es) (sym (place_exact k e.0 r))
+          ap (λ (x : List ℕ × ℕ). t (x, v) || list_any t es) (sym (dotted_exact k e.0 r))
           ∙ within (t (k, v)) (t (k, e.1)) (list_any t es) (more e.1)
-          ∙ ap (λ (x : List ℕ × ℕ). t (k, v) || (t (x, e.1) || list_any t es)) (place_exact k e.0 r)
+          ∙ ap (λ (x : List ℕ × ℕ). t (k, v) || (t (x, e.1) || list_any t es)) (dotted_exact k e.0 r)
       | Greater ↦ λ r. ap (λ b. t e || b) (any_put t k v es more) ∙ turned (t e) (t (k, v)) (list_any t es)
     ] refl
   where
@@ -108,7 +108,7 @@ covered_raised level P H k u d =
     ∙ both_tests (applies u d k) (list_any (λ (e : (List ℕ × ℕ) × ℕ). nat_le level e.1 && applies u d e.0) P) (list_any (λ (e : (List ℕ × ℕ) × Unit {0}). applies u d e.0) H)
 
 -- and so does a hopeless place
-pub covered_hopeless : (level : ℕ) (P : List ((List ℕ × ℕ) × ℕ)) (H : Hopeless) (k : List ℕ × ℕ) (u : List ℕ) (d : ℕ) → covered level P (put place_cmp k (tt {0}) H) u d ≡ (applies u d k || covered level P H u d)
+pub covered_hopeless : (level : ℕ) (P : List ((List ℕ × ℕ) × ℕ)) (H : Hopeless) (k : List ℕ × ℕ) (u : List ℕ) (d : ℕ) → covered level P (put dotted_cmp k (tt {0}) H) u d ≡ (applies u d k || covered level P H u d)
 covered_hopeless level P H k u d =
     ap (λ b. list_any (λ (e : (List ℕ × ℕ) × ℕ). nat_le level e.1 && applies u d e.0) P || b) (any_put (λ (e : (List ℕ × ℕ) × Unit {0}). applies u d e.0) k (tt {0}) H (λ x pass. pass))
     ∙ turned (list_any (λ (e : (List ℕ × ℕ) × ℕ). nat_le level e.1 && applies u d e.0) P) (applies u d k) (list_any (λ (e : (List ℕ × ℕ) × Unit {0}). applies u d e.0) H)

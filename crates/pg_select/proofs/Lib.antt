@@ -5,3 +5,8 @@ pub mod LawsCandidates
 pub mod LawsLater
 pub mod LawsLonger
 pub mod LawsClosed
+pub mod LawsLengths
+pub mod LawsRaised
+pub mod LawsBounds
+pub mod LawsClosedDots
+pub mod LawsTotals

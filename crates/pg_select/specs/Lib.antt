@@ -1,8 +1,11 @@
 pub mod Statuses
 pub mod Choices
 pub mod Windows
-pub mod Sights
+pub mod CountedPositions
 pub mod Sums
+pub mod AnyPositions
 pub mod Positions
 pub mod Meanings
 pub mod Laws
+pub mod LawsSteps
+pub mod LawsClosedDots

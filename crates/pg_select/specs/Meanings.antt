@@ -1,26 +1,25 @@
 -- What an engine means: the patterns and the counts that it holds, and what each of its calls makes of them.
-use Rattle.std.specs.Prelude.{◌≡◌, ℕ, ◌+◌, ◌<◌, ◌≤◌, ◌^◌, Bool, true, false, if◌then◌else◌, List, [], length, map, filter, unwrap_or, Option, None, Some, MatchOption, All, get_or, is_some, take}
+use Rattle.std.specs.Prelude.{◌≡◌, ℕ, ◌+◌, Bool, true, T, List, [], map, Option, None, Some, MatchOption, All, take}
 use Rattle.std.specs.Option.{option_map}
-use Rattle.std.specs.Ordering.{nat_cmp, is_lt}
+use Rattle.std.specs.Ordering.{nat_cmp}
 use Rattle.std.specs.Cmp.Lexicographic.{slice_cmp}
-use Rattle.std.specs.FinMap.Entries.{put, find}
+use Rattle.std.specs.FinMap.Entries.{put, is_sorted}
 use Rattle.pg_types.specs.declared.marks.Layout.{Layout}
+use Rattle.pg_types.specs.Counts.{Counts, SignsWithin, with_count, is_counted}
 use Rattle.pg_types.specs.Placement.{Families, taken, top, enter, kept}
 use Rattle.pg_types.specs.Tails.{tails}
-use Rattle.pg_patterns.specs.Places.{place_cmp}
-use Rattle.pg_patterns.specs.Values.{value_at, raise}
-use Rattle.pg_select.specs.Windows.{Hopeless, window, fits, covered}
-use Rattle.pg_select.specs.Sights.{Pass, Sight}
-
--- the windows that are counted, in the order of signs, each with its sums of good and bad weights
-abbrev pub Counts : Type 0
-Counts = List (List ℕ × (ℕ × ℕ))
+use Rattle.pg_patterns.specs.DottedSigns.{dotted_cmp}
+use Rattle.pg_patterns.specs.Values.{IsPatternMap, SignsUpTo, raise}
+use Rattle.pg_select.specs.Positions.{HasValues, HasCovers}
+use Rattle.pg_select.specs.Windows.{Patterns, Hopeless}
+use Rattle.pg_select.specs.declared.pass.Pass.{Pass}
+use Rattle.pg_select.specs.CountedPositions.{CountedPosition}
 
 -- the greatest sign; the patterns and the hopeless places; the windows that are counted in the pass; the pass; the families of the
 -- strings, where they are told; how many passes were begun; and whether nothing was chosen or given up since a level ended
 pub record Meaning : Type 0 where
   pub signs : ℕ
-  pub patterns : List ((List ℕ × ℕ) × ℕ)
+  pub patterns : Patterns
   pub hopeless : Hopeless
   pub counts : Counts
   pub pass : Pass
@@ -28,33 +27,33 @@ pub record Meaning : Type 0 where
   pub begun : ℕ
   pub tidy : Bool
 
--- the sums of a window, 0 and 0 where it is not counted
-abbrev pub sums_of : Counts → List ℕ → ℕ × ℕ
-sums_of counts u = unwrap_or (find (slice_cmp nat_cmp) u counts) (0, 0)
+-- what every engine keeps: its patterns are a map of patterns, so that they stand in order and each value is 1 to 9; its hopeless
+-- places and its counts stand in order; and no sign is above the greatest
+pub record IsKept (m : Meaning) : Type 0 where
+  pub patterns : IsPatternMap m.patterns
+  pub hopeless_order : T (is_sorted dotted_cmp m.hopeless)
+  pub counts_order : T (is_sorted (slice_cmp nat_cmp) m.counts)
+  pub pattern_signs : SignsUpTo m.signs m.patterns
+  pub hopeless_signs : All (λ e. SignsWithin m.signs e.0.0) m.hopeless
+  pub counted_signs : (u : List ℕ) → is_counted m.counts u ≡ true → SignsWithin m.signs u
 
--- sums with one weight more
-abbrev pub with_weight : ℕ × ℕ → Bool → ℕ → ℕ × ℕ
-with_weight sums good weight = if good then (sums.0 + weight, sums.1) else (sums.0, sums.1 + weight)
+-- an engine that was just made: it has these patterns and tells these families; nothing is hopeless or counted, no pass was begun, and
+-- it is tidy
+abbrev pub new_engine : ℕ → Patterns → Option Families → Meaning
+new_engine signs P families = record {
+  signs = signs;
+  patterns = P;
+  hopeless = [];
+  counts = [];
+  pass = record { level = 1; len = 1; dot = 0 };
+  families = families;
+  begun = 0;
+  tidy = true;
+}
 
--- the counts with one sight more
-abbrev pub with_sight : Counts → Sight → Counts
-with_sight counts s = put (slice_cmp nat_cmp) s.window (with_weight (sums_of counts s.window) s.good s.weight) counts
-
--- a window is counted
-abbrev pub is_counted : Counts → List ℕ → Bool
-is_counted counts u = is_some (find (slice_cmp nat_cmp) u counts)
-
--- the counts of the windows that are greater than u
-abbrev pub above : List ℕ → Counts → Counts
-above u counts = filter (λ e. is_lt (slice_cmp nat_cmp u e.0)) counts
-
--- both sums are below 2^60
-abbrev pub AreSmall : ℕ × ℕ → Type 0
-AreSmall sums = (sums.0 < 2 ^ 60) × (sums.1 < 2 ^ 60)
-
--- each sign is at least 1, and at most the greatest
-abbrev pub SignsWithin : ℕ → List ℕ → Type 0
-SignsWithin n signs = All (λ s. (1 ≤ s) × (s ≤ n)) signs
+-- the counts with one position more
+abbrev pub with_position : Counts → CountedPosition → Counts
+with_position counts s = with_count counts s.window s.good s.weight
 
 -- a pass has begun: nothing is counted in it
 abbrev pub begun_pass : Meaning → ℕ → ℕ → ℕ → Meaning
@@ -62,7 +61,7 @@ begun_pass m level len dot = record m { pass = record { level = level; len = len
 
 -- a position was counted
 abbrev pub counted : Meaning → List ℕ → Bool → ℕ → Meaning
-counted m u good weight = record m { counts = with_sight m.counts (record { window = u; good = good; weight = weight }) }
+counted m u good weight = record m { counts = with_position m.counts (record { window = u; good = good; weight = weight }) }
 
 -- the families after a string is entered, where they are told
 abbrev pub entered : Meaning → List ℕ → Option Families
@@ -74,7 +73,7 @@ chosen m u tidy = record m { patterns = raise m.patterns (u, m.pass.dot) m.pass.
 
 -- a window was given up: it is hopeless at the pass's dot. Nothing is said of tidiness
 abbrev pub given_up : Meaning → List ℕ → Bool → Meaning
-given_up m u tidy = record m { hopeless = put place_cmp (u, m.pass.dot) (tt {0}) m.hopeless; families = entered m u; tidy = tidy }
+given_up m u tidy = record m { hopeless = put dotted_cmp (u, m.pass.dot) (tt {0}) m.hopeless; families = entered m u; tidy = tidy }
 
 -- a level ended: nothing is hopeless, and the families lose the cells of strings that are no prefix of a pattern's
 abbrev pub ended : Meaning → Meaning
@@ -88,11 +87,11 @@ pub record KeepsButFamilies (u : List ℕ) (old new : Meaning) : Type 0 where
 
 -- the values of the positions of a word are those that the patterns give
 abbrev pub SetsValues : Meaning → List ℕ → List ℕ → Type 0
-SetsValues m w values = (p : ℕ) → p < length w → get_or values p 0 ≡ value_at m.patterns w p
+SetsValues m w values = HasValues m.patterns w values
 
 -- the covers are right at each position whose window fits in the word
 abbrev pub SetsCovers : Meaning → List ℕ → List Bool → Type 0
-SetsCovers m w covers = (p : ℕ) → p < length w → fits w p m.pass.len m.pass.dot ≡ true → get_or covers p false ≡ covered m.pass.level m.patterns m.hopeless (window w p m.pass.len m.pass.dot) m.pass.dot
+SetsCovers m w covers = HasCovers m.pass m.patterns m.hopeless w covers
 
 -- the numbers of the families; none where they are not told. The tails are those of the patterns where the engine is tidy
 abbrev pub IsLayout : Meaning → Option Layout → Type 0

@@ -3,6 +3,10 @@ use Rattle.std.specs.Prelude.{ℕ, ◌+◌, ◌-◌, nat_le, Bool, ◌&&◌, ◌
 use Rattle.std.specs.List.{list_any}
 use Rattle.pg_patterns.specs.Values.{applies}
 
+-- patterns, as a map from places to values in the order of places
+abbrev pub Patterns : Type 0
+Patterns = List ((List ℕ × ℕ) × ℕ)
+
 -- a set of hopeless places, as a map from places in their order
 abbrev pub Hopeless : Type 0
 Hopeless = List ((List ℕ × ℕ) × Unit {0})
@@ -15,7 +19,11 @@ window w p len d = take len (drop (p - d) w)
 abbrev pub fits : List ℕ → ℕ → ℕ → ℕ → Bool
 fits w p len d = nat_le d p && nat_le (p - d + len) (length w)
 
+-- a string of n signs, which stands in a word with its dot d at the dot of a window, stands in the window
+abbrev pub is_within : ℕ → ℕ → ℕ → ℕ → Bool
+is_within len dot n d = nat_le d dot && nat_le (n + dot) (len + d)
+
 -- at a level, a window with its dot is covered where some string stands in it that has at that dot a value of at least the level,
 -- or is hopeless there
-abbrev pub covered : ℕ → List ((List ℕ × ℕ) × ℕ) → Hopeless → List ℕ → ℕ → Bool
+abbrev pub covered : ℕ → Patterns → Hopeless → List ℕ → ℕ → Bool
 covered level P H u d = list_any (λ e. nat_le level e.1 && applies u d e.0) P || list_any (λ e. applies u d e.0) H

@@ -1,7 +1,8 @@
 //! The contract of an engine, which holds patterns and counts windows.
-ghost use Rattle.std.specs.Prelude.{◌≡◌, ◌≤◌, ◌<◌, ◌+◌, ◌^◌, ◌∷◌, [], true, length, IfOk, OnOk, OnErr, IsOk, MatchOption};
+ghost use Rattle.std.specs.Prelude.{◌≡◌, ◌≤◌, ◌<◌, ◌+◌, ◌^◌, true, length, IfOk, OnOk, OnErr, IsOk};
 ghost use Rattle.pg_types.specs.declared.limits.TheConstants.{LEVEL_MAX, LENGTH_MAX, WEIGHT_MAX, WORD_LETTERS_MAX};
-ghost use Rattle.pg_select.specs.Meanings.{Meaning, AreSmall, SignsWithin, KeepsButFamilies, SetsValues, SetsCovers, IsLayout, sums_of, with_weight, is_counted, above, begun_pass, counted, chosen, given_up, ended};
+ghost use Rattle.pg_types.specs.Counts.{AreSmall, IsNextAbove, SignsWithin, counted_sums, sums_of, with_weight, is_counted};
+ghost use Rattle.pg_select.specs.Meanings.{Meaning, IsKept, KeepsButFamilies, SetsValues, SetsCovers, IsLayout, begun_pass, counted, chosen, given_up, ended};
 
 use crate::word_state::WordState;
 use pg_dict::WordRef;
@@ -16,6 +17,11 @@ use std::alloc::{AllocError, Global};
 /// that are counted to choose some and to give up others. What a call does not name stays as it was.
 pub trait Engine {
     ghost meaning: { Self → Meaning };
+
+    /// Tells what every engine keeps: its maps stand in order, each value is 1 to 9, and no sign is above the greatest. A call does
+    /// nothing.
+    fn kept(&self)
+        ensures { IsKept (meaning self.now) };
 
     /// Begins the pass of `level` with windows of `len` signs whose dot is behind `dot` of them. Nothing is counted in it yet.
     fn begin_pass(&mut self, level: u8, len: u8, dot: u8)
@@ -43,10 +49,16 @@ pub trait Engine {
         ensures there { is_counted (meaning self.old).counts window.now ≡ true → IsOk result }
         ensures err { OnErr result (meaning self.new ≡ meaning self.old) };
 
+    /// The good and the bad sum of a window; none exactly where it is not counted. It takes no memory.
+    fn sums(&self, window: &[Sign]) -> Option<(u64, u64)>
+        requires len { length window.now ≡ (meaning self.now).pass.len }
+        requires signs { SignsWithin (meaning self.now).signs window.now }
+        ensures { result ≡ counted_sums (meaning self.now).counts window.now };
+
     /// Moves the cursor to the least counted window that is greater, and gives its good and bad sums; none exactly where there is
     /// no such window, and the cursor stays. It takes no memory.
     fn next_candidate(&self, at: &mut Cursor) -> Option<(u64, u64)>
-        ensures { MatchOption result ((above at.old (meaning self.now).counts ≡ []) × (at.new ≡ at.old)) (λ sums. above at.old (meaning self.now).counts ≡ (at.new, sums) ∷ above at.new (meaning self.now).counts) };
+        ensures { IsNextAbove (meaning self.now).counts at.old at.new result };
 
     /// Gives the window at the cursor the level as its value, where it has no greater one, at the dot of the pass. Families that
     /// are told take in the window; a refused call may leave part of that.

@@ -1,13 +1,15 @@
 //! Laws of the definitions of this crate. A call does nothing; its contract is the law.
-ghost use Rattle.pg_select.specs.Laws.{CandidatesInOrder, CandidatesAreSeen, CountsAreTally, PositionsAreFew, CandidatesAreFew, TotalsAreSmall, SightsAreLight, SumsAreParts, CandidatesAreLow, ChosenGetLevel, OthersStay, NoneFalls, RaisesWhereItApplies, GivenUpKeepsValues, RaisedCovers, HopelessCovers, GivenUpCovers, LaterAtOnce, LaterStill, LaterRaised, LaterHopeless, StatusBack, CountedBack, ClosedLater, CountedShorter, ClosedLonger, LaterSettled, ClosedWhenCovered, ClosedAtEnd};
+ghost use Rattle.pg_select.specs.Laws.{CandidatesInOrder, CandidatesAreCounted, CountsAreTally, PositionsAreFew, CandidatesAreFew, TotalsAreSmall, CountedAreLight, SumsAreParts, CandidatesAreLow, ChosenGetLevel, OthersStay, NoneFalls, RaisesWhereItApplies, GivenUpKeepsValues, RaisedCovers, HopelessCovers, GivenUpCovers, LaterAtOnce, LaterStill, LaterRaised, LaterHopeless, StatusBack, CountedBack, ClosedLater, CountedShorter, ClosedLonger, LaterSettled, ClosedWhenCovered, ClosedAtEnd};
+ghost use Rattle.pg_select.specs.LawsSteps.{BelowByLargest, UpToLargest, UpToAtStart, NextIsBelow, UpToAfter, CoversUpToAtStart, CoversUpToLonger, CoversUpToAfter, LengthStep, NothingCovered, ValuesAfter, CoversAfter, CountedAreUncovered, TotalsAfter};
+ghost use Rattle.pg_select.specs.LawsClosedDots.{TellsAtStart, TellsLonger, TellsAfter, DoneByStatus, DoneWhenClosed, DoneLonger, DoneAfter, RaisedStop, HopelessStop, LeftStay, UncountedStay};
 
-/// The candidates of a pass are the windows that it sees. They stand strictly in the order of signs, so each once.
+/// The candidates of a pass are the windows that it counts. They stand strictly in the order of signs, so each once.
 pub fn candidates_in_order()
     ensures order { CandidatesInOrder }
-    ensures seen { CandidatesAreSeen }
+    ensures counted { CandidatesAreCounted }
 {}
 
-/// Counting what a pass sees, one position after the other, gives its candidates with their sums of good and bad weights.
+/// Counting what a pass counts, one position after the other, gives its candidates with their sums of good and bad weights.
 pub fn counts_are_tally()
     ensures { CountsAreTally }
 {}
@@ -18,7 +20,7 @@ pub fn sums_are_small()
     ensures positions { PositionsAreFew }
     ensures candidates { CandidatesAreFew }
     ensures totals { TotalsAreSmall }
-    ensures sights { SightsAreLight }
+    ensures counted_positions { CountedAreLight }
     ensures parts { SumsAreParts }
 {}
 
@@ -52,22 +54,72 @@ pub fn levels_go_on()
     ensures settled { LaterSettled }
 {}
 
-/// Within a level a position that is no longer counted is not counted later, so a pass that sees nothing sees nothing later.
+/// Within a level a position that is no longer counted is not counted later, so a pass that counts nothing counts nothing later.
 pub fn closed_stays_closed()
     ensures statuses { StatusBack }
     ensures counted { CountedBack }
     ensures closed { ClosedLater }
 {}
 
-/// A position that is not counted with a window is not counted with a longer one, so where a pass sees nothing, the passes that
-/// are longer by a sign, with the same dot or the next, see nothing.
+/// A position that is not counted with a window is not counted with a longer one, so where a pass counts nothing, the passes that
+/// are longer by a sign, with the same dot or the next, count nothing.
 pub fn closed_when_longer()
     ensures counted { CountedShorter }
     ensures closed { ClosedLonger }
 {}
 
-/// A pass that left no candidate, as it chose or gave up each of them, sees nothing from its end to the end of the level.
+/// A pass that left no candidate, as it chose or gave up each of them, counts nothing from its end to the end of the level.
 pub fn closed_at_end()
     ensures covered { ClosedWhenCovered }
     ensures settled { ClosedAtEnd }
+{}
+
+/// Where the starting patterns of a level have no value as great as it, its passes lead to none above it.
+pub fn values_up_to_the_level()
+    ensures largest { BelowByLargest }
+    ensures up_to_largest { UpToLargest }
+    ensures start { UpToAtStart }
+    ensures after { UpToAfter }
+    ensures next { NextIsBelow }
+{}
+
+/// Where no string longer than a length covers, a window of the next length is covered where one of the two shorter ones in it is.
+pub fn covers_by_length()
+    ensures none { NothingCovered }
+    ensures start { CoversUpToAtStart }
+    ensures longer { CoversUpToLonger }
+    ensures after { CoversUpToAfter }
+    ensures step { LengthStep }
+{}
+
+/// A pass changes the values of the positions whose windows it chooses, and the covers of its own windows at its own dot.
+pub fn passes_change()
+    ensures values { ValuesAfter }
+    ensures covers { CoversAfter }
+    ensures counted { CountedAreUncovered }
+{}
+
+/// A pass adds to the totals, or takes from them, the sums of the candidates that it chooses.
+pub fn totals_by_the_chosen()
+    ensures { TotalsAfter }
+{}
+
+/// A position whose window was chosen does not count any more, and one whose window was made hopeless is covered at the dot. Any
+/// other that counts keeps its status and its covers.
+pub fn positions_after_a_pass()
+    ensures raised { RaisedStop }
+    ensures hopeless { HopelessStop }
+    ensures left { LeftStay }
+    ensures uncounted { UncountedStay }
+{}
+
+/// Closed dots tell what counts at a position, from the start of a level through its passes and lengths.
+pub fn closed_dots_tell()
+    ensures start { TellsAtStart }
+    ensures longer { TellsLonger }
+    ensures after { TellsAfter }
+    ensures by_status { DoneByStatus }
+    ensures when_closed { DoneWhenClosed }
+    ensures done_longer { DoneLonger }
+    ensures done_after { DoneAfter }
 {}

@@ -4,10 +4,12 @@
 pub mod choice;
 pub mod engine;
 pub mod laws;
+pub mod pass;
 #[cfg(test)]
 mod tests;
 pub mod word_state;
 
 pub use choice::{Choice, decide, status};
 pub use engine::Engine;
+pub use pass::Pass;
 pub use word_state::WordState;

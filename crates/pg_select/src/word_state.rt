@@ -23,6 +23,7 @@ impl Model for WordState {
 impl WordState {
     ghost use Rattle.std.specs.Prelude.{◌≡◌, ◌+◌, ◌<◌, false, slice_set, slice_index, slice_index_or, replicate};
     ghost use Rattle.pg_types.specs.declared.limits.TheConstants.{WORD_LETTERS_MAX};
+    ghost use Rattle.pg_select.specs.Positions.{bit, values_of, covers_of, RaisesAt};
 
     /// Every value is 0, and nothing is covered.
     pub fn new() -> WordState
@@ -59,5 +60,17 @@ impl WordState {
     {
         self.values[p] = value;
         self.covers[p] = covered;
+    }
+
+    /// Raises the value of position `p` to at least `value`, and covers its window where `covered` is true. The other positions
+    /// stay; where `p` is past the positions of every word, all do.
+    pub fn raise(&mut self, p: usize, value: u8, covered: bool)
+        ensures values { RaisesAt p value (values_of self.old) (values_of self.new) }
+        ensures covers { RaisesAt p (bit covered) (covers_of self.old) (covers_of self.new) }
+    {
+        if p < ROOM {
+            self.values[p] = self.values[p].max(value);
+            self.covers[p] |= covered;
+        }
     }
 }

@@ -12,14 +12,17 @@ use Rattle.pg_types.specs.declared.refusals.Kind.TheVariants.{TranslateTooLong, 
 use Rattle.pg_types.specs.Lines.{lines, pieces_at, is_line_feed, without_cr}
 use Rattle.pg_types.specs.Parameters.{parameters, parameters_of, items, demands, refusal_from, refused_at}
 use Rattle.pg_types.specs.Reading.{Fails, unless}
-use Rattle.pg_outside.specs.Content.{FileMap, file_at, IsCut}
+use Rattle.pg_outside.specs.Content.{FileMap, FilesShown, file_at, IsCut}
 use Rattle.pg_translate.specs.Alphabets.{Alphabet}
 use Rattle.pg_translate.specs.Tables.{table, table_of}
-use Rattle.pg_dict.specs.Words.{words, words_from, refused}
+use Rattle.pg_translate.specs.LineRefusals.{refused as refused_in}
+use Rattle.pg_dict.specs.Words.{words, words_from}
 use Rattle.pg_patterns.specs.Starts.{start, entries_from, joined_entries}
-use Rattle.pg_top.specs.Reads.{read_as}
-use Rattle.pg_top.specs.Stops.{StopsInput, stop_of}
+use Rattle.pg_top.specs.Outcomes.{refuses, unless_accepted}
+use Rattle.pg_top.specs.Readings.{read_as, input_file}
+use Rattle.pg_top.specs.Stops.{StopsAt, stop_of}
 use Rattle.pg_top.specs.declared.inputs.Input.{Input}
+use Rattle.pg_top.proofs.Orders.{mapped}
 
 -- the first bytes of a text, one more than a number
 abbrev first_bytes : ℕ → List ℕ → List ℕ
@@ -53,7 +56,7 @@ pub parameters-front : IsReadByFront parameters
 parameters-front whole = limited (Err (refused_at 0 ParametersTooLong)) (λ bytes. unless (refusal_from 1 (demands (items bytes)) (items bytes)) (parameters_of (items bytes))) FILE_MAX whole
 
 pub words-front : (t : Alphabet) → IsReadByFront (words t)
-words-front t whole = limited (Err (refused 0 DictionaryTooLong 0)) (λ bytes. words_from t 1 1 (lines bytes)) FILE_MAX whole
+words-front t whole = limited (Err (refused_in 0 DictionaryTooLong 0)) (λ bytes. words_from t 1 1 (lines bytes)) FILE_MAX whole
 
 pub start-front : (t : Alphabet) → IsReadByFront (start t)
 start-front t whole = limited (Err (record { kind = PatternsTooLong; line = 0; column = 0 })) (λ bytes. joined_entries (entries_from t 1 (lines bytes))) FILE_MAX whole
@@ -108,11 +111,18 @@ file_as_front parse front (Some whole) bytes e =
     let same : take (FILE_MAX + 1) whole ≡ bytes = cc in
     ap Some (sym (front whole) ∙ ap parse same)
 
-pub read_by_front : {Y : Type 0} (parse : List ℕ → Result Y Refusal) → IsReadByFront parse → (held : Option FileMap) (name bytes : List ℕ) (reading : Result Y Refusal) → IfSome held (λ files. option_map (take (FILE_MAX + 1)) (file_at files name) ≡ Some bytes) → parse bytes ≡ reading → IfSome held (λ files. read_as parse files name ≡ Some reading)
+pub read_by_front : {Y : Type 0} (parse : List ℕ → Result Y Refusal) → IsReadByFront parse → (held : Option FileMap) (name bytes : List ℕ) (reading : Result Y Refusal) → IfSome held (λ files. option_map (take (FILE_MAX + 1)) (file_at files name) ≡ Some bytes) → parse bytes ≡ reading → IfSome held (λ files. read_as parse (file_at files) name ≡ Some reading)
 read_by_front parse front None name bytes reading e r = tt
 read_by_front parse front (Some files) name bytes reading e r = file_as_front parse front (file_at files name) bytes e ∙ ap Some r
 
+-- a file that its rules refuse is refused
+refused : {Y : Type 0} (input : Input) (parse : List ℕ → Result Y Refusal) (file : Option (List ℕ)) (refusal : Refusal) → option_map parse file ≡ Some (Err refusal) → option_map (λ bytes. unless_accepted input (parse bytes)) file ≡ Some (Some (refuses input refusal))
+refused input parse None refusal is = cc
+refused input parse (Some bytes) refusal is = let no : parse bytes ≡ Err refusal = cc in ap (λ got. Some (unless_accepted input got)) no
+
 -- a reader that failed on the first bytes stops the input
-pub stopped_by_front : {Y : Type 0} (parse : List ℕ → Result Y Refusal) → IsReadByFront parse → (input : Input) (held : Option FileMap) (name bytes : List ℕ) (before now : List ℕ → ℕ) (error : ReadingError) → IfSome held (λ files. option_map (take (FILE_MAX + 1)) (file_at files name) ≡ Some bytes) → Fails error (parse bytes) → StopsInput parse input name held before now (stop_of input error)
-stopped_by_front parse front input held name bytes before now (reader.Refused r) e failed = (refl, read_by_front parse front held name bytes (Err r) e failed)
-stopped_by_front parse front input held name bytes before now reader.Memory e failed = tt
+pub stopped_by_front : {Y : Type 0} (parse : List ℕ → Result Y Refusal) → IsReadByFront parse → (input : Input) (name bytes : List ℕ) (old new : FilesShown) (error : ReadingError) → IfSome new.held (λ files. option_map (take (FILE_MAX + 1)) (file_at files name) ≡ Some bytes) → Fails error (parse bytes) → StopsAt (input_file input name (λ _. parse)) old new (stop_of input error)
+stopped_by_front parse front input name bytes old new (reader.Refused refusal) e failed =
+    mapped new.held (λ files. read_as parse (file_at files) name ≡ Some (Err refusal)) (λ files. option_map (λ bytes. unless_accepted input (parse bytes)) (file_at files name) ≡ Some (Some (refuses input refusal)))
+    (λ files is. refused input parse (file_at files name) refusal is) (read_by_front parse front new.held name bytes (Err refusal) e failed)
+stopped_by_front parse front input name bytes old new reader.Memory e failed = tt

@@ -3,4 +3,9 @@ pub mod Sevens
 pub mod Fronts
 pub mod SelectedSigns
 pub mod Selecting
+pub mod Faults
+pub mod Writings
+pub mod Orders
+pub mod InputOrder
 pub mod OutcomeRows
+pub mod Calls

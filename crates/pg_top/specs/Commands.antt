@@ -1,13 +1,13 @@
 -- How the definitions see a command.
-use Rattle.std.specs.Prelude.{ℕ, List, String, map, string_bytes}
+use Rattle.std.specs.Prelude.{ℕ, List, String, map, string_bytes, Option}
 use Rattle.std.specs.declared.alloc.Global.{Global}
-use Rattle.pg_top.specs.Requests.{GenerateNames, Request, ToGenerate}
+use Rattle.pg_top.specs.Requests.{FileNames, Request, ToGenerate, request_of}
 use Rattle.pg_top.specs.declared.commands.Names.{Names}
 use Rattle.pg_top.specs.declared.commands.Command.{Command}
 use Rattle.pg_top.specs.declared.commands.Command.TheVariants.{Generate}
 
 -- the names as their bytes
-abbrev pub texts_of : Names → GenerateNames
+abbrev pub texts_of : Names → FileNames
 texts_of n = record { dict = n.dict.now; patterns = n.patterns.now; output = n.output.now; translate = n.translate.now; params = n.params.now; report = n.report.now }
 
 -- the command as what it asks for
@@ -17,3 +17,7 @@ asked_by (Generate names) = ToGenerate (texts_of names)
 -- words as their bytes
 abbrev pub words_of : List (String Global) → List (List ℕ)
 words_of words = map string_bytes words
+
+-- what the words of a call ask for, none where they are no command
+abbrev pub asked : List (String Global) → Option Request
+asked words = request_of (words_of words)

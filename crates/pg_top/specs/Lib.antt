@@ -2,9 +2,13 @@ pub mod Requests
 pub mod Commands
 pub mod Statuses
 pub mod PrintedLines
-pub mod Puts
-pub mod Selection
-pub mod Reads
 pub mod Outcomes
+pub mod Readings
+pub mod Selection
+pub mod Selecting
+pub mod Calls
+pub mod Writings
+pub mod Moments
+pub mod Faults
 pub mod Answers
 pub mod Stops

@@ -3,8 +3,8 @@ use Rattle.std.specs.Prelude.{ℕ, nat_lt, nat_eq, Bool, true, not, ◌&&◌, if
 use Rattle.std.specs.List.{list_all, starts_with}
 use Rattle.std.specs.Str.{bytes_eq}
 
--- the names that `generate` is given, each as its bytes
-pub record GenerateNames : Type 0 where
+-- the names of the files of `generate`, each as its bytes
+pub record FileNames : Type 0 where
   pub dict : List ℕ
   pub patterns : List ℕ
   pub output : List ℕ
@@ -14,7 +14,7 @@ pub record GenerateNames : Type 0 where
 
 -- what words ask for
 pub data Request : Type 0 where
-  ToGenerate : GenerateNames → Request
+  ToGenerate : FileNames → Request
 
 -- a name is not empty and does not begin with two dashes
 abbrev pub is_name : List ℕ → Bool
@@ -30,22 +30,22 @@ outputs_differ [] inputs = true
 outputs_differ (output ∷ outputs) inputs = differs_from output (outputs ++ inputs) && outputs_differ outputs inputs
 
 -- the names of the inputs and of the outputs of `generate`
-abbrev pub inputs_of : GenerateNames → List (List ℕ)
-inputs_of n = n.dict ∷ n.patterns ∷ n.translate ∷ n.params ∷ []
+abbrev pub input_names : FileNames → List (List ℕ)
+input_names n = n.dict ∷ n.patterns ∷ n.translate ∷ n.params ∷ []
 
-abbrev pub outputs_of : GenerateNames → List (List ℕ)
-outputs_of n = n.output ∷ n.report ∷ []
+abbrev pub output_names : FileNames → List (List ℕ)
+output_names n = n.output ∷ n.report ∷ []
 
 -- whether `generate` takes these names
-abbrev pub are_taken : GenerateNames → Bool
-are_taken n = list_all is_name (inputs_of n ++ outputs_of n) && outputs_differ (outputs_of n) (inputs_of n)
+abbrev pub are_taken : FileNames → Bool
+are_taken n = list_all is_name (input_names n ++ output_names n) && outputs_differ (output_names n) (input_names n)
 
 -- what the first word and six names ask for
-abbrev pub request_for : List ℕ → GenerateNames → Option Request
+abbrev pub request_for : List ℕ → FileNames → Option Request
 request_for word n = if bytes_eq word (codes "generate") && are_taken n then Some (ToGenerate n) else None
 
 -- a first word and six names, in the order in which they are given
-abbrev pub words_with : List ℕ → GenerateNames → List (List ℕ)
+abbrev pub words_with : List ℕ → FileNames → List (List ℕ)
 words_with word n = word ∷ n.dict ∷ n.patterns ∷ n.output ∷ n.translate ∷ n.params ∷ n.report ∷ []
 
 -- what words ask for: `generate DICT PATTERNS OUT TRANSLATE PARAMS REPORT`, and nothing else

@@ -1,37 +1,57 @@
--- Why a command stops before it writes.
-use Rattle.std.specs.Prelude.{◌≡◌, ℕ, List, Option, Some, Result, Err, IfSome}
-use Rattle.pg_types.specs.declared.refusals.Refusal.{Refusal}
+-- Why a command stops before it writes, and what is put then.
+use Rattle.std.specs.Prelude.{◌≡◌, ℕ, List, [], Some, IfSome, ◌⊎◌}
+use Rattle.std.specs.Option.{option_map}
 use Rattle.pg_types.specs.declared.refusals.ReadingError.{ReadingError}
 use Rattle.pg_types.specs.declared.refusals.ReadingError.TheVariants as reader
-use Rattle.pg_outside.specs.Content.{FileMap}
+use Rattle.pg_outside.specs.Content.{FilesShown, SinkShown, file_at}
 use Rattle.pg_outside.specs.Faults.{Rose}
-use Rattle.pg_top.specs.Outcomes.{Refuses, outcome_of}
-use Rattle.pg_top.specs.Reads.{read_as, name_of, AcceptedBefore}
-use Rattle.pg_top.specs.Requests.{GenerateNames, ToGenerate}
+use Rattle.pg_top.specs.Faults.{IsUnread}
+use Rattle.pg_top.specs.Moments.{Moment, Puts, PutsPart, PutRose, PutOrRose}
+use Rattle.pg_top.specs.Outcomes.{Writing, refuses}
+use Rattle.pg_top.specs.PrintedLines.{refused_line, reading_line, writing_line}
+use Rattle.pg_top.specs.Readings.{Reading, first_end}
+use Rattle.pg_top.specs.Writings.{WroteAll, StoppedAt}
+use Rattle.pg_top.specs.declared.answers.Status.{Status}
+use Rattle.pg_top.specs.declared.answers.Status.TheVariants as status
 use Rattle.pg_top.specs.declared.inputs.Input.{Input}
 use Rattle.pg_top.specs.declared.inputs.Stop.{Stop}
 use Rattle.pg_top.specs.declared.inputs.Stop.TheVariants.{Refused, Unread, Memory}
 
--- why reading one input stopped: it is refused by the rules of its kind, its read faults rose, or memory was wanted
-abbrev pub StopsInput : {Y : Type 0} → (List ℕ → Result Y Refusal) → Input → List ℕ → Option FileMap → (List ℕ → ℕ) → (List ℕ → ℕ) → Stop → Type 0
-StopsInput parse input name held before now (Refused at r) = (at ≡ input) × IfSome held (λ files. read_as parse files name ≡ Some (Err r))
-StopsInput parse input name held before now (Unread at) = (at ≡ input) × Rose (before name) (now name)
-StopsInput parse input name held before now Memory = Unit {0}
+-- why reading one file stopped: it is refused, its read faults rose, or memory was wanted
+abbrev pub StopsAt : Reading → FilesShown → FilesShown → Stop → Type 0
+StopsAt r old new (Refused input refusal) = IfSome new.held (λ files. option_map (r.ends (file_at files)) (file_at files r.name) ≡ Some (Some (refuses input refusal)))
+StopsAt r old new (Unread name) = (name.now ≡ r.name) × Rose (old.read_faults name.now) (new.read_faults name.now)
+StopsAt r old new Memory = Unit {0}
 
--- why `generate` stopped before it wrote: its outcome is this refusal, or an input could not be read and those before it are
--- accepted, or memory was wanted
-abbrev pub StopsGenerate : GenerateNames → Option FileMap → (List ℕ → ℕ) → (List ℕ → ℕ) → Stop → Type 0
-StopsGenerate n held before now (Refused input r) = IfSome held (λ files. outcome_of files (ToGenerate n) ≡ Refuses input r)
-StopsGenerate n held before now (Unread input) = Rose (before (name_of n input)) (now (name_of n input)) × IfSome held (λ files. AcceptedBefore files n input)
-StopsGenerate n held before now Memory = Unit {0}
+-- why reading files stopped: the first that ends the call is refused, or one could not be read, or memory was wanted
+abbrev pub StopsReading : List Reading → FilesShown → FilesShown → Stop → Type 0
+StopsReading reads old new (Refused input refusal) = IfSome new.held (λ files. first_end (file_at files) reads ≡ Some (refuses input refusal))
+StopsReading reads old new (Unread name) = IsUnread reads name.now old new
+StopsReading reads old new Memory = Unit {0}
 
--- why reading the first bytes of an input stopped: its read faults rose, or memory was wanted
-abbrev pub StopsFront : Input → List ℕ → (List ℕ → ℕ) → (List ℕ → ℕ) → Stop → Type 0
-StopsFront input name before now (Refused at r) = ⊥
-StopsFront input name before now (Unread at) = (at ≡ input) × Rose (before name) (now name)
-StopsFront input name before now Memory = Unit {0}
+-- why reading the first bytes of a file stopped: its read faults rose, or memory was wanted
+abbrev pub StopsFront : List ℕ → FilesShown → FilesShown → Stop → Type 0
+StopsFront name old new (Refused input refusal) = ⊥
+StopsFront name old new (Unread at) = (at.now ≡ name) × Rose (old.read_faults name) (new.read_faults name)
+StopsFront name old new Memory = Unit {0}
 
 -- why a command stops at an input whose reader failed
 abbrev pub stop_of : Input → ReadingError → Stop
-stop_of input (reader.Refused r) = Refused input r
+stop_of input (reader.Refused refusal) = Refused input refusal
 stop_of input reader.Memory = Memory
+
+-- the line of an answer was put, or its put failed, which is a fault
+abbrev pub PutsAnswer : List ℕ → Status → Status → SinkShown → SinkShown → Type 0
+PutsAnswer line wanted answer old new = ((answer ≡ wanted) × Puts old new line) ⊎ ((answer ≡ status.Fault) × PutRose old new × PutsPart old new line)
+
+-- the answer of a command that stopped, and what was put
+abbrev pub PutsStop : Stop → Status → SinkShown → SinkShown → Type 0
+PutsStop (Refused input refusal) answer old new = ((answer ≡ status.Memory) × Puts old new []) ⊎ PutsAnswer (refused_line input refusal) status.Refused answer old new
+PutsStop (Unread name) answer old new = (answer ≡ status.Fault) × PutOrRose old new (reading_line name.now)
+PutsStop Memory answer old new = (answer ≡ status.Memory) × Puts old new []
+
+-- all files were written, and the lines put or their put failed; or a write failed, and the line of its fault was put
+abbrev pub Finishes : Writing → List ℕ → Status → Moment → Moment → Type 0
+Finishes writing lines answer old new =
+    (WroteAll old.0 new.0 writing × PutsAnswer lines status.Done answer old.1 new.1)
+    ⊎ ((answer ≡ status.Fault) × (place : ℕ) × (stopped : StoppedAt old.0 new.0 writing place) × PutOrRose old.1 new.1 (writing_line stopped.write.0))

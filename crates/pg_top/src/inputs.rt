@@ -1,11 +1,22 @@
-//! The input files of a command, and why it stops at one of them.
+//! The files that a command reads, and why it stops at one of them.
 ghost use Rattle.std.specs.Prelude.{◌≡◌};
 ghost use Rattle.pg_top.specs.declared.inputs.Stop.TheVariants.{Memory};
 
 use pg_types::Refusal;
 use std::alloc::AllocError;
 
-/// An input file.
+/// A file that `audit` compares with the one that `generate` would write.
+#[derive(Clone, Copy, Debug, PartialEq, Eq)]
+pub enum Given {
+    /// The pattern file.
+    Patterns,
+    /// The hyphenated list.
+    Pattmp,
+    /// The report.
+    Report,
+}
+
+/// As what a file is read.
 #[derive(Clone, Copy, Debug, PartialEq, Eq)]
 pub enum Input {
     /// The translate file.
@@ -16,23 +27,29 @@ pub enum Input {
     Patterns,
     /// The dictionary.
     Dictionary,
+    /// One of several parameter files, by its number from 1.
+    Set(u8),
+    /// A packed table.
+    Table,
+    /// A file that is compared.
+    Given(Given),
 }
 
 /// Why a command stopped before it wrote.
 #[derive(Clone, Copy, Debug, PartialEq, Eq)]
-pub enum Stop {
+pub enum Stop<'a> {
     /// This input breaks its rules.
     Refused(Input, Refusal),
-    /// This input could not be read.
-    Unread(Input),
+    /// The file of this name could not be read.
+    Unread(&'a str),
     /// There was not enough memory.
     Memory,
 }
 
-impl From<AllocError> for Stop {
+impl<'a> From<AllocError> for Stop<'a> {
     ghost from_gives = { λ _ stop. stop ≡ Memory };
 
-    fn from(_error: AllocError) -> Stop {
+    fn from(_error: AllocError) -> Stop<'a> {
         Stop::Memory
     }
 }

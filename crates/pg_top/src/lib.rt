@@ -14,6 +14,7 @@ mod selection;
 mod tests;
 mod top;
 pub mod words;
+pub mod writes;
 
 pub use answers::{Status, exit_code};
 pub use commands::{Command, Names};

@@ -3,7 +3,7 @@ ghost use Rattle.std.specs.Prelude.{◌≡◌, ◌++◌, ◌==◌, [], if◌then
 ghost use Rattle.pg_types.specs.Lines.{lines};
 ghost use Rattle.pg_top.specs.PrintedLines.{done_line as done_line_of, refused_line as refused_line_of, word_of, place_of};
 
-use crate::inputs::Input;
+use crate::inputs::{Given, Input};
 use itoa::Buffer;
 use pg_types::{Refusal, Totals, next_line};
 use std::alloc::{AllocError, Global};
@@ -52,25 +52,31 @@ pub fn done_line(alloc: Global, patterns: &[u8], totals: &Totals) -> Result<Vec<
     Ok(line)
 }
 
-/// The word for an input in a line of refusal.
-fn word(input: Input) -> &'static [u8]
-    ensures { result.now ≡ word_of input }
+/// Appends the words for a file in a line of refusal or of `no`.
+fn push_word(line: &mut Vec<u8>, input: Input) -> Result<(), AllocError>
+    ensures { OnOk result (line.new.items ≡ line.old.items ++ word_of input) }
 {
     match input {
-        Input::Translate => b"translate",
-        Input::Parameters => b"parameters",
-        Input::Patterns => b"patterns",
-        Input::Dictionary => b"dictionary",
+        Input::Translate => line.extend_from_slice(b"translate"),
+        Input::Parameters => line.extend_from_slice(b"parameters"),
+        Input::Patterns | Input::Given(Given::Patterns) => line.extend_from_slice(b"patterns"),
+        Input::Dictionary => line.extend_from_slice(b"dictionary"),
+        Input::Set(number) => push_number(line, b"set ", u64::from(number)),
+        Input::Table => line.extend_from_slice(b"table"),
+        Input::Given(Given::Pattmp) => line.extend_from_slice(b"pattmp"),
+        Input::Given(Given::Report) => line.extend_from_slice(b"report"),
     }
 }
 
-/// Appends where in an input the refused place is.
+/// Appends where in a file the refused place is.
 fn push_place(line: &mut Vec<u8>, input: Input, refusal: &Refusal) -> Result<(), AllocError>
     ensures { OnOk result (line.new.items ≡ line.old.items ++ place_of input refusal.now) }
 {
     match input {
-        Input::Parameters => push_number(line, b" item ", u64::from(refusal.line)),
-        Input::Translate | Input::Patterns | Input::Dictionary => {
+        Input::Parameters | Input::Set(_) => {
+            push_number(line, b" item ", u64::from(refusal.line))
+        }
+        Input::Translate | Input::Patterns | Input::Dictionary | Input::Table | Input::Given(_) => {
             push_number(line, b" line ", u64::from(refusal.line))?;
             push_number(line, b" column ", u64::from(refusal.column))
         }
@@ -82,7 +88,7 @@ pub fn refused_line(alloc: Global, input: Input, refusal: &Refusal) -> Result<Ve
     ensures { IfOk result (λ line. line.items ≡ refused_line_of input refusal.now) }
 {
     let mut line = Vec::from_slice(alloc, b"refused: ")?;
-    line.extend_from_slice(word(input))?;
+    push_word(&mut line, input)?;
     push_number(&mut line, b" ", u64::from(refusal.kind.number()))?;
     line.extend_from_slice(b" ")?;
     line.extend_from_slice(refusal.kind.name().as_bytes())?;

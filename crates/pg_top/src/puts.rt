@@ -1,16 +1,18 @@
 //! Lines that are put into a sink.
-ghost use Rattle.std.specs.Prelude.{◌≡◌, ◌≤◌, ◌++◌, ◌∷◌, [], ◌⊎◌, OnOk, OnErr};
-ghost use Rattle.pg_outside.specs.Content.{WasPut, WasPartPut};
+ghost use Rattle.std.specs.Prelude.{◌≡◌, ◌≤◌, ◌++◌, ◌∷◌, [], OnOk, OnErr};
 ghost use Rattle.pg_outside.specs.Faults.{Rose};
-ghost use Rattle.pg_top.specs.Puts.{PutOrRose};
+ghost use Rattle.pg_top.specs.Moments.{Puts, PutsPart, PutOrRose};
+ghost use Rattle.pg_top.specs.Stops.{PutsAnswer, PutsStop};
 
 use crate::answers::Status;
+use crate::inputs::Stop;
+use crate::printed::{READING, refused_line};
 use pg_outside::{Failed, Sink};
+use std::alloc::{AllocError, Global};
 
-/// Puts a line as the last step of a call, and gives its answer: the one that the line tells, or a fault.
+/// Puts the line of an answer as the last step of a call, and gives the answer: this one, or a fault.
 pub fn answer<O: Sink>(out: &mut O, line: &[u8], status: Status) -> Status
-    ensures cases { ((result ≡ status) × WasPut (O.contents out.old) (O.contents out.new) line.now) ⊎ ((result ≡ Status.Fault) × Rose (O.faults out.old) (O.faults out.new) × WasPartPut (O.contents out.old) (O.contents out.new) line.now) }
-    ensures later { O.faults out.old ≤ O.faults out.new }
+    ensures put { PutsAnswer line.now status result (O.shown out.old) (O.shown out.new) }
 {
     match out.put(line) {
         Ok(()) => status,
@@ -20,10 +22,10 @@ pub fn answer<O: Sink>(out: &mut O, line: &[u8], status: Status) -> Status
 
 /// Puts the three parts of a fault line, and stops where a put fails.
 fn put_parts<O: Sink>(out: &mut O, front: &[u8], name: &str) -> Result<(), Failed>
-    ensures whole { OnOk result (WasPut (O.contents out.old) (O.contents out.new) (front.now ++ name.now ++ 10 ∷ [])) }
-    ensures part { OnErr result (WasPartPut (O.contents out.old) (O.contents out.new) (front.now ++ name.now ++ 10 ∷ [])) }
-    ensures later { O.faults out.old ≤ O.faults out.new }
-    ensures failed { OnErr result (Rose (O.faults out.old) (O.faults out.new)) }
+    ensures whole { OnOk result (Puts (O.shown out.old) (O.shown out.new) (front.now ++ name.now ++ 10 ∷ [])) }
+    ensures part { OnErr result (PutsPart (O.shown out.old) (O.shown out.new) (front.now ++ name.now ++ 10 ∷ [])) }
+    ensures later { (O.shown out.old).faults ≤ (O.shown out.new).faults }
+    ensures failed { OnErr result (Rose (O.shown out.old).faults (O.shown out.new).faults) }
 {
     out.put(front)?;
     out.put(name.as_bytes())?;
@@ -33,9 +35,22 @@ fn put_parts<O: Sink>(out: &mut O, front: &[u8], name: &str) -> Result<(), Faile
 /// Puts a fault line for a name as the last step of a call, and gives its answer. Where a put fails, nothing more is put.
 pub fn put_fault<O: Sink>(out: &mut O, front: &[u8], name: &str) -> Status
     ensures status { result ≡ Status.Fault }
-    ensures line { PutOrRose (O.faults out.old) (O.faults out.new) (O.contents out.old) (O.contents out.new) (front.now ++ name.now ++ 10 ∷ []) }
-    ensures later { O.faults out.old ≤ O.faults out.new }
+    ensures line { PutOrRose (O.shown out.old) (O.shown out.new) (front.now ++ name.now ++ 10 ∷ []) }
 {
     let _ = put_parts(out, front, name);
     Status::Fault
+}
+
+/// Puts the line that says why a command stopped, if there is one, and gives its answer.
+pub fn put_stop<O: Sink>(alloc: Global, out: &mut O, stop: &Stop<'_>) -> Status
+    ensures put { PutsStop stop.now result (O.shown out.old) (O.shown out.new) }
+{
+    match stop {
+        Stop::Refused(input, refusal) => match refused_line(alloc, *input, refusal) {
+            Ok(line) => answer(out, &line, Status::Refused),
+            Err(AllocError) => Status::Memory,
+        },
+        Stop::Unread(name) => put_fault(out, READING, name),
+        Stop::Memory => Status::Memory,
+    }
 }

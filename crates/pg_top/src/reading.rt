@@ -12,10 +12,9 @@ ghost use Rattle.pg_dict.specs.Words.{words};
 ghost use Rattle.pg_patterns.specs.Starts.{start};
 ghost use Rattle.pg_patterns.specs.Values.{SignsUpTo};
 ghost use Rattle.pg_top.specs.Commands.{texts_of};
-ghost use Rattle.pg_top.specs.Outcomes.{outcome_of, generated};
-ghost use Rattle.pg_top.specs.Reads.{read_as};
-ghost use Rattle.pg_top.specs.Requests.{ToGenerate};
-ghost use Rattle.pg_top.specs.Stops.{stop_of, StopsFront, StopsInput, StopsGenerate};
+ghost use Rattle.pg_top.specs.Readings.{read_as, input_file};
+ghost use Rattle.pg_top.specs.Selecting.{inputs_of, HasInputs};
+ghost use Rattle.pg_top.specs.Stops.{stop_of, StopsFront, StopsAt, StopsReading};
 
 use crate::commands::Names;
 use crate::inputs::{Input, Stop};
@@ -40,29 +39,29 @@ pub struct Inputs {
 }
 
 /// Reads a file, or of one that is too long the first bytes, one more than a file may have.
-fn read_front<F: Files>(
+fn read_front<'a, F: Files>(
     alloc: Global,
-    input: Input,
-    name: &str,
+    name: &'a str,
     files: &mut F,
-) -> Result<Vec<u8>, Stop>
-    ensures held { KeepsHeld (F.held files.old) (F.held files.new) }
-    ensures reads { NoneFell (F.read_faults files.old) (F.read_faults files.new) }
-    ensures writes { NoneFell (F.write_faults files.old) (F.write_faults files.new) }
-    ensures front { IfOk result (λ bytes. IfSome (F.held files.new) (λ files. option_map (take (FILE_MAX + 1)) (file_at files name.now) ≡ Some bytes.items)) }
-    ensures stopped { IfErr result (StopsFront input name.now (F.read_faults files.old) (F.read_faults files.new)) }
+) -> Result<Vec<u8>, Stop<'a>>
+    ensures held { KeepsHeld (F.shown files.old).held (F.shown files.new).held }
+    ensures reads { NoneFell (F.shown files.old).read_faults (F.shown files.new).read_faults }
+    ensures writes { NoneFell (F.shown files.old).write_faults (F.shown files.new).write_faults }
+    ensures front { IfOk result (λ bytes.
+        IfSome (F.shown files.new).held (λ files. option_map (take (FILE_MAX + 1)) (file_at files name.now) ≡ Some bytes.items)) }
+    ensures stopped { IfErr result (StopsFront name.now (F.shown files.old) (F.shown files.new)) }
 {
     let mut bytes = Vec::new(alloc);
     match files.read(alloc, name, FILE_MAX, &mut bytes) {
         Ok(()) => Ok(bytes),
         Err(ReadError::TooLong) => Ok(bytes),
-        Err(ReadError::Failed) => Err(Stop::Unread(input)),
+        Err(ReadError::Failed) => Err(Stop::Unread(name)),
         Err(ReadError::Memory) => Err(Stop::Memory),
     }
 }
 
 /// Why a command stops at an input whose reader failed.
-fn stop(input: Input, error: ReadingError) -> Stop
+fn stop<'a>(input: Input, error: ReadingError) -> Stop<'a>
     ensures { result ≡ stop_of input error }
 {
     match error {
@@ -72,14 +71,16 @@ fn stop(input: Input, error: ReadingError) -> Stop
 }
 
 /// Reads the translate file.
-fn read_table<F: Files>(alloc: Global, name: &str, files: &mut F) -> Result<Table, Stop>
-    ensures held { KeepsHeld (F.held files.old) (F.held files.new) }
-    ensures reads { NoneFell (F.read_faults files.old) (F.read_faults files.new) }
-    ensures writes { NoneFell (F.write_faults files.old) (F.write_faults files.new) }
-    ensures ok { IfOk result (λ table. IfSome (F.held files.new) (λ files. read_as table_of_file files name.now ≡ Some (Ok table))) }
-    ensures stopped { IfErr result (StopsInput table_of_file Input.Translate name.now (F.held files.new) (F.read_faults files.old) (F.read_faults files.new)) }
+fn read_table<'a, F: Files>(alloc: Global, name: &'a str, files: &mut F) -> Result<Table, Stop<'a>>
+    ensures held { KeepsHeld (F.shown files.old).held (F.shown files.new).held }
+    ensures reads { NoneFell (F.shown files.old).read_faults (F.shown files.new).read_faults }
+    ensures writes { NoneFell (F.shown files.old).write_faults (F.shown files.new).write_faults }
+    ensures ok { IfOk result (λ table.
+        IfSome (F.shown files.new).held (λ files. read_as table_of_file (file_at files) name.now ≡ Some (Ok table))) }
+    ensures stopped { IfErr result
+        (StopsAt (input_file Input.Translate name.now (λ _. table_of_file)) (F.shown files.old) (F.shown files.new)) }
 {
-    let bytes = read_front(alloc, Input::Translate, name, files)?;
+    let bytes = read_front(alloc, name, files)?;
     match Table::read(alloc, &bytes) {
         Ok(table) => Ok(table),
         Err(error) => Err(stop(Input::Translate, error)),
@@ -87,14 +88,20 @@ fn read_table<F: Files>(alloc: Global, name: &str, files: &mut F) -> Result<Tabl
 }
 
 /// Reads the parameters.
-fn read_parameters<F: Files>(alloc: Global, name: &str, files: &mut F) -> Result<Params, Stop>
-    ensures held { KeepsHeld (F.held files.old) (F.held files.new) }
-    ensures reads { NoneFell (F.read_faults files.old) (F.read_faults files.new) }
-    ensures writes { NoneFell (F.write_faults files.old) (F.write_faults files.new) }
-    ensures ok { IfOk result (λ params. IfSome (F.held files.new) (λ files. read_as parameters files name.now ≡ Some (Ok params))) }
-    ensures stopped { IfErr result (StopsInput parameters Input.Parameters name.now (F.held files.new) (F.read_faults files.old) (F.read_faults files.new)) }
+fn read_parameters<'a, F: Files>(
+    alloc: Global,
+    name: &'a str,
+    files: &mut F,
+) -> Result<Params, Stop<'a>>
+    ensures held { KeepsHeld (F.shown files.old).held (F.shown files.new).held }
+    ensures reads { NoneFell (F.shown files.old).read_faults (F.shown files.new).read_faults }
+    ensures writes { NoneFell (F.shown files.old).write_faults (F.shown files.new).write_faults }
+    ensures ok { IfOk result (λ params.
+        IfSome (F.shown files.new).held (λ files. read_as parameters (file_at files) name.now ≡ Some (Ok params))) }
+    ensures stopped { IfErr result
+        (StopsAt (input_file Input.Parameters name.now (λ _. parameters)) (F.shown files.old) (F.shown files.new)) }
 {
-    let bytes = read_front(alloc, Input::Parameters, name, files)?;
+    let bytes = read_front(alloc, name, files)?;
     match read_params(alloc, &bytes) {
         Ok(params) => Ok(params),
         Err(error) => Err(stop(Input::Parameters, error)),
@@ -102,20 +109,22 @@ fn read_parameters<F: Files>(alloc: Global, name: &str, files: &mut F) -> Result
 }
 
 /// Reads the starting patterns under a table.
-fn read_start<F: Files>(
+fn read_start<'a, F: Files>(
     alloc: Global,
     table: &Table,
-    name: &str,
+    name: &'a str,
     files: &mut F,
-) -> Result<PatternSet, Stop>
-    ensures held { KeepsHeld (F.held files.old) (F.held files.new) }
-    ensures reads { NoneFell (F.read_faults files.old) (F.read_faults files.new) }
-    ensures writes { NoneFell (F.write_faults files.old) (F.write_faults files.new) }
-    ensures ok { IfOk result (λ patterns. IfSome (F.held files.new) (λ files. read_as (start table.now) files name.now ≡ Some (Ok patterns))) }
+) -> Result<PatternSet, Stop<'a>>
+    ensures held { KeepsHeld (F.shown files.old).held (F.shown files.new).held }
+    ensures reads { NoneFell (F.shown files.old).read_faults (F.shown files.new).read_faults }
+    ensures writes { NoneFell (F.shown files.old).write_faults (F.shown files.new).write_faults }
+    ensures ok { IfOk result (λ patterns.
+        IfSome (F.shown files.new).held (λ files. read_as (start table.now) (file_at files) name.now ≡ Some (Ok patterns))) }
     ensures known { IfOk result (SignsUpTo (letters_of table.now + 1)) }
-    ensures stopped { IfErr result (StopsInput (start table.now) Input.Patterns name.now (F.held files.new) (F.read_faults files.old) (F.read_faults files.new)) }
+    ensures stopped { IfErr result
+        (StopsAt (input_file Input.Patterns name.now (λ _. start table.now)) (F.shown files.old) (F.shown files.new)) }
 {
-    let bytes = read_front(alloc, Input::Patterns, name, files)?;
+    let bytes = read_front(alloc, name, files)?;
     match PatternSet::read(alloc, table, &bytes) {
         Ok(patterns) => Ok(patterns),
         Err(error) => Err(stop(Input::Patterns, error)),
@@ -123,20 +132,22 @@ fn read_start<F: Files>(
 }
 
 /// Reads the dictionary under a table.
-fn read_dictionary<F: Files>(
+fn read_dictionary<'a, F: Files>(
     alloc: Global,
     table: &Table,
-    name: &str,
+    name: &'a str,
     files: &mut F,
-) -> Result<Dictionary, Stop>
-    ensures held { KeepsHeld (F.held files.old) (F.held files.new) }
-    ensures reads { NoneFell (F.read_faults files.old) (F.read_faults files.new) }
-    ensures writes { NoneFell (F.write_faults files.old) (F.write_faults files.new) }
-    ensures ok { IfOk result (λ dictionary. IfSome (F.held files.new) (λ files. read_as (words table.now) files name.now ≡ Some (Ok dictionary))) }
+) -> Result<Dictionary, Stop<'a>>
+    ensures held { KeepsHeld (F.shown files.old).held (F.shown files.new).held }
+    ensures reads { NoneFell (F.shown files.old).read_faults (F.shown files.new).read_faults }
+    ensures writes { NoneFell (F.shown files.old).write_faults (F.shown files.new).write_faults }
+    ensures ok { IfOk result (λ dictionary.
+        IfSome (F.shown files.new).held (λ files. read_as (words table.now) (file_at files) name.now ≡ Some (Ok dictionary))) }
     ensures signs { IfOk result (SignsAtMost (letters_of table.now + 1)) }
-    ensures stopped { IfErr result (StopsInput (words table.now) Input.Dictionary name.now (F.held files.new) (F.read_faults files.old) (F.read_faults files.new)) }
+    ensures stopped { IfErr result
+        (StopsAt (input_file Input.Dictionary name.now (λ _. words table.now)) (F.shown files.old) (F.shown files.new)) }
 {
-    let bytes = read_front(alloc, Input::Dictionary, name, files)?;
+    let bytes = read_front(alloc, name, files)?;
     match Dictionary::read(alloc, table, &bytes) {
         Ok(dictionary) => Ok(dictionary),
         Err(error) => Err(stop(Input::Dictionary, error)),
@@ -144,18 +155,19 @@ fn read_dictionary<F: Files>(
 }
 
 /// Reads what `generate` reads, in its order, up to the first refusal or fault.
-pub fn read_inputs<F: Files>(
+pub fn read_inputs<'a, F: Files>(
     alloc: Global,
-    names: &Names<'_>,
+    names: &Names<'a>,
     files: &mut F,
-) -> Result<Inputs, Stop>
-    ensures held { KeepsHeld (F.held files.old) (F.held files.new) }
-    ensures reads { NoneFell (F.read_faults files.old) (F.read_faults files.new) }
-    ensures writes { NoneFell (F.write_faults files.old) (F.write_faults files.new) }
-    ensures ok { IfOk result (λ inputs. IfSome (F.held files.new) (λ files. outcome_of files (ToGenerate (texts_of names.now)) ≡ generated (texts_of names.now) inputs.table inputs.params inputs.start inputs.dictionary)) }
+) -> Result<Inputs, Stop<'a>>
+    ensures held { KeepsHeld (F.shown files.old).held (F.shown files.new).held }
+    ensures reads { NoneFell (F.shown files.old).read_faults (F.shown files.new).read_faults }
+    ensures writes { NoneFell (F.shown files.old).write_faults (F.shown files.new).write_faults }
+    ensures ok { IfOk result (λ inputs. IfSome (F.shown files.new).held (λ files.
+        HasInputs (file_at files) (texts_of names.now) inputs.table inputs.params inputs.start inputs.dictionary)) }
     ensures signs { IfOk result (λ inputs. SignsAtMost (letters_of inputs.table + 1) inputs.dictionary) }
     ensures start { IfOk result (λ inputs. SignsUpTo (letters_of inputs.table + 1) inputs.start) }
-    ensures stopped { IfErr result (StopsGenerate (texts_of names.now) (F.held files.new) (F.read_faults files.old) (F.read_faults files.new)) }
+    ensures stopped { IfErr result (StopsReading (inputs_of (texts_of names.now)) (F.shown files.old) (F.shown files.new)) }
 {
     let table = read_table(alloc, names.translate, files)?;
     let params = read_parameters(alloc, names.params, files)?;

@@ -1,22 +1,28 @@
 //! The selection of patterns, and the texts that it gives.
 ghost use Rattle.std.specs.Prelude.{◌≡◌, ◌+◌, IfOk};
+ghost use Rattle.pg_top.specs.Commands.{texts_of};
+ghost use Rattle.pg_top.specs.Outcomes.{Ends};
+ghost use Rattle.pg_top.specs.Selecting.{generated};
+ghost use Rattle.pg_top.specs.Writings.{writing_of};
 ghost use Rattle.pg_translate.specs.Alphabets.{letters_of};
 ghost use Rattle.pg_dict.specs.Word.{SignsAtMost};
 ghost use Rattle.pg_patterns.specs.Values.{SignsUpTo};
-ghost use Rattle.pg_top.specs.PrintedLines.{done_line as done_line_of};
-ghost use Rattle.pg_top.specs.Selection.{selected, selected_text, selected_totals};
+ghost use Rattle.pg_top.specs.Selection.{selected, selected_totals};
 
+use crate::answers::Status;
+use crate::commands::Names;
 use crate::printed::done_line;
 use crate::reading::Inputs;
+use crate::writes::Output;
 use pg_driver::{Run, generate};
 use pg_packed::PackedEngine;
 use std::alloc::{AllocError, Global};
 
-/// What `generate` writes and prints.
+/// What a command writes and prints.
 #[derive(Drop)]
-pub struct Texts {
-    /// The pattern file.
-    pub patterns: Vec<u8>,
+pub struct Outputs<'a> {
+    /// The files, in the order in which they are written.
+    pub files: Vec<Output<'a>>,
     /// The printed lines.
     pub lines: Vec<u8>,
 }
@@ -41,15 +47,24 @@ fn select(alloc: Global, inputs: &Inputs) -> Result<Run, AllocError>
     Ok(run)
 }
 
-/// Does the run of the inputs, and builds all that is written and printed.
-pub fn make_texts(alloc: Global, inputs: &Inputs) -> Result<Texts, AllocError>
+/// Does the run of the inputs, and builds all that `generate` writes and prints.
+pub fn make_outputs<'a>(
+    alloc: Global,
+    names: &Names<'a>,
+    inputs: &Inputs,
+) -> Result<Outputs<'a>, AllocError>
     requires signs { SignsAtMost (letters_of inputs.now.table + 1) inputs.now.dictionary }
     requires start { SignsUpTo (letters_of inputs.now.table + 1) inputs.now.start }
-    ensures patterns { IfOk result (λ texts. texts.patterns.items ≡ selected_text inputs.now.table inputs.now.params inputs.now.start inputs.now.dictionary) }
-    ensures lines { IfOk result (λ texts. texts.lines.items ≡ done_line_of (selected_text inputs.now.table inputs.now.params inputs.now.start inputs.now.dictionary) (selected_totals inputs.now.table inputs.now.params inputs.now.start inputs.now.dictionary)) }
+    ensures made { IfOk result (λ made. generated (texts_of names.now) inputs.now.table inputs.now.params inputs.now.start inputs.now.dictionary
+        ≡ Ends Status.Done (writing_of made.files.items) made.lines.items) }
 {
     let run = select(alloc, inputs)?;
     let patterns = run.patterns().text(alloc, &inputs.table)?;
     let lines = done_line(alloc, &patterns, &run.totals())?;
-    Ok(Texts { patterns, lines })
+    let mut files = Vec::new(alloc);
+    files.push(Output {
+        name: names.output,
+        text: patterns,
+    })?;
+    Ok(Outputs { files, lines })
 }

@@ -1,36 +1,58 @@
 //! The one call of the program.
-ghost use Rattle.std.specs.Prelude.{◌≡◌, ◌⊎◌, ◌∷◌, [], IfOk, IfErr, IfSome, None, Some};
-ghost use Rattle.pg_outside.specs.Content.{KeepsHeld, WasPut};
+ghost use Rattle.std.specs.Prelude.{◌≡◌, ◌⊎◌, IfOk, IfErr, IfSome, None, Some, false};
+ghost use Rattle.pg_outside.specs.Content.{KeepsHeld, file_at};
 ghost use Rattle.pg_outside.specs.Faults.{NoneFell};
-ghost use Rattle.pg_top.specs.Answers.{Call, OfFiles, OfRequest, MayAnswer, LeavesFiles, PutsRefusal, WritesAll, SomeRose, IsFault, IsComplete};
-ghost use Rattle.pg_top.specs.Commands.{texts_of, words_of};
-ghost use Rattle.pg_top.specs.Outcomes.{Writes, outcome_of};
+ghost use Rattle.pg_top.specs.Answers.{MayAnswer, IsAnswered, IsUntouched, IsComplete, IsCall};
+ghost use Rattle.pg_top.specs.Calls.{has_files, outcome_of, reads_of, writes_of};
+ghost use Rattle.pg_top.specs.Commands.{texts_of, asked_by, asked};
+ghost use Rattle.pg_top.specs.Faults.{SomeRose, IsFault};
+ghost use Rattle.pg_top.specs.Moments.{Puts};
+ghost use Rattle.pg_top.specs.Outcomes.{Ends};
 ghost use Rattle.pg_top.specs.PrintedLines.{usage_line};
-ghost use Rattle.pg_top.specs.Requests.{ToGenerate, request_of};
-ghost use Rattle.pg_top.specs.Stops.{StopsGenerate};
+ghost use Rattle.pg_top.specs.Requests.{ToGenerate};
+ghost use Rattle.pg_top.specs.Stops.{StopsReading, Finishes};
+ghost use Rattle.pg_top.specs.Writings.{names_in, writing_of};
 
 use crate::answers::Status;
-use crate::commands::Names;
+use crate::commands::{Command, Names};
 use crate::inputs::Stop;
-use crate::printed::{READING, USAGE, WRITING, refused_line};
-use crate::puts::{answer, put_fault};
+use crate::printed::{USAGE, WRITING};
+use crate::puts::{answer, put_fault, put_stop};
 use crate::reading::read_inputs;
-use crate::selection::{Texts, make_texts};
+use crate::selection::{Outputs, make_outputs};
 use crate::words::command;
-use pg_outside::{Failed, Files, Sink};
-use std::alloc::{AllocError, Global};
+use crate::writes::{output_at, write_all};
+use pg_outside::{Files, Sink};
+use std::alloc::Global;
 
 /// Reads what `generate` reads, and builds all that it writes and prints.
-fn prepare<F: Files>(alloc: Global, names: &Names<'_>, files: &mut F) -> Result<Texts, Stop>
-    ensures held { KeepsHeld (F.held files.old) (F.held files.new) }
-    ensures reads { NoneFell (F.read_faults files.old) (F.read_faults files.new) }
-    ensures writes { NoneFell (F.write_faults files.old) (F.write_faults files.new) }
-    ensures ok { IfOk result (λ texts. IfSome (F.held files.new) (λ files. outcome_of files (ToGenerate (texts_of names.now)) ≡ Writes (((texts_of names.now).output, texts.patterns.items) ∷ []) texts.lines.items)) }
-    ensures stopped { IfErr result (StopsGenerate (texts_of names.now) (F.held files.new) (F.read_faults files.old) (F.read_faults files.new)) }
+fn prepare<'a, F: Files>(
+    alloc: Global,
+    names: &Names<'a>,
+    files: &mut F,
+) -> Result<Outputs<'a>, Stop<'a>>
+    ensures held { KeepsHeld (F.shown files.old).held (F.shown files.new).held }
+    ensures reads { NoneFell (F.shown files.old).read_faults (F.shown files.new).read_faults }
+    ensures writes { NoneFell (F.shown files.old).write_faults (F.shown files.new).write_faults }
+    ensures ok { IfOk result (λ made. IfSome (F.shown files.new).held (λ files.
+        outcome_of (file_at files) (ToGenerate (texts_of names.now)) ≡ Ends Status.Done (writing_of made.files.items) made.lines.items)) }
+    ensures named { IfOk result (λ made. names_in (writing_of made.files.items) ≡ writes_of (ToGenerate (texts_of names.now))) }
+    ensures stopped { IfErr result (StopsReading (reads_of (ToGenerate (texts_of names.now))) (F.shown files.old) (F.shown files.new)) }
 {
     let inputs = read_inputs(alloc, names, files)?;
-    let texts = make_texts(alloc, &inputs)?;
-    Ok(texts)
+    let outputs = make_outputs(alloc, names, &inputs)?;
+    Ok(outputs)
+}
+
+/// Writes the files and then puts the lines.
+fn finish<F: Files, O: Sink>(files: &mut F, out: &mut O, outputs: &Outputs<'_>) -> Status
+    ensures { Finishes (writing_of outputs.now.files.items) outputs.now.lines.items result
+        (F.shown files.old, O.shown out.old) (F.shown files.new, O.shown out.new) }
+{
+    match write_all(files, &outputs.files) {
+        Ok(()) => answer(out, &outputs.lines, Status::Done),
+        Err(place) => put_fault(out, WRITING, output_at(&outputs.files, place).name),
+    }
 }
 
 /// Selects patterns, writes them, and prints how good they are.
@@ -40,26 +62,39 @@ fn generate<F: Files, O: Sink>(
     files: &mut F,
     out: &mut O,
 ) -> Status
-    ensures answers { MayAnswer (Some (ToGenerate (texts_of names.now))) result }
-    ensures unchanged { LeavesFiles result → KeepsHeld (F.held files.old) (F.held files.new) }
-    ensures silent { result ≡ Status.Memory → WasPut (O.contents out.old) (O.contents out.new) [] }
-    ensures refused { result ≡ Status.Refused → IfSome (F.held files.new) (λ files. PutsRefusal (O.contents out.old) (O.contents out.new) (outcome_of files (ToGenerate (texts_of names.now)))) }
-    ensures done { result ≡ Status.Done → OfFiles (F.held files.old) (F.held files.new) (λ before after. WritesAll before after (O.contents out.old) (O.contents out.new) (outcome_of before (ToGenerate (texts_of names.now)))) }
-    ensures fault { result ≡ Status.Fault → SomeRose (Some (ToGenerate (texts_of names.now))) (F.read_faults files.old) (F.read_faults files.new) (F.write_faults files.old) (F.write_faults files.new) (O.faults out.old) (O.faults out.new) }
-    ensures faulted { result ≡ Status.Fault → IsFault (record { held_old = F.held files.old; held_new = F.held files.new; reads_old = F.read_faults files.old; reads_new = F.read_faults files.new; writes_old = F.write_faults files.old; writes_new = F.write_faults files.new; text_old = O.contents out.old; text_new = O.contents out.new; puts_old = O.faults out.old; puts_new = O.faults out.new }) (Some (ToGenerate (texts_of names.now))) }
-    ensures complete { SomeRose (Some (ToGenerate (texts_of names.now))) (F.read_faults files.old) (F.read_faults files.new) (F.write_faults files.old) (F.write_faults files.new) (O.faults out.old) (O.faults out.new) ⊎ IsComplete result (F.held files.old) (F.held files.new) (Some (ToGenerate (texts_of names.now))) }
+    ensures { IsCall (Some (ToGenerate (texts_of names.now))) result
+        (F.shown files.old, O.shown out.old) (F.shown files.new, O.shown out.new) }
 {
     match prepare(alloc, names, files) {
-        Ok(texts) => match files.write(names.output, &texts.patterns) {
-            Ok(()) => answer(out, &texts.lines, Status::Done),
-            Err(Failed) => put_fault(out, WRITING, names.output),
-        },
-        Err(Stop::Refused(input, refusal)) => match refused_line(alloc, input, &refusal) {
-            Ok(line) => answer(out, &line, Status::Refused),
-            Err(AllocError) => Status::Memory,
-        },
-        Err(Stop::Unread(input)) => put_fault(out, READING, names.name(input)),
-        Err(Stop::Memory) => Status::Memory,
+        Ok(outputs) => finish(files, out, &outputs),
+        Err(stop) => put_stop(alloc, out, &stop),
+    }
+}
+
+/// Does what a command asks for.
+fn perform<F: Files, O: Sink>(
+    alloc: Global,
+    command: &Command<'_>,
+    files: &mut F,
+    out: &mut O,
+) -> Status
+    ensures call { IsCall (Some (asked_by command.now)) result
+        (F.shown files.old, O.shown out.old) (F.shown files.new, O.shown out.new) }
+    ensures same { has_files (Some (asked_by command.now)) ≡ false → files.new ≡ files.old }
+{
+    match command {
+        Command::Generate(names) => generate(alloc, names, files, out),
+    }
+}
+
+/// Does what the words ask for.
+fn call<F: Files, O: Sink>(alloc: Global, words: &[String], files: &mut F, out: &mut O) -> Status
+    ensures call { IsCall (asked words.now) result (F.shown files.old, O.shown out.old) (F.shown files.new, O.shown out.new) }
+    ensures same { has_files (asked words.now) ≡ false → files.new ≡ files.old }
+{
+    match command(words) {
+        None => answer(out, USAGE, Status::Usage),
+        Some(command) => perform(alloc, &command, files, out),
     }
 }
 
@@ -76,20 +111,21 @@ fn generate<F: Files, O: Sink>(
 /// - `Memory` may always come where the words are a command; nothing was written and nothing put then.
 /// - `Done`: all that was asked for was written whole.
 ///
-/// After all answers but `Done` and `Fault` the files are as they were.
+/// After all answers but `Done` and `Fault` the files are as they were. Where the words are no command, `files` is not called.
 pub fn run<F: Files, O: Sink>(alloc: Global, words: &[String], files: &mut F, out: &mut O) -> Status
-    ensures answers { MayAnswer (request_of (words_of words.now)) result }
-    ensures usage { result ≡ Status.Usage → (request_of (words_of words.now) ≡ None) × WasPut (O.contents out.old) (O.contents out.new) usage_line }
-    ensures unchanged { LeavesFiles result → KeepsHeld (F.held files.old) (F.held files.new) }
-    ensures silent { result ≡ Status.Memory → WasPut (O.contents out.old) (O.contents out.new) [] }
-    ensures refused { result ≡ Status.Refused → OfRequest (request_of (words_of words.now)) (λ request. IfSome (F.held files.new) (λ files. PutsRefusal (O.contents out.old) (O.contents out.new) (outcome_of files request))) }
-    ensures done { result ≡ Status.Done → OfRequest (request_of (words_of words.now)) (λ request. OfFiles (F.held files.old) (F.held files.new) (λ before after. WritesAll before after (O.contents out.old) (O.contents out.new) (outcome_of before request))) }
-    ensures fault { result ≡ Status.Fault → SomeRose (request_of (words_of words.now)) (F.read_faults files.old) (F.read_faults files.new) (F.write_faults files.old) (F.write_faults files.new) (O.faults out.old) (O.faults out.new) }
-    ensures faulted { result ≡ Status.Fault → IsFault (record { held_old = F.held files.old; held_new = F.held files.new; reads_old = F.read_faults files.old; reads_new = F.read_faults files.new; writes_old = F.write_faults files.old; writes_new = F.write_faults files.new; text_old = O.contents out.old; text_new = O.contents out.new; puts_old = O.faults out.old; puts_new = O.faults out.new }) (request_of (words_of words.now)) }
-    ensures complete { SomeRose (request_of (words_of words.now)) (F.read_faults files.old) (F.read_faults files.new) (F.write_faults files.old) (F.write_faults files.new) (O.faults out.old) (O.faults out.new) ⊎ IsComplete result (F.held files.old) (F.held files.new) (request_of (words_of words.now)) }
+    ensures answers { MayAnswer (asked words.now) result }
+    ensures usage { result ≡ Status.Usage → Puts (O.shown out.old) (O.shown out.new) usage_line }
+    ensures same { has_files (asked words.now) ≡ false → files.new ≡ files.old }
+    ensures answered { IsAnswered (asked words.now) result
+        (F.shown files.old, O.shown out.old) (F.shown files.new, O.shown out.new) }
+    ensures memory { result ≡ Status.Memory →
+        IsUntouched (F.shown files.old, O.shown out.old) (F.shown files.new, O.shown out.new) }
+    ensures fault { result ≡ Status.Fault →
+        SomeRose (asked words.now) (F.shown files.old, O.shown out.old) (F.shown files.new, O.shown out.new) }
+    ensures faulted { result ≡ Status.Fault →
+        IsFault (asked words.now) (F.shown files.old, O.shown out.old) (F.shown files.new, O.shown out.new) }
+    ensures complete { SomeRose (asked words.now) (F.shown files.old, O.shown out.old) (F.shown files.new, O.shown out.new)
+        ⊎ IsComplete (asked words.now) result (F.shown files.old, O.shown out.old) (F.shown files.new, O.shown out.new) }
 {
-    match command(words) {
-        None => answer(out, USAGE, Status::Usage),
-        Some(command) => generate(alloc, command.names(), files, out),
-    }
+    call(alloc, words, files, out)
 }

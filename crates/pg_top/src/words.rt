@@ -2,7 +2,7 @@
 ghost use Rattle.std.specs.Prelude.{◌≡◌, ◌++◌, length};
 ghost use Rattle.std.specs.List.{list_all};
 ghost use Rattle.std.specs.Option.{option_map};
-ghost use Rattle.pg_top.specs.Requests.{is_name as is_name_word, inputs_of, outputs_of, differs_from, outputs_differ, words_with, request_of};
+ghost use Rattle.pg_top.specs.Requests.{is_name as is_name_word, input_names, output_names, differs_from, outputs_differ, words_with, request_of};
 ghost use Rattle.pg_top.specs.Commands.{texts_of, asked_by, words_of};
 
 use crate::commands::{Command, Names};
@@ -16,7 +16,7 @@ fn is_name(word: &str) -> bool
 
 /// Whether each word for a name can be one.
 fn are_names(names: &Names<'_>) -> bool
-    ensures { result ≡ list_all is_name_word (inputs_of (texts_of names.now) ++ outputs_of (texts_of names.now)) }
+    ensures { result ≡ list_all is_name_word (input_names (texts_of names.now) ++ output_names (texts_of names.now)) }
 {
     is_name(names.dict)
         && is_name(names.patterns)
@@ -28,7 +28,7 @@ fn are_names(names: &Names<'_>) -> bool
 
 /// Whether an output name differs from the names of all inputs.
 fn differs_from_inputs(output: &str, names: &Names<'_>) -> bool
-    ensures { result ≡ differs_from output.now (inputs_of (texts_of names.now)) }
+    ensures { result ≡ differs_from output.now (input_names (texts_of names.now)) }
 {
     output != names.dict
         && output != names.patterns
@@ -38,7 +38,7 @@ fn differs_from_inputs(output: &str, names: &Names<'_>) -> bool
 
 /// Whether the output names differ from each other and from the names of all inputs.
 fn are_distinct(names: &Names<'_>) -> bool
-    ensures { result ≡ outputs_differ (outputs_of (texts_of names.now)) (inputs_of (texts_of names.now)) }
+    ensures { result ≡ outputs_differ (output_names (texts_of names.now)) (input_names (texts_of names.now)) }
 {
     names.output != names.report
         && differs_from_inputs(names.output, names)

@@ -5,7 +5,7 @@ use Rattle.std.specs.Ordering.{eq_by_cmp}
 use Rattle.std.specs.FinMap.Entries.{find, put, is_sorted, find-put, is_sorted-put, same_entries}
 use Rattle.pg_types.specs.declared.limits.TheConstants.{PATTERN_SIGNS_MAX}
 use Rattle.pg_types.specs.Placement.{enter}
-use Rattle.pg_patterns.specs.Places.{place_cmp, place_total, place_exact}
+use Rattle.pg_patterns.specs.DottedSigns.{dotted_cmp, dotted_total, dotted_exact}
 use Rattle.pg_patterns.specs.Values.{raise, value_of}
 use Rattle.pg_outputs.specs.declared.records.Record.{Record}
 use Rattle.pg_outputs.specs.Lists.{list_of, Grows}
@@ -23,44 +23,44 @@ use Rattle.pg_trie.proofs.Rising.{values_rise, marks_rise}
 use Rattle.pg_trie.proofs.Entered.{rises-entered, dots-entered, value-entered, marks_stay, mark-entered, values_stay}
 
 -- the values and the marks stand in order
-pub sorted_values : (cells : Held ℕ) (records : List Record) → IsTrie cells records → T (is_sorted place_cmp (maps_of cells records).patterns)
+pub sorted_values : (cells : Held ℕ) (records : List Record) → IsTrie cells records → T (is_sorted dotted_cmp (maps_of cells records).patterns)
 sorted_values cells records is = sorted-entries as_value (list_of records) cells.values is.held.ordered (λ q head at. values_rise 0 0 (list_of records head) (omega arith) (is.heads q head at).rises)
 
-pub sorted_marks : (cells : Held ℕ) (records : List Record) → IsTrie cells records → T (is_sorted place_cmp (maps_of cells records).hopeless)
+pub sorted_marks : (cells : Held ℕ) (records : List Record) → IsTrie cells records → T (is_sorted dotted_cmp (maps_of cells records).hopeless)
 sorted_marks cells records is = sorted-entries as_mark (list_of records) cells.values is.held.ordered (λ q head at. marks_rise 0 0 (list_of records head) (omega arith) (is.heads q head at).rises)
 
 module _ {X : Type 0} (pick : ℕ → Option X) where
   -- entries that find alike are the same
-  same_found : (f g : ℕ → List (ℕ × ℕ)) (es fs : List (List ℕ × ℕ)) → T (is_sorted order es) → T (is_sorted order fs) → T (is_sorted place_cmp (entries pick f es)) → T (is_sorted place_cmp (entries pick g fs))
+  same_found : (f g : ℕ → List (ℕ × ℕ)) (es fs : List (List ℕ × ℕ)) → T (is_sorted order es) → T (is_sorted order fs) → T (is_sorted dotted_cmp (entries pick f es)) → T (is_sorted dotted_cmp (entries pick g fs))
       → ((q : List ℕ) (d : ℕ) → found_at pick f d (find order q es) ≡ found_at pick g d (find order q fs)) → entries pick f es ≡ entries pick g fs
   same_found f g es fs a b c d same =
-      same_entries place_cmp place_total place_exact (entries pick f es) (entries pick g fs) c d
+      same_entries dotted_cmp dotted_total dotted_exact (entries pick f es) (entries pick g fs) c d
       (λ k. find-entries pick f es k.0 k.1 a ∙ same k.0 k.1 ∙ sym (find-entries pick g fs k.0 k.1 b))
 
   -- a string's new head whose list has one more
-  put_found : (f : ℕ → List (ℕ × ℕ)) (es : List (List ℕ × ℕ)) (q : List ℕ) (head new e : ℕ) (v : X) → T (is_sorted order es) → T (is_sorted order (put order q new es)) → T (is_sorted place_cmp (entries pick f es)) → T (is_sorted place_cmp (entries pick f (put order q new es)))
+  put_found : (f : ℕ → List (ℕ × ℕ)) (es : List (List ℕ × ℕ)) (q : List ℕ) (head new e : ℕ) (v : X) → T (is_sorted order es) → T (is_sorted order (put order q new es)) → T (is_sorted dotted_cmp (entries pick f es)) → T (is_sorted dotted_cmp (entries pick f (put order q new es)))
       → find order q es ≡ Some head → ((d : ℕ) → found_in pick d (f new) ≡ cond (nat_eq d e) (Some v) (found_in pick d (f head)))
-      → entries pick f (put order q new es) ≡ put place_cmp (q, e) v (entries pick f es)
+      → entries pick f (put order q new es) ≡ put dotted_cmp (q, e) v (entries pick f es)
   put_found f es q head new e v a b c d at more =
-      same_entries place_cmp place_total place_exact (entries pick f (put order q new es)) (put place_cmp (q, e) v (entries pick f es)) d (is_sorted-put place_cmp place_total (q, e) v (entries pick f es) c)
-      (λ k. find-entries pick f (put order q new es) k.0 k.1 b ∙ by k.0 k.1 ∙ sym (find-put place_cmp place_total k (q, e) v (entries pick f es)))
+      same_entries dotted_cmp dotted_total dotted_exact (entries pick f (put order q new es)) (put dotted_cmp (q, e) v (entries pick f es)) d (is_sorted-put dotted_cmp dotted_total (q, e) v (entries pick f es) c)
+      (λ k. find-entries pick f (put order q new es) k.0 k.1 b ∙ by k.0 k.1 ∙ sym (find-put dotted_cmp dotted_total k (q, e) v (entries pick f es)))
     where
-      by : (p : List ℕ) (d : ℕ) → found_at pick f d (find order p (put order q new es)) ≡ cond (eq_by_cmp place_cmp (p, d) (q, e)) (Some v) (find place_cmp (p, d) (entries pick f es))
+      by : (p : List ℕ) (d : ℕ) → found_at pick f d (find order p (put order q new es)) ≡ cond (eq_by_cmp dotted_cmp (p, d) (q, e)) (Some v) (find dotted_cmp (p, d) (entries pick f es))
       by p d = elim (equal_or_not p q) [
         | inl h ↦
             let here : find order p es ≡ Some head = ap (λ x. find order x es) h.0 ∙ at in
             ap (found_at pick f d) (ap (λ x. find order x (put order q new es)) h.0 ∙ find_put_same q new es)
             ∙ more d
             ∙ ap (λ o. cond (nat_eq d e) (Some v) o) (sym (find-entries pick f es p d a ∙ ap (found_at pick f d) here))
-            ∙ ap (λ b. cond b (Some v) (find place_cmp (p, d) (entries pick f es))) (sym (ap (λ x. eq_by_cmp place_cmp (x, d) (q, e)) h.0 ∙ same_by_dots q d e))
+            ∙ ap (λ b. cond b (Some v) (find dotted_cmp (p, d) (entries pick f es))) (sym (ap (λ x. eq_by_cmp dotted_cmp (x, d) (q, e)) h.0 ∙ same_by_dots q d e))
         | inr h ↦
             ap (found_at pick f d) (find_put_other p q new es h.0)
             ∙ sym (find-entries pick f es p d a)
-            ∙ ap (λ b. cond b (Some v) (find place_cmp (p, d) (entries pick f es))) (sym (other_place p q d e h.0))
+            ∙ ap (λ b. cond b (Some v) (find dotted_cmp (p, d) (entries pick f es))) (sym (other_place p q d e h.0))
       ]
 
   -- a string's new head whose list has the same
-  kept_found : (f : ℕ → List (ℕ × ℕ)) (es : List (List ℕ × ℕ)) (q : List ℕ) (head new : ℕ) → T (is_sorted order es) → T (is_sorted order (put order q new es)) → T (is_sorted place_cmp (entries pick f es)) → T (is_sorted place_cmp (entries pick f (put order q new es)))
+  kept_found : (f : ℕ → List (ℕ × ℕ)) (es : List (List ℕ × ℕ)) (q : List ℕ) (head new : ℕ) → T (is_sorted order es) → T (is_sorted order (put order q new es)) → T (is_sorted dotted_cmp (entries pick f es)) → T (is_sorted dotted_cmp (entries pick f (put order q new es)))
       → find order q es ≡ Some head → ((d : ℕ) → found_in pick d (f new) ≡ found_in pick d (f head))
       → entries pick f (put order q new es) ≡ entries pick f es
   kept_found f es q head new a b c d at same =
@@ -153,7 +153,7 @@ both_stay a b c r s t x y = record { trie = y.trie; patterns = y.patterns ∙ x.
 pub record Enters (cells : Held ℕ) (records : List Record) (q : List ℕ) (x : ℕ × ℕ) (cells' : Held ℕ) : Type 0 where
   pub trie : IsTrie cells' records
   pub raised : nat_lt x.0 HOPELESS ≡ true → ((maps_of cells' records).patterns ≡ raise (maps_of cells records).patterns (q, x.1) x.0) × ((maps_of cells' records).hopeless ≡ (maps_of cells records).hopeless)
-  pub marked : nat_lt x.0 HOPELESS ≡ false → ((maps_of cells' records).patterns ≡ (maps_of cells records).patterns) × ((maps_of cells' records).hopeless ≡ put place_cmp (q, x.1) (tt {0}) (maps_of cells records).hopeless)
+  pub marked : nat_lt x.0 HOPELESS ≡ false → ((maps_of cells' records).patterns ≡ (maps_of cells records).patterns) × ((maps_of cells' records).hopeless ≡ put dotted_cmp (q, x.1) (tt {0}) (maps_of cells records).hopeless)
 
 pub enters : (cells cells' : Held ℕ) (records : List Record) (q : List ℕ) (head new : ℕ) (x : ℕ × ℕ) → IsTrie cells records → IsHeld cells' → cells' ≡ record cells { values = put order q new cells.values }
     → find order q cells.values ≡ Some head → new ≤ length records → list_of records new ≡ entered x (list_of records head) → 1 ≤ x.0 → x.0 ≤ HOPELESS → x.1 ≤ length q → Enters cells records q x cells'
@@ -191,11 +191,11 @@ enters cells cells' records q head new x is held put_is at inside list low high 
     ordered : T (is_sorted order (put order q new cells.values))
     ordered = subst (λ es. T (is_sorted order es)) values held.ordered
 
-    in_order : T (is_sorted place_cmp (entries as_value (list_of records) (put order q new cells.values)))
-    in_order = subst (λ es. T (is_sorted place_cmp (entries as_value (list_of records) es))) values (sorted_values cells' records trie)
+    in_order : T (is_sorted dotted_cmp (entries as_value (list_of records) (put order q new cells.values)))
+    in_order = subst (λ es. T (is_sorted dotted_cmp (entries as_value (list_of records) es))) values (sorted_values cells' records trie)
 
-    marks_in_order : T (is_sorted place_cmp (entries as_mark (list_of records) (put order q new cells.values)))
-    marks_in_order = subst (λ es. T (is_sorted place_cmp (entries as_mark (list_of records) es))) values (sorted_marks cells' records trie)
+    marks_in_order : T (is_sorted dotted_cmp (entries as_mark (list_of records) (put order q new cells.values)))
+    marks_in_order = subst (λ es. T (is_sorted dotted_cmp (entries as_mark (list_of records) es))) values (sorted_marks cells' records trie)
 
     raised : nat_lt x.0 HOPELESS ≡ true → ((maps_of cells' records).patterns ≡ raise (maps_of cells records).patterns (q, x.1) x.0) × ((maps_of cells' records).hopeless ≡ (maps_of cells records).hopeless)
     raised value = (
@@ -208,7 +208,7 @@ enters cells cells' records q head new x is held put_is at inside list low high 
           (λ d. ap (found_in as_mark d) list ∙ marks_stay x value d (list_of records head)),
     )
 
-    marked : nat_lt x.0 HOPELESS ≡ false → ((maps_of cells' records).patterns ≡ (maps_of cells records).patterns) × ((maps_of cells' records).hopeless ≡ put place_cmp (q, x.1) (tt {0}) (maps_of cells records).hopeless)
+    marked : nat_lt x.0 HOPELESS ≡ false → ((maps_of cells' records).patterns ≡ (maps_of cells records).patterns) × ((maps_of cells' records).hopeless ≡ put dotted_cmp (q, x.1) (tt {0}) (maps_of cells records).hopeless)
     marked mark = (
       ap (entries as_value (list_of records)) values
           ∙ kept_found as_value (list_of records) cells.values q head new is.held.ordered ordered (sorted_values cells records is) in_order at
@@ -242,13 +242,13 @@ raised_view old cells cells' start records q x m seen s e value signs families =
 -- what is seen after a mark is entered
 pub marked_view : (old cells cells' : Held ℕ) (start records : List Record) (q : List ℕ) (x : ℕ × ℕ) (m : Maps) → maps_of old start ≡ m → SameMaps old start cells records → Enters cells records q x cells' → nat_lt x.0 HOPELESS ≡ false
     → cells'.signs ≡ old.signs → cells'.families ≡ enter old.signs old.families q
-    → maps_of cells' records ≡ record m { hopeless = put place_cmp (q, x.1) (tt {0}) m.hopeless; families = enter m.signs m.families q; records = records }
+    → maps_of cells' records ≡ record m { hopeless = put dotted_cmp (q, x.1) (tt {0}) m.hopeless; families = enter m.signs m.families q; records = records }
 marked_view old cells cells' start records q x m seen s e mark signs families =
     let r = e.marked mark in
     let signs_are : cells'.signs ≡ m.signs = signs ∙ ap (λ (m : Maps). m.signs) seen in
     let families_are : cells'.families ≡ enter m.signs m.families q = families ∙ ap (λ (m : Maps). enter m.signs m.families q) seen in
     let patterns_are : (maps_of cells' records).patterns ≡ m.patterns = r.0 ∙ s.patterns ∙ ap (λ (m : Maps). m.patterns) seen in
-    let marks_are : (maps_of cells' records).hopeless ≡ put place_cmp (q, x.1) (tt {0}) m.hopeless = r.1 ∙ ap (λ H. put place_cmp (q, x.1) (tt {0}) H) (s.hopeless ∙ ap (λ (m : Maps). m.hopeless) seen) in
+    let marks_are : (maps_of cells' records).hopeless ≡ put dotted_cmp (q, x.1) (tt {0}) m.hopeless = r.1 ∙ ap (λ H. put dotted_cmp (q, x.1) (tt {0}) H) (s.hopeless ∙ ap (λ (m : Maps). m.hopeless) seen) in
     λ i. record { signs = signs_are i; families = families_are i; patterns = patterns_are i; hopeless = marks_are i; records = records }
 
 -- a front of a string that is entered, seen from outside

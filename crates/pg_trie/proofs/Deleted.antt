@@ -5,7 +5,7 @@ use Rattle.std.proofs.lemmas.List.{append-nil, length_push}
 use Rattle.std.specs.List.{list_any, starts_with}
 use Rattle.std.specs.FinMap.Entries.{find, same_entries}
 use Rattle.pg_types.specs.Placement.{cell_of, keeps_cell, kept}
-use Rattle.pg_patterns.specs.Places.{place_cmp, place_total, place_exact}
+use Rattle.pg_patterns.specs.DottedSigns.{dotted_cmp, dotted_total, dotted_exact}
 use Rattle.pg_outputs.specs.declared.records.Record.{Record}
 use Rattle.pg_outputs.specs.Lists.{list_of, OneHeadEach}
 use Rattle.pg_outputs.proofs.ListLaws.{list_of-zero}
@@ -209,12 +209,12 @@ module _ (cells : Held ℕ) (records : List Record) (is : IsTrie cells records) 
 
     pub left_patterns : (maps_of left fresh).patterns ≡ (maps_of cells records).patterns
     left_patterns =
-        same_entries place_cmp place_total place_exact (maps_of left fresh).patterns (maps_of cells records).patterns (sorted_values left fresh left_trie) (sorted_values cells records is)
+        same_entries dotted_cmp dotted_total dotted_exact (maps_of left fresh).patterns (maps_of cells records).patterns (sorted_values left fresh left_trie) (sorted_values cells records is)
         (λ k. find-entries as_value (list_of fresh) left.values k.0 k.1 p.held.ordered ∙ left_values k.0 k.1 ∙ sym (find-entries as_value (list_of records) cells.values k.0 k.1 is.held.ordered))
 
     pub left_hopeless : (maps_of left fresh).hopeless ≡ []
     left_hopeless =
-        same_entries place_cmp place_total place_exact (maps_of left fresh).hopeless [] (sorted_marks left fresh left_trie) tt
+        same_entries dotted_cmp dotted_total dotted_exact (maps_of left fresh).hopeless [] (sorted_marks left fresh left_trie) tt
         (λ k. find-entries as_mark (list_of fresh) left.values k.0 k.1 p.held.ordered ∙ none k.0 k.1 (find order k.0 left.values) refl)
       where
         none : (q : List ℕ) (d : ℕ) (o : Option ℕ) → find order q left.values ≡ o → found_at as_mark (list_of fresh) d (find order q left.values) ≡ None

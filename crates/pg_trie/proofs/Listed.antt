@@ -2,7 +2,7 @@
 use Rattle.std.proofs.Common.{◌≡◌, ℕ, ◌+◌, List, [], ◌++◌, length, suc, zero, Option, None, Some, refl, sym, ◌∙◌, ap, arith}
 use Rattle.std.specs.List.{flat_map, range_with_len}
 use Rattle.std.specs.FinMap.Entries.{find}
-use Rattle.pg_patterns.specs.Places.{place_cmp}
+use Rattle.pg_patterns.specs.DottedSigns.{dotted_cmp}
 use Rattle.pg_outputs.specs.declared.records.Record.{Record}
 use Rattle.pg_outputs.specs.Lists.{list_of}
 use Rattle.pg_cells.specs.Held.{Held}
@@ -20,7 +20,7 @@ part_at f o d = value_part (found_at as_value f d o) d ++ mark_part (found_at as
 at_dot : (cells : Held ℕ) (records : List Record) → IsTrie cells records → (q : List ℕ) (d : ℕ) → outputs_at_dot (maps_of cells records).patterns (maps_of cells records).hopeless q d ≡ part_at (list_of records) (find order q cells.values) d
 unfolding part_at
 at_dot cells records is q d =
-    ap (λ o. value_part o d ++ mark_part (find place_cmp (q, d) (maps_of cells records).hopeless) d) (find-entries as_value (list_of records) cells.values q d is.held.ordered)
+    ap (λ o. value_part o d ++ mark_part (find dotted_cmp (q, d) (maps_of cells records).hopeless) d) (find-entries as_value (list_of records) cells.values q d is.held.ordered)
     ∙ ap (λ o. value_part (found_at as_value (list_of records) d (find order q cells.values)) d ++ mark_part o d) (find-entries as_mark (list_of records) cells.values q d is.held.ordered)
 
 pub list_is : (cells : Held ℕ) (records : List Record) → IsTrie cells records → (q : List ℕ) (head : ℕ) → find order q cells.values ≡ Some head → list_of records head ≡ outputs_at (maps_of cells records).patterns (maps_of cells records).hopeless q

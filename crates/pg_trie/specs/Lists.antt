@@ -3,7 +3,7 @@
 use Rattle.std.specs.Prelude.{ℕ, ◌+◌, ◌*◌, ◌≤◌, max, nat_lt, nat_eq, if◌then◌else◌, List, [], ◌∷◌, ◌++◌, length, Option, None, Some}
 use Rattle.std.specs.List.{flat_map, range_with_len}
 use Rattle.std.specs.FinMap.Entries.{find}
-use Rattle.pg_patterns.specs.Places.{place_cmp}
+use Rattle.pg_patterns.specs.DottedSigns.{dotted_cmp}
 use Rattle.pg_trie.specs.declared.mark.TheConstants.{HOPELESS}
 pub use Rattle.pg_cells.specs.Walks.{IsAt}
 pub use Rattle.pg_outputs.specs.Lists.{list_of}
@@ -20,7 +20,7 @@ mark_part (Some _) d = (HOPELESS, d) ∷ []
 
 -- what the maps say of the string q at the dot d
 abbrev pub outputs_at_dot : List ((List ℕ × ℕ) × ℕ) → List ((List ℕ × ℕ) × Unit {0}) → List ℕ → ℕ → List (ℕ × ℕ)
-outputs_at_dot P H q d = value_part (find place_cmp (q, d) P) d ++ mark_part (find place_cmp (q, d) H) d
+outputs_at_dot P H q d = value_part (find dotted_cmp (q, d) P) d ++ mark_part (find dotted_cmp (q, d) H) d
 
 -- the list of the string q by the maps P of values and H of hopeless marks
 unfoldable pub outputs_at : List ((List ℕ × ℕ) × ℕ) → List ((List ℕ × ℕ) × Unit {0}) → List ℕ → List (ℕ × ℕ)

@@ -4,7 +4,7 @@ use Rattle.std.specs.List.{flat_map, list_all}
 use Rattle.std.specs.FinMap.Entries.{is_sorted}
 use Rattle.pg_types.specs.declared.limits.TheConstants.{PATTERN_SIGNS_MAX, SIGNS_MAX}
 use Rattle.pg_types.specs.Placement.{Families}
-use Rattle.pg_patterns.specs.Places.{place_cmp}
+use Rattle.pg_patterns.specs.DottedSigns.{dotted_cmp}
 use Rattle.pg_patterns.specs.Values.{IsPatternMap, SignsUpTo}
 use Rattle.pg_outputs.specs.declared.records.Record.{Record}
 use Rattle.pg_outputs.specs.Lists.{list_of}
@@ -53,13 +53,13 @@ maps_of cells records = record {
 }
 
 -- a place has 1 to 32 signs, each 1 to n, and its dot is at most their number
-abbrev pub is_place : ℕ → List ℕ × ℕ → Bool
-is_place n k = nat_le 1 (length k.0) && nat_le (length k.0) PATTERN_SIGNS_MAX && list_all (λ s. nat_le 1 s && nat_le s n) k.0 && nat_le k.1 (length k.0)
+abbrev pub is_dotted : ℕ → List ℕ × ℕ → Bool
+is_dotted n k = nat_le 1 (length k.0) && nat_le (length k.0) PATTERN_SIGNS_MAX && list_all (λ s. nat_le 1 s && nat_le s n) k.0 && nat_le k.1 (length k.0)
 
 -- what every trie keeps: the values are those of a map of patterns, and each hopeless mark stands once, in order, at a place
 pub record AreKept (m : Maps) : Type 0 where
   pub signs : m.signs ≤ SIGNS_MAX
   pub patterns : IsPatternMap m.patterns
   pub known : SignsUpTo m.signs m.patterns
-  pub sorted : T (is_sorted place_cmp m.hopeless)
-  pub places : list_all (λ e. is_place m.signs e.0) m.hopeless ≡ true
+  pub sorted : T (is_sorted dotted_cmp m.hopeless)
+  pub places : list_all (λ e. is_dotted m.signs e.0) m.hopeless ≡ true

@@ -12,15 +12,15 @@ use crate::mark::{FEW_SIGNS, HOPELESS};
 use crate::strings::{strings, value_of};
 use pg_cells::Cells;
 use pg_outputs::Outputs;
-use pg_patterns::Place;
+use pg_patterns::DottedSigns;
 use std::alloc::{AllocError, Global};
 
 // Puts the values of a string's list behind the entries.
 fn push_values(
     outputs: &Outputs,
     head: u64,
-    string: &Place,
-    entries: &mut Vec<(Place, u8)>,
+    string: &DottedSigns,
+    entries: &mut Vec<(DottedSigns, u8)>,
 ) -> Result<(), AllocError>
     requires head { head ≤ length outputs.now }
     requires few { length string.now.0 ≤ PATTERN_SIGNS_MAX }
@@ -29,7 +29,7 @@ fn push_values(
     let mut at = head;
     while let Some((value, dot, next)) = outputs.first(at) {
         if value < HOPELESS {
-            entries.push((Place::new(string.signs(), dot), value))?;
+            entries.push((DottedSigns::new(string.signs(), dot), value))?;
         }
         at = next;
     }
@@ -40,9 +40,9 @@ fn push_values(
 fn gather(
     alloc: Global,
     cells: &Cells<u32, FEW_SIGNS>,
-    strings: &[Place],
+    strings: &[DottedSigns],
     outputs: &Outputs,
-) -> Result<Vec<(Place, u8)>, AllocError>
+) -> Result<Vec<(DottedSigns, u8)>, AllocError>
     requires trie { IsTrie cells.now outputs.now }
     requires strings { AreStrings cells.now strings.now }
     ensures sound { IfOk result (λ entries. list_all is_entry entries.items ≡ true) }
@@ -61,7 +61,7 @@ pub fn entries(
     alloc: Global,
     cells: &Cells<u32, FEW_SIGNS>,
     outputs: &Outputs,
-) -> Result<Vec<(Place, u8)>, AllocError>
+) -> Result<Vec<(DottedSigns, u8)>, AllocError>
     requires { IsTrie cells.now outputs.now }
     ensures sound { IfOk result (λ entries. list_all is_entry entries.items ≡ true) }
     ensures joined { IfOk result (λ entries. joined entries.items ≡ (maps_of cells.now outputs.now).patterns) }

@@ -9,7 +9,7 @@ ghost use Rattle.pg_trie.specs.Strings.{AreShort, IsString, PutsBelow, AreString
 
 use crate::mark::FEW_SIGNS;
 use pg_cells::{Cells, step};
-use pg_patterns::Place;
+use pg_patterns::DottedSigns;
 use pg_types::{PATTERN_SIGNS_MAX, Sign};
 use std::alloc::{AllocError, Global};
 
@@ -39,14 +39,14 @@ pub fn value_of(cells: &Cells<u32, FEW_SIGNS>, signs: &[Sign]) -> u64
 }
 
 // The place before a string with one sign more.
-fn longer(prefix: &[Sign], s: Sign) -> Place
+fn longer(prefix: &[Sign], s: Sign) -> DottedSigns
     requires { length prefix.now < PATTERN_SIGNS_MAX }
     ensures { result ≡ (prefix.now ++ s ∷ [], 0) }
 {
     let mut signs = [0; PATTERN_SIGNS_MAX];
     signs[..prefix.len()].copy_from_slice(prefix);
     signs[prefix.len()] = s;
-    Place::new(&signs[..prefix.len() + 1], 0)
+    DottedSigns::new(&signs[..prefix.len() + 1], 0)
 }
 
 // Puts the strings of a family behind the others.
@@ -54,7 +54,7 @@ fn push_family(
     cells: &Cells<u32, FEW_SIGNS>,
     prefix: &[Sign],
     base: usize,
-    strings: &mut Vec<Place>,
+    strings: &mut Vec<DottedSigns>,
 ) -> Result<(), AllocError>
     requires base { base_of cells.now.families prefix.now ≡ Some base }
     requires short { AreShort cells.now }
@@ -72,7 +72,7 @@ fn push_family(
 // Puts the strings with one sign more than that with the number `i` behind the others.
 fn push_below(
     cells: &Cells<u32, FEW_SIGNS>,
-    strings: &mut Vec<Place>,
+    strings: &mut Vec<DottedSigns>,
     i: usize,
 ) -> Result<(), AllocError>
     requires inside { i < length strings.old.items }
@@ -82,7 +82,7 @@ fn push_below(
     ensures { OnOk result ((k : List ℕ × ℕ) → slice_get strings.old.items i ≡ Some k → PutsBelow cells.now k.0 (cells.now.signs + 1) strings.old.items strings.new.items) }
 {
     let _held = cells.signs();
-    let prefix = Place::new(strings[i].signs(), 0);
+    let prefix = DottedSigns::new(strings[i].signs(), 0);
     let Some(cell) = find_cell(cells, prefix.signs()) else {
         return Ok(());
     };
@@ -93,7 +93,7 @@ fn push_below(
 }
 
 /// The strings that have a cell, each before those with one sign more.
-pub fn strings(alloc: Global, cells: &Cells<u32, FEW_SIGNS>) -> Result<Vec<Place>, AllocError>
+pub fn strings(alloc: Global, cells: &Cells<u32, FEW_SIGNS>) -> Result<Vec<DottedSigns>, AllocError>
     requires short { AreShort cells.now }
     requires signs { cells.now.signs ≤ SIGNS_MAX }
     ensures { IfOk result (λ strings. AreStrings cells.now strings.items) }

@@ -4,7 +4,7 @@ ghost use Rattle.std.specs.FinMap.Entries.{put};
 ghost use Rattle.pg_types.specs.declared.limits.TheConstants.{LEVEL_MAX, PATTERN_SIGNS_MAX, SIGNS_MAX};
 ghost use Rattle.pg_types.specs.Placement.{cell_of, root, enter, kept, taken, top};
 ghost use Rattle.pg_types.specs.Tails.{tails};
-ghost use Rattle.pg_patterns.specs.Places.{place_cmp};
+ghost use Rattle.pg_patterns.specs.DottedSigns.{dotted_cmp};
 ghost use Rattle.pg_patterns.specs.Values.{raise};
 ghost use Rattle.pg_outputs.specs.Lists.{list_of};
 ghost use Rattle.pg_cells.specs.Walks.{IsAt};
@@ -69,7 +69,7 @@ impl PatternTrie {
         requires dot { dot ≤ length signs.now }
         requires value { (1 ≤ value) × (value ≤ HOPELESS) }
         ensures raised { OnOk result (value ≤ LEVEL_MAX → self.new ≡ record self.old { patterns = raise self.old.patterns (signs.now, dot) value; families = enter self.old.signs self.old.families signs.now; records = self.new.records }) }
-        ensures marked { OnOk result (value ≡ HOPELESS → self.new ≡ record self.old { hopeless = put place_cmp (signs.now, dot) (tt {0}) self.old.hopeless; families = enter self.old.signs self.old.families signs.now; records = self.new.records }) }
+        ensures marked { OnOk result (value ≡ HOPELESS → self.new ≡ record self.old { hopeless = put dotted_cmp (signs.now, dot) (tt {0}) self.old.hopeless; families = enter self.old.signs self.old.families signs.now; records = self.new.records }) }
         ensures err { OnErr result (self.new ≡ record self.old { families = self.new.families; records = self.new.records }) }
         ensures part { OnErr result ((k : ℕ) × (k ≤ length signs.now) × (self.new.families ≡ enter self.old.signs self.old.families (take k signs.now))) }
         ensures signs { self.new.signs ≡ self.old.signs }

@@ -3,5 +3,6 @@ pub mod Reading
 pub mod Lines
 pub mod Signs
 pub mod Parameters
+pub mod Counts
 pub mod Placement
 pub mod Tails

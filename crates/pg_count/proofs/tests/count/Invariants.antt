@@ -1,5 +1,5 @@
 use Rattle.std.proofs.Common.{◌≡◌, ℕ, ◌*◌, ◌≤◌, List}
-use Rattle.pg_count.specs.Counts.{sums_of}
+use Rattle.pg_types.specs.Counts.{sums_of}
 use Rattle.pg_count.proofs.tests.count.Given as goal
 
 abbrev pub invariant-loop-window : goal.invariant-loop-window

@@ -1,79 +1,86 @@
-use Rattle.std.proofs.Common.{◌≡◌, ◌+◌, ◌-◌, [], refl, ap, subst, fold, ◌∙◌, arith}
-use Rattle.std.specs.List.{flat_map, range_with_len}
-use Rattle.pg_driver.specs.Begun.{Walk, walk_on}
-use Rattle.pg_driver.specs.Runs.{Source, passes_of, passes_of_length}
-use Rattle.pg_driver.specs.Skips.{IsAt, walk_start}
-use Rattle.pg_driver.specs.Views.{source_of}
-use Rattle.pg_driver.proofs.LevelSteps.{same_source}
-use Rattle.pg_driver.proofs.SkipSteps.{at_next, at_start, at_whole, length_on, no_lengths}
+use Rattle.std.proofs.Common.{◌≡◌, ◌+◌, [], refl, ap, ◌∙◌, arith}
+use Rattle.pg_driver.specs.Levels.{LevelStart, all_made_by}
+use Rattle.pg_driver.specs.Told.{known_of, over}
+use Rattle.pg_driver.specs.Traces.{known_at_end, passes_of, passes_of_length}
+use Rattle.pg_driver.proofs.LevelSteps.{at_level_start, at_next, at_whole, lengths_from, lengths_step, no_lengths, reaches_on}
+use Rattle.pg_driver.proofs.ReadySteps.{tells_totals}
 use Rattle.pg_driver.proofs.level.run_lengths.Goals as goal
 
 pub lengths-init : goal.lengths-init
 lengths-init g c =
-    let m0 = g.E.Engine.meaning c.args.e.now in
-    let source = source_of c.args.t.now c.args.d.now m0 in
+    let m0 = g.E.Engine.meaning c.args.engine.now in
+    let source = over c.args.table.now c.args.dictionary.now in
     record {
       reaches = record {
-        walk = walk_start m0 c.args.records.now;
-        at = at_start source c.args.number c.args.level.now.pat_start m0 c.args.records.now c.new-closed.result c.requires.chosen c.new-closed.ensures.here c.new-closed.ensures.longer;
+        done = [];
+        at = at_level_start source c.args.number c.args.params.now.pat_start m0 c.args.records.now c.new-closed.result c.requires.chosen c.new-closed.ensures.here c.new-closed.ensures.longer;
         left = refl;
+        known = refl;
       };
+      ready = c.requires.ready c.args.params.now.pat_start;
       signs = refl;
       begun = refl;
       passes = omega (arith, c.requires.level.start_low);
       chosen = omega (arith, c.requires.level.start_low, c.requires.chosen);
-      levels = refl;
       few = omega (arith, c.requires.level.start_high);
     }
 
 pub lengths-preserved : goal.lengths-preserved
 lengths-preserved g c =
-    let m0 = g.E.Engine.meaning c.args.e.now in
-    let m = g.E.Engine.meaning c.lengths.e in
-    let n = g.E.Engine.meaning c.run_length.new.e in
-    let level = c.args.level.now in
+    let m0 = g.E.Engine.meaning c.args.engine.now in
+    let m = g.E.Engine.meaning c.lengths.engine in
+    let n = g.E.Engine.meaning c.run_length.new.engine in
+    let params = c.args.params.now in
     let number = c.args.number in
     let len = c.lengths.len in
-    let source = source_of c.args.t.now c.args.d.now m0 in
-    let reached = c.lengths.invariant.reaches in
-    let passes = passes_of_length number len in
-    let steps : (w : Walk) → IsAt source number len m c.lengths.records c.lengths.closed w → IsAt source number len n c.run_length.new.records c.run_length.new.closed (fold (walk_on source level) w passes) =
-    subst (λ (s : Source). (w : Walk) → IsAt s number len m c.lengths.records c.lengths.closed w → IsAt s number len n c.run_length.new.records c.run_length.new.closed (fold (walk_on s level) w passes))
-    (same_source c.args.t.now c.args.d.now m0 m c.lengths.invariant.signs) c.in_ok-run_length.ensures.ok in
+    let end = params.pat_finish + 1 in
+    let source = over c.args.table.now c.args.dictionary.now in
+    let start : LevelStart = record { engine = m0; records = c.args.records.now } in
+    let all = all_made_by source params m0 (passes_of number params) in
+    let reached = reaches_on source params number len start m n c.lengths.records c.run_length.new.records c.lengths.closed c.run_length.new.closed (lengths_from number len end) (passes_of_length number len) (lengths_from number (len + 1) end) all (known_at_end (known_of m0) all)
+    (lengths_step number len end c.lengths-test.true) c.in_ok-run_length.ensures.ok c.lengths.invariant.reaches in
     record {
       reaches = record {
-        walk = fold (walk_on source level) reached.walk passes;
-        at = at_next source number len n c.run_length.new.records c.run_length.new.closed c.next_length.new.self (fold (walk_on source level) reached.walk passes) c.next_length.ensures.here c.next_length.ensures.longer (steps reached.walk reached.at);
-        left = length_on source level number len (level.pat_finish + 1) reached.walk (fold (walk_on source level) (walk_start m0 c.args.records.now) (passes_of number level)) c.lengths-test.true reached.left;
+        done = reached.done;
+        at = at_next source number len start reached.done n c.run_length.new.records c.run_length.new.closed c.next_length.new.self c.next_length.ensures.here c.next_length.ensures.longer reached.at;
+        left = reached.left;
+        known = reached.known;
       };
+      ready = c.next_length-in-lengths.ensures source number (known_of n) c.in_ok-run_length.ensures.ready;
       signs = c.in_ok-run_length.ensures.signs ∙ c.lengths.invariant.signs;
       begun = omega (arith, c.in_ok-run_length.ensures.begun, c.lengths.invariant.begun);
       passes = omega (arith, c.in_ok-run_length.ensures.few, c.lengths.invariant.passes);
       chosen = omega (arith, c.in_ok-run_length.ensures.chosen, c.lengths.invariant.chosen);
-      levels = c.in_ok-run_length.ensures.levels ∙ c.lengths.invariant.levels;
       few = omega (arith, c.lengths-test.true, c.requires.level.finish_high);
     }
 
-pub returns-clause-ok : goal.returns-clause-ok
-returns-clause-ok g c =
-    let m0 = g.E.Engine.meaning c.args.e.now in
-    let m = g.E.Engine.meaning c.lengths.e in
-    let level = c.args.level.now in
-    let source = source_of c.args.t.now c.args.d.now m0 in
-    let end = level.pat_finish + 1 in
-    let rest = flat_map (passes_of_length c.args.number) (range_with_len c.lengths.len (end - c.lengths.len)) in
+pub returns-clause-state : goal.returns-clause-state
+returns-clause-state g c =
+    let m0 = g.E.Engine.meaning c.args.engine.now in
+    let params = c.args.params.now in
+    let number = c.args.number in
+    let end = params.pat_finish + 1 in
+    let source = over c.args.table.now c.args.dictionary.now in
+    let start : LevelStart = record { engine = m0; records = c.args.records.now } in
+    let all = all_made_by source params m0 (passes_of number params) in
     let ends : c.lengths.len ≡ end = omega (arith, c.requires.level.start_high) in
-    let none : rest ≡ [] = ap (λ len. flat_map (passes_of_length c.args.number) (range_with_len len (end - len))) ends ∙ no_lengths c.args.number end in
-    (at_whole source level c.args.number c.lengths.len m c.lengths.records c.lengths.closed rest (fold (walk_on source level) (walk_start m0 c.args.records.now) (passes_of c.args.number level)) none c.lengths.invariant.reaches).level
+    let none : lengths_from number c.lengths.len end ≡ [] = ap (λ len. lengths_from number len end) ends ∙ no_lengths number end in
+    (at_whole source params number c.lengths.len start (g.E.Engine.meaning c.lengths.engine) c.lengths.records c.lengths.closed (lengths_from number c.lengths.len end) all (known_at_end (known_of m0) all) none c.lengths.invariant.reaches).0.state
 
-pub returns-clause-counted : goal.returns-clause-counted
-returns-clause-counted g c =
-    let m0 = g.E.Engine.meaning c.args.e.now in
-    let m = g.E.Engine.meaning c.lengths.e in
-    let level = c.args.level.now in
-    let source = source_of c.args.t.now c.args.d.now m0 in
-    let end = level.pat_finish + 1 in
-    let rest = flat_map (passes_of_length c.args.number) (range_with_len c.lengths.len (end - c.lengths.len)) in
+pub returns-clause-records : goal.returns-clause-records
+returns-clause-records g c =
+    let m0 = g.E.Engine.meaning c.args.engine.now in
+    let params = c.args.params.now in
+    let number = c.args.number in
+    let end = params.pat_finish + 1 in
+    let source = over c.args.table.now c.args.dictionary.now in
+    let start : LevelStart = record { engine = m0; records = c.args.records.now } in
+    let all = all_made_by source params m0 (passes_of number params) in
     let ends : c.lengths.len ≡ end = omega (arith, c.requires.level.start_high) in
-    let none : rest ≡ [] = ap (λ len. flat_map (passes_of_length c.args.number) (range_with_len len (end - len))) ends ∙ no_lengths c.args.number end in
-    (at_whole source level c.args.number c.lengths.len m c.lengths.records c.lengths.closed rest (fold (walk_on source level) (walk_start m0 c.args.records.now) (passes_of c.args.number level)) none c.lengths.invariant.reaches).begun
+    let none : lengths_from number c.lengths.len end ≡ [] = ap (λ len. lengths_from number len end) ends ∙ no_lengths number end in
+    (at_whole source params number c.lengths.len start (g.E.Engine.meaning c.lengths.engine) c.lengths.records c.lengths.closed (lengths_from number c.lengths.len end) all (known_at_end (known_of m0) all) none c.lengths.invariant.reaches).0.records
+
+pub returns-clause-ready : goal.returns-clause-ready
+returns-clause-ready g c =
+    let m = g.E.Engine.meaning c.lengths.engine in
+    tells_totals (over c.args.table.now c.args.dictionary.now) c.args.number c.lengths.len (known_of m) m.patterns c.lengths.counting refl c.lengths.invariant.ready

@@ -1,23 +1,23 @@
-use Rattle.std.proofs.Common.{◌≡◌, ◌+◌, ◌-◌, ◌*◌, ◌^◌, ◌≤◌, fold}
-use Rattle.std.specs.List.{flat_map, range_with_len}
-use Rattle.pg_driver.specs.Begun.{walk_on}
-use Rattle.pg_driver.specs.Runs.{passes_of, passes_of_length}
-use Rattle.pg_driver.specs.Skips.{walk_start}
-use Rattle.pg_driver.specs.Views.{source_of}
-use Rattle.pg_driver.proofs.SkipSteps.{Reaches}
+use Rattle.std.proofs.Common.{◌≡◌, ◌+◌, ◌*◌, ◌^◌, ◌≤◌}
+use Rattle.pg_driver.specs.LevelCounting.{IsReady}
+use Rattle.pg_driver.specs.Levels.{all_made_by}
+use Rattle.pg_driver.specs.Told.{known_of, over}
+use Rattle.pg_driver.specs.Traces.{known_at_end, passes_of}
+use Rattle.pg_driver.proofs.LevelSteps.{Reaches, lengths_from}
 use Rattle.pg_driver.proofs.level.run_lengths.Given as goal
 
 abbrev pub invariant-lengths : goal.invariant-lengths
 invariant-lengths g l =
-    let m0 = g.E.Engine.meaning l.fn.e in
-    let m = g.E.Engine.meaning l.e in
-    let source = source_of l.t l.d m0 in
+    let m0 = g.E.Engine.meaning l.fn.engine in
+    let m = g.E.Engine.meaning l.engine in
+    let source = over l.table l.dictionary in
+    let all = all_made_by source l.params m0 (passes_of l.number l.params) in
     record {
-      reaches : Reaches source l.level l.number l.len m l.records l.closed (flat_map (passes_of_length l.number) (range_with_len l.len (l.end - l.len))) (fold (walk_on source l.level) (walk_start m0 l.fn.records) (passes_of l.number l.level));
+      reaches : Reaches source l.params l.number l.len (record { engine = m0; records = l.fn.records }) m l.records l.closed (lengths_from l.number l.len l.end) all (known_at_end (known_of m0) all);
+      ready : IsReady source l.number l.len (known_of m) l.counting;
       signs : m.signs ≡ m0.signs;
       begun : m.begun + l.fn.records.begun ≡ m0.begun + l.records.begun;
       passes : l.records.begun + 16 ≤ l.fn.records.begun + 16 * l.len;
       chosen : l.records.chosen + 16 * 2 ^ 26 ≤ 16 * 2 ^ 26 * l.len;
-      levels : l.records.levels ≡ l.fn.records.levels;
       few : l.len ≤ 16;
     }

@@ -10,7 +10,7 @@ use Rattle.pg_driver.proofs.sums.add_word.Goals as goal
 
 pub positions-preserved : goal.positions-preserved
 positions-preserved g c =
-    let m = g.E.Engine.meaning c.args.e.now in
+    let m = g.E.Engine.meaning c.args.engine.now in
     let w = word_of c.args.w.now in
     let p = c.positions.p in
     let within : p < length w.signs = omega (arith, c.positions-test.true, c.in-Some.ensures.within) in

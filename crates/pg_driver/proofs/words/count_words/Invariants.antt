@@ -1,21 +1,21 @@
 use Rattle.std.proofs.Common.{◌≡◌, drop}
 use Rattle.std.specs.List.{flat_map, sum_by}
 use Rattle.pg_dict.specs.Word.{letters_of}
-use Rattle.pg_select.specs.Sights.{sights}
+use Rattle.pg_select.specs.CountedPositions.{counted_positions}
 use Rattle.pg_select.specs.Sums.{marks_in, totals}
 use Rattle.pg_driver.specs.Counting.{counting, with_marks, HasRoom, HasRoomFor}
-use Rattle.pg_driver.specs.Views.{minima_of}
+use Rattle.pg_driver.specs.Told.{minima_of}
 use Rattle.pg_driver.proofs.Walks.{KeepsButCounts}
 use Rattle.pg_driver.proofs.words.count_words.Given as goal
 
 abbrev pub invariant-words : goal.invariant-words
 invariant-words g l =
-    let m0 = g.E.Engine.meaning l.fn.e in
-    let m = g.E.Engine.meaning l.e in
+    let m0 = g.E.Engine.meaning l.fn.engine in
+    let m = g.E.Engine.meaning l.engine in
     record {
       kept : KeepsButCounts m0 m;
-      whole : counting m (sights (minima_of l.t) (drop l.i l.d) m0.pass m0.patterns m0.hopeless) ≡ counting m0 (sights (minima_of l.t) l.d m0.pass m0.patterns m0.hopeless);
-      room : HasRoom m.counts (sum_by letters_of (drop l.i l.d));
-      sums : with_marks l.sums (flat_map (marks_in (minima_of l.t) m0.patterns) (drop l.i l.d)) ≡ totals (minima_of l.t) l.d m0.patterns;
-      room_for : HasRoomFor l.sums (sum_by letters_of (drop l.i l.d));
+      whole : counting m (counted_positions (minima_of l.table) (drop l.i l.dictionary) m0.pass m0.patterns m0.hopeless) ≡ counting m0 (counted_positions (minima_of l.table) l.dictionary m0.pass m0.patterns m0.hopeless);
+      room : HasRoom m.counts (sum_by letters_of (drop l.i l.dictionary));
+      sums : with_marks l.sums (flat_map (marks_in (minima_of l.table) m0.patterns) (drop l.i l.dictionary)) ≡ totals (minima_of l.table) l.dictionary m0.patterns;
+      room_for : HasRoomFor l.sums (sum_by letters_of (drop l.i l.dictionary));
     }

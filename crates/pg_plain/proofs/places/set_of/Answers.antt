@@ -1,6 +1,6 @@
 use Rattle.std.proofs.Common.{◌≡◌, T, sym, subst, ◌∙◌}
 use Rattle.std.specs.FinMap.Entries.{is_sorted}
-use Rattle.pg_patterns.specs.Places.{place_cmp}
+use Rattle.pg_patterns.specs.DottedSigns.{dotted_cmp}
 use Rattle.pg_plain.proofs.Entered.{whole}
 use Rattle.pg_plain.proofs.Maps.{sorted_from}
 use Rattle.pg_plain.proofs.places.set_of.Goals as goal
@@ -8,4 +8,4 @@ use Rattle.pg_plain.proofs.places.set_of.Goals as goal
 pub returns : goal.returns
 returns c =
     let all : c.loop-place.entries.items ≡ c.args.map.now.entries = whole c.loop-place.entries.items c.loop-place.place-iterator c.args.map.now.entries c.loop-place.invariant c.in-None.ensures.steps.0 in
-    c.from_entries.ensures.in_order (subst (λ x. T (is_sorted place_cmp x)) (sym all) (sorted_from place_cmp c.args.map.now.entries c.iter-place-items.ensures.ordered)) ∙ all
+    c.from_entries.ensures.in_order (subst (λ x. T (is_sorted dotted_cmp x)) (sym all) (sorted_from dotted_cmp c.args.map.now.entries c.iter-place-items.ensures.ordered)) ∙ all

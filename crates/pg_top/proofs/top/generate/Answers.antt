@@ -1,13 +1,16 @@
-use Rattle.std.proofs.Common.{inl}
+use Rattle.pg_top.specs.Commands.{texts_of}
+use Rattle.pg_top.specs.Requests.{ToGenerate}
+use Rattle.pg_top.specs.Writings.{writing_of}
+use Rattle.pg_top.proofs.Calls.{finished_call, stopped_call}
 use Rattle.pg_top.proofs.top.generate.Goals as goal
 
-pub returns-in-Err-Unread-clause-faulted : goal.returns-in-Err-Unread-clause-faulted
-returns-in-Err-Unread-clause-faulted g c =
-    let stopped = rw c.in-Err-Unread.field-0-is at c.in-Err-Unread.ensures.stopped in
-    λ _. inl (record {
-      input = c.in-Err-Unread.input;
-      rose = stopped.0;
-      unchanged = c.in-Err-Unread.ensures.held;
-      accepted = stopped.1;
-      line = rw (← c.name.ensures) c.put_fault-in-Err-Unread.ensures.line;
-    })
+pub returns-in-Ok : goal.returns-in-Ok
+returns-in-Ok g c =
+    finished_call (ToGenerate (texts_of c.args.names.now)) (writing_of c.in-Ok.outputs.files.items) c.in-Ok.outputs.lines.items
+    (g.F.Files.shown c.args.files.now) (g.F.Files.shown c.prepare.new.files) (g.F.Files.shown c.finish.new.files) (g.O.Sink.shown c.args.out.now) (g.O.Sink.shown c.finish.new.out) c.finish.result
+    tt c.in-Ok.ensures.named c.in-Ok.ensures.held c.in-Ok.ensures.writes c.in-Ok.ensures.ok c.finish.ensures
+
+pub returns-in-Err : goal.returns-in-Err
+returns-in-Err g c =
+    stopped_call (ToGenerate (texts_of c.args.names.now)) (g.F.Files.shown c.args.files.now) (g.F.Files.shown c.prepare.new.files) (g.O.Sink.shown c.args.out.now) (g.O.Sink.shown c.put_stop.new.out) c.in-Err.stop c.put_stop.result
+    tt c.in-Err.ensures.held c.in-Err.ensures.stopped c.put_stop.ensures.put

@@ -2,7 +2,8 @@ use Rattle.std.proofs.Common.{◌≡◌, ℕ, true, List, length, sym, ap, subst
 use Rattle.pg_patterns.specs.Values.{is_entry}
 use Rattle.pg_plain.specs.Indexes.{is_indexed}
 use Rattle.pg_plain.proofs.Bools.{all_weaker}
-use Rattle.pg_plain.proofs.Counted.{counted_len}
+use Rattle.pg_plain.specs.Strings.{has_signs_up_to}
+use Rattle.pg_plain.proofs.Counted.{counted_len, counted_good}
 use Rattle.pg_plain.proofs.Entered.{window_entry}
 use Rattle.pg_plain.proofs.engine.PlainEngineEngine.choose.Goals as goal
 
@@ -19,3 +20,8 @@ invariant_of-self-clause-indexed c =
     (all_weaker (λ (e : (List ℕ × ℕ) × ℕ). is_indexed c.args.self.now.pattern_index.fronts.items c.args.self.now.pattern_index.strings.items e.0.0) (λ (e : (List ℕ × ℕ) × ℕ). is_indexed c.enter.new.self.fronts.items c.enter.new.self.strings.items e.0.0) c.args.self.now.patterns.entries
     (λ e. c.enter.ensures.kept e.0.0) c.args.self.now.indexed)
     (subst (λ k. is_indexed c.enter.new.self.fronts.items c.enter.new.self.strings.items k.0 ≡ true) (sym c.new-place.ensures) c.enter.ensures.entered)
+
+pub invariant_of-self-clause-known : goal.invariant_of-self-clause-known
+invariant_of-self-clause-known c =
+    c.raise_in.ensures.places (λ k. has_signs_up_to c.args.self.now.signs k.0) c.args.self.now.known
+    (ap (λ (k : List ℕ × ℕ). has_signs_up_to c.args.self.now.signs k.0) c.new-place.ensures ∙ ap (has_signs_up_to c.args.self.now.signs) c.signs-signs.ensures.value ∙ counted_good (has_signs_up_to c.args.self.now.signs) c.args.self.now.counts.entries c.args.at.now c.requires c.args.self.now.counts_known)

@@ -1,8 +1,8 @@
 use Rattle.std.proofs.Common.{◌≡◌, ℕ, true, List, length, sym, ap, subst, ◌∙◌}
-use Rattle.pg_plain.specs.Strings.{is_string}
 use Rattle.pg_plain.specs.Indexes.{is_indexed}
 use Rattle.pg_plain.proofs.Bools.{all_weaker}
-use Rattle.pg_plain.proofs.Counted.{counted_len}
+use Rattle.pg_plain.specs.Strings.{is_string, has_signs_up_to}
+use Rattle.pg_plain.proofs.Counted.{counted_len, counted_good}
 use Rattle.pg_plain.proofs.Entered.{window_string}
 use Rattle.pg_plain.proofs.engine.PlainEngineEngine.give_up.Goals as goal
 
@@ -17,3 +17,8 @@ invariant_of-self-clause-hopeless_indexed c =
     (all_weaker (λ (e : (List ℕ × ℕ) × Unit {0}). is_indexed c.args.self.now.hopeless_index.fronts.items c.args.self.now.hopeless_index.strings.items e.0.0) (λ (e : (List ℕ × ℕ) × Unit {0}). is_indexed c.enter.new.self.fronts.items c.enter.new.self.strings.items e.0.0) c.args.self.now.hopeless.entries
     (λ e. c.enter.ensures.kept e.0.0) c.args.self.now.hopeless_indexed)
     (subst (λ k. is_indexed c.enter.new.self.fronts.items c.enter.new.self.strings.items k.0 ≡ true) (sym c.new-place.ensures) c.enter.ensures.entered)
+
+pub invariant_of-self-clause-hopeless_known : goal.invariant_of-self-clause-hopeless_known
+invariant_of-self-clause-hopeless_known c =
+    c.put_in.ensures.places (λ k. has_signs_up_to c.args.self.now.signs k.0) c.args.self.now.hopeless_known
+    (ap (λ (k : List ℕ × ℕ). has_signs_up_to c.args.self.now.signs k.0) c.new-place.ensures ∙ ap (has_signs_up_to c.args.self.now.signs) c.signs-signs.ensures.value ∙ counted_good (has_signs_up_to c.args.self.now.signs) c.args.self.now.counts.entries c.args.at.now c.requires c.args.self.now.counts_known)

@@ -1,0 +1,137 @@
+-- A step of the choice among the candidates.
+use Rattle.std.proofs.Common.{◌≡◌, ℕ, ◌+◌, ◌≤◌, Bool, true, false, cond, not, List, [], ◌∷◌, ◌++◌, length, map, fold, is_some, Option, Some, None, refl, sym, ap, ◌∙◌, arith}
+use Rattle.std.specs.Ordering.{is_lt, is_eq, eq_by_cmp}
+use Rattle.std.specs.Option.{option_map}
+use Rattle.std.specs.List.{sum_by, list_all}
+use Rattle.std.specs.Cmp.Lexicographic.{nat_list_cmp_total}
+use Rattle.std.specs.Cmp.{tied_itself}
+use Rattle.std.specs.FinMap.Entries.{find, put}
+use Rattle.std.proofs.lemmas.Bool.{and_parts}
+use Rattle.std.proofs.lemmas.List.{length-append}
+use Rattle.std.proofs.lemmas.List.Elements.{filter-append}
+use Rattle.std.proofs.lemmas.List.Sums.{fold-append, sum_by-append, sum_by-cons}
+use Rattle.pg_types.specs.declared.parameters.LevelParams.{LevelParams}
+use Rattle.pg_types.specs.Placement.{Families, enter}
+use Rattle.pg_patterns.specs.DottedSigns.{dotted_cmp}
+use Rattle.pg_patterns.specs.Values.{raise}
+use Rattle.pg_types.specs.Counts.{Counts, above, is_counted}
+use Rattle.pg_select.specs.Meanings.{Meaning}
+use Rattle.pg_select.specs.declared.pass.Pass.{Pass}
+use Rattle.pg_select.specs.CountedPositions.{Candidate}
+use Rattle.pg_select.specs.Windows.{Hopeless as HopelessPlaces}
+use Rattle.pg_driver.specs.declared.choices.Choices.{Choices}
+use Rattle.pg_driver.specs.Counting.{is_filled, weight_in}
+use Rattle.pg_driver.specs.Choosing.{candidate_of, with_candidates, HasChosen}
+use Rattle.pg_driver.specs.States.{State, state_of, state_after}
+use Rattle.pg_driver.specs.Traces.{choice_of, chosen_of, hopeless_of, entered_of, is_chosen, is_hopeless, is_left}
+use Rattle.pg_driver.proofs.Puts.{cmp}
+
+abbrev Entry : Type 0
+Entry = List ℕ × (ℕ × ℕ)
+
+found_first : (e x : Entry) (xs : Counts) → x ≡ e → is_counted (x ∷ xs) e.0 ≡ true
+found_first e x xs same =
+    let tie : eq_by_cmp cmp e.0 x.0 ≡ true = ap (λ (y : Entry). eq_by_cmp cmp e.0 y.0) same ∙ ap is_eq (tied_itself nat_list_cmp_total e.0) in
+    ap (λ b. is_some (cond b (Some x.1) (find cmp e.0 xs))) tie
+
+found_later : (b : Bool) (v : ℕ × ℕ) (o : Option (ℕ × ℕ)) → is_some o ≡ true → is_some (cond b (Some v) o) ≡ true
+found_later true v o is = refl
+found_later false v o is = is
+
+-- the least window above another is counted
+pub counted_above : (u : List ℕ) (counts : Counts) (e : Entry) (rest : Counts) → above u counts ≡ e ∷ rest → is_counted counts e.0 ≡ true
+counted_above u [] e rest is = cc
+counted_above u (x ∷ xs) e rest is =
+    elim (is_lt (cmp u x.0)) as (λ (b : Bool). cond b (x ∷ above u xs) (above u xs) ≡ e ∷ rest → is_counted (x ∷ xs) e.0 ≡ true) [
+      | true ↦ λ same. let first : x ≡ e = cc in found_first e x xs first
+      | false ↦ λ same. found_later (eq_by_cmp cmp e.0 x.0) x.1 (find cmp e.0 xs) (counted_above u xs e rest same)
+    ] is
+
+-- no counted window is empty, so all are above the empty one
+pub above_all : (counts : Counts) → list_all is_filled counts ≡ true → above [] counts ≡ counts
+above_all [] filled = refl
+above_all (x ∷ xs) filled =
+    let parts = and_parts (is_filled x) (list_all is_filled xs) filled in
+    ap (λ b. cond b (x ∷ above [] xs) (above [] xs)) parts.0 ∙ ap (λ ys. x ∷ ys) (above_all xs parts.1)
+
+-- the sums of the candidates are within those of the counts
+pub good_within : (counts : Counts) → sum_by (λ (c : Candidate). c.good) (map candidate_of counts) ≤ weight_in counts
+good_within [] = omega arith
+good_within (e ∷ es) = omega (arith, good_within es, sum_by-cons (λ (c : Candidate). c.good) (candidate_of e) (map candidate_of es), sum_by-cons (λ (e : Entry). e.1.0 + e.1.1) e es)
+
+pub bad_within : (counts : Counts) → sum_by (λ (c : Candidate). c.bad) (map candidate_of counts) ≤ weight_in counts
+bad_within [] = omega arith
+bad_within (e ∷ es) = omega (arith, bad_within es, sum_by-cons (λ (c : Candidate). c.bad) (candidate_of e) (map candidate_of es), sum_by-cons (λ (e : Entry). e.1.0 + e.1.1) e es)
+
+abbrev state : List ((List ℕ × ℕ) × ℕ) → HopelessPlaces → Option Families → State
+state P H fs = record { known = record { patterns = P; hopeless = H }; families = fs }
+
+same_states : (P Q : List ((List ℕ × ℕ) × ℕ)) (H I : HopelessPlaces) (fs gs : Option Families) → P ≡ Q → H ≡ I → fs ≡ gs → state P H fs ≡ state Q I gs
+same_states P Q H I fs gs p q r = λ i. record { known = record { patterns = p i; hopeless = q i }; families = r i }
+
+-- the state after a pass that has these candidates
+abbrev pub state_with : ℕ → LevelParams → Pass → State → List Candidate → State
+state_with signs params pass s cs = state_after signs s.families (record { pass = pass; params = params; before = s.known; candidates = cs })
+
+families_append : (signs : ℕ) (xs ys : List Candidate) (o : Option Families) → option_map (λ fs. fold (λ fs c. enter signs fs c.window) fs (xs ++ ys)) o ≡ option_map (λ fs. fold (λ fs c. enter signs fs c.window) fs ys) (option_map (λ fs. fold (λ fs c. enter signs fs c.window) fs xs) o)
+families_append signs xs ys None = refl
+families_append signs xs ys (Some fs) = ap (λ (gs : Families). Some gs) (fold-append (λ (fs : Families) (c : Candidate). enter signs fs c.window) fs xs ys)
+
+-- some candidates, and then others
+pub state_append : (signs : ℕ) (params : LevelParams) (pass : Pass) (s : State) (xs ys : List Candidate) → state_with signs params pass s (xs ++ ys) ≡ state_with signs params pass (state_with signs params pass s xs) ys
+state_append signs params pass s xs ys =
+    same_states _ _ _ _ _ _
+    (ap (fold (λ P (c : Candidate). raise P (c.window, pass.dot) pass.level) s.known.patterns) (filter-append (λ c. is_chosen (choice_of params c)) xs ys)
+    ∙ fold-append (λ P (c : Candidate). raise P (c.window, pass.dot) pass.level) s.known.patterns (chosen_of params xs) (chosen_of params ys))
+    (ap (fold (λ H (c : Candidate). put dotted_cmp (c.window, pass.dot) (tt {0}) H) s.known.hopeless) (filter-append (λ c. is_hopeless (choice_of params c)) xs ys)
+    ∙ fold-append (λ H (c : Candidate). put dotted_cmp (c.window, pass.dot) (tt {0}) H) s.known.hopeless (hopeless_of params xs) (hopeless_of params ys))
+    (ap (λ (cs : List Candidate). option_map (λ fs. fold (λ fs c. enter signs fs c.window) fs cs) s.families) (filter-append (λ c. not (is_left (choice_of params c))) xs ys)
+    ∙ families_append signs (entered_of params xs) (entered_of params ys) s.families)
+
+families_none : (o : Option Families) → option_map (λ fs. fs) o ≡ o
+families_none None = refl
+families_none (Some fs) = refl
+
+-- no candidate
+pub state_none : (signs : ℕ) (params : LevelParams) (pass : Pass) (s : State) → state_with signs params pass s [] ≡ s
+state_none signs params pass s = same_states _ _ _ _ _ _ refl refl (families_none s.families)
+
+abbrev numbers : ℕ → ℕ → ℕ → ℕ → ℕ → Choices
+numbers a b c d e = record { candidates = a; chosen = b; hopeless = c; good = d; bad = e }
+
+same_numbers : (a b c d e f g h j k : ℕ) → a ≡ f → b ≡ g → c ≡ h → d ≡ j → e ≡ k → numbers a b c d e ≡ numbers f g h j k
+same_numbers a b c d e f g h j k p q r s t = λ i. record { candidates = p i; chosen = q i; hopeless = r i; good = s i; bad = t i }
+
+pub numbers_append : (params : LevelParams) (s : Choices) (xs ys : List Candidate) → with_candidates params s (xs ++ ys) ≡ with_candidates params (with_candidates params s xs) ys
+numbers_append params s xs ys =
+    let chosen = filter-append (λ (c : Candidate). is_chosen (choice_of params c)) xs ys in
+    let hopeless = filter-append (λ (c : Candidate). is_hopeless (choice_of params c)) xs ys in
+    same_numbers _ _ _ _ _ _ _ _ _ _
+    (omega (arith, length-append xs ys))
+    (omega (arith, ap (λ (cs : List Candidate). length cs) chosen, length-append (chosen_of params xs) (chosen_of params ys)))
+    (omega (arith, ap (λ (cs : List Candidate). length cs) hopeless, length-append (hopeless_of params xs) (hopeless_of params ys)))
+    (omega (arith, ap (λ (cs : List Candidate). sum_by (λ c. c.good) cs) chosen, sum_by-append (λ (c : Candidate). c.good) (chosen_of params xs) (chosen_of params ys)))
+    (omega (arith, ap (λ (cs : List Candidate). sum_by (λ c. c.bad) cs) chosen, sum_by-append (λ (c : Candidate). c.bad) (chosen_of params xs) (chosen_of params ys)))
+
+pub numbers_none : (params : LevelParams) (s : Choices) → with_candidates params s [] ≡ s
+numbers_none params s = same_numbers _ _ _ _ _ _ _ _ _ _ (omega arith) (omega arith) (omega arith) (omega arith) (omega arith)
+
+-- what one candidate adds at most
+pub good_adds : (params : LevelParams) (s : Choices) (c : Candidate) → (with_candidates params s (c ∷ [])).good ≤ s.good + c.good
+good_adds params s c = elim (is_chosen (choice_of params c)) as (λ (b : Bool). s.good + sum_by (λ (c : Candidate). c.good) (cond b (c ∷ []) []) ≤ s.good + c.good) [ true ↦ omega arith | false ↦ omega arith ]
+
+pub bad_adds : (params : LevelParams) (s : Choices) (c : Candidate) → (with_candidates params s (c ∷ [])).bad ≤ s.bad + c.bad
+bad_adds params s c = elim (is_chosen (choice_of params c)) as (λ (b : Bool). s.bad + sum_by (λ (c : Candidate). c.bad) (cond b (c ∷ []) []) ≤ s.bad + c.bad) [ true ↦ omega arith | false ↦ omega arith ]
+
+-- what the choice keeps
+abbrev pub KeepsButState : Meaning → Meaning → Type 0
+KeepsButState old new = new ≡ record old { patterns = new.patterns; hopeless = new.hopeless; families = new.families; tidy = new.tidy }
+
+pub keeps_on : (m0 m n : Meaning) → KeepsButState m0 m → KeepsButState m n → KeepsButState m0 n
+keeps_on m0 m n first then = then ∙ ap (λ (x : Meaning). record x { patterns = n.patterns; hopeless = n.hopeless; families = n.families; tidy = n.tidy }) first
+
+-- a candidate, and then the rest
+pub state_step : (m0 m n : Meaning) (params : LevelParams) (c : Candidate) (cs : List Candidate) (whole : State) → KeepsButState m0 m → HasChosen params (c ∷ []) m n → state_with m0.signs params m0.pass (state_of m) (c ∷ cs) ≡ whole → state_with m0.signs params m0.pass (state_of n) cs ≡ whole
+state_step m0 m n params c cs whole kept has left =
+    let here : state_of n ≡ state_with m0.signs params m0.pass (state_of m) (c ∷ []) = has.state ∙ ap (λ (x : Meaning). state_with x.signs params x.pass (state_of m) (c ∷ [])) kept in
+    ap (λ (s : State). state_with m0.signs params m0.pass s cs) here ∙ sym (state_append m0.signs params m0.pass (state_of m) (c ∷ []) cs) ∙ left

@@ -1,0 +1,102 @@
+-- Where the open positions are, and how many there are.
+use Rattle.std.proofs.Common.{◌≡◌, ℕ, zero, suc, ◌+◌, ◌-◌, ◌≤◌, ◌<◌, nat_le, Bool, true, false, cond, List, [], ◌∷◌, length, map, slice_get, Option, Some, None, refl, sym, ap, subst, ◌∙◌, arith}
+use Rattle.std.specs.List.{All, flat_map, range_with_len, sum_by}
+use Rattle.std.specs.Option.{option_map_or}
+use Rattle.std.proofs.lemmas.Bool.{leb-true}
+use Rattle.std.proofs.lemmas.List.{length-append, length-map}
+use Rattle.std.proofs.lemmas.List.Elements.{All-nil, All-cons, All-head, All-tail, All-append, All-map, All-same, All-weaker}
+use Rattle.std.proofs.lemmas.List.Sums.{sum_by-cons}
+use Rattle.std.proofs.lemmas.Option.{slice_get_within}
+use Rattle.pg_translate.specs.Reach.{positions}
+use Rattle.pg_dict.specs.Word.{Word, letters_of}
+use Rattle.pg_select.specs.Laws.{positions_in}
+use Rattle.pg_select.specs.CountedPositions.{Minima}
+use Rattle.pg_select.specs.Windows.{Patterns, Hopeless}
+use Rattle.pg_select.proofs.LawsSums.{positions_within}
+use Rattle.pg_driver.specs.declared.dot_set.DotSet.{DotSet}
+use Rattle.pg_driver.specs.declared.open_positions.OpenPosition.{OpenPosition}
+use Rattle.pg_driver.specs.OpenPositions.{numbered_positions, open_with, AreOpen}
+use Rattle.pg_driver.specs.OpenPositions.{IsPlaced}
+
+all_flat : {X Y : Type 0} (P : Y → Type 0) (Q : X → Type 0) (f : X → List Y) → ((x : X) → Q x → All P (f x)) → (xs : List X) → All Q xs → All P (flat_map f xs)
+all_flat P Q f each [] all = All-nil P
+all_flat P Q f each (x ∷ xs) all = All-append P (f x) (flat_map f xs) (each x (All-head Q x xs all)) (all_flat P Q f each xs (All-tail Q x xs all))
+
+ranged : (end n k : ℕ) → n + k ≤ end → All (λ p. p < end) (range_with_len n k)
+ranged end n zero within = All-nil (λ p. p < end)
+ranged end n (suc k) within = All-cons (λ p. p < end) n (range_with_len (n + 1) k) (omega arith) (ranged end (n + 1) k (omega arith))
+
+in_reach : (left right size : ℕ) → All (λ p. p < size) (positions left right size)
+in_reach left right size = by_test (nat_le (left + right + 2) size) (leb-true (left + right + 2) size)
+  where
+    by_test : (b : Bool) → (b ≡ true → left + right + 2 ≤ size) → All (λ p. p < size) (option_map_or (λ (ends : ℕ × ℕ). range_with_len ends.0 (ends.1 + 1 - ends.0)) (cond b (Some (left + 1, size - right - 1)) None) [])
+    by_test false enough = All-nil (λ p. p < size)
+    by_test true enough = let long : left + right + 2 ≤ size = enough refl in ranged size (left + 1) (size - right - 1 + 1 - (left + 1)) (omega arith)
+
+record IsNumbered (words : List Word) (s : ℕ × ℕ) : Type 0 where
+  word : s.0 < length words
+  within : (w : Word) → slice_get words s.0 ≡ Some w → s.1 < length w.signs
+
+numbered_in : (m : Minima) (words : List Word) (n : ℕ) (ws : List Word) → ((k : ℕ) (w : Word) → slice_get ws k ≡ Some w → slice_get words (n + k) ≡ Some w) → All (IsNumbered words) (numbered_positions m n ws)
+numbered_in m words n [] place = All-nil (IsNumbered words)
+numbered_in m words n (w ∷ ws) place =
+    All-append (IsNumbered words) (map (λ p. (n, p)) (positions m.left m.right (length w.signs))) (numbered_positions m (n + 1) ws)
+    (All-map (IsNumbered words) (λ (p : ℕ). (n, p)) (positions m.left m.right (length w.signs)) (All-weaker (λ p. p < length w.signs) (λ p. IsNumbered words (n, p)) (λ p low. here_in p low) (positions m.left m.right (length w.signs)) (in_reach m.left m.right (length w.signs))))
+    (numbered_in m words (n + 1) ws (λ k v at. ap (slice_get words) (plus_one n k) ∙ place (suc k) v at))
+  where
+    plus_one : (n k : ℕ) → n + 1 + k ≡ n + suc k
+    plus_one n k = omega arith
+
+    plus_zero : (n : ℕ) → n ≡ n + 0
+    plus_zero n = omega arith
+
+    here : slice_get words n ≡ Some w
+    here = ap (slice_get words) (plus_zero n) ∙ place 0 w refl
+
+    same : (a b : Word) → Some a ≡ Some b → a ≡ b
+    same a b is = cc
+
+    here_in : (p : ℕ) → p < length w.signs → IsNumbered words (n, p)
+    here_in p low = record {
+      word = slice_get_within words n w here;
+      within = λ v at. subst (λ (u : Word). p < length u.signs) (same w v (sym here ∙ at)) low;
+    }
+
+placed_with : (words : List Word) (closed : ℕ → ℕ → Option DotSet) (s : ℕ × ℕ) → IsNumbered words s → All (IsPlaced words) (open_with closed s)
+placed_with words closed s here_in = by_dots (closed s.0 s.1)
+  where
+    by_dots : (o : Option DotSet) → All (IsPlaced words) (option_map_or (λ (dots : DotSet). record { word = s.0; at = s.1; closed = dots } ∷ []) o [])
+    by_dots None = All-nil (IsPlaced words)
+    by_dots (Some dots) = All-cons (IsPlaced words) (record { word = s.0; at = s.1; closed = dots }) [] (record { word = here_in.word; within = here_in.within }) (All-nil (IsPlaced words))
+
+-- open positions stand in the words
+pub open_placed : (level len : ℕ) (m : Minima) (words : List Word) (P : Patterns) (H : Hopeless) (entries : List OpenPosition) → AreOpen level len m words P H entries → All (IsPlaced words) entries
+open_placed level len m words P H entries are_open =
+    All-same (IsPlaced words) entries (flat_map (open_with are_open.closed) (numbered_positions m 0 words)) are_open.are
+    (all_flat (IsPlaced words) (IsNumbered words) (open_with are_open.closed) (placed_with words are_open.closed) (numbered_positions m 0 words) (numbered_in m words 0 words (λ k w at. ap (slice_get words) (zero_plus k) ∙ at)))
+  where
+    zero_plus : (k : ℕ) → 0 + k ≡ k
+    zero_plus k = omega arith
+
+few_open : (closed : ℕ → ℕ → Option DotSet) (numbered : List (ℕ × ℕ)) → length (flat_map (open_with closed) numbered) ≤ length numbered
+few_open closed [] = omega arith
+few_open closed (s ∷ numbered) =
+    let rest : length (flat_map (open_with closed) numbered) ≤ length numbered = few_open closed numbered in
+    let here : length (open_with closed s) ≤ 1 = one (closed s.0 s.1) in
+    omega (arith, length-append (open_with closed s) (flat_map (open_with closed) numbered))
+  where
+    one : (o : Option DotSet) → length {A = OpenPosition} (option_map_or (λ (dots : DotSet). record { word = s.0; at = s.1; closed = dots } ∷ []) o []) ≤ 1
+    one None = omega arith
+    one (Some dots) = omega arith
+
+numbered_length : (m : Minima) (n : ℕ) (words : List Word) → length (numbered_positions m n words) ≡ positions_in m words
+numbered_length m n [] = refl
+numbered_length m n (w ∷ words) =
+    let rest : length (numbered_positions m (n + 1) words) ≡ positions_in m words = numbered_length m (n + 1) words in
+    let sizes : length (map {B = ℕ × ℕ} (λ p. (n, p)) (positions m.left m.right (length w.signs))) ≡ length (positions m.left m.right (length w.signs)) = length-map (positions m.left m.right (length w.signs)) (λ (p : ℕ). (n, p)) in
+    omega (arith, length-append (map (λ p. (n, p)) (positions m.left m.right (length w.signs))) (numbered_positions m (n + 1) words), sizes, sum_by-cons (λ (w : Word). length (positions m.left m.right (length w.signs))) w words)
+
+-- and there are no more than letters
+pub open_few : (level len : ℕ) (m : Minima) (words : List Word) (P : Patterns) (H : Hopeless) (entries : List OpenPosition) → 1 ≤ m.left → AreOpen level len m words P H entries → length entries ≤ sum_by letters_of words
+open_few level len m words P H entries low are_open =
+    omega (arith, ap (λ (es : List OpenPosition). length es) are_open.are, few_open are_open.closed (numbered_positions m 0 words), numbered_length m 0 words, positions_within m words low)

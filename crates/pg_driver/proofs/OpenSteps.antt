@@ -1,0 +1,96 @@
+-- The steps of the loops over words, positions and open positions.
+use Rattle.std.proofs.Common.{◌≡◌, ℕ, zero, suc, ◌+◌, ◌-◌, ◌^◌, ◌≤◌, ◌<◌, Bool, true, false, cond, not, ◌&&◌, List, [], ◌∷◌, ◌++◌, length, map, fold, take, drop, get_or, set, slice_get, unwrap_or, append_assoc, Option, Some, None, refl, sym, ap, subst, ◌∙◌, arith}
+use Rattle.std.specs.List.{All, flat_map, range_with_len, sum_by}
+use Rattle.std.proofs.lemmas.List.{append-nil, drop_more, drop_all, take_all}
+use Rattle.std.proofs.lemmas.List.Elements.{All-head, All-tail}
+use Rattle.std.proofs.lemmas.List.Sums.{sum_by-cons}
+use Rattle.std.specs.Option.{option_map_or}
+use Rattle.std.specs.FinMap.Entries.{find}
+use Rattle.pg_dict.specs.Word.{Word, IsWord, letters_of}
+use Rattle.pg_types.specs.Counts.{Counts}
+use Rattle.pg_select.specs.Meanings.{Meaning, with_position}
+use Rattle.pg_select.specs.CountedPositions.{Minima, CountedPosition}
+use Rattle.pg_select.specs.Statuses.{weight_at}
+use Rattle.pg_select.specs.Windows.{Patterns, window, fits}
+use Rattle.pg_driver.specs.Counting.{counting, HasRoom, TookRoom}
+use Rattle.pg_driver.proofs.MarkSteps.{weight_small}
+use Rattle.pg_driver.proofs.Puts.{cmp, weight_found}
+use Rattle.pg_driver.proofs.Reaches.{range_step}
+use Rattle.pg_driver.proofs.Rooms.{took_none, took_with, window_filled}
+use Rattle.pg_driver.proofs.Walks.{counted_step}
+use Rattle.pg_driver.proofs.WordSteps.{drop_place}
+use Rattle.pg_driver.specs.declared.open_positions.OpenPosition.{OpenPosition}
+use Rattle.pg_driver.specs.OpenLevels.{open_in, open_from}
+use Rattle.pg_select.specs.LawsClosedDots.{is_good}
+use Rattle.pg_driver.specs.OpenPositions.{counted_in}
+
+-- one part more
+pub added_step : {X Y : Type 0} (f : X → List Y) (items more whole : List Y) (x : X) (xs : List X) → more ≡ items ++ f x → items ++ flat_map f (x ∷ xs) ≡ whole → more ++ flat_map f xs ≡ whole
+added_step {Y = Y} f items more whole x xs is left = ap (λ (ys : List Y). ys ++ flat_map f xs) is ∙ append_assoc items (f x) (flat_map f xs) ∙ left
+
+pub position_added : {Y : Type 0} (f : ℕ → List Y) (items more whole : List Y) (p end : ℕ) → p < end → more ≡ items ++ f p → items ++ flat_map f (range_with_len p (end - p)) ≡ whole → more ++ flat_map f (range_with_len (p + 1) (end - (p + 1))) ≡ whole
+position_added {Y} f items more whole p end before is left =
+    added_step f items more whole p (range_with_len (p + 1) (end - (p + 1))) is (ap (λ (ps : List ℕ). items ++ flat_map f ps) (sym (range_step p end before)) ∙ left)
+
+-- what is counted at an open position takes the room of one
+pub took_in : (counts : Counts) (level len dot : ℕ) (w : Word) (p n : ℕ) (closed : Bool) → 1 ≤ len → IsWord w → p < length w.signs → HasRoom counts n → TookRoom counts (fold with_position counts (counted_in level len dot w p closed)) 1
+took_in counts level len dot w p n closed long word within room = by_test (fits w.signs p len dot) closed refl
+  where
+    by_test : (a b : Bool) → fits w.signs p len dot ≡ a → TookRoom counts (fold with_position counts (option_map_or (λ good. record { window = window w.signs p len dot; good = good; weight = weight_at w p } ∷ []) (cond (a && not b) (Some (is_good level w p)) None) [])) 1
+    by_test false b is = took_none counts n 1 room
+    by_test true true is = took_none counts n 1 room
+    by_test true false is = took_with counts (record { window = window w.signs p len dot; good = is_good level w p; weight = weight_at w p }) n room (window_filled w.signs p len dot long is) (weight_small w p word within)
+
+-- sums that are found are small
+pub found_small : (counts : Counts) (u : List ℕ) (n good bad : ℕ) → HasRoom counts n → Some (good, bad) ≡ find cmp u counts → (good < 2 ^ 40) × (bad < 2 ^ 40)
+found_small counts u n good bad room is =
+    let first : good ≡ (unwrap_or (find cmp u counts) (0, 0)).0 = ap (λ (o : Option (ℕ × ℕ)). (unwrap_or {T = ℕ × ℕ} o (0, 0)).0) is in
+    let second : bad ≡ (unwrap_or (find cmp u counts) (0, 0)).1 = ap (λ (o : Option (ℕ × ℕ)). (unwrap_or {T = ℕ × ℕ} o (0, 0)).1) is in
+    (omega (arith, weight_found u counts, room.light), omega (arith, weight_found u counts, room.light))
+
+-- and so for a meaning that counts it
+pub took_entry : (m n : Meaning) (level len dot : ℕ) (w : Word) (p k : ℕ) (closed : Bool) → 1 ≤ len → IsWord w → p < length w.signs → HasRoom m.counts k → n ≡ counting m (counted_in level len dot w p closed) → TookRoom m.counts n.counts 1
+took_entry m n level len dot w p k closed long word within room is =
+    subst (λ (cs : Counts). TookRoom m.counts cs 1) (ap (λ (x : Meaning). x.counts) (sym is)) (took_in m.counts level len dot w p k closed long word within room)
+
+-- one element more that is changed in place
+changed_more : {X : Type 0} (f : X → X) (xs : List X) (i : ℕ) (d : X) → i < length xs → set (map f (take i xs) ++ drop i xs) i (f (get_or (map f (take i xs) ++ drop i xs) i d)) ≡ map f (take (suc i) xs) ++ drop (suc i) xs
+changed_more f [] i d within = absurd (omega arith)
+changed_more f (x ∷ xs) zero d within = refl
+changed_more {X} f (x ∷ xs) (suc i) d within = ap (λ (ys : List X). f x ∷ ys) (changed_more f xs i d (omega arith))
+
+pub changed_step : {X : Type 0} (f : X → X) (old cur : List X) (i : ℕ) (x d : X) → i < length old → cur ≡ map f (take i old) ++ drop i old → x ≡ f (get_or cur i d) → set cur i x ≡ map f (take (i + 1) old) ++ drop (i + 1) old
+changed_step {X} f old cur i x d within is new =
+    ap (set cur i) new
+    ∙ ap (λ (ys : List X). set ys i (f (get_or ys i d))) is
+    ∙ changed_more f old i d within
+    ∙ (let next : suc i ≡ i + 1 = omega arith in ap (λ k. map f (take k old) ++ drop k old) next)
+
+-- words have no fewer letters than their number
+pub few_words : (words : List Word) → All IsWord words → length words ≤ sum_by letters_of words
+few_words [] all = omega arith
+few_words (w ∷ words) all =
+    let word : IsWord w = All-head IsWord w words all in
+    let rest : length words ≤ sum_by letters_of words = few_words words (All-tail IsWord w words all) in
+    omega (arith, sum_by-cons letters_of w words, word.long)
+
+-- the positions of one word more
+pub word_added : (m : Minima) (level : ℕ) (P : Patterns) (items more whole : List OpenPosition) (words : List Word) (i : ℕ) (w : Word) → slice_get words i ≡ Some w → more ≡ items ++ open_in m level P i w → items ++ open_from m level P i (drop i words) ≡ whole
+    → more ++ open_from m level P (i + 1) (drop (i + 1) words) ≡ whole
+word_added m level P items more whole words i w at is left =
+    ap (λ (es : List OpenPosition). es ++ open_from m level P (i + 1) (drop (i + 1) words)) is
+    ∙ append_assoc items (open_in m level P i w) (open_from m level P (i + 1) (drop (i + 1) words))
+    ∙ ap (λ (ws : List Word). items ++ open_from m level P i ws) (sym (drop_place words i w at))
+    ∙ left
+
+-- an entry that was counted, and then the rest
+pub entry_counted : (f : OpenPosition → List CountedPosition) (m n whole : Meaning) (entries : List OpenPosition) (i : ℕ) (d : OpenPosition) → i < length entries → n ≡ counting m (f (get_or entries i d)) → counting m (flat_map f (drop i entries)) ≡ whole → counting n (flat_map f (drop (i + 1) entries)) ≡ whole
+entry_counted f m n whole entries i d within is left =
+    counted_step f m n whole (get_or entries i d) (drop (i + 1) entries) is (ap (λ (es : List OpenPosition). counting m (flat_map f es)) (sym (drop_more entries i d within)) ∙ left)
+
+-- a list that is written back whole
+pub written_back : {X : Type 0} (old new : List X) (len : ℕ) → length new ≡ length old → len ≡ length old → take len (new ++ drop (length new) old) ≡ new
+written_back {X} old new len same size =
+    ap (λ (xs : List X). take len (new ++ xs)) (drop_all (length new) old (omega arith))
+    ∙ ap (take len) (append-nil new)
+    ∙ take_all len new (omega arith)

@@ -1,0 +1,96 @@
+-- A pass of the trace over the open positions of its level, and what values are up to in a level of it.
+use Rattle.std.proofs.Common.{◌≡◌, ℕ, ◌≤◌, ◌<◌, ◌+◌, ◌-◌, max, nat_le, Bool, true, refl, List, [], ◌∷◌, length, map, fold, sym, ap, subst, ◌∙◌, arith}
+use Rattle.std.specs.List.{flat_map, list_all, range_with_len, sum_by}
+use Rattle.std.proofs.lemmas.Bool.{and_parts, and_from, leb-true, le-leb}
+use Rattle.std.proofs.lemmas.List.Folds.{list_all-append}
+use Rattle.pg_types.specs.declared.limits.TheConstants.{LENGTH_MAX, FILE_MAX}
+use Rattle.pg_types.specs.declared.parameters.LevelParams.{LevelParams}
+use Rattle.pg_types.specs.Counts.{Counts}
+use Rattle.pg_dict.specs.Word.{Word, letters_of}
+use Rattle.pg_patterns.specs.Values.{largest}
+use Rattle.pg_select.specs.declared.pass.Pass.{Pass}
+use Rattle.pg_select.specs.LawsSteps.{IsBelow, IsUpTo}
+use Rattle.pg_select.specs.Meanings.{Meaning, begun_pass, with_position}
+use Rattle.pg_select.specs.CountedPositions.{CountedPosition, counted_positions}
+use Rattle.pg_select.specs.Statuses.{is_odd}
+use Rattle.pg_select.specs.Windows.{Patterns}
+use Rattle.pg_select.proofs.LawsBounds.{next_is_below, up_to_largest, up_to_more, up_to_raised}
+use Rattle.pg_select.proofs.LawsTotals.{totals_after}
+use Rattle.pg_driver.specs.declared.open_positions.OpenPosition.{OpenPosition}
+use Rattle.pg_driver.specs.Accounts.{totals_by}
+use Rattle.pg_driver.specs.Counting.{counting, HasRoom}
+use Rattle.pg_driver.specs.Dots.{order}
+use Rattle.pg_driver.specs.OpenLevels.{InLevel, position_after}
+use Rattle.pg_driver.specs.OpenPositions.{counted_of}
+use Rattle.pg_driver.specs.Traces.{Source, Known, PassTrace, choice_of, is_chosen, chosen_in, known_after, known_at_end, pass_made, passes_made, at_start, level_made, passes_of, patterns_after}
+use Rattle.pg_driver.specs.LevelCounting.{Carries}
+use Rattle.pg_driver.proofs.OpenLevels.{level_after_pass}
+use Rattle.pg_driver.proofs.OpenPlaces.{open_few}
+use Rattle.pg_driver.proofs.OpenPositions.{counted_are_open}
+use Rattle.pg_driver.proofs.Rooms.{room_none}
+
+-- a pass that begins has room for the open positions
+pub room_open : (m n : Meaning) (level len dot : ℕ) (source : Source) (entries : List OpenPosition) → 1 ≤ source.minima.left → sum_by letters_of source.words ≤ FILE_MAX → n ≡ begun_pass m level len dot
+    → InLevel level len source.minima source.words m.patterns m.hopeless entries → HasRoom n.counts (length entries)
+room_open m n level len dot source entries low few begins is =
+    let some : length entries ≤ sum_by letters_of source.words = open_few level len source.minima source.words m.patterns m.hopeless entries low is.are_open in
+    subst (λ (x : Meaning). HasRoom x.counts (length entries)) (sym begins) (room_none (length entries) (omega arith))
+
+-- counting the open positions counts what the pass counts
+pub open_counted : (m n after : Meaning) (level len dot : ℕ) (source : Source) (entries : List OpenPosition) → len ≤ LENGTH_MAX → dot ≤ len → InLevel level len source.minima source.words m.patterns m.hopeless entries → n ≡ begun_pass m level len dot
+    → after ≡ counting n (flat_map (counted_of level len dot source.words) entries) → after ≡ counting (begun_pass m level len dot) (counted_positions source.minima source.words (record { level = level; len = len; dot = dot }) m.patterns m.hopeless)
+open_counted m n after level len dot source entries short within is begins counts =
+    counts
+    ∙ ap (λ (x : Meaning). counting x (flat_map (counted_of level len dot source.words) entries)) begins
+    ∙ ap (counting (begun_pass m level len dot)) (sym (counted_are_open level len dot source.minima source.words m.patterns m.hopeless entries short within is.are_open))
+
+module _ (source : Source) (params : LevelParams) (known : Known) (pass : Pass) where
+  -- the open positions after a pass of the trace
+  pub level_on : (counts : Counts) (entries : List OpenPosition) → pass.dot ≤ LENGTH_MAX → counts ≡ fold with_position [] (counted_positions source.minima source.words pass known.patterns known.hopeless)
+      → InLevel pass.level pass.len source.minima source.words known.patterns known.hopeless entries
+      → InLevel pass.level pass.len source.minima source.words (known_after (pass_made source params known pass)).patterns (known_after (pass_made source params known pass)).hopeless (map (position_after params pass counts source.words) entries)
+  level_on counts entries low counted is = level_after_pass params source.minima source.words pass known.patterns known.hopeless counts entries low counted is
+
+  -- the totals after it
+  pub totals_on : IsUpTo pass.level known.patterns
+      → Carries (is_odd pass.level) (totals_by source known.patterns) (totals_by source (known_after (pass_made source params known pass)).patterns) (sum_by (λ c. c.good) (chosen_in (pass_made source params known pass))) (sum_by (λ c. c.bad) (chosen_in (pass_made source params known pass)))
+  totals_on upto = totals_after source.minima source.words pass known.patterns known.hopeless (λ c. is_chosen (choice_of params c)) upto
+
+-- passes raise no value above what their level and the values were up to
+up_to_made : (source : Source) (params : LevelParams) (n : ℕ) (known : Known) (passes : List Pass) → list_all (λ (p : Pass). nat_le p.level n) passes ≡ true → IsUpTo n known.patterns → IsUpTo n (known_at_end known (passes_made source params known passes)).patterns
+up_to_made source params n known [] all upto = upto
+up_to_made source params n known (pass ∷ passes) all upto =
+    let parts = and_parts (nat_le pass.level n) (list_all (λ (p : Pass). nat_le p.level n) passes) all in
+    up_to_made source params n (known_after (pass_made source params known pass)) passes parts.1
+    (up_to_raised pass.level pass.dot n known.patterns (chosen_in (pass_made source params known pass)) (leb-true pass.level n parts.0) upto)
+
+-- and so does a level
+pub up_to_level : (source : Source) (params : LevelParams) (number n : ℕ) (P : Patterns) → number ≤ n → IsUpTo n P → IsUpTo n (patterns_after (level_made source P (number, params)))
+up_to_level source params number n P within upto = up_to_made source params n (at_start P) (passes_of number params) (all_flat (range_with_len params.pat_start (params.pat_finish + 1 - params.pat_start))) upto
+  where
+    here : nat_le number n ≡ true
+    here = le-leb number n within
+
+    all_dots_of : (len : ℕ) (ds : List ℕ) → list_all (λ (p : Pass). nat_le p.level n) (map (λ dot. record { level = number; len = len; dot = dot }) ds) ≡ true
+    all_dots_of len [] = refl
+    all_dots_of len (d ∷ ds) = and_from (nat_le number n) (list_all (λ (p : Pass). nat_le p.level n) (map (λ dot. record { level = number; len = len; dot = dot }) ds)) here (all_dots_of len ds)
+
+    all_flat : (lens : List ℕ) → list_all (λ (p : Pass). nat_le p.level n) (flat_map (λ (len : ℕ). map (λ dot. record { level = number; len = len; dot = dot }) (order len)) lens) ≡ true
+    all_flat [] = refl
+    all_flat (len ∷ lens) =
+        list_all-append (λ (p : Pass). nat_le p.level n) (map (λ dot. record { level = number; len = len; dot = dot }) (order len)) (flat_map (λ (l : ℕ). map (λ dot. record { level = number; len = l; dot = dot }) (order l)) lens)
+        ∙ and_from (list_all (λ (p : Pass). nat_le p.level n) (map (λ dot. record { level = number; len = len; dot = dot }) (order len))) (list_all (λ (p : Pass). nat_le p.level n) (flat_map (λ (l : ℕ). map (λ dot. record { level = number; len = l; dot = dot }) (order l)) lens)) (all_dots_of len (order len)) (all_flat lens)
+
+-- a level begins below the level, where no starting value is as great
+pub below_level : (greatest number : ℕ) (P : Patterns) → IsUpTo (max greatest (number - 1)) P → 1 ≤ number → greatest < number → IsBelow number P
+below_level greatest number P upto first low =
+    let next : number - 1 + 1 ≡ number = omega arith in
+    subst (λ (n : ℕ). IsBelow n P) next (next_is_below (number - 1) P (up_to_more (max greatest (number - 1)) (number - 1) P (omega arith) upto))
+
+pub up_to_next : (source : Source) (params : LevelParams) (greatest number : ℕ) (P Q : Patterns) → Q ≡ patterns_after (level_made source P (number, params)) → IsUpTo (max greatest (number - 1)) P → IsUpTo (max greatest (number + 1 - 1)) Q
+up_to_next source params greatest number P Q is upto =
+    subst (λ (R : Patterns). IsUpTo (max greatest (number + 1 - 1)) R) (sym is)
+    (up_to_level source params number (max greatest (number + 1 - 1)) P (omega arith) (up_to_more (max greatest (number - 1)) (max greatest (number + 1 - 1)) P (omega arith) upto))
+
+pub up_to_starting : (greatest n : ℕ) (P : Patterns) → greatest ≡ largest P → IsUpTo (max greatest n) P
+up_to_starting greatest n P is = up_to_more (largest P) (max greatest n) P (omega (arith, is)) (up_to_largest P)

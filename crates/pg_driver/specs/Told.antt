@@ -1,0 +1,83 @@
+-- What a run that is done tells, and what it is to tell by the trace from an engine's patterns.
+use Rattle.std.specs.Prelude.{◌≡◌, ℕ, List, map, All, Option, None, Some}
+use Rattle.std.specs.Option.{option_map}
+use Rattle.pg_types.specs.declared.marks.Layout.{Layout}
+use Rattle.pg_types.specs.Parameters.{Parameters}
+use Rattle.pg_types.specs.Placement.{Families}
+use Rattle.pg_translate.specs.Alphabets.{Alphabet}
+use Rattle.pg_dict.specs.Word.{Word}
+use Rattle.pg_select.specs.Meanings.{Meaning}
+use Rattle.pg_select.specs.declared.pass.Pass.{Pass}
+use Rattle.pg_select.specs.CountedPositions.{Minima}
+use Rattle.pg_driver.specs.declared.records.PassRecord.{PassRecord}
+use Rattle.pg_driver.specs.declared.records.LevelRecord.{LevelRecord}
+use Rattle.pg_driver.specs.Sound.{Finished}
+use Rattle.pg_select.specs.Windows.{Patterns}
+use Rattle.pg_driver.specs.Traces.{Known, Source, Trace, trace, final_patterns}
+use Rattle.pg_driver.specs.Accounts.{Account, PassLine, LevelLine, account, begun}
+use Rattle.pg_driver.specs.Layouts.{CellsAccount, cells_account, final_families}
+
+-- the minima of a table
+abbrev pub minima_of : Alphabet → Minima
+minima_of t = record { left = t.left; right = t.right }
+
+-- what a run under a table is over
+abbrev pub over : Alphabet → List Word → Source
+over t words = record { minima = minima_of t; words = words }
+
+-- what an engine knows
+abbrev pub known_of : Meaning → Known
+known_of m = record { patterns = m.patterns; hopeless = m.hopeless }
+
+-- the run from the patterns of an engine: its trace
+abbrev pub run_from : Alphabet → List Word → Parameters → Meaning → Trace
+run_from t words parameters m = trace (over t words) parameters m.patterns
+
+-- its final patterns, what is told of it, how many of its passes are begun, and where families are told, those at its end and what
+-- is told of the cells
+abbrev pub patterns_from : Alphabet → List Word → Parameters → Meaning → Patterns
+patterns_from t words parameters m = final_patterns m.patterns (run_from t words parameters m)
+
+abbrev pub account_from : Alphabet → List Word → Parameters → Meaning → Account
+account_from t words parameters m = account (over t words) m.patterns (run_from t words parameters m)
+
+abbrev pub begun_from : Alphabet → List Word → Parameters → Meaning → ℕ
+begun_from t words parameters m = begun (run_from t words parameters m)
+
+abbrev pub families_from : Alphabet → List Word → Parameters → Meaning → Option Families
+families_from t words parameters m = option_map (λ fs. final_families m.signs fs (run_from t words parameters m)) m.families
+
+abbrev pub cells_from : Alphabet → List Word → Parameters → Meaning → Option CellsAccount
+cells_from t words parameters m = option_map (λ fs. cells_account m.signs fs m.patterns (run_from t words parameters m)) m.families
+
+-- the line of a record of a pass, and of a record of a level
+abbrev pub line_of : PassRecord → PassLine
+line_of r = record {
+  pass = record { level = r.level; len = r.len; dot = r.dot };
+  before = r.before;
+  candidates = r.candidates;
+  chosen = r.chosen;
+  hopeless = r.hopeless;
+  good = r.good;
+  bad = r.bad;
+}
+
+abbrev pub level_line_of : LevelRecord → LevelLine
+level_line_of r = record { level = r.level; chosen = r.chosen; after = r.after }
+
+-- what a run tells in its records
+abbrev pub account_of : Finished → Account
+account_of r = record { passes = map line_of r.passes; levels = map level_line_of r.levels; totals = r.totals }
+
+-- what a record of a pass tells of the cells, where it has a layout, and what a record of a level tells. Of the tails after a pass
+-- nothing is said
+abbrev pub layout_told : PassRecord → Option (Pass × ℕ × ℕ)
+layout_told r = option_map (λ l. (record { level = r.level; len = r.len; dot = r.dot }, l.taken, l.top)) r.layout
+
+abbrev pub level_layout_told : LevelRecord → Option (ℕ × Layout)
+level_layout_told r = option_map (λ l. (r.level, l)) r.layout
+
+-- the layouts that a run tells are those of the account; and where there is none, the run tells no layout
+abbrev pub TellsCells : Option CellsAccount → Finished → Type 0
+TellsCells (Some a) r = (r.first_layout ≡ Some a.start) × (map layout_told r.passes ≡ map Some a.passes) × (map level_layout_told r.levels ≡ map Some a.levels)
+TellsCells None r = (r.first_layout ≡ None) × All (λ p. p.layout ≡ None) r.passes × All (λ l. l.layout ≡ None) r.levels

@@ -1,0 +1,138 @@
+//! The open positions of a level: those that count by their status, each with its closed dots.
+ghost use Rattle.std.specs.Prelude.{◌≡◌, ◌≤◌, ◌++◌, not, map, filter, IfOk, OnOk, is_some};
+ghost use Rattle.pg_types.specs.declared.limits.TheConstants.{LENGTH_MAX};
+ghost use Rattle.pg_types.specs.Counts.{SignsWithin};
+ghost use Rattle.pg_dict.specs.Word.{IsWord, SignsAtMost};
+ghost use Rattle.pg_dict.specs.Lent.{word_of};
+ghost use Rattle.pg_select.specs.CountedPositions.{counts_as as counts_as_of};
+ghost use Rattle.pg_driver.specs.Told.{minima_of};
+ghost use Rattle.pg_driver.specs.DotSets.{is_full, longer_dots};
+ghost use Rattle.pg_driver.specs.OpenPositions.{with_closed};
+ghost use Rattle.pg_driver.specs.OpenLevels.{open_as, open_in, open_from, longer_positions};
+
+use crate::dot_set::DotSet;
+use crate::marks::{counts_as, mark_at, positions};
+use pg_dict::{Dictionary, WordRef};
+use pg_select::{Engine, WordState};
+use pg_translate::Table;
+use pg_types::Mark;
+use std::alloc::{AllocError, Global};
+
+/// A position that counts by its status, and the dots of the present length whose windows do not count there. It has eight bytes.
+#[derive(Clone, Copy)]
+pub struct OpenPosition {
+    /// The number of its word in the dictionary, from 0.
+    pub word: u32,
+    /// Its place in the word.
+    pub at: u8,
+    /// The closed dots.
+    pub closed: DotSet,
+}
+
+/// Adds position `p` of a word, which has this status, where it counts at a level. No dot of it is closed.
+fn open_by_status(
+    level: u8,
+    word: u32,
+    p: u8,
+    mark: Mark,
+    open_positions: &mut Vec<OpenPosition>,
+) -> Result<(), AllocError>
+    ensures { OnOk result (open_positions.new.items
+        ≡ open_positions.old.items ++ open_as word p (counts_as_of level mark)) }
+{
+    if counts_as(level, mark).is_some() {
+        open_positions.push(OpenPosition {
+            word,
+            at: p,
+            closed: DotSet::none(),
+        })?;
+    }
+    Ok(())
+}
+
+/// Adds the positions of a word that count at a level, with no dot closed. What `found` holds does not matter.
+fn open_word<E: Engine>(
+    engine: &E,
+    table: &Table,
+    level: u8,
+    word: u32,
+    w: &WordRef<'_>,
+    found: &mut WordState,
+    open_positions: &mut Vec<OpenPosition>,
+) -> Result<(), AllocError>
+    requires word { IsWord (word_of w.now) }
+    requires signs { SignsWithin (E.meaning engine.now).signs w.now.signs.now }
+    ensures { OnOk result (open_positions.new.items
+        ≡ open_positions.old.items ++ open_in (minima_of table.now) level (E.meaning engine.now).patterns word
+        (word_of w.now)) }
+{
+    let Some((first, end)) = positions(table, w) else {
+        return Ok(());
+    };
+    engine.hyphenate(*w, found);
+    'positions: for p in first..end {
+        let mark = mark_at(w, found, p);
+        open_by_status(level, word, p as u8, mark, open_positions)?;
+    }
+    Ok(())
+}
+
+/// The positions that count at a level's start, in the order of words and positions, with no dot closed. Each word is hyphenated
+/// once.
+pub fn open_level<E: Engine>(
+    engine: &E,
+    dictionary: &Dictionary,
+    table: &Table,
+    level: u8,
+    alloc: Global,
+) -> Result<Vec<OpenPosition>, AllocError>
+    requires { SignsAtMost (E.meaning engine.now).signs dictionary.now }
+    ensures { IfOk result (λ opened. opened.items
+        ≡ open_from (minima_of table.now) level (E.meaning engine.now).patterns 0 dictionary.now) }
+{
+    let mut found = WordState::new();
+    let mut open_positions = Vec::new(alloc);
+    'words: for i in 0..dictionary.len() {
+        let w = dictionary.word(i);
+        open_word(
+            engine,
+            table,
+            level,
+            i as u32,
+            &w,
+            &mut found,
+            &mut open_positions,
+        )?;
+    }
+    Ok(open_positions)
+}
+
+/// Drops the positions of which every dot of a length is closed.
+fn drop_closed(open_positions: &mut Vec<OpenPosition>, len: u8)
+    requires { len ≤ LENGTH_MAX }
+    ensures { open_positions.new.items ≡ filter (λ e. not (is_full len e.closed)) open_positions.old.items }
+{
+    open_positions.retain(|position| !position.closed.is_full(len));
+}
+
+/// Closes the dots of the next length whose shorter windows are closed.
+fn close_longer(open_positions: &mut [OpenPosition])
+    ensures { open_positions.new ≡ map (λ e. with_closed e (longer_dots e.closed)) open_positions.old }
+{
+    'positions: for position in open_positions.iter_mut() {
+        *position = OpenPosition {
+            closed: position.closed.longer(),
+            ..*position
+        };
+    }
+}
+
+/// Goes on to the next length: drops the positions of which every dot is closed, and closes the dots of the others whose shorter
+/// windows are closed.
+pub fn next_length(open_positions: &mut Vec<OpenPosition>, len: u8)
+    requires { len ≤ LENGTH_MAX }
+    ensures { open_positions.new.items ≡ longer_positions len open_positions.old.items }
+{
+    drop_closed(open_positions, len);
+    close_longer(open_positions);
+}

@@ -1,0 +1,138 @@
+//! Files in memory that never fail.
+ghost use Rattle.std.specs.Prelude.{◌≡◌, ◌^◌, ◌-◌, ◌+◌, ◌<◌, ◌≤◌, ℕ, List, [], length, Option, Some, None, Bool, true, false, OnOk, OnErr, IsOk, IsErrOf};
+ghost use Rattle.std.specs.Option.{option_copied};
+ghost use Rattle.std.specs.FinMap as fin;
+ghost use Rattle.pg_outside.specs.Content.{file_at, KeepsHeld, IsFile, IsFileCut, WasWritten, WasPartWritten};
+ghost use Rattle.pg_outside.specs.Faults.{RoseFor, NoneFell, SameCounts};
+
+use super::outside::{Failed, Files, ReadError};
+use super::stored::{StoredFile, bytes_of, read_bytes, store};
+use std::alloc::{AllocError, Global};
+
+/// Files in memory whose reads and writes never fail: their counts of faults are always 0.
+///
+/// It tells its files until a read of a name that is not there, or a write that finds no memory,
+/// and nothing from then on.
+#[derive(Drop)]
+pub struct QuietFiles {
+    alloc: Global,
+    files: Vec<StoredFile>,
+    is_told: bool,
+}
+
+impl QuietFiles {
+    ghost use Rattle.pg_outside.specs.QuietFiles.{quiet_files_of, quiet_room_of, is_telling, told_file, StaysTelling};
+
+    /// No file; it tells this.
+    pub fn new(alloc: Global) -> QuietFiles
+        ensures files { quiet_files_of result ≡ fin.empty }
+        ensures told { is_telling result ≡ true }
+    {
+        QuietFiles {
+            alloc,
+            files: Vec::new(alloc),
+            is_told: true,
+        }
+    }
+
+    /// Sets the file of this name, with room for at least `room` bytes.
+    ///
+    /// # Errors
+    /// Where there is not enough memory; all is then as before.
+    pub fn add(&mut self, name: &str, bytes: &[u8], room: usize) -> Result<(), AllocError>
+        ensures ok { OnOk result (quiet_files_of self.new ≡ fin.insert (quiet_files_of self.old) name.now bytes.now) }
+        ensures room { OnOk result (room ≤ quiet_room_of self.new name.now) }
+        ensures rooms { NoneFell (quiet_room_of self.old) (quiet_room_of self.new) }
+
+        // Refused, the files and their room are as before.
+        ensures err { OnErr result (quiet_files_of self.new ≡ quiet_files_of self.old) }
+        ensures err_rooms { OnErr result (SameCounts (quiet_room_of self.old) (quiet_room_of self.new)) }
+
+        ensures told { StaysTelling self.old self.new }
+    {
+        store(self.alloc, &mut self.files, name, bytes, room)
+    }
+
+    /// Whether it tells its files.
+    pub fn told(&self) -> bool
+        ensures { result ≡ is_telling self.now }
+    {
+        self.is_told
+    }
+
+    /// Lends the file of this name. `None` comes exactly where it tells nothing or the name is
+    /// missing.
+    pub fn bytes(&self, name: &str) -> Option<&[u8]>
+        ensures { option_copied result ≡ told_file self.now name.now }
+    {
+        if !self.is_told {
+            return None;
+        }
+        bytes_of(&self.files, name)
+    }
+}
+
+impl Files for QuietFiles {
+    ghost use Rattle.pg_outside.specs.QuietFiles.{quiet_files_of, quiet_room_of, is_telling, told_files, quiet_shown, StoresFile, LacksFile, StaysTelling};
+
+    ghost shown = { quiet_shown };
+
+    fn read(
+        &mut self,
+        _alloc: Global,
+        name: &str,
+        limit: usize,
+        into: &mut Vec<u8>,
+    ) -> Result<(), ReadError>
+        requires empty { into.old.items ≡ [] }
+        requires limit { limit < 2 ^ 64 - 1 }
+
+        // As for all files.
+        ensures held { KeepsHeld (told_files self.old) (told_files self.new) }
+        ensures reads { NoneFell (quiet_shown self.old).read_faults (quiet_shown self.new).read_faults }
+        ensures writes { NoneFell (quiet_shown self.old).write_faults (quiet_shown self.new).write_faults }
+        ensures fits { OnOk result (length into.new.items ≤ limit) }
+        ensures cut { IsErrOf result ReadError.TooLong → length into.new.items ≡ limit + 1 }
+        ensures file { OnOk result (IsFile (told_files self.new) name.now into.new.items) }
+        ensures cut_file { IsErrOf result ReadError.TooLong → IsFileCut (told_files self.new) name.now limit into.new.items }
+        ensures failed { IsErrOf result ReadError.Failed → RoseFor (quiet_shown self.old).read_faults (quiet_shown self.new).read_faults name.now }
+
+        // A name that is not there is read as no byte, and nothing is told from then on.
+        ensures missing { LacksFile self.old name.now → IsOk result }
+        ensures missing_bytes { LacksFile self.old name.now → into.new.items ≡ [] }
+        ensures missing_ends { LacksFile self.old name.now → is_telling self.new ≡ false }
+
+        // A read never fails, and one of a name that is there changes nothing.
+        ensures quiet { IsErrOf result ReadError.Failed → ⊥ }
+        ensures found { StoresFile self.old name.now → StaysTelling self.old self.new }
+        ensures files { quiet_files_of self.new ≡ quiet_files_of self.old }
+        ensures rooms { SameCounts (quiet_room_of self.old) (quiet_room_of self.new) }
+    {
+        match bytes_of(&self.files, name) {
+            Some(bytes) => read_bytes(bytes, limit, into),
+            None => {
+                self.is_told = false;
+                Ok(())
+            }
+        }
+    }
+
+    fn write(&mut self, name: &str, bytes: &[u8]) -> Result<(), Failed>
+        // As for all files.
+        ensures whole { OnOk result (WasWritten (told_files self.old) (told_files self.new) name.now bytes.now) }
+        ensures part { OnErr result (WasPartWritten (told_files self.old) (told_files self.new) name.now bytes.now) }
+        ensures reads { NoneFell (quiet_shown self.old).read_faults (quiet_shown self.new).read_faults }
+        ensures writes { NoneFell (quiet_shown self.old).write_faults (quiet_shown self.new).write_faults }
+        ensures failed { OnErr result (RoseFor (quiet_shown self.old).write_faults (quiet_shown self.new).write_faults name.now) }
+
+        // Every write succeeds, and one to a name that is there stays told within its room.
+        ensures succeeds { IsOk result }
+        ensures within { StoresFile self.old name.now → length bytes.now ≤ quiet_room_of self.old name.now → StaysTelling self.old self.new }
+        ensures rooms { NoneFell (quiet_room_of self.old) (quiet_room_of self.new) }
+    {
+        if store(self.alloc, &mut self.files, name, bytes, 0).is_err() {
+            self.is_told = false;
+        }
+        Ok(())
+    }
+}

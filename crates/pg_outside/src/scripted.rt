@@ -1,0 +1,179 @@
+//! A reader, writer or file whose calls go as a list says.
+use std::alloc::Allocator;
+use std::fs::{FileTimes, Metadata, OpenFile, OpenOptions, Permissions};
+use std::io::{Error, ErrorKind, Read, Seek, SeekFrom, Write};
+use std::{io, rt};
+
+/// How a read or a write goes.
+#[derive(Clone, Copy)]
+pub enum Call {
+    /// It takes at most so many bytes.
+    Takes(usize),
+    Interrupted,
+    Fails,
+}
+
+/// A step of the system that fails.
+#[derive(Clone, Copy, PartialEq, Eq)]
+pub enum Broken {
+    Nothing,
+    Permissions,
+    Sync,
+    Rename,
+}
+
+/// A reader or writer whose calls go as the list says, and which takes all bytes after its end.
+#[derive(Drop)]
+pub struct Scripted<'a, F: Drop> {
+    pub inner: F,
+    pub calls: &'a [Call],
+    pub broken: Broken,
+}
+
+fn refused() -> Error {
+    Error::from(ErrorKind::Other)
+}
+
+impl<'a, F: Drop> Scripted<'a, F> {
+    pub fn new(inner: F, calls: &'a [Call]) -> Scripted<'a, F> {
+        Scripted {
+            inner,
+            calls,
+            broken: Broken::Nothing,
+        }
+    }
+
+    /// How many bytes the next call takes at most.
+    fn next(&mut self) -> io::Result<usize> {
+        let Some((call, later)) = self.calls.split_first() else {
+            return Ok(usize::MAX);
+        };
+        self.calls = later;
+        match call {
+            Call::Takes(most) => Ok(*most),
+            Call::Interrupted => Err(Error::from(ErrorKind::Interrupted)),
+            Call::Fails => Err(refused()),
+        }
+    }
+
+    fn check(&self, step: Broken) -> io::Result<()> {
+        if self.broken == step {
+            return Err(refused());
+        }
+        Ok(())
+    }
+}
+
+impl<F: Read + Drop> Read for Scripted<'_, F> {
+    fn read(&mut self, buffer: &mut [u8]) -> io::Result<usize> {
+        let most = self.next()?.min(buffer.len());
+        self.inner.read(&mut buffer[..most])
+    }
+}
+
+impl<F: Write + Drop> Write for Scripted<'_, F> {
+    fn write(&mut self, buffer: &[u8]) -> io::Result<usize> {
+        let most = self.next()?.min(buffer.len());
+        self.inner.write(&buffer[..most])
+    }
+
+    fn flush(&mut self) -> io::Result<()> {
+        self.inner.flush()
+    }
+}
+
+impl<F: Seek + Drop> Seek for Scripted<'_, F> {
+    fn seek(&mut self, to: SeekFrom) -> io::Result<u64> {
+        self.inner.seek(to)
+    }
+}
+
+impl<F: OpenFile + Drop> OpenFile for Scripted<'_, F> {
+    fn metadata(&self) -> io::Result<Metadata> {
+        self.inner.metadata()
+    }
+
+    fn set_len(&self, size: u64) -> io::Result<()> {
+        self.inner.set_len(size)
+    }
+
+    fn sync_all(&self) -> io::Result<()> {
+        self.check(Broken::Sync)?;
+        self.inner.sync_all()
+    }
+
+    fn sync_data(&self) -> io::Result<()> {
+        self.inner.sync_data()
+    }
+
+    fn set_permissions(&self, permissions: Permissions) -> io::Result<()> {
+        self.check(Broken::Permissions)?;
+        self.inner.set_permissions(permissions)
+    }
+
+    fn set_times(&self, times: FileTimes) -> io::Result<()> {
+        self.inner.set_times(times)
+    }
+}
+
+/// The files of a system, whose opened files read and write as the list says, and one step of which
+/// fails.
+#[derive(Drop)]
+pub struct ScriptedSystem<'a, R: rt::Files> {
+    pub system: &'a R,
+    pub calls: &'a [Call],
+    pub broken: Broken,
+}
+
+impl<'a, R: rt::Files> rt::Files for ScriptedSystem<'a, R> {
+    type File = Scripted<'a, R::File>;
+
+    type Dir = R::Dir;
+
+    fn open_file(&self, how: &OpenOptions, path: &str) -> io::Result<Scripted<'a, R::File>> {
+        Ok(Scripted {
+            inner: self.system.open_file(how, path)?,
+            calls: self.calls,
+            broken: self.broken,
+        })
+    }
+
+    fn open_dir(&self, path: &str) -> io::Result<R::Dir> {
+        self.system.open_dir(path)
+    }
+
+    fn metadata(&self, path: &str) -> io::Result<Metadata> {
+        self.system.metadata(path)
+    }
+
+    fn symlink_metadata(&self, path: &str) -> io::Result<Metadata> {
+        self.system.symlink_metadata(path)
+    }
+
+    fn copy(&self, from: &str, to: &str) -> io::Result<u64> {
+        self.system.copy(from, to)
+    }
+
+    fn rename(&self, from: &str, to: &str) -> io::Result<()> {
+        if self.broken == Broken::Rename {
+            return Err(refused());
+        }
+        self.system.rename(from, to)
+    }
+
+    fn remove_file(&self, path: &str) -> io::Result<()> {
+        self.system.remove_file(path)
+    }
+
+    fn create_dir(&self, path: &str) -> io::Result<()> {
+        self.system.create_dir(path)
+    }
+
+    fn remove_dir(&self, path: &str) -> io::Result<()> {
+        self.system.remove_dir(path)
+    }
+
+    fn remove_dir_all<B: Allocator>(&self, alloc: B, path: &str) -> io::Result<()> {
+        self.system.remove_dir_all(alloc, path)
+    }
+}

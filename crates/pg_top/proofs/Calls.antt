@@ -1,0 +1,229 @@
+-- What is said of the answer of a command at each of its ends.
+use Rattle.std.proofs.Common.{◌≡◌, ℕ, List, [], Option, None, Some, IfSome, MatchOption, inl, inr, refl, sym, ap, ◌∙◌, subst}
+use Rattle.std.specs.Prelude.{slice_get, unwrap_or}
+use Rattle.std.proofs.lemmas.Option.{get_or_from_slice_get, slice_get_within, slice_get-map}
+use Rattle.std.specs.Option.{option_map}
+use Rattle.pg_outside.specs.Content.{FileMap, FilesShown, SinkShown, KeepsHeld, file_at}
+use Rattle.pg_outside.specs.Faults.{NoneFell, Rose}
+use Rattle.pg_top.specs.Answers.{MayAnswer, DoesAll, IsAnswered, IsAnswerOf, IsCall}
+use Rattle.pg_top.specs.Calls.{outcome, outcome_of, finished, reads_of, writes_of}
+use Rattle.pg_top.specs.Faults.{FilesRose, IsUnread, StopsWriting, DoesPart}
+use Rattle.pg_top.specs.Moments.{Moment, OfFiles, Puts, PutsPart, PutRose, PutOrRose}
+use Rattle.pg_top.specs.Outcomes.{Ends, Writing, refuses}
+use Rattle.pg_top.specs.PrintedLines.{usage_line, refused_line, reading_line, writing_line}
+use Rattle.pg_top.specs.Readings.{first_end}
+use Rattle.pg_top.specs.Requests.{Request, ToGenerate}
+use Rattle.pg_top.specs.Stops.{StopsReading, PutsAnswer, PutsStop, Finishes}
+use Rattle.pg_top.specs.Writings.{names_in, after_all, StandsAt, WroteAll, StoppedAt}
+use Rattle.pg_top.specs.declared.answers.Status.{Status}
+use Rattle.pg_top.specs.declared.answers.Status.TheVariants.{Done, Yes, No, Usage, Refused, Fault, Memory}
+use Rattle.pg_top.specs.declared.inputs.Stop.{Stop}
+use Rattle.pg_top.specs.declared.inputs.Stop.TheVariants as stop
+use Rattle.pg_top.proofs.Faults.{rose_since}
+use Rattle.pg_top.proofs.Orders.{mapped}
+
+-- the answers that are those of an outcome
+abbrev pub IsEnd : Status → Type 0
+IsEnd Usage = ⊥
+IsEnd Fault = ⊥
+IsEnd Memory = ⊥
+IsEnd status = Unit {0}
+
+no_usage : (status : Status) → IsEnd status → status ≡ Usage → ⊥
+no_usage status end is = subst IsEnd is end
+
+no_fault : (status : Status) → IsEnd status → status ≡ Fault → ⊥
+no_fault status end is = subst IsEnd is end
+
+no_memory : (status : Status) → IsEnd status → status ≡ Memory → ⊥
+no_memory status end is = subst IsEnd is end
+
+-- of every command these may be answered
+pub may_fault : (request : Request) → MayAnswer (Some request) Fault
+may_fault (ToGenerate n) = tt
+
+pub may_want : (request : Request) → MayAnswer (Some request) Memory
+may_want (ToGenerate n) = tt
+
+answered_as : (asked : Option Request) (status : Status) (old new : Moment) → OfFiles old new (λ before after. DoesAll old new status before after (outcome (file_at before) asked)) → IsAnswered asked status old new
+answered_as asked Done old new h = h
+answered_as asked Yes old new h = h
+answered_as asked No old new h = h
+answered_as asked Usage old new h = h
+answered_as asked Refused old new h = h
+answered_as asked Fault old new h = tt
+answered_as asked Memory old new h = tt
+
+-- where the files kept what they held and were then written, this is so of those before and after
+of_files : (s0 s1 s2 : FilesShown) (writing : Writing) (Q : FileMap → Type 0) (P : FileMap → FileMap → Type 0) → KeepsHeld s0.held s1.held → IfSome s1.held Q → WroteAll s1 s2 writing → ((before after : FileMap) → Q before → after ≡ after_all before writing → P before after)
+    → IfSome s2.held (λ after. MatchOption s0.held ⊥ (λ before. P before after))
+of_files s0 s1 s2 writing Q P keeps told wrote f = by_cases s0.held s1.held s2.held keeps told wrote
+  where
+    by_cases : (h0 h1 h2 : Option FileMap) → KeepsHeld h0 h1 → IfSome h1 Q → IfSome h2 (λ after. MatchOption h1 ⊥ (λ before. after ≡ after_all before writing)) → IfSome h2 (λ after. MatchOption h0 ⊥ (λ before. P before after))
+    by_cases h0 h1 None keeps told wrote = tt
+    by_cases h0 None (Some after) keeps told wrote = absurd wrote
+    by_cases h0 (Some before) (Some after) keeps told wrote = subst (λ held. MatchOption held ⊥ (λ before. P before after)) (sym keeps) (f before after told wrote)
+
+-- nothing is written where there is nothing to write
+nothing_written : (s : FilesShown) → WroteAll s s []
+nothing_written s = by_cases s.held
+  where
+    by_cases : (h : Option FileMap) → IfSome h (λ after. MatchOption h ⊥ (λ before. after ≡ before))
+    by_cases None = tt
+    by_cases (Some files) = refl
+
+module _ (request : Request) (wanted : Status) (writing : Writing) (lines : List ℕ) where
+  abbrev Comes : FileMap → Type 0
+  Comes files = outcome_of (file_at files) request ≡ Ends wanted writing lines
+
+  -- the outcome was done
+  done_call : (s0 s1 s2 : FilesShown) (o0 o1 : SinkShown) → IsEnd wanted → MayAnswer (Some request) wanted → KeepsHeld s0.held s1.held → IfSome s1.held Comes → WroteAll s1 s2 writing → Puts o0 o1 lines → IsCall (Some request) wanted (s0, o0) (s2, o1)
+  done_call s0 s1 s2 o0 o1 end may keeps told wrote puts = record {
+    answers = may;
+    usage = λ is. absurd (no_usage wanted end is);
+    answered = answered_as (Some request) wanted (s0, o0) (s2, o1)
+        (of_files s0 s1 s2 writing Comes (λ before after. DoesAll (s0, o0) (s2, o1) wanted before after (outcome_of (file_at before) request)) keeps told wrote
+        (λ before after comes written. subst (DoesAll (s0, o0) (s2, o1) wanted before after) (sym comes) (refl, written, puts)));
+    memory = λ is. absurd (no_memory wanted end is);
+    fault = λ is. absurd (no_fault wanted end is);
+    faulted = λ is. absurd (no_fault wanted end is);
+    complete = inr (inr (of_files s0 s1 s2 writing Comes (λ before after. IsAnswerOf wanted (outcome_of (file_at before) request)) keeps told wrote (λ before after comes written. subst (IsAnswerOf wanted) (sym comes) refl)));
+  }
+
+  -- its lines could not be put
+  put_failed : (s0 s1 s2 : FilesShown) (o0 o1 : SinkShown) → KeepsHeld s0.held s1.held → IfSome s1.held Comes → WroteAll s1 s2 writing → PutRose o0 o1 → PutsPart o0 o1 lines → IsCall (Some request) Fault (s0, o0) (s2, o1)
+  put_failed s0 s1 s2 o0 o1 keeps told wrote rose part = record {
+    answers = may_fault request;
+    usage = λ is. cc;
+    answered = tt;
+    memory = λ is. cc;
+    fault = λ _. inl rose;
+    faulted = λ _. inr (inr (record {
+      rose = rose;
+      part = of_files s0 s1 s2 writing Comes (λ before after. DoesPart (s0, o0) (s2, o1) before after (outcome_of (file_at before) request)) keeps told wrote (λ before after comes written. subst (DoesPart (s0, o0) (s2, o1) before after) (sym comes) (written, part));
+    }));
+    complete = inl (inl rose);
+  }
+
+  -- all was written
+  pub ended_call : (s0 s1 s2 : FilesShown) (o0 o1 : SinkShown) (answer : Status) → IsEnd wanted → MayAnswer (Some request) wanted → KeepsHeld s0.held s1.held → IfSome s1.held Comes → WroteAll s1 s2 writing → PutsAnswer lines wanted answer o0 o1 → IsCall (Some request) answer (s0, o0) (s2, o1)
+  ended_call s0 s1 s2 o0 o1 answer end may keeps told wrote (inl h) = subst (λ (status : Status). IsCall (Some request) status (s0, o0) (s2, o1)) (sym h.0) (done_call s0 s1 s2 o0 o1 end may keeps told wrote h.1)
+  ended_call s0 s1 s2 o0 o1 answer end may keeps told wrote (inr h) = subst (λ (status : Status). IsCall (Some request) status (s0, o0) (s2, o1)) (sym h.0) (put_failed s0 s1 s2 o0 o1 keeps told wrote h.1 h.2)
+
+  -- where writing stopped, it stands there
+  stopped_writing : (s0 s1 s2 : FilesShown) (place : ℕ) (stopped : StoppedAt s1 s2 writing place) → KeepsHeld s0.held s1.held → IfSome s1.held Comes → IfSome s2.held (λ after. MatchOption s0.held ⊥ (λ before. StopsWriting stopped.write.0 before after (outcome_of (file_at before) request)))
+  stopped_writing s0 s1 s2 place stopped keeps told = by_cases s0.held s1.held s2.held keeps told stopped.part
+    where
+      name : List ℕ
+      name = stopped.write.0
+
+      by_cases : (h0 h1 h2 : Option FileMap) → KeepsHeld h0 h1 → IfSome h1 Comes → IfSome h2 (λ after. MatchOption h1 ⊥ (λ before. StandsAt before after writing stopped.write.0)) → IfSome h2 (λ after. MatchOption h0 ⊥ (λ before. StopsWriting stopped.write.0 before after (outcome_of (file_at before) request)))
+      by_cases h0 h1 None keeps told part = tt
+      by_cases h0 None (Some after) keeps told part = absurd part
+      by_cases h0 (Some before) (Some after) keeps told part =
+          subst (λ held. MatchOption held ⊥ (λ before. StopsWriting stopped.write.0 before after (outcome_of (file_at before) request))) (sym keeps)
+          (subst (StopsWriting stopped.write.0 before after) (sym told) part)
+
+-- an answer with no write
+pub answered_call : (request : Request) (wanted : Status) (lines : List ℕ) (s0 s1 : FilesShown) (o0 o1 : SinkShown) (answer : Status) → IsEnd wanted → MayAnswer (Some request) wanted → KeepsHeld s0.held s1.held → IfSome s1.held (λ files. outcome_of (file_at files) request ≡ Ends wanted [] lines) → PutsAnswer lines wanted answer o0 o1 → IsCall (Some request) answer (s0, o0) (s1, o1)
+answered_call request wanted lines s0 s1 o0 o1 answer end may keeps told puts = ended_call request wanted [] lines s0 s1 s1 o0 o1 answer end may keeps told (nothing_written s1) puts
+
+-- memory was wanted
+pub memory_call : (request : Request) (s0 s1 : FilesShown) (o0 o1 : SinkShown) (answer : Status) → KeepsHeld s0.held s1.held → answer ≡ Memory → Puts o0 o1 [] → IsCall (Some request) answer (s0, o0) (s1, o1)
+memory_call request s0 s1 o0 o1 answer keeps is puts = subst (λ (status : Status). IsCall (Some request) status (s0, o0) (s1, o1)) (sym is) (record {
+  answers = may_want request;
+  usage = λ is. cc;
+  answered = tt;
+  memory = λ _. record { files = keeps; out = puts };
+  fault = λ is. cc;
+  faulted = λ is. cc;
+  complete = inr (inl refl);
+})
+
+-- a file could not be read
+unread_call : (request : Request) (name : List ℕ) (s0 s1 : FilesShown) (o0 o1 : SinkShown) → KeepsHeld s0.held s1.held → IsUnread (reads_of request) name s0 s1 → PutOrRose o0 o1 (reading_line name) → IsCall (Some request) Fault (s0, o0) (s1, o1)
+unread_call request name s0 s1 o0 o1 keeps unread line =
+    let rose : FilesRose request (s0, o0) (s1, o1) =
+    inl (unread.place, unread.reading, slice_get_within (reads_of request) unread.place unread.reading unread.there, get_or_from_slice_get (reads_of request) unread.place unread.reading unread.reading unread.there, subst (λ at. Rose (s0.read_faults at) (s1.read_faults at)) (sym unread.named) unread.rose) in
+    record {
+      answers = may_fault request;
+      usage = λ is. cc;
+      answered = tt;
+      memory = λ is. cc;
+      fault = λ _. inr rose;
+      faulted = λ _. inl (record { name = name; unread = unread; unchanged = keeps; line = line });
+      complete = inl (inr rose);
+    }
+
+-- a command stopped before it wrote
+pub stopped_call : (request : Request) (s0 s1 : FilesShown) (o0 o1 : SinkShown) (stop : Stop) (answer : Status) → MayAnswer (Some request) Refused → KeepsHeld s0.held s1.held → StopsReading (reads_of request) s0 s1 stop → PutsStop stop answer o0 o1 → IsCall (Some request) answer (s0, o0) (s1, o1)
+stopped_call request s0 s1 o0 o1 (stop.Refused input refusal) answer may keeps stops (inl h) = memory_call request s0 s1 o0 o1 answer keeps h.0 h.1
+stopped_call request s0 s1 o0 o1 (stop.Refused input refusal) answer may keeps stops (inr h) =
+    answered_call request Refused (refused_line input refusal) s0 s1 o0 o1 answer tt may keeps
+    (mapped s1.held (λ files. first_end (file_at files) (reads_of request) ≡ Some (refuses input refusal)) (λ files. outcome_of (file_at files) request ≡ Ends Refused [] (refused_line input refusal)) (λ files is. ap (λ end. unwrap_or end (finished (file_at files) request)) is) stops) h
+stopped_call request s0 s1 o0 o1 (stop.Unread name) answer may keeps stops puts = subst (λ (status : Status). IsCall (Some request) status (s0, o0) (s1, o1)) (sym puts.0) (unread_call request name.now s0 s1 o0 o1 keeps stops puts.1)
+stopped_call request s0 s1 o0 o1 stop.Memory answer may keeps stops puts = memory_call request s0 s1 o0 o1 answer keeps puts.0 puts.1
+
+-- a file could not be written
+write_failed : (request : Request) (writing : Writing) (lines : List ℕ) (s0 s1 s2 : FilesShown) (o0 o1 : SinkShown) (place : ℕ) (stopped : StoppedAt s1 s2 writing place) → names_in writing ≡ writes_of request → KeepsHeld s0.held s1.held → NoneFell s0.write_faults s1.write_faults → IfSome s1.held (λ files. outcome_of (file_at files) request ≡ Ends Done writing lines)
+    → PutOrRose o0 o1 (writing_line stopped.write.0) → IsCall (Some request) Fault (s0, o0) (s2, o1)
+write_failed request writing lines s0 s1 s2 o0 o1 place stopped named keeps fell told line =
+    let name : List ℕ = stopped.write.0 in
+    let rose = rose_since (s0.write_faults name) (s1.write_faults name) (s2.write_faults name) (fell name) stopped.rose in
+    let there : slice_get (writes_of request) place ≡ Some name = ap (λ names. slice_get names place) (sym named) ∙ slice_get-map (λ (w : List ℕ × List ℕ). w.0) writing place ∙ ap (option_map (λ (w : List ℕ × List ℕ). w.0)) stopped.there in
+    let within = slice_get_within (writes_of request) place name there in
+    let at = get_or_from_slice_get (writes_of request) place name name there in
+    record {
+      answers = may_fault request;
+      usage = λ is. cc;
+      answered = tt;
+      memory = λ is. cc;
+      fault = λ _. inr (inr (place, name, within, at, rose));
+      faulted = λ _. inr (inl (record {
+        name = name;
+        written = (place, within, at);
+        rose = rose;
+        part = stopped_writing request Done writing lines s0 s1 s2 place stopped keeps told;
+        line = line;
+      }));
+      complete = inl (inr (inr (place, name, within, at, rose)));
+    }
+
+-- a command wrote its files and put its lines
+pub finished_call : (request : Request) (writing : Writing) (lines : List ℕ) (s0 s1 s2 : FilesShown) (o0 o1 : SinkShown) (answer : Status) → MayAnswer (Some request) Done → names_in writing ≡ writes_of request → KeepsHeld s0.held s1.held → NoneFell s0.write_faults s1.write_faults → IfSome s1.held (λ files. outcome_of (file_at files) request ≡ Ends Done writing lines)
+    → Finishes writing lines answer (s1, o0) (s2, o1) → IsCall (Some request) answer (s0, o0) (s2, o1)
+finished_call request writing lines s0 s1 s2 o0 o1 answer may named keeps fell told (inl h) = ended_call request Done writing lines s0 s1 s2 o0 o1 answer tt may keeps told h.0 h.1
+finished_call request writing lines s0 s1 s2 o0 o1 answer may named keeps fell told (inr h) = subst (λ (status : Status). IsCall (Some request) status (s0, o0) (s2, o1)) (sym h.0) (write_failed request writing lines s0 s1 s2 o0 o1 h.1 h.2 named keeps fell told h.3)
+
+-- words that are no command
+pub usage_call : (s : FilesShown) (o0 o1 : SinkShown) (answer : Status) → PutsAnswer usage_line Usage answer o0 o1 → IsCall None answer (s, o0) (s, o1)
+usage_call s o0 o1 answer (inl h) = subst (λ (status : Status). IsCall None status (s, o0) (s, o1)) (sym h.0) (record {
+  answers = tt;
+  usage = λ _. h.1;
+  answered = of_files s s s [] (λ _. Unit {0}) (λ before after. DoesAll (s, o0) (s, o1) Usage before after (outcome (file_at before) None)) (kept s.held) (told s.held) (nothing_written s) (λ before after _ same. (refl, same, h.1));
+  memory = λ is. cc;
+  fault = λ is. cc;
+  faulted = λ is. cc;
+  complete = inr refl;
+})
+  where
+    told : (held : Option FileMap) → IfSome held (λ _. Unit {0})
+    told None = tt
+    told (Some files) = tt
+
+    kept : (held : Option FileMap) → KeepsHeld held held
+    kept None = tt
+    kept (Some files) = refl
+usage_call s o0 o1 answer (inr h) = subst (λ (status : Status). IsCall None status (s, o0) (s, o1)) (sym h.0) (record {
+  answers = tt;
+  usage = λ is. cc;
+  answered = tt;
+  memory = λ is. cc;
+  fault = λ _. h.1;
+  faulted = λ _. (kept s.held, h.1, h.2);
+  complete = inl h.1;
+})
+  where
+    kept : (held : Option FileMap) → KeepsHeld held held
+    kept None = tt
+    kept (Some files) = refl

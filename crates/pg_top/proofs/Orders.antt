@@ -1,0 +1,71 @@
+-- The order of reading: files that are accepted leave the call to the rest, and the first that is not accepted ends it.
+use Rattle.std.proofs.Common.{◌≡◌, ℕ, List, [], ◌∷◌, ◌++◌, length, take, Option, None, Some, IfSome, refl, sym, ap, ◌∙◌, subst, arith, length-append}
+use Rattle.std.specs.Option.{option_map, option_map_or, option_or}
+use Rattle.std.proofs.Math.Seq.{take-append_seam, get_or-append_seam}
+use Rattle.std.proofs.lemmas.Option.{slice_get_read}
+use Rattle.pg_outside.specs.Content.{FileMap, FilesShown, KeepsHeld, file_at}
+use Rattle.pg_outside.specs.Faults.{NoneFell}
+use Rattle.pg_top.specs.Outcomes.{Outcome, Unknown, refuses}
+use Rattle.pg_top.specs.Readings.{Held, Reading, first_end}
+use Rattle.pg_top.specs.Stops.{StopsAt, StopsReading}
+use Rattle.pg_top.specs.declared.inputs.Stop.{Stop}
+use Rattle.pg_top.specs.declared.inputs.Stop.TheVariants.{Refused, Unread, Memory}
+use Rattle.pg_top.proofs.Faults.{rose_since}
+
+-- a file that is held and does not end the call, and all files of a list
+abbrev pub IsAccepted : Held → Reading → Type 0
+IsAccepted files r = option_map (r.ends files) (files r.name) ≡ Some None
+
+abbrev pub AreAccepted : Held → List Reading → Type 0
+AreAccepted files [] = Unit {0}
+AreAccepted files (r ∷ rs) = IsAccepted files r × AreAccepted files rs
+
+goes_on : (ends : List ℕ → Option Outcome) (file : Option (List ℕ)) (rest : Option Outcome) → option_map ends file ≡ Some None → option_map_or (λ bytes. option_or (ends bytes) rest) file (Some Unknown) ≡ rest
+goes_on ends None rest accepted = cc
+goes_on ends (Some bytes) rest accepted = let none : ends bytes ≡ None = cc in ap (λ end. option_or end rest) none
+
+stops_there : (ends : List ℕ → Option Outcome) (file : Option (List ℕ)) (rest : Option Outcome) (end : Outcome) → option_map ends file ≡ Some (Some end) → option_map_or (λ bytes. option_or (ends bytes) rest) file (Some Unknown) ≡ Some end
+stops_there ends None rest end is = cc
+stops_there ends (Some bytes) rest end is = let some : ends bytes ≡ Some end = cc in ap (λ end. option_or end rest) some
+
+-- files that are accepted leave the call to the files behind them
+pub accepted_front : (files : Held) (front rest : List Reading) → AreAccepted files front → first_end files (front ++ rest) ≡ first_end files rest
+accepted_front files [] rest accepted = refl
+accepted_front files (r ∷ front) rest accepted = goes_on (r.ends files) (files r.name) (first_end files (front ++ rest)) accepted.0 ∙ accepted_front files front rest accepted.1
+
+pub accepted_all : (files : Held) (reads : List Reading) → AreAccepted files reads → first_end files reads ≡ None
+accepted_all files [] accepted = refl
+accepted_all files (r ∷ reads) accepted = goes_on (r.ends files) (files r.name) (first_end files reads) accepted.0 ∙ accepted_all files reads accepted.1
+
+-- the first that is not accepted ends the call
+pub end_behind : (files : Held) (front : List Reading) (r : Reading) (rest : List Reading) (end : Outcome) → AreAccepted files front → option_map (r.ends files) (files r.name) ≡ Some (Some end) → first_end files (front ++ r ∷ rest) ≡ Some end
+end_behind files front r rest end accepted is = accepted_front files front (r ∷ rest) accepted ∙ stops_there (r.ends files) (files r.name) (first_end files rest) end is
+
+-- facts of files that are held
+pub mapped : (held : Option FileMap) (P Q : FileMap → Type 0) → ((files : FileMap) → P files → Q files) → IfSome held P → IfSome held Q
+mapped None P Q f p = tt
+mapped (Some files) P Q f p = f files p
+
+pub both : (held : Option FileMap) (P Q : FileMap → Type 0) → IfSome held P → IfSome held Q → IfSome held (λ files. P files × Q files)
+both None P Q p q = tt
+both (Some files) P Q p q = (p, q)
+
+pub held_later : (old new : Option FileMap) (P : FileMap → Type 0) → KeepsHeld old new → IfSome old P → IfSome new P
+held_later old None P keeps p = tt
+held_later old (Some files) P keeps p = subst (λ held. IfSome held P) keeps p
+
+-- a stop at a file behind those that are accepted is a stop of all
+pub stopped_behind : (front : List Reading) (r : Reading) (rest : List Reading) (s0 s1 s2 : FilesShown) (stop : Stop) → NoneFell s0.read_faults s1.read_faults → IfSome s2.held (λ files. AreAccepted (file_at files) front) → StopsAt r s1 s2 stop → StopsReading (front ++ r ∷ rest) s0 s2 stop
+stopped_behind front r rest s0 s1 s2 (Refused input refusal) fell accepted stops =
+    mapped s2.held _ (λ files. first_end (file_at files) (front ++ r ∷ rest) ≡ Some (refuses input refusal)) (λ files h. end_behind (file_at files) front r rest (refuses input refusal) h.0 h.1)
+    (both s2.held (λ files. AreAccepted (file_at files) front) (λ files. option_map (r.ends (file_at files)) (file_at files r.name) ≡ Some (Some (refuses input refusal))) accepted stops)
+stopped_behind front r rest s0 s1 s2 (Unread name) fell accepted stops = record {
+  place = length front;
+  reading = r;
+  there = slice_get_read (front ++ r ∷ rest) (length (front ++ r ∷ rest)) (length front) r refl (omega (arith, length-append front (r ∷ rest))) (sym (get_or-append_seam front r rest r));
+  named = sym stops.0;
+  rose = rose_since (s0.read_faults name.now) (s1.read_faults name.now) (s2.read_faults name.now) (fell name.now) stops.1;
+  before_it = mapped s2.held (λ files. AreAccepted (file_at files) front) (λ files. first_end (file_at files) (take (length front) (front ++ r ∷ rest)) ≡ None)
+      (λ files h. ap (first_end (file_at files)) (take-append_seam front (r ∷ rest)) ∙ accepted_all (file_at files) front h) accepted;
+}
+stopped_behind front r rest s0 s1 s2 Memory fell accepted stops = tt

@@ -1,0 +1,82 @@
+-- Writing file after file: what is written so far goes on to the whole.
+use Rattle.std.proofs.Common.{◌≡◌, ℕ, ◌+◌, ◌<◌, ◌≤◌, List, [], ◌∷◌, length, drop, Option, None, Some, IfSome, MatchOption, inl, inr, refl, sym, ap, ◌∙◌, subst, arith}
+use Rattle.std.specs.Prelude.{slice_get}
+use Rattle.std.proofs.lemmas.List.{drop_more, length-map}
+use Rattle.std.proofs.lemmas.Option.{slice_get_within, get_or_from_slice_get, slice_get-map}
+use Rattle.std.proofs.Math.ListN.{drop_of_length-le}
+use Rattle.std.specs.Option.{option_map}
+use Rattle.pg_outside.specs.Content.{FileMap, FilesShown, WasWritten, WasPartWritten}
+use Rattle.pg_outside.specs.Faults.{Rose, NoneFell}
+use Rattle.pg_top.specs.Outcomes.{Writing}
+use Rattle.pg_top.specs.Writings.{after_all, StandsAt, named_text, writing_of, WroteAll, StoppedAt}
+use Rattle.pg_top.specs.declared.writes.Output.{Output}
+use Rattle.pg_top.proofs.Faults.{rose_since}
+
+-- from the files after some of the writes, the rest of them goes where all go from the start
+pub record Continues (before mid : FileMap) (ws rest : Writing) : Type 0 where
+  pub all : after_all mid rest ≡ after_all before ws
+  pub stands : (after : FileMap) (name : List ℕ) → StandsAt mid after rest name → StandsAt before after ws name
+
+abbrev pub OfHeld : Option FileMap → Option FileMap → (FileMap → FileMap → Type 0) → Type 0
+OfHeld old new P = IfSome new (λ after. MatchOption old ⊥ (λ before. P before after))
+
+pub at_first : (held : Option FileMap) (ws : Writing) → OfHeld held held (λ before mid. Continues before mid ws ws)
+at_first None ws = tt
+at_first (Some files) ws = record { all = refl; stands = λ after name h. h }
+
+-- a write more
+pub one_more : (h0 h1 h2 : Option FileMap) (ws rest : Writing) (w : List ℕ × List ℕ) → OfHeld h0 h1 (λ before mid. Continues before mid ws (w ∷ rest)) → WasWritten h1 h2 w.0 w.1 → OfHeld h0 h2 (λ before mid. Continues before mid ws rest)
+one_more h0 h1 None ws rest w so wrote = tt
+one_more h0 None (Some after) ws rest w so wrote = absurd wrote
+one_more None (Some mid) (Some after) ws rest w so wrote = absurd so
+one_more (Some before) (Some mid) (Some after) ws rest w so wrote = record {
+  all = ap (λ files. after_all files rest) wrote ∙ so.all;
+  stands = λ last name h. so.stands last name (inr (subst (λ files. StandsAt files last rest name) wrote h));
+}
+
+-- a write that failed
+pub failed_at : (h0 h1 h2 : Option FileMap) (ws rest : Writing) (w : List ℕ × List ℕ) → OfHeld h0 h1 (λ before mid. Continues before mid ws (w ∷ rest)) → WasPartWritten h1 h2 w.0 w.1 → OfHeld h0 h2 (λ before after. StandsAt before after ws w.0)
+failed_at h0 h1 None ws rest w so part = tt
+failed_at h0 None (Some after) ws rest w so part = absurd part
+failed_at None (Some mid) (Some after) ws rest w so part = absurd so
+failed_at (Some before) (Some mid) (Some after) ws rest w so part = so.stands after w.0 (inl (refl, part))
+
+-- all are written
+whole : (h0 h1 : Option FileMap) (ws : Writing) → OfHeld h0 h1 (λ before mid. Continues before mid ws []) → OfHeld h0 h1 (λ before after. after ≡ after_all before ws)
+whole h0 None ws so = tt
+whole None (Some after) ws so = absurd so
+whole (Some before) (Some after) ws so = so.all
+
+-- the write at a place, and those behind it
+pub from_place : (ws : List Output) (i : ℕ) (w : Output) → slice_get ws i ≡ Some w → writing_of (drop i ws) ≡ named_text w ∷ writing_of (drop (i + 1) ws)
+from_place ws i w at = ap writing_of (drop_more ws i w (slice_get_within ws i w at) ∙ ap (λ y. y ∷ drop (i + 1) ws) (get_or_from_slice_get ws i w w at))
+
+pub place_of_map : (ws : List Output) (i : ℕ) (w : Output) → slice_get ws i ≡ Some w → slice_get (writing_of ws) i ≡ Some (named_text w)
+place_of_map ws i w at = slice_get-map named_text ws i ∙ ap (option_map named_text) at
+
+pub none_left : (ws : List Output) (i : ℕ) → length ws ≤ i → writing_of (drop i ws) ≡ []
+none_left ws i far = ap writing_of (drop_of_length-le ws far)
+
+-- the facts of the loop
+pub step_on : (h0 h1 h2 : Option FileMap) (ws : List Output) (i : ℕ) (w : Output) → slice_get ws i ≡ Some w → OfHeld h0 h1 (λ before mid. Continues before mid (writing_of ws) (writing_of (drop i ws))) → WasWritten h1 h2 w.name.now w.text.items
+    → OfHeld h0 h2 (λ before mid. Continues before mid (writing_of ws) (writing_of (drop (i + 1) ws)))
+step_on h0 h1 h2 ws i w at so wrote = one_more h0 h1 h2 (writing_of ws) (writing_of (drop (i + 1) ws)) (named_text w) (subst (λ rest. OfHeld h0 h1 (λ before mid. Continues before mid (writing_of ws) rest)) (from_place ws i w at) so) wrote
+
+pub step_failed : (s0 s1 s2 : FilesShown) (ws : List Output) (i : ℕ) (w : Output) → slice_get ws i ≡ Some w → OfHeld s0.held s1.held (λ before mid. Continues before mid (writing_of ws) (writing_of (drop i ws))) → NoneFell s0.write_faults s1.write_faults
+    → WasPartWritten s1.held s2.held w.name.now w.text.items → Rose (s1.write_faults w.name.now) (s2.write_faults w.name.now) → StoppedAt s0 s2 (writing_of ws) i
+step_failed s0 s1 s2 ws i w at so fell part rose = record {
+  write = named_text w;
+  there = place_of_map ws i w at;
+  rose = rose_since (s0.write_faults w.name.now) (s1.write_faults w.name.now) (s2.write_faults w.name.now) (fell w.name.now) rose;
+  part = failed_at s0.held s1.held s2.held (writing_of ws) (writing_of (drop (i + 1) ws)) (named_text w) (subst (λ rest. OfHeld s0.held s1.held (λ before mid. Continues before mid (writing_of ws) rest)) (from_place ws i w at) so) part;
+}
+
+pub all_written : (s0 s1 : FilesShown) (ws : List Output) (i : ℕ) → length ws ≤ i → OfHeld s0.held s1.held (λ before mid. Continues before mid (writing_of ws) (writing_of (drop i ws))) → WroteAll s0 s1 (writing_of ws)
+all_written s0 s1 ws i far so = whole s0.held s1.held (writing_of ws) (subst (λ rest. OfHeld s0.held s1.held (λ before mid. Continues before mid (writing_of ws) rest)) (none_left ws i far) so)
+
+-- the place at which writing stopped is one of the list, and its name is that of its file
+pub place_within : (ws : List Output) (place : ℕ) (write : List ℕ × List ℕ) → slice_get (writing_of ws) place ≡ Some write → place < length ws
+place_within ws place write there = let within : place < length (writing_of ws) = slice_get_within (writing_of ws) place write there in omega (arith, length-map ws named_text)
+
+pub name_stopped : (ws : List Output) (place : ℕ) (w : Output) (write : List ℕ × List ℕ) → slice_get ws place ≡ Some w → slice_get (writing_of ws) place ≡ Some write → w.name.now ≡ write.0
+name_stopped ws place w write at there = let same : Some (named_text w) ≡ Some write = sym (place_of_map ws place w at) ∙ there in (cc)

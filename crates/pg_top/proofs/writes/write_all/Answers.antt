@@ -1,0 +1,26 @@
+use Rattle.std.proofs.Common.{arith}
+use Rattle.pg_top.specs.Writings.{writing_of}
+use Rattle.pg_top.proofs.Faults.{none_fell}
+use Rattle.pg_top.proofs.Writings.{at_first, step_on, step_failed}
+use Rattle.pg_top.proofs.writes.write_all.Goals as goal
+
+pub writes-init : goal.writes-init
+writes-init g c = record { so_far = at_first (g.F.Files.shown c.args.files.now).held (writing_of c.args.outputs.now); reads = λ name. omega arith; writes = λ name. omega arith }
+
+pub returns-in-Err-clause-stopped : goal.returns-in-Err-clause-stopped
+returns-in-Err-clause-stopped g c =
+    let h = c.in-Err.ensures in
+    let part = rw c.deref.ensures.value at h.part in
+    step_failed (g.F.Files.shown c.args.files.now) (g.F.Files.shown c.writes.files) (g.F.Files.shown c.write.new.self) c.args.outputs.now c.writes.i c.output_at-output.result.now c.output_at-output.ensures c.writes.invariant.so_far c.writes.invariant.writes part h.failed
+
+pub writes-preserved : goal.writes-preserved
+writes-preserved g c =
+    let whole = rw c.deref.ensures.value at c.in-Ok.ensures.whole in
+    let s0 = g.F.Files.shown c.args.files.now in
+    let s1 = g.F.Files.shown c.writes.files in
+    let s2 = g.F.Files.shown c.write.new.self in
+    record {
+      so_far = step_on s0.held s1.held s2.held c.args.outputs.now c.writes.i c.output_at-output.result.now c.output_at-output.ensures c.writes.invariant.so_far whole;
+      reads = none_fell s0.read_faults s1.read_faults s2.read_faults c.writes.invariant.reads c.write.ensures.reads;
+      writes = none_fell s0.write_faults s1.write_faults s2.write_faults c.writes.invariant.writes c.write.ensures.writes;
+    }

@@ -1,0 +1,15 @@
+use Rattle.std.proofs.Common.{drop}
+use Rattle.pg_outside.specs.Faults.{NoneFell}
+use Rattle.pg_top.specs.Writings.{writing_of}
+use Rattle.pg_top.proofs.Writings.{Continues, OfHeld}
+use Rattle.pg_top.proofs.writes.write_all.Given as goal
+
+abbrev pub invariant-writes : goal.invariant-writes
+invariant-writes g l =
+    let s0 = g.F.Files.shown l.fn.files in
+    let s = g.F.Files.shown l.files in
+    record {
+      so_far : OfHeld s0.held s.held (λ before mid. Continues before mid (writing_of l.outputs) (writing_of (drop l.i l.outputs)));
+      reads : NoneFell s0.read_faults s.read_faults;
+      writes : NoneFell s0.write_faults s.write_faults;
+    }

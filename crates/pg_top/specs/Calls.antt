@@ -1,0 +1,34 @@
+-- What a command reads and writes, and what a call comes to.
+use Rattle.std.specs.Prelude.{ℕ, List, [], ◌∷◌, Option, Bool, true, false, None, Some, unwrap_or}
+use Rattle.std.specs.Option.{option_map_or}
+use Rattle.pg_top.specs.Outcomes.{Outcome, Ends}
+use Rattle.pg_top.specs.PrintedLines.{usage_line}
+use Rattle.pg_top.specs.Readings.{Held, Reading, first_end}
+use Rattle.pg_top.specs.Requests.{Request, ToGenerate}
+use Rattle.pg_top.specs.Selecting.{inputs_of, generated, table_in, parameters_in, start_in, words_in}
+use Rattle.pg_top.specs.declared.answers.Status.TheVariants.{Usage}
+
+-- what a command reads, in its order
+abbrev pub reads_of : Request → List Reading
+reads_of (ToGenerate n) = inputs_of n
+
+-- the names that a command writes, in its order
+abbrev pub writes_of : Request → List (List ℕ)
+writes_of (ToGenerate n) = n.output ∷ []
+
+-- what a command comes to where no file that it reads ends the call
+abbrev pub finished : Held → Request → Outcome
+finished files (ToGenerate n) = generated n (table_in files n) (parameters_in files n) (start_in files n) (words_in files n)
+
+-- the outcome of a command: that of the first file that ends the call, and where none does, what it writes and prints
+abbrev pub outcome_of : Held → Request → Outcome
+outcome_of files request = unwrap_or (first_end files (reads_of request)) (finished files request)
+
+-- the outcome of a call, where words that are no command come to usage
+abbrev pub outcome : Held → Option Request → Outcome
+outcome files asked = option_map_or (outcome_of files) asked (Ends Usage [] usage_line)
+
+-- whether a call reads or writes a file
+abbrev pub has_files : Option Request → Bool
+has_files None = false
+has_files (Some (ToGenerate n)) = true

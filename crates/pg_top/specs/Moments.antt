@@ -1,0 +1,37 @@
+-- What files and a sink show before and after a call.
+use Rattle.std.specs.Prelude.{ℕ, List, MatchOption, IfSome, ◌⊎◌}
+use Rattle.pg_outside.specs.Content.{FileMap, FilesShown, SinkShown, KeepsHeld, WasPut, WasPartPut}
+use Rattle.pg_outside.specs.Faults.{Rose}
+
+-- what files and a sink show at a moment
+abbrev pub Moment : Type 0
+Moment = FilesShown × SinkShown
+
+-- where files are told after the call they were told before it, and this is so of both
+abbrev pub OfFiles : Moment → Moment → (FileMap → FileMap → Type 0) → Type 0
+OfFiles old new P = IfSome new.0.held (λ after. MatchOption old.0.held ⊥ (λ before. P before after))
+
+-- the files are as they were
+abbrev pub KeepsFiles : Moment → Moment → Type 0
+KeepsFiles old new = KeepsHeld old.0.held new.0.held
+
+-- this text was put, or a prefix of it
+abbrev pub Puts : SinkShown → SinkShown → List ℕ → Type 0
+Puts old new text = WasPut old.text new.text text
+
+abbrev pub PutsPart : SinkShown → SinkShown → List ℕ → Type 0
+PutsPart old new text = WasPartPut old.text new.text text
+
+-- the read faults of a name rose, the write faults of a name, or the faults of the sink
+abbrev pub ReadRose : Moment → Moment → List ℕ → Type 0
+ReadRose old new name = Rose (old.0.read_faults name) (new.0.read_faults name)
+
+abbrev pub WriteRose : Moment → Moment → List ℕ → Type 0
+WriteRose old new name = Rose (old.0.write_faults name) (new.0.write_faults name)
+
+abbrev pub PutRose : SinkShown → SinkShown → Type 0
+PutRose old new = Rose old.faults new.faults
+
+-- the text was put, or the faults of the sink rose and a prefix of it was put
+abbrev pub PutOrRose : SinkShown → SinkShown → List ℕ → Type 0
+PutOrRose old new text = Puts old new text ⊎ (PutRose old new × PutsPart old new text)

@@ -1,0 +1,41 @@
+//! Files that are written one after the other.
+ghost use Rattle.std.specs.Prelude.{◌≡◌, ◌<◌, OnOk, IfErr, length, slice_get, Some};
+ghost use Rattle.pg_outside.specs.Faults.{NoneFell};
+ghost use Rattle.pg_top.specs.Writings.{writing_of, WroteAll, StoppedAt};
+
+use pg_outside::{Failed, Files};
+
+/// A file that is to be written.
+#[derive(Drop)]
+pub struct Output<'a> {
+    /// The name.
+    pub name: &'a str,
+    /// The text.
+    pub text: Vec<u8>,
+}
+
+/// The file at a place.
+pub fn output_at<'a, 'b>(outputs: &'b [Output<'a>], i: usize) -> &'b Output<'a>
+    requires { i < length outputs.now }
+    ensures { slice_get outputs.now i ≡ Some result.now }
+{
+    &outputs[i]
+}
+
+/// Writes files one after the other, and stops at the first that fails, of which it gives the place.
+pub fn write_all<F: Files>(files: &mut F, outputs: &[Output<'_>]) -> Result<(), usize>
+    ensures whole { OnOk result (WroteAll (F.shown files.old) (F.shown files.new) (writing_of outputs.now)) }
+    ensures stopped { IfErr result (StoppedAt (F.shown files.old) (F.shown files.new) (writing_of outputs.now)) }
+    ensures reads { NoneFell (F.shown files.old).read_faults (F.shown files.new).read_faults }
+    ensures writes { NoneFell (F.shown files.old).write_faults (F.shown files.new).write_faults }
+{
+    let count = outputs.len();
+    'writes: for i in 0..count {
+        let output = output_at(outputs, i);
+        match files.write(output.name, &output.text) {
+            Ok(()) => {}
+            Err(Failed) => return Err(i),
+        }
+    }
+    Ok(())
+}
