@@ -14,7 +14,7 @@ use Rattle.pg_top.specs.PrintedLines.{usage_line, refused_line, reading_line, wr
 use Rattle.pg_top.specs.Readings.{first_end}
 use Rattle.pg_top.specs.Requests.{Request, ToGenerate}
 use Rattle.pg_top.specs.Stops.{StopsReading, PutsAnswer, PutsStop, Finishes}
-use Rattle.pg_top.specs.Writings.{names_in, after_all, StandsAt, WroteAll, StoppedAt}
+use Rattle.pg_top.specs.Writings.{written_names, after_all, StandsAt, WroteAll, StoppedAt}
 use Rattle.pg_top.specs.declared.answers.Status.{Status}
 use Rattle.pg_top.specs.declared.answers.Status.TheVariants.{Done, Yes, No, Usage, Refused, Fault, Memory}
 use Rattle.pg_top.specs.declared.inputs.Stop.{Stop}
@@ -165,7 +165,7 @@ stopped_call request s0 s1 o0 o1 (stop.Unread name) answer may keeps stops puts 
 stopped_call request s0 s1 o0 o1 stop.Memory answer may keeps stops puts = memory_call request s0 s1 o0 o1 answer keeps puts.0 puts.1
 
 -- a file could not be written
-write_failed : (request : Request) (writing : Writing) (lines : List ℕ) (s0 s1 s2 : FilesShown) (o0 o1 : SinkShown) (place : ℕ) (stopped : StoppedAt s1 s2 writing place) → names_in writing ≡ writes_of request → KeepsHeld s0.held s1.held → NoneFell s0.write_faults s1.write_faults → IfSome s1.held (λ files. outcome_of (file_at files) request ≡ Ends Done writing lines)
+write_failed : (request : Request) (writing : Writing) (lines : List ℕ) (s0 s1 s2 : FilesShown) (o0 o1 : SinkShown) (place : ℕ) (stopped : StoppedAt s1 s2 writing place) → written_names writing ≡ writes_of request → KeepsHeld s0.held s1.held → NoneFell s0.write_faults s1.write_faults → IfSome s1.held (λ files. outcome_of (file_at files) request ≡ Ends Done writing lines)
     → PutOrRose o0 o1 (writing_line stopped.write.0) → IsCall (Some request) Fault (s0, o0) (s2, o1)
 write_failed request writing lines s0 s1 s2 o0 o1 place stopped named keeps fell told line =
     let name : List ℕ = stopped.write.0 in
@@ -190,7 +190,7 @@ write_failed request writing lines s0 s1 s2 o0 o1 place stopped named keeps fell
     }
 
 -- a command wrote its files and put its lines
-pub finished_call : (request : Request) (writing : Writing) (lines : List ℕ) (s0 s1 s2 : FilesShown) (o0 o1 : SinkShown) (answer : Status) → MayAnswer (Some request) Done → names_in writing ≡ writes_of request → KeepsHeld s0.held s1.held → NoneFell s0.write_faults s1.write_faults → IfSome s1.held (λ files. outcome_of (file_at files) request ≡ Ends Done writing lines)
+pub finished_call : (request : Request) (writing : Writing) (lines : List ℕ) (s0 s1 s2 : FilesShown) (o0 o1 : SinkShown) (answer : Status) → MayAnswer (Some request) Done → written_names writing ≡ writes_of request → KeepsHeld s0.held s1.held → NoneFell s0.write_faults s1.write_faults → IfSome s1.held (λ files. outcome_of (file_at files) request ≡ Ends Done writing lines)
     → Finishes writing lines answer (s1, o0) (s2, o1) → IsCall (Some request) answer (s0, o0) (s2, o1)
 finished_call request writing lines s0 s1 s2 o0 o1 answer may named keeps fell told (inl h) = ended_call request Done writing lines s0 s1 s2 o0 o1 answer tt may keeps told h.0 h.1
 finished_call request writing lines s0 s1 s2 o0 o1 answer may named keeps fell told (inr h) = subst (λ (status : Status). IsCall (Some request) status (s0, o0) (s2, o1)) (sym h.0) (write_failed request writing lines s0 s1 s2 o0 o1 h.1 h.2 named keeps fell told h.3)

@@ -15,7 +15,8 @@ use Rattle.pg_types.specs.Reading.{Fails, unless}
 use Rattle.pg_outside.specs.Content.{FileMap, FilesShown, file_at, IsCut}
 use Rattle.pg_translate.specs.Alphabets.{Alphabet}
 use Rattle.pg_translate.specs.Tables.{table, table_of}
-use Rattle.pg_dict.specs.Words.{words, words_from, refused as refused_in}
+use Rattle.pg_translate.specs.LineRefusals.{refused as refused_in}
+use Rattle.pg_dict.specs.Words.{words, words_from}
 use Rattle.pg_patterns.specs.Starts.{start, entries_from, joined_entries}
 use Rattle.pg_top.specs.Outcomes.{refuses, unless_accepted}
 use Rattle.pg_top.specs.Readings.{read_as, input_file}

@@ -5,6 +5,7 @@ pub mod PrintedLines
 pub mod Outcomes
 pub mod Readings
 pub mod Selection
+pub mod Runs
 pub mod Selecting
 pub mod Calls
 pub mod Writings

@@ -2,8 +2,11 @@
 use Rattle.std.specs.Prelude.{ℕ, ◌==◌, if◌then◌else◌, List, [], ◌++◌, length, codes, decimal}
 use Rattle.pg_types.specs.Lines.{lines}
 use Rattle.pg_types.specs.Refusals.{number_of, name_of}
+use Rattle.pg_types.specs.declared.marks.Layout.{Layout}
 use Rattle.pg_types.specs.declared.marks.Totals.{Totals}
 use Rattle.pg_types.specs.declared.refusals.Refusal.{Refusal}
+use Rattle.pg_texts.specs.CellsTexts.{layout_text}
+use Rattle.pg_texts.specs.ReportTexts.{totals_text}
 use Rattle.pg_top.specs.declared.inputs.Input.{Input}
 use Rattle.pg_top.specs.declared.inputs.Input.TheVariants as input
 use Rattle.pg_top.specs.declared.inputs.Given.TheVariants as given
@@ -14,7 +17,11 @@ usage_line = codes "usage: patgen COMMAND NAMES [OPTIONS]\n"
 
 -- where `generate` is done: how many lines the pattern file has, and the totals of its patterns
 abbrev pub done_line : List ℕ → Totals → List ℕ
-done_line patterns t = codes "done: " ++ decimal (length (lines patterns)) ++ codes " patterns, " ++ decimal t.good ++ codes " good, " ++ decimal t.bad ++ codes " bad, " ++ decimal t.missed ++ codes " missed\n"
+done_line patterns t = codes "done: " ++ decimal (length (lines patterns)) ++ codes " patterns, " ++ totals_text t ++ codes "\n"
+
+-- where `generate` is done: how many passes were begun, and the layout at the end
+abbrev pub work_line : ℕ → Layout → List ℕ
+work_line passes layout = codes "work: " ++ decimal passes ++ codes " passes, " ++ layout_text layout
 
 -- the words for a file in a line of refusal or of `no`
 abbrev pub word_of : Input → List ℕ

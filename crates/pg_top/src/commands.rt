@@ -13,8 +13,12 @@ pub struct Names<'a> {
     pub translate: &'a str,
     /// The parameters.
     pub params: &'a str,
-    /// Where the report is to be written.
+    /// Where the report is written.
     pub report: &'a str,
+    /// Where the hyphenated list is written, if it is asked for.
+    pub pattmp: Option<&'a str>,
+    /// Where the cells file is written, if it is asked for.
+    pub cells: Option<&'a str>,
 }
 
 /// What words ask for.

@@ -4,6 +4,7 @@
 pub mod answers;
 pub mod commands;
 pub mod inputs;
+mod outputs;
 mod printed;
 mod puts;
 mod reading;
