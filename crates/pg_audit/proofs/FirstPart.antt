@@ -32,7 +32,7 @@ part_rest (suc m) (b ∷ bs) inside = elim (cases_Bool (is_line_feed b)) [
 ]
 
 -- the first bytes of the first bytes
-take_within : (k m : ℕ) (xs : List ℕ) → k ≤ m → take k (take m xs) ≡ take k xs
+pub take_within : (k m : ℕ) (xs : List ℕ) → k ≤ m → take k (take m xs) ≡ take k xs
 take_within zero m xs within = refl
 take_within (suc k) zero xs within = absurd (omega arith)
 take_within (suc k) (suc m) [] within = refl

@@ -5,16 +5,12 @@ use Rattle.std.specs.List.{All, sum_by}
 use Rattle.pg_types.specs.declared.limits.TheConstants.{FILE_MAX}
 use Rattle.pg_types.specs.declared.marks.Totals.{Totals}
 use Rattle.pg_dict.specs.Word.{Word, IsWord, letters_of}
-use Rattle.pg_select.specs.LawsSteps.{FindsMore, PreventsMore}
 use Rattle.pg_select.specs.Sights.{Minima}
 use Rattle.pg_select.specs.Sums.{totals}
 use Rattle.pg_select.specs.Windows.{Patterns}
 use Rattle.pg_select.proofs.LawsSums.{totals_small}
+use Rattle.pg_driver.specs.LevelCounting.{Carries}
 use Rattle.pg_driver.specs.Sound.{IsSmall}
-
--- the totals before and after a pass whose chosen windows have these sums
-abbrev pub Carries : Bool → Totals → Totals → ℕ → ℕ → Type 0
-Carries odd old new good bad = MatchBool odd (FindsMore old new good bad) (PreventsMore old new good bad)
 
 same_totals : (a b : Totals) → a.good ≡ b.good → a.bad ≡ b.bad → a.missed ≡ b.missed → a ≡ b
 same_totals a b p q r = λ i. record { good = p i; bad = q i; missed = r i }

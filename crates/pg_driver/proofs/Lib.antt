@@ -22,3 +22,5 @@ pub mod OpenSteps
 pub mod OpenLevels
 pub mod CarriedTotals
 pub mod OpenTraces
+pub mod ReadySteps
+mod DotRows

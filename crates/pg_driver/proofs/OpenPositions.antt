@@ -1,4 +1,4 @@
--- What a pass sees at the open positions, and how they go on.
+-- What a pass counts at the open positions, and how they go on.
 use Rattle.std.proofs.Common.{◌≡◌, ℕ, suc, ◌+◌, ◌≤◌, Bool, List, [], ◌∷◌, ◌++◌, length, map, slice_get, Option, Some, None, refl, sym, ap, ◌∙◌, arith}
 use Rattle.std.specs.List.{flat_map}
 use Rattle.std.specs.Option.{option_map_or}
@@ -63,7 +63,7 @@ open_go_on level len l m words P P' H H' next entries done tells are_open = reco
     on n p w at None known = done w p known
     on n p w at (Some dots) known = tells n p w dots at known
 
--- what a pass sees
+-- what a pass counts
 module _ (level len dot : ℕ) (m : Minima) (words : List Word) (P : Patterns) (H : Hopeless) (closed : ℕ → ℕ → Option DotSet) (short : len ≤ LENGTH_MAX) (within : dot ≤ len) (known : (n p : ℕ) (w : Word) → slice_get words n ≡ Some w → IsKnown level len P H w p (closed n p)) where
   counted_entry : (n p : ℕ) (w : Word) → slice_get words n ≡ Some w → sight_at (pass_at level len dot) P H w p ≡ flat_map (counted_of level len dot words) (open_with closed (n, p))
   counted_entry n p w at = by_dots (closed n p) (known n p w at)

@@ -32,7 +32,7 @@ pub position_added : {Y : Type 0} (f : ℕ → List Y) (items more whole : List 
 position_added {Y} f items more whole p end before is left =
     added_step f items more whole p (range_with_len (p + 1) (end - (p + 1))) is (ap (λ (ps : List ℕ). items ++ flat_map f ps) (sym (range_step p end before)) ∙ left)
 
--- what is seen at an open position takes the room of one
+-- what is counted at an open position takes the room of one
 pub took_in : (counts : Counts) (level len dot : ℕ) (w : Word) (p n : ℕ) (closed : Bool) → 1 ≤ len → IsWord w → p < length w.signs → HasRoom counts n → TookRoom counts (fold with_sight counts (counted_in level len dot w p closed)) 1
 took_in counts level len dot w p n closed long word within room = by_test (fits w.signs p len dot) closed refl
   where

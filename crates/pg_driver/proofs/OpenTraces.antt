@@ -1,5 +1,5 @@
 -- A pass of the trace over the open positions of its level, and what values are up to in a level of it.
-use Rattle.std.proofs.Common.{◌≡◌, ℕ, ◌≤◌, ◌+◌, ◌-◌, nat_le, Bool, true, refl, List, [], ◌∷◌, length, map, fold, sym, ap, subst, ◌∙◌, arith}
+use Rattle.std.proofs.Common.{◌≡◌, ℕ, ◌≤◌, ◌<◌, ◌+◌, ◌-◌, max, nat_le, Bool, true, refl, List, [], ◌∷◌, length, map, fold, sym, ap, subst, ◌∙◌, arith}
 use Rattle.std.specs.List.{flat_map, list_all, range_with_len, sum_by}
 use Rattle.std.proofs.lemmas.Bool.{and_parts, and_from, leb-true, le-leb}
 use Rattle.std.proofs.lemmas.List.Folds.{list_all-append}
@@ -7,13 +7,14 @@ use Rattle.pg_types.specs.declared.limits.TheConstants.{LENGTH_MAX, FILE_MAX}
 use Rattle.pg_types.specs.declared.parameters.LevelParams.{LevelParams}
 use Rattle.pg_types.specs.Counts.{Counts}
 use Rattle.pg_dict.specs.Word.{Word, letters_of}
+use Rattle.pg_patterns.specs.Values.{largest}
 use Rattle.pg_select.specs.declared.pass.Pass.{Pass}
 use Rattle.pg_select.specs.LawsSteps.{IsBelow, IsUpTo}
 use Rattle.pg_select.specs.Meanings.{Meaning, begun_pass, with_sight}
 use Rattle.pg_select.specs.Sights.{Sight, sights}
 use Rattle.pg_select.specs.Statuses.{is_odd}
 use Rattle.pg_select.specs.Windows.{Patterns}
-use Rattle.pg_select.proofs.LawsBounds.{up_to_raised}
+use Rattle.pg_select.proofs.LawsBounds.{next_is_below, up_to_largest, up_to_more, up_to_raised}
 use Rattle.pg_select.proofs.LawsTotals.{totals_after}
 use Rattle.pg_driver.specs.declared.open_positions.OpenPosition.{OpenPosition}
 use Rattle.pg_driver.specs.Accounts.{totals_by}
@@ -22,7 +23,7 @@ use Rattle.pg_driver.specs.Dots.{order}
 use Rattle.pg_driver.specs.OpenLevels.{InLevel, position_after}
 use Rattle.pg_driver.specs.OpenPositions.{counted_of}
 use Rattle.pg_driver.specs.Traces.{Source, Known, PassTrace, choice_of, is_chosen, chosen_in, known_after, known_at_end, pass_made, passes_made, at_start, level_made, passes_of, patterns_after}
-use Rattle.pg_driver.proofs.CarriedTotals.{Carries}
+use Rattle.pg_driver.specs.LevelCounting.{Carries}
 use Rattle.pg_driver.proofs.OpenLevels.{level_after_pass}
 use Rattle.pg_driver.proofs.OpenPlaces.{open_few}
 use Rattle.pg_driver.proofs.OpenPositions.{counted_are_open}
@@ -79,3 +80,17 @@ up_to_level source params number n P within upto = up_to_made source params n (a
     all_flat (len ∷ lens) =
         list_all-append (λ (p : Pass). nat_le p.level n) (map (λ dot. record { level = number; len = len; dot = dot }) (order len)) (flat_map (λ (l : ℕ). map (λ dot. record { level = number; len = l; dot = dot }) (order l)) lens)
         ∙ and_from (list_all (λ (p : Pass). nat_le p.level n) (map (λ dot. record { level = number; len = len; dot = dot }) (order len))) (list_all (λ (p : Pass). nat_le p.level n) (flat_map (λ (l : ℕ). map (λ dot. record { level = number; len = l; dot = dot }) (order l)) lens)) (all_dots_of len (order len)) (all_flat lens)
+
+-- a level begins below the level, where no starting value is as great
+pub below_level : (greatest number : ℕ) (P : Patterns) → IsUpTo (max greatest (number - 1)) P → 1 ≤ number → greatest < number → IsBelow number P
+below_level greatest number P upto first low =
+    let next : number - 1 + 1 ≡ number = omega arith in
+    subst (λ (n : ℕ). IsBelow n P) next (next_is_below (number - 1) P (up_to_more (max greatest (number - 1)) (number - 1) P (omega arith) upto))
+
+pub up_to_next : (source : Source) (params : LevelParams) (greatest number : ℕ) (P Q : Patterns) → Q ≡ patterns_after (level_made source P (number, params)) → IsUpTo (max greatest (number - 1)) P → IsUpTo (max greatest (number + 1 - 1)) Q
+up_to_next source params greatest number P Q is upto =
+    subst (λ (R : Patterns). IsUpTo (max greatest (number + 1 - 1)) R) (sym is)
+    (up_to_level source params number (max greatest (number + 1 - 1)) P (omega arith) (up_to_more (max greatest (number - 1)) (max greatest (number + 1 - 1)) P (omega arith) upto))
+
+pub up_to_starting : (greatest n : ℕ) (P : Patterns) → greatest ≡ largest P → IsUpTo (max greatest n) P
+up_to_starting greatest n P is = up_to_more (largest P) (max greatest n) P (omega (arith, is)) (up_to_largest P)

@@ -1,5 +1,5 @@
 -- A pass, and what it records.
-use Rattle.std.proofs.Common.{◌≡◌, ℕ, ◌+◌, List, length, map, Option, None, Some, refl, sym, ap, ◌∙◌, arith}
+use Rattle.std.proofs.Common.{◌≡◌, ℕ, ◌+◌, List, [], length, map, fold, Option, None, Some, refl, sym, ap, ◌∙◌, arith}
 use Rattle.std.specs.List.{sum_by}
 use Rattle.std.specs.Option.{option_map, MatchOption}
 use Rattle.pg_types.specs.declared.marks.Layout.{Layout}
@@ -8,7 +8,7 @@ use Rattle.pg_types.specs.declared.parameters.LevelParams.{LevelParams}
 use Rattle.pg_types.specs.Placement.{Families, taken, top}
 use Rattle.pg_translate.specs.Alphabets.{Alphabet}
 use Rattle.pg_dict.specs.Word.{Word}
-use Rattle.pg_select.specs.Meanings.{Meaning, IsLayout, begun_pass}
+use Rattle.pg_select.specs.Meanings.{Meaning, IsLayout, begun_pass, with_sight}
 use Rattle.pg_select.specs.declared.pass.Pass.{Pass}
 use Rattle.pg_select.specs.Sights.{Sight, Candidate, sights}
 use Rattle.pg_driver.specs.declared.choices.Choices.{Choices}
@@ -29,9 +29,6 @@ seen_in t words pass m = sights (minima_of t) words pass m.patterns m.hopeless
 -- an engine after the walk of a pass
 abbrev pub counted_pass : Alphabet → List Word → Pass → Meaning → Meaning
 counted_pass t words pass m = counting (begun_pass m pass.level pass.len pass.dot) (seen_in t words pass m)
-
-pub counted_is : (t : Alphabet) (words : List Word) (pass : Pass) (m m1 m2 : Meaning) → m1 ≡ begun_pass m pass.level pass.len pass.dot → m2 ≡ counting m1 (sights (minima_of t) words m1.pass m1.patterns m1.hopeless) → m2 ≡ counted_pass t words pass m
-counted_is t words pass m m1 m2 begins counts = counts ∙ ap (λ (x : Meaning). counting x (sights (minima_of t) words x.pass x.patterns x.hopeless)) begins
 
 -- the pass, and its candidates
 abbrev pub pass_in : Alphabet → List Word → LevelParams → Pass → Meaning → PassTrace
@@ -102,3 +99,14 @@ did_pass t words params pass m m2 n before numbers layout counted totals has cho
   layout = layout_is pass before numbers n layout tells;
   begun = begun_kept params (map candidate_of m2.counts) m2 n has ∙ ap (λ (x : Meaning). x.begun) counted;
 }
+
+-- an engine that counted what a pass sees, and then chose
+pub counted_as : (t : Alphabet) (words : List Word) (pass : Pass) (m m1 m2 : Meaning) → m1 ≡ begun_pass m pass.level pass.len pass.dot → m2 ≡ counting m1 (sights (minima_of t) words pass m1.patterns m1.hopeless) → m2 ≡ counted_pass t words pass m
+counted_as t words pass m m1 m2 begins counts = counts ∙ ap (λ (x : Meaning). counting x (sights (minima_of t) words pass x.patterns x.hopeless)) begins
+
+pub counts_kept : (t : Alphabet) (words : List Word) (params : LevelParams) (pass : Pass) (m m2 n : Meaning) → m2 ≡ counted_pass t words pass m → HasChosen params (map candidate_of m2.counts) m2 n → n.counts ≡ fold with_sight [] (seen_in t words pass m)
+counts_kept t words params pass m m2 n counted has = ap (λ (x : Meaning). x.counts) has.kept ∙ ap (λ (x : Meaning). x.counts) counted
+
+pub numbers_are : (t : Alphabet) (words : List Word) (params : LevelParams) (pass : Pass) (m m2 : Meaning) (numbers : Choices) → m2 ≡ counted_pass t words pass m → numbers ≡ with_candidates params no_choices (map candidate_of m2.counts)
+    → numbers ≡ with_candidates params no_choices (pass_in t words params pass m).candidates
+numbers_are t words params pass m m2 numbers counted is = is ∙ ap (λ (cs : List Candidate). with_candidates params no_choices cs) (counts_are t words params pass m m2 counted)

@@ -186,9 +186,11 @@ run_begins source m r none is = record {
     none_yet : (signs : ℕ) (o : Option Families) → o ≡ option_map (λ fs. final_families signs fs []) o
     none_yet signs None = refl
     none_yet signs (Some fs) = refl
+
     no_layouts : (signs : ℕ) (o : Option Families) → [] ≡ run_layouts signs o []
     no_layouts signs None = refl
     no_layouts signs (Some fs) = refl
+
     no_level_layouts : (signs : ℕ) (o : Option Families) → [] ≡ level_layouts signs o []
     no_level_layouts signs None = refl
     no_level_layouts signs (Some fs) = refl

@@ -11,3 +11,4 @@ pub mod Levels
 pub mod DotSets
 pub mod OpenPositions
 pub mod OpenLevels
+pub mod LevelCounting

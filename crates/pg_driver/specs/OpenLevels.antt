@@ -50,7 +50,7 @@ pub record InLevel (level len : ℕ) (m : Minima) (words : List Word) (P : Patte
 abbrev pub longer_positions : ℕ → List OpenPosition → List OpenPosition
 longer_positions len entries = map (λ e. with_closed e (longer_dots e.closed)) (filter (λ e. not (is_full len e.closed)) entries)
 
--- the closed dots of a position after its window at a dot was settled, where that was counted
+-- the closed dots of a position after a pass, by what became of its window at the dot, where that was counted
 abbrev pub dots_after : DotSet → ℕ → Option Choice → DotSet
 dots_after dots dot None = dots
 dots_after dots dot (Some Left) = dots

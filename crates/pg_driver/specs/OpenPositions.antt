@@ -22,7 +22,7 @@ numbered_positions m n (w ∷ words) = map (λ p. (n, p)) (positions m.left m.ri
 abbrev pub open_with : (ℕ → ℕ → Option DotSet) → ℕ × ℕ → List OpenPosition
 open_with closed s = option_map_or (λ dots. record { word = s.0; at = s.1; closed = dots } ∷ []) (closed s.0 s.1) []
 
--- what is known of a position at a length: that it is done, or which of its dots are closed
+-- what is known of a position at a length: that nothing counts there any more, or which of its dots are closed
 abbrev pub IsKnown : ℕ → ℕ → Patterns → Hopeless → Word → ℕ → Option DotSet → Type 0
 IsKnown level len P H w p None = IsDone level len P H w p
 IsKnown level len P H w p (Some dots) = Tells level len P H w p (has_dot dots)
@@ -33,7 +33,7 @@ pub record AreOpen (level len : ℕ) (m : Minima) (words : List Word) (P : Patte
   pub are : entries ≡ flat_map (open_with closed) (numbered_positions m 0 words)
   pub known : (n p : ℕ) (w : Word) → slice_get words n ≡ Some w → IsKnown level len P H w p (closed n p)
 
--- what a pass sees at an open position
+-- what a pass counts at an open position
 abbrev pub counted_in : ℕ → ℕ → ℕ → Word → ℕ → Bool → List Sight
 counted_in level len dot w p closed = option_map_or (λ good. record { window = window w.signs p len dot; good = good; weight = weight_at w p } ∷ []) (counted_with level w p len dot closed) []
 

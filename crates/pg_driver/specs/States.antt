@@ -1,10 +1,10 @@
 -- What a run changes in an engine, from pass to pass.
-use Rattle.std.specs.Prelude.{◌≡◌, ℕ, ◌+◌, List, Option}
+use Rattle.std.specs.Prelude.{◌≡◌, ℕ, ◌+◌, ◌≤◌, List, Option}
 use Rattle.std.specs.Option.{option_map}
+use Rattle.pg_types.specs.declared.limits.TheConstants.{LENGTH_MAX, LEVEL_MAX}
 use Rattle.pg_types.specs.declared.parameters.LevelParams.{LevelParams}
 use Rattle.pg_types.specs.Placement.{Families, taken, top}
 use Rattle.pg_select.specs.Meanings.{Meaning}
-use Rattle.pg_driver.specs.declared.pass.Pass.{Pass as HeldPass}
 use Rattle.pg_driver.specs.declared.records.PassRecord.{PassRecord}
 use Rattle.pg_select.specs.declared.pass.Pass.{Pass}
 use Rattle.pg_driver.specs.Traces.{Known, Source, PassTrace, known_after, known_at_end, pass_made}
@@ -28,9 +28,13 @@ state_after signs families p = record { known = known_after p; families = option
 abbrev pub state_at_end : ℕ → State → List PassTrace → State
 state_at_end signs s ps = record { known = known_at_end s.known ps; families = option_map (λ fs. after_passes signs fs ps) s.families }
 
--- a pass of the code
-abbrev pub pass_of : HeldPass → Pass
-pass_of p = record { level = p.level; len = p.len; dot = p.dot }
+-- the numbers of a pass are in their ranges
+pub record IsPass (pass : Pass) : Type 0 where
+  pub level_low : 1 ≤ pass.level
+  pub level_high : pass.level ≤ LEVEL_MAX
+  pub len_low : 1 ≤ pass.len
+  pub len_high : pass.len ≤ LENGTH_MAX
+  pub within : pass.dot ≤ pass.len
 
 -- the pass that is made where an engine knows what it does
 abbrev pub made_by : Source → LevelParams → Meaning → Pass → PassTrace

@@ -1,7 +1,9 @@
 //! The run over all levels.
 ghost use Rattle.std.specs.Prelude.{◌≡◌, ◌≤◌, ◌<◌, ◌+◌, ◌*◌, ◌^◌, [], true, IfOk, OnOk};
 ghost use Rattle.pg_dict.specs.Word.{SignsAtMost};
+ghost use Rattle.pg_driver.specs.Accounts.{totals_by};
 ghost use Rattle.pg_driver.specs.Levels.{DidRun};
+ghost use Rattle.pg_driver.specs.Sound.{IsSmall};
 ghost use Rattle.pg_driver.specs.Told.{TellsCells, account_from, account_of, begun_from, cells_from, families_from, over, patterns_from, run_from};
 
 use crate::level::run_level;
@@ -11,36 +13,52 @@ use crate::sums::totals;
 use pg_dict::Dictionary;
 use pg_select::Engine;
 use pg_translate::Table;
-use pg_types::Params;
+use pg_types::{Params, Totals};
 use std::alloc::{AllocError, Global};
 
-/// Does the levels of the parameters, one after the other.
+/// Does the levels of the parameters, one after the other, and gives the totals at the end.
 fn run_levels<E: Engine>(
+    alloc: Global,
     engine: &mut E,
     dictionary: &Dictionary,
     table: &Table,
     params: &Params,
     records: &mut Records,
-) -> Result<(), AllocError>
+) -> Result<Totals, AllocError>
     requires hopeless { (E.meaning engine.old).hopeless ≡ [] }
     requires tidy { (E.meaning engine.old).tidy ≡ true }
     requires begun { (E.meaning engine.old).begun < 2 ^ 59 }
     requires none { records.old ≡ record { passes = []; levels = []; chosen = 0; begun = 0 } }
     requires signs { SignsAtMost (E.meaning engine.old).signs dictionary.now }
     ensures run { OnOk result (DidRun (over table.now dictionary.now) (run_from table.now dictionary.now params.now (E.meaning engine.old)) (E.meaning engine.old) (E.meaning engine.new) records.new) }
+    ensures totals { IfOk result (λ totals. totals ≡ totals_by (over table.now dictionary.now) (E.meaning engine.new).patterns) }
+    ensures small { IfOk result IsSmall }
     ensures tidy { OnOk result ((E.meaning engine.new).tidy ≡ true) }
     ensures begun { OnOk result ((E.meaning engine.new).begun ≡ (E.meaning engine.old).begun + records.new.begun) }
     ensures few { OnOk result (records.new.begun ≤ 240 * 9) }
     ensures signs { (E.meaning engine.new).signs ≡ (E.meaning engine.old).signs }
 {
+    let greatest = engine.copy_patterns(alloc)?.largest();
+    let mut sums = totals(engine, dictionary, table);
     let start = params.start();
     // The last level is at most 9, and so is the number of levels.
     let _last = params.finish();
     let count = params.count();
     'levels: for i in 0..count {
-        run_level(engine, dictionary, table, params.level(i), start + i as u8, records)?;
+        let number = start + i as u8;
+        sums = run_level(
+            alloc,
+            engine,
+            dictionary,
+            table,
+            params.level(i),
+            number,
+            greatest,
+            sums,
+            records,
+        )?;
     }
-    Ok(())
+    Ok(sums)
 }
 
 /// Does the run of a dictionary from the patterns of an engine: level after level, and in a level a pass for each length and dot,
@@ -76,8 +94,7 @@ pub fn generate<E: Engine>(
 {
     let first_layout = engine.layout();
     let mut records = Records::new(alloc);
-    run_levels(engine, dictionary, table, params, &mut records)?;
+    let totals = run_levels(alloc, engine, dictionary, table, params, &mut records)?;
     let patterns = engine.copy_patterns(alloc)?;
-    let totals = totals(engine, dictionary, table);
     Ok(Run::new(patterns, records, totals, first_layout))
 }

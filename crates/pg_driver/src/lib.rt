@@ -4,7 +4,7 @@
 mod carried_totals;
 mod choices;
 mod closed;
-mod counted;
+mod counting;
 mod dot_set;
 mod dots;
 mod level;
@@ -12,7 +12,6 @@ mod levels;
 mod marks;
 mod open_passes;
 mod open_positions;
-mod pass;
 mod records;
 mod run;
 mod sums;

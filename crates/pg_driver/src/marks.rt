@@ -1,15 +1,17 @@
-//! The status of a position of a word, and what it adds to the totals.
-ghost use Rattle.std.specs.Prelude.{◌≡◌, ◌<◌, ◌≤◌, ◌+◌, ◌-◌, ◌^◌, [], true, false, length, slice_index, slice_index_or, IfSome, IfNone};
+//! The positions of a word: which are in reach, their statuses, what these count as, and what they add to the totals.
+ghost use Rattle.std.specs.Prelude.{ℕ, List, ◌≡◌, ◌<◌, ◌≤◌, ◌+◌, ◌-◌, ◌^◌, [], true, false, length, slice_index, slice_index_or, IfSome, IfNone};
 ghost use Rattle.std.specs.List.{range_with_len};
 ghost use Rattle.pg_types.specs.declared.limits.TheConstants.{WORD_LETTERS_MAX};
 ghost use Rattle.pg_translate.specs.Reach.{positions as positions_of};
 ghost use Rattle.pg_dict.specs.Word.{IsWord, letters_of};
 ghost use Rattle.pg_dict.specs.Lent.{word_of};
+ghost use Rattle.pg_select.specs.Sights.{counts_as as counts_as_of};
 ghost use Rattle.pg_select.specs.Statuses.{status as status_of};
+ghost use Rattle.pg_select.specs.Windows.{fits as fits_in};
 ghost use Rattle.pg_driver.specs.Counting.{with_mark, sum_of};
 
 use pg_dict::WordRef;
-use pg_select::{WordState, status};
+use pg_select::{Pass, WordState, status};
 use pg_translate::Table;
 use pg_types::{Mark, Totals, Weight};
 
@@ -72,4 +74,28 @@ pub fn add_mark(sums: Totals, mark: Mark, weight: Weight) -> Totals
         },
         Mark::Nothing | Mark::DontCare => sums,
     }
+}
+
+/// Whether a position of this status counts at a level as good, or as bad, or not at all. Levels find breaks and prevent them by
+/// turns, beginning with a level that finds.
+pub fn counts_as(level: u8, mark: Mark) -> Option<bool>
+    ensures { result ≡ counts_as_of level mark }
+{
+    let finds = level % 2 == 1;
+    match mark {
+        Mark::Missed if finds => Some(true),
+        Mark::Nothing if finds => Some(false),
+        Mark::Error if !finds => Some(true),
+        Mark::Found if !finds => Some(false),
+        _ => None,
+    }
+}
+
+/// Whether the window of a pass with its dot at position `p` of a word of `size` signs lies in the word.
+pub fn fits(pass: Pass, size: usize, p: usize) -> bool
+    requires { p ≤ size }
+    ensures { (w : List ℕ) → length w ≡ size → result ≡ fits_in w p pass.len pass.dot }
+{
+    let dot = usize::from(pass.dot);
+    dot <= p && usize::from(pass.len) <= size - (p - dot)
 }

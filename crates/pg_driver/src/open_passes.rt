@@ -7,16 +7,16 @@ ghost use Rattle.pg_dict.specs.Word.{IsWord, SignsAtMost};
 ghost use Rattle.pg_dict.specs.Lent.{word_of};
 ghost use Rattle.pg_select.specs.Statuses.{is_odd};
 ghost use Rattle.pg_driver.specs.Counting.{counting, HasRoom, TookRoom};
-ghost use Rattle.pg_driver.specs.States.{pass_of};
+ghost use Rattle.pg_driver.specs.States.{IsPass};
 ghost use Rattle.pg_driver.specs.DotSets.{has_dot};
 ghost use Rattle.pg_driver.specs.OpenLevels.{closed_dots_after, position_after};
 ghost use Rattle.pg_driver.specs.OpenPositions.{counted_in, counted_of, IsPlaced};
 
 use crate::dot_set::DotSet;
+use crate::marks::fits;
 use crate::open_positions::OpenPosition;
-use crate::pass::Pass;
 use pg_dict::{Dictionary, WordRef};
-use pg_select::{Choice, Engine, decide};
+use pg_select::{Choice, Engine, Pass, decide};
 use pg_types::LevelParams;
 use std::alloc::AllocError;
 
@@ -35,7 +35,8 @@ fn count_at<E: Engine>(
     p: usize,
     closed: DotSet,
 ) -> Result<(), AllocError>
-    requires pass { (E.meaning engine.old).pass ≡ pass_of pass }
+    requires ranges { IsPass pass }
+    requires pass { (E.meaning engine.old).pass ≡ pass }
     requires word { IsWord (word_of w.now) }
     requires signs { SignsWithin (E.meaning engine.old).signs w.now.signs.now }
     requires within { p < length w.now.signs.now }
@@ -43,7 +44,7 @@ fn count_at<E: Engine>(
     ensures ok { OnOk result (E.meaning engine.new ≡ counting (E.meaning engine.old) (counted_in pass.level pass.len pass.dot (word_of w.now) p (has_dot closed pass.dot))) }
     ensures err { OnErr result (E.meaning engine.new ≡ E.meaning engine.old) }
 {
-    if pass.fits(w.signs.len(), p) && !closed.contains(pass.dot) {
+    if fits(pass, w.signs.len(), p) && !closed.contains(pass.dot) {
         let from = p - usize::from(pass.dot);
         let window = &w.signs[from..from + usize::from(pass.len)];
         engine.count(window, is_good(pass.level, w.hyphens[p]), w.weights[p])?;
@@ -58,7 +59,8 @@ fn count_position<E: Engine>(
     pass: Pass,
     position: OpenPosition,
 ) -> Result<(), AllocError>
-    requires pass { (E.meaning engine.old).pass ≡ pass_of pass }
+    requires ranges { IsPass pass }
+    requires pass { (E.meaning engine.old).pass ≡ pass }
     requires signs { SignsAtMost (E.meaning engine.old).signs dictionary.now }
     requires placed { IsPlaced dictionary.now position }
     requires room { HasRoom (E.meaning engine.old).counts 1 }
@@ -79,7 +81,8 @@ pub fn count_open<E: Engine>(
     pass: Pass,
     open_positions: &[OpenPosition],
 ) -> Result<(), AllocError>
-    requires pass { (E.meaning engine.old).pass ≡ pass_of pass }
+    requires ranges { IsPass pass }
+    requires pass { (E.meaning engine.old).pass ≡ pass }
     requires signs { SignsAtMost (E.meaning engine.old).signs dictionary.now }
     requires placed { All (IsPlaced dictionary.now) open_positions.now }
     requires room { HasRoom (E.meaning engine.old).counts (length open_positions.now) }
@@ -103,15 +106,16 @@ fn close_at<E: Engine>(
     p: usize,
     closed: DotSet,
 ) -> DotSet
-    requires pass { (E.meaning engine.now).pass ≡ pass_of pass }
+    requires ranges { IsPass pass }
+    requires pass { (E.meaning engine.now).pass ≡ pass }
     requires level { IsLevel params.now }
     requires word { IsWord (word_of w.now) }
     requires signs { SignsWithin (E.meaning engine.now).signs w.now.signs.now }
     requires within { p < length w.now.signs.now }
     requires room { HasRoom (E.meaning engine.now).counts 0 }
-    ensures { result ≡ closed_dots_after params.now (pass_of pass) (E.meaning engine.now).counts (word_of w.now) p closed }
+    ensures { result ≡ closed_dots_after params.now (pass) (E.meaning engine.now).counts (word_of w.now) p closed }
 {
-    if !pass.fits(w.signs.len(), p) || closed.contains(pass.dot) {
+    if !fits(pass, w.signs.len(), p) || closed.contains(pass.dot) {
         return closed;
     }
     let from = p - usize::from(pass.dot);
@@ -133,12 +137,13 @@ fn close_position<E: Engine>(
     pass: Pass,
     position: OpenPosition,
 ) -> OpenPosition
-    requires pass { (E.meaning engine.now).pass ≡ pass_of pass }
+    requires ranges { IsPass pass }
+    requires pass { (E.meaning engine.now).pass ≡ pass }
     requires level { IsLevel params.now }
     requires signs { SignsAtMost (E.meaning engine.now).signs dictionary.now }
     requires placed { IsPlaced dictionary.now position }
     requires room { HasRoom (E.meaning engine.now).counts 0 }
-    ensures { result ≡ position_after params.now (pass_of pass) (E.meaning engine.now).counts dictionary.now position }
+    ensures { result ≡ position_after params.now (pass) (E.meaning engine.now).counts dictionary.now position }
 {
     let w = dictionary.word(position.word as usize);
     let p = usize::from(position.at);
@@ -156,12 +161,13 @@ pub fn close_dots<E: Engine>(
     pass: Pass,
     open_positions: &mut [OpenPosition],
 )
-    requires pass { (E.meaning engine.now).pass ≡ pass_of pass }
+    requires ranges { IsPass pass }
+    requires pass { (E.meaning engine.now).pass ≡ pass }
     requires level { IsLevel params.now }
     requires signs { SignsAtMost (E.meaning engine.now).signs dictionary.now }
     requires placed { All (IsPlaced dictionary.now) open_positions.old }
     requires room { HasRoom (E.meaning engine.now).counts 0 }
-    ensures { open_positions.new ≡ map (position_after params.now (pass_of pass) (E.meaning engine.now).counts dictionary.now) open_positions.old }
+    ensures { open_positions.new ≡ map (position_after params.now (pass) (E.meaning engine.now).counts dictionary.now) open_positions.old }
 {
     'positions: for position in open_positions.iter_mut() {
         *position = close_position(engine, dictionary, params, pass, *position);

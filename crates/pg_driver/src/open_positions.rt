@@ -11,7 +11,7 @@ ghost use Rattle.pg_driver.specs.OpenPositions.{with_closed};
 ghost use Rattle.pg_driver.specs.OpenLevels.{open_as, open_in, open_from, longer_positions};
 
 use crate::dot_set::DotSet;
-use crate::marks::{mark_at, positions};
+use crate::marks::{counts_as, mark_at, positions};
 use pg_dict::{Dictionary, WordRef};
 use pg_select::{Engine, WordState};
 use pg_translate::Table;
@@ -29,17 +29,6 @@ pub struct OpenPosition {
     pub closed: DotSet,
 }
 
-/// Whether a position of this status counts at a level.
-fn counts(level: u8, mark: Mark) -> bool
-    ensures { result ≡ is_some (counts_as_of level mark) }
-{
-    match mark {
-        Mark::Missed | Mark::Nothing => level % 2 == 1,
-        Mark::Error | Mark::Found => level % 2 == 0,
-        Mark::DontCare => false,
-    }
-}
-
 /// Adds position `p` of a word, which has this status, where it counts at a level. No dot of it is closed.
 fn open_by_status(
     level: u8,
@@ -50,7 +39,7 @@ fn open_by_status(
 ) -> Result<(), AllocError>
     ensures { OnOk result (open_positions.new.items ≡ open_positions.old.items ++ open_as word p (counts_as_of level mark)) }
 {
-    if counts(level, mark) {
+    if counts_as(level, mark).is_some() {
         open_positions.push(OpenPosition {
             word,
             at: p,

@@ -1,21 +1,120 @@
-//! The walk over the words in a pass.
-ghost use Rattle.std.specs.Prelude.{◌≡◌, [], IfOk, OnOk};
-ghost use Rattle.pg_dict.specs.Word.{SignsAtMost};
-ghost use Rattle.pg_select.specs.Sights.{sights};
-ghost use Rattle.pg_select.specs.Sums.{totals as totals_of_words};
-ghost use Rattle.pg_driver.specs.Counting.{counting, HasRoom};
+//! The walk over the words in a pass that hyphenates each of them.
+ghost use Rattle.std.specs.Prelude.{◌≡◌, ◌≤◌, ◌<◌, ◌+◌, ◌*◌, ◌&&◌, [], not, false, if◌then◌else◌, None, length, slice_index, slice_index_or, IfOk, OnOk, OnErr};
+ghost use Rattle.pg_types.specs.Counts.{SignsWithin};
+ghost use Rattle.pg_types.specs.declared.limits.TheConstants.{WORD_LETTERS_MAX};
+ghost use Rattle.pg_dict.specs.Word.{IsWord, SignsAtMost, letters_of};
+ghost use Rattle.pg_dict.specs.Lent.{word_of};
+ghost use Rattle.pg_select.specs.Sights.{sight_at, sights, sights_in, counts_as as counts_as_of};
+ghost use Rattle.pg_select.specs.Statuses.{status_at, weight_at};
+ghost use Rattle.pg_select.specs.Sums.{marks_in, totals as totals_of_words};
+ghost use Rattle.pg_select.specs.Windows.{fits as fits_in};
+ghost use Rattle.pg_driver.specs.Counting.{counting, with_mark, with_marks, HasRoom, HasRoomFor, TookRoom, TookRoomFor, IsRead};
 ghost use Rattle.pg_driver.specs.Sound.{IsSmall};
-ghost use Rattle.pg_driver.specs.States.{pass_of};
+ghost use Rattle.pg_driver.specs.States.{IsPass};
 ghost use Rattle.pg_driver.specs.Told.{minima_of};
 
-use crate::counted::count_word;
-use crate::marks::no_totals;
-use crate::pass::Pass;
-use pg_dict::Dictionary;
-use pg_select::{Engine, WordState};
+use crate::marks::{add_mark, counts_as, fits, mark_at, no_totals, positions};
+use pg_dict::{Dictionary, WordRef};
+use pg_select::{Engine, Pass, WordState};
 use pg_translate::Table;
-use pg_types::Totals;
+use pg_types::{Mark, Totals};
 use std::alloc::AllocError;
+
+/// Whether position `p` of a word, which has this status, counts as good or as bad in a pass: its window fits in the word and is
+/// not covered.
+fn counted(pass: Pass, w: &WordRef<'_>, found: &WordState, p: usize, mark: Mark) -> Option<bool>
+    requires within { p < length w.now.signs.now }
+    requires short { length w.now.signs.now ≤ WORD_LETTERS_MAX + 2 }
+    ensures { result ≡ (if fits_in w.now.signs.now p pass.len pass.dot && not (slice_index_or found.now.covers p false) then counts_as_of pass.level mark else None) }
+{
+    let good = counts_as(pass.level, mark)?;
+    if fits(pass, w.signs.len(), p) && !found.covered(p) {
+        Some(good)
+    } else {
+        None
+    }
+}
+
+/// Counts the window at position `p` of a word, which has this status, where it counts in the pass.
+fn count_at<E: Engine>(
+    engine: &mut E,
+    pass: Pass,
+    w: &WordRef<'_>,
+    found: &WordState,
+    p: usize,
+    mark: Mark,
+) -> Result<(), AllocError>
+    requires ranges { IsPass pass }
+    requires pass { (E.meaning engine.old).pass ≡ pass }
+    requires read { IsRead (E.meaning engine.old) (word_of w.now) found.now }
+    requires within { p < length w.now.signs.now }
+    requires mark { mark ≡ status_at (E.meaning engine.old).patterns (word_of w.now) p }
+    requires room { HasRoom (E.meaning engine.old).counts 1 }
+    ensures ok { OnOk result (E.meaning engine.new ≡ counting (E.meaning engine.old) (sight_at (E.meaning engine.old).pass (E.meaning engine.old).patterns (E.meaning engine.old).hopeless (word_of w.now) p)) }
+    ensures err { OnErr result (E.meaning engine.new ≡ E.meaning engine.old) }
+{
+    if let Some(good) = counted(pass, w, found, p, mark) {
+        let from = p - usize::from(pass.dot);
+        let window = &w.signs[from..from + usize::from(pass.len)];
+        engine.count(window, good, w.weights[p])?;
+    }
+    Ok(())
+}
+
+/// Counts position `p` of a word, and adds it to the totals.
+fn count_position<E: Engine>(
+    engine: &mut E,
+    pass: Pass,
+    w: &WordRef<'_>,
+    found: &WordState,
+    p: usize,
+    sums: &mut Totals,
+) -> Result<(), AllocError>
+    requires ranges { IsPass pass }
+    requires pass { (E.meaning engine.old).pass ≡ pass }
+    requires read { IsRead (E.meaning engine.old) (word_of w.now) found.now }
+    requires within { p < length w.now.signs.now }
+    requires room { HasRoom (E.meaning engine.old).counts 1 }
+    requires room_for { HasRoomFor sums.old 1 }
+    ensures ok { OnOk result (E.meaning engine.new ≡ counting (E.meaning engine.old) (sight_at (E.meaning engine.old).pass (E.meaning engine.old).patterns (E.meaning engine.old).hopeless (word_of w.now) p)) }
+    ensures sums { OnOk result (sums.new ≡ with_mark sums.old (status_at (E.meaning engine.old).patterns (word_of w.now) p) (weight_at (word_of w.now) p)) }
+    ensures err { OnErr result (E.meaning engine.new ≡ E.meaning engine.old) }
+{
+    let mark = mark_at(w, found, p);
+    *sums = add_mark(*sums, mark, w.weights[p]);
+    count_at(engine, pass, w, found, p, mark)
+}
+
+/// Counts the positions of a word, and adds them to the totals. What `found` holds does not matter.
+pub fn count_word<E: Engine>(
+    engine: &mut E,
+    table: &Table,
+    pass: Pass,
+    w: &WordRef<'_>,
+    found: &mut WordState,
+    sums: &mut Totals,
+) -> Result<(), AllocError>
+    requires ranges { IsPass pass }
+    requires pass { (E.meaning engine.old).pass ≡ pass }
+    requires word { IsWord (word_of w.now) }
+    requires signs { SignsWithin (E.meaning engine.old).signs w.now.signs.now }
+    requires room { HasRoom (E.meaning engine.old).counts (letters_of (word_of w.now)) }
+    requires room_for { HasRoomFor sums.old (letters_of (word_of w.now)) }
+    ensures ok { OnOk result (E.meaning engine.new ≡ counting (E.meaning engine.old) (sights_in (minima_of table.now) (E.meaning engine.old).pass (E.meaning engine.old).patterns (E.meaning engine.old).hopeless (word_of w.now))) }
+    ensures sums { OnOk result (sums.new ≡ with_marks sums.old (marks_in (minima_of table.now) (E.meaning engine.old).patterns (word_of w.now))) }
+    ensures took { OnOk result (TookRoom (E.meaning engine.old).counts (E.meaning engine.new).counts (letters_of (word_of w.now))) }
+    ensures took_for { OnOk result (TookRoomFor sums.old sums.new (letters_of (word_of w.now))) }
+    ensures signs { (E.meaning engine.new).signs ≡ (E.meaning engine.old).signs }
+{
+    let Some((first, end)) = positions(table, w) else {
+        return Ok(());
+    };
+    engine.hyphenate(*w, found);
+    'positions: for p in first..end {
+        count_position(engine, pass, w, found, p, sums)?;
+    }
+    Ok(())
+}
 
 /// Counts the windows of a pass that has begun, and gives the totals. Each word is hyphenated once.
 pub fn count_words<E: Engine>(
@@ -24,7 +123,8 @@ pub fn count_words<E: Engine>(
     table: &Table,
     pass: Pass,
 ) -> Result<Totals, AllocError>
-    requires pass { (E.meaning engine.old).pass ≡ pass_of pass }
+    requires ranges { IsPass pass }
+    requires pass { (E.meaning engine.old).pass ≡ pass }
     requires fresh { (E.meaning engine.old).counts ≡ [] }
     requires signs { SignsAtMost (E.meaning engine.old).signs dictionary.now }
     ensures ok { OnOk result (E.meaning engine.new ≡ counting (E.meaning engine.old) (sights (minima_of table.now) dictionary.now (E.meaning engine.old).pass (E.meaning engine.old).patterns (E.meaning engine.old).hopeless)) }
@@ -36,7 +136,14 @@ pub fn count_words<E: Engine>(
     let mut found = WordState::new();
     let mut sums = no_totals();
     'words: for i in 0..dictionary.len() {
-        count_word(engine, table, pass, &dictionary.word(i), &mut found, &mut sums)?;
+        count_word(
+            engine,
+            table,
+            pass,
+            &dictionary.word(i),
+            &mut found,
+            &mut sums,
+        )?;
     }
     Ok(sums)
 }

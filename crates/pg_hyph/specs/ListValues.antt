@@ -1,9 +1,15 @@
 -- What the values and marks of a string's list give at the position of their dot.
-use Rattle.std.specs.Prelude.{ℕ, ◌&&◌, nat_lt, nat_le, if◌then◌else◌}
+use Rattle.std.specs.Prelude.{ℕ, ◌&&◌, nat_lt, nat_le, if◌then◌else◌, List}
 use Rattle.pg_select.specs.declared.pass.Pass.{Pass}
 use Rattle.pg_select.specs.Positions.{bit}
 use Rattle.pg_select.specs.Windows.{is_within}
+use Rattle.pg_trie.specs.Lists.{outputs_at}
+use Rattle.pg_trie.specs.Maps.{Maps}
 use Rattle.pg_trie.specs.declared.mark.TheConstants.{HOPELESS}
+
+-- the lists of the strings of a trie
+abbrev pub lists_in : Maps → List ℕ → List (ℕ × ℕ)
+lists_in m = outputs_at m.patterns m.hopeless
 
 -- the value itself, and 0 for a mark
 abbrev pub value_given : ℕ → ℕ

@@ -2,7 +2,7 @@
 ghost use Rattle.std.specs.Prelude.{◌≡◌, ◌+◌, ◌≤◌, length};
 ghost use Rattle.pg_types.specs.declared.limits.TheConstants.{WORD_LETTERS_MAX};
 ghost use Rattle.pg_outputs.specs.Lists.{list_of};
-ghost use Rattle.pg_select.specs.Positions.{Raises, RaisesAt, values_of, covers_of};
+ghost use Rattle.pg_select.specs.Positions.{RaisesValues, RaisesCovers, RaisesAt, values_of, covers_of};
 ghost use Rattle.pg_hyph.specs.ListValues.{value_given, value_by, cover_by};
 ghost use Rattle.pg_hyph.specs.Walks.{by_list};
 
@@ -22,8 +22,8 @@ pub fn raise_by_list(
     requires head { head ≤ length trie.now.records }
     requires start { start ≤ WORD_LETTERS_MAX + 2 }
     requires len { len ≤ WORD_LETTERS_MAX + 2 }
-    ensures values { Raises (by_list (value_by len) start (list_of trie.now.records head)) (values_of out.old) (values_of out.new) }
-    ensures covers { Raises (by_list (cover_by pass.now len) start (list_of trie.now.records head)) (covers_of out.old) (covers_of out.new) }
+    ensures values { RaisesValues (by_list (value_by len) start (list_of trie.now.records head)) out.old out.new }
+    ensures covers { RaisesCovers (by_list (cover_by pass.now len) start (list_of trie.now.records head)) out.old out.new }
 {
     let mut at = head;
     while let Some((value, dot, next)) = trie.outputs().first(at) {

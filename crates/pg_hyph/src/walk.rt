@@ -2,9 +2,8 @@
 ghost use Rattle.std.specs.Prelude.{◌≡◌, ◌+◌, ◌≤◌, [], length, drop};
 ghost use Rattle.pg_types.specs.declared.limits.TheConstants.{WORD_LETTERS_MAX};
 ghost use Rattle.pg_types.specs.Counts.{SignsWithin};
-ghost use Rattle.pg_trie.specs.Lists.{outputs_at};
-ghost use Rattle.pg_select.specs.Positions.{Raises, values_of, covers_of};
-ghost use Rattle.pg_hyph.specs.ListValues.{value_by, cover_by};
+ghost use Rattle.pg_select.specs.Positions.{RaisesValues, RaisesCovers};
+ghost use Rattle.pg_hyph.specs.ListValues.{lists_in, value_by, cover_by};
 ghost use Rattle.pg_hyph.specs.Walks.{by_strings, by_starts};
 
 use crate::records::raise_by_list;
@@ -17,8 +16,8 @@ use pg_types::Sign;
 pub fn walk(trie: &PatternTrie, w: &[Sign], pass: &Pass, out: &mut WordState)
     requires len { length w.now ≤ WORD_LETTERS_MAX + 2 }
     requires signs { SignsWithin trie.now.signs w.now }
-    ensures values { Raises (by_starts value_by (outputs_at trie.now.patterns trie.now.hopeless) 0 w.now) (values_of out.old) (values_of out.new) }
-    ensures covers { Raises (by_starts (cover_by pass.now) (outputs_at trie.now.patterns trie.now.hopeless) 0 w.now) (covers_of out.old) (covers_of out.new) }
+    ensures values { RaisesValues (by_starts value_by (lists_in trie.now) 0 w.now) out.old out.new }
+    ensures covers { RaisesCovers (by_starts (cover_by pass.now) (lists_in trie.now) 0 w.now) out.old out.new }
 {
     for start in 0..w.len() {
         raise_by_strings(trie, w, start, pass, out);
@@ -30,8 +29,8 @@ fn raise_by_strings(trie: &PatternTrie, w: &[Sign], start: usize, pass: &Pass, o
     requires len { length w.now ≤ WORD_LETTERS_MAX + 2 }
     requires signs { SignsWithin trie.now.signs w.now }
     requires inside { start ≤ length w.now }
-    ensures values { Raises (by_strings value_by (outputs_at trie.now.patterns trie.now.hopeless) start [] (drop start w.now)) (values_of out.old) (values_of out.new) }
-    ensures covers { Raises (by_strings (cover_by pass.now) (outputs_at trie.now.patterns trie.now.hopeless) start [] (drop start w.now)) (covers_of out.old) (covers_of out.new) }
+    ensures values { RaisesValues (by_strings value_by (lists_in trie.now) start [] (drop start w.now)) out.old out.new }
+    ensures covers { RaisesCovers (by_strings (cover_by pass.now) (lists_in trie.now) start [] (drop start w.now)) out.old out.new }
 {
     let mut at = None;
     for stop in start..w.len() {

@@ -1,8 +1,8 @@
 //! The values and the covers of a word.
-ghost use Rattle.std.specs.Prelude.{◌≡◌, ℕ, ◌+◌, ◌<◌, ◌≤◌, true, false, length, slice_index, slice_index_or};
+ghost use Rattle.std.specs.Prelude.{◌+◌, ◌≤◌, length};
 ghost use Rattle.pg_types.specs.declared.limits.TheConstants.{LEVEL_MAX, LENGTH_MAX, WORD_LETTERS_MAX};
-ghost use Rattle.pg_patterns.specs.Values.{value_at};
-ghost use Rattle.pg_select.specs.Windows.{window, fits, covered};
+ghost use Rattle.pg_select.specs.LawsClosedDots.{pass_at};
+ghost use Rattle.pg_select.specs.Positions.{HasValues, HasCovers};
 ghost use Rattle.pg_types.specs.Counts.{SignsWithin};
 
 use crate::walk::walk;
@@ -26,8 +26,8 @@ pub fn hyphenate(
     requires level { (1 ≤ level) × (level ≤ LEVEL_MAX) }
     requires len { (1 ≤ len) × (len ≤ LENGTH_MAX) }
     requires dot { dot ≤ len }
-    ensures values { (p : ℕ) → p < length w.entry.signs.now → slice_index out.new.values p ≡ value_at trie.now.patterns w.entry.signs.now p }
-    ensures covers { (p : ℕ) → p < length w.entry.signs.now → fits w.entry.signs.now p len dot ≡ true → slice_index_or out.new.covers p false ≡ covered level trie.now.patterns trie.now.hopeless (window w.entry.signs.now p len dot) dot }
+    ensures values { HasValues trie.now.patterns w.entry.signs.now out.new.values }
+    ensures covers { HasCovers (pass_at level len dot) trie.now.patterns trie.now.hopeless w.entry.signs.now out.new.covers }
 {
     let _kept = trie.outputs();
     *out = WordState::new();

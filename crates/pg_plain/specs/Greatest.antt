@@ -9,9 +9,13 @@ abbrev pub greatest : {X : Type 0} → ((List ℕ × ℕ) × X → ℕ) → (Lis
 greatest number test [] = 0
 greatest number test (e ∷ es) = max (if test e.0 then number e else 0) (greatest number test es)
 
+-- for each position the greatest number of the entries whose places pass its test
+abbrev pub greatest_at : {X : Type 0} → ((List ℕ × ℕ) × X → ℕ) → (ℕ → List ℕ × ℕ → Bool) → List ((List ℕ × ℕ) × X) → ℕ → ℕ
+greatest_at number test es p = greatest number (test p) es
+
 -- the numbers of a word's positions were raised by the entries whose places pass the test of the position
 abbrev pub RaisesBy : {X : Type 0} → ((List ℕ × ℕ) × X → ℕ) → (ℕ → List ℕ × ℕ → Bool) → List ((List ℕ × ℕ) × X) → (ℕ → ℕ) → (ℕ → ℕ) → Type 0
-RaisesBy number test es before after = Raises (λ p. greatest number (test p) es) before after
+RaisesBy number test es before after = Raises (greatest_at number test es) before after
 
 -- the value that an entry gives to the position of its dot
 abbrev pub value_by : {X : Type 0} → (X → ℕ) → (List ℕ × ℕ) × X → ℕ

@@ -1,5 +1,6 @@
 -- The slots of the strings of a map.
-use Rattle.std.specs.Prelude.{ℕ, zero, suc, ◌+◌, ◌*◌, ◌%◌, Bool, true, false, ◌&&◌, List, [], ◌∷◌, length, take, get_or}
+use Rattle.std.specs.Prelude.{◌≡◌, ℕ, zero, suc, ◌+◌, ◌*◌, ◌%◌, Bool, true, false, ◌&&◌, List, [], ◌∷◌, length, take, get_or}
+use Rattle.std.specs.List.{list_all}
 use Rattle.pg_plain.specs.declared.index.TheConstants.{FACTOR}
 
 -- the slot of signs, of n slots, from a slot on
@@ -19,3 +20,7 @@ marked fronts q (suc m) = get_or fronts (slot_of (length fronts) (take (suc m) q
 -- the slots of all fronts of a string are marked, and its own as that of a string
 abbrev pub is_indexed : List Bool → List Bool → List ℕ → Bool
 is_indexed fronts strings q = marked fronts q (length q) && get_or strings (slot_of (length fronts) q) false
+
+-- so are the strings of the places of all entries
+abbrev pub AreIndexed : {X : Type 0} → List Bool → List Bool → List ((List ℕ × ℕ) × X) → Type 0
+AreIndexed fronts strings es = list_all (λ e. is_indexed fronts strings e.0.0) es ≡ true

@@ -1,9 +1,8 @@
 //! The windows that are counted in a pass, in the order of signs, each with its sums of good and bad weights.
-ghost use Rattle.std.specs.Prelude.{◌≡◌, ℕ, Bool, true, List, [], ◌∷◌, OnOk, OnErr, IsOk, MatchOption};
+ghost use Rattle.std.specs.Prelude.{◌≡◌, ℕ, Bool, true, List, OnOk, OnErr, IsOk};
 ghost use Rattle.std.specs.Bool.{OnTrue, OnFalse};
 ghost use Rattle.std.specs.List.{list_all};
-ghost use Rattle.pg_types.specs.Counts.{AreSmall, sums_of, with_weight, is_counted, above};
-ghost use Rattle.pg_select.specs.Meanings.{with_sight};
+ghost use Rattle.pg_types.specs.Counts.{AreSmall, IsNextAbove, sums_of, with_weight, with_count, is_counted};
 
 use pg_types::Cursor;
 use std::alloc::AllocError;
@@ -18,7 +17,7 @@ pub fn add(
     weight: u64,
 ) -> Result<(), AllocError>
     requires { AreSmall (with_weight (sums_of counts.old.entries window) good weight) }
-    ensures ok { OnOk result (counts.new.entries ≡ with_sight counts.old.entries (record { window = window; good = good; weight = weight })) }
+    ensures ok { OnOk result (counts.new.entries ≡ with_count counts.old.entries window good weight) }
     ensures there { is_counted counts.old.entries window ≡ true → IsOk result }
     ensures err { OnErr result (counts.new.entries ≡ counts.old.entries) }
     ensures windows { (good : List ℕ → Bool) → good window ≡ true → list_all (λ e. good e.0) counts.old.entries ≡ true → list_all (λ e. good e.0) counts.new.entries ≡ true }
@@ -39,7 +38,7 @@ fn add_there(
 ) -> bool
     requires { AreSmall (with_weight (sums_of counts.old.entries window.now) good weight) }
     ensures told { result ≡ is_counted counts.old.entries window.now }
-    ensures there { OnTrue result (counts.new.entries ≡ with_sight counts.old.entries (record { window = window.now; good = good; weight = weight })) }
+    ensures there { OnTrue result (counts.new.entries ≡ with_count counts.old.entries window.now good weight) }
     ensures absent { OnFalse result (counts.new.entries ≡ counts.old.entries) }
 {
     match counts.get_mut(window) {
@@ -67,7 +66,7 @@ fn added(sums: (u64, u64), good: bool, weight: u64) -> (u64, u64)
 /// Moves the cursor to the least window that is greater, and gives its sums; none where there is no such window. It takes no
 /// memory.
 pub fn next_behind(counts: &BTreeMap<Cursor, (u64, u64)>, at: &mut Cursor) -> Option<(u64, u64)>
-    ensures { MatchOption result ((above at.old counts.now.entries ≡ []) × (at.new ≡ at.old)) (λ sums. above at.old counts.now.entries ≡ (at.new, sums) ∷ above at.new counts.now.entries) }
+    ensures { IsNextAbove counts.now.entries at.old at.new result }
 {
     let mut behind = counts.range((Bound::Excluded(&*at), Bound::Unbounded));
     let (window, sums) = behind.next()?;

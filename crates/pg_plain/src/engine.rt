@@ -3,7 +3,7 @@ ghost use Rattle.std.specs.Prelude.{◌≡◌, ℕ, ◌≤◌, true, nat_eq, len
 ghost use Rattle.std.specs.List.{list_all};
 ghost use Rattle.pg_types.specs.declared.limits.TheConstants.{LEVEL_MAX, LENGTH_MAX};
 ghost use Rattle.pg_patterns.specs.Values.{is_entry};
-ghost use Rattle.pg_plain.specs.Indexes.{is_indexed};
+ghost use Rattle.pg_plain.specs.Indexes.{AreIndexed};
 ghost use Rattle.pg_plain.specs.Strings.{is_string, has_signs_up_to};
 
 use crate::counts::{add, next_behind};
@@ -40,8 +40,8 @@ pub struct PlainEngine {
     begun: u64,
     ghost entries: { list_all is_entry patterns.entries ≡ true },
     ghost strings: { list_all (λ e. is_string e.0) hopeless.entries ≡ true },
-    ghost indexed: { list_all (λ e. is_indexed pattern_index.fronts.items pattern_index.strings.items e.0.0) patterns.entries ≡ true },
-    ghost hopeless_indexed: { list_all (λ e. is_indexed hopeless_index.fronts.items hopeless_index.strings.items e.0.0) hopeless.entries ≡ true },
+    ghost indexed: { AreIndexed pattern_index.fronts.items pattern_index.strings.items patterns.entries },
+    ghost hopeless_indexed: { AreIndexed hopeless_index.fronts.items hopeless_index.strings.items hopeless.entries },
     ghost known: { list_all (λ e. has_signs_up_to signs e.0.0) patterns.entries ≡ true },
     ghost hopeless_known: { list_all (λ e. has_signs_up_to signs e.0.0) hopeless.entries ≡ true },
     ghost counts_known: { list_all (λ e. has_signs_up_to signs e.0) counts.entries ≡ true },

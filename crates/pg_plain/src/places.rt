@@ -4,7 +4,7 @@ ghost use Rattle.std.specs.List.{list_all};
 ghost use Rattle.std.specs.FinMap.Entries.{put};
 ghost use Rattle.pg_patterns.specs.Places.{place_cmp};
 ghost use Rattle.pg_patterns.specs.Values.{raise, value_of, is_entry};
-ghost use Rattle.pg_plain.specs.Indexes.{is_indexed};
+ghost use Rattle.pg_plain.specs.Indexes.{AreIndexed};
 
 use crate::index::Index;
 use pg_patterns::{Entry, PatternSet, Place};
@@ -51,7 +51,7 @@ pub fn map_of(
 ) -> Result<BTreeMap<Place, u8>, AllocError>
     ensures value { IfOk result (λ map. map.entries ≡ patterns.now) }
     ensures sound { IfOk result (λ map. list_all is_entry map.entries ≡ true) }
-    ensures indexed { IfOk result (λ map. list_all (λ e. is_indexed index.new.fronts.items index.new.strings.items e.0.0) map.entries ≡ true) }
+    ensures indexed { IfOk result (λ map. AreIndexed index.new.fronts.items index.new.strings.items map.entries) }
 {
     let mut map = BTreeMap::new(alloc);
     for i in 0..patterns.len() {

@@ -1,12 +1,11 @@
 //! The entries that apply in a word.
-ghost use Rattle.std.specs.Prelude.{◌≡◌, ℕ, ◌+◌, ◌<◌, ◌≤◌, ◌&&◌, true, false, length};
+ghost use Rattle.std.specs.Prelude.{◌≡◌, ◌+◌, ◌<◌, ◌≤◌, true, false, length};
 ghost use Rattle.std.specs.List.{list_all, list_any};
 ghost use Rattle.pg_types.specs.declared.limits.TheConstants.{WORD_LETTERS_MAX};
 ghost use Rattle.pg_patterns.specs.Values.{applies};
-ghost use Rattle.pg_select.specs.Positions.{RaisesAt, bit, values_of, covers_of};
-ghost use Rattle.pg_select.specs.Windows.{is_within};
-ghost use Rattle.pg_plain.specs.Greatest.{RaisesBy, value_by, cover_by};
-ghost use Rattle.pg_plain.specs.Indexes.{is_indexed};
+ghost use Rattle.pg_select.specs.Positions.{RaisesValues, RaisesCovers, RaisesAt, values_of, covers_of};
+ghost use Rattle.pg_plain.specs.Greatest.{greatest_at, value_by, cover_by};
+ghost use Rattle.pg_plain.specs.Indexes.{AreIndexed};
 ghost use Rattle.pg_plain.specs.Strings.{is_string};
 ghost use Rattle.pg_plain.specs.Walks.{has_signs_at, goes_on, begins};
 
@@ -31,9 +30,9 @@ pub fn walk<F: PlaceEntry>(
 )
     requires len { length w.now ≤ WORD_LETTERS_MAX + 2 }
     requires strings { list_all (λ e. is_string e.0) map.now.entries ≡ true }
-    requires indexed { list_all (λ e. is_indexed index.now.fronts.items index.now.strings.items e.0.0) map.now.entries ≡ true }
-    ensures values { RaisesBy (value_by F.given) (applies w.now) map.now.entries (values_of out.old) (values_of out.new) }
-    ensures covers { RaisesBy (cover_by F.covers_at pass.now) (applies w.now) map.now.entries (covers_of out.old) (covers_of out.new) }
+    requires indexed { AreIndexed index.now.fronts.items index.now.strings.items map.now.entries }
+    ensures values { RaisesValues (greatest_at (value_by F.given) (applies w.now) map.now.entries) out.old out.new }
+    ensures covers { RaisesCovers (greatest_at (cover_by F.covers_at pass.now) (applies w.now) map.now.entries) out.old out.new }
 {
     for i in 0..w.len() {
         raise_from(map, index, w, i, pass, out);
@@ -52,9 +51,9 @@ fn raise_from<F: PlaceEntry>(
     requires len { length w.now ≤ WORD_LETTERS_MAX + 2 }
     requires inside { i ≤ length w.now }
     requires strings { list_all (λ e. is_string e.0) map.now.entries ≡ true }
-    requires indexed { list_all (λ e. is_indexed index.now.fronts.items index.now.strings.items e.0.0) map.now.entries ≡ true }
-    ensures values { RaisesBy (value_by F.given) (begins w.now i) map.now.entries (values_of out.old) (values_of out.new) }
-    ensures covers { RaisesBy (cover_by F.covers_at pass.now) (begins w.now i) map.now.entries (covers_of out.old) (covers_of out.new) }
+    requires indexed { AreIndexed index.now.fronts.items index.now.strings.items map.now.entries }
+    ensures values { RaisesValues (greatest_at (value_by F.given) (begins w.now i) map.now.entries) out.old out.new }
+    ensures covers { RaisesCovers (greatest_at (cover_by F.covers_at pass.now) (begins w.now i) map.now.entries) out.old out.new }
 {
     for n in 1..PATTERN_SIGNS_MAX + 1 {
         if n > w.len() - i {
@@ -79,9 +78,9 @@ fn raise_by_string<F: PlaceEntry>(
     requires some { 0 < length q.now }
     requires few { length q.now ≤ 32 }
     requires inside { i ≤ WORD_LETTERS_MAX + 2 }
-    requires indexed { list_all (λ e. is_indexed index.now.fronts.items index.now.strings.items e.0.0) map.now.entries ≡ true }
-    ensures values { RaisesBy (value_by F.given) (has_signs_at q.now i) map.now.entries (values_of out.old) (values_of out.new) }
-    ensures covers { RaisesBy (cover_by F.covers_at pass.now) (has_signs_at q.now i) map.now.entries (covers_of out.old) (covers_of out.new) }
+    requires indexed { AreIndexed index.now.fronts.items index.now.strings.items map.now.entries }
+    ensures values { RaisesValues (greatest_at (value_by F.given) (has_signs_at q.now i) map.now.entries) out.old out.new }
+    ensures covers { RaisesCovers (greatest_at (cover_by F.covers_at pass.now) (has_signs_at q.now i) map.now.entries) out.old out.new }
     ensures ends { result ≡ false → list_any (λ e. goes_on q.now e.0.0) map.now.entries ≡ false }
 {
     let slot = index.slot(q);
@@ -104,8 +103,8 @@ fn look_up<F: PlaceEntry>(
 ) -> bool
     requires few { length q.now ≤ 32 }
     requires inside { i ≤ WORD_LETTERS_MAX + 2 }
-    ensures values { RaisesBy (value_by F.given) (has_signs_at q.now i) map.now.entries (values_of out.old) (values_of out.new) }
-    ensures covers { RaisesBy (cover_by F.covers_at pass.now) (has_signs_at q.now i) map.now.entries (covers_of out.old) (covers_of out.new) }
+    ensures values { RaisesValues (greatest_at (value_by F.given) (has_signs_at q.now i) map.now.entries) out.old out.new }
+    ensures covers { RaisesCovers (greatest_at (cover_by F.covers_at pass.now) (has_signs_at q.now i) map.now.entries) out.old out.new }
     ensures ends { result ≡ false → list_any (λ e. goes_on q.now e.0.0) map.now.entries ≡ false }
 {
     let first = Place::new(q, 0);
@@ -128,7 +127,7 @@ fn raise_by_entry<F: PlaceEntry>(
 )
     requires { i ≤ WORD_LETTERS_MAX + 2 }
     ensures values { RaisesAt (i + place.now.1) (F.given entry.now) (values_of out.old) (values_of out.new) }
-    ensures covers { RaisesAt (i + place.now.1) (bit (F.covers_at pass.now.level entry.now && is_within pass.now.len pass.now.dot (length place.now.0) place.now.1)) (covers_of out.old) (covers_of out.new) }
+    ensures covers { RaisesAt (i + place.now.1) (cover_by F.covers_at pass.now (place.now, entry.now)) (covers_of out.old) (covers_of out.new) }
 {
     let covered = entry.covers(pass.level) && pass.has_within(place.signs().len(), place.dot());
     out.raise(i + usize::from(place.dot()), entry.value(), covered);

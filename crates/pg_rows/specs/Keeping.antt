@@ -1,4 +1,4 @@
--- What a pass keeps while windows are counted and settled.
+-- What a pass keeps while windows are counted and chosen.
 use Rattle.std.specs.Prelude.{◌≡◌, ℕ, ◌≤◌, List}
 use Rattle.pg_types.specs.Counts.{Counts, sums_of}
 use Rattle.pg_select.specs.Meanings.{Meaning}

@@ -1,16 +1,17 @@
 //! A run that skips no pass, over the calls of an engine: a second statement of what a run is. Its sums saturate, and stay far
 //! below that.
 ghost use Rattle.std.specs.Prelude.{◌≡◌, ◌+◌, ◌*◌, ◌<◌, ◌≤◌, ◌^◌, [], true, length, OnOk, vec_len};
-ghost use Rattle.pg_types.specs.declared.limits.TheConstants.{LENGTH_MAX, LEVEL_MAX, WEIGHT_MAX, WORD_LETTERS_MAX};
+ghost use Rattle.pg_types.specs.declared.limits.TheConstants.{LEVEL_MAX, WEIGHT_MAX, WORD_LETTERS_MAX};
 ghost use Rattle.pg_types.specs.Parameters.{IsLevel};
 ghost use Rattle.pg_dict.specs.Word.{IsWord, SignsAtMost};
 ghost use Rattle.pg_dict.specs.Lent.{word_of};
 ghost use Rattle.pg_types.specs.Counts.{SignsWithin, is_counted};
+ghost use Rattle.pg_driver.specs.States.{IsPass};
 ghost use Rattle.pg_rows.specs.Keeping.{AreAtMost, KeepsPass};
 
 use pg_dict::{Dictionary, WordRef};
 use pg_driver::{LevelRecord, PassRecord};
-use pg_select::{Choice, Engine, WordState, decide, status};
+use pg_select::{Choice, Engine, Pass, WordState, decide, status};
 use pg_translate::Table;
 use pg_types::{Cursor, LevelParams, Mark, Params, Sign, Totals, Weight};
 use std::alloc::Global;
@@ -42,19 +43,6 @@ const MANY_WINDOWS: u64 = 1_000_000;
 
 /// More than the sums of these runs.
 const GREAT_SUM: u64 = 1_000_000_000_000;
-
-/// A pass: its level, and the length and the dot of its windows.
-#[derive(Clone, Copy)]
-struct Pass {
-    level: u8,
-    len: u8,
-    dot: u8,
-    ghost level_low: { 1 ≤ level },
-    ghost level_high: { level ≤ LEVEL_MAX },
-    ghost len_low: { 1 ≤ len },
-    ghost len_high: { len ≤ LENGTH_MAX },
-    ghost within: { dot ≤ len },
-}
 
 /// What a run records.
 #[derive(Drop)]
@@ -97,11 +85,11 @@ impl PlainRun {
 }
 
 /// The status of position `p` of a word, where that is in reach.
-fn mark_at(t: &Table, w: &WordRef<'_>, found: &WordState, p: usize) -> Option<Mark>
+fn mark_at(table: &Table, w: &WordRef<'_>, found: &WordState, p: usize) -> Option<Mark>
     requires within { p < length w.now.signs.now }
     requires short { length w.now.signs.now ≤ WORD_LETTERS_MAX + 2 }
 {
-    if p <= usize::from(t.left()) || w.signs.len() - p <= usize::from(t.right()) {
+    if p <= usize::from(table.left()) || w.signs.len() - p <= usize::from(table.right()) {
         return None;
     }
     Some(status(w.hyphens[p], w.cares[p], found.value(p)))
@@ -119,19 +107,19 @@ fn add_mark(totals: &mut Totals, mark: Mark, weight: Weight) {
 }
 
 /// Adds the positions of a word to the totals.
-fn add_word(t: &Table, w: &WordRef<'_>, found: &WordState, totals: &mut Totals)
+fn add_word(table: &Table, w: &WordRef<'_>, found: &WordState, totals: &mut Totals)
     requires { length w.now.signs.now ≤ WORD_LETTERS_MAX + 2 }
 {
     'positions: for p in 0..w.signs.len() {
-        if let Some(mark) = mark_at(t, w, found, p) {
+        if let Some(mark) = mark_at(table, w, found, p) {
             add_mark(totals, mark, w.weights[p]);
         }
     }
 }
 
 /// The totals of the words by the patterns of an engine.
-fn totals<E: Engine>(e: &E, d: &Dictionary, t: &Table) -> Totals
-    requires { SignsAtMost (E.meaning e.now).signs d.now }
+fn totals<E: Engine>(engine: &E, dictionary: &Dictionary, table: &Table) -> Totals
+    requires { SignsAtMost (E.meaning engine.now).signs dictionary.now }
 {
     let mut found = WordState::new();
     let mut totals = Totals {
@@ -139,10 +127,10 @@ fn totals<E: Engine>(e: &E, d: &Dictionary, t: &Table) -> Totals
         bad: 0,
         missed: 0,
     };
-    'words: for i in 0..d.len() {
-        let word = d.word(i);
-        e.hyphenate(word, &mut found);
-        add_word(t, &word, &found, &mut totals);
+    'words: for i in 0..dictionary.len() {
+        let word = dictionary.word(i);
+        engine.hyphenate(word, &mut found);
+        add_word(table, &word, &found, &mut totals);
     }
     totals
 }
@@ -158,30 +146,30 @@ fn counts_as(level: u8, mark: Mark) -> Option<bool> {
 
 /// Counts a window. `seen` is the number of windows so far.
 fn count_window<E: Engine>(
-    e: &mut E,
+    engine: &mut E,
     window: &[Sign],
     good: bool,
     weight: Weight,
     seen: &mut u64,
 ) -> Result<(), Fail>
-    requires len { length window.now ≡ (E.meaning e.old).pass.len }
-    requires signs { SignsWithin (E.meaning e.old).signs window.now }
+    requires len { length window.now ≡ (E.meaning engine.old).pass.len }
+    requires signs { SignsWithin (E.meaning engine.old).signs window.now }
     requires weight { weight ≤ WEIGHT_MAX }
-    requires sums { AreAtMost (E.meaning e.old).counts (WEIGHT_MAX * seen.old) }
-    ensures kept { OnOk result (KeepsPass (E.meaning e.old) (E.meaning e.new)) }
-    ensures sums { OnOk result (AreAtMost (E.meaning e.new).counts (WEIGHT_MAX * seen.new)) }
+    requires sums { AreAtMost (E.meaning engine.old).counts (WEIGHT_MAX * seen.old) }
+    ensures kept { OnOk result (KeepsPass (E.meaning engine.old) (E.meaning engine.new)) }
+    ensures sums { OnOk result (AreAtMost (E.meaning engine.new).counts (WEIGHT_MAX * seen.new)) }
 {
     if *seen >= MANY_WINDOWS {
         return Err(Fail::new("too many windows"));
     }
-    e.count(window, good, weight)?;
+    engine.count(window, good, weight)?;
     *seen += 1;
     Ok(())
 }
 
 /// Counts the window at position `p` of a word, which has this status, where that counts.
 fn count_at<E: Engine>(
-    e: &mut E,
+    engine: &mut E,
     pass: Pass,
     w: &WordRef<'_>,
     found: &WordState,
@@ -189,13 +177,13 @@ fn count_at<E: Engine>(
     mark: Mark,
     seen: &mut u64,
 ) -> Result<(), Fail>
-    requires pass { (E.meaning e.old).pass.len ≡ pass.len }
+    requires pass { (E.meaning engine.old).pass.len ≡ pass.len }
     requires word { IsWord (word_of w.now) }
-    requires signs { SignsWithin (E.meaning e.old).signs w.now.signs.now }
+    requires signs { SignsWithin (E.meaning engine.old).signs w.now.signs.now }
     requires within { p < length w.now.signs.now }
-    requires sums { AreAtMost (E.meaning e.old).counts (WEIGHT_MAX * seen.old) }
-    ensures kept { OnOk result (KeepsPass (E.meaning e.old) (E.meaning e.new)) }
-    ensures sums { OnOk result (AreAtMost (E.meaning e.new).counts (WEIGHT_MAX * seen.new)) }
+    requires sums { AreAtMost (E.meaning engine.old).counts (WEIGHT_MAX * seen.old) }
+    ensures kept { OnOk result (KeepsPass (E.meaning engine.old) (E.meaning engine.new)) }
+    ensures sums { OnOk result (AreAtMost (E.meaning engine.new).counts (WEIGHT_MAX * seen.new)) }
 {
     let Some(good) = counts_as(pass.level, mark) else {
         return Ok(());
@@ -205,75 +193,87 @@ fn count_at<E: Engine>(
         return Ok(());
     }
     let from = p - dot;
-    count_window(e, &w.signs[from..from + len], good, w.weights[p], seen)
+    count_window(engine, &w.signs[from..from + len], good, w.weights[p], seen)
 }
 
 /// Counts the windows of a word.
 fn count_word<E: Engine>(
-    e: &mut E,
-    t: &Table,
+    engine: &mut E,
+    table: &Table,
     pass: Pass,
     w: &WordRef<'_>,
     found: &mut WordState,
     seen: &mut u64,
 ) -> Result<(), Fail>
-    requires pass { (E.meaning e.old).pass.len ≡ pass.len }
+    requires pass { (E.meaning engine.old).pass.len ≡ pass.len }
     requires word { IsWord (word_of w.now) }
-    requires signs { SignsWithin (E.meaning e.old).signs w.now.signs.now }
-    requires sums { AreAtMost (E.meaning e.old).counts (WEIGHT_MAX * seen.old) }
-    ensures kept { OnOk result (KeepsPass (E.meaning e.old) (E.meaning e.new)) }
-    ensures sums { OnOk result (AreAtMost (E.meaning e.new).counts (WEIGHT_MAX * seen.new)) }
+    requires signs { SignsWithin (E.meaning engine.old).signs w.now.signs.now }
+    requires sums { AreAtMost (E.meaning engine.old).counts (WEIGHT_MAX * seen.old) }
+    ensures kept { OnOk result (KeepsPass (E.meaning engine.old) (E.meaning engine.new)) }
+    ensures sums { OnOk result (AreAtMost (E.meaning engine.new).counts (WEIGHT_MAX * seen.new)) }
 {
-    e.hyphenate(*w, found);
+    engine.hyphenate(*w, found);
     'positions: for p in 0..w.signs.len() {
-        if let Some(mark) = mark_at(t, w, found, p) {
-            count_at(e, pass, w, found, p, mark, seen)?;
+        if let Some(mark) = mark_at(table, w, found, p) {
+            count_at(engine, pass, w, found, p, mark, seen)?;
         }
     }
     Ok(())
 }
 
 /// Counts the windows of all words.
-fn count_words<E: Engine>(e: &mut E, d: &Dictionary, t: &Table, pass: Pass) -> Result<(), Fail>
-    requires pass { (E.meaning e.old).pass.len ≡ pass.len }
-    requires signs { SignsAtMost (E.meaning e.old).signs d.now }
-    requires fresh { (E.meaning e.old).counts ≡ [] }
-    ensures { OnOk result (KeepsPass (E.meaning e.old) (E.meaning e.new)) }
+fn count_words<E: Engine>(
+    engine: &mut E,
+    dictionary: &Dictionary,
+    table: &Table,
+    pass: Pass,
+) -> Result<(), Fail>
+    requires pass { (E.meaning engine.old).pass.len ≡ pass.len }
+    requires signs { SignsAtMost (E.meaning engine.old).signs dictionary.now }
+    requires fresh { (E.meaning engine.old).counts ≡ [] }
+    ensures { OnOk result (KeepsPass (E.meaning engine.old) (E.meaning engine.new)) }
 {
     let mut found = WordState::new();
     let mut seen = 0;
-    'words: for i in 0..d.len() {
-        count_word(e, t, pass, &d.word(i), &mut found, &mut seen)?;
+    'words: for i in 0..dictionary.len() {
+        count_word(
+            engine,
+            table,
+            pass,
+            &dictionary.word(i),
+            &mut found,
+            &mut seen,
+        )?;
     }
     Ok(())
 }
 
-/// Settles the candidate at the cursor, which has these sums of weights.
-fn settle<E: Engine>(
-    e: &mut E,
-    level: &LevelParams,
+/// Chooses the candidate at the cursor, which has these sums of weights, gives it up or leaves it.
+fn choose_at<E: Engine>(
+    engine: &mut E,
+    params: &LevelParams,
     at: &Cursor,
     good: u64,
     bad: u64,
     record: &mut PassRecord,
 ) -> Result<(), Fail>
-    requires level { IsLevel level.now }
-    requires counted { is_counted (E.meaning e.old).counts at.now ≡ true }
-    ensures { OnOk result (KeepsPass (E.meaning e.old) (E.meaning e.new)) }
+    requires level { IsLevel params.now }
+    requires counted { is_counted (E.meaning engine.old).counts at.now ≡ true }
+    ensures { OnOk result (KeepsPass (E.meaning engine.old) (E.meaning engine.new)) }
 {
     if good >= GREAT_SUM || bad >= GREAT_SUM {
         return Err(Fail::new("too great a sum"));
     }
     record.candidates = record.candidates.saturating_add(1);
-    match decide(good, bad, level) {
+    match decide(good, bad, params) {
         Choice::Chosen => {
-            e.choose(at)?;
+            engine.choose(at)?;
             record.chosen = record.chosen.saturating_add(1);
             record.good = record.good.saturating_add(good);
             record.bad = record.bad.saturating_add(bad);
         }
         Choice::Hopeless => {
-            e.give_up(at)?;
+            engine.give_up(at)?;
             record.hopeless = record.hopeless.saturating_add(1);
         }
         Choice::Left => {}
@@ -281,44 +281,45 @@ fn settle<E: Engine>(
     Ok(())
 }
 
-/// Settles all candidates, in the order of signs.
-fn settle_all<E: Engine>(
-    e: &mut E,
-    level: &LevelParams,
+/// Chooses, gives up or leaves each candidate, in the order of signs.
+fn choose_all<E: Engine>(
+    engine: &mut E,
+    params: &LevelParams,
     record: &mut PassRecord,
 ) -> Result<(), Fail>
-    requires level { IsLevel level.now }
-    ensures { OnOk result (KeepsPass (E.meaning e.old) (E.meaning e.new)) }
+    requires level { IsLevel params.now }
+    ensures { OnOk result (KeepsPass (E.meaning engine.old) (E.meaning engine.new)) }
 {
     let mut at = Cursor::start();
     'candidates: for _ in 0..MANY_WINDOWS {
-        let Some((good, bad)) = e.next_candidate(&mut at) else {
+        let Some((good, bad)) = engine.next_candidate(&mut at) else {
             return Ok(());
         };
-        settle(e, level, &at, good, bad, record)?;
+        choose_at(engine, params, &at, good, bad, record)?;
     }
     Err(Fail::new("too many candidates"))
 }
 
 /// Does a pass.
 fn run_pass<E: Engine>(
-    e: &mut E,
-    d: &Dictionary,
-    t: &Table,
-    level: &LevelParams,
+    engine: &mut E,
+    dictionary: &Dictionary,
+    table: &Table,
+    params: &LevelParams,
     pass: Pass,
 ) -> Result<PassRecord, Fail>
-    requires level { IsLevel level.now }
-    requires begun { (E.meaning e.old).begun < 2 ^ 60 }
-    requires signs { SignsAtMost (E.meaning e.old).signs d.now }
-    ensures begun { OnOk result ((E.meaning e.new).begun ≡ (E.meaning e.old).begun + 1) }
-    ensures signs { OnOk result ((E.meaning e.new).signs ≡ (E.meaning e.old).signs) }
+    requires ranges { IsPass pass }
+    requires level { IsLevel params.now }
+    requires begun { (E.meaning engine.old).begun < 2 ^ 60 }
+    requires signs { SignsAtMost (E.meaning engine.old).signs dictionary.now }
+    ensures begun { OnOk result ((E.meaning engine.new).begun ≡ (E.meaning engine.old).begun + 1) }
+    ensures signs { OnOk result ((E.meaning engine.new).signs ≡ (E.meaning engine.old).signs) }
 {
     let mut record = PassRecord {
         level: pass.level,
         len: pass.len,
         dot: pass.dot,
-        before: totals(e, d, t),
+        before: totals(engine, dictionary, table),
         candidates: 0,
         chosen: 0,
         hopeless: 0,
@@ -326,35 +327,35 @@ fn run_pass<E: Engine>(
         bad: 0,
         layout: None,
     };
-    e.begin_pass(pass.level, pass.len, pass.dot);
-    count_words(e, d, t, pass)?;
-    settle_all(e, level, &mut record)?;
-    record.layout = e.layout();
+    engine.begin_pass(pass.level, pass.len, pass.dot);
+    count_words(engine, dictionary, table, pass)?;
+    choose_all(engine, params, &mut record)?;
+    record.layout = engine.layout();
     Ok(record)
 }
 
 /// Does the passes of a level, and gives the number of windows that they chose.
 fn run_passes<E: Engine>(
-    e: &mut E,
-    d: &Dictionary,
-    t: &Table,
-    level: &LevelParams,
+    engine: &mut E,
+    dictionary: &Dictionary,
+    table: &Table,
+    params: &LevelParams,
     number: u8,
     passes: &mut Vec<PassRecord>,
 ) -> Result<u64, Fail>
-    requires level { IsLevel level.now }
+    requires level { IsLevel params.now }
     requires number { (1 ≤ number) × (number ≤ LEVEL_MAX) }
-    requires begun { (E.meaning e.old).begun ≤ vec_len passes.old }
-    requires signs { SignsAtMost (E.meaning e.old).signs d.now }
-    ensures begun { OnOk result ((E.meaning e.new).begun ≤ vec_len passes.new) }
-    ensures signs { OnOk result ((E.meaning e.new).signs ≡ (E.meaning e.old).signs) }
+    requires begun { (E.meaning engine.old).begun ≤ vec_len passes.old }
+    requires signs { SignsAtMost (E.meaning engine.old).signs dictionary.now }
+    ensures begun { OnOk result ((E.meaning engine.new).begun ≤ vec_len passes.new) }
+    ensures signs { OnOk result ((E.meaning engine.new).signs ≡ (E.meaning engine.old).signs) }
 {
-    if level.pat_finish > 4 {
+    if params.pat_finish > 4 {
         return Err(Fail::new("a length above 4"));
     }
     let mut chosen = 0_u64;
     'passes: for (len, dot) in PASSES {
-        if len < level.pat_start || level.pat_finish < len {
+        if len < params.pat_start || params.pat_finish < len {
             continue;
         }
         if passes.len() >= MANY_PASSES || dot > len {
@@ -365,7 +366,7 @@ fn run_passes<E: Engine>(
             len,
             dot,
         };
-        let record = run_pass(e, d, t, level, pass)?;
+        let record = run_pass(engine, dictionary, table, params, pass)?;
         passes.push(record)?;
         chosen = chosen.saturating_add(record.chosen);
     }
@@ -375,32 +376,39 @@ fn run_passes<E: Engine>(
 /// Does the run of the levels, of which each has lengths of at most 4.
 pub(crate) fn run_plainly<E: Engine>(
     alloc: Global,
-    e: &mut E,
-    d: &Dictionary,
-    t: &Table,
-    p: &Params,
+    engine: &mut E,
+    dictionary: &Dictionary,
+    table: &Table,
+    params: &Params,
 ) -> Result<PlainRun, Fail>
-    requires begun { (E.meaning e.old).begun ≡ 0 }
-    requires signs { SignsAtMost (E.meaning e.old).signs d.now }
+    requires begun { (E.meaning engine.old).begun ≡ 0 }
+    requires signs { SignsAtMost (E.meaning engine.old).signs dictionary.now }
 {
     let mut passes = Vec::new(alloc);
     let mut levels = Vec::new(alloc);
-    let start = p.start();
+    let start = params.start();
     // The last level is at most 9, and so is the number of levels.
-    let _last = p.finish();
-    let count = p.count();
+    let _last = params.finish();
+    let count = params.count();
     'levels: for i in 0..count {
         let number = start + i as u8;
-        let chosen = run_passes(e, d, t, p.level(i), number, &mut passes)?;
-        e.end_level()?;
+        let chosen = run_passes(
+            engine,
+            dictionary,
+            table,
+            params.level(i),
+            number,
+            &mut passes,
+        )?;
+        engine.end_level()?;
         levels.push(LevelRecord {
             level: number,
             chosen,
-            after: totals(e, d, t),
-            layout: e.layout(),
+            after: totals(engine, dictionary, table),
+            layout: engine.layout(),
         })?;
     }
-    let totals = totals(e, d, t);
+    let totals = totals(engine, dictionary, table);
     Ok(PlainRun {
         passes,
         levels,

@@ -2,6 +2,7 @@
 use crate::sample::Draw;
 use pg_dict::Dictionary;
 use pg_driver::{Run, generate};
+use pg_packed::PackedEngine;
 use pg_patterns::PatternSet;
 use pg_plain::PlainEngine;
 use pg_translate::Table;
@@ -79,7 +80,24 @@ pub(crate) fn run_of(
     Ok(run)
 }
 
-const ROWS: [Row; 8] = [
+/// The same over the packed engine.
+fn packed_run_of(
+    alloc: Global,
+    translate: &[u8],
+    dictionary: &[u8],
+    parameters: &[u8],
+    start: &[u8],
+) -> Result<Run, Fail> {
+    let table = Table::read(alloc, translate)?;
+    let dictionary = Dictionary::read(alloc, &table, dictionary)?;
+    let params = read_params(alloc, parameters)?;
+    let start = PatternSet::read(alloc, &table, start)?;
+    let mut engine = PackedEngine::new(alloc, table.letters() + 1, &start)?;
+    let run = generate(alloc, &mut engine, &dictionary, &table, &params)?;
+    Ok(run)
+}
+
+const ROWS: [Row; 13] = [
     // One pattern of three passes.
     Row {
         dictionary: b"ab-c\nab-a\n",
@@ -152,21 +170,75 @@ const ROWS: [Row; 8] = [
         records: "1 2 1: 1 0 1; 2 1 1; 1 0\n1 2 0: 2 0 0; 2 0 2; 0 0\n1 2 2: 2 0 0; 1 0 1; 0 0\nlevel 1: 1; 2 0 0\n",
         totals: (2, 0, 0),
     },
+    // Starting values of 1 and 2 at three levels: above, at and below the level.
+    Row {
+        dictionary: b"ab-c\nab-a\na-bcb\ncabc\n",
+        parameters: b"1 3 2 2 1 1 1 2 2 1 1 1 2 3 1 1 1",
+        start: b"b2c\na1\n",
+        patterns: "[2] 1 1\n[2, 3] 1 2\n[3, 2] 1 1\n[3, 4] 1 2\n[3, 4, 3] 0 3\n",
+        records: "1 2 1: 1 3 2; 3 1 2; 1 0\n1 2 0: 2 3 1; 4 0 3; 0 0\n1 2 2: 2 3 1; 3 0 2; 0 0\n2 2 1: 2 3 1; 2 1 1; 3 1\n2 2 0: 1 0 2; 1 0 1; 0 0\n2 2 2: 1 0 2; 1 0 1; 0 0\n3 2 1: 1 0 2; 4 0 2; 0 0\n3 2 0: 1 0 2; 6 0 4; 0 0\n3 2 2: 1 0 2; 5 0 3; 0 0\n3 3 1: 1 0 2; 2 0 0; 0 0\n3 3 2: 1 0 2; 2 0 0; 0 0\n3 3 0: 1 0 2; 2 1 1; 1 0\n3 3 3: 2 0 1; 2 0 1; 0 0\nlevel 1: 1; 2 3 1\nlevel 2: 1; 1 0 2\nlevel 3: 1; 2 0 1\n",
+        totals: (2, 0, 1),
+    },
+    // After the first length every dot of every position is closed; the second level has no position that counts.
+    Row {
+        dictionary: b"ab-c\nab-a\n",
+        parameters: b"1 2 1 3 1 1 9 1 2 1 1 9",
+        start: b"",
+        patterns: "",
+        records: "1 1 0: 0 0 2; 3 0 3; 0 0\n1 1 1: 0 0 2; 2 0 2; 0 0\nlevel 1: 0; 0 0 2\nlevel 2: 0; 0 0 2\n",
+        totals: (0, 0, 2),
+    },
+    // Words that are shorter than the windows.
+    Row {
+        dictionary: b"ab\na-b\nabc-ab\n",
+        parameters: b"1 1 5 6 1 1 1",
+        start: b"",
+        patterns: "[3, 4, 2, 3, 1] 2 1\n",
+        records: "1 5 2: 0 0 2; 3 1 2; 1 0\n1 5 3: 1 0 1; 2 0 2; 0 0\n1 5 1: 1 0 1; 2 0 2; 0 0\n1 5 4: 1 0 1; 1 0 1; 0 0\n1 5 0: 1 0 1; 1 0 1; 0 0\n1 5 5: 1 0 1; 1 0 1; 0 0\nlevel 1: 1; 1 0 1\n",
+        totals: (1, 0, 1),
+    },
+    // Lengths from 3 on, at two levels.
+    Row {
+        dictionary: b"a-bcb\ncab-c\nba-ca\n",
+        parameters: b"1 2 3 4 1 1 1 3 4 2 1 2",
+        start: b"",
+        patterns: "[1, 2, 3] 2 1\n[2, 4, 2] 1 1\n[3, 4, 1] 1 1\n",
+        records: "1 3 1: 0 0 3; 8 2 5; 2 0\n1 3 2: 2 0 1; 7 1 6; 1 0\n1 3 0: 3 0 0; 4 0 4; 0 0\n1 3 3: 3 0 0; 4 0 4; 0 0\n2 3 1: 3 0 0; 3 0 3; 0 0\n2 3 2: 3 0 0; 3 0 3; 0 0\n2 3 0: 3 0 0; 2 0 2; 0 0\n2 3 3: 3 0 0; 2 0 2; 0 0\nlevel 1: 3; 3 0 0\nlevel 2: 0; 3 0 0\n",
+        totals: (3, 0, 0),
+    },
+    // The sixteen dots of the greatest length, of which two fit at no position that counts.
+    Row {
+        dictionary: b"abcabca-bcabcab\n",
+        parameters: b"1 1 15 15 1 1 1",
+        start: b"",
+        patterns: "[2, 3, 4, 2, 3, 4, 2, 3, 4, 2, 3, 4, 2, 3, 1] 7 1\n",
+        records: "1 15 7: 0 0 1; 2 1 1; 1 0\n1 15 8: 1 0 0; 1 0 1; 0 0\n1 15 6: 1 0 0; 2 0 2; 0 0\n1 15 9: 1 0 0; 2 0 2; 0 0\n1 15 5: 1 0 0; 2 0 2; 0 0\n1 15 10: 1 0 0; 2 0 2; 0 0\n1 15 4: 1 0 0; 2 0 2; 0 0\n1 15 11: 1 0 0; 2 0 2; 0 0\n1 15 3: 1 0 0; 2 0 2; 0 0\n1 15 12: 1 0 0; 2 0 2; 0 0\n1 15 2: 1 0 0; 2 0 2; 0 0\n1 15 13: 1 0 0; 2 0 2; 0 0\n1 15 1: 1 0 0; 1 0 1; 0 0\n1 15 14: 1 0 0; 1 0 1; 0 0\nlevel 1: 1; 1 0 0\n",
+        totals: (1, 0, 0),
+    },
 ];
+
+/// A run gives what the row tells.
+fn check(alloc: Global, row: &Row, run: &Run) -> Result<(), Fail> {
+    if entries(alloc, run.patterns())?.as_str() != row.patterns {
+        return Err(Fail::new("other patterns"));
+    }
+    if records(alloc, run)?.as_str() != row.records {
+        return Err(Fail::new("other records"));
+    }
+    if sums(run.totals()) != row.totals {
+        return Err(Fail::new("other totals"));
+    }
+    Ok(())
+}
 
 #[test]
 fn worked_runs(rt: HostRuntime) -> Result<(), Fail> {
+    let alloc = rt.alloc();
     for row in ROWS.iter() {
-        let run = run_of(
-            rt.alloc(),
-            LETTERS,
-            row.dictionary,
-            row.parameters,
-            row.start,
-        )?;
-        assert_eq!(rt; entries(rt.alloc(), run.patterns())?.as_str(), row.patterns);
-        assert_eq!(rt; records(rt.alloc(), &run)?.as_str(), row.records);
-        assert_eq!(rt; sums(run.totals()), row.totals);
+        let plain = run_of(alloc, LETTERS, row.dictionary, row.parameters, row.start)?;
+        check(alloc, row, &plain)?;
+        let packed = packed_run_of(alloc, LETTERS, row.dictionary, row.parameters, row.start)?;
+        check(alloc, row, &packed)?;
     }
     Ok(())
 }

@@ -117,7 +117,7 @@ next_is_below level P upto = all_weaker (λ (e : (List ℕ × ℕ) × ℕ). nat_
     above n is = let low : n ≤ level = leb-true n level is in ap not (lt-leb (level + 1) n (omega arith))
 
 -- the greatest value is the least that all are up to
-up_to_more : (n k : ℕ) (P : Patterns) → n ≤ k → IsUpTo n P → IsUpTo k P
+pub up_to_more : (n k : ℕ) (P : Patterns) → n ≤ k → IsUpTo n P → IsUpTo k P
 up_to_more n k P more upto = all_weaker (λ (e : (List ℕ × ℕ) × ℕ). nat_le e.1 n) (λ (e : (List ℕ × ℕ) × ℕ). nat_le e.1 k) (λ e is. let low : e.1 ≤ n = leb-true e.1 n is in le-leb e.1 k (omega arith)) P upto
 
 pub up_to_largest : (P : Patterns) → IsUpTo (largest P) P

@@ -9,8 +9,9 @@ use Rattle.pg_types.specs.Counts.{Counts, SignsWithin, with_count, is_counted}
 use Rattle.pg_types.specs.Placement.{Families, taken, top, enter, kept}
 use Rattle.pg_types.specs.Tails.{tails}
 use Rattle.pg_patterns.specs.Places.{place_cmp}
-use Rattle.pg_patterns.specs.Values.{IsPatternMap, SignsUpTo, value_at, raise}
-use Rattle.pg_select.specs.Windows.{Hopeless, window, fits, covered}
+use Rattle.pg_patterns.specs.Values.{IsPatternMap, SignsUpTo, raise}
+use Rattle.pg_select.specs.Positions.{HasValues, HasCovers}
+use Rattle.pg_select.specs.Windows.{Hopeless}
 use Rattle.pg_select.specs.declared.pass.Pass.{Pass}
 use Rattle.pg_select.specs.Sights.{Sight}
 
@@ -86,11 +87,11 @@ pub record KeepsButFamilies (u : List ℕ) (old new : Meaning) : Type 0 where
 
 -- the values of the positions of a word are those that the patterns give
 abbrev pub SetsValues : Meaning → List ℕ → List ℕ → Type 0
-SetsValues m w values = (p : ℕ) → p < length w → get_or values p 0 ≡ value_at m.patterns w p
+SetsValues m w values = HasValues m.patterns w values
 
 -- the covers are right at each position whose window fits in the word
 abbrev pub SetsCovers : Meaning → List ℕ → List Bool → Type 0
-SetsCovers m w covers = (p : ℕ) → p < length w → fits w p m.pass.len m.pass.dot ≡ true → get_or covers p false ≡ covered m.pass.level m.patterns m.hopeless (window w p m.pass.len m.pass.dot) m.pass.dot
+SetsCovers m w covers = HasCovers m.pass m.patterns m.hopeless w covers
 
 -- the numbers of the families; none where they are not told. The tails are those of the patterns where the engine is tidy
 abbrev pub IsLayout : Meaning → Option Layout → Type 0

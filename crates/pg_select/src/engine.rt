@@ -1,7 +1,7 @@
 //! The contract of an engine, which holds patterns and counts windows.
-ghost use Rattle.std.specs.Prelude.{◌≡◌, ◌≤◌, ◌<◌, ◌+◌, ◌^◌, ◌∷◌, [], true, length, IfOk, OnOk, OnErr, IsOk, MatchOption};
+ghost use Rattle.std.specs.Prelude.{◌≡◌, ◌≤◌, ◌<◌, ◌+◌, ◌^◌, true, length, IfOk, OnOk, OnErr, IsOk};
 ghost use Rattle.pg_types.specs.declared.limits.TheConstants.{LEVEL_MAX, LENGTH_MAX, WEIGHT_MAX, WORD_LETTERS_MAX};
-ghost use Rattle.pg_types.specs.Counts.{AreSmall, SignsWithin, counted_sums, sums_of, with_weight, is_counted, above};
+ghost use Rattle.pg_types.specs.Counts.{AreSmall, IsNextAbove, SignsWithin, counted_sums, sums_of, with_weight, is_counted};
 ghost use Rattle.pg_select.specs.Meanings.{Meaning, IsKept, KeepsButFamilies, SetsValues, SetsCovers, IsLayout, begun_pass, counted, chosen, given_up, ended};
 
 use crate::word_state::WordState;
@@ -58,7 +58,7 @@ pub trait Engine {
     /// Moves the cursor to the least counted window that is greater, and gives its good and bad sums; none exactly where there is
     /// no such window, and the cursor stays. It takes no memory.
     fn next_candidate(&self, at: &mut Cursor) -> Option<(u64, u64)>
-        ensures { MatchOption result ((above at.old (meaning self.now).counts ≡ []) × (at.new ≡ at.old)) (λ sums. above at.old (meaning self.now).counts ≡ (at.new, sums) ∷ above at.new (meaning self.now).counts) };
+        ensures { IsNextAbove (meaning self.now).counts at.old at.new result };
 
     /// Gives the window at the cursor the level as its value, where it has no greater one, at the dot of the pass. Families that
     /// are told take in the window; a refused call may leave part of that.

@@ -1,5 +1,5 @@
 //! What the calls give where a rule turns.
-use crate::{Choice, WordState, decide, status};
+use crate::{Choice, Pass, WordState, decide, status};
 use pg_types::{COST_MAX, LevelParams, Mark};
 
 #[test]
@@ -69,4 +69,30 @@ fn positions_of_a_word(rt: HostRuntime) {
         (4, 0, 9)
     );
     assert_eq!(rt; (state.covered(0), state.covered(101)), (false, true));
+    state.raise(101, 7, false);
+    state.raise(0, 7, true);
+    state.raise(102, 7, true);
+    assert_eq!(rt; (state.value(0), state.value(101)), (7, 9));
+    assert_eq!(rt; (state.covered(0), state.covered(101)), (true, true));
+}
+
+#[test]
+fn strings_in_a_window(rt: HostRuntime) {
+    let pass = Pass {
+        level: 1,
+        len: 3,
+        dot: 2,
+    };
+    let strings = [
+        (3, 2, true),
+        (2, 2, true),
+        (2, 1, true),
+        (1, 0, true),
+        (3, 1, false),
+        (3, 3, false),
+        (4, 2, false),
+    ];
+    for (len, dot, is_within) in strings {
+        assert_eq!(rt; pass.has_within(len, dot), is_within);
+    }
 }

@@ -16,8 +16,8 @@ use Rattle.pg_translate.specs.declared.items.Place.TheVariants.{Dictionary}
 use Rattle.pg_dict.specs.Word.{Word, IsWord, SignsAtMost}
 use Rattle.pg_dict.specs.Words.{LineWord, line_of, line_word, words}
 use Rattle.pg_dict.specs.Written.{AreMarksOf, word_tokens, letters_among, IsLine, file_of, LinesGive}
-use Rattle.pg_driver.specs.Traces.{Patterns}
-use Rattle.pg_texts.specs.PattmpTexts.{takes_part, taking_part, weight_text, word_text, statuses, lines_behind, pattmp_text}
+use Rattle.pg_select.specs.Windows.{Patterns}
+use Rattle.pg_texts.specs.PattmpTexts.{is_taking_part, words_taking_part, weight_text, word_text, statuses, lines_behind, pattmp_text}
 use Rattle.pg_texts.proofs.WordItems.{IsDictionaryItem, SpellsLetters, inner_positions, word_items, word_items_tokens, word_items_joined, word_items_each, word_items_few}
 use Rattle.pg_texts.proofs.WordMarks.{statuses_are_marks}
 
@@ -99,17 +99,17 @@ texts_joined t P before (w ∷ ws) known =
     rw (word_items_joined t before (statuses t P w) w known.0.word.long, texts_joined t P w.weight ws known.1) refl
 
 -- the words that take part are known as all words are
-part_known : (t : Alphabet) (ws : List Word) → All IsWord ws → SignsAtMost (letters_of t + 1) ws → AllByRecursion (IsKnown t) (taking_part t ws)
+part_known : (t : Alphabet) (ws : List Word) → All IsWord ws → SignsAtMost (letters_of t + 1) ws → AllByRecursion (IsKnown t) (words_taking_part t ws)
 part_known t [] all signs = tt
 part_known t (w ∷ ws) all signs =
     let here : IsKnown t w = record { word = All-head IsWord w ws all; signs = All-head (λ (v : Word). All (λ s. s ≤ letters_of t + 1) v.signs) w ws signs } in
-    let rest : AllByRecursion (IsKnown t) (taking_part t ws) = part_known t ws (All-tail IsWord w ws all) (All-tail (λ (v : Word). All (λ s. s ≤ letters_of t + 1) v.signs) w ws signs) in
-    elim (cases_Bool (takes_part t w)) [ inl part ↦ rw part (here, rest) | inr out ↦ rw out rest ]
+    let rest : AllByRecursion (IsKnown t) (words_taking_part t ws) = part_known t ws (All-tail IsWord w ws all) (All-tail (λ (v : Word). All (λ s. s ≤ letters_of t + 1) v.signs) w ws signs) in
+    elim (cases_Bool (is_taking_part t w)) [ inl part ↦ rw part (here, rest) | inr out ↦ rw out rest ]
 
 -- a list of at most 2^26 bytes is read as the words that take part
-pub list_reads : (t : Alphabet) → Laws t → (P : Patterns) (ws : List Word) → All IsWord ws → SignsAtMost (letters_of t + 1) ws → length (pattmp_text t P ws) ≤ FILE_MAX → words t (pattmp_text t P ws) ≡ Ok (taking_part t ws)
+pub list_reads : (t : Alphabet) → Laws t → (P : Patterns) (ws : List Word) → All IsWord ws → SignsAtMost (letters_of t + 1) ws → length (pattmp_text t P ws) ≤ FILE_MAX → words t (pattmp_text t P ws) ≡ Ok (words_taking_part t ws)
 list_reads t laws P ws all signs few =
-    let known : AllByRecursion (IsKnown t) (taking_part t ws) = part_known t ws all signs in
-    let whole : file_of (texts_behind t P 1 (taking_part t ws)) ≡ pattmp_text t P ws = texts_joined t P 1 (taking_part t ws) known in
-    let short : length (file_of (texts_behind t P 1 (taking_part t ws))) ≤ FILE_MAX = omega (arith, ap length whole) in
-    ap (words t) (sym whole) ∙ laws.files_read (texts_behind t P 1 (taking_part t ws)) (taking_part t ws) (lines_are t laws P 1 (taking_part t ws) known) (lines_give t laws P 1 (taking_part t ws) known) short
+    let known : AllByRecursion (IsKnown t) (words_taking_part t ws) = part_known t ws all signs in
+    let whole : file_of (texts_behind t P 1 (words_taking_part t ws)) ≡ pattmp_text t P ws = texts_joined t P 1 (words_taking_part t ws) known in
+    let short : length (file_of (texts_behind t P 1 (words_taking_part t ws))) ≤ FILE_MAX = omega (arith, ap length whole) in
+    ap (words t) (sym whole) ∙ laws.files_read (texts_behind t P 1 (words_taking_part t ws)) (words_taking_part t ws) (lines_are t laws P 1 (words_taking_part t ws) known) (lines_give t laws P 1 (words_taking_part t ws) known) short

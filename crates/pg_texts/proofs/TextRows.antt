@@ -8,7 +8,8 @@ use Rattle.pg_translate.specs.Alphabets.{Alphabet}
 use Rattle.pg_dict.specs.Word.{Word}
 use Rattle.pg_patterns.specs.Values.{largest}
 use Rattle.pg_patterns.specs.Texts.{pattern_text}
-use Rattle.pg_driver.specs.Traces.{Patterns, Source, trace, final_patterns}
+use Rattle.pg_select.specs.Windows.{Patterns}
+use Rattle.pg_driver.specs.Traces.{Source, trace, final_patterns}
 use Rattle.pg_driver.specs.Accounts.{account}
 use Rattle.pg_texts.specs.ReportTexts.{report_text}
 use Rattle.pg_texts.specs.PattmpTexts.{pattmp_text}

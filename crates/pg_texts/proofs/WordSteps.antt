@@ -11,10 +11,10 @@ use Rattle.pg_dict.specs.Word.{Word, IsWord, SignsAtMost}
 use Rattle.pg_types.specs.Counts.{SignsWithin}
 use Rattle.pg_patterns.specs.Values.{value_at}
 use Rattle.pg_select.specs.Statuses.{status}
-use Rattle.pg_driver.specs.Traces.{Patterns}
+use Rattle.pg_select.specs.Windows.{Patterns}
 use Rattle.pg_texts.proofs.Ranges.{same_over_range}
 use Rattle.pg_texts.specs.Found.{status_found}
-use Rattle.pg_texts.specs.PattmpTexts.{takes_part, taking_part, weight_text, position_text, word_text, statuses, lines_behind, letter_text}
+use Rattle.pg_texts.specs.PattmpTexts.{is_taking_part, words_taking_part, weight_text, position_text, word_text, statuses, lines_behind, letter_text}
 
 -- one position more of a range
 pub range_step : (f : ℕ → List ℕ) (p last : ℕ) (text new all : List ℕ) → p < last → new ≡ text ++ f p → text ++ flat_map f (range_with_len p (last - p)) ≡ all → new ++ flat_map f (range_with_len (p + 1) (last - (p + 1))) ≡ all
@@ -70,20 +70,20 @@ joined_line : (text front line rest all behind new later : List ℕ) → later �
 joined_line text front line rest all behind new later same front_is line_is whole = rw (same, line_is, front_is) (simp append_assoc (simp append_assoc at whole))
 
 -- a word that takes part has its line
-pub line_step : (t : Alphabet) (P : Patterns) (words : List Word) (i weight : ℕ) (w : Word) (r : ℕ × ℕ) (values : List ℕ) (text behind new all : List ℕ) → slice_get words i ≡ Some w → reach t.left t.right (length w.signs) ≡ Some r → 3 ≤ length w.signs → ((p : ℕ) → p < length w.signs → slice_index values p ≡ value_at P w.signs p) → behind ≡ text ++ weight_text weight w.weight → new ≡ behind ++ word_text t (status_found values r w) w → text ++ lines_behind t P weight (taking_part t (drop i words)) ≡ all → new ++ lines_behind t P w.weight (taking_part t (drop (i + 1) words)) ≡ all
+pub line_step : (t : Alphabet) (P : Patterns) (words : List Word) (i weight : ℕ) (w : Word) (r : ℕ × ℕ) (values : List ℕ) (text behind new all : List ℕ) → slice_get words i ≡ Some w → reach t.left t.right (length w.signs) ≡ Some r → 3 ≤ length w.signs → ((p : ℕ) → p < length w.signs → slice_index values p ≡ value_at P w.signs p) → behind ≡ text ++ weight_text weight w.weight → new ≡ behind ++ word_text t (status_found values r w) w → text ++ lines_behind t P weight (words_taking_part t (drop i words)) ≡ all → new ++ lines_behind t P w.weight (words_taking_part t (drop (i + 1) words)) ≡ all
 line_step t P words i weight w r values text behind new all is reached long found front line whole =
     let there : drop i words ≡ w ∷ drop (suc i) words = word_there words i w is in
-    let part : takes_part t w ≡ true = rw reached refl in
+    let part : is_taking_part t w ≡ true = rw reached refl in
     let marks : word_text t (status_found values r w) w ≡ word_text t (statuses t P w) w = same_marks t (status_found values r w) (statuses t P w) w (λ p inside. found_status t P w values r p reached (found p inside)) long in
-    let lines : text ++ lines_behind t P weight (if takes_part t w then w ∷ taking_part t (drop (suc i) words) else taking_part t (drop (suc i) words)) ≡ all = rw there at whole in
-    let more : text ++ (weight_text weight w.weight ++ word_text t (statuses t P w) w ++ lines_behind t P w.weight (taking_part t (drop (suc i) words))) ≡ all = rw part at lines in
-    joined_line text (weight_text weight w.weight) (word_text t (statuses t P w) w) (lines_behind t P w.weight (taking_part t (drop (suc i) words))) all behind new _ (rw add-one refl) front (line ∙ ap (λ x. behind ++ x) marks) more
+    let lines : text ++ lines_behind t P weight (if is_taking_part t w then w ∷ words_taking_part t (drop (suc i) words) else words_taking_part t (drop (suc i) words)) ≡ all = rw there at whole in
+    let more : text ++ (weight_text weight w.weight ++ word_text t (statuses t P w) w ++ lines_behind t P w.weight (words_taking_part t (drop (suc i) words))) ≡ all = rw part at lines in
+    joined_line text (weight_text weight w.weight) (word_text t (statuses t P w) w) (lines_behind t P w.weight (words_taking_part t (drop (suc i) words))) all behind new _ (rw add-one refl) front (line ∙ ap (λ x. behind ++ x) marks) more
 
 -- a word that takes no part has none
-pub no_line_step : (t : Alphabet) (P : Patterns) (words : List Word) (i weight : ℕ) (w : Word) (text all : List ℕ) → slice_get words i ≡ Some w → reach t.left t.right (length w.signs) ≡ None → text ++ lines_behind t P weight (taking_part t (drop i words)) ≡ all → text ++ lines_behind t P weight (taking_part t (drop (i + 1) words)) ≡ all
+pub no_line_step : (t : Alphabet) (P : Patterns) (words : List Word) (i weight : ℕ) (w : Word) (text all : List ℕ) → slice_get words i ≡ Some w → reach t.left t.right (length w.signs) ≡ None → text ++ lines_behind t P weight (words_taking_part t (drop i words)) ≡ all → text ++ lines_behind t P weight (words_taking_part t (drop (i + 1) words)) ≡ all
 no_line_step t P words i weight w text all is none whole =
     let there : drop i words ≡ w ∷ drop (suc i) words = word_there words i w is in
-    let part : takes_part t w ≡ false = rw none refl in
-    let lines : text ++ lines_behind t P weight (if takes_part t w then w ∷ taking_part t (drop (suc i) words) else taking_part t (drop (suc i) words)) ≡ all = rw there at whole in
-    let more : text ++ lines_behind t P weight (taking_part t (drop (suc i) words)) ≡ all = rw part at lines in
+    let part : is_taking_part t w ≡ false = rw none refl in
+    let lines : text ++ lines_behind t P weight (if is_taking_part t w then w ∷ words_taking_part t (drop (suc i) words) else words_taking_part t (drop (suc i) words)) ≡ all = rw there at whole in
+    let more : text ++ lines_behind t P weight (words_taking_part t (drop (suc i) words)) ≡ all = rw part at lines in
     rw add-one more

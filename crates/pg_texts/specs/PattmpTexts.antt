@@ -6,22 +6,18 @@ use Rattle.pg_types.specs.declared.marks.Mark.TheVariants.{Nothing}
 use Rattle.pg_translate.specs.Alphabets.{Alphabet, spelling_of, mark_byte_of}
 use Rattle.pg_translate.specs.Reach.{reach}
 use Rattle.pg_dict.specs.Word.{Word}
-use Rattle.pg_select.specs.Sights.{Minima}
 use Rattle.pg_select.specs.Statuses.{weight_at}
 use Rattle.pg_select.specs.AnyPositions.{status_of_position}
-use Rattle.pg_driver.specs.Traces.{Patterns}
-
--- the minima of a table
-abbrev pub minima_of : Alphabet → Minima
-minima_of t = record { left = t.left; right = t.right }
+use Rattle.pg_select.specs.Windows.{Patterns}
+use Rattle.pg_driver.specs.Told.{minima_of}
 
 -- whether a word takes part: it has positions in reach
-abbrev pub takes_part : Alphabet → Word → Bool
-takes_part t w = is_some (reach t.left t.right (length w.signs))
+abbrev pub is_taking_part : Alphabet → Word → Bool
+is_taking_part t w = is_some (reach t.left t.right (length w.signs))
 
 -- the words that take part
-abbrev pub taking_part : Alphabet → List Word → List Word
-taking_part t words = filter (takes_part t) words
+abbrev pub words_taking_part : Alphabet → List Word → List Word
+words_taking_part t words = filter (is_taking_part t) words
 
 -- the byte of a status; nothing has none
 abbrev pub mark_text : Alphabet → Mark → List ℕ
@@ -60,4 +56,4 @@ lines_behind t P weight (w ∷ ws) = weight_text weight w.weight ++ word_text t 
 
 -- the list: a line for each word that takes part
 abbrev pub pattmp_text : Alphabet → Patterns → List Word → List ℕ
-pattmp_text t P words = lines_behind t P 1 (taking_part t words)
+pattmp_text t P words = lines_behind t P 1 (words_taking_part t words)

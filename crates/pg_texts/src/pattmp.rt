@@ -27,7 +27,7 @@ pub fn pattmp_text<E: Engine>(
     requires signs { SignsAtMost (E.meaning engine.now).signs dictionary.now }
     requires letters { SignsAtMost (letters_of table.now + 1) dictionary.now }
     ensures text { IfOk result (λ text. text.items ≡ pattmp.pattmp_text table.now (E.meaning engine.now).patterns dictionary.now) }
-    ensures read_back { IfOk result (λ text. length text.items ≤ FILE_MAX → words table.now text.items ≡ Ok (pattmp.taking_part table.now dictionary.now)) }
+    ensures read_back { IfOk result (λ text. length text.items ≤ FILE_MAX → words table.now text.items ≡ Ok (pattmp.words_taking_part table.now dictionary.now)) }
 {
     lists_are_read(table);
     let mut text = Vec::new(alloc);

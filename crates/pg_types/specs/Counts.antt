@@ -1,5 +1,5 @@
 -- The windows that are counted in a pass, in the order of signs, each with its sums of good and bad weights.
-use Rattle.std.specs.Prelude.{ℕ, ◌+◌, ◌<◌, ◌≤◌, ◌^◌, Bool, if◌then◌else◌, List, filter, unwrap_or, Option, All, is_some}
+use Rattle.std.specs.Prelude.{◌≡◌, ℕ, ◌+◌, ◌<◌, ◌≤◌, ◌^◌, Bool, if◌then◌else◌, List, [], ◌∷◌, filter, unwrap_or, Option, None, Some, All, is_some}
 use Rattle.std.specs.Ordering.{nat_cmp, is_lt}
 use Rattle.std.specs.Cmp.Lexicographic.{slice_cmp}
 use Rattle.std.specs.FinMap.Entries.{put, find}
@@ -30,6 +30,11 @@ is_counted counts u = is_some (counted_sums counts u)
 -- the counts of the windows that are greater than u
 abbrev pub above : List ℕ → Counts → Counts
 above u counts = filter (λ e. is_lt (slice_cmp nat_cmp u e.0)) counts
+
+-- what a look for the least window above `old` finds: that window and its sums; or none, where there is none, and then `new` is `old`
+abbrev pub IsNextAbove : Counts → List ℕ → List ℕ → Option (ℕ × ℕ) → Type 0
+IsNextAbove counts old new None = (above old counts ≡ []) × (new ≡ old)
+IsNextAbove counts old new (Some sums) = above old counts ≡ (new, sums) ∷ above new counts
 
 -- both sums are below 2^60
 abbrev pub AreSmall : ℕ × ℕ → Type 0

@@ -13,11 +13,12 @@ dots-init g c =
     let source = over c.args.table.now c.args.dictionary.now in
     record {
       reaches = λ start ps at. record {
-          done = ps;
-          at = at;
-          left = ap (λ (passes : List Pass). ps ++ all_made_by source c.args.params.now m0 passes) (all_from c.args.number c.args.len);
-          known = ap (λ (passes : List Pass). known_at_end (known_of m0) (all_made_by source c.args.params.now m0 passes)) (all_from c.args.number c.args.len);
-        };
+        done = ps;
+        at = at;
+        left = ap (λ (passes : List Pass). ps ++ all_made_by source c.args.params.now m0 passes) (all_from c.args.number c.args.len);
+        known = ap (λ (passes : List Pass). known_at_end (known_of m0) (all_made_by source c.args.params.now m0 passes)) (all_from c.args.number c.args.len);
+      };
+      ready = c.requires.ready;
       signs = refl;
       begun = refl;
       passes = omega arith;
@@ -42,6 +43,7 @@ dots-preserved g c =
       reaches = λ start ps at.
           reaches_on source params number len start m n c.dots.records c.run_or_skip.new.records c.dots.closed c.run_or_skip.new.closed (passes_from number len k (len + 1)) (pass_with number len (dot_at len k) ∷ []) (passes_from number len (k + 1) (len + 1)) (ps ++ all) (known_at_end (known_of m0) all)
           (passes_step number len k (len + 1) c.dots-test.true) on (c.dots.invariant.reaches start ps at);
+      ready = c.in_ok-run_or_skip.ensures.ready;
       signs = c.in_ok-run_or_skip.ensures.signs ∙ c.dots.invariant.signs;
       begun = omega (arith, c.in_ok-run_or_skip.ensures.begun, c.dots.invariant.begun);
       passes = omega (arith, c.in_ok-run_or_skip.ensures.few, c.dots.invariant.passes);

@@ -3,6 +3,7 @@ use Rattle.pg_driver.specs.Levels.{LevelStart, all_made_by}
 use Rattle.pg_driver.specs.Told.{known_of, over}
 use Rattle.pg_driver.specs.Traces.{known_at_end, passes_of, passes_of_length}
 use Rattle.pg_driver.proofs.LevelSteps.{at_level_start, at_next, at_whole, lengths_from, lengths_step, no_lengths, reaches_on}
+use Rattle.pg_driver.proofs.ReadySteps.{tells_totals}
 use Rattle.pg_driver.proofs.level.run_lengths.Goals as goal
 
 pub lengths-init : goal.lengths-init
@@ -16,6 +17,7 @@ lengths-init g c =
         left = refl;
         known = refl;
       };
+      ready = c.requires.ready c.args.params.now.pat_start;
       signs = refl;
       begun = refl;
       passes = omega (arith, c.requires.level.start_low);
@@ -44,6 +46,7 @@ lengths-preserved g c =
         left = reached.left;
         known = reached.known;
       };
+      ready = c.next_length-in-lengths.ensures source number (known_of n) c.in_ok-run_length.ensures.ready;
       signs = c.in_ok-run_length.ensures.signs ∙ c.lengths.invariant.signs;
       begun = omega (arith, c.in_ok-run_length.ensures.begun, c.lengths.invariant.begun);
       passes = omega (arith, c.in_ok-run_length.ensures.few, c.lengths.invariant.passes);
@@ -76,3 +79,8 @@ returns-clause-records g c =
     let ends : c.lengths.len ≡ end = omega (arith, c.requires.level.start_high) in
     let none : lengths_from number c.lengths.len end ≡ [] = ap (λ len. lengths_from number len end) ends ∙ no_lengths number end in
     (at_whole source params number c.lengths.len start (g.E.Engine.meaning c.lengths.engine) c.lengths.records c.lengths.closed (lengths_from number c.lengths.len end) all (known_at_end (known_of m0) all) none c.lengths.invariant.reaches).0.records
+
+pub returns-clause-ready : goal.returns-clause-ready
+returns-clause-ready g c =
+    let m = g.E.Engine.meaning c.lengths.engine in
+    tells_totals (over c.args.table.now c.args.dictionary.now) c.args.number c.lengths.len (known_of m) m.patterns c.lengths.counting refl c.lengths.invariant.ready

@@ -1,4 +1,5 @@
 use Rattle.std.proofs.Common.{◌≡◌, ◌+◌, ◌*◌, ◌^◌, ◌≤◌}
+use Rattle.pg_driver.specs.LevelCounting.{IsReady}
 use Rattle.pg_driver.specs.Levels.{all_made_by}
 use Rattle.pg_driver.specs.Told.{known_of, over}
 use Rattle.pg_driver.specs.Traces.{known_at_end, passes_of}
@@ -13,6 +14,7 @@ invariant-lengths g l =
     let all = all_made_by source l.params m0 (passes_of l.number l.params) in
     record {
       reaches : Reaches source l.params l.number l.len (record { engine = m0; records = l.fn.records }) m l.records l.closed (lengths_from l.number l.len l.end) all (known_at_end (known_of m0) all);
+      ready : IsReady source l.number l.len (known_of m) l.counting;
       signs : m.signs ≡ m0.signs;
       begun : m.begun + l.fn.records.begun ≡ m0.begun + l.records.begun;
       passes : l.records.begun + 16 ≤ l.fn.records.begun + 16 * l.len;

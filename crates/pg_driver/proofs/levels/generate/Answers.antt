@@ -6,14 +6,14 @@ use Rattle.pg_driver.proofs.ToldSteps.{told_account, told_cells}
 use Rattle.pg_driver.proofs.levels.generate.Goals as goal
 
 pub returns-clause-patterns : goal.returns-clause-patterns
-returns-clause-patterns g c = ap (λ (r : Finished). r.patterns) c.new.ensures ∙ c.in_ok-patterns.ensures ∙ ap (λ (s : State). s.known.patterns) c.in_ok-run_levels.ensures.run.state
+returns-clause-patterns g c = ap (λ (r : Finished). r.patterns) c.new.ensures ∙ c.in_ok-patterns.ensures ∙ ap (λ (s : State). s.known.patterns) c.in_ok-totals.ensures.run.state
 
 pub returns-clause-account : goal.returns-clause-account
 returns-clause-account g c =
     let m0 = g.E.Engine.meaning c.args.engine.now in
     let n = g.E.Engine.meaning c.run_levels.new.engine in
     let run = run_from c.args.table.now c.args.dictionary.now c.args.params.now m0 in
-    ap account_of c.new.ensures ∙ told_account (over c.args.table.now c.args.dictionary.now) run m0 n c.run_levels.new.records c.in_ok-patterns.patterns c.totals-totals.result c.layout-first_layout.result c.in_ok-run_levels.ensures.run c.totals-totals.ensures.value
+    ap account_of c.new.ensures ∙ told_account (over c.args.table.now c.args.dictionary.now) run m0 n c.run_levels.new.records c.in_ok-patterns.patterns c.in_ok-totals.totals c.layout-first_layout.result c.in_ok-totals.ensures.run c.in_ok-totals.ensures.totals
 
 pub returns-clause-cells : goal.returns-clause-cells
 returns-clause-cells g c =
@@ -21,19 +21,19 @@ returns-clause-cells g c =
     let n = g.E.Engine.meaning c.run_levels.new.engine in
     let run = run_from c.args.table.now c.args.dictionary.now c.args.params.now m0 in
     subst (TellsCells (cells_from c.args.table.now c.args.dictionary.now c.args.params.now m0)) (sym c.new.ensures)
-    (told_cells (over c.args.table.now c.args.dictionary.now) run m0 n c.run_levels.new.records c.in_ok-patterns.patterns c.totals-totals.result c.layout-first_layout.result c.in_ok-run_levels.ensures.run c.layout-first_layout.ensures c.requires.tidy)
+    (told_cells (over c.args.table.now c.args.dictionary.now) run m0 n c.run_levels.new.records c.in_ok-patterns.patterns c.in_ok-totals.totals c.layout-first_layout.result c.in_ok-totals.ensures.run c.layout-first_layout.ensures c.requires.tidy)
 
 pub returns-clause-begun : goal.returns-clause-begun
-returns-clause-begun g c = ap (λ (r : Finished). r.begun) c.new.ensures ∙ c.in_ok-run_levels.ensures.run.begun
+returns-clause-begun g c = ap (λ (r : Finished). r.begun) c.new.ensures ∙ c.in_ok-totals.ensures.run.begun
 
 pub returns-clause-kept : goal.returns-clause-kept
 returns-clause-kept g c = sym (ap (λ (r : Finished). r.patterns) c.new.ensures ∙ c.in_ok-patterns.ensures)
 
 pub returns-clause-families : goal.returns-clause-families
-returns-clause-families g c = ap (λ (s : State). s.families) c.in_ok-run_levels.ensures.run.state
+returns-clause-families g c = ap (λ (s : State). s.families) c.in_ok-totals.ensures.run.state
 
 pub returns-clause-hopeless : goal.returns-clause-hopeless
-returns-clause-hopeless g c = ap (λ (s : State). s.known.hopeless) c.in_ok-run_levels.ensures.run.state
+returns-clause-hopeless g c = ap (λ (s : State). s.known.hopeless) c.in_ok-totals.ensures.run.state
 
 pub returns-clause-counted : goal.returns-clause-counted
-returns-clause-counted g c = omega (arith, c.in_ok-run_levels.ensures.begun, ap (λ (r : Finished). r.begun) c.new.ensures)
+returns-clause-counted g c = omega (arith, c.in_ok-totals.ensures.begun, ap (λ (r : Finished). r.begun) c.new.ensures)

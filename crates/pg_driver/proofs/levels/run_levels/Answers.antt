@@ -1,10 +1,13 @@
-use Rattle.std.proofs.Common.{◌≡◌, ℕ, ◌+◌, List, [], drop, refl, sym, ap, ◌∙◌, arith}
+use Rattle.std.proofs.Common.{◌≡◌, ℕ, ◌+◌, ◌-◌, max, List, [], drop, refl, sym, ap, subst, ◌∙◌, arith}
 use Rattle.std.specs.List.{enumerate_from}
 use Rattle.pg_types.specs.declared.parameters.LevelParams.{LevelParams}
+use Rattle.pg_patterns.specs.Values.{largest}
+use Rattle.pg_select.specs.LawsSteps.{IsUpTo}
 use Rattle.pg_driver.specs.Sound.{Recorded}
 use Rattle.pg_driver.specs.States.{State}
 use Rattle.pg_driver.specs.Told.{over, run_from}
 use Rattle.pg_driver.specs.Traces.{levels_made}
+use Rattle.pg_driver.proofs.OpenTraces.{below_level, up_to_next, up_to_starting}
 use Rattle.pg_driver.proofs.RunSteps.{all_levels, level_on, levels_step, no_levels, run_begins, run_whole}
 use Rattle.pg_driver.proofs.levels.run_levels.Goals as goal
 
@@ -14,6 +17,9 @@ levels-init g c =
     let source = over c.args.table.now c.args.dictionary.now in
     record {
       reaches = record { done = []; did = run_begins source m0 c.args.records.now c.requires.hopeless c.requires.none; left = ap (λ (ls : List (ℕ × LevelParams)). levels_made source m0.patterns ls) (all_levels c.start-start.result c.args.params.now.levels ∙ ap (λ (n : ℕ). enumerate_from n c.args.params.now.levels) c.start-start.ensures.value) };
+      upto = up_to_starting c.largest-greatest.result (c.start-start.result + 0 - 1) m0.patterns (c.largest-greatest.ensures.value ∙ ap largest c.in_ok-copy_patterns.ensures);
+      totals = c.totals-sums.ensures.value;
+      small = c.totals-sums.ensures.small;
       signs = refl;
       tidy = c.requires.tidy;
       begun = omega (arith, ap (λ (r : Recorded). r.begun) c.requires.none);
@@ -33,15 +39,22 @@ levels-preserved g c =
     let start = c.start-start.result in
     let i = c.levels.i in
     let levels = c.args.params.now.levels in
+    let greatest = c.largest-greatest.result in
+    let on : start + i + 1 ≡ start + (i + 1) = omega arith in
     record {
       reaches =
           level_on source m0 m n c.levels.records c.run_level.new.records (start + i, c.level.result.now) (enumerate_from (start + i) (drop i levels)) (enumerate_from (start + (i + 1)) (drop (i + 1) levels)) (run_from c.args.table.now c.args.dictionary.now c.args.params.now m0) c.levels.invariant.signs
-          (levels_step start i levels c.level.result.now c.level.ensures.value) c.in_ok-run_level.ensures.done c.levels.invariant.reaches;
-      signs = c.in_ok-run_level.ensures.signs ∙ c.levels.invariant.signs;
-      tidy = c.in_ok-run_level.ensures.tidy;
-      begun = omega (arith, c.in_ok-run_level.ensures.begun, c.levels.invariant.begun);
-      passes = omega (arith, c.in_ok-run_level.ensures.few, c.levels.invariant.passes);
-      chosen = c.in_ok-run_level.ensures.chosen;
+          (levels_step start i levels c.level.result.now c.level.ensures.value) c.in_ok-sums.ensures.done c.levels.invariant.reaches;
+      upto =
+          subst (λ (k : ℕ). IsUpTo (max greatest (k - 1)) n.patterns) on
+          (up_to_next source c.level.result.now greatest (start + i) m.patterns n.patterns (ap (λ (s : State). s.known.patterns) c.in_ok-sums.ensures.done.state) c.levels.invariant.upto);
+      totals = c.in_ok-sums.ensures.totals;
+      small = c.in_ok-sums.ensures.small;
+      signs = c.in_ok-sums.ensures.signs ∙ c.levels.invariant.signs;
+      tidy = c.in_ok-sums.ensures.tidy;
+      begun = omega (arith, c.in_ok-sums.ensures.begun, c.levels.invariant.begun);
+      passes = omega (arith, c.in_ok-sums.ensures.few, c.levels.invariant.passes);
+      chosen = c.in_ok-sums.ensures.chosen;
     }
 
 pub returns-clause-run : goal.returns-clause-run
@@ -50,3 +63,6 @@ returns-clause-run g c =
     let m = g.E.Engine.meaning c.levels.engine in
     let rest = enumerate_from (c.start-start.result + c.levels.i) (drop c.levels.i c.args.params.now.levels) in
     run_whole (over c.args.table.now c.args.dictionary.now) m0 m c.levels.records rest (run_from c.args.table.now c.args.dictionary.now c.args.params.now m0) (no_levels c.start-start.result c.levels.i c.args.params.now.levels (omega (arith, c.count-count.ensures.value))) c.levels.invariant.reaches
+
+pub run_level-requires-clause-below : goal.run_level-requires-clause-below
+run_level-requires-clause-below g c = λ low. below_level c.largest-greatest.result (c.start-start.result + c.levels.i) (g.E.Engine.meaning c.levels.engine).patterns c.levels.invariant.upto (omega (arith, c.start-start.ensures.low)) low

@@ -1,5 +1,8 @@
-use Rattle.std.proofs.Common.{◌≡◌, ◌+◌, ◌*◌, ◌≤◌, true, drop}
+use Rattle.std.proofs.Common.{◌≡◌, ◌+◌, ◌-◌, ◌*◌, ◌≤◌, max, true, drop}
 use Rattle.std.specs.List.{enumerate_from}
+use Rattle.pg_select.specs.LawsSteps.{IsUpTo}
+use Rattle.pg_driver.specs.Accounts.{totals_by}
+use Rattle.pg_driver.specs.Sound.{IsSmall}
 use Rattle.pg_driver.specs.Told.{over, run_from}
 use Rattle.pg_driver.proofs.RunSteps.{RunReaches}
 use Rattle.pg_driver.proofs.levels.run_levels.Given as goal
@@ -10,6 +13,9 @@ invariant-levels g l =
     let m = g.E.Engine.meaning l.engine in
     record {
       reaches : RunReaches (over l.table l.dictionary) m0 m l.records (enumerate_from (l.start + l.i) (drop l.i l.params.levels)) (run_from l.table l.dictionary l.params m0);
+      upto : IsUpTo (max l.greatest (l.start + l.i - 1)) m.patterns;
+      totals : l.sums ≡ totals_by (over l.table l.dictionary) m.patterns;
+      small : IsSmall l.sums;
       signs : m.signs ≡ m0.signs;
       tidy : m.tidy ≡ true;
       begun : m.begun ≡ m0.begun + l.records.begun;

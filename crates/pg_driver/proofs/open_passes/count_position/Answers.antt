@@ -16,4 +16,4 @@ count_at-requires-clause-within g c =
 pub returns-clause-took : goal.returns-clause-took
 returns-clause-took g c =
     let within : c.args.position.at < length (word_of c.word-w.result).signs = c.requires.placed.within (word_of c.word-w.result) c.word-w.ensures.lent in
-    took_entry (g.E.Engine.meaning c.args.engine.now) _ c.args.pass.level c.args.pass.len c.args.pass.dot (word_of c.word-w.result) c.from-p.result 1 (has_dot c.args.position.closed c.args.pass.dot) c.args.pass.len_low c.word-w.ensures.word (omega (arith, c.from-p.ensures)) c.requires.room c.in_ok-count_at.ensures.ok
+    took_entry (g.E.Engine.meaning c.args.engine.now) _ c.args.pass.level c.args.pass.len c.args.pass.dot (word_of c.word-w.result) c.from-p.result 1 (has_dot c.args.position.closed c.args.pass.dot) c.requires.ranges.len_low c.word-w.ensures.word (omega (arith, c.from-p.ensures)) c.requires.room c.in_ok-count_at.ensures.ok

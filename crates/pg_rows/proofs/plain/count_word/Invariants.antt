@@ -5,6 +5,6 @@ use Rattle.pg_rows.proofs.plain.count_word.Given as goal
 
 abbrev pub invariant-positions : goal.invariant-positions
 invariant-positions g l = record {
-  kept : KeepsPass (g.E.Engine.meaning l.fn.e) (g.E.Engine.meaning l.e);
-  sums : AreAtMost (g.E.Engine.meaning l.e).counts (WEIGHT_MAX * l.seen);
+  kept : KeepsPass (g.E.Engine.meaning l.fn.engine) (g.E.Engine.meaning l.engine);
+  sums : AreAtMost (g.E.Engine.meaning l.engine).counts (WEIGHT_MAX * l.seen);
 }

@@ -7,4 +7,4 @@ use Rattle.pg_rows.proofs.plain.count_words.Goals as goal
 pub count_word-requires-clause-signs : goal.count_word-requires-clause-signs
 count_word-requires-clause-signs g c =
     let P : ℕ → Type 0 = λ n. SignsWithin n c.word.result.signs.now in
-    subst P (sym c.words.invariant.kept.signs) (signs_within _ c.args.d.now c.words.i (word_of c.word.result) c.word.ensures.lent c.requires.signs c.word.ensures.word)
+    subst P (sym c.words.invariant.kept.signs) (signs_within _ c.args.dictionary.now c.words.i (word_of c.word.result) c.word.ensures.lent c.requires.signs c.word.ensures.word)

@@ -8,7 +8,7 @@ use Rattle.pg_driver.specs.Counting.{counting, with_marks, TookRoom, TookRoomFor
 use Rattle.pg_driver.specs.Told.{minima_of}
 use Rattle.pg_driver.proofs.MarkSteps.{marks_from}
 use Rattle.pg_driver.proofs.Walks.{KeepsButCounts}
-use Rattle.pg_driver.proofs.counted.count_word.Given as goal
+use Rattle.pg_driver.proofs.words.count_word.Given as goal
 
 abbrev pub invariant-positions : goal.invariant-positions
 invariant-positions g l =

@@ -1,0 +1,144 @@
+-- A way to count is ready: what that gives for a pass, and how it goes on.
+use Rattle.std.proofs.Common.{◌≡◌, ℕ, ◌+◌, ◌≤◌, ◌<◌, List, [], length, map, fold, filter, sum_by, refl, sym, ap, subst, ◌∙◌, arith}
+use Rattle.std.specs.List.{All, flat_map}
+use Rattle.pg_types.specs.declared.limits.TheConstants.{LENGTH_MAX, FILE_MAX}
+use Rattle.pg_types.specs.declared.marks.Totals.{Totals}
+use Rattle.pg_types.specs.declared.parameters.LevelParams.{LevelParams}
+use Rattle.pg_types.specs.Counts.{Counts}
+use Rattle.pg_dict.specs.Word.{Word, IsWord, letters_of}
+use Rattle.pg_select.specs.declared.pass.Pass.{Pass}
+use Rattle.pg_select.specs.LawsSteps.{IsBelow, IsUpTo}
+use Rattle.pg_select.specs.Meanings.{Meaning, with_sight}
+use Rattle.pg_select.specs.Sights.{Candidate, sights}
+use Rattle.pg_select.specs.Statuses.{is_odd}
+use Rattle.pg_select.specs.Windows.{Hopeless, Patterns}
+use Rattle.pg_driver.specs.declared.choices.Choices.{Choices}
+use Rattle.pg_driver.specs.declared.counting.Counting.{Counting}
+use Rattle.pg_driver.specs.declared.counting.Counting.TheVariants.{Open, EachWord}
+use Rattle.pg_driver.specs.declared.counting.OpenLevel.{OpenLevel}
+use Rattle.pg_driver.specs.declared.open_positions.OpenPosition.{OpenPosition}
+use Rattle.pg_driver.specs.Accounts.{totals_by}
+use Rattle.pg_driver.specs.Choosing.{no_choices, with_candidates}
+use Rattle.pg_driver.specs.Counting.{HasRoom, counting}
+use Rattle.pg_driver.specs.LevelCounting.{ArePlaced, CanCarry, CanGoOn, Carries, GoesOnAfter, IsAfterPass, IsOpenAt, IsReady, TellsTotals}
+use Rattle.pg_driver.specs.OpenLevels.{InLevel, longer_positions, open_from, position_after}
+use Rattle.pg_driver.specs.OpenPositions.{IsPlaced, counted_of}
+use Rattle.pg_driver.specs.Sound.{IsSmall}
+use Rattle.pg_driver.specs.Told.{known_of}
+use Rattle.pg_driver.specs.Traces.{Known, PassTrace, Source, chosen_in, known_after, pass_made}
+use Rattle.pg_driver.proofs.CarriedTotals.{carried_same, carried_small, carried_within, totals_are_small}
+use Rattle.pg_driver.proofs.OpenLevels.{level_begins, level_longer}
+use Rattle.pg_driver.proofs.OpenPlaces.{open_few, open_placed}
+use Rattle.pg_driver.proofs.OpenPositions.{counted_are_open}
+use Rattle.pg_driver.proofs.OpenTraces.{level_on, totals_on}
+use Rattle.pg_driver.proofs.Rooms.{room_none}
+
+-- where a level begins
+pub ready_at_start : (source : Source) (level len : ℕ) (m : Meaning) (o : OpenLevel) → m.hopeless ≡ [] → IsBelow level m.patterns → 1 ≤ source.minima.left → All IsWord source.words → sum_by letters_of source.words ≤ FILE_MAX
+    → o.positions.items ≡ open_from source.minima level m.patterns 0 source.words → o.totals ≡ totals_by source m.patterns → IsOpenAt source level len (known_of m) o
+ready_at_start source level len m o none below least words letters are totals = record {
+  least = least;
+  words = words;
+  letters = letters;
+  positions =
+      subst (λ (es : List OpenPosition). InLevel level len source.minima source.words m.patterns m.hopeless es) (sym are)
+      (subst (λ (H : Hopeless). InLevel level len source.minima source.words m.patterns H (open_from source.minima level m.patterns 0 source.words)) (sym none) (level_begins level len source.minima source.words m.patterns below));
+  totals = totals;
+}
+
+module _ (source : Source) (level len : ℕ) (known : Known) (o : OpenLevel) (ready : IsOpenAt source level len known o) where
+  pub are_placed : All (IsPlaced source.words) o.positions.items
+  are_placed = open_placed level len source.minima source.words known.patterns known.hopeless o.positions.items ready.positions.are_open
+
+  pub has_room : (counts : Counts) → counts ≡ [] → HasRoom counts (length o.positions.items)
+  has_room counts none =
+      let some : length o.positions.items ≤ sum_by letters_of source.words = open_few level len source.minima source.words known.patterns known.hopeless o.positions.items ready.least ready.positions.are_open in
+      let letters : sum_by letters_of source.words ≤ FILE_MAX = ready.letters in
+      subst (λ (cs : Counts). HasRoom cs (length o.positions.items)) (sym none) (room_none (length o.positions.items) (omega arith))
+
+  pub counts_all : (dot : ℕ) → len ≤ LENGTH_MAX → dot ≤ len → flat_map (counted_of level len dot source.words) o.positions.items ≡ sights source.minima source.words (record { level = level; len = len; dot = dot }) known.patterns known.hopeless
+  counts_all dot short within = sym (counted_are_open level len dot source.minima source.words known.patterns known.hopeless o.positions.items short within ready.positions.are_open)
+
+  pub is_small : IsSmall o.totals
+  is_small = subst IsSmall (sym ready.totals) (totals_are_small source.minima source.words known.patterns ready.least ready.words ready.letters)
+
+  -- at the next length
+  pub ready_longer : (p : OpenLevel) → len ≤ LENGTH_MAX → p.positions.items ≡ longer_positions len o.positions.items → p.totals ≡ o.totals → IsOpenAt source level (len + 1) known p
+  ready_longer p upto are totals = record {
+    least = ready.least;
+    words = ready.words;
+    letters = ready.letters;
+    positions =
+        subst (λ (es : List OpenPosition). InLevel level (len + 1) source.minima source.words known.patterns known.hopeless es) (sym are)
+        (level_longer level len source.minima source.words known.patterns known.hopeless o.positions.items upto ready.positions);
+    totals = totals ∙ ready.totals;
+  }
+
+-- totals that a ready way tells
+pub tells_totals : (source : Source) (level len : ℕ) (known : Known) (P : Patterns) (c : Counting) → known.patterns ≡ P → IsReady source level len known c → TellsTotals source P c
+tells_totals source level len known P (Open o) same ready = (ready.totals ∙ ap (totals_by source) same, is_small source level len known o ready)
+tells_totals source level len known P EachWord same ready = tt
+
+pub placed : (source : Source) (level len : ℕ) (known : Known) (c : Counting) → IsReady source level len known c → ArePlaced source.words c
+placed source level len known (Open o) ready = are_placed source level len known o ready
+placed source level len known EachWord ready = tt
+
+-- after a pass
+module _ (source : Source) (params : LevelParams) (known : Known) (pass : Pass) (n : Choices) where
+  abbrev made : PassTrace
+  made = pass_made source params known pass
+
+  -- the numbers of its choices
+  pub record AreOf : Type 0 where
+    pub good : n.good ≡ sum_by (λ c. c.good) (chosen_in made)
+    pub bad : n.bad ≡ sum_by (λ c. c.bad) (chosen_in made)
+
+  pub are_of : n ≡ with_candidates params no_choices made.candidates → AreOf
+  are_of is = record {
+    good = ap (λ (x : Choices). x.good) is ∙ zero_plus (sum_by (λ (c : Candidate). c.good) (chosen_in made));
+    bad = ap (λ (x : Choices). x.bad) is ∙ zero_plus (sum_by (λ (c : Candidate). c.bad) (chosen_in made));
+  }
+    where
+      zero_plus : (k : ℕ) → 0 + k ≡ k
+      zero_plus k = omega arith
+
+  module _ (o : OpenLevel) (of : AreOf) (ready : IsOpenAt source pass.level pass.len known o) where
+    carries : Carries (is_odd pass.level) o.totals (totals_by source (known_after made).patterns) n.good n.bad
+    carries =
+        subst (λ (g : ℕ). Carries (is_odd pass.level) o.totals (totals_by source (known_after made).patterns) g n.bad) (sym of.good)
+        (subst (λ (b : ℕ). Carries (is_odd pass.level) o.totals (totals_by source (known_after made).patterns) (sum_by (λ (c : Candidate). c.good) (chosen_in made)) b) (sym of.bad)
+        (subst (λ (t : Totals). Carries (is_odd pass.level) t (totals_by source (known_after made).patterns) (sum_by (λ (c : Candidate). c.good) (chosen_in made)) (sum_by (λ (c : Candidate). c.bad) (chosen_in made))) (sym ready.totals)
+        (totals_on source params known pass ready.positions.upto)))
+
+    can_carry : CanCarry (is_odd pass.level) o.totals n.good n.bad
+    can_carry =
+        let before = is_small source pass.level pass.len known o ready in
+        let after : IsSmall (totals_by source (known_after made).patterns) = totals_are_small source.minima source.words (known_after made).patterns ready.least ready.words ready.letters in
+        record {
+          small = before;
+          sums = carried_small (is_odd pass.level) o.totals (totals_by source (known_after made).patterns) n.good n.bad before after carries;
+          within = carried_within (is_odd pass.level) o.totals (totals_by source (known_after made).patterns) n.good n.bad carries;
+        }
+
+    open_after : (counts : Counts) (p : OpenLevel) → pass.dot ≤ LENGTH_MAX → counts ≡ fold with_sight [] (sights source.minima source.words pass known.patterns known.hopeless) → IsAfterPass params pass counts source.words n o p
+        → IsOpenAt source pass.level pass.len (known_after made) p
+    open_after counts p low counted is = record {
+      least = ready.least;
+      words = ready.words;
+      letters = ready.letters;
+      positions =
+          subst (λ (es : List OpenPosition). InLevel pass.level pass.len source.minima source.words (known_after made).patterns (known_after made).hopeless es) (sym is.positions)
+          (level_on source params known pass counts o.positions.items low counted ready.positions);
+      totals = carried_same (is_odd pass.level) o.totals p.totals (totals_by source (known_after made).patterns) n.good n.bad is.totals carries;
+    }
+
+  pub can_go_on : (c : Counting) → AreOf → IsReady source pass.level pass.len known c → CanGoOn pass n c
+  can_go_on (Open o) of ready = can_carry o of ready
+  can_go_on EachWord of ready = tt
+
+  pub ready_after : (counts : Counts) (c d : Counting) → AreOf → pass.dot ≤ LENGTH_MAX → counts ≡ fold with_sight [] (sights source.minima source.words pass known.patterns known.hopeless) → GoesOnAfter params pass counts source.words n c d
+      → IsReady source pass.level pass.len known c → IsReady source pass.level pass.len (known_after made) d
+  ready_after counts (Open o) (Open p) of low counted on ready = open_after o of ready counts p low counted on
+  ready_after counts (Open o) EachWord of low counted on ready = tt
+  ready_after counts EachWord (Open p) of low counted on ready = absurd on
+  ready_after counts EachWord EachWord of low counted on ready = tt

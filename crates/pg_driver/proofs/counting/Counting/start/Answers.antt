@@ -1,0 +1,15 @@
+use Rattle.std.proofs.Common.{arith}
+use Rattle.pg_driver.specs.Told.{over}
+use Rattle.pg_driver.proofs.ReadySteps.{ready_at_start}
+use Rattle.pg_driver.proofs.counting.Counting.start.Goals as goal
+
+pub returns : goal.returns
+returns g c = λ len.
+    ready_at_start (over c.args.table.now c.args.dictionary.now) c.args.level len (g.E.Engine.meaning c.args.engine.now) (record { positions = c.in_ok-positions.positions; totals = c.args.totals })
+    c.requires.hopeless
+    (c.requires.below (omega (arith, c.if-level-greatest.false)))
+    (omega (arith, c.left-least.ensures.value, c.left-least.ensures.range))
+    c.len-few.ensures.words
+    c.len-few.ensures.letters
+    c.in_ok-positions.ensures
+    c.requires.totals

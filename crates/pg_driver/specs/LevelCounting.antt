@@ -1,0 +1,68 @@
+-- How the windows of a level are counted: what its way to count knows before a pass, and what it makes of the choices after it.
+use Rattle.std.specs.Prelude.{◌≡◌, ℕ, ◌+◌, ◌≤◌, ◌<◌, ◌^◌, Bool, List, map, sum_by, All, MatchBool}
+use Rattle.pg_types.specs.declared.limits.TheConstants.{FILE_MAX}
+use Rattle.pg_types.specs.declared.marks.Totals.{Totals}
+use Rattle.pg_types.specs.declared.parameters.LevelParams.{LevelParams}
+use Rattle.pg_types.specs.Counts.{Counts}
+use Rattle.pg_dict.specs.Word.{Word, IsWord, letters_of}
+use Rattle.pg_select.specs.declared.pass.Pass.{Pass}
+use Rattle.pg_select.specs.LawsSteps.{FindsMore, PreventsMore}
+use Rattle.pg_select.specs.Statuses.{is_odd}
+use Rattle.pg_select.specs.Windows.{Patterns}
+use Rattle.pg_driver.specs.declared.choices.Choices.{Choices}
+use Rattle.pg_driver.specs.declared.counting.Counting.{Counting}
+use Rattle.pg_driver.specs.declared.counting.Counting.TheVariants.{Open, EachWord}
+use Rattle.pg_driver.specs.declared.counting.OpenLevel.{OpenLevel}
+use Rattle.pg_driver.specs.Accounts.{totals_by}
+use Rattle.pg_driver.specs.OpenLevels.{InLevel, position_after}
+use Rattle.pg_driver.specs.OpenPositions.{IsPlaced}
+use Rattle.pg_driver.specs.Sound.{IsSmall}
+use Rattle.pg_driver.specs.Traces.{Known, Source}
+
+-- the positions are the open ones at a length of a level, and the totals are those by the patterns
+pub record IsOpenAt (source : Source) (level len : ℕ) (known : Known) (o : OpenLevel) : Type 0 where
+  pub least : 1 ≤ source.minima.left
+  pub words : All IsWord source.words
+  pub letters : sum_by letters_of source.words ≤ FILE_MAX
+  pub positions : InLevel level len source.minima source.words known.patterns known.hopeless o.positions.items
+  pub totals : o.totals ≡ totals_by source known.patterns
+
+-- a way to count is ready for the passes of a length
+abbrev pub IsReady : Source → ℕ → ℕ → Known → Counting → Type 0
+IsReady source level len known (Open o) = IsOpenAt source level len known o
+IsReady source level len known EachWord = Unit {0}
+
+-- carried totals are those by the patterns, and small
+abbrev pub TellsTotals : Source → Patterns → Counting → Type 0
+TellsTotals source P (Open o) = (o.totals ≡ totals_by source P) × IsSmall o.totals
+TellsTotals source P EachWord = Unit {0}
+
+-- each open position stands in one of the words
+abbrev pub ArePlaced : List Word → Counting → Type 0
+ArePlaced words (Open o) = All (IsPlaced words) o.positions.items
+ArePlaced words EachWord = Unit {0}
+
+-- the totals before and after a pass whose chosen windows have these sums
+abbrev pub Carries : Bool → Totals → Totals → ℕ → ℕ → Type 0
+Carries odd old new good bad = MatchBool odd (FindsMore old new good bad) (PreventsMore old new good bad)
+
+-- the totals before a pass have what its choices take away, and all sums are small
+pub record CanCarry (odd : Bool) (totals : Totals) (good bad : ℕ) : Type 0 where
+  pub small : IsSmall totals
+  pub sums : (good < 2 ^ 40) × (bad < 2 ^ 40)
+  pub within : MatchBool odd (good ≤ totals.missed) ((bad ≤ totals.good) × (good ≤ totals.bad))
+
+abbrev pub CanGoOn : Pass → Choices → Counting → Type 0
+CanGoOn pass n (Open o) = CanCarry (is_odd pass.level) o.totals n.good n.bad
+CanGoOn pass n EachWord = Unit {0}
+
+-- what the choices of a pass make of open positions: the dots are closed, and the totals are carried on
+pub record IsAfterPass (params : LevelParams) (pass : Pass) (counts : Counts) (words : List Word) (n : Choices) (old new : OpenLevel) : Type 0 where
+  pub positions : new.positions.items ≡ map (position_after params pass counts words) old.positions.items
+  pub totals : Carries (is_odd pass.level) old.totals new.totals n.good n.bad
+
+abbrev pub GoesOnAfter : LevelParams → Pass → Counts → List Word → Choices → Counting → Counting → Type 0
+GoesOnAfter params pass counts words n (Open o) (Open p) = IsAfterPass params pass counts words n o p
+GoesOnAfter params pass counts words n (Open o) EachWord = ⊥
+GoesOnAfter params pass counts words n EachWord (Open p) = ⊥
+GoesOnAfter params pass counts words n EachWord EachWord = Unit {0}
