@@ -121,7 +121,7 @@ three_read n t p S h2 h3 keeps two more = both h3 (HasTwo n t p) (λ files. read
 
 pub all_read : (n : FileNames) (t : Alphabet) (p : Parameters) (S : List ((List ℕ × ℕ) × ℕ)) (ws : List Word) (h3 h4 : Option FileMap) → KeepsHeld h3 h4 → IfSome h3 (HasThree n t p S) → IfSome h4 (λ files. read_as (words t) (file_at files) n.dict ≡ Some (Ok ws)) → IfSome h4 (λ files. HasInputs (file_at files) n (record { table = t; params = p; start = S; dictionary = ws }))
 all_read n t p S ws h3 h4 keeps three more =
-    mapped h4 (λ files. HasThree n t p S files × (read_as (words t) (file_at files) n.dict ≡ Some (Ok ws))) (λ files. HasInputs (file_at files) n (record { table = t; params = p; start = S; dictionary = ws })) (λ files h. (h.0.0.0, h.0.0.1, h.0.1, h.1))
+    mapped h4 (λ files. HasThree n t p S files × (read_as (words t) (file_at files) n.dict ≡ Some (Ok ws))) (λ files. HasInputs (file_at files) n (record { table = t; params = p; start = S; dictionary = ws })) (λ files h. record { table = h.0.0.0; params = h.0.0.1; start = h.0.1; words = h.1 })
     (both h4 (HasThree n t p S) (λ files. read_as (words t) (file_at files) n.dict ≡ Some (Ok ws)) (held_later h3 h4 (HasThree n t p S) keeps three) more)
 
 -- a stop at the first input, at the second, at the third and at the last

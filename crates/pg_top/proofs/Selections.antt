@@ -1,5 +1,5 @@
 -- What the driver gives over a new engine is the selection.
-use Rattle.std.proofs.Common.{◌≡◌, ℕ, ◌<◌, ◌-◌, List, [], ◌∷◌, Option, None, Some, fold, map, length, get_or, refl, ap, ◌∙◌, arith}
+use Rattle.std.proofs.Common.{◌≡◌, ℕ, ◌<◌, ◌-◌, List, [], ◌∷◌, Option, None, Some, fold, map, length, get_or, refl, ap, subst, ◌∙◌, arith}
 use Rattle.std.specs.Option.{option_map}
 use Rattle.pg_types.specs.declared.marks.Layout.{Layout}
 use Rattle.pg_types.specs.Placement.{Families}
@@ -10,8 +10,14 @@ use Rattle.pg_driver.specs.Sound.{Finished}
 use Rattle.pg_driver.specs.Told.{patterns_from, account_from, begun_from, cells_from, TellsCells, level_layout_told}
 use Rattle.pg_driver.specs.Accounts.{Account}
 use Rattle.pg_select.specs.Windows.{Patterns}
+use Rattle.pg_packed.specs.Starts.{entered_all}
+use Rattle.pg_patterns.specs.Texts.{pattern_text}
+use Rattle.pg_patterns.specs.Values.{largest}
+use Rattle.pg_texts.specs.CellsTexts.{cells_text}
+use Rattle.pg_texts.specs.PattmpTexts.{pattmp_text}
+use Rattle.pg_texts.specs.ReportTexts.{report_text}
 use Rattle.pg_top.specs.Runs.{last_told}
-use Rattle.pg_top.specs.Selection.{signs_of, selection, selected, selected_account, passes_begun, selected_cells_from, last_layout}
+use Rattle.pg_top.specs.Selection.{signs_of, selection, selected, selected_account, passes_begun, selected_cells_from, selected_cells, selected_text, selected_list, selected_cells_text, selected_report, last_layout}
 use Rattle.pg_top.specs.declared.reading.Inputs.{Inputs}
 
 -- the engine was just made with the starting patterns of the inputs
@@ -65,3 +71,25 @@ last_at [] first d some = absurd (omega arith)
 last_at (l ∷ levels) first d some =
     let place : length levels ≡ length (l ∷ levels) - 1 = omega arith in
     last_behind l levels first d ∙ ap (λ k. (get_or (l ∷ levels) k d).layout) place
+
+-- over the packed engine these are the cells
+pub cells_packed : (i : Inputs) (fs : Option Families) (r : Finished) → fs ≡ Some (entered_all (signs_of i) i.start) → TellsCells (option_map (selected_cells_from i) fs) r → TellsCells (Some (selected_cells i)) r
+unfolding selected_cells
+cells_packed i fs r is tells = subst (λ fs. TellsCells (option_map (selected_cells_from i) fs) r) is tells
+
+-- the texts of the selection
+pub text_selected : (i : Inputs) (P : Patterns) → P ≡ selected i → pattern_text i.table P ≡ selected_text i
+unfolding selected_text
+text_selected i P is = ap (pattern_text i.table) is
+
+pub list_selected : (i : Inputs) (P : Patterns) → P ≡ selected i → pattmp_text i.table P i.dictionary ≡ selected_list i
+unfolding selected_list
+list_selected i P is = ap (λ P. pattmp_text i.table P i.dictionary) is
+
+pub cells_text_selected : (i : Inputs) → cells_text (selected_cells i) ≡ selected_cells_text i
+unfolding selected_cells_text
+cells_text_selected i = refl
+
+pub report_selected : (i : Inputs) (value : ℕ) (a : Account) → value ≡ largest i.start → a ≡ selected_account i → report_text value i.params a ≡ selected_report i
+unfolding selected_report
+report_selected i value a same is = (λ k. report_text (same k) i.params (is k))

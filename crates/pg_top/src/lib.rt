@@ -14,6 +14,8 @@ mod selection;
 #[cfg(test)]
 mod tests;
 mod top;
+#[cfg(test)]
+mod whole_rows;
 pub mod words;
 pub mod writes;
 

@@ -41,7 +41,7 @@ fn push_pattmp<'a, E: Engine>(
     requires greatest { (E.meaning engine.now).signs ≡ signs_of inputs.now }
     requires patterns { (E.meaning engine.now).patterns ≡ selected inputs.now }
     ensures { OnOk result (writing_of files.new.items ≡
-        writing_of files.old.items ++ if_asked (name_now name) (λ name. (name, selected_list inputs.now))) }
+        writing_of files.old.items ++ if_asked (name_now name.entry) (λ name. (name, selected_list inputs.now))) }
 {
     if let Some(name) = name {
         let text = pattmp_text(alloc, engine, &inputs.dictionary, &inputs.table)?;
@@ -60,7 +60,7 @@ fn push_cells<'a>(
 ) -> Result<(), AllocError>
     requires { TellsCells (Some (selected_cells inputs.now)) run.now }
     ensures { OnOk result (writing_of files.new.items ≡
-        writing_of files.old.items ++ if_asked (name_now name) (λ name. (name, selected_cells_text inputs.now))) }
+        writing_of files.old.items ++ if_asked (name_now name.entry) (λ name. (name, selected_cells_text inputs.now))) }
 {
     if let Some(name) = name {
         let text = cells_text(alloc, run)?;

@@ -16,7 +16,7 @@ fn is_name(word: &str) -> bool
 
 /// Whether the word of an option can be a name, where it is asked for.
 fn is_name_if_asked(word: Option<&str>) -> bool
-    ensures { result ≡ list_all is_name_word (if_asked (name_now word) (λ name. name)) }
+    ensures { result ≡ list_all is_name_word (if_asked (name_now word.entry) (λ name. name)) }
 {
     match word {
         Some(word) => is_name(word),
@@ -50,7 +50,7 @@ fn differs_from_inputs(output: &str, names: &Names<'_>) -> bool
 
 /// Whether a name differs from that of an option, where it is asked for.
 fn differs_if_asked(name: &str, other: Option<&str>) -> bool
-    ensures { result ≡ differs_from name.now (if_asked (name_now other) (λ name. name)) }
+    ensures { result ≡ differs_from name.now (if_asked (name_now other.entry) (λ name. name)) }
 {
     match other {
         Some(other) => name != other,
@@ -105,7 +105,7 @@ fn are_distinct(names: &Names<'_>) -> bool
 
 /// The names with that of an option.
 fn with_option<'a>(names: Names<'a>, option: &str, name: &'a str) -> Option<Names<'a>>
-    ensures { option_map texts_of result ≡ with_option_of (texts_of names) option.now name.now }
+    ensures { option_map texts_of result ≡ with_option_of (texts_of names.entry) option.now name.now }
 {
     if option == "--pattmp" {
         Some(Names {
@@ -125,7 +125,7 @@ fn with_option<'a>(names: Names<'a>, option: &str, name: &'a str) -> Option<Name
 /// The names with those of two options, which differ.
 fn with_both<'a>(names: Names<'a>, words: &'a [String]) -> Option<Names<'a>>
     requires { length words.now ≡ 4 }
-    ensures { option_map texts_of result ≡ with_options_of (texts_of names) (words_of words.now) }
+    ensures { option_map texts_of result ≡ with_options_of (texts_of names.entry) (words_of words.now) }
 {
     let (first, second) = (words[0].as_str(), words[2].as_str());
     if first == second {
@@ -139,7 +139,7 @@ fn with_both<'a>(names: Names<'a>, words: &'a [String]) -> Option<Names<'a>>
 
 /// The names with those of the options, of which each may stand once.
 fn with_options<'a>(names: Names<'a>, words: &'a [String]) -> Option<Names<'a>>
-    ensures { option_map texts_of result ≡ with_options_of (texts_of names) (words_of words.now) }
+    ensures { option_map texts_of result ≡ with_options_of (texts_of names.entry) (words_of words.now) }
 {
     match words.len() {
         0 => Some(names),
