@@ -1,7 +1,7 @@
 -- A line of items is cut into them, and a file of lines into those.
-use Rattle.std.proofs.Common.{◌≡◌, ℕ, ◌+◌, ◌≤◌, Bool, true, cond, not, List, [], ◌∷◌, ◌++◌, length, map, Ok, refl, ◌∙◌, ap, arith}
-use Rattle.std.specs.List.{list_all, AllByRecursion, onto_first}
-use Rattle.std.proofs.lemmas.Bool.{and_parts, not-true}
+use Rattle.std.proofs.Common.{◌≡◌, ℕ, ◌+◌, ◌≤◌, Bool, true, cond, not, List, [], ◌∷◌, ◌++◌, length, map, Ok, refl, ◌∙◌, ap, arith, false, ◌-◌, ◌==◌, ◌||◌, take, slice_index, zero, suc}
+use Rattle.std.specs.List.{list_all, list_any, AllByRecursion, onto_first}
+use Rattle.std.proofs.lemmas.Bool.{and_parts, and_from, or_parts, not-true}
 use Rattle.std.proofs.lemmas.List.{append_assoc}
 use Rattle.pg_types.specs.declared.limits.TheConstants.{FILE_MAX, WORD_LETTERS_MAX}
 use Rattle.pg_types.specs.Lines.{pieces_at, is_line_feed, without_cr, lines}
@@ -12,6 +12,8 @@ use Rattle.pg_translate.specs.Gaps.{signs_of}
 use Rattle.pg_translate.specs.Items.{IsItem, joined}
 use Rattle.pg_translate.specs.Rules.{KeepsRules}
 use Rattle.pg_translate.specs.declared.items.Place.TheVariants.{Dictionary}
+use Rattle.pg_translate.specs.Spellings.{is_space}
+use Rattle.pg_translate.proofs.Unbroken.{joined_unbroken}
 use Rattle.pg_translate.proofs.JoinedItems as reads
 use Rattle.pg_dict.specs.Word.{Word}
 use Rattle.pg_dict.specs.Words.{LineWord, line_word, line_of, on_line, words_from, words}
@@ -61,3 +63,23 @@ words_of_lines t line weight (text ∷ texts) (w ∷ ws) give =
 pub file_is_read : (t : Alphabet) (texts : List (List ℕ)) (ws : List Word) → AllByRecursion IsLine texts → LinesGive t 1 texts ws → length (file_of texts) ≤ FILE_MAX → words t (file_of texts) ≡ Ok ws
 file_is_read t texts ws each give short =
     words_short t (file_of texts) short ∙ ap (words_from t 1 1) (lines_of_file texts each) ∙ words_of_lines t 1 1 texts ws give
+
+-- a text without a blank, a TAB, an LF and a CR is a line
+unbroken_feed : (text : List ℕ) → list_any is_space text ≡ false → list_all (λ b. not (is_line_feed b)) text ≡ true
+unbroken_feed [] unbroken = refl
+unbroken_feed (b ∷ bs) unbroken =
+    let parts = or_parts (is_space b) (list_any is_space bs) unbroken in
+    let feed : (b == 10) ≡ false = (or_parts (b == 32 || b == 9) (b == 10) (or_parts ((b == 32 || b == 9) || b == 10) (b == 13) parts.0).0).1 in
+    and_from _ _ (ap not feed) (unbroken_feed bs parts.1)
+
+unbroken_return : (text : List ℕ) (i : ℕ) → list_any is_space text ≡ false → (slice_index text i == 13) ≡ false
+unbroken_return [] i unbroken = refl
+unbroken_return (b ∷ bs) zero unbroken = (or_parts ((b == 32 || b == 9) || b == 10) (b == 13) (or_parts (is_space b) (list_any is_space bs) unbroken).0).1
+unbroken_return (b ∷ bs) (suc i) unbroken = unbroken_return bs i (or_parts (is_space b) (list_any is_space bs) unbroken).1
+
+-- so is a text of items
+pub items_line : (t : Alphabet) → KeepsRules t → (items : List (Token × List ℕ)) → AllByRecursion (λ (item : Token × List ℕ). IsItem t Dictionary item.0 item.1) items → IsLine (joined items)
+items_line t rules items each =
+    let text : List ℕ = joined items in
+    let unbroken : list_any is_space text ≡ false = joined_unbroken t rules Dictionary items each in
+    record { whole = unbroken_feed text unbroken; ended = ap (λ (test : Bool). cond test (take (length text - 1) text) text) (unbroken_return text (length text - 1) unbroken) }

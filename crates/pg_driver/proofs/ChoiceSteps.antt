@@ -17,7 +17,7 @@ use Rattle.pg_patterns.specs.Values.{raise}
 use Rattle.pg_types.specs.Counts.{Counts, above, is_counted}
 use Rattle.pg_select.specs.Meanings.{Meaning}
 use Rattle.pg_select.specs.declared.pass.Pass.{Pass}
-use Rattle.pg_select.specs.Sights.{Candidate}
+use Rattle.pg_select.specs.CountedPositions.{Candidate}
 use Rattle.pg_select.specs.Windows.{Hopeless as HopelessPlaces}
 use Rattle.pg_driver.specs.declared.choices.Choices.{Choices}
 use Rattle.pg_driver.specs.Counting.{is_filled, weight_in}

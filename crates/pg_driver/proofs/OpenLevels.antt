@@ -17,8 +17,8 @@ use Rattle.pg_select.specs.declared.pass.Pass.{Pass}
 use Rattle.pg_select.specs.Choices.{choice}
 use Rattle.pg_select.specs.LawsSteps.{IsBelow, candidate_at, is_candidate, patterns_after_pass, hopeless_after_pass}
 use Rattle.pg_select.specs.LawsClosedDots.{counted_with, longer, Tells, closed_after}
-use Rattle.pg_select.specs.Meanings.{with_sight}
-use Rattle.pg_select.specs.Sights.{Minima, Sight, Candidate, counts_as, good_of, bad_of, sights}
+use Rattle.pg_select.specs.Meanings.{with_position}
+use Rattle.pg_select.specs.CountedPositions.{Minima, CountedPosition, Candidate, counts_as, good_of, bad_of, counted_positions}
 use Rattle.pg_select.specs.Statuses.{status_at}
 use Rattle.pg_select.specs.Windows.{Patterns, Hopeless, window, fits}
 use Rattle.pg_select.proofs.LawsBounds.{up_to_at_start, up_to_after, covers_up_to_at_start, covers_up_to_longer, covers_up_to_after}
@@ -135,7 +135,7 @@ level_longer level len m words P H entries upto is = record {
 all_in : (d : ℕ) → d ≤ LENGTH_MAX → has_dot all_dots d ≡ true
 all_in d within = ap (λ n. nat_eq n 1) (bit_at_ones 16 d (omega arith))
 
-found_is : (seen : List Sight) (u : List ℕ) → find cmp u (fold with_sight [] seen) ≡ cond (is_seen seen u) (Some (good_of seen u, bad_of seen u)) None
+found_is : (seen : List CountedPosition) (u : List ℕ) → find cmp u (fold with_position [] seen) ≡ cond (is_seen seen u) (Some (good_of seen u, bad_of seen u)) None
 found_is seen u = sums_found u [] seen ∙ plain (is_seen seen u) (good_of seen u) (bad_of seen u)
   where
     zero_plus : (n : ℕ) → 0 + n ≡ n
@@ -168,20 +168,20 @@ after_is dots dot d true MadeHopeless low within = bit_with dots.bits dot d (ome
     one false true = refl
     one false false = refl
 
-module _ (level : LevelParams) (m : Minima) (words : List Word) (pass : Pass) (P : Patterns) (H : Hopeless) (counts : Counts) (low : pass.dot ≤ LENGTH_MAX) (counted : counts ≡ fold with_sight [] (sights m words pass P H)) (w : Word) (p : ℕ) (dots : DotSet) where
+module _ (level : LevelParams) (m : Minima) (words : List Word) (pass : Pass) (P : Patterns) (H : Hopeless) (counts : Counts) (low : pass.dot ≤ LENGTH_MAX) (counted : counts ≡ fold with_position [] (counted_positions m words pass P H)) (w : Word) (p : ℕ) (dots : DotSet) where
   closed_is : (d : ℕ) → d ≤ LENGTH_MAX
-      → closed_after (has_dot dots) pass.dot (fits w.signs p pass.len pass.dot) (is_candidate (λ (c : Candidate). is_chosen (choice_of level c)) (sights m words pass P H) (window w.signs p pass.len pass.dot)) (is_candidate (λ (c : Candidate). is_hopeless (choice_of level c)) (sights m words pass P H) (window w.signs p pass.len pass.dot)) d
+      → closed_after (has_dot dots) pass.dot (fits w.signs p pass.len pass.dot) (is_candidate (λ (c : Candidate). is_chosen (choice_of level c)) (counted_positions m words pass P H) (window w.signs p pass.len pass.dot)) (is_candidate (λ (c : Candidate). is_hopeless (choice_of level c)) (counted_positions m words pass P H) (window w.signs p pass.len pass.dot)) d
       ≡ has_dot (closed_dots_after level pass counts w p dots) d
   closed_is d within =
       ap (λ b. cond (fits w.signs p pass.len pass.dot && not (has_dot dots pass.dot)) b (has_dot dots d))
-      (sym (ap (λ (o : Option Choice). has_dot (dots_after dots pass.dot o) d) (ap (option_map choice_by) (ap (find cmp (window w.signs p pass.len pass.dot)) counted ∙ found_is (sights m words pass P H) (window w.signs p pass.len pass.dot)) ∙ chosen_of_sums (is_seen (sights m words pass P H) (window w.signs p pass.len pass.dot)))
-      ∙ after_is dots pass.dot d (is_seen (sights m words pass P H) (window w.signs p pass.len pass.dot)) (choice_of level (candidate_at (sights m words pass P H) (window w.signs p pass.len pass.dot))) low within))
+      (sym (ap (λ (o : Option Choice). has_dot (dots_after dots pass.dot o) d) (ap (option_map choice_by) (ap (find cmp (window w.signs p pass.len pass.dot)) counted ∙ found_is (counted_positions m words pass P H) (window w.signs p pass.len pass.dot)) ∙ chosen_of_sums (is_seen (counted_positions m words pass P H) (window w.signs p pass.len pass.dot)))
+      ∙ after_is dots pass.dot d (is_seen (counted_positions m words pass P H) (window w.signs p pass.len pass.dot)) (choice_of level (candidate_at (counted_positions m words pass P H) (window w.signs p pass.len pass.dot))) low within))
       ∙ outer (fits w.signs p pass.len pass.dot && not (has_dot dots pass.dot))
     where
       choice_by : ℕ × ℕ → Choice
       choice_by sums = choice level sums.0 sums.1
 
-      chosen_of_sums : (s : Bool) → option_map (λ (sums : ℕ × ℕ). choice level sums.0 sums.1) (cond s (Some (good_of (sights m words pass P H) (window w.signs p pass.len pass.dot), bad_of (sights m words pass P H) (window w.signs p pass.len pass.dot))) None) ≡ cond s (Some (choice_of level (candidate_at (sights m words pass P H) (window w.signs p pass.len pass.dot)))) None
+      chosen_of_sums : (s : Bool) → option_map (λ (sums : ℕ × ℕ). choice level sums.0 sums.1) (cond s (Some (good_of (counted_positions m words pass P H) (window w.signs p pass.len pass.dot), bad_of (counted_positions m words pass P H) (window w.signs p pass.len pass.dot))) None) ≡ cond s (Some (choice_of level (candidate_at (counted_positions m words pass P H) (window w.signs p pass.len pass.dot)))) None
       chosen_of_sums true = refl
       chosen_of_sums false = refl
 
@@ -192,7 +192,7 @@ module _ (level : LevelParams) (m : Minima) (words : List Word) (pass : Pass) (P
 abbrev next_after : LevelParams → Pass → Counts → List Word → OpenPosition → Option DotSet
 next_after level pass counts words e = Some (option_map_or (λ (w : Word). closed_dots_after level pass counts w e.at e.closed) (slice_get words e.word) e.closed)
 
-pub level_after_pass : (level : LevelParams) (m : Minima) (words : List Word) (pass : Pass) (P : Patterns) (H : Hopeless) (counts : Counts) (entries : List OpenPosition) → pass.dot ≤ LENGTH_MAX → counts ≡ fold with_sight [] (sights m words pass P H)
+pub level_after_pass : (level : LevelParams) (m : Minima) (words : List Word) (pass : Pass) (P : Patterns) (H : Hopeless) (counts : Counts) (entries : List OpenPosition) → pass.dot ≤ LENGTH_MAX → counts ≡ fold with_position [] (counted_positions m words pass P H)
     → InLevel pass.level pass.len m words P H entries
     → InLevel pass.level pass.len m words (patterns_after_pass m words pass P H (λ c. is_chosen (choice_of level c))) (hopeless_after_pass m words pass P H (λ c. is_hopeless (choice_of level c))) (map (position_after level pass counts words) entries)
 level_after_pass level m words pass P H counts entries low counted is = record {

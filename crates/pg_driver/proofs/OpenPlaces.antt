@@ -10,7 +10,7 @@ use Rattle.std.proofs.lemmas.Option.{slice_get_within}
 use Rattle.pg_translate.specs.Reach.{positions}
 use Rattle.pg_dict.specs.Word.{Word, letters_of}
 use Rattle.pg_select.specs.Laws.{positions_in}
-use Rattle.pg_select.specs.Sights.{Minima}
+use Rattle.pg_select.specs.CountedPositions.{Minima}
 use Rattle.pg_select.specs.Windows.{Patterns, Hopeless}
 use Rattle.pg_select.proofs.LawsSums.{positions_within}
 use Rattle.pg_driver.specs.declared.dot_set.DotSet.{DotSet}

@@ -7,7 +7,7 @@ use Rattle.std.proofs.lemmas.List.Concat.{flat_map-append}
 use Rattle.pg_types.specs.declared.limits.TheConstants.{LENGTH_MAX}
 use Rattle.pg_translate.specs.Reach.{positions}
 use Rattle.pg_dict.specs.Word.{Word}
-use Rattle.pg_select.specs.Sights.{Minima, sight_at, sights_in, sights}
+use Rattle.pg_select.specs.CountedPositions.{Minima, counted_positions_at, counted_positions_in, counted_positions}
 use Rattle.pg_select.specs.Statuses.{weight_at}
 use Rattle.pg_select.specs.Windows.{Patterns, Hopeless, window}
 use Rattle.pg_select.proofs.LawsTally.{seen_as}
@@ -65,23 +65,23 @@ open_go_on level len l m words P P' H H' next entries done tells are_open = reco
 
 -- what a pass counts
 module _ (level len dot : ℕ) (m : Minima) (words : List Word) (P : Patterns) (H : Hopeless) (closed : ℕ → ℕ → Option DotSet) (short : len ≤ LENGTH_MAX) (within : dot ≤ len) (known : (n p : ℕ) (w : Word) → slice_get words n ≡ Some w → IsKnown level len P H w p (closed n p)) where
-  counted_entry : (n p : ℕ) (w : Word) → slice_get words n ≡ Some w → sight_at (pass_at level len dot) P H w p ≡ flat_map (counted_of level len dot words) (open_with closed (n, p))
+  counted_entry : (n p : ℕ) (w : Word) → slice_get words n ≡ Some w → counted_positions_at (pass_at level len dot) P H w p ≡ flat_map (counted_of level len dot words) (open_with closed (n, p))
   counted_entry n p w at = by_dots (closed n p) (known n p w at)
     where
-      by_dots : (o : Option DotSet) → IsKnown level len P H w p o → sight_at (pass_at level len dot) P H w p ≡ flat_map (counted_of level len dot words) (open_with_dots n p o)
+      by_dots : (o : Option DotSet) → IsKnown level len P H w p o → counted_positions_at (pass_at level len dot) P H w p ≡ flat_map (counted_of level len dot words) (open_with_dots n p o)
       by_dots None done = ap (λ (o : Option Bool). seen_as (window w.signs p len dot) (weight_at w p) o) (done dot within)
       by_dots (Some dots) tells =
           ap (λ (o : Option Bool). seen_as (window w.signs p len dot) (weight_at w p) o) (tells dot (omega arith))
           ∙ ap (λ (o : Option Word). option_map_or (λ (u : Word). counted_in level len dot u p (has_dot dots dot)) o []) (sym at)
           ∙ sym (append-nil (counted_of level len dot words (record { word = n; at = p; closed = dots })))
 
-  counted_word : (n : ℕ) (w : Word) → slice_get words n ≡ Some w → (ps : List ℕ) → flat_map (sight_at (pass_at level len dot) P H w) ps ≡ flat_map (counted_of level len dot words) (flat_map (open_with closed) (map (λ p. (n, p)) ps))
+  counted_word : (n : ℕ) (w : Word) → slice_get words n ≡ Some w → (ps : List ℕ) → flat_map (counted_positions_at (pass_at level len dot) P H w) ps ≡ flat_map (counted_of level len dot words) (flat_map (open_with closed) (map (λ p. (n, p)) ps))
   counted_word n w at [] = refl
   counted_word n w at (p ∷ ps) =
       (λ i. counted_entry n p w at i ++ counted_word n w at ps i)
       ∙ sym (flat_map-append (counted_of level len dot words) (open_with closed (n, p)) (flat_map (open_with closed) (map (λ p. (n, p)) ps)))
 
-  counted_words : (n : ℕ) (ws : List Word) → ((k : ℕ) (w : Word) → slice_get ws k ≡ Some w → slice_get words (n + k) ≡ Some w) → flat_map (sights_in m (pass_at level len dot) P H) ws ≡ flat_map (counted_of level len dot words) (flat_map (open_with closed) (numbered_positions m n ws))
+  counted_words : (n : ℕ) (ws : List Word) → ((k : ℕ) (w : Word) → slice_get ws k ≡ Some w → slice_get words (n + k) ≡ Some w) → flat_map (counted_positions_in m (pass_at level len dot) P H) ws ≡ flat_map (counted_of level len dot words) (flat_map (open_with closed) (numbered_positions m n ws))
   counted_words n [] place = refl
   counted_words n (w ∷ ws) place =
       let here : slice_get words n ≡ Some w = ap (slice_get words) (plus_zero n) ∙ place 0 w refl in
@@ -96,7 +96,7 @@ module _ (level len dot : ℕ) (m : Minima) (words : List Word) (P : Patterns) (
       plus_one n k = omega arith
 
 pub counted_are_open : (level len dot : ℕ) (m : Minima) (words : List Word) (P : Patterns) (H : Hopeless) (entries : List OpenPosition) → len ≤ LENGTH_MAX → dot ≤ len → AreOpen level len m words P H entries
-    → sights m words (pass_at level len dot) P H ≡ flat_map (counted_of level len dot words) entries
+    → counted_positions m words (pass_at level len dot) P H ≡ flat_map (counted_of level len dot words) entries
 counted_are_open level len dot m words P H entries short within are_open =
     counted_words level len dot m words P H are_open.closed short within are_open.known 0 words (λ k w at. ap (slice_get words) (zero_plus k) ∙ at)
     ∙ ap (flat_map (counted_of level len dot words)) (sym are_open.are)

@@ -8,8 +8,8 @@ use Rattle.std.specs.Option.{option_map_or}
 use Rattle.std.specs.FinMap.Entries.{find}
 use Rattle.pg_dict.specs.Word.{Word, IsWord, letters_of}
 use Rattle.pg_types.specs.Counts.{Counts}
-use Rattle.pg_select.specs.Meanings.{Meaning, with_sight}
-use Rattle.pg_select.specs.Sights.{Minima, Sight}
+use Rattle.pg_select.specs.Meanings.{Meaning, with_position}
+use Rattle.pg_select.specs.CountedPositions.{Minima, CountedPosition}
 use Rattle.pg_select.specs.Statuses.{weight_at}
 use Rattle.pg_select.specs.Windows.{Patterns, window, fits}
 use Rattle.pg_driver.specs.Counting.{counting, HasRoom, TookRoom}
@@ -33,10 +33,10 @@ position_added {Y} f items more whole p end before is left =
     added_step f items more whole p (range_with_len (p + 1) (end - (p + 1))) is (ap (λ (ps : List ℕ). items ++ flat_map f ps) (sym (range_step p end before)) ∙ left)
 
 -- what is counted at an open position takes the room of one
-pub took_in : (counts : Counts) (level len dot : ℕ) (w : Word) (p n : ℕ) (closed : Bool) → 1 ≤ len → IsWord w → p < length w.signs → HasRoom counts n → TookRoom counts (fold with_sight counts (counted_in level len dot w p closed)) 1
+pub took_in : (counts : Counts) (level len dot : ℕ) (w : Word) (p n : ℕ) (closed : Bool) → 1 ≤ len → IsWord w → p < length w.signs → HasRoom counts n → TookRoom counts (fold with_position counts (counted_in level len dot w p closed)) 1
 took_in counts level len dot w p n closed long word within room = by_test (fits w.signs p len dot) closed refl
   where
-    by_test : (a b : Bool) → fits w.signs p len dot ≡ a → TookRoom counts (fold with_sight counts (option_map_or (λ good. record { window = window w.signs p len dot; good = good; weight = weight_at w p } ∷ []) (cond (a && not b) (Some (is_good level w p)) None) [])) 1
+    by_test : (a b : Bool) → fits w.signs p len dot ≡ a → TookRoom counts (fold with_position counts (option_map_or (λ good. record { window = window w.signs p len dot; good = good; weight = weight_at w p } ∷ []) (cond (a && not b) (Some (is_good level w p)) None) [])) 1
     by_test false b is = took_none counts n 1 room
     by_test true true is = took_none counts n 1 room
     by_test true false is = took_with counts (record { window = window w.signs p len dot; good = is_good level w p; weight = weight_at w p }) n room (window_filled w.signs p len dot long is) (weight_small w p word within)
@@ -84,7 +84,7 @@ word_added m level P items more whole words i w at is left =
     ∙ left
 
 -- an entry that was counted, and then the rest
-pub entry_counted : (f : OpenPosition → List Sight) (m n whole : Meaning) (entries : List OpenPosition) (i : ℕ) (d : OpenPosition) → i < length entries → n ≡ counting m (f (get_or entries i d)) → counting m (flat_map f (drop i entries)) ≡ whole → counting n (flat_map f (drop (i + 1) entries)) ≡ whole
+pub entry_counted : (f : OpenPosition → List CountedPosition) (m n whole : Meaning) (entries : List OpenPosition) (i : ℕ) (d : OpenPosition) → i < length entries → n ≡ counting m (f (get_or entries i d)) → counting m (flat_map f (drop i entries)) ≡ whole → counting n (flat_map f (drop (i + 1) entries)) ≡ whole
 entry_counted f m n whole entries i d within is left =
     counted_step f m n whole (get_or entries i d) (drop (i + 1) entries) is (ap (λ (es : List OpenPosition). counting m (flat_map f es)) (sym (drop_more entries i d within)) ∙ left)
 

@@ -10,8 +10,8 @@ use Rattle.pg_dict.specs.Word.{Word, letters_of}
 use Rattle.pg_patterns.specs.Values.{largest}
 use Rattle.pg_select.specs.declared.pass.Pass.{Pass}
 use Rattle.pg_select.specs.LawsSteps.{IsBelow, IsUpTo}
-use Rattle.pg_select.specs.Meanings.{Meaning, begun_pass, with_sight}
-use Rattle.pg_select.specs.Sights.{Sight, sights}
+use Rattle.pg_select.specs.Meanings.{Meaning, begun_pass, with_position}
+use Rattle.pg_select.specs.CountedPositions.{CountedPosition, counted_positions}
 use Rattle.pg_select.specs.Statuses.{is_odd}
 use Rattle.pg_select.specs.Windows.{Patterns}
 use Rattle.pg_select.proofs.LawsBounds.{next_is_below, up_to_largest, up_to_more, up_to_raised}
@@ -38,7 +38,7 @@ room_open m n level len dot source entries low few begins is =
 
 -- counting the open positions counts what the pass counts
 pub open_counted : (m n after : Meaning) (level len dot : ℕ) (source : Source) (entries : List OpenPosition) → len ≤ LENGTH_MAX → dot ≤ len → InLevel level len source.minima source.words m.patterns m.hopeless entries → n ≡ begun_pass m level len dot
-    → after ≡ counting n (flat_map (counted_of level len dot source.words) entries) → after ≡ counting (begun_pass m level len dot) (sights source.minima source.words (record { level = level; len = len; dot = dot }) m.patterns m.hopeless)
+    → after ≡ counting n (flat_map (counted_of level len dot source.words) entries) → after ≡ counting (begun_pass m level len dot) (counted_positions source.minima source.words (record { level = level; len = len; dot = dot }) m.patterns m.hopeless)
 open_counted m n after level len dot source entries short within is begins counts =
     counts
     ∙ ap (λ (x : Meaning). counting x (flat_map (counted_of level len dot source.words) entries)) begins
@@ -46,7 +46,7 @@ open_counted m n after level len dot source entries short within is begins count
 
 module _ (source : Source) (params : LevelParams) (known : Known) (pass : Pass) where
   -- the open positions after a pass of the trace
-  pub level_on : (counts : Counts) (entries : List OpenPosition) → pass.dot ≤ LENGTH_MAX → counts ≡ fold with_sight [] (sights source.minima source.words pass known.patterns known.hopeless)
+  pub level_on : (counts : Counts) (entries : List OpenPosition) → pass.dot ≤ LENGTH_MAX → counts ≡ fold with_position [] (counted_positions source.minima source.words pass known.patterns known.hopeless)
       → InLevel pass.level pass.len source.minima source.words known.patterns known.hopeless entries
       → InLevel pass.level pass.len source.minima source.words (known_after (pass_made source params known pass)).patterns (known_after (pass_made source params known pass)).hopeless (map (position_after params pass counts source.words) entries)
   level_on counts entries low counted is = level_after_pass params source.minima source.words pass known.patterns known.hopeless counts entries low counted is

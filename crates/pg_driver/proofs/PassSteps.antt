@@ -8,9 +8,9 @@ use Rattle.pg_types.specs.declared.parameters.LevelParams.{LevelParams}
 use Rattle.pg_types.specs.Placement.{Families, taken, top}
 use Rattle.pg_translate.specs.Alphabets.{Alphabet}
 use Rattle.pg_dict.specs.Word.{Word}
-use Rattle.pg_select.specs.Meanings.{Meaning, IsLayout, begun_pass, with_sight}
+use Rattle.pg_select.specs.Meanings.{Meaning, IsLayout, begun_pass, with_position}
 use Rattle.pg_select.specs.declared.pass.Pass.{Pass}
-use Rattle.pg_select.specs.Sights.{Sight, Candidate, sights}
+use Rattle.pg_select.specs.CountedPositions.{CountedPosition, Candidate, counted_positions}
 use Rattle.pg_driver.specs.declared.choices.Choices.{Choices}
 use Rattle.pg_driver.specs.declared.records.PassRecord.{PassRecord}
 use Rattle.pg_driver.specs.Accounts.{pass_line, totals_by}
@@ -23,8 +23,8 @@ use Rattle.pg_driver.proofs.ChoiceSteps.{state_with}
 use Rattle.pg_driver.proofs.TallyLaw.{tally_is}
 
 -- what a pass of an engine counts
-abbrev pub seen_in : Alphabet → List Word → Pass → Meaning → List Sight
-seen_in t words pass m = sights (minima_of t) words pass m.patterns m.hopeless
+abbrev pub seen_in : Alphabet → List Word → Pass → Meaning → List CountedPosition
+seen_in t words pass m = counted_positions (minima_of t) words pass m.patterns m.hopeless
 
 -- an engine after the walk of a pass
 abbrev pub counted_pass : Alphabet → List Word → Pass → Meaning → Meaning
@@ -100,11 +100,11 @@ did_pass t words params pass m m2 n before numbers layout counted totals has cho
   begun = begun_kept params (map candidate_of m2.counts) m2 n has ∙ ap (λ (x : Meaning). x.begun) counted;
 }
 
--- an engine that counted what a pass sees, and then chose
-pub counted_as : (t : Alphabet) (words : List Word) (pass : Pass) (m m1 m2 : Meaning) → m1 ≡ begun_pass m pass.level pass.len pass.dot → m2 ≡ counting m1 (sights (minima_of t) words pass m1.patterns m1.hopeless) → m2 ≡ counted_pass t words pass m
-counted_as t words pass m m1 m2 begins counts = counts ∙ ap (λ (x : Meaning). counting x (sights (minima_of t) words pass x.patterns x.hopeless)) begins
+-- an engine that counted what a pass counts, and then chose
+pub counted_as : (t : Alphabet) (words : List Word) (pass : Pass) (m m1 m2 : Meaning) → m1 ≡ begun_pass m pass.level pass.len pass.dot → m2 ≡ counting m1 (counted_positions (minima_of t) words pass m1.patterns m1.hopeless) → m2 ≡ counted_pass t words pass m
+counted_as t words pass m m1 m2 begins counts = counts ∙ ap (λ (x : Meaning). counting x (counted_positions (minima_of t) words pass x.patterns x.hopeless)) begins
 
-pub counts_kept : (t : Alphabet) (words : List Word) (params : LevelParams) (pass : Pass) (m m2 n : Meaning) → m2 ≡ counted_pass t words pass m → HasChosen params (map candidate_of m2.counts) m2 n → n.counts ≡ fold with_sight [] (seen_in t words pass m)
+pub counts_kept : (t : Alphabet) (words : List Word) (params : LevelParams) (pass : Pass) (m m2 n : Meaning) → m2 ≡ counted_pass t words pass m → HasChosen params (map candidate_of m2.counts) m2 n → n.counts ≡ fold with_position [] (seen_in t words pass m)
 counts_kept t words params pass m m2 n counted has = ap (λ (x : Meaning). x.counts) has.kept ∙ ap (λ (x : Meaning). x.counts) counted
 
 pub numbers_are : (t : Alphabet) (words : List Word) (params : LevelParams) (pass : Pass) (m m2 : Meaning) (numbers : Choices) → m2 ≡ counted_pass t words pass m → numbers ≡ with_candidates params no_choices (map candidate_of m2.counts)

@@ -8,8 +8,8 @@ use Rattle.pg_types.specs.Counts.{Counts}
 use Rattle.pg_dict.specs.Word.{Word, IsWord, letters_of}
 use Rattle.pg_select.specs.declared.pass.Pass.{Pass}
 use Rattle.pg_select.specs.LawsSteps.{IsBelow, IsUpTo}
-use Rattle.pg_select.specs.Meanings.{Meaning, with_sight}
-use Rattle.pg_select.specs.Sights.{Candidate, sights}
+use Rattle.pg_select.specs.Meanings.{Meaning, with_position}
+use Rattle.pg_select.specs.CountedPositions.{Candidate, counted_positions}
 use Rattle.pg_select.specs.Statuses.{is_odd}
 use Rattle.pg_select.specs.Windows.{Hopeless, Patterns}
 use Rattle.pg_driver.specs.declared.choices.Choices.{Choices}
@@ -56,7 +56,7 @@ module _ (source : Source) (level len : ℕ) (known : Known) (o : OpenLevel) (re
       let letters : sum_by letters_of source.words ≤ FILE_MAX = ready.letters in
       subst (λ (cs : Counts). HasRoom cs (length o.positions.items)) (sym none) (room_none (length o.positions.items) (omega arith))
 
-  pub counts_all : (dot : ℕ) → len ≤ LENGTH_MAX → dot ≤ len → flat_map (counted_of level len dot source.words) o.positions.items ≡ sights source.minima source.words (record { level = level; len = len; dot = dot }) known.patterns known.hopeless
+  pub counts_all : (dot : ℕ) → len ≤ LENGTH_MAX → dot ≤ len → flat_map (counted_of level len dot source.words) o.positions.items ≡ counted_positions source.minima source.words (record { level = level; len = len; dot = dot }) known.patterns known.hopeless
   counts_all dot short within = sym (counted_are_open level len dot source.minima source.words known.patterns known.hopeless o.positions.items short within ready.positions.are_open)
 
   pub is_small : IsSmall o.totals
@@ -120,7 +120,7 @@ module _ (source : Source) (params : LevelParams) (known : Known) (pass : Pass) 
           within = carried_within (is_odd pass.level) o.totals (totals_by source (known_after made).patterns) n.good n.bad carries;
         }
 
-    open_after : (counts : Counts) (p : OpenLevel) → pass.dot ≤ LENGTH_MAX → counts ≡ fold with_sight [] (sights source.minima source.words pass known.patterns known.hopeless) → IsAfterPass params pass counts source.words n o p
+    open_after : (counts : Counts) (p : OpenLevel) → pass.dot ≤ LENGTH_MAX → counts ≡ fold with_position [] (counted_positions source.minima source.words pass known.patterns known.hopeless) → IsAfterPass params pass counts source.words n o p
         → IsOpenAt source pass.level pass.len (known_after made) p
     open_after counts p low counted is = record {
       least = ready.least;
@@ -136,7 +136,7 @@ module _ (source : Source) (params : LevelParams) (known : Known) (pass : Pass) 
   can_go_on (Open o) of ready = can_carry o of ready
   can_go_on EachWord of ready = tt
 
-  pub ready_after : (counts : Counts) (c d : Counting) → AreOf → pass.dot ≤ LENGTH_MAX → counts ≡ fold with_sight [] (sights source.minima source.words pass known.patterns known.hopeless) → GoesOnAfter params pass counts source.words n c d
+  pub ready_after : (counts : Counts) (c d : Counting) → AreOf → pass.dot ≤ LENGTH_MAX → counts ≡ fold with_position [] (counted_positions source.minima source.words pass known.patterns known.hopeless) → GoesOnAfter params pass counts source.words n c d
       → IsReady source pass.level pass.len known c → IsReady source pass.level pass.len (known_after made) d
   ready_after counts (Open o) (Open p) of low counted on ready = open_after o of ready counts p low counted on
   ready_after counts (Open o) EachWord of low counted on ready = tt

@@ -9,9 +9,9 @@ use Rattle.std.proofs.lemmas.List.{length-take, length-drop}
 use Rattle.pg_types.specs.declared.limits.TheConstants.{WEIGHT_MAX, FILE_MAX}
 use Rattle.pg_dict.specs.Word.{Word, IsWord}
 use Rattle.pg_types.specs.Counts.{Counts, AreSmall, sums_of, with_weight}
-use Rattle.pg_select.specs.Meanings.{with_sight}
+use Rattle.pg_select.specs.Meanings.{with_position}
 use Rattle.pg_select.specs.declared.pass.Pass.{Pass}
-use Rattle.pg_select.specs.Sights.{Sight, sight_at, counts_as}
+use Rattle.pg_select.specs.CountedPositions.{CountedPosition, counted_positions_at, counts_as}
 use Rattle.pg_select.specs.Statuses.{status_at, weight_at}
 use Rattle.pg_select.specs.Windows.{Hopeless, window, fits, covered}
 use Rattle.pg_driver.specs.Counting.{HasRoom, TookRoom}
@@ -43,8 +43,8 @@ took_none counts n k room = record { sorted = room.sorted; filled = room.filled;
 pub took_more : (a b c : Counts) (n k m : ℕ) → TookRoom a b n → TookRoom b c k → n + k ≤ m → TookRoom a c m
 took_more a b c n k m first then within = record { sorted = then.sorted; filled = then.filled; few = omega (arith, first.few, then.few); light = omega (arith, first.light, then.light) }
 
--- a sight takes the room of one position
-pub took_with : (counts : Counts) (s : Sight) (n : ℕ) → HasRoom counts n → is_lt (slice_cmp nat_cmp [] s.window) ≡ true → s.weight ≤ WEIGHT_MAX → TookRoom counts (with_sight counts s) 1
+-- a counted position takes the room of one position
+pub took_with : (counts : Counts) (s : CountedPosition) (n : ℕ) → HasRoom counts n → is_lt (slice_cmp nat_cmp [] s.window) ≡ true → s.weight ≤ WEIGHT_MAX → TookRoom counts (with_position counts s) 1
 took_with counts s n room filled small =
     let sums = with_weight (sums_of counts s.window) s.good s.weight in
     record {
@@ -68,12 +68,12 @@ window_filled w p len d long fit =
     let inside : p - d + len ≤ length w = leb-true (p - d + len) (length w) (and_parts (nat_le d p) (nat_le (p - d + len) (length w)) fit).1 in
     filled (window w p len d) (omega (arith, length-take len (drop (p - d) w), length-drop (p - d) w))
 
--- what a pass sees at a position takes the room of one
-pub took_sight : (counts : Counts) (pass : Pass) (P : List ((List ℕ × ℕ) × ℕ)) (H : Hopeless) (w : Word) (p n : ℕ) → 1 ≤ pass.len → IsWord w → p < length w.signs → HasRoom counts n → TookRoom counts (fold with_sight counts (sight_at pass P H w p)) 1
-took_sight counts pass P H w p n long word within room =
+-- what a pass counts at a position takes the room of one
+pub took_position : (counts : Counts) (pass : Pass) (P : List ((List ℕ × ℕ) × ℕ)) (H : Hopeless) (w : Word) (p n : ℕ) → 1 ≤ pass.len → IsWord w → p < length w.signs → HasRoom counts n → TookRoom counts (fold with_position counts (counted_positions_at pass P H w p)) 1
+took_position counts pass P H w p n long word within room =
     by_test (fits w.signs p pass.len pass.dot) (not (covered pass.level P H (window w.signs p pass.len pass.dot) pass.dot)) (counts_as pass.level (status_at P w p)) refl
   where
-    by_test : (a b : Bool) (o : Option Bool) → fits w.signs p pass.len pass.dot ≡ a → TookRoom counts (fold with_sight counts (option_map_or (λ good. record { window = window w.signs p pass.len pass.dot; good = good; weight = weight_at w p } ∷ []) (cond (a && b) o None) [])) 1
+    by_test : (a b : Bool) (o : Option Bool) → fits w.signs p pass.len pass.dot ≡ a → TookRoom counts (fold with_position counts (option_map_or (λ good. record { window = window w.signs p pass.len pass.dot; good = good; weight = weight_at w p } ∷ []) (cond (a && b) o None) [])) 1
     by_test false b o is = took_none counts n 1 room
     by_test true false o is = took_none counts n 1 room
     by_test true true None is = took_none counts n 1 room

@@ -1,4 +1,4 @@
--- A pass that can be skipped sees nothing.
+-- A pass that can be skipped counts nothing.
 use Rattle.std.proofs.Common.{◌≡◌, ℕ, suc, ◌+◌, ◌==◌, ◌≤◌, Bool, true, false, cond, not, ◌&&◌, ◌||◌, ⊎_elim, List, [], ◌∷◌, ◌++◌, length, refl, sym, ap, subst, ◌∙◌, arith}
 use Rattle.std.specs.List.{list_all}
 use Rattle.std.proofs.lemmas.Bool.{and_parts, or_cases}
@@ -9,7 +9,7 @@ use Rattle.pg_select.specs.declared.choice.Choice.{Choice}
 use Rattle.pg_select.specs.declared.choice.Choice.TheVariants.{Hopeless, Chosen, Left}
 use Rattle.pg_select.specs.Laws.{IsClosed}
 use Rattle.pg_select.specs.declared.pass.Pass.{Pass}
-use Rattle.pg_select.specs.Sights.{Minima, Candidate, tally}
+use Rattle.pg_select.specs.CountedPositions.{Minima, Candidate, tally}
 use Rattle.pg_select.specs.Windows.{Hopeless as HopelessPlaces}
 use Rattle.pg_select.proofs.LawsLater.{closed_later}
 use Rattle.pg_select.proofs.LawsLonger.{closed_behind, closed_before}
@@ -45,7 +45,7 @@ module _ (m : Minima) (words : List Word) (P : List ((List ℕ × ℕ) × ℕ)) 
       (λ (before : (d + 1 == dot) ≡ true). same_pass number (l + 1) len (d + 1) dot longer ((Decides-eqb (d + 1) dot).0 before) (closed_before m words (record { level = number; len = l; dot = d }) P H closed))
       (or_cases (d == dot) (d + 1 == dot) parts.1)
 
--- each pass that can be skipped sees nothing, after a pass too
+-- each pass that can be skipped counts nothing, after a pass too
 pub closed_on : (source : Source) (params : LevelParams) (number l d : ℕ) (known : Known) (ps : List PassTrace) → AreClosed source number ps known
     → AreClosed source number (ps ++ pass_made source params known (record { level = number; len = l; dot = d }) ∷ []) (known_after (pass_made source params known (record { level = number; len = l; dot = d })))
 closed_on source params number l d known ps closed len dot is =

@@ -4,26 +4,26 @@ use Rattle.std.specs.List.{flat_map, range_with_len}
 use Rattle.std.proofs.lemmas.List.Sums.{fold-append}
 use Rattle.pg_dict.specs.Word.{Word, IsWord}
 use Rattle.pg_types.specs.Counts.{Counts}
-use Rattle.pg_select.specs.Meanings.{Meaning, with_sight}
+use Rattle.pg_select.specs.Meanings.{Meaning, with_position}
 use Rattle.pg_select.specs.Positions.{Positions}
-use Rattle.pg_select.specs.Sights.{Minima, Sight, sight_at, sights_in, sights}
+use Rattle.pg_select.specs.CountedPositions.{Minima, CountedPosition, counted_positions_at, counted_positions_in, counted_positions}
 use Rattle.pg_driver.specs.Counting.{counting, IsRead, HasRoom, TookRoom}
-use Rattle.pg_driver.proofs.Rooms.{room_left, took_sight, took_more}
+use Rattle.pg_driver.proofs.Rooms.{room_left, took_position, took_more}
 use Rattle.pg_driver.proofs.Reaches.{range_step}
 
 -- all but the counts are kept
 abbrev pub KeepsButCounts : Meaning → Meaning → Type 0
 KeepsButCounts old new = new ≡ record old { counts = new.counts }
 
--- some sights, and then others
-pub counting_append : (m : Meaning) (a b : List Sight) → counting m (a ++ b) ≡ counting (counting m a) b
-counting_append m a b = ap (λ (c : Counts). record m { counts = c }) (fold-append with_sight m.counts a b)
+-- some counted_positions, and then others
+pub counting_append : (m : Meaning) (a b : List CountedPosition) → counting m (a ++ b) ≡ counting (counting m a) b
+counting_append m a b = ap (λ (c : Counts). record m { counts = c }) (fold-append with_position m.counts a b)
 
 -- counting keeps all but the counts
-pub kept_on : (m0 m n : Meaning) (seen : List Sight) → KeepsButCounts m0 m → n ≡ counting m seen → KeepsButCounts m0 n
+pub kept_on : (m0 m n : Meaning) (seen : List CountedPosition) → KeepsButCounts m0 m → n ≡ counting m seen → KeepsButCounts m0 n
 kept_on m0 m n seen kept is =
-    let counts : n.counts ≡ fold with_sight m.counts seen = ap (λ (x : Meaning). x.counts) is in
-    is ∙ ap (λ (x : Meaning). record x { counts = fold with_sight m.counts seen }) kept ∙ ap (λ (c : Counts). record m0 { counts = c }) (sym counts)
+    let counts : n.counts ≡ fold with_position m.counts seen = ap (λ (x : Meaning). x.counts) is in
+    is ∙ ap (λ (x : Meaning). record x { counts = fold with_position m.counts seen }) kept ∙ ap (λ (c : Counts). record m0 { counts = c }) (sym counts)
 
 -- what was found of a word holds while windows are counted
 pub read_on : (m0 m : Meaning) (w : Word) (found : Positions) → KeepsButCounts m0 m → IsRead m0 w found → IsRead m w found
@@ -31,30 +31,30 @@ read_on m0 m w found kept read =
     let P : Meaning → Type 0 = λ (x : Meaning). IsRead x w found in
     subst P (sym kept) (record { word = read.word; signs = read.signs; values = read.values; covers = read.covers })
 
--- the sights of one part, and then those of the rest
-pub counted_step : {X : Type 0} (f : X → List Sight) (m n whole : Meaning) (x : X) (xs : List X) → n ≡ counting m (f x) → counting m (flat_map f (x ∷ xs)) ≡ whole → counting n (flat_map f xs) ≡ whole
+-- the counted_positions of one part, and then those of the rest
+pub counted_step : {X : Type 0} (f : X → List CountedPosition) (m n whole : Meaning) (x : X) (xs : List X) → n ≡ counting m (f x) → counting m (flat_map f (x ∷ xs)) ≡ whole → counting n (flat_map f xs) ≡ whole
 counted_step f m n whole x xs is left = ap (λ (y : Meaning). counting y (flat_map f xs)) is ∙ sym (counting_append m (f x) (flat_map f xs)) ∙ left
 
 -- a position that was counted, and then the rest
-pub position_step : (m0 m n whole : Meaning) (w : Word) (p end : ℕ) → p < end → KeepsButCounts m0 m → n ≡ counting m (sight_at m.pass m.patterns m.hopeless w p)
-    → counting m (flat_map (sight_at m0.pass m0.patterns m0.hopeless w) (range_with_len p (end - p))) ≡ whole → counting n (flat_map (sight_at m0.pass m0.patterns m0.hopeless w) (range_with_len (p + 1) (end - (p + 1)))) ≡ whole
+pub position_step : (m0 m n whole : Meaning) (w : Word) (p end : ℕ) → p < end → KeepsButCounts m0 m → n ≡ counting m (counted_positions_at m.pass m.patterns m.hopeless w p)
+    → counting m (flat_map (counted_positions_at m0.pass m0.patterns m0.hopeless w) (range_with_len p (end - p))) ≡ whole → counting n (flat_map (counted_positions_at m0.pass m0.patterns m0.hopeless w) (range_with_len (p + 1) (end - (p + 1)))) ≡ whole
 position_step m0 m n whole w p end before kept is left =
-    let f : ℕ → List Sight = sight_at m0.pass m0.patterns m0.hopeless w in
-    let same : n ≡ counting m (f p) = is ∙ ap (λ (x : Meaning). counting m (sight_at x.pass x.patterns x.hopeless w p)) kept in
+    let f : ℕ → List CountedPosition = counted_positions_at m0.pass m0.patterns m0.hopeless w in
+    let same : n ≡ counting m (f p) = is ∙ ap (λ (x : Meaning). counting m (counted_positions_at x.pass x.patterns x.hopeless w p)) kept in
     counted_step f m n whole p (range_with_len (p + 1) (end - (p + 1))) same (ap (λ xs. counting m (flat_map f xs)) (sym (range_step p end before)) ∙ left)
 
 -- a word that was counted, and then the rest
-pub word_step : (m0 m n whole : Meaning) (minima : Minima) (w : Word) (ws : List Word) → KeepsButCounts m0 m → n ≡ counting m (sights_in minima m.pass m.patterns m.hopeless w)
-    → counting m (sights minima (w ∷ ws) m0.pass m0.patterns m0.hopeless) ≡ whole → counting n (sights minima ws m0.pass m0.patterns m0.hopeless) ≡ whole
+pub word_step : (m0 m n whole : Meaning) (minima : Minima) (w : Word) (ws : List Word) → KeepsButCounts m0 m → n ≡ counting m (counted_positions_in minima m.pass m.patterns m.hopeless w)
+    → counting m (counted_positions minima (w ∷ ws) m0.pass m0.patterns m0.hopeless) ≡ whole → counting n (counted_positions minima ws m0.pass m0.patterns m0.hopeless) ≡ whole
 word_step m0 m n whole minima w ws kept is left =
-    let f : Word → List Sight = sights_in minima m0.pass m0.patterns m0.hopeless in
-    let same : n ≡ counting m (f w) = is ∙ ap (λ (x : Meaning). counting m (sights_in minima x.pass x.patterns x.hopeless w)) kept in
+    let f : Word → List CountedPosition = counted_positions_in minima m0.pass m0.patterns m0.hopeless in
+    let same : n ≡ counting m (f w) = is ∙ ap (λ (x : Meaning). counting m (counted_positions_in minima x.pass x.patterns x.hopeless w)) kept in
     counted_step f m n whole w ws same left
 
 -- the room that a position took
-pub room_on : (m0 m n : Meaning) (w : Word) (p k size : ℕ) → 1 ≤ m.pass.len → IsWord w → p < length w.signs → HasRoom m0.counts size → k < size → TookRoom m0.counts m.counts k → n ≡ counting m (sight_at m.pass m.patterns m.hopeless w p) → TookRoom m0.counts n.counts (k + 1)
+pub room_on : (m0 m n : Meaning) (w : Word) (p k size : ℕ) → 1 ≤ m.pass.len → IsWord w → p < length w.signs → HasRoom m0.counts size → k < size → TookRoom m0.counts m.counts k → n ≡ counting m (counted_positions_at m.pass m.patterns m.hopeless w p) → TookRoom m0.counts n.counts (k + 1)
 room_on m0 m n w p k size long word within room few took is =
     let here : HasRoom m.counts 1 = room_left m0.counts m.counts size k 1 room took (omega arith) in
-    let more : TookRoom m.counts (fold with_sight m.counts (sight_at m.pass m.patterns m.hopeless w p)) 1 = took_sight m.counts m.pass m.patterns m.hopeless w p 1 long word within here in
+    let more : TookRoom m.counts (fold with_position m.counts (counted_positions_at m.pass m.patterns m.hopeless w p)) 1 = took_position m.counts m.pass m.patterns m.hopeless w p 1 long word within here in
     let P : Counts → Type 0 = λ cs. TookRoom m0.counts cs (k + 1) in
     subst P (ap (λ (x : Meaning). x.counts) (sym is)) (took_more m0.counts m.counts _ k 1 (k + 1) took more (omega arith))

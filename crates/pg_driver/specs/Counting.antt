@@ -10,14 +10,14 @@ use Rattle.pg_types.specs.declared.marks.Mark.TheVariants.{Found, Error, Missed}
 use Rattle.pg_types.specs.declared.marks.Totals.{Totals}
 use Rattle.pg_dict.specs.Word.{Word, IsWord}
 use Rattle.pg_types.specs.Counts.{Counts, SignsWithin}
-use Rattle.pg_select.specs.Meanings.{Meaning, SetsValues, SetsCovers, with_sight}
+use Rattle.pg_select.specs.Meanings.{Meaning, SetsValues, SetsCovers, with_position}
 use Rattle.pg_select.specs.Positions.{Positions}
-use Rattle.pg_select.specs.Sights.{Sight}
+use Rattle.pg_select.specs.CountedPositions.{CountedPosition}
 use Rattle.pg_select.specs.Sums.{is_found, is_error, is_missed, weight_of}
 
--- what an engine means after more sights are counted
-abbrev pub counting : Meaning → List Sight → Meaning
-counting m seen = record m { counts = fold with_sight m.counts seen }
+-- what an engine means after more counted_positions are counted
+abbrev pub counting : Meaning → List CountedPosition → Meaning
+counting m seen = record m { counts = fold with_position m.counts seen }
 
 -- what an engine found of the positions of a word
 pub record IsRead (m : Meaning) (w : Word) (at : Positions) : Type 0 where

@@ -49,7 +49,7 @@ pub record Tells (number len : ℕ) (flags : ClosedDots) (ps : List PassTrace) :
   pub longer : (dot : ℕ) → is_skippable ps (record { level = number; len = len + 1; dot = dot }) ≡ is_set flags.longer dot
   pub beyond : (n dot : ℕ) → len + 2 ≤ n → is_skippable ps (record { level = number; len = n; dot = dot }) ≡ false
 
--- each pass of the level that is skippable sees nothing where this is known
+-- each pass of the level that is skippable counts nothing where this is known
 abbrev pub AreClosed : Source → ℕ → List PassTrace → Known → Type 0
 AreClosed source number ps known = (len dot : ℕ) → is_skippable ps (record { level = number; len = len; dot = dot }) ≡ true → IsClosed source.minima source.words (record { level = number; len = len; dot = dot }) known.patterns known.hopeless
 

@@ -14,9 +14,9 @@ use Rattle.pg_select.specs.declared.choice.Choice.{Choice}
 use Rattle.pg_select.specs.declared.choice.Choice.TheVariants.{Hopeless, Chosen, Left}
 use Rattle.pg_select.specs.Choices.{choice}
 use Rattle.pg_types.specs.Counts.{Counts}
-use Rattle.pg_select.specs.Meanings.{with_sight}
+use Rattle.pg_select.specs.Meanings.{with_position}
 use Rattle.pg_select.specs.declared.pass.Pass.{Pass}
-use Rattle.pg_select.specs.Sights.{Minima, counts_as, sights}
+use Rattle.pg_select.specs.CountedPositions.{Minima, counts_as, counted_positions}
 use Rattle.pg_select.specs.Statuses.{status_at}
 use Rattle.pg_select.specs.Windows.{Patterns, Hopeless as HopelessPlaces, window, fits}
 use Rattle.pg_driver.specs.Traces.{choice_of, is_chosen, is_hopeless}

@@ -5,7 +5,7 @@ use Rattle.std.specs.Option.{option_map_or}
 use Rattle.pg_types.specs.declared.limits.TheConstants.{LENGTH_MAX}
 use Rattle.pg_translate.specs.Reach.{positions}
 use Rattle.pg_dict.specs.Word.{Word}
-use Rattle.pg_select.specs.Sights.{Minima, Sight, sights}
+use Rattle.pg_select.specs.CountedPositions.{Minima, CountedPosition, counted_positions}
 use Rattle.pg_select.specs.Statuses.{weight_at}
 use Rattle.pg_select.specs.Windows.{Patterns, Hopeless, window}
 use Rattle.pg_driver.specs.declared.dot_set.DotSet.{DotSet}
@@ -34,10 +34,10 @@ pub record AreOpen (level len : ℕ) (m : Minima) (words : List Word) (P : Patte
   pub known : (n p : ℕ) (w : Word) → slice_get words n ≡ Some w → IsKnown level len P H w p (closed n p)
 
 -- what a pass counts at an open position
-abbrev pub counted_in : ℕ → ℕ → ℕ → Word → ℕ → Bool → List Sight
+abbrev pub counted_in : ℕ → ℕ → ℕ → Word → ℕ → Bool → List CountedPosition
 counted_in level len dot w p closed = option_map_or (λ good. record { window = window w.signs p len dot; good = good; weight = weight_at w p } ∷ []) (counted_with level w p len dot closed) []
 
-abbrev pub counted_of : ℕ → ℕ → ℕ → List Word → OpenPosition → List Sight
+abbrev pub counted_of : ℕ → ℕ → ℕ → List Word → OpenPosition → List CountedPosition
 counted_of level len dot words e = option_map_or (λ w. counted_in level len dot w e.at (has_dot e.closed dot)) (slice_get words e.word) []
 
 -- an entry with its closed dots changed, or left out

@@ -8,7 +8,7 @@ use Rattle.pg_translate.specs.Alphabets.{Alphabet}
 use Rattle.pg_dict.specs.Word.{Word}
 use Rattle.pg_select.specs.Meanings.{Meaning}
 use Rattle.pg_select.specs.declared.pass.Pass.{Pass}
-use Rattle.pg_select.specs.Sights.{Minima}
+use Rattle.pg_select.specs.CountedPositions.{Minima}
 use Rattle.pg_driver.specs.declared.records.PassRecord.{PassRecord}
 use Rattle.pg_driver.specs.declared.records.LevelRecord.{LevelRecord}
 use Rattle.pg_driver.specs.Sound.{Finished}

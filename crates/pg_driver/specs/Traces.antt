@@ -13,7 +13,7 @@ use Rattle.pg_select.specs.declared.choice.Choice.TheVariants.{Hopeless, Chosen,
 use Rattle.pg_select.specs.Choices.{choice}
 use Rattle.pg_select.specs.Windows.{Patterns, Hopeless as HopelessPlaces}
 use Rattle.pg_select.specs.declared.pass.Pass.{Pass}
-use Rattle.pg_select.specs.Sights.{Minima, Candidate, sights, tally}
+use Rattle.pg_select.specs.CountedPositions.{Minima, Candidate, counted_positions, tally}
 use Rattle.pg_driver.specs.Dots.{order}
 
 -- what a run is over: the minima of the table, and the words
@@ -95,7 +95,7 @@ pass_made source params known pass = record {
   pass = pass;
   params = params;
   before = known;
-  candidates = tally (sights source.minima source.words pass known.patterns known.hopeless);
+  candidates = tally (counted_positions source.minima source.words pass known.patterns known.hopeless);
 }
 
 -- passes that are made one after the other: each begins with what is known after the one before it

@@ -2,7 +2,7 @@
 ghost use Rattle.std.specs.Prelude.{◌≡◌, ◌≤◌, ◌<◌, ◌^◌, MatchBool};
 ghost use Rattle.pg_select.specs.LawsSteps.{FindsMore, PreventsMore};
 ghost use Rattle.pg_select.specs.Statuses.{is_odd};
-ghost use Rattle.pg_driver.specs.Sound.{IsSmall};
+ghost use Rattle.pg_driver.specs.Sound.{IsSmall, sums_limit};
 
 use pg_types::Totals;
 
@@ -12,7 +12,7 @@ use pg_types::Totals;
 /// errors no more, and the bad are missed and found no more.
 pub fn totals_after(before: Totals, level: u8, good: u64, bad: u64) -> Totals
     requires small { IsSmall before }
-    requires sums { (good < 2 ^ 40) × (bad < 2 ^ 40) }
+    requires sums { (good < sums_limit) × (bad < sums_limit) }
     requires within { MatchBool (is_odd level) (good ≤ before.missed) ((bad ≤ before.good) × (good ≤ before.bad)) }
     ensures { MatchBool (is_odd level) (FindsMore before result good bad) (PreventsMore before result good bad) }
 {

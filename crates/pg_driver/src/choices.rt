@@ -1,8 +1,10 @@
 //! The choice among the candidates of a pass.
 ghost use Rattle.std.specs.Prelude.{◌≡◌, ◌≤◌, ◌<◌, ◌+◌, ◌^◌, ◌∷◌, [], true, map, IfOk, OnOk};
+ghost use Rattle.pg_types.specs.declared.limits.TheConstants.{FILE_MAX};
 ghost use Rattle.pg_types.specs.Parameters.{IsLevel};
 ghost use Rattle.pg_types.specs.Counts.{is_counted};
 ghost use Rattle.pg_driver.specs.Counting.{HasRoom};
+ghost use Rattle.pg_driver.specs.Sound.{sums_limit};
 ghost use Rattle.pg_driver.specs.Choosing.{with_candidates, no_choices, candidate_of, HasChosen};
 
 use pg_select::{Choice, Engine, decide};
@@ -35,11 +37,13 @@ fn choose_at<E: Engine>(
 ) -> Result<(), AllocError>
     requires level { IsLevel params.now }
     requires counted { is_counted (E.meaning engine.old).counts at.now ≡ true }
-    requires sums { (choices.old.good + good < 2 ^ 40) × (choices.old.bad + bad < 2 ^ 40) }
-    requires few { choices.old.candidates < 2 ^ 40 }
+    requires sums { (choices.old.good + good < sums_limit) × (choices.old.bad + bad < sums_limit) }
+    requires few { choices.old.candidates < FILE_MAX }
     requires sound { choices.old.chosen + choices.old.hopeless ≤ choices.old.candidates }
-    ensures ok { OnOk result (HasChosen params.now (record { window = at.now; good = good; bad = bad } ∷ []) (E.meaning engine.old) (E.meaning engine.new)) }
-    ensures choices { OnOk result (choices.new ≡ with_candidates params.now choices.old (record { window = at.now; good = good; bad = bad } ∷ [])) }
+    ensures ok { OnOk result (HasChosen params.now (record { window = at.now; good = good; bad = bad } ∷ [])
+        (E.meaning engine.old) (E.meaning engine.new)) }
+    ensures choices { OnOk result (choices.new
+        ≡ with_candidates params.now choices.old (record { window = at.now; good = good; bad = bad } ∷ [])) }
     ensures sound { OnOk result (choices.new.chosen + choices.new.hopeless ≤ choices.new.candidates) }
     ensures signs { (E.meaning engine.new).signs ≡ (E.meaning engine.old).signs }
 {
@@ -64,10 +68,12 @@ fn choose_at<E: Engine>(
 pub fn choose_all<E: Engine>(engine: &mut E, params: &LevelParams) -> Result<Choices, AllocError>
     requires level { IsLevel params.now }
     requires room { HasRoom (E.meaning engine.old).counts 0 }
-    ensures ok { OnOk result (HasChosen params.now (map candidate_of (E.meaning engine.old).counts) (E.meaning engine.old) (E.meaning engine.new)) }
-    ensures choices { IfOk result (λ choices. choices ≡ with_candidates params.now no_choices (map candidate_of (E.meaning engine.old).counts)) }
+    ensures ok { OnOk result (HasChosen params.now (map candidate_of (E.meaning engine.old).counts)
+        (E.meaning engine.old) (E.meaning engine.new)) }
+    ensures choices { IfOk result (λ choices. choices
+        ≡ with_candidates params.now no_choices (map candidate_of (E.meaning engine.old).counts)) }
     ensures sound { IfOk result (λ choices. choices.chosen + choices.hopeless ≤ choices.candidates) }
-    ensures few { IfOk result (λ choices. choices.candidates ≤ 2 ^ 26) }
+    ensures few { IfOk result (λ choices. choices.candidates ≤ FILE_MAX) }
     ensures signs { (E.meaning engine.new).signs ≡ (E.meaning engine.old).signs }
 {
     let mut at = Cursor::start();

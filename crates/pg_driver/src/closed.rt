@@ -50,7 +50,8 @@ impl Closed {
     pub fn set(&mut self, dot: u8, left_none: bool)
         requires { dot ≤ LENGTH_MAX }
         ensures here { self.new.here ≡ self.old.here }
-        ensures longer { (d : ℕ) → is_set self.new.longer d ≡ (left_none && (dot == d || dot + 1 == d) || is_set self.old.longer d) }
+        ensures longer { (d : ℕ) → is_set self.new.longer d
+            ≡ (left_none && (dot == d || dot + 1 == d) || is_set self.old.longer d) }
     {
         let dot = usize::from(dot);
         self.longer[dot] |= left_none;

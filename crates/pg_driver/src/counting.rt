@@ -4,7 +4,7 @@ ghost use Rattle.pg_types.specs.declared.limits.TheConstants.{LENGTH_MAX};
 ghost use Rattle.pg_types.specs.Parameters.{IsLevel};
 ghost use Rattle.pg_dict.specs.Word.{SignsAtMost};
 ghost use Rattle.pg_select.specs.LawsSteps.{IsBelow};
-ghost use Rattle.pg_select.specs.Sights.{sights};
+ghost use Rattle.pg_select.specs.CountedPositions.{counted_positions};
 ghost use Rattle.pg_driver.specs.Accounts.{totals_by};
 ghost use Rattle.pg_driver.specs.Counting.{counting, HasRoom};
 ghost use Rattle.pg_driver.specs.LevelCounting.{ArePlaced, CanGoOn, GoesOnAfter, IsReady, TellsTotals};
@@ -60,7 +60,8 @@ impl Counting {
         requires hopeless { (E.meaning engine.now).hopeless ≡ [] }
         requires below { greatest < level → IsBelow level (E.meaning engine.now).patterns }
         requires totals { totals ≡ totals_by (over table.now dictionary.now) (E.meaning engine.now).patterns }
-        ensures { IfOk result (λ counting. (len : ℕ) → IsReady (over table.now dictionary.now) level len (known_of (E.meaning engine.now)) counting) }
+        ensures { IfOk result (λ counting. (len : ℕ)
+            → IsReady (over table.now dictionary.now) level len (known_of (E.meaning engine.now)) counting) }
     {
         if level <= greatest {
             return Ok(Counting::EachWord);
@@ -84,9 +85,14 @@ impl Counting {
         requires pass { (E.meaning engine.old).pass ≡ pass }
         requires fresh { (E.meaning engine.old).counts ≡ [] }
         requires signs { SignsAtMost (E.meaning engine.old).signs dictionary.now }
-        requires ready { IsReady (over table.now dictionary.now) pass.level pass.len (known_of (E.meaning engine.old)) self.now }
-        ensures ok { OnOk result (E.meaning engine.new ≡ counting (E.meaning engine.old) (sights (minima_of table.now) dictionary.now pass (E.meaning engine.old).patterns (E.meaning engine.old).hopeless)) }
-        ensures totals { IfOk result (λ before. before ≡ totals_by (over table.now dictionary.now) (E.meaning engine.old).patterns) }
+        requires ready { IsReady (over table.now dictionary.now) pass.level pass.len
+            (known_of (E.meaning engine.old)) self.now }
+        ensures ok { OnOk result (E.meaning engine.new
+            ≡ counting (E.meaning engine.old)
+            (counted_positions (minima_of table.now) dictionary.now pass (E.meaning engine.old).patterns
+            (E.meaning engine.old).hopeless)) }
+        ensures totals { IfOk result (λ before. before
+            ≡ totals_by (over table.now dictionary.now) (E.meaning engine.old).patterns) }
         ensures small { IfOk result IsSmall }
         ensures room { OnOk result (HasRoom (E.meaning engine.new).counts 0) }
         ensures signs { (E.meaning engine.new).signs ≡ (E.meaning engine.old).signs }
@@ -127,7 +133,8 @@ impl Counting {
     /// Goes on to the next length.
     pub fn next_length(&mut self, len: u8)
         requires { len ≤ LENGTH_MAX }
-        ensures { (source : Source) (level : ℕ) (known : Known) → IsReady source level len known self.old → IsReady source level (len + 1) known self.new }
+        ensures { (source : Source) (level : ℕ) (known : Known) → IsReady source level len known self.old
+            → IsReady source level (len + 1) known self.new }
     {
         if let Counting::Open(open) = self {
             next_length(&mut open.positions, len);

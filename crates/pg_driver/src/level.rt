@@ -1,13 +1,13 @@
 //! The passes of a level.
 ghost use Rattle.std.specs.Prelude.{ℕ, ◌≡◌, ◌≤◌, ◌<◌, ◌+◌, ◌-◌, ◌*◌, ◌^◌, ◌∷◌, [], true, IfOk, OnOk};
-ghost use Rattle.pg_types.specs.declared.limits.TheConstants.{LENGTH_MAX, LEVEL_MAX};
+ghost use Rattle.pg_types.specs.declared.limits.TheConstants.{FILE_MAX, LENGTH_MAX, LEVEL_MAX};
 ghost use Rattle.pg_types.specs.Parameters.{IsLevel};
 ghost use Rattle.pg_dict.specs.Word.{SignsAtMost};
 ghost use Rattle.pg_select.specs.LawsSteps.{IsBelow};
 ghost use Rattle.pg_driver.specs.Accounts.{totals_by};
 ghost use Rattle.pg_driver.specs.LevelCounting.{IsReady, TellsTotals};
 ghost use Rattle.pg_driver.specs.Levels.{AreRecorded, DidLevel, GoesOn, all_made_by, point};
-ghost use Rattle.pg_driver.specs.Sound.{IsSmall, IsSoundPass};
+ghost use Rattle.pg_driver.specs.Sound.{IsSmall, IsSoundPass, begun_before_pass, length_passes, level_passes};
 ghost use Rattle.pg_driver.specs.States.{DidPass, IsPass, made_by, state_of, state_at_end};
 ghost use Rattle.pg_driver.specs.Told.{known_of, over};
 ghost use Rattle.pg_driver.specs.Traces.{level_made, passes_of, passes_of_length};
@@ -34,13 +34,16 @@ fn run_pass<E: Engine>(
 ) -> Result<PassRecord, AllocError>
     requires ranges { IsPass pass }
     requires level { IsLevel params.now }
-    requires begun { (E.meaning engine.old).begun < 2 ^ 60 }
+    requires begun { (E.meaning engine.old).begun < begun_before_pass }
     requires signs { SignsAtMost (E.meaning engine.old).signs dictionary.now }
-    requires ready { IsReady (over table.now dictionary.now) pass.level pass.len (known_of (E.meaning engine.old)) counting.old }
-    ensures done { IfOk result (DidPass (over table.now dictionary.now) params.now pass (E.meaning engine.old) (E.meaning engine.new)) }
+    requires ready { IsReady (over table.now dictionary.now) pass.level pass.len (known_of (E.meaning engine.old))
+        counting.old }
+    ensures done { IfOk result (DidPass (over table.now dictionary.now) params.now pass (E.meaning engine.old)
+        (E.meaning engine.new)) }
     ensures sound { IfOk result IsSoundPass }
-    ensures few { IfOk result (λ r. r.chosen ≤ 2 ^ 26) }
-    ensures ready { OnOk result (IsReady (over table.now dictionary.now) pass.level pass.len (known_of (E.meaning engine.new)) counting.new) }
+    ensures few { IfOk result (λ r. r.chosen ≤ FILE_MAX) }
+    ensures ready { OnOk result (IsReady (over table.now dictionary.now) pass.level pass.len
+        (known_of (E.meaning engine.new)) counting.new) }
     ensures signs { (E.meaning engine.new).signs ≡ (E.meaning engine.old).signs }
 {
     engine.begin_pass(pass.level, pass.len, pass.dot);
@@ -74,16 +77,21 @@ fn run_or_skip<E: Engine>(
 ) -> Result<(), AllocError>
     requires ranges { IsPass pass }
     requires level { IsLevel params.now }
-    requires begun { (E.meaning engine.old).begun < 2 ^ 60 }
-    requires few { records.old.begun < 2 ^ 60 }
-    requires chosen { records.old.chosen + 2 ^ 26 < 2 ^ 60 }
+    requires begun { (E.meaning engine.old).begun < begun_before_pass }
+    requires few { records.old.begun < begun_before_pass }
+    requires chosen { records.old.chosen + FILE_MAX < begun_before_pass }
     requires signs { SignsAtMost (E.meaning engine.old).signs dictionary.now }
-    requires ready { IsReady (over table.now dictionary.now) pass.level pass.len (known_of (E.meaning engine.old)) counting.old }
-    ensures ok { OnOk result (GoesOn (over table.now dictionary.now) pass.level pass.len (made_by (over table.now dictionary.now) params.now (E.meaning engine.old) pass ∷ []) (point (E.meaning engine.old) records.old closed.old) (point (E.meaning engine.new) records.new closed.new)) }
-    ensures begun { OnOk result ((E.meaning engine.new).begun + records.old.begun ≡ (E.meaning engine.old).begun + records.new.begun) }
+    requires ready { IsReady (over table.now dictionary.now) pass.level pass.len (known_of (E.meaning engine.old))
+        counting.old }
+    ensures ok { OnOk result (GoesOn (over table.now dictionary.now) pass.level pass.len
+        (made_by (over table.now dictionary.now) params.now (E.meaning engine.old) pass ∷ [])
+        (point (E.meaning engine.old) records.old closed.old) (point (E.meaning engine.new) records.new closed.new)) }
+    ensures begun { OnOk result ((E.meaning engine.new).begun + records.old.begun ≡ (E.meaning engine.old).begun
+        + records.new.begun) }
     ensures few { OnOk result (records.new.begun ≤ records.old.begun + 1) }
-    ensures chosen { OnOk result (records.new.chosen ≤ records.old.chosen + 2 ^ 26) }
-    ensures ready { OnOk result (IsReady (over table.now dictionary.now) pass.level pass.len (known_of (E.meaning engine.new)) counting.new) }
+    ensures chosen { OnOk result (records.new.chosen ≤ records.old.chosen + FILE_MAX) }
+    ensures ready { OnOk result (IsReady (over table.now dictionary.now) pass.level pass.len
+        (known_of (E.meaning engine.new)) counting.new) }
     ensures signs { (E.meaning engine.new).signs ≡ (E.meaning engine.old).signs }
 {
     if closed.is_skippable(pass.dot) {
@@ -111,16 +119,22 @@ fn run_length<E: Engine>(
     requires level { IsLevel params.now }
     requires number { (1 ≤ number) × (number ≤ LEVEL_MAX) }
     requires len { (1 ≤ len) × (len ≤ LENGTH_MAX) }
-    requires begun { (E.meaning engine.old).begun + 16 < 2 ^ 60 }
-    requires few { records.old.begun + 16 < 2 ^ 60 }
-    requires chosen { records.old.chosen + 16 * 2 ^ 26 < 2 ^ 60 }
+    requires begun { (E.meaning engine.old).begun + length_passes < begun_before_pass }
+    requires few { records.old.begun + length_passes < begun_before_pass }
+    requires chosen { records.old.chosen + length_passes * FILE_MAX < begun_before_pass }
     requires signs { SignsAtMost (E.meaning engine.old).signs dictionary.now }
-    requires ready { IsReady (over table.now dictionary.now) number len (known_of (E.meaning engine.old)) counting.old }
-    ensures ok { OnOk result (GoesOn (over table.now dictionary.now) number len (all_made_by (over table.now dictionary.now) params.now (E.meaning engine.old) (passes_of_length number len)) (point (E.meaning engine.old) records.old closed.old) (point (E.meaning engine.new) records.new closed.new)) }
-    ensures begun { OnOk result ((E.meaning engine.new).begun + records.old.begun ≡ (E.meaning engine.old).begun + records.new.begun) }
-    ensures few { OnOk result (records.new.begun ≤ records.old.begun + 16) }
-    ensures chosen { OnOk result (records.new.chosen ≤ records.old.chosen + 16 * 2 ^ 26) }
-    ensures ready { OnOk result (IsReady (over table.now dictionary.now) number len (known_of (E.meaning engine.new)) counting.new) }
+    requires ready { IsReady (over table.now dictionary.now) number len (known_of (E.meaning engine.old))
+        counting.old }
+    ensures ok { OnOk result (GoesOn (over table.now dictionary.now) number len
+        (all_made_by (over table.now dictionary.now) params.now (E.meaning engine.old)
+        (passes_of_length number len)) (point (E.meaning engine.old) records.old closed.old)
+        (point (E.meaning engine.new) records.new closed.new)) }
+    ensures begun { OnOk result ((E.meaning engine.new).begun + records.old.begun ≡ (E.meaning engine.old).begun
+        + records.new.begun) }
+    ensures few { OnOk result (records.new.begun ≤ records.old.begun + length_passes) }
+    ensures chosen { OnOk result (records.new.chosen ≤ records.old.chosen + length_passes * FILE_MAX) }
+    ensures ready { OnOk result (IsReady (over table.now dictionary.now) number len
+        (known_of (E.meaning engine.new)) counting.new) }
     ensures signs { (E.meaning engine.new).signs ≡ (E.meaning engine.old).signs }
 {
     let end = len + 1;
@@ -130,7 +144,9 @@ fn run_length<E: Engine>(
             len,
             dot: dot_at(len, k),
         };
-        run_or_skip(engine, dictionary, table, params, pass, closed, counting, records)?;
+        run_or_skip(
+            engine, dictionary, table, params, pass, closed, counting, records,
+        )?;
     }
     Ok(())
 }
@@ -147,22 +163,41 @@ fn run_lengths<E: Engine>(
 ) -> Result<(), AllocError>
     requires level { IsLevel params.now }
     requires number { (1 ≤ number) × (number ≤ LEVEL_MAX) }
-    requires begun { (E.meaning engine.old).begun + 240 < 2 ^ 60 }
-    requires few { records.old.begun + 240 < 2 ^ 60 }
+    requires begun { (E.meaning engine.old).begun + level_passes < begun_before_pass }
+    requires few { records.old.begun + level_passes < begun_before_pass }
     requires chosen { records.old.chosen ≡ 0 }
     requires signs { SignsAtMost (E.meaning engine.old).signs dictionary.now }
-    requires ready { (len : ℕ) → IsReady (over table.now dictionary.now) number len (known_of (E.meaning engine.old)) counting.old }
-    ensures state { OnOk result (state_of (E.meaning engine.new) ≡ state_at_end (E.meaning engine.old).signs (state_of (E.meaning engine.old)) (all_made_by (over table.now dictionary.now) params.now (E.meaning engine.old) (passes_of number params.now))) }
-    ensures records { OnOk result (AreRecorded (over table.now dictionary.now) (E.meaning engine.old).signs (E.meaning engine.old).families (all_made_by (over table.now dictionary.now) params.now (E.meaning engine.old) (passes_of number params.now)) records.old records.new) }
-    ensures begun { OnOk result ((E.meaning engine.new).begun + records.old.begun ≡ (E.meaning engine.old).begun + records.new.begun) }
-    ensures few { OnOk result (records.new.begun ≤ records.old.begun + 240) }
-    ensures ready { OnOk result (TellsTotals (over table.now dictionary.now) (E.meaning engine.new).patterns counting.new) }
+    requires ready { (len : ℕ) → IsReady (over table.now dictionary.now) number len
+        (known_of (E.meaning engine.old)) counting.old }
+    ensures state { OnOk result (state_of (E.meaning engine.new)
+        ≡ state_at_end (E.meaning engine.old).signs (state_of (E.meaning engine.old))
+        (all_made_by (over table.now dictionary.now) params.now (E.meaning engine.old)
+        (passes_of number params.now))) }
+    ensures records { OnOk result (AreRecorded (over table.now dictionary.now) (E.meaning engine.old).signs
+        (E.meaning engine.old).families
+        (all_made_by (over table.now dictionary.now) params.now (E.meaning engine.old)
+        (passes_of number params.now)) records.old records.new) }
+    ensures begun { OnOk result ((E.meaning engine.new).begun + records.old.begun ≡ (E.meaning engine.old).begun
+        + records.new.begun) }
+    ensures few { OnOk result (records.new.begun ≤ records.old.begun + level_passes) }
+    ensures ready { OnOk result (TellsTotals (over table.now dictionary.now) (E.meaning engine.new).patterns
+        counting.new) }
     ensures signs { (E.meaning engine.new).signs ≡ (E.meaning engine.old).signs }
 {
     let mut closed = Closed::new();
     let end = params.pat_finish + 1;
     'lengths: for len in params.pat_start..end {
-        run_length(engine, dictionary, table, params, number, len, &mut closed, counting, records)?;
+        run_length(
+            engine,
+            dictionary,
+            table,
+            params,
+            number,
+            len,
+            &mut closed,
+            counting,
+            records,
+        )?;
         closed.next_length();
         counting.next_length(len);
     }
@@ -185,23 +220,35 @@ pub fn run_level<E: Engine>(
     requires level { IsLevel params.now }
     requires number { (1 ≤ number) × (number ≤ LEVEL_MAX) }
     requires hopeless { (E.meaning engine.old).hopeless ≡ [] }
-    requires begun { (E.meaning engine.old).begun + 240 < 2 ^ 60 }
-    requires few { records.old.begun + 240 < 2 ^ 60 }
+    requires begun { (E.meaning engine.old).begun + level_passes < begun_before_pass }
+    requires few { records.old.begun + level_passes < begun_before_pass }
     requires chosen { records.old.chosen ≡ 0 }
     requires signs { SignsAtMost (E.meaning engine.old).signs dictionary.now }
     requires below { greatest < number → IsBelow number (E.meaning engine.old).patterns }
     requires totals { before ≡ totals_by (over table.now dictionary.now) (E.meaning engine.old).patterns }
-    ensures done { OnOk result (DidLevel (over table.now dictionary.now) (level_made (over table.now dictionary.now) (E.meaning engine.old).patterns (number, params.now)) (E.meaning engine.old) (E.meaning engine.new) records.old records.new) }
-    ensures totals { IfOk result (λ after. after ≡ totals_by (over table.now dictionary.now) (E.meaning engine.new).patterns) }
+    ensures done { OnOk result (DidLevel (over table.now dictionary.now)
+        (level_made (over table.now dictionary.now) (E.meaning engine.old).patterns (number, params.now))
+        (E.meaning engine.old) (E.meaning engine.new) records.old records.new) }
+    ensures totals { IfOk result (λ after. after
+        ≡ totals_by (over table.now dictionary.now) (E.meaning engine.new).patterns) }
     ensures small { IfOk result IsSmall }
     ensures tidy { OnOk result ((E.meaning engine.new).tidy ≡ true) }
-    ensures begun { OnOk result ((E.meaning engine.new).begun + records.old.begun ≡ (E.meaning engine.old).begun + records.new.begun) }
-    ensures few { OnOk result (records.new.begun ≤ records.old.begun + 240) }
+    ensures begun { OnOk result ((E.meaning engine.new).begun + records.old.begun ≡ (E.meaning engine.old).begun
+        + records.new.begun) }
+    ensures few { OnOk result (records.new.begun ≤ records.old.begun + level_passes) }
     ensures chosen { OnOk result (records.new.chosen ≡ 0) }
     ensures signs { (E.meaning engine.new).signs ≡ (E.meaning engine.old).signs }
 {
     let mut counting = Counting::start(alloc, engine, dictionary, table, number, greatest, before)?;
-    run_lengths(engine, dictionary, table, params, number, &mut counting, records)?;
+    run_lengths(
+        engine,
+        dictionary,
+        table,
+        params,
+        number,
+        &mut counting,
+        records,
+    )?;
     engine.end_level()?;
     let after = counting.totals(engine, dictionary, table);
     records.end_level(number, after, engine.layout())?;

@@ -1,9 +1,10 @@
 //! The run over all levels.
 ghost use Rattle.std.specs.Prelude.{◌≡◌, ◌≤◌, ◌<◌, ◌+◌, ◌*◌, ◌^◌, [], true, IfOk, OnOk};
+ghost use Rattle.pg_types.specs.declared.limits.TheConstants.{LEVEL_MAX};
 ghost use Rattle.pg_dict.specs.Word.{SignsAtMost};
 ghost use Rattle.pg_driver.specs.Accounts.{totals_by};
 ghost use Rattle.pg_driver.specs.Levels.{DidRun};
-ghost use Rattle.pg_driver.specs.Sound.{IsSmall};
+ghost use Rattle.pg_driver.specs.Sound.{IsSmall, begun_before_run, level_passes};
 ghost use Rattle.pg_driver.specs.Told.{TellsCells, account_from, account_of, begun_from, cells_from, families_from, over, patterns_from, run_from};
 
 use crate::level::run_level;
@@ -27,15 +28,18 @@ fn run_levels<E: Engine>(
 ) -> Result<Totals, AllocError>
     requires hopeless { (E.meaning engine.old).hopeless ≡ [] }
     requires tidy { (E.meaning engine.old).tidy ≡ true }
-    requires begun { (E.meaning engine.old).begun < 2 ^ 59 }
+    requires begun { (E.meaning engine.old).begun < begun_before_run }
     requires none { records.old ≡ record { passes = []; levels = []; chosen = 0; begun = 0 } }
     requires signs { SignsAtMost (E.meaning engine.old).signs dictionary.now }
-    ensures run { OnOk result (DidRun (over table.now dictionary.now) (run_from table.now dictionary.now params.now (E.meaning engine.old)) (E.meaning engine.old) (E.meaning engine.new) records.new) }
-    ensures totals { IfOk result (λ totals. totals ≡ totals_by (over table.now dictionary.now) (E.meaning engine.new).patterns) }
+    ensures run { OnOk result (DidRun (over table.now dictionary.now)
+        (run_from table.now dictionary.now params.now (E.meaning engine.old)) (E.meaning engine.old)
+        (E.meaning engine.new) records.new) }
+    ensures totals { IfOk result (λ totals. totals
+        ≡ totals_by (over table.now dictionary.now) (E.meaning engine.new).patterns) }
     ensures small { IfOk result IsSmall }
     ensures tidy { OnOk result ((E.meaning engine.new).tidy ≡ true) }
     ensures begun { OnOk result ((E.meaning engine.new).begun ≡ (E.meaning engine.old).begun + records.new.begun) }
-    ensures few { OnOk result (records.new.begun ≤ 240 * 9) }
+    ensures few { OnOk result (records.new.begun ≤ LEVEL_MAX * level_passes) }
     ensures signs { (E.meaning engine.new).signs ≡ (E.meaning engine.old).signs }
 {
     let greatest = engine.copy_patterns(alloc)?.largest();
@@ -78,18 +82,23 @@ pub fn generate<E: Engine>(
 ) -> Result<Run, AllocError>
     requires hopeless { (E.meaning engine.old).hopeless ≡ [] }
     requires tidy { (E.meaning engine.old).tidy ≡ true }
-    requires begun { (E.meaning engine.old).begun < 2 ^ 59 }
+    requires begun { (E.meaning engine.old).begun < begun_before_run }
     requires signs { SignsAtMost (E.meaning engine.old).signs dictionary.now }
-    ensures patterns { IfOk result (λ r. r.patterns ≡ patterns_from table.now dictionary.now params.now (E.meaning engine.old)) }
-    ensures account { IfOk result (λ r. account_of r ≡ account_from table.now dictionary.now params.now (E.meaning engine.old)) }
+    ensures patterns { IfOk result (λ r. r.patterns
+        ≡ patterns_from table.now dictionary.now params.now (E.meaning engine.old)) }
+    ensures account { IfOk result (λ r. account_of r
+        ≡ account_from table.now dictionary.now params.now (E.meaning engine.old)) }
     ensures cells { IfOk result (TellsCells (cells_from table.now dictionary.now params.now (E.meaning engine.old))) }
-    ensures begun { IfOk result (λ r. r.begun ≡ begun_from table.now dictionary.now params.now (E.meaning engine.old)) }
+    ensures begun { IfOk result (λ r. r.begun
+        ≡ begun_from table.now dictionary.now params.now (E.meaning engine.old)) }
     ensures kept { IfOk result (λ r. (E.meaning engine.new).patterns ≡ r.patterns) }
-    ensures families { OnOk result ((E.meaning engine.new).families ≡ families_from table.now dictionary.now params.now (E.meaning engine.old)) }
+    ensures families { OnOk result ((E.meaning engine.new).families
+        ≡ families_from table.now dictionary.now params.now (E.meaning engine.old)) }
     ensures hopeless { OnOk result ((E.meaning engine.new).hopeless ≡ []) }
     ensures tidy { OnOk result ((E.meaning engine.new).tidy ≡ true) }
     ensures counted { IfOk result (λ r. (E.meaning engine.new).begun ≡ (E.meaning engine.old).begun + r.begun) }
-    ensures few { OnOk result ((E.meaning engine.new).begun ≤ (E.meaning engine.old).begun + 9 * 240) }
+    ensures few { OnOk result ((E.meaning engine.new).begun ≤ (E.meaning engine.old).begun
+        + LEVEL_MAX * level_passes) }
     ensures signs { (E.meaning engine.new).signs ≡ (E.meaning engine.old).signs }
 {
     let first_layout = engine.layout();

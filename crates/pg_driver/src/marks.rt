@@ -5,7 +5,7 @@ ghost use Rattle.pg_types.specs.declared.limits.TheConstants.{WORD_LETTERS_MAX};
 ghost use Rattle.pg_translate.specs.Reach.{positions as positions_of};
 ghost use Rattle.pg_dict.specs.Word.{IsWord, letters_of};
 ghost use Rattle.pg_dict.specs.Lent.{word_of};
-ghost use Rattle.pg_select.specs.Sights.{counts_as as counts_as_of};
+ghost use Rattle.pg_select.specs.CountedPositions.{counts_as as counts_as_of};
 ghost use Rattle.pg_select.specs.Statuses.{status as status_of};
 ghost use Rattle.pg_select.specs.Windows.{fits as fits_in};
 ghost use Rattle.pg_driver.specs.Counting.{with_mark, sum_of};
@@ -30,7 +30,8 @@ pub fn no_totals() -> Totals
 pub fn positions(table: &Table, w: &WordRef<'_>) -> Option<(usize, usize)>
     requires { IsWord (word_of w.now) }
     ensures none { IfNone result (positions_of table.now.left table.now.right (length w.now.signs.now) ≡ []) }
-    ensures some { IfSome result (λ r. positions_of table.now.left table.now.right (length w.now.signs.now) ≡ range_with_len r.0 (r.1 - r.0)) }
+    ensures some { IfSome result
+        (λ r. positions_of table.now.left table.now.right (length w.now.signs.now) ≡ range_with_len r.0 (r.1 - r.0)) }
     ensures within { IfSome result (λ r. r.1 ≤ length w.now.signs.now) }
     ensures few { IfSome result (λ r. r.1 - r.0 ≤ letters_of (word_of w.now)) }
 {
@@ -44,7 +45,8 @@ pub fn positions(table: &Table, w: &WordRef<'_>) -> Option<(usize, usize)>
 pub fn mark_at(w: &WordRef<'_>, found: &WordState, p: usize) -> Mark
     requires within { p < length w.now.signs.now }
     requires short { length w.now.signs.now ≤ WORD_LETTERS_MAX + 2 }
-    ensures { result ≡ status_of (slice_index_or w.now.hyphens.now p false) (slice_index_or w.now.cares.now p true) (slice_index found.now.values p) }
+    ensures { result ≡ status_of (slice_index_or w.now.hyphens.now p false) (slice_index_or w.now.cares.now p true)
+        (slice_index found.now.values p) }
 {
     status(w.hyphens[p], w.cares[p], found.value(p))
 }

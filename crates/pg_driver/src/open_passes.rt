@@ -41,7 +41,9 @@ fn count_at<E: Engine>(
     requires signs { SignsWithin (E.meaning engine.old).signs w.now.signs.now }
     requires within { p < length w.now.signs.now }
     requires room { HasRoom (E.meaning engine.old).counts 1 }
-    ensures ok { OnOk result (E.meaning engine.new ≡ counting (E.meaning engine.old) (counted_in pass.level pass.len pass.dot (word_of w.now) p (has_dot closed pass.dot))) }
+    ensures ok { OnOk result (E.meaning engine.new
+        ≡ counting (E.meaning engine.old)
+        (counted_in pass.level pass.len pass.dot (word_of w.now) p (has_dot closed pass.dot))) }
     ensures err { OnErr result (E.meaning engine.new ≡ E.meaning engine.old) }
 {
     if fits(pass, w.signs.len(), p) && !closed.contains(pass.dot) {
@@ -64,7 +66,8 @@ fn count_position<E: Engine>(
     requires signs { SignsAtMost (E.meaning engine.old).signs dictionary.now }
     requires placed { IsPlaced dictionary.now position }
     requires room { HasRoom (E.meaning engine.old).counts 1 }
-    ensures ok { OnOk result (E.meaning engine.new ≡ counting (E.meaning engine.old) (counted_of pass.level pass.len pass.dot dictionary.now position)) }
+    ensures ok { OnOk result (E.meaning engine.new
+        ≡ counting (E.meaning engine.old) (counted_of pass.level pass.len pass.dot dictionary.now position)) }
     ensures took { OnOk result (TookRoom (E.meaning engine.old).counts (E.meaning engine.new).counts 1) }
     ensures err { OnErr result (E.meaning engine.new ≡ E.meaning engine.old) }
 {
@@ -86,7 +89,9 @@ pub fn count_open<E: Engine>(
     requires signs { SignsAtMost (E.meaning engine.old).signs dictionary.now }
     requires placed { All (IsPlaced dictionary.now) open_positions.now }
     requires room { HasRoom (E.meaning engine.old).counts (length open_positions.now) }
-    ensures ok { OnOk result (E.meaning engine.new ≡ counting (E.meaning engine.old) (flat_map (counted_of pass.level pass.len pass.dot dictionary.now) open_positions.now)) }
+    ensures ok { OnOk result (E.meaning engine.new
+        ≡ counting (E.meaning engine.old)
+        (flat_map (counted_of pass.level pass.len pass.dot dictionary.now) open_positions.now)) }
     ensures room { OnOk result (HasRoom (E.meaning engine.new).counts 0) }
     ensures signs { (E.meaning engine.new).signs ≡ (E.meaning engine.old).signs }
 {
@@ -167,7 +172,8 @@ pub fn close_dots<E: Engine>(
     requires signs { SignsAtMost (E.meaning engine.now).signs dictionary.now }
     requires placed { All (IsPlaced dictionary.now) open_positions.old }
     requires room { HasRoom (E.meaning engine.now).counts 0 }
-    ensures { open_positions.new ≡ map (position_after params.now (pass) (E.meaning engine.now).counts dictionary.now) open_positions.old }
+    ensures { open_positions.new
+        ≡ map (position_after params.now (pass) (E.meaning engine.now).counts dictionary.now) open_positions.old }
 {
     'positions: for position in open_positions.iter_mut() {
         *position = close_position(engine, dictionary, params, pass, *position);

@@ -4,7 +4,7 @@ ghost use Rattle.pg_types.specs.declared.limits.TheConstants.{LENGTH_MAX};
 ghost use Rattle.pg_types.specs.Counts.{SignsWithin};
 ghost use Rattle.pg_dict.specs.Word.{IsWord, SignsAtMost};
 ghost use Rattle.pg_dict.specs.Lent.{word_of};
-ghost use Rattle.pg_select.specs.Sights.{counts_as as counts_as_of};
+ghost use Rattle.pg_select.specs.CountedPositions.{counts_as as counts_as_of};
 ghost use Rattle.pg_driver.specs.Told.{minima_of};
 ghost use Rattle.pg_driver.specs.DotSets.{is_full, longer_dots};
 ghost use Rattle.pg_driver.specs.OpenPositions.{with_closed};
@@ -37,7 +37,8 @@ fn open_by_status(
     mark: Mark,
     open_positions: &mut Vec<OpenPosition>,
 ) -> Result<(), AllocError>
-    ensures { OnOk result (open_positions.new.items ≡ open_positions.old.items ++ open_as word p (counts_as_of level mark)) }
+    ensures { OnOk result (open_positions.new.items
+        ≡ open_positions.old.items ++ open_as word p (counts_as_of level mark)) }
 {
     if counts_as(level, mark).is_some() {
         open_positions.push(OpenPosition {
@@ -61,7 +62,9 @@ fn open_word<E: Engine>(
 ) -> Result<(), AllocError>
     requires word { IsWord (word_of w.now) }
     requires signs { SignsWithin (E.meaning engine.now).signs w.now.signs.now }
-    ensures { OnOk result (open_positions.new.items ≡ open_positions.old.items ++ open_in (minima_of table.now) level (E.meaning engine.now).patterns word (word_of w.now)) }
+    ensures { OnOk result (open_positions.new.items
+        ≡ open_positions.old.items ++ open_in (minima_of table.now) level (E.meaning engine.now).patterns word
+        (word_of w.now)) }
 {
     let Some((first, end)) = positions(table, w) else {
         return Ok(());
@@ -84,7 +87,8 @@ pub fn open_level<E: Engine>(
     alloc: Global,
 ) -> Result<Vec<OpenPosition>, AllocError>
     requires { SignsAtMost (E.meaning engine.now).signs dictionary.now }
-    ensures { IfOk result (λ opened. opened.items ≡ open_from (minima_of table.now) level (E.meaning engine.now).patterns 0 dictionary.now) }
+    ensures { IfOk result (λ opened. opened.items
+        ≡ open_from (minima_of table.now) level (E.meaning engine.now).patterns 0 dictionary.now) }
 {
     let mut found = WordState::new();
     let mut open_positions = Vec::new(alloc);

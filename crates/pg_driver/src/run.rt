@@ -22,7 +22,14 @@ impl Model for Run {
 
     ghost Value = { Finished };
 
-    ghost view = { λ r. record { patterns = r.patterns; passes = r.records.passes; levels = r.records.levels; totals = r.totals; first_layout = r.first_layout; begun = r.records.begun } };
+    ghost view = { λ r. record {
+      patterns = r.patterns;
+      passes = r.records.passes;
+      levels = r.records.levels;
+      totals = r.totals;
+      first_layout = r.first_layout;
+      begun = r.records.begun;
+    } };
 
     ghost invariant = { λ r. IsSmall r.totals };
 }
@@ -39,7 +46,14 @@ impl Run {
         first_layout: Option<Layout>,
     ) -> Run
         requires { IsSmall totals }
-        ensures { result ≡ record { patterns = patterns; passes = records.passes; levels = records.levels; totals = totals; first_layout = first_layout; begun = records.begun } }
+        ensures { result ≡ record {
+          patterns = patterns;
+          passes = records.passes;
+          levels = records.levels;
+          totals = totals;
+          first_layout = first_layout;
+          begun = records.begun;
+        } }
     {
         Run {
             patterns,

@@ -41,7 +41,8 @@ fn add_word<E: Engine>(
     requires signs { SignsWithin (E.meaning engine.now).signs w.now.signs.now }
     requires room { HasRoomFor sums (letters_of (word_of w.now)) }
     ensures took { TookRoomFor sums result (letters_of (word_of w.now)) }
-    ensures value { result ≡ with_marks sums (marks_in (minima_of table.now) (E.meaning engine.now).patterns (word_of w.now)) }
+    ensures value { result ≡ with_marks sums
+        (marks_in (minima_of table.now) (E.meaning engine.now).patterns (word_of w.now)) }
 {
     let Some((first, end)) = positions(table, w) else {
         return sums;

@@ -4,7 +4,7 @@ ghost use Rattle.pg_types.specs.Counts.{SignsWithin};
 ghost use Rattle.pg_types.specs.declared.limits.TheConstants.{WORD_LETTERS_MAX};
 ghost use Rattle.pg_dict.specs.Word.{IsWord, SignsAtMost, letters_of};
 ghost use Rattle.pg_dict.specs.Lent.{word_of};
-ghost use Rattle.pg_select.specs.Sights.{sight_at, sights, sights_in, counts_as as counts_as_of};
+ghost use Rattle.pg_select.specs.CountedPositions.{counted_positions_at, counted_positions, counted_positions_in, counts_as as counts_as_of};
 ghost use Rattle.pg_select.specs.Statuses.{status_at, weight_at};
 ghost use Rattle.pg_select.specs.Sums.{marks_in, totals as totals_of_words};
 ghost use Rattle.pg_select.specs.Windows.{fits as fits_in};
@@ -25,7 +25,8 @@ use std::alloc::AllocError;
 fn counted(pass: Pass, w: &WordRef<'_>, found: &WordState, p: usize, mark: Mark) -> Option<bool>
     requires within { p < length w.now.signs.now }
     requires short { length w.now.signs.now ≤ WORD_LETTERS_MAX + 2 }
-    ensures { result ≡ (if fits_in w.now.signs.now p pass.len pass.dot && not (slice_index_or found.now.covers p false) then counts_as_of pass.level mark else None) }
+    ensures { result ≡ (if fits_in w.now.signs.now p pass.len pass.dot && not
+        (slice_index_or found.now.covers p false) then counts_as_of pass.level mark else None) }
 {
     let good = counts_as(pass.level, mark)?;
     if fits(pass, w.signs.len(), p) && !found.covered(p) {
@@ -50,7 +51,10 @@ fn count_at<E: Engine>(
     requires within { p < length w.now.signs.now }
     requires mark { mark ≡ status_at (E.meaning engine.old).patterns (word_of w.now) p }
     requires room { HasRoom (E.meaning engine.old).counts 1 }
-    ensures ok { OnOk result (E.meaning engine.new ≡ counting (E.meaning engine.old) (sight_at (E.meaning engine.old).pass (E.meaning engine.old).patterns (E.meaning engine.old).hopeless (word_of w.now) p)) }
+    ensures ok { OnOk result (E.meaning engine.new
+        ≡ counting (E.meaning engine.old)
+        (counted_positions_at (E.meaning engine.old).pass (E.meaning engine.old).patterns (E.meaning engine.old).hopeless
+        (word_of w.now) p)) }
     ensures err { OnErr result (E.meaning engine.new ≡ E.meaning engine.old) }
 {
     if let Some(good) = counted(pass, w, found, p, mark) {
@@ -76,8 +80,13 @@ fn count_position<E: Engine>(
     requires within { p < length w.now.signs.now }
     requires room { HasRoom (E.meaning engine.old).counts 1 }
     requires room_for { HasRoomFor sums.old 1 }
-    ensures ok { OnOk result (E.meaning engine.new ≡ counting (E.meaning engine.old) (sight_at (E.meaning engine.old).pass (E.meaning engine.old).patterns (E.meaning engine.old).hopeless (word_of w.now) p)) }
-    ensures sums { OnOk result (sums.new ≡ with_mark sums.old (status_at (E.meaning engine.old).patterns (word_of w.now) p) (weight_at (word_of w.now) p)) }
+    ensures ok { OnOk result (E.meaning engine.new
+        ≡ counting (E.meaning engine.old)
+        (counted_positions_at (E.meaning engine.old).pass (E.meaning engine.old).patterns (E.meaning engine.old).hopeless
+        (word_of w.now) p)) }
+    ensures sums { OnOk result (sums.new
+        ≡ with_mark sums.old (status_at (E.meaning engine.old).patterns (word_of w.now) p)
+        (weight_at (word_of w.now) p)) }
     ensures err { OnErr result (E.meaning engine.new ≡ E.meaning engine.old) }
 {
     let mark = mark_at(w, found, p);
@@ -100,9 +109,14 @@ pub fn count_word<E: Engine>(
     requires signs { SignsWithin (E.meaning engine.old).signs w.now.signs.now }
     requires room { HasRoom (E.meaning engine.old).counts (letters_of (word_of w.now)) }
     requires room_for { HasRoomFor sums.old (letters_of (word_of w.now)) }
-    ensures ok { OnOk result (E.meaning engine.new ≡ counting (E.meaning engine.old) (sights_in (minima_of table.now) (E.meaning engine.old).pass (E.meaning engine.old).patterns (E.meaning engine.old).hopeless (word_of w.now))) }
-    ensures sums { OnOk result (sums.new ≡ with_marks sums.old (marks_in (minima_of table.now) (E.meaning engine.old).patterns (word_of w.now))) }
-    ensures took { OnOk result (TookRoom (E.meaning engine.old).counts (E.meaning engine.new).counts (letters_of (word_of w.now))) }
+    ensures ok { OnOk result (E.meaning engine.new
+        ≡ counting (E.meaning engine.old)
+        (counted_positions_in (minima_of table.now) (E.meaning engine.old).pass (E.meaning engine.old).patterns
+        (E.meaning engine.old).hopeless (word_of w.now))) }
+    ensures sums { OnOk result (sums.new
+        ≡ with_marks sums.old (marks_in (minima_of table.now) (E.meaning engine.old).patterns (word_of w.now))) }
+    ensures took { OnOk result (TookRoom (E.meaning engine.old).counts (E.meaning engine.new).counts
+        (letters_of (word_of w.now))) }
     ensures took_for { OnOk result (TookRoomFor sums.old sums.new (letters_of (word_of w.now))) }
     ensures signs { (E.meaning engine.new).signs ≡ (E.meaning engine.old).signs }
 {
@@ -127,8 +141,12 @@ pub fn count_words<E: Engine>(
     requires pass { (E.meaning engine.old).pass ≡ pass }
     requires fresh { (E.meaning engine.old).counts ≡ [] }
     requires signs { SignsAtMost (E.meaning engine.old).signs dictionary.now }
-    ensures ok { OnOk result (E.meaning engine.new ≡ counting (E.meaning engine.old) (sights (minima_of table.now) dictionary.now (E.meaning engine.old).pass (E.meaning engine.old).patterns (E.meaning engine.old).hopeless)) }
-    ensures totals { IfOk result (λ sums. sums ≡ totals_of_words (minima_of table.now) dictionary.now (E.meaning engine.old).patterns) }
+    ensures ok { OnOk result (E.meaning engine.new
+        ≡ counting (E.meaning engine.old)
+        (counted_positions (minima_of table.now) dictionary.now (E.meaning engine.old).pass (E.meaning engine.old).patterns
+        (E.meaning engine.old).hopeless)) }
+    ensures totals { IfOk result (λ sums. sums
+        ≡ totals_of_words (minima_of table.now) dictionary.now (E.meaning engine.old).patterns) }
     ensures small { IfOk result IsSmall }
     ensures room { OnOk result (HasRoom (E.meaning engine.new).counts 0) }
     ensures signs { (E.meaning engine.new).signs ≡ (E.meaning engine.old).signs }

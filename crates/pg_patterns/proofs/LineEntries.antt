@@ -20,7 +20,7 @@ use Rattle.pg_patterns.specs.Lines.{digit_at_dot, entry_at, entries_at, line_ent
 use Rattle.pg_patterns.proofs.Running.{digits_from, digits_are}
 use Rattle.pg_patterns.specs.Starts.{entries_from}
 use Rattle.pg_patterns.specs.Drafts.{Draft, IsDraft, IsDotDigit, no_draft, all_digits, with_sign, with_token, draft_entries, line_draft}
-use Rattle.pg_patterns.proofs.Ordered.{both_true, and_first, and_second}
+use Rattle.pg_types.proofs.Tests.{both_true, and_first, and_second}
 use Rattle.pg_patterns.proofs.Sound.{EntryBounds, entry_told}
 use Rattle.pg_patterns.proofs.Steps.{keeps_digits}
 

@@ -19,7 +19,7 @@ use Rattle.pg_patterns.proofs.Running.{digits_from, digits_are}
 use Rattle.pg_types.specs.Reading.{both_parts}
 use Rattle.pg_patterns.specs.Starts.{entries_from}
 use Rattle.pg_patterns.specs.Texts.{digit_of, line_from, pattern_line}
-use Rattle.pg_patterns.proofs.Ordered.{and_first, and_second, equal_is}
+use Rattle.pg_types.proofs.Tests.{and_first, and_second, equal_is}
 use Rattle.pg_patterns.proofs.Sound.{entry_bounds}
 use Rattle.pg_patterns.proofs.Written.{IsRead, text_of, tokens_in, entries_of_items, unbroken_text, lines_line}
 

@@ -1,19 +1,17 @@
 -- A line that was written is read back item by item.
-use Rattle.std.proofs.Common.{◌≡◌, ℕ, suc, zero, ◌+◌, ◌-◌, ◌<◌, ◌≤◌, Bool, true, false, ◌||◌, if◌then◌else◌, ◌==◌, List, [], ◌∷◌, ◌++◌, length, map, take, slice_index, Some, None, option_map, Ok, sym, refl, ap, ◌∙◌, arith}
+use Rattle.std.proofs.Common.{◌≡◌, ℕ, suc, zero, ◌+◌, ◌-◌, ◌<◌, ◌≤◌, Bool, true, false, ◌||◌, if◌then◌else◌, ◌==◌, List, [], ◌∷◌, ◌++◌, length, map, take, slice_index, Some, Ok, sym, refl, ap, ◌∙◌, arith}
 use Rattle.std.proofs.lemmas.List.{drop_at, length-append}
-use Rattle.std.specs.List.{AllByRecursion, filter_map, cons_option, list_any, slice_get, onto_first}
-use Rattle.std.specs.Option.{option_or}
+use Rattle.std.specs.List.{AllByRecursion, list_any, onto_first}
 use Rattle.pg_types.specs.declared.limits.TheConstants.{PATTERN_SIGNS_MAX}
 use Rattle.pg_types.specs.Lines.{lines, pieces_at, is_line_feed, without_cr}
 use Rattle.pg_types.specs.Reading.{unless}
 use Rattle.pg_translate.specs.declared.items.Place.TheVariants.{Patterns}
 use Rattle.pg_translate.specs.Alphabets.{Alphabet}
 use Rattle.pg_translate.specs.Tokens.{Token, item_at}
-use Rattle.pg_translate.specs.Cuts.{Cut, Placed, cut, cut_from, with_item, tokens_of}
+use Rattle.pg_translate.specs.Cuts.{Cut, cut, cut_from, with_item, tokens_of}
 use Rattle.pg_translate.specs.Answers.{Takes}
 use Rattle.pg_translate.proofs.Cuts.{cut_takes}
 use Rattle.pg_translate.specs.Gaps.{signs_of}
-use Rattle.pg_translate.specs.LineRefusals.{line_refusal}
 use Rattle.pg_translate.proofs.JoinedItems.{not_refused}
 use Rattle.pg_patterns.specs.Lines.{line_entries, entries_of_line}
 

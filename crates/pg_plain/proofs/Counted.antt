@@ -14,7 +14,7 @@ use Rattle.std.specs.Map.{lookup, set_value}
 use Rattle.std.specs.Ordering.{is_lt}
 use Rattle.pg_types.specs.Signs.{is_sign}
 use Rattle.pg_types.specs.Counts.{Counts, SignsWithin, sums_of, with_weight, is_counted, above}
-use Rattle.pg_select.specs.Meanings.{with_sight}
+use Rattle.pg_select.specs.Meanings.{with_position}
 use Rattle.pg_plain.proofs.Bools.{both_true}
 use Rattle.pg_plain.proofs.Maps.{insert-put, lookup-find, set_value-put, all_put, find_good, above_next}
 
@@ -32,14 +32,14 @@ no_sums None absent = refl
 no_sums (Some sums) absent = cc
 
 -- a window that is counted for the first time
-pub added_new : (C D E : Counts) (u : List ℕ) (good : Bool) (weight : ℕ) (n : ℕ × ℕ) → D ≡ C → is_counted C u ≡ false → n ≡ with_weight (0, 0) good weight → E ≡ insert_entry (slice_cmp nat_cmp) D u n → E ≡ with_sight C (record { window = u; good = good; weight = weight })
+pub added_new : (C D E : Counts) (u : List ℕ) (good : Bool) (weight : ℕ) (n : ℕ × ℕ) → D ≡ C → is_counted C u ≡ false → n ≡ with_weight (0, 0) good weight → E ≡ insert_entry (slice_cmp nat_cmp) D u n → E ≡ with_position C (record { window = u; good = good; weight = weight })
 added_new C D E u good weight n same absent sums entered =
     let none : sums_of C u ≡ (0, 0) = no_sums (find (slice_cmp nat_cmp) u C) absent in
     entered ∙ ap (λ x. insert_entry (slice_cmp nat_cmp) x u n) same ∙ insert-put (slice_cmp nat_cmp) u n C
     ∙ ap (λ x. put (slice_cmp nat_cmp) u x C) (sums ∙ ap (λ x. with_weight x good weight) (sym none))
 
 -- a window that is counted
-pub added_there : (C E : Counts) (u : List ℕ) (good : Bool) (weight : ℕ) (sums n : ℕ × ℕ) → T (is_sorted (slice_cmp nat_cmp) C) → Some sums ≡ lookup (is_at (slice_cmp nat_cmp u)) C → n ≡ with_weight sums good weight → E ≡ set_value (is_at (slice_cmp nat_cmp u)) C n → E ≡ with_sight C (record { window = u; good = good; weight = weight })
+pub added_there : (C E : Counts) (u : List ℕ) (good : Bool) (weight : ℕ) (sums n : ℕ × ℕ) → T (is_sorted (slice_cmp nat_cmp) C) → Some sums ≡ lookup (is_at (slice_cmp nat_cmp u)) C → n ≡ with_weight sums good weight → E ≡ set_value (is_at (slice_cmp nat_cmp u)) C n → E ≡ with_position C (record { window = u; good = good; weight = weight })
 added_there C E u good weight sums n sorted there more written =
     let found : find (slice_cmp nat_cmp) u C ≡ Some sums = sym (there ∙ lookup-find (slice_cmp nat_cmp) u C) in
     written ∙ set_value-put (slice_cmp nat_cmp) nat_list_cmp_total u n sums C sorted found
@@ -61,7 +61,7 @@ counted_good good C u there all = by_find (find (slice_cmp nat_cmp) u C) refl th
 pub counted_len : (C : Counts) (u : List ℕ) (len : ℕ) → is_counted C u ≡ true → list_all (λ e. nat_eq (length e.0) len) C ≡ true → length u ≡ len
 counted_len C u len there all = eqb-true (length u) len (counted_good (λ (v : List ℕ). nat_eq (length v) len) C u there all)
 
-between_above : (u : List ℕ) (C : Counts) → entries_between (slice_cmp nat_cmp) (Excluded u) Unbounded C ≡ above u C
+pub between_above : (u : List ℕ) (C : Counts) → entries_between (slice_cmp nat_cmp) (Excluded u) Unbounded C ≡ above u C
 between_above u [] = refl
 between_above u (e ∷ es) =
     ap (λ r. cond (is_lt (slice_cmp nat_cmp u e.0) && true) (e ∷ r) r) (between_above u es)

@@ -139,9 +139,13 @@ fn cells_of(
 #[test]
 fn cells_files(rt: HostRuntime) -> Result<(), Fail> {
     let cells = cells_of(rt.alloc(), b"ab-c\nab-a\n", b"1 1 2 2 1 1 2", b"")?;
-    let want = b"start: 4 taken, top 4, 0 tails\npass 1 2 1: 7 taken, top 8\npass 1 2 0: 9 taken, top 10\npass 1 2 2: 10 taken, top 10\nlevel 1: 5 taken, top 9, 1 tails\n";
+    let want =
+        b"start: 4 taken, top 4, 0 tails\npass 1 2 1: 7 taken, top 8\npass 1 2 0: 9 taken, top 10\npass 1 2 2: 10 taken, top 10\nlevel 1: 5 taken, top 9, 1 tails\n";
     assert_eq!(rt; cells.as_slice(), want.as_slice());
     let cells = cells_of(rt.alloc(), b"", b"2 1", b"1a2b\nc2b\n")?;
-    assert_eq!(rt; cells.as_slice(), b"start: 6 taken, top 6, 2 tails\n".as_slice());
+    assert_eq!(rt;
+        cells.as_slice(),
+        b"start: 6 taken, top 6, 2 tails\n".as_slice()
+    );
     Ok(())
 }

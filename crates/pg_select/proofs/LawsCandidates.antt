@@ -14,12 +14,12 @@ use Rattle.pg_dict.specs.Word.{Word}
 use Rattle.pg_translate.specs.Reach.{positions}
 use Rattle.pg_patterns.specs.Places.{place_cmp, same_place, place_exact}
 use Rattle.pg_patterns.specs.Values.{value_of, raise, applies, stands_at}
-use Rattle.pg_patterns.proofs.Ordered.{equal_is}
+use Rattle.pg_types.proofs.Tests.{equal_is}
 use Rattle.pg_patterns.proofs.Joins.{only, value_of_raise}
 use Rattle.pg_select.specs.Statuses.{status_at, weight_at}
 use Rattle.pg_select.specs.Windows.{Hopeless, window, fits, covered}
 use Rattle.pg_select.specs.declared.pass.Pass.{Pass}
-use Rattle.pg_select.specs.Sights.{Minima, Sight, counts_as, sight_at, sights_in, sights, with_window, candidates}
+use Rattle.pg_select.specs.CountedPositions.{Minima, CountedPosition, counts_as, counted_positions_at, counted_positions_in, counted_positions, with_window, candidates}
 use Rattle.pg_select.proofs.LawsTally.{cmp, window_exact, seen_as}
 
 -- a test of all windows with one more
@@ -42,7 +42,7 @@ all_put test u (e ∷ es) =
     turned false true c = refl
     turned false false c = refl
 
-all_windows : (test : List ℕ → Bool) (windows : List (List ℕ × Unit {0})) (seen : List Sight) → list_all (λ (e : List ℕ × Unit {0}). test e.0) (fold with_window windows seen) ≡ (list_all (λ (e : List ℕ × Unit {0}). test e.0) windows && list_all (λ (s : Sight). test s.window) seen)
+all_windows : (test : List ℕ → Bool) (windows : List (List ℕ × Unit {0})) (seen : List CountedPosition) → list_all (λ (e : List ℕ × Unit {0}). test e.0) (fold with_window windows seen) ≡ (list_all (λ (e : List ℕ × Unit {0}). test e.0) windows && list_all (λ (s : CountedPosition). test s.window) seen)
 all_windows test windows [] = and_true (list_all (λ (e : List ℕ × Unit {0}). test e.0) windows)
   where
     and_true : (b : Bool) → b ≡ (b && true)
@@ -50,8 +50,8 @@ all_windows test windows [] = and_true (list_all (λ (e : List ℕ × Unit {0}).
     and_true false = refl
 all_windows test windows (s ∷ ss) =
     all_windows test (with_window windows s) ss
-    ∙ ap (λ b. b && list_all (λ (x : Sight). test x.window) ss) (all_put test s.window windows)
-    ∙ grouped (test s.window) (list_all (λ (e : List ℕ × Unit {0}). test e.0) windows) (list_all (λ (x : Sight). test x.window) ss)
+    ∙ ap (λ b. b && list_all (λ (x : CountedPosition). test x.window) ss) (all_put test s.window windows)
+    ∙ grouped (test s.window) (list_all (λ (e : List ℕ × Unit {0}). test e.0) windows) (list_all (λ (x : CountedPosition). test x.window) ss)
   where
     grouped : (a b c : Bool) → ((a && b) && c) ≡ (b && (a && c))
     grouped true b c = refl
@@ -62,8 +62,8 @@ all_keys : (test : List ℕ → Bool) (windows : List (List ℕ × Unit {0})) �
 all_keys test [] = refl
 all_keys test (e ∷ es) = ap (λ b. test e.0 && b) (all_keys test es)
 
--- what holds of the candidates is what holds of the windows that are seen
-pub all_candidates : (test : List ℕ → Bool) (seen : List Sight) → list_all test (candidates seen) ≡ list_all (λ (s : Sight). test s.window) seen
+-- what holds of the candidates is what holds of the windows that are counted
+pub all_candidates : (test : List ℕ → Bool) (seen : List CountedPosition) → list_all test (candidates seen) ≡ list_all (λ (s : CountedPosition). test s.window) seen
 all_candidates test seen = all_keys test (fold with_window [] seen) ∙ all_windows test [] seen
 
 itself : (u : List ℕ) → pointwise nat_eq u u ≡ true
@@ -101,36 +101,36 @@ pub all_flat : {X Y : Type 0} (test : Y → Bool) (f : X → List Y) (xs : List 
 all_flat test f [] each = refl
 all_flat test f (x ∷ xs) each = list_all-append test (f x) (flat_map f xs) ∙ and_from (list_all test (f x)) (list_all test (flat_map f xs)) (each x) (all_flat test f xs each)
 
--- what holds of the windows that are not covered holds of those that are seen
-pub all_seen : (test : List ℕ → Bool) (m : Minima) (words : List Word) (pass : Pass) (P : List ((List ℕ × ℕ) × ℕ)) (H : Hopeless) → ((u : List ℕ) → covered pass.level P H u pass.dot ≡ false → test u ≡ true) → list_all (λ (s : Sight). test s.window) (sights m words pass P H) ≡ true
+-- what holds of the windows that are not covered holds of those that are counted
+pub all_seen : (test : List ℕ → Bool) (m : Minima) (words : List Word) (pass : Pass) (P : List ((List ℕ × ℕ) × ℕ)) (H : Hopeless) → ((u : List ℕ) → covered pass.level P H u pass.dot ≡ false → test u ≡ true) → list_all (λ (s : CountedPosition). test s.window) (counted_positions m words pass P H) ≡ true
 all_seen test m words pass P H each =
-    all_flat (λ (s : Sight). test s.window) (sights_in m pass P H) words (λ w.
-    all_flat (λ (s : Sight). test s.window) (sight_at pass P H w) (positions m.left m.right (length w.signs)) (λ p. at w p))
+    all_flat (λ (s : CountedPosition). test s.window) (counted_positions_in m pass P H) words (λ w.
+    all_flat (λ (s : CountedPosition). test s.window) (counted_positions_at pass P H w) (positions m.left m.right (length w.signs)) (λ p. at w p))
   where
-    by_test : (u : List ℕ) (x : ℕ) (a c : Bool) (o : Option Bool) → (c ≡ false → test u ≡ true) → list_all (λ (s : Sight). test s.window) (seen_as u x (cond (a && not c) o None)) ≡ true
+    by_test : (u : List ℕ) (x : ℕ) (a c : Bool) (o : Option Bool) → (c ≡ false → test u ≡ true) → list_all (λ (s : CountedPosition). test s.window) (seen_as u x (cond (a && not c) o None)) ≡ true
     by_test u x false c o holds = refl
     by_test u x true true o holds = refl
     by_test u x true false None holds = refl
     by_test u x true false (Some good) holds = and_from (test u) true (holds refl) refl
 
-    at : (w : Word) (p : ℕ) → list_all (λ (s : Sight). test s.window) (sight_at pass P H w p) ≡ true
+    at : (w : Word) (p : ℕ) → list_all (λ (s : CountedPosition). test s.window) (counted_positions_at pass P H w p) ≡ true
     at w p =
         by_test (window w.signs p pass.len pass.dot) (weight_at w p) (fits w.signs p pass.len pass.dot) (covered pass.level P H (window w.signs p pass.len pass.dot) pass.dot) (counts_as pass.level (status_at P w p)) (each (window w.signs p pass.len pass.dot))
 
 -- so each candidate has at the dot a value below the level
-pub candidates_are_low : (m : Minima) (words : List Word) (pass : Pass) (P : List ((List ℕ × ℕ) × ℕ)) (H : Hopeless) → 1 ≤ pass.level → All (λ u. value_of P (u, pass.dot) < pass.level) (candidates (sights m words pass P H))
+pub candidates_are_low : (m : Minima) (words : List Word) (pass : Pass) (P : List ((List ℕ × ℕ) × ℕ)) (H : Hopeless) → 1 ≤ pass.level → All (λ u. value_of P (u, pass.dot) < pass.level) (candidates (counted_positions m words pass P H))
 candidates_are_low m words pass P H low i d inside =
-    let all : list_all (λ (u : List ℕ). nat_lt (value_of P (u, pass.dot)) pass.level) (candidates (sights m words pass P H)) ≡ true =
-    all_candidates (λ (u : List ℕ). nat_lt (value_of P (u, pass.dot)) pass.level) (sights m words pass P H)
+    let all : list_all (λ (u : List ℕ). nat_lt (value_of P (u, pass.dot)) pass.level) (candidates (counted_positions m words pass P H)) ≡ true =
+    all_candidates (λ (u : List ℕ). nat_lt (value_of P (u, pass.dot)) pass.level) (counted_positions m words pass P H)
     ∙ all_seen (λ (u : List ℕ). nat_lt (value_of P (u, pass.dot)) pass.level) m words pass P H (λ u none. lt-ltb (value_of P (u, pass.dot)) pass.level (low_uncovered pass.level P H u pass.dot low none)) in
-    ltb-true _ pass.level (AllPass-from_list_all (λ (u : List ℕ). nat_lt (value_of P (u, pass.dot)) pass.level) (candidates (sights m words pass P H)) all i d inside)
+    ltb-true _ pass.level (AllPass-from_list_all (λ (u : List ℕ). nat_lt (value_of P (u, pass.dot)) pass.level) (candidates (counted_positions m words pass P H)) all i d inside)
 
 -- a place is the same as itself
 same_itself : (k : List ℕ × ℕ) → same_place k k ≡ true
 same_itself k = and_from (pointwise nat_eq k.0 k.0) (nat_eq k.1 k.1) (itself k.0) (eq-eqb k.1 k.1 refl)
 
 -- and gets exactly the level when it is chosen
-pub chosen_get_level : (m : Minima) (words : List Word) (pass : Pass) (P : List ((List ℕ × ℕ) × ℕ)) (H : Hopeless) → 1 ≤ pass.level → All (λ u. value_of (raise P (u, pass.dot) pass.level) (u, pass.dot) ≡ pass.level) (candidates (sights m words pass P H))
+pub chosen_get_level : (m : Minima) (words : List Word) (pass : Pass) (P : List ((List ℕ × ℕ) × ℕ)) (H : Hopeless) → 1 ≤ pass.level → All (λ u. value_of (raise P (u, pass.dot) pass.level) (u, pass.dot) ≡ pass.level) (candidates (counted_positions m words pass P H))
 chosen_get_level m words pass P H low i d inside = gets _ (candidates_are_low m words pass P H low i d inside)
   where
     greater : (a b : ℕ) → a < b → max b a ≡ b

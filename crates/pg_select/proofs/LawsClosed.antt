@@ -1,4 +1,4 @@
--- A pass that leaves no candidate sees nothing from its end on.
+-- A pass that leaves no candidate counts nothing from its end on.
 use Rattle.std.proofs.Common.{◌≡◌, ℕ, Bool, true, false, cond, not, ◌&&◌, ◌||◌, ⊎_elim, List, [], ◌∷◌, ◌++◌, length, map, Option, Some, None, refl, sym, ap, ◌∙◌}
 use Rattle.std.specs.Ordering.{is_eq}
 use Rattle.std.specs.List.{list_any, list_all, flat_map, filter}
@@ -14,7 +14,7 @@ use Rattle.pg_patterns.specs.Values.{raise, applies}
 use Rattle.pg_select.specs.Statuses.{status_at, weight_at}
 use Rattle.pg_select.specs.Windows.{Hopeless, window, fits, covered}
 use Rattle.pg_select.specs.declared.pass.Pass.{Pass}
-use Rattle.pg_select.specs.Sights.{Minima, Sight, Candidate, counts_as, counted_at, sight_at, sights_in, sights, same_signs, candidates, good_of, bad_of, tally}
+use Rattle.pg_select.specs.CountedPositions.{Minima, CountedPosition, Candidate, counts_as, counted_at, counted_positions_at, counted_positions_in, counted_positions, same_signs, candidates, good_of, bad_of, tally}
 use Rattle.pg_select.specs.Laws.{Later, raised_all, hopeless_all}
 use Rattle.pg_select.proofs.LawsTally.{same_window, seen_as}
 use Rattle.pg_select.proofs.LawsValues.{covered_raised, covered_hopeless}
@@ -64,8 +64,8 @@ covered_all_hopeless level dot P H u (c ∷ cs) among =
     (λ (rest : is_among u cs ≡ true). covered_all_hopeless level dot P (put place_cmp (c.window, dot) (tt {0}) H) u cs rest)
     (or_cases (same_signs u c.window) (is_among u cs) among)
 
--- what is seen of a window passes a test that fails where the window is counted still
-seen_tested : (test : List ℕ → Bool) (u : List ℕ) (x : ℕ) (o r : Option Bool) → ((g : Bool) → r ≡ Some g → o ≡ Some g) → ((g : Bool) → r ≡ Some g → test u ≡ false) → list_all (λ (s : Sight). test s.window) (seen_as u x o) ≡ true → seen_as u x r ≡ []
+-- what is counted of a window passes a test that fails where the window is counted still
+seen_tested : (test : List ℕ → Bool) (u : List ℕ) (x : ℕ) (o r : Option Bool) → ((g : Bool) → r ≡ Some g → o ≡ Some g) → ((g : Bool) → r ≡ Some g → test u ≡ false) → list_all (λ (s : CountedPosition). test s.window) (seen_as u x o) ≡ true → seen_as u x r ≡ []
 seen_tested test u x o None back fails all = refl
 seen_tested test u x None (Some g) back fails all = cc (back g refl)
 seen_tested test u x (Some h) (Some g) back fails all = cc (fails g refl, (and_parts (test u) true all).0)
@@ -76,18 +76,18 @@ nil_tested {Y = Y} test f g each (x ∷ xs) all =
     let parts = and_parts (list_all test (f x)) (list_all test (flat_map f xs)) (sym (list_all-append test (f x) (flat_map f xs)) ∙ all) in
     ap (λ (ys : List Y). ys ++ flat_map g xs) (each x parts.0) ∙ nil_tested test f g each xs parts.1
 
--- where all that a pass saw is covered later, it sees nothing then
+-- where all that a pass counted is covered later, it counts nothing then
 pub closed_when_covered : (m : Minima) (words : List Word) (pass : Pass) (P P' : List ((List ℕ × ℕ) × ℕ)) (H H' : Hopeless) → Later pass.level P H P' H'
-    → list_all (λ u. covered pass.level P' H' u pass.dot) (candidates (sights m words pass P H)) ≡ true → sights m words pass P' H' ≡ []
+    → list_all (λ u. covered pass.level P' H' u pass.dot) (candidates (counted_positions m words pass P H)) ≡ true → counted_positions m words pass P' H' ≡ []
 closed_when_covered m words pass P P' H H' later all =
-    nil_tested (λ (s : Sight). covered pass.level P' H' s.window pass.dot) (sights_in m pass P H) (sights_in m pass P' H') (λ w.
-    nil_tested (λ (s : Sight). covered pass.level P' H' s.window pass.dot) (sight_at pass P H w) (sight_at pass P' H' w) (λ p.
+    nil_tested (λ (s : CountedPosition). covered pass.level P' H' s.window pass.dot) (counted_positions_in m pass P H) (counted_positions_in m pass P' H') (λ w.
+    nil_tested (λ (s : CountedPosition). covered pass.level P' H' s.window pass.dot) (counted_positions_at pass P H w) (counted_positions_at pass P' H' w) (λ p.
     seen_tested (λ (u : List ℕ). covered pass.level P' H' u pass.dot) (window w.signs p pass.len pass.dot) (weight_at w p) (counted_at pass P H w p) (counted_at pass P' H' w p)
     (λ g counted. counted_back pass P P' H H' w p g later counted)
     (λ g counted. uncovered w p g counted))
     (positions m.left m.right (length w.signs)))
     words
-    (sym (all_candidates (λ (u : List ℕ). covered pass.level P' H' u pass.dot) (sights m words pass P H)) ∙ all)
+    (sym (all_candidates (λ (u : List ℕ). covered pass.level P' H' u pass.dot) (counted_positions m words pass P H)) ∙ all)
   where
     uncovered : (w : Word) (p : ℕ) (g : Bool) → counted_at pass P' H' w p ≡ Some g → covered pass.level P' H' (window w.signs p pass.len pass.dot) pass.dot ≡ false
     uncovered w p g is =
@@ -146,18 +146,18 @@ settled_covered level dot P H raised hopeless cs all =
         (λ (among : is_among c.window (filter hopeless cs) ≡ true). covered_all_hopeless level dot (raised_all level dot P (filter raised cs)) H c.window (filter hopeless cs) among)
         (or_cases (is_among c.window (filter raised cs)) (is_among c.window (filter hopeless cs)) settled)
 
-windows_of : (test : List ℕ → Bool) (seen : List Sight) (us : List (List ℕ)) → list_all (λ (c : Candidate). test c.window) (map (λ (u : List ℕ). record { window = u; good = good_of seen u; bad = bad_of seen u }) us) ≡ list_all test us
+windows_of : (test : List ℕ → Bool) (seen : List CountedPosition) (us : List (List ℕ)) → list_all (λ (c : Candidate). test c.window) (map (λ (u : List ℕ). record { window = u; good = good_of seen u; bad = bad_of seen u }) us) ≡ list_all test us
 windows_of test seen [] = refl
 windows_of test seen (u ∷ us) = ap (λ b. test u && b) (windows_of test seen us)
 
--- a pass of which each candidate was raised or made hopeless sees nothing afterwards
-pub closed_at_end : (m : Minima) (words : List Word) (pass : Pass) (P : List ((List ℕ × ℕ) × ℕ)) (H : Hopeless) (raised hopeless : Candidate → Bool) → list_all (λ c. raised c || hopeless c) (tally (sights m words pass P H)) ≡ true
-    → sights m words pass (raised_all pass.level pass.dot P (filter raised (tally (sights m words pass P H)))) (hopeless_all pass.dot H (filter hopeless (tally (sights m words pass P H)))) ≡ []
-closed_at_end m words pass P H raised hopeless all = from (tally (sights m words pass P H)) refl all
+-- a pass of which each candidate was raised or made hopeless counts nothing afterwards
+pub closed_at_end : (m : Minima) (words : List Word) (pass : Pass) (P : List ((List ℕ × ℕ) × ℕ)) (H : Hopeless) (raised hopeless : Candidate → Bool) → list_all (λ c. raised c || hopeless c) (tally (counted_positions m words pass P H)) ≡ true
+    → counted_positions m words pass (raised_all pass.level pass.dot P (filter raised (tally (counted_positions m words pass P H)))) (hopeless_all pass.dot H (filter hopeless (tally (counted_positions m words pass P H)))) ≡ []
+closed_at_end m words pass P H raised hopeless all = from (tally (counted_positions m words pass P H)) refl all
   where
-    from : (cs : List Candidate) → tally (sights m words pass P H) ≡ cs → list_all (λ c. raised c || hopeless c) cs ≡ true → sights m words pass (raised_all pass.level pass.dot P (filter raised cs)) (hopeless_all pass.dot H (filter hopeless cs)) ≡ []
+    from : (cs : List Candidate) → tally (counted_positions m words pass P H) ≡ cs → list_all (λ c. raised c || hopeless c) cs ≡ true → counted_positions m words pass (raised_all pass.level pass.dot P (filter raised cs)) (hopeless_all pass.dot H (filter hopeless cs)) ≡ []
     from cs is all =
         closed_when_covered m words pass P (raised_all pass.level pass.dot P (filter raised cs)) H (hopeless_all pass.dot H (filter hopeless cs)) (later_settled pass.level pass.dot P H (filter raised cs) (filter hopeless cs))
-        (sym (windows_of (λ (u : List ℕ). covered pass.level (raised_all pass.level pass.dot P (filter raised cs)) (hopeless_all pass.dot H (filter hopeless cs)) u pass.dot) (sights m words pass P H) (candidates (sights m words pass P H)))
+        (sym (windows_of (λ (u : List ℕ). covered pass.level (raised_all pass.level pass.dot P (filter raised cs)) (hopeless_all pass.dot H (filter hopeless cs)) u pass.dot) (counted_positions m words pass P H) (candidates (counted_positions m words pass P H)))
         ∙ ap (λ (xs : List Candidate). list_all (λ (c : Candidate). covered pass.level (raised_all pass.level pass.dot P (filter raised cs)) (hopeless_all pass.dot H (filter hopeless cs)) c.window pass.dot) xs) is
         ∙ settled_covered pass.level pass.dot P H raised hopeless cs all)

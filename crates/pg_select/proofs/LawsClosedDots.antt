@@ -12,7 +12,7 @@ use Rattle.pg_select.specs.Laws.{Later}
 use Rattle.pg_select.specs.Statuses.{is_odd, status, status_at}
 use Rattle.pg_select.specs.Windows.{Hopeless, window, fits, covered, Patterns}
 use Rattle.pg_select.specs.declared.pass.Pass.{Pass}
-use Rattle.pg_select.specs.Sights.{Minima, Candidate, counts_as, counted_at, sights, tally}
+use Rattle.pg_select.specs.CountedPositions.{Minima, Candidate, counts_as, counted_at, counted_positions, tally}
 use Rattle.pg_select.proofs.LawsLater.{none_at_level, counted_back}
 use Rattle.pg_select.proofs.LawsLonger.{counted_behind, counted_before}
 use Rattle.pg_select.proofs.LawsClosed.{later_settled}
@@ -123,7 +123,7 @@ done_longer level len P H w p done d within =
 
 module _ (m : Minima) (words : List Word) (pass : Pass) (P : Patterns) (H : Hopeless) (raised hopeless : Candidate → Bool) (w : Word) (p : ℕ) where
   later : Later pass.level P H (patterns_after_pass m words pass P H raised) (hopeless_after_pass m words pass P H hopeless)
-  later = later_settled pass.level pass.dot P H (filter raised (tally (sights m words pass P H))) (filter hopeless (tally (sights m words pass P H)))
+  later = later_settled pass.level pass.dot P H (filter raised (tally (counted_positions m words pass P H))) (filter hopeless (tally (counted_positions m words pass P H)))
 
   pub done_after : IsDone pass.level pass.len P H w p → IsDone pass.level pass.len (patterns_after_pass m words pass P H raised) (hopeless_after_pass m words pass P H hopeless) w p
   done_after done d within =
@@ -144,18 +144,18 @@ best_up_to level t (e ∷ es) upto =
     at_most false n low = omega arith
 
 -- the value of a position whose window was raised is the level, so it does not count
-pub raised_stop : (m : Minima) (words : List Word) (pass : Pass) (P : Patterns) (H : Hopeless) (raised : Candidate → Bool) (w : Word) (p : ℕ) → IsUpTo pass.level P → fits w.signs p pass.len pass.dot ≡ true → is_candidate raised (sights m words pass P H) (window w.signs p pass.len pass.dot) ≡ true
+pub raised_stop : (m : Minima) (words : List Word) (pass : Pass) (P : Patterns) (H : Hopeless) (raised : Candidate → Bool) (w : Word) (p : ℕ) → IsUpTo pass.level P → fits w.signs p pass.len pass.dot ≡ true → is_candidate raised (counted_positions m words pass P H) (window w.signs p pass.len pass.dot) ≡ true
     → counts_as pass.level (status_at (patterns_after_pass m words pass P H raised) w p) ≡ None
 raised_stop m words pass P H raised w p upto fit is =
     let low : value_at P w.signs p ≤ pass.level = best_up_to pass.level (applies w.signs p) P upto in
     let highest : max pass.level (value_at P w.signs p) ≡ pass.level = omega arith in
     ap (λ (v : ℕ). counts_as pass.level (status (slice_index_or w.hyphens p false) (slice_index_or w.cares p true) v))
     (values_after m words pass P H raised w.signs p
-    ∙ ap (λ b. max (cond b pass.level 0) (value_at P w.signs p)) (and_from (fits w.signs p pass.len pass.dot) (is_candidate raised (sights m words pass P H) (window w.signs p pass.len pass.dot)) fit is)
+    ∙ ap (λ b. max (cond b pass.level 0) (value_at P w.signs p)) (and_from (fits w.signs p pass.len pass.dot) (is_candidate raised (counted_positions m words pass P H) (window w.signs p pass.len pass.dot)) fit is)
     ∙ highest)
     ∙ none_at_level (slice_index_or w.hyphens p false) (slice_index_or w.cares p true) pass.level
 
-status_same : (m : Minima) (words : List Word) (pass : Pass) (P : Patterns) (H : Hopeless) (raised : Candidate → Bool) (w : Word) (p : ℕ) → (fits w.signs p pass.len pass.dot && is_candidate raised (sights m words pass P H) (window w.signs p pass.len pass.dot)) ≡ false
+status_same : (m : Minima) (words : List Word) (pass : Pass) (P : Patterns) (H : Hopeless) (raised : Candidate → Bool) (w : Word) (p : ℕ) → (fits w.signs p pass.len pass.dot && is_candidate raised (counted_positions m words pass P H) (window w.signs p pass.len pass.dot)) ≡ false
     → status_at (patterns_after_pass m words pass P H raised) w p ≡ status_at P w p
 status_same m words pass P H raised w p none =
     ap (λ (v : ℕ). status (slice_index_or w.hyphens p false) (slice_index_or w.cares p true) v)
@@ -165,27 +165,27 @@ status_same m words pass P H raised w p none =
     zero n = omega arith
 
 module _ (m : Minima) (words : List Word) (pass : Pass) (P : Patterns) (H : Hopeless) (raised hopeless : Candidate → Bool) (w : Word) (p : ℕ) where
-  pub hopeless_stop : fits w.signs p pass.len pass.dot ≡ true → is_candidate hopeless (sights m words pass P H) (window w.signs p pass.len pass.dot) ≡ true
+  pub hopeless_stop : fits w.signs p pass.len pass.dot ≡ true → is_candidate hopeless (counted_positions m words pass P H) (window w.signs p pass.len pass.dot) ≡ true
       → covered pass.level (patterns_after_pass m words pass P H raised) (hopeless_after_pass m words pass P H hopeless) (window w.signs p pass.len pass.dot) pass.dot ≡ true
   hopeless_stop fit is =
       covers_after m words pass P H raised hopeless w.signs p pass.dot fit
-      ∙ or_left (nat_eq pass.dot pass.dot && (is_candidate raised (sights m words pass P H) (window w.signs p pass.len pass.dot) || is_candidate hopeless (sights m words pass P H) (window w.signs p pass.len pass.dot))) (covered pass.level P H (window w.signs p pass.len pass.dot) pass.dot)
-      (and_from (nat_eq pass.dot pass.dot) (is_candidate raised (sights m words pass P H) (window w.signs p pass.len pass.dot) || is_candidate hopeless (sights m words pass P H) (window w.signs p pass.len pass.dot)) (eq-eqb pass.dot pass.dot refl) (second (is_candidate raised (sights m words pass P H) (window w.signs p pass.len pass.dot)) is))
+      ∙ or_left (nat_eq pass.dot pass.dot && (is_candidate raised (counted_positions m words pass P H) (window w.signs p pass.len pass.dot) || is_candidate hopeless (counted_positions m words pass P H) (window w.signs p pass.len pass.dot))) (covered pass.level P H (window w.signs p pass.len pass.dot) pass.dot)
+      (and_from (nat_eq pass.dot pass.dot) (is_candidate raised (counted_positions m words pass P H) (window w.signs p pass.len pass.dot) || is_candidate hopeless (counted_positions m words pass P H) (window w.signs p pass.len pass.dot)) (eq-eqb pass.dot pass.dot refl) (second (is_candidate raised (counted_positions m words pass P H) (window w.signs p pass.len pass.dot)) is))
     where
       second : (a : Bool) {b : Bool} → b ≡ true → (a || b) ≡ true
       second true is = refl
       second false is = is
 
   -- what keeps status and covers: nothing that was settled applies here
-  stays_from : (fits w.signs p pass.len pass.dot && is_candidate raised (sights m words pass P H) (window w.signs p pass.len pass.dot)) ≡ false
-      → ((d : ℕ) → fits w.signs p pass.len d ≡ true → (nat_eq d pass.dot && (is_candidate raised (sights m words pass P H) (window w.signs p pass.len pass.dot) || is_candidate hopeless (sights m words pass P H) (window w.signs p pass.len pass.dot))) ≡ false)
+  stays_from : (fits w.signs p pass.len pass.dot && is_candidate raised (counted_positions m words pass P H) (window w.signs p pass.len pass.dot)) ≡ false
+      → ((d : ℕ) → fits w.signs p pass.len d ≡ true → (nat_eq d pass.dot && (is_candidate raised (counted_positions m words pass P H) (window w.signs p pass.len pass.dot) || is_candidate hopeless (counted_positions m words pass P H) (window w.signs p pass.len pass.dot))) ≡ false)
       → Stays pass.level pass.len P H (patterns_after_pass m words pass P H raised) (hopeless_after_pass m words pass P H hopeless) w p
   stays_from unraised others = record {
     status = status_same m words pass P H raised w p unraised;
     covers = λ d fit. covers_after m words pass P H raised hopeless w.signs p d fit ∙ ap (λ b. b || covered pass.level P H (window w.signs p pass.len d) d) (others d fit);
   }
 
-  pub left_stay : is_candidate raised (sights m words pass P H) (window w.signs p pass.len pass.dot) ≡ false → is_candidate hopeless (sights m words pass P H) (window w.signs p pass.len pass.dot) ≡ false
+  pub left_stay : is_candidate raised (counted_positions m words pass P H) (window w.signs p pass.len pass.dot) ≡ false → is_candidate hopeless (counted_positions m words pass P H) (window w.signs p pass.len pass.dot) ≡ false
       → Stays pass.level pass.len P H (patterns_after_pass m words pass P H raised) (hopeless_after_pass m words pass P H hopeless) w p
   left_stay unraised hoped =
       stays_from (ap (λ b. fits w.signs p pass.len pass.dot && b) unraised ∙ none (fits w.signs p pass.len pass.dot))
@@ -198,8 +198,8 @@ module _ (m : Minima) (words : List Word) (pass : Pass) (P : Patterns) (H : Hope
   -- a window that does not fit here is settled without the position
   unfit_stay : fits w.signs p pass.len pass.dot ≡ false → Stays pass.level pass.len P H (patterns_after_pass m words pass P H raised) (hopeless_after_pass m words pass P H hopeless) w p
   unfit_stay unfit =
-      stays_from (ap (λ b. b && is_candidate raised (sights m words pass P H) (window w.signs p pass.len pass.dot)) unfit)
-      (λ d fit. other (nat_eq d pass.dot) (is_candidate raised (sights m words pass P H) (window w.signs p pass.len pass.dot) || is_candidate hopeless (sights m words pass P H) (window w.signs p pass.len pass.dot))
+      stays_from (ap (λ b. b && is_candidate raised (counted_positions m words pass P H) (window w.signs p pass.len pass.dot)) unfit)
+      (λ d fit. other (nat_eq d pass.dot) (is_candidate raised (counted_positions m words pass P H) (window w.signs p pass.len pass.dot) || is_candidate hopeless (counted_positions m words pass P H) (window w.signs p pass.len pass.dot))
       (λ same. clash d (ap (λ x. fits w.signs p pass.len x) (eqb-true d pass.dot same)) fit))
     where
       other : (a b : Bool) → (a ≡ true → ⊥) → (a && b) ≡ false
@@ -210,13 +210,13 @@ module _ (m : Minima) (words : List Word) (pass : Pass) (P : Patterns) (H : Hope
       clash d same fit = cc (unfit, same, fit)
 
   -- a window that is covered is not seen, so that it is not settled
-  unseen : (test : Candidate → Bool) → covered pass.level P H (window w.signs p pass.len pass.dot) pass.dot ≡ true → is_candidate test (sights m words pass P H) (window w.signs p pass.len pass.dot) ≡ false
+  unseen : (test : Candidate → Bool) → covered pass.level P H (window w.signs p pass.len pass.dot) pass.dot ≡ true → is_candidate test (counted_positions m words pass P H) (window w.signs p pass.len pass.dot) ≡ false
   unseen test is =
-      and_left (is_seen (sights m words pass P H) (window w.signs p pass.len pass.dot)) (test (candidate_at (sights m words pass P H) (window w.signs p pass.len pass.dot)))
+      and_left (is_seen (counted_positions m words pass P H) (window w.signs p pass.len pass.dot)) (test (candidate_at (counted_positions m words pass P H) (window w.signs p pass.len pass.dot)))
       (⊎_elim
-      (λ (seen : is_seen (sights m words pass P H) (window w.signs p pass.len pass.dot) ≡ true). absurd (clash (counted_uncovered m words pass P H (window w.signs p pass.len pass.dot) seen).1 is))
-      (λ (not_seen : is_seen (sights m words pass P H) (window w.signs p pass.len pass.dot) ≡ false). not_seen)
-      (cases_Bool (is_seen (sights m words pass P H) (window w.signs p pass.len pass.dot))))
+      (λ (seen : is_seen (counted_positions m words pass P H) (window w.signs p pass.len pass.dot) ≡ true). absurd (clash (counted_uncovered m words pass P H (window w.signs p pass.len pass.dot) seen).1 is))
+      (λ (not_seen : is_seen (counted_positions m words pass P H) (window w.signs p pass.len pass.dot) ≡ false). not_seen)
+      (cases_Bool (is_seen (counted_positions m words pass P H) (window w.signs p pass.len pass.dot))))
     where
       clash : {b : Bool} → b ≡ false → b ≡ true → ⊥
       clash off on = cc (off, on)
@@ -247,8 +247,8 @@ module _ (m : Minima) (words : List Word) (pass : Pass) (P : Patterns) (H : Hope
   -- what counts after a pass
   pub tells_after : (closed : ℕ → Bool) → IsUpTo pass.level P → pass.dot ≤ LENGTH_MAX → Tells pass.level pass.len P H w p closed
       → Tells pass.level pass.len (patterns_after_pass m words pass P H raised) (hopeless_after_pass m words pass P H hopeless) w p
-      (closed_after closed pass.dot (fits w.signs p pass.len pass.dot) (is_candidate raised (sights m words pass P H) (window w.signs p pass.len pass.dot)) (is_candidate hopeless (sights m words pass P H) (window w.signs p pass.len pass.dot)))
-  tells_after closed upto low tells = by_tests (fits w.signs p pass.len pass.dot) (closed pass.dot) (is_candidate raised (sights m words pass P H) (window w.signs p pass.len pass.dot)) refl refl refl
+      (closed_after closed pass.dot (fits w.signs p pass.len pass.dot) (is_candidate raised (counted_positions m words pass P H) (window w.signs p pass.len pass.dot)) (is_candidate hopeless (counted_positions m words pass P H) (window w.signs p pass.len pass.dot)))
+  tells_after closed upto low tells = by_tests (fits w.signs p pass.len pass.dot) (closed pass.dot) (is_candidate raised (counted_positions m words pass P H) (window w.signs p pass.len pass.dot)) refl refl refl
     where
       -- where the position does not count by its status, before and so after
       by_status : counts_as pass.level (status_at P w p) ≡ None → Tells pass.level pass.len (patterns_after_pass m words pass P H raised) (hopeless_after_pass m words pass P H hopeless) w p closed
@@ -268,7 +268,7 @@ module _ (m : Minima) (words : List Word) (pass : Pass) (P : Patterns) (H : Hope
               tells_stay closed (uncounted_stay good is (tells pass.dot low ∙ (λ i. cond (fit i && not (shut i)) (Some (is_good pass.level w p)) None) ∙ ap (λ b. cond b (Some (is_good pass.level w p)) None) passed)) tells
 
       -- where it was counted, and its window not raised
-      counted_left : is_candidate raised (sights m words pass P H) (window w.signs p pass.len pass.dot) ≡ false → Tells pass.level pass.len (patterns_after_pass m words pass P H raised) (hopeless_after_pass m words pass P H hopeless) w p (λ d. closed d || (nat_eq d pass.dot && is_candidate hopeless (sights m words pass P H) (window w.signs p pass.len pass.dot)))
+      counted_left : is_candidate raised (counted_positions m words pass P H) (window w.signs p pass.len pass.dot) ≡ false → Tells pass.level pass.len (patterns_after_pass m words pass P H raised) (hopeless_after_pass m words pass P H hopeless) w p (λ d. closed d || (nat_eq d pass.dot && is_candidate hopeless (counted_positions m words pass P H) (window w.signs p pass.len pass.dot)))
       counted_left unraised d within = by_fit (fits w.signs p pass.len d) refl (tells d within)
         where
           none : (b : Bool) → (b && false) ≡ false
@@ -282,15 +282,15 @@ module _ (m : Minima) (words : List Word) (pass : Pass) (P : Patterns) (H : Hope
           both false c false o g is = is
 
           by_fit : (f : Bool) → fits w.signs p pass.len d ≡ f → cond (f && not (covered pass.level P H (window w.signs p pass.len d) d)) (counts_as pass.level (status_at P w p)) None ≡ cond (f && not (closed d)) (Some (is_good pass.level w p)) None
-              → cond (f && not (covered pass.level (patterns_after_pass m words pass P H raised) (hopeless_after_pass m words pass P H hopeless) (window w.signs p pass.len d) d)) (counts_as pass.level (status_at (patterns_after_pass m words pass P H raised) w p)) None ≡ cond (f && not (closed d || (nat_eq d pass.dot && is_candidate hopeless (sights m words pass P H) (window w.signs p pass.len pass.dot)))) (Some (is_good pass.level w p)) None
+              → cond (f && not (covered pass.level (patterns_after_pass m words pass P H raised) (hopeless_after_pass m words pass P H hopeless) (window w.signs p pass.len d) d)) (counts_as pass.level (status_at (patterns_after_pass m words pass P H raised) w p)) None ≡ cond (f && not (closed d || (nat_eq d pass.dot && is_candidate hopeless (counted_positions m words pass P H) (window w.signs p pass.len pass.dot)))) (Some (is_good pass.level w p)) None
           by_fit false fit is = refl
           by_fit true fit is =
               (λ i. cond (not (covers_after m words pass P H raised hopeless w.signs p d fit i)) (counts_as pass.level (status_same m words pass P H raised w p (ap (λ b. fits w.signs p pass.len pass.dot && b) unraised ∙ none (fits w.signs p pass.len pass.dot)) i)) None)
-              ∙ ap (λ b. cond (not ((nat_eq d pass.dot && (b || is_candidate hopeless (sights m words pass P H) (window w.signs p pass.len pass.dot))) || covered pass.level P H (window w.signs p pass.len d) d)) (counts_as pass.level (status_at P w p)) None) unraised
-              ∙ both (nat_eq d pass.dot && is_candidate hopeless (sights m words pass P H) (window w.signs p pass.len pass.dot)) (covered pass.level P H (window w.signs p pass.len d) d) (closed d) (counts_as pass.level (status_at P w p)) (is_good pass.level w p) is
+              ∙ ap (λ b. cond (not ((nat_eq d pass.dot && (b || is_candidate hopeless (counted_positions m words pass P H) (window w.signs p pass.len pass.dot))) || covered pass.level P H (window w.signs p pass.len d) d)) (counts_as pass.level (status_at P w p)) None) unraised
+              ∙ both (nat_eq d pass.dot && is_candidate hopeless (counted_positions m words pass P H) (window w.signs p pass.len pass.dot)) (covered pass.level P H (window w.signs p pass.len d) d) (closed d) (counts_as pass.level (status_at P w p)) (is_good pass.level w p) is
 
-      by_tests : (f x r : Bool) → fits w.signs p pass.len pass.dot ≡ f → closed pass.dot ≡ x → is_candidate raised (sights m words pass P H) (window w.signs p pass.len pass.dot) ≡ r
-          → Tells pass.level pass.len (patterns_after_pass m words pass P H raised) (hopeless_after_pass m words pass P H hopeless) w p (λ d. cond (f && not x) (r || (closed d || (nat_eq d pass.dot && is_candidate hopeless (sights m words pass P H) (window w.signs p pass.len pass.dot)))) (closed d))
+      by_tests : (f x r : Bool) → fits w.signs p pass.len pass.dot ≡ f → closed pass.dot ≡ x → is_candidate raised (counted_positions m words pass P H) (window w.signs p pass.len pass.dot) ≡ r
+          → Tells pass.level pass.len (patterns_after_pass m words pass P H raised) (hopeless_after_pass m words pass P H hopeless) w p (λ d. cond (f && not x) (r || (closed d || (nat_eq d pass.dot && is_candidate hopeless (counted_positions m words pass P H) (window w.signs p pass.len pass.dot)))) (closed d))
       by_tests false x r fit shut is = uncounted false x fit shut refl
       by_tests true true r fit shut is = uncounted true true fit shut refl
       by_tests true false false fit shut is = counted_left is

@@ -9,7 +9,7 @@ use Rattle.pg_patterns.specs.Values.{stands_at, applies}
 use Rattle.pg_select.specs.Statuses.{status_at}
 use Rattle.pg_select.specs.Windows.{Hopeless, window, fits, covered}
 use Rattle.pg_select.specs.declared.pass.Pass.{Pass}
-use Rattle.pg_select.specs.Sights.{Minima, counts_as, counted_at, sights}
+use Rattle.pg_select.specs.CountedPositions.{Minima, counts_as, counted_at, counted_positions}
 use Rattle.pg_select.specs.Laws.{longer_behind, longer_before}
 use Rattle.pg_select.proofs.LawsLater.{some_parts, some_from, uncovered_back, closed_more}
 
@@ -111,9 +111,9 @@ counted_behind pass P H w p good is = counted_in pass (longer_behind pass) P H w
 pub counted_before : (pass : Pass) (P : List ((List ℕ × ℕ) × ℕ)) (H : Hopeless) (w : Word) (p : ℕ) (good : Bool) → counted_at (longer_before pass) P H w p ≡ Some good → counted_at pass P H w p ≡ Some good
 counted_before pass P H w p good is = counted_in pass (longer_before pass) P H w p good refl (before_inner w.signs p pass.len pass.dot) is
 
--- so where a pass sees nothing, the longer ones see nothing
-pub closed_behind : (m : Minima) (words : List Word) (pass : Pass) (P : List ((List ℕ × ℕ) × ℕ)) (H : Hopeless) → sights m words pass P H ≡ [] → sights m words (longer_behind pass) P H ≡ []
+-- so where a pass counts nothing, the longer ones count nothing
+pub closed_behind : (m : Minima) (words : List Word) (pass : Pass) (P : List ((List ℕ × ℕ) × ℕ)) (H : Hopeless) → counted_positions m words pass P H ≡ [] → counted_positions m words (longer_behind pass) P H ≡ []
 closed_behind m words pass P H is = closed_more m words pass (longer_behind pass) P P H H (λ w p g counted. counted_behind pass P H w p g counted) is
 
-pub closed_before : (m : Minima) (words : List Word) (pass : Pass) (P : List ((List ℕ × ℕ) × ℕ)) (H : Hopeless) → sights m words pass P H ≡ [] → sights m words (longer_before pass) P H ≡ []
+pub closed_before : (m : Minima) (words : List Word) (pass : Pass) (P : List ((List ℕ × ℕ) × ℕ)) (H : Hopeless) → counted_positions m words pass P H ≡ [] → counted_positions m words (longer_before pass) P H ≡ []
 closed_before m words pass P H is = closed_more m words pass (longer_before pass) P P H H (λ w p g counted. counted_before pass P H w p g counted) is

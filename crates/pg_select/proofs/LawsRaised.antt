@@ -17,7 +17,7 @@ use Rattle.pg_select.specs.Laws.{raised_all, hopeless_all}
 use Rattle.pg_select.specs.Statuses.{status_at, weight_at}
 use Rattle.pg_select.specs.Windows.{Hopeless, window, fits, covered, Patterns}
 use Rattle.pg_select.specs.declared.pass.Pass.{Pass}
-use Rattle.pg_select.specs.Sights.{Minima, Sight, Candidate, counts_as, sight_at, sights_in, sights, same_signs, candidates, tally}
+use Rattle.pg_select.specs.CountedPositions.{Minima, CountedPosition, Candidate, counts_as, counted_positions_at, counted_positions_in, counted_positions, same_signs, candidates, tally}
 use Rattle.pg_select.proofs.LawsTally.{same_window, seen_as, is_seen, candidates_are_seen}
 use Rattle.pg_select.proofs.LawsValues.{raised_value, covered_raised, covered_hopeless}
 use Rattle.pg_select.proofs.LawsClosed.{is_among}
@@ -29,37 +29,37 @@ use Rattle.pg_select.proofs.LawsLengths.{same_test, fits_parts}
 pub same_itself : (u : List ℕ) → same_signs u u ≡ true
 same_itself u = ap is_eq (tied_itself nat_list_cmp_total u)
 
--- what holds of the windows that fit and are not covered holds of those that are seen
+-- what holds of the windows that fit and are not covered holds of those that are counted
 pub all_seen : (test : List ℕ → Bool) (m : Minima) (words : List Word) (pass : Pass) (P : Patterns) (H : Hopeless)
-    → ((w : List ℕ) (p : ℕ) → fits w p pass.len pass.dot ≡ true → covered pass.level P H (window w p pass.len pass.dot) pass.dot ≡ false → test (window w p pass.len pass.dot) ≡ true) → list_all (λ (s : Sight). test s.window) (sights m words pass P H) ≡ true
+    → ((w : List ℕ) (p : ℕ) → fits w p pass.len pass.dot ≡ true → covered pass.level P H (window w p pass.len pass.dot) pass.dot ≡ false → test (window w p pass.len pass.dot) ≡ true) → list_all (λ (s : CountedPosition). test s.window) (counted_positions m words pass P H) ≡ true
 all_seen test m words pass P H each =
-    all_flat (λ (s : Sight). test s.window) (sights_in m pass P H) words (λ w.
-    all_flat (λ (s : Sight). test s.window) (sight_at pass P H w) (positions m.left m.right (length w.signs)) (λ p. at w p))
+    all_flat (λ (s : CountedPosition). test s.window) (counted_positions_in m pass P H) words (λ w.
+    all_flat (λ (s : CountedPosition). test s.window) (counted_positions_at pass P H w) (positions m.left m.right (length w.signs)) (λ p. at w p))
   where
-    by_test : (u : List ℕ) (x : ℕ) (a c : Bool) (o : Option Bool) → (a ≡ true → c ≡ false → test u ≡ true) → list_all (λ (s : Sight). test s.window) (seen_as u x (cond (a && not c) o None)) ≡ true
+    by_test : (u : List ℕ) (x : ℕ) (a c : Bool) (o : Option Bool) → (a ≡ true → c ≡ false → test u ≡ true) → list_all (λ (s : CountedPosition). test s.window) (seen_as u x (cond (a && not c) o None)) ≡ true
     by_test u x false c o holds = refl
     by_test u x true true o holds = refl
     by_test u x true false None holds = refl
     by_test u x true false (Some good) holds = and_from (test u) true (holds refl refl) refl
 
-    at : (w : Word) (p : ℕ) → list_all (λ (s : Sight). test s.window) (sight_at pass P H w p) ≡ true
+    at : (w : Word) (p : ℕ) → list_all (λ (s : CountedPosition). test s.window) (counted_positions_at pass P H w p) ≡ true
     at w p =
         by_test (window w.signs p pass.len pass.dot) (weight_at w p) (fits w.signs p pass.len pass.dot) (covered pass.level P H (window w.signs p pass.len pass.dot) pass.dot) (counts_as pass.level (status_at P w p)) (each w.signs p)
 
--- what holds of all that is seen holds of a window that is seen
-all_of_seen : (test : List ℕ → Bool) (u : List ℕ) (seen : List Sight) → list_all (λ (s : Sight). test s.window) seen ≡ true → is_seen seen u ≡ true → test u ≡ true
+-- what holds of all that is counted holds of a window that is counted
+all_of_seen : (test : List ℕ → Bool) (u : List ℕ) (seen : List CountedPosition) → list_all (λ (s : CountedPosition). test s.window) seen ≡ true → is_seen seen u ≡ true → test u ≡ true
 all_of_seen test u [] all is = cc
 all_of_seen test u (s ∷ seen) all is =
-    let parts = and_parts (test s.window) (list_all (λ (x : Sight). test x.window) seen) all in
+    let parts = and_parts (test s.window) (list_all (λ (x : CountedPosition). test x.window) seen) all in
     ⊎_elim
     (λ (same : same_signs u s.window ≡ true). ap test (same_window u s.window same) ∙ parts.0)
     (λ (rest : is_seen seen u ≡ true). all_of_seen test u seen parts.1 rest)
     (or_cases (same_signs u s.window) (is_seen seen u) is)
 
--- the windows that are seen have the length of the pass, and none is covered
-pub counted_uncovered : (m : Minima) (words : List Word) (pass : Pass) (P : Patterns) (H : Hopeless) (u : List ℕ) → is_seen (sights m words pass P H) u ≡ true → (length u ≡ pass.len) × (covered pass.level P H u pass.dot ≡ false)
+-- the windows that are counted have the length of the pass, and none is covered
+pub counted_uncovered : (m : Minima) (words : List Word) (pass : Pass) (P : Patterns) (H : Hopeless) (u : List ℕ) → is_seen (counted_positions m words pass P H) u ≡ true → (length u ≡ pass.len) × (covered pass.level P H u pass.dot ≡ false)
 counted_uncovered m words pass P H u is =
-    let tested = all_of_seen (λ (v : List ℕ). nat_eq (length v) pass.len && not (covered pass.level P H v pass.dot)) u (sights m words pass P H)
+    let tested = all_of_seen (λ (v : List ℕ). nat_eq (length v) pass.len && not (covered pass.level P H v pass.dot)) u (counted_positions m words pass P H)
     (all_seen (λ (v : List ℕ). nat_eq (length v) pass.len && not (covered pass.level P H v pass.dot)) m words pass P H
     (λ w p fit none. and_from (nat_eq (length (window w p pass.len pass.dot)) pass.len) (not (covered pass.level P H (window w p pass.len pass.dot) pass.dot))
     (eq-eqb (length (window w p pass.len pass.dot)) pass.len (part_length w (p - pass.dot) pass.len (fits_parts w p pass.len pass.dot fit).1))
@@ -68,8 +68,8 @@ counted_uncovered m words pass P H u is =
     let parts = and_parts (nat_eq (length u) pass.len) (not (covered pass.level P H u pass.dot)) tested in
     (eqb-true (length u) pass.len parts.0, not-true (covered pass.level P H u pass.dot) parts.1)
 
--- the candidates that pass a test are the windows that are seen and pass it
-among_windows : (test : Candidate → Bool) (seen : List Sight) (u : List ℕ) (us : List (List ℕ)) → is_among u (filter test (map (candidate_at seen) us)) ≡ (list_any (same_signs u) us && test (candidate_at seen u))
+-- the candidates that pass a test are the windows that are counted and pass it
+among_windows : (test : Candidate → Bool) (seen : List CountedPosition) (u : List ℕ) (us : List (List ℕ)) → is_among u (filter test (map (candidate_at seen) us)) ≡ (list_any (same_signs u) us && test (candidate_at seen u))
 among_windows test seen u [] = refl
 among_windows test seen u (v ∷ us) =
     kept (test (candidate_at seen v))
@@ -96,7 +96,7 @@ among_windows test seen u (v ∷ us) =
         none false = refl
     by_same false b t a tied rest = rest
 
-pub among_candidates : (test : Candidate → Bool) (seen : List Sight) (u : List ℕ) → is_among u (filter test (tally seen)) ≡ is_candidate test seen u
+pub among_candidates : (test : Candidate → Bool) (seen : List CountedPosition) (u : List ℕ) → is_among u (filter test (tally seen)) ≡ is_candidate test seen u
 among_candidates test seen u = among_windows test seen u (candidates seen) ∙ ap (λ b. b && test (candidate_at seen u)) (candidates_are_seen seen u)
 
 -- each candidate that passes has a window of the pass's length
@@ -112,12 +112,12 @@ all_kept t q (x ∷ xs) all =
 abbrev pub AreLong : ℕ → List Candidate → Type 0
 AreLong len cs = list_all (λ (c : Candidate). nat_eq (length c.window) len) cs ≡ true
 
-pub passing_long : (test : Candidate → Bool) (m : Minima) (words : List Word) (pass : Pass) (P : Patterns) (H : Hopeless) → AreLong pass.len (filter test (tally (sights m words pass P H)))
+pub passing_long : (test : Candidate → Bool) (m : Minima) (words : List Word) (pass : Pass) (P : Patterns) (H : Hopeless) → AreLong pass.len (filter test (tally (counted_positions m words pass P H)))
 passing_long test m words pass P H =
-    let seen : List Sight = sights m words pass P H in
-    all_kept (λ (c : Candidate). nat_eq (length c.window) pass.len) test (tally (sights m words pass P H))
-    (list_all-map (λ (c : Candidate). nat_eq (length c.window) pass.len) (candidate_at (sights m words pass P H)) (candidates (sights m words pass P H))
-    ∙ all_candidates (λ (u : List ℕ). nat_eq (length u) pass.len) (sights m words pass P H)
+    let seen : List CountedPosition = counted_positions m words pass P H in
+    all_kept (λ (c : Candidate). nat_eq (length c.window) pass.len) test (tally (counted_positions m words pass P H))
+    (list_all-map (λ (c : Candidate). nat_eq (length c.window) pass.len) (candidate_at (counted_positions m words pass P H)) (candidates (counted_positions m words pass P H))
+    ∙ all_candidates (λ (u : List ℕ). nat_eq (length u) pass.len) (counted_positions m words pass P H)
     ∙ all_seen (λ (u : List ℕ). nat_eq (length u) pass.len) m words pass P H
     (λ w p fit none. eq-eqb (length (window w p pass.len pass.dot)) pass.len (part_length w (p - pass.dot) pass.len (fits_parts w p pass.len pass.dot fit).1)))
 
@@ -222,26 +222,26 @@ cover_hopeless level dot P H u d (c ∷ cs) =
     ∙ turned (applies u d (c.window, dot)) (list_any (λ (x : Candidate). applies u d (x.window, dot)) cs) (covered level P H u d)
 
 pub values_after : (m : Minima) (words : List Word) (pass : Pass) (P : Patterns) (H : Hopeless) (raised : Candidate → Bool) (w : List ℕ) (p : ℕ)
-    → value_at (patterns_after_pass m words pass P H raised) w p ≡ max (cond (fits w p pass.len pass.dot && is_candidate raised (sights m words pass P H) (window w p pass.len pass.dot)) pass.level 0) (value_at P w p)
+    → value_at (patterns_after_pass m words pass P H raised) w p ≡ max (cond (fits w p pass.len pass.dot && is_candidate raised (counted_positions m words pass P H) (window w p pass.len pass.dot)) pass.level 0) (value_at P w p)
 values_after m words pass P H raised w p =
-    value_all pass.level pass.dot P w p (filter raised (tally (sights m words pass P H)))
+    value_all pass.level pass.dot P w p (filter raised (tally (counted_positions m words pass P H)))
     ∙ ap (λ b. max (only b pass.level) (value_at P w p))
-    (any_applies w p pass.len pass.dot (filter raised (tally (sights m words pass P H))) (passing_long raised m words pass P H)
-    ∙ ap (λ b. fits w p pass.len pass.dot && b) (among_candidates raised (sights m words pass P H) (window w p pass.len pass.dot)))
+    (any_applies w p pass.len pass.dot (filter raised (tally (counted_positions m words pass P H))) (passing_long raised m words pass P H)
+    ∙ ap (λ b. fits w p pass.len pass.dot && b) (among_candidates raised (counted_positions m words pass P H) (window w p pass.len pass.dot)))
 
 pub covers_after : (m : Minima) (words : List Word) (pass : Pass) (P : Patterns) (H : Hopeless) (raised hopeless : Candidate → Bool) (w : List ℕ) (p d : ℕ) → fits w p pass.len d ≡ true
     → covered pass.level (patterns_after_pass m words pass P H raised) (hopeless_after_pass m words pass P H hopeless) (window w p pass.len d) d
-    ≡ ((nat_eq d pass.dot && (is_candidate raised (sights m words pass P H) (window w p pass.len pass.dot) || is_candidate hopeless (sights m words pass P H) (window w p pass.len pass.dot))) || covered pass.level P H (window w p pass.len d) d)
+    ≡ ((nat_eq d pass.dot && (is_candidate raised (counted_positions m words pass P H) (window w p pass.len pass.dot) || is_candidate hopeless (counted_positions m words pass P H) (window w p pass.len pass.dot))) || covered pass.level P H (window w p pass.len d) d)
 covers_after m words pass P H raised hopeless w p d fit =
-    cover_hopeless pass.level pass.dot (patterns_after_pass m words pass P H raised) H (window w p pass.len d) d (filter hopeless (tally (sights m words pass P H)))
-    ∙ ap (λ b. list_any (λ (x : Candidate). applies (window w p pass.len d) d (x.window, pass.dot)) (filter hopeless (tally (sights m words pass P H))) || b) (cover_raised pass.level pass.dot P H (window w p pass.len d) d (filter raised (tally (sights m words pass P H))))
+    cover_hopeless pass.level pass.dot (patterns_after_pass m words pass P H raised) H (window w p pass.len d) d (filter hopeless (tally (counted_positions m words pass P H)))
+    ∙ ap (λ b. list_any (λ (x : Candidate). applies (window w p pass.len d) d (x.window, pass.dot)) (filter hopeless (tally (counted_positions m words pass P H))) || b) (cover_raised pass.level pass.dot P H (window w p pass.len d) d (filter raised (tally (counted_positions m words pass P H))))
     ∙ (λ i. those hopeless i || (those raised i || covered pass.level P H (window w p pass.len d) d))
-    ∙ grouped (nat_eq d pass.dot) (is_candidate raised (sights m words pass P H) (window w p pass.len pass.dot)) (is_candidate hopeless (sights m words pass P H) (window w p pass.len pass.dot)) (covered pass.level P H (window w p pass.len d) d)
+    ∙ grouped (nat_eq d pass.dot) (is_candidate raised (counted_positions m words pass P H) (window w p pass.len pass.dot)) (is_candidate hopeless (counted_positions m words pass P H) (window w p pass.len pass.dot)) (covered pass.level P H (window w p pass.len d) d)
   where
-    those : (test : Candidate → Bool) → list_any (λ (x : Candidate). applies (window w p pass.len d) d (x.window, pass.dot)) (filter test (tally (sights m words pass P H))) ≡ (nat_eq d pass.dot && is_candidate test (sights m words pass P H) (window w p pass.len pass.dot))
+    those : (test : Candidate → Bool) → list_any (λ (x : Candidate). applies (window w p pass.len d) d (x.window, pass.dot)) (filter test (tally (counted_positions m words pass P H))) ≡ (nat_eq d pass.dot && is_candidate test (counted_positions m words pass P H) (window w p pass.len pass.dot))
     those test =
-        any_covers w p pass.len d pass.dot (filter test (tally (sights m words pass P H))) fit (passing_long test m words pass P H)
-        ∙ ap (λ b. nat_eq d pass.dot && b) (among_candidates test (sights m words pass P H) (window w p pass.len pass.dot))
+        any_covers w p pass.len d pass.dot (filter test (tally (counted_positions m words pass P H))) fit (passing_long test m words pass P H)
+        ∙ ap (λ b. nat_eq d pass.dot && b) (among_candidates test (counted_positions m words pass P H) (window w p pass.len pass.dot))
 
     grouped : (a r h c : Bool) → ((a && h) || ((a && r) || c)) ≡ ((a && (r || h)) || c)
     grouped true true true c = refl

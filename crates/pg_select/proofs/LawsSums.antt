@@ -18,7 +18,7 @@ use Rattle.pg_dict.specs.Word.{Word, IsWord, letters_of}
 use Rattle.pg_select.specs.Statuses.{status_at, weight_at}
 use Rattle.pg_select.specs.Windows.{Hopeless, window}
 use Rattle.pg_select.specs.declared.pass.Pass.{Pass}
-use Rattle.pg_select.specs.Sights.{Minima, Sight, counted_at, sight_at, sights_in, sights, same_signs, with_window, candidates, good_of, bad_of}
+use Rattle.pg_select.specs.CountedPositions.{Minima, CountedPosition, counted_at, counted_positions_at, counted_positions_in, counted_positions, same_signs, with_window, candidates, good_of, bad_of}
 use Rattle.pg_select.specs.Sums.{is_found, is_error, is_missed, weight_of, marks_in, totals}
 use Rattle.pg_select.specs.Laws.{AreFew, positions_in}
 use Rattle.pg_select.proofs.LawsTally.{cmp, seen_as, keys_length}
@@ -95,21 +95,21 @@ totals_within m words P each =
     = parts_within (marks_in m P) (λ (e : Mark × ℕ). e.1) WEIGHT_MAX (reached m) IsWord (λ w word. marks_within P w word (positions m.left m.right (length w.signs))) words each in
     omega (arith, three_within (flat_map (marks_in m P) words))
 
--- what is seen at a position weighs no more than it
-seen_within : (o : Option Bool) (u : List ℕ) (x : ℕ) → sum_by (λ (s : Sight). s.weight) (seen_as u x o) ≤ x
+-- what is counted at a position weighs no more than it
+seen_within : (o : Option Bool) (u : List ℕ) (x : ℕ) → sum_by (λ (s : CountedPosition). s.weight) (seen_as u x o) ≤ x
 seen_within None u x = omega arith
 seen_within (Some good) u x = omega arith
 
-seen_in : (pass : Pass) (P : List ((List ℕ × ℕ) × ℕ)) (H : Hopeless) (w : Word) → IsWord w → (ps : List ℕ) → sum_by (λ (s : Sight). s.weight) (flat_map (sight_at pass P H w) ps) ≤ WEIGHT_MAX * length ps
+seen_in : (pass : Pass) (P : List ((List ℕ × ℕ) × ℕ)) (H : Hopeless) (w : Word) → IsWord w → (ps : List ℕ) → sum_by (λ (s : CountedPosition). s.weight) (flat_map (counted_positions_at pass P H w) ps) ≤ WEIGHT_MAX * length ps
 seen_in pass P H w word [] = omega arith
 seen_in pass P H w word (p ∷ ps) =
-    let here : sum_by (λ (s : Sight). s.weight) (sight_at pass P H w p) ≤ weight_at w p = seen_within (counted_at pass P H w p) (window w.signs p pass.len pass.dot) (weight_at w p) in
-    omega (arith, weight_within w p word, seen_in pass P H w word ps, sum_by-append (λ (s : Sight). s.weight) (sight_at pass P H w p) (flat_map (sight_at pass P H w) ps))
+    let here : sum_by (λ (s : CountedPosition). s.weight) (counted_positions_at pass P H w p) ≤ weight_at w p = seen_within (counted_at pass P H w p) (window w.signs p pass.len pass.dot) (weight_at w p) in
+    omega (arith, weight_within w p word, seen_in pass P H w word ps, sum_by-append (λ (s : CountedPosition). s.weight) (counted_positions_at pass P H w p) (flat_map (counted_positions_at pass P H w) ps))
 
--- what a pass sees is within the weights of the positions in reach
-pub sights_within : (m : Minima) (words : List Word) (pass : Pass) (P : List ((List ℕ × ℕ) × ℕ)) (H : Hopeless) → All IsWord words → sum_by (λ (s : Sight). s.weight) (sights m words pass P H) ≤ WEIGHT_MAX * positions_in m words
-sights_within m words pass P H each =
-    parts_within (sights_in m pass P H) (λ (s : Sight). s.weight) WEIGHT_MAX (reached m) IsWord (λ w word. seen_in pass P H w word (positions m.left m.right (length w.signs))) words each
+-- what a pass counts is within the weights of the positions in reach
+pub weights_within : (m : Minima) (words : List Word) (pass : Pass) (P : List ((List ℕ × ℕ) × ℕ)) (H : Hopeless) → All IsWord words → sum_by (λ (s : CountedPosition). s.weight) (counted_positions m words pass P H) ≤ WEIGHT_MAX * positions_in m words
+weights_within m words pass P H each =
+    parts_within (counted_positions_in m pass P H) (λ (s : CountedPosition). s.weight) WEIGHT_MAX (reached m) IsWord (λ w word. seen_in pass P H w word (positions m.left m.right (length w.signs))) words each
 
 -- a window more, or none
 put_length : (u : List ℕ) (windows : List (List ℕ × Unit {0})) → length (put cmp u (tt {0}) windows) ≤ length windows + 1
@@ -122,7 +122,7 @@ put_length u (e ∷ es) =
       | Greater ↦ omega arith
     ]
 
-windows_few : (windows : List (List ℕ × Unit {0})) (seen : List Sight) → length (fold with_window windows seen) ≤ length windows + length seen
+windows_few : (windows : List (List ℕ × Unit {0})) (seen : List CountedPosition) → length (fold with_window windows seen) ≤ length windows + length seen
 windows_few windows [] = omega arith
 windows_few windows (s ∷ ss) = omega (arith, windows_few (with_window windows s) ss, put_length s.window windows)
 
@@ -130,20 +130,20 @@ seen_once : (o : Option Bool) (u : List ℕ) (x : ℕ) → length (seen_as u x o
 seen_once None u x = omega arith
 seen_once (Some good) u x = omega arith
 
-sights_few_in : (pass : Pass) (P : List ((List ℕ × ℕ) × ℕ)) (H : Hopeless) (w : Word) (ps : List ℕ) → length (flat_map (sight_at pass P H w) ps) ≤ length ps
-sights_few_in pass P H w [] = omega arith
-sights_few_in pass P H w (p ∷ ps) =
-    omega (arith, seen_once (counted_at pass P H w p) (window w.signs p pass.len pass.dot) (weight_at w p), sights_few_in pass P H w ps, length-append (sight_at pass P H w p) (flat_map (sight_at pass P H w) ps))
+counted_few_in : (pass : Pass) (P : List ((List ℕ × ℕ) × ℕ)) (H : Hopeless) (w : Word) (ps : List ℕ) → length (flat_map (counted_positions_at pass P H w) ps) ≤ length ps
+counted_few_in pass P H w [] = omega arith
+counted_few_in pass P H w (p ∷ ps) =
+    omega (arith, seen_once (counted_at pass P H w p) (window w.signs p pass.len pass.dot) (weight_at w p), counted_few_in pass P H w ps, length-append (counted_positions_at pass P H w p) (flat_map (counted_positions_at pass P H w) ps))
 
 -- a pass sees no more than positions in reach
-pub sights_few : (m : Minima) (words : List Word) (pass : Pass) (P : List ((List ℕ × ℕ) × ℕ)) (H : Hopeless) → length (sights m words pass P H) ≤ positions_in m words
-sights_few m [] pass P H = omega arith
-sights_few m (w ∷ ws) pass P H =
-    omega (arith, sights_few m ws pass P H, sights_few_in pass P H w (positions m.left m.right (length w.signs)), sum_by-cons (reached m) w ws, length-append (sights_in m pass P H w) (flat_map (sights_in m pass P H) ws))
+pub counted_few : (m : Minima) (words : List Word) (pass : Pass) (P : List ((List ℕ × ℕ) × ℕ)) (H : Hopeless) → length (counted_positions m words pass P H) ≤ positions_in m words
+counted_few m [] pass P H = omega arith
+counted_few m (w ∷ ws) pass P H =
+    omega (arith, counted_few m ws pass P H, counted_few_in pass P H w (positions m.left m.right (length w.signs)), sum_by-cons (reached m) w ws, length-append (counted_positions_in m pass P H w) (flat_map (counted_positions_in m pass P H) ws))
 
 -- and has no more candidates
-pub candidates_few : (m : Minima) (words : List Word) (pass : Pass) (P : List ((List ℕ × ℕ) × ℕ)) (H : Hopeless) → length (candidates (sights m words pass P H)) ≤ positions_in m words
-candidates_few m words pass P H = omega (arith, sights_few m words pass P H, windows_few [] (sights m words pass P H), keys_length (fold with_window [] (sights m words pass P H)))
+pub candidates_few : (m : Minima) (words : List Word) (pass : Pass) (P : List ((List ℕ × ℕ) × ℕ)) (H : Hopeless) → length (candidates (counted_positions m words pass P H)) ≤ positions_in m words
+candidates_few m words pass P H = omega (arith, counted_few m words pass P H, windows_few [] (counted_positions m words pass P H), keys_length (fold with_window [] (counted_positions m words pass P H)))
 
 small : (n k : ℕ) → n ≤ WEIGHT_MAX * k → k ≤ FILE_MAX → n < 2 ^ 40
 small n k light few = omega arith
@@ -153,25 +153,25 @@ totals_small m words P low few =
     let upto : positions_in m words ≤ sum_by letters_of words = positions_within m words low in
     small ((totals m words P).good + (totals m words P).bad + (totals m words P).missed) (positions_in m words) (totals_within m words P few.each) (omega (arith, few.letters))
 
-pub sights_light : (m : Minima) (words : List Word) (pass : Pass) (P : List ((List ℕ × ℕ) × ℕ)) (H : Hopeless) → 1 ≤ m.left → AreFew words → sum_by (λ (s : Sight). s.weight) (sights m words pass P H) < 2 ^ 40
-sights_light m words pass P H low few =
+pub counted_light : (m : Minima) (words : List Word) (pass : Pass) (P : List ((List ℕ × ℕ) × ℕ)) (H : Hopeless) → 1 ≤ m.left → AreFew words → sum_by (λ (s : CountedPosition). s.weight) (counted_positions m words pass P H) < 2 ^ 40
+counted_light m words pass P H low few =
     let upto : positions_in m words ≤ sum_by letters_of words = positions_within m words low in
-    small (sum_by (λ (s : Sight). s.weight) (sights m words pass P H)) (positions_in m words) (sights_within m words pass P H few.each) (omega (arith, few.letters))
+    small (sum_by (λ (s : CountedPosition). s.weight) (counted_positions m words pass P H)) (positions_in m words) (weights_within m words pass P H few.each) (omega (arith, few.letters))
 
--- a sight counts once at most
-one_sight : (t good : Bool) (x : ℕ) → cond (t && good) x 0 + cond (t && not good) x 0 ≤ x
-one_sight true true x = omega arith
-one_sight true false x = omega arith
-one_sight false good x = omega arith
+-- a counted position counts once at most
+one_position : (t good : Bool) (x : ℕ) → cond (t && good) x 0 + cond (t && not good) x 0 ≤ x
+one_position true true x = omega arith
+one_position true false x = omega arith
+one_position false good x = omega arith
 
-pub sums_are_parts : (seen : List Sight) (u : List ℕ) → good_of seen u + bad_of seen u ≤ sum_by (λ (s : Sight). s.weight) seen
+pub sums_are_parts : (seen : List CountedPosition) (u : List ℕ) → good_of seen u + bad_of seen u ≤ sum_by (λ (s : CountedPosition). s.weight) seen
 sums_are_parts [] u = omega arith
 sums_are_parts (s ∷ ss) u =
     omega (
       arith,
       sums_are_parts ss u,
-      one_sight (same_signs u s.window) s.good s.weight,
-      sum_by-cons (λ (x : Sight). x.weight) s ss,
-      sum_by-cons (λ (x : Sight). cond (same_signs u x.window && x.good) x.weight 0) s ss,
-      sum_by-cons (λ (x : Sight). cond (same_signs u x.window && not x.good) x.weight 0) s ss,
+      one_position (same_signs u s.window) s.good s.weight,
+      sum_by-cons (λ (x : CountedPosition). x.weight) s ss,
+      sum_by-cons (λ (x : CountedPosition). cond (same_signs u x.window && x.good) x.weight 0) s ss,
+      sum_by-cons (λ (x : CountedPosition). cond (same_signs u x.window && not x.good) x.weight 0) s ss,
     )

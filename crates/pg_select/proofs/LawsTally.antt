@@ -1,4 +1,4 @@
--- The candidates of a pass and their sums, counted sight by sight.
+-- The candidates of a pass and their sums, counted position by position.
 use Rattle.std.proofs.Common.{◌≡◌, ℕ, zero, suc, ◌+◌, ◌<◌, Bool, true, false, cond, not, ◌&&◌, ◌||◌, T, List, [], ◌∷◌, length, map, fold, get_or, is_some, unwrap_or, Option, Some, None, refl, sym, ap, subst, ◌∙◌, arith}
 use Rattle.std.specs.declared.cmp.Ordering.{Ordering}
 use Rattle.std.specs.declared.cmp.Ordering.TheVariants.{Less, Equal}
@@ -9,10 +9,11 @@ use Rattle.std.specs.FinMap.{nat_cmp-IsAntisymmetric, slice_cmp-IsAntisymmetric}
 use Rattle.std.specs.FinMap.Entries.{find, is_sorted, below_all, is_sorted-put, find-put, find_tied, same_entries, is_some-find}
 use Rattle.std.specs.List.{list_any}
 use Rattle.std.proofs.lemmas.List.Sums.{sum_by-cons}
-use Rattle.pg_patterns.proofs.Ordered.{sorted_at, equal_is}
-use Rattle.pg_select.specs.Sights.{Sight, Candidate, same_signs, with_window, candidates, good_of, bad_of, tally}
+use Rattle.pg_types.proofs.Tests.{equal_is}
+use Rattle.pg_patterns.proofs.Ordered.{sorted_at}
+use Rattle.pg_select.specs.CountedPositions.{CountedPosition, Candidate, same_signs, with_window, candidates, good_of, bad_of, tally}
 use Rattle.pg_types.specs.Counts.{Counts, sums_of, with_weight}
-use Rattle.pg_select.specs.Meanings.{with_sight}
+use Rattle.pg_select.specs.Meanings.{with_position}
 use Rattle.pg_select.specs.Laws.{entry_of}
 
 abbrev pub cmp : List ℕ → List ℕ → Ordering
@@ -25,31 +26,31 @@ window_exact u v e = slice_cmp-IsAntisymmetric nat_cmp-IsAntisymmetric u v e
 pub same_window : (u v : List ℕ) → same_signs u v ≡ true → u ≡ v
 same_window u v same = window_exact u v (equal_is (cmp u v) same)
 
--- what is seen of a window at a position, where it is counted
-abbrev pub seen_as : List ℕ → ℕ → Option Bool → List Sight
+-- what is counted of a window at a position, where it is counted
+abbrev pub seen_as : List ℕ → ℕ → Option Bool → List CountedPosition
 seen_as u x counted = option_map_or (λ (good : Bool). record { window = u; good = good; weight = x } ∷ []) counted []
 
--- a window is seen
-abbrev pub is_seen : List Sight → List ℕ → Bool
+-- a window is counted
+abbrev pub is_seen : List CountedPosition → List ℕ → Bool
 is_seen seen u = list_any (λ s. same_signs u s.window) seen
 
 -- the windows stay in order
-pub windows_sorted : (windows : List (List ℕ × Unit {0})) (seen : List Sight) → T (is_sorted cmp windows) → T (is_sorted cmp (fold with_window windows seen))
+pub windows_sorted : (windows : List (List ℕ × Unit {0})) (seen : List CountedPosition) → T (is_sorted cmp windows) → T (is_sorted cmp (fold with_window windows seen))
 windows_sorted windows [] sorted = sorted
 windows_sorted windows (s ∷ ss) sorted = windows_sorted (with_window windows s) ss (is_sorted-put cmp nat_list_cmp_total s.window tt windows sorted)
 
 -- and so do the counts
-pub counts_sorted : (counts : Counts) (seen : List Sight) → T (is_sorted cmp counts) → T (is_sorted cmp (fold with_sight counts seen))
+pub counts_sorted : (counts : Counts) (seen : List CountedPosition) → T (is_sorted cmp counts) → T (is_sorted cmp (fold with_position counts seen))
 counts_sorted counts [] sorted = sorted
-counts_sorted counts (s ∷ ss) sorted = counts_sorted (with_sight counts s) ss (is_sorted-put cmp nat_list_cmp_total s.window (with_weight (sums_of counts s.window) s.good s.weight) counts sorted)
+counts_sorted counts (s ∷ ss) sorted = counts_sorted (with_position counts s) ss (is_sorted-put cmp nat_list_cmp_total s.window (with_weight (sums_of counts s.window) s.good s.weight) counts sorted)
 
 one_window : (t b : Bool) (o : Option (Unit {0})) → (is_some (cond t (Some tt) o) || b) ≡ (is_some o || (t || b))
 one_window true b None = refl
 one_window true b (Some x) = refl
 one_window false b o = refl
 
--- the windows that are found are those of before and those that are seen
-pub windows_found : (u : List ℕ) (windows : List (List ℕ × Unit {0})) (seen : List Sight) → is_some (find cmp u (fold with_window windows seen)) ≡ (is_some (find cmp u windows) || is_seen seen u)
+-- the windows that are found are those of before and those that are counted
+pub windows_found : (u : List ℕ) (windows : List (List ℕ × Unit {0})) (seen : List CountedPosition) → is_some (find cmp u (fold with_window windows seen)) ≡ (is_some (find cmp u windows) || is_seen seen u)
 windows_found u windows [] = or_false (is_some (find cmp u windows))
   where
     or_false : (b : Bool) → b ≡ (b || false)
@@ -76,10 +77,10 @@ one_more false weight None b gs bs = pairs _ _ _ _ (omega arith) (omega arith)
 one_more true weight (Some x) b gs bs = pairs _ _ _ _ (omega arith) (omega arith)
 one_more false weight (Some x) b gs bs = pairs _ _ _ _ (omega arith) (omega arith)
 
-one_sight : (t good : Bool) (weight : ℕ) (o r : Option (ℕ × ℕ)) (b : Bool) (gs bs : ℕ) → (t ≡ true → r ≡ o)
+one_position : (t good : Bool) (weight : ℕ) (o r : Option (ℕ × ℕ)) (b : Bool) (gs bs : ℕ) → (t ≡ true → r ≡ o)
     → added (cond t (Some (with_weight (unwrap_or r (0, 0)) good weight)) o) b gs bs ≡ added o (t || b) (cond (t && good) weight 0 + gs) (cond (t && not good) weight 0 + bs)
-one_sight true good weight o r b gs bs tied = ap (λ (x : Option (ℕ × ℕ)). added (Some (with_weight (unwrap_or x (0, 0)) good weight)) b gs bs) (tied refl) ∙ one_more good weight o b gs bs
-one_sight false good weight o r b gs bs tied =
+one_position true good weight o r b gs bs tied = ap (λ (x : Option (ℕ × ℕ)). added (Some (with_weight (unwrap_or x (0, 0)) good weight)) b gs bs) (tied refl) ∙ one_more good weight o b gs bs
+one_position false good weight o r b gs bs tied =
     let g : gs ≡ 0 + gs = omega arith in
     let h : bs ≡ 0 + bs = omega arith in
     λ i. added o b (g i) (h i)
@@ -88,30 +89,30 @@ none_more : (o : Option (ℕ × ℕ)) → o ≡ added o false 0 0
 none_more None = refl
 none_more (Some x) = pairs x.0 x.1 (x.0 + 0) (x.1 + 0) (omega arith) (omega arith)
 
--- the sums that are found are those of before with those that are seen
-pub sums_found : (u : List ℕ) (counts : Counts) (seen : List Sight) → find cmp u (fold with_sight counts seen) ≡ added (find cmp u counts) (is_seen seen u) (good_of seen u) (bad_of seen u)
+-- the sums that are found are those of before with those that are counted
+pub sums_found : (u : List ℕ) (counts : Counts) (seen : List CountedPosition) → find cmp u (fold with_position counts seen) ≡ added (find cmp u counts) (is_seen seen u) (good_of seen u) (bad_of seen u)
 sums_found u counts [] = none_more (find cmp u counts)
 sums_found u counts (s ∷ ss) =
-    let good : good_of (s ∷ ss) u ≡ cond (same_signs u s.window && s.good) s.weight 0 + good_of ss u = sum_by-cons (λ (x : Sight). cond (same_signs u x.window && x.good) x.weight 0) s ss in
-    let bad : bad_of (s ∷ ss) u ≡ cond (same_signs u s.window && not s.good) s.weight 0 + bad_of ss u = sum_by-cons (λ (x : Sight). cond (same_signs u x.window && not x.good) x.weight 0) s ss in
-    sums_found u (with_sight counts s) ss
+    let good : good_of (s ∷ ss) u ≡ cond (same_signs u s.window && s.good) s.weight 0 + good_of ss u = sum_by-cons (λ (x : CountedPosition). cond (same_signs u x.window && x.good) x.weight 0) s ss in
+    let bad : bad_of (s ∷ ss) u ≡ cond (same_signs u s.window && not s.good) s.weight 0 + bad_of ss u = sum_by-cons (λ (x : CountedPosition). cond (same_signs u x.window && not x.good) x.weight 0) s ss in
+    sums_found u (with_position counts s) ss
     ∙ ap (λ (o : Option (ℕ × ℕ)). added o (is_seen ss u) (good_of ss u) (bad_of ss u)) (find-put cmp nat_list_cmp_total u s.window (with_weight (sums_of counts s.window) s.good s.weight) counts)
-    ∙ one_sight (same_signs u s.window) s.good s.weight (find cmp u counts) (find cmp s.window counts) (is_seen ss u) (good_of ss u) (bad_of ss u) (λ t. find_tied cmp nat_list_cmp_total u s.window (equal_is (cmp u s.window) t) counts)
+    ∙ one_position (same_signs u s.window) s.good s.weight (find cmp u counts) (find cmp s.window counts) (is_seen ss u) (good_of ss u) (bad_of ss u) (λ t. find_tied cmp nat_list_cmp_total u s.window (equal_is (cmp u s.window) t) counts)
     ∙ (λ i. added (find cmp u counts) (is_seen (s ∷ ss) u) (sym good i) (sym bad i))
 
 -- the entries of windows with their sums
-abbrev entries_of : List Sight → List (List ℕ × Unit {0}) → Counts
+abbrev entries_of : List CountedPosition → List (List ℕ × Unit {0}) → Counts
 entries_of seen windows = map entry_of (map (λ (u : List ℕ). record { window = u; good = good_of seen u; bad = bad_of seen u }) (map (λ (e : List ℕ × Unit {0}). e.0) windows))
 
-entries_below : (seen : List Sight) (u : List ℕ) (windows : List (List ℕ × Unit {0})) → below_all cmp u (entries_of seen windows) ≡ below_all cmp u windows
+entries_below : (seen : List CountedPosition) (u : List ℕ) (windows : List (List ℕ × Unit {0})) → below_all cmp u (entries_of seen windows) ≡ below_all cmp u windows
 entries_below seen u [] = refl
 entries_below seen u (e ∷ es) = ap (λ b. is_lt (cmp u e.0) && b) (entries_below seen u es)
 
-entries_sorted : (seen : List Sight) (windows : List (List ℕ × Unit {0})) → is_sorted cmp (entries_of seen windows) ≡ is_sorted cmp windows
+entries_sorted : (seen : List CountedPosition) (windows : List (List ℕ × Unit {0})) → is_sorted cmp (entries_of seen windows) ≡ is_sorted cmp windows
 entries_sorted seen [] = refl
 entries_sorted seen (e ∷ es) = λ i. entries_below seen e.0 es i && entries_sorted seen es i
 
-entries_found : (seen : List Sight) (u : List ℕ) (windows : List (List ℕ × Unit {0})) → find cmp u (entries_of seen windows) ≡ cond (is_some (find cmp u windows)) (Some (good_of seen u, bad_of seen u)) None
+entries_found : (seen : List CountedPosition) (u : List ℕ) (windows : List (List ℕ × Unit {0})) → find cmp u (entries_of seen windows) ≡ cond (is_some (find cmp u windows)) (Some (good_of seen u, bad_of seen u)) None
 entries_found seen u [] = refl
 entries_found seen u (e ∷ es) =
     elim (same_signs u e.0) as (λ (t : Bool). same_signs u e.0 ≡ t → cond t (Some (good_of seen e.0, bad_of seen e.0)) (find cmp u (entries_of seen es)) ≡ cond (is_some (cond t (Some e.1) (find cmp u es))) (Some (good_of seen u, bad_of seen u)) None) [
@@ -123,11 +124,11 @@ none_before : (b : Bool) (g h : ℕ) → added None b g h ≡ cond b (Some (g, h
 none_before true g h = pairs _ _ _ _ (omega arith) (omega arith)
 none_before false g h = refl
 
--- the tally law: counting sight by sight gives the candidates with their sums
-pub counts_are_tally : (seen : List Sight) → fold with_sight [] seen ≡ map entry_of (tally seen)
+-- the tally law: counting position by position gives the candidates with their sums
+pub counts_are_tally : (seen : List CountedPosition) → fold with_position [] seen ≡ map entry_of (tally seen)
 counts_are_tally seen =
     let windows : List (List ℕ × Unit {0}) = fold with_window [] seen in
-    same_entries cmp nat_list_cmp_total window_exact (fold with_sight [] seen) (entries_of seen (fold with_window [] seen))
+    same_entries cmp nat_list_cmp_total window_exact (fold with_position [] seen) (entries_of seen (fold with_window [] seen))
     (counts_sorted [] seen tt)
     (subst T (sym (entries_sorted seen (fold with_window [] seen))) (windows_sorted [] seen tt))
     (λ u. sums_found u [] seen
@@ -143,7 +144,7 @@ candidates_back [] = refl
 candidates_back (c ∷ cs) = ap (λ (x : List Candidate). c ∷ x) (candidates_back cs)
 
 -- the same, with a candidate for each entry
-pub tally_is : (seen : List Sight) → tally seen ≡ map candidate_of (fold with_sight [] seen)
+pub tally_is : (seen : List CountedPosition) → tally seen ≡ map candidate_of (fold with_position [] seen)
 tally_is seen = candidates_back (tally seen) ∙ ap (λ (counts : Counts). map candidate_of counts) (sym (counts_are_tally seen))
 
 keys_at : (windows : List (List ℕ × Unit {0})) (i : ℕ) (d : List ℕ × Unit {0}) → get_or (map (λ (e : List ℕ × Unit {0}). e.0) windows) i d.0 ≡ (get_or windows i d).0
@@ -156,13 +157,13 @@ keys_length [] = refl
 keys_length (e ∷ es) = ap suc (keys_length es)
 
 -- the candidates stand in order
-pub candidates_in_order : (seen : List Sight) (i j : ℕ) (d : List ℕ) → i < j → j < length (candidates seen) → cmp (get_or (candidates seen) i d) (get_or (candidates seen) j d) ≡ Less
+pub candidates_in_order : (seen : List CountedPosition) (i j : ℕ) (d : List ℕ) → i < j → j < length (candidates seen) → cmp (get_or (candidates seen) i d) (get_or (candidates seen) j d) ≡ Less
 candidates_in_order seen i j d before inside =
     let windows : List (List ℕ × Unit {0}) = fold with_window [] seen in
     let within : j < length (fold with_window [] seen) = omega (arith, keys_length (fold with_window [] seen)) in
     let less = sorted_at cmp (fold with_window [] seen) i j (d, tt) (windows_sorted [] seen tt) before within in
     (λ k. cmp (keys_at (fold with_window [] seen) i (d, tt) k) (keys_at (fold with_window [] seen) j (d, tt) k)) ∙ less
 
--- and are the windows that are seen
-pub candidates_are_seen : (seen : List Sight) (u : List ℕ) → list_any (same_signs u) (candidates seen) ≡ is_seen seen u
+-- and are the windows that are counted
+pub candidates_are_seen : (seen : List CountedPosition) (u : List ℕ) → list_any (same_signs u) (candidates seen) ≡ is_seen seen u
 candidates_are_seen seen u = sym (is_some-find cmp u (fold with_window [] seen)) ∙ windows_found u [] seen

@@ -17,10 +17,10 @@ use Rattle.pg_select.specs.Statuses.{is_odd, status_at, weight_at}
 use Rattle.pg_select.specs.Sums.{is_found, is_error, is_missed, weight_of, marks_in, totals}
 use Rattle.pg_select.specs.Windows.{Hopeless, window, fits, covered, Patterns}
 use Rattle.pg_select.specs.declared.pass.Pass.{Pass}
-use Rattle.pg_select.specs.Sights.{Minima, Sight, Candidate, counts_as, counted_at, sight_at, sights_in, sights, same_signs, with_window, candidates, tally}
+use Rattle.pg_select.specs.CountedPositions.{Minima, CountedPosition, Candidate, counts_as, counted_at, counted_positions_at, counted_positions_in, counted_positions, same_signs, with_window, candidates, tally}
 use Rattle.pg_select.proofs.LawsTally.{cmp, same_window, seen_as, is_seen, candidates_are_seen, windows_sorted}
 use Rattle.pg_select.specs.LawsSteps.{IsUpTo, candidate_at, is_candidate, patterns_after_pass, good_raised, bad_raised, FindsMore, PreventsMore}
-use Rattle.pg_patterns.proofs.Ordered.{is_true}
+use Rattle.pg_types.proofs.Tests.{is_true}
 use Rattle.pg_select.proofs.LawsLengths.{same_test}
 use Rattle.pg_select.proofs.LawsRaised.{same_itself, counted_uncovered, values_after}
 use Rattle.pg_select.proofs.LawsClosedDots.{counted_by, counts_by, best_up_to}
@@ -55,12 +55,12 @@ same_turned u v =
     (λ is. ap (λ (x : List ℕ). same_signs x u) (sym (same_window u v is)) ∙ same_itself u)
     (λ is. ap (λ (x : List ℕ). same_signs x v) (sym (same_window v u is)) ∙ same_itself v)
 
--- sums over windows that pass a test, each of what is seen of it that is of a kind
-module _ (kind : Sight → Bool) (test : List ℕ → Bool) where
-  abbrev own : List ℕ → Sight → ℕ
+-- sums over windows that pass a test, each of what is counted of it that is of a kind
+module _ (kind : CountedPosition → Bool) (test : List ℕ → Bool) where
+  abbrev own : List ℕ → CountedPosition → ℕ
   own u s = cond (same_signs u s.window && kind s) s.weight 0
 
-  abbrev among : List (List ℕ) → Sight → ℕ
+  abbrev among : List (List ℕ) → CountedPosition → ℕ
   among us s = cond (kind s && (list_any (same_signs s.window) us && test s.window)) s.weight 0
 
   point : (S k t r a : Bool) (w : ℕ) → (S ≡ true → (a ≡ false) × (t ≡ r)) → cond t (cond (S && k) w 0) 0 + cond (k && (a && r)) w 0 ≡ cond (k && ((S || a) && r)) w 0
@@ -77,7 +77,7 @@ module _ (kind : Sight → Bool) (test : List ℕ → Bool) where
   point false false false r a w is = refl
 
   -- one window more
-  one_more : (u : List ℕ) (us : List (List ℕ)) → list_any (same_signs u) us ≡ false → (seen : List Sight) → cond (test u) (sum_by (own u) seen) 0 + sum_by (among us) seen ≡ sum_by (among (u ∷ us)) seen
+  one_more : (u : List ℕ) (us : List (List ℕ)) → list_any (same_signs u) us ≡ false → (seen : List CountedPosition) → cond (test u) (sum_by (own u) seen) 0 + sum_by (among us) seen ≡ sum_by (among (u ∷ us)) seen
   one_more u us new [] = nothing (test u)
     where
       nothing : (b : Bool) → cond b 0 0 + 0 ≡ 0
@@ -109,9 +109,9 @@ module _ (kind : Sight → Bool) (test : List ℕ → Bool) where
       not_same Equal is = cc
       not_same Greater is = refl
 
-  swapped : (windows : Windows) → is_sorted cmp windows ≡ true → (seen : List Sight)
+  swapped : (windows : Windows) → is_sorted cmp windows ≡ true → (seen : List CountedPosition)
       → sum_by (λ (u : List ℕ). cond (test u) (sum_by (own u) seen) 0) (map (λ (e : List ℕ × Unit {0}). e.0) windows) ≡ sum_by (among (map (λ (e : List ℕ × Unit {0}). e.0) windows)) seen
-  swapped [] sorted seen = sym (sum_same (among []) (λ (s : Sight). 0) seen (λ s. none (kind s) s.weight) ∙ sum_none seen)
+  swapped [] sorted seen = sym (sum_same (among []) (λ (s : CountedPosition). 0) seen (λ s. none (kind s) s.weight) ∙ sum_none seen)
     where
       none : (k : Bool) (w : ℕ) → cond (k && false) w 0 ≡ 0
       none true w = refl
@@ -124,7 +124,7 @@ module _ (kind : Sight → Bool) (test : List ℕ → Bool) where
       ∙ one_more e.0 (map (λ (x : List ℕ × Unit {0}). x.0) es) (stands_once e.0 es parts.0) seen
 
 -- a sum over candidates that pass, as a sum over windows
-passing_sum : (raised : Candidate → Bool) (g : Candidate → ℕ) (seen : List Sight) (us : List (List ℕ)) → sum_by g (filter raised (map (candidate_at seen) us)) ≡ sum_by (λ (u : List ℕ). cond (raised (candidate_at seen u)) (g (candidate_at seen u)) 0) us
+passing_sum : (raised : Candidate → Bool) (g : Candidate → ℕ) (seen : List CountedPosition) (us : List (List ℕ)) → sum_by g (filter raised (map (candidate_at seen) us)) ≡ sum_by (λ (u : List ℕ). cond (raised (candidate_at seen u)) (g (candidate_at seen u)) 0) us
 passing_sum raised g seen [] = refl
 passing_sum raised g seen (u ∷ us) =
     let rest : sum_by g (filter raised (map (candidate_at seen) us)) ≡ sum_by (λ (v : List ℕ). cond (raised (candidate_at seen v)) (g (candidate_at seen v)) 0) us = passing_sum raised g seen us in
@@ -139,11 +139,11 @@ passing_sum raised g seen (u ∷ us) =
         zero : (n : ℕ) → n ≡ 0 + n
         zero n = omega arith
 
--- the weight of a sight of a kind whose window passes
-abbrev pub raised_weight : (Candidate → Bool) → List Sight → (Sight → Bool) → Sight → ℕ
+-- the weight of a counted position of a kind whose window passes
+abbrev pub raised_weight : (Candidate → Bool) → List CountedPosition → (CountedPosition → Bool) → CountedPosition → ℕ
 raised_weight raised seen kind s = cond (kind s && is_candidate raised seen s.window) s.weight 0
 
-sum_raised : (kind : Sight → Bool) (raised : Candidate → Bool) (g : Candidate → ℕ) (seen : List Sight) → ((u : List ℕ) → g (candidate_at seen u) ≡ sum_by (own kind (λ (u : List ℕ). raised (candidate_at seen u)) u) seen)
+sum_raised : (kind : CountedPosition → Bool) (raised : Candidate → Bool) (g : Candidate → ℕ) (seen : List CountedPosition) → ((u : List ℕ) → g (candidate_at seen u) ≡ sum_by (own kind (λ (u : List ℕ). raised (candidate_at seen u)) u) seen)
     → sum_by g (filter raised (tally seen)) ≡ sum_by (raised_weight raised seen kind) seen
 sum_raised kind raised g seen part =
     passing_sum raised g seen (candidates seen)
@@ -151,11 +151,11 @@ sum_raised kind raised g seen part =
     ∙ swapped kind (λ (u : List ℕ). raised (candidate_at seen u)) (fold with_window [] seen) (is_true (is_sorted cmp (fold with_window [] seen)) (windows_sorted [] seen tt)) seen
     ∙ sum_same (among kind (λ (u : List ℕ). raised (candidate_at seen u)) (candidates seen)) (raised_weight raised seen kind) seen (λ s. ap (λ b. cond (kind s && (b && raised (candidate_at seen s.window))) s.weight 0) (candidates_are_seen seen s.window))
 
-good_raised_sum : (raised : Candidate → Bool) (seen : List Sight) → good_raised raised seen ≡ sum_by (raised_weight raised seen (λ (s : Sight). s.good)) seen
-good_raised_sum raised seen = sum_raised (λ (s : Sight). s.good) raised (λ (c : Candidate). c.good) seen (λ u. refl)
+good_raised_sum : (raised : Candidate → Bool) (seen : List CountedPosition) → good_raised raised seen ≡ sum_by (raised_weight raised seen (λ (s : CountedPosition). s.good)) seen
+good_raised_sum raised seen = sum_raised (λ (s : CountedPosition). s.good) raised (λ (c : Candidate). c.good) seen (λ u. refl)
 
-bad_raised_sum : (raised : Candidate → Bool) (seen : List Sight) → bad_raised raised seen ≡ sum_by (raised_weight raised seen (λ (s : Sight). not s.good)) seen
-bad_raised_sum raised seen = sum_raised (λ (s : Sight). not s.good) raised (λ (c : Candidate). c.bad) seen (λ u. refl)
+bad_raised_sum : (raised : Candidate → Bool) (seen : List CountedPosition) → bad_raised raised seen ≡ sum_by (raised_weight raised seen (λ (s : CountedPosition). not s.good)) seen
+bad_raised_sum raised seen = sum_raised (λ (s : CountedPosition). not s.good) raised (λ (c : Candidate). c.bad) seen (λ u. refl)
 
 -- the marks of a position by its tests, before and after
 abbrev mark_by : Bool → Bool → Bool → Mark
@@ -206,7 +206,7 @@ even_at false true true false x = (omega arith, omega arith, omega arith)
 even_at false true false true x = (omega arith, omega arith, omega arith)
 even_at false true false false x = (omega arith, omega arith, omega arith)
 
--- what moves at a position, as what is seen there
+-- what moves at a position, as what is counted there
 changed_one : (kind : Bool → Bool) (x : ℕ) (f r c : Bool) (o : Option Bool) → (r ≡ true → c ≡ false) → changed_weight kind x r (cond (f && not c) o None) ≡ changed_weight kind x (f && r) o
 changed_one kind x false r c None open_now = refl
 changed_one kind x false r c (Some good) open_now = none (kind good)
@@ -225,7 +225,7 @@ changed_one kind x true false true (Some good) open_now = none (kind good)
 
 module _ (m : Minima) (words : List Word) (pass : Pass) (P : Patterns) (H : Hopeless) (raised : Candidate → Bool) (w : Word) (p : ℕ) where
   abbrev rises : Bool
-  rises = fits w.signs p pass.len pass.dot && is_candidate raised (sights m words pass P H) (window w.signs p pass.len pass.dot)
+  rises = fits w.signs p pass.len pass.dot && is_candidate raised (counted_positions m words pass P H) (window w.signs p pass.len pass.dot)
 
   abbrev hyphen_at : Bool
   hyphen_at = slice_index_or w.hyphens p false
@@ -246,38 +246,38 @@ module _ (m : Minima) (words : List Word) (pass : Pass) (P : Patterns) (H : Hope
   mark_after : IsUpTo pass.level P → status_at (patterns_after_pass m words pass P H raised) w p ≡ mark_by hyphen_at care_at (cond rises (is_odd pass.level) odd_before)
   mark_after upto = ap (λ b. mark_by hyphen_at care_at b) (odd_after upto)
 
-  moved_is : (kind : Bool → Bool) → sum_by (raised_weight raised (sights m words pass P H) (λ (s : Sight). kind s.good)) (sight_at pass P H w p) ≡ changed_weight kind (weight_at w p) rises (counted_by (is_odd pass.level) (mark_by hyphen_at care_at odd_before))
+  moved_is : (kind : Bool → Bool) → sum_by (raised_weight raised (counted_positions m words pass P H) (λ (s : CountedPosition). kind s.good)) (counted_positions_at pass P H w p) ≡ changed_weight kind (weight_at w p) rises (counted_by (is_odd pass.level) (mark_by hyphen_at care_at odd_before))
   moved_is kind =
       single (counted_at pass P H w p)
-      ∙ changed_one kind (weight_at w p) (fits w.signs p pass.len pass.dot) (is_candidate raised (sights m words pass P H) (window w.signs p pass.len pass.dot)) (covered pass.level P H (window w.signs p pass.len pass.dot) pass.dot) (counts_as pass.level (status_at P w p))
-      (λ is. (counted_uncovered m words pass P H (window w.signs p pass.len pass.dot) (and_parts (is_seen (sights m words pass P H) (window w.signs p pass.len pass.dot)) (raised (candidate_at (sights m words pass P H) (window w.signs p pass.len pass.dot))) is).0).1)
+      ∙ changed_one kind (weight_at w p) (fits w.signs p pass.len pass.dot) (is_candidate raised (counted_positions m words pass P H) (window w.signs p pass.len pass.dot)) (covered pass.level P H (window w.signs p pass.len pass.dot) pass.dot) (counts_as pass.level (status_at P w p))
+      (λ is. (counted_uncovered m words pass P H (window w.signs p pass.len pass.dot) (and_parts (is_seen (counted_positions m words pass P H) (window w.signs p pass.len pass.dot)) (raised (candidate_at (counted_positions m words pass P H) (window w.signs p pass.len pass.dot))) is).0).1)
       ∙ ap (λ (o : Option Bool). changed_weight kind (weight_at w p) rises o) (counts_by pass.level (status_at P w p))
     where
       zero : (n : ℕ) → 0 + n ≡ n
       zero n = omega arith
 
-      single : (o : Option Bool) → sum_by (raised_weight raised (sights m words pass P H) (λ (s : Sight). kind s.good)) (seen_as (window w.signs p pass.len pass.dot) (weight_at w p) o) ≡ changed_weight kind (weight_at w p) (is_candidate raised (sights m words pass P H) (window w.signs p pass.len pass.dot)) o
+      single : (o : Option Bool) → sum_by (raised_weight raised (counted_positions m words pass P H) (λ (s : CountedPosition). kind s.good)) (seen_as (window w.signs p pass.len pass.dot) (weight_at w p) o) ≡ changed_weight kind (weight_at w p) (is_candidate raised (counted_positions m words pass P H) (window w.signs p pass.len pass.dot)) o
       single None = refl
-      single (Some good) = zero (cond (kind good && is_candidate raised (sights m words pass P H) (window w.signs p pass.len pass.dot)) (weight_at w p) 0)
+      single (Some good) = zero (cond (kind good && is_candidate raised (counted_positions m words pass P H) (window w.signs p pass.len pass.dot)) (weight_at w p) 0)
 
 -- what balances at each position balances in sum
-module _ (m : Minima) (pass : Pass) (P P' : Patterns) (H : Hopeless) (test : Mark → Bool) (a b : Sight → ℕ)
-    (each : (w : Word) (p : ℕ) → weight_in test (status_at P' w p) (weight_at w p) + sum_by a (sight_at pass P H w p) ≡ weight_in test (status_at P w p) (weight_at w p) + sum_by b (sight_at pass P H w p)) where
+module _ (m : Minima) (pass : Pass) (P P' : Patterns) (H : Hopeless) (test : Mark → Bool) (a b : CountedPosition → ℕ)
+    (each : (w : Word) (p : ℕ) → weight_in test (status_at P' w p) (weight_at w p) + sum_by a (counted_positions_at pass P H w p) ≡ weight_in test (status_at P w p) (weight_at w p) + sum_by b (counted_positions_at pass P H w p)) where
   abbrev weighed : Mark × ℕ → ℕ
   weighed e = cond (test e.0) e.1 0
 
-  balanced_word : (w : Word) (ps : List ℕ) → sum_by weighed (map (λ p. (status_at P' w p, weight_at w p)) ps) + sum_by a (flat_map (sight_at pass P H w) ps) ≡ sum_by weighed (map (λ p. (status_at P w p, weight_at w p)) ps) + sum_by b (flat_map (sight_at pass P H w) ps)
+  balanced_word : (w : Word) (ps : List ℕ) → sum_by weighed (map (λ p. (status_at P' w p, weight_at w p)) ps) + sum_by a (flat_map (counted_positions_at pass P H w) ps) ≡ sum_by weighed (map (λ p. (status_at P w p, weight_at w p)) ps) + sum_by b (flat_map (counted_positions_at pass P H w) ps)
   balanced_word w [] = refl
   balanced_word w (p ∷ ps) =
-      let here : weight_in test (status_at P' w p) (weight_at w p) + sum_by a (sight_at pass P H w p) ≡ weight_in test (status_at P w p) (weight_at w p) + sum_by b (sight_at pass P H w p) = each w p in
-      let rest : sum_by weighed (map (λ p. (status_at P' w p, weight_at w p)) ps) + sum_by a (flat_map (sight_at pass P H w) ps) ≡ sum_by weighed (map (λ p. (status_at P w p, weight_at w p)) ps) + sum_by b (flat_map (sight_at pass P H w) ps) = balanced_word w ps in
+      let here : weight_in test (status_at P' w p) (weight_at w p) + sum_by a (counted_positions_at pass P H w p) ≡ weight_in test (status_at P w p) (weight_at w p) + sum_by b (counted_positions_at pass P H w p) = each w p in
+      let rest : sum_by weighed (map (λ p. (status_at P' w p, weight_at w p)) ps) + sum_by a (flat_map (counted_positions_at pass P H w) ps) ≡ sum_by weighed (map (λ p. (status_at P w p, weight_at w p)) ps) + sum_by b (flat_map (counted_positions_at pass P H w) ps) = balanced_word w ps in
       let after : sum_by weighed (map (λ p. (status_at P' w p, weight_at w p)) (p ∷ ps)) ≡ weight_in test (status_at P' w p) (weight_at w p) + sum_by weighed (map (λ p. (status_at P' w p, weight_at w p)) ps) = sum_by-cons weighed (status_at P' w p, weight_at w p) (map (λ p. (status_at P' w p, weight_at w p)) ps) in
       let before : sum_by weighed (map (λ p. (status_at P w p, weight_at w p)) (p ∷ ps)) ≡ weight_in test (status_at P w p) (weight_at w p) + sum_by weighed (map (λ p. (status_at P w p, weight_at w p)) ps) = sum_by-cons weighed (status_at P w p, weight_at w p) (map (λ p. (status_at P w p, weight_at w p)) ps) in
-      let left : sum_by a (flat_map (sight_at pass P H w) (p ∷ ps)) ≡ sum_by a (sight_at pass P H w p) + sum_by a (flat_map (sight_at pass P H w) ps) = sum_by-append a (sight_at pass P H w p) (flat_map (sight_at pass P H w) ps) in
-      let right : sum_by b (flat_map (sight_at pass P H w) (p ∷ ps)) ≡ sum_by b (sight_at pass P H w p) + sum_by b (flat_map (sight_at pass P H w) ps) = sum_by-append b (sight_at pass P H w p) (flat_map (sight_at pass P H w) ps) in
+      let left : sum_by a (flat_map (counted_positions_at pass P H w) (p ∷ ps)) ≡ sum_by a (counted_positions_at pass P H w p) + sum_by a (flat_map (counted_positions_at pass P H w) ps) = sum_by-append a (counted_positions_at pass P H w p) (flat_map (counted_positions_at pass P H w) ps) in
+      let right : sum_by b (flat_map (counted_positions_at pass P H w) (p ∷ ps)) ≡ sum_by b (counted_positions_at pass P H w p) + sum_by b (flat_map (counted_positions_at pass P H w) ps) = sum_by-append b (counted_positions_at pass P H w p) (flat_map (counted_positions_at pass P H w) ps) in
       joined _ _ _ _ _ _ _ _ _ _ _ _ here rest after before left right
 
-  balanced : (words : List Word) → weight_of test (flat_map (marks_in m P') words) + sum_by a (flat_map (sights_in m pass P H) words) ≡ weight_of test (flat_map (marks_in m P) words) + sum_by b (flat_map (sights_in m pass P H) words)
+  balanced : (words : List Word) → weight_of test (flat_map (marks_in m P') words) + sum_by a (flat_map (counted_positions_in m pass P H) words) ≡ weight_of test (flat_map (marks_in m P) words) + sum_by b (flat_map (counted_positions_in m pass P H) words)
   balanced [] = refl
   balanced (w ∷ words) =
       joined _ _ _ _ _ _ _ _ _ _ _ _
@@ -285,69 +285,69 @@ module _ (m : Minima) (pass : Pass) (P P' : Patterns) (H : Hopeless) (test : Mar
       (balanced words)
       (sum_by-append weighed (marks_in m P' w) (flat_map (marks_in m P') words))
       (sum_by-append weighed (marks_in m P w) (flat_map (marks_in m P) words))
-      (sum_by-append a (sights_in m pass P H w) (flat_map (sights_in m pass P H) words))
-      (sum_by-append b (sights_in m pass P H w) (flat_map (sights_in m pass P H) words))
+      (sum_by-append a (counted_positions_in m pass P H w) (flat_map (counted_positions_in m pass P H) words))
+      (sum_by-append b (counted_positions_in m pass P H w) (flat_map (counted_positions_in m pass P H) words))
 
 module _ (m : Minima) (words : List Word) (pass : Pass) (P : Patterns) (H : Hopeless) (raised : Candidate → Bool) (upto : IsUpTo pass.level P) where
-  abbrev good_part : Sight → ℕ
-  good_part = raised_weight raised (sights m words pass P H) (λ (s : Sight). s.good)
+  abbrev good_part : CountedPosition → ℕ
+  good_part = raised_weight raised (counted_positions m words pass P H) (λ (s : CountedPosition). s.good)
 
-  abbrev bad_part : Sight → ℕ
-  bad_part = raised_weight raised (sights m words pass P H) (λ (s : Sight). not s.good)
+  abbrev bad_part : CountedPosition → ℕ
+  bad_part = raised_weight raised (counted_positions m words pass P H) (λ (s : CountedPosition). not s.good)
 
-  abbrev none_part : Sight → ℕ
+  abbrev none_part : CountedPosition → ℕ
   none_part s = 0
 
   -- the equation of a position, from that of its tests
-  at : (test : Mark → Bool) (odd : Bool) (a b : Sight → ℕ) (x y : ℕ) (w : Word) (p : ℕ) → is_odd pass.level ≡ odd → sum_by a (sight_at pass P H w p) ≡ x → sum_by b (sight_at pass P H w p) ≡ y
+  at : (test : Mark → Bool) (odd : Bool) (a b : CountedPosition → ℕ) (x y : ℕ) (w : Word) (p : ℕ) → is_odd pass.level ≡ odd → sum_by a (counted_positions_at pass P H w p) ≡ x → sum_by b (counted_positions_at pass P H w p) ≡ y
       → weight_in test (mark_by (hyphen_at m words pass P H raised w p) (care_at m words pass P H raised w p) (cond (rises m words pass P H raised w p) odd (odd_before m words pass P H raised w p))) (weight_at w p) + x ≡ weight_in test (status_at P w p) (weight_at w p) + y
-      → weight_in test (status_at (patterns_after_pass m words pass P H raised) w p) (weight_at w p) + sum_by a (sight_at pass P H w p) ≡ weight_in test (status_at P w p) (weight_at w p) + sum_by b (sight_at pass P H w p)
+      → weight_in test (status_at (patterns_after_pass m words pass P H raised) w p) (weight_at w p) + sum_by a (counted_positions_at pass P H w p) ≡ weight_in test (status_at P w p) (weight_at w p) + sum_by b (counted_positions_at pass P H w p)
   at test odd a b x y w p parity left right is =
       let mark : status_at (patterns_after_pass m words pass P H raised) w p ≡ mark_by (hyphen_at m words pass P H raised w p) (care_at m words pass P H raised w p) (cond (rises m words pass P H raised w p) odd (odd_before m words pass P H raised w p)) =
       mark_after m words pass P H raised w p upto ∙ ap (λ b. mark_by (hyphen_at m words pass P H raised w p) (care_at m words pass P H raised w p) (cond (rises m words pass P H raised w p) b (odd_before m words pass P H raised w p))) parity in
       (λ i. weight_in test (mark i) (weight_at w p) + left i) ∙ is ∙ ap (λ n. weight_in test (status_at P w p) (weight_at w p) + n) (sym right)
 
-  good_at : (odd : Bool) → is_odd pass.level ≡ odd → (w : Word) (p : ℕ) → sum_by good_part (sight_at pass P H w p) ≡ changed_weight itself (weight_at w p) (rises m words pass P H raised w p) (counted_by odd (status_at P w p))
+  good_at : (odd : Bool) → is_odd pass.level ≡ odd → (w : Word) (p : ℕ) → sum_by good_part (counted_positions_at pass P H w p) ≡ changed_weight itself (weight_at w p) (rises m words pass P H raised w p) (counted_by odd (status_at P w p))
   good_at odd parity w p = moved_is m words pass P H raised w p itself ∙ ap (λ b. changed_weight itself (weight_at w p) (rises m words pass P H raised w p) (counted_by b (status_at P w p))) parity
 
-  bad_at : (odd : Bool) → is_odd pass.level ≡ odd → (w : Word) (p : ℕ) → sum_by bad_part (sight_at pass P H w p) ≡ changed_weight not (weight_at w p) (rises m words pass P H raised w p) (counted_by odd (status_at P w p))
+  bad_at : (odd : Bool) → is_odd pass.level ≡ odd → (w : Word) (p : ℕ) → sum_by bad_part (counted_positions_at pass P H w p) ≡ changed_weight not (weight_at w p) (rises m words pass P H raised w p) (counted_by odd (status_at P w p))
   bad_at odd parity w p = moved_is m words pass P H raised w p not ∙ ap (λ b. changed_weight not (weight_at w p) (rises m words pass P H raised w p) (counted_by b (status_at P w p))) parity
 
   tests_odd : (w : Word) (p : ℕ) → OddAt (hyphen_at m words pass P H raised w p) (care_at m words pass P H raised w p) (odd_before m words pass P H raised w p) (rises m words pass P H raised w p) (weight_at w p)
   tests_odd w p = odd_at (hyphen_at m words pass P H raised w p) (care_at m words pass P H raised w p) (odd_before m words pass P H raised w p) (rises m words pass P H raised w p) (weight_at w p)
 
-  pub finds_more : is_odd pass.level ≡ true → FindsMore (totals m words P) (totals m words (patterns_after_pass m words pass P H raised)) (good_raised raised (sights m words pass P H)) (bad_raised raised (sights m words pass P H))
+  pub finds_more : is_odd pass.level ≡ true → FindsMore (totals m words P) (totals m words (patterns_after_pass m words pass P H raised)) (good_raised raised (counted_positions m words pass P H)) (bad_raised raised (counted_positions m words pass P H))
   finds_more odd = record {
-    found = let e = balanced m pass P (patterns_after_pass m words pass P H raised) H is_found none_part good_part (λ w p. at is_found true none_part good_part 0 (changed_weight itself (weight_at w p) (rises m words pass P H raised w p) (counted_by true (status_at P w p))) w p odd (sum_none (sight_at pass P H w p)) (good_at true odd w p) (tests_odd w p).0) words in
-        gained _ _ _ _ _ e (sum_none (sights m words pass P H)) (good_raised_sum raised (sights m words pass P H));
-    errors = let e = balanced m pass P (patterns_after_pass m words pass P H raised) H is_error none_part bad_part (λ w p. at is_error true none_part bad_part 0 (changed_weight not (weight_at w p) (rises m words pass P H raised w p) (counted_by true (status_at P w p))) w p odd (sum_none (sight_at pass P H w p)) (bad_at true odd w p) (tests_odd w p).1) words in
-        gained _ _ _ _ _ e (sum_none (sights m words pass P H)) (bad_raised_sum raised (sights m words pass P H));
-    missed = let e = balanced m pass P (patterns_after_pass m words pass P H raised) H is_missed good_part none_part (λ w p. at is_missed true good_part none_part (changed_weight itself (weight_at w p) (rises m words pass P H raised w p) (counted_by true (status_at P w p))) 0 w p odd (good_at true odd w p) (sum_none (sight_at pass P H w p)) (tests_odd w p).2) words in
-        lost _ _ _ _ _ e (sum_none (sights m words pass P H)) (good_raised_sum raised (sights m words pass P H));
+    found = let e = balanced m pass P (patterns_after_pass m words pass P H raised) H is_found none_part good_part (λ w p. at is_found true none_part good_part 0 (changed_weight itself (weight_at w p) (rises m words pass P H raised w p) (counted_by true (status_at P w p))) w p odd (sum_none (counted_positions_at pass P H w p)) (good_at true odd w p) (tests_odd w p).0) words in
+        gained _ _ _ _ _ e (sum_none (counted_positions m words pass P H)) (good_raised_sum raised (counted_positions m words pass P H));
+    errors = let e = balanced m pass P (patterns_after_pass m words pass P H raised) H is_error none_part bad_part (λ w p. at is_error true none_part bad_part 0 (changed_weight not (weight_at w p) (rises m words pass P H raised w p) (counted_by true (status_at P w p))) w p odd (sum_none (counted_positions_at pass P H w p)) (bad_at true odd w p) (tests_odd w p).1) words in
+        gained _ _ _ _ _ e (sum_none (counted_positions m words pass P H)) (bad_raised_sum raised (counted_positions m words pass P H));
+    missed = let e = balanced m pass P (patterns_after_pass m words pass P H raised) H is_missed good_part none_part (λ w p. at is_missed true good_part none_part (changed_weight itself (weight_at w p) (rises m words pass P H raised w p) (counted_by true (status_at P w p))) 0 w p odd (good_at true odd w p) (sum_none (counted_positions_at pass P H w p)) (tests_odd w p).2) words in
+        lost _ _ _ _ _ e (sum_none (counted_positions m words pass P H)) (good_raised_sum raised (counted_positions m words pass P H));
   }
 
   tests_even : (w : Word) (p : ℕ) → EvenAt (hyphen_at m words pass P H raised w p) (care_at m words pass P H raised w p) (odd_before m words pass P H raised w p) (rises m words pass P H raised w p) (weight_at w p)
   tests_even w p = even_at (hyphen_at m words pass P H raised w p) (care_at m words pass P H raised w p) (odd_before m words pass P H raised w p) (rises m words pass P H raised w p) (weight_at w p)
 
-  pub prevents_more : is_odd pass.level ≡ false → PreventsMore (totals m words P) (totals m words (patterns_after_pass m words pass P H raised)) (good_raised raised (sights m words pass P H)) (bad_raised raised (sights m words pass P H))
+  pub prevents_more : is_odd pass.level ≡ false → PreventsMore (totals m words P) (totals m words (patterns_after_pass m words pass P H raised)) (good_raised raised (counted_positions m words pass P H)) (bad_raised raised (counted_positions m words pass P H))
   prevents_more even = record {
-    found = let e = balanced m pass P (patterns_after_pass m words pass P H raised) H is_found bad_part none_part (λ w p. at is_found false bad_part none_part (changed_weight not (weight_at w p) (rises m words pass P H raised w p) (counted_by false (status_at P w p))) 0 w p even (bad_at false even w p) (sum_none (sight_at pass P H w p)) (tests_even w p).0) words in
-        lost _ _ _ _ _ e (sum_none (sights m words pass P H)) (bad_raised_sum raised (sights m words pass P H));
-    errors = let e = balanced m pass P (patterns_after_pass m words pass P H raised) H is_error good_part none_part (λ w p. at is_error false good_part none_part (changed_weight itself (weight_at w p) (rises m words pass P H raised w p) (counted_by false (status_at P w p))) 0 w p even (good_at false even w p) (sum_none (sight_at pass P H w p)) (tests_even w p).1) words in
-        lost _ _ _ _ _ e (sum_none (sights m words pass P H)) (good_raised_sum raised (sights m words pass P H));
-    missed = let e = balanced m pass P (patterns_after_pass m words pass P H raised) H is_missed none_part bad_part (λ w p. at is_missed false none_part bad_part 0 (changed_weight not (weight_at w p) (rises m words pass P H raised w p) (counted_by false (status_at P w p))) w p even (sum_none (sight_at pass P H w p)) (bad_at false even w p) (tests_even w p).2) words in
-        gained _ _ _ _ _ e (sum_none (sights m words pass P H)) (bad_raised_sum raised (sights m words pass P H));
+    found = let e = balanced m pass P (patterns_after_pass m words pass P H raised) H is_found bad_part none_part (λ w p. at is_found false bad_part none_part (changed_weight not (weight_at w p) (rises m words pass P H raised w p) (counted_by false (status_at P w p))) 0 w p even (bad_at false even w p) (sum_none (counted_positions_at pass P H w p)) (tests_even w p).0) words in
+        lost _ _ _ _ _ e (sum_none (counted_positions m words pass P H)) (bad_raised_sum raised (counted_positions m words pass P H));
+    errors = let e = balanced m pass P (patterns_after_pass m words pass P H raised) H is_error good_part none_part (λ w p. at is_error false good_part none_part (changed_weight itself (weight_at w p) (rises m words pass P H raised w p) (counted_by false (status_at P w p))) 0 w p even (good_at false even w p) (sum_none (counted_positions_at pass P H w p)) (tests_even w p).1) words in
+        lost _ _ _ _ _ e (sum_none (counted_positions m words pass P H)) (good_raised_sum raised (counted_positions m words pass P H));
+    missed = let e = balanced m pass P (patterns_after_pass m words pass P H raised) H is_missed none_part bad_part (λ w p. at is_missed false none_part bad_part 0 (changed_weight not (weight_at w p) (rises m words pass P H raised w p) (counted_by false (status_at P w p))) w p even (sum_none (counted_positions_at pass P H w p)) (bad_at false even w p) (tests_even w p).2) words in
+        gained _ _ _ _ _ e (sum_none (counted_positions m words pass P H)) (bad_raised_sum raised (counted_positions m words pass P H));
   }
 
 pub totals_after : (m : Minima) (words : List Word) (pass : Pass) (P : Patterns) (H : Hopeless) (raised : Candidate → Bool) → IsUpTo pass.level P
     → MatchBool (is_odd pass.level)
-    (FindsMore (totals m words P) (totals m words (patterns_after_pass m words pass P H raised)) (good_raised raised (sights m words pass P H)) (bad_raised raised (sights m words pass P H)))
-    (PreventsMore (totals m words P) (totals m words (patterns_after_pass m words pass P H raised)) (good_raised raised (sights m words pass P H)) (bad_raised raised (sights m words pass P H)))
+    (FindsMore (totals m words P) (totals m words (patterns_after_pass m words pass P H raised)) (good_raised raised (counted_positions m words pass P H)) (bad_raised raised (counted_positions m words pass P H)))
+    (PreventsMore (totals m words P) (totals m words (patterns_after_pass m words pass P H raised)) (good_raised raised (counted_positions m words pass P H)) (bad_raised raised (counted_positions m words pass P H)))
 totals_after m words pass P H raised upto = by_parity (is_odd pass.level) refl
   where
     by_parity : (odd : Bool) → is_odd pass.level ≡ odd
         → MatchBool odd
-        (FindsMore (totals m words P) (totals m words (patterns_after_pass m words pass P H raised)) (good_raised raised (sights m words pass P H)) (bad_raised raised (sights m words pass P H)))
-        (PreventsMore (totals m words P) (totals m words (patterns_after_pass m words pass P H raised)) (good_raised raised (sights m words pass P H)) (bad_raised raised (sights m words pass P H)))
+        (FindsMore (totals m words P) (totals m words (patterns_after_pass m words pass P H raised)) (good_raised raised (counted_positions m words pass P H)) (bad_raised raised (counted_positions m words pass P H)))
+        (PreventsMore (totals m words P) (totals m words (patterns_after_pass m words pass P H raised)) (good_raised raised (counted_positions m words pass P H)) (bad_raised raised (counted_positions m words pass P H)))
     by_parity true odd = finds_more m words pass P H raised upto odd
     by_parity false even = prevents_more m words pass P H raised upto even

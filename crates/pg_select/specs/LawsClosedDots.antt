@@ -4,7 +4,7 @@ use Rattle.std.specs.Prelude.{◌≡◌, ℕ, ◌+◌, ◌-◌, ◌≤◌, nat_l
 use Rattle.pg_types.specs.declared.limits.TheConstants.{LENGTH_MAX}
 use Rattle.pg_dict.specs.Word.{Word}
 use Rattle.pg_select.specs.declared.pass.Pass.{Pass}
-use Rattle.pg_select.specs.Sights.{Minima, Candidate, counts_as, counted_at, sights}
+use Rattle.pg_select.specs.CountedPositions.{Minima, Candidate, counts_as, counted_at, counted_positions}
 use Rattle.pg_select.specs.Statuses.{is_odd, status_at}
 use Rattle.pg_select.specs.Windows.{Hopeless, window, fits, covered, Patterns}
 use Rattle.pg_select.specs.LawsSteps.{CoversUpTo, IsBelow, IsUpTo, is_candidate, patterns_after_pass, hopeless_after_pass}
@@ -47,7 +47,7 @@ closed_after closed dot fit raised hopeless d = if fit && not (closed dot) then 
 abbrev pub TellsAfter : Type 0
 TellsAfter = (m : Minima) (words : List Word) (pass : Pass) (P : Patterns) (H : Hopeless) (raised hopeless : Candidate → Bool) (w : Word) (p : ℕ) (closed : ℕ → Bool) → IsUpTo pass.level P → pass.dot ≤ LENGTH_MAX → Tells pass.level pass.len P H w p closed
     → Tells pass.level pass.len (patterns_after_pass m words pass P H raised) (hopeless_after_pass m words pass P H hopeless) w p
-    (closed_after closed pass.dot (fits w.signs p pass.len pass.dot) (is_candidate raised (sights m words pass P H) (window w.signs p pass.len pass.dot)) (is_candidate hopeless (sights m words pass P H) (window w.signs p pass.len pass.dot)))
+    (closed_after closed pass.dot (fits w.signs p pass.len pass.dot) (is_candidate raised (counted_positions m words pass P H) (window w.signs p pass.len pass.dot)) (is_candidate hopeless (counted_positions m words pass P H) (window w.signs p pass.len pass.dot)))
 
 -- a position that does not count by its status is done
 abbrev pub DoneByStatus : Type 0
@@ -66,12 +66,12 @@ DoneAfter = (m : Minima) (words : List Word) (pass : Pass) (P : Patterns) (H : H
 
 -- the choice step, position by position: a position whose window was raised does not count any more
 abbrev pub RaisedStop : Type 0
-RaisedStop = (m : Minima) (words : List Word) (pass : Pass) (P : Patterns) (H : Hopeless) (raised : Candidate → Bool) (w : Word) (p : ℕ) → IsUpTo pass.level P → fits w.signs p pass.len pass.dot ≡ true → is_candidate raised (sights m words pass P H) (window w.signs p pass.len pass.dot) ≡ true
+RaisedStop = (m : Minima) (words : List Word) (pass : Pass) (P : Patterns) (H : Hopeless) (raised : Candidate → Bool) (w : Word) (p : ℕ) → IsUpTo pass.level P → fits w.signs p pass.len pass.dot ≡ true → is_candidate raised (counted_positions m words pass P H) (window w.signs p pass.len pass.dot) ≡ true
     → counts_as pass.level (status_at (patterns_after_pass m words pass P H raised) w p) ≡ None
 
 -- one whose window was made hopeless is covered at the dot
 abbrev pub HopelessStop : Type 0
-HopelessStop = (m : Minima) (words : List Word) (pass : Pass) (P : Patterns) (H : Hopeless) (raised hopeless : Candidate → Bool) (w : Word) (p : ℕ) → fits w.signs p pass.len pass.dot ≡ true → is_candidate hopeless (sights m words pass P H) (window w.signs p pass.len pass.dot) ≡ true
+HopelessStop = (m : Minima) (words : List Word) (pass : Pass) (P : Patterns) (H : Hopeless) (raised hopeless : Candidate → Bool) (w : Word) (p : ℕ) → fits w.signs p pass.len pass.dot ≡ true → is_candidate hopeless (counted_positions m words pass P H) (window w.signs p pass.len pass.dot) ≡ true
     → covered pass.level (patterns_after_pass m words pass P H raised) (hopeless_after_pass m words pass P H hopeless) (window w.signs p pass.len pass.dot) pass.dot ≡ true
 
 -- one whose window was neither, or that counts by its status and was not counted in the pass, keeps its status and all covers of the length
@@ -81,7 +81,7 @@ pub record Stays (level len : ℕ) (P : Patterns) (H : Hopeless) (P' : Patterns)
 
 abbrev pub LeftStay : Type 0
 LeftStay = (m : Minima) (words : List Word) (pass : Pass) (P : Patterns) (H : Hopeless) (raised hopeless : Candidate → Bool) (w : Word) (p : ℕ)
-    → is_candidate raised (sights m words pass P H) (window w.signs p pass.len pass.dot) ≡ false → is_candidate hopeless (sights m words pass P H) (window w.signs p pass.len pass.dot) ≡ false
+    → is_candidate raised (counted_positions m words pass P H) (window w.signs p pass.len pass.dot) ≡ false → is_candidate hopeless (counted_positions m words pass P H) (window w.signs p pass.len pass.dot) ≡ false
     → Stays pass.level pass.len P H (patterns_after_pass m words pass P H raised) (hopeless_after_pass m words pass P H hopeless) w p
 
 abbrev pub UncountedStay : Type 0

@@ -6,7 +6,7 @@ use Rattle.pg_dict.specs.Word.{Word}
 use Rattle.pg_patterns.specs.Values.{value_at, largest}
 use Rattle.pg_select.specs.Laws.{raised_all, hopeless_all}
 use Rattle.pg_select.specs.declared.pass.Pass.{Pass}
-use Rattle.pg_select.specs.Sights.{Minima, Sight, Candidate, same_signs, good_of, bad_of, sights, tally}
+use Rattle.pg_select.specs.CountedPositions.{Minima, CountedPosition, Candidate, same_signs, good_of, bad_of, counted_positions, tally}
 use Rattle.pg_select.specs.Statuses.{is_odd}
 use Rattle.pg_select.specs.Sums.{totals}
 use Rattle.pg_select.specs.Windows.{Hopeless, window, fits, covered, Patterns}
@@ -57,19 +57,19 @@ abbrev pub NextIsBelow : Type 0
 NextIsBelow = (level : ℕ) (P : Patterns) → IsUpTo level P → IsBelow (level + 1) P
 
 -- the candidate that a window is
-abbrev pub candidate_at : List Sight → List ℕ → Candidate
-candidate_at seen u = record { window = u; good = good_of seen u; bad = bad_of seen u }
+abbrev pub candidate_at : List CountedPosition → List ℕ → Candidate
+candidate_at counted u = record { window = u; good = good_of counted u; bad = bad_of counted u }
 
 -- a window is counted, and as a candidate it meets a test
-abbrev pub is_candidate : (Candidate → Bool) → List Sight → List ℕ → Bool
-is_candidate test seen u = list_any (λ s. same_signs u s.window) seen && test (candidate_at seen u)
+abbrev pub is_candidate : (Candidate → Bool) → List CountedPosition → List ℕ → Bool
+is_candidate test counted u = list_any (λ s. same_signs u s.window) counted && test (candidate_at counted u)
 
 -- the patterns and the hopeless places after a pass that raised the candidates of one test and made those of another hopeless
 abbrev pub patterns_after_pass : Minima → List Word → Pass → Patterns → Hopeless → (Candidate → Bool) → Patterns
-patterns_after_pass m words pass P H raised = raised_all pass.level pass.dot P (filter raised (tally (sights m words pass P H)))
+patterns_after_pass m words pass P H raised = raised_all pass.level pass.dot P (filter raised (tally (counted_positions m words pass P H)))
 
 abbrev pub hopeless_after_pass : Minima → List Word → Pass → Patterns → Hopeless → (Candidate → Bool) → Hopeless
-hopeless_after_pass m words pass P H hopeless = hopeless_all pass.dot H (filter hopeless (tally (sights m words pass P H)))
+hopeless_after_pass m words pass P H hopeless = hopeless_all pass.dot H (filter hopeless (tally (counted_positions m words pass P H)))
 
 -- a pass leads to no value above its level, nor above what the values were up to
 abbrev pub UpToAfter : Type 0
@@ -83,25 +83,25 @@ CoversUpToAfter = (m : Minima) (words : List Word) (pass : Pass) (P : Patterns) 
 -- a pass raises to the level the value of each position whose window it raises, and no other
 abbrev pub ValuesAfter : Type 0
 ValuesAfter = (m : Minima) (words : List Word) (pass : Pass) (P : Patterns) (H : Hopeless) (raised : Candidate → Bool) (w : List ℕ) (p : ℕ)
-    → value_at (patterns_after_pass m words pass P H raised) w p ≡ max (if fits w p pass.len pass.dot && is_candidate raised (sights m words pass P H) (window w p pass.len pass.dot) then pass.level else 0) (value_at P w p)
+    → value_at (patterns_after_pass m words pass P H raised) w p ≡ max (if fits w p pass.len pass.dot && is_candidate raised (counted_positions m words pass P H) (window w p pass.len pass.dot) then pass.level else 0) (value_at P w p)
 
 -- and of the windows of its length it covers those that it raises or makes hopeless, with its dot, and no others
 abbrev pub CoversAfter : Type 0
 CoversAfter = (m : Minima) (words : List Word) (pass : Pass) (P : Patterns) (H : Hopeless) (raised hopeless : Candidate → Bool) (w : List ℕ) (p d : ℕ) → fits w p pass.len d ≡ true
     → covered pass.level (patterns_after_pass m words pass P H raised) (hopeless_after_pass m words pass P H hopeless) (window w p pass.len d) d
-    ≡ (nat_eq d pass.dot && (is_candidate raised (sights m words pass P H) (window w p pass.len pass.dot) || is_candidate hopeless (sights m words pass P H) (window w p pass.len pass.dot)) || covered pass.level P H (window w p pass.len d) d)
+    ≡ (nat_eq d pass.dot && (is_candidate raised (counted_positions m words pass P H) (window w p pass.len pass.dot) || is_candidate hopeless (counted_positions m words pass P H) (window w p pass.len pass.dot)) || covered pass.level P H (window w p pass.len d) d)
 
 -- no window that is counted is covered, and each has the length of the pass
 abbrev pub CountedAreUncovered : Type 0
-CountedAreUncovered = (m : Minima) (words : List Word) (pass : Pass) (P : Patterns) (H : Hopeless) (u : List ℕ) → list_any (λ s. same_signs u s.window) (sights m words pass P H) ≡ true
+CountedAreUncovered = (m : Minima) (words : List Word) (pass : Pass) (P : Patterns) (H : Hopeless) (u : List ℕ) → list_any (λ s. same_signs u s.window) (counted_positions m words pass P H) ≡ true
     → (length u ≡ pass.len) × (covered pass.level P H u pass.dot ≡ false)
 
 -- the sums of the good weights, and of the bad ones, of the candidates that a pass raised
-abbrev pub good_raised : (Candidate → Bool) → List Sight → ℕ
-good_raised raised seen = sum_by (λ c. c.good) (filter raised (tally seen))
+abbrev pub good_raised : (Candidate → Bool) → List CountedPosition → ℕ
+good_raised raised counted = sum_by (λ c. c.good) (filter raised (tally counted))
 
-abbrev pub bad_raised : (Candidate → Bool) → List Sight → ℕ
-bad_raised raised seen = sum_by (λ c. c.bad) (filter raised (tally seen))
+abbrev pub bad_raised : (Candidate → Bool) → List CountedPosition → ℕ
+bad_raised raised counted = sum_by (λ c. c.bad) (filter raised (tally counted))
 
 -- at a level that finds, the good that is raised is found and no longer missed, and the bad becomes errors
 pub record FindsMore (old new : Totals) (good bad : ℕ) : Type 0 where
@@ -118,5 +118,5 @@ pub record PreventsMore (old new : Totals) (good bad : ℕ) : Type 0 where
 abbrev pub TotalsAfter : Type 0
 TotalsAfter = (m : Minima) (words : List Word) (pass : Pass) (P : Patterns) (H : Hopeless) (raised : Candidate → Bool) → IsUpTo pass.level P
     → MatchBool (is_odd pass.level)
-    (FindsMore (totals m words P) (totals m words (patterns_after_pass m words pass P H raised)) (good_raised raised (sights m words pass P H)) (bad_raised raised (sights m words pass P H)))
-    (PreventsMore (totals m words P) (totals m words (patterns_after_pass m words pass P H raised)) (good_raised raised (sights m words pass P H)) (bad_raised raised (sights m words pass P H)))
+    (FindsMore (totals m words P) (totals m words (patterns_after_pass m words pass P H raised)) (good_raised raised (counted_positions m words pass P H)) (bad_raised raised (counted_positions m words pass P H)))
+    (PreventsMore (totals m words P) (totals m words (patterns_after_pass m words pass P H raised)) (good_raised raised (counted_positions m words pass P H)) (bad_raised raised (counted_positions m words pass P H)))

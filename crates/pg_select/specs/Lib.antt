@@ -1,7 +1,7 @@
 pub mod Statuses
 pub mod Choices
 pub mod Windows
-pub mod Sights
+pub mod CountedPositions
 pub mod Sums
 pub mod AnyPositions
 pub mod Positions

@@ -11,15 +11,15 @@ use Rattle.pg_types.specs.Tails.{tails}
 use Rattle.pg_patterns.specs.Places.{place_cmp}
 use Rattle.pg_patterns.specs.Values.{IsPatternMap, SignsUpTo, raise}
 use Rattle.pg_select.specs.Positions.{HasValues, HasCovers}
-use Rattle.pg_select.specs.Windows.{Hopeless}
+use Rattle.pg_select.specs.Windows.{Patterns, Hopeless}
 use Rattle.pg_select.specs.declared.pass.Pass.{Pass}
-use Rattle.pg_select.specs.Sights.{Sight}
+use Rattle.pg_select.specs.CountedPositions.{CountedPosition}
 
 -- the greatest sign; the patterns and the hopeless places; the windows that are counted in the pass; the pass; the families of the
 -- strings, where they are told; how many passes were begun; and whether nothing was chosen or given up since a level ended
 pub record Meaning : Type 0 where
   pub signs : ℕ
-  pub patterns : List ((List ℕ × ℕ) × ℕ)
+  pub patterns : Patterns
   pub hopeless : Hopeless
   pub counts : Counts
   pub pass : Pass
@@ -39,7 +39,7 @@ pub record IsKept (m : Meaning) : Type 0 where
 
 -- an engine that was just made: it has these patterns and tells these families; nothing is hopeless or counted, no pass was begun, and
 -- it is tidy
-abbrev pub new_engine : ℕ → List ((List ℕ × ℕ) × ℕ) → Option Families → Meaning
+abbrev pub new_engine : ℕ → Patterns → Option Families → Meaning
 new_engine signs P families = record {
   signs = signs;
   patterns = P;
@@ -51,9 +51,9 @@ new_engine signs P families = record {
   tidy = true;
 }
 
--- the counts with one sight more
-abbrev pub with_sight : Counts → Sight → Counts
-with_sight counts s = with_count counts s.window s.good s.weight
+-- the counts with one position more
+abbrev pub with_position : Counts → CountedPosition → Counts
+with_position counts s = with_count counts s.window s.good s.weight
 
 -- a pass has begun: nothing is counted in it
 abbrev pub begun_pass : Meaning → ℕ → ℕ → ℕ → Meaning
@@ -61,7 +61,7 @@ begun_pass m level len dot = record m { pass = record { level = level; len = len
 
 -- a position was counted
 abbrev pub counted : Meaning → List ℕ → Bool → ℕ → Meaning
-counted m u good weight = record m { counts = with_sight m.counts (record { window = u; good = good; weight = weight }) }
+counted m u good weight = record m { counts = with_position m.counts (record { window = u; good = good; weight = weight }) }
 
 -- the families after a string is entered, where they are told
 abbrev pub entered : Meaning → List ℕ → Option Families

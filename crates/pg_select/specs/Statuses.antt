@@ -4,6 +4,7 @@ use Rattle.pg_types.specs.declared.marks.Mark.{Mark}
 use Rattle.pg_types.specs.declared.marks.Mark.TheVariants.{Nothing, Error, Missed, Found, DontCare}
 use Rattle.pg_dict.specs.Word.{Word}
 use Rattle.pg_patterns.specs.Values.{value_at}
+use Rattle.pg_select.specs.Windows.{Patterns}
 
 -- an odd value breaks the word, and at an odd level patterns find breaks
 abbrev pub is_odd : ℕ → Bool
@@ -14,7 +15,7 @@ abbrev pub status : Bool → Bool → ℕ → Mark
 status hyphen care value = if care then (if hyphen then (if is_odd value then Found else Missed) else (if is_odd value then Error else Nothing)) else DontCare
 
 -- the status of a position in reach, by the patterns
-abbrev pub status_at : List ((List ℕ × ℕ) × ℕ) → Word → ℕ → Mark
+abbrev pub status_at : Patterns → Word → ℕ → Mark
 status_at P w p = status (slice_index_or w.hyphens p false) (slice_index_or w.cares p true) (value_at P w.signs p)
 
 -- the status of a position out of reach, where the value counts as 0

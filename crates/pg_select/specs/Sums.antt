@@ -7,10 +7,11 @@ use Rattle.pg_types.specs.declared.marks.Totals.{Totals}
 use Rattle.pg_dict.specs.Word.{Word}
 use Rattle.pg_translate.specs.Reach.{positions}
 use Rattle.pg_select.specs.Statuses.{status_at, weight_at}
-use Rattle.pg_select.specs.Sights.{Minima}
+use Rattle.pg_select.specs.CountedPositions.{Minima}
+use Rattle.pg_select.specs.Windows.{Patterns}
 
 -- the status and the weight of each position in reach of a word
-abbrev pub marks_in : Minima → List ((List ℕ × ℕ) × ℕ) → Word → List (Mark × ℕ)
+abbrev pub marks_in : Minima → Patterns → Word → List (Mark × ℕ)
 marks_in m P w = map (λ p. (status_at P w p, weight_at w p)) (positions m.left m.right (length w.signs))
 
 abbrev pub is_found : Mark → Bool
@@ -34,5 +35,5 @@ abbrev pub totals_of : List (Mark × ℕ) → Totals
 totals_of marks = record { good = weight_of is_found marks; bad = weight_of is_error marks; missed = weight_of is_missed marks }
 
 -- the totals of all words
-abbrev pub totals : Minima → List Word → List ((List ℕ × ℕ) × ℕ) → Totals
+abbrev pub totals : Minima → List Word → Patterns → Totals
 totals m words P = totals_of (flat_map (marks_in m P) words)

@@ -1,15 +1,15 @@
 //! Laws of the definitions of this crate. A call does nothing; its contract is the law.
-ghost use Rattle.pg_select.specs.Laws.{CandidatesInOrder, CandidatesAreSeen, CountsAreTally, PositionsAreFew, CandidatesAreFew, TotalsAreSmall, SightsAreLight, SumsAreParts, CandidatesAreLow, ChosenGetLevel, OthersStay, NoneFalls, RaisesWhereItApplies, GivenUpKeepsValues, RaisedCovers, HopelessCovers, GivenUpCovers, LaterAtOnce, LaterStill, LaterRaised, LaterHopeless, StatusBack, CountedBack, ClosedLater, CountedShorter, ClosedLonger, LaterSettled, ClosedWhenCovered, ClosedAtEnd};
+ghost use Rattle.pg_select.specs.Laws.{CandidatesInOrder, CandidatesAreCounted, CountsAreTally, PositionsAreFew, CandidatesAreFew, TotalsAreSmall, CountedAreLight, SumsAreParts, CandidatesAreLow, ChosenGetLevel, OthersStay, NoneFalls, RaisesWhereItApplies, GivenUpKeepsValues, RaisedCovers, HopelessCovers, GivenUpCovers, LaterAtOnce, LaterStill, LaterRaised, LaterHopeless, StatusBack, CountedBack, ClosedLater, CountedShorter, ClosedLonger, LaterSettled, ClosedWhenCovered, ClosedAtEnd};
 ghost use Rattle.pg_select.specs.LawsSteps.{BelowByLargest, UpToLargest, UpToAtStart, NextIsBelow, UpToAfter, CoversUpToAtStart, CoversUpToLonger, CoversUpToAfter, LengthStep, NothingCovered, ValuesAfter, CoversAfter, CountedAreUncovered, TotalsAfter};
 ghost use Rattle.pg_select.specs.LawsClosedDots.{TellsAtStart, TellsLonger, TellsAfter, DoneByStatus, DoneWhenClosed, DoneLonger, DoneAfter, RaisedStop, HopelessStop, LeftStay, UncountedStay};
 
-/// The candidates of a pass are the windows that it sees. They stand strictly in the order of signs, so each once.
+/// The candidates of a pass are the windows that it counts. They stand strictly in the order of signs, so each once.
 pub fn candidates_in_order()
     ensures order { CandidatesInOrder }
-    ensures seen { CandidatesAreSeen }
+    ensures counted { CandidatesAreCounted }
 {}
 
-/// Counting what a pass sees, one position after the other, gives its candidates with their sums of good and bad weights.
+/// Counting what a pass counts, one position after the other, gives its candidates with their sums of good and bad weights.
 pub fn counts_are_tally()
     ensures { CountsAreTally }
 {}
@@ -20,7 +20,7 @@ pub fn sums_are_small()
     ensures positions { PositionsAreFew }
     ensures candidates { CandidatesAreFew }
     ensures totals { TotalsAreSmall }
-    ensures sights { SightsAreLight }
+    ensures counted_positions { CountedAreLight }
     ensures parts { SumsAreParts }
 {}
 
@@ -54,21 +54,21 @@ pub fn levels_go_on()
     ensures settled { LaterSettled }
 {}
 
-/// Within a level a position that is no longer counted is not counted later, so a pass that sees nothing sees nothing later.
+/// Within a level a position that is no longer counted is not counted later, so a pass that counts nothing counts nothing later.
 pub fn closed_stays_closed()
     ensures statuses { StatusBack }
     ensures counted { CountedBack }
     ensures closed { ClosedLater }
 {}
 
-/// A position that is not counted with a window is not counted with a longer one, so where a pass sees nothing, the passes that
-/// are longer by a sign, with the same dot or the next, see nothing.
+/// A position that is not counted with a window is not counted with a longer one, so where a pass counts nothing, the passes that
+/// are longer by a sign, with the same dot or the next, count nothing.
 pub fn closed_when_longer()
     ensures counted { CountedShorter }
     ensures closed { ClosedLonger }
 {}
 
-/// A pass that left no candidate, as it chose or gave up each of them, sees nothing from its end to the end of the level.
+/// A pass that left no candidate, as it chose or gave up each of them, counts nothing from its end to the end of the level.
 pub fn closed_at_end()
     ensures covered { ClosedWhenCovered }
     ensures settled { ClosedAtEnd }

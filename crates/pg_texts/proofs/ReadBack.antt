@@ -1,30 +1,30 @@
 -- The hyphenated list is a dictionary file of its words.
-use Rattle.std.proofs.Common.{◌≡◌, ℕ, ◌+◌, ◌-◌, ◌<◌, ◌≤◌, Bool, true, false, cond, not, List, [], ◌∷◌, ◌++◌, length, map, filter, get_or, codes, append_assoc, Option, None, Some, Ok, refl, sym, ap, subst, ◌∙◌, arith, inl, inr, suc, zero}
-use Rattle.std.specs.Prelude.{slice_index, if◌then◌else◌, All, ◌==◌, ◌||◌, ◌&&◌}
-use Rattle.std.specs.List.{flat_map, AllByRecursion, list_any, list_all}
+use Rattle.std.proofs.Common.{◌≡◌, ℕ, ◌+◌, ◌-◌, ◌≤◌, Bool, true, false, not, List, [], ◌∷◌, length, map, Some, Ok, refl, sym, ap, ◌∙◌, arith, inl, inr, suc, zero}
+use Rattle.std.specs.Prelude.{slice_index, All, ◌==◌, ◌||◌}
+use Rattle.std.specs.List.{AllByRecursion, list_any, list_all}
 use Rattle.std.proofs.lemmas.Bool.{cases_Bool, eqb-true}
 use Rattle.std.proofs.lemmas.List.Elements.{All-head, All-tail}
 use Rattle.std.proofs.lemmas.List.Folds.{list_any-append}
 use Rattle.pg_types.specs.declared.limits.TheConstants.{FILE_MAX, WORD_LETTERS_MAX}
 use Rattle.pg_types.specs.declared.marks.Mark.{Mark}
-use Rattle.pg_types.specs.Lines.{is_line_feed, without_cr}
+use Rattle.pg_types.specs.Lines.{is_line_feed}
 use Rattle.pg_translate.specs.Alphabets.{Alphabet, letters_of}
 use Rattle.pg_translate.specs.Spellings.{is_space}
 use Rattle.pg_translate.specs.Tokens.{Token}
 use Rattle.pg_translate.specs.Items.{IsItem, joined}
 use Rattle.pg_translate.specs.declared.items.Place.TheVariants.{Dictionary}
 use Rattle.pg_dict.specs.Word.{Word, IsWord, SignsAtMost}
-use Rattle.pg_dict.specs.Words.{LineWord, line_of, line_word, words}
+use Rattle.pg_dict.specs.Words.{line_of, line_word, words}
 use Rattle.pg_dict.specs.Written.{AreMarksOf, word_tokens, letters_among, IsLine, file_of, LinesGive}
 use Rattle.pg_select.specs.Windows.{Patterns}
-use Rattle.pg_texts.specs.PattmpTexts.{is_taking_part, words_taking_part, weight_text, word_text, statuses, lines_behind, pattmp_text}
+use Rattle.pg_texts.specs.PattmpTexts.{is_taking_part, words_taking_part, statuses, lines_behind, pattmp_text}
 use Rattle.pg_texts.proofs.WordItems.{IsDictionaryItem, SpellsLetters, inner_positions, word_items, word_items_tokens, word_items_joined, word_items_each, word_items_few}
 use Rattle.pg_texts.proofs.WordMarks.{statuses_are_marks}
 
 -- the laws of items, of lines and of files
 pub record Laws (t : Alphabet) : Type 0 where
   pub spelled : SpellsLetters t
-  pub unbroken : (item : Token) (text : List ℕ) → IsItem t Dictionary item text → list_any is_space text ≡ false
+  pub items_lines : (items : List (Token × List ℕ)) → AllByRecursion (IsDictionaryItem t) items → IsLine (joined items)
   pub words_read : (before : ℕ) (w : Word) (marks : List Mark) → IsWord w → AreMarksOf w marks → line_word before (word_tokens before marks w) ≡ record { word = Some w; weight = w.weight }
   pub lines_read : (line weight : ℕ) (items : List (Token × List ℕ)) → AllByRecursion (IsDictionaryItem t) items → letters_among (map (λ item. item.0) items) ≤ WORD_LETTERS_MAX → line_of t line weight (joined items) ≡ Ok (line_word weight (map (λ item. item.0) items))
   pub files_read : (texts : List (List ℕ)) (all : List Word) → AllByRecursion IsLine texts → LinesGive t 1 texts all → length (file_of texts) ≤ FILE_MAX → words t (file_of texts) ≡ Ok all
@@ -56,39 +56,11 @@ lines_give : (t : Alphabet) → Laws t → (P : Patterns) (before : ℕ) (ws : L
 lines_give t laws P before [] known = tt
 lines_give t laws P before (w ∷ ws) known = (λ line. line_read t laws P before line w known.0, lines_give t laws P w.weight ws known.1)
 
--- items that are joined hold no blank, TAB, LF or CR
-items_unbroken : (t : Alphabet) → Laws t → (items : List (Token × List ℕ)) → AllByRecursion (IsDictionaryItem t) items → list_any is_space (joined items) ≡ false
-items_unbroken t laws [] each = refl
-items_unbroken t laws (item ∷ items) each = list_any-append is_space item.1 (joined items) ∙ rw (laws.unbroken item.0 item.1 each.0, items_unbroken t laws items each.1) refl
-
-or_none : (a b : Bool) → (a || b) ≡ false → (a ≡ false) × (b ≡ false)
-or_none true b none = cc
-or_none false b none = (refl, none)
-
-not_feed : (b : ℕ) → is_space b ≡ false → is_line_feed b ≡ false
-not_feed b none = elim (cases_Bool (is_line_feed b)) [ inr other ↦ other | inl here ↦ let same : b ≡ 10 = eqb-true b 10 here in let yes : is_space 10 ≡ false = rw same at none in cc ]
-
-not_return : (b : ℕ) → is_space b ≡ false → (b == 13) ≡ false
-not_return b none = elim (cases_Bool (b == 13)) [ inr other ↦ other | inl here ↦ let same : b ≡ 13 = eqb-true b 13 here in let yes : is_space 13 ≡ false = rw same at none in cc ]
-
--- a text without these is a line
-no_feed : (text : List ℕ) → list_any is_space text ≡ false → list_all (λ b. not (is_line_feed b)) text ≡ true
-no_feed [] none = refl
-no_feed (b ∷ bs) none = let parts = or_none (is_space b) (list_any is_space bs) none in rw (not_feed b parts.0) (no_feed bs parts.1)
-
-no_return : (text : List ℕ) → list_any is_space text ≡ false → (k : ℕ) → (slice_index text k == 13) ≡ false
-no_return [] none zero = refl
-no_return [] none (suc k) = refl
-no_return (b ∷ bs) none zero = not_return b (or_none (is_space b) (list_any is_space bs) none).0
-no_return (b ∷ bs) none (suc k) = no_return bs (or_none (is_space b) (list_any is_space bs) none).1 k
-
-is_line : (text : List ℕ) → list_any is_space text ≡ false → IsLine text
-is_line text none = record { whole = no_feed text none; ended = rw (no_return text none (length text - 1)) refl }
-
+-- each text is a line
 lines_are : (t : Alphabet) → Laws t → (P : Patterns) (before : ℕ) (ws : List Word) → AllByRecursion (IsKnown t) ws → AllByRecursion IsLine (texts_behind t P before ws)
 lines_are t laws P before [] known = tt
 lines_are t laws P before (w ∷ ws) known = (
-  is_line (joined (line_items t P before w)) (items_unbroken t laws (line_items t P before w) (word_items_each t before (statuses t P w) w laws.spelled known.0.word known.0.signs)),
+  laws.items_lines (line_items t P before w) (word_items_each t before (statuses t P w) w laws.spelled known.0.word known.0.signs),
   lines_are t laws P w.weight ws known.1,
 )
 

@@ -1,6 +1,7 @@
 -- A weight that is written is an item of a dictionary line.
-use Rattle.std.proofs.Common.{◌≡◌, ℕ, ◌+◌, ◌-◌, ◌*◌, ◌/◌, ◌%◌, ◌<◌, ◌≤◌, ◌^◌, ◌==◌, Bool, true, false, cond, nat_lt, List, [], ◌∷◌, ◌++◌, length, map, fold, codes, decimal, refl, sym, ap, ◌∙◌, arith, inl, inr}
-use Rattle.std.specs.Prelude.{if◌then◌else◌, ◌&&◌, nat_le}
+use Rattle.std.proofs.Common.{◌≡◌, ℕ, ◌+◌, ◌-◌, ◌*◌, ◌/◌, ◌%◌, ◌<◌, ◌≤◌, ◌^◌, ◌==◌, true, nat_lt, List, [], ◌∷◌, ◌++◌, map, codes, decimal, refl, arith, inl, inr}
+use Rattle.std.specs.Prelude.{if◌then◌else◌}
+use Rattle.std.specs.Char.{is_ascii_digit}
 use Rattle.std.specs.List.{list_all, AllByRecursion}
 use Rattle.std.proofs.lemmas.Bool.{cases_Bool}
 use Rattle.std.proofs.lemmas.Bool.Decides.{nat_tests}
@@ -9,19 +10,18 @@ use Rattle.std.proofs.lemmas.List.Sums.{fold-append}
 use Rattle.std.proofs.lemmas.List.Folds.{list_all-append}
 use Rattle.pg_types.specs.declared.limits.TheConstants.{WEIGHT_MAX}
 use Rattle.pg_translate.specs.Alphabets.{Alphabet}
-use Rattle.pg_translate.specs.Spellings.{is_digit}
 use Rattle.pg_translate.specs.Tokens.{Token, Digit, Weight}
-use Rattle.pg_translate.specs.Items.{IsItem, IsWeight, value_of}
+use Rattle.pg_translate.specs.Items.{IsItem, value_of}
 use Rattle.pg_translate.specs.declared.items.Place.TheVariants.{Dictionary}
 use Rattle.pg_dict.specs.Written.{number_token, weight_tokens}
-use Rattle.pg_texts.specs.PattmpTexts.{number_text, weight_text}
+use Rattle.pg_texts.specs.PattmpTexts.{number_text}
 
 -- digits that write a number
 record Writes (n : ℕ) (text : List ℕ) : Type 0 where
-  digits : list_all is_digit text ≡ true
+  digits : list_all is_ascii_digit text ≡ true
   value : n ≡ value_of text
 
-one_digit : (n : ℕ) → n < 10 → is_digit (48 + n) ≡ true
+one_digit : (n : ℕ) → n < 10 → is_ascii_digit (48 + n) ≡ true
 one_digit n low = grind (arith, nat_tests)
 
 writes_one : (n : ℕ) → n < 10 → Writes n ((48 + n) ∷ [])
@@ -29,8 +29,8 @@ writes_one n low = record { digits = rw (one_digit n low) refl; value = omega ar
 
 writes_more : (n : ℕ) (ds : List ℕ) → 10 ≤ n → Writes (n / 10) ds → Writes n (ds ++ ((48 + n % 10) ∷ []))
 writes_more n ds high front = record {
-  digits = rw (list_all-append is_digit ds ((48 + n % 10) ∷ []), front.digits, one_digit (n % 10) (omega arith)) refl;
-  value = rw (fold-append (λ value b. value * 10 + (b - 48)) 0 ds ((48 + n % 10) ∷ []), ← front.value) (omega arith);
+  digits = rw (list_all-append is_ascii_digit ds ((48 + n % 10) ∷ []), front.digits, one_digit (n % 10) (omega arith)) refl;
+  value = rw (fold-append with_digit 0 ds ((48 + n % 10) ∷ []), ← front.value) (omega arith);
 }
 
 decimal_writes : (n : ℕ) → n < 2 ^ 64 → Writes n (decimal n)

@@ -1,7 +1,7 @@
 -- The line of a word is items, whose tokens are those of the written word.
-use Rattle.std.proofs.Common.{◌≡◌, ℕ, ◌+◌, ◌-◌, ◌<◌, ◌≤◌, Bool, true, false, cond, List, [], ◌∷◌, ◌++◌, length, map, take, drop, get_or, codes, append_assoc, refl, sym, ap, ◌∙◌, arith, inl, inr, nat_lt}
-use Rattle.std.specs.Prelude.{slice_index, slice_range, if◌then◌else◌, All, ◌==◌}
-use Rattle.std.specs.List.{flat_map, range_with_len, AllByRecursion, concat}
+use Rattle.std.proofs.Common.{◌≡◌, ℕ, ◌+◌, ◌-◌, ◌<◌, ◌≤◌, List, [], ◌∷◌, ◌++◌, length, map, drop, get_or, codes, append_assoc, refl, sym, ap, ◌∙◌, arith, inl, inr, nat_lt}
+use Rattle.std.specs.Prelude.{slice_index, slice_range, All, ◌==◌}
+use Rattle.std.specs.List.{flat_map, range_with_len, AllByRecursion}
 use Rattle.std.proofs.lemmas.Bool.{cases_Bool}
 use Rattle.std.proofs.lemmas.List.{append-nil, map-append, get_or-take, get_or-drop, length-take, length-drop}
 use Rattle.std.proofs.lemmas.List.Folds.{concat-append, flat_map-map}
@@ -17,7 +17,7 @@ use Rattle.pg_dict.specs.Word.{Word, IsWord}
 use Rattle.pg_dict.specs.Written.{Written, mark_tokens, weight_tokens, number_token, letters_tokens, written_letters, between_letters, letters_with, word_tokens, letters_among}
 use Rattle.pg_select.specs.Statuses.{weight_at}
 use Rattle.pg_texts.specs.PattmpTexts.{mark_text, weight_text, letter_text, position_text, word_text}
-use Rattle.pg_texts.proofs.Ranges.{same_over_range, same_map_over_range, part_of, each_append, each_over_range, map_pieces, shifted}
+use Rattle.pg_texts.proofs.Ranges.{same_over_range, part_of, each_append, each_over_range, map_pieces, shifted}
 use Rattle.pg_texts.proofs.WeightItems.{weight_items, weight_items_tokens, weight_items_each}
 
 -- an item of a dictionary line, with its text

@@ -1,14 +1,13 @@
 -- The statuses of a word's positions mean its hyphens and cares.
-use Rattle.std.proofs.Common.{◌≡◌, ℕ, ◌+◌, ◌-◌, ◌<◌, ◌≤◌, Bool, true, false, cond, List, length, map, get_or, Option, None, Some, refl, sym, ap, ◌∙◌, arith, inl, inr}
-use Rattle.std.specs.Prelude.{slice_index_or, if◌then◌else◌, ◌%◌, ◌==◌}
-use Rattle.std.specs.List.{range_with_len, slice_get}
+use Rattle.std.proofs.Common.{◌≡◌, ℕ, ◌-◌, ◌<◌, Bool, true, false, length, map, Some, refl, sym, ap, ◌∙◌, arith, inl, inr}
+use Rattle.std.specs.Prelude.{slice_index_or}
+use Rattle.std.specs.List.{slice_get}
 use Rattle.std.proofs.lemmas.Bool.{cases_Bool}
 use Rattle.std.proofs.lemmas.Simd.{map-map}
 use Rattle.std.proofs.lemmas.Option.{slice_get-get_or, get_or_from_slice_get}
-use Rattle.pg_types.specs.declared.marks.Mark.{Mark}
 use Rattle.pg_dict.specs.Spots.{sets_hyphen, keeps_care}
 use Rattle.pg_dict.specs.Word.{Word, IsWord}
-use Rattle.pg_dict.specs.Written.{AreMarksOf, between_letters}
+use Rattle.pg_dict.specs.Written.{AreMarksOf}
 use Rattle.pg_select.specs.Statuses.{status, is_odd}
 use Rattle.pg_translate.specs.Alphabets.{Alphabet}
 use Rattle.pg_patterns.specs.Values.{value_at}

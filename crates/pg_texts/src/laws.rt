@@ -7,7 +7,7 @@ ghost use Rattle.pg_dict.specs.Words.{words as words_of};
 ghost use Rattle.pg_select.specs.Windows.{Patterns};
 ghost use Rattle.pg_texts.specs.PattmpTexts.{pattmp_text, words_taking_part};
 
-use pg_dict::laws::{files_are_read, lines_are_read, words_are_read};
+use pg_dict::laws::{files_are_read, items_are_lines, lines_are_read, words_are_read};
 use pg_translate::laws::items_are_read;
 use pg_translate::{Place, Table};
 
@@ -18,6 +18,7 @@ pub fn lists_are_read(table: &Table)
 {
     items_are_read(table, Place::Dictionary);
     words_are_read();
+    items_are_lines(table);
     lines_are_read(table);
     files_are_read(table);
 }

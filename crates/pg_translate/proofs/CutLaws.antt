@@ -9,7 +9,8 @@ use Rattle.pg_types.specs.declared.marks.Mark.TheVariants.{Error, Missed, Found,
 use Rattle.pg_translate.specs.declared.items.Place.{Place}
 use Rattle.pg_translate.specs.declared.items.Place.TheVariants.{Dictionary, Patterns}
 use Rattle.pg_translate.specs.Alphabets.{Alphabet}
-use Rattle.pg_translate.specs.Spellings.{is_digit, begins, begins_well, IsAmong}
+use Rattle.pg_translate.specs.Spellings.{begins, begins_well, IsAmong}
+use Rattle.std.specs.Char.{is_ascii_digit}
 use Rattle.pg_translate.specs.Tokens.{Token, Letter, Digit, Weight, Marked, Edge, letter_at, digit_at, weight_at, weight_from, weight_end, mark_at, edge_at, item_at}
 use Rattle.pg_translate.specs.Cuts.{Placed, Cut, cut_from, with_item}
 use Rattle.pg_translate.specs.Items.{IsItem, IsWeight, IsMark, IsCut, IsPrefix, IsLongest, items_at, joined, value_of}
@@ -64,7 +65,7 @@ letter_found t rules text token size h = by_find (find (λ s. begins text s.1) t
 digit_found : (text : List ℕ) (token : Token) (size : ℕ) → digit_at text ≡ Some (token, size) → (digit : ℕ) × (token ≡ Digit digit) × (digit ≤ 9) × (take size text ≡ (48 + digit) ∷ []) × (0 < size) × (size ≤ length text)
 digit_found [] token size h = absurd (cc)
 digit_found (b ∷ bs) token size h =
-    ⊎_elim (λ (yes : is_digit b ≡ true). let found = rw yes at h in let both : (token ≡ Digit (b - 48)) × (size ≡ 1) = same_found (Digit (b - 48)) token 1 size found in let one : size ≡ 1 = both.1 in let tests : (nat_le 48 b ≡ true) × (nat_le b 57 ≡ true) = and_parts _ _ yes in let low : 48 ≤ b = leb-true 48 b tests.0 in let high : b ≤ 57 = leb-true b 57 tests.1 in let value : b ≡ 48 + (b - 48) = omega arith in (b - 48, both.0, omega arith, rw one (ap (λ (n : ℕ). n ∷ []) value), omega arith, omega arith)) (λ (no : is_digit b ≡ false). let none = rw no at h in absurd (cc)) (cases_Bool (is_digit b))
+    ⊎_elim (λ (yes : is_ascii_digit b ≡ true). let found = rw yes at h in let both : (token ≡ Digit (b - 48)) × (size ≡ 1) = same_found (Digit (b - 48)) token 1 size found in let one : size ≡ 1 = both.1 in let tests : (nat_le 48 b ≡ true) × (nat_le b 57 ≡ true) = and_parts _ _ yes in let low : 48 ≤ b = leb-true 48 b tests.0 in let high : b ≤ 57 = leb-true b 57 tests.1 in let value : b ≡ 48 + (b - 48) = omega arith in (b - 48, both.0, omega arith, rw one (ap (λ (n : ℕ). n ∷ []) value), omega arith, omega arith)) (λ (no : is_ascii_digit b ≡ false). let none = rw no at h in absurd (cc)) (cases_Bool (is_ascii_digit b))
 
 -- what is found at a dot
 edge_found : (text : List ℕ) (token : Token) (size : ℕ) → edge_at text ≡ Some (token, size) → (token ≡ Edge) × (take size text ≡ 46 ∷ []) × (0 < size) × (size ≤ length text)
@@ -89,7 +90,7 @@ pub record FindsWeight (room value size : ℕ) (text : List ℕ) (token : Token)
   pub front : take (length digits + 1) text ≡ digits ++ 125 ∷ []
   pub within : length digits + 1 ≤ length text
   pub few : length digits ≤ room
-  pub decimal : list_all is_digit digits ≡ true
+  pub decimal : list_all is_ascii_digit digits ≡ true
   pub token_is : token ≡ Weight (fold (λ value b. value * 10 + (b - 48)) value digits)
   pub some : 0 < fold (λ value b. value * 10 + (b - 48)) value digits
   pub size_is : whole ≡ size + length digits + 1
@@ -103,9 +104,9 @@ weight_found zero value size [] token whole h = absurd (cc)
 weight_found (suc room) value size [] token whole h = absurd (cc)
 weight_found zero value size (b ∷ bs) token whole h = weight_ends zero value size b bs token whole h
 weight_found (suc room) value size (b ∷ bs) token whole h =
-    ⊎_elim (λ (yes : is_digit b ≡ true). let later : weight_from room (value * 10 + (b - 48)) (size + 1) bs ≡ Some (token, whole) = rw yes at h in more yes (weight_found room (value * 10 + (b - 48)) (size + 1) bs token whole later)) (λ (no : is_digit b ≡ false). let here : weight_end value size b ≡ Some (token, whole) = rw no at h in weight_ends (suc room) value size b bs token whole here) (cases_Bool (is_digit b))
+    ⊎_elim (λ (yes : is_ascii_digit b ≡ true). let later : weight_from room (value * 10 + (b - 48)) (size + 1) bs ≡ Some (token, whole) = rw yes at h in more yes (weight_found room (value * 10 + (b - 48)) (size + 1) bs token whole later)) (λ (no : is_ascii_digit b ≡ false). let here : weight_end value size b ≡ Some (token, whole) = rw no at h in weight_ends (suc room) value size b bs token whole here) (cases_Bool (is_ascii_digit b))
   where
-    more : is_digit b ≡ true → FindsWeight room (value * 10 + (b - 48)) (size + 1) bs token whole → FindsWeight (suc room) value size (b ∷ bs) token whole
+    more : is_ascii_digit b ≡ true → FindsWeight room (value * 10 + (b - 48)) (size + 1) bs token whole → FindsWeight (suc room) value size (b ∷ bs) token whole
     more test rest =
         let inner : length rest.digits + 1 ≤ length bs = rest.within in
         let room_left : length rest.digits ≤ room = rest.few in

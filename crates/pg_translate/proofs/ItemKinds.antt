@@ -6,7 +6,8 @@ use Rattle.pg_types.specs.declared.marks.Mark.TheVariants.{Error, Missed, Found,
 use Rattle.pg_translate.specs.declared.items.Place.TheVariants.{Dictionary, Patterns}
 use Rattle.pg_translate.specs.Alphabets.{Alphabet}
 use Rattle.pg_translate.specs.Answers.{Takes}
-use Rattle.pg_translate.specs.Spellings.{is_digit, begins}
+use Rattle.pg_translate.specs.Spellings.{begins}
+use Rattle.std.specs.Char.{is_ascii_digit}
 use Rattle.pg_translate.specs.Tokens.{Token, Letter, Digit, Weight, Marked, Edge, item_at, letter_at, digit_at, weight_at, weight_from, weight_end, mark_at, edge_at}
 
 -- an item of a pattern line is a letter, a digit or the edge
@@ -24,7 +25,7 @@ edge_of_patterns (b ∷ bs) = elim (b == 46) as (λ s. of_patterns (if s then So
 
 digit_of_patterns : (text : List ℕ) → of_patterns (option_or (digit_at text) (edge_at text)) ≡ true
 digit_of_patterns [] = refl
-digit_of_patterns (b ∷ bs) = elim (is_digit b) as (λ s. of_patterns (option_or (if s then Some (Digit (b - 48), 1) else None) (edge_at (b ∷ bs))) ≡ true) [ true ↦ refl | false ↦ edge_of_patterns (b ∷ bs) ]
+digit_of_patterns (b ∷ bs) = elim (is_ascii_digit b) as (λ s. of_patterns (option_or (if s then Some (Digit (b - 48), 1) else None) (edge_at (b ∷ bs))) ≡ true) [ true ↦ refl | false ↦ edge_of_patterns (b ∷ bs) ]
 
 item_of_patterns : (t : Alphabet) (text : List ℕ) → of_patterns (item_at t Patterns text) ≡ true
 item_of_patterns t text =
@@ -57,7 +58,7 @@ letter_of_dictionary t text = elim (find (λ spelling. begins text spelling.1) t
 
 digit_of_dictionary : (text : List ℕ) → of_dictionary (digit_at text) ≡ true
 digit_of_dictionary [] = refl
-digit_of_dictionary (b ∷ bs) = elim (is_digit b) as (λ s. of_dictionary (if s then Some (Digit (b - 48), 1) else None) ≡ true) [ true ↦ refl | false ↦ refl ]
+digit_of_dictionary (b ∷ bs) = elim (is_ascii_digit b) as (λ s. of_dictionary (if s then Some (Digit (b - 48), 1) else None) ≡ true) [ true ↦ refl | false ↦ refl ]
 
 end_of_dictionary : (value size b : ℕ) → of_dictionary (weight_end value size b) ≡ true
 end_of_dictionary value size b = elim (b == 125 && nat_lt 0 value) as (λ s. of_dictionary (if s then Some (Weight value, size + 1) else None) ≡ true) [ true ↦ refl | false ↦ refl ]
@@ -67,7 +68,7 @@ weight_of_dictionary zero value size [] = refl
 weight_of_dictionary (suc more) value size [] = refl
 weight_of_dictionary zero value size (b ∷ bs) = end_of_dictionary value size b
 weight_of_dictionary (suc more) value size (b ∷ bs) =
-    elim (is_digit b) as (λ s. of_dictionary (if s then weight_from more (value * 10 + (b - 48)) (size + 1) bs else weight_end value size b) ≡ true) [
+    elim (is_ascii_digit b) as (λ s. of_dictionary (if s then weight_from more (value * 10 + (b - 48)) (size + 1) bs else weight_end value size b) ≡ true) [
       | true ↦ weight_of_dictionary more (value * 10 + (b - 48)) (size + 1) bs
       | false ↦ end_of_dictionary value size b
     ]

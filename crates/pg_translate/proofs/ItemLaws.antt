@@ -11,7 +11,8 @@ use Rattle.pg_types.specs.declared.refusals.Refusal.{Refusal}
 use Rattle.pg_translate.specs.declared.items.Place.{Place}
 use Rattle.pg_translate.specs.declared.items.Place.TheVariants.{Dictionary, Patterns}
 use Rattle.pg_translate.specs.Alphabets.{Alphabet}
-use Rattle.pg_translate.specs.Spellings.{is_digit, is_space, may_begin, begins_well, begins, IsAmong}
+use Rattle.pg_translate.specs.Spellings.{is_space, may_begin, begins_well, begins, IsAmong}
+use Rattle.std.specs.Char.{is_ascii_digit}
 use Rattle.pg_translate.specs.Tables.{check, mark_fails, mark_checks_from, mark_checks}
 use Rattle.pg_translate.specs.Tokens.{Token, Letter, Digit, Weight, Marked, Edge, letter_at, weight_from, mark_at, item_at}
 use Rattle.pg_translate.specs.Items.{IsItem, IsWeight, IsMark, value_of}
@@ -36,21 +37,21 @@ no_letter t rules b bs bad =
         true≢false (sym well ∙ subst (λ (n : ℕ). may_begin t.marks n ≡ false) same bad)
 
 -- a digit begins no spelling
-pub digit_may_not : (marks : List ℕ) (b : ℕ) → is_digit b ≡ true → may_begin marks b ≡ false
+pub digit_may_not : (marks : List ℕ) (b : ℕ) → is_ascii_digit b ≡ true → may_begin marks b ≡ false
 digit_may_not marks b digit = rw digit refl
 
 -- what a mark that does not fail is
 pub record IsGood (earlier : List ℕ) (mark : ℕ) : Type 0 where
-  pub digit : is_digit mark ≡ false
+  pub digit : is_ascii_digit mark ≡ false
   pub space : is_space mark ≡ false
   pub brace : (mark == 123) ≡ false
   pub apart : list_any (λ other. other == mark) earlier ≡ false
 
 good_mark : (earlier : List ℕ) (mark : ℕ) → mark_fails earlier mark ≡ false → IsGood earlier mark
 good_mark earlier mark all =
-    let last : (((is_digit mark || is_space mark) || mark == 123) ≡ false) × (list_any (λ other. other == mark) earlier ≡ false) = or_parts _ _ all in
-    let brace : ((is_digit mark || is_space mark) ≡ false) × ((mark == 123) ≡ false) = or_parts _ _ last.0 in
-    let space : (is_digit mark ≡ false) × (is_space mark ≡ false) = or_parts _ _ brace.0 in
+    let last : (((is_ascii_digit mark || is_space mark) || mark == 123) ≡ false) × (list_any (λ other. other == mark) earlier ≡ false) = or_parts _ _ all in
+    let brace : ((is_ascii_digit mark || is_space mark) ≡ false) × ((mark == 123) ≡ false) = or_parts _ _ last.0 in
+    let space : (is_ascii_digit mark ≡ false) × (is_space mark ≡ false) = or_parts _ _ brace.0 in
     record { digit = space.0; space = space.1; brace = brace.1; apart = last.1 }
 
 -- a check that passes, before others that do
@@ -79,7 +80,7 @@ eqb_swap x y h = ne_eqb y x (λ same. eqb-false x y h (sym same))
 
 -- what is said of the byte of a mark
 pub record ReadsMark (marks : List ℕ) (mark : Mark) (byte : ℕ) : Type 0 where
-  pub digit : is_digit byte ≡ false
+  pub digit : is_ascii_digit byte ≡ false
   pub space : is_space byte ≡ false
   pub brace : (byte == 123) ≡ false
   pub there : list_any (λ other. other == byte) marks ≡ true
@@ -129,16 +130,16 @@ four_marks t rules = by_list t.marks rules.four rules.marks_pass
 -- a mark is read where no spelling, digit or weight stands
 found_byte : (t : Alphabet) → KeepsRules t → (mark : Mark) (byte : ℕ) (more : List ℕ) → ReadsMark t.marks mark byte → item_at t Dictionary (byte ∷ more) ≡ Some (Marked mark, 1)
 found_byte t rules mark byte more reads =
-    let none : letter_at t.spellings (byte ∷ more) ≡ None = no_letter t rules byte more (not_from_true _ (or_right ((is_digit byte || byte == 46) || byte == 123) _ reads.there)) in
+    let none : letter_at t.spellings (byte ∷ more) ≡ None = no_letter t rules byte more (not_from_true _ (or_right ((is_ascii_digit byte || byte == 46) || byte == 123) _ reads.there)) in
     rw (none, reads.digit, reads.brace) (reads.found more)
 
 -- a weight is read from its digits to its brace
-pub weight_reads : (room value size : ℕ) (digits more : List ℕ) → length digits ≤ room → list_all is_digit digits ≡ true → 0 < fold (λ value b. value * 10 + (b - 48)) value digits → weight_from room value size (digits ++ 125 ∷ more) ≡ Some (Weight (fold (λ value b. value * 10 + (b - 48)) value digits), size + length digits + 1)
+pub weight_reads : (room value size : ℕ) (digits more : List ℕ) → length digits ≤ room → list_all is_ascii_digit digits ≡ true → 0 < fold (λ value b. value * 10 + (b - 48)) value digits → weight_from room value size (digits ++ 125 ∷ more) ≡ Some (Weight (fold (λ value b. value * 10 + (b - 48)) value digits), size + length digits + 1)
 weight_reads zero value size [] more few all some = rw (lt-ltb 0 value some, let same : size + 0 + 1 ≡ size + 1 = omega arith in same) refl
 weight_reads (suc room) value size [] more few all some = rw (lt-ltb 0 value some, let same : size + 0 + 1 ≡ size + 1 = omega arith in same) refl
 weight_reads zero value size (d ∷ ds) more few all some = absurd (omega arith)
 weight_reads (suc room) value size (d ∷ ds) more few all some =
-    let parts : (is_digit d ≡ true) × (list_all is_digit ds ≡ true) = and_parts _ _ all in
+    let parts : (is_ascii_digit d ≡ true) × (list_all is_ascii_digit ds ≡ true) = and_parts _ _ all in
     let rest : weight_from room (value * 10 + (d - 48)) (size + 1) (ds ++ 125 ∷ more) ≡ Some (Weight (fold (λ value b. value * 10 + (b - 48)) (value * 10 + (d - 48)) ds), size + 1 + length ds + 1) = weight_reads room (value * 10 + (d - 48)) (size + 1) ds more (omega arith) parts.1 some in
     let same : size + 1 + length ds + 1 ≡ size + suc (length ds) + 1 = omega arith in
     rw parts.0 (rest ∙ ap (λ (n : ℕ). Some (Weight (fold (λ value b. value * 10 + (b - 48)) (value * 10 + (d - 48)) ds), n)) same)
@@ -154,7 +155,7 @@ found_weight t rules weight text more is =
     rw (whole, size, none, read) refl
 
 -- the byte of a digit
-digit_test : (digit : ℕ) → digit ≤ 9 → is_digit (48 + digit) ≡ true
+digit_test : (digit : ℕ) → digit ≤ 9 → is_ascii_digit (48 + digit) ≡ true
 digit_test digit few = rw (le-leb 48 (48 + digit) (let low : 48 ≤ 48 + digit = omega arith in low), le-leb (48 + digit) 57 (let high : 48 + digit ≤ 57 = omega arith in high)) refl
 
 -- the byte of a mark is read, whatever follows it
@@ -172,12 +173,12 @@ item_reads t rules Dictionary (Letter sign) text more is =
 item_reads t rules Patterns (Letter sign) text more is =
     let hit : find (λ spelling. begins (text ++ more) spelling.1) t.spellings ≡ Some (sign, text) = find_begins (text ++ more) t.spellings (sign, text) rules.apart is (begins-append text more) in rw hit refl
 item_reads t rules Dictionary (Digit digit) text more is =
-    let test : is_digit (48 + digit) ≡ true = digit_test digit is.0 in
+    let test : is_ascii_digit (48 + digit) ≡ true = digit_test digit is.0 in
     let none : letter_at t.spellings ((48 + digit) ∷ more) ≡ None = no_letter t rules (48 + digit) more (digit_may_not t.marks (48 + digit) test) in
     let value : 48 + digit - 48 ≡ digit = omega arith in
     rw (is.1, none, test, value) refl
 item_reads t rules Patterns (Digit digit) text more is =
-    let test : is_digit (48 + digit) ≡ true = digit_test digit is.0 in
+    let test : is_ascii_digit (48 + digit) ≡ true = digit_test digit is.0 in
     let none : letter_at t.spellings ((48 + digit) ∷ more) ≡ None = no_letter t rules (48 + digit) more (digit_may_not t.marks (48 + digit) test) in
     let value : 48 + digit - 48 ≡ digit = omega arith in
     rw (is.1, none, test, value) refl

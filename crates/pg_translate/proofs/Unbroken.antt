@@ -1,6 +1,6 @@
 -- No item holds a blank, a TAB, an LF or a CR, so none stands where a line ends.
 use Rattle.std.proofs.Common.{◌≡◌, ℕ, ◌+◌, ◌<◌, ◌≤◌, ◌==◌, true, false, ◌||◌, List, [], ◌∷◌, length, take, get_or, slice_index, Option, Some, None, MatchOption, IfSome, refl, sym, ap, ◌∙◌, arith, suc, zero}
-use Rattle.std.specs.List.{list_any, list_all}
+use Rattle.std.specs.List.{list_any, list_all, AllByRecursion}
 use Rattle.std.specs.Option.{option_or}
 use Rattle.std.proofs.lemmas.Bool.{and_parts, or_parts, not-true, true≢false, false_from_ne_true, eq-eqb, ne_eqb, leb-true}
 use Rattle.std.proofs.lemmas.List.Folds.{list_any-append}
@@ -9,9 +9,10 @@ use Rattle.pg_types.specs.declared.marks.Mark.TheVariants.{Nothing, Error, Misse
 use Rattle.pg_translate.specs.declared.items.Place.{Place}
 use Rattle.pg_translate.specs.declared.items.Place.TheVariants.{Dictionary, Patterns}
 use Rattle.pg_translate.specs.Alphabets.{Alphabet}
-use Rattle.pg_translate.specs.Spellings.{is_digit, is_space}
+use Rattle.pg_translate.specs.Spellings.{is_space}
+use Rattle.std.specs.Char.{is_ascii_digit}
 use Rattle.pg_translate.specs.Tokens.{Token, Letter, Digit, Weight, Marked, Edge, letter_at, digit_at, weight_at, mark_at, item_at, is_ended}
-use Rattle.pg_translate.specs.Items.{IsItem, IsWeight, IsMark}
+use Rattle.pg_translate.specs.Items.{IsItem, IsWeight, IsMark, joined}
 use Rattle.pg_translate.specs.Rules.{KeepsRules}
 use Rattle.pg_translate.proofs.ItemLaws.{four_marks}
 use Rattle.pg_translate.proofs.CutLaws.{Reads, item_found}
@@ -21,10 +22,10 @@ above_blank : (b : ℕ) → 32 < b → is_space b ≡ false
 above_blank b above = rw (ne_eqb b 32 (λ is. absurd (omega arith)), ne_eqb b 9 (λ is. absurd (omega arith)), ne_eqb b 10 (λ is. absurd (omega arith)), ne_eqb b 13 (λ is. absurd (omega arith))) refl
 
 -- digits
-digits_unbroken : (digits : List ℕ) → list_all is_digit digits ≡ true → list_any is_space digits ≡ false
+digits_unbroken : (digits : List ℕ) → list_all is_ascii_digit digits ≡ true → list_any is_space digits ≡ false
 digits_unbroken [] all = refl
 digits_unbroken (d ∷ ds) all =
-    let parts : (is_digit d ≡ true) × (list_all is_digit ds ≡ true) = and_parts _ _ all in
+    let parts : (is_ascii_digit d ≡ true) × (list_all is_ascii_digit ds ≡ true) = and_parts _ _ all in
     let low : 48 ≤ d = leb-true 48 d (and_parts _ _ parts.0).0 in
     rw (above_blank d (omega arith)) (digits_unbroken ds parts.1)
 
@@ -108,3 +109,11 @@ some_letter_begun t rules text (Some l) is = letter_begun t rules text (Letter l
 pub fourth_mark : (marks text : List ℕ) → 0 < length text → ¬ (get_or text 0 0 ≡ slice_index marks 0) → ¬ (get_or text 0 0 ≡ slice_index marks 1) → ¬ (get_or text 0 0 ≡ slice_index marks 2) → get_or text 0 0 ≡ slice_index marks 3 → mark_at marks text ≡ Some (Marked DontCare, 1)
 fourth_mark marks [] some first second third fourth = absurd (omega arith)
 fourth_mark marks (b ∷ bs) some first second third fourth = rw (ne_eqb _ _ first, ne_eqb _ _ second, ne_eqb _ _ third, eq-eqb _ _ fourth) refl
+
+-- nor do items that are joined
+pub joined_unbroken : (t : Alphabet) → KeepsRules t → (place : Place) (items : List (Token × List ℕ)) → AllByRecursion (λ (item : Token × List ℕ). IsItem t place item.0 item.1) items → list_any is_space (joined items) ≡ false
+joined_unbroken t rules place [] each = refl
+joined_unbroken t rules place (item ∷ items) each =
+    list_any-append is_space item.1 (joined items)
+    ∙ ap (λ test. test || list_any is_space (joined items)) (item_unbroken t rules place item.0 item.1 each.0)
+    ∙ joined_unbroken t rules place items each.1

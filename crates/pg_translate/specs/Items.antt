@@ -1,25 +1,27 @@
 -- What the items of a line are, and the cuts of a line into items.
-use Rattle.std.specs.Prelude.{◌≡◌, ℕ, ◌+◌, ◌-◌, ◌*◌, ◌<◌, ◌≤◌, true, List, [], ◌∷◌, ◌++◌, length, map, fold, codes}
+use Rattle.std.specs.Prelude.{◌≡◌, ℕ, ◌+◌, ◌<◌, ◌≤◌, true, List, [], ◌∷◌, ◌++◌, length, map, fold, codes}
 use Rattle.std.specs.List.{list_all, concat, AllByRecursion}
+use Rattle.pg_types.specs.Parameters.{with_digit}
 use Rattle.pg_types.specs.declared.marks.Mark.{Mark}
 use Rattle.pg_types.specs.declared.marks.Mark.TheVariants.{Nothing, Error, Missed, Found, DontCare}
 use Rattle.pg_translate.specs.declared.items.Place.{Place}
 use Rattle.pg_translate.specs.declared.items.Place.TheVariants.{Dictionary, Patterns}
 use Rattle.pg_translate.specs.Alphabets.{Alphabet, mark_byte_of}
-use Rattle.pg_translate.specs.Spellings.{is_digit, begins, IsAmong}
+use Rattle.pg_translate.specs.Spellings.{begins, IsAmong}
+use Rattle.std.specs.Char.{is_ascii_digit}
 use Rattle.pg_translate.specs.Tokens.{Token, Letter, Digit, Weight, Marked, Edge}
 use Rattle.pg_translate.specs.Cuts.{Placed, Cut}
 
 -- the value of decimal digits
 abbrev pub value_of : List ℕ → ℕ
-value_of digits = fold (λ value b. value * 10 + (b - 48)) 0 digits
+value_of digits = fold with_digit 0 digits
 
 -- a text is a weight in braces: a brace, at most four digits whose value is not 0, and a brace
 pub record IsWeight (weight : ℕ) (text : List ℕ) : Type 0 where
   pub digits : List ℕ
   pub text_is : text ≡ 123 ∷ (digits ++ 125 ∷ [])
   pub few : length digits ≤ 4
-  pub decimal : list_all is_digit digits ≡ true
+  pub decimal : list_all is_ascii_digit digits ≡ true
   pub value : weight ≡ value_of digits
   pub some : 0 < weight
 

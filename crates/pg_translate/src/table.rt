@@ -7,7 +7,10 @@ ghost use Rattle.pg_translate.specs.Sound.{IsTable};
 
 pub mod laws;
 
-use crate::head::{Head, MINIMUM_MAX};
+use crate::head::{
+    DEFAULT_DONT_CARE, DEFAULT_ERROR, DEFAULT_FOUND, DEFAULT_LEFT, DEFAULT_MISSED, DEFAULT_RIGHT,
+    Head, MINIMUM_MAX,
+};
 use crate::index::Index;
 use crate::items::{Item, Place};
 use crate::reading::{read_letters, refused};
@@ -49,12 +52,12 @@ impl Table {
         ensures { IfOk result (λ table. table ≡ default_alphabet) }
     {
         let head = Head {
-            left: 2,
-            right: 3,
-            error: b'.',
-            missed: b'-',
-            found: b'*',
-            dont_care: b'?',
+            left: DEFAULT_LEFT,
+            right: DEFAULT_RIGHT,
+            error: DEFAULT_ERROR,
+            missed: DEFAULT_MISSED,
+            found: DEFAULT_FOUND,
+            dont_care: DEFAULT_DONT_CARE,
         };
         let index = Index::default_letters(alloc)?;
         Ok(Table { head, index })

@@ -2,7 +2,7 @@ use Rattle.std.proofs.Common.{◌++◌, true, false, ap, ◌∙◌, arith, ◌<�
 use Rattle.std.specs.List.{slice_index_or}
 use Rattle.pg_types.specs.declared.marks.Mark.{Mark}
 use Rattle.pg_dict.specs.Lent.{word_of}
-use Rattle.pg_select.specs.Sights.{counts_as}
+use Rattle.pg_select.specs.CountedPositions.{counts_as}
 use Rattle.pg_select.specs.Statuses.{status}
 use Rattle.pg_driver.specs.OpenLevels.{open_as, open_by_status}
 use Rattle.pg_driver.proofs.OpenSteps.{position_added}

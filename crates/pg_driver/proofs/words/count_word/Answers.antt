@@ -3,7 +3,7 @@ use Rattle.pg_dict.specs.Lent.{word_of}
 use Rattle.pg_dict.specs.Word.{letters_of}
 use Rattle.pg_select.specs.Meanings.{Meaning}
 use Rattle.pg_select.specs.declared.pass.Pass.{Pass}
-use Rattle.pg_select.specs.Sights.{sight_at}
+use Rattle.pg_select.specs.CountedPositions.{counted_positions_at}
 use Rattle.pg_select.specs.Statuses.{status_at, weight_at}
 use Rattle.pg_types.specs.declared.limits.TheConstants.{WEIGHT_MAX}
 use Rattle.pg_driver.specs.Counting.{IsRead, with_mark, sum_of}
@@ -42,7 +42,7 @@ positions-preserved g c =
     let few : c.positions.p - c.in-Some.first + 1 ≤ letters_of w = omega (arith, c.positions-test.true, c.in-Some.ensures.few, c.positions.auto) in
     let on : c.positions.p + 1 - c.in-Some.first ≡ c.positions.p - c.in-Some.first + 1 = omega (arith, c.positions.auto) in
     record {
-      kept = kept_on m0 m _ (sight_at m.pass m.patterns m.hopeless w c.positions.p) kept c.in_ok-count_position.ensures.ok;
+      kept = kept_on m0 m _ (counted_positions_at m.pass m.patterns m.hopeless w c.positions.p) kept c.in_ok-count_position.ensures.ok;
       whole = position_step m0 m _ _ w c.positions.p c.in-Some.end c.positions-test.true kept c.in_ok-count_position.ensures.ok c.positions.invariant.whole;
       few = omega arith;
       took = rw on (room_on m0 m _ w c.positions.p (c.positions.p - c.in-Some.first) (letters_of w) long c.requires.word within c.requires.room (omega arith) c.positions.invariant.took c.in_ok-count_position.ensures.ok);

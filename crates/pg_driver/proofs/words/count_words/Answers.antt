@@ -4,7 +4,7 @@ use Rattle.pg_dict.specs.Lent.{word_of}
 use Rattle.pg_dict.specs.Word.{Word, letters_of}
 use Rattle.pg_types.specs.Counts.{SignsWithin}
 use Rattle.pg_select.specs.Meanings.{Meaning}
-use Rattle.pg_select.specs.Sights.{sights, sights_in}
+use Rattle.pg_select.specs.CountedPositions.{counted_positions, counted_positions_in}
 use Rattle.pg_select.specs.Sums.{marks_in}
 use Rattle.pg_driver.specs.Counting.{counting, with_marks}
 use Rattle.pg_driver.specs.Told.{minima_of}
@@ -38,8 +38,8 @@ words-preserved g c =
     let letters = letters_left c.args.dictionary.now c.words.i w c.word.ensures.lent in
     let sums = c.in_ok-count_word.ensures.sums ∙ ap (λ (x : Meaning). with_marks c.words.sums (marks_in minima x.patterns w)) kept in
     record {
-      kept = kept_on m0 m _ (sights_in minima m.pass m.patterns m.hopeless w) kept c.in_ok-count_word.ensures.ok;
-      whole = word_step m0 m _ _ minima w rest kept c.in_ok-count_word.ensures.ok (ap (λ (ws : List Word). counting m (sights minima ws m0.pass m0.patterns m0.hopeless)) (sym place) ∙ c.words.invariant.whole);
+      kept = kept_on m0 m _ (counted_positions_in minima m.pass m.patterns m.hopeless w) kept c.in_ok-count_word.ensures.ok;
+      whole = word_step m0 m _ _ minima w rest kept c.in_ok-count_word.ensures.ok (ap (λ (ws : List Word). counting m (counted_positions minima ws m0.pass m0.patterns m0.hopeless)) (sym place) ∙ c.words.invariant.whole);
       room = room_left m.counts _ (sum_by letters_of (drop c.words.i c.args.dictionary.now)) (letters_of w) (sum_by letters_of rest) c.words.invariant.room c.in_ok-count_word.ensures.took (omega (arith, letters));
       sums = marks_word c.words.sums _ _ minima m0.patterns w rest sums (ap (λ (ws : List Word). with_marks c.words.sums (flat_map (marks_in minima m0.patterns) ws)) (sym place) ∙ c.words.invariant.sums);
       room_for = omega (arith, letters, c.words.invariant.room_for, c.in_ok-count_word.ensures.took_for);

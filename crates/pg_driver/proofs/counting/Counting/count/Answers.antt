@@ -1,7 +1,7 @@
 use Rattle.std.proofs.Common.{◌≡◌, List, length, ap, sym, subst, ◌∙◌}
 use Rattle.std.specs.List.{flat_map}
 use Rattle.std.proofs.lemmas.List.Elements.{All-same}
-use Rattle.pg_select.specs.Sights.{Sight}
+use Rattle.pg_select.specs.CountedPositions.{CountedPosition}
 use Rattle.pg_driver.specs.declared.open_positions.OpenPosition.{OpenPosition}
 use Rattle.pg_driver.specs.Counting.{HasRoom, counting}
 use Rattle.pg_driver.specs.LevelCounting.{IsOpenAt, IsReady}
@@ -37,7 +37,7 @@ returns-in_ok-count_open-in-Open-clause-ok g c =
     let ready : IsOpenAt source pass.level pass.len (known_of m) o = subst (IsReady source pass.level pass.len (known_of m)) c.in-Open.is c.requires.ready in
     c.in_ok-count_open-in-Open.ensures.ok
     ∙ ap (λ (es : List OpenPosition). counting m (flat_map (counted_of pass.level pass.len pass.dot c.args.dictionary.now) es)) c.deref.ensures.value
-    ∙ ap (λ (seen : List Sight). counting m seen) (counts_all source pass.level pass.len (known_of m) o ready pass.dot c.requires.ranges.len_high c.requires.ranges.within)
+    ∙ ap (λ (seen : List CountedPosition). counting m seen) (counts_all source pass.level pass.len (known_of m) o ready pass.dot c.requires.ranges.len_high c.requires.ranges.within)
 
 pub returns-in_ok-count_open-in-Open-clause-small : goal.returns-in_ok-count_open-in-Open-clause-small
 returns-in_ok-count_open-in-Open-clause-small g c =

@@ -1,4 +1,4 @@
--- What a pass sees: at each position that counts, its window, where that fits and is not covered.
+-- What a pass counts: at each position that counts, its window, where that fits and is not covered.
 use Rattle.std.specs.Prelude.{ℕ, Bool, true, false, not, ◌&&◌, if◌then◌else◌, List, [], ◌∷◌, length, map, fold, sum_by, Option, None, Some}
 use Rattle.std.specs.List.{flat_map}
 use Rattle.std.specs.Option.{option_map_or}
@@ -11,7 +11,7 @@ use Rattle.pg_dict.specs.Word.{Word}
 use Rattle.pg_select.specs.declared.pass.Pass.{Pass}
 use Rattle.pg_translate.specs.Reach.{positions}
 use Rattle.pg_select.specs.Statuses.{is_odd, status_at, weight_at}
-use Rattle.pg_select.specs.Windows.{Hopeless, window, fits, covered}
+use Rattle.pg_select.specs.Windows.{Patterns, Hopeless, window, fits, covered}
 
 -- the minima that say which positions are in reach
 pub record Minima : Type 0 where
@@ -19,7 +19,7 @@ pub record Minima : Type 0 where
   pub right : ℕ
 
 -- a window at a position that counts: whether it counts as good, and the weight of the position
-pub record Sight : Type 0 where
+pub record CountedPosition : Type 0 where
   pub window : List ℕ
   pub good : Bool
   pub weight : ℕ
@@ -33,41 +33,41 @@ counts_as level Found = if is_odd level then None else Some false
 counts_as level DontCare = None
 
 -- whether a position counts as good or bad in a pass: its window fits, and is not covered
-abbrev pub counted_at : Pass → List ((List ℕ × ℕ) × ℕ) → Hopeless → Word → ℕ → Option Bool
+abbrev pub counted_at : Pass → Patterns → Hopeless → Word → ℕ → Option Bool
 counted_at pass P H w p =
     if fits w.signs p pass.len pass.dot && not (covered pass.level P H (window w.signs p pass.len pass.dot) pass.dot)
     then counts_as pass.level (status_at P w p) else None
 
--- what a pass sees at a position
-abbrev pub sight_at : Pass → List ((List ℕ × ℕ) × ℕ) → Hopeless → Word → ℕ → List Sight
-sight_at pass P H w p = option_map_or (λ good. record { window = window w.signs p pass.len pass.dot; good = good; weight = weight_at w p } ∷ []) (counted_at pass P H w p) []
+-- what a pass counts at a position
+abbrev pub counted_positions_at : Pass → Patterns → Hopeless → Word → ℕ → List CountedPosition
+counted_positions_at pass P H w p = option_map_or (λ good. record { window = window w.signs p pass.len pass.dot; good = good; weight = weight_at w p } ∷ []) (counted_at pass P H w p) []
 
--- what a pass sees in a word: at each position in reach
-abbrev pub sights_in : Minima → Pass → List ((List ℕ × ℕ) × ℕ) → Hopeless → Word → List Sight
-sights_in m pass P H w = flat_map (sight_at pass P H w) (positions m.left m.right (length w.signs))
+-- what a pass counts in a word: at each position in reach
+abbrev pub counted_positions_in : Minima → Pass → Patterns → Hopeless → Word → List CountedPosition
+counted_positions_in m pass P H w = flat_map (counted_positions_at pass P H w) (positions m.left m.right (length w.signs))
 
--- what a pass sees in all words
-abbrev pub sights : Minima → List Word → Pass → List ((List ℕ × ℕ) × ℕ) → Hopeless → List Sight
-sights m words pass P H = flat_map (sights_in m pass P H) words
+-- what a pass counts in all words
+abbrev pub counted_positions : Minima → List Word → Pass → Patterns → Hopeless → List CountedPosition
+counted_positions m words pass P H = flat_map (counted_positions_in m pass P H) words
 
 -- two windows have the same signs
 abbrev pub same_signs : List ℕ → List ℕ → Bool
 same_signs u v = is_eq (slice_cmp nat_cmp u v)
 
 -- a set of windows in the order of signs, with one more
-abbrev pub with_window : List (List ℕ × Unit {0}) → Sight → List (List ℕ × Unit {0})
+abbrev pub with_window : List (List ℕ × Unit {0}) → CountedPosition → List (List ℕ × Unit {0})
 with_window windows s = put (slice_cmp nat_cmp) s.window (tt {0}) windows
 
--- the candidates: the windows that are seen, in the order of signs, each once
-abbrev pub candidates : List Sight → List (List ℕ)
-candidates seen = map (λ e. e.0) (fold with_window [] seen)
+-- the candidates: the windows that are counted, in the order of signs, each once
+abbrev pub candidates : List CountedPosition → List (List ℕ)
+candidates counted = map (λ e. e.0) (fold with_window [] counted)
 
 -- the sum of the weights of the good positions, and that of the bad ones, whose window is u
-abbrev pub good_of : List Sight → List ℕ → ℕ
-good_of seen u = sum_by (λ s. if same_signs u s.window && s.good then s.weight else 0) seen
+abbrev pub good_of : List CountedPosition → List ℕ → ℕ
+good_of counted u = sum_by (λ s. if same_signs u s.window && s.good then s.weight else 0) counted
 
-abbrev pub bad_of : List Sight → List ℕ → ℕ
-bad_of seen u = sum_by (λ s. if same_signs u s.window && not s.good then s.weight else 0) seen
+abbrev pub bad_of : List CountedPosition → List ℕ → ℕ
+bad_of counted u = sum_by (λ s. if same_signs u s.window && not s.good then s.weight else 0) counted
 
 -- a candidate with its sums of good and bad weights
 pub record Candidate : Type 0 where
@@ -75,6 +75,6 @@ pub record Candidate : Type 0 where
   pub good : ℕ
   pub bad : ℕ
 
--- the candidates of what is seen, with their sums
-abbrev pub tally : List Sight → List Candidate
-tally seen = map (λ u. record { window = u; good = good_of seen u; bad = bad_of seen u }) (candidates seen)
+-- the candidates of what is counted, with their sums
+abbrev pub tally : List CountedPosition → List Candidate
+tally counted = map (λ u. record { window = u; good = good_of counted u; bad = bad_of counted u }) (candidates counted)
