@@ -23,7 +23,8 @@ pub fn raise_by_list(
     requires start { start ≤ WORD_LETTERS_MAX + 2 }
     requires len { len ≤ WORD_LETTERS_MAX + 2 }
     ensures values { RaisesValues (by_list (value_by len) start (list_of trie.now.records head)) out.old out.new }
-    ensures covers { RaisesCovers (by_list (cover_by pass.now len) start (list_of trie.now.records head)) out.old out.new }
+    ensures covers { RaisesCovers (by_list (cover_by pass.now len) start (list_of trie.now.records head)) out.old
+        out.new }
 {
     let mut at = head;
     while let Some((value, dot, next)) = trie.outputs().first(at) {
@@ -38,7 +39,8 @@ fn raise_at(value: u8, dot: u8, start: usize, len: usize, pass: &Pass, out: &mut
     requires start { start ≤ WORD_LETTERS_MAX + 2 }
     requires len { len ≤ WORD_LETTERS_MAX + 2 }
     ensures values { RaisesAt (start + dot) (value_by len (value, dot)) (values_of out.old) (values_of out.new) }
-    ensures covers { RaisesAt (start + dot) (cover_by pass.now len (value, dot)) (covers_of out.old) (covers_of out.new) }
+    ensures covers { RaisesAt (start + dot) (cover_by pass.now len (value, dot)) (covers_of out.old)
+        (covers_of out.new) }
 {
     let covered = pass.level <= value && pass.has_within(len, dot);
     out.raise(start + usize::from(dot), given(value), covered);

@@ -29,8 +29,10 @@ fn raise_by_strings(trie: &PatternTrie, w: &[Sign], start: usize, pass: &Pass, o
     requires len { length w.now ≤ WORD_LETTERS_MAX + 2 }
     requires signs { SignsWithin trie.now.signs w.now }
     requires inside { start ≤ length w.now }
-    ensures values { RaisesValues (by_strings value_by (lists_in trie.now) start [] (drop start w.now)) out.old out.new }
-    ensures covers { RaisesCovers (by_strings (cover_by pass.now) (lists_in trie.now) start [] (drop start w.now)) out.old out.new }
+    ensures values { RaisesValues (by_strings value_by (lists_in trie.now) start [] (drop start w.now)) out.old
+        out.new }
+    ensures covers { RaisesCovers (by_strings (cover_by pass.now) (lists_in trie.now) start [] (drop start w.now))
+        out.old out.new }
 {
     let mut at = None;
     for stop in start..w.len() {

@@ -27,7 +27,8 @@ pub fn hyphenate(
     requires len { (1 ≤ len) × (len ≤ LENGTH_MAX) }
     requires dot { dot ≤ len }
     ensures values { HasValues trie.now.patterns w.entry.signs.now out.new.values }
-    ensures covers { HasCovers (pass_at level len dot) trie.now.patterns trie.now.hopeless w.entry.signs.now out.new.covers }
+    ensures covers { HasCovers (pass_at level len dot) trie.now.patterns trie.now.hopeless w.entry.signs.now
+        out.new.covers }
 {
     let _kept = trie.outputs();
     *out = WordState::new();

@@ -44,7 +44,8 @@ impl PackedEngine {
     pub fn new(alloc: Global, signs: u16, start: &PatternSet) -> Result<PackedEngine, AllocError>
         requires signs { (1 ≤ signs) × (signs ≤ SIGNS_MAX) }
         requires known { SignsUpTo signs start.now }
-        ensures { IfOk result (λ engine. meaning_of engine ≡ new_engine signs start.now (Some (entered_all signs start.now))) }
+        ensures { IfOk result (λ engine. meaning_of engine
+            ≡ new_engine signs start.now (Some (entered_all signs start.now))) }
     {
         Ok(PackedEngine {
             trie: trie_of(alloc, signs, start)?,

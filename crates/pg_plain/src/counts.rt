@@ -20,7 +20,8 @@ pub fn add(
     ensures ok { OnOk result (counts.new.entries ≡ with_count counts.old.entries window good weight) }
     ensures there { is_counted counts.old.entries window ≡ true → IsOk result }
     ensures err { OnErr result (counts.new.entries ≡ counts.old.entries) }
-    ensures windows { (good : List ℕ → Bool) → good window ≡ true → list_all (λ e. good e.0) counts.old.entries ≡ true → list_all (λ e. good e.0) counts.new.entries ≡ true }
+    ensures windows { (good : List ℕ → Bool) → good window ≡ true → list_all (λ e. good e.0) counts.old.entries
+        ≡ true → list_all (λ e. good e.0) counts.new.entries ≡ true }
 {
     if add_there(counts, &window, good, weight) {
         return Ok(());

@@ -65,7 +65,8 @@ impl Index {
     /// Enters a string. The others stay.
     pub fn enter(&mut self, signs: &[Sign])
         ensures entered { is_indexed self.new.fronts.items self.new.strings.items signs.now ≡ true }
-        ensures kept { (q : List ℕ) → is_indexed self.old.fronts.items self.old.strings.items q ≡ true → is_indexed self.new.fronts.items self.new.strings.items q ≡ true }
+        ensures kept { (q : List ℕ) → is_indexed self.old.fronts.items self.old.strings.items q ≡ true
+            → is_indexed self.new.fronts.items self.new.strings.items q ≡ true }
     {
         for k in 0..signs.len() {
             let slot = self.slot(&signs[..k + 1]);

@@ -25,8 +25,10 @@ fn value_at(map: &BTreeMap<Place, u8>, place: &Place) -> u8
 pub fn raise_in(map: &mut BTreeMap<Place, u8>, place: Place, value: u8) -> Result<(), AllocError>
     ensures ok { OnOk result (map.new.entries ≡ raise map.old.entries place value) }
     ensures err { OnErr result (map.new.entries ≡ map.old.entries) }
-    ensures kept { list_all is_entry map.old.entries ≡ true → is_entry (place, value) ≡ true → list_all is_entry map.new.entries ≡ true }
-    ensures places { (good : List ℕ × ℕ → Bool) → list_all (λ e. good e.0) map.old.entries ≡ true → good place ≡ true → list_all (λ e. good e.0) map.new.entries ≡ true }
+    ensures kept { list_all is_entry map.old.entries ≡ true → is_entry (place, value) ≡ true
+        → list_all is_entry map.new.entries ≡ true }
+    ensures places { (good : List ℕ × ℕ → Bool) → list_all (λ e. good e.0) map.old.entries ≡ true → good place
+        ≡ true → list_all (λ e. good e.0) map.new.entries ≡ true }
 {
     let held = value_at(map, &place);
     map.insert(place, value.max(held))?;
@@ -37,7 +39,8 @@ pub fn raise_in(map: &mut BTreeMap<Place, u8>, place: Place, value: u8) -> Resul
 pub fn put_in(set: &mut BTreeMap<Place, ()>, place: Place) -> Result<(), AllocError>
     ensures ok { OnOk result (set.new.entries ≡ put place_cmp place (tt {0}) set.old.entries) }
     ensures err { OnErr result (set.new.entries ≡ set.old.entries) }
-    ensures places { (good : List ℕ × ℕ → Bool) → list_all (λ e. good e.0) set.old.entries ≡ true → good place ≡ true → list_all (λ e. good e.0) set.new.entries ≡ true }
+    ensures places { (good : List ℕ × ℕ → Bool) → list_all (λ e. good e.0) set.old.entries ≡ true → good place
+        ≡ true → list_all (λ e. good e.0) set.new.entries ≡ true }
 {
     set.insert(place, ())?;
     Ok(())

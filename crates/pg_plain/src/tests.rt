@@ -42,7 +42,8 @@ fn count<E: Engine>(e: &mut E) -> Result<(), AllocError>
     requires signs { (E.meaning e.old).signs ≡ 4 }
     requires len { (E.meaning e.old).pass.len ≡ 2 }
     requires none { (E.meaning e.old).counts ≡ [] }
-    ensures { OnOk result (E.meaning e.new ≡ record (E.meaning e.old) { counts = (2 ∷ 3 ∷ [], (0, 1)) ∷ (3 ∷ 2 ∷ [], (1, 0)) ∷ [] }) }
+    ensures { OnOk result (E.meaning e.new
+        ≡ record (E.meaning e.old) { counts = (2 ∷ 3 ∷ [], (0, 1)) ∷ (3 ∷ 2 ∷ [], (1, 0)) ∷ [] }) }
 {
     e.count(&[3, 2], true, 1)?;
     e.count(&[2, 3], false, 1)

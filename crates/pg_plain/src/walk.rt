@@ -32,7 +32,8 @@ pub fn walk<F: PlaceEntry>(
     requires strings { list_all (λ e. is_string e.0) map.now.entries ≡ true }
     requires indexed { AreIndexed index.now.fronts.items index.now.strings.items map.now.entries }
     ensures values { RaisesValues (greatest_at (value_by F.given) (applies w.now) map.now.entries) out.old out.new }
-    ensures covers { RaisesCovers (greatest_at (cover_by F.covers_at pass.now) (applies w.now) map.now.entries) out.old out.new }
+    ensures covers { RaisesCovers (greatest_at (cover_by F.covers_at pass.now) (applies w.now) map.now.entries)
+        out.old out.new }
 {
     for i in 0..w.len() {
         raise_from(map, index, w, i, pass, out);
@@ -53,7 +54,8 @@ fn raise_from<F: PlaceEntry>(
     requires strings { list_all (λ e. is_string e.0) map.now.entries ≡ true }
     requires indexed { AreIndexed index.now.fronts.items index.now.strings.items map.now.entries }
     ensures values { RaisesValues (greatest_at (value_by F.given) (begins w.now i) map.now.entries) out.old out.new }
-    ensures covers { RaisesCovers (greatest_at (cover_by F.covers_at pass.now) (begins w.now i) map.now.entries) out.old out.new }
+    ensures covers { RaisesCovers (greatest_at (cover_by F.covers_at pass.now) (begins w.now i) map.now.entries)
+        out.old out.new }
 {
     for n in 1..PATTERN_SIGNS_MAX + 1 {
         if n > w.len() - i {
@@ -79,8 +81,10 @@ fn raise_by_string<F: PlaceEntry>(
     requires few { length q.now ≤ 32 }
     requires inside { i ≤ WORD_LETTERS_MAX + 2 }
     requires indexed { AreIndexed index.now.fronts.items index.now.strings.items map.now.entries }
-    ensures values { RaisesValues (greatest_at (value_by F.given) (has_signs_at q.now i) map.now.entries) out.old out.new }
-    ensures covers { RaisesCovers (greatest_at (cover_by F.covers_at pass.now) (has_signs_at q.now i) map.now.entries) out.old out.new }
+    ensures values { RaisesValues (greatest_at (value_by F.given) (has_signs_at q.now i) map.now.entries) out.old
+        out.new }
+    ensures covers { RaisesCovers (greatest_at (cover_by F.covers_at pass.now) (has_signs_at q.now i)
+        map.now.entries) out.old out.new }
     ensures ends { result ≡ false → list_any (λ e. goes_on q.now e.0.0) map.now.entries ≡ false }
 {
     let slot = index.slot(q);
@@ -103,8 +107,10 @@ fn look_up<F: PlaceEntry>(
 ) -> bool
     requires few { length q.now ≤ 32 }
     requires inside { i ≤ WORD_LETTERS_MAX + 2 }
-    ensures values { RaisesValues (greatest_at (value_by F.given) (has_signs_at q.now i) map.now.entries) out.old out.new }
-    ensures covers { RaisesCovers (greatest_at (cover_by F.covers_at pass.now) (has_signs_at q.now i) map.now.entries) out.old out.new }
+    ensures values { RaisesValues (greatest_at (value_by F.given) (has_signs_at q.now i) map.now.entries) out.old
+        out.new }
+    ensures covers { RaisesCovers (greatest_at (cover_by F.covers_at pass.now) (has_signs_at q.now i)
+        map.now.entries) out.old out.new }
     ensures ends { result ≡ false → list_any (λ e. goes_on q.now e.0.0) map.now.entries ≡ false }
 {
     let first = Place::new(q, 0);
@@ -127,7 +133,8 @@ fn raise_by_entry<F: PlaceEntry>(
 )
     requires { i ≤ WORD_LETTERS_MAX + 2 }
     ensures values { RaisesAt (i + place.now.1) (F.given entry.now) (values_of out.old) (values_of out.new) }
-    ensures covers { RaisesAt (i + place.now.1) (cover_by F.covers_at pass.now (place.now, entry.now)) (covers_of out.old) (covers_of out.new) }
+    ensures covers { RaisesAt (i + place.now.1) (cover_by F.covers_at pass.now (place.now, entry.now))
+        (covers_of out.old) (covers_of out.new) }
 {
     let covered = entry.covers(pass.level) && pass.has_within(place.signs().len(), place.dot());
     out.raise(i + usize::from(place.dot()), entry.value(), covered);

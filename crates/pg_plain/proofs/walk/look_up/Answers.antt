@@ -11,7 +11,7 @@ use Rattle.pg_plain.proofs.walk.look_up.Goals as goal
 pub loop-place-init : goal.loop-place-init
 loop-place-init g c =
     string_begins (value_by g.F.PlaceEntry.given) (cover_by g.F.PlaceEntry.covers_at c.args.pass.now) c.args.q.now c.args.i c.args.map.now.entries c.new-first.result c.into_iter-place-iterator.result c.args.out.now c.new-first.ensures
-    (sorted_from place_cmp c.args.map.now.entries c.range-place-items.ensures.ordered)  (c.into_iter-place-iterator.ensures.into_iter_gives ∙ c.range-place-items.ensures.between tt)
+    (sorted_from place_cmp c.args.map.now.entries c.range-place-items.ensures.ordered) (c.into_iter-place-iterator.ensures.into_iter_gives ∙ c.range-place-items.ensures.between tt)
 
 pub returns-then-ne-clause-values : goal.returns-then-ne-clause-values
 returns-then-ne-clause-values g c =
