@@ -12,7 +12,7 @@ use Rattle.pg_top.specs.Moments.{Moment, OfFiles, Puts, PutsPart, PutRose, PutOr
 use Rattle.pg_top.specs.Outcomes.{Ends, Writing, refuses}
 use Rattle.pg_top.specs.PrintedLines.{usage_line, refused_line, reading_line, writing_line}
 use Rattle.pg_top.specs.Readings.{first_end}
-use Rattle.pg_top.specs.Requests.{Request, ToGenerate}
+use Rattle.pg_top.specs.Requests.{Request, ToGenerate, ToAudit}
 use Rattle.pg_top.specs.Stops.{StopsReading, PutsAnswer, PutsStop, Finishes}
 use Rattle.pg_top.specs.Writings.{written_names, after_all, StandsAt, WroteAll, StoppedAt}
 use Rattle.pg_top.specs.declared.answers.Status.{Status}
@@ -41,9 +41,11 @@ no_memory status end is = subst IsEnd is end
 -- of every command these may be answered
 pub may_fault : (request : Request) → MayAnswer (Some request) Fault
 may_fault (ToGenerate n) = tt
+may_fault (ToAudit n) = tt
 
 pub may_want : (request : Request) → MayAnswer (Some request) Memory
 may_want (ToGenerate n) = tt
+may_want (ToAudit n) = tt
 
 answered_as : (asked : Option Request) (status : Status) (old new : Moment) → OfFiles old new (λ before after. DoesAll old new status before after (outcome (file_at before) asked)) → IsAnswered asked status old new
 answered_as asked Done old new h = h

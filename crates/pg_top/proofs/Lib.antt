@@ -7,5 +7,6 @@ pub mod Orders
 pub mod InputOrder
 pub mod WrittenNames
 pub mod Calls
+pub mod Judgements
 pub mod TooFewWords
 pub mod OutcomeRows

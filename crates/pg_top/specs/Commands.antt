@@ -3,10 +3,10 @@ use Rattle.std.specs.Prelude.{ℕ, List, String, map, string_bytes, Option}
 use Rattle.std.specs.Option.{option_map}
 use denote.Ref.{Bor}
 use Rattle.std.specs.declared.alloc.Global.{Global}
-use Rattle.pg_top.specs.Requests.{FileNames, Request, ToGenerate, request_of}
+use Rattle.pg_top.specs.Requests.{FileNames, Request, ToGenerate, ToAudit, request_of}
 use Rattle.pg_top.specs.declared.commands.Names.{Names}
 use Rattle.pg_top.specs.declared.commands.Command.{Command}
-use Rattle.pg_top.specs.declared.commands.Command.TheVariants.{Generate}
+use Rattle.pg_top.specs.declared.commands.Command.TheVariants.{Generate, Audit}
 
 -- a name that may be asked for as its bytes
 abbrev pub name_now : Option (Bor (List ℕ)) → Option (List ℕ)
@@ -19,6 +19,7 @@ texts_of n = record { dict = n.dict.now; patterns = n.patterns.now; output = n.o
 -- the command as what it asks for
 abbrev pub asked_by : Command → Request
 asked_by (Generate names) = ToGenerate (texts_of names)
+asked_by (Audit names) = ToAudit (texts_of names)
 
 -- words as their bytes
 abbrev pub words_of : List (String Global) → List (List ℕ)

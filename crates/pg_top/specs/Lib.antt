@@ -7,9 +7,11 @@ pub mod Readings
 pub mod Selection
 pub mod Runs
 pub mod Selecting
+pub mod Auditing
 pub mod Calls
 pub mod Writings
 pub mod Moments
 pub mod Faults
 pub mod Answers
 pub mod Stops
+pub mod Verdicts

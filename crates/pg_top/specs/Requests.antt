@@ -1,10 +1,10 @@
 -- What the words of a call ask for.
 use Rattle.std.specs.Prelude.{ℕ, nat_lt, nat_eq, Bool, true, not, ◌&&◌, if◌then◌else◌, List, [], ◌∷◌, ◌++◌, length, Option, None, Some, codes}
 use Rattle.std.specs.List.{list_all, starts_with}
-use Rattle.std.specs.Option.{option_and_then, option_map_or}
+use Rattle.std.specs.Option.{option_and_then, option_map_or, is_none}
 use Rattle.std.specs.Str.{bytes_eq}
 
--- the names of the files of `generate`, each as its bytes; those of the hyphenated list and of the cells file where they are asked for
+-- the names of the files of `generate` and `audit`, each as its bytes; those of the hyphenated list and of the cells file where they are asked for
 pub record FileNames : Type 0 where
   pub dict : List ℕ
   pub patterns : List ℕ
@@ -18,6 +18,7 @@ pub record FileNames : Type 0 where
 -- what words ask for
 pub data Request : Type 0 where
   ToGenerate : FileNames → Request
+  ToAudit : FileNames → Request
 
 -- one for what is asked for by an option, and none where it is not
 abbrev pub if_asked : {X : Type 0} → Option (List ℕ) → (List ℕ → X) → List X
@@ -73,7 +74,13 @@ names_in words = None
 abbrev pub to_generate : FileNames → Option Request
 to_generate n = if are_taken n then Some (ToGenerate n) else None
 
+-- `audit` with the same names, which may be equal, and then `--pattmp FILE`
+abbrev pub to_audit : FileNames → Option Request
+to_audit n = if list_all is_name (input_names n ++ output_names n) && is_none n.cells then Some (ToAudit n) else None
+
 -- what words ask for
 abbrev pub request_of : List (List ℕ) → Option Request
 request_of [] = None
-request_of (word ∷ words) = if bytes_eq word (codes "generate") then option_and_then to_generate (names_in words) else None
+request_of (word ∷ words) =
+    if bytes_eq word (codes "generate") then option_and_then to_generate (names_in words)
+    else (if bytes_eq word (codes "audit") then option_and_then to_audit (names_in words) else None)

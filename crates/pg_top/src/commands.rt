@@ -1,6 +1,6 @@
 //! The commands.
 
-/// The names that `generate` is given.
+/// The names that `generate` and `audit` are given. `audit` reads the files that `generate` writes.
 #[derive(Clone, Copy, Debug)]
 pub struct Names<'a> {
     /// The dictionary.
@@ -26,4 +26,6 @@ pub struct Names<'a> {
 pub enum Command<'a> {
     /// To select patterns and write them.
     Generate(Names<'a>),
+    /// To compare given files with those that would be written.
+    Audit(Names<'a>),
 }

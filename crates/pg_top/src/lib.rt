@@ -2,8 +2,10 @@
 #![tactic(auto)]
 
 pub mod answers;
+mod audit;
 pub mod commands;
 pub mod inputs;
+mod no_lines;
 mod outputs;
 mod printed;
 mod puts;

@@ -18,7 +18,7 @@ pub const READING: &[u8] = b"fault: reading ";
 pub const WRITING: &[u8] = b"fault: writing ";
 
 /// Appends a text and a number to a line.
-fn push_number(line: &mut Vec<u8>, text: &[u8], number: u64) -> Result<(), AllocError>
+pub fn push_number(line: &mut Vec<u8>, text: &[u8], number: u64) -> Result<(), AllocError>
     ensures { OnOk result (line.new.items ≡ line.old.items ++ text.now ++ decimal number) }
 {
     let mut digits = Buffer::new();
@@ -64,7 +64,7 @@ pub fn push_work(lines: &mut Vec<u8>, passes: u64, layout: &Layout) -> Result<()
 }
 
 /// Appends the words for a file in a line of refusal or of `no`.
-fn push_word(line: &mut Vec<u8>, input: Input) -> Result<(), AllocError>
+pub fn push_word(line: &mut Vec<u8>, input: Input) -> Result<(), AllocError>
     ensures { OnOk result (line.new.items ≡ line.old.items ++ word_of input) }
 {
     match input {

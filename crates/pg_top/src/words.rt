@@ -2,7 +2,7 @@
 ghost use Rattle.std.specs.Prelude.{◌≡◌, ◌≤◌, ◌++◌, ◌∷◌, [], length, drop};
 ghost use Rattle.std.specs.List.{list_all};
 ghost use Rattle.std.specs.Option.{option_map, option_and_then};
-ghost use Rattle.pg_top.specs.Requests.{is_name as is_name_word, if_asked, input_names, output_names, differs_from, outputs_differ, are_taken as are_taken_names, with_option as with_option_of, with_options as with_options_of, six_names, names_in, to_generate, request_of};
+ghost use Rattle.pg_top.specs.Requests.{is_name as is_name_word, if_asked, input_names, output_names, differs_from, outputs_differ, are_taken as are_taken_names, with_option as with_option_of, with_options as with_options_of, six_names, names_in, to_generate, to_audit, request_of};
 ghost use Rattle.pg_top.specs.Commands.{name_now, texts_of, asked_by, words_of};
 
 use crate::commands::{Command, Names};
@@ -188,18 +188,30 @@ fn generate(words: &[String]) -> Option<Command<'_>>
     }
 }
 
+/// What the words behind `audit` ask for.
+fn audit(words: &[String]) -> Option<Command<'_>>
+    ensures { option_map asked_by result ≡ option_and_then to_audit (names_in (words_of words.now)) }
+{
+    let names = names(words)?;
+    if are_names(&names) && names.cells.is_none() {
+        Some(Command::Audit(names))
+    } else {
+        None
+    }
+}
+
 /// What the words, without the program's name, ask for; none exactly where they are no command. Commands are
 /// `generate DICT PATTERNS OUT TRANSLATE PARAMS REPORT`, then `--pattmp FILE` and `--cells FILE`, each at most once and in either
-/// order. It takes no memory.
+/// order, and `audit` with the same six names and at most one `--pattmp FILE`. It takes no memory.
 pub fn command(words: &[String]) -> Option<Command<'_>>
     ensures { option_map asked_by result ≡ request_of (words_of words.now) }
 {
     if words.is_empty() {
         return None;
     }
-    if words[0].as_str() == "generate" {
-        generate(&words[1..])
-    } else {
-        None
+    match words[0].as_str() {
+        "generate" => generate(&words[1..]),
+        "audit" => audit(&words[1..]),
+        _ => None,
     }
 }
