@@ -1,18 +1,14 @@
 -- The hyphenated list is a dictionary file of its words.
-use Rattle.std.proofs.Common.{◌≡◌, ℕ, ◌+◌, ◌-◌, ◌≤◌, Bool, true, false, not, List, [], ◌∷◌, length, map, Some, Ok, refl, sym, ap, ◌∙◌, arith, inl, inr, suc, zero}
-use Rattle.std.specs.Prelude.{slice_index, All, ◌==◌, ◌||◌}
-use Rattle.std.specs.List.{AllByRecursion, list_any, list_all}
-use Rattle.std.proofs.lemmas.Bool.{cases_Bool, eqb-true}
+use Rattle.std.proofs.Common.{◌≡◌, ℕ, ◌+◌, ◌≤◌, List, [], ◌∷◌, length, map, Some, Ok, refl, sym, ap, ◌∙◌, arith, inl, inr}
+use Rattle.std.specs.Prelude.{All}
+use Rattle.std.specs.List.{AllByRecursion}
+use Rattle.std.proofs.lemmas.Bool.{cases_Bool}
 use Rattle.std.proofs.lemmas.List.Elements.{All-head, All-tail}
-use Rattle.std.proofs.lemmas.List.Folds.{list_any-append}
 use Rattle.pg_types.specs.declared.limits.TheConstants.{FILE_MAX, WORD_LETTERS_MAX}
 use Rattle.pg_types.specs.declared.marks.Mark.{Mark}
-use Rattle.pg_types.specs.Lines.{is_line_feed}
 use Rattle.pg_translate.specs.Alphabets.{Alphabet, letters_of}
-use Rattle.pg_translate.specs.Spellings.{is_space}
 use Rattle.pg_translate.specs.Tokens.{Token}
-use Rattle.pg_translate.specs.Items.{IsItem, joined}
-use Rattle.pg_translate.specs.declared.items.Place.TheVariants.{Dictionary}
+use Rattle.pg_translate.specs.Items.{joined}
 use Rattle.pg_dict.specs.Word.{Word, IsWord, SignsAtMost}
 use Rattle.pg_dict.specs.Words.{line_of, line_word, words}
 use Rattle.pg_dict.specs.Written.{AreMarksOf, word_tokens, letters_among, IsLine, file_of, LinesGive}
