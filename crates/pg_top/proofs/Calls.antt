@@ -12,9 +12,9 @@ use Rattle.pg_top.specs.Moments.{Moment, OfFiles, Puts, PutsPart, PutRose, PutOr
 use Rattle.pg_top.specs.Outcomes.{Ends, Writing, refuses}
 use Rattle.pg_top.specs.PrintedLines.{usage_line, refused_line, reading_line, writing_line}
 use Rattle.pg_top.specs.Readings.{first_end}
-use Rattle.pg_top.specs.Requests.{Request, ToGenerate}
+use Rattle.pg_top.specs.Requests.{Request, ToGenerate, ToAudit}
 use Rattle.pg_top.specs.Stops.{StopsReading, PutsAnswer, PutsStop, Finishes}
-use Rattle.pg_top.specs.Writings.{names_in, after_all, StandsAt, WroteAll, StoppedAt}
+use Rattle.pg_top.specs.Writings.{written_names, after_all, StandsAt, WroteAll, StoppedAt}
 use Rattle.pg_top.specs.declared.answers.Status.{Status}
 use Rattle.pg_top.specs.declared.answers.Status.TheVariants.{Done, Yes, No, Usage, Refused, Fault, Memory}
 use Rattle.pg_top.specs.declared.inputs.Stop.{Stop}
@@ -41,9 +41,11 @@ no_memory status end is = subst IsEnd is end
 -- of every command these may be answered
 pub may_fault : (request : Request) → MayAnswer (Some request) Fault
 may_fault (ToGenerate n) = tt
+may_fault (ToAudit n) = tt
 
 pub may_want : (request : Request) → MayAnswer (Some request) Memory
 may_want (ToGenerate n) = tt
+may_want (ToAudit n) = tt
 
 answered_as : (asked : Option Request) (status : Status) (old new : Moment) → OfFiles old new (λ before after. DoesAll old new status before after (outcome (file_at before) asked)) → IsAnswered asked status old new
 answered_as asked Done old new h = h
@@ -165,7 +167,7 @@ stopped_call request s0 s1 o0 o1 (stop.Unread name) answer may keeps stops puts 
 stopped_call request s0 s1 o0 o1 stop.Memory answer may keeps stops puts = memory_call request s0 s1 o0 o1 answer keeps puts.0 puts.1
 
 -- a file could not be written
-write_failed : (request : Request) (writing : Writing) (lines : List ℕ) (s0 s1 s2 : FilesShown) (o0 o1 : SinkShown) (place : ℕ) (stopped : StoppedAt s1 s2 writing place) → names_in writing ≡ writes_of request → KeepsHeld s0.held s1.held → NoneFell s0.write_faults s1.write_faults → IfSome s1.held (λ files. outcome_of (file_at files) request ≡ Ends Done writing lines)
+write_failed : (request : Request) (writing : Writing) (lines : List ℕ) (s0 s1 s2 : FilesShown) (o0 o1 : SinkShown) (place : ℕ) (stopped : StoppedAt s1 s2 writing place) → written_names writing ≡ writes_of request → KeepsHeld s0.held s1.held → NoneFell s0.write_faults s1.write_faults → IfSome s1.held (λ files. outcome_of (file_at files) request ≡ Ends Done writing lines)
     → PutOrRose o0 o1 (writing_line stopped.write.0) → IsCall (Some request) Fault (s0, o0) (s2, o1)
 write_failed request writing lines s0 s1 s2 o0 o1 place stopped named keeps fell told line =
     let name : List ℕ = stopped.write.0 in
@@ -190,7 +192,7 @@ write_failed request writing lines s0 s1 s2 o0 o1 place stopped named keeps fell
     }
 
 -- a command wrote its files and put its lines
-pub finished_call : (request : Request) (writing : Writing) (lines : List ℕ) (s0 s1 s2 : FilesShown) (o0 o1 : SinkShown) (answer : Status) → MayAnswer (Some request) Done → names_in writing ≡ writes_of request → KeepsHeld s0.held s1.held → NoneFell s0.write_faults s1.write_faults → IfSome s1.held (λ files. outcome_of (file_at files) request ≡ Ends Done writing lines)
+pub finished_call : (request : Request) (writing : Writing) (lines : List ℕ) (s0 s1 s2 : FilesShown) (o0 o1 : SinkShown) (answer : Status) → MayAnswer (Some request) Done → written_names writing ≡ writes_of request → KeepsHeld s0.held s1.held → NoneFell s0.write_faults s1.write_faults → IfSome s1.held (λ files. outcome_of (file_at files) request ≡ Ends Done writing lines)
     → Finishes writing lines answer (s1, o0) (s2, o1) → IsCall (Some request) answer (s0, o0) (s2, o1)
 finished_call request writing lines s0 s1 s2 o0 o1 answer may named keeps fell told (inl h) = ended_call request Done writing lines s0 s1 s2 o0 o1 answer tt may keeps told h.0 h.1
 finished_call request writing lines s0 s1 s2 o0 o1 answer may named keeps fell told (inr h) = subst (λ (status : Status). IsCall (Some request) status (s0, o0) (s2, o1)) (sym h.0) (write_failed request writing lines s0 s1 s2 o0 o1 h.1 h.2 named keeps fell told h.3)

@@ -16,10 +16,11 @@ use Rattle.pg_top.specs.Calls.{outcome_of, finished}
 use Rattle.pg_top.specs.Outcomes.{unless_accepted, refuses}
 use Rattle.pg_top.specs.Readings.{Held, Reading, read_as, meant, input_file}
 use Rattle.pg_top.specs.Requests.{FileNames, ToGenerate}
-use Rattle.pg_top.specs.Selecting.{table_in, parameters_in, start_in, words_in, inputs_of, generated, HasInputs}
+use Rattle.pg_top.specs.Selecting.{table_in, inputs_in, inputs_of, generated, HasInputs}
 use Rattle.pg_top.specs.Stops.{StopsAt, StopsReading}
 use Rattle.pg_top.specs.declared.inputs.Input.{Input}
 use Rattle.pg_top.specs.declared.inputs.Input.TheVariants as input
+use Rattle.pg_top.specs.declared.reading.Inputs.{Inputs}
 use Rattle.pg_top.specs.declared.inputs.Stop.{Stop}
 use Rattle.pg_top.specs.declared.inputs.Stop.TheVariants.{Refused, Unread, Memory}
 use Rattle.pg_top.proofs.Orders.{AreAccepted, accepted_all, mapped, both, held_later, stopped_behind}
@@ -87,24 +88,29 @@ module _ (n : FileNames) (t : Alphabet) where
           (two.0, (two.1.0, (accepted input.Patterns (start (table_in (file_at files) n)) (file_at files n.patterns) S (under_table start files n.patterns (Some (Ok S)) h.0.0 h.1), tt)))
 
       module _ (ws : List Word) where
+        abbrev all : Inputs
+        all = record { table = t; params = p; start = S; dictionary = ws }
+
         -- once all are read they are accepted
-        pub inputs_accepted : (files : FileMap) → HasInputs (file_at files) n t p S ws → AreAccepted (file_at files) (inputs_of n)
+        pub inputs_accepted : (files : FileMap) → HasInputs (file_at files) n all → AreAccepted (file_at files) (inputs_of n)
         inputs_accepted files h =
-            let three : AreAccepted (file_at files) (translate_input n ∷ parameters_input n ∷ patterns_input n ∷ []) = three_accepted files ((h.0, h.1), h.2) in
-            (three.0, (three.1.0, (three.1.1.0, (accepted input.Dictionary (words (table_in (file_at files) n)) (file_at files n.dict) ws (under_table words files n.dict (Some (Ok ws)) h.0 h.3), tt))))
+            let three : AreAccepted (file_at files) (translate_input n ∷ parameters_input n ∷ patterns_input n ∷ []) = three_accepted files ((h.table, h.params), h.start) in
+            (three.0, (three.1.0, (three.1.1.0, (accepted input.Dictionary (words (table_in (file_at files) n)) (file_at files n.dict) ws (under_table words files n.dict (Some (Ok ws)) h.table h.words), tt))))
 
-        -- and this is what is finished with them
-        pub finished_with : (files : FileMap) → HasInputs (file_at files) n t p S ws → finished (file_at files) (ToGenerate n) ≡ generated n t p S ws
-        finished_with files h =
-            let is_t : table_in (file_at files) n ≡ t = is_table files h.0 in
-            let is_p : parameters_in (file_at files) n ≡ p = means parameters _ (file_at files) n.params p h.1 in
-            let is_S : start_in (file_at files) n ≡ S = means (start (table_in (file_at files) n)) [] (file_at files) n.patterns S (under_table start files n.patterns (Some (Ok S)) h.0 h.2) in
-            let is_ws : words_in (file_at files) n ≡ ws = means (words (table_in (file_at files) n)) [] (file_at files) n.dict ws (under_table words files n.dict (Some (Ok ws)) h.0 h.3) in
-            (λ i. generated n (is_t i) (is_p i) (is_S i) (is_ws i))
+        -- and this is what is given
+        pub given : (files : FileMap) → HasInputs (file_at files) n all → inputs_in (file_at files) n ≡ all
+        given files h =
+            let is_t : table_in (file_at files) n ≡ t = is_table files h.table in
+            let is_p : (inputs_in (file_at files) n).params ≡ p = means parameters _ (file_at files) n.params p h.params in
+            let is_S : (inputs_in (file_at files) n).start ≡ S = means (start (table_in (file_at files) n)) [] (file_at files) n.patterns S (under_table start files n.patterns (Some (Ok S)) h.table h.start) in
+            let is_ws : (inputs_in (file_at files) n).dictionary ≡ ws = means (words (table_in (file_at files) n)) [] (file_at files) n.dict ws (under_table words files n.dict (Some (Ok ws)) h.table h.words) in
+            (λ i. record { table = is_t i; params = is_p i; start = is_S i; dictionary = is_ws i })
 
-        -- so this is the outcome of `generate`
-        pub outcome_generated : (files : FileMap) → HasInputs (file_at files) n t p S ws → outcome_of (file_at files) (ToGenerate n) ≡ generated n t p S ws
-        outcome_generated files h = ap (λ end. unwrap_or end (finished (file_at files) (ToGenerate n))) (accepted_all (file_at files) (inputs_of n) (inputs_accepted files h)) ∙ finished_with files h
+-- where all are read the outcome of `generate` is what it writes and prints
+pub outcome_generated : (n : FileNames) (i : Inputs) (files : FileMap) → HasInputs (file_at files) n i → outcome_of (file_at files) (ToGenerate n) ≡ generated n i
+outcome_generated n i files h =
+    ap (λ end. unwrap_or end (finished (file_at files) (ToGenerate n))) (accepted_all (file_at files) (inputs_of n) (inputs_accepted n i.table i.params i.start i.dictionary files h))
+    ∙ ap (generated n) (given n i.table i.params i.start i.dictionary files h)
 
 -- one input is read after the other, and the files stay as they are
 pub two_read : (n : FileNames) (t : Alphabet) (p : Parameters) (h1 h2 : Option FileMap) → KeepsHeld h1 h2 → IfSome h1 (HasTable n t) → IfSome h2 (λ files. read_as parameters (file_at files) n.params ≡ Some (Ok p)) → IfSome h2 (HasTwo n t p)
@@ -113,9 +119,9 @@ two_read n t p h1 h2 keeps one more = both h2 (HasTable n t) (λ files. read_as 
 pub three_read : (n : FileNames) (t : Alphabet) (p : Parameters) (S : List ((List ℕ × ℕ) × ℕ)) (h2 h3 : Option FileMap) → KeepsHeld h2 h3 → IfSome h2 (HasTwo n t p) → IfSome h3 (λ files. read_as (start t) (file_at files) n.patterns ≡ Some (Ok S)) → IfSome h3 (HasThree n t p S)
 three_read n t p S h2 h3 keeps two more = both h3 (HasTwo n t p) (λ files. read_as (start t) (file_at files) n.patterns ≡ Some (Ok S)) (held_later h2 h3 (HasTwo n t p) keeps two) more
 
-pub all_read : (n : FileNames) (t : Alphabet) (p : Parameters) (S : List ((List ℕ × ℕ) × ℕ)) (ws : List Word) (h3 h4 : Option FileMap) → KeepsHeld h3 h4 → IfSome h3 (HasThree n t p S) → IfSome h4 (λ files. read_as (words t) (file_at files) n.dict ≡ Some (Ok ws)) → IfSome h4 (λ files. HasInputs (file_at files) n t p S ws)
+pub all_read : (n : FileNames) (t : Alphabet) (p : Parameters) (S : List ((List ℕ × ℕ) × ℕ)) (ws : List Word) (h3 h4 : Option FileMap) → KeepsHeld h3 h4 → IfSome h3 (HasThree n t p S) → IfSome h4 (λ files. read_as (words t) (file_at files) n.dict ≡ Some (Ok ws)) → IfSome h4 (λ files. HasInputs (file_at files) n (record { table = t; params = p; start = S; dictionary = ws }))
 all_read n t p S ws h3 h4 keeps three more =
-    mapped h4 (λ files. HasThree n t p S files × (read_as (words t) (file_at files) n.dict ≡ Some (Ok ws))) (λ files. HasInputs (file_at files) n t p S ws) (λ files h. (h.0.0.0, h.0.0.1, h.0.1, h.1))
+    mapped h4 (λ files. HasThree n t p S files × (read_as (words t) (file_at files) n.dict ≡ Some (Ok ws))) (λ files. HasInputs (file_at files) n (record { table = t; params = p; start = S; dictionary = ws })) (λ files h. record { table = h.0.0.0; params = h.0.0.1; start = h.0.1; words = h.1 })
     (both h4 (HasThree n t p S) (λ files. read_as (words t) (file_at files) n.dict ≡ Some (Ok ws)) (held_later h3 h4 (HasThree n t p S) keeps three) more)
 
 -- a stop at the first input, at the second, at the third and at the last

@@ -1,11 +1,12 @@
 pub mod Parts
-pub mod Sevens
 pub mod Fronts
-pub mod SelectedSigns
-pub mod Selecting
+pub mod Selections
 pub mod Faults
 pub mod Writings
 pub mod Orders
 pub mod InputOrder
-pub mod OutcomeRows
+pub mod WrittenNames
 pub mod Calls
+pub mod Judgements
+pub mod TooFewWords
+pub mod OutcomeRows

@@ -1,10 +1,12 @@
 -- The order of reading: files that are accepted leave the call to the rest, and the first that is not accepted ends it.
-use Rattle.std.proofs.Common.{◌≡◌, ℕ, List, [], ◌∷◌, ◌++◌, length, take, Option, None, Some, IfSome, refl, sym, ap, ◌∙◌, subst, arith, length-append}
+use Rattle.std.proofs.Common.{◌≡◌, ℕ, ◌+◌, ◌<◌, List, [], ◌∷◌, ◌++◌, length, take, Option, None, Some, IfSome, refl, sym, ap, ◌∙◌, subst, arith, length-append}
 use Rattle.std.specs.Option.{option_map, option_map_or, option_or}
-use Rattle.std.proofs.Math.Seq.{take-append_seam, get_or-append_seam}
-use Rattle.std.proofs.lemmas.Option.{slice_get_read}
+use Rattle.std.proofs.Math.Seq.{take-append_seam, take-append-add, get_or-append_seam}
+use Rattle.std.proofs.lemmas.List.{take-append-le, get_or_append_left, get_or-append-add}
+use Rattle.std.proofs.lemmas.Option.{slice_get_read, slice_get_within, get_or_from_slice_get}
 use Rattle.pg_outside.specs.Content.{FileMap, FilesShown, KeepsHeld, file_at}
 use Rattle.pg_outside.specs.Faults.{NoneFell}
+use Rattle.pg_top.specs.Faults.{IsUnread}
 use Rattle.pg_top.specs.Outcomes.{Outcome, Unknown, refuses}
 use Rattle.pg_top.specs.Readings.{Held, Reading, first_end}
 use Rattle.pg_top.specs.Stops.{StopsAt, StopsReading}
@@ -69,3 +71,53 @@ stopped_behind front r rest s0 s1 s2 (Unread name) fell accepted stops = record 
       (λ files h. ap (first_end (file_at files)) (take-append_seam front (r ∷ rest)) ∙ accepted_all (file_at files) front h) accepted;
 }
 stopped_behind front r rest s0 s1 s2 Memory fell accepted stops = tt
+
+-- one more file that is accepted
+pub accepted_and : (files : Held) (front : List Reading) (r : Reading) → AreAccepted files front → IsAccepted files r → AreAccepted files (front ++ r ∷ [])
+accepted_and files [] r accepted here = (here, tt)
+accepted_and files (first ∷ front) r accepted here = (accepted.0, accepted_and files front r accepted.1 here)
+
+-- a file that could not be read stands in the order where more files stand before it, which are accepted
+pub unread_behind : (front rest : List Reading) (s0 s1 s2 : FilesShown) (name : List ℕ) → NoneFell s0.read_faults s1.read_faults → IfSome s2.held (λ files. AreAccepted (file_at files) front) → IsUnread rest name s1 s2 → IsUnread (front ++ rest) name s0 s2
+unread_behind front rest s0 s1 s2 name fell accepted u =
+    let within : u.place < length rest = slice_get_within rest u.place u.reading u.there in
+    record {
+      place = length front + u.place;
+      reading = u.reading;
+      there = slice_get_read (front ++ rest) (length (front ++ rest)) (length front + u.place) u.reading refl (omega (arith, length-append front rest))
+          (sym (get_or-append-add front rest u.place u.reading ∙ get_or_from_slice_get rest u.place u.reading u.reading u.there));
+      named = u.named;
+      rose = rose_since (s0.read_faults name) (s1.read_faults name) (s2.read_faults name) (fell name) u.rose;
+      before_it = mapped s2.held (λ files. AreAccepted (file_at files) front × (first_end (file_at files) (take u.place rest) ≡ None)) (λ files. first_end (file_at files) (take (length front + u.place) (front ++ rest)) ≡ None)
+          (λ files h. ap (first_end (file_at files)) (take-append-add front rest u.place) ∙ accepted_front (file_at files) front (take u.place rest) h.0 ∙ h.1)
+          (both s2.held (λ files. AreAccepted (file_at files) front) (λ files. first_end (file_at files) (take u.place rest) ≡ None) accepted u.before_it);
+    }
+
+-- a stop at a file of the front is a stop of all
+ended_front : (ends : List ℕ → Option Outcome) (file : Option (List ℕ)) (a b : Option Outcome) (end : Outcome) → (a ≡ Some end → b ≡ Some end) → option_map_or (λ bytes. option_or (ends bytes) a) file (Some Unknown) ≡ Some end → option_map_or (λ bytes. option_or (ends bytes) b) file (Some Unknown) ≡ Some end
+ended_front ends None a b end more is = is
+ended_front ends (Some bytes) a b end more is = by_end (ends bytes) is
+  where
+    by_end : (e : Option Outcome) → option_or e a ≡ Some end → option_or e b ≡ Some end
+    by_end None is = more is
+    by_end (Some x) is = is
+
+end_in_front : (files : Held) (front rest : List Reading) (end : Outcome) → first_end files front ≡ Some end → first_end files (front ++ rest) ≡ Some end
+end_in_front files [] rest end is = cc
+end_in_front files (r ∷ front) rest end is = ended_front (r.ends files) (files r.name) (first_end files front) (first_end files (front ++ rest)) end (end_in_front files front rest end) is
+
+pub stopped_in_front : (front rest : List Reading) (s0 s1 : FilesShown) (stop : Stop) → StopsReading front s0 s1 stop → StopsReading (front ++ rest) s0 s1 stop
+stopped_in_front front rest s0 s1 (Refused input refusal) stops =
+    mapped s1.held (λ files. first_end (file_at files) front ≡ Some (refuses input refusal)) (λ files. first_end (file_at files) (front ++ rest) ≡ Some (refuses input refusal)) (λ files is. end_in_front (file_at files) front rest (refuses input refusal) is) stops
+stopped_in_front front rest s0 s1 (Unread name) u =
+    let within : u.place < length front = slice_get_within front u.place u.reading u.there in
+    record {
+      place = u.place;
+      reading = u.reading;
+      there = slice_get_read (front ++ rest) (length (front ++ rest)) u.place u.reading refl (omega (arith, length-append front rest))
+          (sym (get_or_append_left front rest u.reading u.place within ∙ get_or_from_slice_get front u.place u.reading u.reading u.there));
+      named = u.named;
+      rose = u.rose;
+      before_it = mapped s1.held (λ files. first_end (file_at files) (take u.place front) ≡ None) (λ files. first_end (file_at files) (take u.place (front ++ rest)) ≡ None) (λ files is. ap (first_end (file_at files)) (take-append-le u.place front rest (omega arith)) ∙ is) u.before_it;
+    }
+stopped_in_front front rest s0 s1 Memory stops = tt

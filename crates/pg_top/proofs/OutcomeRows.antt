@@ -3,23 +3,34 @@ use Rattle.std.proofs.Common.{◌≡◌, ℕ, List, [], ◌∷◌, Some, None, c
 use Rattle.std.specs.Fmt.{digits}
 use Rattle.std.specs.Prelude.{Option, if◌then◌else◌}
 use Rattle.std.specs.Str.{bytes_eq}
+use Rattle.pg_types.specs.Placement.{with_sign}
 use Rattle.pg_types.specs.declared.refusals.Kind.TheVariants.{OutOfRange, ParametersTooLong}
 use Rattle.pg_top.specs.Calls.{outcome_of}
 use Rattle.pg_top.specs.Outcomes.{Ends, Unknown}
 use Rattle.pg_top.specs.PrintedLines.{refused_line, reading_line}
 use Rattle.pg_top.specs.Readings.{Held}
 use Rattle.pg_top.specs.Requests.{FileNames, ToGenerate, request_of}
-use Rattle.pg_top.specs.Selection.{selected, selected_text, selected_totals}
+use Rattle.pg_top.specs.Selection.{selection, selected, selected_account, passes_begun, selected_cells_from, selected_cells, selected_text, selected_list, selected_cells_text, selected_report}
 use Rattle.pg_top.specs.declared.answers.Status.TheVariants.{Done, Refused}
 use Rattle.pg_top.specs.declared.inputs.Input.TheVariants as input
 
 names : FileNames
-names = record { dict = codes "D"; patterns = codes "P"; output = codes "O"; translate = codes "T"; params = codes "A"; report = codes "R" }
+names = record { dict = codes "D"; patterns = codes "P"; output = codes "O"; translate = codes "T"; params = codes "A"; report = codes "R"; pattmp = None; cells = None }
 
--- six names, an output that is an input, an option in place of a name, and another command
+-- six names, both options in either order, one twice, one without its name, an output that is an input, an option in place of a name, and another command
 asks : request_of (codes "generate" ∷ codes "D" ∷ codes "P" ∷ codes "O" ∷ codes "T" ∷ codes "A" ∷ codes "R" ∷ []) ≡ Some (ToGenerate names)
 unfolding names
 asks = refl
+
+asks_all : request_of (codes "generate" ∷ codes "D" ∷ codes "P" ∷ codes "O" ∷ codes "T" ∷ codes "A" ∷ codes "R" ∷ codes "--cells" ∷ codes "C" ∷ codes "--pattmp" ∷ codes "M" ∷ []) ≡ Some (ToGenerate (record names { pattmp = Some (codes "M"); cells = Some (codes "C") }))
+unfolding names
+asks_all = refl
+
+asks_twice : request_of (codes "generate" ∷ codes "D" ∷ codes "P" ∷ codes "O" ∷ codes "T" ∷ codes "A" ∷ codes "R" ∷ codes "--cells" ∷ codes "C" ∷ codes "--cells" ∷ codes "M" ∷ []) ≡ None
+asks_twice = refl
+
+asks_nothing : request_of (codes "generate" ∷ codes "D" ∷ codes "P" ∷ codes "O" ∷ codes "T" ∷ codes "A" ∷ codes "R" ∷ codes "--cells" ∷ []) ≡ None
+asks_nothing = refl
 
 output_is_input : request_of (codes "generate" ∷ codes "D" ∷ codes "P" ∷ codes "O" ∷ codes "T" ∷ codes "A" ∷ codes "A" ∷ []) ≡ None
 output_is_input = refl
@@ -38,9 +49,16 @@ found (e ∷ es) name = if bytes_eq e.0 name then Some e.1 else found es name
 files : List ℕ → List (List ℕ × List ℕ) → Held
 files dict more = found ((codes "T", codes " 1 1\n a\n b\n c\n") ∷ (codes "P", []) ∷ (codes "A", codes "1 1 2 2 1 1 2\n") ∷ (codes "D", dict) ∷ more)
 
--- two words that give one pattern
-one_pattern : outcome_of (files (codes "ab-c\nab-a\n") []) (ToGenerate names) ≡ Ends Done ((codes "O", codes "ab1\n") ∷ []) (codes "done: 1 patterns, 2 good, 0 bad, 0 missed\n")
-unfolding names files found selected selected_text selected_totals digits
+-- two words that give one pattern, with the hyphenated list and the cells file
+one_pattern : outcome_of (files (codes "ab-c\nab-a\n") []) (ToGenerate (record names { pattmp = Some (codes "M"); cells = Some (codes "C") }))
+    ≡ Ends Done
+    ((codes "O", codes "ab1\n")
+    ∷ (codes "M", codes "ab*c\nab*a\n")
+    ∷ (codes "C", codes "start: 4 taken, top 4, 0 tails\npass 1 2 1: 7 taken, top 8\npass 1 2 0: 9 taken, top 10\npass 1 2 2: 10 taken, top 10\nlevel 1: 5 taken, top 9, 1 tails\n")
+    ∷ (codes "R", codes "pass 1 2 1: 0 good, 0 bad, 2 missed; 3 candidates, 0 chosen, 3 hopeless, 0 left; 0 good, 0 bad\npass 1 2 0: 0 good, 0 bad, 2 missed; 4 candidates, 0 chosen, 4 hopeless, 0 left; 0 good, 0 bad\npass 1 2 2: 0 good, 0 bad, 2 missed; 2 candidates, 1 chosen, 1 hopeless, 0 left; 2 good, 0 bad\nlevel 1: 1 chosen, 2 good, 0 bad, 0 missed\ntotal: 2 good, 0 bad, 0 missed\nrate: 100.00 % good, 0.00 % bad, 0.00 % missed\n")
+    ∷ [])
+    (codes "done: 1 patterns, 2 good, 0 bad, 0 missed\nwork: 3 passes, 5 taken, top 9, 1 tails\n")
+unfolding names files found selection selected selected_account passes_begun selected_cells_from selected_cells selected_text selected_list selected_cells_text selected_report digits with_sign
 one_pattern = refl
 
 -- the third line of the dictionary is refused

@@ -1,7 +1,7 @@
 -- Writing file after file: what is written so far goes on to the whole.
-use Rattle.std.proofs.Common.{◌≡◌, ℕ, ◌+◌, ◌<◌, ◌≤◌, List, [], ◌∷◌, length, drop, Option, None, Some, IfSome, MatchOption, inl, inr, refl, sym, ap, ◌∙◌, subst, arith}
+use Rattle.std.proofs.Common.{◌≡◌, ℕ, ◌+◌, ◌<◌, ◌≤◌, List, [], ◌∷◌, ◌++◌, length, drop, Option, None, Some, IfSome, MatchOption, inl, inr, refl, sym, ap, ◌∙◌, subst, arith}
 use Rattle.std.specs.Prelude.{slice_get}
-use Rattle.std.proofs.lemmas.List.{drop_more, length-map}
+use Rattle.std.proofs.lemmas.List.{drop_more, length-map, map-append}
 use Rattle.std.proofs.lemmas.Option.{slice_get_within, get_or_from_slice_get, slice_get-map}
 use Rattle.std.proofs.Math.ListN.{drop_of_length-le}
 use Rattle.std.specs.Option.{option_map}
@@ -80,3 +80,7 @@ place_within ws place write there = let within : place < length (writing_of ws) 
 
 pub name_stopped : (ws : List Output) (place : ℕ) (w : Output) (write : List ℕ × List ℕ) → slice_get ws place ≡ Some w → slice_get (writing_of ws) place ≡ Some write → w.name.now ≡ write.0
 name_stopped ws place w write at there = let same : Some (named_text w) ≡ Some write = sym (place_of_map ws place w at) ∙ there in (cc)
+
+-- one more file
+pub one_pushed : (ws : List Output) (w : Output) → writing_of (ws ++ w ∷ []) ≡ writing_of ws ++ named_text w ∷ []
+one_pushed ws w = map-append named_text ws (w ∷ [])

@@ -1,24 +1,28 @@
 -- What a command reads and writes, and what a call comes to.
-use Rattle.std.specs.Prelude.{ℕ, List, [], ◌∷◌, Option, Bool, true, false, None, Some, unwrap_or}
+use Rattle.std.specs.Prelude.{ℕ, List, [], ◌++◌, Option, Bool, true, false, None, Some, unwrap_or}
 use Rattle.std.specs.Option.{option_map_or}
+use Rattle.pg_top.specs.Auditing.{given_files}
 use Rattle.pg_top.specs.Outcomes.{Outcome, Ends}
-use Rattle.pg_top.specs.PrintedLines.{usage_line}
+use Rattle.pg_top.specs.PrintedLines.{usage_line, yes_line}
 use Rattle.pg_top.specs.Readings.{Held, Reading, first_end}
-use Rattle.pg_top.specs.Requests.{Request, ToGenerate}
-use Rattle.pg_top.specs.Selecting.{inputs_of, generated, table_in, parameters_in, start_in, words_in}
-use Rattle.pg_top.specs.declared.answers.Status.TheVariants.{Usage}
+use Rattle.pg_top.specs.Requests.{Request, ToGenerate, ToAudit, output_names}
+use Rattle.pg_top.specs.Selecting.{inputs_of, inputs_in, generated}
+use Rattle.pg_top.specs.declared.answers.Status.TheVariants.{Usage, Yes}
 
 -- what a command reads, in its order
 abbrev pub reads_of : Request → List Reading
 reads_of (ToGenerate n) = inputs_of n
+reads_of (ToAudit n) = inputs_of n ++ given_files (λ files. inputs_in files n) n
 
 -- the names that a command writes, in its order
 abbrev pub writes_of : Request → List (List ℕ)
-writes_of (ToGenerate n) = n.output ∷ []
+writes_of (ToGenerate n) = output_names n
+writes_of (ToAudit n) = []
 
 -- what a command comes to where no file that it reads ends the call
 abbrev pub finished : Held → Request → Outcome
-finished files (ToGenerate n) = generated n (table_in files n) (parameters_in files n) (start_in files n) (words_in files n)
+finished files (ToGenerate n) = generated n (inputs_in files n)
+finished files (ToAudit n) = Ends Yes [] yes_line
 
 -- the outcome of a command: that of the first file that ends the call, and where none does, what it writes and prints
 abbrev pub outcome_of : Held → Request → Outcome
@@ -32,3 +36,4 @@ outcome files asked = option_map_or (outcome_of files) asked (Ends Usage [] usag
 abbrev pub has_files : Option Request → Bool
 has_files None = false
 has_files (Some (ToGenerate n)) = true
+has_files (Some (ToAudit n)) = true

@@ -1,18 +1,25 @@
 -- How the definitions see a command.
 use Rattle.std.specs.Prelude.{ℕ, List, String, map, string_bytes, Option}
+use Rattle.std.specs.Option.{option_map}
+use denote.Ref.{Bor}
 use Rattle.std.specs.declared.alloc.Global.{Global}
-use Rattle.pg_top.specs.Requests.{FileNames, Request, ToGenerate, request_of}
+use Rattle.pg_top.specs.Requests.{FileNames, Request, ToGenerate, ToAudit, request_of}
 use Rattle.pg_top.specs.declared.commands.Names.{Names}
 use Rattle.pg_top.specs.declared.commands.Command.{Command}
-use Rattle.pg_top.specs.declared.commands.Command.TheVariants.{Generate}
+use Rattle.pg_top.specs.declared.commands.Command.TheVariants.{Generate, Audit}
+
+-- a name that may be asked for as its bytes
+abbrev pub name_now : Option (Bor (List ℕ)) → Option (List ℕ)
+name_now name = option_map (λ n. n.now) name
 
 -- the names as their bytes
 abbrev pub texts_of : Names → FileNames
-texts_of n = record { dict = n.dict.now; patterns = n.patterns.now; output = n.output.now; translate = n.translate.now; params = n.params.now; report = n.report.now }
+texts_of n = record { dict = n.dict.now; patterns = n.patterns.now; output = n.output.now; translate = n.translate.now; params = n.params.now; report = n.report.now; pattmp = name_now n.pattmp; cells = name_now n.cells }
 
 -- the command as what it asks for
 abbrev pub asked_by : Command → Request
 asked_by (Generate names) = ToGenerate (texts_of names)
+asked_by (Audit names) = ToAudit (texts_of names)
 
 -- words as their bytes
 abbrev pub words_of : List (String Global) → List (List ℕ)

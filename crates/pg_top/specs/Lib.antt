@@ -5,10 +5,13 @@ pub mod PrintedLines
 pub mod Outcomes
 pub mod Readings
 pub mod Selection
+pub mod Runs
 pub mod Selecting
+pub mod Auditing
 pub mod Calls
 pub mod Writings
 pub mod Moments
 pub mod Faults
 pub mod Answers
 pub mod Stops
+pub mod Verdicts

@@ -2,10 +2,15 @@
 use Rattle.std.specs.Prelude.{ℕ, ◌==◌, if◌then◌else◌, List, [], ◌++◌, length, codes, decimal}
 use Rattle.pg_types.specs.Lines.{lines}
 use Rattle.pg_types.specs.Refusals.{number_of, name_of}
+use Rattle.pg_types.specs.declared.marks.Layout.{Layout}
 use Rattle.pg_types.specs.declared.marks.Totals.{Totals}
 use Rattle.pg_types.specs.declared.refusals.Refusal.{Refusal}
+use Rattle.pg_audit.specs.FoundLines.{FoundLine, Missing, Begins, Ended, Unended}
+use Rattle.pg_texts.specs.CellsTexts.{layout_text}
+use Rattle.pg_texts.specs.ReportTexts.{totals_text}
 use Rattle.pg_top.specs.declared.inputs.Input.{Input}
 use Rattle.pg_top.specs.declared.inputs.Input.TheVariants as input
+use Rattle.pg_top.specs.declared.inputs.Given.{Given}
 use Rattle.pg_top.specs.declared.inputs.Given.TheVariants as given
 
 -- where words are no command
@@ -14,7 +19,11 @@ usage_line = codes "usage: patgen COMMAND NAMES [OPTIONS]\n"
 
 -- where `generate` is done: how many lines the pattern file has, and the totals of its patterns
 abbrev pub done_line : List ℕ → Totals → List ℕ
-done_line patterns t = codes "done: " ++ decimal (length (lines patterns)) ++ codes " patterns, " ++ decimal t.good ++ codes " good, " ++ decimal t.bad ++ codes " bad, " ++ decimal t.missed ++ codes " missed\n"
+done_line patterns t = codes "done: " ++ decimal (length (lines patterns)) ++ codes " patterns, " ++ totals_text t ++ codes "\n"
+
+-- where `generate` is done: how many passes were begun, and the layout at the end
+abbrev pub work_line : ℕ → Layout → List ℕ
+work_line passes layout = codes "work: " ++ decimal passes ++ codes " passes, " ++ layout_text layout
 
 -- the words for a file in a line of refusal or of `no`
 abbrev pub word_of : Input → List ℕ
@@ -37,6 +46,21 @@ place_of other r = codes " line " ++ decimal r.line ++ codes " column " ++ decim
 -- where a file is refused; a refusal with line 0 has no place
 abbrev pub refused_line : Input → Refusal → List ℕ
 refused_line input r = codes "refused: " ++ word_of input ++ codes " " ++ decimal (number_of r.kind) ++ codes " " ++ name_of r.kind ++ (if r.line == 0 then [] else place_of input r) ++ codes "\n"
+
+-- where `audit` finds all given files right
+abbrev pub yes_line : List ℕ
+yes_line = codes "yes\n"
+
+-- what stands in place of a line that is due
+abbrev pub found_text : FoundLine → List ℕ
+found_text Missing = codes " is missing"
+found_text (Begins front) = codes " begins " ++ front
+found_text (Ended line) = codes " found " ++ line
+found_text (Unended line) = codes " found " ++ line ++ codes " and the file ends"
+
+-- where a line of a given file is false: its number, and what stands there
+abbrev pub no_line : Given → ℕ × FoundLine → List ℕ
+no_line given l = codes "no: " ++ word_of (input.Given given) ++ codes " line " ++ decimal l.0 ++ found_text l.1 ++ codes "\n"
 
 -- where the file of a name could not be read, or not be written
 abbrev pub reading_line : List ℕ → List ℕ

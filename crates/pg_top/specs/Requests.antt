@@ -1,9 +1,10 @@
 -- What the words of a call ask for.
 use Rattle.std.specs.Prelude.{ℕ, nat_lt, nat_eq, Bool, true, not, ◌&&◌, if◌then◌else◌, List, [], ◌∷◌, ◌++◌, length, Option, None, Some, codes}
 use Rattle.std.specs.List.{list_all, starts_with}
+use Rattle.std.specs.Option.{option_and_then, option_map_or, is_none}
 use Rattle.std.specs.Str.{bytes_eq}
 
--- the names of the files of `generate`, each as its bytes
+-- the names of the files of `generate` and `audit`, each as its bytes; those of the hyphenated list and of the cells file where they are asked for
 pub record FileNames : Type 0 where
   pub dict : List ℕ
   pub patterns : List ℕ
@@ -11,10 +12,17 @@ pub record FileNames : Type 0 where
   pub translate : List ℕ
   pub params : List ℕ
   pub report : List ℕ
+  pub pattmp : Option (List ℕ)
+  pub cells : Option (List ℕ)
 
 -- what words ask for
 pub data Request : Type 0 where
   ToGenerate : FileNames → Request
+  ToAudit : FileNames → Request
+
+-- one for what is asked for by an option, and none where it is not
+abbrev pub if_asked : {X : Type 0} → Option (List ℕ) → (List ℕ → X) → List X
+if_asked option f = option_map_or (λ name. f name ∷ []) option []
 
 -- a name is not empty and does not begin with two dashes
 abbrev pub is_name : List ℕ → Bool
@@ -29,26 +37,50 @@ abbrev pub outputs_differ : List (List ℕ) → List (List ℕ) → Bool
 outputs_differ [] inputs = true
 outputs_differ (output ∷ outputs) inputs = differs_from output (outputs ++ inputs) && outputs_differ outputs inputs
 
--- the names of the inputs and of the outputs of `generate`
+-- the names of the inputs of `generate`, and those of its outputs in the order in which they are written
 abbrev pub input_names : FileNames → List (List ℕ)
 input_names n = n.dict ∷ n.patterns ∷ n.translate ∷ n.params ∷ []
 
 abbrev pub output_names : FileNames → List (List ℕ)
-output_names n = n.output ∷ n.report ∷ []
+output_names n = n.output ∷ if_asked n.pattmp (λ name. name) ++ if_asked n.cells (λ name. name) ++ n.report ∷ []
 
 -- whether `generate` takes these names
 abbrev pub are_taken : FileNames → Bool
 are_taken n = list_all is_name (input_names n ++ output_names n) && outputs_differ (output_names n) (input_names n)
 
--- what the first word and six names ask for
-abbrev pub request_for : List ℕ → FileNames → Option Request
-request_for word n = if bytes_eq word (codes "generate") && are_taken n then Some (ToGenerate n) else None
+-- the names with that of an option
+abbrev pub with_option : FileNames → List ℕ → List ℕ → Option FileNames
+with_option n option name =
+    if bytes_eq option (codes "--pattmp") then Some (record n { pattmp = Some name })
+    else (if bytes_eq option (codes "--cells") then Some (record n { cells = Some name }) else None)
 
--- a first word and six names, in the order in which they are given
-abbrev pub words_with : List ℕ → FileNames → List (List ℕ)
-words_with word n = word ∷ n.dict ∷ n.patterns ∷ n.output ∷ n.translate ∷ n.params ∷ n.report ∷ []
+-- the names with those of the options, of which each may stand once
+abbrev pub with_options : FileNames → List (List ℕ) → Option FileNames
+with_options n [] = Some n
+with_options n (option ∷ name ∷ []) = with_option n option name
+with_options n (first ∷ one ∷ second ∷ two ∷ []) = if bytes_eq first second then None else option_and_then (λ with_first. with_option with_first second two) (with_option n first one)
+with_options n words = None
 
--- what words ask for: `generate DICT PATTERNS OUT TRANSLATE PARAMS REPORT`, and nothing else
+-- six names in the order in which they are given
+abbrev pub six_names : List ℕ → List ℕ → List ℕ → List ℕ → List ℕ → List ℕ → FileNames
+six_names dict patterns output translate params report = record { dict = dict; patterns = patterns; output = output; translate = translate; params = params; report = report; pattmp = None; cells = None }
+
+-- the names in words: six, and then the options
+abbrev pub names_in : List (List ℕ) → Option FileNames
+names_in (dict ∷ patterns ∷ output ∷ translate ∷ params ∷ report ∷ options) = with_options (six_names dict patterns output translate params report) options
+names_in words = None
+
+-- `generate DICT PATTERNS OUT TRANSLATE PARAMS REPORT`, then `--pattmp FILE` and `--cells FILE`
+abbrev pub to_generate : FileNames → Option Request
+to_generate n = if are_taken n then Some (ToGenerate n) else None
+
+-- `audit` with the same names, which may be equal, and then `--pattmp FILE`
+abbrev pub to_audit : FileNames → Option Request
+to_audit n = if list_all is_name (input_names n ++ output_names n) && is_none n.cells then Some (ToAudit n) else None
+
+-- what words ask for
 abbrev pub request_of : List (List ℕ) → Option Request
-request_of (word ∷ dict ∷ patterns ∷ output ∷ translate ∷ params ∷ report ∷ []) = request_for word (record { dict = dict; patterns = patterns; output = output; translate = translate; params = params; report = report })
-request_of words = None
+request_of [] = None
+request_of (word ∷ words) =
+    if bytes_eq word (codes "generate") then option_and_then to_generate (names_in words)
+    else (if bytes_eq word (codes "audit") then option_and_then to_audit (names_in words) else None)

@@ -1,31 +1,31 @@
 -- What `generate` reads, writes and prints.
-use Rattle.std.specs.Prelude.{◌≡◌, ℕ, List, [], ◌∷◌, Some, Ok}
-use Rattle.pg_types.specs.Parameters.{Parameters, parameters}
+use Rattle.std.specs.Prelude.{◌≡◌, ℕ, List, [], ◌∷◌, ◌++◌, Some, Ok}
+use Rattle.pg_types.specs.Parameters.{parameters}
 use Rattle.pg_translate.specs.Alphabets.{Alphabet}
 use Rattle.pg_translate.specs.Tables.{table, default_alphabet}
-use Rattle.pg_dict.specs.Word.{Word}
 use Rattle.pg_dict.specs.Words.{words}
 use Rattle.pg_patterns.specs.Starts.{start}
-use Rattle.pg_top.specs.Outcomes.{Outcome, Ends}
-use Rattle.pg_top.specs.PrintedLines.{done_line}
+use Rattle.pg_top.specs.Outcomes.{Outcome, Ends, Writing}
+use Rattle.pg_top.specs.PrintedLines.{done_line, work_line}
 use Rattle.pg_top.specs.Readings.{Held, Reading, read_as, meant, input_file}
-use Rattle.pg_top.specs.Requests.{FileNames}
-use Rattle.pg_top.specs.Selection.{selected_text, selected_totals}
+use Rattle.pg_top.specs.Requests.{FileNames, if_asked}
+use Rattle.pg_top.specs.Selection.{selected_text, selected_list, selected_cells_text, selected_report, selected_account, selected_cells, passes_begun, last_layout}
 use Rattle.pg_top.specs.declared.answers.Status.TheVariants.{Done}
 use Rattle.pg_top.specs.declared.inputs.Input.TheVariants as input
+use Rattle.pg_top.specs.declared.reading.Inputs.{Inputs}
 
--- the table, the parameters, the starting patterns and the words of the files that are held
+-- the table of the files that are held
 abbrev pub table_in : Held → FileNames → Alphabet
 table_in files n = meant table default_alphabet files n.translate
 
-abbrev pub parameters_in : Held → FileNames → Parameters
-parameters_in files n = meant parameters (record { start = 1; finish = 1; levels = [] }) files n.params
-
-abbrev pub start_in : Held → FileNames → List ((List ℕ × ℕ) × ℕ)
-start_in files n = meant (start (table_in files n)) [] files n.patterns
-
-abbrev pub words_in : Held → FileNames → List Word
-words_in files n = meant (words (table_in files n)) [] files n.dict
+-- what they give a selection: the table, the parameters, the starting patterns and the words
+abbrev pub inputs_in : Held → FileNames → Inputs
+inputs_in files n = record {
+  table = table_in files n;
+  params = meant parameters (record { start = 1; finish = 1; levels = [] }) files n.params;
+  start = meant (start (table_in files n)) [] files n.patterns;
+  dictionary = meant (words (table_in files n)) [] files n.dict;
+}
 
 -- what is read, in its order
 abbrev pub inputs_of : FileNames → List Reading
@@ -36,13 +36,25 @@ inputs_of n =
     ∷ input_file input.Dictionary n.dict (λ files. words (table_in files n))
     ∷ []
 
--- what is written and printed when all that is read is accepted
-abbrev pub generated : FileNames → Alphabet → Parameters → List ((List ℕ × ℕ) × ℕ) → List Word → Outcome
-generated n t parameters S words =
-    Ends Done ((n.output, selected_text t parameters S words) ∷ []) (done_line (selected_text t parameters S words) (selected_totals t parameters S words))
+-- the files that are held are accepted as these
+pub record HasInputs (files : Held) (n : FileNames) (i : Inputs) : Type 0 where
+  pub table : read_as table files n.translate ≡ Some (Ok i.table)
+  pub params : read_as parameters files n.params ≡ Some (Ok i.params)
+  pub start : read_as (start i.table) files n.patterns ≡ Some (Ok i.start)
+  pub words : read_as (words i.table) files n.dict ≡ Some (Ok i.dictionary)
 
--- the files that are held have this table, these parameters, starting patterns and words
-abbrev pub HasInputs : Held → FileNames → Alphabet → Parameters → List ((List ℕ × ℕ) × ℕ) → List Word → Type 0
-HasInputs files n t parameters' S ws =
-    (read_as table files n.translate ≡ Some (Ok t)) × (read_as parameters files n.params ≡ Some (Ok parameters'))
-    × (read_as (start t) files n.patterns ≡ Some (Ok S)) × (read_as (words t) files n.dict ≡ Some (Ok ws))
+-- the files that are written: the pattern file, the hyphenated list and the cells file where they are asked for, and the report
+abbrev pub selected_files : FileNames → Inputs → Writing
+selected_files n i =
+    (n.output, selected_text i)
+    ∷ if_asked n.pattmp (λ name. (name, selected_list i))
+    ++ if_asked n.cells (λ name. (name, selected_cells_text i))
+    ++ (n.report, selected_report i) ∷ []
+
+-- the lines that are put: the Done line and the work line
+abbrev pub selected_lines : Inputs → List ℕ
+selected_lines i = done_line (selected_text i) (selected_account i).totals ++ work_line (passes_begun i) (last_layout (selected_cells i))
+
+-- what is written and printed when all that is read is accepted
+abbrev pub generated : FileNames → Inputs → Outcome
+generated n i = Ends Done (selected_files n i) (selected_lines i)

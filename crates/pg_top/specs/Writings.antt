@@ -7,8 +7,8 @@ use Rattle.pg_top.specs.Outcomes.{Writing}
 use Rattle.pg_top.specs.declared.writes.Output.{Output}
 
 -- the names that are written
-abbrev pub names_in : Writing → List (List ℕ)
-names_in ws = map (λ w. w.0) ws
+abbrev pub written_names : Writing → List (List ℕ)
+written_names ws = map (λ w. w.0) ws
 
 -- the files after all writes
 abbrev pub after_all : FileMap → Writing → FileMap

@@ -1,6 +1,6 @@
 //! The commands.
 
-/// The names that `generate` is given.
+/// The names that `generate` and `audit` are given. `audit` reads the files that `generate` writes.
 #[derive(Clone, Copy, Debug)]
 pub struct Names<'a> {
     /// The dictionary.
@@ -13,8 +13,12 @@ pub struct Names<'a> {
     pub translate: &'a str,
     /// The parameters.
     pub params: &'a str,
-    /// Where the report is to be written.
+    /// Where the report is written.
     pub report: &'a str,
+    /// Where the hyphenated list is written, if it is asked for.
+    pub pattmp: Option<&'a str>,
+    /// Where the cells file is written, if it is asked for.
+    pub cells: Option<&'a str>,
 }
 
 /// What words ask for.
@@ -22,4 +26,6 @@ pub struct Names<'a> {
 pub enum Command<'a> {
     /// To select patterns and write them.
     Generate(Names<'a>),
+    /// To compare given files with those that would be written.
+    Audit(Names<'a>),
 }

@@ -2,8 +2,11 @@
 #![tactic(auto)]
 
 pub mod answers;
+mod audit;
 pub mod commands;
 pub mod inputs;
+mod no_lines;
+mod outputs;
 mod printed;
 mod puts;
 mod reading;
@@ -13,6 +16,8 @@ mod selection;
 #[cfg(test)]
 mod tests;
 mod top;
+#[cfg(test)]
+mod whole_rows;
 pub mod words;
 pub mod writes;
 

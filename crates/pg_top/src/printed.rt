@@ -1,11 +1,11 @@
 //! The lines that are printed.
 ghost use Rattle.std.specs.Prelude.{◌≡◌, ◌++◌, ◌==◌, [], if◌then◌else◌, length, decimal, OnOk, IfOk};
 ghost use Rattle.pg_types.specs.Lines.{lines};
-ghost use Rattle.pg_top.specs.PrintedLines.{done_line as done_line_of, refused_line as refused_line_of, word_of, place_of};
+ghost use Rattle.pg_top.specs.PrintedLines.{done_line as done_line_of, refused_line as refused_line_of, word_of, place_of, work_line};
 
 use crate::inputs::{Given, Input};
 use itoa::Buffer;
-use pg_types::{Refusal, Totals, next_line};
+use pg_types::{Layout, Refusal, Totals, next_line};
 use std::alloc::{AllocError, Global};
 
 /// What is printed where words are no command.
@@ -18,7 +18,7 @@ pub const READING: &[u8] = b"fault: reading ";
 pub const WRITING: &[u8] = b"fault: writing ";
 
 /// Appends a text and a number to a line.
-fn push_number(line: &mut Vec<u8>, text: &[u8], number: u64) -> Result<(), AllocError>
+pub fn push_number(line: &mut Vec<u8>, text: &[u8], number: u64) -> Result<(), AllocError>
     ensures { OnOk result (line.new.items ≡ line.old.items ++ text.now ++ decimal number) }
 {
     let mut digits = Buffer::new();
@@ -52,8 +52,19 @@ pub fn done_line(alloc: Global, patterns: &[u8], totals: &Totals) -> Result<Vec<
     Ok(line)
 }
 
+/// Appends the line of how many passes were begun and of a layout.
+pub fn push_work(lines: &mut Vec<u8>, passes: u64, layout: &Layout) -> Result<(), AllocError>
+    ensures { OnOk result (lines.new.items ≡ lines.old.items ++ work_line passes layout.now) }
+{
+    push_number(lines, b"work: ", passes)?;
+    push_number(lines, b" passes, ", layout.taken)?;
+    push_number(lines, b" taken, top ", layout.top)?;
+    push_number(lines, b", ", layout.tails)?;
+    lines.extend_from_slice(b" tails\n")
+}
+
 /// Appends the words for a file in a line of refusal or of `no`.
-fn push_word(line: &mut Vec<u8>, input: Input) -> Result<(), AllocError>
+pub fn push_word(line: &mut Vec<u8>, input: Input) -> Result<(), AllocError>
     ensures { OnOk result (line.new.items ≡ line.old.items ++ word_of input) }
 {
     match input {

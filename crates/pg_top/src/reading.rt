@@ -14,6 +14,7 @@ ghost use Rattle.pg_patterns.specs.Values.{SignsUpTo};
 ghost use Rattle.pg_top.specs.Commands.{texts_of};
 ghost use Rattle.pg_top.specs.Readings.{read_as, input_file};
 ghost use Rattle.pg_top.specs.Selecting.{inputs_of, HasInputs};
+ghost use Rattle.pg_top.specs.Selection.{HasSigns};
 ghost use Rattle.pg_top.specs.Stops.{stop_of, StopsFront, StopsAt, StopsReading};
 
 use crate::commands::Names;
@@ -164,9 +165,8 @@ pub fn read_inputs<'a, F: Files>(
     ensures reads { NoneFell (F.shown files.old).read_faults (F.shown files.new).read_faults }
     ensures writes { NoneFell (F.shown files.old).write_faults (F.shown files.new).write_faults }
     ensures ok { IfOk result (λ inputs. IfSome (F.shown files.new).held (λ files.
-        HasInputs (file_at files) (texts_of names.now) inputs.table inputs.params inputs.start inputs.dictionary)) }
-    ensures signs { IfOk result (λ inputs. SignsAtMost (letters_of inputs.table + 1) inputs.dictionary) }
-    ensures start { IfOk result (λ inputs. SignsUpTo (letters_of inputs.table + 1) inputs.start) }
+        HasInputs (file_at files) (texts_of names.now) inputs)) }
+    ensures signs { IfOk result HasSigns }
     ensures stopped { IfErr result (StopsReading (inputs_of (texts_of names.now)) (F.shown files.old) (F.shown files.new)) }
 {
     let table = read_table(alloc, names.translate, files)?;

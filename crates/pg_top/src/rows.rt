@@ -14,7 +14,7 @@ struct Inputs {
     dict: &'static [u8],
 }
 
-/// A run that is done: what it reads, what it prints and the pattern file that it writes.
+/// A run that is done: what it reads, the first line that it prints and the pattern file that it writes.
 struct DoneRow {
     inputs: Inputs,
     printed: &'static [u8],
@@ -28,10 +28,10 @@ struct RefusedRow {
 }
 
 /// Minima 1 and 1, and the letters a, b and c.
-const ABC: &[u8] = b" 1 1\n a\n b\n c\n";
+pub(crate) const ABC: &[u8] = b" 1 1\n a\n b\n c\n";
 
 /// Two words with a hyphen each.
-const TWO: &[u8] = b"ab-c\nab-a\n";
+pub(crate) const TWO: &[u8] = b"ab-c\nab-a\n";
 
 const DONE: [DoneRow; 17] = [
     // The letters of the default table.
@@ -416,7 +416,7 @@ const REFUSED: [RefusedRow; 20] = [
 /// Runs `generate` on these inputs: its answer, what it prints, and the pattern file.
 fn outcome(alloc: Global, inputs: [&[u8]; 4]) -> Result<(Status, Vec<u8>, Vec<u8>), Fail> {
     let mut held = files(alloc, inputs)?;
-    let mut out = MemorySink::new(alloc, 100)?;
+    let mut out = MemorySink::new(alloc, 200)?;
     let status = run(
         alloc,
         &words(alloc, "generate D P O T A R")?,
@@ -442,7 +442,7 @@ fn runs_that_are_done(rt: HostRuntime) -> Result<(), Fail> {
             ],
         )?;
         assert_eq!(rt; status, Status::Done);
-        assert_eq!(rt; printed.as_slice(), row.printed);
+        assert!(rt; printed.starts_with(row.printed));
         assert_eq!(rt; written.as_slice(), row.written);
     }
     Ok(())
@@ -492,7 +492,7 @@ fn files_at_their_limit(rt: HostRuntime) -> Result<(), Fail> {
         ),
         (
             [b"", b"2 1", b"", &long[1..]],
-            b"done: 0 patterns, 0 good, 0 bad, 0 missed\n",
+            b"done: 0 patterns, 0 good, 0 bad, 0 missed\nwork: 0 passes, 27 taken, top 27, 0 tails\n",
         ),
     ];
     for (inputs, wanted) in table {

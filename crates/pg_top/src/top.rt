@@ -9,17 +9,18 @@ ghost use Rattle.pg_top.specs.Faults.{SomeRose, IsFault};
 ghost use Rattle.pg_top.specs.Moments.{Puts};
 ghost use Rattle.pg_top.specs.Outcomes.{Ends};
 ghost use Rattle.pg_top.specs.PrintedLines.{usage_line};
-ghost use Rattle.pg_top.specs.Requests.{ToGenerate};
+ghost use Rattle.pg_top.specs.Requests.{ToGenerate, ToAudit};
 ghost use Rattle.pg_top.specs.Stops.{StopsReading, Finishes};
-ghost use Rattle.pg_top.specs.Writings.{names_in, writing_of};
+ghost use Rattle.pg_top.specs.Writings.{written_names, writing_of};
 
 use crate::answers::Status;
+use crate::audit::{audit_files, put_verdict};
 use crate::commands::{Command, Names};
 use crate::inputs::Stop;
+use crate::outputs::{Outputs, make_outputs};
 use crate::printed::{USAGE, WRITING};
 use crate::puts::{answer, put_fault, put_stop};
 use crate::reading::read_inputs;
-use crate::selection::{Outputs, make_outputs};
 use crate::words::command;
 use crate::writes::{output_at, write_all};
 use pg_outside::{Files, Sink};
@@ -36,7 +37,7 @@ fn prepare<'a, F: Files>(
     ensures writes { NoneFell (F.shown files.old).write_faults (F.shown files.new).write_faults }
     ensures ok { IfOk result (λ made. IfSome (F.shown files.new).held (λ files.
         outcome_of (file_at files) (ToGenerate (texts_of names.now)) ≡ Ends Status.Done (writing_of made.files.items) made.lines.items)) }
-    ensures named { IfOk result (λ made. names_in (writing_of made.files.items) ≡ writes_of (ToGenerate (texts_of names.now))) }
+    ensures named { IfOk result (λ made. written_names (writing_of made.files.items) ≡ writes_of (ToGenerate (texts_of names.now))) }
     ensures stopped { IfErr result (StopsReading (reads_of (ToGenerate (texts_of names.now))) (F.shown files.old) (F.shown files.new)) }
 {
     let inputs = read_inputs(alloc, names, files)?;
@@ -71,6 +72,17 @@ fn generate<F: Files, O: Sink>(
     }
 }
 
+/// Compares given files with those that would be written, and says whether they are equal.
+fn audit<F: Files, O: Sink>(alloc: Global, names: &Names<'_>, files: &mut F, out: &mut O) -> Status
+    ensures { IsCall (Some (ToAudit (texts_of names.now))) result
+        (F.shown files.old, O.shown out.old) (F.shown files.new, O.shown out.new) }
+{
+    match audit_files(alloc, names, files) {
+        Ok(verdict) => put_verdict(out, &verdict),
+        Err(stop) => put_stop(alloc, out, &stop),
+    }
+}
+
 /// Does what a command asks for.
 fn perform<F: Files, O: Sink>(
     alloc: Global,
@@ -84,6 +96,7 @@ fn perform<F: Files, O: Sink>(
 {
     match command {
         Command::Generate(names) => generate(alloc, names, files, out),
+        Command::Audit(names) => audit(alloc, names, files, out),
     }
 }
 

@@ -1,9 +1,9 @@
 //! The words of a command.
-ghost use Rattle.std.specs.Prelude.{◌≡◌, ◌++◌, length};
+ghost use Rattle.std.specs.Prelude.{◌≡◌, ◌≤◌, ◌++◌, ◌∷◌, [], length, drop};
 ghost use Rattle.std.specs.List.{list_all};
-ghost use Rattle.std.specs.Option.{option_map};
-ghost use Rattle.pg_top.specs.Requests.{is_name as is_name_word, input_names, output_names, differs_from, outputs_differ, words_with, request_of};
-ghost use Rattle.pg_top.specs.Commands.{texts_of, asked_by, words_of};
+ghost use Rattle.std.specs.Option.{option_map, option_and_then};
+ghost use Rattle.pg_top.specs.Requests.{is_name as is_name_word, if_asked, input_names, output_names, differs_from, outputs_differ, are_taken as are_taken_names, with_option as with_option_of, with_options as with_options_of, six_names, names_in, to_generate, to_audit, request_of};
+ghost use Rattle.pg_top.specs.Commands.{name_now, texts_of, asked_by, words_of};
 
 use crate::commands::{Command, Names};
 
@@ -12,6 +12,16 @@ fn is_name(word: &str) -> bool
     ensures { result ≡ is_name_word word.now }
 {
     !word.is_empty() && !word.as_bytes().starts_with(b"--")
+}
+
+/// Whether the word of an option can be a name, where it is asked for.
+fn is_name_if_asked(word: Option<&str>) -> bool
+    ensures { result ≡ list_all is_name_word (if_asked (name_now word.entry) (λ name. name)) }
+{
+    match word {
+        Some(word) => is_name(word),
+        None => true,
+    }
 }
 
 /// Whether each word for a name can be one.
@@ -23,6 +33,8 @@ fn are_names(names: &Names<'_>) -> bool
         && is_name(names.translate)
         && is_name(names.params)
         && is_name(names.output)
+        && is_name_if_asked(names.pattmp)
+        && is_name_if_asked(names.cells)
         && is_name(names.report)
 }
 
@@ -36,43 +48,170 @@ fn differs_from_inputs(output: &str, names: &Names<'_>) -> bool
         && output != names.params
 }
 
+/// Whether a name differs from that of an option, where it is asked for.
+fn differs_if_asked(name: &str, other: Option<&str>) -> bool
+    ensures { result ≡ differs_from name.now (if_asked (name_now other.entry) (λ name. name)) }
+{
+    match other {
+        Some(other) => name != other,
+        None => true,
+    }
+}
+
+/// Whether the name of the report differs from the names of all inputs.
+fn is_report_distinct(names: &Names<'_>) -> bool
+    ensures { result ≡ outputs_differ ((texts_of names.now).report ∷ []) (input_names (texts_of names.now)) }
+{
+    differs_from_inputs(names.report, names)
+}
+
+/// Whether the name of the cells file, where it is asked for, differs from those of the report and the inputs.
+fn is_cells_distinct(names: &Names<'_>) -> bool
+    ensures { result ≡ outputs_differ (if_asked (texts_of names.now).cells (λ name. name) ++ (texts_of names.now).report ∷ []) (input_names (texts_of names.now)) }
+{
+    match names.cells {
+        Some(cells) => {
+            cells != names.report && differs_from_inputs(cells, names) && is_report_distinct(names)
+        }
+        None => is_report_distinct(names),
+    }
+}
+
+/// Whether the name of the hyphenated list, where it is asked for, differs from those of the outputs after it and of the inputs.
+fn is_pattmp_distinct(names: &Names<'_>) -> bool
+    ensures { result ≡ outputs_differ (if_asked (texts_of names.now).pattmp (λ name. name) ++ if_asked (texts_of names.now).cells (λ name. name) ++ (texts_of names.now).report ∷ []) (input_names (texts_of names.now)) }
+{
+    match names.pattmp {
+        Some(pattmp) => {
+            differs_if_asked(pattmp, names.cells)
+                && pattmp != names.report
+                && differs_from_inputs(pattmp, names)
+                && is_cells_distinct(names)
+        }
+        None => is_cells_distinct(names),
+    }
+}
+
 /// Whether the output names differ from each other and from the names of all inputs.
 fn are_distinct(names: &Names<'_>) -> bool
     ensures { result ≡ outputs_differ (output_names (texts_of names.now)) (input_names (texts_of names.now)) }
 {
-    names.output != names.report
+    differs_if_asked(names.output, names.pattmp)
+        && differs_if_asked(names.output, names.cells)
+        && names.output != names.report
         && differs_from_inputs(names.output, names)
-        && differs_from_inputs(names.report, names)
+        && is_pattmp_distinct(names)
 }
 
-/// The first word, and the names of `generate` in the order in which they are given.
-fn word_and_names(words: &[String]) -> (&str, Names<'_>)
-    requires { length words.now ≡ 7 }
-    ensures { words_of words.now ≡ words_with result.0.now (texts_of result.1) }
+/// The names with that of an option.
+fn with_option<'a>(names: Names<'a>, option: &str, name: &'a str) -> Option<Names<'a>>
+    ensures { option_map texts_of result ≡ with_option_of (texts_of names.entry) option.now name.now }
 {
-    let names = Names {
-        dict: words[1].as_str(),
-        patterns: words[2].as_str(),
-        output: words[3].as_str(),
-        translate: words[4].as_str(),
-        params: words[5].as_str(),
-        report: words[6].as_str(),
-    };
-    (words[0].as_str(), names)
+    if option == "--pattmp" {
+        Some(Names {
+            pattmp: Some(name),
+            ..names
+        })
+    } else if option == "--cells" {
+        Some(Names {
+            cells: Some(name),
+            ..names
+        })
+    } else {
+        None
+    }
 }
 
-/// What the words, without the program's name, ask for; none exactly where they are no command. Commands are
-/// `generate DICT PATTERNS OUT TRANSLATE PARAMS REPORT`. It takes no memory.
-pub fn command(words: &[String]) -> Option<Command<'_>>
-    ensures { option_map asked_by result ≡ request_of (words_of words.now) }
+/// The names with those of two options, which differ.
+fn with_both<'a>(names: Names<'a>, words: &'a [String]) -> Option<Names<'a>>
+    requires { length words.now ≡ 4 }
+    ensures { option_map texts_of result ≡ with_options_of (texts_of names.entry) (words_of words.now) }
 {
-    if words.len() != 7 {
+    let (first, second) = (words[0].as_str(), words[2].as_str());
+    if first == second {
         return None;
     }
-    let (word, names) = word_and_names(words);
-    if word == "generate" && are_names(&names) && are_distinct(&names) {
+    match with_option(names, first, words[1].as_str()) {
+        Some(names) => with_option(names, second, words[3].as_str()),
+        None => None,
+    }
+}
+
+/// The names with those of the options, of which each may stand once.
+fn with_options<'a>(names: Names<'a>, words: &'a [String]) -> Option<Names<'a>>
+    ensures { option_map texts_of result ≡ with_options_of (texts_of names.entry) (words_of words.now) }
+{
+    match words.len() {
+        0 => Some(names),
+        2 => with_option(names, words[0].as_str(), words[1].as_str()),
+        4 => with_both(names, words),
+        _ => None,
+    }
+}
+
+/// Six names in the order in which they are given.
+fn first_names(words: &[String]) -> Names<'_>
+    requires { 6 ≤ length words.now }
+    ensures { names_in (words_of words.now) ≡ with_options_of (texts_of result) (words_of (drop 6 words.now)) }
+{
+    Names {
+        dict: words[0].as_str(),
+        patterns: words[1].as_str(),
+        output: words[2].as_str(),
+        translate: words[3].as_str(),
+        params: words[4].as_str(),
+        report: words[5].as_str(),
+        pattmp: None,
+        cells: None,
+    }
+}
+
+/// The names in words: six, and then the options.
+fn names(words: &[String]) -> Option<Names<'_>>
+    ensures { option_map texts_of result ≡ names_in (words_of words.now) }
+{
+    if words.len() < 6 {
+        return None;
+    }
+    with_options(first_names(words), &words[6..])
+}
+
+/// What the words behind `generate` ask for.
+fn generate(words: &[String]) -> Option<Command<'_>>
+    ensures { option_map asked_by result ≡ option_and_then to_generate (names_in (words_of words.now)) }
+{
+    let names = names(words)?;
+    if are_names(&names) && are_distinct(&names) {
         Some(Command::Generate(names))
     } else {
         None
+    }
+}
+
+/// What the words behind `audit` ask for.
+fn audit(words: &[String]) -> Option<Command<'_>>
+    ensures { option_map asked_by result ≡ option_and_then to_audit (names_in (words_of words.now)) }
+{
+    let names = names(words)?;
+    if are_names(&names) && names.cells.is_none() {
+        Some(Command::Audit(names))
+    } else {
+        None
+    }
+}
+
+/// What the words, without the program's name, ask for; none exactly where they are no command. Commands are
+/// `generate DICT PATTERNS OUT TRANSLATE PARAMS REPORT`, then `--pattmp FILE` and `--cells FILE`, each at most once and in either
+/// order, and `audit` with the same six names and at most one `--pattmp FILE`. It takes no memory.
+pub fn command(words: &[String]) -> Option<Command<'_>>
+    ensures { option_map asked_by result ≡ request_of (words_of words.now) }
+{
+    if words.is_empty() {
+        return None;
+    }
+    match words[0].as_str() {
+        "generate" => generate(&words[1..]),
+        "audit" => audit(&words[1..]),
+        _ => None,
     }
 }

@@ -1,23 +1,35 @@
-use Rattle.std.proofs.Common.{◌≡◌, ◌+◌, ◌∙◌, ap}
-use Rattle.pg_translate.specs.Alphabets.{letters_of}
+use Rattle.std.proofs.Common.{◌≡◌, ◌∙◌, ap, subst, sym, arith}
+use Rattle.pg_dict.specs.Word.{SignsAtMost}
+use Rattle.pg_driver.specs.Told.{TellsCells}
+use Rattle.pg_patterns.specs.Values.{SignsUpTo}
 use Rattle.pg_select.specs.Meanings.{Meaning}
-use Rattle.pg_packed.specs.Engines.{meaning_of}
-use Rattle.pg_top.proofs.Selecting.{final_patterns, final_totals, final_signs}
+use Rattle.pg_top.specs.Selection.{signs_of}
+use Rattle.pg_top.proofs.Selections.{patterns_selected, account_selected, begun_selected, cells_selected}
 use Rattle.pg_top.proofs.selection.select.Goals as goal
 
-pub generate-requires-clause-signs : goal.generate-requires-clause-signs
-generate-requires-clause-signs c k d inside j e there =
-    let same : c.in_ok-engine.engine.trie.signs ≡ letters_of c.args.inputs.now.table + 1 = ap (λ (m : Meaning). m.signs) c.in_ok-engine.ensures ∙ ap (λ n. n + 1) c.letters-signs.ensures.value in
-    rw same (c.requires.signs k d inside j e there)
+pub generate-requires : goal.generate-requires
+generate-requires g c =
+    let m : Meaning = g.E.Engine.meaning c.args.engine.now in
+    let none : m.begun ≡ 0 = ap (λ (m : Meaning). m.begun) c.requires.new in
+    let greatest : m.signs ≡ signs_of c.args.inputs.now = ap (λ (m : Meaning). m.signs) c.requires.new in
+    record {
+      hopeless = ap (λ (m : Meaning). m.hopeless) c.requires.new;
+      tidy = ap (λ (m : Meaning). m.tidy) c.requires.new;
+      begun = omega arith;
+      signs = subst (λ n. SignsAtMost n c.args.inputs.now.dictionary) (sym greatest) c.requires.signs.words;
+    }
 
-pub returns-clause-patterns : goal.returns-clause-patterns
-returns-clause-patterns c =
-    c.in_ok-run.ensures.patterns ∙ final_patterns c.args.inputs.now.table c.args.inputs.now.dictionary c.args.inputs.now.params (meaning_of c.in_ok-engine.engine) (c.letters-signs.result + 1) c.args.inputs.now.start c.in_ok-engine.ensures (ap (λ n. n + 1) c.letters-signs.ensures.value)
-
-pub returns-clause-totals : goal.returns-clause-totals
-returns-clause-totals c =
-    c.in_ok-run.ensures.totals ∙ final_totals c.args.inputs.now.table c.args.inputs.now.dictionary c.args.inputs.now.params c.args.inputs.now.start _ (final_patterns c.args.inputs.now.table c.args.inputs.now.dictionary c.args.inputs.now.params (meaning_of c.in_ok-engine.engine) (c.letters-signs.result + 1) c.args.inputs.now.start c.in_ok-engine.ensures (ap (λ n. n + 1) c.letters-signs.ensures.value))
-
-pub returns-clause-signs : goal.returns-clause-signs
-returns-clause-signs c =
-    final_signs c.args.inputs.now.table c.args.inputs.now.dictionary c.args.inputs.now.params c.args.inputs.now.start c.in_ok-run.run'.patterns (returns-clause-patterns c) c.requires.start c.requires.signs
+pub returns : goal.returns
+returns g c =
+    let i = c.args.inputs.now in
+    let m : Meaning = g.E.Engine.meaning c.args.engine.now in
+    let greatest = c.generate.ensures.signs ∙ ap (λ (m : Meaning). m.signs) c.requires.new in
+    record {
+      patterns = c.in_ok-run.ensures.patterns ∙ patterns_selected i m c.requires.new;
+      account = c.in_ok-run.ensures.account ∙ account_selected i m c.requires.new;
+      begun = c.in_ok-run.ensures.begun ∙ begun_selected i m c.requires.new;
+      cells = subst (λ told. TellsCells told c.in_ok-run.run') (cells_selected i m c.requires.new) c.in_ok-run.ensures.cells;
+      kept = c.in_ok-run.ensures.kept;
+      greatest = greatest;
+      pattern_signs = subst (λ P. SignsUpTo (signs_of i) P) c.in_ok-run.ensures.kept (subst (λ n. SignsUpTo n (g.E.Engine.meaning c.generate.new.engine).patterns) greatest c.kept.ensures.pattern_signs);
+    }

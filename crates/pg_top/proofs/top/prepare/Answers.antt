@@ -1,26 +1,25 @@
-use Rattle.std.proofs.Common.{◌≡◌, ◌∙◌}
+use Rattle.std.proofs.Common.{◌≡◌, ◌∙◌, sym, ap}
 use Rattle.pg_outside.specs.Content.{file_at}
 use Rattle.pg_top.specs.Calls.{outcome_of}
 use Rattle.pg_top.specs.Commands.{texts_of}
 use Rattle.pg_top.specs.Outcomes.{Ends}
 use Rattle.pg_top.specs.Requests.{ToGenerate}
 use Rattle.pg_top.specs.Selecting.{HasInputs}
-use Rattle.pg_top.specs.Writings.{writing_of}
+use Rattle.pg_top.specs.Writings.{written_names, writing_of}
 use Rattle.pg_top.specs.declared.answers.Status.TheVariants.{Done}
 use Rattle.pg_top.proofs.InputOrder.{outcome_generated}
 use Rattle.pg_top.proofs.Orders.{mapped}
-use Rattle.pg_top.proofs.Selecting.{named_writing}
+use Rattle.pg_top.proofs.WrittenNames.{names_of_files}
 use Rattle.pg_top.proofs.top.prepare.Goals as goal
 
 pub returns-clause-ok : goal.returns-clause-ok
 returns-clause-ok g c =
     let n = texts_of c.args.names.now in
     let i = c.in_ok-inputs.inputs in
-    mapped (g.F.Files.shown c.read_inputs.new.files).held (λ files. HasInputs (file_at files) n i.table i.params i.start i.dictionary)
+    mapped (g.F.Files.shown c.read_inputs.new.files).held (λ files. HasInputs (file_at files) n i)
     (λ files. outcome_of (file_at files) (ToGenerate n) ≡ Ends Done (writing_of c.in_ok-outputs.outputs.files.items) c.in_ok-outputs.outputs.lines.items)
-    (λ files h. outcome_generated n i.table i.params i.start i.dictionary files h ∙ c.in_ok-outputs.ensures.made) c.in_ok-inputs.ensures.ok
+    (λ files h. outcome_generated n i files h ∙ (λ k. Ends Done (sym c.in_ok-outputs.ensures.files k) (sym c.in_ok-outputs.ensures.lines k))) c.in_ok-inputs.ensures.ok
 
 pub returns-clause-named : goal.returns-clause-named
 returns-clause-named g c =
-    let i = c.in_ok-inputs.inputs in
-    named_writing (texts_of c.args.names.now) i.table i.dictionary i.params i.start (writing_of c.in_ok-outputs.outputs.files.items) c.in_ok-outputs.outputs.lines.items c.in_ok-outputs.ensures.made
+    ap written_names c.in_ok-outputs.ensures.files ∙ names_of_files (texts_of c.args.names.now) c.in_ok-inputs.inputs

@@ -1,0 +1,40 @@
+-- Given files as they are compared, and what that gives.
+use Rattle.std.specs.Prelude.{◌≡◌, ℕ, ◌+◌, ◌<◌, List, [], map, length, take, Option, None, Some, MatchOption, unwrap_or, ◌⊎◌}
+use Rattle.std.specs.Option.{option_map}
+use Rattle.pg_audit.specs.Differences.{first_false}
+use Rattle.pg_outside.specs.Content.{SinkShown}
+use Rattle.pg_top.specs.Auditing.{denies}
+use Rattle.pg_top.specs.Outcomes.{Outcome, Ends}
+use Rattle.pg_top.specs.PrintedLines.{yes_line}
+use Rattle.pg_top.specs.Readings.{Reading}
+use Rattle.pg_top.specs.Stops.{PutsAnswer}
+use Rattle.pg_top.specs.declared.answers.Status.{Status}
+use Rattle.pg_top.specs.declared.answers.Status.TheVariants.{Yes, No}
+use Rattle.pg_top.specs.declared.audit.Verdict.{Verdict}
+use Rattle.pg_top.specs.declared.audit.Verdict.TheVariants.{Equal, False}
+use Rattle.pg_top.specs.declared.audit.Wanted.{Wanted}
+
+-- a given file as it is read and compared with its text
+abbrev pub wanted_file : Wanted → Reading
+wanted_file w = record { name = w.name.now; ends = λ files bytes. option_map (denies w.given) (first_false bytes w.text.items) }
+
+abbrev pub wanted_files : List Wanted → List Reading
+wanted_files ws = map wanted_file ws
+
+-- the outcome where a line is false, none where all are right
+abbrev pub end_of : Verdict → Option Outcome
+end_of Equal = None
+end_of (False line) = Some (Ends No [] line.items)
+
+-- the outcome by what was found
+abbrev pub outcome_by : Verdict → Outcome
+outcome_by verdict = unwrap_or (end_of verdict) (Ends Yes [] yes_line)
+
+-- these bytes are the file, or of one that is longer than this size by more than so many the first, one more than these
+abbrev pub IsFrontOf : Option (List ℕ) → ℕ → ℕ → List ℕ → Type 0
+IsFrontOf file size more bytes = MatchOption file ⊥ (λ whole. (bytes ≡ whole) ⊎ ((size + more < length whole) × (bytes ≡ take (size + (more + 1)) whole)))
+
+-- the line of a verdict was put
+abbrev pub PutsVerdict : Verdict → Status → SinkShown → SinkShown → Type 0
+PutsVerdict Equal answer old new = PutsAnswer yes_line Yes answer old new
+PutsVerdict (False line) answer old new = PutsAnswer line.items No answer old new

@@ -1,0 +1,214 @@
+//! Given files, which are compared with those that `generate` would write.
+ghost use Rattle.std.specs.Prelude.{◌≡◌, ◌++◌, ◌+◌, ◌-◌, ◌^◌, ◌<◌, length, slice_get, IfOk, IfErr, IfSome, OnOk, Some};
+ghost use Rattle.std.specs.Option.{option_map};
+ghost use Rattle.pg_audit.specs.Differences.{first_false};
+ghost use Rattle.pg_outside.specs.Content.{KeepsHeld, file_at};
+ghost use Rattle.pg_outside.specs.Faults.{NoneFell};
+ghost use Rattle.pg_top.specs.Auditing.{denies, given_file, given_files};
+ghost use Rattle.pg_top.specs.Calls.{outcome_of, reads_of};
+ghost use Rattle.pg_top.specs.Commands.{name_now, texts_of};
+ghost use Rattle.pg_top.specs.Readings.{first_end};
+ghost use Rattle.pg_top.specs.Requests.{ToAudit, if_asked};
+ghost use Rattle.pg_top.specs.Selection.{signs_of, HasSigns, selected};
+ghost use Rattle.pg_top.specs.Stops.{StopsFront, StopsAt, StopsReading};
+ghost use Rattle.pg_top.specs.Verdicts.{wanted_file, wanted_files, end_of, outcome_by, IsFrontOf, PutsVerdict};
+
+use crate::answers::Status;
+use crate::commands::Names;
+use crate::inputs::{Given, Stop};
+use crate::no_lines::no_line;
+use crate::puts::answer;
+use crate::reading::{Inputs, read_inputs};
+use crate::selection::select;
+use pg_audit::compare;
+use pg_outside::{Files, ReadError, Sink};
+use pg_plain::PlainEngine;
+use pg_select::Engine;
+use pg_texts::{pattmp_text, report_text};
+use std::alloc::{AllocError, Global};
+
+/// The line where all given files are right.
+const YES: &[u8] = b"yes\n";
+
+/// How many bytes more than it should have are read of a given file.
+const MORE: usize = 256;
+
+/// A given file, and the text that it should be.
+#[derive(Drop)]
+pub struct Wanted<'a> {
+    /// Which file it is.
+    pub given: Given,
+    /// Its name.
+    pub name: &'a str,
+    /// The text.
+    pub text: Vec<u8>,
+}
+
+/// What comparing given files gives.
+#[derive(Drop)]
+pub enum Verdict {
+    /// Each line is right.
+    Equal,
+    /// A line is false, as this printed line says.
+    False(Vec<u8>),
+}
+
+/// Adds the hyphenated list by the patterns of an engine, where it is asked for.
+fn push_pattmp<'a, E: Engine>(
+    alloc: Global,
+    wanted: &mut Vec<Wanted<'a>>,
+    name: Option<&'a str>,
+    engine: &E,
+    inputs: &Inputs,
+) -> Result<(), AllocError>
+    requires signs { HasSigns inputs.now }
+    requires greatest { (E.meaning engine.now).signs ≡ signs_of inputs.now }
+    requires patterns { (E.meaning engine.now).patterns ≡ selected inputs.now }
+    ensures { OnOk result (wanted_files wanted.new.items ≡
+        wanted_files wanted.old.items ++ if_asked (name_now name.entry) (λ name. given_file (λ _. inputs.now) (Given.Pattmp, name))) }
+{
+    if let Some(name) = name {
+        let text = pattmp_text(alloc, engine, &inputs.dictionary, &inputs.table)?;
+        wanted.push(Wanted {
+            given: Given::Pattmp,
+            name,
+            text,
+        })?;
+    }
+    Ok(())
+}
+
+/// Does the run of the inputs over the plain engine, and builds the texts that the given files should be, in their order.
+fn make_wanted<'a>(
+    alloc: Global,
+    names: &Names<'a>,
+    inputs: &Inputs,
+) -> Result<Vec<Wanted<'a>>, AllocError>
+    requires { HasSigns inputs.now }
+    ensures { IfOk result (λ wanted. wanted_files wanted.items ≡ given_files (λ _. inputs.now) (texts_of names.now)) }
+{
+    let mut engine = PlainEngine::new(alloc, inputs.table.letters() + 1, &inputs.start)?;
+    let run = select(alloc, &mut engine, inputs)?;
+    let patterns = run.patterns().text(alloc, &inputs.table)?;
+    let report = report_text(alloc, inputs.start.largest(), &inputs.params, &run)?;
+    let mut wanted = Vec::new(alloc);
+    wanted.push(Wanted {
+        given: Given::Patterns,
+        name: names.output,
+        text: patterns,
+    })?;
+    push_pattmp(alloc, &mut wanted, names.pattmp, &engine, inputs)?;
+    wanted.push(Wanted {
+        given: Given::Report,
+        name: names.report,
+        text: report,
+    })?;
+    Ok(wanted)
+}
+
+/// Reads a given file, or of one that is longer than this size by more than `MORE` bytes the first, one more than these.
+fn read_given<'a, F: Files>(
+    alloc: Global,
+    name: &'a str,
+    size: usize,
+    files: &mut F,
+) -> Result<Vec<u8>, Stop<'a>>
+    requires { size + MORE < 2 ^ 64 - 1 }
+    ensures held { KeepsHeld (F.shown files.old).held (F.shown files.new).held }
+    ensures reads { NoneFell (F.shown files.old).read_faults (F.shown files.new).read_faults }
+    ensures front { IfOk result (λ bytes.
+        IfSome (F.shown files.new).held (λ files. IsFrontOf (file_at files name.now) size MORE bytes.items)) }
+    ensures stopped { IfErr result (StopsFront name.now (F.shown files.old) (F.shown files.new)) }
+{
+    let mut bytes = Vec::new(alloc);
+    match files.read(alloc, name, size + MORE, &mut bytes) {
+        Ok(()) => Ok(bytes),
+        Err(ReadError::TooLong) => Ok(bytes),
+        Err(ReadError::Failed) => Err(Stop::Unread(name)),
+        Err(ReadError::Memory) => Err(Stop::Memory),
+    }
+}
+
+/// What comparing a given file, or a long one's first bytes, with its text gives.
+fn judge(alloc: Global, bytes: &[u8], given: Given, text: &[u8]) -> Result<Verdict, AllocError>
+    ensures { IfOk result (λ verdict. end_of verdict ≡ option_map (denies given) (first_false bytes.now text.now)) }
+{
+    match compare(bytes, text) {
+        None => Ok(Verdict::Equal),
+        Some(line) => Ok(Verdict::False(no_line(alloc, given, &line)?)),
+    }
+}
+
+/// Reads a given file and compares it with its text.
+fn compare_file<'a, F: Files>(
+    alloc: Global,
+    wanted: &Wanted<'a>,
+    files: &mut F,
+) -> Result<Verdict, Stop<'a>>
+    ensures held { KeepsHeld (F.shown files.old).held (F.shown files.new).held }
+    ensures reads { NoneFell (F.shown files.old).read_faults (F.shown files.new).read_faults }
+    ensures ok { IfOk result (λ verdict. IfSome (F.shown files.new).held (λ files.
+        option_map ((wanted_file wanted.now).ends (file_at files)) (file_at files wanted.now.name.now) ≡ Some (end_of verdict))) }
+    ensures stopped { IfErr result (StopsAt (wanted_file wanted.now) (F.shown files.old) (F.shown files.new)) }
+{
+    let bytes = read_given(alloc, wanted.name, wanted.text.len(), files)?;
+    let verdict = judge(alloc, &bytes, wanted.given, &wanted.text)?;
+    Ok(verdict)
+}
+
+/// The given file at a place.
+fn wanted_at<'a, 'b>(wanted: &'b [Wanted<'a>], i: usize) -> &'b Wanted<'a>
+    requires { i < length wanted.now }
+    ensures { slice_get wanted.now i ≡ Some result.now }
+{
+    &wanted[i]
+}
+
+/// Compares files one after the other, up to the first that has a false line.
+fn compare_all<'a, F: Files>(
+    alloc: Global,
+    wanted: &[Wanted<'a>],
+    files: &mut F,
+) -> Result<Verdict, Stop<'a>>
+    ensures held { KeepsHeld (F.shown files.old).held (F.shown files.new).held }
+    ensures ok { IfOk result (λ verdict. IfSome (F.shown files.new).held (λ files.
+        first_end (file_at files) (wanted_files wanted.now) ≡ end_of verdict)) }
+    ensures stopped { IfErr result (StopsReading (wanted_files wanted.now) (F.shown files.old) (F.shown files.new)) }
+{
+    let count = wanted.len();
+    'files: for i in 0..count {
+        let verdict = compare_file(alloc, wanted_at(wanted, i), files)?;
+        match verdict {
+            Verdict::Equal => {}
+            Verdict::False(line) => return Ok(Verdict::False(line)),
+        }
+    }
+    Ok(Verdict::Equal)
+}
+
+/// Reads what `audit` reads, and compares the given files with those that `generate` would write.
+pub fn audit_files<'a, F: Files>(
+    alloc: Global,
+    names: &Names<'a>,
+    files: &mut F,
+) -> Result<Verdict, Stop<'a>>
+    ensures held { KeepsHeld (F.shown files.old).held (F.shown files.new).held }
+    ensures ok { IfOk result (λ verdict. IfSome (F.shown files.new).held (λ files.
+        outcome_of (file_at files) (ToAudit (texts_of names.now)) ≡ outcome_by verdict)) }
+    ensures stopped { IfErr result
+        (StopsReading (reads_of (ToAudit (texts_of names.now))) (F.shown files.old) (F.shown files.new)) }
+{
+    let inputs = read_inputs(alloc, names, files)?;
+    let wanted = make_wanted(alloc, names, &inputs)?;
+    compare_all(alloc, &wanted, files)
+}
+
+/// Puts the line of a verdict, and gives its answer.
+pub fn put_verdict<O: Sink>(out: &mut O, verdict: &Verdict) -> Status
+    ensures { PutsVerdict verdict.now result (O.shown out.old) (O.shown out.new) }
+{
+    match verdict {
+        Verdict::Equal => answer(out, YES, Status::Yes),
+        Verdict::False(line) => answer(out, line, Status::No),
+    }
+}

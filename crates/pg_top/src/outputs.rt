@@ -1,0 +1,153 @@
+//! What `generate` writes and prints.
+ghost use Rattle.std.specs.Prelude.{◌≡◌, ◌++◌, ◌∷◌, [], IfOk, OnOk, IsSome, Some};
+ghost use Rattle.pg_driver.specs.Told.{account_of, TellsCells};
+ghost use Rattle.pg_patterns.specs.Values.{SignsUpTo};
+ghost use Rattle.pg_top.specs.Commands.{name_now, texts_of};
+ghost use Rattle.pg_top.specs.PrintedLines.{work_line};
+ghost use Rattle.pg_top.specs.Requests.{if_asked};
+ghost use Rattle.pg_top.specs.Selecting.{selected_files, selected_lines};
+ghost use Rattle.pg_top.specs.Selection.{signs_of, HasSigns, selected, selected_list, selected_cells, selected_cells_text, selected_text, selected_account, passes_begun, last_layout as last_layout_of};
+ghost use Rattle.pg_top.specs.Writings.{writing_of};
+
+use crate::commands::Names;
+use crate::printed::{done_line, push_work};
+use crate::reading::Inputs;
+use crate::selection::{last_layout, select};
+use crate::writes::Output;
+use pg_driver::Run;
+use pg_packed::PackedEngine;
+use pg_select::Engine;
+use pg_texts::{cells_text, pattmp_text, report_text};
+use std::alloc::{AllocError, Global};
+
+/// What a command writes and prints.
+#[derive(Drop)]
+pub struct Outputs<'a> {
+    /// The files, in the order in which they are written.
+    pub files: Vec<Output<'a>>,
+    /// The printed lines.
+    pub lines: Vec<u8>,
+}
+
+/// Adds the hyphenated list by the patterns of an engine, where it is asked for.
+fn push_pattmp<'a, E: Engine>(
+    alloc: Global,
+    files: &mut Vec<Output<'a>>,
+    name: Option<&'a str>,
+    engine: &E,
+    inputs: &Inputs,
+) -> Result<(), AllocError>
+    requires signs { HasSigns inputs.now }
+    requires greatest { (E.meaning engine.now).signs ≡ signs_of inputs.now }
+    requires patterns { (E.meaning engine.now).patterns ≡ selected inputs.now }
+    ensures { OnOk result (writing_of files.new.items ≡
+        writing_of files.old.items ++ if_asked (name_now name.entry) (λ name. (name, selected_list inputs.now))) }
+{
+    if let Some(name) = name {
+        let text = pattmp_text(alloc, engine, &inputs.dictionary, &inputs.table)?;
+        files.push(Output { name, text })?;
+    }
+    Ok(())
+}
+
+/// Adds the cells file, where it is asked for.
+fn push_cells<'a>(
+    alloc: Global,
+    files: &mut Vec<Output<'a>>,
+    name: Option<&'a str>,
+    run: &Run,
+    inputs: &Inputs,
+) -> Result<(), AllocError>
+    requires { TellsCells (Some (selected_cells inputs.now)) run.now }
+    ensures { OnOk result (writing_of files.new.items ≡
+        writing_of files.old.items ++ if_asked (name_now name.entry) (λ name. (name, selected_cells_text inputs.now))) }
+{
+    if let Some(name) = name {
+        let text = cells_text(alloc, run)?;
+        files.push(Output { name, text })?;
+    }
+    Ok(())
+}
+
+/// Appends the work line of a run.
+fn push_end(lines: &mut Vec<u8>, run: &Run, inputs: &Inputs) -> Result<(), AllocError>
+    requires begun { run.now.begun ≡ passes_begun inputs.now }
+    requires cells { TellsCells (Some (selected_cells inputs.now)) run.now }
+    ensures { OnOk result (lines.new.items ≡
+        lines.old.items ++ work_line (passes_begun inputs.now) (last_layout_of (selected_cells inputs.now))) }
+{
+    let layout = match last_layout(run) {
+        Some(layout) => layout,
+        None => unreachable!(),
+    };
+    push_work(lines, run.begun(), &layout)
+}
+
+/// The printed lines, for this pattern file.
+fn make_lines(
+    alloc: Global,
+    patterns: &[u8],
+    run: &Run,
+    inputs: &Inputs,
+) -> Result<Vec<u8>, AllocError>
+    requires text { patterns.now ≡ selected_text inputs.now }
+    requires account { account_of run.now ≡ selected_account inputs.now }
+    requires begun { run.now.begun ≡ passes_begun inputs.now }
+    requires cells { TellsCells (Some (selected_cells inputs.now)) run.now }
+    ensures { IfOk result (λ lines. lines.items ≡ selected_lines inputs.now) }
+{
+    let mut lines = done_line(alloc, patterns, &run.totals())?;
+    push_end(&mut lines, run, inputs)?;
+    Ok(lines)
+}
+
+/// Builds all that is written and printed, after the run over an engine.
+fn make_files<'a, E: Engine>(
+    alloc: Global,
+    names: &Names<'a>,
+    inputs: &Inputs,
+    engine: &E,
+    run: &Run,
+) -> Result<Outputs<'a>, AllocError>
+    requires signs { HasSigns inputs.now }
+    requires greatest { (E.meaning engine.now).signs ≡ signs_of inputs.now }
+    requires patterns { (E.meaning engine.now).patterns ≡ selected inputs.now }
+    requires selected { run.now.patterns ≡ selected inputs.now }
+    requires pattern_signs { SignsUpTo (signs_of inputs.now) run.now.patterns }
+    requires account { account_of run.now ≡ selected_account inputs.now }
+    requires begun { run.now.begun ≡ passes_begun inputs.now }
+    requires cells { TellsCells (Some (selected_cells inputs.now)) run.now }
+    ensures files { IfOk result (λ made. writing_of made.files.items ≡ selected_files (texts_of names.now) inputs.now) }
+    ensures lines { IfOk result (λ made. made.lines.items ≡ selected_lines inputs.now) }
+{
+    let patterns = run.patterns().text(alloc, &inputs.table)?;
+    let lines = make_lines(alloc, &patterns, run, inputs)?;
+    let mut files = Vec::new(alloc);
+    files.push(Output {
+        name: names.output,
+        text: patterns,
+    })?;
+    push_pattmp(alloc, &mut files, names.pattmp, engine, inputs)?;
+    push_cells(alloc, &mut files, names.cells, run, inputs)?;
+    let report = report_text(alloc, inputs.start.largest(), &inputs.params, run)?;
+    files.push(Output {
+        name: names.report,
+        text: report,
+    })?;
+    Ok(Outputs { files, lines })
+}
+
+/// Does the run of the inputs over the packed engine, and builds all that `generate` writes and prints.
+pub fn make_outputs<'a>(
+    alloc: Global,
+    names: &Names<'a>,
+    inputs: &Inputs,
+) -> Result<Outputs<'a>, AllocError>
+    requires { HasSigns inputs.now }
+    ensures files { IfOk result (λ made. writing_of made.files.items ≡ selected_files (texts_of names.now) inputs.now) }
+    ensures lines { IfOk result (λ made. made.lines.items ≡ selected_lines inputs.now) }
+{
+    let mut engine = PackedEngine::new(alloc, inputs.table.letters() + 1, &inputs.start)?;
+    let run = select(alloc, &mut engine, inputs)?;
+    make_files(alloc, names, inputs, &engine, &run)
+}
