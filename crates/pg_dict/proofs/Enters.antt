@@ -7,12 +7,14 @@ use Rattle.pg_types.specs.Reading.{unless}
 use Rattle.pg_translate.specs.Alphabets.{Alphabet}
 use Rattle.pg_translate.specs.Rules.{KeepsRules}
 use Rattle.pg_translate.specs.Tokens.{Token, Letter}
-use Rattle.pg_translate.specs.Cuts.{tokens_of}
+use Rattle.pg_translate.specs.Cuts.{cut_rest, tokens_of}
 use Rattle.pg_dict.specs.declared.store.Store.{Store}
 use Rattle.pg_dict.specs.Spots.{Spot, spot, Columns, add_spots}
 use Rattle.pg_dict.specs.Word.{Word, word_with}
-use Rattle.pg_dict.specs.Words.{line_refusal, line_word, spots_from, word_spots}
-use Rattle.pg_dict.specs.Filled.{cut_rest, filled}
+use Rattle.pg_translate.specs.LineRefusals.{refusal_with_room}
+use Rattle.pg_translate.specs.declared.items.Place.TheVariants.{Dictionary}
+use Rattle.pg_dict.specs.Running.{running_word, spots_from, word_spots}
+use Rattle.pg_dict.specs.Filled.{filled}
 use Rattle.pg_dict.specs.Heads.{headed}
 use Rattle.pg_dict.specs.Entries.{with_line}
 use Rattle.pg_dict.specs.Store.{columns_of, words_of, IsSound, IsFit}
@@ -28,7 +30,7 @@ unless_ok (Some r) y z is = cc
 
 -- the items of the rest of a line
 abbrev items_in : Alphabet → ℕ → List ℕ → List Token
-items_in t size rest = tokens_of (cut_rest t size rest)
+items_in t size rest = tokens_of (cut_rest t Dictionary size rest)
 
 -- the edge, the first letter and what is filled in behind them are the spots of the line's word
 pub word_read : (t : Alphabet) (weight line size sign : ℕ) (rest : List ℕ) (before edge first after : Columns) → edge ≡ add_spots before (spot Nothing weight EDGE ∷ []) → first ≡ add_spots edge (spot Nothing weight sign ∷ []) → filled t weight line size Nothing weight (WORD_LETTERS_MAX - 1) first rest ≡ Ok after
@@ -36,8 +38,8 @@ pub word_read : (t : Alphabet) (weight line size sign : ℕ) (rest : List ℕ) (
 word_read t weight line size sign rest before edge first after is_edge is_first fills =
     let items : List Token = items_in t size rest in
     let spots : List Spot = spots_from weight Nothing weight items in
-    let p = unless_ok (line_refusal line (WORD_LETTERS_MAX - 1) (cut_rest t size rest)) (add_spots first spots) after fills in (
-      ap (λ (refusal : Option Refusal). unless refusal (line_word weight (Letter sign ∷ items))) p.0,
+    let p = unless_ok (refusal_with_room Dictionary line (WORD_LETTERS_MAX - 1) (cut_rest t Dictionary size rest)) (add_spots first spots) after fills in (
+      ap (λ (refusal : Option Refusal). unless refusal (running_word weight (Letter sign ∷ items))) p.0,
       sym p.1
           ∙ ap (λ (c : Columns). add_spots c spots) is_first
           ∙ add_spots-add edge (spot Nothing weight sign) spots

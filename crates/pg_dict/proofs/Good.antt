@@ -3,7 +3,7 @@ use Rattle.std.proofs.Common.{◌≡◌, ℕ, ◌+◌, ◌-◌, ◌<◌, ◌≤�
 use Rattle.std.specs.List.{list_all}
 use Rattle.std.proofs.lemmas.List.{length-map, map-append, get_or_push, length_push, take_at}
 use Rattle.std.proofs.lemmas.List.Folds.{list_all-append}
-use Rattle.std.proofs.lemmas.Bool.{and_parts, and_from, le-leb, lt-ltb, eq-eqb}
+use Rattle.std.proofs.lemmas.Bool.{false≢true, and_parts, and_from, le-leb, lt-ltb, eq-eqb}
 use Rattle.pg_types.specs.declared.limits.TheConstants.{EDGE, WEIGHT_MAX, WORD_LETTERS_MAX}
 use Rattle.pg_types.specs.declared.marks.Mark.{Mark}
 use Rattle.pg_types.specs.declared.marks.Mark.TheVariants.{Nothing, Error, Missed, Found, DontCare}
@@ -11,17 +11,17 @@ use Rattle.pg_translate.specs.Tokens.{Token, Letter, Digit, Weight, Marked, Edge
 use Rattle.pg_dict.specs.declared.store.Store.{Store}
 use Rattle.pg_dict.specs.Spots.{Spot, spot, sets_hyphen, keeps_care, Columns, add_spots}
 use Rattle.pg_dict.specs.Word.{Word, word_with, is_word, is_weight, is_plain_at, decides, has_lengths}
-use Rattle.pg_dict.specs.Words.{spots_from, word_spots}
+use Rattle.pg_dict.specs.Running.{spots_from, word_spots}
 use Rattle.pg_dict.specs.Store.{columns_of, is_sign, IsFit}
 use Rattle.pg_dict.proofs.Adds.{list_all_weaker}
 
--- whether an item is no letter, or one whose sign is not that of the edge
+-- whether an item is one of a dictionary: not the edge, nor a letter with its sign
 abbrev pub is_sound_item : Token → Bool
 is_sound_item (Letter s) = nat_lt EDGE s
 is_sound_item (Digit n) = true
 is_sound_item (Weight n) = true
 is_sound_item (Marked m) = true
-is_sound_item Edge = true
+is_sound_item Edge = false
 
 -- no hyphen where there is no care
 abbrev pub is_decided : Spot → Bool
@@ -56,7 +56,7 @@ last_spot weight mark number (Letter s ∷ items) sound =
 last_spot weight mark number (Digit n ∷ items) sound = last_spot weight mark n items sound
 last_spot weight mark number (Weight n ∷ items) sound = last_spot weight mark n items sound
 last_spot weight mark number (Marked m ∷ items) sound = last_spot weight m number items sound
-last_spot weight mark number (Edge ∷ items) sound = last_spot weight mark number items sound
+last_spot weight mark number (Edge ∷ items) sound = absurd (false≢true sound)
 
 -- decided spots
 pub decides_spots : (spots : List Spot) → list_all is_decided spots ≡ true → decides (map (λ (s : Spot). s.hyphen) spots) (map (λ (s : Spot). s.care) spots) ≡ true

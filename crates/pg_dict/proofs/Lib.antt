@@ -1,4 +1,3 @@
-pub mod Cuts
 pub mod Takes
 pub mod Rows
 pub mod Adds
@@ -8,5 +7,6 @@ pub mod Enters
 pub mod Told
 pub mod Sizes
 pub mod Lines
+pub mod Running
 pub mod WordLaws
 pub mod LineLaws

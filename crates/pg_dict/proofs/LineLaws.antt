@@ -1,82 +1,38 @@
 -- A line of items is cut into them, and a file of lines into those.
-use Rattle.std.proofs.Common.{◌≡◌, ℕ, ◌+◌, ◌<◌, ◌≤◌, Bool, true, cond, not, zero, List, [], ◌∷◌, ◌++◌, length, map, drop, Option, None, Some, Ok, refl, ◌∙◌, ap, arith, length-append}
-use Rattle.std.specs.List.{list_all, AllByRecursion, onto_first}
-use Rattle.std.specs.Option.{option_map, option_or}
-use Rattle.std.proofs.lemmas.Bool.{and_parts, not-true, false≢true}
-use Rattle.std.proofs.lemmas.List.{append_assoc, drop_at}
-use Rattle.std.proofs.lemmas.Option.{slice_get_past}
+use Rattle.std.proofs.Common.{◌≡◌, ℕ, ◌+◌, ◌≤◌, Bool, true, cond, not, List, [], ◌∷◌, ◌++◌, length, map, Ok, refl, ◌∙◌, ap, arith, false, ◌-◌, ◌==◌, ◌||◌, take, slice_index, zero, suc}
+use Rattle.std.specs.List.{list_all, list_any, AllByRecursion, onto_first}
+use Rattle.std.proofs.lemmas.Bool.{and_parts, and_from, or_parts, not-true}
+use Rattle.std.proofs.lemmas.List.{append_assoc}
 use Rattle.pg_types.specs.declared.limits.TheConstants.{FILE_MAX, WORD_LETTERS_MAX}
-use Rattle.pg_types.specs.declared.marks.Mark.TheVariants.{Nothing, Error, Missed, Found, DontCare}
-use Rattle.pg_types.specs.declared.refusals.Refusal.{Refusal}
-use Rattle.pg_types.specs.declared.refusals.Kind.TheVariants.{WordTooLong}
 use Rattle.pg_types.specs.Lines.{pieces_at, is_line_feed, without_cr, lines}
-use Rattle.pg_types.specs.Reading.{unless}
+use Rattle.pg_types.specs.Reading.{both_parts}
 use Rattle.pg_translate.specs.Alphabets.{Alphabet}
-use Rattle.pg_translate.specs.Tokens.{Token, Letter, Digit, Weight, Marked, Edge, item_at}
-use Rattle.pg_translate.specs.Cuts.{Placed, Cut, cut, cut_from, with_item, tokens_of}
+use Rattle.pg_translate.specs.Tokens.{Token, Letter, Digit, Weight, Marked, Edge}
+use Rattle.pg_translate.specs.Gaps.{signs_of}
 use Rattle.pg_translate.specs.Items.{IsItem, joined}
 use Rattle.pg_translate.specs.Rules.{KeepsRules}
 use Rattle.pg_translate.specs.declared.items.Place.TheVariants.{Dictionary}
-use Rattle.pg_translate.proofs.Cuts.{cut_item}
-use Rattle.pg_translate.proofs.ItemLaws.{item_reads}
+use Rattle.pg_translate.specs.Spellings.{is_space}
+use Rattle.pg_translate.proofs.Unbroken.{joined_unbroken}
+use Rattle.pg_translate.proofs.JoinedItems as reads
 use Rattle.pg_dict.specs.Word.{Word}
-use Rattle.pg_dict.specs.Words.{LineWord, letter_columns, line_refusal, line_word, line_of, refused, stop_kind, with_words, on_line, words_from, words}
+use Rattle.pg_dict.specs.Words.{LineWord, line_word, line_of, on_line, words_from, words}
 use Rattle.pg_dict.specs.Written.{letters_among, IsLine, file_of, LinesGive}
 use Rattle.pg_dict.proofs.Lines.{words_short}
 
--- an item has a text
-pub item_some : (t : Alphabet) → KeepsRules t → (token : Token) (text : List ℕ) → IsItem t Dictionary token text → 0 < length text
-item_some t rules (Letter sign) [] item = absurd (false≢true (rules.spelled (sign, []) item))
-item_some t rules (Letter sign) (b ∷ bs) item = omega arith
-item_some t rules (Digit digit) text item = omega (arith, ap (λ (xs : List ℕ). length xs) item.1)
-item_some t rules (Weight weight) text item = omega (arith, ap (λ (xs : List ℕ). length xs) item.text_is)
-item_some t rules (Marked Nothing) text item = absurd item
-item_some t rules (Marked Error) text item = omega (arith, ap (λ (xs : List ℕ). length xs) item)
-item_some t rules (Marked Missed) text item = omega (arith, ap (λ (xs : List ℕ). length xs) item)
-item_some t rules (Marked Found) text item = omega (arith, ap (λ (xs : List ℕ). length xs) item)
-item_some t rules (Marked DontCare) text item = omega (arith, ap (λ (xs : List ℕ). length xs) item)
-item_some t rules Edge text item = absurd item
-
--- the cut of items that are joined has these items, and nothing is left
-pub cut_joined : (t : Alphabet) → KeepsRules t → (column : ℕ) (items : List (Token × List ℕ)) → AllByRecursion (λ (item : Token × List ℕ). IsItem t Dictionary item.0 item.1) items → (tokens_of (cut_from t Dictionary column zero (joined items)) ≡ map (λ (item : Token × List ℕ). item.0) items) × ((cut_from t Dictionary column zero (joined items)).rest ≡ [])
-cut_joined t rules column [] each = (refl, refl)
-cut_joined t rules column (item ∷ items) each =
-    let size : ℕ = length item.1 in
-    let found : item_at t Dictionary (item.1 ++ joined items) ≡ Some (item.0, size) = item_reads t rules Dictionary item.0 item.1 (joined items) each.0 in
-    let within : size ≤ length (item.1 ++ joined items) = omega (arith, length-append item.1 (joined items)) in
-    let behind : drop size (item.1 ++ joined items) ≡ joined items = drop_at item.1 (joined items) size refl in
-    let whole : cut_from t Dictionary column zero (joined (item ∷ items)) ≡ with_item column item.0 (cut_from t Dictionary (column + size) zero (joined items)) =
-    cut_item t Dictionary column (item.1 ++ joined items) item.0 size found (item_some t rules item.0 item.1 each.0) within ∙ ap (λ (rest : List ℕ). with_item column item.0 (cut_from t Dictionary (column + size) zero rest)) behind in
-    let p = cut_joined t rules (column + size) items each.1 in
-    (ap tokens_of whole ∙ ap (λ (tokens : List Token). item.0 ∷ tokens) p.0, ap (λ (c : Cut). c.rest) whole ∙ p.1)
-
--- each letter has a column
-letter_column : (column : ℕ) (token : Token) (items : List Placed) → length (letter_columns items) ≡ letters_among (map (λ (p : Placed). p.token) items) → length (letter_columns (record { column = column; token = token } ∷ items)) ≡ letters_among (token ∷ map (λ (p : Placed). p.token) items)
-letter_column column (Letter s) items rest = omega (arith, rest)
-letter_column column (Digit n) items rest = rest
-letter_column column (Weight n) items rest = rest
-letter_column column (Marked m) items rest = rest
-letter_column column Edge items rest = rest
-
-pub length-letter_columns : (items : List Placed) → length (letter_columns items) ≡ letters_among (map (λ (p : Placed). p.token) items)
-length-letter_columns [] = refl
-length-letter_columns (p ∷ items) = letter_column p.column p.token items (length-letter_columns items)
-
--- a line of items with few letters is not refused
-pub not_refused : (line : ℕ) (c : Cut) → letters_among (tokens_of c) ≤ WORD_LETTERS_MAX → c.rest ≡ [] → line_refusal line WORD_LETTERS_MAX c ≡ None
-not_refused line c few ended =
-    let short : length (letter_columns c.items) ≤ WORD_LETTERS_MAX = omega (arith, length-letter_columns c.items) in
-    ap (λ (letter : Option ℕ). option_or (option_map (refused line WordTooLong) letter) (option_map (λ kind. refused line kind c.column) (stop_kind c.rest))) (slice_get_past (letter_columns c.items) WORD_LETTERS_MAX short)
-    ∙ ap (λ (rest : List ℕ). option_map (λ kind. refused line kind c.column) (stop_kind rest)) ended
+-- the signs of the items of a dictionary are its letters
+signs_are_letters : (t : Alphabet) (items : List (Token × List ℕ)) → AllByRecursion (λ (item : Token × List ℕ). IsItem t Dictionary item.0 item.1) items → length (signs_of (map (λ (item : Token × List ℕ). item.0) items)) ≡ letters_among (map (λ (item : Token × List ℕ). item.0) items)
+signs_are_letters t [] each = refl
+signs_are_letters t ((Letter s, text) ∷ items) each = let rest = signs_are_letters t items each.1 in omega (arith, rest)
+signs_are_letters t ((Digit n, text) ∷ items) each = signs_are_letters t items each.1
+signs_are_letters t ((Weight n, text) ∷ items) each = signs_are_letters t items each.1
+signs_are_letters t ((Marked m, text) ∷ items) each = signs_are_letters t items each.1
+signs_are_letters t ((Edge, text) ∷ items) each = absurd each.0
 
 -- a line of items gives what the items give
 pub line_is_read : (t : Alphabet) → KeepsRules t → (line weight : ℕ) (items : List (Token × List ℕ)) → AllByRecursion (λ (item : Token × List ℕ). IsItem t Dictionary item.0 item.1) items → letters_among (map (λ (item : Token × List ℕ). item.0) items) ≤ WORD_LETTERS_MAX → line_of t line weight (joined items) ≡ Ok (line_word weight (map (λ (item : Token × List ℕ). item.0) items))
 line_is_read t rules line weight items each few =
-    let c : Cut = cut t Dictionary (joined items) in
-    let p = cut_joined t rules 1 items each in
-    let tokens : tokens_of c ≡ map (λ (item : Token × List ℕ). item.0) items = p.0 in
-    let short : letters_among (tokens_of c) ≤ WORD_LETTERS_MAX = omega (arith, ap letters_among tokens) in
-    ap (λ (refusal : Option Refusal). unless refusal (line_word weight (tokens_of c))) (not_refused line c short p.1) ∙ ap (λ (tokens : List Token). Ok (line_word weight tokens)) tokens
+    reads.line_is_read (line_word weight) t rules Dictionary line items each (omega (arith, few, signs_are_letters t items each))
 
 -- the pieces of a text without a line feed, and what stands behind its line feed
 pub pieces_of_line : (text more : List ℕ) → list_all (λ b. not (is_line_feed b)) text ≡ true → pieces_at is_line_feed (text ++ 10 ∷ more) ≡ text ∷ pieces_at is_line_feed more
@@ -101,9 +57,29 @@ words_of_lines t line weight [] [] give = refl
 words_of_lines t line weight [] (w ∷ ws) give = absurd give
 words_of_lines t line weight (text ∷ texts) [] give = absurd give
 words_of_lines t line weight (text ∷ texts) (w ∷ ws) give =
-    ap (on_line (λ (l : LineWord). words_from t (line + 1) l.weight texts)) (give.0 line) ∙ ap (with_words (w ∷ [])) (words_of_lines t (line + 1) w.weight texts ws give.1)
+    ap (on_line (λ (l : LineWord). words_from t (line + 1) l.weight texts)) (give.0 line) ∙ ap (both_parts (Ok (w ∷ []))) (words_of_lines t (line + 1) w.weight texts ws give.1)
 
 -- so does a file of them
 pub file_is_read : (t : Alphabet) (texts : List (List ℕ)) (ws : List Word) → AllByRecursion IsLine texts → LinesGive t 1 texts ws → length (file_of texts) ≤ FILE_MAX → words t (file_of texts) ≡ Ok ws
 file_is_read t texts ws each give short =
     words_short t (file_of texts) short ∙ ap (words_from t 1 1) (lines_of_file texts each) ∙ words_of_lines t 1 1 texts ws give
+
+-- a text without a blank, a TAB, an LF and a CR is a line
+unbroken_feed : (text : List ℕ) → list_any is_space text ≡ false → list_all (λ b. not (is_line_feed b)) text ≡ true
+unbroken_feed [] unbroken = refl
+unbroken_feed (b ∷ bs) unbroken =
+    let parts = or_parts (is_space b) (list_any is_space bs) unbroken in
+    let feed : (b == 10) ≡ false = (or_parts (b == 32 || b == 9) (b == 10) (or_parts ((b == 32 || b == 9) || b == 10) (b == 13) parts.0).0).1 in
+    and_from _ _ (ap not feed) (unbroken_feed bs parts.1)
+
+unbroken_return : (text : List ℕ) (i : ℕ) → list_any is_space text ≡ false → (slice_index text i == 13) ≡ false
+unbroken_return [] i unbroken = refl
+unbroken_return (b ∷ bs) zero unbroken = (or_parts ((b == 32 || b == 9) || b == 10) (b == 13) (or_parts (is_space b) (list_any is_space bs) unbroken).0).1
+unbroken_return (b ∷ bs) (suc i) unbroken = unbroken_return bs i (or_parts (is_space b) (list_any is_space bs) unbroken).1
+
+-- so is a text of items
+pub items_line : (t : Alphabet) → KeepsRules t → (items : List (Token × List ℕ)) → AllByRecursion (λ (item : Token × List ℕ). IsItem t Dictionary item.0 item.1) items → IsLine (joined items)
+items_line t rules items each =
+    let text : List ℕ = joined items in
+    let unbroken : list_any is_space text ≡ false = joined_unbroken t rules Dictionary items each in
+    record { whole = unbroken_feed text unbroken; ended = ap (λ (test : Bool). cond test (take (length text - 1) text) text) (unbroken_return text (length text - 1) unbroken) }

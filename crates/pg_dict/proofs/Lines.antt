@@ -8,7 +8,7 @@ use Rattle.std.proofs.lemmas.List.{append-nil}
 use Rattle.pg_types.specs.declared.refusals.Refusal.{Refusal}
 use Rattle.pg_types.specs.declared.refusals.ReadingError.{ReadingError}
 use Rattle.pg_types.specs.declared.refusals.ReadingError.TheVariants.{Refused, Memory}
-use Rattle.pg_types.specs.Reading.{Fails}
+use Rattle.pg_types.specs.Reading.{Fails, both_parts}
 use Rattle.pg_translate.specs.Alphabets.{Alphabet}
 use Rattle.pg_types.specs.declared.limits.TheConstants.{FILE_MAX}
 use Rattle.pg_types.specs.Lines.{lines}
@@ -17,47 +17,47 @@ use Rattle.pg_dict.specs.declared.store.Stored.{Stored}
 use Rattle.pg_dict.specs.Spots.{Columns, no_columns}
 use Rattle.pg_dict.specs.Store.{columns_of, word_at, words_of, signs_of, lies_within, is_sign, IsSound, IsFit}
 use Rattle.pg_dict.specs.Word.{Word, is_word, is_weight}
-use Rattle.pg_dict.specs.Words.{LineWord, line_of, on_line, with_words, words_from, words}
+use Rattle.pg_dict.specs.Words.{LineWord, line_of, on_line, words_from, words}
 use Rattle.pg_dict.specs.Entries.{Entries, with_line}
 
 -- words behind words behind words
-pub with_words-with_words : (ws more : List Word) (rest : Result (List Word) Refusal) → with_words ws (with_words more rest) ≡ with_words (ws ++ more) rest
-with_words-with_words ws more (Ok last) = ap (λ (words : List Word). Ok words) (sym (append_assoc ws more last))
-with_words-with_words ws more (Err r) = refl
+pub both_parts-both_parts : (ws more : List Word) (rest : Result (List Word) Refusal) → both_parts (Ok ws) (both_parts (Ok more) rest) ≡ both_parts (Ok (ws ++ more)) rest
+both_parts-both_parts ws more (Ok last) = ap (λ (words : List Word). Ok words) (sym (append_assoc ws more last))
+both_parts-both_parts ws more (Err r) = refl
 
 -- what follows a line that is read
-pub line_read : (ws new : List Word) (weight : ℕ) (line : Result LineWord Refusal) (more : LineWord → Result (List Word) Refusal) (next : ℕ → Result (List Word) Refusal) → ((l : LineWord) → more l ≡ next l.weight) → with_line ws line ≡ Ok (record { words = new; weight = weight }) → with_words new (next weight) ≡ with_words ws (on_line more line)
+pub line_read : (ws new : List Word) (weight : ℕ) (line : Result LineWord Refusal) (more : LineWord → Result (List Word) Refusal) (next : ℕ → Result (List Word) Refusal) → ((l : LineWord) → more l ≡ next l.weight) → with_line ws line ≡ Ok (record { words = new; weight = weight }) → both_parts (Ok new) (next weight) ≡ both_parts (Ok ws) (on_line more line)
 line_read ws new weight (Ok l) more next same is =
     let words : ws ++ option_to_list l.word ≡ new = ap (λ (r : Result Entries Refusal). (result_unwrap_or r (record { words = new; weight = weight })).words) is in
     let weights : l.weight ≡ weight = ap (λ (r : Result Entries Refusal). (result_unwrap_or r (record { words = new; weight = weight })).weight) is in
-    sym (ap (λ (r : Result (List Word) Refusal). with_words ws (with_words (option_to_list l.word) r)) (same l ∙ ap next weights) ∙ with_words-with_words ws (option_to_list l.word) (next weight) ∙ ap (λ (ws : List Word). with_words ws (next weight)) words)
+    sym (ap (λ (r : Result (List Word) Refusal). both_parts (Ok ws) (both_parts (Ok (option_to_list l.word)) r)) (same l ∙ ap next weights) ∙ both_parts-both_parts ws (option_to_list l.word) (next weight) ∙ ap (λ (ws : List Word). both_parts (Ok ws) (next weight)) words)
 line_read ws new weight (Err r) more next same is = cc
 
 -- a line that is refused
-pub line_refused : (e : ReadingError) (ws : List Word) (line : Result LineWord Refusal) (more : LineWord → Result (List Word) Refusal) → Fails e (with_line ws line) → Fails e (with_words ws (on_line more line))
+pub line_refused : (e : ReadingError) (ws : List Word) (line : Result LineWord Refusal) (more : LineWord → Result (List Word) Refusal) → Fails e (with_line ws line) → Fails e (both_parts (Ok ws) (on_line more line))
 line_refused (Refused r) ws (Ok l) more fails = cc
 line_refused (Refused r) ws (Err s) more fails = cc
 line_refused Memory ws line more fails = tt
 
 -- the next line of a file
-pub next_read : (t : Alphabet) (line weight next : ℕ) (text : List ℕ) (below all : List (List ℕ)) (ws new : List Word) → all ≡ text ∷ below → with_line ws (line_of t line weight text) ≡ Ok (record { words = new; weight = next }) → with_words new (words_from t (line + 1) next below) ≡ with_words ws (words_from t line weight all)
+pub next_read : (t : Alphabet) (line weight next : ℕ) (text : List ℕ) (below all : List (List ℕ)) (ws new : List Word) → all ≡ text ∷ below → with_line ws (line_of t line weight text) ≡ Ok (record { words = new; weight = next }) → both_parts (Ok new) (words_from t (line + 1) next below) ≡ both_parts (Ok ws) (words_from t line weight all)
 next_read t line weight next text below all ws new is read =
     line_read ws new next (line_of t line weight text) (λ (l : LineWord). words_from t (line + 1) l.weight below) (λ (weight : ℕ). words_from t (line + 1) weight below) (λ _. refl) read
-    ∙ ap (λ (all : List (List ℕ)). with_words ws (words_from t line weight all)) (sym is)
+    ∙ ap (λ (all : List (List ℕ)). both_parts (Ok ws) (words_from t line weight all)) (sym is)
 
-pub next_refused : (e : ReadingError) (t : Alphabet) (line weight : ℕ) (text : List ℕ) (below all : List (List ℕ)) (ws : List Word) (whole : Result (List Word) Refusal) → all ≡ text ∷ below → with_words ws (words_from t line weight all) ≡ whole → Fails e (with_line ws (line_of t line weight text)) → Fails e whole
+pub next_refused : (e : ReadingError) (t : Alphabet) (line weight : ℕ) (text : List ℕ) (below all : List (List ℕ)) (ws : List Word) (whole : Result (List Word) Refusal) → all ≡ text ∷ below → both_parts (Ok ws) (words_from t line weight all) ≡ whole → Fails e (with_line ws (line_of t line weight text)) → Fails e whole
 next_refused e t line weight text below all ws whole is so fails =
-    let r : Fails e (with_words ws (words_from t line weight (text ∷ below))) = line_refused e ws (line_of t line weight text) (λ (l : LineWord). words_from t (line + 1) l.weight below) fails in
+    let r : Fails e (both_parts (Ok ws) (words_from t line weight (text ∷ below))) = line_refused e ws (line_of t line weight text) (λ (l : LineWord). words_from t (line + 1) l.weight below) fails in
     let F : Result (List Word) Refusal → Type 0 = λ reading. Fails e reading in
-    subst F (ap (λ (all : List (List ℕ)). with_words ws (words_from t line weight all)) (sym is) ∙ so) r
+    subst F (ap (λ (all : List (List ℕ)). both_parts (Ok ws) (words_from t line weight all)) (sym is) ∙ so) r
 
 -- no line is left
-pub all_read : (t : Alphabet) (line weight : ℕ) (left : List (List ℕ)) (ws : List Word) → left ≡ [] → with_words ws (words_from t line weight left) ≡ Ok ws
+pub all_read : (t : Alphabet) (line weight : ℕ) (left : List (List ℕ)) (ws : List Word) → left ≡ [] → both_parts (Ok ws) (words_from t line weight left) ≡ Ok ws
 all_read t line weight left ws is =
-    ap (λ (left : List (List ℕ)). with_words ws (words_from t line weight left)) is ∙ ap (λ (words : List Word). Ok words) (append-nil ws)
+    ap (λ (left : List (List ℕ)). both_parts (Ok ws) (words_from t line weight left)) is ∙ ap (λ (words : List Word). Ok words) (append-nil ws)
 
 -- nothing in front
-pub with_nothing : (rest : Result (List Word) Refusal) → with_words [] rest ≡ rest
+pub with_nothing : (rest : Result (List Word) Refusal) → both_parts (Ok []) rest ≡ rest
 with_nothing (Ok words) = refl
 with_nothing (Err r) = refl
 
@@ -66,8 +66,8 @@ pub words_short : (t : Alphabet) (bytes : List ℕ) → length bytes ≤ FILE_MA
 words_short t bytes short = rw (le-ltb FILE_MAX (length bytes) short) refl
 
 -- a store without a word
-pub starts : (s : Store) (rest : Result (List Word) Refusal) → s.words.items ≡ [] → with_words (words_of s) rest ≡ rest
-starts s rest none = ap (λ (words : List Stored). with_words (map (word_at (columns_of s)) words) rest) none ∙ with_nothing rest
+pub starts : (s : Store) (rest : Result (List Word) Refusal) → s.words.items ≡ [] → both_parts (Ok (words_of s)) rest ≡ rest
+starts s rest none = ap (λ (words : List Stored). both_parts (Ok (map (word_at (columns_of s)) words)) rest) none ∙ with_nothing rest
 
 pub starts_sound : (s : Store) → columns_of s ≡ no_columns → s.words.items ≡ [] → IsSound s
 starts_sound s columns none = record {

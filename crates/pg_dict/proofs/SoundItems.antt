@@ -18,7 +18,7 @@ item_sound t rules (Letter s) text item = lt-ltb EDGE s (rules.signs_low (s, tex
 item_sound t rules (Digit n) text item = refl
 item_sound t rules (Weight n) text item = refl
 item_sound t rules (Marked m) text item = refl
-item_sound t rules Edge text item = refl
+item_sound t rules Edge text item = absurd item
 
 -- so is the first item of a cut, where those behind it are
 cut_sound : (t : Alphabet) → KeepsRules t → (column : ℕ) (text : List ℕ) (found : Option (Token × ℕ)) → item_at t Dictionary text ≡ found → (behind : ℕ → Cut) → ((k : ℕ) → list_all is_sound_item (tokens_of (behind k)) ≡ true) → list_all is_sound_item (tokens_of (cut_at column text found behind)) ≡ true

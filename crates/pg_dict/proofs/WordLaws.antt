@@ -9,7 +9,9 @@ use Rattle.pg_types.specs.declared.marks.Mark.TheVariants.{Nothing, Error, Misse
 use Rattle.pg_translate.specs.Tokens.{Token, Letter, Digit, Weight}
 use Rattle.pg_dict.specs.Spots.{Spot, spot, sets_hyphen, keeps_care}
 use Rattle.pg_dict.specs.Word.{Word, word_with, IsWord}
-use Rattle.pg_dict.specs.Words.{spots_from, line_word}
+use Rattle.pg_dict.specs.Words.{line_word}
+use Rattle.pg_dict.specs.Running.{spots_from, running_word}
+use Rattle.pg_dict.proofs.Running.{same_word, running_is}
 use Rattle.pg_dict.specs.Written.{Written, number_token, mark_tokens, weight_tokens, letters_tokens, written_spots, written_letters, between_letters, AreMarksOf, letters_with, word_tokens}
 
 -- a number sets the weight
@@ -51,18 +53,18 @@ letters_read weight (l ∷ letters) =
 abbrev tokens_of : ℕ → ℕ → ℕ → List Written → List Token
 tokens_of before weight sign letters = weight_tokens before weight ++ Letter sign ∷ letters_tokens weight letters
 
-pub tokens_read : (before weight sign : ℕ) (letters : List Written) → line_word before (tokens_of before weight sign letters) ≡ record { word = Some (word_with weight (written_spots weight sign letters)); weight = weight }
+pub tokens_read : (before weight sign : ℕ) (letters : List Written) → running_word before (tokens_of before weight sign letters) ≡ record { word = Some (word_with weight (written_spots weight sign letters)); weight = weight }
 tokens_read before weight sign letters = by_test (weight == before) refl
   where
-    first : line_word weight (Letter sign ∷ letters_tokens weight letters) ≡ record { word = Some (word_with weight (written_spots weight sign letters)); weight = weight }
+    first : running_word weight (Letter sign ∷ letters_tokens weight letters) ≡ record { word = Some (word_with weight (written_spots weight sign letters)); weight = weight }
     first = ap (λ (spots : List Spot). record { word = Some (word_with weight (spot Nothing weight EDGE ∷ spot Nothing weight sign ∷ spots)); weight = weight }) (letters_read weight letters)
 
-    by_size : (small : Bool) → line_word before (cond small (Digit weight) (Weight weight) ∷ Letter sign ∷ letters_tokens weight letters) ≡ record { word = Some (word_with weight (written_spots weight sign letters)); weight = weight }
+    by_size : (small : Bool) → running_word before (cond small (Digit weight) (Weight weight) ∷ Letter sign ∷ letters_tokens weight letters) ≡ record { word = Some (word_with weight (written_spots weight sign letters)); weight = weight }
     by_size true = first
     by_size false = first
 
-    by_test : (same : Bool) → (weight == before) ≡ same → line_word before (cond same [] (number_token weight ∷ []) ++ Letter sign ∷ letters_tokens weight letters) ≡ record { word = Some (word_with weight (written_spots weight sign letters)); weight = weight }
-    by_test true is = ap (λ (k : ℕ). line_word k (Letter sign ∷ letters_tokens weight letters)) (sym (eqb-true weight before is)) ∙ first
+    by_test : (same : Bool) → (weight == before) ≡ same → running_word before (cond same [] (number_token weight ∷ []) ++ Letter sign ∷ letters_tokens weight letters) ≡ record { word = Some (word_with weight (written_spots weight sign letters)); weight = weight }
+    by_test true is = ap (λ (k : ℕ). running_word k (Letter sign ∷ letters_tokens weight letters)) (sym (eqb-true weight before is)) ∙ first
     by_test false is = by_size (nat_lt weight 10)
 
 -- a list is its first two elements, those between, and its last
@@ -119,15 +121,6 @@ length-between_letters xs = omega (arith, length-take (length xs - 1 - 2) (drop 
 last_of : {X : Type 0} (xs : List X) (n : ℕ) (x : X) → length xs ≡ n → slice_get xs (n - 1) ≡ Some x → slice_get xs (length xs - 1) ≡ Some x
 last_of xs n x size last = ap (λ (k : ℕ). slice_get xs (k - 1)) size ∙ last
 
--- two words with the same parts
-same_word : (v w : Word) → v.signs ≡ w.signs → v.hyphens ≡ w.hyphens → v.weights ≡ w.weights → v.cares ≡ w.cares → v.weight ≡ w.weight → v ≡ w
-same_word v w signs hyphens weights cares weight =
-    ap (λ (xs : List ℕ). record v { signs = xs }) signs
-    ∙ ap (λ (xs : List Bool). record v { signs = w.signs; hyphens = xs }) hyphens
-    ∙ ap (λ (xs : List ℕ). record v { signs = w.signs; hyphens = w.hyphens; weights = xs }) weights
-    ∙ ap (λ (xs : List Bool). record w { cares = xs; weight = v.weight }) cares
-    ∙ ap (λ (n : ℕ). record w { weight = n }) weight
-
 -- a word is its first letter, the letters behind it with their marks and weights, and two edges
 pub word_written : (w : Word) (marks : List Mark) → IsWord w → AreMarksOf w marks → word_with w.weight (written_spots w.weight (slice_index w.signs 1) (letters_with marks w)) ≡ w
 word_written w marks is mean =
@@ -155,4 +148,4 @@ word_written w marks is mean =
 -- what is written of a word is read back as that word
 pub word_is_read : (before : ℕ) (w : Word) (marks : List Mark) → IsWord w → AreMarksOf w marks → line_word before (word_tokens before marks w) ≡ record { word = Some w; weight = w.weight }
 word_is_read before w marks is mean =
-    tokens_read before w.weight (slice_index w.signs 1) (letters_with marks w) ∙ ap (λ (v : Word). record { word = Some v; weight = w.weight }) (word_written w marks is mean)
+    sym (running_is before (word_tokens before marks w)) ∙ tokens_read before w.weight (slice_index w.signs 1) (letters_with marks w) ∙ ap (λ (v : Word). record { word = Some v; weight = w.weight }) (word_written w marks is mean)

@@ -1,19 +1,16 @@
 -- What the reading of a word leaves in the columns.
-use Rattle.std.specs.Prelude.{ℕ, ◌+◌, ◌-◌, List, length, Result}
+use Rattle.std.specs.Prelude.{ℕ, List, Result}
 use Rattle.pg_types.specs.declared.marks.Mark.{Mark}
 use Rattle.pg_types.specs.declared.refusals.Refusal.{Refusal}
 use Rattle.pg_types.specs.Reading.{unless}
 use Rattle.pg_translate.specs.Alphabets.{Alphabet}
-use Rattle.pg_translate.specs.Cuts.{Cut, cut_from, tokens_of}
+use Rattle.pg_translate.specs.Cuts.{cut_rest, tokens_of}
+use Rattle.pg_translate.specs.LineRefusals.{refusal_with_room}
 use Rattle.pg_translate.specs.declared.items.Place.TheVariants.{Dictionary}
 use Rattle.pg_dict.specs.Spots.{Columns, add_spots}
-use Rattle.pg_dict.specs.Words.{line_refusal, spots_from}
-
--- the cut of the rest of a line of this size
-abbrev pub cut_rest : Alphabet → ℕ → List ℕ → Cut
-cut_rest t size rest = cut_from t Dictionary (size - length rest + 1) 0 rest
+use Rattle.pg_dict.specs.Running.{spots_from}
 
 -- the columns when the rest of a word is read: its weight, its line and the line's size; the last mark and number behind the
 -- letter before; how many letters may still come; the columns so far; the rest of the line
 abbrev pub filled : Alphabet → ℕ → ℕ → ℕ → Mark → ℕ → ℕ → Columns → List ℕ → Result Columns Refusal
-filled t weight line size mark number room done rest = let c = cut_rest t size rest in unless (line_refusal line room c) (add_spots done (spots_from weight mark number (tokens_of c)))
+filled t weight line size mark number room done rest = let c = cut_rest t Dictionary size rest in unless (refusal_with_room Dictionary line room c) (add_spots done (spots_from weight mark number (tokens_of c)))

@@ -5,20 +5,22 @@ use Rattle.pg_types.specs.declared.refusals.Refusal.{Refusal}
 use Rattle.pg_types.specs.Reading.{unless}
 use Rattle.pg_translate.specs.Alphabets.{Alphabet, letters_of}
 use Rattle.pg_translate.specs.Tokens.{Letter}
-use Rattle.pg_translate.specs.Cuts.{tokens_of}
+use Rattle.pg_translate.specs.Cuts.{cut_rest, tokens_of}
+use Rattle.pg_translate.specs.LineRefusals.{refusal_with_room, line_refusal}
+use Rattle.pg_translate.specs.declared.items.Place.TheVariants.{Dictionary}
 use Rattle.pg_dict.specs.declared.line.Line.{Line}
 use Rattle.pg_dict.specs.declared.heads.Head.{Head}
 use Rattle.pg_dict.specs.declared.heads.Head.TheVariants.{Word, Empty}
-use Rattle.pg_dict.specs.Words.{LineWord, line_refusal, line_word}
-use Rattle.pg_dict.specs.Filled.{cut_rest}
+use Rattle.pg_dict.specs.Words.{LineWord}
+use Rattle.pg_dict.specs.Running.{running_word}
 
 -- what a line of this number and size gives, from its rest before the first letter and the word weight so far
 abbrev pub head_from : Alphabet → ℕ → ℕ → ℕ → List ℕ → Result LineWord Refusal
-head_from t line size weight rest = let c = cut_rest t size rest in unless (line_refusal line WORD_LETTERS_MAX c) (line_word weight (tokens_of c))
+head_from t line size weight rest = let c = cut_rest t Dictionary size rest in unless (line_refusal Dictionary line c) (running_word weight (tokens_of c))
 
 -- the same from its first letter and the rest behind it
 abbrev pub headed : Alphabet → ℕ → ℕ → ℕ → ℕ → List ℕ → Result LineWord Refusal
-headed t line size weight sign rest = let c = cut_rest t size rest in unless (line_refusal line (WORD_LETTERS_MAX - 1) c) (line_word weight (Letter sign ∷ tokens_of c))
+headed t line size weight sign rest = let c = cut_rest t Dictionary size rest in unless (refusal_with_room Dictionary line (WORD_LETTERS_MAX - 1) c) (running_word weight (Letter sign ∷ tokens_of c))
 
 -- the first letter, from which the line gives the whole; or the line gives no word; or it is refused
 abbrev pub IsHead : Line → Result LineWord Refusal → Result Head Refusal → Type 0

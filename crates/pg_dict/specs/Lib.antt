@@ -1,6 +1,7 @@
 pub mod Spots
 pub mod Word
 pub mod Words
+pub mod Running
 pub mod Store
 pub mod Filled
 pub mod Steps

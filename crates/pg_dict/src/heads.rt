@@ -51,7 +51,7 @@ impl Line<'_> {
                     rest = after;
                 }
                 Item::Mark(_, after) => rest = after,
-                Item::Edge(after) => rest = after,
+                Item::Edge(_) => unreachable!(),
                 Item::End => return Ok(Head::Empty { weight }),
                 Item::Bad => return Err(self.refuse(kind_of(rest), rest)),
             }

@@ -26,6 +26,13 @@ pub fn lines_are_read(table: &Table)
     keeps_rules(table);
 }
 
+/// The items of a dictionary, joined, are one line: they hold no line feed, and do not end with a CR.
+pub fn items_are_lines(table: &Table)
+    ensures { (items : List (Token × List ℕ)) → AllByRecursion (λ item. IsItem table.now Dictionary item.0 item.1) items → IsLine (joined items) }
+{
+    keeps_rules(table);
+}
+
 /// A file of lines that give words, each below the word weight that the line before it hands on, is the list of these words.
 pub fn files_are_read(table: &Table)
     ensures { (texts : List (List ℕ)) (all : List Word) → AllByRecursion IsLine texts → LinesGive table.now 1 texts all → length (file_of texts) ≤ FILE_MAX → words table.now (file_of texts) ≡ Ok all }

@@ -63,11 +63,7 @@ impl Line<'_> {
                 room,
                 rest: after,
             })),
-            Item::Edge(after) => Ok(Some(At {
-                gap,
-                room,
-                rest: after,
-            })),
+            Item::Edge(_) => unreachable!(),
             Item::End => {
                 store.push(Gap::plain(self.weight), EDGE)?;
                 Ok(None)

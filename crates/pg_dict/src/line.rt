@@ -1,7 +1,8 @@
 //! A line that is being read, and its refusals.
 ghost use Rattle.std.specs.Prelude.{◌≡◌, ◌≤◌, ◌+◌, ◌-◌, length};
 ghost use Rattle.pg_types.specs.declared.limits.TheConstants.{FILE_MAX, WEIGHT_MAX};
-ghost use Rattle.pg_dict.specs.Words.{refused, bad_kind};
+ghost use Rattle.pg_translate.specs.LineRefusals.{refused, bad_kind};
+ghost use Rattle.pg_translate.specs.declared.items.Place.TheVariants.{Dictionary};
 
 use pg_translate::Table;
 use pg_types::{Kind, Refusal, Weight};
@@ -23,7 +24,7 @@ pub(crate) struct Line<'t> {
 
 /// Why a byte that begins no item is refused.
 pub(crate) fn kind_of(rest: &[u8]) -> Kind
-    ensures { result ≡ bad_kind rest.now }
+    ensures { result ≡ bad_kind Dictionary rest.now }
 {
     match rest.first() {
         Some(b'{') => Kind::BadWeight,

@@ -8,7 +8,7 @@ use Rattle.std.specs.FinMap.Entries.{put, find, is_sorted, below_all, by_order, 
 use Rattle.std.specs.List.{list_all}
 use Rattle.std.proofs.lemmas.Bool.{and_parts, and_from}
 use Rattle.std.proofs.lemmas.List.Sums.{sum_by-cons}
-use Rattle.pg_patterns.proofs.Ordered.{is_true, less_is, first_half, second_half}
+use Rattle.pg_types.proofs.Tests.{is_true, less_is, first_half, second_half}
 use Rattle.pg_types.specs.Counts.{Counts, sums_of}
 use Rattle.pg_driver.specs.Counting.{weight_in}
 

@@ -8,7 +8,8 @@ use Rattle.std.specs.List.{flat_map, range_with_len, list_all, list_any}
 use Rattle.std.proofs.lemmas.Bool.{cases_lt, and_parts, or_cases, or_left, or_right}
 use Rattle.pg_patterns.specs.Places.{place_cmp, place_total, place_exact}
 use Rattle.pg_patterns.specs.Values.{best}
-use Rattle.pg_patterns.proofs.Ordered.{is_true, first_half, second_half, less_is, equal_is, find_there}
+use Rattle.pg_types.proofs.Tests.{is_true, first_half, second_half, less_is, equal_is}
+use Rattle.pg_patterns.proofs.Ordered.{find_there}
 
 -- x is an element of the list
 abbrev pub In : {X : Type 0} → X → List X → Type 0

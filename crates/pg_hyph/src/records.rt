@@ -1,7 +1,7 @@
 //! The list of a string that stands in a word.
 ghost use Rattle.std.specs.Prelude.{◌≡◌, ◌+◌, ◌≤◌, length};
 ghost use Rattle.pg_types.specs.declared.limits.TheConstants.{WORD_LETTERS_MAX};
-ghost use Rattle.pg_outputs.specs.Lists.{list_of};
+ghost use Rattle.pg_trie.specs.Lists.{list_of};
 ghost use Rattle.pg_select.specs.Positions.{RaisesValues, RaisesCovers, RaisesAt, values_of, covers_of};
 ghost use Rattle.pg_hyph.specs.ListValues.{value_given, value_by, cover_by};
 ghost use Rattle.pg_hyph.specs.Walks.{by_list};

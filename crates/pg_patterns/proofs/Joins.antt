@@ -8,7 +8,7 @@ use Rattle.std.specs.List.{list_all, All}
 use Rattle.std.specs.List.Sorted.{IsPermutation}
 use Rattle.pg_patterns.specs.Places.{place_cmp, place_total, same_place, place_ties, place_exact}
 use Rattle.pg_patterns.specs.Values.{raise, value_of, best, joined, is_entry, IsPatternMap}
-use Rattle.pg_patterns.proofs.Ordered.{and_first, and_second, equal_is}
+use Rattle.pg_types.proofs.Tests.{and_first, and_second, equal_is}
 use Rattle.pg_patterns.proofs.Sound.{raise_keeps, entry_bounds}
 
 -- v where the test passes, else 0

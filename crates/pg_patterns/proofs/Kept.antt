@@ -14,7 +14,7 @@ use Rattle.std.specs.List.Sorted.{IsPermutation, IsSortedBy}
 use Rattle.pg_patterns.specs.Places.{place_cmp, place_total, same_place, place_ties, place_exact}
 use Rattle.pg_patterns.specs.Values.{value_of, best, joined, is_entry, IsPatternMap}
 use Rattle.pg_patterns.specs.Search.{entry_cmp}
-use Rattle.pg_patterns.proofs.Ordered.{and_first, and_second, both_true, equal_is, less_is, is_true, holds, first_half, second_half}
+use Rattle.pg_types.proofs.Tests.{and_first, and_second, both_true, equal_is, less_is, is_true, holds, first_half, second_half}
 use Rattle.pg_patterns.proofs.Joins.{only, same_maps, joined_keeps, value_of_joined, best-IsPermutation}
 
 -- f does not come before e

@@ -7,6 +7,7 @@ pub mod Rows
 pub mod Points
 pub mod Strings
 pub mod Steps
+pub mod Running
 pub mod LineEntries
 pub mod Known
 pub mod Written

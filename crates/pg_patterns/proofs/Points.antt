@@ -14,7 +14,8 @@ use Rattle.std.specs.Option.{option_map_or}
 use Rattle.pg_patterns.specs.Places.{place_cmp, place_total, same_place, place_ties, place_exact}
 use Rattle.pg_patterns.specs.Search.{is_after, begins_with, StandsAt, first_value}
 use Rattle.pg_patterns.specs.Texts.{digit_of}
-use Rattle.pg_patterns.proofs.Ordered.{greater_is, sorted_at, less_left, find_over, find_there, find_gap, all_before, first_before, first_at, first_not_before, sorted_drop, after_below, equal_is}
+use Rattle.pg_types.proofs.Tests.{greater_is, less_left, equal_is}
+use Rattle.pg_patterns.proofs.Ordered.{sorted_at, find_over, find_there, find_gap, all_before, first_before, first_at, first_not_before, sorted_drop, after_below}
 
 -- a number that is less is not more than one less
 next_upto : (a b : ℕ) (r s : Ordering) → MatchOrdering r (a < b) (a ≡ b) (b < a) → MatchOrdering s (a + 1 < b) (a + 1 ≡ b) (b < a + 1) → r ≡ Less → is_gt s ≡ false

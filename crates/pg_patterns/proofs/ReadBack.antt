@@ -13,10 +13,13 @@ use Rattle.pg_translate.specs.Alphabets.{Alphabet, letters_of, spelling_of, firs
 use Rattle.pg_translate.specs.Tokens.{Token, Letter, Digit, Edge}
 use Rattle.pg_patterns.specs.Places.{place_cmp, place_exact}
 use Rattle.pg_patterns.specs.Values.{is_entry}
-use Rattle.pg_patterns.specs.Lines.{sign_of, signs_of, digits_from, digit_at_dot, entries_at, line_entries}
-use Rattle.pg_patterns.specs.Starts.{both_parts, entries_from}
+use Rattle.pg_translate.specs.Gaps.{sign_of, signs_of}
+use Rattle.pg_patterns.specs.Lines.{digit_at_dot, entries_at, line_entries}
+use Rattle.pg_patterns.proofs.Running.{digits_from, digits_are}
+use Rattle.pg_types.specs.Reading.{both_parts}
+use Rattle.pg_patterns.specs.Starts.{entries_from}
 use Rattle.pg_patterns.specs.Texts.{digit_of, line_from, pattern_line}
-use Rattle.pg_patterns.proofs.Ordered.{and_first, and_second, equal_is}
+use Rattle.pg_types.proofs.Tests.{and_first, and_second, equal_is}
 use Rattle.pg_patterns.proofs.Sound.{entry_bounds}
 use Rattle.pg_patterns.proofs.Written.{IsRead, text_of, tokens_in, entries_of_items, unbroken_text, lines_line}
 
@@ -158,7 +161,7 @@ digits_of_items t P q dot (s ∷ ss) sound =
 
 entries_of_string : (t : Alphabet) (P : List ((List ℕ × ℕ) × ℕ)) (q : List ℕ) → list_all is_entry P ≡ true → line_entries (tokens_in (items_from t P q 0 q)) ≡ entries_of P q
 entries_of_string t P q sound =
-    ap (λ x. entries_at x (digits_from 0 0 (tokens_in (items_from t P q 0 q)))) (signs_from t P q 0 q) ∙ ap (entries_at q) (digits_of_items t P q 0 q sound)
+    ap (entries_at (signs_of (tokens_in (items_from t P q 0 q)))) (sym (digits_are (tokens_in (items_from t P q 0 q)))) ∙ ap (λ x. entries_at x (digits_from 0 0 (tokens_in (items_from t P q 0 q)))) (signs_from t P q 0 q) ∙ ap (entries_at q) (digits_of_items t P q 0 q sound)
 
 -- what is said of a string of the map
 pub record IsString (n : ℕ) (q : List ℕ) : Type 0 where

@@ -11,7 +11,7 @@ use Rattle.pg_patterns.specs.Places.{place_cmp, same_place, place_equiv, place_t
 use Rattle.pg_patterns.specs.Values.{IsPatternMap, value_of, best, joined, is_entry}
 use Rattle.pg_patterns.specs.Lines.{entry_at, entries_at}
 use Rattle.pg_patterns.specs.Texts.{with_string, strings_of}
-use Rattle.pg_patterns.proofs.Ordered.{and_first, equal_is}
+use Rattle.pg_types.proofs.Tests.{and_first, equal_is}
 use Rattle.pg_patterns.proofs.Sound.{entry_bounds}
 use Rattle.pg_patterns.proofs.Joins.{only, best_upto, same_maps, joined_keeps, value_of_joined}
 use Rattle.pg_patterns.proofs.Kept.{told_all}

@@ -10,7 +10,7 @@ use Rattle.pg_types.specs.declared.limits.TheConstants.{LEVEL_MAX, PATTERN_SIGNS
 use Rattle.pg_types.specs.Signs.{is_sign}
 use Rattle.pg_patterns.specs.Places.{place_cmp, place_total}
 use Rattle.pg_patterns.specs.Values.{raise, value_of, largest, is_entry, IsPatternMap}
-use Rattle.pg_patterns.proofs.Ordered.{and_first, and_second, both_true}
+use Rattle.pg_types.proofs.Tests.{and_first, and_second, both_true}
 
 -- what is said of an entry
 pub record EntryBounds (e : (List ℕ × ℕ) × ℕ) : Type 0 where

@@ -14,7 +14,8 @@ use Rattle.pg_patterns.specs.Places.{place_cmp, place_total}
 use Rattle.pg_patterns.specs.Values.{IsPatternMap, is_entry}
 use Rattle.pg_patterns.specs.Search.{is_after, StandsAt}
 use Rattle.pg_patterns.specs.Texts.{with_string, strings_of, pattern_line}
-use Rattle.pg_patterns.proofs.Ordered.{sorted_at, equal_is, greater_is, after_below}
+use Rattle.pg_types.proofs.Tests.{equal_is, greater_is}
+use Rattle.pg_patterns.proofs.Ordered.{sorted_at, after_below}
 use Rattle.pg_patterns.proofs.Sound.{entry_bounds, entry_at}
 use Rattle.pg_patterns.proofs.Points.{same_signs, turned_after}
 

@@ -14,7 +14,7 @@ use Rattle.pg_patterns.specs.Values.{IsPatternMap, SignsUpTo}
 use Rattle.pg_patterns.specs.Starts.{start}
 use Rattle.pg_patterns.specs.Texts.{pattern_text}
 use Rattle.pg_patterns.proofs.TextLaw.{text_reads_back}
-use Rattle.pg_patterns.proofs.Ordered.{and_second}
+use Rattle.pg_types.proofs.Tests.{and_second}
 use Rattle.pg_patterns.proofs.Written.{breaks, or_false}
 use Rattle.pg_patterns.proofs.ReadBack.{ReadsItems}
 

@@ -11,7 +11,7 @@ use Rattle.pg_translate.specs.Alphabets.{Alphabet, letters_of}
 use Rattle.pg_patterns.specs.Values.{IsPatternMap, SignsUpTo, is_entry}
 use Rattle.pg_patterns.specs.Starts.{joined_entries, entries_from, start}
 use Rattle.pg_patterns.specs.Texts.{with_string, strings_of, pattern_text}
-use Rattle.pg_patterns.proofs.Ordered.{and_first, and_second}
+use Rattle.pg_types.proofs.Tests.{and_first, and_second}
 use Rattle.pg_patterns.proofs.Sound.{each_sign, entry_bounds}
 use Rattle.pg_patterns.proofs.ReadBack.{ReadsItems, IsString, strings_read}
 use Rattle.pg_patterns.proofs.Restored.{joined_strings}

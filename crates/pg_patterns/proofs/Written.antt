@@ -1,18 +1,19 @@
 -- A line that was written is read back item by item.
-use Rattle.std.proofs.Common.{◌≡◌, ℕ, suc, zero, ◌+◌, ◌-◌, ◌<◌, ◌≤◌, Bool, true, false, ◌||◌, if◌then◌else◌, ◌==◌, List, [], ◌∷◌, ◌++◌, length, map, take, slice_index, Some, None, option_map, Ok, sym, refl, ap, ◌∙◌, arith}
+use Rattle.std.proofs.Common.{◌≡◌, ℕ, suc, zero, ◌+◌, ◌-◌, ◌<◌, ◌≤◌, Bool, true, false, ◌||◌, if◌then◌else◌, ◌==◌, List, [], ◌∷◌, ◌++◌, length, map, take, slice_index, Some, Ok, sym, refl, ap, ◌∙◌, arith}
 use Rattle.std.proofs.lemmas.List.{drop_at, length-append}
-use Rattle.std.specs.List.{AllByRecursion, filter_map, cons_option, list_any, slice_get, onto_first}
-use Rattle.std.specs.Option.{option_or}
+use Rattle.std.specs.List.{AllByRecursion, list_any, onto_first}
 use Rattle.pg_types.specs.declared.limits.TheConstants.{PATTERN_SIGNS_MAX}
 use Rattle.pg_types.specs.Lines.{lines, pieces_at, is_line_feed, without_cr}
 use Rattle.pg_types.specs.Reading.{unless}
 use Rattle.pg_translate.specs.declared.items.Place.TheVariants.{Patterns}
 use Rattle.pg_translate.specs.Alphabets.{Alphabet}
 use Rattle.pg_translate.specs.Tokens.{Token, item_at}
-use Rattle.pg_translate.specs.Cuts.{Cut, Placed, cut, cut_from, with_item, tokens_of}
+use Rattle.pg_translate.specs.Cuts.{Cut, cut, cut_from, with_item, tokens_of}
 use Rattle.pg_translate.specs.Answers.{Takes}
 use Rattle.pg_translate.proofs.Cuts.{cut_takes}
-use Rattle.pg_patterns.specs.Lines.{sign_of, signs_of, sign_column, sign_columns, too_long, bad_byte, line_entries, entries_of_line}
+use Rattle.pg_translate.specs.Gaps.{signs_of}
+use Rattle.pg_translate.proofs.JoinedItems.{not_refused}
+use Rattle.pg_patterns.specs.Lines.{line_entries, entries_of_line}
 
 -- whether a byte may not stand in an item: LF or CR
 abbrev pub breaks : ℕ → Bool
@@ -60,30 +61,13 @@ cut_of_items t column (item ∷ items) read =
       ended = ap (λ c. c.rest) whole ∙ rest.ended;
     }
 
--- there is a column for each sign
-column_count : (items : List Placed) → length (filter_map sign_column items) ≡ length (signs_of (map (λ item. item.token) items))
-column_count [] = refl
-column_count (item ∷ items) =
-    elim (sign_of item.token) as (λ o. length (cons_option (option_map (λ sign. item.column) o) (filter_map sign_column items)) ≡ length (cons_option o (signs_of (map (λ item. item.token) items)))) [
-      | None ↦ column_count items
-      | Some sign ↦ ap suc (column_count items)
-    ]
-
-get_past : (xs : List ℕ) (n : ℕ) → length xs ≤ n → slice_get xs n ≡ None
-get_past [] n past = refl
-get_past (x ∷ xs) zero past = absurd (omega arith)
-get_past (x ∷ xs) (suc n) past = get_past xs n (omega arith)
-
 -- a line of items with few signs gives their entries
 pub entries_of_items : (t : Alphabet) (line : ℕ) (items : List (Token × List ℕ)) → AllByRecursion (IsRead t) items → length (signs_of (tokens_in items)) ≤ PATTERN_SIGNS_MAX → entries_of_line t line (text_of items) ≡ Ok (line_entries (tokens_in items))
 entries_of_items t line items read few =
     let c = cut t Patterns (text_of items) in
     let is : CutIs c (tokens_in items) = cut_of_items t 1 items read in
-    let count : length (sign_columns c) ≡ length (signs_of (tokens_in items)) = column_count c.items ∙ ap (λ tokens. length (signs_of tokens)) is.same in
-    let none : slice_get (sign_columns c) PATTERN_SIGNS_MAX ≡ None = get_past (sign_columns c) PATTERN_SIGNS_MAX (omega arith) in
-    ap (λ o. unless (option_or (option_map (too_long line) o) (bad_byte line c)) (line_entries (tokens_of c))) none
-    ∙ ap (λ rest. unless (bad_byte line (record { items = c.items; column = c.column; rest = rest })) (line_entries (tokens_of c))) is.ended
-    ∙ ap (λ tokens. Ok (line_entries tokens)) is.same
+    let short : length (signs_of (tokens_of c)) ≤ PATTERN_SIGNS_MAX = omega (arith, few, ap (λ tokens. length (signs_of tokens)) is.same) in
+    ap (λ refusal. unless refusal (line_entries (tokens_of c))) (not_refused Patterns line c short is.ended) ∙ ap (λ tokens. Ok (line_entries tokens)) is.same
 
 -- a line without LF and CR stands alone
 pub or_false : (a b : Bool) → (a || b) ≡ false → (a ≡ false) × (b ≡ false)

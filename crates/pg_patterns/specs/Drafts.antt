@@ -1,15 +1,15 @@
 -- What of a line of a pattern file was read so far.
-use Rattle.std.specs.Prelude.{ℕ, ◌+◌, ◌-◌, ◌<◌, ◌≤◌, zero, List, [], ◌∷◌, ◌++◌, length, fold, Option, option_map, slice_get, Result}
+use Rattle.std.specs.Prelude.{ℕ, ◌-◌, ◌<◌, ◌≤◌, List, [], ◌∷◌, ◌++◌, length, fold, Option, Result}
 use Rattle.std.specs.List.{All}
-use Rattle.std.specs.Option.{option_or}
 use Rattle.pg_types.specs.declared.limits.TheConstants.{EDGE, LEVEL_MAX, PATTERN_SIGNS_MAX}
 use Rattle.pg_types.specs.declared.refusals.Refusal.{Refusal}
 use Rattle.pg_types.specs.Reading.{unless}
 use Rattle.pg_translate.specs.declared.items.Place.TheVariants.{Patterns}
 use Rattle.pg_translate.specs.Alphabets.{Alphabet}
 use Rattle.pg_translate.specs.Tokens.{Token, Letter, Digit, Weight, Marked, Edge}
-use Rattle.pg_translate.specs.Cuts.{Cut, cut, cut_from, tokens_of}
-use Rattle.pg_patterns.specs.Lines.{digit_at_dot, entries_at, sign_columns, too_long, bad_byte, line_refusal}
+use Rattle.pg_translate.specs.Cuts.{Cut, cut_rest, tokens_of}
+use Rattle.pg_translate.specs.LineRefusals.{refusal_with_room, of_line}
+use Rattle.pg_patterns.specs.Lines.{digit_at_dot, entries_at}
 
 -- the signs, the dots between them with their digits, and the last digit behind the last sign, where 0 is none
 pub record Draft : Type 0 where
@@ -46,16 +46,16 @@ draft_entries d = entries_at d.signs (all_digits d)
 
 -- the refusal of the rest of a line, behind so many signs
 abbrev pub refusal_after : ℕ → ℕ → Cut → Option Refusal
-refusal_after n line c = option_or (option_map (too_long line) (slice_get (sign_columns c) (PATTERN_SIGNS_MAX - n))) (bad_byte line c)
+refusal_after n line c = refusal_with_room Patterns line (PATTERN_SIGNS_MAX - n) c
 
 -- a line read on from a draft, where this is left of its size
 abbrev pub draft_left : Alphabet → ℕ → ℕ → Draft → List ℕ → Result Draft Refusal
 draft_left t line size d rest =
-    let c = cut_from t Patterns (size - length rest + 1) zero rest in unless (refusal_after (length d.signs) line c) (fold with_token d (tokens_of c))
+    let c = cut_rest t Patterns size rest in unless (refusal_after (length d.signs) line c) (fold with_token d (tokens_of c))
 
 -- a line read whole
 abbrev pub line_draft : Alphabet → ℕ → List ℕ → Result Draft Refusal
-line_draft t line text = let c = cut t Patterns text in unless (line_refusal line c) (fold with_token no_draft (tokens_of c))
+line_draft t line text = of_line (fold with_token no_draft) t Patterns line text
 
 -- a dot before the n-th sign, and a digit that is a value
 abbrev pub IsDotDigit : ℕ → ℕ × ℕ → Type 0

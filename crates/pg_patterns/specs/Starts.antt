@@ -1,18 +1,13 @@
 -- The map of a pattern file.
-use Rattle.std.specs.Prelude.{ℕ, ◌+◌, nat_lt, if◌then◌else◌, List, [], ◌∷◌, ◌++◌, length, Result, Ok, Err}
+use Rattle.std.specs.Prelude.{ℕ, ◌+◌, nat_lt, if◌then◌else◌, List, [], ◌∷◌, length, Result, Ok, Err}
 use Rattle.pg_types.specs.declared.limits.TheConstants.{FILE_MAX}
 use Rattle.pg_types.specs.declared.refusals.Kind.TheVariants.{PatternsTooLong}
 use Rattle.pg_types.specs.declared.refusals.Refusal.{Refusal}
 use Rattle.pg_types.specs.Lines.{lines}
+use Rattle.pg_types.specs.Reading.{both_parts}
 use Rattle.pg_translate.specs.Alphabets.{Alphabet}
 use Rattle.pg_patterns.specs.Values.{joined}
 use Rattle.pg_patterns.specs.Lines.{entries_of_line}
-
--- the entries of two parts of a file, or the first refusal
-abbrev pub both_parts : {X : Type 0} → Result (List X) Refusal → Result (List X) Refusal → Result (List X) Refusal
-both_parts (Ok es) (Ok fs) = Ok (es ++ fs)
-both_parts (Ok es) (Err r) = Err r
-both_parts (Err r) fs = Err r
 
 -- the entries of these lines, of which the first has a number
 abbrev pub entries_from : Alphabet → ℕ → List (List ℕ) → Result (List ((List ℕ × ℕ) × ℕ)) Refusal

@@ -61,7 +61,7 @@ counted_good good C u there all = by_find (find (slice_cmp nat_cmp) u C) refl th
 pub counted_len : (C : Counts) (u : List ℕ) (len : ℕ) → is_counted C u ≡ true → list_all (λ e. nat_eq (length e.0) len) C ≡ true → length u ≡ len
 counted_len C u len there all = eqb-true (length u) len (counted_good (λ (v : List ℕ). nat_eq (length v) len) C u there all)
 
-between_above : (u : List ℕ) (C : Counts) → entries_between (slice_cmp nat_cmp) (Excluded u) Unbounded C ≡ above u C
+pub between_above : (u : List ℕ) (C : Counts) → entries_between (slice_cmp nat_cmp) (Excluded u) Unbounded C ≡ above u C
 between_above u [] = refl
 between_above u (e ∷ es) =
     ap (λ r. cond (is_lt (slice_cmp nat_cmp u e.0) && true) (e ∷ r) r) (between_above u es)

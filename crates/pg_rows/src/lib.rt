@@ -1,4 +1,4 @@
-//! Worked runs of the driver over the plain engine, with their records and totals.
+//! Worked runs of the driver, with their records, totals and texts.
 #![tactic(auto)]
 
 #[cfg(test)]
@@ -9,5 +9,7 @@ mod plain;
 mod runs;
 #[cfg(test)]
 mod sample;
+#[cfg(test)]
+mod texts;
 #[cfg(test)]
 mod unskipped;

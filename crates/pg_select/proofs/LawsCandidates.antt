@@ -14,7 +14,7 @@ use Rattle.pg_dict.specs.Word.{Word}
 use Rattle.pg_translate.specs.Reach.{positions}
 use Rattle.pg_patterns.specs.Places.{place_cmp, same_place, place_exact}
 use Rattle.pg_patterns.specs.Values.{value_of, raise, applies, stands_at}
-use Rattle.pg_patterns.proofs.Ordered.{equal_is}
+use Rattle.pg_types.proofs.Tests.{equal_is}
 use Rattle.pg_patterns.proofs.Joins.{only, value_of_raise}
 use Rattle.pg_select.specs.Statuses.{status_at, weight_at}
 use Rattle.pg_select.specs.Windows.{Hopeless, window, fits, covered}

@@ -9,7 +9,8 @@ use Rattle.std.specs.FinMap.{nat_cmp-IsAntisymmetric, slice_cmp-IsAntisymmetric}
 use Rattle.std.specs.FinMap.Entries.{find, is_sorted, below_all, is_sorted-put, find-put, find_tied, same_entries, is_some-find}
 use Rattle.std.specs.List.{list_any}
 use Rattle.std.proofs.lemmas.List.Sums.{sum_by-cons}
-use Rattle.pg_patterns.proofs.Ordered.{sorted_at, equal_is}
+use Rattle.pg_types.proofs.Tests.{equal_is}
+use Rattle.pg_patterns.proofs.Ordered.{sorted_at}
 use Rattle.pg_select.specs.CountedPositions.{CountedPosition, Candidate, same_signs, with_window, candidates, good_of, bad_of, tally}
 use Rattle.pg_types.specs.Counts.{Counts, sums_of, with_weight}
 use Rattle.pg_select.specs.Meanings.{with_position}

@@ -20,7 +20,7 @@ use Rattle.pg_select.specs.declared.pass.Pass.{Pass}
 use Rattle.pg_select.specs.CountedPositions.{Minima, CountedPosition, Candidate, counts_as, counted_at, counted_positions_at, counted_positions_in, counted_positions, same_signs, with_window, candidates, tally}
 use Rattle.pg_select.proofs.LawsTally.{cmp, same_window, seen_as, is_seen, candidates_are_seen, windows_sorted}
 use Rattle.pg_select.specs.LawsSteps.{IsUpTo, candidate_at, is_candidate, patterns_after_pass, good_raised, bad_raised, FindsMore, PreventsMore}
-use Rattle.pg_patterns.proofs.Ordered.{is_true}
+use Rattle.pg_types.proofs.Tests.{is_true}
 use Rattle.pg_select.proofs.LawsLengths.{same_test}
 use Rattle.pg_select.proofs.LawsRaised.{same_itself, counted_uncovered, values_after}
 use Rattle.pg_select.proofs.LawsClosedDots.{counted_by, counts_by, best_up_to}

@@ -8,7 +8,7 @@ use Rattle.std.specs.FinMap.Entries.{put, find, by_order}
 use Rattle.std.proofs.lemmas.Bool.{le-leb, cases_lt, and_parts}
 use Rattle.pg_patterns.specs.Places.{place_cmp, place_exact}
 use Rattle.pg_patterns.specs.Values.{value_of, raise, best, applies, value_at}
-use Rattle.pg_patterns.proofs.Ordered.{equal_is}
+use Rattle.pg_types.proofs.Tests.{equal_is}
 use Rattle.pg_patterns.proofs.Joins.{only}
 use Rattle.pg_select.specs.Windows.{Hopeless, covered}
 

@@ -15,7 +15,8 @@ use Rattle.pg_types.specs.Reading.{Fails, unless}
 use Rattle.pg_outside.specs.Content.{FileMap, file_at, IsCut}
 use Rattle.pg_translate.specs.Alphabets.{Alphabet}
 use Rattle.pg_translate.specs.Tables.{table, table_of}
-use Rattle.pg_dict.specs.Words.{words, words_from, refused}
+use Rattle.pg_translate.specs.LineRefusals.{refused}
+use Rattle.pg_dict.specs.Words.{words, words_from}
 use Rattle.pg_patterns.specs.Starts.{start, entries_from, joined_entries}
 use Rattle.pg_top.specs.Reads.{read_as}
 use Rattle.pg_top.specs.Stops.{StopsInput, stop_of}

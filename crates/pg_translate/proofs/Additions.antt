@@ -8,10 +8,10 @@ use Rattle.std.proofs.lemmas.List.Sums.{fold-append}
 use Rattle.std.proofs.lemmas.Option.{slice_get-get_or}
 use Rattle.pg_translate.specs.declared.index.Index.{Index}
 use Rattle.pg_translate.specs.declared.spellings.Text.{Text}
-use Rattle.pg_translate.specs.Alphabets.{letters_in}
+use Rattle.pg_translate.specs.Alphabets.{letters_in, first_of}
 use Rattle.pg_translate.specs.Spellings.{begins, clash, IsAmong}
 use Rattle.pg_translate.specs.Texts.{text_of}
-use Rattle.pg_translate.specs.Fronts.{IsIndex, AreBytes, pairs, firsts_of, first_of, front_at, front_of, front_in, code_of}
+use Rattle.pg_translate.specs.Fronts.{IsIndex, AreBytes, pairs, firsts_of, front_at, front_of, front_in, code_of}
 use Rattle.pg_translate.proofs.Fronts.{front_in-push, IsAmong-push, list_any_at}
 use Rattle.pg_translate.proofs.Walks.{AreApart}
 

@@ -3,16 +3,17 @@ use Rattle.std.proofs.Common.{◌≡◌, ℕ, ◌+◌, ◌-◌, ◌*◌, ◌<◌
 use Rattle.std.specs.List.{list_all}
 use Rattle.std.specs.Option.{option_or}
 use Rattle.std.proofs.lemmas.Bool.{and_parts, and_from, cases_Bool, true≢false, eqb-true, eq-eqb, ltb-true, leb-true}
-use Rattle.std.proofs.lemmas.List.{length-drop, take_at}
+use Rattle.std.proofs.lemmas.List.{append_assoc, length-append, length-drop, length-take-le, take-append-drop, take_at}
 use Rattle.pg_types.specs.declared.marks.Mark.{Mark}
 use Rattle.pg_types.specs.declared.marks.Mark.TheVariants.{Error, Missed, Found, DontCare}
 use Rattle.pg_translate.specs.declared.items.Place.{Place}
 use Rattle.pg_translate.specs.declared.items.Place.TheVariants.{Dictionary, Patterns}
 use Rattle.pg_translate.specs.Alphabets.{Alphabet}
-use Rattle.pg_translate.specs.Spellings.{is_digit, begins, begins_well, IsAmong}
+use Rattle.pg_translate.specs.Spellings.{begins, begins_well, IsAmong}
+use Rattle.std.specs.Char.{is_ascii_digit}
 use Rattle.pg_translate.specs.Tokens.{Token, Letter, Digit, Weight, Marked, Edge, letter_at, digit_at, weight_at, weight_from, weight_end, mark_at, edge_at, item_at}
-use Rattle.pg_translate.specs.Cuts.{cut_from, tokens_of}
-use Rattle.pg_translate.specs.Items.{IsItem, IsWeight, IsMark, IsCut, IsPrefix, IsLongest, joined, value_of}
+use Rattle.pg_translate.specs.Cuts.{Placed, Cut, cut_from, with_item}
+use Rattle.pg_translate.specs.Items.{IsItem, IsWeight, IsMark, IsCut, IsPrefix, IsLongest, items_at, joined, value_of}
 use Rattle.pg_translate.specs.Rules.{KeepsRules}
 use Rattle.pg_translate.proofs.Prefixes.{begins_front, begins_within}
 use Rattle.pg_translate.proofs.Firsts.{find_among, found_passes}
@@ -64,7 +65,7 @@ letter_found t rules text token size h = by_find (find (λ s. begins text s.1) t
 digit_found : (text : List ℕ) (token : Token) (size : ℕ) → digit_at text ≡ Some (token, size) → (digit : ℕ) × (token ≡ Digit digit) × (digit ≤ 9) × (take size text ≡ (48 + digit) ∷ []) × (0 < size) × (size ≤ length text)
 digit_found [] token size h = absurd (cc)
 digit_found (b ∷ bs) token size h =
-    ⊎_elim (λ (yes : is_digit b ≡ true). let found = rw yes at h in let both : (token ≡ Digit (b - 48)) × (size ≡ 1) = same_found (Digit (b - 48)) token 1 size found in let one : size ≡ 1 = both.1 in let tests : (nat_le 48 b ≡ true) × (nat_le b 57 ≡ true) = and_parts _ _ yes in let low : 48 ≤ b = leb-true 48 b tests.0 in let high : b ≤ 57 = leb-true b 57 tests.1 in let value : b ≡ 48 + (b - 48) = omega arith in (b - 48, both.0, omega arith, rw one (ap (λ (n : ℕ). n ∷ []) value), omega arith, omega arith)) (λ (no : is_digit b ≡ false). let none = rw no at h in absurd (cc)) (cases_Bool (is_digit b))
+    ⊎_elim (λ (yes : is_ascii_digit b ≡ true). let found = rw yes at h in let both : (token ≡ Digit (b - 48)) × (size ≡ 1) = same_found (Digit (b - 48)) token 1 size found in let one : size ≡ 1 = both.1 in let tests : (nat_le 48 b ≡ true) × (nat_le b 57 ≡ true) = and_parts _ _ yes in let low : 48 ≤ b = leb-true 48 b tests.0 in let high : b ≤ 57 = leb-true b 57 tests.1 in let value : b ≡ 48 + (b - 48) = omega arith in (b - 48, both.0, omega arith, rw one (ap (λ (n : ℕ). n ∷ []) value), omega arith, omega arith)) (λ (no : is_ascii_digit b ≡ false). let none = rw no at h in absurd (cc)) (cases_Bool (is_ascii_digit b))
 
 -- what is found at a dot
 edge_found : (text : List ℕ) (token : Token) (size : ℕ) → edge_at text ≡ Some (token, size) → (token ≡ Edge) × (take size text ≡ 46 ∷ []) × (0 < size) × (size ≤ length text)
@@ -89,7 +90,7 @@ pub record FindsWeight (room value size : ℕ) (text : List ℕ) (token : Token)
   pub front : take (length digits + 1) text ≡ digits ++ 125 ∷ []
   pub within : length digits + 1 ≤ length text
   pub few : length digits ≤ room
-  pub decimal : list_all is_digit digits ≡ true
+  pub decimal : list_all is_ascii_digit digits ≡ true
   pub token_is : token ≡ Weight (fold (λ value b. value * 10 + (b - 48)) value digits)
   pub some : 0 < fold (λ value b. value * 10 + (b - 48)) value digits
   pub size_is : whole ≡ size + length digits + 1
@@ -103,9 +104,9 @@ weight_found zero value size [] token whole h = absurd (cc)
 weight_found (suc room) value size [] token whole h = absurd (cc)
 weight_found zero value size (b ∷ bs) token whole h = weight_ends zero value size b bs token whole h
 weight_found (suc room) value size (b ∷ bs) token whole h =
-    ⊎_elim (λ (yes : is_digit b ≡ true). let later : weight_from room (value * 10 + (b - 48)) (size + 1) bs ≡ Some (token, whole) = rw yes at h in more yes (weight_found room (value * 10 + (b - 48)) (size + 1) bs token whole later)) (λ (no : is_digit b ≡ false). let here : weight_end value size b ≡ Some (token, whole) = rw no at h in weight_ends (suc room) value size b bs token whole here) (cases_Bool (is_digit b))
+    ⊎_elim (λ (yes : is_ascii_digit b ≡ true). let later : weight_from room (value * 10 + (b - 48)) (size + 1) bs ≡ Some (token, whole) = rw yes at h in more yes (weight_found room (value * 10 + (b - 48)) (size + 1) bs token whole later)) (λ (no : is_ascii_digit b ≡ false). let here : weight_end value size b ≡ Some (token, whole) = rw no at h in weight_ends (suc room) value size b bs token whole here) (cases_Bool (is_ascii_digit b))
   where
-    more : is_digit b ≡ true → FindsWeight room (value * 10 + (b - 48)) (size + 1) bs token whole → FindsWeight (suc room) value size (b ∷ bs) token whole
+    more : is_ascii_digit b ≡ true → FindsWeight room (value * 10 + (b - 48)) (size + 1) bs token whole → FindsWeight (suc room) value size (b ∷ bs) token whole
     more test rest =
         let inner : length rest.digits + 1 ≤ length bs = rest.within in
         let room_left : length rest.digits ≤ room = rest.few in
@@ -187,32 +188,45 @@ cut_first t rules place line x xs cut =
     (subst (λ (l : List ℕ). item_at t place l ≡ Some (x.0, length x.1)) (sym parts.0) found, parts.0, record { each = cut.each.1; prefix = parts.1 })
 
 -- where no item begins the line, its longest cut is empty
-longest_none : (t : Alphabet) → KeepsRules t → (place : Place) (column : ℕ) (line : List ℕ) → item_at t place line ≡ None → IsLongest t place line (tokens_of (cut_from t place column zero line))
+longest_none : (t : Alphabet) → KeepsRules t → (place : Place) (column : ℕ) (line : List ℕ) → item_at t place line ≡ None → IsLongest t place column line (cut_from t place column zero line)
 longest_none t rules place column line none = record {
   items = [];
   cut = record { each = tt; prefix = refl };
-  same = ap tokens_of (cut_none t place column line none);
+  items_are = ap (λ (c : Cut). c.items) is;
+  column_is = ap (λ (c : Cut). c.column) is ∙ (let same : column ≡ column + 0 = omega arith in same);
+  rest_is = sym (ap (λ (c : Cut). c.rest) is);
   all = every;
 }
   where
+    is : cut_from t place column zero line ≡ record { items = []; column = column; rest = line }
+    is = cut_none t place column line none
+
     every : (other : List (Token × List ℕ)) → IsCut t place line other → IsPrefix other []
     every [] cut = ([], refl)
     every (x ∷ xs) cut = let first : (item_at t place line ≡ Some (x.0, length x.1)) × (line ≡ x.1 ++ drop (length x.1) line) × IsCut t place (drop (length x.1) line) xs = cut_first t rules place line x xs cut in let found : Some _ ≡ None = sym first.0 ∙ none in absurd (cc)
 
 -- where an item begins the line, its longest cut has it before that of the rest
-longest_item : (t : Alphabet) → KeepsRules t → (place : Place) (column : ℕ) (line : List ℕ) (token : Token) (size : ℕ) → item_at t place line ≡ Some (token, size) → IsLongest t place (drop size line) (tokens_of (cut_from t place (column + size) zero (drop size line))) → IsLongest t place line (tokens_of (cut_from t place column zero line))
+longest_item : (t : Alphabet) → KeepsRules t → (place : Place) (column : ℕ) (line : List ℕ) (token : Token) (size : ℕ) → item_at t place line ≡ Some (token, size) → IsLongest t place (column + size) (drop size line) (cut_from t place (column + size) zero (drop size line)) → IsLongest t place column line (cut_from t place column zero line)
 longest_item t rules place column line token size found rest = record {
   items = (token, take size line) ∷ rest.items;
   cut = record { each = (reads.item, rest.cut.each); prefix = begins_join size line (joined rest.items) rest.cut.prefix };
-  same = ap tokens_of (cut_item t place column line token size found reads.some reads.within) ∙ ap (λ (tokens : List Token). token ∷ tokens) rest.same;
+  items_are = ap (λ (c : Cut). c.items) is ∙ ap (λ (items : List Placed). record { column = column; token = token } ∷ items) (rest.items_are ∙ ap (λ (n : ℕ). items_at (column + n) rest.items) (sym front));
+  column_is = ap (λ (c : Cut). c.column) is ∙ rest.column_is ∙ (let same : column + size + length (joined rest.items) ≡ column + length (take size line ++ joined rest.items) = omega (arith, length-append (take size line) (joined rest.items), front) in same);
+  rest_is = sym (take-append-drop size line) ∙ ap (λ (text : List ℕ). take size line ++ text) rest.rest_is ∙ sym (append_assoc (take size line) (joined rest.items) (cut_from t place (column + size) zero (drop size line)).rest) ∙ ap (λ (c : Cut). (take size line ++ joined rest.items) ++ c.rest) (sym is);
   all = every;
 }
   where
-    front_is : (text more line : List ℕ) → line ≡ text ++ more → text ≡ take (length text) line
-    front_is text more line is = rw is (sym (take_at text more (length text) refl))
-
     reads : Reads t place line token size
     reads = item_found t rules place line token size found
+
+    is : cut_from t place column zero line ≡ with_item column token (cut_from t place (column + size) zero (drop size line))
+    is = cut_item t place column line token size found reads.some reads.within
+
+    front : length (take size line) ≡ size
+    front = length-take-le size line reads.within
+
+    front_is : (text more line : List ℕ) → line ≡ text ++ more → text ≡ take (length text) line
+    front_is text more line is = rw is (sym (take_at text more (length text) refl))
 
     every : (other : List (Token × List ℕ)) → IsCut t place line other → IsPrefix other ((token, take size line) ∷ rest.items)
     every [] cut = ((token, take size line) ∷ rest.items, refl)
@@ -226,15 +240,15 @@ longest_item t rules place column line token size found rest = record {
         (more.0, ap₂ (λ (y : Token × List ℕ) (ys : List (Token × List ℕ)). y ∷ ys) head more.1)
 
 -- each line has a longest cut
-pub longest : (t : Alphabet) → KeepsRules t → (place : Place) (n column : ℕ) (line : List ℕ) → length line ≤ n → IsLongest t place line (tokens_of (cut_from t place column zero line))
+pub longest : (t : Alphabet) → KeepsRules t → (place : Place) (n column : ℕ) (line : List ℕ) → length line ≤ n → IsLongest t place column line (cut_from t place column zero line)
 longest t rules place zero column line few = by_item (item_at t place line) refl
   where
-    by_item : (found : Option (Token × ℕ)) → found ≡ item_at t place line → IsLongest t place line (tokens_of (cut_from t place column zero line))
+    by_item : (found : Option (Token × ℕ)) → found ≡ item_at t place line → IsLongest t place column line (cut_from t place column zero line)
     by_item None is = longest_none t rules place column line (sym is)
     by_item (Some item) is = let reads : Reads t place line item.0 item.1 = item_found t rules place line item.0 item.1 (sym is) in let some : 0 < item.1 = reads.some in let within : item.1 ≤ length line = reads.within in absurd (omega arith)
 longest t rules place (suc n) column line few = by_item (longest t rules place n) (item_at t place line) refl
   where
-    by_item : ((column : ℕ) (line : List ℕ) → length line ≤ n → IsLongest t place line (tokens_of (cut_from t place column zero line))) → (found : Option (Token × ℕ)) → found ≡ item_at t place line → IsLongest t place line (tokens_of (cut_from t place column zero line))
+    by_item : ((column : ℕ) (line : List ℕ) → length line ≤ n → IsLongest t place column line (cut_from t place column zero line)) → (found : Option (Token × ℕ)) → found ≡ item_at t place line → IsLongest t place column line (cut_from t place column zero line)
     by_item less None is = longest_none t rules place column line (sym is)
     by_item less (Some item) is = let reads : Reads t place line item.0 item.1 = item_found t rules place line item.0 item.1 (sym is) in let some : 0 < item.1 = reads.some in let size : length (drop item.1 line) ≡ length line - item.1 = length-drop item.1 line in longest_item t rules place column line item.0 item.1 (sym is) (less (column + item.1) (drop item.1 line) (omega arith))
 
@@ -254,5 +268,5 @@ prefixes (x ∷ xs) (y ∷ ys) (z ∷ zs) pa pb =
 -- of two cuts of one line, one is a prefix of the other
 pub cuts_agree : (t : Alphabet) → KeepsRules t → (place : Place) (line : List ℕ) (a b : List (Token × List ℕ)) → IsCut t place line a → IsCut t place line b → IsPrefix a b ⊎ IsPrefix b a
 cuts_agree t rules place line a b cut_a cut_b =
-    let whole : IsLongest t place line (tokens_of (cut_from t place 1 zero line)) = longest t rules place (length line) 1 line (le_refl (length line)) in
+    let whole : IsLongest t place 1 line (cut_from t place 1 zero line) = longest t rules place (length line) 1 line (le_refl (length line)) in
     prefixes a b whole.items (whole.all a cut_a) (whole.all b cut_b)

@@ -1,18 +1,22 @@
 -- An item is found where it stands, whatever follows it.
-use Rattle.std.proofs.Common.{◌≡◌, ℕ, ◌+◌, ◌-◌, ◌*◌, ◌<◌, ◌≤◌, ◌==◌, true, false, not, ◌||◌, List, [], ◌∷◌, ◌++◌, length, fold, find, slice_index, Some, None, refl, sym, ap, ◌∙◌, subst, arith, suc, zero}
+use Rattle.std.proofs.Common.{◌≡◌, ℕ, ◌+◌, ◌-◌, ◌*◌, ◌<◌, ◌≤◌, ◌==◌, Bool, true, false, ◌||◌, List, [], ◌∷◌, ◌++◌, length, fold, find, slice_index, Some, None, refl, sym, ap, ◌∙◌, subst, arith, suc, zero}
 use Rattle.std.specs.List.{list_any, list_all}
-use Rattle.std.proofs.lemmas.Bool.{and_parts, or_parts, or_right, not-true, not_from_true, true≢false, false_from_ne_true, eqb-true, eqb-false, eq-eqb, ne_eqb, lt-ltb, le-leb}
+use Rattle.std.proofs.lemmas.Bool.{and_parts, or_parts, or_right, not_from_true, true≢false, false_from_ne_true, eqb-true, eqb-false, eq-eqb, ne_eqb, lt-ltb, le-leb}
 use Rattle.std.proofs.lemmas.List.{append_assoc, length-append}
 use Rattle.pg_types.specs.declared.marks.Mark.{Mark}
 use Rattle.pg_types.specs.declared.marks.Mark.TheVariants.{Nothing, Error, Missed, Found, DontCare}
+use Rattle.pg_types.specs.declared.refusals.Kind.{Kind}
+use Rattle.pg_types.specs.declared.refusals.Kind.TheVariants.{BadMark}
+use Rattle.pg_types.specs.declared.refusals.Refusal.{Refusal}
 use Rattle.pg_translate.specs.declared.items.Place.{Place}
 use Rattle.pg_translate.specs.declared.items.Place.TheVariants.{Dictionary, Patterns}
 use Rattle.pg_translate.specs.Alphabets.{Alphabet}
-use Rattle.pg_translate.specs.Spellings.{is_digit, may_begin, begins_well, begins, IsAmong}
-use Rattle.pg_translate.specs.Tables.{mark_fails}
+use Rattle.pg_translate.specs.Spellings.{is_space, may_begin, begins_well, begins, IsAmong}
+use Rattle.std.specs.Char.{is_ascii_digit}
+use Rattle.pg_translate.specs.Tables.{check, mark_fails, mark_checks_from, mark_checks}
 use Rattle.pg_translate.specs.Tokens.{Token, Letter, Digit, Weight, Marked, Edge, letter_at, weight_from, mark_at, item_at}
 use Rattle.pg_translate.specs.Items.{IsItem, IsWeight, IsMark, value_of}
-use Rattle.pg_translate.specs.Rules.{KeepsRules, are_marks}
+use Rattle.pg_translate.specs.Rules.{KeepsRules}
 use Rattle.pg_translate.proofs.Prefixes.{begins-append}
 use Rattle.pg_translate.proofs.Fronts.{find_begins, find_none}
 
@@ -33,23 +37,27 @@ no_letter t rules b bs bad =
         true≢false (sym well ∙ subst (λ (n : ℕ). may_begin t.marks n ≡ false) same bad)
 
 -- a digit begins no spelling
-pub digit_may_not : (marks : List ℕ) (b : ℕ) → is_digit b ≡ true → may_begin marks b ≡ false
+pub digit_may_not : (marks : List ℕ) (b : ℕ) → is_ascii_digit b ≡ true → may_begin marks b ≡ false
 digit_may_not marks b digit = rw digit refl
 
 -- what a mark that does not fail is
 pub record IsGood (earlier : List ℕ) (mark : ℕ) : Type 0 where
-  pub digit : is_digit mark ≡ false
+  pub digit : is_ascii_digit mark ≡ false
+  pub space : is_space mark ≡ false
   pub brace : (mark == 123) ≡ false
   pub apart : list_any (λ other. other == mark) earlier ≡ false
 
-good_mark : (earlier : List ℕ) (mark : ℕ) → not (mark_fails earlier mark) ≡ true → IsGood earlier mark
-good_mark earlier mark good =
-    let all : mark_fails earlier mark ≡ false = not-true _ good in
-    let last : ((((is_digit mark || mark == 9) || mark == 13) || mark == 123) ≡ false) × (list_any (λ other. other == mark) earlier ≡ false) = or_parts _ _ all in
-    let brace : (((is_digit mark || mark == 9) || mark == 13) ≡ false) × ((mark == 123) ≡ false) = or_parts _ _ last.0 in
-    let cr : ((is_digit mark || mark == 9) ≡ false) × ((mark == 13) ≡ false) = or_parts _ _ brace.0 in
-    let tab : (is_digit mark ≡ false) × ((mark == 9) ≡ false) = or_parts _ _ cr.0 in
-    record { digit = tab.0; brace = brace.1; apart = last.1 }
+good_mark : (earlier : List ℕ) (mark : ℕ) → mark_fails earlier mark ≡ false → IsGood earlier mark
+good_mark earlier mark all =
+    let last : (((is_ascii_digit mark || is_space mark) || mark == 123) ≡ false) × (list_any (λ other. other == mark) earlier ≡ false) = or_parts _ _ all in
+    let brace : ((is_ascii_digit mark || is_space mark) ≡ false) × ((mark == 123) ≡ false) = or_parts _ _ last.0 in
+    let space : (is_ascii_digit mark ≡ false) × (is_space mark ≡ false) = or_parts _ _ brace.0 in
+    record { digit = space.0; space = space.1; brace = brace.1; apart = last.1 }
+
+-- a check that passes, before others that do
+check_passes : (fails : Bool) (kind : Kind) (line column : ℕ) (more : List Refusal) → check fails kind line column ++ more ≡ [] → (fails ≡ false) × (more ≡ [])
+check_passes true kind line column more none = absurd (cc)
+check_passes false kind line column more none = (refl, none)
 
 -- four good marks, by their places
 pub record AreGood (a b c d : ℕ) : Type 0 where
@@ -58,12 +66,12 @@ pub record AreGood (a b c d : ℕ) : Type 0 where
   pub third : IsGood (b ∷ a ∷ []) c
   pub fourth : IsGood (c ∷ b ∷ a ∷ []) d
 
-pub good_marks : (a b c d : ℕ) → are_marks [] (a ∷ b ∷ c ∷ d ∷ []) ≡ true → AreGood a b c d
-good_marks a b c d good =
-    let one : (not (mark_fails [] a) ≡ true) × (are_marks (a ∷ []) (b ∷ c ∷ d ∷ []) ≡ true) = and_parts _ _ good in
-    let two : (not (mark_fails (a ∷ []) b) ≡ true) × (are_marks (b ∷ a ∷ []) (c ∷ d ∷ []) ≡ true) = and_parts _ _ one.1 in
-    let three : (not (mark_fails (b ∷ a ∷ []) c) ≡ true) × (are_marks (c ∷ b ∷ a ∷ []) (d ∷ []) ≡ true) = and_parts _ _ two.1 in
-    let four : (not (mark_fails (c ∷ b ∷ a ∷ []) d) ≡ true) × (true ≡ true) = and_parts _ _ three.1 in
+pub good_marks : (a b c d : ℕ) → mark_checks (a ∷ b ∷ c ∷ d ∷ []) ≡ [] → AreGood a b c d
+good_marks a b c d pass =
+    let one = check_passes (mark_fails [] a) BadMark 1 5 (mark_checks_from 6 (a ∷ []) (b ∷ c ∷ d ∷ [])) pass in
+    let two = check_passes (mark_fails (a ∷ []) b) BadMark 1 6 (mark_checks_from 7 (b ∷ a ∷ []) (c ∷ d ∷ [])) one.1 in
+    let three = check_passes (mark_fails (b ∷ a ∷ []) c) BadMark 1 7 (mark_checks_from 8 (c ∷ b ∷ a ∷ []) (d ∷ [])) two.1 in
+    let four = check_passes (mark_fails (c ∷ b ∷ a ∷ []) d) BadMark 1 8 [] three.1 in
     record { first = good_mark [] a one.0; second = good_mark (a ∷ []) b two.0; third = good_mark (b ∷ a ∷ []) c three.0; fourth = good_mark (c ∷ b ∷ a ∷ []) d four.0 }
 
 -- two bytes that are no equal ones in one order are none in the other
@@ -72,19 +80,20 @@ eqb_swap x y h = ne_eqb y x (λ same. eqb-false x y h (sym same))
 
 -- what is said of the byte of a mark
 pub record ReadsMark (marks : List ℕ) (mark : Mark) (byte : ℕ) : Type 0 where
-  pub digit : is_digit byte ≡ false
+  pub digit : is_ascii_digit byte ≡ false
+  pub space : is_space byte ≡ false
   pub brace : (byte == 123) ≡ false
   pub there : list_any (λ other. other == byte) marks ≡ true
   pub found : (more : List ℕ) → mark_at marks (byte ∷ more) ≡ Some (Marked mark, 1)
 
 reads_first : (a b c d : ℕ) → AreGood a b c d → ReadsMark (a ∷ b ∷ c ∷ d ∷ []) Error a
-reads_first a b c d good = record { digit = good.first.digit; brace = good.first.brace; there = rw (eq-eqb a a refl) refl; found = λ more. rw (eq-eqb a a refl) refl }
+reads_first a b c d good = record { digit = good.first.digit; space = good.first.space; brace = good.first.brace; there = rw (eq-eqb a a refl) refl; found = λ more. rw (eq-eqb a a refl) refl }
 
 reads_second : (a b c d : ℕ) → AreGood a b c d → ReadsMark (a ∷ b ∷ c ∷ d ∷ []) Missed b
 reads_second a b c d good =
     let ab : (a == b) ≡ false = (or_parts (a == b) false good.second.apart).0 in
     let ba : (b == a) ≡ false = eqb_swap a b ab in
-    record { digit = good.second.digit; brace = good.second.brace; there = rw (ab, eq-eqb b b refl) refl; found = λ more. rw (ba, eq-eqb b b refl) refl }
+    record { digit = good.second.digit; space = good.second.space; brace = good.second.brace; there = rw (ab, eq-eqb b b refl) refl; found = λ more. rw (ba, eq-eqb b b refl) refl }
 
 reads_third : (a b c d : ℕ) → AreGood a b c d → ReadsMark (a ∷ b ∷ c ∷ d ∷ []) Found c
 reads_third a b c d good =
@@ -92,7 +101,7 @@ reads_third a b c d good =
     let ac : (a == c) ≡ false = (or_parts (a == c) false parts.1).0 in
     let ca : (c == a) ≡ false = eqb_swap a c ac in
     let cb : (c == b) ≡ false = eqb_swap b c parts.0 in
-    record { digit = good.third.digit; brace = good.third.brace; there = rw (ac, parts.0, eq-eqb c c refl) refl; found = λ more. rw (ca, cb, eq-eqb c c refl) refl }
+    record { digit = good.third.digit; space = good.third.space; brace = good.third.brace; there = rw (ac, parts.0, eq-eqb c c refl) refl; found = λ more. rw (ca, cb, eq-eqb c c refl) refl }
 
 reads_fourth : (a b c d : ℕ) → AreGood a b c d → ReadsMark (a ∷ b ∷ c ∷ d ∷ []) DontCare d
 reads_fourth a b c d good =
@@ -102,13 +111,13 @@ reads_fourth a b c d good =
     let da : (d == a) ≡ false = eqb_swap a d ad in
     let db : (d == b) ≡ false = eqb_swap b d rest.0 in
     let dc : (d == c) ≡ false = eqb_swap c d parts.0 in
-    record { digit = good.fourth.digit; brace = good.fourth.brace; there = rw (ad, rest.0, parts.0, eq-eqb d d refl) refl; found = λ more. rw (da, db, dc, eq-eqb d d refl) refl }
+    record { digit = good.fourth.digit; space = good.fourth.space; brace = good.fourth.brace; there = rw (ad, rest.0, parts.0, eq-eqb d d refl) refl; found = λ more. rw (da, db, dc, eq-eqb d d refl) refl }
 
 -- what is said of the bytes of the four marks
-four_marks : (t : Alphabet) → KeepsRules t → ReadsMark t.marks Error (slice_index t.marks 0) × ReadsMark t.marks Missed (slice_index t.marks 1) × ReadsMark t.marks Found (slice_index t.marks 2) × ReadsMark t.marks DontCare (slice_index t.marks 3)
-four_marks t rules = by_list t.marks rules.four rules.marks_good
+pub four_marks : (t : Alphabet) → KeepsRules t → ReadsMark t.marks Error (slice_index t.marks 0) × ReadsMark t.marks Missed (slice_index t.marks 1) × ReadsMark t.marks Found (slice_index t.marks 2) × ReadsMark t.marks DontCare (slice_index t.marks 3)
+four_marks t rules = by_list t.marks rules.four rules.marks_pass
   where
-    by_list : (marks : List ℕ) → length marks ≡ 4 → are_marks [] marks ≡ true → ReadsMark marks Error (slice_index marks 0) × ReadsMark marks Missed (slice_index marks 1) × ReadsMark marks Found (slice_index marks 2) × ReadsMark marks DontCare (slice_index marks 3)
+    by_list : (marks : List ℕ) → length marks ≡ 4 → mark_checks marks ≡ [] → ReadsMark marks Error (slice_index marks 0) × ReadsMark marks Missed (slice_index marks 1) × ReadsMark marks Found (slice_index marks 2) × ReadsMark marks DontCare (slice_index marks 3)
     by_list [] four good = absurd (omega arith)
     by_list (a ∷ []) four good = absurd (omega arith)
     by_list (a ∷ b ∷ []) four good = absurd (omega arith)
@@ -121,16 +130,16 @@ four_marks t rules = by_list t.marks rules.four rules.marks_good
 -- a mark is read where no spelling, digit or weight stands
 found_byte : (t : Alphabet) → KeepsRules t → (mark : Mark) (byte : ℕ) (more : List ℕ) → ReadsMark t.marks mark byte → item_at t Dictionary (byte ∷ more) ≡ Some (Marked mark, 1)
 found_byte t rules mark byte more reads =
-    let none : letter_at t.spellings (byte ∷ more) ≡ None = no_letter t rules byte more (not_from_true _ (or_right ((is_digit byte || byte == 46) || byte == 123) _ reads.there)) in
+    let none : letter_at t.spellings (byte ∷ more) ≡ None = no_letter t rules byte more (not_from_true _ (or_right ((is_ascii_digit byte || byte == 46) || byte == 123) _ reads.there)) in
     rw (none, reads.digit, reads.brace) (reads.found more)
 
 -- a weight is read from its digits to its brace
-pub weight_reads : (room value size : ℕ) (digits more : List ℕ) → length digits ≤ room → list_all is_digit digits ≡ true → 0 < fold (λ value b. value * 10 + (b - 48)) value digits → weight_from room value size (digits ++ 125 ∷ more) ≡ Some (Weight (fold (λ value b. value * 10 + (b - 48)) value digits), size + length digits + 1)
+pub weight_reads : (room value size : ℕ) (digits more : List ℕ) → length digits ≤ room → list_all is_ascii_digit digits ≡ true → 0 < fold (λ value b. value * 10 + (b - 48)) value digits → weight_from room value size (digits ++ 125 ∷ more) ≡ Some (Weight (fold (λ value b. value * 10 + (b - 48)) value digits), size + length digits + 1)
 weight_reads zero value size [] more few all some = rw (lt-ltb 0 value some, let same : size + 0 + 1 ≡ size + 1 = omega arith in same) refl
 weight_reads (suc room) value size [] more few all some = rw (lt-ltb 0 value some, let same : size + 0 + 1 ≡ size + 1 = omega arith in same) refl
 weight_reads zero value size (d ∷ ds) more few all some = absurd (omega arith)
 weight_reads (suc room) value size (d ∷ ds) more few all some =
-    let parts : (is_digit d ≡ true) × (list_all is_digit ds ≡ true) = and_parts _ _ all in
+    let parts : (is_ascii_digit d ≡ true) × (list_all is_ascii_digit ds ≡ true) = and_parts _ _ all in
     let rest : weight_from room (value * 10 + (d - 48)) (size + 1) (ds ++ 125 ∷ more) ≡ Some (Weight (fold (λ value b. value * 10 + (b - 48)) (value * 10 + (d - 48)) ds), size + 1 + length ds + 1) = weight_reads room (value * 10 + (d - 48)) (size + 1) ds more (omega arith) parts.1 some in
     let same : size + 1 + length ds + 1 ≡ size + suc (length ds) + 1 = omega arith in
     rw parts.0 (rest ∙ ap (λ (n : ℕ). Some (Weight (fold (λ value b. value * 10 + (b - 48)) (value * 10 + (d - 48)) ds), n)) same)
@@ -146,7 +155,7 @@ found_weight t rules weight text more is =
     rw (whole, size, none, read) refl
 
 -- the byte of a digit
-digit_test : (digit : ℕ) → digit ≤ 9 → is_digit (48 + digit) ≡ true
+digit_test : (digit : ℕ) → digit ≤ 9 → is_ascii_digit (48 + digit) ≡ true
 digit_test digit few = rw (le-leb 48 (48 + digit) (let low : 48 ≤ 48 + digit = omega arith in low), le-leb (48 + digit) 57 (let high : 48 + digit ≤ 57 = omega arith in high)) refl
 
 -- the byte of a mark is read, whatever follows it
@@ -164,12 +173,12 @@ item_reads t rules Dictionary (Letter sign) text more is =
 item_reads t rules Patterns (Letter sign) text more is =
     let hit : find (λ spelling. begins (text ++ more) spelling.1) t.spellings ≡ Some (sign, text) = find_begins (text ++ more) t.spellings (sign, text) rules.apart is (begins-append text more) in rw hit refl
 item_reads t rules Dictionary (Digit digit) text more is =
-    let test : is_digit (48 + digit) ≡ true = digit_test digit is.0 in
+    let test : is_ascii_digit (48 + digit) ≡ true = digit_test digit is.0 in
     let none : letter_at t.spellings ((48 + digit) ∷ more) ≡ None = no_letter t rules (48 + digit) more (digit_may_not t.marks (48 + digit) test) in
     let value : 48 + digit - 48 ≡ digit = omega arith in
     rw (is.1, none, test, value) refl
 item_reads t rules Patterns (Digit digit) text more is =
-    let test : is_digit (48 + digit) ≡ true = digit_test digit is.0 in
+    let test : is_ascii_digit (48 + digit) ≡ true = digit_test digit is.0 in
     let none : letter_at t.spellings ((48 + digit) ∷ more) ≡ None = no_letter t rules (48 + digit) more (digit_may_not t.marks (48 + digit) test) in
     let value : 48 + digit - 48 ≡ digit = omega arith in
     rw (is.1, none, test, value) refl

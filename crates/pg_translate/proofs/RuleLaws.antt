@@ -1,13 +1,12 @@
 -- A table keeps the rules.
-use Rattle.std.proofs.Common.{◌≡◌, ℕ, ◌+◌, ◌-◌, ◌≤◌, ◌==◌, Bool, true, false, ⊎_elim, List, [], ◌∷◌, length, get_or, slice_get, find, Option, Some, None, option_map, refl, sym, ap, ◌∙◌, subst, arith}
+use Rattle.std.proofs.Common.{◌≡◌, ℕ, ◌+◌, ◌-◌, ◌≤◌, ◌==◌, Bool, true, false, ⊎_elim, List, [], ◌∷◌, length, get_or, slice_get, find, Option, Some, None, option_map, unwrap_or, refl, sym, ap, ◌∙◌, subst, arith}
 use Rattle.std.specs.List.{list_all}
-use Rattle.std.specs.Option.{option_map_or}
 use Rattle.std.proofs.lemmas.Bool.{and_parts, eqb-true, ne_eqb}
 use Rattle.std.proofs.lemmas.List.{length-map}
 use Rattle.std.proofs.lemmas.Option.{slice_get-get_or}
 use Rattle.pg_translate.specs.declared.index.Index.{Index}
 use Rattle.pg_translate.specs.declared.items.Place.{Place}
-use Rattle.pg_translate.specs.Alphabets.{Alphabet, letters_of, letters_in, first_spelling, spelling_of}
+use Rattle.pg_translate.specs.Alphabets.{Alphabet, letters_of, letters_in, first_spelling, spelling_of, first_of}
 use Rattle.pg_translate.specs.Spellings.{is_spelling, IsAmong}
 use Rattle.pg_translate.specs.Tokens.{Letter}
 use Rattle.pg_translate.specs.Items.{IsItem}
@@ -15,7 +14,7 @@ use Rattle.pg_translate.specs.Rules.{KeepsRules}
 use Rattle.pg_translate.specs.declared.head.Head.{Head}
 use Rattle.pg_translate.specs.Heads.{marks_in}
 use Rattle.pg_translate.specs.Sound.{IsTable}
-use Rattle.pg_translate.specs.Fronts.{IsIndex, pairs, first_of, firsts_of}
+use Rattle.pg_translate.specs.Fronts.{IsIndex, pairs, firsts_of}
 use Rattle.pg_translate.specs.Texts.{text_of}
 use Rattle.pg_translate.proofs.Firsts.{find_among, found_passes}
 use Rattle.pg_translate.proofs.Walks.{sign_within}
@@ -35,7 +34,7 @@ first_is_among spellings sign text h = by_find (find (λ s. s.0 == sign) spellin
     by_find (Some s) is h =
         let among : IsAmong s spellings = find_among (λ s. s.0 == sign) spellings s (sym is) in
         let same : s.0 ≡ sign = eqb-true s.0 sign (found_passes (λ s. s.0 == sign) spellings s (sym is)) in
-        let first : s.1 ≡ first_spelling spellings sign = ap (λ (o : Option (ℕ × List ℕ)). option_map_or (λ (s : ℕ × List ℕ). s.1) o []) is in
+        let first : s.1 ≡ first_spelling spellings sign = ap (λ (o : Option (ℕ × List ℕ)). unwrap_or (option_map (λ (s : ℕ × List ℕ). s.1) o) []) is in
         subst (λ (n : ℕ). IsAmong (n, first_spelling spellings sign) spellings) same (subst (λ (text : List ℕ). IsAmong (s.0, text) spellings) first among)
 
 -- a letter of an index has a first spelling
@@ -55,7 +54,7 @@ keeps head index table = record {
   right_some = table.head_sound.right_some;
   right_few = table.head_sound.right_few;
   four = refl;
-  marks_good = table.head_sound.marks_good;
+  marks_pass = table.head_sound.marks_pass;
   letters_few = let count : length index.firsts.items ≡ letters_in (pairs index) = table.index_sound.letters in let few : length index.firsts.items ≤ 2000 = table.few in omega arith;
   signs_low = table.index_sound.signs;
   signs_high = λ s among. sign_within (pairs index) s among;

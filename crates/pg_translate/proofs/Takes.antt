@@ -5,7 +5,7 @@ use Rattle.pg_types.specs.declared.marks.Mark.{Mark}
 use Rattle.pg_translate.specs.declared.items.Place.{Place}
 use Rattle.pg_translate.specs.declared.items.Place.TheVariants.{Dictionary, Patterns}
 use Rattle.pg_translate.specs.Alphabets.{Alphabet}
-use Rattle.pg_translate.specs.Spellings.{is_digit}
+use Rattle.std.specs.Char.{is_ascii_digit}
 use Rattle.pg_translate.specs.Tokens.{Token, Digit, Marked, letter_at, digit_at, weight_at, mark_at, item_at}
 use Rattle.pg_translate.specs.Answers.{Takes}
 
@@ -15,13 +15,13 @@ takes_one t place [] token found some = absurd (cc)
 takes_one t place (b ∷ bs) token found some = record { size = 1; found = found; some = omega arith; within = omega arith; behind = take_rest (b ∷ bs) 1 }
 
 -- a digit, where no spelling stands
-pub found_digit : (t : Alphabet) (place : Place) (text : List ℕ) → letter_at t.spellings text ≡ None → (length text == 0) ≡ false → is_digit (get_or text 0 0) ≡ true → item_at t place text ≡ Some (Digit (get_or text 0 0 - 48), 1)
+pub found_digit : (t : Alphabet) (place : Place) (text : List ℕ) → letter_at t.spellings text ≡ None → (length text == 0) ≡ false → is_ascii_digit (get_or text 0 0) ≡ true → item_at t place text ≡ Some (Digit (get_or text 0 0 - 48), 1)
 found_digit t place [] none some digit = absurd (cc)
 found_digit t Dictionary (b ∷ bs) none some digit = rw (none, digit) refl
 found_digit t Patterns (b ∷ bs) none some digit = rw (none, digit) refl
 
 -- no digit
-pub missed_digit : (text : List ℕ) → (length text == 0) ≡ false → is_digit (get_or text 0 0) ≡ false → digit_at text ≡ None
+pub missed_digit : (text : List ℕ) → (length text == 0) ≡ false → is_ascii_digit (get_or text 0 0) ≡ false → digit_at text ≡ None
 missed_digit [] some digit = refl
 missed_digit (b ∷ bs) some digit = rw digit refl
 

@@ -1,6 +1,5 @@
 -- What a table holds, and its parts.
-use Rattle.std.specs.Prelude.{ℕ, ◌-◌, ◌==◌, max, List, [], if◌then◌else◌, find, fold, slice_index, codes}
-use Rattle.std.specs.Option.{option_map_or}
+use Rattle.std.specs.Prelude.{ℕ, ◌-◌, ◌==◌, max, List, [], if◌then◌else◌, find, fold, slice_index, codes, Option, option_map, unwrap_or}
 use Rattle.pg_types.specs.declared.limits.TheConstants.{EDGE}
 use Rattle.pg_types.specs.declared.marks.Mark.{Mark}
 use Rattle.pg_types.specs.declared.marks.Mark.TheVariants.{Nothing, Error, Missed, Found, DontCare}
@@ -20,9 +19,13 @@ letters_in spellings = fold (λ n spelling. max n (spelling.0 - 1)) 0 spellings
 abbrev pub letters_of : Alphabet → ℕ
 letters_of t = letters_in t.spellings
 
--- the first spelling of a letter
+-- the first spelling of a letter, where it has one
+abbrev pub first_of : List (ℕ × List ℕ) → ℕ → Option (List ℕ)
+first_of spellings sign = option_map (λ spelling. spelling.1) (find (λ spelling. spelling.0 == sign) spellings)
+
+-- the first spelling of a letter that has one
 abbrev pub first_spelling : List (ℕ × List ℕ) → ℕ → List ℕ
-first_spelling spellings sign = option_map_or (λ spelling. spelling.1) (find (λ spelling. spelling.0 == sign) spellings) []
+first_spelling spellings sign = unwrap_or (first_of spellings sign) []
 
 -- what stands for a sign in a text: the first spelling of a letter, and a dot for the edge
 abbrev pub spelling_of : Alphabet → ℕ → List ℕ

@@ -1,5 +1,5 @@
 -- A line cut into items.
-use Rattle.std.specs.Prelude.{ℕ, zero, suc, ◌+◌, ◌-◌, List, [], ◌∷◌, map, Option, None, Some}
+use Rattle.std.specs.Prelude.{ℕ, zero, suc, ◌+◌, ◌-◌, List, [], ◌∷◌, length, map, Option, None, Some}
 use Rattle.pg_translate.specs.declared.items.Place.{Place}
 use Rattle.pg_translate.specs.Alphabets.{Alphabet}
 use Rattle.pg_translate.specs.Tokens.{Token, item_at}
@@ -33,6 +33,10 @@ cut_from t place column zero (b ∷ bs) = cut_at column (b ∷ bs) (item_at t pl
 -- the longest cut of a line
 abbrev pub cut : Alphabet → Place → List ℕ → Cut
 cut t place line = cut_from t place 1 zero line
+
+-- the cut of the rest of a line of this size
+abbrev pub cut_rest : Alphabet → Place → ℕ → List ℕ → Cut
+cut_rest t place size rest = cut_from t place (size - length rest + 1) zero rest
 
 -- what the items of a cut mean
 abbrev pub tokens_of : Cut → List Token

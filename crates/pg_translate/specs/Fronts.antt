@@ -1,5 +1,5 @@
 -- The fronts of spellings, and the index by their codes.
-use Rattle.std.specs.Prelude.{◌≡◌, ℕ, ◌+◌, ◌-◌, ◌*◌, ◌<◌, ◌≤◌, ◌==◌, nat_eq, nat_lt, true, false, if◌then◌else◌, List, [], ◌∷◌, length, map, fold, find, slice_get, slice_index_or, Option, None, Some, option_map}
+use Rattle.std.specs.Prelude.{◌≡◌, ℕ, ◌+◌, ◌-◌, ◌*◌, ◌<◌, ◌≤◌, ◌==◌, nat_eq, nat_lt, true, false, if◌then◌else◌, List, [], ◌∷◌, length, map, fold, slice_get, slice_index_or, Option, None, Some}
 use Rattle.std.specs.List.{list_all}
 use Rattle.std.specs.Option.{option_or}
 use Rattle.std.specs.HashMap.{get}
@@ -8,7 +8,7 @@ use Rattle.pg_translate.specs.declared.index.Front.TheVariants.{Inside, Whole}
 use Rattle.pg_translate.specs.declared.index.Index.{Index}
 use Rattle.pg_translate.specs.declared.index.Spelling.{Spelling}
 use Rattle.pg_translate.specs.declared.spellings.TheConstants.{SPELLING_MAX}
-use Rattle.pg_translate.specs.Alphabets.{letters_in}
+use Rattle.pg_translate.specs.Alphabets.{letters_in, first_of}
 use Rattle.pg_translate.specs.Spellings.{begins, clash, IsAmong}
 use Rattle.pg_translate.specs.Texts.{text_of}
 
@@ -44,10 +44,6 @@ front_of spelling text = if begins spelling.1 text then Some (if length text == 
 abbrev pub front_in : List (ℕ × List ℕ) → List ℕ → Option Front
 front_in [] text = None
 front_in (spelling ∷ spellings) text = option_or (front_in spellings text) (front_of spelling text)
-
--- the first spelling of a letter, where it has one
-abbrev pub first_of : List (ℕ × List ℕ) → ℕ → Option (List ℕ)
-first_of spellings sign = option_map (λ spelling. spelling.1) (find (λ spelling. spelling.0 == sign) spellings)
 
 -- an index that knows the fronts of its spellings, and their first spellings; the spellings do not clash
 pub record IsIndex (index : Index) : Type 0 where

@@ -1,9 +1,8 @@
 -- What the head of a translate file is read into.
-use Rattle.std.specs.Prelude.{◌≡◌, ℕ, ◌<◌, ◌≤◌, true, List, [], ◌∷◌}
+use Rattle.std.specs.Prelude.{◌≡◌, ℕ, ◌<◌, ◌≤◌, List, [], ◌∷◌}
 use Rattle.pg_translate.specs.declared.head.TheConstants.{MINIMUM_MAX}
 use Rattle.pg_translate.specs.declared.head.Head.{Head}
-use Rattle.pg_translate.specs.Rules.{are_marks}
-use Rattle.pg_translate.specs.Tables.{minima_checks, mark_checks, minimum, pair_at, marks_of}
+use Rattle.pg_translate.specs.Tables.{minima_checks, mark_checks, left_minimum, right_minimum, marks_of}
 
 -- the mark bytes of a head
 abbrev pub marks_in : Head → List ℕ
@@ -12,9 +11,9 @@ marks_in head = head.error ∷ head.missed ∷ head.found ∷ head.dont_care ∷
 -- a head that was read from a line passes its checks and has its minima and marks
 pub record IsHead (line : List ℕ) (head : Head) : Type 0 where
   pub minima_pass : minima_checks line ≡ []
-  pub marks_pass : mark_checks 5 [] (marks_of line) ≡ []
-  pub left_is : head.left ≡ minimum (pair_at line 1) 2
-  pub right_is : head.right ≡ minimum (pair_at line 3) 3
+  pub marks_pass : mark_checks (marks_of line) ≡ []
+  pub left_is : head.left ≡ left_minimum line
+  pub right_is : head.right ≡ right_minimum line
   pub marks_are : marks_in head ≡ marks_of line
 
 -- the rules on minima and marks
@@ -23,4 +22,4 @@ pub record IsSoundHead (head : Head) : Type 0 where
   pub left_few : head.left ≤ MINIMUM_MAX
   pub right_some : 0 < head.right
   pub right_few : head.right ≤ MINIMUM_MAX
-  pub marks_good : are_marks [] (marks_in head) ≡ true
+  pub marks_pass : mark_checks (marks_in head) ≡ []

@@ -1,24 +1,27 @@
 -- What the items of a line are, and the cuts of a line into items.
-use Rattle.std.specs.Prelude.{◌≡◌, ℕ, ◌+◌, ◌-◌, ◌*◌, ◌<◌, ◌≤◌, true, List, [], ◌∷◌, ◌++◌, length, map, fold, codes}
+use Rattle.std.specs.Prelude.{◌≡◌, ℕ, ◌+◌, ◌<◌, ◌≤◌, true, List, [], ◌∷◌, ◌++◌, length, map, fold, codes}
 use Rattle.std.specs.List.{list_all, concat, AllByRecursion}
+use Rattle.pg_types.specs.Parameters.{with_digit}
 use Rattle.pg_types.specs.declared.marks.Mark.{Mark}
 use Rattle.pg_types.specs.declared.marks.Mark.TheVariants.{Nothing, Error, Missed, Found, DontCare}
 use Rattle.pg_translate.specs.declared.items.Place.{Place}
 use Rattle.pg_translate.specs.declared.items.Place.TheVariants.{Dictionary, Patterns}
 use Rattle.pg_translate.specs.Alphabets.{Alphabet, mark_byte_of}
-use Rattle.pg_translate.specs.Spellings.{is_digit, begins, IsAmong}
+use Rattle.pg_translate.specs.Spellings.{begins, IsAmong}
+use Rattle.std.specs.Char.{is_ascii_digit}
 use Rattle.pg_translate.specs.Tokens.{Token, Letter, Digit, Weight, Marked, Edge}
+use Rattle.pg_translate.specs.Cuts.{Placed, Cut}
 
 -- the value of decimal digits
 abbrev pub value_of : List ℕ → ℕ
-value_of digits = fold (λ value b. value * 10 + (b - 48)) 0 digits
+value_of digits = fold with_digit 0 digits
 
 -- a text is a weight in braces: a brace, at most four digits whose value is not 0, and a brace
 pub record IsWeight (weight : ℕ) (text : List ℕ) : Type 0 where
   pub digits : List ℕ
   pub text_is : text ≡ 123 ∷ (digits ++ 125 ∷ [])
   pub few : length digits ≤ 4
-  pub decimal : list_all is_digit digits ≡ true
+  pub decimal : list_all is_ascii_digit digits ≡ true
   pub value : weight ≡ value_of digits
   pub some : 0 < weight
 
@@ -54,9 +57,17 @@ pub record IsCut (t : Alphabet) (place : Place) (line : List ℕ) (items : List 
 abbrev pub IsPrefix : List (Token × List ℕ) → List (Token × List ℕ) → Type 0
 IsPrefix items all = (more : List (Token × List ℕ)) × (all ≡ items ++ more)
 
--- tokens are those of the longest cut of a line: of a cut of which every cut is a prefix
-pub record IsLongest (t : Alphabet) (place : Place) (line : List ℕ) (tokens : List Token) : Type 0 where
+-- items, each with the column of its first byte, from a column on
+abbrev pub items_at : ℕ → List (Token × List ℕ) → List Placed
+items_at column [] = []
+items_at column (item ∷ items) = record { column = column; token = item.0 } ∷ items_at (column + length item.1) items
+
+-- a cut is the longest of a line whose first byte has this column: it has the items of a cut of which every cut is a prefix,
+-- each with the column of its first byte, the column behind them, and what stands there
+pub record IsLongest (t : Alphabet) (place : Place) (column : ℕ) (line : List ℕ) (c : Cut) : Type 0 where
   pub items : List (Token × List ℕ)
   pub cut : IsCut t place line items
-  pub same : tokens ≡ map (λ item. item.0) items
+  pub items_are : c.items ≡ items_at column items
+  pub column_is : c.column ≡ column + length (joined items)
+  pub rest_is : line ≡ joined items ++ c.rest
   pub all : (other : List (Token × List ℕ)) → IsCut t place line other → IsPrefix other items

@@ -3,6 +3,8 @@ pub mod Spellings
 pub mod Tables
 pub mod Tokens
 pub mod Cuts
+pub mod Gaps
+pub mod LineRefusals
 pub mod Reach
 pub mod Answers
 pub mod Texts

@@ -1,15 +1,10 @@
 -- The rules that every table keeps.
-use Rattle.std.specs.Prelude.{◌≡◌, ℕ, ◌+◌, ◌-◌, ◌<◌, ◌≤◌, Bool, true, false, not, ◌&&◌, List, [], ◌∷◌, length}
+use Rattle.std.specs.Prelude.{◌≡◌, ℕ, ◌+◌, ◌-◌, ◌<◌, ◌≤◌, true, false, List, [], length}
 use Rattle.pg_translate.specs.declared.head.TheConstants.{MINIMUM_MAX}
 use Rattle.pg_types.specs.declared.limits.TheConstants.{SIGNS_MAX}
 use Rattle.pg_translate.specs.Alphabets.{Alphabet, letters_of, first_spelling}
 use Rattle.pg_translate.specs.Spellings.{is_spelling, clash, IsAmong}
-use Rattle.pg_translate.specs.Tables.{mark_fails}
-
--- whether no mark fails beside those before it
-abbrev pub are_marks : List ℕ → List ℕ → Bool
-are_marks earlier [] = true
-are_marks earlier (mark ∷ marks) = not (mark_fails earlier mark) && are_marks (mark ∷ earlier) marks
+use Rattle.pg_translate.specs.Tables.{mark_checks}
 
 -- the rules of the translate file on minima, marks, letters and spellings
 pub record KeepsRules (t : Alphabet) : Type 0 where
@@ -18,7 +13,7 @@ pub record KeepsRules (t : Alphabet) : Type 0 where
   pub right_some : 0 < t.right
   pub right_few : t.right ≤ MINIMUM_MAX
   pub four : length t.marks ≡ 4
-  pub marks_good : are_marks [] t.marks ≡ true
+  pub marks_pass : mark_checks t.marks ≡ []
   pub letters_few : letters_of t ≤ SIGNS_MAX - 1
   pub signs_low : (s : ℕ × List ℕ) → IsAmong s t.spellings → 1 < s.0
   pub signs_high : (s : ℕ × List ℕ) → IsAmong s t.spellings → s.0 ≤ letters_of t + 1

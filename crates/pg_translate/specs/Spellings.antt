@@ -1,19 +1,16 @@
 -- What a spelling may be, and when two spellings clash.
 use Rattle.std.specs.Prelude.{◌≡◌, ◌⊎◌, ℕ, ◌==◌, nat_le, Bool, true, false, not, ◌&&◌, ◌||◌, List, [], ◌∷◌, length}
+use Rattle.std.specs.Char.{is_ascii_digit}
 use Rattle.std.specs.List.{list_any}
 use Rattle.pg_translate.specs.declared.spellings.TheConstants.{SPELLING_MAX}
 
--- whether a byte is a decimal digit
-abbrev pub is_digit : ℕ → Bool
-is_digit b = nat_le 48 b && nat_le b 57
-
--- whether a byte is a blank, a TAB, an LF or a CR, which no spelling holds; LF ends a line, so none of a file has it
+-- whether a byte is a blank, a TAB, an LF or a CR, which no spelling holds and which is no mark
 abbrev pub is_space : ℕ → Bool
 is_space b = b == 32 || b == 9 || b == 10 || b == 13
 
 -- whether a spelling may begin with a byte: it is no digit, dot, brace or mark
 abbrev pub may_begin : List ℕ → ℕ → Bool
-may_begin marks b = not (is_digit b || b == 46 || b == 123 || list_any (λ mark. mark == b) marks)
+may_begin marks b = not (is_ascii_digit b || b == 46 || b == 123 || list_any (λ mark. mark == b) marks)
 
 -- whether the first byte of a text may begin a spelling
 abbrev pub begins_well : List ℕ → List ℕ → Bool

@@ -1,5 +1,5 @@
 -- The table that a translate file gives, or its refusal.
-use Rattle.std.specs.Prelude.{ℕ, ◌+◌, ◌-◌, ◌*◌, ◌==◌, nat_lt, Bool, not, ◌&&◌, ◌||◌, if◌then◌else◌, List, [], ◌∷◌, ◌++◌, length, map, flat_map, slice_index_or, codes, Result, Ok}
+use Rattle.std.specs.Prelude.{ℕ, ◌+◌, ◌-◌, ◌*◌, ◌==◌, nat_lt, Bool, not, ◌&&◌, ◌||◌, if◌then◌else◌, List, [], ◌∷◌, ◌++◌, length, map, flat_map, slice_index_or, Result, Ok}
 use Rattle.std.specs.List.{list_any, range_with_len}
 use Rattle.pg_types.specs.declared.limits.TheConstants.{FILE_MAX, SIGNS_MAX}
 use Rattle.pg_types.specs.declared.refusals.Kind.{Kind}
@@ -7,8 +7,10 @@ use Rattle.pg_types.specs.declared.refusals.Kind.TheVariants.{TranslateTooLong, 
 use Rattle.pg_types.specs.declared.refusals.Refusal.{Refusal}
 use Rattle.pg_types.specs.Lines.{lines, pieces_at}
 use Rattle.pg_types.specs.Reading.{first_refusal}
+use Rattle.pg_translate.specs.declared.head.TheConstants.{DEFAULT_LEFT, DEFAULT_RIGHT, DEFAULT_ERROR, DEFAULT_MISSED, DEFAULT_FOUND, DEFAULT_DONT_CARE}
 use Rattle.pg_translate.specs.Alphabets.{Alphabet}
-use Rattle.pg_translate.specs.Spellings.{is_digit, is_spelling, clash}
+use Rattle.pg_translate.specs.Spellings.{is_space, is_spelling, clash}
+use Rattle.std.specs.Char.{is_ascii_digit}
 
 -- a refusal with its place, where a check fails
 abbrev pub check : Bool → Kind → ℕ → ℕ → List Refusal
@@ -33,9 +35,9 @@ is_blank_pair pair = pair.0 == 32 && pair.1 == 32
 -- the value of a digit and a blank, a blank and a digit, or two digits; 0, which is no minimum, for other pairs
 abbrev pub pair_value : ℕ → ℕ → ℕ
 pair_value first second =
-    if is_digit first
-    then (if is_digit second then (first - 48) * 10 + (second - 48) else if second == 32 then first - 48 else 0)
-    else if first == 32 && is_digit second then second - 48 else 0
+    if is_ascii_digit first
+    then (if is_ascii_digit second then (first - 48) * 10 + (second - 48) else if second == 32 then first - 48 else 0)
+    else if first == 32 && is_ascii_digit second then second - 48 else 0
 
 -- a pair fails where it is blank and the other is not, or where it is not blank and no minimum
 abbrev pub pair_fails : ℕ × ℕ → ℕ × ℕ → Bool
@@ -45,22 +47,33 @@ pair_fails pair other = if is_blank_pair pair then not (is_blank_pair other) els
 abbrev pub minimum : ℕ × ℕ → ℕ → ℕ
 minimum pair default = if is_blank_pair pair then default else pair_value pair.0 pair.1
 
+-- the left minimum of a head, and the right one
+abbrev pub left_minimum : List ℕ → ℕ
+left_minimum head = minimum (pair_at head 1) DEFAULT_LEFT
+
+abbrev pub right_minimum : List ℕ → ℕ
+right_minimum head = minimum (pair_at head 3) DEFAULT_RIGHT
+
 -- the mark byte in a column; a blank means a default
 abbrev pub mark_in : List ℕ → ℕ → ℕ → ℕ
 mark_in head column default = if in_column head column == 32 then default else in_column head column
 
--- the bytes for an erroneous, a missed, a found and a don't-care position: a dot, a hyphen, a star and a question mark by default
+-- the bytes for an erroneous, a missed, a found and a don't-care position
 abbrev pub marks_of : List ℕ → List ℕ
-marks_of head = mark_in head 5 46 ∷ mark_in head 6 45 ∷ mark_in head 7 42 ∷ mark_in head 8 63 ∷ []
+marks_of head = mark_in head 5 DEFAULT_ERROR ∷ mark_in head 6 DEFAULT_MISSED ∷ mark_in head 7 DEFAULT_FOUND ∷ mark_in head 8 DEFAULT_DONT_CARE ∷ []
 
--- a mark is no digit, TAB, CR or brace, and differs from those before it
+-- a mark is no digit, blank, TAB, LF, CR or brace, and differs from those before it
 abbrev pub mark_fails : List ℕ → ℕ → Bool
-mark_fails earlier mark = is_digit mark || mark == 9 || mark == 13 || mark == 123 || list_any (λ other. other == mark) earlier
+mark_fails earlier mark = is_ascii_digit mark || is_space mark || mark == 123 || list_any (λ other. other == mark) earlier
 
 -- the checks of the marks, from a column on
-abbrev pub mark_checks : ℕ → List ℕ → List ℕ → List Refusal
-mark_checks column earlier [] = []
-mark_checks column earlier (mark ∷ marks) = check (mark_fails earlier mark) BadMark 1 column ++ mark_checks (column + 1) (mark ∷ earlier) marks
+abbrev pub mark_checks_from : ℕ → List ℕ → List ℕ → List Refusal
+mark_checks_from column earlier [] = []
+mark_checks_from column earlier (mark ∷ marks) = check (mark_fails earlier mark) BadMark 1 column ++ mark_checks_from (column + 1) (mark ∷ earlier) marks
+
+-- the checks of the marks, of which the first stands in column 5
+abbrev pub mark_checks : List ℕ → List Refusal
+mark_checks marks = mark_checks_from 5 [] marks
 
 -- the checks of the minima: the left pair and the right pair
 abbrev pub minima_checks : List ℕ → List Refusal
@@ -68,7 +81,7 @@ minima_checks head = check (pair_fails (pair_at head 1) (pair_at head 3)) BadMin
 
 -- the checks of the head: the minima and the marks
 abbrev pub head_checks : List ℕ → List Refusal
-head_checks head = minima_checks head ++ mark_checks 5 [] (marks_of head)
+head_checks head = minima_checks head ++ mark_checks (marks_of head)
 
 -- a byte before a line; a blank at the line's end is dropped
 abbrev pub unless_blank_end : ℕ → List ℕ → List ℕ
@@ -145,8 +158,8 @@ checks size head letter_lines =
 -- what a head and letter lines say
 abbrev pub alphabet_of : List ℕ → List (List ℕ) → Alphabet
 alphabet_of head letter_lines = record {
-  left = minimum (pair_at head 1) 2;
-  right = minimum (pair_at head 3) 3;
+  left = left_minimum head;
+  right = right_minimum head;
   marks = marks_of head;
   spellings = map signed (spellings_from 2 1 letter_lines);
 }
@@ -158,9 +171,9 @@ default_letter n = (n + 2, (97 + n) ∷ []) ∷ (n + 2, (65 + n) ∷ []) ∷ []
 -- the default table: minima 2 and 3, the default marks, and the letters a to z
 abbrev pub default_alphabet : Alphabet
 default_alphabet = record {
-  left = 2;
-  right = 3;
-  marks = codes ".-*?";
+  left = DEFAULT_LEFT;
+  right = DEFAULT_RIGHT;
+  marks = DEFAULT_ERROR ∷ DEFAULT_MISSED ∷ DEFAULT_FOUND ∷ DEFAULT_DONT_CARE ∷ [];
   spellings = flat_map default_letter (range_with_len 0 26);
 }
 

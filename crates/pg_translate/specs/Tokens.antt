@@ -1,12 +1,14 @@
 -- The item that begins a text, for both kinds of lines.
-use Rattle.std.specs.Prelude.{ℕ, zero, suc, ◌+◌, ◌-◌, ◌*◌, ◌==◌, nat_lt, Bool, true, ◌&&◌, ◌||◌, if◌then◌else◌, List, [], ◌∷◌, length, slice_index, find, Option, None, Some, option_map}
+use Rattle.std.specs.Prelude.{ℕ, zero, suc, ◌+◌, ◌-◌, ◌==◌, nat_lt, Bool, true, ◌&&◌, ◌||◌, if◌then◌else◌, List, [], ◌∷◌, length, slice_index, find, Option, None, Some, option_map}
 use Rattle.std.specs.Option.{option_or}
+use Rattle.pg_types.specs.Parameters.{with_digit}
 use Rattle.pg_types.specs.declared.marks.Mark.{Mark}
 use Rattle.pg_types.specs.declared.marks.Mark.TheVariants.{Error, Missed, Found, DontCare}
 use Rattle.pg_translate.specs.declared.items.Place.{Place}
 use Rattle.pg_translate.specs.declared.items.Place.TheVariants.{Dictionary, Patterns}
 use Rattle.pg_translate.specs.Alphabets.{Alphabet}
-use Rattle.pg_translate.specs.Spellings.{is_digit, begins}
+use Rattle.pg_translate.specs.Spellings.{begins}
+use Rattle.std.specs.Char.{is_ascii_digit}
 
 -- what an item means: the letter with a sign, a digit, a weight in braces, a mark, or the edge
 pub data Token : Type 0 where
@@ -23,7 +25,7 @@ letter_at spellings text = option_map (λ spelling. (Letter spelling.0, length s
 -- the digit that begins a text
 abbrev pub digit_at : List ℕ → Option (Token × ℕ)
 digit_at [] = None
-digit_at (b ∷ bs) = if is_digit b then Some (Digit (b - 48), 1) else None
+digit_at (b ∷ bs) = if is_ascii_digit b then Some (Digit (b - 48), 1) else None
 
 -- the mark whose byte begins a text
 abbrev pub mark_at : List ℕ → List ℕ → Option (Token × ℕ)
@@ -43,7 +45,7 @@ weight_end value size b = if b == 125 && nat_lt 0 value then Some (Weight value,
 abbrev pub weight_from : ℕ → ℕ → ℕ → List ℕ → Option (Token × ℕ)
 weight_from more value size [] = None
 weight_from zero value size (b ∷ bs) = weight_end value size b
-weight_from (suc more) value size (b ∷ bs) = if is_digit b then weight_from more (value * 10 + (b - 48)) (size + 1) bs else weight_end value size b
+weight_from (suc more) value size (b ∷ bs) = if is_ascii_digit b then weight_from more (with_digit value b) (size + 1) bs else weight_end value size b
 
 -- the weight in braces that begins a text: one to four digits, with a value above 0
 abbrev pub weight_at : List ℕ → Option (Token × ℕ)

@@ -1,12 +1,30 @@
 //! The head of a translate file: the minima and the mark bytes.
 ghost use Rattle.std.specs.Prelude.{◌≡◌, ◌<◌, ◌≤◌, ◌∷◌, [], true, false, not, List, MatchOption, IfSome, MatchResult, Ok, Err, IfOk, OnOk, ◌+◌};
-ghost use Rattle.pg_translate.specs.Rules.{are_marks};
 ghost use Rattle.pg_translate.specs.Tables as table;
 
+use crate::reading::is_space;
 use pg_types::{Kind, Refusal};
 
 /// The greatest minimum of a table.
 pub const MINIMUM_MAX: u8 = 99;
+
+/// The left minimum of a table whose head has none.
+pub const DEFAULT_LEFT: u8 = 2;
+
+/// The right minimum of a table whose head has none.
+pub const DEFAULT_RIGHT: u8 = 3;
+
+/// The byte for an erroneous position where the head has a blank.
+pub const DEFAULT_ERROR: u8 = b'.';
+
+/// The byte for a missed position where the head has a blank.
+pub const DEFAULT_MISSED: u8 = b'-';
+
+/// The byte for a found position where the head has a blank.
+pub const DEFAULT_FOUND: u8 = b'*';
+
+/// The byte for a don't-care position where the head has a blank.
+pub const DEFAULT_DONT_CARE: u8 = b'?';
 
 /// The minima and the mark bytes of a table.
 #[derive(Clone, Copy, Debug)]
@@ -87,27 +105,23 @@ fn mark_in(head: &[u8], column: usize, default: u8) -> u8
 fn mark_fails(earlier: &[u8], mark: u8) -> bool
     ensures { result ≡ table.mark_fails earlier.now mark }
 {
-    mark.is_ascii_digit()
-        || mark == b'\t'
-        || mark == b'\r'
-        || mark == b'{'
-        || earlier.contains(&mark)
+    mark.is_ascii_digit() || is_space(mark) || mark == b'{' || earlier.contains(&mark)
 }
 
 /// The two minima of a head, or the refusal of the first pair that fails.
 fn minima(line: &[u8]) -> Result<(u8, u8), Refusal>
-    ensures answer { MatchResult result (λ m. (table.minima_checks line.now ≡ []) × (m.0 ≡ table.minimum (table.pair_at line.now 1) 2) × (m.1 ≡ table.minimum (table.pair_at line.now 3) 3)) (λ r. table.outcome (table.minima_checks line.now) ≡ Err r) }
+    ensures answer { MatchResult result (λ m. (table.minima_checks line.now ≡ []) × (m.0 ≡ table.left_minimum line.now) × (m.1 ≡ table.right_minimum line.now)) (λ r. table.outcome (table.minima_checks line.now) ≡ Err r) }
     ensures range { IfOk result (λ m. (0 < m.0) × (m.0 ≤ MINIMUM_MAX) × (0 < m.1) × (m.1 ≤ MINIMUM_MAX)) }
 {
     let (left, right) = (pair_at(line, 1), pair_at(line, 3));
-    let Some(first) = minimum(left, right, 2) else {
+    let Some(first) = minimum(left, right, DEFAULT_LEFT) else {
         return Err(Refusal {
             kind: Kind::BadMinima,
             line: 1,
             column: 1,
         });
     };
-    let Some(second) = minimum(right, left, 3) else {
+    let Some(second) = minimum(right, left, DEFAULT_RIGHT) else {
         return Err(Refusal {
             kind: Kind::BadMinima,
             line: 1,
@@ -130,8 +144,7 @@ fn bad_mark(column: u32) -> Refusal
 
 /// Whether the mark bytes of a head are marks, one after the other, or the refusal of the first that is none.
 fn check_marks(error: u8, missed: u8, found: u8, dont_care: u8) -> Result<(), Refusal>
-    ensures answer { MatchResult result (λ m. table.mark_checks 5 [] (error ∷ missed ∷ found ∷ dont_care ∷ []) ≡ []) (λ r. table.outcome (table.mark_checks 5 [] (error ∷ missed ∷ found ∷ dont_care ∷ [])) ≡ Err r) }
-    ensures good { OnOk result (are_marks [] (error ∷ missed ∷ found ∷ dont_care ∷ []) ≡ true) }
+    ensures { MatchResult result (λ _. table.mark_checks (error ∷ missed ∷ found ∷ dont_care ∷ []) ≡ []) (λ r. table.outcome (table.mark_checks (error ∷ missed ∷ found ∷ dont_care ∷ [])) ≡ Err r) }
 {
     if mark_fails(&[], error) {
         return Err(bad_mark(5));
@@ -159,10 +172,10 @@ impl Head {
         ensures sound { IfOk result IsSoundHead }
     {
         let (left, right) = minima(line)?;
-        let error = mark_in(line, 5, b'.');
-        let missed = mark_in(line, 6, b'-');
-        let found = mark_in(line, 7, b'*');
-        let dont_care = mark_in(line, 8, b'?');
+        let error = mark_in(line, 5, DEFAULT_ERROR);
+        let missed = mark_in(line, 6, DEFAULT_MISSED);
+        let found = mark_in(line, 7, DEFAULT_FOUND);
+        let dont_care = mark_in(line, 8, DEFAULT_DONT_CARE);
         check_marks(error, missed, found, dont_care)?;
         Ok(Head {
             left,

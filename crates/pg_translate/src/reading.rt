@@ -21,8 +21,8 @@ pub(crate) fn refused(kind: Kind, line: u32, column: u32) -> ReadingError
     ReadingError::Refused(Refusal { kind, line, column })
 }
 
-/// Whether a byte is a blank, a TAB, an LF or a CR, which no spelling holds.
-fn is_space(byte: u8) -> bool
+/// Whether a byte is a blank, a TAB, an LF or a CR, which no spelling holds and which is no mark.
+pub(crate) fn is_space(byte: u8) -> bool
     ensures { result ≡ spelling.is_space byte }
 {
     byte == b' ' || byte == b'\t' || byte == b'\n' || byte == b'\r'

@@ -7,7 +7,10 @@ ghost use Rattle.pg_translate.specs.Sound.{IsTable};
 
 pub mod laws;
 
-use crate::head::{Head, MINIMUM_MAX};
+use crate::head::{
+    DEFAULT_DONT_CARE, DEFAULT_ERROR, DEFAULT_FOUND, DEFAULT_LEFT, DEFAULT_MISSED, DEFAULT_RIGHT,
+    Head, MINIMUM_MAX,
+};
 use crate::index::Index;
 use crate::items::{Item, Place};
 use crate::reading::{read_letters, refused};
@@ -33,11 +36,11 @@ impl Model for Table {
 }
 
 impl Table {
-    ghost use Rattle.std.specs.Prelude.{◌≡◌, ◌+◌, ◌-◌, ◌<◌, ◌≤◌, length, MatchOption, IfSome, IfOk, Some, None};
+    ghost use Rattle.std.specs.Prelude.{◌≡◌, ◌+◌, ◌-◌, ◌<◌, ◌≤◌, true, false, length, MatchOption, IfSome, IfOk, Some, None};
     ghost use Rattle.pg_translate.specs.Alphabets.{letters_of, spelling_of, mark_byte_of};
     ghost use Rattle.pg_types.specs.Reading.{Gives};
     ghost use Rattle.pg_translate.specs.Tables.{default_alphabet, table};
-    ghost use Rattle.pg_translate.specs.Tokens.{letter_at, mark_at};
+    ghost use Rattle.pg_translate.specs.Tokens.{letter_at, mark_at, is_ended};
     ghost use Rattle.pg_translate.specs.Tokens as token;
     ghost use Rattle.pg_translate.specs.Answers.{IsFirstItem, IsInRange};
     ghost use Rattle.pg_translate.specs.Reach.{reach};
@@ -49,12 +52,12 @@ impl Table {
         ensures { IfOk result (λ table. table ≡ default_alphabet) }
     {
         let head = Head {
-            left: 2,
-            right: 3,
-            error: b'.',
-            missed: b'-',
-            found: b'*',
-            dont_care: b'?',
+            left: DEFAULT_LEFT,
+            right: DEFAULT_RIGHT,
+            error: DEFAULT_ERROR,
+            missed: DEFAULT_MISSED,
+            found: DEFAULT_FOUND,
+            dont_care: DEFAULT_DONT_CARE,
         };
         let index = Index::default_letters(alloc)?;
         Ok(Table { head, index })
@@ -146,6 +149,7 @@ impl Table {
         ensures letter { MatchOption result (letter_at self.now.spellings text.now ≡ None) (λ l. letter_at self.now.spellings text.now ≡ Some (token.Letter l.0, l.1)) }
         ensures sign { IfSome result (λ l. (1 < l.0) × (l.0 ≤ letters_of self.now + 1)) }
         ensures within { IfSome result (λ l. (0 < l.1) × (l.1 ≤ length text.now)) }
+        ensures begun { IfSome result (λ _. is_ended text.now ≡ false) }
     {
         self.index.letter(text)
     }
@@ -154,7 +158,8 @@ impl Table {
     #[inline]
     fn mark(&self, text: &[u8]) -> Option<Mark>
         requires { 0 < length text.now }
-        ensures { MatchOption result (mark_at self.now.marks text.now ≡ None) (λ m. mark_at self.now.marks text.now ≡ Some (token.Marked m, 1)) }
+        ensures mark { MatchOption result (mark_at self.now.marks text.now ≡ None) (λ m. mark_at self.now.marks text.now ≡ Some (token.Marked m, 1)) }
+        ensures begun { IfSome result (λ _. is_ended text.now ≡ false) }
     {
         let byte = text[0];
         if byte == self.head.error {
@@ -178,6 +183,7 @@ impl Table {
     #[inline]
     pub fn item<'a>(&self, place: Place, rest: &'a [u8]) -> Item<'a>
         ensures item { IsFirstItem self.now place rest.now result }
+        ensures end { is_ended rest.now ≡ true → result ≡ Item.End }
         ensures range { IsInRange self.now result }
     {
         if let Some((sign, size)) = self.letter(rest) {

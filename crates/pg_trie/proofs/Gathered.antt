@@ -9,7 +9,7 @@ use Rattle.std.specs.FinMap.Entries.{find}
 use Rattle.pg_patterns.specs.Places.{same_place}
 use Rattle.pg_patterns.specs.Values.{is_entry, best, value_of, joined}
 use Rattle.pg_patterns.proofs.Joins.{value_of_joined, joined_keeps, same_maps}
-use Rattle.pg_patterns.proofs.Ordered.{both_true}
+use Rattle.pg_types.proofs.Tests.{both_true}
 use Rattle.pg_outputs.specs.declared.records.Record.{Record}
 use Rattle.pg_outputs.specs.Lists.{list_of}
 use Rattle.pg_cells.specs.Held.{Held}

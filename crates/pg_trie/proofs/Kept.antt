@@ -11,7 +11,7 @@ use Rattle.pg_types.specs.declared.limits.TheConstants.{PATTERN_SIGNS_MAX}
 use Rattle.pg_types.specs.Signs.{is_sign}
 use Rattle.pg_types.specs.Placement.{cell_of}
 use Rattle.pg_patterns.specs.Values.{is_entry}
-use Rattle.pg_patterns.proofs.Ordered.{and_first, and_second, both_true}
+use Rattle.pg_types.proofs.Tests.{and_first, and_second, both_true}
 use Rattle.pg_patterns.proofs.Sound.{entry_told}
 use Rattle.pg_outputs.specs.declared.records.Record.{Record}
 use Rattle.pg_outputs.specs.Lists.{list_of}

@@ -7,7 +7,7 @@ use Rattle.std.proofs.lemmas.Option.{slice_get_within}
 use Rattle.std.specs.List.{list_all, All}
 use Rattle.std.specs.FinMap.Entries.{find}
 use Rattle.pg_types.specs.Placement.{cell_of}
-use Rattle.pg_patterns.proofs.Ordered.{and_first, and_second}
+use Rattle.pg_types.proofs.Tests.{and_first, and_second}
 use Rattle.pg_cells.specs.Held.{Held}
 use Rattle.pg_cells.specs.IsHeld.{IsHeld}
 use Rattle.pg_cells.specs.Walks.{EndsBefore}

@@ -1,5 +1,5 @@
 use Rattle.std.proofs.Common.{◌≤◌, length}
-use Rattle.pg_outputs.specs.Lists.{list_of}
+use Rattle.pg_trie.specs.Lists.{list_of}
 use Rattle.pg_select.specs.Positions.{values_of, covers_of}
 use Rattle.pg_hyph.specs.ListValues.{value_by, cover_by}
 use Rattle.pg_hyph.specs.Walks.{by_list}

@@ -1,5 +1,5 @@
 use Rattle.std.proofs.Common.{◌-◌, take, drop}
-use Rattle.pg_cells.specs.Walks.{IsAt}
+use Rattle.pg_trie.specs.Lists.{IsAt}
 use Rattle.pg_trie.specs.Lists.{outputs_at}
 use Rattle.pg_select.specs.Positions.{values_of, covers_of}
 use Rattle.pg_hyph.specs.ListValues.{value_by, cover_by}

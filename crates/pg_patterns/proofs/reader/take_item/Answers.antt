@@ -4,13 +4,15 @@ use Rattle.pg_types.specs.declared.limits.TheConstants.{EDGE}
 use Rattle.pg_translate.specs.Alphabets.{letters_of}
 use Rattle.pg_translate.specs.Tokens.{Letter, Edge}
 use Rattle.pg_patterns.specs.Drafts.{IsDraft, draft_left}
-use Rattle.pg_patterns.proofs.Steps.{sign_step, sign_refused, shorter, keeps_sign}
+use Rattle.pg_patterns.proofs.Steps.{sign_step, sign_refused, keeps_sign}
+use Rattle.pg_translate.specs.declared.items.Place.TheVariants.{Patterns}
+use Rattle.pg_translate.proofs.LineSteps.{shorter}
 use Rattle.pg_patterns.proofs.reader.take_item.Goals as goal
 
 pub returns-in_ok-add_sign-in-Letter-clause-step : goal.returns-in_ok-add_sign-in-Letter-clause-step
 returns-in_ok-add_sign-in-Letter-clause-step c = (
   sign_step c.args.table.now c.args.line c.args.size c.args.draft.now c.args.rest.now c.in-Letter.after.now (Letter c.in-Letter.sign) c.in-Letter.sign c.in-Letter.ensures.item c.requires.rest refl refl c.in_ok-add_sign-in-Letter.ensures.0 ∙ ap (λ d. draft_left c.args.table.now c.args.line c.args.size d c.in-Letter.after.now) (sym c.in_ok-add_sign-in-Letter.ensures.1),
-  shorter c.args.table.now c.args.rest.now c.in-Letter.after.now (Letter c.in-Letter.sign) c.in-Letter.ensures.item,
+  shorter c.args.table.now Patterns c.args.rest.now c.in-Letter.after.now (Letter c.in-Letter.sign) c.in-Letter.ensures.item,
 )
 
 pub returns-in_ok-add_sign-in-Letter-clause-kept : goal.returns-in_ok-add_sign-in-Letter-clause-kept
@@ -26,7 +28,7 @@ returns-in_err-add_sign-in-Letter-clause-step c =
 pub returns-in_ok-add_sign-in-Edge-clause-step : goal.returns-in_ok-add_sign-in-Edge-clause-step
 returns-in_ok-add_sign-in-Edge-clause-step c = (
   sign_step c.args.table.now c.args.line c.args.size c.args.draft.now c.args.rest.now c.in-Edge.after.now Edge EDGE c.in-Edge.ensures.item c.requires.rest refl refl c.in_ok-add_sign-in-Edge.ensures.0 ∙ ap (λ d. draft_left c.args.table.now c.args.line c.args.size d c.in-Edge.after.now) (sym c.in_ok-add_sign-in-Edge.ensures.1),
-  shorter c.args.table.now c.args.rest.now c.in-Edge.after.now Edge c.in-Edge.ensures.item,
+  shorter c.args.table.now Patterns c.args.rest.now c.in-Edge.after.now Edge c.in-Edge.ensures.item,
 )
 
 pub returns-in_ok-add_sign-in-Edge-clause-kept : goal.returns-in_ok-add_sign-in-Edge-clause-kept

@@ -1,4 +1,6 @@
 use Rattle.std.proofs.Common.{refl, arith}
+use Rattle.pg_translate.proofs.ItemKinds.{no_edge}
+use Rattle.pg_dict.proofs.Running.{line_runs}
 use Rattle.pg_dict.proofs.Takes.{seeks_item, seeks_letter}
 use Rattle.pg_dict.proofs.line.Line.seek.Goals as goal
 
@@ -11,8 +13,11 @@ items-preserved-in-Digit c = rw c.from-weight.ensures (let p = seeks_item _ _ _ 
 pub items-preserved-in-Weight : goal.items-preserved-in-Weight
 items-preserved-in-Weight c = let p = seeks_item _ _ _ _ _ _ _ _ _ c.items.invariant.whole c.items.invariant.within c.in-Weight.ensures.item (λ _ _. refl) in record { whole = p.0; within = p.1; small = c.in-Weight.ensures.range.1 }
 
-pub items-preserved-in-Mark : goal.items-preserved-in-Mark
-items-preserved-in-Mark c = let p = seeks_item _ _ _ _ _ _ _ _ _ c.items.invariant.whole c.items.invariant.within c.in-Mark.ensures.item (λ _ _. refl) in record { whole = p.0; within = p.1; small = c.items.invariant.small }
-
 pub items-preserved : goal.items-preserved
-items-preserved c = let p = seeks_item _ _ _ _ _ _ _ _ _ c.items.invariant.whole c.items.invariant.within c.in-Edge.ensures.item (λ _ _. refl) in record { whole = p.0; within = p.1; small = c.items.invariant.small }
+items-preserved c = let p = seeks_item _ _ _ _ _ _ _ _ _ c.items.invariant.whole c.items.invariant.within c.in-Mark.ensures.item (λ _ _. refl) in record { whole = p.0; within = p.1; small = c.items.invariant.small }
+
+pub items-init : goal.items-init
+items-init c = record { whole = line_runs c.args.self.now.table.now c.args.self.now.number c.args.self.now.size c.args.self.now.weight c.args.text.now c.requires; within = omega (arith, c.requires); small = c.args.self.now.small }
+
+pub unreachable-requires : goal.unreachable-requires
+unreachable-requires c = no_edge _ _ _ c.in-Edge.ensures.item

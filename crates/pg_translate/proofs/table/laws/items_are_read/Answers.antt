@@ -1,5 +1,6 @@
 use Rattle.pg_translate.proofs.ItemLaws.{item_reads}
 use Rattle.pg_translate.proofs.RuleLaws.{spelling_item}
+use Rattle.pg_translate.proofs.Unbroken.{item_unbroken, ended_none}
 use Rattle.pg_translate.proofs.table.laws.items_are_read.Goals as goal
 
 pub returns-clause-read : goal.returns-clause-read
@@ -7,3 +8,9 @@ returns-clause-read c = item_reads c.args.table.now c.keeps_rules.ensures c.args
 
 pub returns-clause-spellings : goal.returns-clause-spellings
 returns-clause-spellings c = spelling_item c.args.table.now c.keeps_rules.ensures c.args.place
+
+pub returns-clause-unbroken : goal.returns-clause-unbroken
+returns-clause-unbroken c = item_unbroken c.args.table.now c.keeps_rules.ensures c.args.place
+
+pub returns-clause-ended : goal.returns-clause-ended
+returns-clause-ended c = ended_none c.args.table.now c.keeps_rules.ensures c.args.place

@@ -1,0 +1,5 @@
+pub mod Cuts
+pub mod FirstPart
+pub mod Least
+pub mod PrintedPart
+mod DifferenceRows

@@ -1,0 +1,41 @@
+-- The first false line of a file.
+use Rattle.std.specs.Prelude.{◌≡◌, ◌≢◌, ℕ, ◌+◌, ◌<◌, if◌then◌else◌, List, [], ◌∷◌, take, Option, None, Some, slice_get, unwrap_or}
+use Rattle.std.specs.List.{onto_first}
+use Rattle.std.specs.Str.{bytes_eq}
+use Rattle.pg_types.specs.Lines.{is_line_feed}
+
+-- the lines of a file, each with its line feed and with its CR
+abbrev pub whole_lines : List ℕ → List (List ℕ)
+whole_lines [] = []
+whole_lines (b ∷ bs) = if is_line_feed b then (b ∷ []) ∷ whole_lines bs else onto_first b (whole_lines bs)
+
+-- where two files differ: the number of a line, from 1, and the line that the given file has there, which is empty where it has none
+pub record Difference : Type 0 where
+  pub line : ℕ
+  pub found : List ℕ
+
+-- the first line, where these have the numbers from `line` on, at which the given ones differ from the wanted; a missing line
+-- differs from every line
+abbrev pub difference_from : ℕ → List (List ℕ) → List (List ℕ) → Option Difference
+difference_from line [] [] = None
+difference_from line [] (wanted ∷ rest) = Some (record { line = line; found = [] })
+difference_from line (given ∷ rest) [] = Some (record { line = line; found = given })
+difference_from line (given ∷ after) (wanted ∷ rest) = if bytes_eq given wanted then difference_from (line + 1) after rest else Some (record { line = line; found = given })
+
+-- the first false line of a given file
+abbrev pub first_false : List ℕ → List ℕ → Option Difference
+first_false given wanted = difference_from 1 (whole_lines given) (whole_lines wanted)
+
+-- the line with this number, counted from 0, where a file has it
+abbrev pub line_at : List ℕ → ℕ → Option (List ℕ)
+line_at bytes k = slice_get (whole_lines bytes) k
+
+-- the least line at which two files differ, with what the given one has there
+pub record IsFirstFalse (given wanted : List ℕ) (d : Difference) : Type 0 where
+  pub before : (k : ℕ) → k + 1 < d.line → line_at given k ≡ line_at wanted k
+  pub differs : (k : ℕ) → d.line ≡ k + 1 → line_at given k ≢ line_at wanted k
+  pub found : (k : ℕ) → d.line ≡ k + 1 → d.found ≡ unwrap_or (line_at given k) []
+
+-- a difference with no more than the first n bytes of its line
+abbrev pub shown : ℕ → Difference → Difference
+shown n d = record { line = d.line; found = take n d.found }

@@ -1,0 +1,33 @@
+-- What is printed of a found line.
+use Rattle.std.specs.Prelude.{ℕ, ◌-◌, nat_lt, Bool, if◌then◌else◌, List, [], ◌∷◌, length, take, slice_index}
+use Rattle.pg_types.specs.Lines.{is_line_feed}
+use Rattle.pg_audit.specs.Differences.{Difference}
+
+-- there is no such line; it has more than 200 bytes, and these are the first 200; it is this line, and its line feed follows; or it is
+-- this line, and the file ends
+pub data FoundLine : Type 0 where
+  Missing : FoundLine
+  Begins : List ℕ → FoundLine
+  Ended : List ℕ → FoundLine
+  Unended : List ℕ → FoundLine
+
+-- whether a line has its line feed
+abbrev pub has_feed : List ℕ → Bool
+has_feed line = is_line_feed (slice_index line (length line - 1))
+
+-- a line without its line feed
+abbrev pub without_feed : List ℕ → List ℕ
+without_feed line = if has_feed line then take (length line - 1) line else line
+
+-- a line that is there
+abbrev pub line_there : List ℕ → FoundLine
+line_there line = if nat_lt 200 (length (without_feed line)) then Begins (take 200 line) else if has_feed line then Ended (without_feed line) else Unended line
+
+-- the found line
+abbrev pub found_line : List ℕ → FoundLine
+found_line [] = Missing
+found_line (b ∷ bs) = line_there (b ∷ bs)
+
+-- what is printed of a difference: its line's number, and the found line
+abbrev pub printed_of : Difference → ℕ × FoundLine
+printed_of d = (d.line, found_line d.found)

@@ -1,0 +1,9 @@
+//! The comparison of a given file with the wanted one: the first line that is false.
+#![tactic(auto)]
+
+pub mod laws;
+mod lines;
+#[cfg(test)]
+mod tests;
+
+pub use lines::{FalseLine, compare};

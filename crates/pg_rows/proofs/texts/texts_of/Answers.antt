@@ -1,0 +1,14 @@
+use Rattle.std.proofs.Common.{◌≡◌, ℕ, ap, sym, ◌∙◌, ◌+◌, subst}
+use Rattle.pg_dict.specs.Word.{SignsAtMost}
+use Rattle.pg_select.specs.Meanings.{Meaning}
+use Rattle.pg_rows.proofs.texts.texts_of.Goals as goal
+
+pub generate-requires-clause-signs : goal.generate-requires-clause-signs
+generate-requires-clause-signs c =
+    let signs = ap (λ (m : Meaning). m.signs) c.in_ok-engine.ensures ∙ ap (λ (n : ℕ). n + 1) c.letters.ensures.value in
+    subst (λ (n : ℕ). SignsAtMost n c.in_ok-dictionary.dictionary) (sym signs) c.in_ok-dictionary.ensures.signs
+
+pub pattmp_text-requires-clause-signs : goal.pattmp_text-requires-clause-signs
+pattmp_text-requires-clause-signs c =
+    let signs = c.generate.ensures.signs ∙ ap (λ (m : Meaning). m.signs) c.in_ok-engine.ensures ∙ ap (λ (n : ℕ). n + 1) c.letters.ensures.value in
+    subst (λ (n : ℕ). SignsAtMost n c.in_ok-dictionary.dictionary) (sym signs) c.in_ok-dictionary.ensures.signs

@@ -1,0 +1,9 @@
+pub mod Joins
+pub mod Layouts
+pub mod Ranges
+mod TextRows
+pub mod WeightItems
+pub mod WordSteps
+pub mod WordItems
+pub mod WordMarks
+pub mod ReadBack

@@ -1,0 +1,7 @@
+use Rattle.std.proofs.Common.{◌≡◌, ◌++◌, drop, map}
+use Rattle.pg_texts.specs.Told.{pass_told}
+use Rattle.pg_texts.specs.CellsTexts.{passes_cells_text}
+use Rattle.pg_texts.proofs.cells.push_passes.Given as goal
+
+abbrev pub invariant-passes : goal.invariant-passes
+invariant-passes l = l.text.items ++ passes_cells_text (map pass_told (drop l.pass-index l.passes)) l.level ≡ l.fn.text.items ++ passes_cells_text (map pass_told l.passes) l.level

@@ -1,0 +1,6 @@
+pub mod Fronts
+pub mod ReportTexts
+pub mod PattmpTexts
+pub mod CellsTexts
+pub mod Told
+pub mod Found

@@ -1,0 +1,15 @@
+//! The texts of a run: the report, the hyphenated list and the cells file.
+#![tactic(auto)]
+
+mod cells;
+mod fronts;
+pub mod laws;
+mod numbers;
+mod pattmp;
+mod rates;
+mod report;
+mod word;
+
+pub use cells::cells_text;
+pub use pattmp::pattmp_text;
+pub use report::report_text;

@@ -1,0 +1,46 @@
+//! The hyphenated list.
+ghost use Rattle.std.specs.Prelude.{◌≡◌, ◌+◌, ◌≤◌, length, Ok, IfOk};
+ghost use Rattle.pg_types.specs.declared.limits.TheConstants.{FILE_MAX};
+ghost use Rattle.pg_translate.specs.Alphabets.{letters_of};
+ghost use Rattle.pg_dict.specs.Word.{SignsAtMost};
+ghost use Rattle.pg_dict.specs.Words.{words};
+ghost use Rattle.pg_texts.specs.PattmpTexts as pattmp;
+
+use crate::laws::lists_are_read;
+use crate::word::{push_weight, push_word};
+use pg_dict::Dictionary;
+use pg_select::{Engine, WordState};
+use pg_translate::Table;
+use std::alloc::{AllocError, Global};
+
+/// The hyphenated list: the words that take part, in the order of the dictionary, each with the marks of its positions by the
+/// patterns of the engine, and with the weights that differ from those before them.
+///
+/// Where it has at most 2^26 bytes it is a dictionary file of these words, under the same table, with their hyphens, their cares
+/// and all their weights. Each word is hyphenated once.
+pub fn pattmp_text<E: Engine>(
+    alloc: Global,
+    engine: &E,
+    dictionary: &Dictionary,
+    table: &Table,
+) -> Result<Vec<u8>, AllocError>
+    requires signs { SignsAtMost (E.meaning engine.now).signs dictionary.now }
+    requires letters { SignsAtMost (letters_of table.now + 1) dictionary.now }
+    ensures text { IfOk result (λ text. text.items ≡ pattmp.pattmp_text table.now (E.meaning engine.now).patterns dictionary.now) }
+    ensures read_back { IfOk result (λ text. length text.items ≤ FILE_MAX → words table.now text.items ≡ Ok (pattmp.words_taking_part table.now dictionary.now)) }
+{
+    lists_are_read(table);
+    let mut text = Vec::new(alloc);
+    let mut found = WordState::new();
+    let mut weight = 1;
+    'words: for i in 0..dictionary.len() {
+        let word = dictionary.word(i);
+        if let Some(reach) = table.reach(word.signs.len()) {
+            engine.hyphenate(word, &mut found);
+            push_weight(&mut text, weight, word.weight)?;
+            push_word(&mut text, table, word, &found, reach)?;
+            weight = word.weight;
+        }
+    }
+    Ok(text)
+}

@@ -1,0 +1,55 @@
+//! Totals and their rates.
+ghost use Rattle.std.specs.Prelude.{◌≡◌, ◌++◌, ◌+◌, ◌*◌, ◌/◌, ◌<◌, OnOk};
+ghost use Rattle.pg_driver.specs.Sound.{IsSmall};
+ghost use Rattle.pg_texts.specs.ReportTexts.{totals_text, hundredths, rate_text, ending_text};
+
+use crate::numbers::push_number;
+use pg_types::Totals;
+use std::alloc::AllocError;
+
+/// Appends totals.
+pub fn push_totals(text: &mut Vec<u8>, totals: &Totals) -> Result<(), AllocError>
+    ensures { OnOk result (text.new.items ≡ text.old.items ++ totals_text totals.now) }
+{
+    push_number(text, b"", totals.good)?;
+    push_number(text, b" good, ", totals.bad)?;
+    push_number(text, b" bad, ", totals.missed)?;
+    text.extend_from_slice(b" missed")
+}
+
+/// Appends a text, and hundredths as a whole part, a point and two digits.
+fn push_hundredths(text: &mut Vec<u8>, front: &[u8], n: u64) -> Result<(), AllocError>
+    ensures { OnOk result (text.new.items ≡ text.old.items ++ front.now ++ hundredths n) }
+{
+    push_number(text, front, n / 100)?;
+    push_number(text, b".", n / 10 % 10)?;
+    push_number(text, b"", n % 10)
+}
+
+/// Appends the line of rates: the shares of the hyphens in reach in percent, cut after two digits. There is none where no hyphen
+/// is in reach.
+fn push_rates(text: &mut Vec<u8>, totals: &Totals) -> Result<(), AllocError>
+    requires { IsSmall totals.now }
+    ensures { OnOk result (text.new.items ≡ text.old.items ++ rate_text totals.now) }
+{
+    let Totals { good, bad, missed } = *totals;
+    let whole = good + missed;
+    if whole == 0 {
+        return Ok(());
+    }
+    push_hundredths(text, b"rate: ", 10_000 * good / whole)?;
+    push_hundredths(text, b" % good, ", 10_000 * bad / whole)?;
+    push_hundredths(text, b" % bad, ", 10_000 * missed / whole)?;
+    text.extend_from_slice(b" % missed\n")
+}
+
+/// Appends the line of the totals and that of the rates.
+pub fn push_ending(text: &mut Vec<u8>, totals: &Totals) -> Result<(), AllocError>
+    requires { IsSmall totals.now }
+    ensures { OnOk result (text.new.items ≡ text.old.items ++ ending_text totals.now) }
+{
+    text.extend_from_slice(b"total: ")?;
+    push_totals(text, totals)?;
+    text.extend_from_slice(b"\n")?;
+    push_rates(text, totals)
+}

@@ -1,0 +1,96 @@
+-- Which items the lines of a dictionary and of patterns do not have.
+use Rattle.std.proofs.Common.{◌≡◌, ℕ, ◌+◌, ◌-◌, ◌*◌, ◌==◌, nat_lt, ◌&&◌, Bool, true, false, if◌then◌else◌, List, [], ◌∷◌, length, slice_index, find, Option, Some, None, option_map, refl, ap, suc, zero}
+use Rattle.std.specs.Option.{option_or}
+use Rattle.pg_types.specs.declared.marks.Mark.{Mark}
+use Rattle.pg_types.specs.declared.marks.Mark.TheVariants.{Error, Missed, Found, DontCare}
+use Rattle.pg_translate.specs.declared.items.Place.TheVariants.{Dictionary, Patterns}
+use Rattle.pg_translate.specs.Alphabets.{Alphabet}
+use Rattle.pg_translate.specs.Answers.{Takes}
+use Rattle.pg_translate.specs.Spellings.{begins}
+use Rattle.std.specs.Char.{is_ascii_digit}
+use Rattle.pg_translate.specs.Tokens.{Token, Letter, Digit, Weight, Marked, Edge, item_at, letter_at, digit_at, weight_at, weight_from, weight_end, mark_at, edge_at}
+
+-- an item of a pattern line is a letter, a digit or the edge
+abbrev of_patterns : Option (Token × ℕ) → Bool
+of_patterns None = true
+of_patterns (Some (Letter sign, size)) = true
+of_patterns (Some (Digit digit, size)) = true
+of_patterns (Some (Weight weight, size)) = false
+of_patterns (Some (Marked mark, size)) = false
+of_patterns (Some (Edge, size)) = true
+
+edge_of_patterns : (text : List ℕ) → of_patterns (edge_at text) ≡ true
+edge_of_patterns [] = refl
+edge_of_patterns (b ∷ bs) = elim (b == 46) as (λ s. of_patterns (if s then Some (Edge, 1) else None) ≡ true) [ true ↦ refl | false ↦ refl ]
+
+digit_of_patterns : (text : List ℕ) → of_patterns (option_or (digit_at text) (edge_at text)) ≡ true
+digit_of_patterns [] = refl
+digit_of_patterns (b ∷ bs) = elim (is_ascii_digit b) as (λ s. of_patterns (option_or (if s then Some (Digit (b - 48), 1) else None) (edge_at (b ∷ bs))) ≡ true) [ true ↦ refl | false ↦ edge_of_patterns (b ∷ bs) ]
+
+item_of_patterns : (t : Alphabet) (text : List ℕ) → of_patterns (item_at t Patterns text) ≡ true
+item_of_patterns t text =
+    elim (find (λ spelling. begins text spelling.1) t.spellings) as (λ o. of_patterns (option_or (option_map (λ spelling. (Letter spelling.0, length spelling.1)) o) (option_or (digit_at text) (edge_at text))) ≡ true) [
+      | None ↦ digit_of_patterns text
+      | Some spelling ↦ refl
+    ]
+
+pub no_weight : (t : Alphabet) (rest after : List ℕ) (weight : ℕ) → Takes t Patterns rest (Weight weight) after → ⊥
+no_weight t rest after weight takes = cc (ap of_patterns takes.found, item_of_patterns t rest)
+
+pub no_mark : (t : Alphabet) (rest after : List ℕ) (mark : Mark) → Takes t Patterns rest (Marked mark) after → ⊥
+no_mark t rest after mark takes = cc (ap of_patterns takes.found, item_of_patterns t rest)
+
+-- an item of a dictionary line is not the edge
+abbrev of_dictionary : Option (Token × ℕ) → Bool
+of_dictionary None = true
+of_dictionary (Some (Letter sign, size)) = true
+of_dictionary (Some (Digit digit, size)) = true
+of_dictionary (Some (Weight weight, size)) = true
+of_dictionary (Some (Marked mark, size)) = true
+of_dictionary (Some (Edge, size)) = false
+
+either_of_dictionary : (o p : Option (Token × ℕ)) → of_dictionary o ≡ true → of_dictionary p ≡ true → of_dictionary (option_or o p) ≡ true
+either_of_dictionary None p first second = second
+either_of_dictionary (Some x) p first second = first
+
+letter_of_dictionary : (t : Alphabet) (text : List ℕ) → of_dictionary (letter_at t.spellings text) ≡ true
+letter_of_dictionary t text = elim (find (λ spelling. begins text spelling.1) t.spellings) as (λ o. of_dictionary (option_map (λ spelling. (Letter spelling.0, length spelling.1)) o) ≡ true) [ None ↦ refl | Some spelling ↦ refl ]
+
+digit_of_dictionary : (text : List ℕ) → of_dictionary (digit_at text) ≡ true
+digit_of_dictionary [] = refl
+digit_of_dictionary (b ∷ bs) = elim (is_ascii_digit b) as (λ s. of_dictionary (if s then Some (Digit (b - 48), 1) else None) ≡ true) [ true ↦ refl | false ↦ refl ]
+
+end_of_dictionary : (value size b : ℕ) → of_dictionary (weight_end value size b) ≡ true
+end_of_dictionary value size b = elim (b == 125 && nat_lt 0 value) as (λ s. of_dictionary (if s then Some (Weight value, size + 1) else None) ≡ true) [ true ↦ refl | false ↦ refl ]
+
+weight_of_dictionary : (more value size : ℕ) (text : List ℕ) → of_dictionary (weight_from more value size text) ≡ true
+weight_of_dictionary zero value size [] = refl
+weight_of_dictionary (suc more) value size [] = refl
+weight_of_dictionary zero value size (b ∷ bs) = end_of_dictionary value size b
+weight_of_dictionary (suc more) value size (b ∷ bs) =
+    elim (is_ascii_digit b) as (λ s. of_dictionary (if s then weight_from more (value * 10 + (b - 48)) (size + 1) bs else weight_end value size b) ≡ true) [
+      | true ↦ weight_of_dictionary more (value * 10 + (b - 48)) (size + 1) bs
+      | false ↦ end_of_dictionary value size b
+    ]
+
+braced_of_dictionary : (text : List ℕ) → of_dictionary (weight_at text) ≡ true
+braced_of_dictionary [] = refl
+braced_of_dictionary (b ∷ bs) = elim (b == 123) as (λ s. of_dictionary (if s then weight_from 4 0 1 bs else None) ≡ true) [ true ↦ weight_of_dictionary 4 0 1 bs | false ↦ refl ]
+
+mark_of_dictionary : (marks text : List ℕ) → of_dictionary (mark_at marks text) ≡ true
+mark_of_dictionary marks [] = refl
+mark_of_dictionary marks (b ∷ bs) = by_tests (b == slice_index marks 0) (b == slice_index marks 1) (b == slice_index marks 2) (b == slice_index marks 3)
+  where
+    by_tests : (first second third fourth : Bool) → of_dictionary (if first then Some (Marked Error, 1) else if second then Some (Marked Missed, 1) else if third then Some (Marked Found, 1) else if fourth then Some (Marked DontCare, 1) else None) ≡ true
+    by_tests true second third fourth = refl
+    by_tests false true third fourth = refl
+    by_tests false false true fourth = refl
+    by_tests false false false true = refl
+    by_tests false false false false = refl
+
+item_of_dictionary : (t : Alphabet) (text : List ℕ) → of_dictionary (item_at t Dictionary text) ≡ true
+item_of_dictionary t text =
+    either_of_dictionary _ _ (letter_of_dictionary t text) (either_of_dictionary _ _ (digit_of_dictionary text) (either_of_dictionary _ _ (braced_of_dictionary text) (mark_of_dictionary t.marks text)))
+
+pub no_edge : (t : Alphabet) (rest after : List ℕ) → Takes t Dictionary rest Edge after → ⊥
+no_edge t rest after takes = cc (ap of_dictionary takes.found, item_of_dictionary t rest)

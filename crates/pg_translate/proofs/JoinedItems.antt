@@ -1,0 +1,84 @@
+-- A line of items is cut into them, and is read as they say.
+use Rattle.std.proofs.Common.{◌≡◌, ℕ, ◌+◌, ◌<◌, ◌≤◌, true, List, [], ◌∷◌, ◌++◌, length, map, drop, Some, None, Option, option_map, Ok, refl, ap, ◌∙◌, arith, suc, zero, length-append}
+use Rattle.std.specs.List.{AllByRecursion, cons_option, filter_map}
+use Rattle.std.specs.Option.{option_or}
+use Rattle.std.proofs.lemmas.Bool.{false≢true}
+use Rattle.std.proofs.lemmas.List.{drop_at}
+use Rattle.std.proofs.lemmas.Option.{slice_get_past}
+use Rattle.pg_types.specs.declared.marks.Mark.TheVariants.{Nothing, Error, Missed, Found, DontCare}
+use Rattle.pg_types.specs.declared.refusals.Refusal.{Refusal}
+use Rattle.pg_types.specs.Reading.{unless}
+use Rattle.pg_translate.specs.declared.items.Place.{Place}
+use Rattle.pg_translate.specs.declared.items.Place.TheVariants.{Dictionary, Patterns}
+use Rattle.pg_translate.specs.Alphabets.{Alphabet}
+use Rattle.pg_translate.specs.Spellings.{begins_well}
+use Rattle.pg_translate.specs.Tokens.{Token, Letter, Digit, Weight, Marked, Edge, item_at}
+use Rattle.pg_translate.specs.Cuts.{Placed, Cut, cut, cut_from, with_item, tokens_of}
+use Rattle.pg_translate.specs.Gaps.{sign_of, signs_of}
+use Rattle.pg_translate.specs.Items.{IsItem, joined}
+use Rattle.pg_translate.specs.LineRefusals.{refused, signs_max, long_kind, sign_column, sign_columns, stop_refusal, line_refusal, of_line}
+use Rattle.pg_translate.specs.Rules.{KeepsRules}
+use Rattle.pg_translate.proofs.Cuts.{cut_item}
+use Rattle.pg_translate.proofs.ItemLaws.{item_reads, begins_spelled}
+
+-- a spelling has a byte
+spelled_some : (marks text : List ℕ) → begins_well marks text ≡ true → 0 < length text
+spelled_some marks [] well = absurd (false≢true well)
+spelled_some marks (b ∷ bs) well = omega arith
+
+-- an item has a byte
+pub item_some : (t : Alphabet) → KeepsRules t → (place : Place) (token : Token) (text : List ℕ) → IsItem t place token text → 0 < length text
+item_some t rules place (Letter sign) text item = spelled_some t.marks text (begins_spelled t rules (sign, text) item)
+item_some t rules place (Digit digit) text item = omega (arith, ap (λ (xs : List ℕ). length xs) item.1)
+item_some t rules Dictionary (Weight weight) text item = omega (arith, ap (λ (xs : List ℕ). length xs) item.text_is)
+item_some t rules Patterns (Weight weight) text item = absurd item
+item_some t rules Dictionary (Marked Nothing) text item = absurd item
+item_some t rules Dictionary (Marked Error) text item = omega (arith, ap (λ (xs : List ℕ). length xs) item)
+item_some t rules Dictionary (Marked Missed) text item = omega (arith, ap (λ (xs : List ℕ). length xs) item)
+item_some t rules Dictionary (Marked Found) text item = omega (arith, ap (λ (xs : List ℕ). length xs) item)
+item_some t rules Dictionary (Marked DontCare) text item = omega (arith, ap (λ (xs : List ℕ). length xs) item)
+item_some t rules Patterns (Marked mark) text item = absurd item
+item_some t rules Dictionary Edge text item = absurd item
+item_some t rules Patterns Edge text item = omega (arith, ap (λ (xs : List ℕ). length xs) item)
+
+-- what the items of a list are
+abbrev pub tokens_in : List (Token × List ℕ) → List Token
+tokens_in items = map (λ (item : Token × List ℕ). item.0) items
+
+-- the cut of items that are joined has these items, and nothing is left
+pub cut_joined : (t : Alphabet) → KeepsRules t → (place : Place) (column : ℕ) (items : List (Token × List ℕ)) → AllByRecursion (λ (item : Token × List ℕ). IsItem t place item.0 item.1) items → (tokens_of (cut_from t place column zero (joined items)) ≡ tokens_in items) × ((cut_from t place column zero (joined items)).rest ≡ [])
+cut_joined t rules place column [] each = (refl, refl)
+cut_joined t rules place column (item ∷ items) each =
+    let size : ℕ = length item.1 in
+    let found : item_at t place (item.1 ++ joined items) ≡ Some (item.0, size) = item_reads t rules place item.0 item.1 (joined items) each.0 in
+    let within : size ≤ length (item.1 ++ joined items) = omega (arith, length-append item.1 (joined items)) in
+    let behind : drop size (item.1 ++ joined items) ≡ joined items = drop_at item.1 (joined items) size refl in
+    let whole : cut_from t place column zero (joined (item ∷ items)) ≡ with_item column item.0 (cut_from t place (column + size) zero (joined items)) =
+    cut_item t place column (item.1 ++ joined items) item.0 size found (item_some t rules place item.0 item.1 each.0) within ∙ ap (λ (rest : List ℕ). with_item column item.0 (cut_from t place (column + size) zero rest)) behind in
+    let p = cut_joined t rules place (column + size) items each.1 in
+    (ap tokens_of whole ∙ ap (λ (tokens : List Token). item.0 ∷ tokens) p.0, ap (λ (c : Cut). c.rest) whole ∙ p.1)
+
+-- each sign has a column
+pub length-sign_columns : (items : List Placed) → length (filter_map sign_column items) ≡ length (signs_of (map (λ (p : Placed). p.token) items))
+length-sign_columns [] = refl
+length-sign_columns (item ∷ items) =
+    elim (sign_of item.token) as (λ o. length (cons_option (option_map (λ (_ : ℕ). item.column) o) (filter_map sign_column items)) ≡ length (cons_option o (signs_of (map (λ (p : Placed). p.token) items)))) [
+      | None ↦ length-sign_columns items
+      | Some sign ↦ ap suc (length-sign_columns items)
+    ]
+
+-- a line of items with few signs is not refused
+pub not_refused : (place : Place) (line : ℕ) (c : Cut) → length (signs_of (tokens_of c)) ≤ signs_max place → c.rest ≡ [] → line_refusal place line c ≡ None
+not_refused place line c few ended =
+    let short : length (sign_columns c) ≤ signs_max place = omega (arith, length-sign_columns c.items) in
+    ap (λ (column : Option ℕ). option_or (option_map (refused line (long_kind place)) column) (stop_refusal place line c)) (slice_get_past (sign_columns c) (signs_max place) short)
+    ∙ ap (λ (rest : List ℕ). stop_refusal place line (record { items = c.items; column = c.column; rest = rest })) ended
+
+-- a line of items gives what the items give
+pub line_is_read : {X : Type 0} (give : List Token → X) (t : Alphabet) → KeepsRules t → (place : Place) (line : ℕ) (items : List (Token × List ℕ)) → AllByRecursion (λ (item : Token × List ℕ). IsItem t place item.0 item.1) items → length (signs_of (tokens_in items)) ≤ signs_max place → of_line give t place line (joined items) ≡ Ok (give (tokens_in items))
+line_is_read {X} give t rules place line items each few =
+    let c : Cut = cut t place (joined items) in
+    let p = cut_joined t rules place 1 items each in
+    let tokens : tokens_of c ≡ tokens_in items = p.0 in
+    let short : length (signs_of (tokens_of c)) ≤ signs_max place = omega (arith, few, ap (λ (ts : List Token). length (signs_of ts)) tokens) in
+    ap (λ (refusal : Option Refusal). unless refusal (give (tokens_of c))) (not_refused place line c short p.1) ∙ ap (λ (ts : List Token). Ok (give ts)) tokens

@@ -1,0 +1,72 @@
+-- The signs of a line, and its gaps: the items before, between and behind the signs.
+use Rattle.std.specs.Prelude.{ℕ, ◌-◌, Bool, List, length, fold, slice_range, Option, None, Some}
+use Rattle.std.specs.Option.{is_some}
+use Rattle.std.specs.List.{filter_map, slice_split}
+use Rattle.pg_types.specs.declared.limits.TheConstants.{EDGE}
+use Rattle.pg_types.specs.declared.marks.Mark.{Mark}
+use Rattle.pg_types.specs.declared.marks.Mark.TheVariants.{Nothing}
+use Rattle.pg_translate.specs.Tokens.{Token, Letter, Digit, Weight, Marked, Edge}
+
+-- the sign that an item stands for: that of a letter, or of the edge
+abbrev pub sign_of : Token → Option ℕ
+sign_of (Letter sign) = Some sign
+sign_of (Digit digit) = None
+sign_of (Weight weight) = None
+sign_of (Marked mark) = None
+sign_of Edge = Some EDGE
+
+-- the signs of a line
+abbrev pub signs_of : List Token → List ℕ
+signs_of items = filter_map sign_of items
+
+-- whether an item stands for a sign
+abbrev pub has_sign : Token → Bool
+has_sign item = is_some (sign_of item)
+
+-- the gaps of a line: the items before its first sign, between each two signs, and behind its last sign
+abbrev pub gaps : List Token → List (List Token)
+gaps items = slice_split has_sign items
+
+-- the gaps between two signs: all but the first and the last
+abbrev pub inner_gaps : List Token → List (List Token)
+inner_gaps items = slice_range (gaps items) 1 (length (gaps items) - 1)
+
+-- a digit
+abbrev pub digit_of : Token → Option ℕ
+digit_of (Letter sign) = None
+digit_of (Digit digit) = Some digit
+digit_of (Weight weight) = None
+digit_of (Marked mark) = None
+digit_of Edge = None
+
+-- a number is a digit or a weight in braces
+abbrev pub number_of : Token → Option ℕ
+number_of (Letter sign) = None
+number_of (Digit digit) = Some digit
+number_of (Weight weight) = Some weight
+number_of (Marked mark) = None
+number_of Edge = None
+
+-- a mark
+abbrev pub mark_of : Token → Option Mark
+mark_of (Letter sign) = None
+mark_of (Digit digit) = None
+mark_of (Weight weight) = None
+mark_of (Marked mark) = Some mark
+mark_of Edge = None
+
+-- the last of a list, else what is given
+abbrev pub last_else : {X : Type 0} → X → List X → X
+last_else given xs = fold (λ _ x. x) given xs
+
+-- the last digit of a gap, 0 where there is none
+abbrev pub last_digit : List Token → ℕ
+last_digit gap = last_else 0 (filter_map digit_of gap)
+
+-- the last number of a gap, else what is given
+abbrev pub last_number : ℕ → List Token → ℕ
+last_number given gap = last_else given (filter_map number_of gap)
+
+-- the last mark of a gap; nothing where there is none
+abbrev pub last_mark : List Token → Mark
+last_mark gap = last_else Nothing (filter_map mark_of gap)

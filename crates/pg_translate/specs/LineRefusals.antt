@@ -1,0 +1,58 @@
+-- When a line of a dictionary or of patterns is refused, and what it gives else.
+use Rattle.std.specs.Prelude.{ℕ, ◌==◌, if◌then◌else◌, List, slice_get, slice_index, Option, None, Some, option_map, Result}
+use Rattle.std.specs.List.{filter_map}
+use Rattle.std.specs.Option.{option_or}
+use Rattle.pg_types.specs.declared.limits.TheConstants.{PATTERN_SIGNS_MAX, WORD_LETTERS_MAX}
+use Rattle.pg_types.specs.declared.refusals.Kind.{Kind}
+use Rattle.pg_types.specs.declared.refusals.Kind.TheVariants.{DictionaryCharacter, BadWeight, WordTooLong, PatternCharacter, PatternTooLong}
+use Rattle.pg_types.specs.declared.refusals.Refusal.{Refusal}
+use Rattle.pg_types.specs.Reading.{unless}
+use Rattle.pg_translate.specs.declared.items.Place.{Place}
+use Rattle.pg_translate.specs.declared.items.Place.TheVariants.{Dictionary, Patterns}
+use Rattle.pg_translate.specs.Alphabets.{Alphabet}
+use Rattle.pg_translate.specs.Tokens.{Token, is_ended}
+use Rattle.pg_translate.specs.Cuts.{Placed, Cut, cut, tokens_of}
+use Rattle.pg_translate.specs.Gaps.{sign_of}
+
+-- a refusal of this line
+abbrev pub refused : ℕ → Kind → ℕ → Refusal
+refused line kind column = record { kind = kind; line = line; column = column }
+
+-- the most signs that a line may have: the letters of a word, or the signs of a pattern
+abbrev pub signs_max : Place → ℕ
+signs_max Dictionary = WORD_LETTERS_MAX
+signs_max Patterns = PATTERN_SIGNS_MAX
+
+-- why a line with a sign too many is refused
+abbrev pub long_kind : Place → Kind
+long_kind Dictionary = WordTooLong
+long_kind Patterns = PatternTooLong
+
+-- why a text that begins with no item is refused: in a dictionary a brace begins a bad weight
+abbrev pub bad_kind : Place → List ℕ → Kind
+bad_kind Dictionary text = if slice_index text 0 == 123 then BadWeight else DictionaryCharacter
+bad_kind Patterns text = PatternCharacter
+
+-- the column of a sign
+abbrev pub sign_column : Placed → Option ℕ
+sign_column item = option_map (λ _. item.column) (sign_of item.token)
+
+-- the columns of the signs of a line
+abbrev pub sign_columns : Cut → List ℕ
+sign_columns c = filter_map sign_column c.items
+
+-- the refusal where the cut of a line stops, unless that is at its end or before a blank or TAB
+abbrev pub stop_refusal : Place → ℕ → Cut → Option Refusal
+stop_refusal place line c = if is_ended c.rest then None else Some (refused line (bad_kind place c.rest) c.column)
+
+-- the refusal of a line in which so many signs may still come: that of the sign too many, else where its cut stops
+abbrev pub refusal_with_room : Place → ℕ → ℕ → Cut → Option Refusal
+refusal_with_room place line room c = option_or (option_map (refused line (long_kind place)) (slice_get (sign_columns c) room)) (stop_refusal place line c)
+
+-- the refusal of a whole line
+abbrev pub line_refusal : Place → ℕ → Cut → Option Refusal
+line_refusal place line c = refusal_with_room place line (signs_max place) c
+
+-- what the items of a line give, or its refusal
+abbrev pub of_line : {X : Type 0} → (List Token → X) → Alphabet → Place → ℕ → List ℕ → Result X Refusal
+of_line give t place line text = let c = cut t place text in unless (line_refusal place line c) (give (tokens_of c))
