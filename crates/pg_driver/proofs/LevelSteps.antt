@@ -21,6 +21,7 @@ use Rattle.pg_driver.specs.States.{DidPass, State, made_by, state_after, state_a
 use Rattle.pg_driver.specs.Told.{known_of}
 use Rattle.pg_driver.specs.Traces.{Known, PassTrace, Source, choice_of, is_left, known_after, known_at_end, pass_made, passes_made, passes_of_length}
 use Rattle.pg_driver.proofs.ChoiceSteps.{state_none, state_with}
+use Rattle.pg_driver.proofs.Numbers.{plus_zero}
 use Rattle.pg_driver.proofs.Reaches.{range_step}
 use Rattle.pg_driver.proofs.RecordSteps.{recorded_none, recorded_pass}
 use Rattle.pg_driver.proofs.SkipFlags.{Follows, tells_more, tells_next, tells_none}
@@ -59,9 +60,6 @@ no_layouts : (signs : ℕ) (o : Option Families) (xs : List (Option (Pass × ℕ
 no_layouts signs None xs = sym (append-nil xs)
 no_layouts signs (Some fs) xs = sym (append-nil xs)
 
-plus_none : (n : ℕ) → n ≡ n + 0
-plus_none n = omega arith
-
 -- where a level begins
 pub at_level_start : (source : Source) (number len : ℕ) (m : Meaning) (r : Recorded) (flags : ClosedDots) → r.chosen ≡ 0 → flags.here ≡ unset → flags.longer ≡ unset → IsAt source number len (record { engine = m; records = r }) [] (point m r flags)
 at_level_start source number len m r flags chosen here longer = record {
@@ -70,8 +68,8 @@ at_level_start source number len m r flags chosen here longer = record {
   records = record {
     lines = sym (append-nil _);
     layouts = no_layouts m.signs m.families _;
-    chosen = plus_none r.chosen;
-    begun = plus_none r.begun;
+    chosen = sym (plus_zero r.chosen);
+    begun = sym (plus_zero r.begun);
     levels = refl;
   };
   short = refl;

@@ -20,6 +20,7 @@ use Rattle.pg_driver.specs.States.{DidPass, State, made_by, state_of, state_afte
 use Rattle.pg_driver.specs.Told.{layout_told, line_of, minima_of, over}
 use Rattle.pg_driver.specs.Traces.{PassTrace, Source, chosen_of, hopeless_of}
 use Rattle.pg_driver.proofs.ChoiceSteps.{state_with}
+use Rattle.pg_driver.proofs.Numbers.{zero_plus}
 use Rattle.pg_driver.proofs.TallyLaw.{tally_is}
 
 -- what a pass of an engine counts
@@ -43,9 +44,6 @@ pass_state t words params pass m m2 n is has =
     has.state
     ∙ ap (λ (x : Meaning). state_with x.signs params x.pass (state_of x) (map candidate_of m2.counts)) is
     ∙ ap (λ (cs : List Candidate). state_with m.signs params pass (state_of m) cs) (counts_are t words params pass m m2 is)
-
-zero_plus : (n : ℕ) → 0 + n ≡ n
-zero_plus n = omega arith
 
 -- the numbers of a pass as a record
 abbrev pub record_with : Pass → Totals → Choices → Option Layout → PassRecord

@@ -27,6 +27,7 @@ use Rattle.pg_driver.specs.Sound.{IsSmall}
 use Rattle.pg_driver.specs.Told.{known_of}
 use Rattle.pg_driver.specs.Traces.{Known, PassTrace, Source, chosen_in, known_after, pass_made}
 use Rattle.pg_driver.proofs.CarriedTotals.{carried_same, carried_small, carried_within, totals_are_small}
+use Rattle.pg_driver.proofs.Numbers.{zero_plus}
 use Rattle.pg_driver.proofs.OpenLevels.{level_begins, level_longer}
 use Rattle.pg_driver.proofs.OpenPlaces.{open_few, open_placed}
 use Rattle.pg_driver.proofs.OpenPositions.{counted_are_open}
@@ -98,9 +99,6 @@ module _ (source : Source) (params : LevelParams) (known : Known) (pass : Pass) 
     good = ap (λ (x : Choices). x.good) is ∙ zero_plus (sum_by (λ (c : Candidate). c.good) (chosen_in made));
     bad = ap (λ (x : Choices). x.bad) is ∙ zero_plus (sum_by (λ (c : Candidate). c.bad) (chosen_in made));
   }
-    where
-      zero_plus : (k : ℕ) → 0 + k ≡ k
-      zero_plus k = omega arith
 
   module _ (o : OpenLevel) (of : AreOf) (ready : IsOpenAt source pass.level pass.len known o) where
     carries : Carries (is_odd pass.level) o.totals (totals_by source (known_after made).patterns) n.good n.bad

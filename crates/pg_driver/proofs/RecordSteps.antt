@@ -13,6 +13,7 @@ use Rattle.pg_driver.specs.Levels.{AreRecorded, layouts_in}
 use Rattle.pg_driver.specs.Sound.{Recorded, with_pass}
 use Rattle.pg_driver.specs.Told.{layout_told, line_of}
 use Rattle.pg_driver.specs.Traces.{PassTrace, Source, chosen_in, chosen_of}
+use Rattle.pg_driver.proofs.Numbers.{plus_zero}
 use Rattle.pg_driver.proofs.TraceSteps.{begun_push, chosen_push, filter_push, layouts_push}
 
 push_if : {A C : Type 0} (f : A → C) (b : Bool) (xs : List A) (a : A) (os ys : List C) (y : C) → map f xs ≡ os ++ ys → f a ≡ y → map f (cond b (xs ++ a ∷ []) xs) ≡ os ++ (ys ++ cond b (y ∷ []) [])
@@ -53,9 +54,6 @@ recorded_pass source signs families ps q old mid new r line layout is short begu
 none_more : {C : Type 0} (os ys zs more : List C) → os ≡ ys ++ zs → more ≡ [] → os ≡ ys ++ (zs ++ more)
 none_more os ys zs more is none = is ∙ ap (λ xs. ys ++ xs) (sym (append-nil zs)) ∙ ap (λ xs. ys ++ (zs ++ xs)) (sym none)
 
-plus_none : (n : ℕ) → n + 0 ≡ n
-plus_none n = omega arith
-
 -- a pass that was skipped
 pub recorded_none : (source : Source) (signs : ℕ) (families : Option Families) (ps : List PassTrace) (q : PassTrace) (old new : Recorded)
     → q.candidates ≡ [] → list_all (λ p. nat_le p.pass.len q.pass.len) ps ≡ true → is_skippable ps q.pass ≡ true → AreRecorded source signs families ps old new → AreRecorded source signs families (ps ++ q ∷ []) old new
@@ -71,12 +69,12 @@ recorded_none source signs families ps q old new none short begun before =
           ∙ ap (λ ls. map layout_told old.passes ++ ls) (sym (layouts_push signs families ps q));
       chosen =
           before.chosen
-          ∙ ap (λ n. old.chosen + n) (sym (plus_none (chosen_by ps)))
+          ∙ ap (λ n. old.chosen + n) (sym (plus_zero (chosen_by ps)))
           ∙ ap (λ (cs : List Candidate). old.chosen + (chosen_by ps + length (chosen_of q.params cs))) (sym none)
           ∙ ap (λ n. old.chosen + n) (sym (chosen_push ps q));
       begun =
           before.begun
-          ∙ ap (λ n. old.begun + n) (sym (plus_none (length (begun_among ps))))
+          ∙ ap (λ n. old.begun + n) (sym (plus_zero (length (begun_among ps))))
           ∙ ap (λ b. old.begun + (length (begun_among ps) + cond b 0 1)) (sym begun)
           ∙ ap (λ n. old.begun + n) (sym (begun_push ps q short));
       levels = before.levels;

@@ -172,6 +172,26 @@ layout_of_the_level : cells.levels ≡ (1, record { taken = 5; top = 9; tails = 
 unfolding with_sign
 layout_of_the_level = refl
 
+-- starting values of 1 and 2 at three levels: above, at and below the level
+abbrev four_words : List Word
+four_words = word (1 ∷ 2 ∷ 3 ∷ 4 ∷ 1 ∷ []) (false ∷ false ∷ false ∷ true ∷ false ∷ [])
+    ∷ word (1 ∷ 2 ∷ 3 ∷ 2 ∷ 1 ∷ []) (false ∷ false ∷ false ∷ true ∷ false ∷ [])
+    ∷ word (1 ∷ 2 ∷ 3 ∷ 4 ∷ 3 ∷ 1 ∷ []) (false ∷ false ∷ true ∷ false ∷ false ∷ false ∷ [])
+    ∷ word (1 ∷ 4 ∷ 2 ∷ 3 ∷ 4 ∷ 1 ∷ []) (false ∷ false ∷ false ∷ false ∷ false ∷ false ∷ [])
+    ∷ []
+
+abbrev levels_1_to_3 : Parameters
+levels_1_to_3 = record { start = 1; finish = 3; levels = level 2 2 1 1 1 ∷ level 2 2 1 1 1 ∷ level 2 3 1 1 1 ∷ [] }
+
+abbrev starting_values : Patterns
+starting_values = ((2 ∷ [], 1), 1) ∷ ((3 ∷ 4 ∷ [], 1), 2) ∷ []
+
+starting_values_patterns : patterns four_words levels_1_to_3 starting_values ≡ ((2 ∷ [], 1), 1) ∷ ((2 ∷ 3 ∷ [], 1), 2) ∷ ((3 ∷ 2 ∷ [], 1), 1) ∷ ((3 ∷ 4 ∷ [], 1), 2) ∷ ((3 ∷ 4 ∷ 3 ∷ [], 0), 3) ∷ []
+starting_values_patterns = refl
+
+starting_values_levels : map level_numbers (told four_words levels_1_to_3 starting_values).levels ≡ (1, 1, sums 2 3 1) ∷ (2, 1, sums 1 0 2) ∷ (3, 1, sums 2 0 1) ∷ []
+starting_values_levels = refl
+
 -- the orders of the dots
 orders : map order (1 ∷ 2 ∷ 3 ∷ 4 ∷ 5 ∷ 6 ∷ 7 ∷ []) ≡ (0 ∷ 1 ∷ []) ∷ (1 ∷ 0 ∷ 2 ∷ []) ∷ (1 ∷ 2 ∷ 0 ∷ 3 ∷ []) ∷ (2 ∷ 1 ∷ 3 ∷ 0 ∷ 4 ∷ []) ∷ (2 ∷ 3 ∷ 1 ∷ 4 ∷ 0 ∷ 5 ∷ []) ∷ (3 ∷ 2 ∷ 4 ∷ 1 ∷ 5 ∷ 0 ∷ 6 ∷ []) ∷ (3 ∷ 4 ∷ 2 ∷ 5 ∷ 1 ∷ 6 ∷ 0 ∷ 7 ∷ []) ∷ []
 orders = refl

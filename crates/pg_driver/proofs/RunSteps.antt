@@ -22,6 +22,7 @@ use Rattle.pg_driver.specs.Sound.{Recorded, with_level}
 use Rattle.pg_driver.specs.States.{State, state_at_end, state_of}
 use Rattle.pg_driver.specs.Told.{known_of, layout_told, level_layout_told, level_line_of, line_of}
 use Rattle.pg_driver.specs.Traces.{Known, LevelTrace, PassTrace, Source, Trace, at_start, final_patterns, known_at_end, level_made, levels_made, passes_made, passes_of, patterns_after, trace}
+use Rattle.pg_driver.proofs.Numbers.{plus_zero, zero_plus}
 use Rattle.pg_driver.proofs.WordSteps.{drop_place}
 
 -- the end of a level
@@ -91,9 +92,6 @@ module _ (source : Source) (number : ℕ) (params : LevelParams) (m0 m n : Meani
         level_layouts = ap (map level_layout_told) own ∙ map_push level_layout_told r.levels own_record ∙ ap (λ (ls : List LevelRecord). map level_layout_told ls ++ option_map {U = ℕ × Layout} (λ l. (number, l)) layout ∷ []) records.levels ∙ ap (λ (x : Option (ℕ × Layout)). map level_layout_told r0.levels ++ x ∷ []) laid;
         begun = ap (λ (x : Recorded). x.begun) is ∙ records.begun ∙ ap (λ (ps : List PassTrace). r0.begun + length (begun_among ps)) same_passes;
       }
-    where
-      zero_plus : (k : ℕ) → 0 + k ≡ k
-      zero_plus k = omega arith
 
 -- the levels from a place on
 pub levels_step : (start i : ℕ) (levels : List LevelParams) (level : LevelParams) → slice_get levels i ≡ Some level → enumerate_from (start + i) (drop i levels) ≡ (start + i, level) ∷ enumerate_from (start + (i + 1)) (drop (i + 1) levels)
@@ -226,7 +224,4 @@ pub no_levels : (start i : ℕ) (levels : List LevelParams) → length levels �
 no_levels start i levels all = ap (enumerate_from (start + i)) (drop_all i levels all)
 
 pub all_levels : (start : ℕ) (levels : List LevelParams) → enumerate_from (start + 0) levels ≡ enumerate_from start levels
-all_levels start levels = ap (λ (n : ℕ). enumerate_from n levels) (none_more start)
-  where
-    none_more : (n : ℕ) → n + 0 ≡ n
-    none_more n = omega arith
+all_levels start levels = ap (λ (n : ℕ). enumerate_from n levels) (plus_zero start)

@@ -16,11 +16,11 @@ use Rattle.pg_driver.specs.Choosing.{candidate_of}
 abbrev Windows : Type 0
 Windows = List (List ℕ × Unit {0})
 
--- the sums of a window over counted_positions
+-- the sums of a window over counted positions
 abbrev sums_in : List CountedPosition → List ℕ → ℕ × ℕ
 sums_in seen u = (good_of seen u, bad_of seen u)
 
--- what is found at q after the counted_positions
+-- what is found at q after the counted positions
 abbrev counted_after : List ℕ → Option (ℕ × ℕ) → List CountedPosition → Option (ℕ × ℕ)
 counted_after q o [] = o
 counted_after q o (s ∷ seen) = counted_after q (cond (eq_by_cmp cmp q s.window) (Some (with_weight (unwrap_or o (0, 0)) s.good s.weight)) o) seen
@@ -67,7 +67,7 @@ some_step q sums weight seen true true rest = rest (sums.0 + weight, sums.1) ∙
 some_step q sums weight seen true false rest = rest (sums.0, sums.1 + weight) ∙ same_found _ _ _ _ (omega arith) (omega arith)
 some_step q sums weight seen false good rest = rest sums ∙ same_found _ _ _ _ (omega arith) (omega arith)
 
--- a window that is counted has its sums so far and those of the counted_positions
+-- a window that is counted has its sums so far and those of the counted positions
 counted_some : (q : List ℕ) (sums : ℕ × ℕ) (seen : List CountedPosition) → counted_after q (Some sums) seen ≡ found (sums.0 + good_of seen q) (sums.1 + bad_of seen q)
 counted_some q sums [] = same_found sums.0 sums.1 _ _ (omega arith) (omega arith)
 counted_some q sums (s ∷ seen) =
@@ -96,7 +96,7 @@ none_step q s seen false rest = rest ∙ ap (λ (sums : ℕ × ℕ). option_map 
     zero_plus : (n : ℕ) → n ≡ 0 + n
     zero_plus n = omega arith
 
--- a window that is not counted yet has the sums of the counted_positions, where it is counted
+-- a window that is not counted yet has the sums of the counted positions, where it is counted
 counted_none : (q : List ℕ) (seen : List CountedPosition) → counted_after q None seen ≡ option_map (λ _. sums_in seen q) (seen_after q None seen)
 counted_none q [] = refl
 counted_none q (s ∷ seen) =
@@ -131,7 +131,7 @@ sorted_windows : (seen : List CountedPosition) (windows : Windows) → T (is_sor
 sorted_windows [] windows sorted = sorted
 sorted_windows (s ∷ seen) windows sorted = sorted_windows seen (with_window windows s) (is_sorted-put cmp nat_list_cmp_total s.window (tt {0}) windows sorted)
 
--- the counts of counted_positions are their windows, each with its sums
+-- the counts of counted positions are their windows, each with its sums
 counts_are : (seen : List CountedPosition) → fold with_position [] seen ≡ valued (sums_in seen) (fold with_window [] seen)
 counts_are seen =
     same_entries cmp nat_list_cmp_total (slice_cmp-IsAntisymmetric nat_cmp-IsAntisymmetric) (fold with_position [] seen) (valued (sums_in seen) (fold with_window [] seen))
@@ -143,6 +143,6 @@ candidates_are : (f : List ℕ → ℕ × ℕ) (windows : Windows) → map candi
 candidates_are f [] = refl
 candidates_are f (e ∷ windows) = ap (λ cs. record { window = e.0; good = (f e.0).0; bad = (f e.0).1 } ∷ cs) (candidates_are f windows)
 
--- the candidates of counted_positions are the entries of their counts
+-- the candidates of counted positions are the entries of their counts
 pub tally_is : (seen : List CountedPosition) → map candidate_of (fold with_position [] seen) ≡ tally seen
 tally_is seen = ap (map candidate_of) (counts_are seen) ∙ candidates_are (sums_in seen) (fold with_window [] seen)

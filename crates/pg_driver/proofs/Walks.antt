@@ -15,7 +15,7 @@ use Rattle.pg_driver.proofs.Reaches.{range_step}
 abbrev pub KeepsButCounts : Meaning → Meaning → Type 0
 KeepsButCounts old new = new ≡ record old { counts = new.counts }
 
--- some counted_positions, and then others
+-- some counted positions, and then others
 pub counting_append : (m : Meaning) (a b : List CountedPosition) → counting m (a ++ b) ≡ counting (counting m a) b
 counting_append m a b = ap (λ (c : Counts). record m { counts = c }) (fold-append with_position m.counts a b)
 
@@ -31,7 +31,7 @@ read_on m0 m w found kept read =
     let P : Meaning → Type 0 = λ (x : Meaning). IsRead x w found in
     subst P (sym kept) (record { word = read.word; signs = read.signs; values = read.values; covers = read.covers })
 
--- the counted_positions of one part, and then those of the rest
+-- the counted positions of one part, and then those of the rest
 pub counted_step : {X : Type 0} (f : X → List CountedPosition) (m n whole : Meaning) (x : X) (xs : List X) → n ≡ counting m (f x) → counting m (flat_map f (x ∷ xs)) ≡ whole → counting n (flat_map f xs) ≡ whole
 counted_step f m n whole x xs is left = ap (λ (y : Meaning). counting y (flat_map f xs)) is ∙ sym (counting_append m (f x) (flat_map f xs)) ∙ left
 

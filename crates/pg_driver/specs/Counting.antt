@@ -15,7 +15,7 @@ use Rattle.pg_select.specs.Positions.{Positions}
 use Rattle.pg_select.specs.CountedPositions.{CountedPosition}
 use Rattle.pg_select.specs.Sums.{is_found, is_error, is_missed, weight_of}
 
--- what an engine means after more counted_positions are counted
+-- what an engine means after more positions are counted
 abbrev pub counting : Meaning → List CountedPosition → Meaning
 counting m seen = record m { counts = fold with_position m.counts seen }
 

@@ -29,9 +29,9 @@ sums_limit = 2 ^ 40
 abbrev pub IsSmall : Totals → Type 0
 IsSmall t = sum_of t < sums_limit
 
--- a pass chooses and gives up no more than its candidates, and its totals are small
+-- the chosen and the hopeless of a pass are no more than its candidates, and its totals are small
 pub record IsSoundPass (r : PassRecord) : Type 0 where
-  pub settled : r.chosen + r.hopeless ≤ r.candidates
+  pub within : r.chosen + r.hopeless ≤ r.candidates
   pub before : IsSmall r.before
 
 -- the totals after a level are small

@@ -26,7 +26,7 @@ pub struct Choices {
     pub bad: u64,
 }
 
-/// Chooses the candidate at the cursor, which has these sums of weights, gives it up or leaves it.
+/// Chooses the candidate at the cursor, which has these sums of weights, makes it hopeless or leaves it.
 fn choose_at<E: Engine>(
     engine: &mut E,
     params: &LevelParams,
@@ -64,7 +64,7 @@ fn choose_at<E: Engine>(
     Ok(())
 }
 
-/// Chooses, gives up or leaves each candidate of a pass whose windows are counted, in the order of signs.
+/// Chooses each candidate of a pass, makes it hopeless or leaves it, in the order of signs.
 pub fn choose_all<E: Engine>(engine: &mut E, params: &LevelParams) -> Result<Choices, AllocError>
     requires level { IsLevel params.now }
     requires room { HasRoom (E.meaning engine.old).counts 0 }

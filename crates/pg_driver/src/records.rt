@@ -32,7 +32,7 @@ impl PassRecord {
     ghost use Rattle.std.specs.Prelude.{◌≡◌, ◌+◌, ◌==◌};
     ghost use Rattle.pg_driver.specs.Sound.{IsSoundPass};
 
-    /// Whether the pass left no candidate: it chose or gave up each of them.
+    /// Whether the pass left no candidate: each of them is chosen or hopeless.
     pub(crate) fn left_none(&self) -> bool
         requires { IsSoundPass self.now }
         ensures { result ≡ (self.now.chosen + self.now.hopeless == self.now.candidates) }
