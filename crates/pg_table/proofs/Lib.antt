@@ -1,6 +1,7 @@
 pub mod EnteredStrings
 pub mod FileParts
 pub mod FileRecords
+pub mod Filling
 pub mod FormLaws
 pub mod Groups
 pub mod Levels

@@ -3,6 +3,7 @@ pub mod Forms
 pub mod Lookups
 pub mod Packed
 pub mod Raising
+pub mod Rows
 pub mod Sharing
 pub mod Summing
 pub mod Texts

@@ -8,6 +8,7 @@ mod head;
 mod limits;
 mod numbers;
 mod record;
+mod row;
 mod totals;
 mod view;
 mod walk;
