@@ -3,12 +3,13 @@ ghost use Rattle.std.specs.Prelude.{◌≡◌, ℕ, ◌+◌, ◌<◌, ◌≤◌,
 ghost use Rattle.std.specs.FinMap.{find};
 ghost use Rattle.std.specs.Cmp.Lexicographic.{slice_cmp};
 ghost use Rattle.std.specs.Ordering.{nat_cmp};
+ghost use Rattle.pg_types.specs.declared.limits.TheConstants.{SIGNS_MAX};
 ghost use Rattle.pg_types.specs.Placement.{top};
 ghost use Rattle.pg_patterns.specs.Values.{SignsUpTo};
 ghost use Rattle.pg_cells.specs.IsHeld.{IsHeld};
 ghost use Rattle.pg_table.specs.Packed.{IsEntered};
 ghost use Rattle.pg_table.specs.Rows.{HasHeads, IsRow, Fills};
-ghost use Rattle.pg_table.specs.Texts.{table_cells};
+ghost use Rattle.pg_table.specs.Texts.{head_in, table_cells};
 
 use crate::cell::Cell;
 use crate::entering::{FEW_SIGNS, Packed};
@@ -32,19 +33,35 @@ pub fn table_cells(
     packed: &Packed,
 ) -> Result<Vec<Cell>, AllocError>
     requires known { SignsUpTo signs patterns.now }
+    requires few { signs ≤ SIGNS_MAX }
     requires entered { IsEntered signs patterns.now packed.now.cells packed.now.outputs }
     requires cells { top packed.now.cells.families + 1 < 2 ^ 32 }
     requires records { length packed.now.outputs < 2 ^ 32 }
     ensures { IfOk result (λ row. row.items ≡ table_cells signs patterns.now) }
 {
+    let _held = packed.cells.signs();
     let mut row = vec![in alloc; UNUSED; packed.cells.top() + 1]?;
+    fill(signs, patterns, packed, &mut row);
+    Ok(row)
+}
+
+/// Fills in the cells of all strings.
+fn fill(signs: u16, patterns: &PatternSet, packed: &Packed, row: &mut [Cell])
+    requires known { SignsUpTo signs patterns.now }
+    requires few { signs ≤ SIGNS_MAX }
+    requires entered { IsEntered signs patterns.now packed.now.cells packed.now.outputs }
+    requires cells { top packed.now.cells.families + 1 < 2 ^ 32 }
+    requires records { length packed.now.outputs < 2 ^ 32 }
+    requires row { IsRow packed.now.cells (head_in patterns.now) row.old }
+    ensures { row.new ≡ table_cells signs patterns.now }
+{
     'roots: for s in 1..signs + 1 {
-        fill_string(&packed.cells, &[s], &mut row);
+        fill_string(&packed.cells, &[s], row);
     }
     'patterns: for i in 0..patterns.len() {
-        fill_string(&packed.cells, patterns.entry(i).signs, &mut row);
+        fill_string(&packed.cells, patterns.entry(i).signs, row);
     }
-    Ok(row)
+    let _kept = patterns.len();
 }
 
 /// Fills in the cells of a string and of its fronts.
