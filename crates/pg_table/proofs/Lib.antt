@@ -1,3 +1,4 @@
+pub mod BigEndian
 pub mod EnteredStrings
 pub mod FileParts
 pub mod FileRecords

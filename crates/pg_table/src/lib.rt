@@ -9,11 +9,13 @@ mod limits;
 mod numbers;
 mod record;
 mod row;
+mod text;
 mod totals;
 mod view;
 mod walk;
 
 pub use error::TableError;
 pub use limits::TABLE_MAX;
+pub use text::table_text;
 pub use totals::table_totals;
 pub use view::TableView;
