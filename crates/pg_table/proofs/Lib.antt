@@ -7,6 +7,7 @@ pub mod FormLaws
 pub mod Groups
 pub mod Levels
 pub mod MarkSteps
+pub mod PackedValues
 pub mod Parts
 pub mod Ranges
 pub mod Reaches

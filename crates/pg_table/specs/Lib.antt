@@ -1,5 +1,6 @@
 pub mod Numbers
 pub mod Forms
+pub mod Laws
 pub mod Lookups
 pub mod Packed
 pub mod Raising

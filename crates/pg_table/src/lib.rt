@@ -5,10 +5,13 @@ mod cell;
 mod entering;
 mod error;
 mod head;
+pub mod laws;
 mod limits;
 mod numbers;
 mod record;
 mod row;
+#[cfg(test)]
+mod tests;
 mod text;
 mod totals;
 mod view;

@@ -1,13 +1,13 @@
 //! The text of a packed table.
-ghost use Rattle.std.specs.Prelude.{◌≡◌, ◌+◌, ◌*◌, ◌<◌, ◌≤◌, ◌↔◌, ◌^◌, ◌++◌, ℕ, List, true, length, IsTrue, IfOk, IfErr, OnOk};
+ghost use Rattle.std.specs.Prelude.{◌≡◌, ◌+◌, ◌*◌, ◌<◌, ◌≤◌, ◌↔◌, ◌^◌, ◌++◌, true, length, IsTrue, IfOk, IfErr, OnOk};
 ghost use Rattle.std.specs.List.{flat_map};
 ghost use Rattle.pg_types.specs.declared.limits.TheConstants.{SIGNS_MAX};
 ghost use Rattle.pg_types.specs.Placement.{top};
-ghost use Rattle.pg_patterns.specs.Values.{SignsUpTo, value_of};
+ghost use Rattle.pg_patterns.specs.Values.{SignsUpTo};
 ghost use Rattle.pg_table.specs.declared.error.TableError.TheVariants.{TooLong};
 ghost use Rattle.pg_table.specs.declared.limits.TheConstants.{TABLE_MAX};
 ghost use Rattle.pg_table.specs.Forms.{is_well_formed};
-ghost use Rattle.pg_table.specs.Lookups.{table_entry};
+ghost use Rattle.pg_table.specs.Laws.{HasEntries};
 ghost use Rattle.pg_table.specs.Texts.{cell_bytes, record_bytes, file_of, table_text};
 
 use crate::cell::Cell;
@@ -30,7 +30,7 @@ pub fn table_text(alloc: Global, signs: u16, patterns: &PatternSet) -> Result<Ve
     requires known { SignsUpTo signs patterns.now }
     ensures text { IfOk result (λ text. text.items ≡ table_text signs patterns.now) }
     ensures well_formed { IfOk result (λ text. is_well_formed text.items ≡ true) }
-    ensures values { IfOk result (λ text. (q : List ℕ) (d : ℕ) → table_entry text.items q d ≡ value_of patterns.now (q, d)) }
+    ensures values { IfOk result (λ text. HasEntries text.items patterns.now) }
     ensures short { OnOk result (length (table_text signs patterns.now) ≤ TABLE_MAX) }
     ensures too_long { IfErr result (λ e. e ≡ TooLong → TABLE_MAX < length (table_text signs patterns.now)) }
 {
