@@ -1,10 +1,13 @@
+pub mod BigEndian
 pub mod EnteredStrings
 pub mod FileParts
 pub mod FileRecords
+pub mod Filling
 pub mod FormLaws
 pub mod Groups
 pub mod Levels
 pub mod MarkSteps
+pub mod PackedValues
 pub mod Parts
 pub mod Ranges
 pub mod Reaches

@@ -12,7 +12,7 @@ use pg_patterns::PatternSet;
 use std::alloc::{AllocError, Global};
 
 /// A family of up to so many signs is placed from base 1 on, a greater one near the greatest cell.
-const FEW_SIGNS: usize = 4;
+pub const FEW_SIGNS: usize = 4;
 
 /// The cells of the strings of patterns, each with the head of its string's list.
 #[derive(Drop)]

@@ -7,7 +7,7 @@ use crate::numbers::u32_at;
 use pg_types::SIGNS_MAX;
 
 /// The bytes that every file begins with.
-const FILE_MARK: &[u8] = b"PGT1";
+pub const FILE_MARK: &[u8] = b"PGT1";
 
 /// The numbers in the head of a packed table.
 #[derive(Clone, Copy, Debug)]
