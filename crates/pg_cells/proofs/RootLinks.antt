@@ -30,11 +30,11 @@ module _ {V : Type 0} where
   root_links n m h none is held = record {
     held = held;
     first = λ q x e. (
-      let f = found q x e in
-      subst (IsNext (goes_on h.values q) 0) (sym (ap (λ (k : Member V). k.first) f.2 ∙ none)) (record {
-        found = λ up. absurd (omega arith);
-        least = λ z lt goes. absurd (longer q f.0 z f.1 goes);
-      }));
+        let f = found q x e in
+        subst (IsNext (goes_on h.values q) 0) (sym (ap (λ (k : Member V). k.first) f.2 ∙ none)) (record {
+          found = λ up. absurd (omega arith);
+          least = λ z lt goes. absurd (longer q f.0 z f.1 goes);
+        }));
     next = λ q s x some e. (let f = found (q ++ s ∷ []) x e in absurd (some (same_from_push q [] s f.0 f.1).0));
   }
     where

@@ -11,7 +11,7 @@ use crate::index::Index;
 use crate::places::{map_of, put_in, raise_in, set_of};
 use crate::walk::walk;
 use pg_dict::WordRef;
-use pg_patterns::{PatternSet, DottedSigns};
+use pg_patterns::{DottedSigns, PatternSet};
 use pg_select::{Engine, Pass, WordState};
 use pg_types::{Cursor, Layout, Sign, Weight};
 use std::alloc::{AllocError, Global};

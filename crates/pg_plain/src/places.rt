@@ -7,7 +7,7 @@ ghost use Rattle.pg_patterns.specs.Values.{raise, value_of, is_entry};
 ghost use Rattle.pg_plain.specs.Indexes.{AreIndexed};
 
 use crate::index::Index;
-use pg_patterns::{Entry, PatternSet, DottedSigns};
+use pg_patterns::{DottedSigns, Entry, PatternSet};
 use std::alloc::{AllocError, Global};
 use std::collections::BTreeMap;
 
@@ -22,7 +22,11 @@ fn value_at(map: &BTreeMap<DottedSigns, u8>, place: &DottedSigns) -> u8
 }
 
 /// RaisesBy the value of `place` to `value`.
-pub fn raise_in(map: &mut BTreeMap<DottedSigns, u8>, place: DottedSigns, value: u8) -> Result<(), AllocError>
+pub fn raise_in(
+    map: &mut BTreeMap<DottedSigns, u8>,
+    place: DottedSigns,
+    value: u8,
+) -> Result<(), AllocError>
     ensures ok { OnOk result (map.new.entries ≡ raise map.old.entries place value) }
     ensures err { OnErr result (map.new.entries ≡ map.old.entries) }
     ensures kept { list_all is_entry map.old.entries ≡ true → is_entry (place, value) ≡ true

@@ -8,7 +8,7 @@ use Rattle.std.proofs.lemmas.Option.{slice_get_within, get_or_from_slice_get}
 use Rattle.pg_types.specs.declared.limits.TheConstants.{PATTERN_SIGNS_MAX}
 use Rattle.pg_dict.specs.Word.{Word}
 use Rattle.pg_translate.specs.Reach.{positions}
-use Rattle.pg_patterns.specs.Places.{same_place}
+use Rattle.pg_patterns.specs.DottedSigns.{same_dotted}
 use Rattle.pg_patterns.specs.Values.{IsPatternMap, is_entry, best, applies, stands_at, value_of, value_at}
 use Rattle.pg_patterns.proofs.Kept.{value_of_sorted}
 use Rattle.pg_patterns.proofs.Ordered.{and_first, and_second}
@@ -89,10 +89,10 @@ module _ (P : List Entry) (b : List ℕ) (sound : IsPatternMap P) (has : HasEntr
           let long : length (drop i w) ≡ length w - i = length-drop i w in
           let size : length q ≡ n = length-take-le n (drop i w) (omega arith) in
           let place : p - (p - i) ≡ i = omega arith in
-          let value : value_from b w p i n ≡ best (same_place (q, p - i)) P =
+          let value : value_from b w p i n ≡ best (same_dotted (q, p - i)) P =
           ap (λ t. cond t (table_entry b q (p - i)) 0) is ∙ has q (p - i) ∙ value_of_sorted P (q, p - i) sound.sorted in
-          let each : best (same_place (q, p - i)) P ≤ value_at P w p =
-          best_within (same_place (q, p - i)) (value_at P w p) P (λ k e at same.
+          let each : best (same_dotted (q, p - i)) P ≤ value_at P w p =
+          best_within (same_dotted (q, p - i)) (value_at P w p) P (λ k e at same.
           let tests = and_parts (pointwise nat_eq q e.0.0) (nat_eq (p - i) e.0.1) same in
           let signs : q ≡ e.0.0 = same_from q e.0.0 (sym (texts_ties q e.0.0) ∙ tests.0) in
           let dot : p - i ≡ e.0.1 = eqb-true (p - i) e.0.1 tests.1 in
@@ -118,10 +118,10 @@ module _ (P : List Entry) (b : List ℕ) (sound : IsPatternMap P) (has : HasEntr
       let dot : p - i ≡ e.0.1 = omega arith in
       let test : (nat_le (i + n) (length w) && (nat_le i p && nat_le (p - i) n)) ≡ true =
       and_from (nat_le (i + n) (length w)) (nat_le i p && nat_le (p - i) n) stands.0 (and_from (nat_le i p) (nat_le (p - i) n) (le-leb i p (omega arith)) (le-leb (p - i) n (omega (arith, ranges.dot)))) in
-      let value : value_from b w p i n ≡ best (same_place e.0) P =
+      let value : value_from b w p i n ≡ best (same_dotted e.0) P =
       ap (λ t. cond t (table_entry b (take n (drop i w)) (p - i)) 0) test ∙ ap (λ q. table_entry b q (p - i)) (front_from e.0.0 (drop i w) stands.1) ∙ ap (table_entry b e.0.0) dot ∙ has e.0.0 e.0.1 ∙ value_of_sorted P e.0 sound.sorted in
-      let own : e.1 ≤ best (same_place e.0) P =
-      best_over (same_place e.0) P k e at (and_from (pointwise nat_eq e.0.0 e.0.0) (nat_eq e.0.1 e.0.1) (texts_ties e.0.0 e.0.0 ∙ same_itself e.0.0) (eq-eqb e.0.1 e.0.1 refl)) in
+      let own : e.1 ≤ best (same_dotted e.0) P =
+      best_over (same_dotted e.0) P k e at (and_from (pointwise nat_eq e.0.0 e.0.0) (nat_eq e.0.1 e.0.1) (texts_ties e.0.0 e.0.0 ∙ same_itself e.0.0) (eq-eqb e.0.1 e.0.1 refl)) in
       let strings : value_from b w p i n ≤ greatest (value_from b w p i) (range_with_len 1 PATTERN_SIGNS_MAX) = greatest_over (value_from b w p i) 1 PATTERN_SIGNS_MAX n ranges.some (omega (arith, ranges.few)) in
       let starts = greatest_over (λ j. greatest (value_from b w p j) (range_with_len 1 PATTERN_SIGNS_MAX)) 0 (length w) i (omega arith) (omega (arith, ranges.some)) in
       omega arith

@@ -45,6 +45,7 @@ least-loop-s-preserved t c =
           none_next c.args.cells.now c.requires.held p c.args.bound.now (length c.loop-s.path) c.loop-s.s c.next_sign-s.result (c.loop-s.invariant.none p at)
           (c.in_default.ensures p (sym (c.in_ok-cell.ensures.cell p at))) (next p at) x early q n (let same = c.least_at.auto.path in omega arith);
     }
+
 pub least_at-returns-then-below-eq0 : goal.least_at-returns-then-below-eq0
 least_at-returns-then-below-eq0 t c = λ p at.
     let more : 1 < length c.args.path.now = omega arith in
