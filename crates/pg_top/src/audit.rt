@@ -151,8 +151,9 @@ fn compare_file<'a, F: Files>(
         option_map ((wanted_file wanted.now).ends (file_at files)) (file_at files wanted.now.name.now) ≡ Some (end_of verdict))) }
     ensures stopped { IfErr result (StopsAt (wanted_file wanted.now) (F.shown files.old) (F.shown files.new)) }
 {
-    let bytes = read_given(alloc, wanted.name, wanted.text.len(), files)?;
-    let verdict = judge(alloc, &bytes, wanted.given, &wanted.text)?;
+    let text = wanted.text.as_slice();
+    let bytes = read_given(alloc, wanted.name, text.len(), files)?;
+    let verdict = judge(alloc, &bytes, wanted.given, text)?;
     Ok(verdict)
 }
 
@@ -200,7 +201,8 @@ pub fn audit_files<'a, F: Files>(
 {
     let inputs = read_inputs(alloc, names, files)?;
     let wanted = make_wanted(alloc, names, &inputs)?;
-    compare_all(alloc, &wanted, files)
+    let verdict = compare_all(alloc, &wanted, files)?;
+    Ok(verdict)
 }
 
 /// Puts the line of a verdict, and gives its answer.
