@@ -1,4 +1,4 @@
-//! The texts of a run: the report, the hyphenated list, and the cells file.
+//! The texts of a run: the report, the hyphenated list and the cells file.
 #![tactic(auto)]
 
 mod cells;

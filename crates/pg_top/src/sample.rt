@@ -84,8 +84,9 @@ fn push_word(text: &mut Vec<u8>, draws: &mut Draws) -> Result<(), AllocError>
 
 /// The dictionary of `sample`: `count` words, at most 100,000, from the seed.
 ///
-/// Each word has two to four syllables with a hyphen between two. A syllable is a consonant, a vowel, and in one of four cases a
-/// closing consonant. All are drawn by a linear congruential generator modulo 2^31, of which the higher bits are used.
+/// Each word has two to four syllables with a hyphen between two. A syllable is a consonant, a vowel, and in one of
+/// four cases a closing consonant. All are drawn by a linear congruential generator modulo 2^31, of which the higher
+/// bits are used.
 pub fn sample_text(alloc: Global, seed: u32, count: u32) -> Result<Vec<u8>, AllocError>
     requires seed { seed < 2 ^ 31 }
     requires count { count ≤ 100000 }

@@ -118,27 +118,29 @@ fn call<F: Files, O: Sink>(alloc: Global, words: &[String], files: &mut F, out: 
     }
 }
 
-/// Does what the words, without the program's name, ask for. It reads and writes `files`, prints to `out`, and gives the answer.
+/// Does what the words, without the program's name, ask for. It reads and writes `files`, prints to `out`, and gives
+/// the answer.
 ///
-/// `generate` reads the translate file, the parameters, the starting patterns and the dictionary, each whole and by its rules
-/// before the next, selects patterns, and builds all texts. Then it writes the pattern file, the hyphenated list, the cells file
-/// and the report, those asked for, and prints. From the first write on it takes no memory. `audit` reads the same, builds the
-/// texts with another engine, and reads and compares the given files one after the other, up to the first false line. `sample`
-/// makes a dictionary from a number and prints how a selection on it goes.
+/// `generate` reads the translate file, the parameters, the starting patterns and the dictionary, each whole and by
+/// its rules before the next, selects patterns, and builds all texts. Then it writes the pattern file, the hyphenated
+/// list, the cells file and the report, those asked for, and prints. From the first write on it takes no memory.
+/// `audit` reads the same, builds the texts with another engine, and reads and compares the given files one after the
+/// other, up to the first false line. `sample` makes a dictionary from a number and prints how a selection on it
+/// goes.
 ///
-/// The first refusal ends a call, and so does the first fault. All lines of an answer are put at once, as the last step, but those
-/// of a fault, of which the front, the name and the end are put each by itself.
+/// The first refusal ends a call, and so does the first fault. All lines of an answer are put at once, as the last
+/// step, but those of a fault, of which the front, the name and the end are put each by itself.
 ///
 /// - `Usage` comes exactly where the words are no command, unless the line cannot be put.
 /// - `Refused` comes only where an input is refused, the first in the order of reading. `sample` is never refused.
-/// - `Fault` comes only where the read faults of a name that the command reads, the write faults of one that it writes, or the
-///   faults of `out` rose.
+/// - `Fault` comes only where the read faults of a name that the command reads, the write faults of one that it
+///   writes, or the faults of `out` rose.
 /// - `Memory` may always come where the words are a command; nothing was written and nothing put then.
 /// - `Yes` and `No`: all given files are what they should be, or the line that is not was named.
 /// - `Done`: all that was asked for was written whole.
 ///
-/// After all answers but `Done` and `Fault` the files are as they were. Where the words are no command, and for `sample`, `files`
-/// is not called.
+/// After all answers but `Done` and `Fault` the files are as they were. Where the words are no command, and for
+/// `sample`, `files` is not called.
 pub fn run<F: Files, O: Sink>(alloc: Global, words: &[String], files: &mut F, out: &mut O) -> Status
     ensures answers { MayAnswer (asked words.now) result }
     ensures usage { result ≡ Status.Usage → Puts (O.shown out.old) (O.shown out.new) usage_line }
@@ -153,7 +155,8 @@ pub fn run<F: Files, O: Sink>(alloc: Global, words: &[String], files: &mut F, ou
         IsFault (asked words.now) (F.shown files.old, O.shown out.old) (F.shown files.new, O.shown out.new) }
     ensures complete { SomeRose (asked words.now)
         (F.shown files.old, O.shown out.old) (F.shown files.new, O.shown out.new)
-        ⊎ IsComplete (asked words.now) result (F.shown files.old, O.shown out.old) (F.shown files.new, O.shown out.new) }
+        ⊎ IsComplete (asked words.now) result
+        (F.shown files.old, O.shown out.old) (F.shown files.new, O.shown out.new) }
 {
     call(alloc, words, files, out)
 }

@@ -74,7 +74,9 @@ fn is_report_distinct(names: &Names<'_>) -> bool
 
 /// Whether the name of the cells file, where it is asked for, differs from those of the report and the inputs.
 fn is_cells_distinct(names: &Names<'_>) -> bool
-    ensures { result ≡ outputs_differ (if_asked (texts_of names.now).cells (λ name. name) ++ (texts_of names.now).report ∷ []) (input_names (texts_of names.now)) }
+    ensures { result ≡ outputs_differ
+        (if_asked (texts_of names.now).cells (λ name. name) ++ (texts_of names.now).report ∷ [])
+        (input_names (texts_of names.now)) }
 {
     match names.cells {
         Some(cells) => {
@@ -84,9 +86,14 @@ fn is_cells_distinct(names: &Names<'_>) -> bool
     }
 }
 
-/// Whether the name of the hyphenated list, where it is asked for, differs from those of the outputs after it and of the inputs.
+/// Whether the name of the hyphenated list, where it is asked for, differs from those of the outputs after it and of
+/// the inputs.
 fn is_pattmp_distinct(names: &Names<'_>) -> bool
-    ensures { result ≡ outputs_differ (if_asked (texts_of names.now).pattmp (λ name. name) ++ if_asked (texts_of names.now).cells (λ name. name) ++ (texts_of names.now).report ∷ []) (input_names (texts_of names.now)) }
+    ensures { result ≡ outputs_differ
+        (if_asked (texts_of names.now).pattmp (λ name. name)
+        ++ if_asked (texts_of names.now).cells (λ name. name)
+        ++ (texts_of names.now).report ∷ [])
+        (input_names (texts_of names.now)) }
 {
     match names.pattmp {
         Some(pattmp) => {
@@ -223,8 +230,9 @@ fn sample(words: &[String]) -> Option<Command<'_>>
 }
 
 /// What the words, without the program's name, ask for; none exactly where they are no command. Commands are
-/// `generate DICT PATTERNS OUT TRANSLATE PARAMS REPORT`, then `--pattmp FILE` and `--cells FILE`, each at most once and in either
-/// order, `audit` with the same six names and at most one `--pattmp FILE`, and `sample N COUNT`. It takes no memory.
+/// `generate DICT PATTERNS OUT TRANSLATE PARAMS REPORT`, then `--pattmp FILE` and `--cells FILE`, each at most once
+/// and in either order, `audit` with the same six names and at most one `--pattmp FILE`, and `sample N COUNT`. It
+/// takes no memory.
 pub fn command(words: &[String]) -> Option<Command<'_>>
     ensures value { option_map asked_by result ≡ request_of (words_of words.now) }
     ensures within { IfSome result IsWithin }
