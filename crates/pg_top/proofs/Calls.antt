@@ -12,8 +12,9 @@ use Rattle.pg_top.specs.Moments.{Moment, OfFiles, Puts, PutsPart, PutRose, PutOr
 use Rattle.pg_top.specs.Outcomes.{Ends, Writing, refuses}
 use Rattle.pg_top.specs.PrintedLines.{usage_line, refused_line, reading_line, writing_line}
 use Rattle.pg_top.specs.Readings.{first_end}
-use Rattle.pg_top.specs.Requests.{Request, ToGenerate, ToAudit}
-use Rattle.pg_top.specs.Stops.{StopsReading, PutsAnswer, PutsStop, Finishes}
+use Rattle.pg_top.specs.Requests.{Request, ToGenerate, ToAudit, ToSample}
+use Rattle.pg_top.specs.SampleTexts.{sample_lines}
+use Rattle.pg_top.specs.Stops.{StopsReading, PutsAnswer, PutsLines, PutsStop, Finishes}
 use Rattle.pg_top.specs.Writings.{written_names, after_all, StandsAt, WroteAll, StoppedAt}
 use Rattle.pg_top.specs.declared.answers.Status.{Status}
 use Rattle.pg_top.specs.declared.answers.Status.TheVariants.{Done, Yes, No, Usage, Refused, Fault, Memory}
@@ -42,10 +43,12 @@ no_memory status end is = subst IsEnd is end
 pub may_fault : (request : Request) → MayAnswer (Some request) Fault
 may_fault (ToGenerate n) = tt
 may_fault (ToAudit n) = tt
+may_fault (ToSample seed count) = tt
 
 pub may_want : (request : Request) → MayAnswer (Some request) Memory
 may_want (ToGenerate n) = tt
 may_want (ToAudit n) = tt
+may_want (ToSample seed count) = tt
 
 answered_as : (asked : Option Request) (status : Status) (old new : Moment) → OfFiles old new (λ before after. DoesAll old new status before after (outcome (file_at before) asked)) → IsAnswered asked status old new
 answered_as asked Done old new h = h
@@ -229,3 +232,20 @@ usage_call s o0 o1 answer (inr h) = subst (λ (status : Status). IsCall None sta
     kept : (held : Option FileMap) → KeepsHeld held held
     kept None = tt
     kept (Some files) = refl
+
+-- `sample` reads and writes nothing
+pub sample_call : (seed count : ℕ) (s : FilesShown) (o0 o1 : SinkShown) (answer : Status) → PutsLines (sample_lines seed count) answer o0 o1 → IsCall (Some (ToSample seed count)) answer (s, o0) (s, o1)
+sample_call seed count s o0 o1 answer (inl h) = memory_call (ToSample seed count) s s o0 o1 answer (kept s.held) h.0 h.1
+  where
+    kept : (held : Option FileMap) → KeepsHeld held held
+    kept None = tt
+    kept (Some files) = refl
+sample_call seed count s o0 o1 answer (inr h) = answered_call (ToSample seed count) Done (sample_lines seed count) s s o0 o1 answer tt tt (kept s.held) (told s.held) h
+  where
+    kept : (held : Option FileMap) → KeepsHeld held held
+    kept None = tt
+    kept (Some files) = refl
+
+    told : (held : Option FileMap) → IfSome held (λ files. outcome_of (file_at files) (ToSample seed count) ≡ Ends Done [] (sample_lines seed count))
+    told None = tt
+    told (Some files) = refl

@@ -2,7 +2,7 @@
 use Rattle.std.proofs.Common.{◌≡◌, ℕ, ◌+◌, ◌<◌, ◌≤◌, List, [], ◌∷◌, ◌++◌, length, map, take, drop, Option, None, Some, IfSome, MatchOption, inl, inr, refl, sym, ap, ◌∙◌, subst, arith, ◌⊎◌}
 use Rattle.std.specs.Option.{option_map, option_map_or, option_or}
 use Rattle.std.specs.Prelude.{slice_get, unwrap_or}
-use Rattle.std.proofs.lemmas.List.{drop_more, take_more, take_all, take-map, take-append-drop, length-map}
+use Rattle.std.proofs.lemmas.List.{drop_more, take_more, take_all, take-map, map-append, take-append-drop, length-map}
 use Rattle.std.proofs.lemmas.Option.{slice_get_within, get_or_from_slice_get, slice_get-map, slice_get_read}
 use Rattle.pg_audit.specs.Differences.{Difference, first_false}
 use Rattle.pg_audit.specs.FoundLines.{FoundLine, printed_of}
@@ -16,7 +16,8 @@ use Rattle.pg_top.specs.Faults.{IsUnread}
 use Rattle.pg_top.specs.Outcomes.{Outcome, Unknown, Ends, refuses}
 use Rattle.pg_top.specs.PrintedLines.{no_line, yes_line}
 use Rattle.pg_top.specs.Readings.{Held, Reading, first_end}
-use Rattle.pg_top.specs.Requests.{FileNames, ToAudit}
+use Rattle.pg_top.specs.Requests.{FileNames, ToAudit, if_asked}
+use Rattle.pg_top.specs.Selection.{selected_text, selected_report}
 use Rattle.pg_top.specs.Selecting.{HasInputs, inputs_in, inputs_of}
 use Rattle.pg_top.specs.Stops.{StopsAt, StopsReading, PutsAnswer}
 use Rattle.pg_top.specs.Verdicts.{wanted_file, wanted_files, end_of, outcome_by, IsFrontOf, PutsVerdict}
@@ -26,11 +27,12 @@ use Rattle.pg_top.specs.declared.audit.Verdict.{Verdict}
 use Rattle.pg_top.specs.declared.audit.Verdict.TheVariants.{Equal, False}
 use Rattle.pg_top.specs.declared.audit.Wanted.{Wanted}
 use Rattle.pg_top.specs.declared.inputs.Given.{Given}
+use Rattle.pg_top.specs.declared.inputs.Given.TheVariants as given
 use Rattle.pg_top.specs.declared.inputs.Stop.{Stop}
 use Rattle.pg_top.specs.declared.inputs.Stop.TheVariants.{Refused, Unread, Memory}
 use Rattle.pg_top.specs.declared.reading.Inputs.{Inputs}
 use Rattle.pg_top.proofs.Calls.{answered_call}
-use Rattle.pg_top.proofs.InputOrder.{inputs_accepted, given}
+use Rattle.pg_top.proofs.InputOrder.{inputs_accepted, given as given_inputs}
 use Rattle.pg_top.proofs.Orders.{IsAccepted, AreAccepted, accepted_and, accepted_front, accepted_all, end_behind, mapped, both, held_later, stopped_behind, unread_behind}
 
 -- what is said of a difference is said by what is printed of it
@@ -46,6 +48,19 @@ judged g text (Some whole) bytes (inr h) =
     let printed : option_map printed_of (first_false bytes text) ≡ option_map printed_of (first_false whole text) = ap (λ b. option_map printed_of (first_false b text)) h.1 ∙ part_printed whole text 256 (omega arith) h.0 in
     ap Some (denied g (first_false whole text) ∙ ap (option_map (λ p. Ends No [] (no_line g p))) (sym printed) ∙ sym (denied g (first_false bytes text)))
 
+-- a given file with its text
+abbrev pub reading_of : Given → List ℕ → List ℕ → Reading
+reading_of g name text = record { name = name; ends = λ files bytes. option_map (denies g) (first_false bytes text) }
+
+pub one_wanted : (ws : List Wanted) (w : Wanted) → wanted_files (ws ++ w ∷ []) ≡ wanted_files ws ++ wanted_file w ∷ []
+one_wanted ws w = map-append wanted_file ws (w ∷ [])
+
+-- the given files, with the hyphenated list and without it
+pub listed_readings : (i : Inputs) (output report : List ℕ) (pattmp : Option (List ℕ)) → reading_of given.Patterns output (selected_text i) ∷ (if_asked pattmp (λ name. given_file (λ _. i) (given.Pattmp, name)) ++ reading_of given.Report report (selected_report i) ∷ [])
+    ≡ map (given_file (λ _. i)) ((given.Patterns, output) ∷ if_asked pattmp (λ name. (given.Pattmp, name)) ++ (given.Report, report) ∷ [])
+listed_readings i output report None = refl
+listed_readings i output report (Some name) = refl
+
 -- the same files are judged alike where the inputs are the same
 same_ends : (files : Held) (inputs : Held → Inputs) (i : Inputs) → inputs files ≡ i → (gs : List (Given × List ℕ)) → first_end files (map (given_file inputs) gs) ≡ first_end files (map (given_file (λ _. i)) gs)
 same_ends files inputs i is [] = refl
@@ -59,7 +74,7 @@ module _ (n : FileNames) (i : Inputs) where
   inputs_there files h = inputs_accepted n i.table i.params i.start i.dictionary files h
 
   inputs_same : (files : FileMap) → HasInputs (file_at files) n i → inputs_in (file_at files) n ≡ i
-  inputs_same files h = given n i.table i.params i.start i.dictionary files h
+  inputs_same files h = given_inputs n i.table i.params i.start i.dictionary files h
 
   -- what reading all comes to is what the given files come to
   ends_with : (files : FileMap) → HasInputs (file_at files) n i → first_end (file_at files) (reads_of (ToAudit n)) ≡ first_end (file_at files) (given_files (λ _. i) n)

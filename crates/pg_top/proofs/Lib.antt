@@ -7,6 +7,12 @@ pub mod Orders
 pub mod InputOrder
 pub mod WrittenNames
 pub mod Calls
+pub mod DigitValues
+pub mod SampleWords
+pub mod SampleReads
+pub mod SampleSteps
+pub mod FoundTexts
+pub mod GivenFronts
 pub mod Judgements
 pub mod TooFewWords
 pub mod OutcomeRows

@@ -121,3 +121,8 @@ stopped_in_front front rest s0 s1 (Unread name) u =
       before_it = mapped s1.held (λ files. first_end (file_at files) (take u.place front) ≡ None) (λ files. first_end (file_at files) (take u.place (front ++ rest)) ≡ None) (λ files is. ap (first_end (file_at files)) (take-append-le u.place front rest (omega arith)) ∙ is) u.before_it;
     }
 stopped_in_front front rest s0 s1 Memory stops = tt
+
+-- files that are told are kept in two steps
+pub kept_on : (a b c : Option FileMap) → KeepsHeld a b → KeepsHeld b c → KeepsHeld a c
+kept_on a b None k l = tt
+kept_on a b (Some files) k l = subst (λ held. IfSome held (λ files. a ≡ Some files)) l k

@@ -9,15 +9,16 @@ use Rattle.pg_top.specs.Calls.{outcome_of}
 use Rattle.pg_top.specs.Outcomes.{Ends, Unknown}
 use Rattle.pg_top.specs.PrintedLines.{refused_line, reading_line}
 use Rattle.pg_top.specs.Readings.{Held}
-use Rattle.pg_top.specs.Requests.{FileNames, ToGenerate, request_of}
+use Rattle.pg_top.specs.Requests.{FileNames, ToGenerate, ToAudit, ToSample, request_of}
+use Rattle.pg_top.specs.SampleTexts.{ending, syllable, word, sample_text}
 use Rattle.pg_top.specs.Selection.{selection, selected, selected_account, passes_begun, selected_cells_from, selected_cells, selected_text, selected_list, selected_cells_text, selected_report}
-use Rattle.pg_top.specs.declared.answers.Status.TheVariants.{Done, Refused}
+use Rattle.pg_top.specs.declared.answers.Status.TheVariants.{Done, Yes, No, Refused}
 use Rattle.pg_top.specs.declared.inputs.Input.TheVariants as input
 
 names : FileNames
 names = record { dict = codes "D"; patterns = codes "P"; output = codes "O"; translate = codes "T"; params = codes "A"; report = codes "R"; pattmp = None; cells = None }
 
--- six names, both options in either order, one twice, one without its name, an output that is an input, an option in place of a name, and another command
+-- six names, both options in either order, one twice, one without its name, an output that is an input, an option in place of a name, the other commands, and none
 asks : request_of (codes "generate" ∷ codes "D" ∷ codes "P" ∷ codes "O" ∷ codes "T" ∷ codes "A" ∷ codes "R" ∷ []) ≡ Some (ToGenerate names)
 unfolding names
 asks = refl
@@ -38,8 +39,23 @@ output_is_input = refl
 option_as_name : request_of (codes "generate" ∷ codes "D" ∷ codes "P" ∷ codes "--cells" ∷ codes "T" ∷ codes "A" ∷ codes "R" ∷ []) ≡ None
 option_as_name = refl
 
-other_command : request_of (codes "audit" ∷ codes "D" ∷ codes "P" ∷ codes "O" ∷ codes "T" ∷ codes "A" ∷ codes "R" ∷ []) ≡ None
+asks_audit : request_of (codes "audit" ∷ codes "D" ∷ codes "P" ∷ codes "O" ∷ codes "T" ∷ codes "A" ∷ codes "R" ∷ []) ≡ Some (ToAudit names)
+unfolding names
+asks_audit = refl
+
+asks_sample : request_of (codes "sample" ∷ codes "7" ∷ codes "2000" ∷ []) ≡ Some (ToSample 7 2000)
+asks_sample = refl
+
+too_many_words : request_of (codes "sample" ∷ codes "1" ∷ codes "100001" ∷ []) ≡ None
+too_many_words = refl
+
+other_command : request_of (codes "list" ∷ codes "D" ∷ codes "P" ∷ codes "O" ∷ codes "T" ∷ codes "A" ∷ codes "R" ∷ []) ≡ None
 other_command = refl
+
+-- one word of `sample`
+one_word : sample_text 1 1 ≡ codes "so-ni-gi-din\n"
+unfolding word syllable ending
+one_word = refl
 
 -- files with these words under the letters a, b and c, and with two passes of one level; further files have their names beside them
 found : List (List ℕ × List ℕ) → List ℕ → Option (List ℕ)
@@ -65,6 +81,22 @@ one_pattern = refl
 refused_dictionary : outcome_of (files (codes "abc\ncba\nad\n") []) (ToGenerate names) ≡ Ends Refused [] (codes "refused: dictionary 401 DictionaryCharacter line 3 column 2\n")
 unfolding names files found digits
 refused_dictionary = refl
+
+-- `audit` of the right files, of a pattern file without its line feed and of an empty one
+right_report : List ℕ
+right_report = codes "pass 1 2 1: 0 good, 0 bad, 2 missed; 3 candidates, 0 chosen, 3 hopeless, 0 left; 0 good, 0 bad\npass 1 2 0: 0 good, 0 bad, 2 missed; 4 candidates, 0 chosen, 4 hopeless, 0 left; 0 good, 0 bad\npass 1 2 2: 0 good, 0 bad, 2 missed; 2 candidates, 1 chosen, 1 hopeless, 0 left; 2 good, 0 bad\nlevel 1: 1 chosen, 2 good, 0 bad, 0 missed\ntotal: 2 good, 0 bad, 0 missed\nrate: 100.00 % good, 0.00 % bad, 0.00 % missed\n"
+
+right_files : outcome_of (files (codes "ab-c\nab-a\n") ((codes "O", codes "ab1\n") ∷ (codes "R", right_report) ∷ [])) (ToAudit names) ≡ Ends Yes [] (codes "yes\n")
+unfolding names files found selection selected selected_account selected_text selected_report right_report digits
+right_files = refl
+
+no_line_feed : outcome_of (files (codes "ab-c\nab-a\n") ((codes "O", codes "ab1") ∷ [])) (ToAudit names) ≡ Ends No [] (codes "no: patterns line 1 found ab1 and the file ends\n")
+unfolding names files found selection selected selected_text digits
+no_line_feed = refl
+
+empty_file : outcome_of (files (codes "ab-c\nab-a\n") ((codes "O", []) ∷ [])) (ToAudit names) ≡ Ends No [] (codes "no: patterns line 1 is missing\n")
+unfolding names files found selection selected selected_text digits
+empty_file = refl
 
 -- no file is held
 nothing_held : outcome_of (λ _. None) (ToGenerate names) ≡ Unknown

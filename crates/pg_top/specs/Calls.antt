@@ -5,24 +5,28 @@ use Rattle.pg_top.specs.Auditing.{given_files}
 use Rattle.pg_top.specs.Outcomes.{Outcome, Ends}
 use Rattle.pg_top.specs.PrintedLines.{usage_line, yes_line}
 use Rattle.pg_top.specs.Readings.{Held, Reading, first_end}
-use Rattle.pg_top.specs.Requests.{Request, ToGenerate, ToAudit, output_names}
+use Rattle.pg_top.specs.Requests.{Request, ToGenerate, ToAudit, ToSample, output_names}
+use Rattle.pg_top.specs.SampleTexts.{sample_lines}
 use Rattle.pg_top.specs.Selecting.{inputs_of, inputs_in, generated}
-use Rattle.pg_top.specs.declared.answers.Status.TheVariants.{Usage, Yes}
+use Rattle.pg_top.specs.declared.answers.Status.TheVariants.{Done, Usage, Yes}
 
 -- what a command reads, in its order
 abbrev pub reads_of : Request → List Reading
 reads_of (ToGenerate n) = inputs_of n
+reads_of (ToSample seed count) = []
 reads_of (ToAudit n) = inputs_of n ++ given_files (λ files. inputs_in files n) n
 
 -- the names that a command writes, in its order
 abbrev pub writes_of : Request → List (List ℕ)
 writes_of (ToGenerate n) = output_names n
 writes_of (ToAudit n) = []
+writes_of (ToSample seed count) = []
 
 -- what a command comes to where no file that it reads ends the call
 abbrev pub finished : Held → Request → Outcome
 finished files (ToGenerate n) = generated n (inputs_in files n)
 finished files (ToAudit n) = Ends Yes [] yes_line
+finished files (ToSample seed count) = Ends Done [] (sample_lines seed count)
 
 -- the outcome of a command: that of the first file that ends the call, and where none does, what it writes and prints
 abbrev pub outcome_of : Held → Request → Outcome
@@ -37,3 +41,4 @@ abbrev pub has_files : Option Request → Bool
 has_files None = false
 has_files (Some (ToGenerate n)) = true
 has_files (Some (ToAudit n)) = true
+has_files (Some (ToSample seed count)) = false

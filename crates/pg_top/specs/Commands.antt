@@ -1,12 +1,12 @@
 -- How the definitions see a command.
-use Rattle.std.specs.Prelude.{ℕ, List, String, map, string_bytes, Option}
+use Rattle.std.specs.Prelude.{ℕ, ◌<◌, ◌≤◌, ◌^◌, List, String, map, string_bytes, Option}
 use Rattle.std.specs.Option.{option_map}
 use denote.Ref.{Bor}
 use Rattle.std.specs.declared.alloc.Global.{Global}
-use Rattle.pg_top.specs.Requests.{FileNames, Request, ToGenerate, ToAudit, request_of}
+use Rattle.pg_top.specs.Requests.{FileNames, Request, ToGenerate, ToAudit, ToSample, request_of}
 use Rattle.pg_top.specs.declared.commands.Names.{Names}
 use Rattle.pg_top.specs.declared.commands.Command.{Command}
-use Rattle.pg_top.specs.declared.commands.Command.TheVariants.{Generate, Audit}
+use Rattle.pg_top.specs.declared.commands.Command.TheVariants.{Generate, Audit, Sample}
 
 -- a name that may be asked for as its bytes
 abbrev pub name_now : Option (Bor (List ℕ)) → Option (List ℕ)
@@ -20,6 +20,13 @@ texts_of n = record { dict = n.dict.now; patterns = n.patterns.now; output = n.o
 abbrev pub asked_by : Command → Request
 asked_by (Generate names) = ToGenerate (texts_of names)
 asked_by (Audit names) = ToAudit (texts_of names)
+asked_by (Sample seed count) = ToSample seed count
+
+-- the numbers of `sample` are within their limits
+abbrev pub IsWithin : Command → Type 0
+IsWithin (Generate names) = Unit {0}
+IsWithin (Audit names) = Unit {0}
+IsWithin (Sample seed count) = (seed < 2 ^ 31) × (count ≤ 100000)
 
 -- words as their bytes
 abbrev pub words_of : List (String Global) → List (List ℕ)

@@ -7,6 +7,7 @@ pub mod Readings
 pub mod Selection
 pub mod Runs
 pub mod Selecting
+pub mod SampleTexts
 pub mod Auditing
 pub mod Calls
 pub mod Writings

@@ -1,8 +1,9 @@
 -- What the words of a call ask for.
-use Rattle.std.specs.Prelude.{ℕ, nat_lt, nat_eq, Bool, true, not, ◌&&◌, if◌then◌else◌, List, [], ◌∷◌, ◌++◌, length, Option, None, Some, codes}
+use Rattle.std.specs.Prelude.{ℕ, nat_lt, nat_le, nat_eq, Bool, true, not, ◌&&◌, if◌then◌else◌, List, [], ◌∷◌, ◌++◌, length, Option, None, Some, codes}
 use Rattle.std.specs.List.{list_all, starts_with}
-use Rattle.std.specs.Option.{option_and_then, option_map_or, is_none}
+use Rattle.std.specs.Option.{option_and_then, option_map, option_map_or, is_none}
 use Rattle.std.specs.Str.{bytes_eq}
+use Rattle.pg_types.specs.Parameters.{number_from}
 
 -- the names of the files of `generate` and `audit`, each as its bytes; those of the hyphenated list and of the cells file where they are asked for
 pub record FileNames : Type 0 where
@@ -19,6 +20,7 @@ pub record FileNames : Type 0 where
 pub data Request : Type 0 where
   ToGenerate : FileNames → Request
   ToAudit : FileNames → Request
+  ToSample : ℕ → ℕ → Request
 
 -- one for what is asked for by an option, and none where it is not
 abbrev pub if_asked : {X : Type 0} → Option (List ℕ) → (List ℕ → X) → List X
@@ -78,9 +80,23 @@ to_generate n = if are_taken n then Some (ToGenerate n) else None
 abbrev pub to_audit : FileNames → Option Request
 to_audit n = if list_all is_name (input_names n ++ output_names n) && is_none n.cells then Some (ToAudit n) else None
 
+-- a number, where it is not greater than this
+abbrev pub at_most : ℕ → Option ℕ → Option ℕ
+at_most most number = option_and_then (λ n. if nat_le n most then Some n else None) number
+
+-- the number that a word of 1 to 10 decimal digits is, where it is not greater than this
+abbrev pub number_up_to : ℕ → List ℕ → Option ℕ
+number_up_to most word = if nat_lt 0 (length word) && nat_le (length word) 10 then at_most most (number_from 0 word) else None
+
+-- `sample N COUNT`
+abbrev pub sample_in : List (List ℕ) → Option Request
+sample_in (seed ∷ count ∷ []) = option_and_then (λ s. option_map (ToSample s) (number_up_to 100000 count)) (number_up_to 2147483647 seed)
+sample_in words = None
+
 -- what words ask for
 abbrev pub request_of : List (List ℕ) → Option Request
 request_of [] = None
 request_of (word ∷ words) =
     if bytes_eq word (codes "generate") then option_and_then to_generate (names_in words)
-    else (if bytes_eq word (codes "audit") then option_and_then to_audit (names_in words) else None)
+    else (if bytes_eq word (codes "audit") then option_and_then to_audit (names_in words)
+    else (if bytes_eq word (codes "sample") then sample_in words else None))

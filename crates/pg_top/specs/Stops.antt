@@ -32,7 +32,7 @@ StopsReading reads old new Memory = Unit {0}
 -- why reading the first bytes of a file stopped: its read faults rose, or memory was wanted
 abbrev pub StopsFront : List ℕ → FilesShown → FilesShown → Stop → Type 0
 StopsFront name old new (Refused input refusal) = ⊥
-StopsFront name old new (Unread at) = (at.now ≡ name) × Rose (old.read_faults name) (new.read_faults name)
+StopsFront name old new (Unread at) = (at.now ≡ name) × Rose (old.read_faults at.now) (new.read_faults at.now)
 StopsFront name old new Memory = Unit {0}
 
 -- why a command stops at an input whose reader failed
@@ -43,6 +43,10 @@ stop_of input reader.Memory = Memory
 -- the line of an answer was put, or its put failed, which is a fault
 abbrev pub PutsAnswer : List ℕ → Status → Status → SinkShown → SinkShown → Type 0
 PutsAnswer line wanted answer old new = ((answer ≡ wanted) × Puts old new line) ⊎ ((answer ≡ status.Fault) × PutRose old new × PutsPart old new line)
+
+-- nothing was put for want of memory, or the lines of a command that is done were
+abbrev pub PutsLines : List ℕ → Status → SinkShown → SinkShown → Type 0
+PutsLines lines answer old new = ((answer ≡ status.Memory) × Puts old new []) ⊎ PutsAnswer lines status.Done answer old new
 
 -- the answer of a command that stopped, and what was put
 abbrev pub PutsStop : Stop → Status → SinkShown → SinkShown → Type 0

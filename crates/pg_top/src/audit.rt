@@ -65,7 +65,8 @@ fn push_pattmp<'a, E: Engine>(
     requires greatest { (E.meaning engine.now).signs ≡ signs_of inputs.now }
     requires patterns { (E.meaning engine.now).patterns ≡ selected inputs.now }
     ensures { OnOk result (wanted_files wanted.new.items ≡
-        wanted_files wanted.old.items ++ if_asked (name_now name.entry) (λ name. given_file (λ _. inputs.now) (Given.Pattmp, name))) }
+        wanted_files wanted.old.items
+        ++ if_asked (name_now name.entry) (λ name. given_file (λ _. inputs.now) (Given.Pattmp, name))) }
 {
     if let Some(name) = name {
         let text = pattmp_text(alloc, engine, &inputs.dictionary, &inputs.table)?;
@@ -78,7 +79,8 @@ fn push_pattmp<'a, E: Engine>(
     Ok(())
 }
 
-/// Does the run of the inputs over the plain engine, and builds the texts that the given files should be, in their order.
+/// Does the run of the inputs over the plain engine, and builds the texts that the given files should be, in their
+/// order.
 fn make_wanted<'a>(
     alloc: Global,
     names: &Names<'a>,
@@ -106,7 +108,8 @@ fn make_wanted<'a>(
     Ok(wanted)
 }
 
-/// Reads a given file, or of one that is longer than this size by more than `MORE` bytes the first, one more than these.
+/// Reads a given file, or of one that is longer than this size by more than `MORE` bytes the first, one more than
+/// these.
 fn read_given<'a, F: Files>(
     alloc: Global,
     name: &'a str,
@@ -148,11 +151,13 @@ fn compare_file<'a, F: Files>(
     ensures held { KeepsHeld (F.shown files.old).held (F.shown files.new).held }
     ensures reads { NoneFell (F.shown files.old).read_faults (F.shown files.new).read_faults }
     ensures ok { IfOk result (λ verdict. IfSome (F.shown files.new).held (λ files.
-        option_map ((wanted_file wanted.now).ends (file_at files)) (file_at files wanted.now.name.now) ≡ Some (end_of verdict))) }
+        option_map ((wanted_file wanted.now).ends (file_at files)) (file_at files wanted.now.name.now)
+        ≡ Some (end_of verdict))) }
     ensures stopped { IfErr result (StopsAt (wanted_file wanted.now) (F.shown files.old) (F.shown files.new)) }
 {
-    let bytes = read_given(alloc, wanted.name, wanted.text.len(), files)?;
-    let verdict = judge(alloc, &bytes, wanted.given, &wanted.text)?;
+    let text = wanted.text.as_slice();
+    let bytes = read_given(alloc, wanted.name, text.len(), files)?;
+    let verdict = judge(alloc, &bytes, wanted.given, text)?;
     Ok(verdict)
 }
 
@@ -200,7 +205,8 @@ pub fn audit_files<'a, F: Files>(
 {
     let inputs = read_inputs(alloc, names, files)?;
     let wanted = make_wanted(alloc, names, &inputs)?;
-    compare_all(alloc, &wanted, files)
+    let verdict = compare_all(alloc, &wanted, files)?;
+    Ok(verdict)
 }
 
 /// Puts the line of a verdict, and gives its answer.

@@ -28,4 +28,7 @@ pub enum Command<'a> {
     Generate(Names<'a>),
     /// To compare given files with those that would be written.
     Audit(Names<'a>),
+    /// To make a dictionary of so many words from a seed, and to print how a selection on it goes: the seed and the
+    /// number of words.
+    Sample(u32, u32),
 }

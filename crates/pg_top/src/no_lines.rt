@@ -1,6 +1,6 @@
 //! The line of `no`.
-ghost use Rattle.std.specs.Prelude.{◌≡◌, ◌++◌, ◌<◌, length, IfOk, OnOk};
-ghost use Rattle.pg_audit.specs.FoundLines.{found_line, has_feed as has_feed_of, line_there, printed_of, without_feed as line_without_feed};
+ghost use Rattle.std.specs.Prelude.{◌≡◌, ◌++◌, ◌<◌, ◌≤◌, length, IfOk, OnOk};
+ghost use Rattle.pg_audit.specs.FoundLines.{Missing, found_line, has_feed as has_feed_of, line_there, printed_of, without_feed as line_without_feed};
 ghost use Rattle.pg_top.specs.PrintedLines.{found_text, no_line as no_line_of};
 
 use crate::inputs::{Given, Input};
@@ -22,7 +22,8 @@ fn has_feed(line: &[u8]) -> bool
 /// A line without its line feed.
 fn without_feed(line: &[u8]) -> &[u8]
     requires { 0 < length line.now }
-    ensures { result.now ≡ line_without_feed line.now }
+    ensures value { result.now ≡ line_without_feed line.now }
+    ensures within { length result.now ≤ length line.now }
 {
     if has_feed(line) {
         &line[..line.len() - 1]
@@ -38,8 +39,9 @@ fn push_line(text: &mut Vec<u8>, line: &[u8]) -> Result<(), AllocError>
 {
     let found = without_feed(line);
     if found.len() > SHOWN {
+        let front = &line[..SHOWN];
         text.extend_from_slice(b" begins ")?;
-        return text.extend_from_slice(&line[..SHOWN]);
+        return text.extend_from_slice(front);
     }
     text.extend_from_slice(b" found ")?;
     text.extend_from_slice(found)?;
@@ -49,12 +51,19 @@ fn push_line(text: &mut Vec<u8>, line: &[u8]) -> Result<(), AllocError>
     Ok(())
 }
 
+/// Appends that there is no line.
+fn push_missing(text: &mut Vec<u8>) -> Result<(), AllocError>
+    ensures { OnOk result (text.new.items ≡ text.old.items ++ found_text Missing) }
+{
+    text.extend_from_slice(b" is missing")
+}
+
 /// Appends what was found, a line or that there is none.
 fn push_found(text: &mut Vec<u8>, found: &[u8]) -> Result<(), AllocError>
     ensures { OnOk result (text.new.items ≡ text.old.items ++ found_text (found_line found.now)) }
 {
     if found.is_empty() {
-        text.extend_from_slice(b" is missing")
+        push_missing(text)
     } else {
         push_line(text, found)
     }

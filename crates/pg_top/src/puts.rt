@@ -32,7 +32,8 @@ fn put_parts<O: Sink>(out: &mut O, front: &[u8], name: &str) -> Result<(), Faile
     out.put(b"\n")
 }
 
-/// Puts a fault line for a name as the last step of a call, and gives its answer. Where a put fails, nothing more is put.
+/// Puts a fault line for a name as the last step of a call, and gives its answer. Where a put fails, nothing more is
+/// put.
 pub fn put_fault<O: Sink>(out: &mut O, front: &[u8], name: &str) -> Status
     ensures status { result ≡ Status.Fault }
     ensures line { PutOrRose (O.shown out.old) (O.shown out.new) (front.now ++ name.now ++ 10 ∷ []) }

@@ -49,7 +49,8 @@ fn read_front<'a, F: Files>(
     ensures reads { NoneFell (F.shown files.old).read_faults (F.shown files.new).read_faults }
     ensures writes { NoneFell (F.shown files.old).write_faults (F.shown files.new).write_faults }
     ensures front { IfOk result (λ bytes.
-        IfSome (F.shown files.new).held (λ files. option_map (take (FILE_MAX + 1)) (file_at files name.now) ≡ Some bytes.items)) }
+        IfSome (F.shown files.new).held (λ files.
+        option_map (take (FILE_MAX + 1)) (file_at files name.now) ≡ Some bytes.items)) }
     ensures stopped { IfErr result (StopsFront name.now (F.shown files.old) (F.shown files.new)) }
 {
     let mut bytes = Vec::new(alloc);
@@ -120,7 +121,8 @@ fn read_start<'a, F: Files>(
     ensures reads { NoneFell (F.shown files.old).read_faults (F.shown files.new).read_faults }
     ensures writes { NoneFell (F.shown files.old).write_faults (F.shown files.new).write_faults }
     ensures ok { IfOk result (λ patterns.
-        IfSome (F.shown files.new).held (λ files. read_as (start table.now) (file_at files) name.now ≡ Some (Ok patterns))) }
+        IfSome (F.shown files.new).held (λ files.
+        read_as (start table.now) (file_at files) name.now ≡ Some (Ok patterns))) }
     ensures known { IfOk result (SignsUpTo (letters_of table.now + 1)) }
     ensures stopped { IfErr result
         (StopsAt (input_file Input.Patterns name.now (λ _. start table.now)) (F.shown files.old) (F.shown files.new)) }
@@ -143,10 +145,12 @@ fn read_dictionary<'a, F: Files>(
     ensures reads { NoneFell (F.shown files.old).read_faults (F.shown files.new).read_faults }
     ensures writes { NoneFell (F.shown files.old).write_faults (F.shown files.new).write_faults }
     ensures ok { IfOk result (λ dictionary.
-        IfSome (F.shown files.new).held (λ files. read_as (words table.now) (file_at files) name.now ≡ Some (Ok dictionary))) }
+        IfSome (F.shown files.new).held (λ files.
+        read_as (words table.now) (file_at files) name.now ≡ Some (Ok dictionary))) }
     ensures signs { IfOk result (SignsAtMost (letters_of table.now + 1)) }
     ensures stopped { IfErr result
-        (StopsAt (input_file Input.Dictionary name.now (λ _. words table.now)) (F.shown files.old) (F.shown files.new)) }
+        (StopsAt (input_file Input.Dictionary name.now (λ _. words table.now))
+        (F.shown files.old) (F.shown files.new)) }
 {
     let bytes = read_front(alloc, name, files)?;
     match Dictionary::read(alloc, table, &bytes) {
@@ -167,7 +171,8 @@ pub fn read_inputs<'a, F: Files>(
     ensures ok { IfOk result (λ inputs. IfSome (F.shown files.new).held (λ files.
         HasInputs (file_at files) (texts_of names.now) inputs)) }
     ensures signs { IfOk result HasSigns }
-    ensures stopped { IfErr result (StopsReading (inputs_of (texts_of names.now)) (F.shown files.old) (F.shown files.new)) }
+    ensures stopped { IfErr result
+        (StopsReading (inputs_of (texts_of names.now)) (F.shown files.old) (F.shown files.new)) }
 {
     let table = read_table(alloc, names.translate, files)?;
     let params = read_parameters(alloc, names.params, files)?;

@@ -15,12 +15,14 @@ use std::alloc::{AllocError, Global};
 
 /// Does the run of the inputs over an engine that was just made with their starting patterns.
 pub fn select<E: Engine>(alloc: Global, engine: &mut E, inputs: &Inputs) -> Result<Run, AllocError>
-    requires new { (E.meaning engine.old) ≡ new_engine (signs_of inputs.now) inputs.now.start (E.meaning engine.old).families }
+    requires new { E.meaning engine.old
+        ≡ new_engine (signs_of inputs.now) inputs.now.start (E.meaning engine.old).families }
     requires signs { HasSigns inputs.now }
     ensures patterns { IfOk result (λ run. run.patterns ≡ selected inputs.now) }
     ensures account { IfOk result (λ run. account_of run ≡ selected_account inputs.now) }
     ensures begun { IfOk result (λ run. run.begun ≡ passes_begun inputs.now) }
-    ensures cells { IfOk result (TellsCells (option_map (selected_cells_from inputs.now) (E.meaning engine.old).families)) }
+    ensures cells { IfOk result
+        (TellsCells (option_map (selected_cells_from inputs.now) (E.meaning engine.old).families)) }
     ensures kept { IfOk result (λ run. (E.meaning engine.new).patterns ≡ run.patterns) }
     ensures greatest { (E.meaning engine.new).signs ≡ signs_of inputs.now }
     ensures pattern_signs { IfOk result (λ run. SignsUpTo (signs_of inputs.now) run.patterns) }

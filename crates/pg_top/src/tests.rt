@@ -54,8 +54,8 @@ rate: 100.00 % good, 0.00 % bad, 0.00 % missed\n",
     ),
 ];
 
-/// Whether the first of the outputs are whole, the next has this many of its first bytes, and the others are as before; where none
-/// of its bytes were kept, the next is as before too.
+/// Whether the first of the outputs are whole, the next has this many of its first bytes, and the others are as
+/// before; where none of its bytes were kept, the next is as before too.
 fn stand_at(held: &MemoryFiles, whole: usize, keep: Option<usize>) -> bool {
     for i in 0..OUTPUTS.len() {
         let (name, text) = OUTPUTS[i];
@@ -153,8 +153,8 @@ fn failed_puts(rt: HostRuntime) -> Result<(), Fail> {
     Ok(())
 }
 
-/// A run makes the calls that it needs and no other: it stops reading at the first refusal, it writes each output once, and it puts its lines
-/// at once.
+/// A run makes the calls that it needs and no other: it stops reading at the first refusal, it writes each output
+/// once, and it puts its lines at once.
 #[test]
 fn no_further_calls(rt: HostRuntime) -> Result<(), Fail> {
     let alloc = rt.alloc();
@@ -222,7 +222,10 @@ fn usage(rt: HostRuntime) -> Result<(), Fail> {
         "generate D P O T A R --cells --pattmp",
         "generate D P O T A R --pattmp M --cells C x",
         "generate --cells C D P O T A R",
-        "audit D P O T A R",
+        "audit D P O T A R --cells C",
+        "audit D P O T A R --pattmp M --cells C",
+        "audit D P O T A",
+        "audit D P --o T A R",
         "generate D P O T A O",
         "generate O P O T A R",
         "generate D P O T R R",

@@ -4,7 +4,7 @@ ghost use Rattle.pg_outside.specs.Content.{KeepsHeld, file_at};
 ghost use Rattle.pg_outside.specs.Faults.{NoneFell};
 ghost use Rattle.pg_top.specs.Answers.{MayAnswer, IsAnswered, IsUntouched, IsComplete, IsCall};
 ghost use Rattle.pg_top.specs.Calls.{has_files, outcome_of, reads_of, writes_of};
-ghost use Rattle.pg_top.specs.Commands.{texts_of, asked_by, asked};
+ghost use Rattle.pg_top.specs.Commands.{texts_of, asked_by, IsWithin, asked};
 ghost use Rattle.pg_top.specs.Faults.{SomeRose, IsFault};
 ghost use Rattle.pg_top.specs.Moments.{Puts};
 ghost use Rattle.pg_top.specs.Outcomes.{Ends};
@@ -21,6 +21,7 @@ use crate::outputs::{Outputs, make_outputs};
 use crate::printed::{USAGE, WRITING};
 use crate::puts::{answer, put_fault, put_stop};
 use crate::reading::read_inputs;
+use crate::samples::sample;
 use crate::words::command;
 use crate::writes::{output_at, write_all};
 use pg_outside::{Files, Sink};
@@ -36,9 +37,12 @@ fn prepare<'a, F: Files>(
     ensures reads { NoneFell (F.shown files.old).read_faults (F.shown files.new).read_faults }
     ensures writes { NoneFell (F.shown files.old).write_faults (F.shown files.new).write_faults }
     ensures ok { IfOk result (λ made. IfSome (F.shown files.new).held (λ files.
-        outcome_of (file_at files) (ToGenerate (texts_of names.now)) ≡ Ends Status.Done (writing_of made.files.items) made.lines.items)) }
-    ensures named { IfOk result (λ made. written_names (writing_of made.files.items) ≡ writes_of (ToGenerate (texts_of names.now))) }
-    ensures stopped { IfErr result (StopsReading (reads_of (ToGenerate (texts_of names.now))) (F.shown files.old) (F.shown files.new)) }
+        outcome_of (file_at files) (ToGenerate (texts_of names.now))
+        ≡ Ends Status.Done (writing_of made.files.items) made.lines.items)) }
+    ensures named { IfOk result (λ made.
+        written_names (writing_of made.files.items) ≡ writes_of (ToGenerate (texts_of names.now))) }
+    ensures stopped { IfErr result
+        (StopsReading (reads_of (ToGenerate (texts_of names.now))) (F.shown files.old) (F.shown files.new)) }
 {
     let inputs = read_inputs(alloc, names, files)?;
     let outputs = make_outputs(alloc, names, &inputs)?;
@@ -90,6 +94,7 @@ fn perform<F: Files, O: Sink>(
     files: &mut F,
     out: &mut O,
 ) -> Status
+    requires { IsWithin command.now }
     ensures call { IsCall (Some (asked_by command.now)) result
         (F.shown files.old, O.shown out.old) (F.shown files.new, O.shown out.new) }
     ensures same { has_files (Some (asked_by command.now)) ≡ false → files.new ≡ files.old }
@@ -97,12 +102,14 @@ fn perform<F: Files, O: Sink>(
     match command {
         Command::Generate(names) => generate(alloc, names, files, out),
         Command::Audit(names) => audit(alloc, names, files, out),
+        Command::Sample(seed, count) => sample(alloc, *seed, *count, out),
     }
 }
 
 /// Does what the words ask for.
 fn call<F: Files, O: Sink>(alloc: Global, words: &[String], files: &mut F, out: &mut O) -> Status
-    ensures call { IsCall (asked words.now) result (F.shown files.old, O.shown out.old) (F.shown files.new, O.shown out.new) }
+    ensures call { IsCall (asked words.now) result
+        (F.shown files.old, O.shown out.old) (F.shown files.new, O.shown out.new) }
     ensures same { has_files (asked words.now) ≡ false → files.new ≡ files.old }
 {
     match command(words) {
@@ -111,20 +118,29 @@ fn call<F: Files, O: Sink>(alloc: Global, words: &[String], files: &mut F, out: 
     }
 }
 
-/// Does what the words, without the program's name, ask for. It reads and writes `files`, prints to `out`, and gives the answer.
+/// Does what the words, without the program's name, ask for. It reads and writes `files`, prints to `out`, and gives
+/// the answer.
 ///
-/// `generate` reads the translate file, the parameters, the starting patterns and the dictionary, each whole and by its rules
-/// before the next, selects patterns, builds all texts, writes the pattern file and then prints. The first refusal ends the call,
-/// and so does the first fault. From the write on it takes no memory, and none where the words are no command. All lines of an
-/// answer are put at once, as the last step, but those of a fault, of which the front, the name and the end are put each by itself.
+/// `generate` reads the translate file, the parameters, the starting patterns and the dictionary, each whole and by
+/// its rules before the next, selects patterns, and builds all texts. Then it writes the pattern file, the hyphenated
+/// list, the cells file and the report, those asked for, and prints. From the first write on it takes no memory.
+/// `audit` reads the same, builds the texts with another engine, and reads and compares the given files one after the
+/// other, up to the first false line. `sample` makes a dictionary from a number and prints how a selection on it
+/// goes.
+///
+/// The first refusal ends a call, and so does the first fault. All lines of an answer are put at once, as the last
+/// step, but those of a fault, of which the front, the name and the end are put each by itself.
 ///
 /// - `Usage` comes exactly where the words are no command, unless the line cannot be put.
-/// - `Refused` comes only where an input is refused, the first in the order of reading.
-/// - `Fault` comes only where the read faults of an input, the write faults of the output, or the faults of `out` rose.
+/// - `Refused` comes only where an input is refused, the first in the order of reading. `sample` is never refused.
+/// - `Fault` comes only where the read faults of a name that the command reads, the write faults of one that it
+///   writes, or the faults of `out` rose.
 /// - `Memory` may always come where the words are a command; nothing was written and nothing put then.
+/// - `Yes` and `No`: all given files are what they should be, or the line that is not was named.
 /// - `Done`: all that was asked for was written whole.
 ///
-/// After all answers but `Done` and `Fault` the files are as they were. Where the words are no command, `files` is not called.
+/// After all answers but `Done` and `Fault` the files are as they were. Where the words are no command, and for
+/// `sample`, `files` is not called.
 pub fn run<F: Files, O: Sink>(alloc: Global, words: &[String], files: &mut F, out: &mut O) -> Status
     ensures answers { MayAnswer (asked words.now) result }
     ensures usage { result ≡ Status.Usage → Puts (O.shown out.old) (O.shown out.new) usage_line }
@@ -137,8 +153,10 @@ pub fn run<F: Files, O: Sink>(alloc: Global, words: &[String], files: &mut F, ou
         SomeRose (asked words.now) (F.shown files.old, O.shown out.old) (F.shown files.new, O.shown out.new) }
     ensures faulted { result ≡ Status.Fault →
         IsFault (asked words.now) (F.shown files.old, O.shown out.old) (F.shown files.new, O.shown out.new) }
-    ensures complete { SomeRose (asked words.now) (F.shown files.old, O.shown out.old) (F.shown files.new, O.shown out.new)
-        ⊎ IsComplete (asked words.now) result (F.shown files.old, O.shown out.old) (F.shown files.new, O.shown out.new) }
+    ensures complete { SomeRose (asked words.now)
+        (F.shown files.old, O.shown out.old) (F.shown files.new, O.shown out.new)
+        ⊎ IsComplete (asked words.now) result
+        (F.shown files.old, O.shown out.old) (F.shown files.new, O.shown out.new) }
 {
     call(alloc, words, files, out)
 }

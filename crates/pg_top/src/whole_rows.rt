@@ -5,8 +5,8 @@ use crate::tests::{files, words};
 use pg_outside::MemorySink;
 use std::test::Fail;
 
-/// A run: what it reads (the translate file, the parameters, the starting patterns and the dictionary), the pattern file, the
-/// hyphenated list and the report that it writes, and how its printed lines begin.
+/// A run: what it reads (the translate file, the parameters, the starting patterns and the dictionary), the pattern
+/// file, the hyphenated list and the report that it writes, and how its printed lines begin.
 struct WholeRow {
     inputs: [&'static [u8]; 4],
     output: &'static [u8],
@@ -246,7 +246,8 @@ fn cells(rt: HostRuntime) -> Result<(), Fail> {
     Ok(())
 }
 
-/// Each pass of length 2 left a candidate, so that no pass is skipped; and a starting value that is not below the level is told.
+/// Each pass of length 2 left a candidate, so that no pass is skipped; and a starting value that is not below the
+/// level is told.
 #[test]
 fn passes_left(rt: HostRuntime) -> Result<(), Fail> {
     let alloc = rt.alloc();

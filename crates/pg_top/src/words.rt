@@ -1,11 +1,18 @@
 //! The words of a command.
-ghost use Rattle.std.specs.Prelude.{◌≡◌, ◌≤◌, ◌++◌, ◌∷◌, [], length, drop};
+ghost use Rattle.std.specs.Prelude.{◌≡◌, ◌≤◌, ◌++◌, ◌∷◌, [], length, drop, IfSome};
 ghost use Rattle.std.specs.List.{list_all};
 ghost use Rattle.std.specs.Option.{option_map, option_and_then};
-ghost use Rattle.pg_top.specs.Requests.{is_name as is_name_word, if_asked, input_names, output_names, differs_from, outputs_differ, are_taken as are_taken_names, with_option as with_option_of, with_options as with_options_of, six_names, names_in, to_generate, to_audit, request_of};
-ghost use Rattle.pg_top.specs.Commands.{name_now, texts_of, asked_by, words_of};
+ghost use Rattle.pg_top.specs.Requests.{is_name as is_name_word, if_asked, input_names, output_names, differs_from, outputs_differ, are_taken as are_taken_names, with_option as with_option_of, with_options as with_options_of, six_names, names_in, to_generate, to_audit, sample_in, request_of};
+ghost use Rattle.pg_top.specs.Commands.{name_now, texts_of, asked_by, IsWithin, words_of};
 
 use crate::commands::{Command, Names};
+use crate::numbers::number;
+
+/// The greatest seed of `sample`.
+const SEED_MAX: u32 = 2_147_483_647;
+
+/// How many words `sample` makes at most.
+const COUNT_MAX: u32 = 100_000;
 
 /// Whether a word can be a name: it is not empty and does not begin with two dashes.
 fn is_name(word: &str) -> bool
@@ -67,7 +74,9 @@ fn is_report_distinct(names: &Names<'_>) -> bool
 
 /// Whether the name of the cells file, where it is asked for, differs from those of the report and the inputs.
 fn is_cells_distinct(names: &Names<'_>) -> bool
-    ensures { result ≡ outputs_differ (if_asked (texts_of names.now).cells (λ name. name) ++ (texts_of names.now).report ∷ []) (input_names (texts_of names.now)) }
+    ensures { result ≡ outputs_differ
+        (if_asked (texts_of names.now).cells (λ name. name) ++ (texts_of names.now).report ∷ [])
+        (input_names (texts_of names.now)) }
 {
     match names.cells {
         Some(cells) => {
@@ -77,9 +86,14 @@ fn is_cells_distinct(names: &Names<'_>) -> bool
     }
 }
 
-/// Whether the name of the hyphenated list, where it is asked for, differs from those of the outputs after it and of the inputs.
+/// Whether the name of the hyphenated list, where it is asked for, differs from those of the outputs after it and of
+/// the inputs.
 fn is_pattmp_distinct(names: &Names<'_>) -> bool
-    ensures { result ≡ outputs_differ (if_asked (texts_of names.now).pattmp (λ name. name) ++ if_asked (texts_of names.now).cells (λ name. name) ++ (texts_of names.now).report ∷ []) (input_names (texts_of names.now)) }
+    ensures { result ≡ outputs_differ
+        (if_asked (texts_of names.now).pattmp (λ name. name)
+        ++ if_asked (texts_of names.now).cells (λ name. name)
+        ++ (texts_of names.now).report ∷ [])
+        (input_names (texts_of names.now)) }
 {
     match names.pattmp {
         Some(pattmp) => {
@@ -178,7 +192,8 @@ fn names(words: &[String]) -> Option<Names<'_>>
 
 /// What the words behind `generate` ask for.
 fn generate(words: &[String]) -> Option<Command<'_>>
-    ensures { option_map asked_by result ≡ option_and_then to_generate (names_in (words_of words.now)) }
+    ensures within { IfSome result IsWithin }
+    ensures value { option_map asked_by result ≡ option_and_then to_generate (names_in (words_of words.now)) }
 {
     let names = names(words)?;
     if are_names(&names) && are_distinct(&names) {
@@ -190,7 +205,8 @@ fn generate(words: &[String]) -> Option<Command<'_>>
 
 /// What the words behind `audit` ask for.
 fn audit(words: &[String]) -> Option<Command<'_>>
-    ensures { option_map asked_by result ≡ option_and_then to_audit (names_in (words_of words.now)) }
+    ensures within { IfSome result IsWithin }
+    ensures value { option_map asked_by result ≡ option_and_then to_audit (names_in (words_of words.now)) }
 {
     let names = names(words)?;
     if are_names(&names) && names.cells.is_none() {
@@ -200,18 +216,38 @@ fn audit(words: &[String]) -> Option<Command<'_>>
     }
 }
 
+/// What the words behind `sample` ask for.
+fn sample(words: &[String]) -> Option<Command<'_>>
+    ensures value { option_map asked_by result ≡ sample_in (words_of words.now) }
+    ensures within { IfSome result IsWithin }
+{
+    if words.len() != 2 {
+        return None;
+    }
+    let seed = number(words[0].as_str(), SEED_MAX)?;
+    let count = number(words[1].as_str(), COUNT_MAX)?;
+    Some(Command::Sample(seed, count))
+}
+
 /// What the words, without the program's name, ask for; none exactly where they are no command. Commands are
-/// `generate DICT PATTERNS OUT TRANSLATE PARAMS REPORT`, then `--pattmp FILE` and `--cells FILE`, each at most once and in either
-/// order, and `audit` with the same six names and at most one `--pattmp FILE`. It takes no memory.
+/// `generate DICT PATTERNS OUT TRANSLATE PARAMS REPORT`, then `--pattmp FILE` and `--cells FILE`, each at most once
+/// and in either order, `audit` with the same six names and at most one `--pattmp FILE`, and `sample N COUNT`. It
+/// takes no memory.
 pub fn command(words: &[String]) -> Option<Command<'_>>
-    ensures { option_map asked_by result ≡ request_of (words_of words.now) }
+    ensures value { option_map asked_by result ≡ request_of (words_of words.now) }
+    ensures within { IfSome result IsWithin }
 {
     if words.is_empty() {
         return None;
     }
-    match words[0].as_str() {
-        "generate" => generate(&words[1..]),
-        "audit" => audit(&words[1..]),
-        _ => None,
+    let word = words[0].as_str();
+    if word == "generate" {
+        generate(&words[1..])
+    } else if word == "audit" {
+        audit(&words[1..])
+    } else if word == "sample" {
+        sample(&words[1..])
+    } else {
+        None
     }
 }

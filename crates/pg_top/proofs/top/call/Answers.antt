@@ -9,12 +9,12 @@ returns-in-None-clause-call g c =
     let s = g.F.Files.shown c.args.files.now in
     let o0 = g.O.Sink.shown c.args.out.now in
     let o1 = g.O.Sink.shown c.answer.new.out in
-    subst (λ asked. IsCall asked c.answer.result (s, o0) (s, o1)) c.in-None.ensures (usage_call s o0 o1 c.answer.result c.answer.ensures.put)
+    subst (λ asked. IsCall asked c.answer.result (s, o0) (s, o1)) c.in-None.ensures.value (usage_call s o0 o1 c.answer.result c.answer.ensures.put)
 
 pub returns-in-Some-clause-call : goal.returns-in-Some-clause-call
 returns-in-Some-clause-call g c =
-    subst (λ asked. IsCall asked c.perform.result (g.F.Files.shown c.args.files.now, g.O.Sink.shown c.args.out.now) (g.F.Files.shown c.perform.new.files, g.O.Sink.shown c.perform.new.out)) c.in-Some.ensures c.perform.ensures.call
+    subst (λ asked. IsCall asked c.perform.result (g.F.Files.shown c.args.files.now, g.O.Sink.shown c.args.out.now) (g.F.Files.shown c.perform.new.files, g.O.Sink.shown c.perform.new.out)) c.in-Some.ensures.value c.perform.ensures.call
 
 pub returns-in-Some-clause-same : goal.returns-in-Some-clause-same
 returns-in-Some-clause-same g c =
-    subst (λ asked. has_files asked ≡ false → c.perform.new.files ≡ c.args.files.now) c.in-Some.ensures c.perform.ensures.same
+    subst (λ asked. has_files asked ≡ false → c.perform.new.files ≡ c.args.files.now) c.in-Some.ensures.value c.perform.ensures.same

@@ -1,0 +1,10 @@
+use Rattle.std.proofs.Common.{Err, ap}
+use Rattle.pg_top.specs.declared.audit.TheConstants.{MORE}
+use Rattle.pg_top.proofs.GivenFronts.{front_whole, front_cut}
+use Rattle.pg_top.proofs.audit.read_given.Goals as goal
+
+pub returns-in-Ok-clause-front : goal.returns-in-Ok-clause-front
+returns-in-Ok-clause-front g c = front_whole (g.F.Files.shown c.read.new.self).held c.args.name.now c.read.new.into.items c.args.size MORE c.in-Ok.ensures.file
+
+pub returns-in-Err-TooLong-clause-front : goal.returns-in-Err-TooLong-clause-front
+returns-in-Err-TooLong-clause-front g c = front_cut (g.F.Files.shown c.read.new.self).held c.args.name.now c.read.new.into.items c.args.size MORE (c.in-Err-TooLong.ensures.cut_file (ap Err c.in-Err-TooLong.field-0-is))

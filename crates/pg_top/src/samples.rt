@@ -1,0 +1,138 @@
+//! `sample`: the selection on a dictionary that is made from a number.
+ghost use Rattle.std.specs.Prelude.{◌≡◌, ◌+◌, ◌≤◌, ◌<◌, ◌^◌, ◌++◌, IfOk, OnOk};
+ghost use Rattle.pg_translate.specs.Alphabets.{letters_of};
+ghost use Rattle.pg_translate.specs.Tables.{default_alphabet};
+ghost use Rattle.pg_dict.specs.Word.{SignsAtMost};
+ghost use Rattle.pg_top.specs.SampleTexts.{is_printed as is_printed_line, printed_part, sample_inputs, sample_lines as lines_of, sample_parameters};
+ghost use Rattle.pg_top.specs.Selection.{HasSigns};
+ghost use Rattle.pg_top.specs.Stops.{PutsLines};
+
+use crate::answers::Status;
+use crate::printed::done_line;
+use crate::puts::answer;
+use crate::reading::Inputs;
+use crate::sample::sample_text;
+use crate::selection::select;
+use pg_dict::Dictionary;
+use pg_outside::Sink;
+use pg_packed::PackedEngine;
+use pg_patterns::PatternSet;
+use pg_texts::report_text;
+use pg_translate::Table;
+use pg_translate::laws::keeps_rules;
+use pg_types::{Params, ReadingError, next_line, read_params};
+use std::alloc::{AllocError, Global};
+
+/// Two levels, with lengths 1 to 3 and 2 to 4.
+const PARAMETERS: &[u8] = b"1 2 1 3 1 2 20 2 4 2 1 8";
+
+/// The error of a reader that refuses nothing.
+fn only_memory(error: ReadingError) -> AllocError
+    requires { error ≡ ReadingError.Memory }
+{
+    match error {
+        ReadingError::Memory => AllocError,
+        ReadingError::Refused(_) => unreachable!(),
+    }
+}
+
+/// The parameters of the selection.
+fn sample_params(alloc: Global) -> Result<Params, AllocError>
+    ensures { IfOk result (λ params. params ≡ sample_parameters) }
+{
+    match read_params(alloc, PARAMETERS) {
+        Ok(params) => Ok(params),
+        Err(error) => Err(only_memory(error)),
+    }
+}
+
+/// Makes the dictionary and reads it under the default table.
+fn sample_dictionary(
+    alloc: Global,
+    table: &Table,
+    seed: u32,
+    count: u32,
+) -> Result<Dictionary, AllocError>
+    requires table { table.now ≡ default_alphabet }
+    requires seed { seed < 2 ^ 31 }
+    requires count { count ≤ 100000 }
+    ensures words { IfOk result (λ dictionary. dictionary ≡ (sample_inputs seed count).dictionary) }
+    ensures signs { IfOk result (SignsAtMost (letters_of table.now + 1)) }
+{
+    let text = sample_text(alloc, seed, count)?;
+    keeps_rules(table);
+    match Dictionary::read(alloc, table, &text) {
+        Ok(dictionary) => Ok(dictionary),
+        Err(error) => Err(only_memory(error)),
+    }
+}
+
+/// What the selection is made of.
+fn make_inputs(alloc: Global, seed: u32, count: u32) -> Result<Inputs, AllocError>
+    requires seed { seed < 2 ^ 31 }
+    requires count { count ≤ 100000 }
+    ensures inputs { IfOk result (λ inputs. inputs ≡ sample_inputs seed count) }
+    ensures signs { IfOk result HasSigns }
+{
+    let table = Table::default_letters(alloc)?;
+    let params = sample_params(alloc)?;
+    let dictionary = sample_dictionary(alloc, &table, seed, count)?;
+    Ok(Inputs {
+        table,
+        params,
+        start: PatternSet::empty(alloc),
+        dictionary,
+    })
+}
+
+/// Whether a line of the report is printed.
+fn is_printed(line: &[u8]) -> bool
+    ensures { result ≡ is_printed_line line.now }
+{
+    line.starts_with(b"level") || line.starts_with(b"total") || line.starts_with(b"rate")
+}
+
+/// Appends the lines of a report that are printed.
+fn push_printed(lines: &mut Vec<u8>, report: &[u8]) -> Result<(), AllocError>
+    ensures { OnOk result (lines.new.items ≡ lines.old.items ++ printed_part report.now) }
+{
+    let mut rest = report;
+    'lines: while let Some((line, after)) = next_line(rest) {
+        if is_printed(line) {
+            lines.extend_from_slice(line)?;
+            lines.extend_from_slice(b"\n")?;
+        }
+        rest = after;
+    }
+    Ok(())
+}
+
+/// The printed lines.
+fn sample_lines(alloc: Global, seed: u32, count: u32) -> Result<Vec<u8>, AllocError>
+    requires seed { seed < 2 ^ 31 }
+    requires count { count ≤ 100000 }
+    ensures { IfOk result (λ lines. lines.items ≡ lines_of seed count) }
+{
+    let inputs = make_inputs(alloc, seed, count)?;
+    let mut engine = PackedEngine::new(alloc, inputs.table.letters() + 1, &inputs.start)?;
+    let run = select(alloc, &mut engine, &inputs)?;
+    let patterns = run.patterns().text(alloc, &inputs.table)?;
+    let report = report_text(alloc, inputs.start.largest(), &inputs.params, &run)?;
+    let done = done_line(alloc, &patterns, &run.totals())?;
+    let mut lines = Vec::new(alloc);
+    push_printed(&mut lines, &report)?;
+    lines.extend_from_slice(&done)?;
+    Ok(lines)
+}
+
+/// Does the selection and prints what it tells. It reads and writes no file, and refuses nothing.
+pub fn sample<O: Sink>(alloc: Global, seed: u32, count: u32, out: &mut O) -> Status
+    requires seed { seed < 2 ^ 31 }
+    requires count { count ≤ 100000 }
+    ensures { PutsLines (lines_of seed count) result (O.shown out.old) (O.shown out.new) }
+{
+    match sample_lines(alloc, seed, count) {
+        Ok(lines) => answer(out, &lines, Status::Done),
+        Err(AllocError) => Status::Memory,
+    }
+}
