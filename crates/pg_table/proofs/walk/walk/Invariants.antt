@@ -1,9 +1,0 @@
-use Rattle.pg_table.specs.Raising.{IsUncovered, values_of, by_starts}
-use Rattle.pg_table.proofs.Levels.{Level}
-use Rattle.pg_table.proofs.walk.walk.Given as goal
-
-abbrev pub invariant-loop-start : goal.invariant-loop-start
-invariant-loop-start l = record {
-  values : Level (by_starts l.view l.w l.start) (by_starts l.view l.w 0) (values_of l.fn.out) (values_of l.out);
-  uncovered : IsUncovered l.out;
-}
