@@ -10,18 +10,6 @@ use std::test::Fail;
 
 mod families;
 
-#[test]
-fn one_sign(rt: HostRuntime) -> Result<(), Fail> {
-    let mut cells = Cells::<u32, 4>::new(rt.alloc(), 1, 7)?;
-    assert_eq!(rt; cells.add(1, 1, 8)?, 2);
-    assert_eq!(rt; cells.child(1), 1);
-    assert_eq!(rt; cells.find(1, 1), Some(2));
-    assert_eq!(rt; cells.value(2), 8);
-    assert_eq!(rt; cells.taken(), 2);
-    assert_eq!(rt; cells.top(), 2);
-    Ok(())
-}
-
 /// Steps in a table of the edge and three letters: each adds the second sign below the first. The fourth moves a family. In the end
 /// all but the first are taken back.
 #[test]

@@ -2,10 +2,9 @@
 use crate::runs::LETTERS;
 use pg_dict::Dictionary;
 use pg_driver::generate;
-use pg_packed::PackedEngine;
 use pg_patterns::PatternSet;
 use pg_plain::PlainEngine;
-use pg_texts::{cells_text, pattmp_text, report_text};
+use pg_texts::{pattmp_text, report_text};
 use pg_translate::Table;
 use pg_types::read_params;
 use std::alloc::Global;
@@ -116,36 +115,5 @@ fn reports_and_lists(rt: HostRuntime) -> Result<(), Fail> {
         assert_eq!(rt; report.as_slice(), row.report);
         assert_eq!(rt; list.as_slice(), row.list);
     }
-    Ok(())
-}
-
-/// The cells file of the run of these files over the packed engine.
-fn cells_of(
-    alloc: Global,
-    dictionary: &[u8],
-    parameters: &[u8],
-    start: &[u8],
-) -> Result<Vec<u8>, Fail> {
-    let table = Table::read(alloc, LETTERS)?;
-    let dictionary = Dictionary::read(alloc, &table, dictionary)?;
-    let params = read_params(alloc, parameters)?;
-    let start = PatternSet::read(alloc, &table, start)?;
-    let mut engine = PackedEngine::new(alloc, table.letters() + 1, &start)?;
-    let run = generate(alloc, &mut engine, &dictionary, &table, &params)?;
-    let text = cells_text(alloc, &run)?;
-    Ok(text)
-}
-
-#[test]
-fn cells_files(rt: HostRuntime) -> Result<(), Fail> {
-    let cells = cells_of(rt.alloc(), b"ab-c\nab-a\n", b"1 1 2 2 1 1 2", b"")?;
-    let want =
-        b"start: 4 taken, top 4, 0 tails\npass 1 2 1: 7 taken, top 8\npass 1 2 0: 9 taken, top 10\npass 1 2 2: 10 taken, top 10\nlevel 1: 5 taken, top 9, 1 tails\n";
-    assert_eq!(rt; cells.as_slice(), want.as_slice());
-    let cells = cells_of(rt.alloc(), b"", b"2 1", b"1a2b\nc2b\n")?;
-    assert_eq!(rt;
-        cells.as_slice(),
-        b"start: 6 taken, top 6, 2 tails\n".as_slice()
-    );
     Ok(())
 }

@@ -84,7 +84,7 @@ fn given_files(rt: HostRuntime) -> Result<(), Fail> {
         let mut held = given(alloc, output, list, report)?;
         let mut out = MemorySink::new(alloc, 300)?;
         let status = run(alloc, &words, &mut held, &mut out);
-        let wanted = if printed == b"yes\n" {
+        let wanted = if printed == b"yes\n".as_slice() {
             Status::Yes
         } else {
             Status::No
