@@ -3,8 +3,6 @@
 
 pub mod answers;
 mod audit;
-#[cfg(test)]
-mod audit_rows;
 pub mod commands;
 pub mod inputs;
 mod no_lines;
@@ -13,18 +11,10 @@ mod outputs;
 mod printed;
 mod puts;
 mod reading;
-#[cfg(test)]
-mod rows;
 mod sample;
-#[cfg(test)]
-mod sample_rows;
 mod samples;
 mod selection;
-#[cfg(test)]
-mod tests;
 mod top;
-#[cfg(test)]
-mod whole_rows;
 pub mod words;
 pub mod writes;
 
