@@ -2,7 +2,7 @@
 use Rattle.std.specs.Prelude.{◌≡◌, ℕ, ◌+◌, ◌-◌, ◌<◌, ◌≤◌, ◌==◌, nat_le, nat_lt, Bool, true, false, not, ◌&&◌, ◌||◌, List, [], ◌∷◌, map, length, slice_get, slice_index, slice_index_or, slice_range, Some, All}
 use Rattle.std.specs.List.{list_all}
 use Rattle.pg_types.specs.declared.limits.TheConstants.{EDGE, WEIGHT_MAX, WORD_LETTERS_MAX}
-use Rattle.pg_dict.specs.Spots.{Spot}
+use Rattle.pg_dict.specs.PositionedSigns.{PositionedSign}
 
 -- a word: its signs, of each position its hyphen, weight and care, and its own weight
 pub record Word : Type 0 where
@@ -13,18 +13,18 @@ pub record Word : Type 0 where
   pub weight : ℕ
 
 -- a word of this weight from its signs, each with the position before it
-abbrev pub word_with : ℕ → List Spot → Word
-word_with weight spots = record {
-  signs = map (λ (s : Spot). s.sign) spots;
-  hyphens = map (λ (s : Spot). s.hyphen) spots;
-  weights = map (λ (s : Spot). s.weight) spots;
-  cares = map (λ (s : Spot). s.care) spots;
+abbrev pub word_with : ℕ → List PositionedSign → Word
+word_with weight positioned = record {
+  signs = map (λ (s : PositionedSign). s.sign) positioned;
+  hyphens = map (λ (s : PositionedSign). s.hyphen) positioned;
+  weights = map (λ (s : PositionedSign). s.weight) positioned;
+  cares = map (λ (s : PositionedSign). s.care) positioned;
   weight = weight;
 }
 
 -- the number of letters: the signs without the two edges
-abbrev pub letters_of : Word → ℕ
-letters_of w = length w.signs - 2
+abbrev pub letter_count : Word → ℕ
+letter_count w = length w.signs - 2
 
 -- a position without a hyphen, with care, and with the weight of the word
 pub record IsPlainAt (w : Word) (p : ℕ) : Type 0 where

@@ -2,10 +2,10 @@
 ghost use Rattle.std.specs.Prelude.{◌≡◌, ◌<◌, ◌≤◌, ◌+◌, length, Some, slice_get, IfOk, sum_by, All};
 ghost use Rattle.pg_types.specs.Reading.{Gives};
 ghost use Rattle.pg_translate.specs.Alphabets as alphabet;
-ghost use Rattle.pg_dict.specs.Word.{letters_of, IsWord, SignsAtMost};
+ghost use Rattle.pg_dict.specs.Word.{letter_count, IsWord, SignsAtMost};
 ghost use Rattle.pg_dict.specs.Words.{words};
-ghost use Rattle.pg_dict.specs.Store.{signs_of};
-ghost use Rattle.pg_dict.specs.Lent.{word_of};
+ghost use Rattle.pg_dict.specs.Store.{all_signs};
+ghost use Rattle.pg_dict.specs.Lent.{lent_word};
 
 use crate::entries::read_line;
 use crate::store::Store;
@@ -31,9 +31,9 @@ impl Model for Dictionary {
 
     ghost Value = { List Word };
 
-    ghost use Rattle.pg_dict.specs.Store.{words_of, IsDictionary};
+    ghost use Rattle.pg_dict.specs.Store.{stored_words, IsDictionary};
 
-    ghost view = { λ d. words_of d.store };
+    ghost view = { λ d. stored_words d.store };
 
     ghost invariant = { λ d. IsDictionary d.store };
 }
@@ -73,7 +73,7 @@ impl Dictionary {
     pub fn len(&self) -> usize
         ensures len { result ≡ length self.now }
         ensures words { All IsWord self.now }
-        ensures letters { sum_by letters_of self.now ≤ FILE_MAX }
+        ensures letters { sum_by letter_count self.now ≤ FILE_MAX }
     {
         self.store.words.len()
     }
@@ -81,8 +81,8 @@ impl Dictionary {
     /// The word at place `i`, counted from 0.
     pub fn word(&self, i: usize) -> WordRef<'_>
         requires { i < length self.now }
-        ensures lent { slice_get self.now i ≡ Some (word_of result) }
-        ensures word { IsWord (word_of result) }
+        ensures lent { slice_get self.now i ≡ Some (lent_word result) }
+        ensures word { IsWord (lent_word result) }
     {
         let word = self.store.words[i];
         WordRef {
@@ -96,7 +96,7 @@ impl Dictionary {
 
     /// The signs of all words, edges included, joined in the order of the words: one slice of the store.
     pub fn all_signs(&self) -> &[Sign]
-        ensures { result.now ≡ signs_of self.now }
+        ensures { result.now ≡ all_signs self.now }
     {
         self.store.signs.as_slice()
     }

@@ -3,13 +3,13 @@ ghost use Rattle.std.specs.Prelude.{◌≡◌, ◌<◌, ◌≤◌, ◌+◌, ◌*
 ghost use Rattle.pg_types.specs.Reading.{Gives};
 ghost use Rattle.pg_translate.specs.Alphabets.{letters_of};
 ghost use Rattle.pg_translate.specs.Rules.{KeepsRules};
-ghost use Rattle.pg_dict.specs.Words.{line_of};
-ghost use Rattle.pg_dict.specs.Heads.{headed};
-ghost use Rattle.pg_dict.specs.Entries.{with_line};
-ghost use Rattle.pg_dict.specs.Store.{words_of, IsSound, IsFit};
+ghost use Rattle.pg_dict.specs.Words.{line_reading};
+ghost use Rattle.pg_dict.specs.LineStarts.{word_reading};
+ghost use Rattle.pg_dict.specs.Entries.{with_word};
+ghost use Rattle.pg_dict.specs.Store.{stored_words, IsSound, IsFit};
 
-use crate::gap::Gap;
-use crate::heads::Head;
+use crate::position::Position;
+use crate::line_start::LineStart;
 use crate::line::Line;
 use crate::store::{Store, Stored};
 use pg_translate::Table;
@@ -24,14 +24,14 @@ impl Line<'_> {
         requires rules { KeepsRules self.now.table.now }
         requires sound { IsSound store.old }
         requires fit { IsFit (letters_of self.now.table.now + 1) store.old }
-        ensures word { Gives (λ _. record { words = words_of store.new; weight = self.now.weight }) result (with_line (words_of store.old) (headed self.now.table.now self.now.number self.now.size self.now.weight sign rest.now)) }
+        ensures word { Gives (λ _. record { words = stored_words store.new; weight = self.now.weight }) result (with_word (stored_words store.old) (word_reading self.now.table.now self.now.number self.now.size self.now.weight sign rest.now)) }
         ensures sound { OnOk result (IsSound store.new) }
         ensures fit { OnOk result (IsFit (letters_of self.now.table.now + 1) store.new) }
         ensures counted { OnOk result (length store.new.signs.items + 2 * length store.old.words.items ≤ length store.old.signs.items + length rest.now + 1 + 2 * length store.new.words.items) }
     {
         let start = store.signs.len();
-        store.push(Gap::plain(self.weight), EDGE)?;
-        store.push(Gap::plain(self.weight), sign)?;
+        store.push(Position::plain(self.weight), EDGE)?;
+        store.push(Position::plain(self.weight), sign)?;
         self.fill(store, rest)?;
         let end = store.signs.len();
         store.words.push(Stored {
@@ -57,7 +57,7 @@ pub(crate) fn read_line(
     requires rules { KeepsRules table.now }
     requires sound { IsSound store.old }
     requires fit { IsFit (letters_of table.now + 1) store.old }
-    ensures line { Gives (λ next. record { words = words_of store.new; weight = next }) result (with_line (words_of store.old) (line_of table.now number weight text.now)) }
+    ensures line { Gives (λ next. record { words = stored_words store.new; weight = next }) result (with_word (stored_words store.old) (line_reading table.now number weight text.now)) }
     ensures small { IfOk result (λ next. next ≤ WEIGHT_MAX) }
     ensures sound { OnOk result (IsSound store.new) }
     ensures fit { OnOk result (IsFit (letters_of table.now + 1) store.new) }
@@ -70,7 +70,7 @@ pub(crate) fn read_line(
         weight,
     };
     match line.seek(text)? {
-        Head::Word { weight, sign, rest } => {
+        LineStart::Word { weight, sign, rest } => {
             let line = Line {
                 table,
                 number,
@@ -80,6 +80,6 @@ pub(crate) fn read_line(
             line.read_word(store, sign, rest)?;
             Ok(weight)
         }
-        Head::Empty { weight } => Ok(weight),
+        LineStart::Empty { weight } => Ok(weight),
     }
 }

@@ -4,9 +4,9 @@ ghost use Rattle.std.specs.List.{AllByRecursion};
 ghost use Rattle.pg_types.specs.declared.marks.Mark.{Mark};
 ghost use Rattle.pg_translate.specs.declared.items.Place.TheVariants.{Dictionary};
 ghost use Rattle.pg_translate.specs.Tokens.{Token};
-ghost use Rattle.pg_translate.specs.Items.{IsItem, joined};
+ghost use Rattle.pg_translate.specs.Items.{IsItem, text_of_items};
 ghost use Rattle.pg_dict.specs.Word.{Word, IsWord};
-ghost use Rattle.pg_dict.specs.Words.{line_of, line_word, words};
+ghost use Rattle.pg_dict.specs.Words.{line_reading, line_word, words};
 ghost use Rattle.pg_dict.specs.Written.{AreMarksOf, word_tokens, letters_among, IsLine, file_of, LinesGive};
 
 use pg_translate::Table;
@@ -21,14 +21,14 @@ pub fn words_are_read()
 
 /// A line of items with at most 100 letters is accepted, and gives what its items give.
 pub fn lines_are_read(table: &Table)
-    ensures { (line weight : ℕ) (items : List (Token × List ℕ)) → AllByRecursion (λ item. IsItem table.now Dictionary item.0 item.1) items → letters_among (map (λ item. item.0) items) ≤ WORD_LETTERS_MAX → line_of table.now line weight (joined items) ≡ Ok (line_word weight (map (λ item. item.0) items)) }
+    ensures { (line weight : ℕ) (items : List (Token × List ℕ)) → AllByRecursion (λ item. IsItem table.now Dictionary item.0 item.1) items → letters_among (map (λ item. item.0) items) ≤ WORD_LETTERS_MAX → line_reading table.now line weight (text_of_items items) ≡ Ok (line_word weight (map (λ item. item.0) items)) }
 {
     keeps_rules(table);
 }
 
 /// The items of a dictionary, joined, are one line: they hold no line feed, and do not end with a CR.
 pub fn items_are_lines(table: &Table)
-    ensures { (items : List (Token × List ℕ)) → AllByRecursion (λ item. IsItem table.now Dictionary item.0 item.1) items → IsLine (joined items) }
+    ensures { (items : List (Token × List ℕ)) → AllByRecursion (λ item. IsItem table.now Dictionary item.0 item.1) items → IsLine (text_of_items items) }
 {
     keeps_rules(table);
 }

@@ -3,8 +3,8 @@
 
 pub mod dictionary;
 mod entries;
-mod gap;
-mod heads;
+mod position;
+mod line_start;
 pub mod laws;
 mod letters;
 mod line;

@@ -4,7 +4,7 @@ use Rattle.pg_types.specs.declared.limits.TheConstants.{FILE_MAX}
 use Rattle.pg_types.specs.declared.marks.Totals.{Totals}
 use Rattle.pg_types.specs.declared.parameters.LevelParams.{LevelParams}
 use Rattle.pg_types.specs.Counts.{Counts}
-use Rattle.pg_dict.specs.Word.{Word, IsWord, letters_of}
+use Rattle.pg_dict.specs.Word.{Word, IsWord, letter_count}
 use Rattle.pg_select.specs.declared.pass.Pass.{Pass}
 use Rattle.pg_select.specs.LawsSteps.{FindsMore, PreventsMore}
 use Rattle.pg_select.specs.Statuses.{is_odd}
@@ -23,7 +23,7 @@ use Rattle.pg_driver.specs.Traces.{Known, Source}
 pub record IsOpenAt (source : Source) (level len : ℕ) (known : Known) (o : OpenLevel) : Type 0 where
   pub least : 1 ≤ source.minima.left
   pub words : All IsWord source.words
-  pub letters : sum_by letters_of source.words ≤ FILE_MAX
+  pub letters : sum_by letter_count source.words ≤ FILE_MAX
   pub positions : InLevel level len source.minima source.words known.patterns known.hopeless o.positions.items
   pub totals : o.totals ≡ totals_by source known.patterns
 

@@ -3,8 +3,8 @@ ghost use Rattle.std.specs.Prelude.{ℕ, List, ◌≡◌, ◌<◌, ◌≤◌, �
 ghost use Rattle.std.specs.List.{range_with_len};
 ghost use Rattle.pg_types.specs.declared.limits.TheConstants.{WORD_LETTERS_MAX};
 ghost use Rattle.pg_translate.specs.Reach.{positions as positions_of};
-ghost use Rattle.pg_dict.specs.Word.{IsWord, letters_of};
-ghost use Rattle.pg_dict.specs.Lent.{word_of};
+ghost use Rattle.pg_dict.specs.Word.{IsWord, letter_count};
+ghost use Rattle.pg_dict.specs.Lent.{lent_word};
 ghost use Rattle.pg_select.specs.CountedPositions.{counts_as as counts_as_of};
 ghost use Rattle.pg_select.specs.Statuses.{status as status_of};
 ghost use Rattle.pg_select.specs.Windows.{fits as fits_in};
@@ -28,12 +28,12 @@ pub fn no_totals() -> Totals
 
 /// The first position of a word in reach, and the place behind the last one; none where the word takes no part.
 pub fn positions(table: &Table, w: &WordRef<'_>) -> Option<(usize, usize)>
-    requires { IsWord (word_of w.now) }
+    requires { IsWord (lent_word w.now) }
     ensures none { IfNone result (positions_of table.now.left table.now.right (length w.now.signs.now) ≡ []) }
     ensures some { IfSome result
         (λ r. positions_of table.now.left table.now.right (length w.now.signs.now) ≡ range_with_len r.0 (r.1 - r.0)) }
     ensures within { IfSome result (λ r. r.1 ≤ length w.now.signs.now) }
-    ensures few { IfSome result (λ r. r.1 - r.0 ≤ letters_of (word_of w.now)) }
+    ensures few { IfSome result (λ r. r.1 - r.0 ≤ letter_count (lent_word w.now)) }
 {
     // A minimum is at least 1, so that there are no more positions than letters.
     let _least = table.left();

@@ -9,7 +9,7 @@ use Rattle.std.specs.FinMap.{nat_cmp-IsAntisymmetric, slice_cmp-IsAntisymmetric}
 use Rattle.std.specs.FinMap.Entries.{put, find, by_order}
 use Rattle.std.specs.List.{filter, list_all, list_any, range_with_len, starts_with}
 use Rattle.pg_types.specs.Placement.{Family, Families, keeps_cell, kept, least_base, placed, with_one_sign, with_sign, family_at, without_family, is_used, cell_in, enter_after, enter, root, few_signs}
-use Rattle.pg_packed.specs.Starts.{entered_all}
+use Rattle.pg_packed.specs.Starts.{pattern_families}
 
 pub and_first : (a b : Bool) → (a && b) ≡ true → a ≡ true
 and_first true b e = refl
@@ -207,7 +207,7 @@ all_there (e ∷ es) =
     (λ x there. either_right (starts_with nat_eq e.0.0 x.0.0) _ there) (all_there es))
 
 -- the families after the patterns are entered have no cell that no pattern needs
-pub kept_entered : (n : ℕ) (P : List ((List ℕ × ℕ) × ℕ)) → 1 ≤ n → kept (map (λ e. e.0.0) P) (entered_all n P) ≡ entered_all n P
+pub kept_entered : (n : ℕ) (P : List ((List ℕ × ℕ) × ℕ)) → 1 ≤ n → kept (map (λ e. e.0.0) P) (pattern_families n P) ≡ pattern_families n P
 kept_entered n P some =
     let strings : List (List ℕ) = map (λ e. e.0.0) P in
-    kept_same strings (entered_all n P) (all_enter strings n (root n) P (all_there P) (root_stays strings n some))
+    kept_same strings (pattern_families n P) (all_enter strings n (root n) P (all_there P) (root_stays strings n some))

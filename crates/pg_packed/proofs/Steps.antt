@@ -12,7 +12,7 @@ use Rattle.pg_types.specs.Signs.{is_sign}
 use Rattle.pg_patterns.specs.DottedSigns.{dotted_cmp, dotted_total}
 use Rattle.pg_patterns.specs.Values.{raise, IsPatternMap, SignsUpTo}
 use Rattle.pg_trie.specs.Maps.{Maps}
-use Rattle.pg_packed.specs.Starts.{entered_all, AreEntered}
+use Rattle.pg_packed.specs.Starts.{pattern_families, AreEntered}
 use Rattle.pg_packed.proofs.Kept.{and_first, and_second, some_is, kept_entered}
 
 first_half : (a b : Bool) → T (a && b) → T a
@@ -75,8 +75,8 @@ fold_next f a x (y ∷ ys) zero there = ap (λ z. f a z) (some_is y x there)
 fold_next f a x (y ∷ ys) (suc i) there = fold_next f (f a y) x ys i there
 
 -- and its string is entered
-pub families_next : (n : ℕ) (P : Entries) (i : ℕ) (k : List ℕ × ℕ) (v : ℕ) → slice_get P i ≡ Some (k, v) → enter n (entered_all n (take i P)) k.0 ≡ entered_all n (take (i + 1) P)
-families_next n P i k v there = sym (fold_next (λ fs e. enter n fs e.0.0) _ (k, v) P i there) ∙ ap (λ x. entered_all n (take x P)) (sym (add-one i))
+pub families_next : (n : ℕ) (P : Entries) (i : ℕ) (k : List ℕ × ℕ) (v : ℕ) → slice_get P i ≡ Some (k, v) → enter n (pattern_families n (take i P)) k.0 ≡ pattern_families n (take (i + 1) P)
+families_next n P i k v there = sym (fold_next (λ fs e. enter n fs e.0.0) _ (k, v) P i there) ∙ ap (λ x. pattern_families n (take x P)) (sym (add-one i))
 
 upto_get : (n : ℕ) (k : List ℕ × ℕ) (v : ℕ) (P : Entries) (i : ℕ) → SignsUpTo n P → slice_get P i ≡ Some (k, v) → All (λ s. s ≤ n) k.0
 upto_get n k v [] zero known there = cc

@@ -12,7 +12,7 @@ use Rattle.std.specs.FinMap.Entries.{find, is_sorted, below_all}
 use Rattle.std.specs.List.{list_all, All, dedup_from, dedup}
 use Rattle.std.specs.List.Sorted.{IsPermutation, IsSortedBy}
 use Rattle.pg_patterns.specs.DottedSigns.{dotted_cmp, dotted_total, same_dotted, dotted_ties, dotted_exact}
-use Rattle.pg_patterns.specs.Values.{value_of, best, joined, is_entry, IsPatternMap}
+use Rattle.pg_patterns.specs.Values.{value_of, best, map_of_entries, is_entry, IsPatternMap}
 use Rattle.pg_patterns.specs.Search.{entry_cmp}
 use Rattle.pg_types.proofs.BoolFacts.{and_first, and_second, both_true, equal_is, less_is, is_true, holds, first_half, second_half}
 use Rattle.pg_patterns.proofs.Joins.{only, same_maps, joined_keeps, value_of_joined, best-IsPermutation}
@@ -178,18 +178,18 @@ told_all [] all = refl
 told_all (e ∷ es) all = both_true _ _ (All-head (λ (e : (List ℕ × ℕ) × ℕ). is_entry e ≡ true) e es all) (told_all es (All-tail (λ (e : (List ℕ × ℕ) × ℕ). is_entry e ≡ true) e es all))
 
 -- sorted by place and falling value, without the later entries of a place, a list is joined
-pub joined_by_sort : (es fs gs : List ((List ℕ × ℕ) × ℕ)) → list_all is_entry es ≡ true → IsPermutation es fs → IsSortedBy (λ e f. is_lt (entry_cmp e f)) fs → gs ≡ dedup (λ f g. same_dotted f.0 g.0) fs → IsPatternMap gs × (gs ≡ joined es)
+pub joined_by_sort : (es fs gs : List ((List ℕ × ℕ) × ℕ)) → list_all is_entry es ≡ true → IsPermutation es fs → IsSortedBy (λ e f. is_lt (entry_cmp e f)) fs → gs ≡ dedup (λ f g. same_dotted f.0 g.0) fs → IsPatternMap gs × (gs ≡ map_of_entries es)
 joined_by_sort es fs gs sound moved sorted kept =
     let order : InOrder fs = in_order fs (sorted_far (λ e f. is_lt (entry_cmp e f)) entry_ranks fs sorted) in
     let whole = kept_whole fs order in
     let all : All (λ (e : (List ℕ × ℕ) × ℕ). is_entry e ≡ true) fs = All-permutation (λ (e : (List ℕ × ℕ) × ℕ). is_entry e ≡ true) es fs moved (all_told es sound) in
     let left : list_all is_entry (dedup (λ f g. same_dotted f.0 g.0) fs) ≡ true = told_all _ (All-dedup (λ f g. same_dotted f.0 g.0) (λ (e : (List ℕ × ℕ) × ℕ). is_entry e ≡ true) fs all) in
     let map : IsPatternMap (dedup (λ f g. same_dotted f.0 g.0) fs) = record { sorted = whole.0; sound = left } in
-    let same : dedup (λ f g. same_dotted f.0 g.0) fs ≡ joined es =
-    same_maps (dedup (λ f g. same_dotted f.0 g.0) fs) (joined es) map (joined_keeps es sound) (λ k. whole.1 k ∙ best-IsPermutation (same_dotted k) es fs moved ∙ sym (value_of_joined es k)) in
+    let same : dedup (λ f g. same_dotted f.0 g.0) fs ≡ map_of_entries es =
+    same_maps (dedup (λ f g. same_dotted f.0 g.0) fs) (map_of_entries es) map (joined_keeps es sound) (λ k. whole.1 k ∙ best-IsPermutation (same_dotted k) es fs moved ∙ sym (value_of_joined es k)) in
     (subst IsPatternMap (sym kept) map, kept ∙ same)
 
 -- a list in order is its own map
-pub joined-sorted : (es : List ((List ℕ × ℕ) × ℕ)) → IsPatternMap es → joined es ≡ es
+pub joined-sorted : (es : List ((List ℕ × ℕ) × ℕ)) → IsPatternMap es → map_of_entries es ≡ es
 joined-sorted es map =
-    same_maps (joined es) es (joined_keeps es map.sound) map (λ k. value_of_joined es k ∙ sym (value_of_sorted es k map.sorted))
+    same_maps (map_of_entries es) es (joined_keeps es map.sound) map (λ k. value_of_joined es k ∙ sym (value_of_sorted es k map.sorted))

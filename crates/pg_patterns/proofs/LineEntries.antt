@@ -19,7 +19,7 @@ use Rattle.pg_translate.specs.LineRefusals.{line_refusal}
 use Rattle.pg_patterns.specs.Lines.{digit_at_dot, entry_at, entries_at, line_entries, entries_of_line}
 use Rattle.pg_patterns.proofs.Running.{digits_from, digits_are}
 use Rattle.pg_patterns.specs.Starts.{entries_from}
-use Rattle.pg_patterns.specs.Drafts.{Draft, IsDraft, IsDotDigit, no_draft, all_digits, with_sign, with_token, draft_entries, line_draft}
+use Rattle.pg_patterns.specs.Drafts.{Draft, IsDraft, IsDotDigit, no_draft, all_digits, draft_with_sign, with_token, draft_entries, line_draft}
 use Rattle.pg_types.proofs.BoolFacts.{both_true, and_first, and_second}
 use Rattle.pg_patterns.proofs.Sound.{EntryBounds, entry_told}
 use Rattle.pg_patterns.proofs.Steps.{keeps_digits}
@@ -27,11 +27,11 @@ use Rattle.pg_patterns.proofs.Steps.{keeps_digits}
 -- the signs of the items follow those of the draft
 fold_signs : (d : Draft) (tokens : List Token) → (fold with_token d tokens).signs ≡ d.signs ++ signs_of tokens
 fold_signs d [] = sym (append-nil d.signs)
-fold_signs d (Letter sign ∷ tokens) = fold_signs (with_sign d sign) tokens ∙ append_assoc d.signs (sign ∷ []) (signs_of tokens)
+fold_signs d (Letter sign ∷ tokens) = fold_signs (draft_with_sign d sign) tokens ∙ append_assoc d.signs (sign ∷ []) (signs_of tokens)
 fold_signs d (Digit digit ∷ tokens) = fold_signs (with_token d (Digit digit)) tokens
 fold_signs d (Weight weight ∷ tokens) = fold_signs d tokens
 fold_signs d (Marked mark ∷ tokens) = fold_signs d tokens
-fold_signs d (Edge ∷ tokens) = fold_signs (with_sign d EDGE) tokens ∙ append_assoc d.signs (EDGE ∷ []) (signs_of tokens)
+fold_signs d (Edge ∷ tokens) = fold_signs (draft_with_sign d EDGE) tokens ∙ append_assoc d.signs (EDGE ∷ []) (signs_of tokens)
 
 -- a digit more, and the digits from the next dot on
 digits_on : (d : Draft) (sign : ℕ) (tokens : List Token) → all_digits d ++ digits_from (length (d.signs ++ sign ∷ [])) 0 tokens ≡ d.digits ++ (digit_at_dot (length d.signs) d.digit ++ digits_from (length d.signs + 1) 0 tokens)
@@ -40,11 +40,11 @@ digits_on d sign tokens =
 
 fold_digits : (d : Draft) (tokens : List Token) → all_digits (fold with_token d tokens) ≡ d.digits ++ digits_from (length d.signs) d.digit tokens
 fold_digits d [] = refl
-fold_digits d (Letter sign ∷ tokens) = fold_digits (with_sign d sign) tokens ∙ digits_on d sign tokens
+fold_digits d (Letter sign ∷ tokens) = fold_digits (draft_with_sign d sign) tokens ∙ digits_on d sign tokens
 fold_digits d (Digit digit ∷ tokens) = fold_digits (with_token d (Digit digit)) tokens
 fold_digits d (Weight weight ∷ tokens) = fold_digits d tokens
 fold_digits d (Marked mark ∷ tokens) = fold_digits d tokens
-fold_digits d (Edge ∷ tokens) = fold_digits (with_sign d EDGE) tokens ∙ digits_on d EDGE tokens
+fold_digits d (Edge ∷ tokens) = fold_digits (draft_with_sign d EDGE) tokens ∙ digits_on d EDGE tokens
 
 entries_of_draft : (tokens : List Token) → line_entries tokens ≡ draft_entries (fold with_token no_draft tokens)
 entries_of_draft tokens =

@@ -18,7 +18,7 @@ use Rattle.pg_patterns.specs.Lines.{digit_at_dot, entries_at, line_entries}
 use Rattle.pg_patterns.proofs.Running.{digits_from, digits_are}
 use Rattle.pg_types.specs.Reading.{both_parts}
 use Rattle.pg_patterns.specs.Starts.{entries_from}
-use Rattle.pg_patterns.specs.Texts.{digit_of, line_from, pattern_line}
+use Rattle.pg_patterns.specs.Texts.{value_digit, line_from, pattern_line}
 use Rattle.pg_types.proofs.BoolFacts.{and_first, and_second, equal_is}
 use Rattle.pg_patterns.proofs.Sound.{entry_bounds}
 use Rattle.pg_patterns.proofs.Written.{IsRead, text_of, tokens_in, entries_of_items, unbroken_text, lines_line}
@@ -55,7 +55,7 @@ text_append : (xs ys : List (Token × List ℕ)) → text_of (xs ++ ys) ≡ text
 text_append [] ys = refl
 text_append (x ∷ xs) ys = ap (λ z. x.1 ++ z) (text_append xs ys) ∙ sym (append_assoc x.1 (text_of xs) (text_of ys))
 
-digit_text : (P : List ((List ℕ × ℕ) × ℕ)) (k : List ℕ × ℕ) → digit_of P k ≡ text_of (digit_items P k)
+digit_text : (P : List ((List ℕ × ℕ) × ℕ)) (k : List ℕ × ℕ) → value_digit P k ≡ text_of (digit_items P k)
 digit_text P k = elim (find dotted_cmp k P) as (λ o. option_map_or (λ v. (48 + v) ∷ []) o [] ≡ text_of (option_map_or (λ v. (Digit v, (48 + v) ∷ []) ∷ []) o [])) [ None ↦ refl | Some v ↦ refl ]
 
 -- a line is the texts of its items, and LF

@@ -9,7 +9,7 @@ use Rattle.pg_translate.specs.declared.items.Place.TheVariants.{Patterns}
 use Rattle.pg_translate.specs.Alphabets.{Alphabet}
 use Rattle.pg_translate.specs.Tokens.{Token, item_at}
 use Rattle.pg_translate.specs.Cuts.{Cut, cut, cut_from, with_item, tokens_of}
-use Rattle.pg_translate.specs.Answers.{Takes}
+use Rattle.pg_translate.specs.Answers.{HasItem}
 use Rattle.pg_translate.proofs.Cuts.{cut_takes}
 use Rattle.pg_translate.specs.Gaps.{signs_of}
 use Rattle.pg_translate.proofs.JoinedItems.{not_refused}
@@ -39,7 +39,7 @@ pub record CutIs (c : Cut) (tokens : List Token) : Type 0 where
   pub same : tokens_of c ≡ tokens
   pub ended : c.rest ≡ []
 
-takes_item : (t : Alphabet) (item : Token × List ℕ) (more : List ℕ) → IsRead t item → Takes t Patterns (item.1 ++ more) item.0 more
+takes_item : (t : Alphabet) (item : Token × List ℕ) (more : List ℕ) → IsRead t item → HasItem t Patterns (item.1 ++ more) item.0 more
 takes_item t item more is = record {
   size = length item.1;
   found = is.read more;
@@ -53,7 +53,7 @@ pub cut_of_items : (t : Alphabet) (column : ℕ) (items : List (Token × List �
 unfolding takes_item
 cut_of_items t column [] read = record { same = refl; ended = refl }
 cut_of_items t column (item ∷ items) read =
-    let first : Takes t Patterns (item.1 ++ text_of items) item.0 (text_of items) = takes_item t item (text_of items) read.0 in
+    let first : HasItem t Patterns (item.1 ++ text_of items) item.0 (text_of items) = takes_item t item (text_of items) read.0 in
     let rest = cut_of_items t (column + length item.1) items read.1 in
     let whole : cut_from t Patterns column zero (item.1 ++ text_of items) ≡ with_item column item.0 (cut_from t Patterns (column + length item.1) zero (text_of items)) = cut_takes t Patterns column (item.1 ++ text_of items) (text_of items) item.0 first in
     record {

@@ -25,20 +25,20 @@ abbrev pub all_digits : Draft → List (ℕ × ℕ)
 all_digits d = d.digits ++ digit_at_dot (length d.signs) d.digit
 
 -- one sign more
-abbrev pub with_sign : Draft → ℕ → Draft
-with_sign d sign = record { signs = d.signs ++ sign ∷ []; digits = all_digits d; digit = 0 }
+abbrev pub draft_with_sign : Draft → ℕ → Draft
+draft_with_sign d sign = record { signs = d.signs ++ sign ∷ []; digits = all_digits d; digit = 0 }
 
 -- a digit in place of the last at this dot
-abbrev pub with_digit : Draft → ℕ → Draft
-with_digit d digit = record { signs = d.signs; digits = d.digits; digit = digit }
+abbrev pub draft_with_digit : Draft → ℕ → Draft
+draft_with_digit d digit = record { signs = d.signs; digits = d.digits; digit = digit }
 
 -- one item more
 abbrev pub with_token : Draft → Token → Draft
-with_token d (Letter sign) = with_sign d sign
-with_token d (Digit digit) = with_digit d digit
+with_token d (Letter sign) = draft_with_sign d sign
+with_token d (Digit digit) = draft_with_digit d digit
 with_token d (Weight weight) = d
 with_token d (Marked mark) = d
-with_token d Edge = with_sign d EDGE
+with_token d Edge = draft_with_sign d EDGE
 
 -- the entries of a line that ends here
 abbrev pub draft_entries : Draft → List ((List ℕ × ℕ) × ℕ)

@@ -5,7 +5,7 @@ ghost use Rattle.pg_types.specs.Lines.{lines};
 ghost use Rattle.pg_types.specs.Reading.{Gives};
 ghost use Rattle.pg_translate.specs.Alphabets.{letters_of};
 ghost use Rattle.pg_patterns.specs.Values.{SignsUpTo, is_entry};
-ghost use Rattle.pg_patterns.specs.Drafts.{IsDraft, draft_left, line_draft, with_sign};
+ghost use Rattle.pg_patterns.specs.Drafts.{IsDraft, draft_left, line_draft, draft_with_sign};
 ghost use Rattle.pg_patterns.specs.Starts.{entries_from};
 
 use crate::dotted_signs::DottedSigns;
@@ -92,7 +92,7 @@ fn take_item<'a>(
 
 /// Adds a sign that stands in a column of a line; the sign after the last that a pattern may have is refused.
 fn add_sign(draft: &mut LineDraft, sign: Sign, line: u32, column: u32) -> Result<(), Refusal>
-    ensures { MatchResult result (λ _. (length draft.old.signs < PATTERN_SIGNS_MAX) × (draft.new ≡ with_sign draft.old sign)) (λ r. (PATTERN_SIGNS_MAX ≤ length draft.old.signs) × (r ≡ record { kind = Kind.PatternTooLong; line = line; column = column })) }
+    ensures { MatchResult result (λ _. (length draft.old.signs < PATTERN_SIGNS_MAX) × (draft.new ≡ draft_with_sign draft.old sign)) (λ r. (PATTERN_SIGNS_MAX ≤ length draft.old.signs) × (r ≡ record { kind = Kind.PatternTooLong; line = line; column = column })) }
 {
     if draft.is_full() {
         return Err(Refusal {

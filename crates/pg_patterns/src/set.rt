@@ -51,7 +51,7 @@ impl PatternSet {
     ghost use Rattle.pg_types.specs.Reading.{Gives};
     ghost use Rattle.pg_types.specs.Signs.{is_sign};
     ghost use Rattle.pg_patterns.specs.DottedSigns.{dotted_cmp};
-    ghost use Rattle.pg_patterns.specs.Values.{IsPatternMap, SignsUpTo, is_entry, raise, joined, largest};
+    ghost use Rattle.pg_patterns.specs.Values.{IsPatternMap, SignsUpTo, is_entry, raise, map_of_entries, largest};
     ghost use Rattle.pg_patterns.specs.Starts.{start};
     ghost use Rattle.pg_patterns.specs.Texts.{pattern_text};
     ghost use Rattle.pg_translate.specs.Alphabets.{letters_of};
@@ -86,7 +86,7 @@ impl PatternSet {
     /// sorted where it stands, in O(n log n) comparisons, or O(n) where it is in order, and no memory is taken.
     pub fn from_entries(mut entries: Vec<(DottedSigns, u8)>) -> PatternSet
         requires { list_all is_entry entries.items ≡ true }
-        ensures value { result ≡ joined entries.items }
+        ensures value { result ≡ map_of_entries entries.items }
         ensures in_order { T (is_sorted dotted_cmp entries.items) → result ≡ entries.items }
     {
         join(&mut entries);

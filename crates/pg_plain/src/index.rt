@@ -1,6 +1,6 @@
 //! An index of the strings of a map, in slots.
 ghost use Rattle.std.specs.Prelude.{◌≡◌, ℕ, ◌<◌, ◌≤◌, ◌^◌, false, true, List, All, length, get_or, IfOk};
-ghost use Rattle.pg_plain.specs.Indexes.{slot_of, is_indexed};
+ghost use Rattle.pg_plain.specs.Indexes.{index_slot, is_indexed};
 
 use pg_types::Sign;
 use std::alloc::{AllocError, Global};
@@ -36,7 +36,7 @@ impl Index {
 
     /// The slot of signs.
     pub fn slot(&self, signs: &[Sign]) -> usize
-        ensures value { result ≡ slot_of (length self.now.fronts.items) signs.now }
+        ensures value { result ≡ index_slot (length self.now.fronts.items) signs.now }
         ensures inside { result < length self.now.fronts.items }
     {
         let mut slot = 0;

@@ -10,7 +10,7 @@ use Rattle.pg_types.specs.declared.marks.Mark.TheVariants.{Nothing, Error, Misse
 use Rattle.pg_dict.specs.Word.{Word}
 use Rattle.pg_select.specs.declared.pass.Pass.{Pass}
 use Rattle.pg_translate.specs.Reach.{positions}
-use Rattle.pg_select.specs.Statuses.{is_odd, status_at, weight_at}
+use Rattle.pg_select.specs.Statuses.{is_odd, status_at, position_weight}
 use Rattle.pg_select.specs.Windows.{Patterns, Hopeless, window, fits, covered}
 
 -- the minima that say which positions are in reach
@@ -40,7 +40,7 @@ counted_at pass P H w p =
 
 -- what a pass counts at a position
 abbrev pub counted_positions_at : Pass → Patterns → Hopeless → Word → ℕ → List CountedPosition
-counted_positions_at pass P H w p = option_map_or (λ good. record { window = window w.signs p pass.len pass.dot; good = good; weight = weight_at w p } ∷ []) (counted_at pass P H w p) []
+counted_positions_at pass P H w p = option_map_or (λ good. record { window = window w.signs p pass.len pass.dot; good = good; weight = position_weight w p } ∷ []) (counted_at pass P H w p) []
 
 -- what a pass counts in a word: at each position in reach
 abbrev pub counted_positions_in : Minima → Pass → Patterns → Hopeless → Word → List CountedPosition

@@ -6,13 +6,13 @@ use Rattle.pg_types.specs.declared.marks.Mark.TheVariants.{Error, Missed, Found}
 use Rattle.pg_types.specs.declared.marks.Totals.{Totals}
 use Rattle.pg_dict.specs.Word.{Word}
 use Rattle.pg_translate.specs.Reach.{positions}
-use Rattle.pg_select.specs.Statuses.{status_at, weight_at}
+use Rattle.pg_select.specs.Statuses.{status_at, position_weight}
 use Rattle.pg_select.specs.CountedPositions.{Minima}
 use Rattle.pg_select.specs.Windows.{Patterns}
 
 -- the status and the weight of each position in reach of a word
 abbrev pub marks_in : Minima → Patterns → Word → List (Mark × ℕ)
-marks_in m P w = map (λ p. (status_at P w p, weight_at w p)) (positions m.left m.right (length w.signs))
+marks_in m P w = map (λ p. (status_at P w p, position_weight w p)) (positions m.left m.right (length w.signs))
 
 abbrev pub is_found : Mark → Bool
 is_found Found = true

@@ -2,7 +2,7 @@
 ghost use Rattle.std.specs.Prelude.{◌≡◌, ◌≤◌, ◌<◌, ◌+◌, ◌^◌, true, length, IfOk, OnOk, OnErr, IsOk};
 ghost use Rattle.pg_types.specs.declared.limits.TheConstants.{LEVEL_MAX, LENGTH_MAX, WEIGHT_MAX, WORD_LETTERS_MAX};
 ghost use Rattle.pg_types.specs.Counts.{AreSmall, IsNextAbove, SignsWithin, counted_sums, sums_of, with_weight, is_counted};
-ghost use Rattle.pg_select.specs.Meanings.{Meaning, IsKept, KeepsButFamilies, SetsValues, SetsCovers, IsLayout, begun_pass, counted, chosen, given_up, ended};
+ghost use Rattle.pg_select.specs.Meanings.{Meaning, IsKept, KeepsButFamilies, SetsValues, SetsCovers, IsLayout, after_begin_pass, after_count, after_choose, after_give_up, after_end_level};
 
 use crate::word_state::WordState;
 use pg_dict::WordRef;
@@ -29,7 +29,7 @@ pub trait Engine {
         requires len { (1 ≤ len) × (len ≤ LENGTH_MAX) }
         requires dot { dot ≤ len }
         requires begun { (meaning self.old).begun < 2 ^ 60 }
-        ensures { meaning self.new ≡ begun_pass (meaning self.old) level len dot };
+        ensures { meaning self.new ≡ after_begin_pass (meaning self.old) level len dot };
 
     /// The value of each position of a word, and for each position whose window of the pass fits in the word whether that is
     /// covered. Of the cover of other positions nothing is said. It takes no memory.
@@ -45,7 +45,7 @@ pub trait Engine {
         requires signs { SignsWithin (meaning self.old).signs window.now }
         requires weight { weight ≤ WEIGHT_MAX }
         requires small { AreSmall (with_weight (sums_of (meaning self.old).counts window.now) good weight) }
-        ensures ok { OnOk result (meaning self.new ≡ counted (meaning self.old) window.now good weight) }
+        ensures ok { OnOk result (meaning self.new ≡ after_count (meaning self.old) window.now good weight) }
         ensures there { is_counted (meaning self.old).counts window.now ≡ true → IsOk result }
         ensures err { OnErr result (meaning self.new ≡ meaning self.old) };
 
@@ -64,20 +64,20 @@ pub trait Engine {
     /// are told take in the window; a refused call may leave part of that.
     fn choose(&mut self, at: &Cursor) -> Result<(), AllocError>
         requires { is_counted (meaning self.old).counts at.now ≡ true }
-        ensures ok { OnOk result (meaning self.new ≡ chosen (meaning self.old) at.now (meaning self.new).tidy) }
+        ensures ok { OnOk result (meaning self.new ≡ after_choose (meaning self.old) at.now (meaning self.new).tidy) }
         ensures err { OnErr result (KeepsButFamilies at.now (meaning self.old) (meaning self.new)) };
 
     /// Makes the window at the cursor hopeless at the dot of the pass, to the end of the level. Families that are told take in the
     /// window; a refused call may leave part of that.
     fn give_up(&mut self, at: &Cursor) -> Result<(), AllocError>
         requires { is_counted (meaning self.old).counts at.now ≡ true }
-        ensures ok { OnOk result (meaning self.new ≡ given_up (meaning self.old) at.now (meaning self.new).tidy) }
+        ensures ok { OnOk result (meaning self.new ≡ after_give_up (meaning self.old) at.now (meaning self.new).tidy) }
         ensures err { OnErr result (KeepsButFamilies at.now (meaning self.old) (meaning self.new)) };
 
     /// Ends the level: nothing is hopeless any more, and families that are told lose the cells that no pattern needs. Afterwards
     /// the engine is tidy.
     fn end_level(&mut self) -> Result<(), AllocError>
-        ensures ok { OnOk result (meaning self.new ≡ ended (meaning self.old)) }
+        ensures ok { OnOk result (meaning self.new ≡ after_end_level (meaning self.old)) }
         ensures err { OnErr result (meaning self.new ≡ meaning self.old) };
 
     /// The patterns.

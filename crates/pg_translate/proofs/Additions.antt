@@ -11,7 +11,7 @@ use Rattle.pg_translate.specs.declared.spellings.Text.{Text}
 use Rattle.pg_translate.specs.Alphabets.{letters_in, first_of}
 use Rattle.pg_translate.specs.Spellings.{begins, clash, IsAmong}
 use Rattle.pg_translate.specs.Texts.{text_of}
-use Rattle.pg_translate.specs.Fronts.{IsIndex, AreBytes, pairs, firsts_of, front_at, front_of, front_in, code_of}
+use Rattle.pg_translate.specs.Fronts.{IsIndex, AreBytes, pairs, firsts_of, front_at, front_of, front_in, front_code}
 use Rattle.pg_translate.proofs.Fronts.{front_in-push, IsAmong-push, list_any_at}
 use Rattle.pg_translate.proofs.Walks.{AreApart}
 
@@ -91,7 +91,7 @@ push_all : (P : ℕ × List ℕ → Type 0) (spellings : List (ℕ × List ℕ))
 push_all P spellings s all here t among = ⊎_elim (λ (old : IsAmong t spellings). all t old) (λ (new : t ≡ s). subst P (sym new) here) (IsAmong-push spellings s t among)
 
 -- an index with one spelling more is one
-pub add_index : (old new : Index) (sign : ℕ) (text : Text) → IsIndex old → pairs new ≡ pairs old ++ (sign, text_of text) ∷ [] → new.firsts.items ≡ (if sign == length old.firsts.items + 2 then old.firsts.items ++ text ∷ [] else old.firsts.items) → ((q : List ℕ) → AreBytes q → 0 < length q → front_at new (code_of q) ≡ option_or (front_of (sign, text_of text) q) (front_at old (code_of q))) → list_any (clash (sign, text_of text)) (pairs old) ≡ false → letters_in (pairs old) + 1 ≤ sign → sign ≤ letters_in (pairs old) + 2 → 2 ≤ sign → 0 < length (text_of text) → length (text_of text) ≤ 8 → IsIndex new
+pub add_index : (old new : Index) (sign : ℕ) (text : Text) → IsIndex old → pairs new ≡ pairs old ++ (sign, text_of text) ∷ [] → new.firsts.items ≡ (if sign == length old.firsts.items + 2 then old.firsts.items ++ text ∷ [] else old.firsts.items) → ((q : List ℕ) → AreBytes q → 0 < length q → front_at new (front_code q) ≡ option_or (front_of (sign, text_of text) q) (front_at old (front_code q))) → list_any (clash (sign, text_of text)) (pairs old) ≡ false → letters_in (pairs old) + 1 ≤ sign → sign ≤ letters_in (pairs old) + 2 → 2 ≤ sign → 0 < length (text_of text) → length (text_of text) ≤ 8 → IsIndex new
 add_index old new sign text sound spellings firsts fronts apart low high letter some few = record {
   fronts = λ q bytes more. fronts q bytes more ∙ ap (option_or (front_of (sign, text_of text) q)) (sound.fronts q bytes more) ∙ sym (front_in-push (pairs old) (sign, text_of text) q) ∙ ap (λ (ss : List (ℕ × List ℕ)). front_in ss q) (sym spellings);
   firsts = λ n. subst (λ (ss : List (ℕ × List ℕ)). slice_get (firsts_of new) n ≡ first_of ss (n + 2)) (sym spellings) (all_firsts n);

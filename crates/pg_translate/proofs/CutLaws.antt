@@ -13,7 +13,7 @@ use Rattle.pg_translate.specs.Spellings.{begins, begins_well, IsAmong}
 use Rattle.std.specs.Char.{is_ascii_digit}
 use Rattle.pg_translate.specs.Tokens.{Token, Letter, Digit, Weight, Marked, Edge, letter_at, digit_at, weight_at, weight_from, weight_end, mark_at, edge_at, item_at}
 use Rattle.pg_translate.specs.Cuts.{Placed, Cut, cut_from, with_item}
-use Rattle.pg_translate.specs.Items.{IsItem, IsWeight, IsMark, IsCut, IsPrefix, IsLongest, items_at, joined, value_of}
+use Rattle.pg_translate.specs.Items.{IsItem, IsWeight, IsMark, IsCut, IsPrefix, IsLongest, items_at, text_of_items, decimal_value}
 use Rattle.pg_translate.specs.Rules.{KeepsRules}
 use Rattle.pg_translate.proofs.Prefixes.{begins_front, begins_within}
 use Rattle.pg_translate.proofs.Firsts.{find_among, found_passes}
@@ -124,7 +124,7 @@ weight_is (b ∷ bs) token size h =
     whole brace found =
         let size_is : size ≡ suc (length found.digits + 1) = let raw : size ≡ 1 + length found.digits + 1 = found.size_is in omega arith in
         let inner : length found.digits + 1 ≤ length bs = found.within in
-        (value_of found.digits, found.token_is, record { digits = found.digits; text_is = rw (size_is, brace) (ap (λ (s : List ℕ). 123 ∷ s) found.front); few = found.few; decimal = found.decimal; value = refl; some = found.some }, omega arith, omega arith)
+        (decimal_value found.digits, found.token_is, record { digits = found.digits; text_is = rw (size_is, brace) (ap (λ (s : List ℕ). 123 ∷ s) found.front); few = found.few; decimal = found.decimal; value = refl; some = found.some }, omega arith, omega arith)
 
 -- a mark that begins a text
 mark_is : (t : Alphabet) (b : ℕ) (bs : List ℕ) (token : Token) (size : ℕ) → FindsMark t.marks b token size → Reads t Dictionary (b ∷ bs) token size
@@ -183,7 +183,7 @@ begins_join (suc n) (b ∷ bs) more h = and_from _ _ (eq-eqb b b refl) (begins_j
 -- a cut that begins with an item: the item begins the line, and the rest is a cut of what follows
 cut_first : (t : Alphabet) → KeepsRules t → (place : Place) (line : List ℕ) (x : Token × List ℕ) (xs : List (Token × List ℕ)) → IsCut t place line (x ∷ xs) → (item_at t place line ≡ Some (x.0, length x.1)) × (line ≡ x.1 ++ drop (length x.1) line) × IsCut t place (drop (length x.1) line) xs
 cut_first t rules place line x xs cut =
-    let parts : (line ≡ x.1 ++ drop (length x.1) line) × (begins (drop (length x.1) line) (joined xs) ≡ true) = begins_split line x.1 (joined xs) cut.prefix in
+    let parts : (line ≡ x.1 ++ drop (length x.1) line) × (begins (drop (length x.1) line) (text_of_items xs) ≡ true) = begins_split line x.1 (text_of_items xs) cut.prefix in
     let found : item_at t place (x.1 ++ drop (length x.1) line) ≡ Some (x.0, length x.1) = item_reads t rules place x.0 x.1 (drop (length x.1) line) cut.each.0 in
     (subst (λ (l : List ℕ). item_at t place l ≡ Some (x.0, length x.1)) (sym parts.0) found, parts.0, record { each = cut.each.1; prefix = parts.1 })
 
@@ -209,10 +209,10 @@ longest_none t rules place column line none = record {
 longest_item : (t : Alphabet) → KeepsRules t → (place : Place) (column : ℕ) (line : List ℕ) (token : Token) (size : ℕ) → item_at t place line ≡ Some (token, size) → IsLongest t place (column + size) (drop size line) (cut_from t place (column + size) zero (drop size line)) → IsLongest t place column line (cut_from t place column zero line)
 longest_item t rules place column line token size found rest = record {
   items = (token, take size line) ∷ rest.items;
-  cut = record { each = (reads.item, rest.cut.each); prefix = begins_join size line (joined rest.items) rest.cut.prefix };
+  cut = record { each = (reads.item, rest.cut.each); prefix = begins_join size line (text_of_items rest.items) rest.cut.prefix };
   items_are = ap (λ (c : Cut). c.items) is ∙ ap (λ (items : List Placed). record { column = column; token = token } ∷ items) (rest.items_are ∙ ap (λ (n : ℕ). items_at (column + n) rest.items) (sym front));
-  column_is = ap (λ (c : Cut). c.column) is ∙ rest.column_is ∙ (let same : column + size + length (joined rest.items) ≡ column + length (take size line ++ joined rest.items) = omega (arith, length-append (take size line) (joined rest.items), front) in same);
-  rest_is = sym (take-append-drop size line) ∙ ap (λ (text : List ℕ). take size line ++ text) rest.rest_is ∙ sym (append_assoc (take size line) (joined rest.items) (cut_from t place (column + size) zero (drop size line)).rest) ∙ ap (λ (c : Cut). (take size line ++ joined rest.items) ++ c.rest) (sym is);
+  column_is = ap (λ (c : Cut). c.column) is ∙ rest.column_is ∙ (let same : column + size + length (text_of_items rest.items) ≡ column + length (take size line ++ text_of_items rest.items) = omega (arith, length-append (take size line) (text_of_items rest.items), front) in same);
+  rest_is = sym (take-append-drop size line) ∙ ap (λ (text : List ℕ). take size line ++ text) rest.rest_is ∙ sym (append_assoc (take size line) (text_of_items rest.items) (cut_from t place (column + size) zero (drop size line)).rest) ∙ ap (λ (c : Cut). (take size line ++ text_of_items rest.items) ++ c.rest) (sym is);
   all = every;
 }
   where

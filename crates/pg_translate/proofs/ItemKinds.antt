@@ -5,7 +5,7 @@ use Rattle.pg_types.specs.declared.marks.Mark.{Mark}
 use Rattle.pg_types.specs.declared.marks.Mark.TheVariants.{Error, Missed, Found, DontCare}
 use Rattle.pg_translate.specs.declared.items.Place.TheVariants.{Dictionary, Patterns}
 use Rattle.pg_translate.specs.Alphabets.{Alphabet}
-use Rattle.pg_translate.specs.Answers.{Takes}
+use Rattle.pg_translate.specs.Answers.{HasItem}
 use Rattle.pg_translate.specs.Spellings.{begins}
 use Rattle.std.specs.Char.{is_ascii_digit}
 use Rattle.pg_translate.specs.Tokens.{Token, Letter, Digit, Weight, Marked, Edge, item_at, letter_at, digit_at, weight_at, weight_from, weight_end, mark_at, edge_at}
@@ -34,10 +34,10 @@ item_of_patterns t text =
       | Some spelling ↦ refl
     ]
 
-pub no_weight : (t : Alphabet) (rest after : List ℕ) (weight : ℕ) → Takes t Patterns rest (Weight weight) after → ⊥
+pub no_weight : (t : Alphabet) (rest after : List ℕ) (weight : ℕ) → HasItem t Patterns rest (Weight weight) after → ⊥
 no_weight t rest after weight takes = cc (ap of_patterns takes.found, item_of_patterns t rest)
 
-pub no_mark : (t : Alphabet) (rest after : List ℕ) (mark : Mark) → Takes t Patterns rest (Marked mark) after → ⊥
+pub no_mark : (t : Alphabet) (rest after : List ℕ) (mark : Mark) → HasItem t Patterns rest (Marked mark) after → ⊥
 no_mark t rest after mark takes = cc (ap of_patterns takes.found, item_of_patterns t rest)
 
 -- an item of a dictionary line is not the edge
@@ -92,5 +92,5 @@ item_of_dictionary : (t : Alphabet) (text : List ℕ) → of_dictionary (item_at
 item_of_dictionary t text =
     either_of_dictionary _ _ (letter_of_dictionary t text) (either_of_dictionary _ _ (digit_of_dictionary text) (either_of_dictionary _ _ (braced_of_dictionary text) (mark_of_dictionary t.marks text)))
 
-pub no_edge : (t : Alphabet) (rest after : List ℕ) → Takes t Dictionary rest Edge after → ⊥
+pub no_edge : (t : Alphabet) (rest after : List ℕ) → HasItem t Dictionary rest Edge after → ⊥
 no_edge t rest after takes = cc (ap of_dictionary takes.found, item_of_dictionary t rest)

@@ -15,7 +15,7 @@ use Rattle.pg_translate.specs.Spellings.{is_space, may_begin, begins_well, begin
 use Rattle.std.specs.Char.{is_ascii_digit}
 use Rattle.pg_translate.specs.Tables.{check, mark_fails, mark_checks_from, mark_checks}
 use Rattle.pg_translate.specs.Tokens.{Token, Letter, Digit, Weight, Marked, Edge, letter_at, weight_from, mark_at, item_at}
-use Rattle.pg_translate.specs.Items.{IsItem, IsWeight, IsMark, value_of}
+use Rattle.pg_translate.specs.Items.{IsItem, IsWeight, IsMark, decimal_value}
 use Rattle.pg_translate.specs.Rules.{KeepsRules}
 use Rattle.pg_translate.proofs.Prefixes.{begins-append}
 use Rattle.pg_translate.proofs.Fronts.{find_begins, find_none}
@@ -149,7 +149,7 @@ found_weight : (t : Alphabet) → KeepsRules t → (weight : ℕ) (text more : L
 found_weight t rules weight text more is =
     let whole : text ++ more ≡ 123 ∷ (is.digits ++ 125 ∷ more) = ap (λ (s : List ℕ). s ++ more) is.text_is ∙ ap (λ (s : List ℕ). 123 ∷ s) (append_assoc is.digits (125 ∷ []) more) in
     let size : length text ≡ 1 + length is.digits + 1 = ap length is.text_is ∙ ap suc (length-append is.digits (125 ∷ [])) ∙ (let same : suc (length is.digits + 1) ≡ 1 + length is.digits + 1 = omega arith in same) in
-    let positive : 0 < value_of is.digits = subst (λ (n : ℕ). 0 < n) is.value is.some in
+    let positive : 0 < decimal_value is.digits = subst (λ (n : ℕ). 0 < n) is.value is.some in
     let none : letter_at t.spellings (123 ∷ (is.digits ++ 125 ∷ more)) ≡ None = no_letter t rules 123 (is.digits ++ 125 ∷ more) refl in
     let read : weight_from 4 0 1 (is.digits ++ 125 ∷ more) ≡ Some (Weight weight, 1 + length is.digits + 1) = weight_reads 4 0 1 is.digits more is.few is.decimal positive ∙ ap (λ (n : ℕ). Some (Weight n, 1 + length is.digits + 1)) (sym is.value) in
     rw (whole, size, none, read) refl

@@ -8,7 +8,7 @@ use Rattle.pg_translate.specs.Alphabets.{letters_in}
 use Rattle.pg_translate.specs.Spellings.{begins, clash, IsAmong}
 use Rattle.pg_translate.specs.Tokens.{Letter, letter_at}
 use Rattle.pg_translate.specs.declared.index.Index.{Index}
-use Rattle.pg_translate.specs.Fronts.{AreBytes, IsIndex, pairs, code_of, front_at, front_in}
+use Rattle.pg_translate.specs.Fronts.{AreBytes, IsIndex, pairs, front_code, front_at, front_in}
 use Rattle.pg_translate.proofs.Codes.{code_more, code_small, code_least}
 use Rattle.pg_translate.proofs.Prefixes.{begins_front, begins_within, begins-take, begins_take, begins_less}
 use Rattle.pg_translate.proofs.Fronts.{IsInside, whole_in, inside_in, nothing_in, find_none, find_begins, list_any_none, list_any_some, apart_equal}
@@ -115,7 +115,7 @@ sign_within spellings s among = fold_among 0 s spellings among
 
 -- what a walk over the first bytes of a text keeps
 pub record HasWalked (spellings : List (ℕ × List ℕ)) (text : List ℕ) (i code : ℕ) : Type 0 where
-  pub code_is : code ≡ code_of (take i text)
+  pub code_is : code ≡ front_code (take i text)
   pub none : NoneWithin spellings text i
 
 -- the elements of a slice are bytes
@@ -132,18 +132,18 @@ bytes_take (suc n) (b ∷ bs) bytes =
     and_from _ _ (lt-ltb b 256 small) (bytes_take n bs (λ j. bytes (suc j)))
 
 -- the code of fewer than 8 bytes has room for one more
-pub code_room : (text : List ℕ) (i code : ℕ) → HoldsBytes text → code ≡ code_of (take i text) → i < 8 → i < length text → (0 < code) × (code < 2 ^ 57)
+pub code_room : (text : List ℕ) (i code : ℕ) → HoldsBytes text → code ≡ front_code (take i text) → i < 8 → i < length text → (0 < code) × (code < 2 ^ 57)
 code_room text i code bytes is few inside =
     let size : length (take i text) ≡ i = length-take-le i text (omega arith) in
-    let small : code_of (take i text) < 2 ^ 57 = code_small (take i text) (bytes_take i text bytes) (omega arith) in
-    let least : 1 ≤ code_of (take i text) = code_least (take i text) in
+    let small : front_code (take i text) < 2 ^ 57 = code_small (take i text) (bytes_take i text bytes) (omega arith) in
+    let least : 1 ≤ front_code (take i text) = code_least (take i text) in
     (omega arith, omega arith)
 
 -- the index knows the next front
 pub walk_front : (index : Index) (text : List ℕ) (i code : ℕ) → IsIndex index → HoldsBytes text → HasWalked (pairs index) text i code → i < length text → front_at index (code * 256 + get_or text i 0) ≡ front_in (pairs index) (take (i + 1) text)
 walk_front index text i code sound bytes walked inside =
     let size : length (take (i + 1) text) ≡ i + 1 = length-take-le (i + 1) text (omega arith) in
-    let is : code * 256 + get_or text i 0 ≡ code_of (take (i + 1) text) = ap (λ (n : ℕ). n * 256 + get_or text i 0) walked.code_is ∙ code_more text i (get_or text i 0) inside refl in
+    let is : code * 256 + get_or text i 0 ≡ front_code (take (i + 1) text) = ap (λ (n : ℕ). n * 256 + get_or text i 0) walked.code_is ∙ code_more text i (get_or text i 0) inside refl in
     ap (front_at index) is ∙ sound.fronts (take (i + 1) text) (bytes_take (i + 1) text bytes) (omega arith)
 
 -- inside spellings the walk goes on

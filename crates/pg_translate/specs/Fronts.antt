@@ -25,8 +25,8 @@ abbrev pub firsts_of : Index → List (List ℕ)
 firsts_of index = map text_of index.firsts.items
 
 -- the number whose digits in base 256 are a 1 and then the bytes of a text
-abbrev pub code_of : List ℕ → ℕ
-code_of text = fold (λ code b. code * 256 + b) 1 text
+abbrev pub front_code : List ℕ → ℕ
+front_code text = fold (λ code b. code * 256 + b) 1 text
 
 -- whether all elements are bytes
 abbrev pub AreBytes : List ℕ → Type 0
@@ -47,7 +47,7 @@ front_in (spelling ∷ spellings) text = option_or (front_in spellings text) (fr
 
 -- an index that knows the fronts of its spellings, and their first spellings; the spellings do not clash
 pub record IsIndex (index : Index) : Type 0 where
-  pub fronts : (text : List ℕ) → AreBytes text → 0 < length text → front_at index (code_of text) ≡ front_in (pairs index) text
+  pub fronts : (text : List ℕ) → AreBytes text → 0 < length text → front_at index (front_code text) ≡ front_in (pairs index) text
   pub firsts : (n : ℕ) → slice_get (firsts_of index) n ≡ first_of (pairs index) (n + 2)
   pub letters : length index.firsts.items ≡ letters_in (pairs index)
   pub apart : (s t : ℕ × List ℕ) → IsAmong s (pairs index) → IsAmong t (pairs index) → clash s t ≡ false

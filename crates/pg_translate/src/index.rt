@@ -7,7 +7,7 @@ ghost use Rattle.pg_translate.specs.Spellings.{clash};
 ghost use Rattle.pg_translate.specs.Alphabets.{first_spelling, letters_in};
 ghost use Rattle.pg_translate.specs.Tokens.{letter_at};
 ghost use Rattle.pg_translate.specs.Tokens as token;
-ghost use Rattle.pg_translate.specs.Fronts.{pairs, firsts_of, front_at, code_of, front_of, AreBytes, IsIndex};
+ghost use Rattle.pg_translate.specs.Fronts.{pairs, firsts_of, front_at, front_code, front_of, AreBytes, IsIndex};
 
 use crate::spellings::{SPELLING_MAX, Text};
 use pg_types::Sign;
@@ -158,7 +158,7 @@ impl Index {
     /// Enters all fronts of a spelling.
     fn enter(&mut self, sign: Sign, text: &[u8]) -> Result<(), AllocError>
         requires { length text.now ≤ SPELLING_MAX }
-        ensures fronts { OnOk result ((q : List ℕ) → AreBytes q → 0 < length q → front_at self.new (code_of q) ≡ option_or (front_of (sign, text.now) q) (front_at self.old (code_of q))) }
+        ensures fronts { OnOk result ((q : List ℕ) → AreBytes q → 0 < length q → front_at self.new (front_code q) ≡ option_or (front_of (sign, text.now) q) (front_at self.old (front_code q))) }
         ensures spellings { self.new.spellings ≡ self.old.spellings }
         ensures firsts { self.new.firsts ≡ self.old.firsts }
     {

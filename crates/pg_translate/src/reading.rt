@@ -67,7 +67,7 @@ fn add_spelling(
     requires some { 0 < letter }
     requires low { letters_in (pairs index.old) ≤ letter }
     requires high { letter ≤ letters_in (pairs index.old) + 1 }
-    ensures answer { Gives (λ _. tt) result (table.outcome (table.spelling_check marks.now (pairs index.old) (record { line = line; column = column; letter = letter; text = text.now }))) }
+    ensures answer { Gives (λ _. tt) result (table.first_failure (table.spelling_check marks.now (pairs index.old) (record { line = line; column = column; letter = letter; text = text.now }))) }
     ensures spellings { OnOk result (pairs index.new ≡ pairs index.old ++ (letter + 1, text.now) ∷ []) }
     ensures letters { OnOk result ((letters_in (pairs index.new) ≡ letter) × (letter ≤ SIGNS_MAX - 1)) }
     ensures sound { OnOk result (IsIndex index.new) }
@@ -120,8 +120,8 @@ fn add_pieces(
     requires letter { letter ≡ letters_in (pairs index.old) + 1 }
     requires letters { letter ≤ SIGNS_MAX }
     requires few { length text.now ≤ FILE_MAX }
-    ensures answer { Gives (λ _. tt) result (table.outcome (table.spelling_checks marks.now (pairs index.old) (table.spellings_at line 2 letter (table.pieces_of delimiter text.now)))) }
-    ensures spellings { OnOk result (pairs index.new ≡ pairs index.old ++ map table.signed (table.spellings_at line 2 letter (table.pieces_of delimiter text.now))) }
+    ensures answer { Gives (λ _. tt) result (table.first_failure (table.spelling_checks marks.now (pairs index.old) (table.spellings_at line 2 letter (table.pieces_of delimiter text.now)))) }
+    ensures spellings { OnOk result (pairs index.new ≡ pairs index.old ++ map table.spelling_with_sign (table.spellings_at line 2 letter (table.pieces_of delimiter text.now))) }
     ensures letters { OnOk result (letters_in (pairs index.new) ≤ SIGNS_MAX - 1) }
     ensures sound { OnOk result (IsIndex index.new) }
 {
@@ -152,8 +152,8 @@ fn add_line(index: &mut Index, marks: &[u8], line: u32, text: &[u8]) -> Result<(
     requires sound { IsIndex index.old }
     requires letters { letters_in (pairs index.old) ≤ SIGNS_MAX - 1 }
     requires few { length text.now ≤ FILE_MAX }
-    ensures answer { Gives (λ _. tt) result (table.outcome (table.spelling_checks marks.now (pairs index.old) (table.spellings_at line 2 (letters_in (pairs index.old) + 1) (table.line_pieces text.now)))) }
-    ensures spellings { OnOk result (pairs index.new ≡ pairs index.old ++ map table.signed (table.spellings_at line 2 (letters_in (pairs index.old) + 1) (table.line_pieces text.now))) }
+    ensures answer { Gives (λ _. tt) result (table.first_failure (table.spelling_checks marks.now (pairs index.old) (table.spellings_at line 2 (letters_in (pairs index.old) + 1) (table.line_pieces text.now)))) }
+    ensures spellings { OnOk result (pairs index.new ≡ pairs index.old ++ map table.spelling_with_sign (table.spellings_at line 2 (letters_in (pairs index.old) + 1) (table.line_pieces text.now))) }
     ensures letters { OnOk result (letters_in (pairs index.new) ≤ SIGNS_MAX - 1) }
     ensures sound { OnOk result (IsIndex index.new) }
 {
@@ -168,7 +168,7 @@ fn add_line(index: &mut Index, marks: &[u8], line: u32, text: &[u8]) -> Result<(
 /// The letters of the lines that follow the head.
 pub(crate) fn read_letters(alloc: Global, marks: &[u8], text: &[u8]) -> Result<Index, ReadingError>
     requires { length text.now ≤ FILE_MAX }
-    ensures answer { Gives pairs result (first_refusal (table.spelling_checks marks.now [] (table.spellings_from 2 1 (lines text.now))) (map table.signed (table.spellings_from 2 1 (lines text.now)))) }
+    ensures answer { Gives pairs result (first_refusal (table.spelling_checks marks.now [] (table.spellings_from 2 1 (lines text.now))) (map table.spelling_with_sign (table.spellings_from 2 1 (lines text.now)))) }
     ensures sound { IfOk result IsIndex }
 {
     let mut index = Index::new(alloc);

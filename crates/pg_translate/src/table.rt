@@ -2,7 +2,7 @@
 ghost use Rattle.std.specs.Prelude.{◌≡◌, IfOk};
 ghost use Rattle.pg_translate.specs.Alphabets.{Alphabet};
 ghost use Rattle.pg_translate.specs.Fronts.{pairs};
-ghost use Rattle.pg_translate.specs.Heads.{marks_in};
+ghost use Rattle.pg_translate.specs.Heads.{head_marks};
 ghost use Rattle.pg_translate.specs.Sound.{IsTable};
 
 pub mod laws;
@@ -30,7 +30,7 @@ pub struct Table {
 impl Model for Table {
     ghost Value = { Alphabet };
 
-    ghost view = { λ t. record { left = t.head.left; right = t.head.right; marks = marks_in t.head; spellings = pairs t.index } };
+    ghost view = { λ t. record { left = t.head.left; right = t.head.right; marks = head_marks t.head; spellings = pairs t.index } };
 
     ghost invariant = { λ t. IsTable t.head t.index };
 }

@@ -7,7 +7,7 @@ use Rattle.std.specs.Cmp.Lexicographic.{pointwise, texts_ties}
 use Rattle.std.specs.List.{list_all}
 use Rattle.std.specs.FinMap.Entries.{find}
 use Rattle.pg_patterns.specs.DottedSigns.{same_dotted}
-use Rattle.pg_patterns.specs.Values.{is_entry, best, value_of, joined}
+use Rattle.pg_patterns.specs.Values.{is_entry, best, value_of, map_of_entries}
 use Rattle.pg_patterns.proofs.Joins.{value_of_joined, joined_keeps, same_maps}
 use Rattle.pg_types.proofs.BoolFacts.{both_true}
 use Rattle.pg_outputs.specs.declared.records.Record.{Record}
@@ -124,9 +124,9 @@ gathers_more cells records is strings i es new k head at value more g = subst (�
         ]
 
 -- the entries of all strings, joined, are the values
-pub gathered : (cells : Held ℕ) (records : List Record) → IsTrie cells records → (strings : List (List ℕ × ℕ)) → AreStrings cells strings → (es : List ((List ℕ × ℕ) × ℕ)) → Gathers (maps_of cells records).patterns strings (length strings) es → joined es ≡ (maps_of cells records).patterns
+pub gathered : (cells : Held ℕ) (records : List Record) → IsTrie cells records → (strings : List (List ℕ × ℕ)) → AreStrings cells strings → (es : List ((List ℕ × ℕ) × ℕ)) → Gathers (maps_of cells records).patterns strings (length strings) es → map_of_entries es ≡ (maps_of cells records).patterns
 gathered cells records is strings listed es g =
-    same_maps (joined es) (maps_of cells records).patterns (joined_keeps es g.sound) (are_kept cells records is).patterns (λ k. value_of_joined es k ∙ same k.0 k.1 (find order k.0 cells.values) refl)
+    same_maps (map_of_entries es) (maps_of cells records).patterns (joined_keeps es g.sound) (are_kept cells records is).patterns (λ k. value_of_joined es k ∙ same k.0 k.1 (find order k.0 cells.values) refl)
   where
     same : (q : List ℕ) (d : ℕ) (o : Option ℕ) → find order q cells.values ≡ o → best (same_dotted (q, d)) es ≡ value_of (maps_of cells records).patterns (q, d)
     same q d None none =

@@ -7,10 +7,10 @@ use Rattle.pg_translate.specs.Alphabets.{Alphabet}
 use Rattle.pg_translate.specs.Cuts.{cut_rest, tokens_of}
 use Rattle.pg_translate.specs.LineRefusals.{refusal_with_room}
 use Rattle.pg_translate.specs.declared.items.Place.TheVariants.{Dictionary}
-use Rattle.pg_dict.specs.Spots.{Columns, add_spots}
-use Rattle.pg_dict.specs.Running.{spots_from}
+use Rattle.pg_dict.specs.PositionedSigns.{Columns, with_signs}
+use Rattle.pg_dict.specs.Running.{signs_behind}
 
 -- the columns when the rest of a word is read: its weight, its line and the line's size; the last mark and number behind the
 -- letter before; how many letters may still come; the columns so far; the rest of the line
-abbrev pub filled : Alphabet → ℕ → ℕ → ℕ → Mark → ℕ → ℕ → Columns → List ℕ → Result Columns Refusal
-filled t weight line size mark number room done rest = let c = cut_rest t Dictionary size rest in unless (refusal_with_room Dictionary line room c) (add_spots done (spots_from weight mark number (tokens_of c)))
+abbrev pub columns_after : Alphabet → ℕ → ℕ → ℕ → Mark → ℕ → ℕ → Columns → List ℕ → Result Columns Refusal
+columns_after t weight line size mark number room done rest = let c = cut_rest t Dictionary size rest in unless (refusal_with_room Dictionary line room c) (with_signs done (signs_behind weight mark number (tokens_of c)))
