@@ -1,5 +1,6 @@
 -- What a dictionary tells of its words.
-use Rattle.std.proofs.Common.{◌≡◌, ℕ, ◌+◌, ◌-◌, ◌*◌, ◌<◌, ◌≤◌, Bool, true, false, nat_le, List, [], ◌∷◌, length, slice_index_or, slice_get, slice_range, Some, refl, sym, ◌∙◌, ap, arith, length-append, ◌||◌, not, nat_lt, slice_index, zero, suc, unwrap_or, ◌==◌}
+use Rattle.std.proofs.Common.{◌≡◌, ℕ, ◌+◌, ◌-◌, ◌*◌, ◌<◌, ◌≤◌, Bool, true, false, nat_le, List, [], ◌∷◌, length, slice_index_or, slice_get, slice_range, Some, refl, sym, ◌∙◌, ap, subst, arith, length-append, ◌||◌, not, nat_lt, slice_index, zero, suc, unwrap_or, ◌==◌}
+use Rattle.std.proofs.lemmas.List.Elements.{All-head, All-tail}
 use Rattle.std.specs.List.{list_all, sum_by, All}
 use Rattle.std.specs.Option.{option_map}
 use Rattle.std.proofs.lemmas.List.{length-map}
@@ -10,8 +11,9 @@ use Rattle.std.proofs.lemmas.Option.{slice_get-get_or, get_or_from_slice_get, sl
 use Rattle.pg_types.specs.declared.limits.TheConstants.{EDGE, FILE_MAX, WEIGHT_MAX, WORD_LETTERS_MAX}
 use Rattle.pg_dict.specs.declared.store.Store.{Store}
 use Rattle.pg_dict.specs.declared.store.Stored.{Stored}
-use Rattle.pg_dict.specs.Word.{Word, letters_of, IsPlainAt, IsWord, SignsAtMost, is_plain_at, decides, has_lengths, has_signs, has_weights, has_plain, is_word}
-use Rattle.pg_dict.specs.Store.{columns_of, word_at, words_of, signs_of, is_sign, IsDictionary}
+use Rattle.pg_dict.specs.Word.{Word, letter_count, IsPlainAt, IsWord, SignsAtMost}
+use Rattle.pg_dict.proofs.WordTests.{is_plain_at, decides, has_lengths, has_signs, has_weights, has_plain, is_word}
+use Rattle.pg_dict.specs.Store.{columns_of, word_at, stored_words, all_signs, is_sign_up_to, IsDictionary}
 
 -- a number that passes the tests of all elements
 pub all_at_most : (n : ℕ) (xs : List ℕ) → list_all (λ x. nat_le x n) xs ≡ true → All (λ x. x ≤ n) xs
@@ -92,53 +94,48 @@ word_from w pass =
       last = plain_from w (length w.signs - 1) (omega arith) hyphens_len weights_len cares_len plain2.1;
     }
 
--- all words
-pub words_from_tests : (ws : List Word) → list_all is_word ws ≡ true → All IsWord ws
-words_from_tests ws pass k d within = word_from _ (AllPass-from_list_all is_word ws pass k d within)
-
 -- the letters of all words are their signs without two edges each
-pub letters_sum : (ws : List Word) → list_all is_word ws ≡ true → sum_by letters_of ws + 2 * length ws ≡ length (signs_of ws)
-letters_sum [] pass = refl
-letters_sum (w ∷ ws) pass =
-    let p = and_parts (is_word w) (list_all is_word ws) pass in
-    let long : 3 ≤ length w.signs = leb-true 3 _ (and_parts _ _ (and_parts (has_lengths w) _ p.0).0).0 in
-    let rest : sum_by letters_of ws + 2 * length ws ≡ length (signs_of ws) = letters_sum ws p.1 in
-    let sum : sum_by letters_of (w ∷ ws) ≡ length w.signs - 2 + sum_by letters_of ws = sum_by-cons letters_of w ws in
-    omega (arith, length-append w.signs (signs_of ws))
+pub letters_sum : (ws : List Word) → All IsWord ws → sum_by letter_count ws + 2 * length ws ≡ length (all_signs ws)
+letters_sum [] each = refl
+letters_sum (w ∷ ws) each =
+    let long : 3 ≤ length w.signs = (All-head IsWord w ws each).long in
+    let rest : sum_by letter_count ws + 2 * length ws ≡ length (all_signs ws) = letters_sum ws (All-tail IsWord w ws each) in
+    let sum : sum_by letter_count (w ∷ ws) ≡ length w.signs - 2 + sum_by letter_count ws = sum_by-cons letter_count w ws in
+    omega (arith, length-append w.signs (all_signs ws))
 
 -- the signs of all words, joined, pass a test where those of each word do
-pub signs_pass : (n : ℕ) (ws : List Word) → list_all (is_sign n) (signs_of ws) ≡ true → list_all (λ (w : Word). list_all (is_sign n) w.signs) ws ≡ true
+pub signs_pass : (n : ℕ) (ws : List Word) → list_all (is_sign_up_to n) (all_signs ws) ≡ true → list_all (λ (w : Word). list_all (is_sign_up_to n) w.signs) ws ≡ true
 signs_pass n [] pass = refl
 signs_pass n (w ∷ ws) pass =
-    let p = and_parts _ _ (sym (list_all-append (is_sign n) w.signs (signs_of ws)) ∙ pass) in
+    let p = and_parts _ _ (sym (list_all-append (is_sign_up_to n) w.signs (all_signs ws)) ∙ pass) in
     and_from _ _ p.0 (signs_pass n ws p.1)
 
 -- so the signs of the words are at most n
-pub signs_at_most : (n : ℕ) (ws : List Word) → list_all (is_sign n) (signs_of ws) ≡ true → SignsAtMost n ws
+pub signs_at_most : (n : ℕ) (ws : List Word) → list_all (is_sign_up_to n) (all_signs ws) ≡ true → SignsAtMost n ws
 signs_at_most n ws pass k d within i e inside =
     let w : Word = slice_index_or ws k d in
-    let here : list_all (is_sign n) w.signs ≡ true = AllPass-from_list_all (λ (w : Word). list_all (is_sign n) w.signs) ws (signs_pass n ws pass) k d within in
-    leb-true _ n (and_parts _ _ (AllPass-from_list_all (is_sign n) w.signs here i e inside)).1
+    let here : list_all (is_sign_up_to n) w.signs ≡ true = AllPass-from_list_all (λ (w : Word). list_all (is_sign_up_to n) w.signs) ws (signs_pass n ws pass) k d within in
+    leb-true _ n (and_parts _ _ (AllPass-from_list_all (is_sign_up_to n) w.signs here i e inside)).1
 
 -- so there are at most as many letters as bytes of the longest file
-pub few_letters : (s : Store) → IsDictionary s → sum_by letters_of (words_of s) ≤ FILE_MAX
+pub few_letters : (s : Store) → IsDictionary s → sum_by letter_count (stored_words s) ≤ FILE_MAX
 few_letters s is =
-    let sum : sum_by letters_of (words_of s) + 2 * length (words_of s) ≡ length (signs_of (words_of s)) = letters_sum (words_of s) is.sound.words in
-    let signs : length s.signs.items ≡ length (signs_of (words_of s)) = ap (λ (xs : List ℕ). length xs) is.sound.joined in
-    let words : length (words_of s) ≡ length s.words.items = length-map s.words.items (word_at (columns_of s)) in
+    let sum : sum_by letter_count (stored_words s) + 2 * length (stored_words s) ≡ length (all_signs (stored_words s)) = letters_sum (stored_words s) is.sound.words in
+    let signs : length s.signs.items ≡ length (all_signs (stored_words s)) = ap (λ (xs : List ℕ). length xs) is.sound.joined in
+    let words : length (stored_words s) ≡ length s.words.items = length-map s.words.items (word_at (columns_of s)) in
     omega (arith, is.few)
 
--- a word of a list that passes
-pub word_in : (ws : List Word) (i : ℕ) (w : Word) → list_all is_word ws ≡ true → slice_get ws i ≡ Some w → IsWord w
-word_in ws i w pass at =
+-- a word of a list
+pub word_in : (ws : List Word) (i : ℕ) (w : Word) → All IsWord ws → slice_get ws i ≡ Some w → IsWord w
+word_in ws i w each at =
     let here : slice_index_or ws i w ≡ w = get_or_from_slice_get ws i w w at in
-    word_from w (ap is_word (sym here) ∙ AllPass-from_list_all is_word ws pass i w (slice_get_within ws i w at))
+    subst IsWord here (each i w (slice_get_within ws i w at))
 
 -- the word that is lent
-pub word_lent : (s : Store) (now : List Word) (i : ℕ) (w : Stored) (signs : List ℕ) (hyphens : List Bool) (weights : List ℕ) (cares : List Bool) → IsDictionary s → words_of s ≡ now → i < length now → w ≡ slice_index_or s.words.items i w → signs ≡ s.signs.items → hyphens ≡ s.hyphens.items → weights ≡ s.weights.items → cares ≡ s.cares.items
+pub word_lent : (s : Store) (now : List Word) (i : ℕ) (w : Stored) (signs : List ℕ) (hyphens : List Bool) (weights : List ℕ) (cares : List Bool) → IsDictionary s → stored_words s ≡ now → i < length now → w ≡ slice_index_or s.words.items i w → signs ≡ s.signs.items → hyphens ≡ s.hyphens.items → weights ≡ s.weights.items → cares ≡ s.cares.items
     → IsWord (record { signs = slice_range signs w.start w.end; hyphens = slice_range hyphens w.start w.end; weights = slice_range weights w.start w.end; cares = slice_range cares w.start w.end; weight = w.weight })
 word_lent s now i w signs hyphens weights cares is view inside at is_signs is_hyphens is_weights is_cares =
     let size : length now ≡ length s.words.items = ap (λ (ws : List Word). length ws) (sym view) ∙ length-map s.words.items (word_at (columns_of s)) in
     let stored : slice_get s.words.items i ≡ Some w = slice_get_read s.words.items (length s.words.items) i w refl (omega arith) at in
-    let word : slice_get (words_of s) i ≡ Some (word_at (columns_of s) w) = slice_get-map (word_at (columns_of s)) s.words.items i ∙ ap (option_map (word_at (columns_of s))) stored in
-    rw (is_signs, is_hyphens, is_weights, is_cares) (word_in (words_of s) i (word_at (columns_of s) w) is.sound.words word)
+    let word : slice_get (stored_words s) i ≡ Some (word_at (columns_of s) w) = slice_get-map (word_at (columns_of s)) s.words.items i ∙ ap (option_map (word_at (columns_of s))) stored in
+    rw (is_signs, is_hyphens, is_weights, is_cares) (word_in (stored_words s) i (word_at (columns_of s) w) is.sound.words word)

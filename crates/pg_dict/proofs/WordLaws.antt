@@ -7,31 +7,31 @@ use Rattle.pg_types.specs.declared.limits.TheConstants.{EDGE}
 use Rattle.pg_types.specs.declared.marks.Mark.{Mark}
 use Rattle.pg_types.specs.declared.marks.Mark.TheVariants.{Nothing, Error, Missed, Found, DontCare}
 use Rattle.pg_translate.specs.Tokens.{Token, Letter, Digit, Weight}
-use Rattle.pg_dict.specs.Spots.{Spot, spot, sets_hyphen, keeps_care}
+use Rattle.pg_dict.specs.PositionedSigns.{PositionedSign, positioned_sign, sets_hyphen, keeps_care}
 use Rattle.pg_dict.specs.Word.{Word, word_with, IsWord}
 use Rattle.pg_dict.specs.Words.{line_word}
-use Rattle.pg_dict.specs.Running.{spots_from, running_word}
+use Rattle.pg_dict.specs.Running.{signs_behind, running_word}
 use Rattle.pg_dict.proofs.Running.{same_word, running_is}
-use Rattle.pg_dict.specs.Written.{Written, number_token, mark_tokens, weight_tokens, letters_tokens, written_spots, written_letters, between_letters, AreMarksOf, letters_with, word_tokens}
+use Rattle.pg_dict.specs.Written.{Written, number_token, mark_tokens, weight_tokens, letters_tokens, written_signs, written_letters, between_letters, AreMarksOf, letters_with, word_tokens}
 
 -- a number sets the weight
-number_read : (weight : ℕ) (mark : Mark) (before n : ℕ) (more : List Token) → spots_from weight mark before (number_token n ∷ more) ≡ spots_from weight mark n more
+number_read : (weight : ℕ) (mark : Mark) (before n : ℕ) (more : List Token) → signs_behind weight mark before (number_token n ∷ more) ≡ signs_behind weight mark n more
 number_read weight mark before n more = by_size (nat_lt n 10)
   where
-    by_size : (small : Bool) → spots_from weight mark before (cond small (Digit n) (Weight n) ∷ more) ≡ spots_from weight mark n more
+    by_size : (small : Bool) → signs_behind weight mark before (cond small (Digit n) (Weight n) ∷ more) ≡ signs_behind weight mark n more
     by_size true = refl
     by_size false = refl
 
 -- a weight, where it is written, sets the weight
-weight_read : (weight : ℕ) (mark : Mark) (n : ℕ) (more : List Token) → spots_from weight mark weight (weight_tokens weight n ++ more) ≡ spots_from weight mark n more
+weight_read : (weight : ℕ) (mark : Mark) (n : ℕ) (more : List Token) → signs_behind weight mark weight (weight_tokens weight n ++ more) ≡ signs_behind weight mark n more
 weight_read weight mark n more = by_test (n == weight) refl
   where
-    by_test : (same : Bool) → (n == weight) ≡ same → spots_from weight mark weight (cond same [] (number_token n ∷ []) ++ more) ≡ spots_from weight mark n more
-    by_test true is = ap (λ (k : ℕ). spots_from weight mark k more) (sym (eqb-true n weight is))
+    by_test : (same : Bool) → (n == weight) ≡ same → signs_behind weight mark weight (cond same [] (number_token n ∷ []) ++ more) ≡ signs_behind weight mark n more
+    by_test true is = ap (λ (k : ℕ). signs_behind weight mark k more) (sym (eqb-true n weight is))
     by_test false is = number_read weight mark weight n more
 
 -- a mark sets the mark
-mark_read : (weight : ℕ) (mark : Mark) (more : List Token) → spots_from weight Nothing weight (mark_tokens mark ++ more) ≡ spots_from weight mark weight more
+mark_read : (weight : ℕ) (mark : Mark) (more : List Token) → signs_behind weight Nothing weight (mark_tokens mark ++ more) ≡ signs_behind weight mark weight more
 mark_read weight Nothing more = refl
 mark_read weight Error more = refl
 mark_read weight Missed more = refl
@@ -39,31 +39,31 @@ mark_read weight Found more = refl
 mark_read weight DontCare more = refl
 
 -- the letters behind the first
-letters_read : (weight : ℕ) (letters : List Written) → spots_from weight Nothing weight (letters_tokens weight letters) ≡ map (λ (l : Written). spot l.mark l.weight l.sign) letters ++ spot Nothing weight EDGE ∷ []
+letters_read : (weight : ℕ) (letters : List Written) → signs_behind weight Nothing weight (letters_tokens weight letters) ≡ map (λ (l : Written). positioned_sign l.mark l.weight l.sign) letters ++ positioned_sign Nothing weight EDGE ∷ []
 letters_read weight [] = refl
 letters_read weight (l ∷ letters) =
     let more : List Token = Letter l.sign ∷ letters_tokens weight letters in
     let cut : letters_tokens weight (l ∷ letters) ≡ mark_tokens l.mark ++ (weight_tokens weight l.weight ++ more) = simp append_assoc in
-    ap (spots_from weight Nothing weight) cut
+    ap (signs_behind weight Nothing weight) cut
     ∙ mark_read weight l.mark (weight_tokens weight l.weight ++ more)
     ∙ weight_read weight l.mark l.weight more
-    ∙ ap (λ (spots : List Spot). spot l.mark l.weight l.sign ∷ spots) (letters_read weight letters)
+    ∙ ap (λ (positioned : List PositionedSign). positioned_sign l.mark l.weight l.sign ∷ positioned) (letters_read weight letters)
 
 -- a word of this weight, first letter and letters behind it
 abbrev tokens_of : ℕ → ℕ → ℕ → List Written → List Token
 tokens_of before weight sign letters = weight_tokens before weight ++ Letter sign ∷ letters_tokens weight letters
 
-pub tokens_read : (before weight sign : ℕ) (letters : List Written) → running_word before (tokens_of before weight sign letters) ≡ record { word = Some (word_with weight (written_spots weight sign letters)); weight = weight }
+pub tokens_read : (before weight sign : ℕ) (letters : List Written) → running_word before (tokens_of before weight sign letters) ≡ record { word = Some (word_with weight (written_signs weight sign letters)); weight = weight }
 tokens_read before weight sign letters = by_test (weight == before) refl
   where
-    first : running_word weight (Letter sign ∷ letters_tokens weight letters) ≡ record { word = Some (word_with weight (written_spots weight sign letters)); weight = weight }
-    first = ap (λ (spots : List Spot). record { word = Some (word_with weight (spot Nothing weight EDGE ∷ spot Nothing weight sign ∷ spots)); weight = weight }) (letters_read weight letters)
+    first : running_word weight (Letter sign ∷ letters_tokens weight letters) ≡ record { word = Some (word_with weight (written_signs weight sign letters)); weight = weight }
+    first = ap (λ (positioned : List PositionedSign). record { word = Some (word_with weight (positioned_sign Nothing weight EDGE ∷ positioned_sign Nothing weight sign ∷ positioned)); weight = weight }) (letters_read weight letters)
 
-    by_size : (small : Bool) → running_word before (cond small (Digit weight) (Weight weight) ∷ Letter sign ∷ letters_tokens weight letters) ≡ record { word = Some (word_with weight (written_spots weight sign letters)); weight = weight }
+    by_size : (small : Bool) → running_word before (cond small (Digit weight) (Weight weight) ∷ Letter sign ∷ letters_tokens weight letters) ≡ record { word = Some (word_with weight (written_signs weight sign letters)); weight = weight }
     by_size true = first
     by_size false = first
 
-    by_test : (same : Bool) → (weight == before) ≡ same → running_word before (cond same [] (number_token weight ∷ []) ++ Letter sign ∷ letters_tokens weight letters) ≡ record { word = Some (word_with weight (written_spots weight sign letters)); weight = weight }
+    by_test : (same : Bool) → (weight == before) ≡ same → running_word before (cond same [] (number_token weight ∷ []) ++ Letter sign ∷ letters_tokens weight letters) ≡ record { word = Some (word_with weight (written_signs weight sign letters)); weight = weight }
     by_test true is = ap (λ (k : ℕ). running_word k (Letter sign ∷ letters_tokens weight letters)) (sym (eqb-true weight before is)) ∙ first
     by_test false is = by_size (nat_lt weight 10)
 
@@ -84,12 +84,12 @@ parted {X} (x ∷ y ∷ ys) a b c long first second last =
     ap (λ (zs : List X). x ∷ y ∷ zs) (whole ∙ ap (λ (k : ℕ). take k ys ++ c ∷ []) (sym size)) ∙ ap (λ (z : X). z ∷ y ∷ (between_letters (x ∷ y ∷ ys) ++ c ∷ [])) x_is ∙ ap (λ (z : X). a ∷ z ∷ (between_letters (x ∷ y ∷ ys) ++ c ∷ [])) y_is
 
 -- the parts of written letters
-pub written_signs : (marks : List Mark) (weights signs : List ℕ) → length weights ≡ length marks → length signs ≡ length marks → map (λ (l : Written). l.sign) (written_letters marks weights signs) ≡ signs
-written_signs [] weights [] w s = refl
-written_signs [] weights (x ∷ xs) w s = absurd (omega arith)
-written_signs (m ∷ ms) [] signs w s = absurd (omega arith)
-written_signs (m ∷ ms) (n ∷ ns) [] w s = absurd (omega arith)
-written_signs (m ∷ ms) (n ∷ ns) (x ∷ xs) w s = ap (λ (ys : List ℕ). x ∷ ys) (written_signs ms ns xs (omega arith) (omega arith))
+pub letters_signs : (marks : List Mark) (weights signs : List ℕ) → length weights ≡ length marks → length signs ≡ length marks → map (λ (l : Written). l.sign) (written_letters marks weights signs) ≡ signs
+letters_signs [] weights [] w s = refl
+letters_signs [] weights (x ∷ xs) w s = absurd (omega arith)
+letters_signs (m ∷ ms) [] signs w s = absurd (omega arith)
+letters_signs (m ∷ ms) (n ∷ ns) [] w s = absurd (omega arith)
+letters_signs (m ∷ ms) (n ∷ ns) (x ∷ xs) w s = ap (λ (ys : List ℕ). x ∷ ys) (letters_signs ms ns xs (omega arith) (omega arith))
 
 pub written_weights : (marks : List Mark) (weights signs : List ℕ) → length weights ≡ length marks → length signs ≡ length marks → map (λ (l : Written). l.weight) (written_letters marks weights signs) ≡ weights
 written_weights [] [] signs w s = refl
@@ -104,12 +104,12 @@ written_marks h (m ∷ ms) [] signs w s = absurd (omega arith)
 written_marks h (m ∷ ms) (n ∷ ns) [] w s = absurd (omega arith)
 written_marks h (m ∷ ms) (n ∷ ns) (x ∷ xs) w s = ap (λ (ys : List Bool). h m ∷ ys) (written_marks h ms ns xs (omega arith) (omega arith))
 
--- what written spots show
-pub shown : {X : Type 0} (h : Spot → X) (weight sign : ℕ) (letters : List Written) → map h (written_spots weight sign letters) ≡ h (spot Nothing weight EDGE) ∷ h (spot Nothing weight sign) ∷ (map (λ (l : Written). h (spot l.mark l.weight l.sign)) letters ++ h (spot Nothing weight EDGE) ∷ [])
+-- what written signs show
+pub shown : {X : Type 0} (h : PositionedSign → X) (weight sign : ℕ) (letters : List Written) → map h (written_signs weight sign letters) ≡ h (positioned_sign Nothing weight EDGE) ∷ h (positioned_sign Nothing weight sign) ∷ (map (λ (l : Written). h (positioned_sign l.mark l.weight l.sign)) letters ++ h (positioned_sign Nothing weight EDGE) ∷ [])
 shown {X} h weight sign letters =
-    ap (λ (xs : List X). h (spot Nothing weight EDGE) ∷ h (spot Nothing weight sign) ∷ xs) (map-append h (map (λ (l : Written). spot l.mark l.weight l.sign) letters) (spot Nothing weight EDGE ∷ []) ∙ ap (λ (xs : List X). xs ++ h (spot Nothing weight EDGE) ∷ []) (map-map h (λ (l : Written). spot l.mark l.weight l.sign) letters))
+    ap (λ (xs : List X). h (positioned_sign Nothing weight EDGE) ∷ h (positioned_sign Nothing weight sign) ∷ xs) (map-append h (map (λ (l : Written). positioned_sign l.mark l.weight l.sign) letters) (positioned_sign Nothing weight EDGE ∷ []) ∙ ap (λ (xs : List X). xs ++ h (positioned_sign Nothing weight EDGE) ∷ []) (map-map h (λ (l : Written). positioned_sign l.mark l.weight l.sign) letters))
   where
-    map-map : {X : Type 0} (h : Spot → X) (f : Written → Spot) (ls : List Written) → map h (map f ls) ≡ map (λ (l : Written). h (f l)) ls
+    map-map : {X : Type 0} (h : PositionedSign → X) (f : Written → PositionedSign) (ls : List Written) → map h (map f ls) ≡ map (λ (l : Written). h (f l)) ls
     map-map h f [] = refl
     map-map {X} h f (l ∷ ls) = ap (λ (xs : List X). h (f l) ∷ xs) (map-map h f ls)
 
@@ -122,7 +122,7 @@ last_of : {X : Type 0} (xs : List X) (n : ℕ) (x : X) → length xs ≡ n → s
 last_of xs n x size last = ap (λ (k : ℕ). slice_get xs (k - 1)) size ∙ last
 
 -- a word is its first letter, the letters behind it with their marks and weights, and two edges
-pub word_written : (w : Word) (marks : List Mark) → IsWord w → AreMarksOf w marks → word_with w.weight (written_spots w.weight (slice_index w.signs 1) (letters_with marks w)) ≡ w
+pub word_written : (w : Word) (marks : List Mark) → IsWord w → AreMarksOf w marks → word_with w.weight (written_signs w.weight (slice_index w.signs 1) (letters_with marks w)) ≡ w
 word_written w marks is mean =
     let sign : ℕ = slice_index w.signs 1 in
     let letters : List Written = letters_with marks w in
@@ -130,17 +130,17 @@ word_written w marks is mean =
     let weights : length (between_letters w.weights) ≡ length marks = length-between_letters w.weights ∙ ap (λ (n : ℕ). n - 3) is.weights_len ∙ sym count in
     let signs : length (between_letters w.signs) ≡ length marks = length-between_letters w.signs ∙ sym count in
     let long = is.long in
-    same_word (word_with w.weight (written_spots w.weight sign letters)) w
-    (shown (λ (s : Spot). s.sign) w.weight sign letters
-    ∙ ap (λ (xs : List ℕ). EDGE ∷ sign ∷ (xs ++ EDGE ∷ [])) (written_signs marks (between_letters w.weights) (between_letters w.signs) weights signs)
+    same_word (word_with w.weight (written_signs w.weight sign letters)) w
+    (shown (λ (s : PositionedSign). s.sign) w.weight sign letters
+    ∙ ap (λ (xs : List ℕ). EDGE ∷ sign ∷ (xs ++ EDGE ∷ [])) (letters_signs marks (between_letters w.weights) (between_letters w.signs) weights signs)
     ∙ sym (parted w.signs EDGE sign EDGE long is.begins (slice_get-get_or w.signs 1 0 (omega arith)) is.ends))
-    (shown (λ (s : Spot). s.hyphen) w.weight sign letters
+    (shown (λ (s : PositionedSign). s.hyphen) w.weight sign letters
     ∙ ap (λ (xs : List Bool). false ∷ false ∷ (xs ++ false ∷ [])) (written_marks sets_hyphen marks (between_letters w.weights) (between_letters w.signs) weights signs ∙ mean.hyphens)
     ∙ sym (parted w.hyphens false false false (omega (arith, is.hyphens_len)) is.first.hyphen is.second.hyphen (last_of w.hyphens _ false is.hyphens_len is.last.hyphen)))
-    (shown (λ (s : Spot). s.weight) w.weight sign letters
+    (shown (λ (s : PositionedSign). s.weight) w.weight sign letters
     ∙ ap (λ (xs : List ℕ). w.weight ∷ w.weight ∷ (xs ++ w.weight ∷ [])) (written_weights marks (between_letters w.weights) (between_letters w.signs) weights signs)
     ∙ sym (parted w.weights w.weight w.weight w.weight (omega (arith, is.weights_len)) is.first.weight is.second.weight (last_of w.weights _ w.weight is.weights_len is.last.weight)))
-    (shown (λ (s : Spot). s.care) w.weight sign letters
+    (shown (λ (s : PositionedSign). s.care) w.weight sign letters
     ∙ ap (λ (xs : List Bool). true ∷ true ∷ (xs ++ true ∷ [])) (written_marks keeps_care marks (between_letters w.weights) (between_letters w.signs) weights signs ∙ mean.cares)
     ∙ sym (parted w.cares true true true (omega (arith, is.cares_len)) is.first.care is.second.care (last_of w.cares _ true is.cares_len is.last.care)))
     refl

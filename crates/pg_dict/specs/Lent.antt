@@ -3,5 +3,5 @@ use Rattle.pg_dict.specs.Word.{Word}
 use Rattle.pg_dict.specs.declared.word.WordRef.{WordRef}
 
 -- the word that a `WordRef` lends
-abbrev pub word_of : WordRef → Word
-word_of w = record { signs = w.signs.now; hyphens = w.hyphens.now; weights = w.weights.now; cares = w.cares.now; weight = w.weight }
+abbrev pub lent_word : WordRef → Word
+lent_word w = record { signs = w.signs.now; hyphens = w.hyphens.now; weights = w.weights.now; cares = w.cares.now; weight = w.weight }

@@ -1,11 +1,11 @@
-pub mod Spots
+pub mod PositionedSigns
 pub mod Word
 pub mod Words
 pub mod Running
 pub mod Store
-pub mod Filled
+pub mod ReadColumns
 pub mod Steps
-pub mod Heads
+pub mod LineStarts
 pub mod Entries
 pub mod Lent
 pub mod Written

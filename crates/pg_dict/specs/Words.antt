@@ -11,7 +11,7 @@ use Rattle.pg_translate.specs.Tokens.{Token}
 use Rattle.pg_translate.specs.Gaps.{signs_of, gaps, inner_gaps, last_number, last_mark}
 use Rattle.pg_translate.specs.LineRefusals.{refused, of_line}
 use Rattle.pg_translate.specs.declared.items.Place.TheVariants.{Dictionary}
-use Rattle.pg_dict.specs.Spots.{sets_hyphen, keeps_care}
+use Rattle.pg_dict.specs.PositionedSigns.{sets_hyphen, keeps_care}
 use Rattle.pg_dict.specs.Word.{Word}
 
 -- what a word has at its positions: one thing at the first two and at the last, and between two letters what their gap gives
@@ -48,8 +48,8 @@ abbrev pub line_word : ℕ → List Token → LineWord
 line_word before items = record { word = word_if (signs_of items) (word_of_items (word_weight before items) items); weight = word_weight before items }
 
 -- what a line gives, or its refusal
-abbrev pub line_of : Alphabet → ℕ → ℕ → List ℕ → Result LineWord Refusal
-line_of t line weight text = of_line (line_word weight) t Dictionary line text
+abbrev pub line_reading : Alphabet → ℕ → ℕ → List ℕ → Result LineWord Refusal
+line_reading t line weight text = of_line (line_word weight) t Dictionary line text
 
 -- what follows a line, from what the line gives
 abbrev pub on_line : (LineWord → Result (List Word) Refusal) → Result LineWord Refusal → Result (List Word) Refusal
@@ -59,7 +59,7 @@ on_line more (Err r) = Err r
 -- the words of lines that begin with this line number and word weight
 abbrev pub words_from : Alphabet → ℕ → ℕ → List (List ℕ) → Result (List Word) Refusal
 words_from t line weight [] = Ok []
-words_from t line weight (l ∷ ls) = on_line (λ (l : LineWord). words_from t (line + 1) l.weight ls) (line_of t line weight l)
+words_from t line weight (l ∷ ls) = on_line (λ (l : LineWord). words_from t (line + 1) l.weight ls) (line_reading t line weight l)
 
 -- the words of a dictionary file, or its first refusal
 abbrev pub words : Alphabet → List ℕ → Result (List Word) Refusal

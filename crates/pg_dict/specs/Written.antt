@@ -7,9 +7,9 @@ use Rattle.pg_types.specs.declared.marks.Mark.TheVariants.{Nothing, Error, Misse
 use Rattle.pg_types.specs.Lines.{is_line_feed, without_cr}
 use Rattle.pg_translate.specs.Alphabets.{Alphabet}
 use Rattle.pg_translate.specs.Tokens.{Token, Letter, Digit, Weight, Marked, Edge}
-use Rattle.pg_dict.specs.Spots.{Spot, spot, sets_hyphen, keeps_care}
+use Rattle.pg_dict.specs.PositionedSigns.{PositionedSign, positioned_sign, sets_hyphen, keeps_care}
 use Rattle.pg_dict.specs.Word.{Word}
-use Rattle.pg_dict.specs.Words.{line_of}
+use Rattle.pg_dict.specs.Words.{line_reading}
 
 -- a letter behind the first, and of the position before it the mark and the weight
 pub record Written : Type 0 where
@@ -37,9 +37,9 @@ weight_tokens other weight = if weight == other then [] else number_token weight
 abbrev pub letters_tokens : ℕ → List Written → List Token
 letters_tokens weight letters = flat_map (λ (l : Written). mark_tokens l.mark ++ (weight_tokens weight l.weight ++ Letter l.sign ∷ [])) letters
 
--- the spots of a word with this weight, first letter and letters behind it
-abbrev pub written_spots : ℕ → ℕ → List Written → List Spot
-written_spots weight sign letters = spot Nothing weight EDGE ∷ spot Nothing weight sign ∷ (map (λ (l : Written). spot l.mark l.weight l.sign) letters ++ spot Nothing weight EDGE ∷ [])
+-- the signs of a word, each with the position before it, with this weight, first letter and letters behind it
+abbrev pub written_signs : ℕ → ℕ → List Written → List PositionedSign
+written_signs weight sign letters = positioned_sign Nothing weight EDGE ∷ positioned_sign Nothing weight sign ∷ (map (λ (l : Written). positioned_sign l.mark l.weight l.sign) letters ++ positioned_sign Nothing weight EDGE ∷ [])
 
 -- marks, weights and signs, one of each for each letter
 abbrev pub written_letters : List Mark → List ℕ → List ℕ → List Written
@@ -89,4 +89,4 @@ abbrev pub LinesGive : Alphabet → ℕ → List (List ℕ) → List Word → Ty
 LinesGive t weight [] [] = Unit {0}
 LinesGive t weight [] (w ∷ ws) = ⊥
 LinesGive t weight (text ∷ texts) [] = ⊥
-LinesGive t weight (text ∷ texts) (w ∷ ws) = ((line : ℕ) → line_of t line weight text ≡ Ok (record { word = Some w; weight = w.weight })) × LinesGive t w.weight texts ws
+LinesGive t weight (text ∷ texts) (w ∷ ws) = ((line : ℕ) → line_reading t line weight text ≡ Ok (record { word = Some w; weight = w.weight })) × LinesGive t w.weight texts ws

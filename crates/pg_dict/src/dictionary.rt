@@ -2,10 +2,10 @@
 ghost use Rattle.std.specs.Prelude.{◌≡◌, ◌<◌, ◌≤◌, ◌+◌, length, Some, slice_get, IfOk, sum_by, All};
 ghost use Rattle.pg_types.specs.Reading.{Gives};
 ghost use Rattle.pg_translate.specs.Alphabets as alphabet;
-ghost use Rattle.pg_dict.specs.Word.{letters_of, IsWord, SignsAtMost};
+ghost use Rattle.pg_dict.specs.Word.{letter_count, IsWord, SignsAtMost};
 ghost use Rattle.pg_dict.specs.Words.{words};
-ghost use Rattle.pg_dict.specs.Store.{signs_of};
-ghost use Rattle.pg_dict.specs.Lent.{word_of};
+ghost use Rattle.pg_dict.specs.Store.{all_signs};
+ghost use Rattle.pg_dict.specs.Lent.{lent_word};
 
 use crate::entries::read_line;
 use crate::store::Store;
@@ -18,8 +18,8 @@ use std::marker::Model;
 
 /// The words of a dictionary file, in its order. All of them lie in one store.
 ///
-/// Every word has 3 to 102 signs, each at least 1, and weights of at most [`WEIGHT_MAX`](pg_types::WEIGHT_MAX). Together the
-/// words have at most 2^26 letters.
+/// Every word has 3 to 102 signs, each at least 1, and weights of at most [`WEIGHT_MAX`](pg_types::WEIGHT_MAX).
+/// Together the words have at most 2^26 letters.
 #[derive(Drop)]
 pub struct Dictionary {
     store: Store,
@@ -31,9 +31,9 @@ impl Model for Dictionary {
 
     ghost Value = { List Word };
 
-    ghost use Rattle.pg_dict.specs.Store.{words_of, IsDictionary};
+    ghost use Rattle.pg_dict.specs.Store.{stored_words, IsDictionary};
 
-    ghost view = { λ d. words_of d.store };
+    ghost view = { λ d. stored_words d.store };
 
     ghost invariant = { λ d. IsDictionary d.store };
 }
@@ -41,9 +41,9 @@ impl Model for Dictionary {
 impl Dictionary {
     /// Reads a dictionary file under a table, in one pass.
     ///
-    /// A file of more than 2^26 bytes is refused 403. Else the first refused place, from line to line and left to right, is
-    /// refused 401, 402 or 404: a byte that begins no item, or the 101st letter of a line. The rules are patgen's, with weights
-    /// in braces and don't-care marks besides.
+    /// A file of more than 2^26 bytes is refused 403. Else the first refused place, from line to line and left to
+    /// right, is refused 401, 402 or 404: a byte that begins no item, or the 101st letter of a line. The rules are
+    /// patgen's, with weights in braces and don't-care marks besides.
     pub fn read(alloc: Global, table: &Table, bytes: &[u8]) -> Result<Dictionary, ReadingError>
         ensures words { Gives (λ dictionary. dictionary) result (words table.now bytes.now) }
         ensures signs { IfOk result (SignsAtMost (alphabet.letters_of table.now + 1)) }
@@ -73,7 +73,7 @@ impl Dictionary {
     pub fn len(&self) -> usize
         ensures len { result ≡ length self.now }
         ensures words { All IsWord self.now }
-        ensures letters { sum_by letters_of self.now ≤ FILE_MAX }
+        ensures letters { sum_by letter_count self.now ≤ FILE_MAX }
     {
         self.store.words.len()
     }
@@ -81,8 +81,8 @@ impl Dictionary {
     /// The word at place `i`, counted from 0.
     pub fn word(&self, i: usize) -> WordRef<'_>
         requires { i < length self.now }
-        ensures lent { slice_get self.now i ≡ Some (word_of result) }
-        ensures word { IsWord (word_of result) }
+        ensures lent { slice_get self.now i ≡ Some (lent_word result) }
+        ensures word { IsWord (lent_word result) }
     {
         let word = self.store.words[i];
         WordRef {
@@ -96,7 +96,7 @@ impl Dictionary {
 
     /// The signs of all words, edges included, joined in the order of the words: one slice of the store.
     pub fn all_signs(&self) -> &[Sign]
-        ensures { result.now ≡ signs_of self.now }
+        ensures { result.now ≡ all_signs self.now }
     {
         self.store.signs.as_slice()
     }

@@ -3,11 +3,11 @@
 
 pub mod dictionary;
 mod entries;
-mod gap;
-mod heads;
 pub mod laws;
 mod letters;
 mod line;
+mod line_start;
+mod position;
 mod store;
 #[cfg(test)]
 mod tests;

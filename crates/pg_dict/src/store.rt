@@ -1,9 +1,10 @@
-//! The store: the signs of all words in one vector, and beside each sign the hyphen, weight and care of the position before it.
+//! The store: the signs of all words in one vector, and beside each sign the hyphen, weight and care of the position
+//! before it.
 ghost use Rattle.std.specs.Prelude.{◌≡◌, [], ◌∷◌, OnOk};
-ghost use Rattle.pg_dict.specs.Spots.{add_spots, no_columns, spot};
+ghost use Rattle.pg_dict.specs.PositionedSigns.{with_signs, no_columns, positioned_sign};
 ghost use Rattle.pg_dict.specs.Store.{columns_of};
 
-use crate::gap::Gap;
+use crate::position::Position;
 use pg_types::{Mark, Sign, Weight};
 use std::alloc::{AllocError, Global};
 
@@ -49,15 +50,16 @@ impl Store {
     }
 
     /// Adds a sign, and the position before it. After an error nothing is said of the columns.
-    pub(crate) fn push(&mut self, gap: Gap, sign: Sign) -> Result<(), AllocError>
-        ensures ok { OnOk result (columns_of self.new ≡ add_spots (columns_of self.old) (spot gap.mark gap.weight sign ∷ [])) }
+    pub(crate) fn push(&mut self, position: Position, sign: Sign) -> Result<(), AllocError>
+        ensures ok { OnOk result (columns_of self.new
+            ≡ with_signs (columns_of self.old) (positioned_sign position.mark position.weight sign ∷ [])) }
         ensures words { self.new.words.items ≡ self.old.words.items }
     {
         self.signs.push(sign)?;
         self.hyphens
-            .push(matches!(gap.mark, Mark::Missed | Mark::Found))?;
-        self.weights.push(gap.weight)?;
-        self.cares.push(!matches!(gap.mark, Mark::DontCare))?;
+            .push(matches!(position.mark, Mark::Missed | Mark::Found))?;
+        self.weights.push(position.weight)?;
+        self.cares.push(!matches!(position.mark, Mark::DontCare))?;
         Ok(())
     }
 }

@@ -4,7 +4,7 @@ use Rattle.std.specs.Bool.{MatchBool}
 use Rattle.std.specs.List.{All, sum_by}
 use Rattle.pg_types.specs.declared.limits.TheConstants.{FILE_MAX}
 use Rattle.pg_types.specs.declared.marks.Totals.{Totals}
-use Rattle.pg_dict.specs.Word.{Word, IsWord, letters_of}
+use Rattle.pg_dict.specs.Word.{Word, IsWord, letter_count}
 use Rattle.pg_select.specs.CountedPositions.{Minima}
 use Rattle.pg_select.specs.Sums.{totals}
 use Rattle.pg_select.specs.Windows.{Patterns}
@@ -31,5 +31,5 @@ carried_small true old new good bad small less carries = (omega (arith, carries.
 carried_small false old new good bad small less carries = (omega (arith, carries.errors), omega (arith, carries.found))
 
 -- and so are the totals of the words of a dictionary
-pub totals_are_small : (m : Minima) (words : List Word) (P : Patterns) → 1 ≤ m.left → All IsWord words → sum_by letters_of words ≤ FILE_MAX → IsSmall (totals m words P)
+pub totals_are_small : (m : Minima) (words : List Word) (P : Patterns) → 1 ≤ m.left → All IsWord words → sum_by letter_count words ≤ FILE_MAX → IsSmall (totals m words P)
 totals_are_small m words P low each letters = totals_small m words P low (record { each = each; letters = letters })

@@ -8,7 +8,7 @@ use Rattle.std.proofs.lemmas.List.Elements.{All-nil, All-cons, All-head, All-tai
 use Rattle.std.proofs.lemmas.List.Sums.{sum_by-cons}
 use Rattle.std.proofs.lemmas.Option.{slice_get_within}
 use Rattle.pg_translate.specs.Reach.{positions}
-use Rattle.pg_dict.specs.Word.{Word, letters_of}
+use Rattle.pg_dict.specs.Word.{Word, letter_count}
 use Rattle.pg_select.specs.Laws.{positions_in}
 use Rattle.pg_select.specs.CountedPositions.{Minima}
 use Rattle.pg_select.specs.Windows.{Patterns, Hopeless}
@@ -97,6 +97,6 @@ numbered_length m n (w ∷ words) =
     omega (arith, length-append (map (λ p. (n, p)) (positions m.left m.right (length w.signs))) (numbered_positions m (n + 1) words), sizes, sum_by-cons (λ (w : Word). length (positions m.left m.right (length w.signs))) w words)
 
 -- and there are no more than letters
-pub open_few : (level len : ℕ) (m : Minima) (words : List Word) (P : Patterns) (H : Hopeless) (entries : List OpenPosition) → 1 ≤ m.left → AreOpen level len m words P H entries → length entries ≤ sum_by letters_of words
+pub open_few : (level len : ℕ) (m : Minima) (words : List Word) (P : Patterns) (H : Hopeless) (entries : List OpenPosition) → 1 ≤ m.left → AreOpen level len m words P H entries → length entries ≤ sum_by letter_count words
 open_few level len m words P H entries low are_open =
     omega (arith, ap (λ (es : List OpenPosition). length es) are_open.are, few_open are_open.closed (numbered_positions m 0 words), numbered_length m 0 words, positions_within m words low)

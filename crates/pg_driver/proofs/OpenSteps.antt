@@ -6,16 +6,16 @@ use Rattle.std.proofs.lemmas.List.Elements.{All-head, All-tail}
 use Rattle.std.proofs.lemmas.List.Sums.{sum_by-cons}
 use Rattle.std.specs.Option.{option_map_or}
 use Rattle.std.specs.FinMap.Entries.{find}
-use Rattle.pg_dict.specs.Word.{Word, IsWord, letters_of}
+use Rattle.pg_dict.specs.Word.{Word, IsWord, letter_count}
 use Rattle.pg_types.specs.Counts.{Counts}
 use Rattle.pg_select.specs.Meanings.{Meaning, with_position}
 use Rattle.pg_select.specs.CountedPositions.{Minima, CountedPosition}
-use Rattle.pg_select.specs.Statuses.{weight_at}
+use Rattle.pg_select.specs.Statuses.{position_weight}
 use Rattle.pg_select.specs.Windows.{Patterns, window, fits}
 use Rattle.pg_driver.specs.Counting.{counting, HasRoom, TookRoom}
-use Rattle.pg_driver.proofs.MarkSteps.{weight_small}
+use Rattle.pg_select.proofs.MarkSteps.{weight_small}
 use Rattle.pg_driver.proofs.Puts.{cmp, weight_found}
-use Rattle.pg_driver.proofs.Reaches.{range_step}
+use Rattle.pg_select.proofs.Reaches.{range_step}
 use Rattle.pg_driver.proofs.Rooms.{took_none, took_with, window_filled}
 use Rattle.pg_driver.proofs.Walks.{counted_step}
 use Rattle.pg_driver.proofs.WordSteps.{drop_place}
@@ -36,10 +36,10 @@ position_added {Y} f items more whole p end before is left =
 pub took_in : (counts : Counts) (level len dot : ℕ) (w : Word) (p n : ℕ) (closed : Bool) → 1 ≤ len → IsWord w → p < length w.signs → HasRoom counts n → TookRoom counts (fold with_position counts (counted_in level len dot w p closed)) 1
 took_in counts level len dot w p n closed long word within room = by_test (fits w.signs p len dot) closed refl
   where
-    by_test : (a b : Bool) → fits w.signs p len dot ≡ a → TookRoom counts (fold with_position counts (option_map_or (λ good. record { window = window w.signs p len dot; good = good; weight = weight_at w p } ∷ []) (cond (a && not b) (Some (is_good level w p)) None) [])) 1
+    by_test : (a b : Bool) → fits w.signs p len dot ≡ a → TookRoom counts (fold with_position counts (option_map_or (λ good. record { window = window w.signs p len dot; good = good; weight = position_weight w p } ∷ []) (cond (a && not b) (Some (is_good level w p)) None) [])) 1
     by_test false b is = took_none counts n 1 room
     by_test true true is = took_none counts n 1 room
-    by_test true false is = took_with counts (record { window = window w.signs p len dot; good = is_good level w p; weight = weight_at w p }) n room (window_filled w.signs p len dot long is) (weight_small w p word within)
+    by_test true false is = took_with counts (record { window = window w.signs p len dot; good = is_good level w p; weight = position_weight w p }) n room (window_filled w.signs p len dot long is) (weight_small w p word within)
 
 -- sums that are found are small
 pub found_small : (counts : Counts) (u : List ℕ) (n good bad : ℕ) → HasRoom counts n → Some (good, bad) ≡ find cmp u counts → (good < 2 ^ 40) × (bad < 2 ^ 40)
@@ -67,12 +67,12 @@ changed_step {X} f old cur i x d within is new =
     ∙ (let next : suc i ≡ i + 1 = omega arith in ap (λ k. map f (take k old) ++ drop k old) next)
 
 -- words have no fewer letters than their number
-pub few_words : (words : List Word) → All IsWord words → length words ≤ sum_by letters_of words
+pub few_words : (words : List Word) → All IsWord words → length words ≤ sum_by letter_count words
 few_words [] all = omega arith
 few_words (w ∷ words) all =
     let word : IsWord w = All-head IsWord w words all in
-    let rest : length words ≤ sum_by letters_of words = few_words words (All-tail IsWord w words all) in
-    omega (arith, sum_by-cons letters_of w words, word.long)
+    let rest : length words ≤ sum_by letter_count words = few_words words (All-tail IsWord w words all) in
+    omega (arith, sum_by-cons letter_count w words, word.long)
 
 -- the positions of one word more
 pub word_added : (m : Minima) (level : ℕ) (P : Patterns) (items more whole : List OpenPosition) (words : List Word) (i : ℕ) (w : Word) → slice_get words i ≡ Some w → more ≡ items ++ open_in m level P i w → items ++ open_from m level P i (drop i words) ≡ whole

@@ -6,11 +6,11 @@ use Rattle.std.proofs.lemmas.List.Folds.{list_all-append}
 use Rattle.pg_types.specs.declared.limits.TheConstants.{LENGTH_MAX, FILE_MAX}
 use Rattle.pg_types.specs.declared.parameters.LevelParams.{LevelParams}
 use Rattle.pg_types.specs.Counts.{Counts}
-use Rattle.pg_dict.specs.Word.{Word, letters_of}
+use Rattle.pg_dict.specs.Word.{Word, letter_count}
 use Rattle.pg_patterns.specs.Values.{largest}
 use Rattle.pg_select.specs.declared.pass.Pass.{Pass}
 use Rattle.pg_select.specs.LawsSteps.{IsBelow, IsUpTo}
-use Rattle.pg_select.specs.Meanings.{Meaning, begun_pass, with_position}
+use Rattle.pg_select.specs.Meanings.{Meaning, after_begin_pass, with_position}
 use Rattle.pg_select.specs.CountedPositions.{CountedPosition, counted_positions}
 use Rattle.pg_select.specs.Statuses.{is_odd}
 use Rattle.pg_select.specs.Windows.{Patterns}
@@ -30,19 +30,19 @@ use Rattle.pg_driver.proofs.OpenPositions.{counted_are_open}
 use Rattle.pg_driver.proofs.Rooms.{room_none}
 
 -- a pass that begins has room for the open positions
-pub room_open : (m n : Meaning) (level len dot : ℕ) (source : Source) (entries : List OpenPosition) → 1 ≤ source.minima.left → sum_by letters_of source.words ≤ FILE_MAX → n ≡ begun_pass m level len dot
+pub room_open : (m n : Meaning) (level len dot : ℕ) (source : Source) (entries : List OpenPosition) → 1 ≤ source.minima.left → sum_by letter_count source.words ≤ FILE_MAX → n ≡ after_begin_pass m level len dot
     → InLevel level len source.minima source.words m.patterns m.hopeless entries → HasRoom n.counts (length entries)
 room_open m n level len dot source entries low few begins is =
-    let some : length entries ≤ sum_by letters_of source.words = open_few level len source.minima source.words m.patterns m.hopeless entries low is.are_open in
+    let some : length entries ≤ sum_by letter_count source.words = open_few level len source.minima source.words m.patterns m.hopeless entries low is.are_open in
     subst (λ (x : Meaning). HasRoom x.counts (length entries)) (sym begins) (room_none (length entries) (omega arith))
 
 -- counting the open positions counts what the pass counts
-pub open_counted : (m n after : Meaning) (level len dot : ℕ) (source : Source) (entries : List OpenPosition) → len ≤ LENGTH_MAX → dot ≤ len → InLevel level len source.minima source.words m.patterns m.hopeless entries → n ≡ begun_pass m level len dot
-    → after ≡ counting n (flat_map (counted_of level len dot source.words) entries) → after ≡ counting (begun_pass m level len dot) (counted_positions source.minima source.words (record { level = level; len = len; dot = dot }) m.patterns m.hopeless)
+pub open_counted : (m n after : Meaning) (level len dot : ℕ) (source : Source) (entries : List OpenPosition) → len ≤ LENGTH_MAX → dot ≤ len → InLevel level len source.minima source.words m.patterns m.hopeless entries → n ≡ after_begin_pass m level len dot
+    → after ≡ counting n (flat_map (counted_of level len dot source.words) entries) → after ≡ counting (after_begin_pass m level len dot) (counted_positions source.minima source.words (record { level = level; len = len; dot = dot }) m.patterns m.hopeless)
 open_counted m n after level len dot source entries short within is begins counts =
     counts
     ∙ ap (λ (x : Meaning). counting x (flat_map (counted_of level len dot source.words) entries)) begins
-    ∙ ap (counting (begun_pass m level len dot)) (sym (counted_are_open level len dot source.minima source.words m.patterns m.hopeless entries short within is.are_open))
+    ∙ ap (counting (after_begin_pass m level len dot)) (sym (counted_are_open level len dot source.minima source.words m.patterns m.hopeless entries short within is.are_open))
 
 module _ (source : Source) (params : LevelParams) (known : Known) (pass : Pass) where
   -- the open positions after a pass of the trace

@@ -8,16 +8,16 @@ use Rattle.pg_types.specs.declared.parameters.LevelParams.{LevelParams}
 use Rattle.pg_types.specs.Placement.{Families, taken, top}
 use Rattle.pg_translate.specs.Alphabets.{Alphabet}
 use Rattle.pg_dict.specs.Word.{Word}
-use Rattle.pg_select.specs.Meanings.{Meaning, IsLayout, begun_pass, with_position}
+use Rattle.pg_select.specs.Meanings.{Meaning, IsLayout, after_begin_pass, with_position}
 use Rattle.pg_select.specs.declared.pass.Pass.{Pass}
-use Rattle.pg_select.specs.CountedPositions.{CountedPosition, Candidate, counted_positions}
+use Rattle.pg_select.specs.CountedPositions.{CountedPosition, Candidate, counted_positions, minima_of}
 use Rattle.pg_driver.specs.declared.choices.Choices.{Choices}
 use Rattle.pg_driver.specs.declared.records.PassRecord.{PassRecord}
 use Rattle.pg_driver.specs.Accounts.{pass_line, totals_by}
 use Rattle.pg_driver.specs.Choosing.{HasChosen, candidate_of, no_choices, with_candidates}
 use Rattle.pg_driver.specs.Counting.{counting}
 use Rattle.pg_driver.specs.States.{DidPass, State, made_by, state_of, state_after}
-use Rattle.pg_driver.specs.Told.{layout_told, line_of, minima_of, over}
+use Rattle.pg_driver.specs.Told.{layout_told, line_of, over}
 use Rattle.pg_driver.specs.Traces.{PassTrace, Source, chosen_of, hopeless_of}
 use Rattle.pg_driver.proofs.ChoiceSteps.{state_with}
 use Rattle.pg_driver.proofs.Numbers.{zero_plus}
@@ -29,7 +29,7 @@ seen_in t words pass m = counted_positions (minima_of t) words pass m.patterns m
 
 -- an engine after the walk of a pass
 abbrev pub counted_pass : Alphabet → List Word → Pass → Meaning → Meaning
-counted_pass t words pass m = counting (begun_pass m pass.level pass.len pass.dot) (seen_in t words pass m)
+counted_pass t words pass m = counting (after_begin_pass m pass.level pass.len pass.dot) (seen_in t words pass m)
 
 -- the pass, and its candidates
 abbrev pub pass_in : Alphabet → List Word → LevelParams → Pass → Meaning → PassTrace
@@ -99,7 +99,7 @@ did_pass t words params pass m m2 n before numbers layout counted totals has cho
 }
 
 -- an engine that counted what a pass counts, and then chose
-pub counted_as : (t : Alphabet) (words : List Word) (pass : Pass) (m m1 m2 : Meaning) → m1 ≡ begun_pass m pass.level pass.len pass.dot → m2 ≡ counting m1 (counted_positions (minima_of t) words pass m1.patterns m1.hopeless) → m2 ≡ counted_pass t words pass m
+pub counted_as : (t : Alphabet) (words : List Word) (pass : Pass) (m m1 m2 : Meaning) → m1 ≡ after_begin_pass m pass.level pass.len pass.dot → m2 ≡ counting m1 (counted_positions (minima_of t) words pass m1.patterns m1.hopeless) → m2 ≡ counted_pass t words pass m
 counted_as t words pass m m1 m2 begins counts = counts ∙ ap (λ (x : Meaning). counting x (counted_positions (minima_of t) words pass x.patterns x.hopeless)) begins
 
 pub counts_kept : (t : Alphabet) (words : List Word) (params : LevelParams) (pass : Pass) (m m2 n : Meaning) → m2 ≡ counted_pass t words pass m → HasChosen params (map candidate_of m2.counts) m2 n → n.counts ≡ fold with_position [] (seen_in t words pass m)

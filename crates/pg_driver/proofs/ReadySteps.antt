@@ -5,7 +5,7 @@ use Rattle.pg_types.specs.declared.limits.TheConstants.{LENGTH_MAX, FILE_MAX}
 use Rattle.pg_types.specs.declared.marks.Totals.{Totals}
 use Rattle.pg_types.specs.declared.parameters.LevelParams.{LevelParams}
 use Rattle.pg_types.specs.Counts.{Counts}
-use Rattle.pg_dict.specs.Word.{Word, IsWord, letters_of}
+use Rattle.pg_dict.specs.Word.{Word, IsWord, letter_count}
 use Rattle.pg_select.specs.declared.pass.Pass.{Pass}
 use Rattle.pg_select.specs.LawsSteps.{IsBelow, IsUpTo}
 use Rattle.pg_select.specs.Meanings.{Meaning, with_position}
@@ -35,7 +35,7 @@ use Rattle.pg_driver.proofs.OpenTraces.{level_on, totals_on}
 use Rattle.pg_driver.proofs.Rooms.{room_none}
 
 -- where a level begins
-pub ready_at_start : (source : Source) (level len : ℕ) (m : Meaning) (o : OpenLevel) → m.hopeless ≡ [] → IsBelow level m.patterns → 1 ≤ source.minima.left → All IsWord source.words → sum_by letters_of source.words ≤ FILE_MAX
+pub ready_at_start : (source : Source) (level len : ℕ) (m : Meaning) (o : OpenLevel) → m.hopeless ≡ [] → IsBelow level m.patterns → 1 ≤ source.minima.left → All IsWord source.words → sum_by letter_count source.words ≤ FILE_MAX
     → o.positions.items ≡ open_from source.minima level m.patterns 0 source.words → o.totals ≡ totals_by source m.patterns → IsOpenAt source level len (known_of m) o
 ready_at_start source level len m o none below least words letters are totals = record {
   least = least;
@@ -53,8 +53,8 @@ module _ (source : Source) (level len : ℕ) (known : Known) (o : OpenLevel) (re
 
   pub has_room : (counts : Counts) → counts ≡ [] → HasRoom counts (length o.positions.items)
   has_room counts none =
-      let some : length o.positions.items ≤ sum_by letters_of source.words = open_few level len source.minima source.words known.patterns known.hopeless o.positions.items ready.least ready.positions.are_open in
-      let letters : sum_by letters_of source.words ≤ FILE_MAX = ready.letters in
+      let some : length o.positions.items ≤ sum_by letter_count source.words = open_few level len source.minima source.words known.patterns known.hopeless o.positions.items ready.least ready.positions.are_open in
+      let letters : sum_by letter_count source.words ≤ FILE_MAX = ready.letters in
       subst (λ (cs : Counts). HasRoom cs (length o.positions.items)) (sym none) (room_none (length o.positions.items) (omega arith))
 
   pub counts_all : (dot : ℕ) → len ≤ LENGTH_MAX → dot ≤ len → flat_map (counted_of level len dot source.words) o.positions.items ≡ counted_positions source.minima source.words (record { level = level; len = len; dot = dot }) known.patterns known.hopeless

@@ -12,11 +12,11 @@ use Rattle.pg_types.specs.Counts.{Counts, AreSmall, sums_of, with_weight}
 use Rattle.pg_select.specs.Meanings.{with_position}
 use Rattle.pg_select.specs.declared.pass.Pass.{Pass}
 use Rattle.pg_select.specs.CountedPositions.{CountedPosition, counted_positions_at, counts_as}
-use Rattle.pg_select.specs.Statuses.{status_at, weight_at}
+use Rattle.pg_select.specs.Statuses.{status_at, position_weight}
 use Rattle.pg_select.specs.Windows.{Hopeless, window, fits, covered}
 use Rattle.pg_driver.specs.Counting.{HasRoom, TookRoom}
 use Rattle.pg_driver.proofs.Puts.{weight_found, weight_put, length_put, all_put}
-use Rattle.pg_driver.proofs.MarkSteps.{weight_small}
+use Rattle.pg_select.proofs.MarkSteps.{weight_small}
 
 -- counts with room for a position have small sums with it
 pub room_small : (counts : Counts) (u : List ℕ) (good : Bool) (weight : ℕ) → HasRoom counts 1 → weight ≤ WEIGHT_MAX → AreSmall (with_weight (sums_of counts u) good weight)
@@ -73,8 +73,8 @@ pub took_position : (counts : Counts) (pass : Pass) (P : List ((List ℕ × ℕ)
 took_position counts pass P H w p n long word within room =
     by_test (fits w.signs p pass.len pass.dot) (not (covered pass.level P H (window w.signs p pass.len pass.dot) pass.dot)) (counts_as pass.level (status_at P w p)) refl
   where
-    by_test : (a b : Bool) (o : Option Bool) → fits w.signs p pass.len pass.dot ≡ a → TookRoom counts (fold with_position counts (option_map_or (λ good. record { window = window w.signs p pass.len pass.dot; good = good; weight = weight_at w p } ∷ []) (cond (a && b) o None) [])) 1
+    by_test : (a b : Bool) (o : Option Bool) → fits w.signs p pass.len pass.dot ≡ a → TookRoom counts (fold with_position counts (option_map_or (λ good. record { window = window w.signs p pass.len pass.dot; good = good; weight = position_weight w p } ∷ []) (cond (a && b) o None) [])) 1
     by_test false b o is = took_none counts n 1 room
     by_test true false o is = took_none counts n 1 room
     by_test true true None is = took_none counts n 1 room
-    by_test true true (Some good) is = took_with counts (record { window = window w.signs p pass.len pass.dot; good = good; weight = weight_at w p }) n room (window_filled w.signs p pass.len pass.dot long is) (weight_small w p word within)
+    by_test true true (Some good) is = took_with counts (record { window = window w.signs p pass.len pass.dot; good = good; weight = position_weight w p }) n room (window_filled w.signs p pass.len pass.dot long is) (weight_small w p word within)

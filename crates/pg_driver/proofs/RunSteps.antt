@@ -11,7 +11,7 @@ use Rattle.pg_types.specs.declared.parameters.LevelParams.{LevelParams}
 use Rattle.pg_types.specs.Parameters.{Parameters}
 use Rattle.pg_types.specs.Placement.{Families, kept, taken, top}
 use Rattle.pg_types.specs.Tails.{tails}
-use Rattle.pg_select.specs.Meanings.{IsLayout, Meaning, ended}
+use Rattle.pg_select.specs.Meanings.{IsLayout, Meaning, after_end_level}
 use Rattle.pg_select.specs.declared.pass.Pass.{Pass}
 use Rattle.pg_select.specs.Windows.{Hopeless as HopelessPlaces, Patterns}
 use Rattle.pg_driver.specs.declared.records.LevelRecord.{LevelRecord}
@@ -67,7 +67,7 @@ module _ (source : Source) (number : ℕ) (params : LevelParams) (m0 m n : Meani
   patterns_end state = ap (λ (x : State). x.known.patterns) state ∙ ap (λ (k : Known). k.patterns) same_known
 
   -- a level that was done
-  pub did_level : state_of m ≡ state_at_end m0.signs (state_of m0) passes → AreRecorded source m0.signs m0.families passes r0 r → r0.chosen ≡ 0 → n ≡ ended m → totals ≡ totals_by source n.patterns → IsLayout n layout → s ≡ with_level r number totals layout
+  pub did_level : state_of m ≡ state_at_end m0.signs (state_of m0) passes → AreRecorded source m0.signs m0.families passes r0 r → r0.chosen ≡ 0 → n ≡ after_end_level m → totals ≡ totals_by source n.patterns → IsLayout n layout → s ≡ with_level r number totals layout
       → DidLevel source level m0 n r0 s
   did_level state records chosen ends sums tells is =
       let patterns : m.patterns ≡ patterns_after level = patterns_end state in

@@ -4,7 +4,7 @@ use Rattle.pg_types.specs.declared.limits.TheConstants.{FILE_MAX}
 use Rattle.pg_types.specs.declared.marks.Totals.{Totals}
 use Rattle.pg_types.specs.declared.parameters.LevelParams.{LevelParams}
 use Rattle.pg_types.specs.Counts.{Counts}
-use Rattle.pg_dict.specs.Word.{Word, IsWord, letters_of}
+use Rattle.pg_dict.specs.Word.{Word, IsWord, letter_count}
 use Rattle.pg_select.specs.declared.pass.Pass.{Pass}
 use Rattle.pg_select.specs.LawsSteps.{FindsMore, PreventsMore}
 use Rattle.pg_select.specs.Statuses.{is_odd}
@@ -18,12 +18,13 @@ use Rattle.pg_driver.specs.OpenLevels.{InLevel, position_after}
 use Rattle.pg_driver.specs.OpenPositions.{IsPlaced}
 use Rattle.pg_driver.specs.Sound.{IsSmall}
 use Rattle.pg_driver.specs.Traces.{Known, Source}
+use Rattle.pg_types.specs.Limits.{sums_limit}
 
 -- the positions are the open ones at a length of a level, and the totals are those by the patterns
 pub record IsOpenAt (source : Source) (level len : ℕ) (known : Known) (o : OpenLevel) : Type 0 where
   pub least : 1 ≤ source.minima.left
   pub words : All IsWord source.words
-  pub letters : sum_by letters_of source.words ≤ FILE_MAX
+  pub letters : sum_by letter_count source.words ≤ FILE_MAX
   pub positions : InLevel level len source.minima source.words known.patterns known.hopeless o.positions.items
   pub totals : o.totals ≡ totals_by source known.patterns
 
@@ -49,7 +50,7 @@ Carries odd old new good bad = MatchBool odd (FindsMore old new good bad) (Preve
 -- the totals before a pass have what its choices take away, and all sums are small
 pub record CanCarry (odd : Bool) (totals : Totals) (good bad : ℕ) : Type 0 where
   pub small : IsSmall totals
-  pub sums : (good < 2 ^ 40) × (bad < 2 ^ 40)
+  pub sums : (good < sums_limit) × (bad < sums_limit)
   pub within : MatchBool odd (good ≤ totals.missed) ((bad ≤ totals.good) × (good ≤ totals.bad))
 
 abbrev pub CanGoOn : Pass → Choices → Counting → Type 0

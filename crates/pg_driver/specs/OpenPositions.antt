@@ -6,7 +6,7 @@ use Rattle.pg_types.specs.declared.limits.TheConstants.{LENGTH_MAX}
 use Rattle.pg_translate.specs.Reach.{positions}
 use Rattle.pg_dict.specs.Word.{Word}
 use Rattle.pg_select.specs.CountedPositions.{Minima, CountedPosition, counted_positions}
-use Rattle.pg_select.specs.Statuses.{weight_at}
+use Rattle.pg_select.specs.Statuses.{position_weight}
 use Rattle.pg_select.specs.Windows.{Patterns, Hopeless, window}
 use Rattle.pg_driver.specs.declared.dot_set.DotSet.{DotSet}
 use Rattle.pg_driver.specs.declared.open_positions.OpenPosition.{OpenPosition}
@@ -35,7 +35,7 @@ pub record AreOpen (level len : ℕ) (m : Minima) (words : List Word) (P : Patte
 
 -- what a pass counts at an open position
 abbrev pub counted_in : ℕ → ℕ → ℕ → Word → ℕ → Bool → List CountedPosition
-counted_in level len dot w p closed = option_map_or (λ good. record { window = window w.signs p len dot; good = good; weight = weight_at w p } ∷ []) (counted_with level w p len dot closed) []
+counted_in level len dot w p closed = option_map_or (λ good. record { window = window w.signs p len dot; good = good; weight = position_weight w p } ∷ []) (counted_with level w p len dot closed) []
 
 abbrev pub counted_of : ℕ → ℕ → ℕ → List Word → OpenPosition → List CountedPosition
 counted_of level len dot words e = option_map_or (λ w. counted_in level len dot w e.at (has_dot e.closed dot)) (slice_get words e.word) []

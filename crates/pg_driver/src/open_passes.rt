@@ -4,7 +4,7 @@ ghost use Rattle.std.specs.List.{flat_map};
 ghost use Rattle.pg_types.specs.Counts.{SignsWithin};
 ghost use Rattle.pg_types.specs.Parameters.{IsLevel};
 ghost use Rattle.pg_dict.specs.Word.{IsWord, SignsAtMost};
-ghost use Rattle.pg_dict.specs.Lent.{word_of};
+ghost use Rattle.pg_dict.specs.Lent.{lent_word};
 ghost use Rattle.pg_select.specs.Statuses.{is_odd};
 ghost use Rattle.pg_driver.specs.Counting.{counting, HasRoom, TookRoom};
 ghost use Rattle.pg_driver.specs.States.{IsPass};
@@ -37,13 +37,13 @@ fn count_at<E: Engine>(
 ) -> Result<(), AllocError>
     requires ranges { IsPass pass }
     requires pass { (E.meaning engine.old).pass ≡ pass }
-    requires word { IsWord (word_of w.now) }
+    requires word { IsWord (lent_word w.now) }
     requires signs { SignsWithin (E.meaning engine.old).signs w.now.signs.now }
     requires within { p < length w.now.signs.now }
     requires room { HasRoom (E.meaning engine.old).counts 1 }
     ensures ok { OnOk result (E.meaning engine.new
         ≡ counting (E.meaning engine.old)
-        (counted_in pass.level pass.len pass.dot (word_of w.now) p (has_dot closed pass.dot))) }
+        (counted_in pass.level pass.len pass.dot (lent_word w.now) p (has_dot closed pass.dot))) }
     ensures err { OnErr result (E.meaning engine.new ≡ E.meaning engine.old) }
 {
     if fits(pass, w.signs.len(), p) && !closed.contains(pass.dot) {
@@ -114,11 +114,11 @@ fn close_at<E: Engine>(
     requires ranges { IsPass pass }
     requires pass { (E.meaning engine.now).pass ≡ pass }
     requires level { IsLevel params.now }
-    requires word { IsWord (word_of w.now) }
+    requires word { IsWord (lent_word w.now) }
     requires signs { SignsWithin (E.meaning engine.now).signs w.now.signs.now }
     requires within { p < length w.now.signs.now }
     requires room { HasRoom (E.meaning engine.now).counts 0 }
-    ensures { result ≡ closed_dots_after params.now (pass) (E.meaning engine.now).counts (word_of w.now) p closed }
+    ensures { result ≡ closed_dots_after params.now (pass) (E.meaning engine.now).counts (lent_word w.now) p closed }
 {
     if !fits(pass, w.signs.len(), p) || closed.contains(pass.dot) {
         return closed;

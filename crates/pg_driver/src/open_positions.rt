@@ -3,16 +3,16 @@ ghost use Rattle.std.specs.Prelude.{◌≡◌, ◌≤◌, ◌++◌, not, map, fi
 ghost use Rattle.pg_types.specs.declared.limits.TheConstants.{LENGTH_MAX};
 ghost use Rattle.pg_types.specs.Counts.{SignsWithin};
 ghost use Rattle.pg_dict.specs.Word.{IsWord, SignsAtMost};
-ghost use Rattle.pg_dict.specs.Lent.{word_of};
-ghost use Rattle.pg_select.specs.CountedPositions.{counts_as as counts_as_of};
-ghost use Rattle.pg_driver.specs.Told.{minima_of};
+ghost use Rattle.pg_dict.specs.Lent.{lent_word};
+ghost use Rattle.pg_select.specs.CountedPositions.{counts_as as counts_as_of, minima_of};
 ghost use Rattle.pg_driver.specs.DotSets.{is_full, longer_dots};
 ghost use Rattle.pg_driver.specs.OpenPositions.{with_closed};
 ghost use Rattle.pg_driver.specs.OpenLevels.{open_as, open_in, open_from, longer_positions};
 
 use crate::dot_set::DotSet;
-use crate::marks::{counts_as, mark_at, positions};
+use crate::marks::counts_as;
 use pg_dict::{Dictionary, WordRef};
+use pg_select::marks::{mark_at, positions};
 use pg_select::{Engine, WordState};
 use pg_translate::Table;
 use pg_types::Mark;
@@ -60,11 +60,11 @@ fn open_word<E: Engine>(
     found: &mut WordState,
     open_positions: &mut Vec<OpenPosition>,
 ) -> Result<(), AllocError>
-    requires word { IsWord (word_of w.now) }
+    requires word { IsWord (lent_word w.now) }
     requires signs { SignsWithin (E.meaning engine.now).signs w.now.signs.now }
     ensures { OnOk result (open_positions.new.items
         ≡ open_positions.old.items ++ open_in (minima_of table.now) level (E.meaning engine.now).patterns word
-        (word_of w.now)) }
+        (lent_word w.now)) }
 {
     let Some((first, end)) = positions(table, w) else {
         return Ok(());

@@ -2,19 +2,19 @@
 ghost use Rattle.std.specs.Prelude.{◌≡◌, ◌≤◌, ◌<◌, ◌+◌, ◌*◌, ◌&&◌, [], not, false, if◌then◌else◌, None, length, slice_index, slice_index_or, IfOk, OnOk, OnErr};
 ghost use Rattle.pg_types.specs.Counts.{SignsWithin};
 ghost use Rattle.pg_types.specs.declared.limits.TheConstants.{WORD_LETTERS_MAX};
-ghost use Rattle.pg_dict.specs.Word.{IsWord, SignsAtMost, letters_of};
-ghost use Rattle.pg_dict.specs.Lent.{word_of};
-ghost use Rattle.pg_select.specs.CountedPositions.{counted_positions_at, counted_positions, counted_positions_in, counts_as as counts_as_of};
-ghost use Rattle.pg_select.specs.Statuses.{status_at, weight_at};
-ghost use Rattle.pg_select.specs.Sums.{marks_in, totals as totals_of_words};
+ghost use Rattle.pg_dict.specs.Word.{IsWord, SignsAtMost, letter_count};
+ghost use Rattle.pg_dict.specs.Lent.{lent_word};
+ghost use Rattle.pg_select.specs.CountedPositions.{counted_positions_at, counted_positions, counted_positions_in, counts_as as counts_as_of, minima_of};
+ghost use Rattle.pg_select.specs.Statuses.{status_at, position_weight};
+ghost use Rattle.pg_select.specs.Sums.{marks_in, totals as totals_of_words, with_mark, with_marks, HasRoomFor, TookRoomFor};
 ghost use Rattle.pg_select.specs.Windows.{fits as fits_in};
-ghost use Rattle.pg_driver.specs.Counting.{counting, with_mark, with_marks, HasRoom, HasRoomFor, TookRoom, TookRoomFor, IsRead};
+ghost use Rattle.pg_driver.specs.Counting.{counting, HasRoom, TookRoom, IsRead};
 ghost use Rattle.pg_driver.specs.Sound.{IsSmall};
 ghost use Rattle.pg_driver.specs.States.{IsPass};
-ghost use Rattle.pg_driver.specs.Told.{minima_of};
 
-use crate::marks::{add_mark, counts_as, fits, mark_at, no_totals, positions};
+use crate::marks::{counts_as, fits};
 use pg_dict::{Dictionary, WordRef};
+use pg_select::marks::{add_mark, mark_at, no_totals, positions};
 use pg_select::{Engine, Pass, WordState};
 use pg_translate::Table;
 use pg_types::{Mark, Totals};
@@ -47,14 +47,14 @@ fn count_at<E: Engine>(
 ) -> Result<(), AllocError>
     requires ranges { IsPass pass }
     requires pass { (E.meaning engine.old).pass ≡ pass }
-    requires read { IsRead (E.meaning engine.old) (word_of w.now) found.now }
+    requires read { IsRead (E.meaning engine.old) (lent_word w.now) found.now }
     requires within { p < length w.now.signs.now }
-    requires mark { mark ≡ status_at (E.meaning engine.old).patterns (word_of w.now) p }
+    requires mark { mark ≡ status_at (E.meaning engine.old).patterns (lent_word w.now) p }
     requires room { HasRoom (E.meaning engine.old).counts 1 }
     ensures ok { OnOk result (E.meaning engine.new
         ≡ counting (E.meaning engine.old)
         (counted_positions_at (E.meaning engine.old).pass (E.meaning engine.old).patterns (E.meaning engine.old).hopeless
-        (word_of w.now) p)) }
+        (lent_word w.now) p)) }
     ensures err { OnErr result (E.meaning engine.new ≡ E.meaning engine.old) }
 {
     if let Some(good) = counted(pass, w, found, p, mark) {
@@ -76,17 +76,17 @@ fn count_position<E: Engine>(
 ) -> Result<(), AllocError>
     requires ranges { IsPass pass }
     requires pass { (E.meaning engine.old).pass ≡ pass }
-    requires read { IsRead (E.meaning engine.old) (word_of w.now) found.now }
+    requires read { IsRead (E.meaning engine.old) (lent_word w.now) found.now }
     requires within { p < length w.now.signs.now }
     requires room { HasRoom (E.meaning engine.old).counts 1 }
     requires room_for { HasRoomFor sums.old 1 }
     ensures ok { OnOk result (E.meaning engine.new
         ≡ counting (E.meaning engine.old)
         (counted_positions_at (E.meaning engine.old).pass (E.meaning engine.old).patterns (E.meaning engine.old).hopeless
-        (word_of w.now) p)) }
+        (lent_word w.now) p)) }
     ensures sums { OnOk result (sums.new
-        ≡ with_mark sums.old (status_at (E.meaning engine.old).patterns (word_of w.now) p)
-        (weight_at (word_of w.now) p)) }
+        ≡ with_mark sums.old (status_at (E.meaning engine.old).patterns (lent_word w.now) p)
+        (position_weight (lent_word w.now) p)) }
     ensures err { OnErr result (E.meaning engine.new ≡ E.meaning engine.old) }
 {
     let mark = mark_at(w, found, p);
@@ -105,19 +105,19 @@ pub fn count_word<E: Engine>(
 ) -> Result<(), AllocError>
     requires ranges { IsPass pass }
     requires pass { (E.meaning engine.old).pass ≡ pass }
-    requires word { IsWord (word_of w.now) }
+    requires word { IsWord (lent_word w.now) }
     requires signs { SignsWithin (E.meaning engine.old).signs w.now.signs.now }
-    requires room { HasRoom (E.meaning engine.old).counts (letters_of (word_of w.now)) }
-    requires room_for { HasRoomFor sums.old (letters_of (word_of w.now)) }
+    requires room { HasRoom (E.meaning engine.old).counts (letter_count (lent_word w.now)) }
+    requires room_for { HasRoomFor sums.old (letter_count (lent_word w.now)) }
     ensures ok { OnOk result (E.meaning engine.new
         ≡ counting (E.meaning engine.old)
         (counted_positions_in (minima_of table.now) (E.meaning engine.old).pass (E.meaning engine.old).patterns
-        (E.meaning engine.old).hopeless (word_of w.now))) }
+        (E.meaning engine.old).hopeless (lent_word w.now))) }
     ensures sums { OnOk result (sums.new
-        ≡ with_marks sums.old (marks_in (minima_of table.now) (E.meaning engine.old).patterns (word_of w.now))) }
+        ≡ with_marks sums.old (marks_in (minima_of table.now) (E.meaning engine.old).patterns (lent_word w.now))) }
     ensures took { OnOk result (TookRoom (E.meaning engine.old).counts (E.meaning engine.new).counts
-        (letters_of (word_of w.now))) }
-    ensures took_for { OnOk result (TookRoomFor sums.old sums.new (letters_of (word_of w.now))) }
+        (letter_count (lent_word w.now))) }
+    ensures took_for { OnOk result (TookRoomFor sums.old sums.new (letter_count (lent_word w.now))) }
     ensures signs { (E.meaning engine.new).signs ≡ (E.meaning engine.old).signs }
 {
     let Some((first, end)) = positions(table, w) else {

@@ -37,7 +37,7 @@ impl PackedEngine {
     ghost use Rattle.pg_patterns.specs.Values.{SignsUpTo};
     ghost use Rattle.pg_select.specs.Meanings.{new_engine};
     ghost use Rattle.pg_packed.specs.Engines.{meaning_of};
-    ghost use Rattle.pg_packed.specs.Starts.{entered_all};
+    ghost use Rattle.pg_packed.specs.Starts.{pattern_families};
 
     /// An engine with the greatest sign `signs` whose patterns are those of `start`. Nothing is hopeless or counted, no pass
     /// was begun, and the engine is tidy. Its families are those after the patterns are entered in their order.
@@ -45,7 +45,7 @@ impl PackedEngine {
         requires signs { (1 ≤ signs) × (signs ≤ SIGNS_MAX) }
         requires known { SignsUpTo signs start.now }
         ensures { IfOk result (λ engine. meaning_of engine
-            ≡ new_engine signs start.now (Some (entered_all signs start.now))) }
+            ≡ new_engine signs start.now (Some (pattern_families signs start.now))) }
     {
         Ok(PackedEngine {
             trie: trie_of(alloc, signs, start)?,

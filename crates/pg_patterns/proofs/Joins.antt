@@ -7,7 +7,7 @@ use Rattle.std.specs.FinMap.Entries.{find, find-put, find_tied, same_entries}
 use Rattle.std.specs.List.{list_all, All}
 use Rattle.std.specs.List.Sorted.{IsPermutation}
 use Rattle.pg_patterns.specs.DottedSigns.{dotted_cmp, dotted_total, same_dotted, dotted_ties, dotted_exact}
-use Rattle.pg_patterns.specs.Values.{raise, value_of, best, joined, is_entry, IsPatternMap}
+use Rattle.pg_patterns.specs.Values.{raise, value_of, best, map_of_entries, is_entry, IsPatternMap}
 use Rattle.pg_types.proofs.BoolFacts.{and_first, and_second, equal_is}
 use Rattle.pg_patterns.proofs.Sound.{raise_keeps, entry_bounds}
 
@@ -37,7 +37,7 @@ value_of_fold (e ∷ es) P k =
     ∙ ap (λ n. max (best (same_dotted k) es) n) (value_of_raise P e.0 k e.1)
     ∙ max_turned (only (same_dotted k e.0) e.1) (best (same_dotted k) es) (value_of P k)
 
-pub value_of_joined : (es : List ((List ℕ × ℕ) × ℕ)) (k : List ℕ × ℕ) → value_of (joined es) k ≡ best (same_dotted k) es
+pub value_of_joined : (es : List ((List ℕ × ℕ) × ℕ)) (k : List ℕ × ℕ) → value_of (map_of_entries es) k ≡ best (same_dotted k) es
 value_of_joined es k = value_of_fold es [] k ∙ max_none (best (same_dotted k) es)
   where
     max_none : (n : ℕ) → max n 0 ≡ n
@@ -48,7 +48,7 @@ fold_keeps [] P map sound = map
 fold_keeps (e ∷ es) P map sound = fold_keeps es (raise P e.0 e.1) (raise_keeps P e.0 e.1 map (entry_bounds e (and_first _ _ sound))) (and_second _ _ sound)
 
 -- entries of patterns are joined to a map of patterns
-pub joined_keeps : (es : List ((List ℕ × ℕ) × ℕ)) → list_all is_entry es ≡ true → IsPatternMap (joined es)
+pub joined_keeps : (es : List ((List ℕ × ℕ) × ℕ)) → list_all is_entry es ≡ true → IsPatternMap (map_of_entries es)
 joined_keeps es sound = fold_keeps es [] (record { sorted = tt; sound = refl }) sound
 
 -- the entry of a value that is not 0

@@ -5,7 +5,7 @@ use Rattle.std.specs.declared.cmp.Ordering.TheVariants.{Less, Equal, Greater}
 use Rattle.std.specs.FinMap.Entries.{put, by_order}
 use Rattle.std.specs.List.{All}
 use Rattle.pg_patterns.specs.DottedSigns.{dotted_cmp}
-use Rattle.pg_patterns.specs.Values.{SignsUpTo, raise, value_of, joined}
+use Rattle.pg_patterns.specs.Values.{SignsUpTo, raise, value_of, map_of_entries}
 
 -- the signs of an entry are at most n
 abbrev Known : ℕ → (List ℕ × ℕ) × ℕ → Type 0
@@ -27,5 +27,5 @@ known_fold n [] P map all = map
 known_fold n (e ∷ es) P map all =
     known_fold n es (raise P e.0 e.1) (known_put n e.0 (max e.1 (value_of P e.0)) P (All-head (Known n) e es all) map) (All-tail (Known n) e es all)
 
-pub known_joined : (n : ℕ) (es : List ((List ℕ × ℕ) × ℕ)) → SignsUpTo n es → SignsUpTo n (joined es)
+pub known_joined : (n : ℕ) (es : List ((List ℕ × ℕ) × ℕ)) → SignsUpTo n es → SignsUpTo n (map_of_entries es)
 known_joined n es all = known_fold n es [] (All-nil (Known n)) all

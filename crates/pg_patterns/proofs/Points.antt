@@ -12,8 +12,8 @@ use Rattle.std.specs.FinMap.Entries.{find, is_sorted}
 use Rattle.std.specs.List.{list_all}
 use Rattle.std.specs.Option.{option_map_or}
 use Rattle.pg_patterns.specs.DottedSigns.{dotted_cmp, dotted_total, same_dotted, dotted_ties, dotted_exact}
-use Rattle.pg_patterns.specs.Search.{is_after, begins_with, StandsAt, first_value}
-use Rattle.pg_patterns.specs.Texts.{digit_of}
+use Rattle.pg_patterns.specs.Search.{is_after, begins_with, HasRank, first_value}
+use Rattle.pg_patterns.specs.Texts.{value_digit}
 use Rattle.pg_types.proofs.BoolFacts.{greater_is, less_left, equal_is}
 use Rattle.pg_patterns.proofs.Ordered.{sorted_at, find_over, find_there, find_gap, all_before, first_before, first_at, first_not_before, sorted_drop, after_below}
 
@@ -82,18 +82,18 @@ begins_not k [] first = refl
 begins_not k (e ∷ es) first =
     elim (same_dotted k e.0) as (λ t. None ≡ cond t (Some e.1) None → t ≡ false) [ true ↦ λ is. cc | false ↦ λ is. refl ] first
 
-before_all : (P : List ((List ℕ × ℕ) × ℕ)) (k : List ℕ × ℕ) (i : ℕ) → StandsAt P k i → list_all (is_after k) (take i P) ≡ true
+before_all : (P : List ((List ℕ × ℕ) × ℕ)) (k : List ℕ × ℕ) (i : ℕ) → HasRank P k i → list_all (is_after k) (take i P) ≡ true
 before_all P k i point = all_before dotted_cmp k P i point.within (λ j d low high. point.before j d high)
 
 -- a place is found where it stands
-found_at : (P : List ((List ℕ × ℕ) × ℕ)) (k : List ℕ × ℕ) (i : ℕ) → StandsAt P k i → find dotted_cmp k P ≡ find dotted_cmp k (drop i P)
+found_at : (P : List ((List ℕ × ℕ) × ℕ)) (k : List ℕ × ℕ) (i : ℕ) → HasRank P k i → find dotted_cmp k P ≡ find dotted_cmp k (drop i P)
 found_at P k i point =
     ap (find dotted_cmp k) (sym (take-append-drop i P)) ∙ find_over dotted_cmp k (take i P) (drop i P) (before_all P k i point)
 
 tied : (k : List ℕ × ℕ) (e : (List ℕ × ℕ) × ℕ) → same_dotted k e.0 ≡ true → is_eq (dotted_cmp k e.0) ≡ true
 tied k e same = sym (dotted_ties k e.0) ∙ same
 
-pub digit_there : (P : List ((List ℕ × ℕ) × ℕ)) (k : List ℕ × ℕ) (i v : ℕ) → StandsAt P k i → Some v ≡ first_value k (drop i P) → digit_of P k ≡ (48 + v) ∷ []
+pub digit_there : (P : List ((List ℕ × ℕ) × ℕ)) (k : List ℕ × ℕ) (i v : ℕ) → HasRank P k i → Some v ≡ first_value k (drop i P) → value_digit P k ≡ (48 + v) ∷ []
 digit_there P k i v point first =
     let start = begins_there k (drop i P) v first in
     let found : find dotted_cmp k P ≡ Some v = found_at P k i point ∙ ap (find dotted_cmp k) start.is ∙ find_there dotted_cmp k start.entry start.rest (tied k start.entry start.same) ∙ ap (λ (n : ℕ). Some n) (sym start.value) in
@@ -103,10 +103,10 @@ not_at : (k : List ℕ × ℕ) (es : List ((List ℕ × ℕ) × ℕ)) → begins
 not_at k [] none = refl
 not_at k (e ∷ es) none = sym (dotted_ties k e.0) ∙ none
 
-not_before : (P : List ((List ℕ × ℕ) × ℕ)) (k : List ℕ × ℕ) (i : ℕ) → StandsAt P k i → first_before dotted_cmp k (drop i P) ≡ false
+not_before : (P : List ((List ℕ × ℕ) × ℕ)) (k : List ℕ × ℕ) (i : ℕ) → HasRank P k i → first_before dotted_cmp k (drop i P) ≡ false
 not_before P k i point = first_not_before dotted_cmp k P i (λ d inside. point.behind i d (omega arith) inside)
 
-pub digit_gap : (P : List ((List ℕ × ℕ) × ℕ)) (k : List ℕ × ℕ) (i : ℕ) → T (is_sorted dotted_cmp P) → StandsAt P k i → None ≡ first_value k (drop i P) → digit_of P k ≡ []
+pub digit_gap : (P : List ((List ℕ × ℕ) × ℕ)) (k : List ℕ × ℕ) (i : ℕ) → T (is_sorted dotted_cmp P) → HasRank P k i → None ≡ first_value k (drop i P) → value_digit P k ≡ []
 digit_gap P k i sorted point first =
     let found : find dotted_cmp k P ≡ None = found_at P k i point ∙ find_gap dotted_cmp dotted_total k (drop i P) (sorted_drop dotted_cmp P i sorted) (not_before P k i point) (not_at k (drop i P) (begins_not k (drop i P) first)) in
     ap (λ r. option_map_or (λ v. (48 + v) ∷ []) r []) found
@@ -124,7 +124,7 @@ read_drop (f ∷ P) zero e d rest is = cc
 read_drop (f ∷ P) (suc i) e d rest is = read_drop P i e d rest is
 
 -- behind the entry of a place stands the next dot
-pub next_there : (P : List ((List ℕ × ℕ) × ℕ)) (q : List ℕ) (dot i v : ℕ) → T (is_sorted dotted_cmp P) → StandsAt P (q, dot) i → Some v ≡ first_value (q, dot) (drop i P) → StandsAt P (q, dot + 1) (i + 1)
+pub next_there : (P : List ((List ℕ × ℕ) × ℕ)) (q : List ℕ) (dot i v : ℕ) → T (is_sorted dotted_cmp P) → HasRank P (q, dot) i → Some v ≡ first_value (q, dot) (drop i P) → HasRank P (q, dot + 1) (i + 1)
 next_there P q dot i v sorted point first =
     let start = begins_there (q, dot) (drop i P) v first in
     let inside : i < length P = inside_drop P i start.entry start.rest start.is in
@@ -139,7 +139,7 @@ next_there P q dot i v sorted point first =
     }
 
 -- where a place has no entry, those behind it are later
-later_than : (P : List ((List ℕ × ℕ) × ℕ)) (q : List ℕ) (dot i j : ℕ) (d : (List ℕ × ℕ) × ℕ) → T (is_sorted dotted_cmp P) → StandsAt P (q, dot) i → begins_with (q, dot) (drop i P) ≡ false → i ≤ j → j < length P → dotted_cmp (q, dot) (get_or P j d).0 ≡ Less
+later_than : (P : List ((List ℕ × ℕ) × ℕ)) (q : List ℕ) (dot i j : ℕ) (d : (List ℕ × ℕ) × ℕ) → T (is_sorted dotted_cmp P) → HasRank P (q, dot) i → begins_with (q, dot) (drop i P) ≡ false → i ≤ j → j < length P → dotted_cmp (q, dot) (get_or P j d).0 ≡ Less
 later_than P q dot i j d sorted point none low high =
     let inside : i < length P = omega arith in
     let other : same_dotted (q, dot) (get_or P i d).0 ≡ false = ap (begins_with (q, dot)) (sym (drop_more P i d inside)) ∙ none in
@@ -149,7 +149,7 @@ later_than P q dot i j d sorted point none low high =
     (cases_lt i j)
 
 -- where a place has no entry, the next dot stands there too
-pub next_gap : (P : List ((List ℕ × ℕ) × ℕ)) (q : List ℕ) (dot i : ℕ) → T (is_sorted dotted_cmp P) → StandsAt P (q, dot) i → None ≡ first_value (q, dot) (drop i P) → StandsAt P (q, dot + 1) i
+pub next_gap : (P : List ((List ℕ × ℕ) × ℕ)) (q : List ℕ) (dot i : ℕ) → T (is_sorted dotted_cmp P) → HasRank P (q, dot) i → None ≡ first_value (q, dot) (drop i P) → HasRank P (q, dot + 1) i
 next_gap P q dot i sorted point first =
     record {
       within = point.within;

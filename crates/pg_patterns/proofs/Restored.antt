@@ -8,7 +8,7 @@ use Rattle.std.specs.List.{All, list_any, list_all}
 use Rattle.std.specs.Option.{option_map_or}
 use Rattle.std.specs.Ordering.{eq_by_cmp}
 use Rattle.pg_patterns.specs.DottedSigns.{dotted_cmp, same_dotted, dotted_equiv, dotted_ties, dotted_exact}
-use Rattle.pg_patterns.specs.Values.{IsPatternMap, value_of, best, joined, is_entry}
+use Rattle.pg_patterns.specs.Values.{IsPatternMap, value_of, best, map_of_entries, is_entry}
 use Rattle.pg_patterns.specs.Lines.{entry_at, entries_at}
 use Rattle.pg_patterns.specs.Texts.{with_string, strings_of}
 use Rattle.pg_types.proofs.BoolFacts.{and_first, equal_is}
@@ -161,10 +161,10 @@ same_number : (a b : ℕ) → a ≤ b → b ≤ a → a ≡ b
 same_number a b p q = omega arith
 
 -- the entries of the strings of a map, joined, are the map
-pub joined_strings : (P : List ((List ℕ × ℕ) × ℕ)) → IsPatternMap P → joined (flat_map (entries_of P) (strings_of P)) ≡ P
+pub joined_strings : (P : List ((List ℕ × ℕ) × ℕ)) → IsPatternMap P → map_of_entries (flat_map (entries_of P) (strings_of P)) ≡ P
 joined_strings P map =
     let es = flat_map (entries_of P) (strings_of P) in
     let of : All (IsOf P) es = strings_are_of P (strings_of P) in
     let each : All (λ (e : (List ℕ × ℕ) × ℕ). is_entry e ≡ true) es = All-weaker (IsOf P) (λ (e : (List ℕ × ℕ) × ℕ). is_entry e ≡ true) (λ e is. found_entry P e.0 e.1 map.sound is) es of in
-    same_maps (joined es) P (joined_keeps es (told_all es each)) map
+    same_maps (map_of_entries es) P (joined_keeps es (told_all es each)) map
     (λ k. value_of_joined es k ∙ same_number _ _ (best_upto (same_dotted k) es (value_of P k) (all_upto_value P es k of)) (value_low P k map.sound))

@@ -11,19 +11,19 @@ use Rattle.pg_translate.specs.declared.items.Place.TheVariants.{Patterns}
 use Rattle.pg_translate.specs.Alphabets.{Alphabet}
 use Rattle.pg_translate.specs.Tokens.{Token, Digit}
 use Rattle.pg_translate.specs.Cuts.{Cut, cut_rest, with_item, tokens_of}
-use Rattle.pg_translate.specs.Answers.{Takes, Stops}
+use Rattle.pg_translate.specs.Answers.{HasItem, HasNoItem}
 use Rattle.pg_translate.specs.Gaps.{sign_of}
 use Rattle.pg_translate.specs.LineRefusals.{refused, refusal_with_room}
 use Rattle.pg_translate.proofs.Cuts.{cut_stops}
 use Rattle.pg_translate.proofs.LineSteps.{cut_rest-takes, refusal_sign, refusal_full}
 use Rattle.pg_patterns.specs.Lines.{digit_at_dot}
-use Rattle.pg_patterns.specs.Drafts.{Draft, IsDraft, IsDotDigit, all_digits, with_sign, with_digit, with_token, refusal_after, draft_left}
+use Rattle.pg_patterns.specs.Drafts.{Draft, IsDraft, IsDotDigit, all_digits, draft_with_sign, draft_with_digit, with_token, refusal_after, draft_left}
 
 -- a sign leaves room for one less
 room_less : (n : ℕ) → n < PATTERN_SIGNS_MAX → PATTERN_SIGNS_MAX - n ≡ PATTERN_SIGNS_MAX - (n + 1) + 1
 room_less n room = omega arith
 
-pub sign_step : (t : Alphabet) (line size : ℕ) (d : Draft) (rest after : List ℕ) (token : Token) (sign : ℕ) → Takes t Patterns rest token after → length rest ≤ size → sign_of token ≡ Some sign → with_token d token ≡ with_sign d sign → length d.signs < PATTERN_SIGNS_MAX → draft_left t line size d rest ≡ draft_left t line size (with_sign d sign) after
+pub sign_step : (t : Alphabet) (line size : ℕ) (d : Draft) (rest after : List ℕ) (token : Token) (sign : ℕ) → HasItem t Patterns rest token after → length rest ≤ size → sign_of token ≡ Some sign → with_token d token ≡ draft_with_sign d sign → length d.signs < PATTERN_SIGNS_MAX → draft_left t line size d rest ≡ draft_left t line size (draft_with_sign d sign) after
 sign_step t line size d rest after token sign takes bound is adds room =
     let n : ℕ = length d.signs in
     let column : ℕ = size - length rest + 1 in
@@ -32,7 +32,7 @@ sign_step t line size d rest after token sign takes bound is adds room =
     ∙ ap (λ r. unless r (fold with_token (with_token d token) (tokens_of behind))) (ap (λ m. refusal_with_room Patterns line m (with_item column token behind)) (room_less n room) ∙ refusal_sign Patterns line (PATTERN_SIGNS_MAX - (n + 1)) column token sign behind is ∙ ap (λ n. refusal_after n line behind) (sym (length_push d.signs sign)))
     ∙ ap (λ e. unless (refusal_after (length (d.signs ++ sign ∷ [])) line behind) (fold with_token e (tokens_of behind))) adds
 
-pub sign_refused : (t : Alphabet) (line size : ℕ) (d : Draft) (rest after : List ℕ) (token : Token) (sign : ℕ) → Takes t Patterns rest token after → length rest ≤ size → sign_of token ≡ Some sign → PATTERN_SIGNS_MAX ≤ length d.signs → draft_left t line size d rest ≡ Err (refused line PatternTooLong (size - length rest + 1))
+pub sign_refused : (t : Alphabet) (line size : ℕ) (d : Draft) (rest after : List ℕ) (token : Token) (sign : ℕ) → HasItem t Patterns rest token after → length rest ≤ size → sign_of token ≡ Some sign → PATTERN_SIGNS_MAX ≤ length d.signs → draft_left t line size d rest ≡ Err (refused line PatternTooLong (size - length rest + 1))
 sign_refused t line size d rest after token sign takes bound is full =
     let column : ℕ = size - length rest + 1 in
     let behind : Cut = cut_rest t Patterns size after in
@@ -40,12 +40,12 @@ sign_refused t line size d rest after token sign takes bound is full =
     ap (λ c. unless (refusal_after (length d.signs) line c) (fold with_token d (tokens_of c))) (cut_rest-takes t Patterns size token rest after takes bound)
     ∙ ap (λ r. unless r (fold with_token (with_token d token) (tokens_of behind))) (ap (λ m. refusal_with_room Patterns line m (with_item column token behind)) none ∙ refusal_full Patterns line column token sign behind is)
 
-pub digit_step : (t : Alphabet) (line size : ℕ) (d : Draft) (rest after : List ℕ) (digit : ℕ) → Takes t Patterns rest (Digit digit) after → length rest ≤ size → draft_left t line size d rest ≡ draft_left t line size (with_digit d digit) after
+pub digit_step : (t : Alphabet) (line size : ℕ) (d : Draft) (rest after : List ℕ) (digit : ℕ) → HasItem t Patterns rest (Digit digit) after → length rest ≤ size → draft_left t line size d rest ≡ draft_left t line size (draft_with_digit d digit) after
 digit_step t line size d rest after digit takes bound =
     ap (λ c. unless (refusal_after (length d.signs) line c) (fold with_token d (tokens_of c))) (cut_rest-takes t Patterns size (Digit digit) rest after takes bound)
 
 -- where no item stands, the line ends or is refused
-pub stop_step : (t : Alphabet) (line size : ℕ) (d : Draft) (rest : List ℕ) (ended : Bool) → Stops t Patterns rest ended → draft_left t line size d rest ≡ unless (if ended then None else Some (refused line PatternCharacter (size - length rest + 1))) d
+pub stop_step : (t : Alphabet) (line size : ℕ) (d : Draft) (rest : List ℕ) (ended : Bool) → HasNoItem t Patterns rest ended → draft_left t line size d rest ≡ unless (if ended then None else Some (refused line PatternCharacter (size - length rest + 1))) d
 stop_step t line size d rest ended stops =
     ap (λ c. unless (refusal_after (length d.signs) line c) (fold with_token d (tokens_of c))) (cut_stops t Patterns (size - length rest + 1) rest ended stops)
     ∙ ap (λ b. unless (if b then None else Some (refused line PatternCharacter (size - length rest + 1))) d) stops.end
@@ -69,7 +69,7 @@ keeps_digits n d kept =
     not_zero : (a : ℕ) → (a == 0) ≡ false → 1 ≤ a
     not_zero a some = let other : ¬ (a ≡ 0) = eqb-false a 0 some in omega arith
 
-pub keeps_sign : (n : ℕ) (d : Draft) (sign : ℕ) → IsDraft n d → length d.signs < PATTERN_SIGNS_MAX → 1 ≤ sign → sign ≤ n → IsDraft n (with_sign d sign)
+pub keeps_sign : (n : ℕ) (d : Draft) (sign : ℕ) → IsDraft n d → length d.signs < PATTERN_SIGNS_MAX → 1 ≤ sign → sign ≤ n → IsDraft n (draft_with_sign d sign)
 keeps_sign n d sign kept room low high =
     let size : length (d.signs ++ sign ∷ []) ≡ length d.signs + 1 = length_push d.signs sign in
     record {

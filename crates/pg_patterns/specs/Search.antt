@@ -18,7 +18,7 @@ abbrev pub entry_cmp : (List ℕ × ℕ) × ℕ → (List ℕ × ℕ) × ℕ →
 entry_cmp e f = ordering_then (dotted_cmp e.0 f.0) (nat_cmp f.1 e.1)
 
 -- i entries come before the place k
-pub record StandsAt (P : List ((List ℕ × ℕ) × ℕ)) (k : List ℕ × ℕ) (i : ℕ) : Type 0 where
+pub record HasRank (P : List ((List ℕ × ℕ) × ℕ)) (k : List ℕ × ℕ) (i : ℕ) : Type 0 where
   pub within : i ≤ length P
   pub before : (j : ℕ) (d : (List ℕ × ℕ) × ℕ) → j < i → is_after k (slice_index_or P j d) ≡ true
   pub behind : (j : ℕ) (d : (List ℕ × ℕ) × ℕ) → i ≤ j → j < length P → is_after k (slice_index_or P j d) ≡ false

@@ -6,7 +6,7 @@ use Rattle.pg_types.specs.declared.refusals.Refusal.{Refusal}
 use Rattle.pg_types.specs.Lines.{lines}
 use Rattle.pg_types.specs.Reading.{both_parts}
 use Rattle.pg_translate.specs.Alphabets.{Alphabet}
-use Rattle.pg_patterns.specs.Values.{joined}
+use Rattle.pg_patterns.specs.Values.{map_of_entries}
 use Rattle.pg_patterns.specs.Lines.{entries_of_line}
 
 -- the entries of these lines, of which the first has a number
@@ -16,7 +16,7 @@ entries_from t line (text ∷ texts) = both_parts (entries_of_line t line text) 
 
 -- the map of the entries, or the refusal
 abbrev pub joined_entries : Result (List ((List ℕ × ℕ) × ℕ)) Refusal → Result (List ((List ℕ × ℕ) × ℕ)) Refusal
-joined_entries (Ok es) = Ok (joined es)
+joined_entries (Ok es) = Ok (map_of_entries es)
 joined_entries (Err r) = Err r
 
 -- the map of a pattern file: the entries of its lines, where equal places take the greatest value

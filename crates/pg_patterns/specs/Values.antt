@@ -15,8 +15,8 @@ abbrev pub raise : List ((List ℕ × ℕ) × ℕ) → List ℕ × ℕ → ℕ �
 raise P k v = put dotted_cmp k (max v (value_of P k)) P
 
 -- a list of entries as a map: equal places are joined by the greatest value
-abbrev pub joined : List ((List ℕ × ℕ) × ℕ) → List ((List ℕ × ℕ) × ℕ)
-joined es = fold (λ P e. raise P e.0 e.1) [] es
+abbrev pub map_of_entries : List ((List ℕ × ℕ) × ℕ) → List ((List ℕ × ℕ) × ℕ)
+map_of_entries es = fold (λ P e. raise P e.0 e.1) [] es
 
 -- the greatest value of the entries whose places pass the test, 0 where there is none
 abbrev pub best : (List ℕ × ℕ → Bool) → List ((List ℕ × ℕ) × ℕ) → ℕ

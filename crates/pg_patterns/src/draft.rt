@@ -35,7 +35,7 @@ impl Model for LineDraft {
 impl LineDraft {
     ghost use Rattle.std.specs.Prelude.{◌≡◌, ℕ, ◌<◌, ◌≤◌, ◌++◌, length, IsTrue, ◌↔◌, OnOk};
     ghost use Rattle.pg_types.specs.declared.limits.TheConstants.{PATTERN_SIGNS_MAX};
-    ghost use Rattle.pg_patterns.specs.Drafts.{IsDraft, no_draft, with_sign, with_digit, draft_entries};
+    ghost use Rattle.pg_patterns.specs.Drafts.{IsDraft, no_draft, draft_with_sign, draft_with_digit, draft_entries};
 
     /// The draft of no item.
     pub fn new() -> LineDraft
@@ -60,7 +60,7 @@ impl LineDraft {
     /// Adds a sign; a digit before it is then that of its dot.
     pub fn push_sign(&mut self, sign: Sign)
         requires { length self.old.signs < PATTERN_SIGNS_MAX }
-        ensures { self.new ≡ with_sign self.old sign }
+        ensures { self.new ≡ draft_with_sign self.old sign }
     {
         self.digits[usize::from(self.count)] = (self.len, self.digit);
         self.count += u8::from(self.digit != 0);
@@ -71,7 +71,7 @@ impl LineDraft {
 
     /// Sets the digit behind the last sign.
     pub fn set_digit(&mut self, digit: u8)
-        ensures { self.new ≡ with_digit self.old digit }
+        ensures { self.new ≡ draft_with_digit self.old digit }
     {
         self.digit = digit;
     }

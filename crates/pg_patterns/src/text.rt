@@ -3,8 +3,8 @@ ghost use Rattle.std.specs.Prelude.{◌≡◌, ◌+◌, ◌≤◌, ◌++◌, len
 ghost use Rattle.pg_translate.specs.Alphabets.{letters_of};
 ghost use Rattle.pg_patterns.specs.DottedSigns.{same_dotted};
 ghost use Rattle.pg_patterns.specs.Values.{IsPatternMap, SignsUpTo};
-ghost use Rattle.pg_patterns.specs.Search.{StandsAt, first_value};
-ghost use Rattle.pg_patterns.specs.Texts.{digit_of, pattern_line, pattern_text};
+ghost use Rattle.pg_patterns.specs.Search.{HasRank, first_value};
+ghost use Rattle.pg_patterns.specs.Texts.{value_digit, pattern_line, pattern_text};
 
 use crate::dotted_signs::DottedSigns;
 use pg_translate::Table;
@@ -38,12 +38,12 @@ fn push_line(
     text: &mut Vec<u8>,
 ) -> Result<usize, AllocError>
     requires map { IsPatternMap entries.now }
-    requires point { StandsAt entries.now (signs.now, 0) at }
+    requires point { HasRank entries.now (signs.now, 0) at }
     requires few { length signs.now ≤ PATTERN_SIGNS_MAX }
     requires each { All (λ s. 1 ≤ s) signs.now }
     requires known { All (λ s. s ≤ letters_of table.now + 1) signs.now }
     ensures text { OnOk result (text.new.items ≡ text.old.items ++ pattern_line table.now entries.now signs.now) }
-    ensures next { IfOk result (λ next. StandsAt entries.now (signs.now, length signs.now + 1) next) }
+    ensures next { IfOk result (λ next. HasRank entries.now (signs.now, length signs.now + 1) next) }
 {
     let mut next = at;
     'signs: for (dot, sign) in signs.iter().enumerate() {
@@ -55,8 +55,8 @@ fn push_line(
     Ok(next)
 }
 
-/// Appends the digit of `dot` among `signs`, where the entry at `next` is theirs, and gives where the entry of the next dot
-/// would stand.
+/// Appends the digit of `dot` among `signs`, where the entry at `next` is theirs, and gives where the entry of the
+/// next dot would stand.
 fn push_digit(
     entries: &[(DottedSigns, u8)],
     next: usize,
@@ -65,11 +65,11 @@ fn push_digit(
     text: &mut Vec<u8>,
 ) -> Result<usize, AllocError>
     requires map { IsPatternMap entries.now }
-    requires point { StandsAt entries.now (signs.now, dot) next }
-    ensures text { OnOk result (text.new.items ≡ text.old.items ++ digit_of entries.now (signs.now, dot)) }
-    ensures next { IfOk result (λ after. StandsAt entries.now (signs.now, dot + 1) after) }
+    requires point { HasRank entries.now (signs.now, dot) next }
+    ensures text { OnOk result (text.new.items ≡ text.old.items ++ value_digit entries.now (signs.now, dot)) }
+    ensures next { IfOk result (λ after. HasRank entries.now (signs.now, dot + 1) after) }
 {
-    match value_at(entries, next, signs, dot) {
+    match entry_value_at(entries, next, signs, dot) {
         Some(value) => {
             text.push(b'0' + value)?;
             Ok(next + 1)
@@ -79,7 +79,12 @@ fn push_digit(
 }
 
 /// The value of the entry at `at`, where it is that of `dot` among `signs`.
-fn value_at(entries: &[(DottedSigns, u8)], at: usize, signs: &[Sign], dot: usize) -> Option<u8>
+fn entry_value_at(
+    entries: &[(DottedSigns, u8)],
+    at: usize,
+    signs: &[Sign],
+    dot: usize,
+) -> Option<u8>
     requires { IsPatternMap entries.now }
     ensures value { result ≡ first_value (signs.now, dot) (drop at entries.now) }
     ensures low { IfSome result (λ value. value ≤ LEVEL_MAX) }

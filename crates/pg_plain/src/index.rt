@@ -1,6 +1,6 @@
 //! An index of the strings of a map, in slots.
 ghost use Rattle.std.specs.Prelude.{◌≡◌, ℕ, ◌<◌, ◌≤◌, ◌^◌, false, true, List, All, length, get_or, IfOk};
-ghost use Rattle.pg_plain.specs.Indexes.{slot_of, is_indexed};
+ghost use Rattle.pg_plain.specs.Indexes.{index_slot, is_indexed};
 
 use pg_types::Sign;
 use std::alloc::{AllocError, Global};
@@ -10,8 +10,8 @@ const FACTOR: usize = 1_000_003;
 
 /// Tells of signs that no string of a map begins with them, or that none is equal to them.
 ///
-/// Each string marks the slots of its fronts, and its own. Signs whose slot is not marked are in no string. Other signs may
-/// share a marked slot, so a mark tells nothing. It takes no memory once it is made.
+/// Each string marks the slots of its fronts, and its own. Signs whose slot is not marked are in no string. Other
+/// signs may share a marked slot, so a mark tells nothing. It takes no memory once it is made.
 #[derive(Drop)]
 pub struct Index {
     fronts: Vec<bool>,
@@ -36,7 +36,7 @@ impl Index {
 
     /// The slot of signs.
     pub fn slot(&self, signs: &[Sign]) -> usize
-        ensures value { result ≡ slot_of (length self.now.fronts.items) signs.now }
+        ensures value { result ≡ index_slot (length self.now.fronts.items) signs.now }
         ensures inside { result < length self.now.fronts.items }
     {
         let mut slot = 0;

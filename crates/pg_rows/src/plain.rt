@@ -1,10 +1,11 @@
 //! A run that skips no pass, over the calls of an engine: a second statement of what a run is. Its sums saturate, and stay far
 //! below that.
+ghost use Rattle.pg_types.specs.Limits.{begun_before_pass};
 ghost use Rattle.std.specs.Prelude.{◌≡◌, ◌+◌, ◌*◌, ◌<◌, ◌≤◌, ◌^◌, [], true, length, OnOk, vec_len};
 ghost use Rattle.pg_types.specs.declared.limits.TheConstants.{LEVEL_MAX, WEIGHT_MAX, WORD_LETTERS_MAX};
 ghost use Rattle.pg_types.specs.Parameters.{IsLevel};
 ghost use Rattle.pg_dict.specs.Word.{IsWord, SignsAtMost};
-ghost use Rattle.pg_dict.specs.Lent.{word_of};
+ghost use Rattle.pg_dict.specs.Lent.{lent_word};
 ghost use Rattle.pg_types.specs.Counts.{SignsWithin, is_counted};
 ghost use Rattle.pg_driver.specs.States.{IsPass};
 ghost use Rattle.pg_rows.specs.Keeping.{AreAtMost, KeepsPass};
@@ -178,7 +179,7 @@ fn count_at<E: Engine>(
     seen: &mut u64,
 ) -> Result<(), Fail>
     requires pass { (E.meaning engine.old).pass.len ≡ pass.len }
-    requires word { IsWord (word_of w.now) }
+    requires word { IsWord (lent_word w.now) }
     requires signs { SignsWithin (E.meaning engine.old).signs w.now.signs.now }
     requires within { p < length w.now.signs.now }
     requires sums { AreAtMost (E.meaning engine.old).counts (WEIGHT_MAX * seen.old) }
@@ -206,7 +207,7 @@ fn count_word<E: Engine>(
     seen: &mut u64,
 ) -> Result<(), Fail>
     requires pass { (E.meaning engine.old).pass.len ≡ pass.len }
-    requires word { IsWord (word_of w.now) }
+    requires word { IsWord (lent_word w.now) }
     requires signs { SignsWithin (E.meaning engine.old).signs w.now.signs.now }
     requires sums { AreAtMost (E.meaning engine.old).counts (WEIGHT_MAX * seen.old) }
     ensures kept { OnOk result (KeepsPass (E.meaning engine.old) (E.meaning engine.new)) }
@@ -310,7 +311,7 @@ fn run_pass<E: Engine>(
 ) -> Result<PassRecord, Fail>
     requires ranges { IsPass pass }
     requires level { IsLevel params.now }
-    requires begun { (E.meaning engine.old).begun < 2 ^ 60 }
+    requires begun { (E.meaning engine.old).begun < begun_before_pass }
     requires signs { SignsAtMost (E.meaning engine.old).signs dictionary.now }
     ensures begun { OnOk result ((E.meaning engine.new).begun ≡ (E.meaning engine.old).begun + 1) }
     ensures signs { OnOk result ((E.meaning engine.new).signs ≡ (E.meaning engine.old).signs) }

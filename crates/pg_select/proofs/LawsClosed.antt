@@ -11,7 +11,7 @@ use Rattle.pg_dict.specs.Word.{Word}
 use Rattle.pg_translate.specs.Reach.{positions}
 use Rattle.pg_patterns.specs.DottedSigns.{dotted_cmp}
 use Rattle.pg_patterns.specs.Values.{raise, applies}
-use Rattle.pg_select.specs.Statuses.{status_at, weight_at}
+use Rattle.pg_select.specs.Statuses.{status_at, position_weight}
 use Rattle.pg_select.specs.Windows.{Hopeless, window, fits, covered}
 use Rattle.pg_select.specs.declared.pass.Pass.{Pass}
 use Rattle.pg_select.specs.CountedPositions.{Minima, CountedPosition, Candidate, counts_as, counted_at, counted_positions_at, counted_positions_in, counted_positions, same_signs, candidates, good_of, bad_of, tally}
@@ -82,7 +82,7 @@ pub closed_when_covered : (m : Minima) (words : List Word) (pass : Pass) (P P' :
 closed_when_covered m words pass P P' H H' later all =
     nil_tested (λ (s : CountedPosition). covered pass.level P' H' s.window pass.dot) (counted_positions_in m pass P H) (counted_positions_in m pass P' H') (λ w.
     nil_tested (λ (s : CountedPosition). covered pass.level P' H' s.window pass.dot) (counted_positions_at pass P H w) (counted_positions_at pass P' H' w) (λ p.
-    seen_tested (λ (u : List ℕ). covered pass.level P' H' u pass.dot) (window w.signs p pass.len pass.dot) (weight_at w p) (counted_at pass P H w p) (counted_at pass P' H' w p)
+    seen_tested (λ (u : List ℕ). covered pass.level P' H' u pass.dot) (window w.signs p pass.len pass.dot) (position_weight w p) (counted_at pass P H w p) (counted_at pass P' H' w p)
     (λ g counted. counted_back pass P P' H H' w p g later counted)
     (λ g counted. uncovered w p g counted))
     (positions m.left m.right (length w.signs)))

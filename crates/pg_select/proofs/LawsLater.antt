@@ -8,7 +8,7 @@ use Rattle.pg_dict.specs.Word.{Word}
 use Rattle.pg_translate.specs.Reach.{positions}
 use Rattle.pg_patterns.specs.DottedSigns.{dotted_cmp}
 use Rattle.pg_patterns.specs.Values.{raise, applies, value_at}
-use Rattle.pg_select.specs.Statuses.{is_odd, status, status_at, weight_at}
+use Rattle.pg_select.specs.Statuses.{is_odd, status, status_at, position_weight}
 use Rattle.pg_select.specs.Windows.{Hopeless, window, fits, covered}
 use Rattle.pg_select.specs.declared.pass.Pass.{Pass}
 use Rattle.pg_select.specs.CountedPositions.{Minima, counts_as, counted_at, counted_positions_at, counted_positions_in, counted_positions}
@@ -112,7 +112,7 @@ unseen_more u v x (Some h) (Some g) back is = cc
 pub closed_more : (m : Minima) (words : List Word) (pass other : Pass) (P P' : List ((List ℕ × ℕ) × ℕ)) (H H' : Hopeless) → ((w : Word) (p : ℕ) (g : Bool) → counted_at other P' H' w p ≡ Some g → counted_at pass P H w p ≡ Some g) → counted_positions m words pass P H ≡ [] → counted_positions m words other P' H' ≡ []
 closed_more m words pass other P P' H H' back is =
     nil_more (counted_positions_in m pass P H) (counted_positions_in m other P' H') (λ w.
-    nil_more (counted_positions_at pass P H w) (counted_positions_at other P' H' w) (λ p. unseen_more (window w.signs p pass.len pass.dot) (window w.signs p other.len other.dot) (weight_at w p) (counted_at pass P H w p) (counted_at other P' H' w p) (back w p)) (positions m.left m.right (length w.signs))) words is
+    nil_more (counted_positions_at pass P H w) (counted_positions_at other P' H' w) (λ p. unseen_more (window w.signs p pass.len pass.dot) (window w.signs p other.len other.dot) (position_weight w p) (counted_at pass P H w p) (counted_at other P' H' w p) (back w p)) (positions m.left m.right (length w.signs))) words is
 
 pub closed_later : (m : Minima) (words : List Word) (pass : Pass) (P P' : List ((List ℕ × ℕ) × ℕ)) (H H' : Hopeless) → Later pass.level P H P' H' → counted_positions m words pass P H ≡ [] → counted_positions m words pass P' H' ≡ []
 closed_later m words pass P P' H H' later is = closed_more m words pass pass P P' H H' (λ w p g counted. counted_back pass P P' H H' w p g later counted) is

@@ -2,7 +2,7 @@
 use Rattle.std.proofs.Common.{◌≡◌, ℕ, ◌+◌, ◌-◌, ◌≤◌, nat_le, nat_eq, Bool, true, false, cond, not, ◌&&◌, ◌||◌, ⊎_elim, List, [], ◌∷◌, length, map, take, drop, Option, Some, None, max, refl, sym, ap, ◌∙◌, arith}
 use Rattle.std.specs.List.{list_any, list_all, filter}
 use Rattle.std.specs.Ordering.{is_eq}
-use Rattle.std.specs.Cmp.{tied_itself}
+use Rattle.std.specs.Cmp.{tied_itself, both_ways}
 use Rattle.std.specs.Cmp.Lexicographic.{pointwise, texts_ties, nat_list_cmp_total}
 use Rattle.std.specs.FinMap.Entries.{put}
 use Rattle.std.proofs.lemmas.Bool.{and_parts, and_from, leb-true, eq-eqb, eqb-true, not-true, or_cases}
@@ -14,7 +14,7 @@ use Rattle.pg_patterns.specs.DottedSigns.{dotted_cmp}
 use Rattle.pg_patterns.specs.Values.{raise, applies, stands_at, value_at}
 use Rattle.pg_patterns.proofs.Joins.{only}
 use Rattle.pg_select.specs.Laws.{raised_all, hopeless_all}
-use Rattle.pg_select.specs.Statuses.{status_at, weight_at}
+use Rattle.pg_select.specs.Statuses.{status_at, position_weight}
 use Rattle.pg_select.specs.Windows.{Hopeless, window, fits, covered, Patterns}
 use Rattle.pg_select.specs.declared.pass.Pass.{Pass}
 use Rattle.pg_select.specs.CountedPositions.{Minima, CountedPosition, Candidate, counts_as, counted_positions_at, counted_positions_in, counted_positions, same_signs, candidates, tally}
@@ -24,7 +24,7 @@ use Rattle.pg_select.proofs.LawsClosed.{is_among}
 use Rattle.pg_select.proofs.LawsLonger.{part_length}
 use Rattle.pg_select.proofs.LawsCandidates.{all_candidates, all_flat, applies_itself}
 use Rattle.pg_select.specs.LawsSteps.{candidate_at, is_candidate, patterns_after_pass, hopeless_after_pass}
-use Rattle.pg_select.proofs.LawsLengths.{same_test, fits_parts}
+use Rattle.pg_select.proofs.LawsLengths.{fits_parts}
 
 pub same_itself : (u : List ℕ) → same_signs u u ≡ true
 same_itself u = ap is_eq (tied_itself nat_list_cmp_total u)
@@ -44,7 +44,7 @@ all_seen test m words pass P H each =
 
     at : (w : Word) (p : ℕ) → list_all (λ (s : CountedPosition). test s.window) (counted_positions_at pass P H w p) ≡ true
     at w p =
-        by_test (window w.signs p pass.len pass.dot) (weight_at w p) (fits w.signs p pass.len pass.dot) (covered pass.level P H (window w.signs p pass.len pass.dot) pass.dot) (counts_as pass.level (status_at P w p)) (each w.signs p)
+        by_test (window w.signs p pass.len pass.dot) (position_weight w p) (fits w.signs p pass.len pass.dot) (covered pass.level P H (window w.signs p pass.len pass.dot) pass.dot) (counts_as pass.level (status_at P w p)) (each w.signs p)
 
 -- what holds of all that is counted holds of a window that is counted
 all_of_seen : (test : List ℕ → Bool) (u : List ℕ) (seen : List CountedPosition) → list_all (λ (s : CountedPosition). test s.window) seen ≡ true → is_seen seen u ≡ true → test u ≡ true
@@ -124,7 +124,7 @@ passing_long test m words pass P H =
 -- where a window of that length applies in a word
 point_same : (u v : List ℕ) → pointwise nat_eq v u ≡ same_signs u v
 point_same u v =
-    same_test (pointwise nat_eq v u) (same_signs u v)
+    both_ways (pointwise nat_eq v u) (same_signs u v)
     (λ is. ap (same_signs u) (same_window v u (sym (texts_ties v u) ∙ is)) ∙ same_itself u)
     (λ is. ap (λ (x : List ℕ). pointwise nat_eq x u) (sym (same_window u v is)) ∙ texts_ties u u ∙ same_itself u)
 
@@ -141,7 +141,7 @@ applies_word w v p len dot long =
 applies_window : (w v : List ℕ) (p len d dot : ℕ) → length v ≡ len → fits w p len d ≡ true → applies (window w p len d) d (v, dot) ≡ (nat_eq d dot && same_signs (window w p len dot) v)
 applies_window w v p len d dot long fit =
     let size : length (window w p len d) ≡ len = part_length w (p - d) len (fits_parts w p len d fit).1 in
-    same_test (applies (window w p len d) d (v, dot)) (nat_eq d dot && same_signs (window w p len dot) v)
+    both_ways (applies (window w p len d) d (v, dot)) (nat_eq d dot && same_signs (window w p len dot) v)
     (λ is.
     let tests = and_parts (nat_le dot d) (stands_at v (window w p len d) (d - dot)) is in
     let parts = and_parts (nat_le (d - dot + length v) (length (window w p len d))) (pointwise nat_eq v (take (length v) (drop (d - dot) (window w p len d)))) tests.1 in

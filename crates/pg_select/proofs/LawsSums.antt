@@ -14,8 +14,8 @@ use Rattle.pg_types.specs.declared.limits.TheConstants.{WEIGHT_MAX, FILE_MAX}
 use Rattle.pg_types.specs.declared.marks.Mark.{Mark}
 use Rattle.pg_types.specs.declared.marks.Mark.TheVariants.{Nothing, Error, Missed, Found, DontCare}
 use Rattle.pg_translate.specs.Reach.{positions}
-use Rattle.pg_dict.specs.Word.{Word, IsWord, letters_of}
-use Rattle.pg_select.specs.Statuses.{status_at, weight_at}
+use Rattle.pg_dict.specs.Word.{Word, IsWord, letter_count}
+use Rattle.pg_select.specs.Statuses.{status_at, position_weight}
 use Rattle.pg_select.specs.Windows.{Hopeless, window}
 use Rattle.pg_select.specs.declared.pass.Pass.{Pass}
 use Rattle.pg_select.specs.CountedPositions.{Minima, CountedPosition, counted_at, counted_positions_at, counted_positions_in, counted_positions, same_signs, with_window, candidates, good_of, bad_of}
@@ -24,7 +24,7 @@ use Rattle.pg_select.specs.Laws.{AreFew, positions_in}
 use Rattle.pg_select.proofs.LawsTally.{cmp, seen_as, keys_length}
 
 -- a weight is within its limit
-pub weight_within : (w : Word) (p : ℕ) → IsWord w → weight_at w p ≤ WEIGHT_MAX
+pub weight_within : (w : Word) (p : ℕ) → IsWord w → position_weight w p ≤ WEIGHT_MAX
 weight_within w p word =
     ⊎_elim
     (λ (inside : p < length w.weights). All-get_or (λ x. x ≤ WEIGHT_MAX) w.weights p 0 inside word.weights)
@@ -44,11 +44,11 @@ positions_few left right signs low = by_test (nat_le (left + right + 2) signs) (
 abbrev reached : Minima → Word → ℕ
 reached m w = length (positions m.left m.right (length w.signs))
 
-pub positions_within : (m : Minima) (words : List Word) → 1 ≤ m.left → positions_in m words ≤ sum_by letters_of words
+pub positions_within : (m : Minima) (words : List Word) → 1 ≤ m.left → positions_in m words ≤ sum_by letter_count words
 positions_within m [] low = omega arith
 positions_within m (w ∷ ws) low =
-    let rest : positions_in m ws ≤ sum_by letters_of ws = positions_within m ws low in
-    omega (arith, sum_by-cons (reached m) w ws, sum_by-cons letters_of w ws, positions_few m.left m.right (length w.signs) low)
+    let rest : positions_in m ws ≤ sum_by letter_count ws = positions_within m ws low in
+    omega (arith, sum_by-cons (reached m) w ws, sum_by-cons letter_count w ws, positions_few m.left m.right (length w.signs) low)
 
 -- a list of lists weighs no more than its parts may
 parts_within : {X Y : Type 0} (f : X → List Y) (g : Y → ℕ) (n : ℕ) (size : X → ℕ) (Holds : X → Type 0) → ((x : X) → Holds x → sum_by g (f x) ≤ n * size x) → (xs : List X) → All Holds xs → sum_by g (flat_map f xs) ≤ n * sum_by size xs
@@ -61,11 +61,11 @@ parts_within f g n size Holds each (x ∷ xs) all =
     omega arith
 
 -- the marks of a word weigh no more than its positions may
-marks_within : (P : List ((List ℕ × ℕ) × ℕ)) (w : Word) → IsWord w → (ps : List ℕ) → sum_by (λ (e : Mark × ℕ). e.1) (map (λ (p : ℕ). (status_at P w p, weight_at w p)) ps) ≤ WEIGHT_MAX * length ps
+marks_within : (P : List ((List ℕ × ℕ) × ℕ)) (w : Word) → IsWord w → (ps : List ℕ) → sum_by (λ (e : Mark × ℕ). e.1) (map (λ (p : ℕ). (status_at P w p, position_weight w p)) ps) ≤ WEIGHT_MAX * length ps
 marks_within P w word [] = omega arith
 marks_within P w word (p ∷ ps) =
     let rest = marks_within P w word ps in
-    omega (arith, weight_within w p word, marks_within P w word ps, sum_by-cons (λ (e : Mark × ℕ). e.1) (status_at P w p, weight_at w p) (map (λ (q : ℕ). (status_at P w q, weight_at w q)) ps))
+    omega (arith, weight_within w p word, marks_within P w word ps, sum_by-cons (λ (e : Mark × ℕ). e.1) (status_at P w p, position_weight w p) (map (λ (q : ℕ). (status_at P w q, position_weight w q)) ps))
 
 -- a mark counts once at most
 one_mark : (m : Mark) (x : ℕ) → cond (is_found m) x 0 + cond (is_error m) x 0 + cond (is_missed m) x 0 ≤ x
@@ -103,7 +103,7 @@ seen_within (Some good) u x = omega arith
 seen_in : (pass : Pass) (P : List ((List ℕ × ℕ) × ℕ)) (H : Hopeless) (w : Word) → IsWord w → (ps : List ℕ) → sum_by (λ (s : CountedPosition). s.weight) (flat_map (counted_positions_at pass P H w) ps) ≤ WEIGHT_MAX * length ps
 seen_in pass P H w word [] = omega arith
 seen_in pass P H w word (p ∷ ps) =
-    let here : sum_by (λ (s : CountedPosition). s.weight) (counted_positions_at pass P H w p) ≤ weight_at w p = seen_within (counted_at pass P H w p) (window w.signs p pass.len pass.dot) (weight_at w p) in
+    let here : sum_by (λ (s : CountedPosition). s.weight) (counted_positions_at pass P H w p) ≤ position_weight w p = seen_within (counted_at pass P H w p) (window w.signs p pass.len pass.dot) (position_weight w p) in
     omega (arith, weight_within w p word, seen_in pass P H w word ps, sum_by-append (λ (s : CountedPosition). s.weight) (counted_positions_at pass P H w p) (flat_map (counted_positions_at pass P H w) ps))
 
 -- what a pass counts is within the weights of the positions in reach
@@ -133,7 +133,7 @@ seen_once (Some good) u x = omega arith
 counted_few_in : (pass : Pass) (P : List ((List ℕ × ℕ) × ℕ)) (H : Hopeless) (w : Word) (ps : List ℕ) → length (flat_map (counted_positions_at pass P H w) ps) ≤ length ps
 counted_few_in pass P H w [] = omega arith
 counted_few_in pass P H w (p ∷ ps) =
-    omega (arith, seen_once (counted_at pass P H w p) (window w.signs p pass.len pass.dot) (weight_at w p), counted_few_in pass P H w ps, length-append (counted_positions_at pass P H w p) (flat_map (counted_positions_at pass P H w) ps))
+    omega (arith, seen_once (counted_at pass P H w p) (window w.signs p pass.len pass.dot) (position_weight w p), counted_few_in pass P H w ps, length-append (counted_positions_at pass P H w p) (flat_map (counted_positions_at pass P H w) ps))
 
 -- a pass sees no more than positions in reach
 pub counted_few : (m : Minima) (words : List Word) (pass : Pass) (P : List ((List ℕ × ℕ) × ℕ)) (H : Hopeless) → length (counted_positions m words pass P H) ≤ positions_in m words
@@ -150,12 +150,12 @@ small n k light few = omega arith
 
 pub totals_small : (m : Minima) (words : List Word) (P : List ((List ℕ × ℕ) × ℕ)) → 1 ≤ m.left → AreFew words → (totals m words P).good + (totals m words P).bad + (totals m words P).missed < 2 ^ 40
 totals_small m words P low few =
-    let upto : positions_in m words ≤ sum_by letters_of words = positions_within m words low in
+    let upto : positions_in m words ≤ sum_by letter_count words = positions_within m words low in
     small ((totals m words P).good + (totals m words P).bad + (totals m words P).missed) (positions_in m words) (totals_within m words P few.each) (omega (arith, few.letters))
 
 pub counted_light : (m : Minima) (words : List Word) (pass : Pass) (P : List ((List ℕ × ℕ) × ℕ)) (H : Hopeless) → 1 ≤ m.left → AreFew words → sum_by (λ (s : CountedPosition). s.weight) (counted_positions m words pass P H) < 2 ^ 40
 counted_light m words pass P H low few =
-    let upto : positions_in m words ≤ sum_by letters_of words = positions_within m words low in
+    let upto : positions_in m words ≤ sum_by letter_count words = positions_within m words low in
     small (sum_by (λ (s : CountedPosition). s.weight) (counted_positions m words pass P H)) (positions_in m words) (weights_within m words pass P H few.each) (omega (arith, few.letters))
 
 -- a counted position counts once at most

@@ -13,7 +13,7 @@ use Rattle.pg_types.specs.declared.marks.Mark.TheVariants.{Nothing, Error, Misse
 use Rattle.pg_dict.specs.Word.{Word}
 use Rattle.pg_translate.specs.Reach.{positions}
 use Rattle.pg_patterns.specs.Values.{applies, value_at}
-use Rattle.pg_select.specs.Statuses.{is_odd, status_at, weight_at}
+use Rattle.pg_select.specs.Statuses.{is_odd, status_at, position_weight}
 use Rattle.pg_select.specs.Sums.{is_found, is_error, is_missed, weight_of, marks_in, totals}
 use Rattle.pg_select.specs.Windows.{Hopeless, window, fits, covered, Patterns}
 use Rattle.pg_select.specs.declared.pass.Pass.{Pass}
@@ -21,9 +21,9 @@ use Rattle.pg_select.specs.CountedPositions.{Minima, CountedPosition, Candidate,
 use Rattle.pg_select.proofs.LawsTally.{cmp, same_window, seen_as, is_seen, candidates_are_seen, windows_sorted}
 use Rattle.pg_select.specs.LawsSteps.{IsUpTo, candidate_at, is_candidate, patterns_after_pass, good_raised, bad_raised, FindsMore, PreventsMore}
 use Rattle.pg_types.proofs.BoolFacts.{is_true}
-use Rattle.pg_select.proofs.LawsLengths.{same_test}
 use Rattle.pg_select.proofs.LawsRaised.{same_itself, counted_uncovered, values_after}
 use Rattle.pg_select.proofs.LawsClosedDots.{counted_by, counts_by, best_up_to}
+use Rattle.std.specs.Cmp.{both_ways}
 
 -- sums that are joined, gained and lost
 joined : (x x' y y' a a' b b' n n' k k' : ℕ) → x + a ≡ y + b → x' + a' ≡ y' + b' → n ≡ x + x' → n' ≡ y + y' → k ≡ a + a' → k' ≡ b + b' → n + k ≡ n' + k'
@@ -51,7 +51,7 @@ sum_none {X} (x ∷ xs) = let rest : sum_by (λ (x : X). 0) xs ≡ 0 = sum_none 
 
 same_turned : (u v : List ℕ) → same_signs u v ≡ same_signs v u
 same_turned u v =
-    same_test (same_signs u v) (same_signs v u)
+    both_ways (same_signs u v) (same_signs v u)
     (λ is. ap (λ (x : List ℕ). same_signs x u) (sym (same_window u v is)) ∙ same_itself u)
     (λ is. ap (λ (x : List ℕ). same_signs x v) (sym (same_window v u is)) ∙ same_itself v)
 
@@ -246,33 +246,33 @@ module _ (m : Minima) (words : List Word) (pass : Pass) (P : Patterns) (H : Hope
   mark_after : IsUpTo pass.level P → status_at (patterns_after_pass m words pass P H raised) w p ≡ mark_by hyphen_at care_at (cond rises (is_odd pass.level) odd_before)
   mark_after upto = ap (λ b. mark_by hyphen_at care_at b) (odd_after upto)
 
-  moved_is : (kind : Bool → Bool) → sum_by (raised_weight raised (counted_positions m words pass P H) (λ (s : CountedPosition). kind s.good)) (counted_positions_at pass P H w p) ≡ changed_weight kind (weight_at w p) rises (counted_by (is_odd pass.level) (mark_by hyphen_at care_at odd_before))
+  moved_is : (kind : Bool → Bool) → sum_by (raised_weight raised (counted_positions m words pass P H) (λ (s : CountedPosition). kind s.good)) (counted_positions_at pass P H w p) ≡ changed_weight kind (position_weight w p) rises (counted_by (is_odd pass.level) (mark_by hyphen_at care_at odd_before))
   moved_is kind =
       single (counted_at pass P H w p)
-      ∙ changed_one kind (weight_at w p) (fits w.signs p pass.len pass.dot) (is_candidate raised (counted_positions m words pass P H) (window w.signs p pass.len pass.dot)) (covered pass.level P H (window w.signs p pass.len pass.dot) pass.dot) (counts_as pass.level (status_at P w p))
+      ∙ changed_one kind (position_weight w p) (fits w.signs p pass.len pass.dot) (is_candidate raised (counted_positions m words pass P H) (window w.signs p pass.len pass.dot)) (covered pass.level P H (window w.signs p pass.len pass.dot) pass.dot) (counts_as pass.level (status_at P w p))
       (λ is. (counted_uncovered m words pass P H (window w.signs p pass.len pass.dot) (and_parts (is_seen (counted_positions m words pass P H) (window w.signs p pass.len pass.dot)) (raised (candidate_at (counted_positions m words pass P H) (window w.signs p pass.len pass.dot))) is).0).1)
-      ∙ ap (λ (o : Option Bool). changed_weight kind (weight_at w p) rises o) (counts_by pass.level (status_at P w p))
+      ∙ ap (λ (o : Option Bool). changed_weight kind (position_weight w p) rises o) (counts_by pass.level (status_at P w p))
     where
       zero : (n : ℕ) → 0 + n ≡ n
       zero n = omega arith
 
-      single : (o : Option Bool) → sum_by (raised_weight raised (counted_positions m words pass P H) (λ (s : CountedPosition). kind s.good)) (seen_as (window w.signs p pass.len pass.dot) (weight_at w p) o) ≡ changed_weight kind (weight_at w p) (is_candidate raised (counted_positions m words pass P H) (window w.signs p pass.len pass.dot)) o
+      single : (o : Option Bool) → sum_by (raised_weight raised (counted_positions m words pass P H) (λ (s : CountedPosition). kind s.good)) (seen_as (window w.signs p pass.len pass.dot) (position_weight w p) o) ≡ changed_weight kind (position_weight w p) (is_candidate raised (counted_positions m words pass P H) (window w.signs p pass.len pass.dot)) o
       single None = refl
-      single (Some good) = zero (cond (kind good && is_candidate raised (counted_positions m words pass P H) (window w.signs p pass.len pass.dot)) (weight_at w p) 0)
+      single (Some good) = zero (cond (kind good && is_candidate raised (counted_positions m words pass P H) (window w.signs p pass.len pass.dot)) (position_weight w p) 0)
 
 -- what balances at each position balances in sum
 module _ (m : Minima) (pass : Pass) (P P' : Patterns) (H : Hopeless) (test : Mark → Bool) (a b : CountedPosition → ℕ)
-    (each : (w : Word) (p : ℕ) → weight_in test (status_at P' w p) (weight_at w p) + sum_by a (counted_positions_at pass P H w p) ≡ weight_in test (status_at P w p) (weight_at w p) + sum_by b (counted_positions_at pass P H w p)) where
+    (each : (w : Word) (p : ℕ) → weight_in test (status_at P' w p) (position_weight w p) + sum_by a (counted_positions_at pass P H w p) ≡ weight_in test (status_at P w p) (position_weight w p) + sum_by b (counted_positions_at pass P H w p)) where
   abbrev weighed : Mark × ℕ → ℕ
   weighed e = cond (test e.0) e.1 0
 
-  balanced_word : (w : Word) (ps : List ℕ) → sum_by weighed (map (λ p. (status_at P' w p, weight_at w p)) ps) + sum_by a (flat_map (counted_positions_at pass P H w) ps) ≡ sum_by weighed (map (λ p. (status_at P w p, weight_at w p)) ps) + sum_by b (flat_map (counted_positions_at pass P H w) ps)
+  balanced_word : (w : Word) (ps : List ℕ) → sum_by weighed (map (λ p. (status_at P' w p, position_weight w p)) ps) + sum_by a (flat_map (counted_positions_at pass P H w) ps) ≡ sum_by weighed (map (λ p. (status_at P w p, position_weight w p)) ps) + sum_by b (flat_map (counted_positions_at pass P H w) ps)
   balanced_word w [] = refl
   balanced_word w (p ∷ ps) =
-      let here : weight_in test (status_at P' w p) (weight_at w p) + sum_by a (counted_positions_at pass P H w p) ≡ weight_in test (status_at P w p) (weight_at w p) + sum_by b (counted_positions_at pass P H w p) = each w p in
-      let rest : sum_by weighed (map (λ p. (status_at P' w p, weight_at w p)) ps) + sum_by a (flat_map (counted_positions_at pass P H w) ps) ≡ sum_by weighed (map (λ p. (status_at P w p, weight_at w p)) ps) + sum_by b (flat_map (counted_positions_at pass P H w) ps) = balanced_word w ps in
-      let after : sum_by weighed (map (λ p. (status_at P' w p, weight_at w p)) (p ∷ ps)) ≡ weight_in test (status_at P' w p) (weight_at w p) + sum_by weighed (map (λ p. (status_at P' w p, weight_at w p)) ps) = sum_by-cons weighed (status_at P' w p, weight_at w p) (map (λ p. (status_at P' w p, weight_at w p)) ps) in
-      let before : sum_by weighed (map (λ p. (status_at P w p, weight_at w p)) (p ∷ ps)) ≡ weight_in test (status_at P w p) (weight_at w p) + sum_by weighed (map (λ p. (status_at P w p, weight_at w p)) ps) = sum_by-cons weighed (status_at P w p, weight_at w p) (map (λ p. (status_at P w p, weight_at w p)) ps) in
+      let here : weight_in test (status_at P' w p) (position_weight w p) + sum_by a (counted_positions_at pass P H w p) ≡ weight_in test (status_at P w p) (position_weight w p) + sum_by b (counted_positions_at pass P H w p) = each w p in
+      let rest : sum_by weighed (map (λ p. (status_at P' w p, position_weight w p)) ps) + sum_by a (flat_map (counted_positions_at pass P H w) ps) ≡ sum_by weighed (map (λ p. (status_at P w p, position_weight w p)) ps) + sum_by b (flat_map (counted_positions_at pass P H w) ps) = balanced_word w ps in
+      let after : sum_by weighed (map (λ p. (status_at P' w p, position_weight w p)) (p ∷ ps)) ≡ weight_in test (status_at P' w p) (position_weight w p) + sum_by weighed (map (λ p. (status_at P' w p, position_weight w p)) ps) = sum_by-cons weighed (status_at P' w p, position_weight w p) (map (λ p. (status_at P' w p, position_weight w p)) ps) in
+      let before : sum_by weighed (map (λ p. (status_at P w p, position_weight w p)) (p ∷ ps)) ≡ weight_in test (status_at P w p) (position_weight w p) + sum_by weighed (map (λ p. (status_at P w p, position_weight w p)) ps) = sum_by-cons weighed (status_at P w p, position_weight w p) (map (λ p. (status_at P w p, position_weight w p)) ps) in
       let left : sum_by a (flat_map (counted_positions_at pass P H w) (p ∷ ps)) ≡ sum_by a (counted_positions_at pass P H w p) + sum_by a (flat_map (counted_positions_at pass P H w) ps) = sum_by-append a (counted_positions_at pass P H w p) (flat_map (counted_positions_at pass P H w) ps) in
       let right : sum_by b (flat_map (counted_positions_at pass P H w) (p ∷ ps)) ≡ sum_by b (counted_positions_at pass P H w p) + sum_by b (flat_map (counted_positions_at pass P H w) ps) = sum_by-append b (counted_positions_at pass P H w p) (flat_map (counted_positions_at pass P H w) ps) in
       joined _ _ _ _ _ _ _ _ _ _ _ _ here rest after before left right
@@ -300,42 +300,42 @@ module _ (m : Minima) (words : List Word) (pass : Pass) (P : Patterns) (H : Hope
 
   -- the equation of a position, from that of its tests
   at : (test : Mark → Bool) (odd : Bool) (a b : CountedPosition → ℕ) (x y : ℕ) (w : Word) (p : ℕ) → is_odd pass.level ≡ odd → sum_by a (counted_positions_at pass P H w p) ≡ x → sum_by b (counted_positions_at pass P H w p) ≡ y
-      → weight_in test (mark_by (hyphen_at m words pass P H raised w p) (care_at m words pass P H raised w p) (cond (rises m words pass P H raised w p) odd (odd_before m words pass P H raised w p))) (weight_at w p) + x ≡ weight_in test (status_at P w p) (weight_at w p) + y
-      → weight_in test (status_at (patterns_after_pass m words pass P H raised) w p) (weight_at w p) + sum_by a (counted_positions_at pass P H w p) ≡ weight_in test (status_at P w p) (weight_at w p) + sum_by b (counted_positions_at pass P H w p)
+      → weight_in test (mark_by (hyphen_at m words pass P H raised w p) (care_at m words pass P H raised w p) (cond (rises m words pass P H raised w p) odd (odd_before m words pass P H raised w p))) (position_weight w p) + x ≡ weight_in test (status_at P w p) (position_weight w p) + y
+      → weight_in test (status_at (patterns_after_pass m words pass P H raised) w p) (position_weight w p) + sum_by a (counted_positions_at pass P H w p) ≡ weight_in test (status_at P w p) (position_weight w p) + sum_by b (counted_positions_at pass P H w p)
   at test odd a b x y w p parity left right is =
       let mark : status_at (patterns_after_pass m words pass P H raised) w p ≡ mark_by (hyphen_at m words pass P H raised w p) (care_at m words pass P H raised w p) (cond (rises m words pass P H raised w p) odd (odd_before m words pass P H raised w p)) =
       mark_after m words pass P H raised w p upto ∙ ap (λ b. mark_by (hyphen_at m words pass P H raised w p) (care_at m words pass P H raised w p) (cond (rises m words pass P H raised w p) b (odd_before m words pass P H raised w p))) parity in
-      (λ i. weight_in test (mark i) (weight_at w p) + left i) ∙ is ∙ ap (λ n. weight_in test (status_at P w p) (weight_at w p) + n) (sym right)
+      (λ i. weight_in test (mark i) (position_weight w p) + left i) ∙ is ∙ ap (λ n. weight_in test (status_at P w p) (position_weight w p) + n) (sym right)
 
-  good_at : (odd : Bool) → is_odd pass.level ≡ odd → (w : Word) (p : ℕ) → sum_by good_part (counted_positions_at pass P H w p) ≡ changed_weight itself (weight_at w p) (rises m words pass P H raised w p) (counted_by odd (status_at P w p))
-  good_at odd parity w p = moved_is m words pass P H raised w p itself ∙ ap (λ b. changed_weight itself (weight_at w p) (rises m words pass P H raised w p) (counted_by b (status_at P w p))) parity
+  good_at : (odd : Bool) → is_odd pass.level ≡ odd → (w : Word) (p : ℕ) → sum_by good_part (counted_positions_at pass P H w p) ≡ changed_weight itself (position_weight w p) (rises m words pass P H raised w p) (counted_by odd (status_at P w p))
+  good_at odd parity w p = moved_is m words pass P H raised w p itself ∙ ap (λ b. changed_weight itself (position_weight w p) (rises m words pass P H raised w p) (counted_by b (status_at P w p))) parity
 
-  bad_at : (odd : Bool) → is_odd pass.level ≡ odd → (w : Word) (p : ℕ) → sum_by bad_part (counted_positions_at pass P H w p) ≡ changed_weight not (weight_at w p) (rises m words pass P H raised w p) (counted_by odd (status_at P w p))
-  bad_at odd parity w p = moved_is m words pass P H raised w p not ∙ ap (λ b. changed_weight not (weight_at w p) (rises m words pass P H raised w p) (counted_by b (status_at P w p))) parity
+  bad_at : (odd : Bool) → is_odd pass.level ≡ odd → (w : Word) (p : ℕ) → sum_by bad_part (counted_positions_at pass P H w p) ≡ changed_weight not (position_weight w p) (rises m words pass P H raised w p) (counted_by odd (status_at P w p))
+  bad_at odd parity w p = moved_is m words pass P H raised w p not ∙ ap (λ b. changed_weight not (position_weight w p) (rises m words pass P H raised w p) (counted_by b (status_at P w p))) parity
 
-  tests_odd : (w : Word) (p : ℕ) → OddAt (hyphen_at m words pass P H raised w p) (care_at m words pass P H raised w p) (odd_before m words pass P H raised w p) (rises m words pass P H raised w p) (weight_at w p)
-  tests_odd w p = odd_at (hyphen_at m words pass P H raised w p) (care_at m words pass P H raised w p) (odd_before m words pass P H raised w p) (rises m words pass P H raised w p) (weight_at w p)
+  tests_odd : (w : Word) (p : ℕ) → OddAt (hyphen_at m words pass P H raised w p) (care_at m words pass P H raised w p) (odd_before m words pass P H raised w p) (rises m words pass P H raised w p) (position_weight w p)
+  tests_odd w p = odd_at (hyphen_at m words pass P H raised w p) (care_at m words pass P H raised w p) (odd_before m words pass P H raised w p) (rises m words pass P H raised w p) (position_weight w p)
 
   pub finds_more : is_odd pass.level ≡ true → FindsMore (totals m words P) (totals m words (patterns_after_pass m words pass P H raised)) (good_raised raised (counted_positions m words pass P H)) (bad_raised raised (counted_positions m words pass P H))
   finds_more odd = record {
-    found = let e = balanced m pass P (patterns_after_pass m words pass P H raised) H is_found none_part good_part (λ w p. at is_found true none_part good_part 0 (changed_weight itself (weight_at w p) (rises m words pass P H raised w p) (counted_by true (status_at P w p))) w p odd (sum_none (counted_positions_at pass P H w p)) (good_at true odd w p) (tests_odd w p).0) words in
+    found = let e = balanced m pass P (patterns_after_pass m words pass P H raised) H is_found none_part good_part (λ w p. at is_found true none_part good_part 0 (changed_weight itself (position_weight w p) (rises m words pass P H raised w p) (counted_by true (status_at P w p))) w p odd (sum_none (counted_positions_at pass P H w p)) (good_at true odd w p) (tests_odd w p).0) words in
         gained _ _ _ _ _ e (sum_none (counted_positions m words pass P H)) (good_raised_sum raised (counted_positions m words pass P H));
-    errors = let e = balanced m pass P (patterns_after_pass m words pass P H raised) H is_error none_part bad_part (λ w p. at is_error true none_part bad_part 0 (changed_weight not (weight_at w p) (rises m words pass P H raised w p) (counted_by true (status_at P w p))) w p odd (sum_none (counted_positions_at pass P H w p)) (bad_at true odd w p) (tests_odd w p).1) words in
+    errors = let e = balanced m pass P (patterns_after_pass m words pass P H raised) H is_error none_part bad_part (λ w p. at is_error true none_part bad_part 0 (changed_weight not (position_weight w p) (rises m words pass P H raised w p) (counted_by true (status_at P w p))) w p odd (sum_none (counted_positions_at pass P H w p)) (bad_at true odd w p) (tests_odd w p).1) words in
         gained _ _ _ _ _ e (sum_none (counted_positions m words pass P H)) (bad_raised_sum raised (counted_positions m words pass P H));
-    missed = let e = balanced m pass P (patterns_after_pass m words pass P H raised) H is_missed good_part none_part (λ w p. at is_missed true good_part none_part (changed_weight itself (weight_at w p) (rises m words pass P H raised w p) (counted_by true (status_at P w p))) 0 w p odd (good_at true odd w p) (sum_none (counted_positions_at pass P H w p)) (tests_odd w p).2) words in
+    missed = let e = balanced m pass P (patterns_after_pass m words pass P H raised) H is_missed good_part none_part (λ w p. at is_missed true good_part none_part (changed_weight itself (position_weight w p) (rises m words pass P H raised w p) (counted_by true (status_at P w p))) 0 w p odd (good_at true odd w p) (sum_none (counted_positions_at pass P H w p)) (tests_odd w p).2) words in
         lost _ _ _ _ _ e (sum_none (counted_positions m words pass P H)) (good_raised_sum raised (counted_positions m words pass P H));
   }
 
-  tests_even : (w : Word) (p : ℕ) → EvenAt (hyphen_at m words pass P H raised w p) (care_at m words pass P H raised w p) (odd_before m words pass P H raised w p) (rises m words pass P H raised w p) (weight_at w p)
-  tests_even w p = even_at (hyphen_at m words pass P H raised w p) (care_at m words pass P H raised w p) (odd_before m words pass P H raised w p) (rises m words pass P H raised w p) (weight_at w p)
+  tests_even : (w : Word) (p : ℕ) → EvenAt (hyphen_at m words pass P H raised w p) (care_at m words pass P H raised w p) (odd_before m words pass P H raised w p) (rises m words pass P H raised w p) (position_weight w p)
+  tests_even w p = even_at (hyphen_at m words pass P H raised w p) (care_at m words pass P H raised w p) (odd_before m words pass P H raised w p) (rises m words pass P H raised w p) (position_weight w p)
 
   pub prevents_more : is_odd pass.level ≡ false → PreventsMore (totals m words P) (totals m words (patterns_after_pass m words pass P H raised)) (good_raised raised (counted_positions m words pass P H)) (bad_raised raised (counted_positions m words pass P H))
   prevents_more even = record {
-    found = let e = balanced m pass P (patterns_after_pass m words pass P H raised) H is_found bad_part none_part (λ w p. at is_found false bad_part none_part (changed_weight not (weight_at w p) (rises m words pass P H raised w p) (counted_by false (status_at P w p))) 0 w p even (bad_at false even w p) (sum_none (counted_positions_at pass P H w p)) (tests_even w p).0) words in
+    found = let e = balanced m pass P (patterns_after_pass m words pass P H raised) H is_found bad_part none_part (λ w p. at is_found false bad_part none_part (changed_weight not (position_weight w p) (rises m words pass P H raised w p) (counted_by false (status_at P w p))) 0 w p even (bad_at false even w p) (sum_none (counted_positions_at pass P H w p)) (tests_even w p).0) words in
         lost _ _ _ _ _ e (sum_none (counted_positions m words pass P H)) (bad_raised_sum raised (counted_positions m words pass P H));
-    errors = let e = balanced m pass P (patterns_after_pass m words pass P H raised) H is_error good_part none_part (λ w p. at is_error false good_part none_part (changed_weight itself (weight_at w p) (rises m words pass P H raised w p) (counted_by false (status_at P w p))) 0 w p even (good_at false even w p) (sum_none (counted_positions_at pass P H w p)) (tests_even w p).1) words in
+    errors = let e = balanced m pass P (patterns_after_pass m words pass P H raised) H is_error good_part none_part (λ w p. at is_error false good_part none_part (changed_weight itself (position_weight w p) (rises m words pass P H raised w p) (counted_by false (status_at P w p))) 0 w p even (good_at false even w p) (sum_none (counted_positions_at pass P H w p)) (tests_even w p).1) words in
         lost _ _ _ _ _ e (sum_none (counted_positions m words pass P H)) (good_raised_sum raised (counted_positions m words pass P H));
-    missed = let e = balanced m pass P (patterns_after_pass m words pass P H raised) H is_missed none_part bad_part (λ w p. at is_missed false none_part bad_part 0 (changed_weight not (weight_at w p) (rises m words pass P H raised w p) (counted_by false (status_at P w p))) w p even (sum_none (counted_positions_at pass P H w p)) (bad_at false even w p) (tests_even w p).2) words in
+    missed = let e = balanced m pass P (patterns_after_pass m words pass P H raised) H is_missed none_part bad_part (λ w p. at is_missed false none_part bad_part 0 (changed_weight not (position_weight w p) (rises m words pass P H raised w p) (counted_by false (status_at P w p))) w p even (sum_none (counted_positions_at pass P H w p)) (bad_at false even w p) (tests_even w p).2) words in
         gained _ _ _ _ _ e (sum_none (counted_positions m words pass P H)) (bad_raised_sum raised (counted_positions m words pass P H));
   }
 

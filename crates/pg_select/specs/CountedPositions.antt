@@ -9,14 +9,19 @@ use Rattle.pg_types.specs.declared.marks.Mark.{Mark}
 use Rattle.pg_types.specs.declared.marks.Mark.TheVariants.{Nothing, Error, Missed, Found, DontCare}
 use Rattle.pg_dict.specs.Word.{Word}
 use Rattle.pg_select.specs.declared.pass.Pass.{Pass}
+use Rattle.pg_translate.specs.Alphabets.{Alphabet}
 use Rattle.pg_translate.specs.Reach.{positions}
-use Rattle.pg_select.specs.Statuses.{is_odd, status_at, weight_at}
+use Rattle.pg_select.specs.Statuses.{is_odd, status_at, position_weight}
 use Rattle.pg_select.specs.Windows.{Patterns, Hopeless, window, fits, covered}
 
 -- the minima that say which positions are in reach
 pub record Minima : Type 0 where
   pub left : ℕ
   pub right : ℕ
+
+-- the minima of a table
+abbrev pub minima_of : Alphabet → Minima
+minima_of t = record { left = t.left; right = t.right }
 
 -- a window at a position that counts: whether it counts as good, and the weight of the position
 pub record CountedPosition : Type 0 where
@@ -40,7 +45,7 @@ counted_at pass P H w p =
 
 -- what a pass counts at a position
 abbrev pub counted_positions_at : Pass → Patterns → Hopeless → Word → ℕ → List CountedPosition
-counted_positions_at pass P H w p = option_map_or (λ good. record { window = window w.signs p pass.len pass.dot; good = good; weight = weight_at w p } ∷ []) (counted_at pass P H w p) []
+counted_positions_at pass P H w p = option_map_or (λ good. record { window = window w.signs p pass.len pass.dot; good = good; weight = position_weight w p } ∷ []) (counted_at pass P H w p) []
 
 -- what a pass counts in a word: at each position in reach
 abbrev pub counted_positions_in : Minima → Pass → Patterns → Hopeless → Word → List CountedPosition

@@ -1,16 +1,17 @@
 -- The laws of the definitions of this crate, on candidates, sums, values, covers and passes that count nothing.
-use Rattle.std.specs.Prelude.{◌≡◌, ℕ, ◌+◌, ◌^◌, ◌<◌, ◌≤◌, max, Bool, true, false, if◌then◌else◌, ◌||◌, ◌⊎◌, Some, List, [], length, map, filter, fold, sum_by, slice_index_or, All}
+use Rattle.std.specs.Prelude.{◌≡◌, ℕ, ◌+◌, ◌<◌, ◌≤◌, max, Bool, true, false, if◌then◌else◌, ◌||◌, ◌⊎◌, Some, List, [], length, map, filter, fold, sum_by, slice_index_or, All}
 use Rattle.std.specs.List.{list_any, list_all}
 use Rattle.std.specs.declared.cmp.Ordering.TheVariants.{Less}
 use Rattle.std.specs.Ordering.{nat_cmp}
 use Rattle.std.specs.Cmp.Lexicographic.{slice_cmp}
 use Rattle.std.specs.FinMap.Entries.{put}
+use Rattle.pg_types.specs.Limits.{sums_limit}
 use Rattle.pg_types.specs.declared.limits.TheConstants.{FILE_MAX}
 use Rattle.pg_translate.specs.Reach.{positions}
-use Rattle.pg_dict.specs.Word.{Word, IsWord, letters_of}
+use Rattle.pg_dict.specs.Word.{Word, IsWord, letter_count}
 use Rattle.pg_patterns.specs.DottedSigns.{dotted_cmp, same_dotted}
 use Rattle.pg_patterns.specs.Values.{value_of, raise, applies, value_at}
-use Rattle.pg_select.specs.Meanings.{Meaning, with_position, given_up}
+use Rattle.pg_select.specs.Meanings.{Meaning, with_position, after_give_up}
 use Rattle.pg_select.specs.declared.pass.Pass.{Pass}
 use Rattle.pg_select.specs.CountedPositions.{Minima, CountedPosition, Candidate, counted_positions, same_signs, candidates, good_of, bad_of, tally, counted_at, counts_as}
 use Rattle.pg_select.specs.Statuses.{status_at}
@@ -36,7 +37,7 @@ CountsAreTally = (counted : List CountedPosition) → fold with_position [] coun
 -- words as those of a dictionary: together they have at most as many letters as the longest file has bytes
 pub record AreFew (words : List Word) : Type 0 where
   pub each : All IsWord words
-  pub letters : sum_by letters_of words ≤ FILE_MAX
+  pub letters : sum_by letter_count words ≤ FILE_MAX
 
 -- the number of positions in reach of all words
 abbrev pub positions_in : Minima → List Word → ℕ
@@ -44,19 +45,19 @@ positions_in m words = sum_by (λ (w : Word). length (positions m.left m.right (
 
 -- where the left minimum is at least 1, words have no more positions in reach than letters
 abbrev pub PositionsAreFew : Type 0
-PositionsAreFew = (m : Minima) (words : List Word) → 1 ≤ m.left → positions_in m words ≤ sum_by letters_of words
+PositionsAreFew = (m : Minima) (words : List Word) → 1 ≤ m.left → positions_in m words ≤ sum_by letter_count words
 
 -- a pass has no more candidates than positions in reach
 abbrev pub CandidatesAreFew : Type 0
 CandidatesAreFew = (m : Minima) (words : List Word) (pass : Pass) (P : Patterns) (H : Hopeless) → length (candidates (counted_positions m words pass P H)) ≤ positions_in m words
 
--- the totals of such words are below 2^40, also together
+-- the totals of such words are below the limit of sums, also together
 abbrev pub TotalsAreSmall : Type 0
-TotalsAreSmall = (m : Minima) (words : List Word) (P : Patterns) → 1 ≤ m.left → AreFew words → (totals m words P).good + (totals m words P).bad + (totals m words P).missed < 2 ^ 40
+TotalsAreSmall = (m : Minima) (words : List Word) (P : Patterns) → 1 ≤ m.left → AreFew words → (totals m words P).good + (totals m words P).bad + (totals m words P).missed < sums_limit
 
--- the weights of all that a pass counts in them are below 2^40 together
+-- the weights of all that a pass counts in them are below the limit of sums together
 abbrev pub CountedAreLight : Type 0
-CountedAreLight = (m : Minima) (words : List Word) (pass : Pass) (P : Patterns) (H : Hopeless) → 1 ≤ m.left → AreFew words → sum_by (λ s. s.weight) (counted_positions m words pass P H) < 2 ^ 40
+CountedAreLight = (m : Minima) (words : List Word) (pass : Pass) (P : Patterns) (H : Hopeless) → 1 ≤ m.left → AreFew words → sum_by (λ s. s.weight) (counted_positions m words pass P H) < sums_limit
 
 -- the sums of a window are within the weights of all that is counted
 abbrev pub SumsAreParts : Type 0
@@ -85,7 +86,7 @@ RaisesWhereItApplies = (P : Patterns) (k : List ℕ × ℕ) (v : ℕ) (w : List 
 -- a window that is given up changes no value, no status and no totals
 abbrev pub GivenUpKeepsValues : Type 0
 GivenUpKeepsValues = (m : Meaning) (u : List ℕ) (tidy : Bool) (minima : Minima) (words : List Word) (w : Word) (p : ℕ)
-    → (value_at (given_up m u tidy).patterns w.signs p ≡ value_at m.patterns w.signs p) × (status_at (given_up m u tidy).patterns w p ≡ status_at m.patterns w p) × (totals minima words (given_up m u tidy).patterns ≡ totals minima words m.patterns)
+    → (value_at (after_give_up m u tidy).patterns w.signs p ≡ value_at m.patterns w.signs p) × (status_at (after_give_up m u tidy).patterns w p ≡ status_at m.patterns w p) × (totals minima words (after_give_up m u tidy).patterns ≡ totals minima words m.patterns)
 
 -- a place that is raised to the level covers exactly the windows in which it stands with their dot, beside those covered before
 abbrev pub RaisedCovers : Type 0
@@ -97,7 +98,7 @@ HopelessCovers = (level : ℕ) (P : Patterns) (H : Hopeless) (k : List ℕ × �
 
 -- so a window that is given up covers each window in which it stands with its dot
 abbrev pub GivenUpCovers : Type 0
-GivenUpCovers = (m : Meaning) (u x : List ℕ) (tidy : Bool) (d : ℕ) → applies x d (u, m.pass.dot) ≡ true → covered m.pass.level (given_up m u tidy).patterns (given_up m u tidy).hopeless x d ≡ true
+GivenUpCovers = (m : Meaning) (u x : List ℕ) (tidy : Bool) (d : ℕ) → applies x d (u, m.pass.dot) ≡ true → covered m.pass.level (after_give_up m u tidy).patterns (after_give_up m u tidy).hopeless x d ≡ true
 
 -- the patterns and hopeless places of a level, and those of a later point of it: each value is the level or what it was, and what
 -- was covered is covered still

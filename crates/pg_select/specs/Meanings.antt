@@ -56,34 +56,34 @@ abbrev pub with_position : Counts → CountedPosition → Counts
 with_position counts s = with_count counts s.window s.good s.weight
 
 -- a pass has begun: nothing is counted in it
-abbrev pub begun_pass : Meaning → ℕ → ℕ → ℕ → Meaning
-begun_pass m level len dot = record m { pass = record { level = level; len = len; dot = dot }; counts = []; begun = m.begun + 1 }
+abbrev pub after_begin_pass : Meaning → ℕ → ℕ → ℕ → Meaning
+after_begin_pass m level len dot = record m { pass = record { level = level; len = len; dot = dot }; counts = []; begun = m.begun + 1 }
 
 -- a position was counted
-abbrev pub counted : Meaning → List ℕ → Bool → ℕ → Meaning
-counted m u good weight = record m { counts = with_position m.counts (record { window = u; good = good; weight = weight }) }
+abbrev pub after_count : Meaning → List ℕ → Bool → ℕ → Meaning
+after_count m u good weight = record m { counts = with_position m.counts (record { window = u; good = good; weight = weight }) }
 
 -- the families after a string is entered, where they are told
-abbrev pub entered : Meaning → List ℕ → Option Families
-entered m u = option_map (λ fs. enter m.signs fs u) m.families
+abbrev pub families_with : Meaning → List ℕ → Option Families
+families_with m u = option_map (λ fs. enter m.signs fs u) m.families
 
 -- a window was chosen: at the pass's dot it has at least the level as its value. Nothing is said of tidiness
-abbrev pub chosen : Meaning → List ℕ → Bool → Meaning
-chosen m u tidy = record m { patterns = raise m.patterns (u, m.pass.dot) m.pass.level; families = entered m u; tidy = tidy }
+abbrev pub after_choose : Meaning → List ℕ → Bool → Meaning
+after_choose m u tidy = record m { patterns = raise m.patterns (u, m.pass.dot) m.pass.level; families = families_with m u; tidy = tidy }
 
 -- a window was given up: it is hopeless at the pass's dot. Nothing is said of tidiness
-abbrev pub given_up : Meaning → List ℕ → Bool → Meaning
-given_up m u tidy = record m { hopeless = put dotted_cmp (u, m.pass.dot) (tt {0}) m.hopeless; families = entered m u; tidy = tidy }
+abbrev pub after_give_up : Meaning → List ℕ → Bool → Meaning
+after_give_up m u tidy = record m { hopeless = put dotted_cmp (u, m.pass.dot) (tt {0}) m.hopeless; families = families_with m u; tidy = tidy }
 
 -- a level ended: nothing is hopeless, and the families lose the cells of strings that are no prefix of a pattern's
-abbrev pub ended : Meaning → Meaning
-ended m = record m { hopeless = []; families = option_map (kept (map (λ e. e.0.0) m.patterns)) m.families; tidy = true }
+abbrev pub after_end_level : Meaning → Meaning
+after_end_level m = record m { hopeless = []; families = option_map (kept (map (λ e. e.0.0) m.patterns)) m.families; tidy = true }
 
 -- all but the families and tidiness stayed as it was; families that are told took in a front of the string, its first k signs
 pub record KeepsButFamilies (u : List ℕ) (old new : Meaning) : Type 0 where
   pub kept : new ≡ record old { families = new.families; tidy = new.tidy }
   pub k : ℕ
-  pub part : new.families ≡ entered old (take k u)
+  pub part : new.families ≡ families_with old (take k u)
 
 -- the values of the positions of a word are those that the patterns give
 abbrev pub SetsValues : Meaning → List ℕ → List ℕ → Type 0

@@ -23,5 +23,5 @@ abbrev pub status_out_of_reach : Word → ℕ → Mark
 status_out_of_reach w p = status (slice_index_or w.hyphens p false) (slice_index_or w.cares p true) 0
 
 -- the weight of a position
-abbrev pub weight_at : Word → ℕ → ℕ
-weight_at w p = slice_index w.weights p
+abbrev pub position_weight : Word → ℕ → ℕ
+position_weight w p = slice_index w.weights p

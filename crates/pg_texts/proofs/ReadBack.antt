@@ -8,9 +8,9 @@ use Rattle.pg_types.specs.declared.limits.TheConstants.{FILE_MAX, WORD_LETTERS_M
 use Rattle.pg_types.specs.declared.marks.Mark.{Mark}
 use Rattle.pg_translate.specs.Alphabets.{Alphabet, letters_of}
 use Rattle.pg_translate.specs.Tokens.{Token}
-use Rattle.pg_translate.specs.Items.{joined}
+use Rattle.pg_translate.specs.Items.{text_of_items}
 use Rattle.pg_dict.specs.Word.{Word, IsWord, SignsAtMost}
-use Rattle.pg_dict.specs.Words.{line_of, line_word, words}
+use Rattle.pg_dict.specs.Words.{line_reading, line_word, words}
 use Rattle.pg_dict.specs.Written.{AreMarksOf, word_tokens, letters_among, IsLine, file_of, LinesGive}
 use Rattle.pg_select.specs.Windows.{Patterns}
 use Rattle.pg_texts.specs.PattmpTexts.{is_taking_part, words_taking_part, statuses, lines_behind, pattmp_text}
@@ -20,9 +20,9 @@ use Rattle.pg_texts.proofs.WordMarks.{statuses_are_marks}
 -- the laws of items, of lines and of files
 pub record Laws (t : Alphabet) : Type 0 where
   pub spelled : SpellsLetters t
-  pub items_lines : (items : List (Token × List ℕ)) → AllByRecursion (IsDictionaryItem t) items → IsLine (joined items)
+  pub items_lines : (items : List (Token × List ℕ)) → AllByRecursion (IsDictionaryItem t) items → IsLine (text_of_items items)
   pub words_read : (before : ℕ) (w : Word) (marks : List Mark) → IsWord w → AreMarksOf w marks → line_word before (word_tokens before marks w) ≡ record { word = Some w; weight = w.weight }
-  pub lines_read : (line weight : ℕ) (items : List (Token × List ℕ)) → AllByRecursion (IsDictionaryItem t) items → letters_among (map (λ item. item.0) items) ≤ WORD_LETTERS_MAX → line_of t line weight (joined items) ≡ Ok (line_word weight (map (λ item. item.0) items))
+  pub lines_read : (line weight : ℕ) (items : List (Token × List ℕ)) → AllByRecursion (IsDictionaryItem t) items → letters_among (map (λ item. item.0) items) ≤ WORD_LETTERS_MAX → line_reading t line weight (text_of_items items) ≡ Ok (line_word weight (map (λ item. item.0) items))
   pub files_read : (texts : List (List ℕ)) (all : List Word) → AllByRecursion IsLine texts → LinesGive t 1 texts all → length (file_of texts) ≤ FILE_MAX → words t (file_of texts) ≡ Ok all
 
 -- the items of the line of a word, which is behind a line with this word weight
@@ -32,7 +32,7 @@ line_items t P before w = word_items t before (statuses t P w) w
 -- the lines of words, without their ends
 abbrev texts_behind : Alphabet → Patterns → ℕ → List Word → List (List ℕ)
 texts_behind t P before [] = []
-texts_behind t P before (w ∷ ws) = joined (line_items t P before w) ∷ texts_behind t P w.weight ws
+texts_behind t P before (w ∷ ws) = text_of_items (line_items t P before w) ∷ texts_behind t P w.weight ws
 
 -- a word of a dictionary under this table
 record IsKnown (t : Alphabet) (w : Word) : Type 0 where
@@ -40,7 +40,7 @@ record IsKnown (t : Alphabet) (w : Word) : Type 0 where
   signs : All (λ s. s ≤ letters_of t + 1) w.signs
 
 -- the line of a word is read as the word
-line_read : (t : Alphabet) → Laws t → (P : Patterns) (before line : ℕ) (w : Word) → IsKnown t w → line_of t line before (joined (line_items t P before w)) ≡ Ok (record { word = Some w; weight = w.weight })
+line_read : (t : Alphabet) → Laws t → (P : Patterns) (before line : ℕ) (w : Word) → IsKnown t w → line_reading t line before (text_of_items (line_items t P before w)) ≡ Ok (record { word = Some w; weight = w.weight })
 line_read t laws P before line w known =
     let tokens : map (λ item. item.0) (line_items t P before w) ≡ word_tokens before (map (statuses t P w) (inner_positions w)) w = word_items_tokens t before (statuses t P w) w known.word in
     let few : letters_among (map (λ item. item.0) (line_items t P before w)) ≤ WORD_LETTERS_MAX = rw tokens (word_items_few before (statuses t P w) w known.word) in

@@ -12,7 +12,7 @@ use Rattle.pg_types.specs.declared.limits.TheConstants.{WEIGHT_MAX}
 use Rattle.pg_translate.specs.Alphabets.{Alphabet}
 use Rattle.pg_translate.specs.Tokens.{Token, Digit, Weight}
 use Rattle.pg_types.specs.Parameters.{with_digit}
-use Rattle.pg_translate.specs.Items.{IsItem, value_of}
+use Rattle.pg_translate.specs.Items.{IsItem, decimal_value}
 use Rattle.pg_translate.specs.declared.items.Place.TheVariants.{Dictionary}
 use Rattle.pg_dict.specs.Written.{number_token, weight_tokens}
 use Rattle.pg_texts.specs.PattmpTexts.{number_text}
@@ -20,7 +20,7 @@ use Rattle.pg_texts.specs.PattmpTexts.{number_text}
 -- digits that write a number
 record Writes (n : ℕ) (text : List ℕ) : Type 0 where
   digits : list_all is_ascii_digit text ≡ true
-  value : n ≡ value_of text
+  value : n ≡ decimal_value text
 
 one_digit : (n : ℕ) → n < 10 → is_ascii_digit (48 + n) ≡ true
 one_digit n low = grind (arith, nat_tests)

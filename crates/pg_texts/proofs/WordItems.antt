@@ -11,11 +11,11 @@ use Rattle.pg_types.specs.declared.marks.Mark.{Mark}
 use Rattle.pg_types.specs.declared.marks.Mark.TheVariants.{Nothing, Error, Missed, Found, DontCare}
 use Rattle.pg_translate.specs.Alphabets.{Alphabet, letters_of, spelling_of, mark_byte_of}
 use Rattle.pg_translate.specs.Tokens.{Token, Letter, Digit, Weight, Marked, Edge}
-use Rattle.pg_translate.specs.Items.{IsItem, joined}
+use Rattle.pg_translate.specs.Items.{IsItem, text_of_items}
 use Rattle.pg_translate.specs.declared.items.Place.TheVariants.{Dictionary}
 use Rattle.pg_dict.specs.Word.{Word, IsWord}
 use Rattle.pg_dict.specs.Written.{Written, mark_tokens, weight_tokens, number_token, letters_tokens, written_letters, between_letters, letters_with, word_tokens, letters_among}
-use Rattle.pg_select.specs.Statuses.{weight_at}
+use Rattle.pg_select.specs.Statuses.{position_weight}
 use Rattle.pg_texts.specs.PattmpTexts.{mark_text, weight_text, letter_text, position_text, word_text}
 use Rattle.pg_texts.proofs.Ranges.{same_over_range, part_of, each_append, each_over_range, map_pieces, shifted}
 use Rattle.pg_texts.proofs.WeightItems.{weight_items, weight_items_tokens, weight_items_each}
@@ -41,7 +41,7 @@ letter_item t sign = (Letter sign, spelling_of t sign)
 
 -- the items of a position, up to the letter behind it
 abbrev pub position_items : Alphabet → (ℕ → Mark) → Word → ℕ → List (Token × List ℕ)
-position_items t marks w p = mark_items t (marks p) ++ (weight_items w.weight (weight_at w p) ++ letter_item t (slice_index w.signs p) ∷ [])
+position_items t marks w p = mark_items t (marks p) ++ (weight_items w.weight (position_weight w p) ++ letter_item t (slice_index w.signs p) ∷ [])
 
 -- the items of a line
 abbrev pub word_items : Alphabet → ℕ → (ℕ → Mark) → Word → List (Token × List ℕ)
@@ -57,15 +57,15 @@ mark_items_tokens t DontCare = refl
 
 -- a letter with the mark and the weight of the position before it
 abbrev written_at : (ℕ → Mark) → Word → ℕ → Written
-written_at marks w p = record { mark = marks p; weight = weight_at w p; sign = slice_index w.signs p }
+written_at marks w p = record { mark = marks p; weight = position_weight w p; sign = slice_index w.signs p }
 
 abbrev written_tokens : ℕ → Written → List Token
 written_tokens weight l = mark_tokens l.mark ++ (weight_tokens weight l.weight ++ Letter l.sign ∷ [])
 
 position_items_tokens : (t : Alphabet) (marks : ℕ → Mark) (w : Word) (p : ℕ) → map (λ item. item.0) (position_items t marks w p) ≡ written_tokens w.weight (written_at marks w p)
 position_items_tokens t marks w p =
-    map-append (λ item. item.0) (mark_items t (marks p)) (weight_items w.weight (weight_at w p) ++ letter_item t (slice_index w.signs p) ∷ [])
-    ∙ rw (mark_items_tokens t (marks p), map-append (λ item. item.0) (weight_items w.weight (weight_at w p)) (letter_item t (slice_index w.signs p) ∷ []), weight_items_tokens w.weight (weight_at w p)) refl
+    map-append (λ item. item.0) (mark_items t (marks p)) (weight_items w.weight (position_weight w p) ++ letter_item t (slice_index w.signs p) ∷ [])
+    ∙ rw (mark_items_tokens t (marks p), map-append (λ item. item.0) (weight_items w.weight (position_weight w p)) (letter_item t (slice_index w.signs p) ∷ []), weight_items_tokens w.weight (position_weight w p)) refl
 
 written_over : (marks : ℕ → Mark) (f g : ℕ → ℕ) (ps : List ℕ) → written_letters (map marks ps) (map f ps) (map g ps) ≡ map (λ p. record { mark = marks p; weight = f p; sign = g p }) ps
 written_over marks f g [] = refl
@@ -93,20 +93,20 @@ word_items_tokens t before marks w word =
     ∙ rw (weight_items_tokens before w.weight, letters) refl
 
 -- their texts, joined
-joined_append : (xs ys : List (Token × List ℕ)) → joined (xs ++ ys) ≡ joined xs ++ joined ys
+joined_append : (xs ys : List (Token × List ℕ)) → text_of_items (xs ++ ys) ≡ text_of_items xs ++ text_of_items ys
 joined_append xs ys = rw (map-append (λ item. item.1) xs ys) (concat-append (map (λ item. item.1) xs) (map (λ item. item.1) ys))
 
-joined_one : (item : Token × List ℕ) → joined (item ∷ []) ≡ item.1
+joined_one : (item : Token × List ℕ) → text_of_items (item ∷ []) ≡ item.1
 joined_one item = append-nil item.1
 
-joined_pieces : (f : ℕ → List (Token × List ℕ)) (ps : List ℕ) → joined (flat_map f ps) ≡ flat_map (λ p. joined (f p)) ps
+joined_pieces : (f : ℕ → List (Token × List ℕ)) (ps : List ℕ) → text_of_items (flat_map f ps) ≡ flat_map (λ p. text_of_items (f p)) ps
 joined_pieces f [] = refl
-joined_pieces f (p ∷ ps) = joined_append (f p) (flat_map f ps) ∙ ap (λ r. joined (f p) ++ r) (joined_pieces f ps)
+joined_pieces f (p ∷ ps) = joined_append (f p) (flat_map f ps) ∙ ap (λ r. text_of_items (f p) ++ r) (joined_pieces f ps)
 
-weight_items_joined : (other weight : ℕ) → joined (weight_items other weight) ≡ weight_text other weight
+weight_items_joined : (other weight : ℕ) → text_of_items (weight_items other weight) ≡ weight_text other weight
 weight_items_joined other weight = elim (cases_Bool (weight == other)) [ inl same ↦ rw same refl | inr differs ↦ rw differs (append-nil _) ]
 
-mark_items_joined : (t : Alphabet) (mark : Mark) → joined (mark_items t mark) ≡ mark_text t mark
+mark_items_joined : (t : Alphabet) (mark : Mark) → text_of_items (mark_items t mark) ≡ mark_text t mark
 mark_items_joined t Nothing = refl
 mark_items_joined t Error = refl
 mark_items_joined t Missed = refl
@@ -115,12 +115,12 @@ mark_items_joined t DontCare = refl
 
 -- the mark and the weight of a position
 abbrev mark_and_weight : Alphabet → (ℕ → Mark) → Word → ℕ → List ℕ
-mark_and_weight t marks w p = mark_text t (marks p) ++ weight_text w.weight (weight_at w p)
+mark_and_weight t marks w p = mark_text t (marks p) ++ weight_text w.weight (position_weight w p)
 
-position_items_joined : (t : Alphabet) (marks : ℕ → Mark) (w : Word) (p : ℕ) → joined (position_items t marks w p) ≡ mark_and_weight t marks w p ++ spelling_of t (slice_index w.signs p)
+position_items_joined : (t : Alphabet) (marks : ℕ → Mark) (w : Word) (p : ℕ) → text_of_items (position_items t marks w p) ≡ mark_and_weight t marks w p ++ spelling_of t (slice_index w.signs p)
 position_items_joined t marks w p =
-    joined_append (mark_items t (marks p)) (weight_items w.weight (weight_at w p) ++ letter_item t (slice_index w.signs p) ∷ [])
-    ∙ rw (mark_items_joined t (marks p), joined_append (weight_items w.weight (weight_at w p)) (letter_item t (slice_index w.signs p) ∷ []), weight_items_joined w.weight (weight_at w p), joined_one (letter_item t (slice_index w.signs p))) (sym (append_assoc (mark_text t (marks p)) (weight_text w.weight (weight_at w p)) (spelling_of t (slice_index w.signs p))))
+    joined_append (mark_items t (marks p)) (weight_items w.weight (position_weight w p) ++ letter_item t (slice_index w.signs p) ∷ [])
+    ∙ rw (mark_items_joined t (marks p), joined_append (weight_items w.weight (position_weight w p)) (letter_item t (slice_index w.signs p) ∷ []), weight_items_joined w.weight (position_weight w p), joined_one (letter_item t (slice_index w.signs p))) (sym (append_assoc (mark_text t (marks p)) (weight_text w.weight (position_weight w p)) (spelling_of t (slice_index w.signs p))))
 
 -- the letters behind the first, each behind the mark and the weight of the position before it
 abbrev letters_behind : Alphabet → (ℕ → Mark) → Word → List ℕ
@@ -130,16 +130,16 @@ word_letters : (t : Alphabet) (marks : ℕ → Mark) (w : Word) → 3 ≤ length
 word_letters t marks w long =
     let last : length w.signs - 1 ≡ 2 + (length w.signs - 3) = omega arith in
     let front : flat_map (position_text t marks w) (inner_positions w) ≡ flat_map (λ p. letter_text t w p ++ mark_and_weight t marks w p) (inner_positions w) =
-    same_over_range (position_text t marks w) (λ p. letter_text t w p ++ mark_and_weight t marks w p) 2 (length w.signs - 3) (λ p low high. append_assoc (letter_text t w p) (mark_text t (marks p)) (weight_text w.weight (weight_at w p))) in
+    same_over_range (position_text t marks w) (λ p. letter_text t w p ++ mark_and_weight t marks w p) 2 (length w.signs - 3) (λ p low high. append_assoc (letter_text t w p) (mark_text t (marks p)) (weight_text w.weight (position_weight w p))) in
     let moved = shifted (letter_text t w) (mark_and_weight t marks w) (λ p. spelling_of t (slice_index w.signs p)) (λ p. ap (λ q. spelling_of t (slice_index w.signs q)) (omega arith)) 2 (length w.signs - 3) in
     rw (front, last) moved
 
-pub word_items_joined : (t : Alphabet) (before : ℕ) (marks : ℕ → Mark) (w : Word) → 3 ≤ length w.signs → joined (word_items t before marks w) ++ codes "\n" ≡ weight_text before w.weight ++ word_text t marks w
+pub word_items_joined : (t : Alphabet) (before : ℕ) (marks : ℕ → Mark) (w : Word) → 3 ≤ length w.signs → text_of_items (word_items t before marks w) ++ codes "\n" ≡ weight_text before w.weight ++ word_text t marks w
 word_items_joined t before marks w long =
-    let letters : joined (flat_map (position_items t marks w) (inner_positions w)) ≡ letters_behind t marks w =
+    let letters : text_of_items (flat_map (position_items t marks w) (inner_positions w)) ≡ letters_behind t marks w =
     joined_pieces (position_items t marks w) (inner_positions w)
-    ∙ same_over_range (λ p. joined (position_items t marks w p)) (λ p. mark_and_weight t marks w p ++ spelling_of t (slice_index w.signs p)) 2 (length w.signs - 3) (λ p low high. position_items_joined t marks w p) in
-    let whole : joined (word_items t before marks w) ≡ weight_text before w.weight ++ (spelling_of t (slice_index w.signs 1) ++ letters_behind t marks w) =
+    ∙ same_over_range (λ p. text_of_items (position_items t marks w p)) (λ p. mark_and_weight t marks w p ++ spelling_of t (slice_index w.signs p)) 2 (length w.signs - 3) (λ p low high. position_items_joined t marks w p) in
+    let whole : text_of_items (word_items t before marks w) ≡ weight_text before w.weight ++ (spelling_of t (slice_index w.signs 1) ++ letters_behind t marks w) =
     joined_append (weight_items before w.weight) (letter_item t (slice_index w.signs 1) ∷ flat_map (position_items t marks w) (inner_positions w)) ∙ rw (weight_items_joined before w.weight, letters) refl in
     rw (whole, word_letters t marks w long) (append_assoc (weight_text before w.weight) (spelling_of t (slice_index w.signs 1) ++ letters_behind t marks w) (codes "\n"))
 
@@ -169,9 +169,9 @@ letter_item_there t w p spelled word known low high = spelled (slice_index w.sig
 
 position_items_each : (t : Alphabet) (marks : ℕ → Mark) (w : Word) (p : ℕ) → SpellsLetters t → IsWord w → All (λ s. s ≤ letters_of t + 1) w.signs → 1 ≤ p → p + 1 < length w.signs → AllByRecursion (IsDictionaryItem t) (position_items t marks w p)
 position_items_each t marks w p spelled word known low high =
-    let weight : weight_at w p ≤ WEIGHT_MAX = word.weights p 0 (omega (arith, word.weights_len)) in
+    let weight : position_weight w p ≤ WEIGHT_MAX = word.weights p 0 (omega (arith, word.weights_len)) in
     each_append (IsDictionaryItem t) (mark_items t (marks p)) _ (mark_items_each t (marks p))
-    (each_append (IsDictionaryItem t) (weight_items w.weight (weight_at w p)) _ (weight_items_each t w.weight (weight_at w p) weight)
+    (each_append (IsDictionaryItem t) (weight_items w.weight (position_weight w p)) _ (weight_items_each t w.weight (position_weight w p) weight)
     (letter_item_there t w p spelled word known low high, tt))
 
 pub word_items_each : (t : Alphabet) (before : ℕ) (marks : ℕ → Mark) (w : Word) → SpellsLetters t → IsWord w → All (λ s. s ≤ letters_of t + 1) w.signs → AllByRecursion (IsDictionaryItem t) (word_items t before marks w)

@@ -5,7 +5,7 @@ use Rattle.std.specs.List.{slice_get}
 use Rattle.std.proofs.lemmas.Bool.{cases_Bool}
 use Rattle.std.proofs.lemmas.Simd.{map-map}
 use Rattle.std.proofs.lemmas.Option.{slice_get-get_or, get_or_from_slice_get}
-use Rattle.pg_dict.specs.Spots.{sets_hyphen, keeps_care}
+use Rattle.pg_dict.specs.PositionedSigns.{sets_hyphen, keeps_care}
 use Rattle.pg_dict.specs.Word.{Word, IsWord}
 use Rattle.pg_dict.specs.Written.{AreMarksOf}
 use Rattle.pg_select.specs.Statuses.{status, is_odd}
@@ -13,7 +13,7 @@ use Rattle.pg_translate.specs.Alphabets.{Alphabet}
 use Rattle.pg_patterns.specs.Values.{value_at}
 use Rattle.pg_select.specs.AnyPositions.{is_in_reach}
 use Rattle.pg_select.specs.Windows.{Patterns}
-use Rattle.pg_driver.specs.Told.{minima_of}
+use Rattle.pg_select.specs.CountedPositions.{minima_of}
 use Rattle.pg_texts.specs.PattmpTexts.{statuses}
 use Rattle.pg_texts.proofs.Ranges.{same_map_over_range}
 use Rattle.pg_texts.proofs.WordItems.{inner_positions, between}

@@ -6,10 +6,10 @@ use Rattle.pg_types.specs.declared.marks.Mark.TheVariants.{Nothing}
 use Rattle.pg_translate.specs.Alphabets.{Alphabet, spelling_of, mark_byte_of}
 use Rattle.pg_translate.specs.Reach.{reach}
 use Rattle.pg_dict.specs.Word.{Word}
-use Rattle.pg_select.specs.Statuses.{weight_at}
+use Rattle.pg_select.specs.Statuses.{position_weight}
 use Rattle.pg_select.specs.AnyPositions.{status_of_position}
 use Rattle.pg_select.specs.Windows.{Patterns}
-use Rattle.pg_driver.specs.Told.{minima_of}
+use Rattle.pg_select.specs.CountedPositions.{minima_of}
 
 -- whether a word takes part: it has positions in reach
 abbrev pub is_taking_part : Alphabet → Word → Bool
@@ -38,7 +38,7 @@ letter_text t w p = spelling_of t (slice_index w.signs (p - 1))
 
 -- a position between two letters: the letter before it, its mark, and its weight where it is not the word's
 abbrev pub position_text : Alphabet → (ℕ → Mark) → Word → ℕ → List ℕ
-position_text t marks w p = letter_text t w p ++ mark_text t (marks p) ++ weight_text w.weight (weight_at w p)
+position_text t marks w p = letter_text t w p ++ mark_text t (marks p) ++ weight_text w.weight (position_weight w p)
 
 -- a word of n letters, where its positions have these marks: the positions 2 to n, which stand between two letters, and then the
 -- last letter

@@ -3,7 +3,7 @@ ghost use Rattle.std.specs.Prelude.{◌≡◌, ◌<◌, ◌≤◌, ◌+◌, ◌-
 ghost use Rattle.pg_types.specs.declared.limits.TheConstants.{WORD_LETTERS_MAX, WEIGHT_MAX};
 ghost use Rattle.pg_translate.specs.Alphabets.{letters_of};
 ghost use Rattle.pg_dict.specs.Word.{IsWord};
-ghost use Rattle.pg_dict.specs.Lent.{word_of};
+ghost use Rattle.pg_dict.specs.Lent.{lent_word};
 ghost use Rattle.pg_texts.specs.PattmpTexts as pattmp;
 ghost use Rattle.pg_texts.specs.Found.{status_found};
 
@@ -45,7 +45,7 @@ fn push_mark(text: &mut Vec<u8>, table: &Table, mark: Mark) -> Result<(), AllocE
 fn status_at(word: WordRef<'_>, found: &WordState, reach: (usize, usize), p: usize) -> Mark
     requires within { p < length word.signs.now }
     requires short { length word.signs.now ≤ WORD_LETTERS_MAX + 2 }
-    ensures { result ≡ status_found found.now.values reach (word_of word.entry) p }
+    ensures { result ≡ status_found found.now.values reach (lent_word word.entry) p }
 {
     let value = if reach.0 <= p && p <= reach.1 {
         found.value(p)
@@ -65,9 +65,9 @@ fn push_position(
 ) -> Result<(), AllocError>
     requires low { 2 ≤ p }
     requires high { p < length word.signs.now }
-    requires word { IsWord (word_of word) }
+    requires word { IsWord (lent_word word) }
     requires known { All (λ s. s ≤ letters_of table.now + 1) word.signs.now }
-    ensures { OnOk result (text.new.items ≡ text.old.items ++ pattmp.position_text table.now (λ _. mark) (word_of word.entry) p) }
+    ensures { OnOk result (text.new.items ≡ text.old.items ++ pattmp.position_text table.now (λ _. mark) (lent_word word.entry) p) }
 {
     text.extend_from_slice(table.spelling(word.signs[p - 1]))?;
     push_mark(text, table, mark)?;
@@ -83,9 +83,9 @@ pub fn push_word(
     found: &WordState,
     reach: (usize, usize),
 ) -> Result<(), AllocError>
-    requires word { IsWord (word_of word) }
+    requires word { IsWord (lent_word word) }
     requires known { All (λ s. s ≤ letters_of table.now + 1) word.signs.now }
-    ensures { OnOk result (text.new.items ≡ text.old.items ++ pattmp.word_text table.now (status_found found.now.values reach (word_of word.entry)) (word_of word.entry)) }
+    ensures { OnOk result (text.new.items ≡ text.old.items ++ pattmp.word_text table.now (status_found found.now.values reach (lent_word word.entry)) (lent_word word.entry)) }
 {
     let last = word.signs.len() - 1;
     'positions: for p in 2..last {

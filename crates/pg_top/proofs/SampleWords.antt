@@ -12,13 +12,14 @@ use Rattle.pg_translate.specs.Rules.{KeepsRules}
 use Rattle.pg_translate.specs.Spellings.{IsAmong}
 use Rattle.pg_translate.specs.Tables.{default_alphabet, default_letter}
 use Rattle.pg_translate.specs.Tokens.{Token, Letter, Marked}
-use Rattle.pg_translate.specs.Items.{IsItem, joined}
+use Rattle.pg_translate.specs.Items.{IsItem, text_of_items}
 use Rattle.pg_translate.specs.declared.items.Place.TheVariants.{Dictionary}
 use Rattle.pg_dict.specs.Word.{Word}
-use Rattle.pg_dict.specs.Words.{LineWord, line_of, line_word, word_weight, word_of_items, words}
+use Rattle.pg_dict.specs.Words.{LineWord, line_reading, line_word, word_weight, word_of_items, words}
 use Rattle.pg_dict.specs.Written.{letters_among, IsLine, file_of, LinesGive}
 use Rattle.pg_dict.proofs.LineLaws.{line_is_read, file_is_read, items_line}
 use Rattle.pg_top.specs.SampleTexts.{Made, next_state, drawn, consonants, vowels, closings, ending, syllable, further, word, words_made, sample_text}
+use Rattle.pg_types.proofs.BoolFacts.{and_first, and_second}
 
 -- letters, and hyphens beside them
 abbrev is_letter : ℕ → Bool
@@ -55,19 +56,11 @@ item_good : (b : ℕ) (hyphen : Bool) → (b == 45) ≡ hyphen → is_plain b �
 item_good b true is plain = let same : b ≡ 45 = grind (arith, nat_tests) in ap (λ x. x ∷ []) same
 item_good b false is plain = letter_among b (grind (arith, common_steps))
 
-and_first : (a b : Bool) → (a && b) ≡ true → a ≡ true
-and_first true b is = refl
-and_first false b is = is
-
-and_second : (a b : Bool) → (a && b) ≡ true → b ≡ true
-and_second true b is = is
-and_second false b is = cc
-
 items_each : (text : List ℕ) → list_all is_plain text ≡ true → AllByRecursion (λ (item : Token × List ℕ). IsItem default_alphabet Dictionary item.0 item.1) (map item_of text)
 items_each [] plain = tt
 items_each (b ∷ bs) plain = (item_good b (b == 45) refl (and_first (is_plain b) (list_all is_plain bs) plain), items_each bs (and_second (is_plain b) (list_all is_plain bs) plain))
 
-items_joined : (text : List ℕ) → joined (map item_of text) ≡ text
+items_joined : (text : List ℕ) → text_of_items (map item_of text) ≡ text
 items_joined [] = refl
 items_joined (b ∷ bs) = ap (λ rest. b ∷ rest) (items_joined bs)
 
@@ -96,13 +89,13 @@ letter_first : (b : ℕ) (hyphen : Bool) → (b == 45) ≡ hyphen → is_letter 
 letter_first b true is letter = absurd (grind (arith, nat_tests))
 letter_first b false is letter = refl
 
-line_given : (weight : ℕ) (text : List ℕ) → KeepsRules default_alphabet → IsSampleLine text → (w : Word) × ((line : ℕ) → line_of default_alphabet line weight text ≡ Ok (record { word = Some w; weight = w.weight }))
+line_given : (weight : ℕ) (text : List ℕ) → KeepsRules default_alphabet → IsSampleLine text → (w : Word) × ((line : ℕ) → line_reading default_alphabet line weight text ≡ Ok (record { word = Some w; weight = w.weight }))
 line_given weight [] rules good = absurd (omega (arith, good.some))
 line_given weight (b ∷ bs) rules good =
     let there = word_there weight (token_of (b == 45) b) (tokens bs) (b - 95) (letter_first b (b == 45) refl good.begins) in
     let few : letters_among (tokens (b ∷ bs)) ≤ WORD_LETTERS_MAX = omega (arith, letters_few (b ∷ bs), good.short) in (
       there.0,
-      λ line. subst (λ (text : List ℕ). line_of default_alphabet line weight text ≡ Ok (record { word = Some there.0; weight = there.0.weight })) (items_joined (b ∷ bs))
+      λ line. subst (λ (text : List ℕ). line_reading default_alphabet line weight text ≡ Ok (record { word = Some there.0; weight = there.0.weight })) (items_joined (b ∷ bs))
           (line_is_read default_alphabet rules line weight (map item_of (b ∷ bs)) (items_each (b ∷ bs) good.plain) few ∙ ap Ok there.1),
     )
 

@@ -10,7 +10,7 @@ use Rattle.pg_driver.specs.Sound.{Finished}
 use Rattle.pg_driver.specs.Told.{patterns_from, account_from, begun_from, cells_from, TellsCells, level_layout_told}
 use Rattle.pg_driver.specs.Accounts.{Account}
 use Rattle.pg_select.specs.Windows.{Patterns}
-use Rattle.pg_packed.specs.Starts.{entered_all}
+use Rattle.pg_packed.specs.Starts.{pattern_families}
 use Rattle.pg_patterns.specs.Texts.{pattern_text}
 use Rattle.pg_patterns.specs.Values.{largest}
 use Rattle.pg_texts.specs.CellsTexts.{cells_text}
@@ -73,7 +73,7 @@ last_at (l ∷ levels) first d some =
     last_behind l levels first d ∙ ap (λ k. (get_or (l ∷ levels) k d).layout) place
 
 -- over the packed engine these are the cells
-pub cells_packed : (i : Inputs) (fs : Option Families) (r : Finished) → fs ≡ Some (entered_all (signs_of i) i.start) → TellsCells (option_map (selected_cells_from i) fs) r → TellsCells (Some (selected_cells i)) r
+pub cells_packed : (i : Inputs) (fs : Option Families) (r : Finished) → fs ≡ Some (pattern_families (signs_of i) i.start) → TellsCells (option_map (selected_cells_from i) fs) r → TellsCells (Some (selected_cells i)) r
 unfolding selected_cells
 cells_packed i fs r is tells = subst (λ fs. TellsCells (option_map (selected_cells_from i) fs) r) is tells
 

@@ -1,7 +1,7 @@
 -- The lines that are printed.
 use Rattle.std.specs.Prelude.{ℕ, ◌==◌, if◌then◌else◌, List, [], ◌++◌, length, codes, decimal}
 use Rattle.pg_types.specs.Lines.{lines}
-use Rattle.pg_types.specs.Refusals.{number_of, name_of}
+use Rattle.pg_types.specs.Refusals.{kind_number, name_of}
 use Rattle.pg_types.specs.declared.marks.Layout.{Layout}
 use Rattle.pg_types.specs.declared.marks.Totals.{Totals}
 use Rattle.pg_types.specs.declared.refusals.Refusal.{Refusal}
@@ -45,7 +45,7 @@ place_of other r = codes " line " ++ decimal r.line ++ codes " column " ++ decim
 
 -- where a file is refused; a refusal with line 0 has no place
 abbrev pub refused_line : Input → Refusal → List ℕ
-refused_line input r = codes "refused: " ++ word_of input ++ codes " " ++ decimal (number_of r.kind) ++ codes " " ++ name_of r.kind ++ (if r.line == 0 then [] else place_of input r) ++ codes "\n"
+refused_line input r = codes "refused: " ++ word_of input ++ codes " " ++ decimal (kind_number r.kind) ++ codes " " ++ name_of r.kind ++ (if r.line == 0 then [] else place_of input r) ++ codes "\n"
 
 -- where `audit` finds all given files right
 abbrev pub yes_line : List ℕ

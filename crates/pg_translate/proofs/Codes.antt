@@ -4,7 +4,7 @@ use Rattle.std.specs.List.{list_all}
 use Rattle.std.proofs.lemmas.Bool.{and_parts, and_from, ltb-true, lt-ltb, cases_order}
 use Rattle.std.proofs.lemmas.List.{length-drop, take-append-drop, take_more, length-take-le}
 use Rattle.std.proofs.lemmas.List.Sums.{fold-append}
-use Rattle.pg_translate.specs.Fronts.{code_of, AreBytes}
+use Rattle.pg_translate.specs.Fronts.{front_code, AreBytes}
 
 -- the code of a text behind a number
 abbrev pub code_from : ℕ → List ℕ → ℕ
@@ -32,11 +32,11 @@ code_from_least c [] = omega arith
 code_from_least c (x ∷ xs) = let rest : c * 256 + x ≤ code_from (c * 256 + x) xs = code_from_least (c * 256 + x) xs in omega arith
 
 -- a code is at least 1
-pub code_least : (p : List ℕ) → 1 ≤ code_of p
+pub code_least : (p : List ℕ) → 1 ≤ front_code p
 code_least p = code_from_least 1 p
 
 -- the code of a text that is not empty is at least 256
-pub code_some : (p : List ℕ) → 0 < length p → 256 ≤ code_of p
+pub code_some : (p : List ℕ) → 0 < length p → 256 ≤ front_code p
 code_some [] some = absurd (omega arith)
 code_some (x ∷ xs) some = let rest : 1 * 256 + x ≤ code_from (1 * 256 + x) xs = code_from_least (1 * 256 + x) xs in omega arith
 
@@ -47,25 +47,25 @@ bytes_drop (suc n) [] h = refl
 bytes_drop (suc n) (x ∷ xs) h = bytes_drop n xs (and_parts _ _ h).1
 
 -- a longer text has another code
-longer_differs : (p q : List ℕ) → AreBytes p → AreBytes q → length p < length q → code_of p ≡ code_of q → ⊥
+longer_differs : (p q : List ℕ) → AreBytes p → AreBytes q → length p < length q → front_code p ≡ front_code q → ⊥
 longer_differs p q bp bq longer h =
     let k : ℕ = length q - length p in
     let split : take k q ++ drop k q ≡ q = take-append-drop k q in
-    let behind : code_of q ≡ code_from (code_of (take k q)) (drop k q) = ap code_of (sym split) ∙ fold-append (λ code b. code * 256 + b) 1 (take k q) (drop k q) in
+    let behind : front_code q ≡ code_from (front_code (take k q)) (drop k q) = ap front_code (sym split) ∙ fold-append (λ code b. code * 256 + b) 1 (take k q) (drop k q) in
     let lengths : length (drop k q) ≡ length q - k = length-drop k q in
     let heads : length (take k q) ≡ k = length-take-le k q (omega arith) in
-    let same : (1 ≡ code_of (take k q)) × (p ≡ drop k q) = same_from 1 (code_of (take k q)) p (drop k q) bp (bytes_drop k q bq) (omega arith) (h ∙ behind) in
-    let large : 256 ≤ code_of (take k q) = code_some (take k q) (omega arith) in
-    let small : 1 ≡ code_of (take k q) = same.0 in
+    let same : (1 ≡ front_code (take k q)) × (p ≡ drop k q) = same_from 1 (front_code (take k q)) p (drop k q) bp (bytes_drop k q bq) (omega arith) (h ∙ behind) in
+    let large : 256 ≤ front_code (take k q) = code_some (take k q) (omega arith) in
+    let small : 1 ≡ front_code (take k q) = same.0 in
     absurd (omega arith)
 
 -- texts of bytes with one code are equal
-pub code_same : (p q : List ℕ) → AreBytes p → AreBytes q → code_of p ≡ code_of q → p ≡ q
+pub code_same : (p q : List ℕ) → AreBytes p → AreBytes q → front_code p ≡ front_code q → p ≡ q
 code_same p q bp bq h =
     ⊎_elim (λ (lengths : length p ≡ length q). (same_from 1 1 p q bp bq lengths h).1) (λ other. ⊎_elim (λ (longer : length p < length q). absurd (longer_differs p q bp bq longer h)) (λ shorter. absurd (longer_differs q p bq bp shorter (sym h))) other) (cases_order (length p) (length q))
 
 -- the code of a text and a byte behind it
-pub code_push : (p : List ℕ) (b : ℕ) → code_of (p ++ b ∷ []) ≡ code_of p * 256 + b
+pub code_push : (p : List ℕ) (b : ℕ) → front_code (p ++ b ∷ []) ≡ front_code p * 256 + b
 code_push p b = fold-append (λ code b. code * 256 + b) 1 p (b ∷ [])
 
 -- a text of bytes with a byte behind it
@@ -74,8 +74,8 @@ bytes_push [] b h small = and_from _ _ (lt-ltb b 256 small) refl
 bytes_push (x ∷ xs) b h small = and_from _ _ (and_parts _ _ h).0 (bytes_push xs b (and_parts _ _ h).1 small)
 
 -- the code of the next front of a text
-pub code_more : (text : List ℕ) (i b : ℕ) → i < length text → b ≡ get_or text i 0 → code_of (take i text) * 256 + b ≡ code_of (take (i + 1) text)
-code_more text i b inside is = sym (ap code_of (take_more text i 0 inside) ∙ code_push (take i text) (get_or text i 0) ∙ ap (λ (n : ℕ). code_of (take i text) * 256 + n) (sym is))
+pub code_more : (text : List ℕ) (i b : ℕ) → i < length text → b ≡ get_or text i 0 → front_code (take i text) * 256 + b ≡ front_code (take (i + 1) text)
+code_more text i b inside is = sym (ap front_code (take_more text i 0 inside) ∙ code_push (take i text) (get_or text i 0) ∙ ap (λ (n : ℕ). front_code (take i text) * 256 + n) (sym is))
 
 -- the greatest code of texts of at most n bytes behind a number
 abbrev bound : ℕ → ℕ → ℕ
@@ -95,5 +95,5 @@ code_bound (suc n) c d (x ∷ xs) small bytes few =
     code_bound n (c * 256 + x) (d * 256 + 255) xs (omega arith) parts.1 (omega arith)
 
 -- the code of a text of fewer than 8 bytes is below 2^57
-pub code_small : (p : List ℕ) → AreBytes p → length p < 8 → code_of p < 2 ^ 57
+pub code_small : (p : List ℕ) → AreBytes p → length p < 8 → front_code p < 2 ^ 57
 code_small p bytes few = let small : code_from 1 p ≤ bound 1 7 = code_bound 7 1 1 p (omega arith) bytes (omega arith) in omega arith

@@ -4,7 +4,7 @@ use Rattle.pg_translate.specs.declared.items.Place.{Place}
 use Rattle.pg_translate.specs.Alphabets.{Alphabet}
 use Rattle.pg_translate.specs.Tokens.{Token, item_at}
 use Rattle.pg_translate.specs.Cuts.{cut_from, with_item}
-use Rattle.pg_translate.specs.Answers.{Takes, Stops}
+use Rattle.pg_translate.specs.Answers.{HasItem, HasNoItem}
 
 -- the bytes of an item are passed over
 pub cut_skip : (t : Alphabet) (place : Place) (column skip : ℕ) (text : List ℕ) → skip ≤ length text → cut_from t place column skip text ≡ cut_from t place (column + skip) zero (drop skip text)
@@ -24,7 +24,7 @@ cut_item t place column (b ∷ bs) token (suc size) found some within =
     rw (found, less, cut_skip t place (column + 1) size bs (omega arith), same) refl
 
 -- at an item the cut has it first, and then those of what follows
-pub cut_takes : (t : Alphabet) (place : Place) (column : ℕ) (text after : List ℕ) (token : Token) → (takes : Takes t place text token after) → cut_from t place column zero text ≡ with_item column token (cut_from t place (column + takes.size) zero after)
+pub cut_takes : (t : Alphabet) (place : Place) (column : ℕ) (text after : List ℕ) (token : Token) → (takes : HasItem t place text token after) → cut_from t place column zero text ≡ with_item column token (cut_from t place (column + takes.size) zero after)
 cut_takes t place column text after token takes =
     cut_item t place column text token takes.size takes.found takes.some takes.within ∙ ap (λ (rest : List ℕ). with_item column token (cut_from t place (column + takes.size) zero rest)) (sym takes.behind)
 
@@ -34,5 +34,5 @@ cut_none t place column [] none = refl
 cut_none t place column (b ∷ bs) none = rw none refl
 
 -- where no item stands the cut ends
-pub cut_stops : (t : Alphabet) (place : Place) (column : ℕ) (text : List ℕ) (ended : Bool) → Stops t place text ended → cut_from t place column zero text ≡ record { items = []; column = column; rest = text }
+pub cut_stops : (t : Alphabet) (place : Place) (column : ℕ) (text : List ℕ) (ended : Bool) → HasNoItem t place text ended → cut_from t place column zero text ≡ record { items = []; column = column; rest = text }
 cut_stops t place column text ended stops = cut_none t place column text stops.none

@@ -5,7 +5,7 @@ use Rattle.std.proofs.lemmas.List.{get_or-replicate, get_or_past, length-replica
 use Rattle.pg_translate.specs.declared.index.Front.{Front}
 use Rattle.pg_translate.specs.declared.index.Index.{Index}
 use Rattle.pg_translate.specs.Spellings.{IsAmong}
-use Rattle.pg_translate.specs.Fronts.{IsIndex, pairs, pair_of, code_of}
+use Rattle.pg_translate.specs.Fronts.{IsIndex, pairs, pair_of, front_code}
 
 -- each element of a list of None is None
 none_at : (n i : ℕ) → let nothing : Option Front = None in get_or (replicate n nothing) i nothing ≡ nothing
@@ -16,7 +16,7 @@ none_at n i =
 -- an index without spellings is one
 pub new_index : (index : Index) → index.spellings.items ≡ [] → index.firsts.items ≡ [] → index.heads ≡ replicate 256 None → index.longer.entries ≡ [] → IsIndex index
 new_index index spellings firsts heads longer = record {
-  fronts = λ text bytes some. ⊎_elim (λ (yes : nat_lt (code_of text) 512 ≡ true). rw (none, yes, heads) (none_at 256 (code_of text - 256))) (λ (no : nat_lt (code_of text) 512 ≡ false). rw (none, no, longer) refl) (cases_Bool (nat_lt (code_of text) 512));
+  fronts = λ text bytes some. ⊎_elim (λ (yes : nat_lt (front_code text) 512 ≡ true). rw (none, yes, heads) (none_at 256 (front_code text - 256))) (λ (no : nat_lt (front_code text) 512 ≡ false). rw (none, no, longer) refl) (cases_Bool (nat_lt (front_code text) 512));
   firsts = λ n. rw (none, firsts) refl;
   letters = rw (none, firsts) refl;
   apart = λ s t among other. absurd (subst (IsAmong s) none among);

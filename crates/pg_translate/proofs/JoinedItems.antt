@@ -15,7 +15,7 @@ use Rattle.pg_translate.specs.Spellings.{begins_well}
 use Rattle.pg_translate.specs.Tokens.{Token, Letter, Digit, Weight, Marked, Edge, item_at}
 use Rattle.pg_translate.specs.Cuts.{Placed, Cut, cut, cut_from, with_item, tokens_of}
 use Rattle.pg_translate.specs.Gaps.{sign_of, signs_of}
-use Rattle.pg_translate.specs.Items.{IsItem, joined}
+use Rattle.pg_translate.specs.Items.{IsItem, text_of_items, tokens_in}
 use Rattle.pg_translate.specs.LineRefusals.{refused, signs_max, long_kind, sign_column, sign_columns, stop_refusal, line_refusal, of_line}
 use Rattle.pg_translate.specs.Rules.{KeepsRules}
 use Rattle.pg_translate.proofs.Cuts.{cut_item}
@@ -41,20 +41,16 @@ item_some t rules Patterns (Marked mark) text item = absurd item
 item_some t rules Dictionary Edge text item = absurd item
 item_some t rules Patterns Edge text item = omega (arith, ap (λ (xs : List ℕ). length xs) item)
 
--- what the items of a list are
-abbrev pub tokens_in : List (Token × List ℕ) → List Token
-tokens_in items = map (λ (item : Token × List ℕ). item.0) items
-
 -- the cut of items that are joined has these items, and nothing is left
-pub cut_joined : (t : Alphabet) → KeepsRules t → (place : Place) (column : ℕ) (items : List (Token × List ℕ)) → AllByRecursion (λ (item : Token × List ℕ). IsItem t place item.0 item.1) items → (tokens_of (cut_from t place column zero (joined items)) ≡ tokens_in items) × ((cut_from t place column zero (joined items)).rest ≡ [])
+pub cut_joined : (t : Alphabet) → KeepsRules t → (place : Place) (column : ℕ) (items : List (Token × List ℕ)) → AllByRecursion (λ (item : Token × List ℕ). IsItem t place item.0 item.1) items → (tokens_of (cut_from t place column zero (text_of_items items)) ≡ tokens_in items) × ((cut_from t place column zero (text_of_items items)).rest ≡ [])
 cut_joined t rules place column [] each = (refl, refl)
 cut_joined t rules place column (item ∷ items) each =
     let size : ℕ = length item.1 in
-    let found : item_at t place (item.1 ++ joined items) ≡ Some (item.0, size) = item_reads t rules place item.0 item.1 (joined items) each.0 in
-    let within : size ≤ length (item.1 ++ joined items) = omega (arith, length-append item.1 (joined items)) in
-    let behind : drop size (item.1 ++ joined items) ≡ joined items = drop_at item.1 (joined items) size refl in
-    let whole : cut_from t place column zero (joined (item ∷ items)) ≡ with_item column item.0 (cut_from t place (column + size) zero (joined items)) =
-    cut_item t place column (item.1 ++ joined items) item.0 size found (item_some t rules place item.0 item.1 each.0) within ∙ ap (λ (rest : List ℕ). with_item column item.0 (cut_from t place (column + size) zero rest)) behind in
+    let found : item_at t place (item.1 ++ text_of_items items) ≡ Some (item.0, size) = item_reads t rules place item.0 item.1 (text_of_items items) each.0 in
+    let within : size ≤ length (item.1 ++ text_of_items items) = omega (arith, length-append item.1 (text_of_items items)) in
+    let behind : drop size (item.1 ++ text_of_items items) ≡ text_of_items items = drop_at item.1 (text_of_items items) size refl in
+    let whole : cut_from t place column zero (text_of_items (item ∷ items)) ≡ with_item column item.0 (cut_from t place (column + size) zero (text_of_items items)) =
+    cut_item t place column (item.1 ++ text_of_items items) item.0 size found (item_some t rules place item.0 item.1 each.0) within ∙ ap (λ (rest : List ℕ). with_item column item.0 (cut_from t place (column + size) zero rest)) behind in
     let p = cut_joined t rules place (column + size) items each.1 in
     (ap tokens_of whole ∙ ap (λ (tokens : List Token). item.0 ∷ tokens) p.0, ap (λ (c : Cut). c.rest) whole ∙ p.1)
 
@@ -75,9 +71,9 @@ not_refused place line c few ended =
     ∙ ap (λ (rest : List ℕ). stop_refusal place line (record { items = c.items; column = c.column; rest = rest })) ended
 
 -- a line of items gives what the items give
-pub line_is_read : {X : Type 0} (give : List Token → X) (t : Alphabet) → KeepsRules t → (place : Place) (line : ℕ) (items : List (Token × List ℕ)) → AllByRecursion (λ (item : Token × List ℕ). IsItem t place item.0 item.1) items → length (signs_of (tokens_in items)) ≤ signs_max place → of_line give t place line (joined items) ≡ Ok (give (tokens_in items))
+pub line_is_read : {X : Type 0} (give : List Token → X) (t : Alphabet) → KeepsRules t → (place : Place) (line : ℕ) (items : List (Token × List ℕ)) → AllByRecursion (λ (item : Token × List ℕ). IsItem t place item.0 item.1) items → length (signs_of (tokens_in items)) ≤ signs_max place → of_line give t place line (text_of_items items) ≡ Ok (give (tokens_in items))
 line_is_read {X} give t rules place line items each few =
-    let c : Cut = cut t place (joined items) in
+    let c : Cut = cut t place (text_of_items items) in
     let p = cut_joined t rules place 1 items each in
     let tokens : tokens_of c ≡ tokens_in items = p.0 in
     let short : length (signs_of (tokens_of c)) ≤ signs_max place = omega (arith, few, ap (λ (ts : List Token). length (signs_of ts)) tokens) in

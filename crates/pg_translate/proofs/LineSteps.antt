@@ -7,13 +7,13 @@ use Rattle.pg_translate.specs.declared.items.Place.{Place}
 use Rattle.pg_translate.specs.Alphabets.{Alphabet}
 use Rattle.pg_translate.specs.Tokens.{Token}
 use Rattle.pg_translate.specs.Cuts.{Cut, cut_from, cut_rest, with_item}
-use Rattle.pg_translate.specs.Answers.{Takes}
+use Rattle.pg_translate.specs.Answers.{HasItem}
 use Rattle.pg_translate.specs.Gaps.{sign_of}
 use Rattle.pg_translate.specs.LineRefusals.{refused, long_kind, sign_columns, stop_refusal, refusal_with_room}
 use Rattle.pg_translate.proofs.Cuts.{cut_takes}
 
 -- what follows an item is shorter
-pub shorter : (t : Alphabet) (place : Place) (rest after : List ℕ) (item : Token) → Takes t place rest item after → length after < length rest
+pub shorter : (t : Alphabet) (place : Place) (rest after : List ℕ) (item : Token) → HasItem t place rest item after → length after < length rest
 shorter t place rest after item takes =
     let some : 0 < takes.size = takes.some in
     let within : takes.size ≤ length rest = takes.within in
@@ -21,14 +21,14 @@ shorter t place rest after item takes =
     omega arith
 
 -- an item at the front of the rest of a line of this size is the first of its cut
-pub cut_rest-takes : (t : Alphabet) (place : Place) (size : ℕ) (item : Token) (rest after : List ℕ) → Takes t place rest item after → length rest ≤ size → cut_rest t place size rest ≡ with_item (size - length rest + 1) item (cut_rest t place size after)
+pub cut_rest-takes : (t : Alphabet) (place : Place) (size : ℕ) (item : Token) (rest after : List ℕ) → HasItem t place rest item after → length rest ≤ size → cut_rest t place size rest ≡ with_item (size - length rest + 1) item (cut_rest t place size after)
 cut_rest-takes t place size item rest after takes within =
     let left : length after ≡ length rest - takes.size = ap (λ (xs : List ℕ). length xs) takes.behind ∙ length-drop takes.size rest in
     let column : size - length rest + 1 + takes.size ≡ size - length after + 1 = omega (arith, takes.within) in
     cut_takes t place (size - length rest + 1) rest after item takes ∙ ap (λ (k : ℕ). with_item (size - length rest + 1) item (cut_from t place k zero after)) column
 
 -- what is known of a cut without its first item is known of the whole, and less is left to read
-pub along : {Y : Type 0} (F G : Cut → Y) (t : Alphabet) (place : Place) (size : ℕ) (item : Token) (rest after : List ℕ) → Takes t place rest item after → length rest ≤ size → ((column : ℕ) (c : Cut) → G c ≡ F (with_item column item c)) → (G (cut_rest t place size after) ≡ F (cut_rest t place size rest)) × (length after < length rest)
+pub along : {Y : Type 0} (F G : Cut → Y) (t : Alphabet) (place : Place) (size : ℕ) (item : Token) (rest after : List ℕ) → HasItem t place rest item after → length rest ≤ size → ((column : ℕ) (c : Cut) → G c ≡ F (with_item column item c)) → (G (cut_rest t place size after) ≡ F (cut_rest t place size rest)) × (length after < length rest)
 along F G t place size item rest after takes within same = (
   same _ (cut_rest t place size after) ∙ ap F (sym (cut_rest-takes t place size item rest after takes within)),
   shorter t place rest after item takes,

@@ -10,42 +10,42 @@ use Rattle.pg_types.specs.Lines.{lines}
 use Rattle.pg_types.specs.Reading.{Fails, first_refusal}
 use Rattle.pg_translate.specs.declared.index.Index.{Index}
 use Rattle.pg_translate.specs.Alphabets.{letters_in}
-use Rattle.pg_translate.specs.Tables.{ListedSpelling, outcome, signed, spelling_check, spelling_checks, spellings_at, spellings_from, with_line, line_pieces, pieces_of, delimited}
+use Rattle.pg_translate.specs.Tables.{ListedSpelling, first_failure, spelling_with_sign, spelling_check, spelling_checks, spellings_at, spellings_from, with_line_spellings, line_pieces, pieces_of, delimited}
 use Rattle.pg_translate.specs.Fronts.{IsIndex, pairs}
 
 -- checks that pass leave those behind them
-pub outcome_passed : (before after : List Refusal) → outcome before ≡ Ok tt → outcome (before ++ after) ≡ outcome after
+pub outcome_passed : (before after : List Refusal) → first_failure before ≡ Ok tt → first_failure (before ++ after) ≡ first_failure after
 outcome_passed [] after h = refl
 outcome_passed (r ∷ rs) after h = absurd (cc)
 
 -- the first that fails decides
-pub outcome_failed : (before after : List Refusal) (r : Refusal) → outcome before ≡ Err r → outcome (before ++ after) ≡ Err r
+pub outcome_failed : (before after : List Refusal) (r : Refusal) → first_failure before ≡ Err r → first_failure (before ++ after) ≡ Err r
 outcome_failed [] after r h = absurd (cc)
 outcome_failed (x ∷ xs) after r h = h
 
 -- a failure of the first checks is one of all
-pub fails_first : (e : ReadingError) (before after : List Refusal) → Fails e (outcome before) → Fails e (outcome (before ++ after))
+pub fails_first : (e : ReadingError) (before after : List Refusal) → Fails e (first_failure before) → Fails e (first_failure (before ++ after))
 fails_first (Refused r) before after h = outcome_failed before after r h
 fails_first Memory before after h = tt
 
 -- a failure of checks is one of what they guard
-pub fails_guarded : {Y : Type 0} (e : ReadingError) (checks : List Refusal) (y : Y) → Fails e (outcome checks) → Fails e (first_refusal checks y)
+pub fails_guarded : {Y : Type 0} (e : ReadingError) (checks : List Refusal) (y : Y) → Fails e (first_failure checks) → Fails e (first_refusal checks y)
 fails_guarded (Refused r) checks y h = refused checks h
   where
-    refused : (checks : List Refusal) → outcome checks ≡ Err r → first_refusal checks y ≡ Err r
+    refused : (checks : List Refusal) → first_failure checks ≡ Err r → first_refusal checks y ≡ Err r
     refused [] h = absurd (cc)
     refused (x ∷ xs) h = let same : x ≡ r = cc in ap (λ (z : Refusal). Err z) same
 fails_guarded Memory checks y h = tt
 
 -- checks that pass give what they guard
-pub passed_guarded : {Y : Type 0} (checks : List Refusal) (y : Y) → outcome checks ≡ Ok tt → first_refusal checks y ≡ Ok y
+pub passed_guarded : {Y : Type 0} (checks : List Refusal) (y : Y) → first_failure checks ≡ Ok tt → first_refusal checks y ≡ Ok y
 passed_guarded [] y h = refl
 passed_guarded (r ∷ rs) y h = absurd (cc)
 
 -- what the reading of pieces keeps
 pub record HasPieces (old new : Index) (marks : List ℕ) (line letter column delimiter : ℕ) (text rest : List ℕ) : Type 0 where
-  pub answer : outcome (spelling_checks marks (pairs new) (spellings_at line column letter (pieces_of delimiter rest))) ≡ outcome (spelling_checks marks (pairs old) (spellings_at line 2 letter (pieces_of delimiter text)))
-  pub spellings : pairs new ++ map signed (spellings_at line column letter (pieces_of delimiter rest)) ≡ pairs old ++ map signed (spellings_at line 2 letter (pieces_of delimiter text))
+  pub answer : first_failure (spelling_checks marks (pairs new) (spellings_at line column letter (pieces_of delimiter rest))) ≡ first_failure (spelling_checks marks (pairs old) (spellings_at line 2 letter (pieces_of delimiter text)))
+  pub spellings : pairs new ++ map spelling_with_sign (spellings_at line column letter (pieces_of delimiter rest)) ≡ pairs old ++ map spelling_with_sign (spellings_at line 2 letter (pieces_of delimiter text))
   pub sound : IsIndex new
   pub low : letters_in (pairs new) ≤ letter
   pub high : letter ≤ letters_in (pairs new) + 1
@@ -53,10 +53,10 @@ pub record HasPieces (old new : Index) (marks : List ℕ) (line letter column de
   pub room : column + 2 * length rest ≤ 2 + 2 * length text
 
 -- one piece more
-pub pieces_more : (old mid new : Index) (marks : List ℕ) (line letter column delimiter : ℕ) (text rest piece after : List ℕ) → HasPieces old mid marks line letter column delimiter text rest → pieces_of delimiter rest ≡ piece ∷ pieces_of delimiter after → 0 < length piece → length piece + length after ≤ length rest → outcome (spelling_check marks (pairs mid) (record { line = line; column = column; letter = letter; text = piece })) ≡ Ok tt → pairs new ≡ pairs mid ++ (letter + 1, piece) ∷ [] → (letters_in (pairs new) ≡ letter) × (letter ≤ SIGNS_MAX - 1) → IsIndex new → HasPieces old new marks line letter (column + (length piece + 1)) delimiter text after
+pub pieces_more : (old mid new : Index) (marks : List ℕ) (line letter column delimiter : ℕ) (text rest piece after : List ℕ) → HasPieces old mid marks line letter column delimiter text rest → pieces_of delimiter rest ≡ piece ∷ pieces_of delimiter after → 0 < length piece → length piece + length after ≤ length rest → first_failure (spelling_check marks (pairs mid) (record { line = line; column = column; letter = letter; text = piece })) ≡ Ok tt → pairs new ≡ pairs mid ++ (letter + 1, piece) ∷ [] → (letters_in (pairs new) ≡ letter) × (letter ≤ SIGNS_MAX - 1) → IsIndex new → HasPieces old new marks line letter (column + (length piece + 1)) delimiter text after
 pieces_more old mid new marks line letter column delimiter text rest piece after before cut some shorter passed added letters sound = record {
-  answer = ap (λ (ss : List (ℕ × List ℕ)). outcome (spelling_checks marks ss later)) added ∙ sym (outcome_passed (spelling_check marks (pairs mid) here) (spelling_checks marks (pairs mid ++ signed here ∷ []) later) passed) ∙ ap (λ (ps : List (List ℕ)). outcome (spelling_checks marks (pairs mid) (spellings_at line column letter ps))) (sym cut) ∙ before.answer;
-  spellings = ap (λ (ss : List (ℕ × List ℕ)). ss ++ map signed later) added ∙ append_assoc (pairs mid) (signed here ∷ []) (map signed later) ∙ ap (λ (ps : List (List ℕ)). pairs mid ++ map signed (spellings_at line column letter ps)) (sym cut) ∙ before.spellings;
+  answer = ap (λ (ss : List (ℕ × List ℕ)). first_failure (spelling_checks marks ss later)) added ∙ sym (outcome_passed (spelling_check marks (pairs mid) here) (spelling_checks marks (pairs mid ++ spelling_with_sign here ∷ []) later) passed) ∙ ap (λ (ps : List (List ℕ)). first_failure (spelling_checks marks (pairs mid) (spellings_at line column letter ps))) (sym cut) ∙ before.answer;
+  spellings = ap (λ (ss : List (ℕ × List ℕ)). ss ++ map spelling_with_sign later) added ∙ append_assoc (pairs mid) (spelling_with_sign here ∷ []) (map spelling_with_sign later) ∙ ap (λ (ps : List (List ℕ)). pairs mid ++ map spelling_with_sign (spellings_at line column letter ps)) (sym cut) ∙ before.spellings;
   sound = sound;
   low = omega (arith, letters.0);
   high = omega (arith, letters.0);
@@ -71,16 +71,16 @@ pieces_more old mid new marks line letter column delimiter text rest piece after
     later = spellings_at line (column + (length piece + 1)) letter (pieces_of delimiter after)
 
 -- a piece that fails fails the line
-pub pieces_fail : (old mid : Index) (marks : List ℕ) (line letter column delimiter : ℕ) (text rest piece after : List ℕ) (e : ReadingError) → HasPieces old mid marks line letter column delimiter text rest → pieces_of delimiter rest ≡ piece ∷ pieces_of delimiter after → Fails e (outcome (spelling_check marks (pairs mid) (record { line = line; column = column; letter = letter; text = piece }))) → Fails e (outcome (spelling_checks marks (pairs old) (spellings_at line 2 letter (pieces_of delimiter text))))
+pub pieces_fail : (old mid : Index) (marks : List ℕ) (line letter column delimiter : ℕ) (text rest piece after : List ℕ) (e : ReadingError) → HasPieces old mid marks line letter column delimiter text rest → pieces_of delimiter rest ≡ piece ∷ pieces_of delimiter after → Fails e (first_failure (spelling_check marks (pairs mid) (record { line = line; column = column; letter = letter; text = piece }))) → Fails e (first_failure (spelling_checks marks (pairs old) (spellings_at line 2 letter (pieces_of delimiter text))))
 pieces_fail old mid marks line letter column delimiter text rest piece after e before cut fails =
     let here : ListedSpelling = record { line = line; column = column; letter = letter; text = piece } in
-    let whole : Fails e (outcome (spelling_checks marks (pairs mid) (spellings_at line column letter (piece ∷ pieces_of delimiter after)))) = fails_first e (spelling_check marks (pairs mid) here) (spelling_checks marks (pairs mid ++ signed here ∷ []) (spellings_at line (column + (length piece + 1)) letter (pieces_of delimiter after))) fails in
-    subst (Fails e) (ap (λ (ps : List (List ℕ)). outcome (spelling_checks marks (pairs mid) (spellings_at line column letter ps))) (sym cut) ∙ before.answer) whole
+    let whole : Fails e (first_failure (spelling_checks marks (pairs mid) (spellings_at line column letter (piece ∷ pieces_of delimiter after)))) = fails_first e (spelling_check marks (pairs mid) here) (spelling_checks marks (pairs mid ++ spelling_with_sign here ∷ []) (spellings_at line (column + (length piece + 1)) letter (pieces_of delimiter after))) fails in
+    subst (Fails e) (ap (λ (ps : List (List ℕ)). first_failure (spelling_checks marks (pairs mid) (spellings_at line column letter ps))) (sym cut) ∙ before.answer) whole
 
 -- no piece is left
-pub pieces_done : (old new : Index) (marks : List ℕ) (line letter column delimiter : ℕ) (text rest : List ℕ) → HasPieces old new marks line letter column delimiter text rest → pieces_of delimiter rest ≡ [] → (outcome (spelling_checks marks (pairs old) (spellings_at line 2 letter (pieces_of delimiter text))) ≡ Ok tt) × (pairs new ≡ pairs old ++ map signed (spellings_at line 2 letter (pieces_of delimiter text)))
+pub pieces_done : (old new : Index) (marks : List ℕ) (line letter column delimiter : ℕ) (text rest : List ℕ) → HasPieces old new marks line letter column delimiter text rest → pieces_of delimiter rest ≡ [] → (first_failure (spelling_checks marks (pairs old) (spellings_at line 2 letter (pieces_of delimiter text))) ≡ Ok tt) × (pairs new ≡ pairs old ++ map spelling_with_sign (spellings_at line 2 letter (pieces_of delimiter text)))
 pieces_done old new marks line letter column delimiter text rest done none =
-    (sym (ap (λ (ps : List (List ℕ)). outcome (spelling_checks marks (pairs new) (spellings_at line column letter ps))) (sym none) ∙ done.answer), sym (append-nil (pairs new)) ∙ ap (λ (ps : List (List ℕ)). pairs new ++ map signed (spellings_at line column letter ps)) (sym none) ∙ done.spellings)
+    (sym (ap (λ (ps : List (List ℕ)). first_failure (spelling_checks marks (pairs new) (spellings_at line column letter ps))) (sym none) ∙ done.answer), sym (append-nil (pairs new)) ∙ ap (λ (ps : List (List ℕ)). pairs new ++ map spelling_with_sign (spellings_at line column letter ps)) (sym none) ∙ done.spellings)
 
 -- the delimiter and what follows it
 pub delimited_is : (line : List ℕ) → (length line == 0) ≡ false → delimited line ≡ pieces_of (get_or line 0 0) (take (length line - 1) (drop 1 line))
@@ -88,27 +88,27 @@ delimited_is [] some = absurd (cc)
 delimited_is (b ∷ bs) some = rw (take_rest (b ∷ bs) 1) refl
 
 -- checks of two lists, one behind the other
-pub spelling_checks-append : (marks : List ℕ) (earlier : List (ℕ × List ℕ)) (first later : List ListedSpelling) → spelling_checks marks earlier (first ++ later) ≡ spelling_checks marks earlier first ++ spelling_checks marks (earlier ++ map signed first) later
+pub spelling_checks-append : (marks : List ℕ) (earlier : List (ℕ × List ℕ)) (first later : List ListedSpelling) → spelling_checks marks earlier (first ++ later) ≡ spelling_checks marks earlier first ++ spelling_checks marks (earlier ++ map spelling_with_sign first) later
 spelling_checks-append marks earlier [] later = ap (λ (ss : List (ℕ × List ℕ)). spelling_checks marks ss later) (sym (append-nil earlier))
 spelling_checks-append marks earlier (s ∷ first) later =
-    ap (λ (rs : List Refusal). spelling_check marks earlier s ++ rs) (spelling_checks-append marks (earlier ++ signed s ∷ []) first later ∙ ap (λ (ss : List (ℕ × List ℕ)). spelling_checks marks (earlier ++ signed s ∷ []) first ++ spelling_checks marks ss later) (append_assoc earlier (signed s ∷ []) (map signed first))) ∙ sym (append_assoc (spelling_check marks earlier s) (spelling_checks marks (earlier ++ signed s ∷ []) first) (spelling_checks marks (earlier ++ map signed (s ∷ first)) later))
+    ap (λ (rs : List Refusal). spelling_check marks earlier s ++ rs) (spelling_checks-append marks (earlier ++ spelling_with_sign s ∷ []) first later ∙ ap (λ (ss : List (ℕ × List ℕ)). spelling_checks marks (earlier ++ spelling_with_sign s ∷ []) first ++ spelling_checks marks ss later) (append_assoc earlier (spelling_with_sign s ∷ []) (map spelling_with_sign first))) ∙ sym (append_assoc (spelling_check marks earlier s) (spelling_checks marks (earlier ++ spelling_with_sign s ∷ []) first) (spelling_checks marks (earlier ++ map spelling_with_sign (s ∷ first)) later))
 
 -- the spellings of one letter leave its number as that of the letters
-same_letter : (n line column letter : ℕ) (pieces : List (List ℕ)) → n ≡ letter → fold (λ n spelling. max n (spelling.0 - 1)) n (map signed (spellings_at line column letter pieces)) ≡ letter
+same_letter : (n line column letter : ℕ) (pieces : List (List ℕ)) → n ≡ letter → fold (λ n spelling. max n (spelling.0 - 1)) n (map spelling_with_sign (spellings_at line column letter pieces)) ≡ letter
 same_letter n line column letter [] same = same
 same_letter n line column letter (piece ∷ pieces) same = same_letter (max n (letter + 1 - 1)) line (column + (length piece + 1)) letter pieces (omega arith)
 
-letters_after : (earlier : List (ℕ × List ℕ)) (line column letter : ℕ) (piece : List ℕ) (pieces : List (List ℕ)) → letters_in earlier ≤ letter → letters_in (earlier ++ map signed (spellings_at line column letter (piece ∷ pieces))) ≡ letter
+letters_after : (earlier : List (ℕ × List ℕ)) (line column letter : ℕ) (piece : List ℕ) (pieces : List (List ℕ)) → letters_in earlier ≤ letter → letters_in (earlier ++ map spelling_with_sign (spellings_at line column letter (piece ∷ pieces))) ≡ letter
 letters_after earlier line column letter piece pieces low =
-    fold-append (λ n spelling. max n (spelling.0 - 1)) 0 earlier (map signed (spellings_at line column letter (piece ∷ pieces))) ∙ same_letter (max (letters_in earlier) (letter + 1 - 1)) line (column + (length piece + 1)) letter pieces (omega arith)
+    fold-append (λ n spelling. max n (spelling.0 - 1)) 0 earlier (map spelling_with_sign (spellings_at line column letter (piece ∷ pieces))) ∙ same_letter (max (letters_in earlier) (letter + 1 - 1)) line (column + (length piece + 1)) letter pieces (omega arith)
 
 -- a letter line whose checks pass, and the lines after it
-pub line_more : (marks : List ℕ) (mid new : List (ℕ × List ℕ)) (line : ℕ) (pieces : List (List ℕ)) (later : ℕ → List ListedSpelling) → outcome (spelling_checks marks mid (spellings_at line 2 (letters_in mid + 1) pieces)) ≡ Ok tt → new ≡ mid ++ map signed (spellings_at line 2 (letters_in mid + 1) pieces) → (outcome (spelling_checks marks new (later (letters_in new + 1))) ≡ outcome (spelling_checks marks mid (with_line line (letters_in mid + 1) pieces later))) × (new ++ map signed (later (letters_in new + 1)) ≡ mid ++ map signed (with_line line (letters_in mid + 1) pieces later))
+pub line_more : (marks : List ℕ) (mid new : List (ℕ × List ℕ)) (line : ℕ) (pieces : List (List ℕ)) (later : ℕ → List ListedSpelling) → first_failure (spelling_checks marks mid (spellings_at line 2 (letters_in mid + 1) pieces)) ≡ Ok tt → new ≡ mid ++ map spelling_with_sign (spellings_at line 2 (letters_in mid + 1) pieces) → (first_failure (spelling_checks marks new (later (letters_in new + 1))) ≡ first_failure (spelling_checks marks mid (with_line_spellings line (letters_in mid + 1) pieces later))) × (new ++ map spelling_with_sign (later (letters_in new + 1)) ≡ mid ++ map spelling_with_sign (with_line_spellings line (letters_in mid + 1) pieces later))
 line_more marks mid new line [] later passed added =
     let same : new ≡ mid = added ∙ append-nil mid in
-    (ap (λ (ss : List (ℕ × List ℕ)). outcome (spelling_checks marks ss (later (letters_in ss + 1)))) same, ap (λ (ss : List (ℕ × List ℕ)). ss ++ map signed (later (letters_in ss + 1))) same)
+    (ap (λ (ss : List (ℕ × List ℕ)). first_failure (spelling_checks marks ss (later (letters_in ss + 1)))) same, ap (λ (ss : List (ℕ × List ℕ)). ss ++ map spelling_with_sign (later (letters_in ss + 1))) same)
 line_more marks mid new line (piece ∷ pieces) later passed added =
-    (ap (λ (n : ℕ). outcome (spelling_checks marks new (later (n + 1)))) next ∙ ap (λ (ss : List (ℕ × List ℕ)). outcome (spelling_checks marks ss (later (letters_in mid + 1 + 1)))) added ∙ sym (outcome_passed (spelling_checks marks mid here) (spelling_checks marks (mid ++ map signed here) (later (letters_in mid + 1 + 1))) passed) ∙ ap outcome (sym (spelling_checks-append marks mid here (later (letters_in mid + 1 + 1)))), ap (λ (n : ℕ). new ++ map signed (later (n + 1))) next ∙ ap (λ (ss : List (ℕ × List ℕ)). ss ++ map signed (later (letters_in mid + 1 + 1))) added ∙ append_assoc mid (map signed here) (map signed (later (letters_in mid + 1 + 1))) ∙ ap (λ (ss : List (ℕ × List ℕ)). mid ++ ss) (sym (map-append signed here (later (letters_in mid + 1 + 1)))))
+    (ap (λ (n : ℕ). first_failure (spelling_checks marks new (later (n + 1)))) next ∙ ap (λ (ss : List (ℕ × List ℕ)). first_failure (spelling_checks marks ss (later (letters_in mid + 1 + 1)))) added ∙ sym (outcome_passed (spelling_checks marks mid here) (spelling_checks marks (mid ++ map spelling_with_sign here) (later (letters_in mid + 1 + 1))) passed) ∙ ap first_failure (sym (spelling_checks-append marks mid here (later (letters_in mid + 1 + 1)))), ap (λ (n : ℕ). new ++ map spelling_with_sign (later (n + 1))) next ∙ ap (λ (ss : List (ℕ × List ℕ)). ss ++ map spelling_with_sign (later (letters_in mid + 1 + 1))) added ∙ append_assoc mid (map spelling_with_sign here) (map spelling_with_sign (later (letters_in mid + 1 + 1))) ∙ ap (λ (ss : List (ℕ × List ℕ)). mid ++ ss) (sym (map-append spelling_with_sign here (later (letters_in mid + 1 + 1)))))
   where
     here : List ListedSpelling
     here = spellings_at line 2 (letters_in mid + 1) (piece ∷ pieces)
@@ -117,17 +117,17 @@ line_more marks mid new line (piece ∷ pieces) later passed added =
     next = ap letters_in added ∙ letters_after mid line 2 (letters_in mid + 1) piece pieces (omega arith)
 
 -- a letter line that fails, and the lines after it
-pub line_fails : (marks : List ℕ) (mid : List (ℕ × List ℕ)) (line : ℕ) (pieces : List (List ℕ)) (later : ℕ → List ListedSpelling) (e : ReadingError) → Fails e (outcome (spelling_checks marks mid (spellings_at line 2 (letters_in mid + 1) pieces))) → Fails e (outcome (spelling_checks marks mid (with_line line (letters_in mid + 1) pieces later)))
+pub line_fails : (marks : List ℕ) (mid : List (ℕ × List ℕ)) (line : ℕ) (pieces : List (List ℕ)) (later : ℕ → List ListedSpelling) (e : ReadingError) → Fails e (first_failure (spelling_checks marks mid (spellings_at line 2 (letters_in mid + 1) pieces))) → Fails e (first_failure (spelling_checks marks mid (with_line_spellings line (letters_in mid + 1) pieces later)))
 line_fails marks mid line [] later Memory fails = tt
 line_fails marks mid line [] later (Refused r) fails = absurd (cc)
 line_fails marks mid line (piece ∷ pieces) later e fails =
     let here : List ListedSpelling = spellings_at line 2 (letters_in mid + 1) (piece ∷ pieces) in
-    subst (Fails e) (ap outcome (sym (spelling_checks-append marks mid here (later (letters_in mid + 1 + 1))))) (fails_first e (spelling_checks marks mid here) (spelling_checks marks (mid ++ map signed here) (later (letters_in mid + 1 + 1))) fails)
+    subst (Fails e) (ap first_failure (sym (spelling_checks-append marks mid here (later (letters_in mid + 1 + 1))))) (fails_first e (spelling_checks marks mid here) (spelling_checks marks (mid ++ map spelling_with_sign here) (later (letters_in mid + 1 + 1))) fails)
 
 -- what the reading of letter lines keeps
 pub record HasLines (index : Index) (marks text : List ℕ) (line : ℕ) (rest : List ℕ) : Type 0 where
-  pub answer : outcome (spelling_checks marks (pairs index) (spellings_from line (letters_in (pairs index) + 1) (lines rest))) ≡ outcome (spelling_checks marks [] (spellings_from 2 1 (lines text)))
-  pub spellings : pairs index ++ map signed (spellings_from line (letters_in (pairs index) + 1) (lines rest)) ≡ map signed (spellings_from 2 1 (lines text))
+  pub answer : first_failure (spelling_checks marks (pairs index) (spellings_from line (letters_in (pairs index) + 1) (lines rest))) ≡ first_failure (spelling_checks marks [] (spellings_from 2 1 (lines text)))
+  pub spellings : pairs index ++ map spelling_with_sign (spellings_from line (letters_in (pairs index) + 1) (lines rest)) ≡ map spelling_with_sign (spellings_from 2 1 (lines text))
   pub sound : IsIndex index
   pub few : letters_in (pairs index) ≤ SIGNS_MAX - 1
   pub begun : 2 ≤ line
@@ -136,8 +136,8 @@ pub record HasLines (index : Index) (marks text : List ℕ) (line : ℕ) (rest :
 -- no line is read
 pub lines_begin : (index : Index) (marks text : List ℕ) → pairs index ≡ [] → IsIndex index → HasLines index marks text 2 text
 lines_begin index marks text none sound = record {
-  answer = ap (λ (ss : List (ℕ × List ℕ)). outcome (spelling_checks marks ss (spellings_from 2 (letters_in ss + 1) (lines text)))) none;
-  spellings = ap (λ (ss : List (ℕ × List ℕ)). ss ++ map signed (spellings_from 2 (letters_in ss + 1) (lines text))) none;
+  answer = ap (λ (ss : List (ℕ × List ℕ)). first_failure (spelling_checks marks ss (spellings_from 2 (letters_in ss + 1) (lines text)))) none;
+  spellings = ap (λ (ss : List (ℕ × List ℕ)). ss ++ map spelling_with_sign (spellings_from 2 (letters_in ss + 1) (lines text))) none;
   sound = sound;
   few = rw none (omega arith);
   begun = omega arith;
@@ -145,28 +145,28 @@ lines_begin index marks text none sound = record {
 }
 
 -- one line more
-pub lines_more : (mid new : Index) (marks text : List ℕ) (line : ℕ) (rest first after : List ℕ) → HasLines mid marks text line rest → lines rest ≡ first ∷ lines after → length after < length rest → outcome (spelling_checks marks (pairs mid) (spellings_at line 2 (letters_in (pairs mid) + 1) (line_pieces first))) ≡ Ok tt → pairs new ≡ pairs mid ++ map signed (spellings_at line 2 (letters_in (pairs mid) + 1) (line_pieces first)) → letters_in (pairs new) ≤ SIGNS_MAX - 1 → IsIndex new → HasLines new marks text (line + 1) after
+pub lines_more : (mid new : Index) (marks text : List ℕ) (line : ℕ) (rest first after : List ℕ) → HasLines mid marks text line rest → lines rest ≡ first ∷ lines after → length after < length rest → first_failure (spelling_checks marks (pairs mid) (spellings_at line 2 (letters_in (pairs mid) + 1) (line_pieces first))) ≡ Ok tt → pairs new ≡ pairs mid ++ map spelling_with_sign (spellings_at line 2 (letters_in (pairs mid) + 1) (line_pieces first)) → letters_in (pairs new) ≤ SIGNS_MAX - 1 → IsIndex new → HasLines new marks text (line + 1) after
 lines_more mid new marks text line rest first after before cut shorter passed added few sound = record {
-  answer = step.0 ∙ ap (λ (ls : List (List ℕ)). outcome (spelling_checks marks (pairs mid) (spellings_from line (letters_in (pairs mid) + 1) ls))) (sym cut) ∙ before.answer;
-  spellings = step.1 ∙ ap (λ (ls : List (List ℕ)). pairs mid ++ map signed (spellings_from line (letters_in (pairs mid) + 1) ls)) (sym cut) ∙ before.spellings;
+  answer = step.0 ∙ ap (λ (ls : List (List ℕ)). first_failure (spelling_checks marks (pairs mid) (spellings_from line (letters_in (pairs mid) + 1) ls))) (sym cut) ∙ before.answer;
+  spellings = step.1 ∙ ap (λ (ls : List (List ℕ)). pairs mid ++ map spelling_with_sign (spellings_from line (letters_in (pairs mid) + 1) ls)) (sym cut) ∙ before.spellings;
   sound = sound;
   few = few;
   begun = omega (arith, before.begun);
   room = omega (arith, before.room);
 }
   where
-    step : (outcome (spelling_checks marks (pairs new) (spellings_from (line + 1) (letters_in (pairs new) + 1) (lines after))) ≡ outcome (spelling_checks marks (pairs mid) (with_line line (letters_in (pairs mid) + 1) (line_pieces first) (λ next. spellings_from (line + 1) next (lines after))))) × (pairs new ++ map signed (spellings_from (line + 1) (letters_in (pairs new) + 1) (lines after)) ≡ pairs mid ++ map signed (with_line line (letters_in (pairs mid) + 1) (line_pieces first) (λ next. spellings_from (line + 1) next (lines after))))
+    step : (first_failure (spelling_checks marks (pairs new) (spellings_from (line + 1) (letters_in (pairs new) + 1) (lines after))) ≡ first_failure (spelling_checks marks (pairs mid) (with_line_spellings line (letters_in (pairs mid) + 1) (line_pieces first) (λ next. spellings_from (line + 1) next (lines after))))) × (pairs new ++ map spelling_with_sign (spellings_from (line + 1) (letters_in (pairs new) + 1) (lines after)) ≡ pairs mid ++ map spelling_with_sign (with_line_spellings line (letters_in (pairs mid) + 1) (line_pieces first) (λ next. spellings_from (line + 1) next (lines after))))
     step = line_more marks (pairs mid) (pairs new) line (line_pieces first) (λ next. spellings_from (line + 1) next (lines after)) passed added
 
 -- a line that fails fails the file
-pub lines_fail : (mid : Index) (marks text : List ℕ) (line : ℕ) (rest first after : List ℕ) (e : ReadingError) → HasLines mid marks text line rest → lines rest ≡ first ∷ lines after → Fails e (outcome (spelling_checks marks (pairs mid) (spellings_at line 2 (letters_in (pairs mid) + 1) (line_pieces first)))) → Fails e (first_refusal (spelling_checks marks [] (spellings_from 2 1 (lines text))) (map signed (spellings_from 2 1 (lines text))))
+pub lines_fail : (mid : Index) (marks text : List ℕ) (line : ℕ) (rest first after : List ℕ) (e : ReadingError) → HasLines mid marks text line rest → lines rest ≡ first ∷ lines after → Fails e (first_failure (spelling_checks marks (pairs mid) (spellings_at line 2 (letters_in (pairs mid) + 1) (line_pieces first)))) → Fails e (first_refusal (spelling_checks marks [] (spellings_from 2 1 (lines text))) (map spelling_with_sign (spellings_from 2 1 (lines text))))
 lines_fail mid marks text line rest first after e before cut fails =
-    let here : Fails e (outcome (spelling_checks marks (pairs mid) (with_line line (letters_in (pairs mid) + 1) (line_pieces first) (λ next. spellings_from (line + 1) next (lines after))))) = line_fails marks (pairs mid) line (line_pieces first) (λ next. spellings_from (line + 1) next (lines after)) e fails in
-    fails_guarded e (spelling_checks marks [] (spellings_from 2 1 (lines text))) (map signed (spellings_from 2 1 (lines text))) (subst (Fails e) (ap (λ (ls : List (List ℕ)). outcome (spelling_checks marks (pairs mid) (spellings_from line (letters_in (pairs mid) + 1) ls))) (sym cut) ∙ before.answer) here)
+    let here : Fails e (first_failure (spelling_checks marks (pairs mid) (with_line_spellings line (letters_in (pairs mid) + 1) (line_pieces first) (λ next. spellings_from (line + 1) next (lines after))))) = line_fails marks (pairs mid) line (line_pieces first) (λ next. spellings_from (line + 1) next (lines after)) e fails in
+    fails_guarded e (spelling_checks marks [] (spellings_from 2 1 (lines text))) (map spelling_with_sign (spellings_from 2 1 (lines text))) (subst (Fails e) (ap (λ (ls : List (List ℕ)). first_failure (spelling_checks marks (pairs mid) (spellings_from line (letters_in (pairs mid) + 1) ls))) (sym cut) ∙ before.answer) here)
 
 -- no line is left
-pub lines_done : (index : Index) (marks text : List ℕ) (line : ℕ) (rest : List ℕ) → HasLines index marks text line rest → rest ≡ [] → first_refusal (spelling_checks marks [] (spellings_from 2 1 (lines text))) (map signed (spellings_from 2 1 (lines text))) ≡ Ok (pairs index)
+pub lines_done : (index : Index) (marks text : List ℕ) (line : ℕ) (rest : List ℕ) → HasLines index marks text line rest → rest ≡ [] → first_refusal (spelling_checks marks [] (spellings_from 2 1 (lines text))) (map spelling_with_sign (spellings_from 2 1 (lines text))) ≡ Ok (pairs index)
 lines_done index marks text line rest done none =
-    let answer : outcome (spelling_checks marks [] (spellings_from 2 1 (lines text))) ≡ Ok tt = sym (ap (λ (bytes : List ℕ). outcome (spelling_checks marks (pairs index) (spellings_from line (letters_in (pairs index) + 1) (lines bytes)))) (sym none) ∙ done.answer) in
-    let spellings : map signed (spellings_from 2 1 (lines text)) ≡ pairs index = sym (sym (append-nil (pairs index)) ∙ ap (λ (bytes : List ℕ). pairs index ++ map signed (spellings_from line (letters_in (pairs index) + 1) (lines bytes))) (sym none) ∙ done.spellings) in
-    passed_guarded (spelling_checks marks [] (spellings_from 2 1 (lines text))) (map signed (spellings_from 2 1 (lines text))) answer ∙ ap (λ (ss : List (ℕ × List ℕ)). Ok ss) spellings
+    let answer : first_failure (spelling_checks marks [] (spellings_from 2 1 (lines text))) ≡ Ok tt = sym (ap (λ (bytes : List ℕ). first_failure (spelling_checks marks (pairs index) (spellings_from line (letters_in (pairs index) + 1) (lines bytes)))) (sym none) ∙ done.answer) in
+    let spellings : map spelling_with_sign (spellings_from 2 1 (lines text)) ≡ pairs index = sym (sym (append-nil (pairs index)) ∙ ap (λ (bytes : List ℕ). pairs index ++ map spelling_with_sign (spellings_from line (letters_in (pairs index) + 1) (lines bytes))) (sym none) ∙ done.spellings) in
+    passed_guarded (spelling_checks marks [] (spellings_from 2 1 (lines text))) (map spelling_with_sign (spellings_from 2 1 (lines text))) answer ∙ ap (λ (ss : List (ℕ × List ℕ)). Ok ss) spellings

@@ -12,7 +12,7 @@ use Rattle.pg_translate.specs.Tokens.{Letter}
 use Rattle.pg_translate.specs.Items.{IsItem}
 use Rattle.pg_translate.specs.Rules.{KeepsRules}
 use Rattle.pg_translate.specs.declared.head.Head.{Head}
-use Rattle.pg_translate.specs.Heads.{marks_in}
+use Rattle.pg_translate.specs.Heads.{head_marks}
 use Rattle.pg_translate.specs.Sound.{IsTable}
 use Rattle.pg_translate.specs.Fronts.{IsIndex, pairs, firsts_of}
 use Rattle.pg_translate.specs.Texts.{text_of}
@@ -47,7 +47,7 @@ first_there index sign sound low high =
     first_is_among (pairs index) sign (get_or (firsts_of index) (sign - 2) []) (ap (first_of (pairs index)) (sym back) ∙ sym (sound.firsts (sign - 2)) ∙ there)
 
 -- a table keeps the rules
-pub keeps : (head : Head) (index : Index) → IsTable head index → KeepsRules (record { left = head.left; right = head.right; marks = marks_in head; spellings = pairs index })
+pub keeps : (head : Head) (index : Index) → IsTable head index → KeepsRules (record { left = head.left; right = head.right; marks = head_marks head; spellings = pairs index })
 keeps head index table = record {
   left_some = table.head_sound.left_some;
   left_few = table.head_sound.left_few;
@@ -58,7 +58,7 @@ keeps head index table = record {
   letters_few = let count : length index.firsts.items ≡ letters_in (pairs index) = table.index_sound.letters in let few : length index.firsts.items ≤ 2000 = table.few in omega arith;
   signs_low = table.index_sound.signs;
   signs_high = λ s among. sign_within (pairs index) s among;
-  spelled = λ s among. list_all_at (λ s. is_spelling (marks_in head) s.1) (pairs index) s table.spelled among;
+  spelled = λ s among. list_all_at (λ s. is_spelling (head_marks head) s.1) (pairs index) s table.spelled among;
   apart = table.index_sound.apart;
   each = λ sign low high. first_there index sign table.index_sound low high;
 }

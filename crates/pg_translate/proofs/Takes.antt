@@ -7,10 +7,10 @@ use Rattle.pg_translate.specs.declared.items.Place.TheVariants.{Dictionary, Patt
 use Rattle.pg_translate.specs.Alphabets.{Alphabet}
 use Rattle.std.specs.Char.{is_ascii_digit}
 use Rattle.pg_translate.specs.Tokens.{Token, Digit, Marked, letter_at, digit_at, weight_at, mark_at, item_at}
-use Rattle.pg_translate.specs.Answers.{Takes}
+use Rattle.pg_translate.specs.Answers.{HasItem}
 
 -- an item of one byte
-pub takes_one : (t : Alphabet) (place : Place) (text : List ℕ) (token : Token) → item_at t place text ≡ Some (token, 1) → (length text == 0) ≡ false → Takes t place text token (take (length text - 1) (drop 1 text))
+pub takes_one : (t : Alphabet) (place : Place) (text : List ℕ) (token : Token) → item_at t place text ≡ Some (token, 1) → (length text == 0) ≡ false → HasItem t place text token (take (length text - 1) (drop 1 text))
 takes_one t place [] token found some = absurd (cc)
 takes_one t place (b ∷ bs) token found some = record { size = 1; found = found; some = omega arith; within = omega arith; behind = take_rest (b ∷ bs) 1 }
 

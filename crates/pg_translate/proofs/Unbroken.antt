@@ -12,7 +12,7 @@ use Rattle.pg_translate.specs.Alphabets.{Alphabet}
 use Rattle.pg_translate.specs.Spellings.{is_space}
 use Rattle.std.specs.Char.{is_ascii_digit}
 use Rattle.pg_translate.specs.Tokens.{Token, Letter, Digit, Weight, Marked, Edge, letter_at, digit_at, weight_at, mark_at, item_at, is_ended}
-use Rattle.pg_translate.specs.Items.{IsItem, IsWeight, IsMark, joined}
+use Rattle.pg_translate.specs.Items.{IsItem, IsWeight, IsMark, text_of_items}
 use Rattle.pg_translate.specs.Rules.{KeepsRules}
 use Rattle.pg_translate.proofs.ItemLaws.{four_marks}
 use Rattle.pg_translate.proofs.CutLaws.{Reads, item_found}
@@ -111,9 +111,9 @@ fourth_mark marks [] some first second third fourth = absurd (omega arith)
 fourth_mark marks (b ∷ bs) some first second third fourth = rw (ne_eqb _ _ first, ne_eqb _ _ second, ne_eqb _ _ third, eq-eqb _ _ fourth) refl
 
 -- nor do items that are joined
-pub joined_unbroken : (t : Alphabet) → KeepsRules t → (place : Place) (items : List (Token × List ℕ)) → AllByRecursion (λ (item : Token × List ℕ). IsItem t place item.0 item.1) items → list_any is_space (joined items) ≡ false
+pub joined_unbroken : (t : Alphabet) → KeepsRules t → (place : Place) (items : List (Token × List ℕ)) → AllByRecursion (λ (item : Token × List ℕ). IsItem t place item.0 item.1) items → list_any is_space (text_of_items items) ≡ false
 joined_unbroken t rules place [] each = refl
 joined_unbroken t rules place (item ∷ items) each =
-    list_any-append is_space item.1 (joined items)
-    ∙ ap (λ test. test || list_any is_space (joined items)) (item_unbroken t rules place item.0 item.1 each.0)
+    list_any-append is_space item.1 (text_of_items items)
+    ∙ ap (λ test. test || list_any is_space (text_of_items items)) (item_unbroken t rules place item.0 item.1 each.0)
     ∙ joined_unbroken t rules place items each.1

@@ -8,7 +8,7 @@ use Rattle.pg_translate.specs.Alphabets.{Alphabet, letters_of}
 use Rattle.pg_translate.specs.Tokens.{Token, Letter, Digit, Weight, Marked, Edge, item_at, is_ended}
 
 -- an item begins the text, has a text of its own, and the rest is what follows it
-pub record Takes (t : Alphabet) (place : Place) (text : List ℕ) (token : Token) (after : List ℕ) : Type 0 where
+pub record HasItem (t : Alphabet) (place : Place) (text : List ℕ) (token : Token) (after : List ℕ) : Type 0 where
   pub size : ℕ
   pub found : item_at t place text ≡ Some (token, size)
   pub some : 0 < size
@@ -16,19 +16,19 @@ pub record Takes (t : Alphabet) (place : Place) (text : List ℕ) (token : Token
   pub behind : after ≡ drop size text
 
 -- no item begins the text, whose line ends there or does not
-pub record Stops (t : Alphabet) (place : Place) (text : List ℕ) (ended : Bool) : Type 0 where
+pub record HasNoItem (t : Alphabet) (place : Place) (text : List ℕ) (ended : Bool) : Type 0 where
   pub none : item_at t place text ≡ None
   pub end : is_ended text ≡ ended
 
 -- the answer is the item that begins the text, with what follows it
 abbrev pub IsFirstItem : Alphabet → Place → List ℕ → Item → Type 0
-IsFirstItem t place text (answer.Letter sign after) = Takes t place text (Letter sign) after.now
-IsFirstItem t place text (answer.Digit digit after) = Takes t place text (Digit digit) after.now
-IsFirstItem t place text (answer.Weight weight after) = Takes t place text (Weight weight) after.now
-IsFirstItem t place text (answer.Mark mark after) = Takes t place text (Marked mark) after.now
-IsFirstItem t place text (answer.Edge after) = Takes t place text Edge after.now
-IsFirstItem t place text answer.End = Stops t place text true
-IsFirstItem t place text answer.Bad = Stops t place text false
+IsFirstItem t place text (answer.Letter sign after) = HasItem t place text (Letter sign) after.now
+IsFirstItem t place text (answer.Digit digit after) = HasItem t place text (Digit digit) after.now
+IsFirstItem t place text (answer.Weight weight after) = HasItem t place text (Weight weight) after.now
+IsFirstItem t place text (answer.Mark mark after) = HasItem t place text (Marked mark) after.now
+IsFirstItem t place text (answer.Edge after) = HasItem t place text Edge after.now
+IsFirstItem t place text answer.End = HasNoItem t place text true
+IsFirstItem t place text answer.Bad = HasNoItem t place text false
 
 -- the letters, digits and weights of an answer are within their limits
 abbrev pub IsInRange : Alphabet → Item → Type 0

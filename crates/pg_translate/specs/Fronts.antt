@@ -1,6 +1,6 @@
 -- The fronts of spellings, and the index by their codes.
 use Rattle.std.specs.Prelude.{◌≡◌, ℕ, ◌+◌, ◌-◌, ◌*◌, ◌<◌, ◌≤◌, ◌==◌, nat_eq, nat_lt, true, false, if◌then◌else◌, List, [], ◌∷◌, length, map, fold, slice_get, slice_index_or, Option, None, Some}
-use Rattle.std.specs.List.{list_all}
+use Rattle.std.specs.List.{list_all, starts_with}
 use Rattle.std.specs.Option.{option_or}
 use Rattle.std.specs.HashMap.{get}
 use Rattle.pg_translate.specs.declared.index.Front.{Front}
@@ -9,7 +9,7 @@ use Rattle.pg_translate.specs.declared.index.Index.{Index}
 use Rattle.pg_translate.specs.declared.index.Spelling.{Spelling}
 use Rattle.pg_translate.specs.declared.spellings.TheConstants.{SPELLING_MAX}
 use Rattle.pg_translate.specs.Alphabets.{letters_in, first_of}
-use Rattle.pg_translate.specs.Spellings.{begins, clash, IsAmong}
+use Rattle.pg_translate.specs.Spellings.{clash, IsAmong}
 use Rattle.pg_translate.specs.Texts.{text_of}
 
 -- a spelling with its sign
@@ -25,8 +25,8 @@ abbrev pub firsts_of : Index → List (List ℕ)
 firsts_of index = map text_of index.firsts.items
 
 -- the number whose digits in base 256 are a 1 and then the bytes of a text
-abbrev pub code_of : List ℕ → ℕ
-code_of text = fold (λ code b. code * 256 + b) 1 text
+abbrev pub front_code : List ℕ → ℕ
+front_code text = fold (λ code b. code * 256 + b) 1 text
 
 -- whether all elements are bytes
 abbrev pub AreBytes : List ℕ → Type 0
@@ -38,7 +38,7 @@ front_at index code = if nat_lt code 512 then slice_index_or index.heads (code -
 
 -- what a text is to a spelling
 abbrev pub front_of : ℕ × List ℕ → List ℕ → Option Front
-front_of spelling text = if begins spelling.1 text then Some (if length text == length spelling.1 then Whole spelling.0 else Inside) else None
+front_of spelling text = if starts_with nat_eq spelling.1 text then Some (if length text == length spelling.1 then Whole spelling.0 else Inside) else None
 
 -- what a text is to the spellings
 abbrev pub front_in : List (ℕ × List ℕ) → List ℕ → Option Front
@@ -47,7 +47,7 @@ front_in (spelling ∷ spellings) text = option_or (front_in spellings text) (fr
 
 -- an index that knows the fronts of its spellings, and their first spellings; the spellings do not clash
 pub record IsIndex (index : Index) : Type 0 where
-  pub fronts : (text : List ℕ) → AreBytes text → 0 < length text → front_at index (code_of text) ≡ front_in (pairs index) text
+  pub fronts : (text : List ℕ) → AreBytes text → 0 < length text → front_at index (front_code text) ≡ front_in (pairs index) text
   pub firsts : (n : ℕ) → slice_get (firsts_of index) n ≡ first_of (pairs index) (n + 2)
   pub letters : length index.firsts.items ≡ letters_in (pairs index)
   pub apart : (s t : ℕ × List ℕ) → IsAmong s (pairs index) → IsAmong t (pairs index) → clash s t ≡ false

@@ -20,12 +20,12 @@ abbrev pub signs_of : List Token → List ℕ
 signs_of items = filter_map sign_of items
 
 -- whether an item stands for a sign
-abbrev pub has_sign : Token → Bool
-has_sign item = is_some (sign_of item)
+abbrev pub is_sign_item : Token → Bool
+is_sign_item item = is_some (sign_of item)
 
 -- the gaps of a line: the items before its first sign, between each two signs, and behind its last sign
 abbrev pub gaps : List Token → List (List Token)
-gaps items = slice_split has_sign items
+gaps items = slice_split is_sign_item items
 
 -- the gaps between two signs: all but the first and the last
 abbrev pub inner_gaps : List Token → List (List Token)

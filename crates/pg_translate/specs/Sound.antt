@@ -5,7 +5,7 @@ use Rattle.pg_types.specs.declared.limits.TheConstants.{SIGNS_MAX}
 use Rattle.pg_translate.specs.declared.head.Head.{Head}
 use Rattle.pg_translate.specs.declared.index.Index.{Index}
 use Rattle.pg_translate.specs.Spellings.{is_spelling}
-use Rattle.pg_translate.specs.Heads.{IsSoundHead, marks_in}
+use Rattle.pg_translate.specs.Heads.{IsSoundHead, head_marks}
 use Rattle.pg_translate.specs.Fronts.{IsIndex, pairs}
 
 -- the rules of the translate file on minima, marks, letters and spellings, and an index that knows the spellings
@@ -13,4 +13,4 @@ pub record IsTable (head : Head) (index : Index) : Type 0 where
   pub head_sound : IsSoundHead head
   pub index_sound : IsIndex index
   pub few : length index.firsts.items ≤ SIGNS_MAX - 1
-  pub spelled : list_all (λ s. is_spelling (marks_in head) s.1) (pairs index) ≡ true
+  pub spelled : list_all (λ s. is_spelling (head_marks head) s.1) (pairs index) ≡ true

@@ -17,8 +17,8 @@ abbrev pub check : Bool → Kind → ℕ → ℕ → List Refusal
 check fails kind line column = if fails then record { kind = kind; line = line; column = column } ∷ [] else []
 
 -- whether all checks pass, or the refusal of the first that fails
-abbrev pub outcome : List Refusal → Result (Unit {0}) Refusal
-outcome refusals = first_refusal refusals tt
+abbrev pub first_failure : List Refusal → Result (Unit {0}) Refusal
+first_failure refusals = first_refusal refusals tt
 
 -- the byte in a column of the head; a column past its end is blank
 abbrev pub in_column : List ℕ → ℕ → ℕ
@@ -124,31 +124,42 @@ abbrev pub spellings_at : ℕ → ℕ → ℕ → List (List ℕ) → List Liste
 spellings_at line column letter [] = []
 spellings_at line column letter (piece ∷ pieces) = record { line = line; column = column; letter = letter; text = piece } ∷ spellings_at line (column + (length piece + 1)) letter pieces
 
+-- the spellings of a letter in a line of this number, from what follows the delimiter at the line's begin, and from the whole line
+abbrev pub spellings_behind : ℕ → ℕ → ℕ → List ℕ → List ListedSpelling
+spellings_behind line letter delimiter text = spellings_at line 2 letter (pieces_of delimiter text)
+
+abbrev pub spellings_of_line : ℕ → ℕ → List ℕ → List ListedSpelling
+spellings_of_line line letter text = spellings_at line 2 letter (line_pieces text)
+
 -- the spellings of a line with these pieces, before those of the lines after it, which begin with the next letter
-abbrev pub with_line : ℕ → ℕ → List (List ℕ) → (ℕ → List ListedSpelling) → List ListedSpelling
-with_line line letter [] later = later letter
-with_line line letter (piece ∷ pieces) later = spellings_at line 2 letter (piece ∷ pieces) ++ later (letter + 1)
+abbrev pub with_line_spellings : ℕ → ℕ → List (List ℕ) → (ℕ → List ListedSpelling) → List ListedSpelling
+with_line_spellings line letter [] later = later letter
+with_line_spellings line letter (piece ∷ pieces) later = spellings_at line 2 letter (piece ∷ pieces) ++ later (letter + 1)
 
 -- the spellings of the letter lines from a line and a letter on
 abbrev pub spellings_from : ℕ → ℕ → List (List ℕ) → List ListedSpelling
 spellings_from line letter [] = []
-spellings_from line letter (text ∷ texts) = with_line line letter (line_pieces text) (λ next. spellings_from (line + 1) next texts)
+spellings_from line letter (text ∷ texts) = with_line_spellings line letter (line_pieces text) (λ next. spellings_from (line + 1) next texts)
 
 -- a spelling with the sign of its letter; sign 1 is the edge
-abbrev pub signed : ListedSpelling → ℕ × List ℕ
-signed spelling = (spelling.letter + 1, spelling.text)
+abbrev pub spelling_with_sign : ListedSpelling → ℕ × List ℕ
+spelling_with_sign spelling = (spelling.letter + 1, spelling.text)
 
 -- the checks of a spelling beside earlier ones: the number of letters, its own form, and its clash with an earlier one
 abbrev pub spelling_check : List ℕ → List (ℕ × List ℕ) → ListedSpelling → List Refusal
 spelling_check marks earlier s =
     check (nat_lt (SIGNS_MAX - 1) s.letter) TooManyLetters s.line 1
     ++ (check (not (is_spelling marks s.text)) BadSpelling s.line s.column
-    ++ check (list_any (clash (signed s)) earlier) SpellingClash s.line s.column)
+    ++ check (list_any (clash (spelling_with_sign s)) earlier) SpellingClash s.line s.column)
 
 -- the checks of the letter lines, spelling by spelling
 abbrev pub spelling_checks : List ℕ → List (ℕ × List ℕ) → List ListedSpelling → List Refusal
 spelling_checks marks earlier [] = []
-spelling_checks marks earlier (s ∷ later) = spelling_check marks earlier s ++ spelling_checks marks (earlier ++ signed s ∷ []) later
+spelling_checks marks earlier (s ∷ later) = spelling_check marks earlier s ++ spelling_checks marks (earlier ++ spelling_with_sign s ∷ []) later
+
+-- whether all spellings pass their checks beside earlier ones, or the refusal of the first that fails
+abbrev pub spellings_outcome : List ℕ → List (ℕ × List ℕ) → List ListedSpelling → Result (Unit {0}) Refusal
+spellings_outcome marks earlier spellings = first_failure (spelling_checks marks earlier spellings)
 
 -- all checks of a translate file of some size, with this head and these letter lines, in their order
 abbrev pub checks : ℕ → List ℕ → List (List ℕ) → List Refusal
@@ -161,7 +172,7 @@ alphabet_of head letter_lines = record {
   left = left_minimum head;
   right = right_minimum head;
   marks = marks_of head;
-  spellings = map signed (spellings_from 2 1 letter_lines);
+  spellings = map spelling_with_sign (spellings_from 2 1 letter_lines);
 }
 
 -- a letter of the default table, counted from 0: a small letter of ASCII and its capital

@@ -2,7 +2,7 @@
 ghost use Rattle.std.specs.Prelude.{◌≡◌, ◌≤◌, ◌++◌, true, length, IfOk, OnOk};
 ghost use Rattle.std.specs.List.{list_all};
 ghost use Rattle.pg_types.specs.declared.limits.TheConstants.{PATTERN_SIGNS_MAX};
-ghost use Rattle.pg_patterns.specs.Values.{is_entry, joined};
+ghost use Rattle.pg_patterns.specs.Values.{is_entry, map_of_entries};
 ghost use Rattle.pg_outputs.specs.Lists.{list_of};
 ghost use Rattle.pg_trie.specs.IsTrie.{IsTrie};
 ghost use Rattle.pg_trie.specs.Maps.{maps_of, entries_of, as_value};
@@ -46,7 +46,7 @@ fn gather(
     requires trie { IsTrie cells.now outputs.now }
     requires strings { AreStrings cells.now strings.now }
     ensures sound { IfOk result (λ entries. list_all is_entry entries.items ≡ true) }
-    ensures joined { IfOk result (λ entries. joined entries.items ≡ (maps_of cells.now outputs.now).patterns) }
+    ensures joined { IfOk result (λ entries. map_of_entries entries.items ≡ (maps_of cells.now outputs.now).patterns) }
 {
     let mut entries = Vec::new(alloc);
     for string in strings {
@@ -64,7 +64,7 @@ pub fn entries(
 ) -> Result<Vec<(DottedSigns, u8)>, AllocError>
     requires { IsTrie cells.now outputs.now }
     ensures sound { IfOk result (λ entries. list_all is_entry entries.items ≡ true) }
-    ensures joined { IfOk result (λ entries. joined entries.items ≡ (maps_of cells.now outputs.now).patterns) }
+    ensures joined { IfOk result (λ entries. map_of_entries entries.items ≡ (maps_of cells.now outputs.now).patterns) }
 {
     let strings = strings(alloc, cells)?;
     gather(alloc, cells, &strings, outputs)

@@ -4,7 +4,7 @@ use Rattle.std.specs.List.{position_or_len, position}
 use Rattle.std.proofs.lemmas.List.Sums.{prefix_len-le-length}
 use Rattle.std.proofs.lemmas.Bool.{cases_Bool, eqb-true}
 use Rattle.pg_types.specs.Lines.{pieces_at}
-use Rattle.pg_types.specs.Parameters.{items, is_separator, is_filled}
+use Rattle.pg_types.specs.Parameters.{items, is_separator, has_byte}
 
 -- the place that a search finds, or the length
 pub unwrap_or-position : {X : Type 0} → (p : X → Bool) (xs : List X) (r : Option ℕ) → r ≡ position p xs → unwrap_or r (length xs) ≡ position_or_len p xs
@@ -25,7 +25,7 @@ pieces_head test b (x ∷ xs) k out is =
     ]
 
 -- the separator behind an item is no item
-items_gap : (bs : List ℕ) (k : ℕ) → k ≡ position_or_len is_separator bs → items (drop k bs) ≡ filter is_filled (pieces_at is_separator (drop (suc k) bs))
+items_gap : (bs : List ℕ) (k : ℕ) → k ≡ position_or_len is_separator bs → items (drop k bs) ≡ filter has_byte (pieces_at is_separator (drop (suc k) bs))
 items_gap [] k is = rw is refl
 items_gap (x ∷ xs) k is =
     elim (cases_Bool (is_separator x)) [

@@ -22,13 +22,13 @@ abbrev pub is_separator : ℕ → Bool
 is_separator b = b == 32 || b == 9 || b == 13 || b == 10
 
 -- a piece that has a byte
-abbrev pub is_filled : List ℕ → Bool
-is_filled [] = false
-is_filled (b ∷ bs) = true
+abbrev pub has_byte : List ℕ → Bool
+has_byte [] = false
+has_byte (b ∷ bs) = true
 
 -- the items of a file are what stands between its separators
 abbrev pub items : List ℕ → List (List ℕ)
-items bytes = filter is_filled (pieces_at is_separator bytes)
+items bytes = filter has_byte (pieces_at is_separator bytes)
 
 -- a number so far with one more digit
 abbrev pub with_digit : ℕ → ℕ → ℕ

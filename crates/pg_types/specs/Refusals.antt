@@ -4,28 +4,28 @@ use Rattle.pg_types.specs.declared.refusals.Kind.{Kind}
 use Rattle.pg_types.specs.declared.refusals.Kind.TheVariants.{TranslateTooLong, BadMinima, BadMark, BadSpelling, SpellingClash, TooManyLetters, BadNumber, OutOfRange, Missing, Extra, ParametersTooLong, PatternCharacter, PatternTooLong, PatternsTooLong, DictionaryCharacter, WordTooLong, DictionaryTooLong, BadWeight, TableTooLong, BadTable, OtherTable}
 
 -- the number of a refusal: hundreds tell the file, the rest counts the reasons
-abbrev pub number_of : Kind → ℕ
-number_of TranslateTooLong = 101
-number_of BadMinima = 102
-number_of BadMark = 103
-number_of BadSpelling = 104
-number_of SpellingClash = 105
-number_of TooManyLetters = 106
-number_of BadNumber = 201
-number_of OutOfRange = 202
-number_of Missing = 203
-number_of Extra = 204
-number_of ParametersTooLong = 205
-number_of PatternCharacter = 301
-number_of PatternTooLong = 302
-number_of PatternsTooLong = 303
-number_of DictionaryCharacter = 401
-number_of WordTooLong = 402
-number_of DictionaryTooLong = 403
-number_of BadWeight = 404
-number_of TableTooLong = 601
-number_of BadTable = 602
-number_of OtherTable = 603
+abbrev pub kind_number : Kind → ℕ
+kind_number TranslateTooLong = 101
+kind_number BadMinima = 102
+kind_number BadMark = 103
+kind_number BadSpelling = 104
+kind_number SpellingClash = 105
+kind_number TooManyLetters = 106
+kind_number BadNumber = 201
+kind_number OutOfRange = 202
+kind_number Missing = 203
+kind_number Extra = 204
+kind_number ParametersTooLong = 205
+kind_number PatternCharacter = 301
+kind_number PatternTooLong = 302
+kind_number PatternsTooLong = 303
+kind_number DictionaryCharacter = 401
+kind_number WordTooLong = 402
+kind_number DictionaryTooLong = 403
+kind_number BadWeight = 404
+kind_number TableTooLong = 601
+kind_number BadTable = 602
+kind_number OtherTable = 603
 
 -- the name of a refusal
 abbrev pub name_of : Kind → List ℕ

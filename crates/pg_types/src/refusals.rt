@@ -1,6 +1,6 @@
 //! Why a file is refused, and the error of a reader.
 ghost use Rattle.std.specs.Prelude.{◌≡◌};
-ghost use Rattle.pg_types.specs.Refusals.{number_of, name_of};
+ghost use Rattle.pg_types.specs.Refusals.{kind_number, name_of};
 ghost use Rattle.pg_types.specs.declared.refusals.ReadingError.TheVariants.{Memory, Refused};
 
 use std::alloc::{AllocError, AllocFailed};
@@ -56,7 +56,7 @@ pub enum Kind {
 impl Kind {
     /// The number of the refusal, as it is printed.
     pub fn number(&self) -> u16
-        ensures { result ≡ number_of self.now }
+        ensures { result ≡ kind_number self.now }
     {
         match self {
             Kind::TranslateTooLong => 101,

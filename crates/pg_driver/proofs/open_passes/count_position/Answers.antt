@@ -1,19 +1,19 @@
 use Rattle.std.proofs.Common.{◌<◌, length, arith}
-use Rattle.pg_dict.specs.Lent.{word_of}
+use Rattle.pg_dict.specs.Lent.{lent_word}
 use Rattle.pg_driver.proofs.WordSteps.{signs_within}
 use Rattle.pg_driver.specs.DotSets.{has_dot}
 use Rattle.pg_driver.proofs.OpenSteps.{took_entry}
 use Rattle.pg_driver.proofs.open_passes.count_position.Goals as goal
 
 pub count_at-requires-clause-signs : goal.count_at-requires-clause-signs
-count_at-requires-clause-signs g c = signs_within _ c.args.dictionary.now c.args.position.word (word_of c.word-w.result) c.word-w.ensures.lent c.requires.signs c.word-w.ensures.word
+count_at-requires-clause-signs g c = signs_within _ c.args.dictionary.now c.args.position.word (lent_word c.word-w.result) c.word-w.ensures.lent c.requires.signs c.word-w.ensures.word
 
 pub count_at-requires-clause-within : goal.count_at-requires-clause-within
 count_at-requires-clause-within g c =
-    let within : c.args.position.at < length (word_of c.word-w.result).signs = c.requires.placed.within (word_of c.word-w.result) c.word-w.ensures.lent in
+    let within : c.args.position.at < length (lent_word c.word-w.result).signs = c.requires.placed.within (lent_word c.word-w.result) c.word-w.ensures.lent in
     omega (arith, c.from-p.ensures)
 
 pub returns-clause-took : goal.returns-clause-took
 returns-clause-took g c =
-    let within : c.args.position.at < length (word_of c.word-w.result).signs = c.requires.placed.within (word_of c.word-w.result) c.word-w.ensures.lent in
-    took_entry (g.E.Engine.meaning c.args.engine.now) _ c.args.pass.level c.args.pass.len c.args.pass.dot (word_of c.word-w.result) c.from-p.result 1 (has_dot c.args.position.closed c.args.pass.dot) c.requires.ranges.len_low c.word-w.ensures.word (omega (arith, c.from-p.ensures)) c.requires.room c.in_ok-count_at.ensures.ok
+    let within : c.args.position.at < length (lent_word c.word-w.result).signs = c.requires.placed.within (lent_word c.word-w.result) c.word-w.ensures.lent in
+    took_entry (g.E.Engine.meaning c.args.engine.now) _ c.args.pass.level c.args.pass.len c.args.pass.dot (lent_word c.word-w.result) c.from-p.result 1 (has_dot c.args.position.closed c.args.pass.dot) c.requires.ranges.len_low c.word-w.ensures.word (omega (arith, c.from-p.ensures)) c.requires.room c.in_ok-count_at.ensures.ok

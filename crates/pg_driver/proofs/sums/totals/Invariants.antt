@@ -1,9 +1,8 @@
 use Rattle.std.proofs.Common.{◌≡◌, drop}
 use Rattle.std.specs.List.{flat_map, sum_by}
-use Rattle.pg_dict.specs.Word.{letters_of}
-use Rattle.pg_select.specs.Sums.{marks_in, totals}
-use Rattle.pg_driver.specs.Counting.{with_marks, HasRoomFor}
-use Rattle.pg_driver.specs.Told.{minima_of}
+use Rattle.pg_dict.specs.Word.{letter_count}
+use Rattle.pg_select.specs.Sums.{marks_in, totals, with_marks, HasRoomFor}
+use Rattle.pg_select.specs.CountedPositions.{minima_of}
 use Rattle.pg_driver.proofs.sums.totals.Given as goal
 
 abbrev pub invariant-words : goal.invariant-words
@@ -11,5 +10,5 @@ invariant-words g l =
     let m = g.E.Engine.meaning l.engine in
     record {
       sums : with_marks l.sums (flat_map (marks_in (minima_of l.table) m.patterns) (drop l.i l.dictionary)) ≡ totals (minima_of l.table) l.dictionary m.patterns;
-      room_for : HasRoomFor l.sums (sum_by letters_of (drop l.i l.dictionary));
+      room_for : HasRoomFor l.sums (sum_by letter_count (drop l.i l.dictionary));
     }

@@ -1,13 +1,14 @@
 use Rattle.std.proofs.Common.{◌≡◌, ◌≤◌, ◌<◌, ◌+◌, ◌-◌, length, ap, ◌∙◌, arith}
-use Rattle.pg_dict.specs.Lent.{word_of}
-use Rattle.pg_dict.specs.Word.{letters_of}
+use Rattle.pg_dict.specs.Lent.{lent_word}
+use Rattle.pg_dict.specs.Word.{letter_count}
 use Rattle.pg_select.specs.Meanings.{Meaning}
 use Rattle.pg_select.specs.declared.pass.Pass.{Pass}
 use Rattle.pg_select.specs.CountedPositions.{counted_positions_at}
-use Rattle.pg_select.specs.Statuses.{status_at, weight_at}
+use Rattle.pg_select.specs.Statuses.{status_at, position_weight}
 use Rattle.pg_types.specs.declared.limits.TheConstants.{WEIGHT_MAX}
-use Rattle.pg_driver.specs.Counting.{IsRead, with_mark, sum_of}
-use Rattle.pg_driver.proofs.MarkSteps.{marks_step, mark_took, weight_small}
+use Rattle.pg_driver.specs.Counting.{IsRead}
+use Rattle.pg_select.specs.Sums.{with_mark, sum_of}
+use Rattle.pg_select.proofs.MarkSteps.{marks_step, mark_took, weight_small}
 use Rattle.pg_driver.proofs.Rooms.{room_left}
 use Rattle.pg_driver.proofs.Walks.{kept_on, read_on, position_step, room_on}
 use Rattle.pg_driver.proofs.words.count_word.Goals as goal
@@ -18,8 +19,8 @@ count_position-requires-clause-pass g c = ap (λ (m : Meaning). m.pass) c.positi
 pub count_position-requires-clause-read : goal.count_position-requires-clause-read
 count_position-requires-clause-read g c =
     let m0 = g.E.Engine.meaning c.args.engine.now in
-    let read : IsRead m0 (word_of c.args.w.now) c.hyphenate.new.out = record { word = c.requires.word; signs = c.requires.signs; values = c.hyphenate.ensures.values; covers = c.hyphenate.ensures.covers } in
-    read_on m0 _ (word_of c.args.w.now) _ c.positions.invariant.kept read
+    let read : IsRead m0 (lent_word c.args.w.now) c.hyphenate.new.out = record { word = c.requires.word; signs = c.requires.signs; values = c.hyphenate.ensures.values; covers = c.hyphenate.ensures.covers } in
+    read_on m0 _ (lent_word c.args.w.now) _ c.positions.invariant.kept read
 
 pub count_position-requires-clause-room : goal.count_position-requires-clause-room
 count_position-requires-clause-room g c = room_left _ _ _ _ 1 c.requires.room c.positions.invariant.took (omega (arith, c.positions-test.true, c.in-Some.ensures.few))
@@ -28,24 +29,24 @@ pub positions-preserved : goal.positions-preserved
 positions-preserved g c =
     let m0 = g.E.Engine.meaning c.args.engine.now in
     let m = g.E.Engine.meaning c.positions.engine in
-    let w = word_of c.args.w.now in
+    let w = lent_word c.args.w.now in
     let kept = c.positions.invariant.kept in
     let within : c.positions.p < length w.signs = omega (arith, c.positions-test.true, c.in-Some.ensures.within) in
     let long : 1 ≤ m.pass.len =
     let e : m.pass.len ≡ c.args.pass.len = ap (λ (m : Meaning). m.pass.len) kept ∙ ap (λ (pass : Pass). pass.len) c.requires.pass in
     omega (arith, c.requires.ranges.len_low) in
-    let small : weight_at w c.positions.p ≤ WEIGHT_MAX = weight_small w c.positions.p c.requires.word within in
-    let sums : c.count_position.new.sums ≡ with_mark c.positions.sums (status_at m0.patterns w c.positions.p) (weight_at w c.positions.p) =
-    c.in_ok-count_position.ensures.sums ∙ ap (λ (x : Meaning). with_mark c.positions.sums (status_at x.patterns w c.positions.p) (weight_at w c.positions.p)) kept in
-    let took : sum_of c.count_position.new.sums ≤ sum_of c.positions.sums + weight_at w c.positions.p =
-    rw sums (mark_took c.positions.sums (status_at m0.patterns w c.positions.p) (weight_at w c.positions.p)) in
-    let few : c.positions.p - c.in-Some.first + 1 ≤ letters_of w = omega (arith, c.positions-test.true, c.in-Some.ensures.few, c.positions.auto) in
+    let small : position_weight w c.positions.p ≤ WEIGHT_MAX = weight_small w c.positions.p c.requires.word within in
+    let sums : c.count_position.new.sums ≡ with_mark c.positions.sums (status_at m0.patterns w c.positions.p) (position_weight w c.positions.p) =
+    c.in_ok-count_position.ensures.sums ∙ ap (λ (x : Meaning). with_mark c.positions.sums (status_at x.patterns w c.positions.p) (position_weight w c.positions.p)) kept in
+    let took : sum_of c.count_position.new.sums ≤ sum_of c.positions.sums + position_weight w c.positions.p =
+    rw sums (mark_took c.positions.sums (status_at m0.patterns w c.positions.p) (position_weight w c.positions.p)) in
+    let few : c.positions.p - c.in-Some.first + 1 ≤ letter_count w = omega (arith, c.positions-test.true, c.in-Some.ensures.few, c.positions.auto) in
     let on : c.positions.p + 1 - c.in-Some.first ≡ c.positions.p - c.in-Some.first + 1 = omega (arith, c.positions.auto) in
     record {
       kept = kept_on m0 m _ (counted_positions_at m.pass m.patterns m.hopeless w c.positions.p) kept c.in_ok-count_position.ensures.ok;
       whole = position_step m0 m _ _ w c.positions.p c.in-Some.end c.positions-test.true kept c.in_ok-count_position.ensures.ok c.positions.invariant.whole;
       few = omega arith;
-      took = rw on (room_on m0 m _ w c.positions.p (c.positions.p - c.in-Some.first) (letters_of w) long c.requires.word within c.requires.room (omega arith) c.positions.invariant.took c.in_ok-count_position.ensures.ok);
+      took = rw on (room_on m0 m _ w c.positions.p (c.positions.p - c.in-Some.first) (letter_count w) long c.requires.word within c.requires.room (omega arith) c.positions.invariant.took c.in_ok-count_position.ensures.ok);
       sums = marks_step c.positions.sums _ _ m0.patterns w c.positions.p c.in-Some.end c.positions-test.true sums c.positions.invariant.sums;
       took_for = omega (arith, c.positions.invariant.took_for);
     }

@@ -1,12 +1,11 @@
 use Rattle.std.proofs.Common.{◌≡◌, ◌≤◌, ◌-◌}
 use Rattle.std.specs.List.{flat_map, range_with_len}
-use Rattle.pg_dict.specs.Word.{letters_of}
-use Rattle.pg_dict.specs.Lent.{word_of}
-use Rattle.pg_select.specs.CountedPositions.{counted_positions_at, counted_positions_in}
-use Rattle.pg_select.specs.Sums.{marks_in}
-use Rattle.pg_driver.specs.Counting.{counting, with_marks, TookRoom, TookRoomFor}
-use Rattle.pg_driver.specs.Told.{minima_of}
-use Rattle.pg_driver.proofs.MarkSteps.{marks_from}
+use Rattle.pg_dict.specs.Word.{letter_count}
+use Rattle.pg_dict.specs.Lent.{lent_word}
+use Rattle.pg_select.specs.CountedPositions.{counted_positions_at, counted_positions_in, minima_of}
+use Rattle.pg_select.specs.Sums.{marks_in, with_marks, TookRoomFor}
+use Rattle.pg_driver.specs.Counting.{counting, TookRoom}
+use Rattle.pg_select.proofs.MarkSteps.{marks_from}
 use Rattle.pg_driver.proofs.Walks.{KeepsButCounts}
 use Rattle.pg_driver.proofs.words.count_word.Given as goal
 
@@ -16,9 +15,9 @@ invariant-positions g l =
     let m = g.E.Engine.meaning l.engine in
     record {
       kept : KeepsButCounts m0 m;
-      whole : counting m (flat_map (counted_positions_at m0.pass m0.patterns m0.hopeless (word_of l.w)) (range_with_len l.p (l.end - l.p))) ≡ counting m0 (counted_positions_in (minima_of l.table) m0.pass m0.patterns m0.hopeless (word_of l.w));
-      few : l.p - l.first ≤ letters_of (word_of l.w);
+      whole : counting m (flat_map (counted_positions_at m0.pass m0.patterns m0.hopeless (lent_word l.w)) (range_with_len l.p (l.end - l.p))) ≡ counting m0 (counted_positions_in (minima_of l.table) m0.pass m0.patterns m0.hopeless (lent_word l.w));
+      few : l.p - l.first ≤ letter_count (lent_word l.w);
       took : TookRoom m0.counts m.counts (l.p - l.first);
-      sums : with_marks l.sums (marks_from m0.patterns (word_of l.w) l.p l.end) ≡ with_marks l.fn.sums (marks_in (minima_of l.table) m0.patterns (word_of l.w));
+      sums : with_marks l.sums (marks_from m0.patterns (lent_word l.w) l.p l.end) ≡ with_marks l.fn.sums (marks_in (minima_of l.table) m0.patterns (lent_word l.w));
       took_for : TookRoomFor l.fn.sums l.sums (l.p - l.first);
     }

@@ -1,14 +1,13 @@
 use Rattle.std.proofs.Common.{◌+◌, ℕ, List, drop, ap, subst, sym, ◌∙◌, arith}
 use Rattle.std.specs.List.{flat_map, sum_by}
-use Rattle.pg_dict.specs.Lent.{word_of}
-use Rattle.pg_dict.specs.Word.{Word, letters_of}
+use Rattle.pg_dict.specs.Lent.{lent_word}
+use Rattle.pg_dict.specs.Word.{Word, letter_count}
 use Rattle.pg_types.specs.Counts.{SignsWithin}
 use Rattle.pg_select.specs.Meanings.{Meaning}
-use Rattle.pg_select.specs.CountedPositions.{counted_positions, counted_positions_in}
-use Rattle.pg_select.specs.Sums.{marks_in}
-use Rattle.pg_driver.specs.Counting.{counting, with_marks}
-use Rattle.pg_driver.specs.Told.{minima_of}
-use Rattle.pg_driver.proofs.MarkSteps.{marks_word}
+use Rattle.pg_select.specs.CountedPositions.{counted_positions, counted_positions_in, minima_of}
+use Rattle.pg_select.specs.Sums.{marks_in, with_marks}
+use Rattle.pg_driver.specs.Counting.{counting}
+use Rattle.pg_select.proofs.MarkSteps.{marks_word}
 use Rattle.pg_driver.proofs.Rooms.{room_left, room_less}
 use Rattle.pg_driver.proofs.Walks.{kept_on, word_step}
 use Rattle.pg_driver.proofs.WordSteps.{drop_place, letters_left, signs_within}
@@ -18,20 +17,20 @@ pub count_word-requires-clause-signs : goal.count_word-requires-clause-signs
 count_word-requires-clause-signs g c =
     let signs = ap (λ (m : Meaning). m.signs) c.words.invariant.kept in
     let P : ℕ → Type 0 = λ n. SignsWithin n c.word.result.signs.now in
-    subst P (sym signs) (signs_within _ c.args.dictionary.now c.words.i (word_of c.word.result) c.word.ensures.lent c.requires.signs c.word.ensures.word)
+    subst P (sym signs) (signs_within _ c.args.dictionary.now c.words.i (lent_word c.word.result) c.word.ensures.lent c.requires.signs c.word.ensures.word)
 
 pub count_word-requires-clause-room : goal.count_word-requires-clause-room
-count_word-requires-clause-room g c = room_less _ _ _ c.words.invariant.room (omega (arith, letters_left c.args.dictionary.now c.words.i (word_of c.word.result) c.word.ensures.lent))
+count_word-requires-clause-room g c = room_less _ _ _ c.words.invariant.room (omega (arith, letters_left c.args.dictionary.now c.words.i (lent_word c.word.result) c.word.ensures.lent))
 
 pub count_word-requires-clause-room_for : goal.count_word-requires-clause-room_for
-count_word-requires-clause-room_for g c = omega (arith, letters_left c.args.dictionary.now c.words.i (word_of c.word.result) c.word.ensures.lent, c.words.invariant.room_for)
+count_word-requires-clause-room_for g c = omega (arith, letters_left c.args.dictionary.now c.words.i (lent_word c.word.result) c.word.ensures.lent, c.words.invariant.room_for)
 
 pub words-preserved : goal.words-preserved
 words-preserved g c =
     let m0 = g.E.Engine.meaning c.args.engine.now in
     let m = g.E.Engine.meaning c.words.engine in
     let minima = minima_of c.args.table.now in
-    let w = word_of c.word.result in
+    let w = lent_word c.word.result in
     let rest = drop (c.words.i + 1) c.args.dictionary.now in
     let kept = c.words.invariant.kept in
     let place = drop_place c.args.dictionary.now c.words.i w c.word.ensures.lent in
@@ -40,7 +39,7 @@ words-preserved g c =
     record {
       kept = kept_on m0 m _ (counted_positions_in minima m.pass m.patterns m.hopeless w) kept c.in_ok-count_word.ensures.ok;
       whole = word_step m0 m _ _ minima w rest kept c.in_ok-count_word.ensures.ok (ap (λ (ws : List Word). counting m (counted_positions minima ws m0.pass m0.patterns m0.hopeless)) (sym place) ∙ c.words.invariant.whole);
-      room = room_left m.counts _ (sum_by letters_of (drop c.words.i c.args.dictionary.now)) (letters_of w) (sum_by letters_of rest) c.words.invariant.room c.in_ok-count_word.ensures.took (omega (arith, letters));
+      room = room_left m.counts _ (sum_by letter_count (drop c.words.i c.args.dictionary.now)) (letter_count w) (sum_by letter_count rest) c.words.invariant.room c.in_ok-count_word.ensures.took (omega (arith, letters));
       sums = marks_word c.words.sums _ _ minima m0.patterns w rest sums (ap (λ (ws : List Word). with_marks c.words.sums (flat_map (marks_in minima m0.patterns) ws)) (sym place) ∙ c.words.invariant.sums);
       room_for = omega (arith, letters, c.words.invariant.room_for, c.in_ok-count_word.ensures.took_for);
     }

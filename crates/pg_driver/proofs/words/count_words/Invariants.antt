@@ -1,10 +1,9 @@
 use Rattle.std.proofs.Common.{◌≡◌, drop}
 use Rattle.std.specs.List.{flat_map, sum_by}
-use Rattle.pg_dict.specs.Word.{letters_of}
-use Rattle.pg_select.specs.CountedPositions.{counted_positions}
-use Rattle.pg_select.specs.Sums.{marks_in, totals}
-use Rattle.pg_driver.specs.Counting.{counting, with_marks, HasRoom, HasRoomFor}
-use Rattle.pg_driver.specs.Told.{minima_of}
+use Rattle.pg_dict.specs.Word.{letter_count}
+use Rattle.pg_select.specs.CountedPositions.{counted_positions, minima_of}
+use Rattle.pg_select.specs.Sums.{marks_in, totals, with_marks, HasRoomFor}
+use Rattle.pg_driver.specs.Counting.{counting, HasRoom}
 use Rattle.pg_driver.proofs.Walks.{KeepsButCounts}
 use Rattle.pg_driver.proofs.words.count_words.Given as goal
 
@@ -15,7 +14,7 @@ invariant-words g l =
     record {
       kept : KeepsButCounts m0 m;
       whole : counting m (counted_positions (minima_of l.table) (drop l.i l.dictionary) m0.pass m0.patterns m0.hopeless) ≡ counting m0 (counted_positions (minima_of l.table) l.dictionary m0.pass m0.patterns m0.hopeless);
-      room : HasRoom m.counts (sum_by letters_of (drop l.i l.dictionary));
+      room : HasRoom m.counts (sum_by letter_count (drop l.i l.dictionary));
       sums : with_marks l.sums (flat_map (marks_in (minima_of l.table) m0.patterns) (drop l.i l.dictionary)) ≡ totals (minima_of l.table) l.dictionary m0.patterns;
-      room_for : HasRoomFor l.sums (sum_by letters_of (drop l.i l.dictionary));
+      room_for : HasRoomFor l.sums (sum_by letter_count (drop l.i l.dictionary));
     }

@@ -1,10 +1,10 @@
 use Rattle.std.proofs.Common.{◌≡◌, ◌++◌, drop}
-use Rattle.pg_patterns.specs.Search.{StandsAt}
+use Rattle.pg_patterns.specs.Search.{HasRank}
 use Rattle.pg_patterns.specs.Texts.{line_from, pattern_line}
 use Rattle.pg_patterns.proofs.text.push_line.Given as goal
 
 abbrev pub invariant-signs : goal.invariant-signs
 invariant-signs l = record {
   text : l.text.items ++ line_from l.table l.entries l.signs l.dot (drop l.dot l.signs) ≡ l.fn.text.items ++ pattern_line l.table l.entries l.signs;
-  point : StandsAt l.entries (l.signs, l.dot) l.next;
+  point : HasRank l.entries (l.signs, l.dot) l.next;
 }

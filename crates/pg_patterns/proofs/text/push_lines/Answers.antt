@@ -1,6 +1,6 @@
 use Rattle.std.proofs.Common.{◌≡◌, ◌+◌, ◌<◌, ◌≤◌, length, get_or, refl, arith, sym, ap, subst, ◌∙◌}
 use Rattle.std.specs.List.{All}
-use Rattle.pg_patterns.specs.Search.{StandsAt}
+use Rattle.pg_patterns.specs.Search.{HasRank}
 use Rattle.pg_patterns.proofs.Sound.{each_sign, entry_bounds, entry_at}
 use Rattle.pg_patterns.proofs.Strings.{string_start, string_progress, line_step, next_string}
 use Rattle.pg_patterns.proofs.text.push_lines.Goals as goal
@@ -21,7 +21,7 @@ lines-smaller c =
     let signs : c.signs-signs.result.now ≡ c.index-entries-at.result.0.0 = c.signs-signs.ensures.value ∙ ap (λ x. x.0.0) (sym c.index-entries-at.is) in
     let less : c.lines.at < c.in_ok-at.at =
     string_progress c.args.entries.now c.lines.at c.in_ok-at.at c.index-entries-at.result c.requires.map c.lines-test.true c.index-entries-at.is
-    (subst (λ x. StandsAt c.args.entries.now (x, length x + 1) c.in_ok-at.at) signs c.in_ok-at.ensures.next) in
+    (subst (λ x. HasRank c.args.entries.now (x, length x + 1) c.in_ok-at.at) signs c.in_ok-at.ensures.next) in
     omega arith
 
 pub lines-preserved : goal.lines-preserved

@@ -1,5 +1,5 @@
 use Rattle.std.proofs.Common.{◌+◌, sym, ◌∙◌}
-use Rattle.pg_dict.specs.Lent.{word_of}
+use Rattle.pg_dict.specs.Lent.{lent_word}
 use Rattle.pg_translate.specs.Alphabets.{letters_of}
 use Rattle.pg_texts.proofs.WordSteps.{line_step, no_line_step, signs_known, signs_within}
 use Rattle.pg_texts.proofs.pattmp.pattmp_text.Goals as goal
@@ -7,23 +7,23 @@ use Rattle.pg_texts.proofs.pattmp.pattmp_text.Goals.{in-Some+in_ok-push_weight+i
 
 pub hyphenate-requires-clause-signs : goal.hyphenate-requires-clause-signs
 hyphenate-requires-clause-signs g c =
-    signs_within (g.E.Engine.meaning c.args.engine.now).signs (word_of c.word-word.result) c.word-word.ensures.word
-    (signs_known (g.E.Engine.meaning c.args.engine.now).signs c.args.dictionary.now c.words.i (word_of c.word-word.result) c.requires.signs c.word-word.ensures.lent)
+    signs_within (g.E.Engine.meaning c.args.engine.now).signs (lent_word c.word-word.result) c.word-word.ensures.word
+    (signs_known (g.E.Engine.meaning c.args.engine.now).signs c.args.dictionary.now c.words.i (lent_word c.word-word.result) c.requires.signs c.word-word.ensures.lent)
 
 pub push_word-requires-clause-known : goal.push_word-requires-clause-known
 push_word-requires-clause-known g c =
-    signs_known (letters_of c.args.table.now + 1) c.args.dictionary.now c.words.i (word_of c.word-word.result) c.requires.letters c.word-word.ensures.lent
+    signs_known (letters_of c.args.table.now + 1) c.args.dictionary.now c.words.i (lent_word c.word-word.result) c.requires.letters c.word-word.ensures.lent
 
 pub words-preserved : goal.words-preserved
 words-preserved g c =
     elim c.match-reach.branch [
       | in-Some+in_ok-push_weight+in_ok-push_word w ↦
           rw (w.text-is, w.weight-is) (
-          line_step c.args.table.now (g.E.Engine.meaning c.args.engine.now).patterns c.args.dictionary.now c.words.i c.words.weight (word_of c.word-word.result) w.in-Some.reach w.hyphenate.new.out.values
-          c.words.text.items w.push_weight.new.text.items w.push_word.new.text.items _ c.word-word.ensures.lent (sym c.reach.ensures ∙ w.in-Some.is) c.word-word.ensures.word.long
+          line_step c.args.table.now (g.E.Engine.meaning c.args.engine.now).patterns c.args.dictionary.now c.words.i c.words.weight (lent_word c.word-word.result) w.in-Some.reach w.hyphenate.new.out.values
+          c.words.text.items w.push_weight.new.text.items w.push_word.new.text.items _ c.word-word.ensures.lent (sym c.reach.ensures.value ∙ w.in-Some.is) c.word-word.ensures.word.long
           w.hyphenate.ensures.values w.in_ok-push_weight.ensures w.in_ok-push_word.ensures c.words.invariant)
       | in_default w ↦
           rw (w.text-is, w.weight-is) (
-          no_line_step c.args.table.now (g.E.Engine.meaning c.args.engine.now).patterns c.args.dictionary.now c.words.i c.words.weight (word_of c.word-word.result)
-          c.words.text.items _ c.word-word.ensures.lent (sym c.reach.ensures ∙ w.in_default.is) c.words.invariant)
+          no_line_step c.args.table.now (g.E.Engine.meaning c.args.engine.now).patterns c.args.dictionary.now c.words.i c.words.weight (lent_word c.word-word.result)
+          c.words.text.items _ c.word-word.ensures.lent (sym c.reach.ensures.value ∙ w.in_default.is) c.words.invariant)
     ]

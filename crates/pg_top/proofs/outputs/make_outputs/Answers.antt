@@ -1,5 +1,5 @@
 use Rattle.std.proofs.Common.{◌≡◌, ◌+◌, ◌∙◌, Some, ap}
-use Rattle.pg_packed.specs.Starts.{entered_all}
+use Rattle.pg_packed.specs.Starts.{pattern_families}
 use Rattle.pg_select.specs.Meanings.{Meaning}
 use Rattle.pg_packed.specs.Engines.{meaning_of}
 use Rattle.pg_top.proofs.Selections.{cells_packed}
@@ -8,5 +8,5 @@ use Rattle.pg_top.proofs.outputs.make_outputs.Goals as goal
 pub make_files-requires-clause-cells : goal.make_files-requires-clause-cells
 make_files-requires-clause-cells c =
     let i = c.args.inputs.now in
-    let families = ap (λ (m : Meaning). m.families) c.in_ok-engine.ensures ∙ ap (λ n. Some (entered_all (n + 1) i.start)) c.letters.ensures.value in
+    let families = ap (λ (m : Meaning). m.families) c.in_ok-engine.ensures ∙ ap (λ n. Some (pattern_families (n + 1) i.start)) c.letters.ensures.value in
     cells_packed i (meaning_of c.in_ok-engine.engine).families c.in_ok-run.run' families c.in_ok-run.ensures.cells

@@ -4,13 +4,13 @@ use Rattle.pg_types.specs.Lines.{lines}
 use Rattle.pg_translate.specs.Alphabets.{letters_of}
 use Rattle.pg_types.specs.Reading.{both_parts}
 use Rattle.pg_dict.specs.Words.{words_from}
-use Rattle.pg_dict.specs.Store.{words_of, IsSound, IsFit}
+use Rattle.pg_dict.specs.Store.{stored_words, IsSound, IsFit}
 use Rattle.pg_dict.proofs.Sizes.{size_of}
 use Rattle.pg_dict.proofs.dictionary.Dictionary.read.Given as goal
 
 abbrev pub invariant-lines : goal.invariant-lines
 invariant-lines l = record {
-  whole : both_parts (Ok (words_of l.store)) (words_from l.table l.number l.weight (lines l.rest)) ≡ words_from l.table 1 1 (lines l.bytes);
+  whole : both_parts (Ok (stored_words l.store)) (words_from l.table l.number l.weight (lines l.rest)) ≡ words_from l.table 1 1 (lines l.bytes);
   sound : IsSound l.store;
   fit : IsFit (letters_of l.table + 1) l.store;
   small : l.weight ≤ WEIGHT_MAX;

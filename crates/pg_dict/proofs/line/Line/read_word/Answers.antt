@@ -2,9 +2,9 @@ use Rattle.std.proofs.Common.{◌≡◌, ◌+◌, ◌++◌, ◌∷◌, [], List,
 use Rattle.pg_translate.specs.Alphabets.{letters_of}
 use Rattle.pg_dict.specs.declared.store.Store.{Store}
 use Rattle.pg_dict.specs.declared.store.Stored.{Stored}
-use Rattle.pg_dict.specs.Heads.{headed}
-use Rattle.pg_dict.specs.Entries.{with_line}
-use Rattle.pg_dict.specs.Store.{words_of, IsSound}
+use Rattle.pg_dict.specs.LineStarts.{word_reading}
+use Rattle.pg_dict.specs.Entries.{with_word}
+use Rattle.pg_dict.specs.Store.{stored_words, IsSound}
 use Rattle.pg_dict.proofs.Enters.{enters}
 use Rattle.pg_dict.proofs.line.Line.read_word.Goals as goal
 
@@ -13,7 +13,7 @@ abbrev after : goal.In_ok-push-3 → Store
 after c = record { signs = c.fill.new.store.signs; hyphens = c.fill.new.store.hyphens; weights = c.fill.new.store.weights; cares = c.fill.new.store.cares; words = c.push-3.new.self }
 
 -- the word is entered, and the store stays sound
-entered : (c : goal.In_ok-push-3) → (with_line (words_of c.args.store.now) (headed c.args.self.now.table.now c.args.self.now.number c.args.self.now.size c.args.self.now.weight c.args.sign c.args.rest.now) ≡ Ok (record { words = words_of (after c); weight = c.args.self.now.weight })) × IsSound (after c)
+entered : (c : goal.In_ok-push-3) → (with_word (stored_words c.args.store.now) (word_reading c.args.self.now.table.now c.args.self.now.number c.args.self.now.size c.args.self.now.weight c.args.sign c.args.rest.now) ≡ Ok (record { words = stored_words (after c); weight = c.args.self.now.weight })) × IsSound (after c)
 entered c =
     enters c.args.self.now.table.now c.requires.rules c.args.self.now.weight c.args.self.now.number c.args.self.now.size c.args.sign (letters_of c.args.self.now.table.now + 1) c.args.rest.now c.args.store.now c.push.new.self c.push-2.new.self (after c) c.len-start.result c.len-end.result c.requires.sound
     (rw (c.plain.ensures.mark, c.plain.ensures.weight) at c.in_ok-push.ensures.ok)

@@ -1,12 +1,12 @@
 use Rattle.std.proofs.Common.{◌≡◌, ◌≤◌, length}
 use Rattle.pg_types.specs.declared.limits.TheConstants.{WEIGHT_MAX}
-use Rattle.pg_dict.specs.Words.{line_of}
-use Rattle.pg_dict.specs.Heads.{head_from}
+use Rattle.pg_dict.specs.Words.{line_reading}
+use Rattle.pg_dict.specs.LineStarts.{rest_reading}
 use Rattle.pg_dict.proofs.line.Line.seek.Given as goal
 
 abbrev pub invariant-items : goal.invariant-items
 invariant-items l = record {
-  whole : head_from l.self.table.now l.self.number l.self.size l.weight l.rest ≡ line_of l.self.table.now l.self.number l.self.weight l.text;
+  whole : rest_reading l.self.table.now l.self.number l.self.size l.weight l.rest ≡ line_reading l.self.table.now l.self.number l.self.weight l.text;
   within : length l.rest ≤ l.self.size;
   small : l.weight ≤ WEIGHT_MAX;
 }

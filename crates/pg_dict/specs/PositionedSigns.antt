@@ -4,7 +4,7 @@ use Rattle.pg_types.specs.declared.marks.Mark.{Mark}
 use Rattle.pg_types.specs.declared.marks.Mark.TheVariants.{Nothing, Error, Missed, Found, DontCare}
 
 -- a sign, and of the position before it the hyphen, weight and care
-pub record Spot : Type 0 where
+pub record PositionedSign : Type 0 where
   pub sign : ℕ
   pub hyphen : Bool
   pub weight : ℕ
@@ -27,10 +27,10 @@ keeps_care Found = true
 keeps_care DontCare = false
 
 -- a sign behind a position with this last mark and this weight
-abbrev pub spot : Mark → ℕ → ℕ → Spot
-spot mark weight sign = record { sign = sign; hyphen = sets_hyphen mark; weight = weight; care = keeps_care mark }
+abbrev pub positioned_sign : Mark → ℕ → ℕ → PositionedSign
+positioned_sign mark weight sign = record { sign = sign; hyphen = sets_hyphen mark; weight = weight; care = keeps_care mark }
 
--- spots, as four lists of one length
+-- signs with their positions, as four lists of one length
 pub record Columns : Type 0 where
   pub signs : List ℕ
   pub hyphens : List Bool
@@ -40,11 +40,11 @@ pub record Columns : Type 0 where
 abbrev pub no_columns : Columns
 no_columns = record { signs = []; hyphens = []; weights = []; cares = [] }
 
--- columns, and behind them these spots
-abbrev pub add_spots : Columns → List Spot → Columns
-add_spots c spots = record {
-  signs = c.signs ++ map (λ (s : Spot). s.sign) spots;
-  hyphens = c.hyphens ++ map (λ (s : Spot). s.hyphen) spots;
-  weights = c.weights ++ map (λ (s : Spot). s.weight) spots;
-  cares = c.cares ++ map (λ (s : Spot). s.care) spots;
+-- columns, and behind them these signs
+abbrev pub with_signs : Columns → List PositionedSign → Columns
+with_signs c positioned = record {
+  signs = c.signs ++ map (λ (s : PositionedSign). s.sign) positioned;
+  hyphens = c.hyphens ++ map (λ (s : PositionedSign). s.hyphen) positioned;
+  weights = c.weights ++ map (λ (s : PositionedSign). s.weight) positioned;
+  cares = c.cares ++ map (λ (s : PositionedSign). s.care) positioned;
 }

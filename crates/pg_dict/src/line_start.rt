@@ -1,14 +1,14 @@
 //! The reading of a line up to its first letter.
 ghost use Rattle.std.specs.Prelude.{◌≡◌, length};
-ghost use Rattle.pg_dict.specs.Words.{line_of};
-ghost use Rattle.pg_dict.specs.Heads.{IsHead};
+ghost use Rattle.pg_dict.specs.Words.{line_reading};
+ghost use Rattle.pg_dict.specs.LineStarts.{IsLineStart};
 
 use crate::line::{Line, kind_of};
 use pg_translate::{Item, Place};
 use pg_types::{Refusal, Sign, Weight};
 
 /// What a line begins with.
-pub(crate) enum Head<'a> {
+pub(crate) enum LineStart<'a> {
     /// Its first letter.
     Word {
         /// The word weight of the line.
@@ -26,17 +26,18 @@ pub(crate) enum Head<'a> {
 }
 
 impl Line<'_> {
-    /// The first letter of the line `text`, and its word weight: the last number before it, else that of the line above.
-    pub(crate) fn seek<'a>(&self, text: &'a [u8]) -> Result<Head<'a>, Refusal>
+    /// The first letter of the line `text`, and its word weight: the last number before it, else that of the line
+    /// above.
+    pub(crate) fn seek<'a>(&self, text: &'a [u8]) -> Result<LineStart<'a>, Refusal>
         requires { length text.now ≡ self.now.size }
-        ensures { IsHead self.now (line_of self.now.table.now self.now.number self.now.weight text.now) result }
+        ensures { IsLineStart self.now (line_reading self.now.table.now self.now.number self.now.weight text.now) result }
     {
         let mut weight = self.weight;
         let mut rest = text;
         'items: loop {
             match self.table.item(Place::Dictionary, rest) {
                 Item::Letter(sign, after) => {
-                    return Ok(Head::Word {
+                    return Ok(LineStart::Word {
                         weight,
                         sign,
                         rest: after,
@@ -52,7 +53,7 @@ impl Line<'_> {
                 }
                 Item::Mark(_, after) => rest = after,
                 Item::Edge(_) => unreachable!(),
-                Item::End => return Ok(Head::Empty { weight }),
+                Item::End => return Ok(LineStart::Empty { weight }),
                 Item::Bad => return Err(self.refuse(kind_of(rest), rest)),
             }
         }

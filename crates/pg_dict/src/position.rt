@@ -6,7 +6,7 @@ use pg_types::{Mark, Weight};
 
 /// What is known of a position before the sign behind it comes.
 #[derive(Clone, Copy)]
-pub(crate) struct Gap {
+pub(crate) struct Position {
     /// The last mark at the position; nothing where there is none.
     pub mark: Mark,
     /// The last number at the position; the weight of the word where there is none.
@@ -14,37 +14,37 @@ pub(crate) struct Gap {
     pub ghost small: { weight ≤ WEIGHT_MAX },
 }
 
-impl Gap {
+impl Position {
     /// A position without mark and number, in a word of this weight.
-    pub(crate) fn plain(weight: Weight) -> Gap
+    pub(crate) fn plain(weight: Weight) -> Position
         requires { weight ≤ WEIGHT_MAX }
         ensures mark { result.mark ≡ Mark.Nothing }
         ensures weight { result.weight ≡ weight }
     {
-        Gap {
+        Position {
             mark: Mark::Nothing,
             weight,
         }
     }
 
     /// The position after a number more: the last one counts.
-    pub(crate) fn with_number(self, number: Weight) -> Gap
+    pub(crate) fn with_number(self, number: Weight) -> Position
         requires { number ≤ WEIGHT_MAX }
         ensures mark { result.mark ≡ self.mark }
         ensures weight { result.weight ≡ number }
     {
-        Gap {
+        Position {
             mark: self.mark,
             weight: number,
         }
     }
 
     /// The position after a mark more: the last one counts.
-    pub(crate) fn with_mark(self, mark: Mark) -> Gap
+    pub(crate) fn with_mark(self, mark: Mark) -> Position
         ensures mark { result.mark ≡ mark }
         ensures weight { result.weight ≡ self.weight }
     {
-        Gap {
+        Position {
             mark,
             weight: self.weight,
         }
