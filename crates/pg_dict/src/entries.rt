@@ -44,8 +44,8 @@ impl Line<'_> {
     }
 }
 
-/// Adds the word of a line, if it has one, and gives the word weight for the lines below. `number` is that of the line, and
-/// `weight` the word weight above it. After an error nothing is said of the store.
+/// Adds the word of a line, if it has one, and gives the word weight for the lines below. `number` is that of the line,
+/// and `weight` the word weight above it. After an error nothing is said of the store.
 pub(crate) fn read_line(
     store: &mut Store,
     table: &Table,

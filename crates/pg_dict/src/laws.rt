@@ -40,7 +40,8 @@ pub fn items_are_lines(table: &Table)
 /// words.
 pub fn files_are_read(table: &Table)
     ensures { (texts : List (List ℕ)) (all : List Word) → AllByRecursion IsLine texts
-        → LinesGive table.now 1 texts all → length (file_of texts) ≤ FILE_MAX → words table.now (file_of texts) ≡ Ok all }
+        → LinesGive table.now 1 texts all → length (file_of texts) ≤ FILE_MAX
+        → words table.now (file_of texts) ≡ Ok all }
 {
     let _ = table;
 }

@@ -30,7 +30,8 @@ impl Line<'_> {
     /// above.
     pub(crate) fn seek<'a>(&self, text: &'a [u8]) -> Result<LineStart<'a>, Refusal>
         requires { length text.now ≡ self.now.size }
-        ensures { IsLineStart self.now (line_reading self.now.table.now self.now.number self.now.weight text.now) result }
+        ensures { IsLineStart self.now (line_reading self.now.table.now self.now.number self.now.weight text.now)
+            result }
     {
         let mut weight = self.weight;
         let mut rest = text;

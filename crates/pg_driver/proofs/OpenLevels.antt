@@ -23,7 +23,7 @@ use Rattle.pg_select.specs.Statuses.{status_at}
 use Rattle.pg_select.specs.Windows.{Patterns, Hopeless, window, fits}
 use Rattle.pg_select.proofs.LawsBounds.{up_to_at_start, up_to_after, covers_up_to_at_start, covers_up_to_longer, covers_up_to_after}
 use Rattle.pg_select.proofs.LawsClosedDots.{tells_at_start, tells_longer, tells_after, done_by_status, done_when_closed, done_longer, done_after}
-use Rattle.pg_select.proofs.LawsTally.{cmp, is_seen, sums_found}
+use Rattle.pg_select.proofs.LawsTally.{cmp, is_counted_window, sums_found}
 use Rattle.pg_driver.specs.declared.dot_set.DotSet.{DotSet}
 use Rattle.pg_driver.specs.declared.open_positions.OpenPosition.{OpenPosition}
 use Rattle.pg_driver.specs.Traces.{choice_of, is_chosen, is_hopeless}
@@ -135,8 +135,8 @@ level_longer level len m words P H entries upto is = record {
 all_in : (d : ℕ) → d ≤ LENGTH_MAX → has_dot all_dots d ≡ true
 all_in d within = ap (λ n. nat_eq n 1) (bit_at_ones 16 d (omega arith))
 
-found_is : (seen : List CountedPosition) (u : List ℕ) → find cmp u (fold with_position [] seen) ≡ cond (is_seen seen u) (Some (good_of seen u, bad_of seen u)) None
-found_is seen u = sums_found u [] seen ∙ plain (is_seen seen u) (good_of seen u) (bad_of seen u)
+found_is : (seen : List CountedPosition) (u : List ℕ) → find cmp u (fold with_position [] seen) ≡ cond (is_counted_window seen u) (Some (good_of seen u, bad_of seen u)) None
+found_is seen u = sums_found u [] seen ∙ plain (is_counted_window seen u) (good_of seen u) (bad_of seen u)
   where
     zero_plus : (n : ℕ) → 0 + n ≡ n
     zero_plus n = omega arith
@@ -174,8 +174,8 @@ module _ (level : LevelParams) (m : Minima) (words : List Word) (pass : Pass) (P
       ≡ has_dot (closed_dots_after level pass counts w p dots) d
   closed_is d within =
       ap (λ b. cond (fits w.signs p pass.len pass.dot && not (has_dot dots pass.dot)) b (has_dot dots d))
-      (sym (ap (λ (o : Option Choice). has_dot (dots_after dots pass.dot o) d) (ap (option_map choice_by) (ap (find cmp (window w.signs p pass.len pass.dot)) counted ∙ found_is (counted_positions m words pass P H) (window w.signs p pass.len pass.dot)) ∙ chosen_of_sums (is_seen (counted_positions m words pass P H) (window w.signs p pass.len pass.dot)))
-      ∙ after_is dots pass.dot d (is_seen (counted_positions m words pass P H) (window w.signs p pass.len pass.dot)) (choice_of level (candidate_at (counted_positions m words pass P H) (window w.signs p pass.len pass.dot))) low within))
+      (sym (ap (λ (o : Option Choice). has_dot (dots_after dots pass.dot o) d) (ap (option_map choice_by) (ap (find cmp (window w.signs p pass.len pass.dot)) counted ∙ found_is (counted_positions m words pass P H) (window w.signs p pass.len pass.dot)) ∙ chosen_of_sums (is_counted_window (counted_positions m words pass P H) (window w.signs p pass.len pass.dot)))
+      ∙ after_is dots pass.dot d (is_counted_window (counted_positions m words pass P H) (window w.signs p pass.len pass.dot)) (choice_of level (candidate_at (counted_positions m words pass P H) (window w.signs p pass.len pass.dot))) low within))
       ∙ outer (fits w.signs p pass.len pass.dot && not (has_dot dots pass.dot))
     where
       choice_by : ℕ × ℕ → Choice

@@ -10,7 +10,7 @@ use Rattle.pg_dict.specs.Word.{Word}
 use Rattle.pg_select.specs.CountedPositions.{Minima, counted_positions_at, counted_positions_in, counted_positions}
 use Rattle.pg_select.specs.Statuses.{position_weight}
 use Rattle.pg_select.specs.Windows.{Patterns, Hopeless, window}
-use Rattle.pg_select.proofs.LawsTally.{seen_as}
+use Rattle.pg_select.proofs.LawsTally.{counted_as}
 use Rattle.pg_driver.specs.declared.dot_set.DotSet.{DotSet}
 use Rattle.pg_driver.specs.declared.open_positions.OpenPosition.{OpenPosition}
 use Rattle.pg_driver.specs.DotSets.{has_dot}
@@ -69,9 +69,9 @@ module _ (level len dot : ℕ) (m : Minima) (words : List Word) (P : Patterns) (
   counted_entry n p w at = by_dots (closed n p) (known n p w at)
     where
       by_dots : (o : Option DotSet) → IsKnown level len P H w p o → counted_positions_at (pass_at level len dot) P H w p ≡ flat_map (counted_of level len dot words) (open_with_dots n p o)
-      by_dots None done = ap (λ (o : Option Bool). seen_as (window w.signs p len dot) (position_weight w p) o) (done dot within)
+      by_dots None done = ap (λ (o : Option Bool). counted_as (window w.signs p len dot) (position_weight w p) o) (done dot within)
       by_dots (Some dots) tells =
-          ap (λ (o : Option Bool). seen_as (window w.signs p len dot) (position_weight w p) o) (tells dot (omega arith))
+          ap (λ (o : Option Bool). counted_as (window w.signs p len dot) (position_weight w p) o) (tells dot (omega arith))
           ∙ ap (λ (o : Option Word). option_map_or (λ (u : Word). counted_in level len dot u p (has_dot dots dot)) o []) (sym at)
           ∙ sym (append-nil (counted_of level len dot words (record { word = n; at = p; closed = dots })))
 

@@ -13,7 +13,7 @@ use Rattle.pg_select.specs.CountedPositions.{Minima, Candidate, tally}
 use Rattle.pg_select.specs.Windows.{Hopeless as HopelessPlaces}
 use Rattle.pg_select.proofs.LawsLater.{closed_later}
 use Rattle.pg_select.proofs.LawsLonger.{closed_behind, closed_before}
-use Rattle.pg_select.proofs.LawsClosed.{closed_at_end, later_settled}
+use Rattle.pg_select.proofs.LawsClosed.{closed_at_end, later_after_pass}
 use Rattle.pg_driver.specs.Accounts.{is_skippable, left_none}
 use Rattle.pg_driver.specs.Levels.{AreClosed}
 use Rattle.pg_driver.specs.Traces.{Known, PassTrace, Source, choice_of, chosen_of, hopeless_of, is_chosen, is_hopeless, is_left, known_after, pass_made}
@@ -61,7 +61,7 @@ closed_on source params number l d known ps closed len dot is =
     parts.1)
     (λ (before : is_skippable ps (record { level = number; len = len; dot = dot }) ≡ true).
     closed_later source.minima source.words (record { level = number; len = len; dot = dot }) known.patterns after.patterns known.hopeless after.hopeless
-    (later_settled number d known.patterns known.hopeless (chosen_of params q.candidates) (hopeless_of params q.candidates)) (closed len dot before))
+    (later_after_pass number d known.patterns known.hopeless (chosen_of params q.candidates) (hopeless_of params q.candidates)) (closed len dot before))
     (or_cases (none && (l + 1 == len && (d == dot || d + 1 == dot))) (is_skippable ps (record { level = number; len = len; dot = dot })) (sym (skippable_push ps q (record { level = number; len = len; dot = dot })) ∙ is))
 
 -- so it has no candidate

@@ -6,7 +6,7 @@ use Rattle.pg_trie.specs.Maps.{Maps}
 
 -- the families of the strings of patterns
 abbrev pub pattern_families : ℕ → List ((List ℕ × ℕ) × ℕ) → Families
-pattern_families signs P = placement.entered_all signs (map (λ e. e.0.0) P)
+pattern_families signs P = placement.entered_families signs (map (λ e. e.0.0) P)
 
 -- a trie has these patterns, which were entered in their order, and nothing is hopeless
 pub record AreEntered (n : ℕ) (P : List ((List ℕ × ℕ) × ℕ)) (m : Maps) : Type 0 where

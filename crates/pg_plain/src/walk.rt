@@ -53,8 +53,10 @@ fn raise_from<F: PlaceEntry>(
     requires inside { i ≤ length w.now }
     requires strings { list_all (λ e. is_string e.0) map.now.entries ≡ true }
     requires indexed { AreIndexed index.now.fronts.items index.now.strings.items map.now.entries }
-    ensures values { RaisesValues (greatest_at (entry_value F.given) (applies_from w.now i) map.now.entries) out.old out.new }
-    ensures covers { RaisesCovers (greatest_at (entry_cover F.covers_at pass.now) (applies_from w.now i) map.now.entries)
+    ensures values { RaisesValues (greatest_at (entry_value F.given) (applies_from w.now i) map.now.entries) out.old
+        out.new }
+    ensures covers { RaisesCovers (greatest_at (entry_cover F.covers_at pass.now) (applies_from w.now i)
+        map.now.entries)
         out.old out.new }
 {
     for n in 1..PATTERN_SIGNS_MAX + 1 {

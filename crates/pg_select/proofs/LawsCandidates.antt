@@ -20,7 +20,7 @@ use Rattle.pg_select.specs.Statuses.{status_at, position_weight}
 use Rattle.pg_select.specs.Windows.{Hopeless, window, fits, covered}
 use Rattle.pg_select.specs.declared.pass.Pass.{Pass}
 use Rattle.pg_select.specs.CountedPositions.{Minima, CountedPosition, counts_as, counted_positions_at, counted_positions_in, counted_positions, with_window, candidates}
-use Rattle.pg_select.proofs.LawsTally.{cmp, window_exact, seen_as}
+use Rattle.pg_select.proofs.LawsTally.{cmp, window_exact, counted_as}
 
 -- a test of all windows with one more
 all_put : (test : List ℕ → Bool) (u : List ℕ) (windows : List (List ℕ × Unit {0})) → list_all (λ (e : List ℕ × Unit {0}). test e.0) (put cmp u (tt {0}) windows) ≡ (test u && list_all (λ (e : List ℕ × Unit {0}). test e.0) windows)
@@ -42,7 +42,7 @@ all_put test u (e ∷ es) =
     turned false true c = refl
     turned false false c = refl
 
-all_windows : (test : List ℕ → Bool) (windows : List (List ℕ × Unit {0})) (seen : List CountedPosition) → list_all (λ (e : List ℕ × Unit {0}). test e.0) (fold with_window windows seen) ≡ (list_all (λ (e : List ℕ × Unit {0}). test e.0) windows && list_all (λ (s : CountedPosition). test s.window) seen)
+all_windows : (test : List ℕ → Bool) (windows : List (List ℕ × Unit {0})) (counted : List CountedPosition) → list_all (λ (e : List ℕ × Unit {0}). test e.0) (fold with_window windows counted) ≡ (list_all (λ (e : List ℕ × Unit {0}). test e.0) windows && list_all (λ (s : CountedPosition). test s.window) counted)
 all_windows test windows [] = and_true (list_all (λ (e : List ℕ × Unit {0}). test e.0) windows)
   where
     and_true : (b : Bool) → b ≡ (b && true)
@@ -63,8 +63,8 @@ all_keys test [] = refl
 all_keys test (e ∷ es) = ap (λ b. test e.0 && b) (all_keys test es)
 
 -- what holds of the candidates is what holds of the windows that are counted
-pub all_candidates : (test : List ℕ → Bool) (seen : List CountedPosition) → list_all test (candidates seen) ≡ list_all (λ (s : CountedPosition). test s.window) seen
-all_candidates test seen = all_keys test (fold with_window [] seen) ∙ all_windows test [] seen
+pub all_candidates : (test : List ℕ → Bool) (counted : List CountedPosition) → list_all test (candidates counted) ≡ list_all (λ (s : CountedPosition). test s.window) counted
+all_candidates test counted = all_keys test (fold with_window [] counted) ∙ all_windows test [] counted
 
 itself : (u : List ℕ) → pointwise nat_eq u u ≡ true
 itself [] = refl
@@ -107,7 +107,7 @@ all_seen test m words pass P H each =
     all_flat (λ (s : CountedPosition). test s.window) (counted_positions_in m pass P H) words (λ w.
     all_flat (λ (s : CountedPosition). test s.window) (counted_positions_at pass P H w) (positions m.left m.right (length w.signs)) (λ p. at w p))
   where
-    by_test : (u : List ℕ) (x : ℕ) (a c : Bool) (o : Option Bool) → (c ≡ false → test u ≡ true) → list_all (λ (s : CountedPosition). test s.window) (seen_as u x (cond (a && not c) o None)) ≡ true
+    by_test : (u : List ℕ) (x : ℕ) (a c : Bool) (o : Option Bool) → (c ≡ false → test u ≡ true) → list_all (λ (s : CountedPosition). test s.window) (counted_as u x (cond (a && not c) o None)) ≡ true
     by_test u x false c o holds = refl
     by_test u x true true o holds = refl
     by_test u x true false None holds = refl

@@ -16,7 +16,7 @@ use Rattle.pg_select.specs.Windows.{Hopeless, window, fits, covered}
 use Rattle.pg_select.specs.declared.pass.Pass.{Pass}
 use Rattle.pg_select.specs.CountedPositions.{Minima, CountedPosition, Candidate, counts_as, counted_at, counted_positions_at, counted_positions_in, counted_positions, same_signs, candidates, good_of, bad_of, tally}
 use Rattle.pg_select.specs.Laws.{Later, raised_all, hopeless_all}
-use Rattle.pg_select.proofs.LawsTally.{same_window, seen_as}
+use Rattle.pg_select.proofs.LawsTally.{same_window, counted_as}
 use Rattle.pg_select.proofs.LawsValues.{covered_raised, covered_hopeless}
 use Rattle.pg_select.proofs.LawsCandidates.{all_candidates, applies_itself}
 use Rattle.pg_select.proofs.LawsLater.{later_at_once, later_still, later_raised, later_hopeless, some_parts, counted_back}
@@ -32,8 +32,8 @@ later_all_hopeless level dot P H (c ∷ cs) =
     later_still level P P P H (put dotted_cmp (c.window, dot) (tt {0}) H) (hopeless_all dot (put dotted_cmp (c.window, dot) (tt {0}) H) cs) (later_hopeless level P H (c.window, dot)) (later_all_hopeless level dot P (put dotted_cmp (c.window, dot) (tt {0}) H) cs)
 
 -- a pass leads to a later point
-pub later_settled : (level dot : ℕ) (P : List ((List ℕ × ℕ) × ℕ)) (H : Hopeless) (raised hopeless : List Candidate) → Later level P H (raised_all level dot P raised) (hopeless_all dot H hopeless)
-later_settled level dot P H raised hopeless =
+pub later_after_pass : (level dot : ℕ) (P : List ((List ℕ × ℕ) × ℕ)) (H : Hopeless) (raised hopeless : List Candidate) → Later level P H (raised_all level dot P raised) (hopeless_all dot H hopeless)
+later_after_pass level dot P H raised hopeless =
     later_still level P (raised_all level dot P raised) (raised_all level dot P raised) H H (hopeless_all dot H hopeless) (later_all_raised level dot P H raised) (later_all_hopeless level dot (raised_all level dot P raised) H hopeless)
 
 -- a window is that of one of the candidates
@@ -65,7 +65,7 @@ covered_all_hopeless level dot P H u (c ∷ cs) among =
     (or_cases (same_signs u c.window) (is_among u cs) among)
 
 -- what is counted of a window passes a test that fails where the window is counted still
-seen_tested : (test : List ℕ → Bool) (u : List ℕ) (x : ℕ) (o r : Option Bool) → ((g : Bool) → r ≡ Some g → o ≡ Some g) → ((g : Bool) → r ≡ Some g → test u ≡ false) → list_all (λ (s : CountedPosition). test s.window) (seen_as u x o) ≡ true → seen_as u x r ≡ []
+seen_tested : (test : List ℕ → Bool) (u : List ℕ) (x : ℕ) (o r : Option Bool) → ((g : Bool) → r ≡ Some g → o ≡ Some g) → ((g : Bool) → r ≡ Some g → test u ≡ false) → list_all (λ (s : CountedPosition). test s.window) (counted_as u x o) ≡ true → counted_as u x r ≡ []
 seen_tested test u x o None back fails all = refl
 seen_tested test u x None (Some g) back fails all = cc (back g refl)
 seen_tested test u x (Some h) (Some g) back fails all = cc (fails g refl, (and_parts (test u) true all).0)
@@ -99,8 +99,8 @@ all_weaker t s more [] all = refl
 all_weaker t s more (x ∷ xs) all = let parts = and_parts (t x) (list_all t xs) all in and_from (s x) (list_all s xs) (more x parts.0) (all_weaker t s more xs parts.1)
 
 -- the window of a candidate is among those that pass one of two tests
-abbrev is_settled : (Candidate → Bool) → (Candidate → Bool) → List Candidate → Candidate → Bool
-is_settled raised hopeless cs c = is_among c.window (filter raised cs) || is_among c.window (filter hopeless cs)
+abbrev is_decided : (Candidate → Bool) → (Candidate → Bool) → List Candidate → Candidate → Bool
+is_decided raised hopeless cs c = is_among c.window (filter raised cs) || is_among c.window (filter hopeless cs)
 
 among_more : (test : Candidate → Bool) (u : List ℕ) (c : Candidate) (cs : List Candidate) → is_among u (filter test cs) ≡ true → is_among u (filter test (c ∷ cs)) ≡ true
 among_more test u c cs among =
@@ -114,41 +114,41 @@ among_here test c cs pass =
     ap (λ b. is_among c.window (cond b (c ∷ filter test cs) (filter test cs))) pass
     ∙ or_left (same_signs c.window c.window) (is_among c.window (filter test cs)) (ap is_eq (tied_itself nat_list_cmp_total c.window))
 
-all_settled : (raised hopeless : Candidate → Bool) (cs : List Candidate) → list_all (λ c. raised c || hopeless c) cs ≡ true → list_all (is_settled raised hopeless cs) cs ≡ true
-all_settled raised hopeless [] all = refl
-all_settled raised hopeless (c ∷ cs) all =
+all_decided : (raised hopeless : Candidate → Bool) (cs : List Candidate) → list_all (λ c. raised c || hopeless c) cs ≡ true → list_all (is_decided raised hopeless cs) cs ≡ true
+all_decided raised hopeless [] all = refl
+all_decided raised hopeless (c ∷ cs) all =
     let parts = and_parts (raised c || hopeless c) (list_all (λ (x : Candidate). raised x || hopeless x) cs) all in
-    and_from (is_settled raised hopeless (c ∷ cs) c) (list_all (is_settled raised hopeless (c ∷ cs)) cs)
+    and_from (is_decided raised hopeless (c ∷ cs) c) (list_all (is_decided raised hopeless (c ∷ cs)) cs)
     (⊎_elim
     (λ (pass : raised c ≡ true). or_left (is_among c.window (filter raised (c ∷ cs))) (is_among c.window (filter hopeless (c ∷ cs))) (among_here raised c cs pass))
     (λ (pass : hopeless c ≡ true). or_right (is_among c.window (filter raised (c ∷ cs))) (is_among c.window (filter hopeless (c ∷ cs))) (among_here hopeless c cs pass))
     (or_cases (raised c) (hopeless c) parts.0))
-    (all_weaker (is_settled raised hopeless cs) (is_settled raised hopeless (c ∷ cs)) (λ x settled. more x settled) cs (all_settled raised hopeless cs parts.1))
+    (all_weaker (is_decided raised hopeless cs) (is_decided raised hopeless (c ∷ cs)) (λ x decided. more x decided) cs (all_decided raised hopeless cs parts.1))
   where
-    more : (x : Candidate) → is_settled raised hopeless cs x ≡ true → is_settled raised hopeless (c ∷ cs) x ≡ true
-    more x settled =
+    more : (x : Candidate) → is_decided raised hopeless cs x ≡ true → is_decided raised hopeless (c ∷ cs) x ≡ true
+    more x decided =
         ⊎_elim
         (λ (among : is_among x.window (filter raised cs) ≡ true). or_left (is_among x.window (filter raised (c ∷ cs))) (is_among x.window (filter hopeless (c ∷ cs))) (among_more raised x.window c cs among))
         (λ (among : is_among x.window (filter hopeless cs) ≡ true). or_right (is_among x.window (filter raised (c ∷ cs))) (is_among x.window (filter hopeless (c ∷ cs))) (among_more hopeless x.window c cs among))
-        (or_cases (is_among x.window (filter raised cs)) (is_among x.window (filter hopeless cs)) settled)
+        (or_cases (is_among x.window (filter raised cs)) (is_among x.window (filter hopeless cs)) decided)
 
 -- candidates that were each raised or made hopeless are covered
-settled_covered : (level dot : ℕ) (P : List ((List ℕ × ℕ) × ℕ)) (H : Hopeless) (raised hopeless : Candidate → Bool) (cs : List Candidate) → list_all (λ c. raised c || hopeless c) cs ≡ true
+decided_covered : (level dot : ℕ) (P : List ((List ℕ × ℕ) × ℕ)) (H : Hopeless) (raised hopeless : Candidate → Bool) (cs : List Candidate) → list_all (λ c. raised c || hopeless c) cs ≡ true
     → list_all (λ c. covered level (raised_all level dot P (filter raised cs)) (hopeless_all dot H (filter hopeless cs)) c.window dot) cs ≡ true
-settled_covered level dot P H raised hopeless cs all =
-    all_weaker (is_settled raised hopeless cs) (λ (c : Candidate). covered level (raised_all level dot P (filter raised cs)) (hopeless_all dot H (filter hopeless cs)) c.window dot) (λ c settled. covers c settled) cs (all_settled raised hopeless cs all)
+decided_covered level dot P H raised hopeless cs all =
+    all_weaker (is_decided raised hopeless cs) (λ (c : Candidate). covered level (raised_all level dot P (filter raised cs)) (hopeless_all dot H (filter hopeless cs)) c.window dot) (λ c decided. covers c decided) cs (all_decided raised hopeless cs all)
   where
-    covers : (c : Candidate) → is_settled raised hopeless cs c ≡ true → covered level (raised_all level dot P (filter raised cs)) (hopeless_all dot H (filter hopeless cs)) c.window dot ≡ true
-    covers c settled =
+    covers : (c : Candidate) → is_decided raised hopeless cs c ≡ true → covered level (raised_all level dot P (filter raised cs)) (hopeless_all dot H (filter hopeless cs)) c.window dot ≡ true
+    covers c decided =
         ⊎_elim
         (λ (among : is_among c.window (filter raised cs) ≡ true).
         (later_all_hopeless level dot (raised_all level dot P (filter raised cs)) H (filter hopeless cs)).covers c.window dot (covered_all_raised level dot P H c.window (filter raised cs) among))
         (λ (among : is_among c.window (filter hopeless cs) ≡ true). covered_all_hopeless level dot (raised_all level dot P (filter raised cs)) H c.window (filter hopeless cs) among)
-        (or_cases (is_among c.window (filter raised cs)) (is_among c.window (filter hopeless cs)) settled)
+        (or_cases (is_among c.window (filter raised cs)) (is_among c.window (filter hopeless cs)) decided)
 
-windows_of : (test : List ℕ → Bool) (seen : List CountedPosition) (us : List (List ℕ)) → list_all (λ (c : Candidate). test c.window) (map (λ (u : List ℕ). record { window = u; good = good_of seen u; bad = bad_of seen u }) us) ≡ list_all test us
-windows_of test seen [] = refl
-windows_of test seen (u ∷ us) = ap (λ b. test u && b) (windows_of test seen us)
+windows_of : (test : List ℕ → Bool) (counted : List CountedPosition) (us : List (List ℕ)) → list_all (λ (c : Candidate). test c.window) (map (λ (u : List ℕ). record { window = u; good = good_of counted u; bad = bad_of counted u }) us) ≡ list_all test us
+windows_of test counted [] = refl
+windows_of test counted (u ∷ us) = ap (λ b. test u && b) (windows_of test counted us)
 
 -- a pass of which each candidate was raised or made hopeless counts nothing afterwards
 pub closed_at_end : (m : Minima) (words : List Word) (pass : Pass) (P : List ((List ℕ × ℕ) × ℕ)) (H : Hopeless) (raised hopeless : Candidate → Bool) → list_all (λ c. raised c || hopeless c) (tally (counted_positions m words pass P H)) ≡ true
@@ -157,7 +157,7 @@ closed_at_end m words pass P H raised hopeless all = from (tally (counted_positi
   where
     from : (cs : List Candidate) → tally (counted_positions m words pass P H) ≡ cs → list_all (λ c. raised c || hopeless c) cs ≡ true → counted_positions m words pass (raised_all pass.level pass.dot P (filter raised cs)) (hopeless_all pass.dot H (filter hopeless cs)) ≡ []
     from cs is all =
-        closed_when_covered m words pass P (raised_all pass.level pass.dot P (filter raised cs)) H (hopeless_all pass.dot H (filter hopeless cs)) (later_settled pass.level pass.dot P H (filter raised cs) (filter hopeless cs))
+        closed_when_covered m words pass P (raised_all pass.level pass.dot P (filter raised cs)) H (hopeless_all pass.dot H (filter hopeless cs)) (later_after_pass pass.level pass.dot P H (filter raised cs) (filter hopeless cs))
         (sym (windows_of (λ (u : List ℕ). covered pass.level (raised_all pass.level pass.dot P (filter raised cs)) (hopeless_all pass.dot H (filter hopeless cs)) u pass.dot) (counted_positions m words pass P H) (candidates (counted_positions m words pass P H)))
         ∙ ap (λ (xs : List Candidate). list_all (λ (c : Candidate). covered pass.level (raised_all pass.level pass.dot P (filter raised cs)) (hopeless_all pass.dot H (filter hopeless cs)) c.window pass.dot) xs) is
-        ∙ settled_covered pass.level pass.dot P H raised hopeless cs all)
+        ∙ decided_covered pass.level pass.dot P H raised hopeless cs all)

@@ -15,8 +15,8 @@ use Rattle.pg_select.specs.declared.pass.Pass.{Pass}
 use Rattle.pg_select.specs.CountedPositions.{Minima, Candidate, counts_as, counted_at, counted_positions, tally}
 use Rattle.pg_select.proofs.LawsLater.{none_at_level, counted_back}
 use Rattle.pg_select.proofs.LawsLonger.{counted_behind, counted_before}
-use Rattle.pg_select.proofs.LawsClosed.{later_settled}
-use Rattle.pg_select.proofs.LawsTally.{is_seen}
+use Rattle.pg_select.proofs.LawsClosed.{later_after_pass}
+use Rattle.pg_select.proofs.LawsTally.{is_counted_window}
 use Rattle.pg_select.specs.LawsSteps.{CoversUpTo, IsBelow, IsUpTo, candidate_at, is_candidate, patterns_after_pass, hopeless_after_pass}
 use Rattle.pg_select.specs.LawsClosedDots.{longer}
 use Rattle.pg_select.specs.LawsClosedDots.{is_good, pass_at, Tells, IsDone, closed_after, Stays}
@@ -123,7 +123,7 @@ done_longer level len P H w p done d within =
 
 module _ (m : Minima) (words : List Word) (pass : Pass) (P : Patterns) (H : Hopeless) (raised hopeless : Candidate → Bool) (w : Word) (p : ℕ) where
   later : Later pass.level P H (patterns_after_pass m words pass P H raised) (hopeless_after_pass m words pass P H hopeless)
-  later = later_settled pass.level pass.dot P H (filter raised (tally (counted_positions m words pass P H))) (filter hopeless (tally (counted_positions m words pass P H)))
+  later = later_after_pass pass.level pass.dot P H (filter raised (tally (counted_positions m words pass P H))) (filter hopeless (tally (counted_positions m words pass P H)))
 
   pub done_after : IsDone pass.level pass.len P H w p → IsDone pass.level pass.len (patterns_after_pass m words pass P H raised) (hopeless_after_pass m words pass P H hopeless) w p
   done_after done d within =
@@ -176,7 +176,7 @@ module _ (m : Minima) (words : List Word) (pass : Pass) (P : Patterns) (H : Hope
       second true is = refl
       second false is = is
 
-  -- what keeps status and covers: nothing that was settled applies here
+  -- what keeps status and covers: nothing that was decided applies here
   stays_from : (fits w.signs p pass.len pass.dot && is_candidate raised (counted_positions m words pass P H) (window w.signs p pass.len pass.dot)) ≡ false
       → ((d : ℕ) → fits w.signs p pass.len d ≡ true → (nat_eq d pass.dot && (is_candidate raised (counted_positions m words pass P H) (window w.signs p pass.len pass.dot) || is_candidate hopeless (counted_positions m words pass P H) (window w.signs p pass.len pass.dot))) ≡ false)
       → Stays pass.level pass.len P H (patterns_after_pass m words pass P H raised) (hopeless_after_pass m words pass P H hopeless) w p
@@ -195,7 +195,7 @@ module _ (m : Minima) (words : List Word) (pass : Pass) (P : Patterns) (H : Hope
       none true = refl
       none false = refl
 
-  -- a window that does not fit here is settled without the position
+  -- a window that does not fit here is decided without the position
   unfit_stay : fits w.signs p pass.len pass.dot ≡ false → Stays pass.level pass.len P H (patterns_after_pass m words pass P H raised) (hopeless_after_pass m words pass P H hopeless) w p
   unfit_stay unfit =
       stays_from (ap (λ b. b && is_candidate raised (counted_positions m words pass P H) (window w.signs p pass.len pass.dot)) unfit)
@@ -209,14 +209,14 @@ module _ (m : Minima) (words : List Word) (pass : Pass) (P : Patterns) (H : Hope
       clash : (d : ℕ) → fits w.signs p pass.len d ≡ fits w.signs p pass.len pass.dot → fits w.signs p pass.len d ≡ true → ⊥
       clash d same fit = cc (unfit, same, fit)
 
-  -- a window that is covered is not seen, so that it is not settled
+  -- a window that is covered is not counted, so that it is not decided
   unseen : (test : Candidate → Bool) → covered pass.level P H (window w.signs p pass.len pass.dot) pass.dot ≡ true → is_candidate test (counted_positions m words pass P H) (window w.signs p pass.len pass.dot) ≡ false
   unseen test is =
-      and_left (is_seen (counted_positions m words pass P H) (window w.signs p pass.len pass.dot)) (test (candidate_at (counted_positions m words pass P H) (window w.signs p pass.len pass.dot)))
+      and_left (is_counted_window (counted_positions m words pass P H) (window w.signs p pass.len pass.dot)) (test (candidate_at (counted_positions m words pass P H) (window w.signs p pass.len pass.dot)))
       (⊎_elim
-      (λ (seen : is_seen (counted_positions m words pass P H) (window w.signs p pass.len pass.dot) ≡ true). absurd (clash (counted_uncovered m words pass P H (window w.signs p pass.len pass.dot) seen).1 is))
-      (λ (not_seen : is_seen (counted_positions m words pass P H) (window w.signs p pass.len pass.dot) ≡ false). not_seen)
-      (cases_Bool (is_seen (counted_positions m words pass P H) (window w.signs p pass.len pass.dot))))
+      (λ (counted : is_counted_window (counted_positions m words pass P H) (window w.signs p pass.len pass.dot) ≡ true). absurd (clash (counted_uncovered m words pass P H (window w.signs p pass.len pass.dot) counted).1 is))
+      (λ (not_seen : is_counted_window (counted_positions m words pass P H) (window w.signs p pass.len pass.dot) ≡ false). not_seen)
+      (cases_Bool (is_counted_window (counted_positions m words pass P H) (window w.signs p pass.len pass.dot))))
     where
       clash : {b : Bool} → b ≡ false → b ≡ true → ⊥
       clash off on = cc (off, on)

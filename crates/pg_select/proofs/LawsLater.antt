@@ -13,7 +13,7 @@ use Rattle.pg_select.specs.Windows.{Hopeless, window, fits, covered}
 use Rattle.pg_select.specs.declared.pass.Pass.{Pass}
 use Rattle.pg_select.specs.CountedPositions.{Minima, counts_as, counted_at, counted_positions_at, counted_positions_in, counted_positions}
 use Rattle.pg_select.specs.Laws.{Later}
-use Rattle.pg_select.proofs.LawsTally.{seen_as}
+use Rattle.pg_select.proofs.LawsTally.{counted_as}
 use Rattle.pg_select.proofs.LawsValues.{raised_to, covered_raised, covered_hopeless}
 
 -- a value of the level is not counted at the level
@@ -103,7 +103,7 @@ nil_more {Y = Y} f g each (x ∷ xs) is =
     ap (λ (ys : List Y). ys ++ flat_map g xs) (each x parts.0) ∙ nil_more f g each xs parts.1
 
 -- nothing is counted at a position that is not counted
-unseen_more : (u v : List ℕ) (x : ℕ) (o r : Option Bool) → ((g : Bool) → r ≡ Some g → o ≡ Some g) → seen_as u x o ≡ [] → seen_as v x r ≡ []
+unseen_more : (u v : List ℕ) (x : ℕ) (o r : Option Bool) → ((g : Bool) → r ≡ Some g → o ≡ Some g) → counted_as u x o ≡ [] → counted_as v x r ≡ []
 unseen_more u v x o None back is = refl
 unseen_more u v x None (Some g) back is = cc (back g refl)
 unseen_more u v x (Some h) (Some g) back is = cc

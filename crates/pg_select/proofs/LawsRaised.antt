@@ -18,7 +18,7 @@ use Rattle.pg_select.specs.Statuses.{status_at, position_weight}
 use Rattle.pg_select.specs.Windows.{Hopeless, window, fits, covered, Patterns}
 use Rattle.pg_select.specs.declared.pass.Pass.{Pass}
 use Rattle.pg_select.specs.CountedPositions.{Minima, CountedPosition, Candidate, counts_as, counted_positions_at, counted_positions_in, counted_positions, same_signs, candidates, tally}
-use Rattle.pg_select.proofs.LawsTally.{same_window, seen_as, is_seen, candidates_are_seen}
+use Rattle.pg_select.proofs.LawsTally.{same_window, counted_as, is_counted_window, candidates_are_counted}
 use Rattle.pg_select.proofs.LawsValues.{raised_value, covered_raised, covered_hopeless}
 use Rattle.pg_select.proofs.LawsClosed.{is_among}
 use Rattle.pg_select.proofs.LawsLonger.{part_length}
@@ -36,7 +36,7 @@ all_seen test m words pass P H each =
     all_flat (λ (s : CountedPosition). test s.window) (counted_positions_in m pass P H) words (λ w.
     all_flat (λ (s : CountedPosition). test s.window) (counted_positions_at pass P H w) (positions m.left m.right (length w.signs)) (λ p. at w p))
   where
-    by_test : (u : List ℕ) (x : ℕ) (a c : Bool) (o : Option Bool) → (a ≡ true → c ≡ false → test u ≡ true) → list_all (λ (s : CountedPosition). test s.window) (seen_as u x (cond (a && not c) o None)) ≡ true
+    by_test : (u : List ℕ) (x : ℕ) (a c : Bool) (o : Option Bool) → (a ≡ true → c ≡ false → test u ≡ true) → list_all (λ (s : CountedPosition). test s.window) (counted_as u x (cond (a && not c) o None)) ≡ true
     by_test u x false c o holds = refl
     by_test u x true true o holds = refl
     by_test u x true false None holds = refl
@@ -47,17 +47,17 @@ all_seen test m words pass P H each =
         by_test (window w.signs p pass.len pass.dot) (position_weight w p) (fits w.signs p pass.len pass.dot) (covered pass.level P H (window w.signs p pass.len pass.dot) pass.dot) (counts_as pass.level (status_at P w p)) (each w.signs p)
 
 -- what holds of all that is counted holds of a window that is counted
-all_of_seen : (test : List ℕ → Bool) (u : List ℕ) (seen : List CountedPosition) → list_all (λ (s : CountedPosition). test s.window) seen ≡ true → is_seen seen u ≡ true → test u ≡ true
+all_of_seen : (test : List ℕ → Bool) (u : List ℕ) (counted : List CountedPosition) → list_all (λ (s : CountedPosition). test s.window) counted ≡ true → is_counted_window counted u ≡ true → test u ≡ true
 all_of_seen test u [] all is = cc
-all_of_seen test u (s ∷ seen) all is =
-    let parts = and_parts (test s.window) (list_all (λ (x : CountedPosition). test x.window) seen) all in
+all_of_seen test u (s ∷ counted) all is =
+    let parts = and_parts (test s.window) (list_all (λ (x : CountedPosition). test x.window) counted) all in
     ⊎_elim
     (λ (same : same_signs u s.window ≡ true). ap test (same_window u s.window same) ∙ parts.0)
-    (λ (rest : is_seen seen u ≡ true). all_of_seen test u seen parts.1 rest)
-    (or_cases (same_signs u s.window) (is_seen seen u) is)
+    (λ (rest : is_counted_window counted u ≡ true). all_of_seen test u counted parts.1 rest)
+    (or_cases (same_signs u s.window) (is_counted_window counted u) is)
 
 -- the windows that are counted have the length of the pass, and none is covered
-pub counted_uncovered : (m : Minima) (words : List Word) (pass : Pass) (P : Patterns) (H : Hopeless) (u : List ℕ) → is_seen (counted_positions m words pass P H) u ≡ true → (length u ≡ pass.len) × (covered pass.level P H u pass.dot ≡ false)
+pub counted_uncovered : (m : Minima) (words : List Word) (pass : Pass) (P : Patterns) (H : Hopeless) (u : List ℕ) → is_counted_window (counted_positions m words pass P H) u ≡ true → (length u ≡ pass.len) × (covered pass.level P H u pass.dot ≡ false)
 counted_uncovered m words pass P H u is =
     let tested = all_of_seen (λ (v : List ℕ). nat_eq (length v) pass.len && not (covered pass.level P H v pass.dot)) u (counted_positions m words pass P H)
     (all_seen (λ (v : List ℕ). nat_eq (length v) pass.len && not (covered pass.level P H v pass.dot)) m words pass P H
@@ -69,21 +69,21 @@ counted_uncovered m words pass P H u is =
     (eqb-true (length u) pass.len parts.0, not-true (covered pass.level P H u pass.dot) parts.1)
 
 -- the candidates that pass a test are the windows that are counted and pass it
-among_windows : (test : Candidate → Bool) (seen : List CountedPosition) (u : List ℕ) (us : List (List ℕ)) → is_among u (filter test (map (candidate_at seen) us)) ≡ (list_any (same_signs u) us && test (candidate_at seen u))
-among_windows test seen u [] = refl
-among_windows test seen u (v ∷ us) =
-    kept (test (candidate_at seen v))
-    ∙ by_same (same_signs u v) (test (candidate_at seen v)) (test (candidate_at seen u)) (list_any (same_signs u) us) (λ same. ap (λ (x : List ℕ). test (candidate_at seen x)) (sym (same_window u v same))) (among_windows test seen u us)
+among_windows : (test : Candidate → Bool) (counted : List CountedPosition) (u : List ℕ) (us : List (List ℕ)) → is_among u (filter test (map (candidate_at counted) us)) ≡ (list_any (same_signs u) us && test (candidate_at counted u))
+among_windows test counted u [] = refl
+among_windows test counted u (v ∷ us) =
+    kept (test (candidate_at counted v))
+    ∙ by_same (same_signs u v) (test (candidate_at counted v)) (test (candidate_at counted u)) (list_any (same_signs u) us) (λ same. ap (λ (x : List ℕ). test (candidate_at counted x)) (sym (same_window u v same))) (among_windows test counted u us)
   where
-    kept : (b : Bool) → is_among u (cond b (candidate_at seen v ∷ filter test (map (candidate_at seen) us)) (filter test (map (candidate_at seen) us))) ≡ ((same_signs u v && b) || is_among u (filter test (map (candidate_at seen) us)))
+    kept : (b : Bool) → is_among u (cond b (candidate_at counted v ∷ filter test (map (candidate_at counted) us)) (filter test (map (candidate_at counted) us))) ≡ ((same_signs u v && b) || is_among u (filter test (map (candidate_at counted) us)))
     kept true = at (same_signs u v)
       where
-        at : (s : Bool) → (s || is_among u (filter test (map (candidate_at seen) us))) ≡ ((s && true) || is_among u (filter test (map (candidate_at seen) us)))
+        at : (s : Bool) → (s || is_among u (filter test (map (candidate_at counted) us))) ≡ ((s && true) || is_among u (filter test (map (candidate_at counted) us)))
         at true = refl
         at false = refl
     kept false = at (same_signs u v)
       where
-        at : (s : Bool) → is_among u (filter test (map (candidate_at seen) us)) ≡ ((s && false) || is_among u (filter test (map (candidate_at seen) us)))
+        at : (s : Bool) → is_among u (filter test (map (candidate_at counted) us)) ≡ ((s && false) || is_among u (filter test (map (candidate_at counted) us)))
         at true = refl
         at false = refl
 
@@ -96,8 +96,8 @@ among_windows test seen u (v ∷ us) =
         none false = refl
     by_same false b t a tied rest = rest
 
-pub among_candidates : (test : Candidate → Bool) (seen : List CountedPosition) (u : List ℕ) → is_among u (filter test (tally seen)) ≡ is_candidate test seen u
-among_candidates test seen u = among_windows test seen u (candidates seen) ∙ ap (λ b. b && test (candidate_at seen u)) (candidates_are_seen seen u)
+pub among_candidates : (test : Candidate → Bool) (counted : List CountedPosition) (u : List ℕ) → is_among u (filter test (tally counted)) ≡ is_candidate test counted u
+among_candidates test counted u = among_windows test counted u (candidates counted) ∙ ap (λ b. b && test (candidate_at counted u)) (candidates_are_counted counted u)
 
 -- each candidate that passes has a window of the pass's length
 all_kept : {X : Type 0} (t q : X → Bool) (xs : List X) → list_all t xs ≡ true → list_all t (filter q xs) ≡ true
@@ -114,7 +114,7 @@ AreLong len cs = list_all (λ (c : Candidate). nat_eq (length c.window) len) cs 
 
 pub passing_long : (test : Candidate → Bool) (m : Minima) (words : List Word) (pass : Pass) (P : Patterns) (H : Hopeless) → AreLong pass.len (filter test (tally (counted_positions m words pass P H)))
 passing_long test m words pass P H =
-    let seen : List CountedPosition = counted_positions m words pass P H in
+    let counted : List CountedPosition = counted_positions m words pass P H in
     all_kept (λ (c : Candidate). nat_eq (length c.window) pass.len) test (tally (counted_positions m words pass P H))
     (list_all-map (λ (c : Candidate). nat_eq (length c.window) pass.len) (candidate_at (counted_positions m words pass P H)) (candidates (counted_positions m words pass P H))
     ∙ all_candidates (λ (u : List ℕ). nat_eq (length u) pass.len) (counted_positions m words pass P H)

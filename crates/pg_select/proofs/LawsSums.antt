@@ -21,7 +21,7 @@ use Rattle.pg_select.specs.declared.pass.Pass.{Pass}
 use Rattle.pg_select.specs.CountedPositions.{Minima, CountedPosition, counted_at, counted_positions_at, counted_positions_in, counted_positions, same_signs, with_window, candidates, good_of, bad_of}
 use Rattle.pg_select.specs.Sums.{is_found, is_error, is_missed, weight_of, marks_in, totals}
 use Rattle.pg_select.specs.Laws.{AreFew, positions_in}
-use Rattle.pg_select.proofs.LawsTally.{cmp, seen_as, keys_length}
+use Rattle.pg_select.proofs.LawsTally.{cmp, counted_as, keys_length}
 
 -- a weight is within its limit
 pub weight_within : (w : Word) (p : ℕ) → IsWord w → position_weight w p ≤ WEIGHT_MAX
@@ -96,7 +96,7 @@ totals_within m words P each =
     omega (arith, three_within (flat_map (marks_in m P) words))
 
 -- what is counted at a position weighs no more than it
-seen_within : (o : Option Bool) (u : List ℕ) (x : ℕ) → sum_by (λ (s : CountedPosition). s.weight) (seen_as u x o) ≤ x
+seen_within : (o : Option Bool) (u : List ℕ) (x : ℕ) → sum_by (λ (s : CountedPosition). s.weight) (counted_as u x o) ≤ x
 seen_within None u x = omega arith
 seen_within (Some good) u x = omega arith
 
@@ -122,11 +122,11 @@ put_length u (e ∷ es) =
       | Greater ↦ omega arith
     ]
 
-windows_few : (windows : List (List ℕ × Unit {0})) (seen : List CountedPosition) → length (fold with_window windows seen) ≤ length windows + length seen
+windows_few : (windows : List (List ℕ × Unit {0})) (counted : List CountedPosition) → length (fold with_window windows counted) ≤ length windows + length counted
 windows_few windows [] = omega arith
 windows_few windows (s ∷ ss) = omega (arith, windows_few (with_window windows s) ss, put_length s.window windows)
 
-seen_once : (o : Option Bool) (u : List ℕ) (x : ℕ) → length (seen_as u x o) ≤ 1
+seen_once : (o : Option Bool) (u : List ℕ) (x : ℕ) → length (counted_as u x o) ≤ 1
 seen_once None u x = omega arith
 seen_once (Some good) u x = omega arith
 
@@ -135,7 +135,7 @@ counted_few_in pass P H w [] = omega arith
 counted_few_in pass P H w (p ∷ ps) =
     omega (arith, seen_once (counted_at pass P H w p) (window w.signs p pass.len pass.dot) (position_weight w p), counted_few_in pass P H w ps, length-append (counted_positions_at pass P H w p) (flat_map (counted_positions_at pass P H w) ps))
 
--- a pass sees no more than positions in reach
+-- a pass counts no more than positions in reach
 pub counted_few : (m : Minima) (words : List Word) (pass : Pass) (P : List ((List ℕ × ℕ) × ℕ)) (H : Hopeless) → length (counted_positions m words pass P H) ≤ positions_in m words
 counted_few m [] pass P H = omega arith
 counted_few m (w ∷ ws) pass P H =
@@ -164,7 +164,7 @@ one_position true true x = omega arith
 one_position true false x = omega arith
 one_position false good x = omega arith
 
-pub sums_are_parts : (seen : List CountedPosition) (u : List ℕ) → good_of seen u + bad_of seen u ≤ sum_by (λ (s : CountedPosition). s.weight) seen
+pub sums_are_parts : (counted : List CountedPosition) (u : List ℕ) → good_of counted u + bad_of counted u ≤ sum_by (λ (s : CountedPosition). s.weight) counted
 sums_are_parts [] u = omega arith
 sums_are_parts (s ∷ ss) u =
     omega (

@@ -27,20 +27,20 @@ pub same_window : (u v : List ℕ) → same_signs u v ≡ true → u ≡ v
 same_window u v same = window_exact u v (equal_is (cmp u v) same)
 
 -- what is counted of a window at a position, where it is counted
-abbrev pub seen_as : List ℕ → ℕ → Option Bool → List CountedPosition
-seen_as u x counted = option_map_or (λ (good : Bool). record { window = u; good = good; weight = x } ∷ []) counted []
+abbrev pub counted_as : List ℕ → ℕ → Option Bool → List CountedPosition
+counted_as u x counted = option_map_or (λ (good : Bool). record { window = u; good = good; weight = x } ∷ []) counted []
 
 -- a window is counted
-abbrev pub is_seen : List CountedPosition → List ℕ → Bool
-is_seen seen u = list_any (λ s. same_signs u s.window) seen
+abbrev pub is_counted_window : List CountedPosition → List ℕ → Bool
+is_counted_window counted u = list_any (λ s. same_signs u s.window) counted
 
 -- the windows stay in order
-pub windows_sorted : (windows : List (List ℕ × Unit {0})) (seen : List CountedPosition) → T (is_sorted cmp windows) → T (is_sorted cmp (fold with_window windows seen))
+pub windows_sorted : (windows : List (List ℕ × Unit {0})) (counted : List CountedPosition) → T (is_sorted cmp windows) → T (is_sorted cmp (fold with_window windows counted))
 windows_sorted windows [] sorted = sorted
 windows_sorted windows (s ∷ ss) sorted = windows_sorted (with_window windows s) ss (is_sorted-put cmp nat_list_cmp_total s.window tt windows sorted)
 
 -- and so do the counts
-pub counts_sorted : (counts : Counts) (seen : List CountedPosition) → T (is_sorted cmp counts) → T (is_sorted cmp (fold with_position counts seen))
+pub counts_sorted : (counts : Counts) (counted : List CountedPosition) → T (is_sorted cmp counts) → T (is_sorted cmp (fold with_position counts counted))
 counts_sorted counts [] sorted = sorted
 counts_sorted counts (s ∷ ss) sorted = counts_sorted (with_position counts s) ss (is_sorted-put cmp nat_list_cmp_total s.window (with_weight (sums_of counts s.window) s.good s.weight) counts sorted)
 
@@ -50,7 +50,7 @@ one_window true b (Some x) = refl
 one_window false b o = refl
 
 -- the windows that are found are those of before and those that are counted
-pub windows_found : (u : List ℕ) (windows : List (List ℕ × Unit {0})) (seen : List CountedPosition) → is_some (find cmp u (fold with_window windows seen)) ≡ (is_some (find cmp u windows) || is_seen seen u)
+pub windows_found : (u : List ℕ) (windows : List (List ℕ × Unit {0})) (counted : List CountedPosition) → is_some (find cmp u (fold with_window windows counted)) ≡ (is_some (find cmp u windows) || is_counted_window counted u)
 windows_found u windows [] = or_false (is_some (find cmp u windows))
   where
     or_false : (b : Bool) → b ≡ (b || false)
@@ -58,12 +58,12 @@ windows_found u windows [] = or_false (is_some (find cmp u windows))
     or_false false = refl
 windows_found u windows (s ∷ ss) =
     windows_found u (with_window windows s) ss
-    ∙ ap (λ (o : Option (Unit {0})). is_some o || is_seen ss u) (find-put cmp nat_list_cmp_total u s.window tt windows)
-    ∙ one_window (same_signs u s.window) (is_seen ss u) (find cmp u windows)
+    ∙ ap (λ (o : Option (Unit {0})). is_some o || is_counted_window ss u) (find-put cmp nat_list_cmp_total u s.window tt windows)
+    ∙ one_window (same_signs u s.window) (is_counted_window ss u) (find cmp u windows)
 
--- the sums of a window with more weights, where it is counted or seen
+-- the sums of a window with more weights, where it is counted or counted
 abbrev added : Option (ℕ × ℕ) → Bool → ℕ → ℕ → Option (ℕ × ℕ)
-added o seen good bad = cond (is_some o || seen) (Some ((unwrap_or o (0, 0)).0 + good, (unwrap_or o (0, 0)).1 + bad)) None
+added o counted good bad = cond (is_some o || counted) (Some ((unwrap_or o (0, 0)).0 + good, (unwrap_or o (0, 0)).1 + bad)) None
 
 abbrev sums : ℕ → ℕ → Option (ℕ × ℕ)
 sums good bad = Some (good, bad)
@@ -90,34 +90,34 @@ none_more None = refl
 none_more (Some x) = pairs x.0 x.1 (x.0 + 0) (x.1 + 0) (omega arith) (omega arith)
 
 -- the sums that are found are those of before with those that are counted
-pub sums_found : (u : List ℕ) (counts : Counts) (seen : List CountedPosition) → find cmp u (fold with_position counts seen) ≡ added (find cmp u counts) (is_seen seen u) (good_of seen u) (bad_of seen u)
+pub sums_found : (u : List ℕ) (counts : Counts) (counted : List CountedPosition) → find cmp u (fold with_position counts counted) ≡ added (find cmp u counts) (is_counted_window counted u) (good_of counted u) (bad_of counted u)
 sums_found u counts [] = none_more (find cmp u counts)
 sums_found u counts (s ∷ ss) =
     let good : good_of (s ∷ ss) u ≡ cond (same_signs u s.window && s.good) s.weight 0 + good_of ss u = sum_by-cons (λ (x : CountedPosition). cond (same_signs u x.window && x.good) x.weight 0) s ss in
     let bad : bad_of (s ∷ ss) u ≡ cond (same_signs u s.window && not s.good) s.weight 0 + bad_of ss u = sum_by-cons (λ (x : CountedPosition). cond (same_signs u x.window && not x.good) x.weight 0) s ss in
     sums_found u (with_position counts s) ss
-    ∙ ap (λ (o : Option (ℕ × ℕ)). added o (is_seen ss u) (good_of ss u) (bad_of ss u)) (find-put cmp nat_list_cmp_total u s.window (with_weight (sums_of counts s.window) s.good s.weight) counts)
-    ∙ one_position (same_signs u s.window) s.good s.weight (find cmp u counts) (find cmp s.window counts) (is_seen ss u) (good_of ss u) (bad_of ss u) (λ t. find_tied cmp nat_list_cmp_total u s.window (equal_is (cmp u s.window) t) counts)
-    ∙ (λ i. added (find cmp u counts) (is_seen (s ∷ ss) u) (sym good i) (sym bad i))
+    ∙ ap (λ (o : Option (ℕ × ℕ)). added o (is_counted_window ss u) (good_of ss u) (bad_of ss u)) (find-put cmp nat_list_cmp_total u s.window (with_weight (sums_of counts s.window) s.good s.weight) counts)
+    ∙ one_position (same_signs u s.window) s.good s.weight (find cmp u counts) (find cmp s.window counts) (is_counted_window ss u) (good_of ss u) (bad_of ss u) (λ t. find_tied cmp nat_list_cmp_total u s.window (equal_is (cmp u s.window) t) counts)
+    ∙ (λ i. added (find cmp u counts) (is_counted_window (s ∷ ss) u) (sym good i) (sym bad i))
 
 -- the entries of windows with their sums
 abbrev entries_of : List CountedPosition → List (List ℕ × Unit {0}) → Counts
-entries_of seen windows = map entry_of (map (λ (u : List ℕ). record { window = u; good = good_of seen u; bad = bad_of seen u }) (map (λ (e : List ℕ × Unit {0}). e.0) windows))
+entries_of counted windows = map entry_of (map (λ (u : List ℕ). record { window = u; good = good_of counted u; bad = bad_of counted u }) (map (λ (e : List ℕ × Unit {0}). e.0) windows))
 
-entries_below : (seen : List CountedPosition) (u : List ℕ) (windows : List (List ℕ × Unit {0})) → below_all cmp u (entries_of seen windows) ≡ below_all cmp u windows
-entries_below seen u [] = refl
-entries_below seen u (e ∷ es) = ap (λ b. is_lt (cmp u e.0) && b) (entries_below seen u es)
+entries_below : (counted : List CountedPosition) (u : List ℕ) (windows : List (List ℕ × Unit {0})) → below_all cmp u (entries_of counted windows) ≡ below_all cmp u windows
+entries_below counted u [] = refl
+entries_below counted u (e ∷ es) = ap (λ b. is_lt (cmp u e.0) && b) (entries_below counted u es)
 
-entries_sorted : (seen : List CountedPosition) (windows : List (List ℕ × Unit {0})) → is_sorted cmp (entries_of seen windows) ≡ is_sorted cmp windows
-entries_sorted seen [] = refl
-entries_sorted seen (e ∷ es) = λ i. entries_below seen e.0 es i && entries_sorted seen es i
+entries_sorted : (counted : List CountedPosition) (windows : List (List ℕ × Unit {0})) → is_sorted cmp (entries_of counted windows) ≡ is_sorted cmp windows
+entries_sorted counted [] = refl
+entries_sorted counted (e ∷ es) = λ i. entries_below counted e.0 es i && entries_sorted counted es i
 
-entries_found : (seen : List CountedPosition) (u : List ℕ) (windows : List (List ℕ × Unit {0})) → find cmp u (entries_of seen windows) ≡ cond (is_some (find cmp u windows)) (Some (good_of seen u, bad_of seen u)) None
-entries_found seen u [] = refl
-entries_found seen u (e ∷ es) =
-    elim (same_signs u e.0) as (λ (t : Bool). same_signs u e.0 ≡ t → cond t (Some (good_of seen e.0, bad_of seen e.0)) (find cmp u (entries_of seen es)) ≡ cond (is_some (cond t (Some e.1) (find cmp u es))) (Some (good_of seen u, bad_of seen u)) None) [
-      | true ↦ λ t. ap (λ (v : List ℕ). Some (good_of seen v, bad_of seen v)) (sym (same_window u e.0 t))
-      | false ↦ λ t. entries_found seen u es
+entries_found : (counted : List CountedPosition) (u : List ℕ) (windows : List (List ℕ × Unit {0})) → find cmp u (entries_of counted windows) ≡ cond (is_some (find cmp u windows)) (Some (good_of counted u, bad_of counted u)) None
+entries_found counted u [] = refl
+entries_found counted u (e ∷ es) =
+    elim (same_signs u e.0) as (λ (t : Bool). same_signs u e.0 ≡ t → cond t (Some (good_of counted e.0, bad_of counted e.0)) (find cmp u (entries_of counted es)) ≡ cond (is_some (cond t (Some e.1) (find cmp u es))) (Some (good_of counted u, bad_of counted u)) None) [
+      | true ↦ λ t. ap (λ (v : List ℕ). Some (good_of counted v, bad_of counted v)) (sym (same_window u e.0 t))
+      | false ↦ λ t. entries_found counted u es
     ] refl
 
 none_before : (b : Bool) (g h : ℕ) → added None b g h ≡ cond b (Some (g, h)) None
@@ -125,16 +125,16 @@ none_before true g h = pairs _ _ _ _ (omega arith) (omega arith)
 none_before false g h = refl
 
 -- the tally law: counting position by position gives the candidates with their sums
-pub counts_are_tally : (seen : List CountedPosition) → fold with_position [] seen ≡ map entry_of (tally seen)
-counts_are_tally seen =
-    let windows : List (List ℕ × Unit {0}) = fold with_window [] seen in
-    same_entries cmp nat_list_cmp_total window_exact (fold with_position [] seen) (entries_of seen (fold with_window [] seen))
-    (counts_sorted [] seen tt)
-    (subst T (sym (entries_sorted seen (fold with_window [] seen))) (windows_sorted [] seen tt))
-    (λ u. sums_found u [] seen
-    ∙ none_before (is_seen seen u) (good_of seen u) (bad_of seen u)
-    ∙ ap (λ b. cond b (Some (good_of seen u, bad_of seen u)) None) (sym (windows_found u [] seen))
-    ∙ sym (entries_found seen u (fold with_window [] seen)))
+pub counts_are_tally : (counted : List CountedPosition) → fold with_position [] counted ≡ map entry_of (tally counted)
+counts_are_tally counted =
+    let windows : List (List ℕ × Unit {0}) = fold with_window [] counted in
+    same_entries cmp nat_list_cmp_total window_exact (fold with_position [] counted) (entries_of counted (fold with_window [] counted))
+    (counts_sorted [] counted tt)
+    (subst T (sym (entries_sorted counted (fold with_window [] counted))) (windows_sorted [] counted tt))
+    (λ u. sums_found u [] counted
+    ∙ none_before (is_counted_window counted u) (good_of counted u) (bad_of counted u)
+    ∙ ap (λ b. cond b (Some (good_of counted u, bad_of counted u)) None) (sym (windows_found u [] counted))
+    ∙ sym (entries_found counted u (fold with_window [] counted)))
 
 abbrev pub candidate_of : List ℕ × (ℕ × ℕ) → Candidate
 candidate_of e = record { window = e.0; good = e.1.0; bad = e.1.1 }
@@ -144,8 +144,8 @@ candidates_back [] = refl
 candidates_back (c ∷ cs) = ap (λ (x : List Candidate). c ∷ x) (candidates_back cs)
 
 -- the same, with a candidate for each entry
-pub tally_is : (seen : List CountedPosition) → tally seen ≡ map candidate_of (fold with_position [] seen)
-tally_is seen = candidates_back (tally seen) ∙ ap (λ (counts : Counts). map candidate_of counts) (sym (counts_are_tally seen))
+pub tally_is : (counted : List CountedPosition) → tally counted ≡ map candidate_of (fold with_position [] counted)
+tally_is counted = candidates_back (tally counted) ∙ ap (λ (counts : Counts). map candidate_of counts) (sym (counts_are_tally counted))
 
 keys_at : (windows : List (List ℕ × Unit {0})) (i : ℕ) (d : List ℕ × Unit {0}) → get_or (map (λ (e : List ℕ × Unit {0}). e.0) windows) i d.0 ≡ (get_or windows i d).0
 keys_at [] i d = refl
@@ -157,13 +157,13 @@ keys_length [] = refl
 keys_length (e ∷ es) = ap suc (keys_length es)
 
 -- the candidates stand in order
-pub candidates_in_order : (seen : List CountedPosition) (i j : ℕ) (d : List ℕ) → i < j → j < length (candidates seen) → cmp (get_or (candidates seen) i d) (get_or (candidates seen) j d) ≡ Less
-candidates_in_order seen i j d before inside =
-    let windows : List (List ℕ × Unit {0}) = fold with_window [] seen in
-    let within : j < length (fold with_window [] seen) = omega (arith, keys_length (fold with_window [] seen)) in
-    let less = sorted_at cmp (fold with_window [] seen) i j (d, tt) (windows_sorted [] seen tt) before within in
-    (λ k. cmp (keys_at (fold with_window [] seen) i (d, tt) k) (keys_at (fold with_window [] seen) j (d, tt) k)) ∙ less
+pub candidates_in_order : (counted : List CountedPosition) (i j : ℕ) (d : List ℕ) → i < j → j < length (candidates counted) → cmp (get_or (candidates counted) i d) (get_or (candidates counted) j d) ≡ Less
+candidates_in_order counted i j d before inside =
+    let windows : List (List ℕ × Unit {0}) = fold with_window [] counted in
+    let within : j < length (fold with_window [] counted) = omega (arith, keys_length (fold with_window [] counted)) in
+    let less = sorted_at cmp (fold with_window [] counted) i j (d, tt) (windows_sorted [] counted tt) before within in
+    (λ k. cmp (keys_at (fold with_window [] counted) i (d, tt) k) (keys_at (fold with_window [] counted) j (d, tt) k)) ∙ less
 
 -- and are the windows that are counted
-pub candidates_are_seen : (seen : List CountedPosition) (u : List ℕ) → list_any (same_signs u) (candidates seen) ≡ is_seen seen u
-candidates_are_seen seen u = sym (is_some-find cmp u (fold with_window [] seen)) ∙ windows_found u [] seen
+pub candidates_are_counted : (counted : List CountedPosition) (u : List ℕ) → list_any (same_signs u) (candidates counted) ≡ is_counted_window counted u
+candidates_are_counted counted u = sym (is_some-find cmp u (fold with_window [] counted)) ∙ windows_found u [] counted

@@ -18,7 +18,7 @@ use Rattle.pg_select.specs.Sums.{is_found, is_error, is_missed, weight_of, marks
 use Rattle.pg_select.specs.Windows.{Hopeless, window, fits, covered, Patterns}
 use Rattle.pg_select.specs.declared.pass.Pass.{Pass}
 use Rattle.pg_select.specs.CountedPositions.{Minima, CountedPosition, Candidate, counts_as, counted_at, counted_positions_at, counted_positions_in, counted_positions, same_signs, with_window, candidates, tally}
-use Rattle.pg_select.proofs.LawsTally.{cmp, same_window, seen_as, is_seen, candidates_are_seen, windows_sorted}
+use Rattle.pg_select.proofs.LawsTally.{cmp, same_window, counted_as, is_counted_window, candidates_are_counted, windows_sorted}
 use Rattle.pg_select.specs.LawsSteps.{IsUpTo, candidate_at, is_candidate, patterns_after_pass, good_raised, bad_raised, FindsMore, PreventsMore}
 use Rattle.pg_types.proofs.BoolFacts.{is_true}
 use Rattle.pg_select.proofs.LawsRaised.{same_itself, counted_uncovered, values_after}
@@ -77,21 +77,21 @@ module _ (kind : CountedPosition → Bool) (test : List ℕ → Bool) where
   point false false false r a w is = refl
 
   -- one window more
-  one_more : (u : List ℕ) (us : List (List ℕ)) → list_any (same_signs u) us ≡ false → (seen : List CountedPosition) → cond (test u) (sum_by (own u) seen) 0 + sum_by (among us) seen ≡ sum_by (among (u ∷ us)) seen
+  one_more : (u : List ℕ) (us : List (List ℕ)) → list_any (same_signs u) us ≡ false → (counted : List CountedPosition) → cond (test u) (sum_by (own u) counted) 0 + sum_by (among us) counted ≡ sum_by (among (u ∷ us)) counted
   one_more u us new [] = nothing (test u)
     where
       nothing : (b : Bool) → cond b 0 0 + 0 ≡ 0
       nothing true = refl
       nothing false = refl
-  one_more u us new (s ∷ seen) =
-      let rest : cond (test u) (sum_by (own u) seen) 0 + sum_by (among us) seen ≡ sum_by (among (u ∷ us)) seen = one_more u us new seen in
+  one_more u us new (s ∷ counted) =
+      let rest : cond (test u) (sum_by (own u) counted) 0 + sum_by (among us) counted ≡ sum_by (among (u ∷ us)) counted = one_more u us new counted in
       let here : cond (test u) (own u s) 0 + among us s ≡ among (u ∷ us) s =
       point (same_signs u s.window) (kind s) (test u) (test s.window) (list_any (same_signs s.window) us) s.weight
       (λ same. (ap (λ (x : List ℕ). list_any (same_signs x) us) (sym (same_window u s.window same)) ∙ new, ap test (same_window u s.window same)))
       ∙ ap (λ b. cond (kind s && ((b || list_any (same_signs s.window) us) && test s.window)) s.weight 0) (same_turned u s.window) in
-      let split : cond (test u) (own u s + sum_by (own u) seen) 0 ≡ cond (test u) (own u s) 0 + cond (test u) (sum_by (own u) seen) 0 = parts (test u) (own u s) (sum_by (own u) seen) in
-      let first : cond (test u) (sum_by (own u) (s ∷ seen)) 0 ≡ cond (test u) (own u s + sum_by (own u) seen) 0 = ap (λ n. cond (test u) n 0) (sum_by-cons (own u) s seen) in
-      omega (arith, sum_by-cons (among us) s seen, sum_by-cons (among (u ∷ us)) s seen)
+      let split : cond (test u) (own u s + sum_by (own u) counted) 0 ≡ cond (test u) (own u s) 0 + cond (test u) (sum_by (own u) counted) 0 = parts (test u) (own u s) (sum_by (own u) counted) in
+      let first : cond (test u) (sum_by (own u) (s ∷ counted)) 0 ≡ cond (test u) (own u s + sum_by (own u) counted) 0 = ap (λ n. cond (test u) n 0) (sum_by-cons (own u) s counted) in
+      omega (arith, sum_by-cons (among us) s counted, sum_by-cons (among (u ∷ us)) s counted)
     where
       parts : (b : Bool) (x y : ℕ) → cond b (x + y) 0 ≡ cond b x 0 + cond b y 0
       parts true x y = refl
@@ -109,53 +109,53 @@ module _ (kind : CountedPosition → Bool) (test : List ℕ → Bool) where
       not_same Equal is = cc
       not_same Greater is = refl
 
-  swapped : (windows : Windows) → is_sorted cmp windows ≡ true → (seen : List CountedPosition)
-      → sum_by (λ (u : List ℕ). cond (test u) (sum_by (own u) seen) 0) (map (λ (e : List ℕ × Unit {0}). e.0) windows) ≡ sum_by (among (map (λ (e : List ℕ × Unit {0}). e.0) windows)) seen
-  swapped [] sorted seen = sym (sum_same (among []) (λ (s : CountedPosition). 0) seen (λ s. none (kind s) s.weight) ∙ sum_none seen)
+  swapped : (windows : Windows) → is_sorted cmp windows ≡ true → (counted : List CountedPosition)
+      → sum_by (λ (u : List ℕ). cond (test u) (sum_by (own u) counted) 0) (map (λ (e : List ℕ × Unit {0}). e.0) windows) ≡ sum_by (among (map (λ (e : List ℕ × Unit {0}). e.0) windows)) counted
+  swapped [] sorted counted = sym (sum_same (among []) (λ (s : CountedPosition). 0) counted (λ s. none (kind s) s.weight) ∙ sum_none counted)
     where
       none : (k : Bool) (w : ℕ) → cond (k && false) w 0 ≡ 0
       none true w = refl
       none false w = refl
-  swapped (e ∷ es) sorted seen =
+  swapped (e ∷ es) sorted counted =
       let parts = and_parts (below_all cmp e.0 es) (is_sorted cmp es) sorted in
-      let rest : sum_by (λ (u : List ℕ). cond (test u) (sum_by (own u) seen) 0) (map (λ (x : List ℕ × Unit {0}). x.0) es) ≡ sum_by (among (map (λ (x : List ℕ × Unit {0}). x.0) es)) seen = swapped es parts.1 seen in
-      sum_by-cons (λ (u : List ℕ). cond (test u) (sum_by (own u) seen) 0) e.0 (map (λ (x : List ℕ × Unit {0}). x.0) es)
-      ∙ ap (λ n. cond (test e.0) (sum_by (own e.0) seen) 0 + n) rest
-      ∙ one_more e.0 (map (λ (x : List ℕ × Unit {0}). x.0) es) (stands_once e.0 es parts.0) seen
+      let rest : sum_by (λ (u : List ℕ). cond (test u) (sum_by (own u) counted) 0) (map (λ (x : List ℕ × Unit {0}). x.0) es) ≡ sum_by (among (map (λ (x : List ℕ × Unit {0}). x.0) es)) counted = swapped es parts.1 counted in
+      sum_by-cons (λ (u : List ℕ). cond (test u) (sum_by (own u) counted) 0) e.0 (map (λ (x : List ℕ × Unit {0}). x.0) es)
+      ∙ ap (λ n. cond (test e.0) (sum_by (own e.0) counted) 0 + n) rest
+      ∙ one_more e.0 (map (λ (x : List ℕ × Unit {0}). x.0) es) (stands_once e.0 es parts.0) counted
 
 -- a sum over candidates that pass, as a sum over windows
-passing_sum : (raised : Candidate → Bool) (g : Candidate → ℕ) (seen : List CountedPosition) (us : List (List ℕ)) → sum_by g (filter raised (map (candidate_at seen) us)) ≡ sum_by (λ (u : List ℕ). cond (raised (candidate_at seen u)) (g (candidate_at seen u)) 0) us
-passing_sum raised g seen [] = refl
-passing_sum raised g seen (u ∷ us) =
-    let rest : sum_by g (filter raised (map (candidate_at seen) us)) ≡ sum_by (λ (v : List ℕ). cond (raised (candidate_at seen v)) (g (candidate_at seen v)) 0) us = passing_sum raised g seen us in
-    kept (raised (candidate_at seen u))
-    ∙ ap (λ n. cond (raised (candidate_at seen u)) (g (candidate_at seen u)) 0 + n) rest
-    ∙ sym (sum_by-cons (λ (v : List ℕ). cond (raised (candidate_at seen v)) (g (candidate_at seen v)) 0) u us)
+passing_sum : (raised : Candidate → Bool) (g : Candidate → ℕ) (counted : List CountedPosition) (us : List (List ℕ)) → sum_by g (filter raised (map (candidate_at counted) us)) ≡ sum_by (λ (u : List ℕ). cond (raised (candidate_at counted u)) (g (candidate_at counted u)) 0) us
+passing_sum raised g counted [] = refl
+passing_sum raised g counted (u ∷ us) =
+    let rest : sum_by g (filter raised (map (candidate_at counted) us)) ≡ sum_by (λ (v : List ℕ). cond (raised (candidate_at counted v)) (g (candidate_at counted v)) 0) us = passing_sum raised g counted us in
+    kept (raised (candidate_at counted u))
+    ∙ ap (λ n. cond (raised (candidate_at counted u)) (g (candidate_at counted u)) 0 + n) rest
+    ∙ sym (sum_by-cons (λ (v : List ℕ). cond (raised (candidate_at counted v)) (g (candidate_at counted v)) 0) u us)
   where
-    kept : (b : Bool) → sum_by g (cond b (candidate_at seen u ∷ filter raised (map (candidate_at seen) us)) (filter raised (map (candidate_at seen) us))) ≡ cond b (g (candidate_at seen u)) 0 + sum_by g (filter raised (map (candidate_at seen) us))
-    kept true = sum_by-cons g (candidate_at seen u) (filter raised (map (candidate_at seen) us))
-    kept false = zero (sum_by g (filter raised (map (candidate_at seen) us)))
+    kept : (b : Bool) → sum_by g (cond b (candidate_at counted u ∷ filter raised (map (candidate_at counted) us)) (filter raised (map (candidate_at counted) us))) ≡ cond b (g (candidate_at counted u)) 0 + sum_by g (filter raised (map (candidate_at counted) us))
+    kept true = sum_by-cons g (candidate_at counted u) (filter raised (map (candidate_at counted) us))
+    kept false = zero (sum_by g (filter raised (map (candidate_at counted) us)))
       where
         zero : (n : ℕ) → n ≡ 0 + n
         zero n = omega arith
 
 -- the weight of a counted position of a kind whose window passes
 abbrev pub raised_weight : (Candidate → Bool) → List CountedPosition → (CountedPosition → Bool) → CountedPosition → ℕ
-raised_weight raised seen kind s = cond (kind s && is_candidate raised seen s.window) s.weight 0
+raised_weight raised counted kind s = cond (kind s && is_candidate raised counted s.window) s.weight 0
 
-sum_raised : (kind : CountedPosition → Bool) (raised : Candidate → Bool) (g : Candidate → ℕ) (seen : List CountedPosition) → ((u : List ℕ) → g (candidate_at seen u) ≡ sum_by (own kind (λ (u : List ℕ). raised (candidate_at seen u)) u) seen)
-    → sum_by g (filter raised (tally seen)) ≡ sum_by (raised_weight raised seen kind) seen
-sum_raised kind raised g seen part =
-    passing_sum raised g seen (candidates seen)
-    ∙ sum_same (λ (u : List ℕ). cond (raised (candidate_at seen u)) (g (candidate_at seen u)) 0) (λ (u : List ℕ). cond (raised (candidate_at seen u)) (sum_by (own kind (λ (v : List ℕ). raised (candidate_at seen v)) u) seen) 0) (candidates seen) (λ u. ap (λ n. cond (raised (candidate_at seen u)) n 0) (part u))
-    ∙ swapped kind (λ (u : List ℕ). raised (candidate_at seen u)) (fold with_window [] seen) (is_true (is_sorted cmp (fold with_window [] seen)) (windows_sorted [] seen tt)) seen
-    ∙ sum_same (among kind (λ (u : List ℕ). raised (candidate_at seen u)) (candidates seen)) (raised_weight raised seen kind) seen (λ s. ap (λ b. cond (kind s && (b && raised (candidate_at seen s.window))) s.weight 0) (candidates_are_seen seen s.window))
+sum_raised : (kind : CountedPosition → Bool) (raised : Candidate → Bool) (g : Candidate → ℕ) (counted : List CountedPosition) → ((u : List ℕ) → g (candidate_at counted u) ≡ sum_by (own kind (λ (u : List ℕ). raised (candidate_at counted u)) u) counted)
+    → sum_by g (filter raised (tally counted)) ≡ sum_by (raised_weight raised counted kind) counted
+sum_raised kind raised g counted part =
+    passing_sum raised g counted (candidates counted)
+    ∙ sum_same (λ (u : List ℕ). cond (raised (candidate_at counted u)) (g (candidate_at counted u)) 0) (λ (u : List ℕ). cond (raised (candidate_at counted u)) (sum_by (own kind (λ (v : List ℕ). raised (candidate_at counted v)) u) counted) 0) (candidates counted) (λ u. ap (λ n. cond (raised (candidate_at counted u)) n 0) (part u))
+    ∙ swapped kind (λ (u : List ℕ). raised (candidate_at counted u)) (fold with_window [] counted) (is_true (is_sorted cmp (fold with_window [] counted)) (windows_sorted [] counted tt)) counted
+    ∙ sum_same (among kind (λ (u : List ℕ). raised (candidate_at counted u)) (candidates counted)) (raised_weight raised counted kind) counted (λ s. ap (λ b. cond (kind s && (b && raised (candidate_at counted s.window))) s.weight 0) (candidates_are_counted counted s.window))
 
-good_raised_sum : (raised : Candidate → Bool) (seen : List CountedPosition) → good_raised raised seen ≡ sum_by (raised_weight raised seen (λ (s : CountedPosition). s.good)) seen
-good_raised_sum raised seen = sum_raised (λ (s : CountedPosition). s.good) raised (λ (c : Candidate). c.good) seen (λ u. refl)
+good_raised_sum : (raised : Candidate → Bool) (counted : List CountedPosition) → good_raised raised counted ≡ sum_by (raised_weight raised counted (λ (s : CountedPosition). s.good)) counted
+good_raised_sum raised counted = sum_raised (λ (s : CountedPosition). s.good) raised (λ (c : Candidate). c.good) counted (λ u. refl)
 
-bad_raised_sum : (raised : Candidate → Bool) (seen : List CountedPosition) → bad_raised raised seen ≡ sum_by (raised_weight raised seen (λ (s : CountedPosition). not s.good)) seen
-bad_raised_sum raised seen = sum_raised (λ (s : CountedPosition). not s.good) raised (λ (c : Candidate). c.bad) seen (λ u. refl)
+bad_raised_sum : (raised : Candidate → Bool) (counted : List CountedPosition) → bad_raised raised counted ≡ sum_by (raised_weight raised counted (λ (s : CountedPosition). not s.good)) counted
+bad_raised_sum raised counted = sum_raised (λ (s : CountedPosition). not s.good) raised (λ (c : Candidate). c.bad) counted (λ u. refl)
 
 -- the marks of a position by its tests, before and after
 abbrev mark_by : Bool → Bool → Bool → Mark
@@ -250,13 +250,13 @@ module _ (m : Minima) (words : List Word) (pass : Pass) (P : Patterns) (H : Hope
   moved_is kind =
       single (counted_at pass P H w p)
       ∙ changed_one kind (position_weight w p) (fits w.signs p pass.len pass.dot) (is_candidate raised (counted_positions m words pass P H) (window w.signs p pass.len pass.dot)) (covered pass.level P H (window w.signs p pass.len pass.dot) pass.dot) (counts_as pass.level (status_at P w p))
-      (λ is. (counted_uncovered m words pass P H (window w.signs p pass.len pass.dot) (and_parts (is_seen (counted_positions m words pass P H) (window w.signs p pass.len pass.dot)) (raised (candidate_at (counted_positions m words pass P H) (window w.signs p pass.len pass.dot))) is).0).1)
+      (λ is. (counted_uncovered m words pass P H (window w.signs p pass.len pass.dot) (and_parts (is_counted_window (counted_positions m words pass P H) (window w.signs p pass.len pass.dot)) (raised (candidate_at (counted_positions m words pass P H) (window w.signs p pass.len pass.dot))) is).0).1)
       ∙ ap (λ (o : Option Bool). changed_weight kind (position_weight w p) rises o) (counts_by pass.level (status_at P w p))
     where
       zero : (n : ℕ) → 0 + n ≡ n
       zero n = omega arith
 
-      single : (o : Option Bool) → sum_by (raised_weight raised (counted_positions m words pass P H) (λ (s : CountedPosition). kind s.good)) (seen_as (window w.signs p pass.len pass.dot) (position_weight w p) o) ≡ changed_weight kind (position_weight w p) (is_candidate raised (counted_positions m words pass P H) (window w.signs p pass.len pass.dot)) o
+      single : (o : Option Bool) → sum_by (raised_weight raised (counted_positions m words pass P H) (λ (s : CountedPosition). kind s.good)) (counted_as (window w.signs p pass.len pass.dot) (position_weight w p) o) ≡ changed_weight kind (position_weight w p) (is_candidate raised (counted_positions m words pass P H) (window w.signs p pass.len pass.dot)) o
       single None = refl
       single (Some good) = zero (cond (kind good && is_candidate raised (counted_positions m words pass P H) (window w.signs p pass.len pass.dot)) (position_weight w p) 0)
 

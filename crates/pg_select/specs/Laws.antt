@@ -163,8 +163,8 @@ abbrev pub hopeless_all : ℕ → Hopeless → List Candidate → Hopeless
 hopeless_all dot H cs = fold (λ H c. put dotted_cmp (c.window, dot) (tt {0}) H) H cs
 
 -- a pass leads to a later point of its level, whatever it chooses and gives up
-abbrev pub LaterSettled : Type 0
-LaterSettled = (level dot : ℕ) (P : Patterns) (H : Hopeless) (raised hopeless : List Candidate) → Later level P H (raised_all level dot P raised) (hopeless_all dot H hopeless)
+abbrev pub LaterAfterPass : Type 0
+LaterAfterPass = (level dot : ℕ) (P : Patterns) (H : Hopeless) (raised hopeless : List Candidate) → Later level P H (raised_all level dot P raised) (hopeless_all dot H hopeless)
 
 -- a pass whose candidates are all covered later is closed then
 abbrev pub ClosedWhenCovered : Type 0

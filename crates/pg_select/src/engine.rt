@@ -12,7 +12,7 @@ use pg_types::{Cursor, Layout, Sign, Weight};
 use std::alloc::{AllocError, Global};
 
 /// What the levels and passes of a run are made over: patterns that give values to positions, hopeless places that
-/// knock out longer windows, and the counts of the windows of a pass.
+/// cover longer windows, and the counts of the windows of a pass.
 ///
 /// A run begins each pass, hyphenates each word once in it, counts the windows of its positions, and walks over the
 /// windows that are counted to choose some and to give up others. What a call does not name stays as it was.
@@ -63,14 +63,14 @@ pub trait Engine {
         ensures { IsNextAbove (meaning self.now).counts at.old at.new result };
 
     /// Gives the window at the cursor the level as its value, where it has no greater one, at the dot of the pass.
-    /// Families that are told take in the window; a refused call may leave part of that.
+    /// The window is entered into families that are told; a refused call may leave part of that.
     fn choose(&mut self, at: &Cursor) -> Result<(), AllocError>
         requires { is_counted (meaning self.old).counts at.now ≡ true }
         ensures ok { OnOk result (meaning self.new ≡ after_choose (meaning self.old) at.now (meaning self.new).tidy) }
         ensures err { OnErr result (KeepsButFamilies at.now (meaning self.old) (meaning self.new)) };
 
-    /// Makes the window at the cursor hopeless at the dot of the pass, to the end of the level. Families that are told
-    /// take in the window; a refused call may leave part of that.
+    /// Makes the window at the cursor hopeless at the dot of the pass, to the end of the level. The window is entered
+    /// into families that are told; a refused call may leave part of that.
     fn give_up(&mut self, at: &Cursor) -> Result<(), AllocError>
         requires { is_counted (meaning self.old).counts at.now ≡ true }
         ensures ok { OnOk result (meaning self.new ≡ after_give_up (meaning self.old) at.now (meaning self.new).tidy) }

@@ -1,5 +1,5 @@
 //! Laws of the definitions of this crate. A call does nothing; its contract is the law.
-ghost use Rattle.pg_select.specs.Laws.{CandidatesInOrder, CandidatesAreCounted, CountsAreTally, PositionsAreFew, CandidatesAreFew, TotalsAreSmall, CountedAreLight, SumsAreParts, CandidatesAreLow, ChosenGetLevel, OthersStay, NoneFalls, RaisesWhereItApplies, GivenUpKeepsValues, RaisedCovers, HopelessCovers, GivenUpCovers, LaterAtOnce, LaterStill, LaterRaised, LaterHopeless, StatusBack, CountedBack, ClosedLater, CountedShorter, ClosedLonger, LaterSettled, ClosedWhenCovered, ClosedAtEnd};
+ghost use Rattle.pg_select.specs.Laws.{CandidatesInOrder, CandidatesAreCounted, CountsAreTally, PositionsAreFew, CandidatesAreFew, TotalsAreSmall, CountedAreLight, SumsAreParts, CandidatesAreLow, ChosenGetLevel, OthersStay, NoneFalls, RaisesWhereItApplies, GivenUpKeepsValues, RaisedCovers, HopelessCovers, GivenUpCovers, LaterAtOnce, LaterStill, LaterRaised, LaterHopeless, StatusBack, CountedBack, ClosedLater, CountedShorter, ClosedLonger, LaterAfterPass, ClosedWhenCovered, ClosedAtEnd};
 ghost use Rattle.pg_select.specs.LawsSteps.{BelowByLargest, UpToLargest, UpToAtStart, NextIsBelow, UpToAfter, CoversUpToAtStart, CoversUpToLonger, CoversUpToAfter, LengthStep, NothingCovered, ValuesAfter, CoversAfter, CountedAreUncovered, TotalsAfter};
 ghost use Rattle.pg_select.specs.LawsClosedDots.{TellsAtStart, TellsLonger, TellsAfter, DoneByStatus, DoneWhenClosed, DoneLonger, DoneAfter, RaisedStop, HopelessStop, LeftStay, UncountedStay};
 
@@ -54,7 +54,7 @@ pub fn levels_go_on()
     ensures still { LaterStill }
     ensures raised { LaterRaised }
     ensures hopeless { LaterHopeless }
-    ensures settled { LaterSettled }
+    ensures decided { LaterAfterPass }
 {}
 
 /// Within a level a position that is no longer counted is not counted later, so a pass that counts nothing counts
@@ -76,7 +76,7 @@ pub fn closed_when_longer()
 /// level.
 pub fn closed_at_end()
     ensures covered { ClosedWhenCovered }
-    ensures settled { ClosedAtEnd }
+    ensures decided { ClosedAtEnd }
 {}
 
 /// Where the starting patterns of a level have no value as great as it, its passes lead to none above it.

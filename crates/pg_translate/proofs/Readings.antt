@@ -10,7 +10,7 @@ use Rattle.pg_types.specs.Lines.{lines}
 use Rattle.pg_types.specs.Reading.{Fails, first_refusal}
 use Rattle.pg_translate.specs.declared.index.Index.{Index}
 use Rattle.pg_translate.specs.Alphabets.{letters_in}
-use Rattle.pg_translate.specs.Tables.{ListedSpelling, first_failure, spelling_with_sign, spelling_check, spelling_checks, spellings_at, spellings_from, with_line_spellings, line_pieces, pieces_of, delimited}
+use Rattle.pg_translate.specs.Tables.{ListedSpelling, first_failure, spelling_with_sign, spelling_check, spelling_checks, spellings_at, spellings_from, with_line_spellings, line_pieces, pieces_of, delimited_pieces}
 use Rattle.pg_translate.specs.Fronts.{IsIndex, pairs}
 
 -- checks that pass leave those behind them
@@ -83,7 +83,7 @@ pieces_done old new marks line letter column delimiter text rest done none =
     (sym (ap (λ (ps : List (List ℕ)). first_failure (spelling_checks marks (pairs new) (spellings_at line column letter ps))) (sym none) ∙ done.answer), sym (append-nil (pairs new)) ∙ ap (λ (ps : List (List ℕ)). pairs new ++ map spelling_with_sign (spellings_at line column letter ps)) (sym none) ∙ done.spellings)
 
 -- the delimiter and what follows it
-pub delimited_is : (line : List ℕ) → (length line == 0) ≡ false → delimited line ≡ pieces_of (get_or line 0 0) (take (length line - 1) (drop 1 line))
+pub delimited_is : (line : List ℕ) → (length line == 0) ≡ false → delimited_pieces line ≡ pieces_of (get_or line 0 0) (take (length line - 1) (drop 1 line))
 delimited_is [] some = absurd (cc)
 delimited_is (b ∷ bs) some = rw (take_rest (b ∷ bs) 1) refl
 

@@ -104,13 +104,13 @@ abbrev pub pieces_of : ℕ → List ℕ → List (List ℕ)
 pieces_of delimiter text = before_empty (pieces_at (λ b. b == delimiter) text)
 
 -- the spellings in a line whose first byte is the delimiter
-abbrev pub delimited : List ℕ → List (List ℕ)
-delimited [] = []
-delimited (delimiter ∷ text) = pieces_of delimiter text
+abbrev pub delimited_pieces : List ℕ → List (List ℕ)
+delimited_pieces [] = []
+delimited_pieces (delimiter ∷ text) = pieces_of delimiter text
 
 -- the spellings of a letter line; a line without any is skipped
 abbrev pub line_pieces : List ℕ → List (List ℕ)
-line_pieces line = delimited (without_blanks line)
+line_pieces line = delimited_pieces (without_blanks line)
 
 -- a spelling of the file: where it stands, and the number of its letter
 pub record ListedSpelling : Type 0 where

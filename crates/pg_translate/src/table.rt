@@ -1,9 +1,7 @@
 //! The table of a translate file.
 ghost use Rattle.std.specs.Prelude.{◌≡◌, IfOk};
 ghost use Rattle.pg_translate.specs.Alphabets.{Alphabet};
-ghost use Rattle.pg_translate.specs.Fronts.{pairs};
-ghost use Rattle.pg_translate.specs.Heads.{head_marks};
-ghost use Rattle.pg_translate.specs.Sound.{IsTable};
+ghost use Rattle.pg_translate.specs.Sound.{IsTable, alphabet_in};
 
 pub mod laws;
 
@@ -30,7 +28,7 @@ pub struct Table {
 impl Model for Table {
     ghost Value = { Alphabet };
 
-    ghost view = { λ t. record { left = t.head.left; right = t.head.right; marks = head_marks t.head; spellings = pairs t.index } };
+    ghost view = { λ t. alphabet_in t.head t.index };
 
     ghost invariant = { λ t. IsTable t.head t.index };
 }
@@ -180,9 +178,9 @@ impl Table {
 
     /// The item that begins `rest`, a line of a file of this kind or what is left of it, and what follows that item.
     ///
-    /// `End` comes exactly where the line ends here, or a blank or TAB stands here. `Bad` comes exactly where no item stands
-    /// here and the line does not end. Letters have signs 2 to `letters` + 1, digits are 0 to 9, and weights 1 to 9,999. Marks
-    /// and weights come only in a dictionary, and `Edge` only in patterns.
+    /// `End` comes exactly where the line ends here, or a blank or TAB stands here. `Bad` comes exactly where no item
+    /// stands here and the line does not end. Letters have signs 2 to `letters` + 1, digits are 0 to 9, and weights
+    /// 1 to 9,999. Marks and weights come only in a dictionary, and `Edge` only in patterns.
     #[inline]
     pub fn item<'a>(&self, place: Place, rest: &'a [u8]) -> Item<'a>
         ensures item { IsFirstItem self.now place rest.now result }

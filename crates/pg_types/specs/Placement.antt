@@ -151,8 +151,8 @@ abbrev pub enter : ℕ → Families → List ℕ → Families
 enter n fs q = enter_by few_signs n fs q
 
 -- the families of patterns after the strings are entered in their order, from the root alone
-abbrev pub entered_all : ℕ → List (List ℕ) → Families
-entered_all n strings = fold (enter n) (root n) strings
+abbrev pub entered_families : ℕ → List (List ℕ) → Families
+entered_families n strings = fold (enter n) (root n) strings
 
 -- whether a string keeps its cell at a level's end: it has one sign, or it is a prefix of a string that stays
 abbrev pub keeps_cell : List (List ℕ) → List ℕ → Bool

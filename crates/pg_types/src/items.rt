@@ -165,7 +165,7 @@ impl<'a> Items<'a> {
         })
     }
 
-    /// Sees that at most one answer of patgen's last question is left: `y`, `Y`, `n` or `N`.
+    /// Tells whether at most one answer of patgen's last question is left: `y`, `Y`, `n` or `N`.
     pub fn end(&self) -> Result<(), Refusal>
         requires { self.now.place ≤ PLACE_MAX }
         ensures passed { OnOk result (surplus self.now.place (items self.now.rest.now) ≡ None) }

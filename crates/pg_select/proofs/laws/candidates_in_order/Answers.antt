@@ -1,5 +1,5 @@
-use Rattle.pg_select.proofs.LawsTally.{candidates_in_order, candidates_are_seen}
+use Rattle.pg_select.proofs.LawsTally.{candidates_in_order, candidates_are_counted}
 use Rattle.pg_select.proofs.laws.candidates_in_order.Goals as goal
 
 pub returns : goal.returns
-returns c = record { order = candidates_in_order; counted = candidates_are_seen }
+returns c = record { order = candidates_in_order; counted = candidates_are_counted }
