@@ -1,6 +1,6 @@
 -- How a file is its first line and what follows it.
 use Rattle.std.proofs.Common.{◌≡◌, ℕ, ◌+◌, ◌<◌, ◌≤◌, ◌==◌, Bool, true, false, not, List, [], ◌∷◌, ◌++◌, length, take, drop, get_or, refl, ap, arith, suc, zero, inl, inr, Some, None}
-use Rattle.std.proofs.lemmas.Bool.{cases_Bool, false_from_ne_true, eqb-true}
+use Rattle.std.proofs.lemmas.Bool.{cases_Bool, false_from_ne_true, eqb-true, not-true, not-false}
 use Rattle.std.specs.List.{onto_first}
 use Rattle.std.specs.Str.{bytes_eq}
 use Rattle.std.proofs.lemmas.Slice.Eq.{bytes_eq-Decides}
@@ -73,22 +73,14 @@ step_same n b bs [] same =
     absurd (omega (arith, ap length lines))
 step_same n b bs (w ∷ ws) same = rw (cut_first b bs, cut_first w ws, same) refl
 
-not_true : (b : Bool) → not b ≡ true → b ≡ false
-not_true true is = cc
-not_true false is = refl
-
-not_false : (b : Bool) → not b ≡ false → b ≡ true
-not_false true is = refl
-not_false false is = cc
-
 -- the same of a rest that is not empty
 pub other_first : (n : ℕ) (rest due : List ℕ) → (length rest == 0) ≡ false → not (bytes_eq (first_whole rest) (first_whole due)) ≡ true → difference_from n (whole_lines rest) (whole_lines due) ≡ Some (record { line = n; found = first_whole rest })
 other_first n [] due filled other = cc
-other_first n (b ∷ bs) due filled other = step_other n b bs due (not_true _ other)
+other_first n (b ∷ bs) due filled other = step_other n b bs due (not-true _ other)
 
 pub same_first : (n : ℕ) (rest due : List ℕ) → (length rest == 0) ≡ false → not (bytes_eq (first_whole rest) (first_whole due)) ≡ false → difference_from n (whole_lines rest) (whole_lines due) ≡ difference_from (n + 1) (whole_lines (rest_whole rest)) (whole_lines (rest_whole due))
 same_first n [] due filled same = cc
-same_first n (b ∷ bs) due filled same = step_same n b bs due (not_false _ same)
+same_first n (b ∷ bs) due filled same = step_same n b bs due (not-false _ same)
 
 pub filled_first : (rest : List ℕ) → (length rest == 0) ≡ false → 0 < length (first_whole rest)
 filled_first [] filled = cc

@@ -16,6 +16,7 @@ use Rattle.pg_cells.specs.Laid.{Laid, IsParent, IsTrie, standing, value_in}
 use Rattle.pg_cells.specs.Root.{IsPlanted}
 use Rattle.pg_cells.proofs.StringMaps.{order, equal_or_not}
 use Rattle.pg_cells.proofs.LaidLaws.{range_has, has_range}
+use Rattle.pg_types.proofs.BoolFacts.{both_halves}
 
 -- a test that all numbers of a range pass keeps the range
 filter_all : (test : ℕ → Bool) (a n : ℕ) → ((x : ℕ) → a ≤ x → x < a + n → test x ≡ true) → filter test (range_with_len a n) ≡ range_with_len a n
@@ -43,13 +44,9 @@ blanks_below blank x a zero lt = tt
 blanks_below blank x a (suc n) lt =
     subst (λ o. T (is_lt (ordering_then o Equal) && below_all order (x ∷ []) (blanks blank (range_with_len (a + 1) n)))) (sym (less_than x a lt)) (blanks_below blank x (a + 1) n (omega arith))
 
-both : (a b : Bool) → T a → T b → T (a && b)
-both true b p q = q
-both false b p q = absurd p
-
 blanks_sorted : {V : Type 0} (blank : V) (a n : ℕ) → T (is_sorted order (blanks blank (range_with_len a n)))
 blanks_sorted blank a zero = tt
-blanks_sorted blank a (suc n) = both (below_all order (a ∷ []) (blanks blank (range_with_len (a + 1) n))) (is_sorted order (blanks blank (range_with_len (a + 1) n))) (blanks_below blank a (a + 1) n (omega arith)) (blanks_sorted blank (a + 1) n)
+blanks_sorted blank a (suc n) = both_halves (below_all order (a ∷ []) (blanks blank (range_with_len (a + 1) n))) (is_sorted order (blanks blank (range_with_len (a + 1) n))) (blanks_below blank a (a + 1) n (omega arith)) (blanks_sorted blank (a + 1) n)
 
 module _ {V : Type 0} (blank : V) where
   find_empty : (xs : List ℕ) → find order [] (blanks blank xs) ≡ None

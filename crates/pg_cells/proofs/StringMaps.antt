@@ -10,6 +10,7 @@ use Rattle.std.specs.Cmp.Lexicographic.{slice_cmp}
 use Rattle.std.specs.FinMap.{slice_cmp-IsAntisymmetric, nat_cmp-IsAntisymmetric, find, put, is_sorted}
 use Rattle.std.specs.FinMap.Entries.{find-put, find-where_key, is_sorted-put, is_sorted-where_key, same_entries, below_all}
 use Rattle.std.specs.List.{list_any}
+use Rattle.pg_types.proofs.BoolFacts.{equal_is, first_half, second_half, less_from}
 pub use Rattle.pg_cells.specs.Held.{without_key}
 
 -- the order of strings
@@ -19,13 +20,8 @@ order = slice_cmp nat_cmp
 abbrev pub same_string : List ℕ → List ℕ → Bool
 same_string q p = eq_by_cmp order q p
 
-equal : (o : Ordering) → is_eq o ≡ true → o ≡ Equal
-equal Less e = cc
-equal Equal e = refl
-equal Greater e = cc
-
 pub same_from : (q p : List ℕ) → same_string q p ≡ true → q ≡ p
-same_from q p e = slice_cmp-IsAntisymmetric nat_cmp-IsAntisymmetric q p (equal (order q p) e)
+same_from q p e = slice_cmp-IsAntisymmetric nat_cmp-IsAntisymmetric q p (equal_is (order q p) e)
 
 pub same_itself : (p : List ℕ) → same_string p p ≡ true
 same_itself p = ap is_eq (tied_itself nat_list_cmp_total p)
@@ -45,19 +41,6 @@ not_swapped q p = elim (equal_or_not q p) [
   | inl h ↦ ap not (ap (λ x. same_string p x) h.0 ∙ same_itself p ∙ sym h.1)
   | inr h ↦ ap not (same_no p q (λ z. h.0 (sym z)) ∙ sym h.1)
 ]
-
-first_part : (a b : Bool) → T (a && b) → T a
-first_part true b h = tt
-first_part false b h = h
-
-second_part : (a b : Bool) → T (a && b) → T b
-second_part true b h = h
-second_part false b h = absurd h
-
-less : (o : Ordering) → T (is_lt o) → o ≡ Less
-less Less h = refl
-less Equal h = absurd h
-less Greater h = absurd h
 
 less_is : (o : Ordering) → o ≡ Less → is_eq o ≡ false
 less_is Less e = refl
@@ -96,21 +79,21 @@ module _ {X : Type 0} where
   pub find_below : (p : List ℕ) (es : List (List ℕ × X)) → T (below_all order p es) → find order p es ≡ None
   find_below p [] h = refl
   find_below p (e ∷ es) h =
-      ap (λ b. cond b (Some e.1) (find order p es)) (less_is (order p e.0) (less (order p e.0) (first_part (is_lt (order p e.0)) (below_all order p es) h)))
-      ∙ find_below p es (second_part (is_lt (order p e.0)) (below_all order p es) h)
+      ap (λ b. cond b (Some e.1) (find order p es)) (less_is (order p e.0) (less_from (order p e.0) (first_half (is_lt (order p e.0)) (below_all order p es) h)))
+      ∙ find_below p es (second_half (is_lt (order p e.0)) (below_all order p es) h)
 
   pub below_less : (p q : List ℕ) (es : List (List ℕ × X)) → order p q ≡ Less → T (below_all order q es) → T (below_all order p es)
   below_less p q [] e h = tt
   below_less p q (x ∷ xs) e h =
-      let here = nat_list_cmp_total.trans p q x.0 e (less (order q x.0) (first_part (is_lt (order q x.0)) (below_all order q xs) h)) in
-      let rest = below_less p q xs e (second_part (is_lt (order q x.0)) (below_all order q xs) h) in
+      let here = nat_list_cmp_total.trans p q x.0 e (less_from (order q x.0) (first_half (is_lt (order q x.0)) (below_all order q xs) h)) in
+      let rest = below_less p q xs e (second_half (is_lt (order q x.0)) (below_all order q xs) h) in
       subst (λ o. T (is_lt o && below_all order p xs)) (sym here) rest
 
   pub head_below : (e : List ℕ × X) (es : List (List ℕ × X)) → T (is_sorted order (e ∷ es)) → T (below_all order e.0 es)
-  head_below e es h = first_part (below_all order e.0 es) (is_sorted order es) h
+  head_below e es h = first_half (below_all order e.0 es) (is_sorted order es) h
 
   pub tail_sorted : (e : List ℕ × X) (es : List (List ℕ × X)) → T (is_sorted order (e ∷ es)) → T (is_sorted order es)
-  tail_sorted e es h = second_part (below_all order e.0 es) (is_sorted order es) h
+  tail_sorted e es h = second_half (below_all order e.0 es) (is_sorted order es) h
 
   -- an entry whose value passes is found at its string
   pub any_found : (es : List (List ℕ × X)) → T (is_sorted order es) → (test : X → Bool) → list_any (λ e. test e.1) es ≡ true → (p : List ℕ) × (v : X) × (find order p es ≡ Some v) × (test v ≡ true)

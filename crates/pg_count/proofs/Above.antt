@@ -8,6 +8,7 @@ use Rattle.std.specs.FinMap.{slice_cmp-IsAntisymmetric, nat_cmp-IsAntisymmetric}
 use Rattle.std.specs.FinMap.Entries.{find, is_sorted, below_all, find-where_key, is_sorted-where_key}
 use Rattle.pg_cells.proofs.StringMaps.{order, same_maps}
 use Rattle.pg_types.specs.Counts.{Counts, above}
+use Rattle.pg_types.proofs.BoolFacts.{both_halves}
 
 same_from : (q r : List ℕ) → order q r ≡ Equal → q ≡ r
 same_from q r is = slice_cmp-IsAntisymmetric nat_cmp-IsAntisymmetric q r is
@@ -29,10 +30,6 @@ below_above u (e ∷ es) = by (is_lt (order u e.0)) refl (below_above u es)
     by true is rest = subst (λ b. T (b && below_all order u (above u es))) (sym is) rest
     by false is rest = rest
 
-both : (a b : Bool) → T a → T b → T (a && b)
-both true b p q = q
-both false b p q = p
-
 -- no counted window is above u
 pub above_none : (u : List ℕ) (counts : Counts) → T (is_sorted order counts) → ((r : List ℕ) (n : ℕ × ℕ) → find order r counts ≡ Some n → order u r ≡ Less → ⊥) → above u counts ≡ []
 above_none u counts h none = same_maps (above u counts) [] (sorted_above u counts h) tt (λ r. find_above u r counts ∙ by r (order u r) refl (find order r counts) refl)
@@ -48,7 +45,7 @@ pub above_least : (u q : List ℕ) (n : ℕ × ℕ) (counts : Counts) → T (is_
     → ((r : List ℕ) (m : ℕ × ℕ) → find order r counts ≡ Some m → order u r ≡ Less → order r q ≡ Less → ⊥) → above u counts ≡ (q, n) ∷ above q counts
 above_least u q n counts h found over least =
     same_maps (above u counts) ((q, n) ∷ above q counts) (sorted_above u counts h)
-    (both (below_all order q (above q counts)) (is_sorted order (above q counts)) (below_above q counts) (sorted_above q counts h))
+    (both_halves (below_all order q (above q counts)) (is_sorted order (above q counts)) (below_above q counts) (sorted_above q counts h))
     (λ r. find_above u r counts ∙ by r (order r q) refl ∙ sym (ap (λ x. cond (is_eq (order r q)) (Some n) x) (find_above q r counts)))
   where
     between : (r : List ℕ) → order r q ≡ Less → (o : Ordering) → order u r ≡ o → (x : Option (ℕ × ℕ)) → find order r counts ≡ x → cond (is_lt o) x None ≡ None

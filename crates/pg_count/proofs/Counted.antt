@@ -6,26 +6,15 @@ use Rattle.pg_cells.specs.Walks.{AddsBlanks}
 use Rattle.pg_cells.proofs.StringMaps.{order, same_string, equal_or_not, same_maps, find_put_same, find_put_other, sorted_put, find_below, head_below, tail_sorted}
 use Rattle.pg_types.specs.Counts.{SignsWithin, is_counted, sums_of}
 use Rattle.pg_count.specs.Counting.{Counting, IsCounting, Tallies, sums_at, counts_in}
-
-both : (a b : Bool) → T a → T b → T (a && b)
-both true b p q = q
-both false b p q = p
-
-first : (a b : Bool) → T (a && b) → T a
-first true b p = tt
-first false b p = p
-
-second : (a b : Bool) → T (a && b) → T b
-second true b p = p
-second false b p = absurd p
+use Rattle.pg_types.proofs.BoolFacts.{both_halves, first_half, second_half}
 
 below_counts : (p : List ℕ) (ts : Tallies) → T (below_all order p ts) → T (below_all order p (counts_in ts))
 below_counts p [] h = tt
 below_counts p (e ∷ es) h =
-    let rest = below_counts p es (second (is_lt (order p e.0)) (below_all order p es) h) in
+    let rest = below_counts p es (second_half (is_lt (order p e.0)) (below_all order p es) h) in
     elim e.1 as (λ o. T (below_all order p (counts_in ((e.0, o) ∷ es)))) [
       | None ↦ rest
-      | Some sums ↦ both (is_lt (order p e.0)) (below_all order p (counts_in es)) (first (is_lt (order p e.0)) (below_all order p es) h) rest
+      | Some sums ↦ both_halves (is_lt (order p e.0)) (below_all order p (counts_in es)) (first_half (is_lt (order p e.0)) (below_all order p es) h) rest
     ]
 
 pub is_sorted-counts_in : (ts : Tallies) → T (is_sorted order ts) → T (is_sorted order (counts_in ts))
@@ -34,7 +23,7 @@ is_sorted-counts_in (e ∷ es) h =
     let rest = is_sorted-counts_in es (tail_sorted e es h) in
     elim e.1 as (λ o. T (is_sorted order (counts_in ((e.0, o) ∷ es)))) [
       | None ↦ rest
-      | Some sums ↦ both (below_all order e.0 (counts_in es)) (is_sorted order (counts_in es)) (below_counts e.0 es (head_below e es h)) rest
+      | Some sums ↦ both_halves (below_all order e.0 (counts_in es)) (is_sorted order (counts_in es)) (below_counts e.0 es (head_below e es h)) rest
     ]
 
 pub find-counts_in : (ts : Tallies) → T (is_sorted order ts) → (q : List ℕ) → find order q (counts_in ts) ≡ sums_at ts q

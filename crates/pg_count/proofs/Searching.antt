@@ -20,6 +20,7 @@ use Rattle.pg_count.specs.Bounds.{first_sign, rest_after, is_past}
 use Rattle.pg_count.specs.Counting.{Tallies, sums_at}
 use Rattle.pg_count.specs.Least.{NoneAt, NoneAbove, LeastAbove, LeastAt}
 use Rattle.pg_count.proofs.Bounding.{nat_equal, below_first, rest_decides, past_is}
+use Rattle.pg_types.proofs.BoolFacts.{less_is}
 
 -- a string that goes on by s and more goes on from the longer string
 goes_on : (p : List ℕ) (s : ℕ) (q : List ℕ) → p ++ s ∷ q ≡ (p ++ s ∷ []) ++ q
@@ -128,11 +129,6 @@ none_counted ts p bound s at = λ q n size there over.
     let wrong : None ≡ Some n = sym none ∙ there in
     cc
 
-is_less : (o : Ordering) → is_lt o ≡ true → o ≡ Less
-is_less Less is = refl
-is_less Equal is = cc
-is_less Greater is = cc
-
 -- the last sign, where it serves
 pub least_last : (ts : Tallies) (p bound : List ℕ) (s : ℕ) (sums : ℕ × ℕ) → 1 ≤ s → is_past bound s ≡ true → find order (p ++ s ∷ []) ts ≡ Some (Some sums) → LeastAt ts p bound s (s ∷ []) sums
 least_last ts p bound s sums sign over there = record {
@@ -140,7 +136,7 @@ least_last ts p bound s sums sign over there = record {
   starts = refl;
   least = record {
     found = ap (λ o. unwrap_or o None) there;
-    over = is_less (order bound (s ∷ [])) (past_is bound s ∙ over);
+    over = less_is (order bound (s ∷ [])) (past_is bound s ∙ over);
     are_signs = signs;
     least = λ q n size at up less.
         let same : order (s ∷ q) (s ∷ []) ≡ Equal = less_behind s q [] ∙ ap (λ x. order x []) (empty q s size) in

@@ -1,6 +1,7 @@
 -- A word more in a store.
-use Rattle.std.proofs.Common.{◌≡◌, ℕ, ◌+◌, ◌-◌, ◌≤◌, Bool, true, nat_le, List, [], ◌∷◌, ◌++◌, length, take, drop, map, slice_range, refl, sym, ◌∙◌, ap, arith, length-append, length-drop}
-use Rattle.std.specs.List.{list_all}
+use Rattle.std.proofs.Common.{◌≡◌, ℕ, ◌+◌, ◌-◌, ◌≤◌, Bool, true, nat_le, List, [], ◌∷◌, ◌++◌, length, take, drop, map, slice_range, refl, sym, ◌∙◌, ap, subst, arith, length-append, length-drop}
+use Rattle.std.specs.List.{list_all, All}
+use Rattle.std.proofs.lemmas.List.Elements.{All-push}
 use Rattle.std.proofs.lemmas.List.{take-append-le, drop-append-le, drop_at, take_all, length-map, map-append}
 use Rattle.std.proofs.lemmas.List.Folds.{list_all-append}
 use Rattle.std.proofs.lemmas.List.Concat.{flat_map-append}
@@ -9,7 +10,7 @@ use Rattle.std.proofs.lemmas.Bool.{and_parts, and_from, leb-true, le-leb}
 use Rattle.pg_dict.specs.declared.store.Store.{Store}
 use Rattle.pg_dict.specs.declared.store.Stored.{Stored}
 use Rattle.pg_dict.specs.PositionedSigns.{PositionedSign, Columns, with_signs}
-use Rattle.pg_dict.specs.Word.{Word, word_with, is_word}
+use Rattle.pg_dict.specs.Word.{Word, word_with, IsWord}
 use Rattle.pg_dict.specs.Store.{columns_of, word_at, stored_words, all_signs, lies_within, IsSound}
 
 -- a part of a list stays when the list grows
@@ -52,7 +53,7 @@ words_kept c positioned (w ∷ ws) even within =
     let there : map (word_at (with_signs c positioned)) ws ≡ map (word_at c) ws = words_kept c positioned ws even p.1 in
     ap (λ (x : Word). x ∷ map (word_at (with_signs c positioned)) ws) here ∙ ap (λ (xs : List Word). word_at c w ∷ xs) there
 
--- the word of the new positioned
+-- the word of the new signs
 pub word_new : (c : Columns) (positioned : List PositionedSign) (start end weight : ℕ) → IsEven c → start ≡ length c.signs → end ≡ length c.signs + length positioned → word_at (with_signs c positioned) (record { start = start; end = end; weight = weight }) ≡ word_with weight positioned
 word_new c positioned start end weight even from to =
     rw (
@@ -98,7 +99,7 @@ lies_within_more n m more w within =
     and_from (nat_le w.start w.end) (nat_le w.end m) p.0 (le-leb w.end m (omega arith))
 
 -- a store stays sound with a word more
-pub adds_sound : (s u : Store) (positioned : List PositionedSign) (start end weight : ℕ) → IsSound s → columns_of u ≡ with_signs (columns_of s) positioned → u.words.items ≡ s.words.items ++ record { start = start; end = end; weight = weight } ∷ [] → start ≡ length s.signs.items → end ≡ length u.signs.items → is_word (word_with weight positioned) ≡ true → IsSound u
+pub adds_sound : (s u : Store) (positioned : List PositionedSign) (start end weight : ℕ) → IsSound s → columns_of u ≡ with_signs (columns_of s) positioned → u.words.items ≡ s.words.items ++ record { start = start; end = end; weight = weight } ∷ [] → start ≡ length s.signs.items → end ≡ length u.signs.items → IsWord (word_with weight positioned) → IsSound u
 adds_sound s u positioned start end weight sound grown added from to good =
     let w : Stored = record { start = start; end = end; weight = weight } in
     let n : ℕ = length u.signs.items in
@@ -117,5 +118,5 @@ adds_sound s u positioned start end weight sound grown added from to good =
       cares_len = omega (arith, cares, length-append s.cares.items (map (λ (x : PositionedSign). x.care) positioned), length-map positioned (λ (x : PositionedSign). x.care), sound.cares_len);
       within = ap (list_all (lies_within n)) added ∙ list_all-append (lies_within n) s.words.items (w ∷ []) ∙ and_from _ _ kept (and_from _ _ new refl);
       joined = joined ∙ sym parts;
-      words = ap (list_all is_word) words ∙ list_all-append is_word (stored_words s) (word_with weight positioned ∷ []) ∙ and_from _ _ sound.words (and_from _ _ good refl);
+      words = subst (All IsWord) (sym words) (All-push IsWord (stored_words s) (word_with weight positioned) sound.words good);
     }

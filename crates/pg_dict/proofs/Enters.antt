@@ -22,6 +22,7 @@ use Rattle.pg_dict.proofs.Takes.{add_spots-add}
 use Rattle.pg_dict.proofs.Adds.{length_signs, adds_words, adds_sound}
 use Rattle.pg_dict.proofs.Good.{fits_word}
 use Rattle.pg_dict.proofs.SoundItems.{items_sound}
+use Rattle.pg_dict.proofs.Told.{word_from}
 
 -- what is not refused
 pub unless_ok : {Y : Type 0} (refusal : Option Refusal) (y z : Y) → unless refusal y ≡ Ok z → (refusal ≡ None) × (y ≡ z)
@@ -32,7 +33,7 @@ unless_ok (Some r) y z is = cc
 abbrev items_in : Alphabet → ℕ → List ℕ → List Token
 items_in t size rest = tokens_of (cut_rest t Dictionary size rest)
 
--- the edge, the first letter and what is filled in behind them are the positioned of the line's word
+-- the edge, the first letter and what is filled in behind them are the signs of the line's word
 pub word_read : (t : Alphabet) (weight line size sign : ℕ) (rest : List ℕ) (before edge first after : Columns) → edge ≡ with_signs before (positioned_sign Nothing weight EDGE ∷ []) → first ≡ with_signs edge (positioned_sign Nothing weight sign ∷ []) → columns_after t weight line size Nothing weight (WORD_LETTERS_MAX - 1) first rest ≡ Ok after
     → (word_reading t line size weight sign rest ≡ Ok (record { word = Some (word_with weight (word_signs weight sign (items_in t size rest))); weight = weight })) × (after ≡ with_signs before (word_signs weight sign (items_in t size rest)))
 word_read t weight line size sign rest before edge first after is_edge is_first fills =
@@ -60,5 +61,5 @@ enters t rules weight line size sign n rest s p q u start end sound is_edge is_f
     let size_p : length p.signs.items ≡ length s.signs.items + 1 = length_signs s p (positioned_sign Nothing weight EDGE ∷ []) is_edge in
     let size_q : length q.signs.items ≡ length p.signs.items + 1 = length_signs p q (positioned_sign Nothing weight sign ∷ []) is_first in (
       ap (with_word (stored_words s)) r.0 ∙ ap (λ (words : List Word). Ok (record { words = words; weight = weight })) (sym (adds_words s u positioned start end weight sound grown added from to)),
-      adds_sound s u positioned start end weight sound grown added from to (fits_word n s u weight sign items fit grown (omega arith) small letter (items_sound t rules (size - length rest + 1) 0 rest)),
+      adds_sound s u positioned start end weight sound grown added from to (word_from _ (fits_word n s u weight sign items fit grown (omega arith) small letter (items_sound t rules (size - length rest + 1) 0 rest))),
     )

@@ -10,7 +10,8 @@ use Rattle.pg_types.specs.declared.marks.Mark.TheVariants.{Nothing, Error, Misse
 use Rattle.pg_translate.specs.Tokens.{Token, Letter, Digit, Weight, Marked, Edge}
 use Rattle.pg_dict.specs.declared.store.Store.{Store}
 use Rattle.pg_dict.specs.PositionedSigns.{PositionedSign, positioned_sign, sets_hyphen, keeps_care, Columns, with_signs}
-use Rattle.pg_dict.specs.Word.{Word, word_with, is_word, is_weight, is_plain_at, decides, has_lengths}
+use Rattle.pg_dict.specs.Word.{Word, word_with, is_weight}
+use Rattle.pg_dict.proofs.WordTests.{is_word, is_plain_at, decides, has_lengths}
 use Rattle.pg_dict.specs.Running.{signs_behind, word_signs}
 use Rattle.pg_dict.specs.Store.{columns_of, is_sign_up_to, IsFit}
 use Rattle.pg_dict.proofs.Adds.{list_all_weaker}
@@ -34,7 +35,7 @@ mark_decides Missed = refl
 mark_decides Found = refl
 mark_decides DontCare = refl
 
--- positioned up to the last edge, which stands behind a plain position: the others are letters
+-- signs up to the last edge, which stands behind a plain position: the others are letters
 pub record Ends (weight : ℕ) (positioned : List PositionedSign) : Type 0 where
   pub front : List PositionedSign
   pub whole : positioned ≡ front ++ positioned_sign Nothing weight EDGE ∷ []
@@ -58,7 +59,7 @@ last_spot weight mark number (Weight n ∷ items) sound = last_spot weight mark 
 last_spot weight mark number (Marked m ∷ items) sound = last_spot weight m number items sound
 last_spot weight mark number (Edge ∷ items) sound = absurd (false≢true sound)
 
--- decided positioned
+-- decided positions
 pub decides_spots : (positioned : List PositionedSign) → list_all is_decided positioned ≡ true → decides (map (λ (s : PositionedSign). s.hyphen) positioned) (map (λ (s : PositionedSign). s.care) positioned) ≡ true
 decides_spots [] decided = refl
 decides_spots (s ∷ positioned) decided =
@@ -117,7 +118,7 @@ good_word weight sign items short signs weights small letter sound =
 pub sign_some : (n sign : ℕ) → is_sign_up_to n sign ≡ true → nat_le 1 sign ≡ true
 sign_some n sign is = (and_parts (nat_le 1 sign) (nat_le sign n) is).0
 
--- the signs and weights of new positioned in fit columns are so too
+-- the new signs and their weights in fit columns are so too
 pub fits_word : (n : ℕ) (s u : Store) (weight sign : ℕ) (items : List Token) → IsFit n u → columns_of u ≡ with_signs (columns_of s) (word_signs weight sign items) → length (word_signs weight sign items) ≤ WORD_LETTERS_MAX + 2 → weight ≤ WEIGHT_MAX → EDGE < sign → list_all is_sound_item items ≡ true → is_word (word_with weight (word_signs weight sign items)) ≡ true
 fits_word n s u weight sign items fit grown short small letter sound =
     let positioned : List PositionedSign = word_signs weight sign items in

@@ -1,3 +1,4 @@
+pub mod WordTests
 pub mod Takes
 pub mod Rows
 pub mod Adds

@@ -14,6 +14,7 @@ use Rattle.pg_translate.specs.Rules.{KeepsRules}
 use Rattle.pg_translate.specs.declared.items.Place.TheVariants.{Dictionary}
 use Rattle.pg_translate.specs.Spellings.{is_space}
 use Rattle.pg_translate.proofs.Unbroken.{joined_unbroken}
+use Rattle.pg_translate.proofs.LineTexts.{pieces_of_line, unbroken_feed, unbroken_return}
 use Rattle.pg_translate.proofs.JoinedItems as reads
 use Rattle.pg_dict.specs.Word.{Word}
 use Rattle.pg_dict.specs.Words.{LineWord, line_word, line_reading, on_line, words_from, words}
@@ -33,13 +34,6 @@ signs_are_letters t ((Edge, text) ∷ items) each = absurd each.0
 pub line_is_read : (t : Alphabet) → KeepsRules t → (line weight : ℕ) (items : List (Token × List ℕ)) → AllByRecursion (λ (item : Token × List ℕ). IsItem t Dictionary item.0 item.1) items → letters_among (map (λ (item : Token × List ℕ). item.0) items) ≤ WORD_LETTERS_MAX → line_reading t line weight (text_of_items items) ≡ Ok (line_word weight (map (λ (item : Token × List ℕ). item.0) items))
 line_is_read t rules line weight items each few =
     reads.line_is_read (line_word weight) t rules Dictionary line items each (omega (arith, few, signs_are_letters t items each))
-
--- the pieces of a text without a line feed, and what stands behind its line feed
-pub pieces_of_line : (text more : List ℕ) → list_all (λ b. not (is_line_feed b)) text ≡ true → pieces_at is_line_feed (text ++ 10 ∷ more) ≡ text ∷ pieces_at is_line_feed more
-pieces_of_line [] more whole = refl
-pieces_of_line (b ∷ bs) more whole =
-    let p = and_parts (not (is_line_feed b)) (list_all (λ b. not (is_line_feed b)) bs) whole in
-    ap (λ (test : Bool). cond test ([] ∷ pieces_at is_line_feed (bs ++ 10 ∷ more)) (onto_first b (pieces_at is_line_feed (bs ++ 10 ∷ more)))) (not-true (is_line_feed b) p.0) ∙ ap (onto_first b) (pieces_of_line bs more p.1)
 
 -- the lines of a file of lines
 pub lines_of_file : (texts : List (List ℕ)) → AllByRecursion IsLine texts → lines (file_of texts) ≡ texts
@@ -64,20 +58,7 @@ pub file_is_read : (t : Alphabet) (texts : List (List ℕ)) (ws : List Word) →
 file_is_read t texts ws each give short =
     words_short t (file_of texts) short ∙ ap (words_from t 1 1) (lines_of_file texts each) ∙ words_of_lines t 1 1 texts ws give
 
--- a text without a blank, a TAB, an LF and a CR is a line
-unbroken_feed : (text : List ℕ) → list_any is_space text ≡ false → list_all (λ b. not (is_line_feed b)) text ≡ true
-unbroken_feed [] unbroken = refl
-unbroken_feed (b ∷ bs) unbroken =
-    let parts = or_parts (is_space b) (list_any is_space bs) unbroken in
-    let feed : (b == 10) ≡ false = (or_parts (b == 32 || b == 9) (b == 10) (or_parts ((b == 32 || b == 9) || b == 10) (b == 13) parts.0).0).1 in
-    and_from _ _ (ap not feed) (unbroken_feed bs parts.1)
-
-unbroken_return : (text : List ℕ) (i : ℕ) → list_any is_space text ≡ false → (slice_index text i == 13) ≡ false
-unbroken_return [] i unbroken = refl
-unbroken_return (b ∷ bs) zero unbroken = (or_parts ((b == 32 || b == 9) || b == 10) (b == 13) (or_parts (is_space b) (list_any is_space bs) unbroken).0).1
-unbroken_return (b ∷ bs) (suc i) unbroken = unbroken_return bs i (or_parts (is_space b) (list_any is_space bs) unbroken).1
-
--- so is a text of items
+-- a text of items is a line
 pub items_line : (t : Alphabet) → KeepsRules t → (items : List (Token × List ℕ)) → AllByRecursion (λ (item : Token × List ℕ). IsItem t Dictionary item.0 item.1) items → IsLine (text_of_items items)
 items_line t rules items each =
     let text : List ℕ = text_of_items items in

@@ -2,7 +2,8 @@
 use Rattle.std.proofs.Common.{◌≡◌, ℕ, ◌+◌, ◌≤◌, map, length, List, [], ◌∷◌, ◌++◌, Result, Ok, Err, refl, sym, ◌∙◌, ap, subst, append_assoc}
 use Rattle.std.specs.Option.{option_to_list}
 use Rattle.std.specs.Result.{result_unwrap_or}
-use Rattle.std.specs.List.{list_all}
+use Rattle.std.specs.List.{list_all, All}
+use Rattle.std.proofs.lemmas.List.Elements.{All-nil}
 use Rattle.std.proofs.lemmas.Bool.{le-ltb}
 use Rattle.std.proofs.lemmas.List.{append-nil}
 use Rattle.pg_types.specs.declared.refusals.Refusal.{Refusal}
@@ -16,7 +17,7 @@ use Rattle.pg_dict.specs.declared.store.Store.{Store}
 use Rattle.pg_dict.specs.declared.store.Stored.{Stored}
 use Rattle.pg_dict.specs.PositionedSigns.{Columns, no_columns}
 use Rattle.pg_dict.specs.Store.{columns_of, word_at, stored_words, all_signs, lies_within, is_sign_up_to, IsSound, IsFit}
-use Rattle.pg_dict.specs.Word.{Word, is_word, is_weight}
+use Rattle.pg_dict.specs.Word.{Word, is_weight, IsWord}
 use Rattle.pg_dict.specs.Words.{LineWord, line_reading, on_line, words_from, words}
 use Rattle.pg_dict.specs.Entries.{Entries, with_word}
 
@@ -76,7 +77,7 @@ starts_sound s columns none = record {
   cares_len = ap (λ (c : Columns). length c.cares) columns ∙ sym (ap (λ (c : Columns). length c.signs) columns);
   within = ap (list_all (lies_within (length s.signs.items))) none;
   joined = ap (λ (c : Columns). c.signs) columns ∙ sym (ap (λ (words : List Stored). all_signs (map (word_at (columns_of s)) words)) none);
-  words = ap (λ (words : List Stored). list_all is_word (map (word_at (columns_of s)) words)) none;
+  words = subst (λ (words : List Stored). All IsWord (map (word_at (columns_of s)) words)) (sym none) (All-nil IsWord);
 }
 
 pub starts_fit : (n : ℕ) (s : Store) → columns_of s ≡ no_columns → IsFit n s

@@ -56,7 +56,7 @@ shown_sign {X} f weight mark number items =
     let p = gaps_some items in
     ap (λ (gs : List (List Token)). shown f weight mark number ([] ∷ gs)) p.2 ∙ ap (λ (gs : List (List Token)). f mark number ∷ shown f weight Nothing weight gs) (sym p.2)
 
--- what the positioned show is what their gaps show
+-- what the signs with their positions show is what their gaps show
 spots_shown : {X : Type 0} (h : PositionedSign → X) (f : Mark → ℕ → X) → ((mark : Mark) (number sign : ℕ) → h (positioned_sign mark number sign) ≡ f mark number) → (weight : ℕ) (mark : Mark) (number : ℕ) (items : List Token) → map h (signs_behind weight mark number items) ≡ shown f weight mark number (gaps items)
 spots_shown {X} h f same weight mark number [] = ap (λ (x : X). x ∷ []) (same Nothing weight EDGE)
 spots_shown {X} h f same weight mark number (Letter s ∷ items) =
@@ -92,7 +92,7 @@ positions_shown {X} h f same weight s items =
     ∙ ap (λ (x : X). plain ∷ x ∷ map h (signs_behind weight Nothing weight items)) (same Nothing weight s)
     ∙ ap (λ (xs : List X). plain ∷ plain ∷ xs) behind
 
--- the signs of the positioned
+-- the signs alone
 spots_signs : (weight : ℕ) (mark : Mark) (number : ℕ) (items : List Token) → map (λ (s : PositionedSign). s.sign) (signs_behind weight mark number items) ≡ signs_of items ++ EDGE ∷ []
 spots_signs weight mark number [] = refl
 spots_signs weight mark number (Letter s ∷ items) = ap (λ (xs : List ℕ). s ∷ xs) (spots_signs weight Nothing weight items)

@@ -18,7 +18,7 @@ use Rattle.pg_dict.specs.Running.{running_word, signs_behind}
 use Rattle.pg_dict.specs.ReadColumns.{columns_after}
 use Rattle.pg_dict.specs.LineStarts.{rest_reading, word_reading}
 
--- positioned behind positioned
+-- signs behind signs
 pub add_spots-add : (c : Columns) (s : PositionedSign) (ss : List PositionedSign) → with_signs (with_signs c (s ∷ [])) ss ≡ with_signs c (s ∷ ss)
 add_spots-add c s ss = simp append_assoc
 

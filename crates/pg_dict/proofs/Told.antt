@@ -1,5 +1,6 @@
 -- What a dictionary tells of its words.
-use Rattle.std.proofs.Common.{◌≡◌, ℕ, ◌+◌, ◌-◌, ◌*◌, ◌<◌, ◌≤◌, Bool, true, false, nat_le, List, [], ◌∷◌, length, slice_index_or, slice_get, slice_range, Some, refl, sym, ◌∙◌, ap, arith, length-append, ◌||◌, not, nat_lt, slice_index, zero, suc, unwrap_or, ◌==◌}
+use Rattle.std.proofs.Common.{◌≡◌, ℕ, ◌+◌, ◌-◌, ◌*◌, ◌<◌, ◌≤◌, Bool, true, false, nat_le, List, [], ◌∷◌, length, slice_index_or, slice_get, slice_range, Some, refl, sym, ◌∙◌, ap, subst, arith, length-append, ◌||◌, not, nat_lt, slice_index, zero, suc, unwrap_or, ◌==◌}
+use Rattle.std.proofs.lemmas.List.Elements.{All-head, All-tail}
 use Rattle.std.specs.List.{list_all, sum_by, All}
 use Rattle.std.specs.Option.{option_map}
 use Rattle.std.proofs.lemmas.List.{length-map}
@@ -10,7 +11,8 @@ use Rattle.std.proofs.lemmas.Option.{slice_get-get_or, get_or_from_slice_get, sl
 use Rattle.pg_types.specs.declared.limits.TheConstants.{EDGE, FILE_MAX, WEIGHT_MAX, WORD_LETTERS_MAX}
 use Rattle.pg_dict.specs.declared.store.Store.{Store}
 use Rattle.pg_dict.specs.declared.store.Stored.{Stored}
-use Rattle.pg_dict.specs.Word.{Word, letter_count, IsPlainAt, IsWord, SignsAtMost, is_plain_at, decides, has_lengths, has_signs, has_weights, has_plain, is_word}
+use Rattle.pg_dict.specs.Word.{Word, letter_count, IsPlainAt, IsWord, SignsAtMost}
+use Rattle.pg_dict.proofs.WordTests.{is_plain_at, decides, has_lengths, has_signs, has_weights, has_plain, is_word}
 use Rattle.pg_dict.specs.Store.{columns_of, word_at, stored_words, all_signs, is_sign_up_to, IsDictionary}
 
 -- a number that passes the tests of all elements
@@ -92,17 +94,12 @@ word_from w pass =
       last = plain_from w (length w.signs - 1) (omega arith) hyphens_len weights_len cares_len plain2.1;
     }
 
--- all words
-pub words_from_tests : (ws : List Word) → list_all is_word ws ≡ true → All IsWord ws
-words_from_tests ws pass k d within = word_from _ (AllPass-from_list_all is_word ws pass k d within)
-
 -- the letters of all words are their signs without two edges each
-pub letters_sum : (ws : List Word) → list_all is_word ws ≡ true → sum_by letter_count ws + 2 * length ws ≡ length (all_signs ws)
-letters_sum [] pass = refl
-letters_sum (w ∷ ws) pass =
-    let p = and_parts (is_word w) (list_all is_word ws) pass in
-    let long : 3 ≤ length w.signs = leb-true 3 _ (and_parts _ _ (and_parts (has_lengths w) _ p.0).0).0 in
-    let rest : sum_by letter_count ws + 2 * length ws ≡ length (all_signs ws) = letters_sum ws p.1 in
+pub letters_sum : (ws : List Word) → All IsWord ws → sum_by letter_count ws + 2 * length ws ≡ length (all_signs ws)
+letters_sum [] each = refl
+letters_sum (w ∷ ws) each =
+    let long : 3 ≤ length w.signs = (All-head IsWord w ws each).long in
+    let rest : sum_by letter_count ws + 2 * length ws ≡ length (all_signs ws) = letters_sum ws (All-tail IsWord w ws each) in
     let sum : sum_by letter_count (w ∷ ws) ≡ length w.signs - 2 + sum_by letter_count ws = sum_by-cons letter_count w ws in
     omega (arith, length-append w.signs (all_signs ws))
 
@@ -128,11 +125,11 @@ few_letters s is =
     let words : length (stored_words s) ≡ length s.words.items = length-map s.words.items (word_at (columns_of s)) in
     omega (arith, is.few)
 
--- a word of a list that passes
-pub word_in : (ws : List Word) (i : ℕ) (w : Word) → list_all is_word ws ≡ true → slice_get ws i ≡ Some w → IsWord w
-word_in ws i w pass at =
+-- a word of a list
+pub word_in : (ws : List Word) (i : ℕ) (w : Word) → All IsWord ws → slice_get ws i ≡ Some w → IsWord w
+word_in ws i w each at =
     let here : slice_index_or ws i w ≡ w = get_or_from_slice_get ws i w w at in
-    word_from w (ap is_word (sym here) ∙ AllPass-from_list_all is_word ws pass i w (slice_get_within ws i w at))
+    subst IsWord here (each i w (slice_get_within ws i w at))
 
 -- the word that is lent
 pub word_lent : (s : Store) (now : List Word) (i : ℕ) (w : Stored) (signs : List ℕ) (hyphens : List Bool) (weights : List ℕ) (cares : List Bool) → IsDictionary s → stored_words s ≡ now → i < length now → w ≡ slice_index_or s.words.items i w → signs ≡ s.signs.items → hyphens ≡ s.hyphens.items → weights ≡ s.weights.items → cares ≡ s.cares.items

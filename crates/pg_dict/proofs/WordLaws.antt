@@ -84,12 +84,12 @@ parted {X} (x ∷ y ∷ ys) a b c long first second last =
     ap (λ (zs : List X). x ∷ y ∷ zs) (whole ∙ ap (λ (k : ℕ). take k ys ++ c ∷ []) (sym size)) ∙ ap (λ (z : X). z ∷ y ∷ (between_letters (x ∷ y ∷ ys) ++ c ∷ [])) x_is ∙ ap (λ (z : X). a ∷ z ∷ (between_letters (x ∷ y ∷ ys) ++ c ∷ [])) y_is
 
 -- the parts of written letters
-pub written_signs : (marks : List Mark) (weights signs : List ℕ) → length weights ≡ length marks → length signs ≡ length marks → map (λ (l : Written). l.sign) (written_letters marks weights signs) ≡ signs
-written_signs [] weights [] w s = refl
-written_signs [] weights (x ∷ xs) w s = absurd (omega arith)
-written_signs (m ∷ ms) [] signs w s = absurd (omega arith)
-written_signs (m ∷ ms) (n ∷ ns) [] w s = absurd (omega arith)
-written_signs (m ∷ ms) (n ∷ ns) (x ∷ xs) w s = ap (λ (ys : List ℕ). x ∷ ys) (written_signs ms ns xs (omega arith) (omega arith))
+pub letters_signs : (marks : List Mark) (weights signs : List ℕ) → length weights ≡ length marks → length signs ≡ length marks → map (λ (l : Written). l.sign) (written_letters marks weights signs) ≡ signs
+letters_signs [] weights [] w s = refl
+letters_signs [] weights (x ∷ xs) w s = absurd (omega arith)
+letters_signs (m ∷ ms) [] signs w s = absurd (omega arith)
+letters_signs (m ∷ ms) (n ∷ ns) [] w s = absurd (omega arith)
+letters_signs (m ∷ ms) (n ∷ ns) (x ∷ xs) w s = ap (λ (ys : List ℕ). x ∷ ys) (letters_signs ms ns xs (omega arith) (omega arith))
 
 pub written_weights : (marks : List Mark) (weights signs : List ℕ) → length weights ≡ length marks → length signs ≡ length marks → map (λ (l : Written). l.weight) (written_letters marks weights signs) ≡ weights
 written_weights [] [] signs w s = refl
@@ -104,7 +104,7 @@ written_marks h (m ∷ ms) [] signs w s = absurd (omega arith)
 written_marks h (m ∷ ms) (n ∷ ns) [] w s = absurd (omega arith)
 written_marks h (m ∷ ms) (n ∷ ns) (x ∷ xs) w s = ap (λ (ys : List Bool). h m ∷ ys) (written_marks h ms ns xs (omega arith) (omega arith))
 
--- what written positioned show
+-- what written signs show
 pub shown : {X : Type 0} (h : PositionedSign → X) (weight sign : ℕ) (letters : List Written) → map h (written_signs weight sign letters) ≡ h (positioned_sign Nothing weight EDGE) ∷ h (positioned_sign Nothing weight sign) ∷ (map (λ (l : Written). h (positioned_sign l.mark l.weight l.sign)) letters ++ h (positioned_sign Nothing weight EDGE) ∷ [])
 shown {X} h weight sign letters =
     ap (λ (xs : List X). h (positioned_sign Nothing weight EDGE) ∷ h (positioned_sign Nothing weight sign) ∷ xs) (map-append h (map (λ (l : Written). positioned_sign l.mark l.weight l.sign) letters) (positioned_sign Nothing weight EDGE ∷ []) ∙ ap (λ (xs : List X). xs ++ h (positioned_sign Nothing weight EDGE) ∷ []) (map-map h (λ (l : Written). positioned_sign l.mark l.weight l.sign) letters))
@@ -132,7 +132,7 @@ word_written w marks is mean =
     let long = is.long in
     same_word (word_with w.weight (written_signs w.weight sign letters)) w
     (shown (λ (s : PositionedSign). s.sign) w.weight sign letters
-    ∙ ap (λ (xs : List ℕ). EDGE ∷ sign ∷ (xs ++ EDGE ∷ [])) (written_signs marks (between_letters w.weights) (between_letters w.signs) weights signs)
+    ∙ ap (λ (xs : List ℕ). EDGE ∷ sign ∷ (xs ++ EDGE ∷ [])) (letters_signs marks (between_letters w.weights) (between_letters w.signs) weights signs)
     ∙ sym (parted w.signs EDGE sign EDGE long is.begins (slice_get-get_or w.signs 1 0 (omega arith)) is.ends))
     (shown (λ (s : PositionedSign). s.hyphen) w.weight sign letters
     ∙ ap (λ (xs : List Bool). false ∷ false ∷ (xs ++ false ∷ [])) (written_marks sets_hyphen marks (between_letters w.weights) (between_letters w.signs) weights signs ∙ mean.hyphens)

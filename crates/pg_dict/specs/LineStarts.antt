@@ -22,6 +22,10 @@ rest_reading t line size weight rest = let c = cut_rest t Dictionary size rest i
 abbrev pub word_reading : Alphabet → ℕ → ℕ → ℕ → ℕ → List ℕ → Result LineWord Refusal
 word_reading t line size weight sign rest = let c = cut_rest t Dictionary size rest in unless (refusal_with_room Dictionary line (WORD_LETTERS_MAX - 1) c) (running_word weight (Letter sign ∷ tokens_of c))
 
+-- the same of a line whose word weight is known
+abbrev pub word_reading_by : Line → ℕ → List ℕ → Result LineWord Refusal
+word_reading_by l sign rest = word_reading l.table.now l.number l.size l.weight sign rest
+
 -- the first letter, from which the line gives the whole; or the line gives no word; or it is refused
 abbrev pub IsLineStart : Line → Result LineWord Refusal → Result LineStart Refusal → Type 0
 IsLineStart l whole (Ok (Word weight sign rest)) = (word_reading l.table.now l.number l.size weight sign rest.now ≡ whole) × (length rest.now < l.size) × (weight ≤ WEIGHT_MAX) × (1 < sign) × (sign ≤ letters_of l.table.now + 1)

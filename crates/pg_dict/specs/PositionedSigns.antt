@@ -30,7 +30,7 @@ keeps_care DontCare = false
 abbrev pub positioned_sign : Mark → ℕ → ℕ → PositionedSign
 positioned_sign mark weight sign = record { sign = sign; hyphen = sets_hyphen mark; weight = weight; care = keeps_care mark }
 
--- positioned, as four lists of one length
+-- signs with their positions, as four lists of one length
 pub record Columns : Type 0 where
   pub signs : List ℕ
   pub hyphens : List Bool
@@ -40,7 +40,7 @@ pub record Columns : Type 0 where
 abbrev pub no_columns : Columns
 no_columns = record { signs = []; hyphens = []; weights = []; cares = [] }
 
--- columns, and behind them these positioned
+-- columns, and behind them these signs
 abbrev pub with_signs : Columns → List PositionedSign → Columns
 with_signs c positioned = record {
   signs = c.signs ++ map (λ (s : PositionedSign). s.sign) positioned;

@@ -8,7 +8,7 @@ use Rattle.pg_dict.specs.PositionedSigns.{PositionedSign, positioned_sign}
 use Rattle.pg_dict.specs.Word.{word_with}
 use Rattle.pg_dict.specs.Words.{LineWord}
 
--- the positioned behind a letter, up to the last edge: each letter takes the last mark and the last number before it, or none and
+-- the signs behind a letter, each with the position before it, up to the last edge: each letter takes the last mark and the last number before it, or none and
 -- the weight of the word, and what follows the last letter counts for nothing
 abbrev pub signs_behind : ℕ → Mark → ℕ → List Token → List PositionedSign
 signs_behind weight mark number [] = positioned_sign Nothing weight EDGE ∷ []
@@ -18,7 +18,7 @@ signs_behind weight mark number (Weight n ∷ items) = signs_behind weight mark 
 signs_behind weight mark number (Marked m ∷ items) = signs_behind weight m number items
 signs_behind weight mark number (Edge ∷ items) = positioned_sign mark number EDGE ∷ signs_behind weight Nothing weight items
 
--- the positioned of a word with this weight and first letter: the edge, the letter, and what comes behind it
+-- the signs of a word, each with the position before it, with this weight and first letter: the edge, the letter, and what comes behind it
 abbrev pub word_signs : ℕ → ℕ → List Token → List PositionedSign
 word_signs weight sign items = positioned_sign Nothing weight EDGE ∷ positioned_sign Nothing weight sign ∷ signs_behind weight Nothing weight items
 

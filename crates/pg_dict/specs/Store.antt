@@ -1,8 +1,8 @@
 -- What a store holds.
-use Rattle.std.specs.Prelude.{◌≡◌, ◌≤◌, ◌+◌, ◌*◌, ℕ, Bool, true, ◌&&◌, nat_le, List, map, length, slice_range}
+use Rattle.std.specs.Prelude.{◌≡◌, ◌≤◌, ◌+◌, ◌*◌, ℕ, Bool, true, ◌&&◌, nat_le, List, map, length, slice_range, All}
 use Rattle.std.specs.List.{list_all, flat_map}
 use Rattle.pg_types.specs.declared.limits.TheConstants.{FILE_MAX}
-use Rattle.pg_dict.specs.Word.{Word, is_word, is_weight}
+use Rattle.pg_dict.specs.Word.{Word, IsWord, is_weight}
 use Rattle.pg_dict.specs.PositionedSigns.{Columns}
 use Rattle.pg_dict.specs.declared.store.Store.{Store}
 use Rattle.pg_dict.specs.declared.store.Stored.{Stored}
@@ -40,7 +40,7 @@ pub record IsSound (s : Store) : Type 0 where
   pub cares_len : length s.cares.items ≡ length s.signs.items
   pub within : list_all (lies_within (length s.signs.items)) s.words.items ≡ true
   pub joined : s.signs.items ≡ all_signs (stored_words s)
-  pub words : list_all is_word (stored_words s) ≡ true
+  pub words : All IsWord (stored_words s)
 
 -- a letter takes a byte of the file, and each word has two edges
 pub record IsDictionary (s : Store) : Type 0 where

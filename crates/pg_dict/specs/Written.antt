@@ -37,7 +37,7 @@ weight_tokens other weight = if weight == other then [] else number_token weight
 abbrev pub letters_tokens : ℕ → List Written → List Token
 letters_tokens weight letters = flat_map (λ (l : Written). mark_tokens l.mark ++ (weight_tokens weight l.weight ++ Letter l.sign ∷ [])) letters
 
--- the positioned of a word with this weight, first letter and letters behind it
+-- the signs of a word, each with the position before it, with this weight, first letter and letters behind it
 abbrev pub written_signs : ℕ → ℕ → List Written → List PositionedSign
 written_signs weight sign letters = positioned_sign Nothing weight EDGE ∷ positioned_sign Nothing weight sign ∷ (map (λ (l : Written). positioned_sign l.mark l.weight l.sign) letters ++ positioned_sign Nothing weight EDGE ∷ [])
 

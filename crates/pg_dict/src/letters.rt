@@ -1,14 +1,13 @@
 //! The reading of a word, behind its first letter, into the columns of the store.
 ghost use Rattle.std.specs.Prelude.{◌≡◌, ◌<◌, ◌≤◌, ◌+◌, ◌-◌, length, OnOk};
-ghost use Rattle.pg_dict.specs.ReadColumns.{columns_after};
+ghost use Rattle.pg_dict.specs.ReadColumns.{columns_behind};
 ghost use Rattle.pg_dict.specs.Store.{columns_of, IsFit};
 ghost use Rattle.pg_types.specs.Reading.{Gives};
 ghost use Rattle.pg_translate.specs.Alphabets.{letters_of};
-ghost use Rattle.pg_types.specs.declared.marks.Mark.TheVariants.{Nothing};
-ghost use Rattle.pg_dict.specs.Steps.{IsStep, Counts};
+ghost use Rattle.pg_dict.specs.Steps.{IsStep, AddsSigns};
 
-use crate::position::Position;
 use crate::line::{Line, kind_of};
+use crate::position::Position;
 use crate::store::Store;
 use pg_translate::{Item, Place};
 use pg_types::{EDGE, Kind, ReadingError, WORD_LETTERS_MAX, Weight};
@@ -25,17 +24,21 @@ pub(crate) struct At<'a> {
 }
 
 impl Line<'_> {
-    /// Reads the next item of a word: where the reading then stands, or none at the word's end. After an error nothing is said
-    /// of the columns.
+    /// Reads the next item of a word: where the reading then stands, or none at the word's end. After an error nothing
+    /// is said of the columns.
     fn take<'a>(&self, store: &mut Store, at: At<'a>) -> Result<Option<At<'a>>, ReadingError>
         requires within { length at.rest.now ≤ self.now.size }
         requires fit { IsFit (letters_of self.now.table.now + 1) store.old }
-        ensures step { IsStep self.now (columns_of store.new) (columns_after self.now.table.now self.now.weight self.now.number self.now.size at.entry.position.mark at.entry.position.weight at.entry.room (columns_of store.old) at.entry.rest.now) (length at.entry.rest.now) result }
+        ensures step { IsStep self.now at.entry (columns_of store.old) (columns_of store.new) result }
         ensures words { store.new.words.items ≡ store.old.words.items }
         ensures fit { OnOk result (IsFit (letters_of self.now.table.now + 1) store.new) }
-        ensures counted { Counts (length store.old.signs.items) (length store.new.signs.items) at.entry.room (length at.entry.rest.now) result }
+        ensures counted { AddsSigns at.entry (length store.old.signs.items) (length store.new.signs.items) result }
     {
-        let At { position, room, rest } = at;
+        let At {
+            position,
+            room,
+            rest,
+        } = at;
         match self.table.item(Place::Dictionary, rest) {
             Item::Letter(sign, after) => {
                 if room == 0 {
@@ -72,14 +75,18 @@ impl Line<'_> {
         }
     }
 
-    /// Reads the rest of a word, behind its first letter, into the columns. After an error nothing is said of the columns.
+    /// Reads the rest of a word, behind its first letter, into the columns. After an error nothing is said of the
+    /// columns.
     pub(crate) fn fill(&self, store: &mut Store, rest: &[u8]) -> Result<(), ReadingError>
         requires within { length rest.now ≤ self.now.size }
         requires fit { IsFit (letters_of self.now.table.now + 1) store.old }
-        ensures fills { Gives (λ _. columns_of store.new) result (columns_after self.now.table.now self.now.weight self.now.number self.now.size Nothing self.now.weight (WORD_LETTERS_MAX - 1) (columns_of store.old) rest.now) }
+        ensures fills { Gives (λ _. columns_of store.new) result
+            (columns_behind self.now rest.now (columns_of store.old)) }
         ensures words { store.new.words.items ≡ store.old.words.items }
         ensures fit { OnOk result (IsFit (letters_of self.now.table.now + 1) store.new) }
-        ensures counted { OnOk result ((length store.new.signs.items ≤ length store.old.signs.items + WORD_LETTERS_MAX) × (length store.new.signs.items ≤ length store.old.signs.items + length rest.now + 1)) }
+        ensures counted { OnOk result (let n = length store.old.signs.items in
+            (length store.new.signs.items ≤ n + WORD_LETTERS_MAX)
+            × (length store.new.signs.items ≤ n + length rest.now + 1)) }
     {
         let mut at = At {
             position: Position::plain(self.weight),

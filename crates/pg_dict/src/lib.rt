@@ -3,11 +3,11 @@
 
 pub mod dictionary;
 mod entries;
-mod position;
-mod line_start;
 pub mod laws;
 mod letters;
 mod line;
+mod line_start;
+mod position;
 mod store;
 #[cfg(test)]
 mod tests;

@@ -1,4 +1,5 @@
-//! The store: the signs of all words in one vector, and beside each sign the hyphen, weight and care of the position before it.
+//! The store: the signs of all words in one vector, and beside each sign the hyphen, weight and care of the position
+//! before it.
 ghost use Rattle.std.specs.Prelude.{◌≡◌, [], ◌∷◌, OnOk};
 ghost use Rattle.pg_dict.specs.PositionedSigns.{with_signs, no_columns, positioned_sign};
 ghost use Rattle.pg_dict.specs.Store.{columns_of};
@@ -50,7 +51,8 @@ impl Store {
 
     /// Adds a sign, and the position before it. After an error nothing is said of the columns.
     pub(crate) fn push(&mut self, position: Position, sign: Sign) -> Result<(), AllocError>
-        ensures ok { OnOk result (columns_of self.new ≡ with_signs (columns_of self.old) (positioned_sign position.mark position.weight sign ∷ [])) }
+        ensures ok { OnOk result (columns_of self.new
+            ≡ with_signs (columns_of self.old) (positioned_sign position.mark position.weight sign ∷ [])) }
         ensures words { self.new.words.items ≡ self.old.words.items }
     {
         self.signs.push(sign)?;

@@ -22,7 +22,7 @@ use Rattle.pg_driver.specs.Told.{known_of}
 use Rattle.pg_driver.specs.Traces.{Known, PassTrace, Source, choice_of, is_left, known_after, known_at_end, pass_made, passes_made, passes_of_length}
 use Rattle.pg_driver.proofs.ChoiceSteps.{state_none, state_with}
 use Rattle.pg_driver.proofs.Numbers.{plus_zero}
-use Rattle.pg_driver.proofs.Reaches.{range_step}
+use Rattle.pg_select.proofs.Reaches.{range_step}
 use Rattle.pg_driver.proofs.RecordSteps.{recorded_none, recorded_pass}
 use Rattle.pg_driver.proofs.SkipFlags.{Follows, tells_more, tells_next, tells_none}
 use Rattle.pg_driver.proofs.SkipLaw.{closed_on, left_none_is, skipped_none}

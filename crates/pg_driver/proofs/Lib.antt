@@ -1,7 +1,5 @@
 pub mod RunRows
 pub mod Numbers
-pub mod Reaches
-pub mod MarkSteps
 pub mod Puts
 pub mod Rooms
 pub mod Walks

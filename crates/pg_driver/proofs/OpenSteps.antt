@@ -13,9 +13,9 @@ use Rattle.pg_select.specs.CountedPositions.{Minima, CountedPosition}
 use Rattle.pg_select.specs.Statuses.{position_weight}
 use Rattle.pg_select.specs.Windows.{Patterns, window, fits}
 use Rattle.pg_driver.specs.Counting.{counting, HasRoom, TookRoom}
-use Rattle.pg_driver.proofs.MarkSteps.{weight_small}
+use Rattle.pg_select.proofs.MarkSteps.{weight_small}
 use Rattle.pg_driver.proofs.Puts.{cmp, weight_found}
-use Rattle.pg_driver.proofs.Reaches.{range_step}
+use Rattle.pg_select.proofs.Reaches.{range_step}
 use Rattle.pg_driver.proofs.Rooms.{took_none, took_with, window_filled}
 use Rattle.pg_driver.proofs.Walks.{counted_step}
 use Rattle.pg_driver.proofs.WordSteps.{drop_place}

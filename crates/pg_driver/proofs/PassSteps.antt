@@ -10,14 +10,14 @@ use Rattle.pg_translate.specs.Alphabets.{Alphabet}
 use Rattle.pg_dict.specs.Word.{Word}
 use Rattle.pg_select.specs.Meanings.{Meaning, IsLayout, after_begin_pass, with_position}
 use Rattle.pg_select.specs.declared.pass.Pass.{Pass}
-use Rattle.pg_select.specs.CountedPositions.{CountedPosition, Candidate, counted_positions}
+use Rattle.pg_select.specs.CountedPositions.{CountedPosition, Candidate, counted_positions, minima_of}
 use Rattle.pg_driver.specs.declared.choices.Choices.{Choices}
 use Rattle.pg_driver.specs.declared.records.PassRecord.{PassRecord}
 use Rattle.pg_driver.specs.Accounts.{pass_line, totals_by}
 use Rattle.pg_driver.specs.Choosing.{HasChosen, candidate_of, no_choices, with_candidates}
 use Rattle.pg_driver.specs.Counting.{counting}
 use Rattle.pg_driver.specs.States.{DidPass, State, made_by, state_of, state_after}
-use Rattle.pg_driver.specs.Told.{layout_told, line_of, minima_of, over}
+use Rattle.pg_driver.specs.Told.{layout_told, line_of, over}
 use Rattle.pg_driver.specs.Traces.{PassTrace, Source, chosen_of, hopeless_of}
 use Rattle.pg_driver.proofs.ChoiceSteps.{state_with}
 use Rattle.pg_driver.proofs.Numbers.{zero_plus}

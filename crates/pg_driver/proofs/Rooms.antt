@@ -16,7 +16,7 @@ use Rattle.pg_select.specs.Statuses.{status_at, position_weight}
 use Rattle.pg_select.specs.Windows.{Hopeless, window, fits, covered}
 use Rattle.pg_driver.specs.Counting.{HasRoom, TookRoom}
 use Rattle.pg_driver.proofs.Puts.{weight_found, weight_put, length_put, all_put}
-use Rattle.pg_driver.proofs.MarkSteps.{weight_small}
+use Rattle.pg_select.proofs.MarkSteps.{weight_small}
 
 -- counts with room for a position have small sums with it
 pub room_small : (counts : Counts) (u : List ℕ) (good : Bool) (weight : ℕ) → HasRoom counts 1 → weight ≤ WEIGHT_MAX → AreSmall (with_weight (sums_of counts u) good weight)

@@ -9,7 +9,7 @@ use Rattle.pg_select.specs.Positions.{Positions}
 use Rattle.pg_select.specs.CountedPositions.{Minima, CountedPosition, counted_positions_at, counted_positions_in, counted_positions}
 use Rattle.pg_driver.specs.Counting.{counting, IsRead, HasRoom, TookRoom}
 use Rattle.pg_driver.proofs.Rooms.{room_left, took_position, took_more}
-use Rattle.pg_driver.proofs.Reaches.{range_step}
+use Rattle.pg_select.proofs.Reaches.{range_step}
 
 -- all but the counts are kept
 abbrev pub KeepsButCounts : Meaning → Meaning → Type 0

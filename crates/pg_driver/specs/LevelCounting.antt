@@ -18,6 +18,7 @@ use Rattle.pg_driver.specs.OpenLevels.{InLevel, position_after}
 use Rattle.pg_driver.specs.OpenPositions.{IsPlaced}
 use Rattle.pg_driver.specs.Sound.{IsSmall}
 use Rattle.pg_driver.specs.Traces.{Known, Source}
+use Rattle.pg_types.specs.Limits.{sums_limit}
 
 -- the positions are the open ones at a length of a level, and the totals are those by the patterns
 pub record IsOpenAt (source : Source) (level len : ℕ) (known : Known) (o : OpenLevel) : Type 0 where
@@ -49,7 +50,7 @@ Carries odd old new good bad = MatchBool odd (FindsMore old new good bad) (Preve
 -- the totals before a pass have what its choices take away, and all sums are small
 pub record CanCarry (odd : Bool) (totals : Totals) (good bad : ℕ) : Type 0 where
   pub small : IsSmall totals
-  pub sums : (good < 2 ^ 40) × (bad < 2 ^ 40)
+  pub sums : (good < sums_limit) × (bad < sums_limit)
   pub within : MatchBool odd (good ≤ totals.missed) ((bad ≤ totals.good) × (good ≤ totals.bad))
 
 abbrev pub CanGoOn : Pass → Choices → Counting → Type 0

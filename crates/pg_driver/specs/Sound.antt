@@ -1,31 +1,13 @@
 -- What every record of a run keeps, and what a run is seen as.
-use Rattle.std.specs.Prelude.{ℕ, ◌+◌, ◌*◌, ◌^◌, ◌<◌, ◌≤◌, nat_lt, if◌then◌else◌, List, [], ◌∷◌, ◌++◌, Option}
-use Rattle.pg_types.specs.declared.limits.TheConstants.{LENGTH_MAX}
+use Rattle.std.specs.Prelude.{ℕ, ◌+◌, ◌<◌, ◌≤◌, nat_lt, if◌then◌else◌, List, [], ◌∷◌, ◌++◌, Option}
+use Rattle.pg_types.specs.Limits.{sums_limit}
 use Rattle.pg_types.specs.declared.marks.Layout.{Layout}
 use Rattle.pg_types.specs.declared.marks.Totals.{Totals}
 use Rattle.pg_driver.specs.declared.records.PassRecord.{PassRecord}
 use Rattle.pg_driver.specs.declared.records.LevelRecord.{LevelRecord}
-use Rattle.pg_driver.specs.Counting.{sum_of}
+use Rattle.pg_select.specs.Sums.{sum_of}
 
--- the most passes of a length, and of a level
-abbrev pub length_passes : ℕ
-length_passes = LENGTH_MAX + 1
-
-abbrev pub level_passes : ℕ
-level_passes = LENGTH_MAX * length_passes
-
--- an engine may have begun fewer passes than the first of these before a run, and than the second before a pass
-abbrev pub begun_before_run : ℕ
-begun_before_run = 2 ^ 59
-
-abbrev pub begun_before_pass : ℕ
-begun_before_pass = 2 ^ 60
-
--- all sums of the longest file are below this
-abbrev pub sums_limit : ℕ
-sums_limit = 2 ^ 40
-
--- the sums of totals together are below it
+-- the sums of totals together are below the limit of sums
 abbrev pub IsSmall : Totals → Type 0
 IsSmall t = sum_of t < sums_limit
 

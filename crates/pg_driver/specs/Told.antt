@@ -8,7 +8,7 @@ use Rattle.pg_translate.specs.Alphabets.{Alphabet}
 use Rattle.pg_dict.specs.Word.{Word}
 use Rattle.pg_select.specs.Meanings.{Meaning}
 use Rattle.pg_select.specs.declared.pass.Pass.{Pass}
-use Rattle.pg_select.specs.CountedPositions.{Minima}
+use Rattle.pg_select.specs.CountedPositions.{minima_of}
 use Rattle.pg_driver.specs.declared.records.PassRecord.{PassRecord}
 use Rattle.pg_driver.specs.declared.records.LevelRecord.{LevelRecord}
 use Rattle.pg_driver.specs.Sound.{Finished}
@@ -16,10 +16,6 @@ use Rattle.pg_select.specs.Windows.{Patterns}
 use Rattle.pg_driver.specs.Traces.{Known, Source, Trace, trace, final_patterns}
 use Rattle.pg_driver.specs.Accounts.{Account, PassLine, LevelLine, account, begun}
 use Rattle.pg_driver.specs.Layouts.{CellsAccount, cells_account, final_families}
-
--- the minima of a table
-abbrev pub minima_of : Alphabet → Minima
-minima_of t = record { left = t.left; right = t.right }
 
 -- what a run under a table is over
 abbrev pub over : Alphabet → List Word → Source

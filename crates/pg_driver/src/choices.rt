@@ -4,7 +4,7 @@ ghost use Rattle.pg_types.specs.declared.limits.TheConstants.{FILE_MAX};
 ghost use Rattle.pg_types.specs.Parameters.{IsLevel};
 ghost use Rattle.pg_types.specs.Counts.{is_counted};
 ghost use Rattle.pg_driver.specs.Counting.{HasRoom};
-ghost use Rattle.pg_driver.specs.Sound.{sums_limit};
+ghost use Rattle.pg_types.specs.Limits.{sums_limit};
 ghost use Rattle.pg_driver.specs.Choosing.{with_candidates, no_choices, candidate_of, HasChosen};
 
 use pg_select::{Choice, Engine, decide};

@@ -4,13 +4,13 @@ ghost use Rattle.pg_types.specs.declared.limits.TheConstants.{LENGTH_MAX};
 ghost use Rattle.pg_types.specs.Parameters.{IsLevel};
 ghost use Rattle.pg_dict.specs.Word.{SignsAtMost};
 ghost use Rattle.pg_select.specs.LawsSteps.{IsBelow};
-ghost use Rattle.pg_select.specs.CountedPositions.{counted_positions};
+ghost use Rattle.pg_select.specs.CountedPositions.{counted_positions, minima_of};
 ghost use Rattle.pg_driver.specs.Accounts.{totals_by};
 ghost use Rattle.pg_driver.specs.Counting.{counting, HasRoom};
 ghost use Rattle.pg_driver.specs.LevelCounting.{ArePlaced, CanGoOn, GoesOnAfter, IsReady, TellsTotals};
 ghost use Rattle.pg_driver.specs.Sound.{IsSmall};
 ghost use Rattle.pg_driver.specs.States.{IsPass};
-ghost use Rattle.pg_driver.specs.Told.{known_of, minima_of, over};
+ghost use Rattle.pg_driver.specs.Told.{known_of, over};
 ghost use Rattle.pg_driver.specs.Traces.{Known, Source};
 
 use crate::carried_totals::totals_after;

@@ -4,7 +4,8 @@ ghost use Rattle.pg_types.specs.declared.limits.TheConstants.{LEVEL_MAX};
 ghost use Rattle.pg_dict.specs.Word.{SignsAtMost};
 ghost use Rattle.pg_driver.specs.Accounts.{totals_by};
 ghost use Rattle.pg_driver.specs.Levels.{DidRun};
-ghost use Rattle.pg_driver.specs.Sound.{IsSmall, begun_before_run, level_passes};
+ghost use Rattle.pg_driver.specs.Sound.{IsSmall};
+ghost use Rattle.pg_types.specs.Limits.{begun_before_run, level_passes};
 ghost use Rattle.pg_driver.specs.Told.{TellsCells, account_from, account_of, begun_from, cells_from, families_from, over, patterns_from, run_from};
 
 use crate::level::run_level;

@@ -4,15 +4,15 @@ ghost use Rattle.pg_types.specs.declared.limits.TheConstants.{LENGTH_MAX};
 ghost use Rattle.pg_types.specs.Counts.{SignsWithin};
 ghost use Rattle.pg_dict.specs.Word.{IsWord, SignsAtMost};
 ghost use Rattle.pg_dict.specs.Lent.{lent_word};
-ghost use Rattle.pg_select.specs.CountedPositions.{counts_as as counts_as_of};
-ghost use Rattle.pg_driver.specs.Told.{minima_of};
+ghost use Rattle.pg_select.specs.CountedPositions.{counts_as as counts_as_of, minima_of};
 ghost use Rattle.pg_driver.specs.DotSets.{is_full, longer_dots};
 ghost use Rattle.pg_driver.specs.OpenPositions.{with_closed};
 ghost use Rattle.pg_driver.specs.OpenLevels.{open_as, open_in, open_from, longer_positions};
 
 use crate::dot_set::DotSet;
-use crate::marks::{counts_as, mark_at, positions};
+use crate::marks::counts_as;
 use pg_dict::{Dictionary, WordRef};
+use pg_select::marks::{mark_at, positions};
 use pg_select::{Engine, WordState};
 use pg_translate::Table;
 use pg_types::Mark;

@@ -3,13 +3,12 @@ ghost use Rattle.std.specs.Prelude.{◌≡◌, ◌≤◌, ◌+◌, ◌*◌, leng
 ghost use Rattle.pg_dict.specs.Word.{IsWord, SignsAtMost, letter_count};
 ghost use Rattle.pg_dict.specs.Lent.{lent_word};
 ghost use Rattle.pg_types.specs.Counts.{SignsWithin};
-ghost use Rattle.pg_select.specs.Sums.{totals as totals_of_words, marks_in};
-ghost use Rattle.pg_driver.specs.Counting.{with_marks, HasRoomFor, TookRoomFor};
+ghost use Rattle.pg_select.specs.Sums.{totals as totals_of_words, marks_in, with_marks, HasRoomFor, TookRoomFor};
 ghost use Rattle.pg_driver.specs.Sound.{IsSmall};
-ghost use Rattle.pg_driver.specs.Told.{minima_of};
+ghost use Rattle.pg_select.specs.CountedPositions.{minima_of};
 
-use crate::marks::{add_mark, mark_at, no_totals, positions};
 use pg_dict::{Dictionary, WordRef};
+use pg_select::marks::{add_marks, no_totals};
 use pg_select::{Engine, WordState};
 use pg_translate::Table;
 use pg_types::Totals;
@@ -44,13 +43,6 @@ fn add_word<E: Engine>(
     ensures value { result ≡ with_marks sums
         (marks_in (minima_of table.now) (E.meaning engine.now).patterns (lent_word w.now)) }
 {
-    let Some((first, end)) = positions(table, w) else {
-        return sums;
-    };
     engine.hyphenate(*w, found);
-    let mut sums = sums;
-    'positions: for p in first..end {
-        sums = add_mark(sums, mark_at(w, found, p), w.weights[p]);
-    }
-    sums
+    add_marks(table, w, found, sums)
 }

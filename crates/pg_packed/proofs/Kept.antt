@@ -1,6 +1,6 @@
 -- A level's end changes nothing of families whose strings are those of the patterns.
 use Rattle.std.proofs.Common.{◌≡◌, ℕ, suc, zero, ◌+◌, ◌≤◌, Bool, true, false, cond, not, ◌&&◌, ◌||◌, List, [], ◌∷◌, ◌++◌, length, map, fold, Option, Some, None, nat_eq, nat_lt, nat_le, nat_cmp, sym, refl, ap, subst, ◌∙◌, arith}
-use Rattle.std.proofs.lemmas.Bool.{le-leb, eq-eqb}
+use Rattle.std.proofs.lemmas.Bool.{le-leb, eq-eqb, and_from, or_left, or_right}
 use Rattle.std.proofs.lemmas.List.{append_assoc}
 use Rattle.std.specs.declared.cmp.Ordering.TheVariants.{Less, Equal, Greater}
 use Rattle.std.specs.Ordering.{is_eq, eq_by_cmp}
@@ -10,52 +10,27 @@ use Rattle.std.specs.FinMap.Entries.{put, find, by_order}
 use Rattle.std.specs.List.{filter, list_all, list_any, range_with_len, starts_with}
 use Rattle.pg_types.specs.Placement.{Family, Families, keeps_cell, kept, least_base, placed, with_one_sign, with_sign, family_at, without_family, is_used, cell_in, enter_after, enter, root, few_signs}
 use Rattle.pg_packed.specs.Starts.{pattern_families}
-
-pub and_first : (a b : Bool) → (a && b) ≡ true → a ≡ true
-and_first true b e = refl
-and_first false b e = e
-
-pub and_second : (a b : Bool) → (a && b) ≡ true → b ≡ true
-and_second true b e = e
-and_second false b e = cc
-
-both_true : (a b : Bool) → a ≡ true → b ≡ true → (a && b) ≡ true
-both_true true b p q = q
-both_true false b p q = p
-
-either_left : (a b : Bool) → a ≡ true → (a || b) ≡ true
-either_left true b p = refl
-either_left false b p = cc
-
-either_right : (a b : Bool) → b ≡ true → (a || b) ≡ true
-either_right true b p = refl
-either_right false b p = p
+use Rattle.pg_types.proofs.EntryLists.{find_good, all_put}
+use Rattle.pg_types.proofs.BoolFacts.{and_first, and_second, all_weaker, some_is}
 
 either_mono : (a b c d : Bool) → (a ≡ true → c ≡ true) → (b ≡ true → d ≡ true) → (a || b) ≡ true → (c || d) ≡ true
-either_mono true b c d p q e = either_left c d (p refl)
-either_mono false b c d p q e = either_right c d (q e)
-
-pub some_is : {X : Type 0} (a b : X) → Some a ≡ Some b → a ≡ b
-some_is a b e = cc
+either_mono true b c d p q e = or_left c d (p refl)
+either_mono false b c d p q e = or_right c d (q e)
 
 module _ {X : Type 0} where
   any_weaker : (p q : X → Bool) (xs : List X) → ((x : X) → p x ≡ true → q x ≡ true) → list_any p xs ≡ true → list_any q xs ≡ true
   any_weaker p q [] weaker any = any
   any_weaker p q (x ∷ xs) weaker any = either_mono (p x) (list_any p xs) (q x) (list_any q xs) (weaker x) (any_weaker p q xs weaker) any
 
-  all_weaker : (p q : X → Bool) (xs : List X) → ((x : X) → p x ≡ true → q x ≡ true) → list_all p xs ≡ true → list_all q xs ≡ true
-  all_weaker p q [] weaker all = refl
-  all_weaker p q (x ∷ xs) weaker all = both_true _ _ (weaker x (and_first _ _ all)) (all_weaker p q xs weaker (and_second _ _ all))
-
   all_true : (p : X → Bool) (xs : List X) → ((x : X) → p x ≡ true) → list_all p xs ≡ true
   all_true p [] each = refl
-  all_true p (x ∷ xs) each = both_true _ _ (each x) (all_true p xs each)
+  all_true p (x ∷ xs) each = and_from _ _ (each x) (all_true p xs each)
 
   all_filter : (p t : X → Bool) (xs : List X) → list_all p xs ≡ true → list_all p (filter t xs) ≡ true
   all_filter p t [] all = refl
   all_filter p t (x ∷ xs) all =
       elim (t x) as (λ b. list_all p (cond b (x ∷ filter t xs) (filter t xs)) ≡ true) [
-        | true ↦ both_true _ _ (and_first _ _ all) (all_filter p t xs (and_second _ _ all))
+        | true ↦ and_from _ _ (and_first _ _ all) (all_filter p t xs (and_second _ _ all))
         | false ↦ all_filter p t xs (and_second _ _ all)
       ]
 
@@ -66,37 +41,15 @@ module _ {X : Type 0} where
 same_string : (a b : List ℕ) → slice_cmp nat_cmp a b ≡ Equal → a ≡ b
 same_string a b same = slice_cmp-IsAntisymmetric nat_cmp-IsAntisymmetric a b same
 
-module _ {X : Type 0} (good : List ℕ × X → Bool) where
-  find_good : (k : List ℕ) (v : X) (es : List (List ℕ × X)) → find (slice_cmp nat_cmp) k es ≡ Some v → list_all good es ≡ true → good (k, v) ≡ true
-  find_good k v [] found all = cc
-  find_good k v (e ∷ es) found all =
-      elim (slice_cmp nat_cmp k e.0) as (λ o. slice_cmp nat_cmp k e.0 ≡ o → cond (is_eq o) (Some e.1) (find (slice_cmp nat_cmp) k es) ≡ Some v → good (k, v) ≡ true) [
-        | Less ↦ λ is there. find_good k v es there (and_second _ _ all)
-        | Equal ↦ λ is there.
-            let key : k ≡ e.0 = same_string k e.0 is in
-            let value : v ≡ e.1 = sym (some_is e.1 v there) in
-            subst (λ x. good (x, v) ≡ true) (sym key) (subst (λ x. good (e.0, x) ≡ true) (sym value) (and_first (good e) (list_all good es) all))
-        | Greater ↦ λ is there. find_good k v es there (and_second _ _ all)
-      ] refl found
-
-  all_put : (k : List ℕ) (v : X) (es : List (List ℕ × X)) → good (k, v) ≡ true → list_all good es ≡ true → list_all good (put (slice_cmp nat_cmp) k v es) ≡ true
-  all_put k v [] new all = both_true _ _ new refl
-  all_put k v (e ∷ es) new all =
-      elim (slice_cmp nat_cmp k e.0) as (λ o. slice_cmp nat_cmp k e.0 ≡ o → list_all good (by_order o ((k, v) ∷ e ∷ es) ((e.0, v) ∷ es) (e ∷ put (slice_cmp nat_cmp) k v es)) ≡ true) [
-        | Less ↦ λ is. both_true _ _ new all
-        | Equal ↦ λ is. both_true _ _ (subst (λ x. good (x, v) ≡ true) (same_string k e.0 is) new) (and_second (good e) (list_all good es) all)
-        | Greater ↦ λ is. both_true _ _ (and_first (good e) (list_all good es) all) (all_put k v es new (and_second (good e) (list_all good es) all))
-      ] refl
-
 -- the first of some signs on
 starts_front : (t a b : List ℕ) → starts_with nat_eq t (a ++ b) ≡ true → starts_with nat_eq t a ≡ true
 starts_front t [] b e = refl
 starts_front [] (x ∷ a) b e = e
-starts_front (y ∷ t) (x ∷ a) b e = both_true _ _ (and_first _ _ e) (starts_front t a b (and_second _ _ e))
+starts_front (y ∷ t) (x ∷ a) b e = and_from _ _ (and_first _ _ e) (starts_front t a b (and_second _ _ e))
 
 starts_itself : (t : List ℕ) → starts_with nat_eq t t ≡ true
 starts_itself [] = refl
-starts_itself (x ∷ t) = both_true _ _ (eq-eqb x x refl) (starts_itself t)
+starts_itself (x ∷ t) = and_from _ _ (eq-eqb x x refl) (starts_itself t)
 
 module _ (strings : List (List ℕ)) where
   -- some string begins so
@@ -120,20 +73,20 @@ module _ (strings : List (List ℕ)) where
       ∙ ap (λ r. e ∷ r) (kept_same es (and_second _ _ all))
 
   one_sign : (good : ℕ → Bool) (s : ℕ) (xs : List ℕ) → good s ≡ true → list_all good xs ≡ true → list_all good (with_one_sign s xs) ≡ true
-  one_sign good s [] new all = both_true _ _ new refl
+  one_sign good s [] new all = and_from _ _ new refl
   one_sign good s (x ∷ xs) new all = by_tests (one_sign good s xs new (and_second _ _ all)) (nat_lt s x) (nat_eq s x)
     where
       by_tests : list_all good (with_one_sign s xs) ≡ true → (a b : Bool) → list_all good (cond a (s ∷ x ∷ xs) (cond b (x ∷ xs) (x ∷ with_one_sign s xs))) ≡ true
-      by_tests rest true b = both_true _ _ new all
+      by_tests rest true b = and_from _ _ new all
       by_tests rest false true = all
-      by_tests rest false false = both_true _ _ (and_first _ _ all) rest
+      by_tests rest false false = and_from _ _ (and_first _ _ all) rest
 
   -- a string with which some string begins keeps its cell
   keeps_begun : (q : List ℕ) → begins_one q ≡ true → keeps_cell strings q ≡ true
-  keeps_begun q begun = either_right (nat_le (length q) 1) (begins_one q) begun
+  keeps_begun q begun = or_right (nat_le (length q) 1) (begins_one q) begun
 
   family_stays : (p : List ℕ) (base : ℕ) (signs : List ℕ) → 1 ≤ length signs → list_all (λ s. keeps_cell strings (p ++ s ∷ [])) signs ≡ true → stays (p, record { base = base; signs = signs }) ≡ true
-  family_stays p base signs some all = both_true _ _ (le-leb 1 (length signs) some) all
+  family_stays p base signs some all = and_from _ _ (le-leb 1 (length signs) some) all
 
   one_more : (s : ℕ) (xs : List ℕ) → 1 ≤ length (with_one_sign s xs)
   one_more s [] = omega arith
@@ -147,7 +100,7 @@ module _ (strings : List (List ℕ)) where
   placed_stays : (few n : ℕ) (fs : Families) (p signs : List ℕ) → 1 ≤ length signs → list_all (λ s. keeps_cell strings (p ++ s ∷ [])) signs ≡ true → list_all stays fs ≡ true → list_all stays (placed few n fs p signs) ≡ true
   placed_stays few n fs p signs some keeps all =
       let base : ℕ = least_base few n fs signs in
-      all_put stays p (record { base = base; signs = signs }) fs (family_stays p base signs some keeps) all
+      all_put (slice_cmp nat_cmp) stays same_string p (record { base = base; signs = signs }) fs (family_stays p base signs some keeps) all
 
   without_stays : (fs : Families) (p : List ℕ) → list_all stays fs ≡ true → list_all stays (without_family fs p) ≡ true
   without_stays fs p all = all_filter stays (λ e. not (eq_by_cmp (slice_cmp nat_cmp) p e.0)) fs all
@@ -158,7 +111,7 @@ module _ (strings : List (List ℕ)) where
     where
       by_use : (f : Family) → stays (p, f) ≡ true → (b : Bool)
           → list_all stays (elim b [ false ↦ put (slice_cmp nat_cmp) p (record { base = f.base; signs = with_one_sign s f.signs }) fs | true ↦ placed few n (without_family fs p) p (with_one_sign s f.signs) ]) ≡ true
-      by_use f here false = all_put stays p (record { base = f.base; signs = with_one_sign s f.signs }) fs (family_stays p f.base (with_one_sign s f.signs) (one_more s f.signs) (one_sign (λ x. keeps_cell strings (p ++ x ∷ [])) s f.signs new (and_second _ _ here))) all
+      by_use f here false = all_put (slice_cmp nat_cmp) stays same_string p (record { base = f.base; signs = with_one_sign s f.signs }) fs (family_stays p f.base (with_one_sign s f.signs) (one_more s f.signs) (one_sign (λ x. keeps_cell strings (p ++ x ∷ [])) s f.signs new (and_second _ _ here))) all
       by_use f here true = placed_stays few n (without_family fs p) p (with_one_sign s f.signs) (one_more s f.signs) (one_sign (λ x. keeps_cell strings (p ++ x ∷ [])) s f.signs new (and_second _ _ here)) (without_stays fs p all)
 
       by_family : (o : Option Family) → family_at fs p ≡ o
@@ -169,8 +122,8 @@ module _ (strings : List (List ℕ)) where
               | true ↦ placed few n (without_family fs p) p (with_one_sign s f.signs)
             ]
           ]) ≡ true
-      by_family None is = placed_stays few n fs p (s ∷ []) (omega arith) (both_true _ _ new refl) all
-      by_family (Some f) is = by_use f (find_good stays p f fs is all) (is_used fs (f.base + s))
+      by_family None is = placed_stays few n fs p (s ∷ []) (omega arith) (and_from _ _ new refl) all
+      by_family (Some f) is = by_use f (find_good (slice_cmp nat_cmp) stays same_string p f fs is all) (is_used fs (f.base + s))
 
   after_stays : (few n : ℕ) (fs : Families) (p q : List ℕ) → begins_one (p ++ q) ≡ true → list_all stays fs ≡ true → list_all stays (enter_after few n fs p q) ≡ true
   after_stays few n fs p [] begun all = all
@@ -187,7 +140,7 @@ module _ (strings : List (List ℕ)) where
   enter_stays n fs [] begun all = all
   enter_stays n fs (s ∷ q) begun all = after_stays few_signs n fs (s ∷ []) q begun all
 
-  all_enter : (n : ℕ) (fs : Families) (es : List ((List ℕ × ℕ) × ℕ)) → list_all (λ e. begins_one e.0.0) es ≡ true → list_all stays fs ≡ true → list_all stays (fold (λ fs e. enter n fs e.0.0) fs es) ≡ true
+  all_enter : (n : ℕ) (fs : Families) (es : List ((List ℕ × ℕ) × ℕ)) → list_all (λ e. begins_one e.0.0) es ≡ true → list_all stays fs ≡ true → list_all stays (fold (enter n) fs (map (λ (e : (List ℕ × ℕ) × ℕ). e.0.0) es)) ≡ true
   all_enter n fs [] begun all = all
   all_enter n fs (e ∷ es) begun all = all_enter n (enter n fs e.0.0) es (and_second _ _ begun) (enter_stays n fs e.0.0 (and_first _ _ begun) all)
 
@@ -196,15 +149,15 @@ module _ (strings : List (List ℕ)) where
   range_some (suc n) some = omega arith
 
   root_stays : (n : ℕ) → 1 ≤ n → list_all stays (root n) ≡ true
-  root_stays n some = both_true _ _ (family_stays [] 0 (range_with_len 1 n) (range_some n some) (all_true (λ s. keeps_cell strings ([] ++ s ∷ [])) (range_with_len 1 n) (λ s. refl))) refl
+  root_stays n some = and_from _ _ (family_stays [] 0 (range_with_len 1 n) (range_some n some) (all_true (λ s. keeps_cell strings ([] ++ s ∷ [])) (range_with_len 1 n) (λ s. refl))) refl
 
 -- each string of the entries is one of them
 all_there : (es : List ((List ℕ × ℕ) × ℕ)) → list_all (λ e. list_any (λ t. starts_with nat_eq t e.0.0) (map (λ x. x.0.0) es)) es ≡ true
 all_there [] = refl
 all_there (e ∷ es) =
-    both_true _ _ (either_left _ _ (starts_itself e.0.0))
+    and_from _ _ (or_left _ _ (starts_itself e.0.0))
     (all_weaker (λ (x : (List ℕ × ℕ) × ℕ). list_any (λ t. starts_with nat_eq t x.0.0) (map (λ y. y.0.0) es)) (λ (x : (List ℕ × ℕ) × ℕ). list_any (λ t. starts_with nat_eq t x.0.0) (map (λ y. y.0.0) (e ∷ es))) es
-    (λ x there. either_right (starts_with nat_eq e.0.0 x.0.0) _ there) (all_there es))
+    (λ x there. or_right (starts_with nat_eq e.0.0 x.0.0) _ there) (all_there es))
 
 -- the families after the patterns are entered have no cell that no pattern needs
 pub kept_entered : (n : ℕ) (P : List ((List ℕ × ℕ) × ℕ)) → 1 ≤ n → kept (map (λ e. e.0.0) P) (pattern_families n P) ≡ pattern_families n P

@@ -7,47 +7,21 @@ use Rattle.std.specs.declared.cmp.Ordering.TheVariants.{Less, Equal, Greater}
 use Rattle.std.specs.Ordering.{is_lt, is_eq, ordering_reverse}
 use Rattle.std.specs.FinMap.Entries.{put, find, is_sorted, below_all, by_order}
 use Rattle.std.specs.List.{All, list_all}
-use Rattle.pg_types.specs.Placement.{enter, kept}
+use Rattle.pg_types.specs.Placement.{root, enter, kept}
 use Rattle.pg_types.specs.Signs.{is_sign}
 use Rattle.pg_patterns.specs.DottedSigns.{dotted_cmp, dotted_total}
 use Rattle.pg_patterns.specs.Values.{raise, IsPatternMap, SignsUpTo}
 use Rattle.pg_trie.specs.Maps.{Maps}
 use Rattle.pg_packed.specs.Starts.{pattern_families, AreEntered}
-use Rattle.pg_packed.proofs.Kept.{and_first, and_second, some_is, kept_entered}
-
-first_half : (a b : Bool) → T (a && b) → T a
-first_half true b p = tt
-first_half false b p = p
-
-second_half : (a b : Bool) → T (a && b) → T b
-second_half true b p = p
-second_half false b p = absurd p
-
-less_is : (r : Ordering) → T (is_lt r) → r ≡ Less
-less_is Less p = refl
-less_is Equal p = absurd p
-less_is Greater p = absurd p
+use Rattle.pg_types.proofs.EntryLists.{below_get, put_next}
+use Rattle.pg_packed.proofs.Kept.{kept_entered}
+use Rattle.pg_types.proofs.BoolFacts.{and_first, and_second, some_is, first_half, second_half, less_from}
 
 abbrev Entries : Type 0
 Entries = List ((List ℕ × ℕ) × ℕ)
 
-below_get : (x k : List ℕ × ℕ) (v : ℕ) (es : Entries) (i : ℕ) → T (below_all dotted_cmp x es) → slice_get es i ≡ Some (k, v) → dotted_cmp x k ≡ Less
-below_get x k v [] zero below there = cc
-below_get x k v [] (suc i) below there = cc
-below_get x k v (e ∷ es) zero below there = subst (λ z. dotted_cmp x z.0 ≡ Less) (some_is e (k, v) there) (less_is _ (first_half _ _ below))
-below_get x k v (e ∷ es) (suc i) below there = below_get x k v es i (second_half _ _ below) there
-
 after_first : (k : List ℕ × ℕ) (v : ℕ) (e : (List ℕ × ℕ) × ℕ) (es : Entries) (i : ℕ) → T (is_sorted dotted_cmp (e ∷ es)) → slice_get es i ≡ Some (k, v) → dotted_cmp k e.0 ≡ Greater
-after_first k v e es i sorted there = dotted_total.antisymm k e.0 ∙ ap ordering_reverse (below_get e.0 k v es i (first_half _ _ sorted) there)
-
--- the next of a list in order is put behind those before it
-put_next : (k : List ℕ × ℕ) (v : ℕ) (es : Entries) (i : ℕ) → T (is_sorted dotted_cmp es) → slice_get es i ≡ Some (k, v) → put dotted_cmp k v (take i es) ≡ take (suc i) es
-put_next k v [] zero sorted there = cc
-put_next k v [] (suc i) sorted there = cc
-put_next k v (e ∷ es) zero sorted there = let same : (k, v) ≡ e = sym (some_is e (k, v) there) in ap (λ z. z ∷ []) same
-put_next k v (e ∷ es) (suc i) sorted there =
-    ap (λ r. by_order r ((k, v) ∷ e ∷ take i es) ((e.0, v) ∷ take i es) (e ∷ put dotted_cmp k v (take i es))) (after_first k v e es i sorted there)
-    ∙ ap (λ r. e ∷ r) (put_next k v es i (second_half _ _ sorted) there)
+after_first k v e es i sorted there = dotted_total.antisymm k e.0 ∙ ap ordering_reverse (below_get dotted_cmp dotted_total e.0 k v es i (first_half _ _ sorted) there)
 
 -- its place has no value before
 not_before : (k : List ℕ × ℕ) (v : ℕ) (es : Entries) (i : ℕ) → T (is_sorted dotted_cmp es) → slice_get es i ≡ Some (k, v) → find dotted_cmp k (take i es) ≡ None
@@ -66,17 +40,17 @@ raised_next P Q i k v map same there =
     ap (λ x. raise x k v) same
     ∙ ap (λ o. put dotted_cmp k (max v (unwrap_or o 0)) (take i P)) (not_before k v P i map.sorted there)
     ∙ ap (λ n. put dotted_cmp k n (take i P)) (greater_none v)
-    ∙ put_next k v P i map.sorted there ∙ ap (λ x. take x P) (sym (add-one i))
+    ∙ put_next dotted_cmp dotted_total k v P i map.sorted there ∙ ap (λ x. take x P) (sym (add-one i))
 
-fold_next : {X Y : Type 0} (f : Y → X → Y) (a : Y) (x : X) (xs : List X) (i : ℕ) → slice_get xs i ≡ Some x → fold f a (take (suc i) xs) ≡ f (fold f a (take i xs)) x
-fold_next f a x [] zero there = cc
-fold_next f a x [] (suc i) there = cc
-fold_next f a x (y ∷ ys) zero there = ap (λ z. f a z) (some_is y x there)
-fold_next f a x (y ∷ ys) (suc i) there = fold_next f (f a y) x ys i there
+fold_next : {X Y Z : Type 0} (f : Y → Z → Y) (g : X → Z) (a : Y) (x : X) (xs : List X) (i : ℕ) → slice_get xs i ≡ Some x → fold f a (map g (take (suc i) xs)) ≡ f (fold f a (map g (take i xs))) (g x)
+fold_next f g a x [] zero there = cc
+fold_next f g a x [] (suc i) there = cc
+fold_next f g a x (y ∷ ys) zero there = ap (λ z. f a (g z)) (some_is y x there)
+fold_next f g a x (y ∷ ys) (suc i) there = fold_next f g (f a (g y)) x ys i there
 
 -- and its string is entered
 pub families_next : (n : ℕ) (P : Entries) (i : ℕ) (k : List ℕ × ℕ) (v : ℕ) → slice_get P i ≡ Some (k, v) → enter n (pattern_families n (take i P)) k.0 ≡ pattern_families n (take (i + 1) P)
-families_next n P i k v there = sym (fold_next (λ fs e. enter n fs e.0.0) _ (k, v) P i there) ∙ ap (λ x. pattern_families n (take x P)) (sym (add-one i))
+families_next n P i k v there = sym (fold_next (enter n) (λ (e : (List ℕ × ℕ) × ℕ). e.0.0) (root n) (k, v) P i there) ∙ ap (λ x. pattern_families n (take x P)) (sym (add-one i))
 
 upto_get : (n : ℕ) (k : List ℕ × ℕ) (v : ℕ) (P : Entries) (i : ℕ) → SignsUpTo n P → slice_get P i ≡ Some (k, v) → All (λ s. s ≤ n) k.0
 upto_get n k v [] zero known there = cc

@@ -14,8 +14,9 @@ use Rattle.std.specs.List.Sorted.{IsPermutation, IsSortedBy}
 use Rattle.pg_patterns.specs.DottedSigns.{dotted_cmp, dotted_total, same_dotted, dotted_ties, dotted_exact}
 use Rattle.pg_patterns.specs.Values.{value_of, best, map_of_entries, is_entry, IsPatternMap}
 use Rattle.pg_patterns.specs.Search.{entry_cmp}
-use Rattle.pg_types.proofs.BoolFacts.{and_first, and_second, both_true, equal_is, less_is, is_true, holds, first_half, second_half}
+use Rattle.pg_types.proofs.BoolFacts.{and_first, and_second, equal_is, less_is, is_true, holds, first_half, second_half}
 use Rattle.pg_patterns.proofs.Joins.{only, same_maps, joined_keeps, value_of_joined, best-IsPermutation}
+use Rattle.std.proofs.lemmas.Bool.{and_from, not-true, not_from_false}
 
 -- f does not come before e
 abbrev not_first : (List ℕ × ℕ) × ℕ → (List ℕ × ℕ) × ℕ → Bool
@@ -32,18 +33,10 @@ entry_total = then_total (on_total (λ e. e.0) dotted_total) (back_total (on_tot
 pub entry_ranks : IsStrictWeakOrder (λ e f. is_lt (entry_cmp e f))
 entry_ranks = ranks_by entry_total (λ e. e)
 
-not_true : (b : Bool) → not b ≡ true → b ≡ false
-not_true true e = sym e
-not_true false e = refl
-
-turned_not : (b : Bool) → b ≡ false → not b ≡ true
-turned_not true e = sym e
-turned_not false e = refl
-
 each_after : (e : (List ℕ × ℕ) × ℕ) (es : List ((List ℕ × ℕ) × ℕ)) → ((j : ℕ) (d : (List ℕ × ℕ) × ℕ) → j < length es → is_lt (entry_cmp (get_or es j d) e) ≡ false) → list_all (not_first e) es ≡ true
 each_after e [] after = refl
 each_after e (f ∷ es) after =
-    both_true _ _ (turned_not _ (after 0 e (omega arith))) (each_after e es (λ j d inside. after (suc j) d (omega arith)))
+    and_from _ _ (not_from_false _ (after 0 e (omega arith))) (each_after e es (λ j d inside. after (suc j) d (omega arith)))
 
 in_order : (es : List ((List ℕ × ℕ) × ℕ)) → ((i j : ℕ) (d : (List ℕ × ℕ) × ℕ) → i ≤ j → j < length es → is_lt (entry_cmp (get_or es j d) (get_or es i d)) ≡ false) → InOrder es
 in_order [] far = tt
@@ -70,7 +63,7 @@ value_upto a b after = upto (nat_cmp a b) (ranked a b (nat_cmp a b) refl) after
     upto Greater rank after = omega arith
 
 later : (e f : (List ℕ × ℕ) × ℕ) → not_first e f ≡ true → (dotted_cmp e.0 f.0 ≡ Less) ⊎ ((dotted_cmp f.0 e.0 ≡ Equal) × (f.1 ≤ e.1))
-later e f after = by_case (rank_cases (dotted_cmp f.0 e.0) (nat_cmp e.1 f.1) (not_true _ after))
+later e f after = by_case (rank_cases (dotted_cmp f.0 e.0) (nat_cmp e.1 f.1) (not-true _ after))
   where
     by_case : (dotted_cmp f.0 e.0 ≡ Greater) ⊎ ((dotted_cmp f.0 e.0 ≡ Equal) × (is_lt (nat_cmp e.1 f.1) ≡ false)) → (dotted_cmp e.0 f.0 ≡ Less) ⊎ ((dotted_cmp f.0 e.0 ≡ Equal) × (f.1 ≤ e.1))
     by_case (inl after) = inl (dotted_total.antisymm e.0 f.0 ∙ turn (dotted_cmp f.0 e.0) after)
@@ -88,7 +81,7 @@ apart e f after other = by_case (later e f after)
 below_rest : (x : List ℕ × ℕ) (e : (List ℕ × ℕ) × ℕ) (es : List ((List ℕ × ℕ) × ℕ)) → dotted_cmp x e.0 ≡ Less → list_all (not_first e) es ≡ true → T (below_all dotted_cmp x es)
 below_rest x e [] less after = tt
 below_rest x e (f ∷ es) less after =
-    holds _ (both_true _ _ (ap is_lt (by_case (later e f (and_first _ _ after)))) (is_true _ (below_rest x e es less (and_second _ _ after))))
+    holds _ (and_from _ _ (ap is_lt (by_case (later e f (and_first _ _ after)))) (is_true _ (below_rest x e es less (and_second _ _ after))))
   where
     by_case : (dotted_cmp e.0 f.0 ≡ Less) ⊎ ((dotted_cmp f.0 e.0 ≡ Equal) × (f.1 ≤ e.1)) → dotted_cmp x f.0 ≡ Less
     by_case (inl further) = dotted_total.trans x e.0 f.0 less further
@@ -105,11 +98,11 @@ best_below x k (e ∷ es) same below =
 
 -- the list that keeps the first of each place is a map, whose values are the greatest
 kept_below : (x : List ℕ × ℕ) (e : (List ℕ × ℕ) × ℕ) (es : List ((List ℕ × ℕ) × ℕ)) → InOrder (e ∷ es) → dotted_cmp x e.0 ≡ Less → T (below_all dotted_cmp x (dedup_from (λ f g. same_dotted f.0 g.0) e es))
-kept_below x e [] order less = holds _ (both_true _ _ (ap is_lt less) refl)
+kept_below x e [] order less = holds _ (and_from _ _ (ap is_lt less) refl)
 kept_below x e (f ∷ es) order less =
     elim (same_dotted f.0 e.0) as (λ t. same_dotted f.0 e.0 ≡ t → T (below_all dotted_cmp x (cond t (dedup_from (λ f g. same_dotted f.0 g.0) e es) (e ∷ dedup_from (λ f g. same_dotted f.0 g.0) f es)))) [
       | true ↦ λ same. kept_below x e es (and_second _ _ order.0, order.1.1) less
-      | false ↦ λ other. holds _ (both_true _ _ (ap is_lt less) (is_true _ (kept_below x f es order.1 (dotted_total.trans x e.0 f.0 less (apart e f (and_first _ _ order.0) other)))))
+      | false ↦ λ other. holds _ (and_from _ _ (ap is_lt less) (is_true _ (kept_below x f es order.1 (dotted_total.trans x e.0 f.0 less (apart e f (and_first _ _ order.0) other)))))
     ] refl
 
 kept_sorted : (e : (List ℕ × ℕ) × ℕ) (es : List ((List ℕ × ℕ) × ℕ)) → InOrder (e ∷ es) → T (is_sorted dotted_cmp (dedup_from (λ f g. same_dotted f.0 g.0) e es))
@@ -117,7 +110,7 @@ kept_sorted e [] order = tt
 kept_sorted e (f ∷ es) order =
     elim (same_dotted f.0 e.0) as (λ t. same_dotted f.0 e.0 ≡ t → T (is_sorted dotted_cmp (cond t (dedup_from (λ f g. same_dotted f.0 g.0) e es) (e ∷ dedup_from (λ f g. same_dotted f.0 g.0) f es)))) [
       | true ↦ λ same. kept_sorted e es (and_second _ _ order.0, order.1.1)
-      | false ↦ λ other. holds _ (both_true _ _ (is_true _ (kept_below e.0 f es order.1 (apart e f (and_first _ _ order.0) other))) (is_true _ (kept_sorted f es order.1)))
+      | false ↦ λ other. holds _ (and_from _ _ (is_true _ (kept_below e.0 f es order.1 (apart e f (and_first _ _ order.0) other))) (is_true _ (kept_sorted f es order.1)))
     ] refl
 
 smaller_hidden : (t s : Bool) (a b n : ℕ) → t ≡ s → b ≤ a → max (only t a) n ≡ max (only t a) (max (only s b) n)
@@ -154,7 +147,7 @@ kept_value e (f ∷ es) k order =
       | false ↦ λ other.
           let less : dotted_cmp e.0 f.0 ≡ Less = apart e f (and_first _ _ order.0) other in
           ap (λ t. unwrap_or (cond t (Some e.1) (find dotted_cmp k (dedup_from (λ f g. same_dotted f.0 g.0) f es))) 0) (sym (dotted_ties k e.0))
-          ∙ first_or_rest (same_dotted k e.0) e.1 (best (same_dotted k) (f ∷ es)) (find dotted_cmp k (dedup_from (λ f g. same_dotted f.0 g.0) f es)) (kept_value f es k order.1) (λ same. best_below e.0 k (f ∷ es) same (holds _ (both_true _ _ (ap is_lt less) (is_true _ (below_rest e.0 f es less order.1.0)))))
+          ∙ first_or_rest (same_dotted k e.0) e.1 (best (same_dotted k) (f ∷ es)) (find dotted_cmp k (dedup_from (λ f g. same_dotted f.0 g.0) f es)) (kept_value f es k order.1) (λ same. best_below e.0 k (f ∷ es) same (holds _ (and_from _ _ (ap is_lt less) (is_true _ (below_rest e.0 f es less order.1.0)))))
     ] refl
 
 -- a strictly sorted list finds its greatest values
@@ -175,7 +168,7 @@ all_told (e ∷ es) sound = All-cons (λ (e : (List ℕ × ℕ) × ℕ). is_entr
 
 pub told_all : (es : List ((List ℕ × ℕ) × ℕ)) → All (λ (e : (List ℕ × ℕ) × ℕ). is_entry e ≡ true) es → list_all is_entry es ≡ true
 told_all [] all = refl
-told_all (e ∷ es) all = both_true _ _ (All-head (λ (e : (List ℕ × ℕ) × ℕ). is_entry e ≡ true) e es all) (told_all es (All-tail (λ (e : (List ℕ × ℕ) × ℕ). is_entry e ≡ true) e es all))
+told_all (e ∷ es) all = and_from _ _ (All-head (λ (e : (List ℕ × ℕ) × ℕ). is_entry e ≡ true) e es all) (told_all es (All-tail (λ (e : (List ℕ × ℕ) × ℕ). is_entry e ≡ true) e es all))
 
 -- sorted by place and falling value, without the later entries of a place, a list is joined
 pub joined_by_sort : (es fs gs : List ((List ℕ × ℕ) × ℕ)) → list_all is_entry es ≡ true → IsPermutation es fs → IsSortedBy (λ e f. is_lt (entry_cmp e f)) fs → gs ≡ dedup (λ f g. same_dotted f.0 g.0) fs → IsPatternMap gs × (gs ≡ map_of_entries es)

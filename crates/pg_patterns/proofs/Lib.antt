@@ -10,8 +10,6 @@ pub mod Steps
 pub mod Running
 pub mod LineEntries
 pub mod Known
-pub mod Written
 pub mod ReadBack
 pub mod Restored
 pub mod TextLaw
-pub mod TableItems

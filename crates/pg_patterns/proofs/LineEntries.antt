@@ -1,6 +1,6 @@
 -- The entries of a line, by its draft and by its items.
 use Rattle.std.proofs.Common.{◌≡◌, ℕ, ◌+◌, ◌≤◌, true, List, [], ◌∷◌, ◌++◌, length, map, fold, Option, Some, None, Result, Ok, Err, sym, refl, ap, subst, ◌∙◌, append_assoc, arith}
-use Rattle.std.proofs.lemmas.Bool.{le-leb}
+use Rattle.std.proofs.lemmas.Bool.{le-leb, and_from}
 use Rattle.std.proofs.lemmas.List.{length_push, append-nil}
 use Rattle.std.proofs.lemmas.List.Elements.{All-nil, All-head, All-tail, All-append, All-map}
 use Rattle.std.specs.List.{All, list_all}
@@ -20,7 +20,7 @@ use Rattle.pg_patterns.specs.Lines.{digit_at_dot, entry_at, entries_at, line_ent
 use Rattle.pg_patterns.proofs.Running.{digits_from, digits_are}
 use Rattle.pg_patterns.specs.Starts.{entries_from}
 use Rattle.pg_patterns.specs.Drafts.{Draft, IsDraft, IsDotDigit, no_draft, all_digits, draft_with_sign, with_token, draft_entries, line_draft}
-use Rattle.pg_types.proofs.BoolFacts.{both_true, and_first, and_second}
+use Rattle.pg_types.proofs.BoolFacts.{and_first, and_second}
 use Rattle.pg_patterns.proofs.Sound.{EntryBounds, entry_told}
 use Rattle.pg_patterns.proofs.Steps.{keeps_digits}
 
@@ -90,14 +90,14 @@ left_more t line es new text rest after whole d left cut is more =
 
 signs_sound : (n : ℕ) (q : List ℕ) → All (λ s. (1 ≤ s) × (s ≤ n)) q → list_all is_sign q ≡ true
 signs_sound n [] all = refl
-signs_sound n (s ∷ q) all = both_true _ _ (le-leb 1 s (All-head (λ s. (1 ≤ s) × (s ≤ n)) s q all).0) (signs_sound n q (All-tail (λ s. (1 ≤ s) × (s ≤ n)) s q all))
+signs_sound n (s ∷ q) all = and_from _ _ (le-leb 1 s (All-head (λ s. (1 ≤ s) × (s ≤ n)) s q all).0) (signs_sound n q (All-tail (λ s. (1 ≤ s) × (s ≤ n)) s q all))
 
 entries_sound : (q : List ℕ) (digits : List (ℕ × ℕ)) → 1 ≤ length q → length q ≤ PATTERN_SIGNS_MAX → list_all is_sign q ≡ true → All (IsDotDigit (length q + 1)) digits → list_all is_entry (map (entry_at q) digits) ≡ true
 entries_sound q [] some few signs all = refl
 entries_sound q (x ∷ digits) some few signs all =
     let here = All-head (IsDotDigit (length q + 1)) x digits all in
     let bounds : EntryBounds ((q, x.0), x.1) = record { some = some; few = few; signs = signs; dot = omega (arith, here.0); low = here.1; high = here.2 } in
-    both_true _ _ (entry_told ((q, x.0), x.1) bounds) (entries_sound q digits some few signs (All-tail (IsDotDigit (length q + 1)) x digits all))
+    and_from _ _ (entry_told ((q, x.0), x.1) bounds) (entries_sound q digits some few signs (All-tail (IsDotDigit (length q + 1)) x digits all))
 
 draft_parts_sound : (n : ℕ) (q : List ℕ) (digits : List (ℕ × ℕ)) → length q ≤ PATTERN_SIGNS_MAX → All (λ s. (1 ≤ s) × (s ≤ n)) q → All (IsDotDigit (length q + 1)) digits → list_all is_entry (entries_at q digits) ≡ true
 draft_parts_sound n [] digits few signs all = refl
@@ -118,7 +118,7 @@ draft_known n d kept = draft_parts_known n d.signs (all_digits d) kept.signs
 -- two lists of entries together
 sound_append : (es fs : List ((List ℕ × ℕ) × ℕ)) → list_all is_entry es ≡ true → list_all is_entry fs ≡ true → list_all is_entry (es ++ fs) ≡ true
 sound_append [] fs left right = right
-sound_append (e ∷ es) fs left right = both_true _ _ (and_first _ _ left) (sound_append es fs (and_second _ _ left) right)
+sound_append (e ∷ es) fs left right = and_from _ _ (and_first _ _ left) (sound_append es fs (and_second _ _ left) right)
 
 -- what is kept of the entries read, it is kept with those of a line more
 pub sound_more : (n : ℕ) (es new : List ((List ℕ × ℕ) × ℕ)) (d : Draft) → IsDraft n d → new ≡ es ++ draft_entries d → list_all is_entry es ≡ true → list_all is_entry new ≡ true

@@ -6,7 +6,8 @@ use Rattle.std.specs.Ordering.{is_lt, is_eq, is_gt, ordering_reverse}
 use Rattle.std.specs.Cmp.{IsTotalOrder}
 use Rattle.std.specs.FinMap.Entries.{put, find, is_sorted, below_all, by_order}
 use Rattle.std.specs.List.{list_all}
-use Rattle.pg_types.proofs.BoolFacts.{is_true, holds, and_first, and_second, both_true, first_half, second_half, less_is, greater_is, equal_is, less_left}
+use Rattle.pg_types.proofs.BoolFacts.{is_true, holds, and_first, and_second, first_half, second_half, less_is, greater_is, equal_is, less_left}
+use Rattle.std.proofs.lemmas.Bool.{and_from}
 
 module _ {K : Type 0} (R : K → K → Ordering) (o : IsTotalOrder R) where
   -- what is after a key is after each key below it
@@ -78,7 +79,7 @@ module _ {K X : Type 0} (R : K → K → Ordering) where
   all_before k es zero within after = refl
   all_before k [] (suc i) within after = refl
   all_before k (e ∷ es) (suc i) within after =
-      both_true _ _ (after 0 e (omega arith) (omega arith)) (all_before k es i (omega arith) (λ j d low high. after (suc j) d (omega arith) (omega arith)))
+      and_from _ _ (after 0 e (omega arith) (omega arith)) (all_before k es i (omega arith) (λ j d low high. after (suc j) d (omega arith) (omega arith)))
 
   pub first_not_before : (k : K) (es : List (K × X)) (i : ℕ) → ((d : K × X) → i < length es → is_gt (R k (get_or es i d).0) ≡ false) → first_before k (drop i es) ≡ false
   first_not_before k [] zero after = refl
@@ -91,14 +92,14 @@ module _ {K X : Type 0} (R : K → K → Ordering) where
     below_all_less x y [] less below = tt
     below_all_less x y (e ∷ es) less below =
         let low : R x e.0 ≡ Less = o.trans x y e.0 less (less_is _ (is_true _ (first_half _ _ below))) in
-        holds _ (both_true _ _ (ap is_lt low) (is_true _ (below_all_less x y es less (second_half _ _ below))))
+        holds _ (and_from _ _ (ap is_lt low) (is_true _ (below_all_less x y es less (second_half _ _ below))))
 
     -- a key that is before all is below all
     pub find_gap : (k : K) (es : List (K × X)) → T (is_sorted R es) → first_before k es ≡ false → first_at k es ≡ false → find R k es ≡ None
     find_gap k [] sorted before at = refl
     find_gap k (e ∷ es) sorted before at =
         let less : R k e.0 ≡ Less = less_left _ before at in
-        find_below k (e ∷ es) (holds _ (both_true _ _ (ap is_lt less) (is_true _ (below_all_less k e.0 es less (first_half _ _ sorted)))))
+        find_below k (e ∷ es) (holds _ (and_from _ _ (ap is_lt less) (is_true _ (below_all_less k e.0 es less (first_half _ _ sorted)))))
 
     -- what comes after an entry comes after those before it
     pub after_at : (k : K) (es : List (K × X)) (i j : ℕ) (d : K × X) → T (is_sorted R es) → i ≤ j → j < length es → is_gt (R k (get_or es j d).0) ≡ true → is_gt (R k (get_or es i d).0) ≡ true

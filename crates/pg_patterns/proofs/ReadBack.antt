@@ -21,13 +21,17 @@ use Rattle.pg_patterns.specs.Starts.{entries_from}
 use Rattle.pg_patterns.specs.Texts.{value_digit, line_from, pattern_line}
 use Rattle.pg_types.proofs.BoolFacts.{and_first, and_second, equal_is}
 use Rattle.pg_patterns.proofs.Sound.{entry_bounds}
-use Rattle.pg_patterns.proofs.Written.{IsRead, text_of, tokens_in, entries_of_items, unbroken_text, lines_line}
+use Rattle.pg_translate.specs.declared.items.Place.TheVariants.{Patterns}
+use Rattle.pg_translate.specs.Items.{IsItem, text_of_items, tokens_in}
+use Rattle.pg_translate.specs.Rules.{KeepsRules}
+use Rattle.pg_translate.proofs.JoinedItems.{line_is_read}
+use Rattle.pg_translate.proofs.LineTexts.{lines_of_text}
+use Rattle.pg_translate.proofs.RuleLaws.{spelling_item}
+use Rattle.pg_translate.proofs.Unbroken.{joined_unbroken}
 
--- what a table makes of the items of patterns: each digit, the dot of the edge and the first spelling of each letter is read as such
-pub record ReadsItems (t : Alphabet) : Type 0 where
-  pub digit : (n : ℕ) → n ≤ 9 → IsRead t (Digit n, (48 + n) ∷ [])
-  pub edge : IsRead t (Edge, codes ".")
-  pub letter : (s : ℕ) → 2 ≤ s → s ≤ letters_of t + 1 → IsRead t (Letter s, spelling_of t s)
+-- the text of an item of patterns
+abbrev IsPatternItem : Alphabet → Token × List ℕ → Type 0
+IsPatternItem t item = IsItem t Patterns item.0 item.1
 
 -- the item of a digit, where a place has a value
 abbrev digit_items : List ((List ℕ × ℕ) × ℕ) → List ℕ × ℕ → List (Token × List ℕ)
@@ -51,22 +55,22 @@ values_from P q dot (s ∷ ss) = option_map_or (λ v. (dot, v) ∷ []) (find dot
 abbrev pub entries_of : List ((List ℕ × ℕ) × ℕ) → List ℕ → List ((List ℕ × ℕ) × ℕ)
 entries_of P q = entries_at q (values_from P q 0 q)
 
-text_append : (xs ys : List (Token × List ℕ)) → text_of (xs ++ ys) ≡ text_of xs ++ text_of ys
+text_append : (xs ys : List (Token × List ℕ)) → text_of_items (xs ++ ys) ≡ text_of_items xs ++ text_of_items ys
 text_append [] ys = refl
-text_append (x ∷ xs) ys = ap (λ z. x.1 ++ z) (text_append xs ys) ∙ sym (append_assoc x.1 (text_of xs) (text_of ys))
+text_append (x ∷ xs) ys = ap (λ z. x.1 ++ z) (text_append xs ys) ∙ sym (append_assoc x.1 (text_of_items xs) (text_of_items ys))
 
-digit_text : (P : List ((List ℕ × ℕ) × ℕ)) (k : List ℕ × ℕ) → value_digit P k ≡ text_of (digit_items P k)
-digit_text P k = elim (find dotted_cmp k P) as (λ o. option_map_or (λ v. (48 + v) ∷ []) o [] ≡ text_of (option_map_or (λ v. (Digit v, (48 + v) ∷ []) ∷ []) o [])) [ None ↦ refl | Some v ↦ refl ]
+digit_text : (P : List ((List ℕ × ℕ) × ℕ)) (k : List ℕ × ℕ) → value_digit P k ≡ text_of_items (digit_items P k)
+digit_text P k = elim (find dotted_cmp k P) as (λ o. option_map_or (λ v. (48 + v) ∷ []) o [] ≡ text_of_items (option_map_or (λ v. (Digit v, (48 + v) ∷ []) ∷ []) o [])) [ None ↦ refl | Some v ↦ refl ]
 
 -- a line is the texts of its items, and LF
-line_text : (t : Alphabet) (P : List ((List ℕ × ℕ) × ℕ)) (q : List ℕ) (dot : ℕ) (ss : List ℕ) → line_from t P q dot ss ≡ text_of (items_from t P q dot ss) ++ 10 ∷ []
+line_text : (t : Alphabet) (P : List ((List ℕ × ℕ) × ℕ)) (q : List ℕ) (dot : ℕ) (ss : List ℕ) → line_from t P q dot ss ≡ text_of_items (items_from t P q dot ss) ++ 10 ∷ []
 line_text t P q dot [] = ap (λ x. x ++ 10 ∷ []) (digit_text P (q, dot))
 line_text t P q dot (s ∷ ss) =
-    let rest = text_of (items_from t P q (dot + 1) ss) in
+    let rest = text_of_items (items_from t P q (dot + 1) ss) in
     ap (λ x. x ++ spelling_of t s ++ line_from t P q (dot + 1) ss) (digit_text P (q, dot))
-    ∙ ap (λ x. text_of (digit_items P (q, dot)) ++ spelling_of t s ++ x) (line_text t P q (dot + 1) ss)
-    ∙ sym (append_assoc (text_of (digit_items P (q, dot)) ++ spelling_of t s) rest (10 ∷ []))
-    ∙ ap (λ x. x ++ 10 ∷ []) (append_assoc (text_of (digit_items P (q, dot))) (spelling_of t s) rest ∙ sym (text_append (digit_items P (q, dot)) (sign_item t s ∷ items_from t P q (dot + 1) ss)))
+    ∙ ap (λ x. text_of_items (digit_items P (q, dot)) ++ spelling_of t s ++ x) (line_text t P q (dot + 1) ss)
+    ∙ sym (append_assoc (text_of_items (digit_items P (q, dot)) ++ spelling_of t s) rest (10 ∷ []))
+    ∙ ap (λ x. x ++ 10 ∷ []) (append_assoc (text_of_items (digit_items P (q, dot))) (spelling_of t s) rest ∙ sym (text_append (digit_items P (q, dot)) (sign_item t s ∷ items_from t P q (dot + 1) ss)))
 
 -- the value that is found is that of an entry
 pub found_entry : (P : List ((List ℕ × ℕ) × ℕ)) (k : List ℕ × ℕ) (v : ℕ) → list_all is_entry P ≡ true → find dotted_cmp k P ≡ Some v → is_entry (k, v) ≡ true
@@ -80,35 +84,32 @@ found_entry (e ∷ es) k v sound is =
       | false ↦ λ apart further. found_entry es k v (and_second _ _ sound) further
     ] refl is
 
-read_append : (t : Alphabet) (xs ys : List (Token × List ℕ)) → AllByRecursion (IsRead t) xs → AllByRecursion (IsRead t) ys → AllByRecursion (IsRead t) (xs ++ ys)
+read_append : (t : Alphabet) (xs ys : List (Token × List ℕ)) → AllByRecursion (IsPatternItem t) xs → AllByRecursion (IsPatternItem t) ys → AllByRecursion (IsPatternItem t) (xs ++ ys)
 read_append t [] ys left right = right
 read_append t (x ∷ xs) ys left right = (left.0, read_append t xs ys left.1 right)
 
-digit_read : (t : Alphabet) (P : List ((List ℕ × ℕ) × ℕ)) (k : List ℕ × ℕ) → ReadsItems t → list_all is_entry P ≡ true → AllByRecursion (IsRead t) (digit_items P k)
-digit_read t P k reads sound =
-    elim (find dotted_cmp k P) as (λ o. find dotted_cmp k P ≡ o → AllByRecursion (IsRead t) (option_map_or (λ v. (Digit v, (48 + v) ∷ []) ∷ []) o [])) [
+digit_read : (t : Alphabet) (P : List ((List ℕ × ℕ) × ℕ)) (k : List ℕ × ℕ) → list_all is_entry P ≡ true → AllByRecursion (IsPatternItem t) (digit_items P k)
+digit_read t P k sound =
+    elim (find dotted_cmp k P) as (λ o. find dotted_cmp k P ≡ o → AllByRecursion (IsPatternItem t) (option_map_or (λ v. (Digit v, (48 + v) ∷ []) ∷ []) o [])) [
       | None ↦ λ is. tt
-      | Some v ↦ λ is. (reads.digit v (entry_bounds (k, v) (found_entry P k v sound is)).high, tt)
+      | Some v ↦ λ is. (((entry_bounds (k, v) (found_entry P k v sound is)).high, refl), tt)
     ] refl
 
-sign_read : (t : Alphabet) (s : ℕ) → ReadsItems t → 1 ≤ s → s ≤ letters_of t + 1 → IsRead t (sign_item t s)
-sign_read t s reads low high =
-    elim (s == EDGE) as (λ b. (s == EDGE) ≡ b → IsRead t ((if b then Edge else Letter s), spelling_of t s)) [
-      | true ↦ λ is. subst (λ x. IsRead t (Edge, x)) (ap (λ b. if b then codes "." else first_spelling t.spellings s) (sym is)) reads.edge
-      | false ↦ λ is. reads.letter s (let other : ¬ (s ≡ 1) = eqb-false s 1 is in omega arith) high
+sign_read : (t : Alphabet) (s : ℕ) → KeepsRules t → 1 ≤ s → s ≤ letters_of t + 1 → IsPatternItem t (sign_item t s)
+sign_read t s rules low high =
+    elim (s == EDGE) as (λ b. (s == EDGE) ≡ b → IsPatternItem t ((if b then Edge else Letter s), spelling_of t s)) [
+      | true ↦ λ is. ap (λ b. if b then codes "." else first_spelling t.spellings s) is
+      | false ↦ λ is. spelling_item t rules Patterns s (let other : ¬ (s ≡ 1) = eqb-false s 1 is in omega arith) high
     ] refl
 
-items_read : (t : Alphabet) (P : List ((List ℕ × ℕ) × ℕ)) (q : List ℕ) (dot : ℕ) (ss : List ℕ) → ReadsItems t → list_all is_entry P ≡ true → All (λ s. (1 ≤ s) × (s ≤ letters_of t + 1)) ss → AllByRecursion (IsRead t) (items_from t P q dot ss)
-items_read t P q dot [] reads sound signs = digit_read t P (q, dot) reads sound
-items_read t P q dot (s ∷ ss) reads sound signs =
+items_read : (t : Alphabet) (P : List ((List ℕ × ℕ) × ℕ)) (q : List ℕ) (dot : ℕ) (ss : List ℕ) → KeepsRules t → list_all is_entry P ≡ true → All (λ s. (1 ≤ s) × (s ≤ letters_of t + 1)) ss → AllByRecursion (IsPatternItem t) (items_from t P q dot ss)
+items_read t P q dot [] rules sound signs = digit_read t P (q, dot) sound
+items_read t P q dot (s ∷ ss) rules sound signs =
     let here = All-head (λ s. (1 ≤ s) × (s ≤ letters_of t + 1)) s ss signs in
-    read_append t (digit_items P (q, dot)) (sign_item t s ∷ items_from t P q (dot + 1) ss) (digit_read t P (q, dot) reads sound)
-    (sign_read t s reads here.0 here.1, items_read t P q (dot + 1) ss reads sound (All-tail (λ s. (1 ≤ s) × (s ≤ letters_of t + 1)) s ss signs))
+    read_append t (digit_items P (q, dot)) (sign_item t s ∷ items_from t P q (dot + 1) ss) (digit_read t P (q, dot) sound)
+    (sign_read t s rules here.0 here.1, items_read t P q (dot + 1) ss rules sound (All-tail (λ s. (1 ≤ s) × (s ≤ letters_of t + 1)) s ss signs))
 
 -- the signs of the items are those of the string
-signs_append : (xs ys : List Token) → signs_of (xs ++ ys) ≡ signs_of xs ++ signs_of ys
-signs_append xs ys = filter_map-append sign_of xs ys
-
 digit_signs : (P : List ((List ℕ × ℕ) × ℕ)) (k : List ℕ × ℕ) (more : List (Token × List ℕ)) → signs_of (tokens_in (digit_items P k ++ more)) ≡ signs_of (tokens_in more)
 digit_signs P k more =
     elim (find dotted_cmp k P) as (λ o. signs_of (tokens_in (option_map_or (λ v. (Digit v, (48 + v) ∷ []) ∷ []) o [] ++ more)) ≡ signs_of (tokens_in more)) [ None ↦ refl | Some v ↦ refl ]
@@ -169,15 +170,15 @@ pub record IsString (n : ℕ) (q : List ℕ) : Type 0 where
   pub signs : All (λ s. (1 ≤ s) × (s ≤ n)) q
 
 -- the lines of strings give their entries
-pub strings_read : (t : Alphabet) (P : List ((List ℕ × ℕ) × ℕ)) (line : ℕ) (qs : List (List ℕ)) → ReadsItems t → list_all is_entry P ≡ true → AllByRecursion (IsString (letters_of t + 1)) qs → entries_from t line (lines (flat_map (pattern_line t P) qs)) ≡ Ok (flat_map (entries_of P) qs)
-strings_read t P line [] reads sound strings = refl
-strings_read t P line (q ∷ qs) reads sound strings =
+pub strings_read : (t : Alphabet) (P : List ((List ℕ × ℕ) × ℕ)) (line : ℕ) (qs : List (List ℕ)) → KeepsRules t → list_all is_entry P ≡ true → AllByRecursion (IsString (letters_of t + 1)) qs → entries_from t line (lines (flat_map (pattern_line t P) qs)) ≡ Ok (flat_map (entries_of P) qs)
+strings_read t P line [] rules sound strings = refl
+strings_read t P line (q ∷ qs) rules sound strings =
     let items = items_from t P q 0 q in
     let more = flat_map (pattern_line t P) qs in
-    let read : AllByRecursion (IsRead t) items = items_read t P q 0 q reads sound strings.0.signs in
+    let read : AllByRecursion (IsPatternItem t) items = items_read t P q 0 q rules sound strings.0.signs in
     let few : length (signs_of (tokens_in items)) ≤ PATTERN_SIGNS_MAX = subst (λ x. length x ≤ PATTERN_SIGNS_MAX) (sym (signs_from t P q 0 q)) strings.0.few in
-    let text : pattern_line t P q ++ more ≡ text_of items ++ 10 ∷ more = ap (λ x. x ++ more) (line_text t P q 0 q) ∙ append_assoc (text_of items) (10 ∷ []) more in
-    let cut : lines (pattern_line t P q ++ more) ≡ text_of items ∷ lines more = ap lines text ∙ lines_line (text_of items) more (unbroken_text t items read) in
+    let text : pattern_line t P q ++ more ≡ text_of_items items ++ 10 ∷ more = ap (λ x. x ++ more) (line_text t P q 0 q) ∙ append_assoc (text_of_items items) (10 ∷ []) more in
+    let cut : lines (pattern_line t P q ++ more) ≡ text_of_items items ∷ lines more = ap lines text ∙ lines_of_text (text_of_items items) more (joined_unbroken t rules Patterns items read) in
     ap (entries_from t line) cut
-    ∙ ap (λ x. both_parts x (entries_from t (line + 1) (lines more))) (entries_of_items t line items read few ∙ ap Ok (entries_of_string t P q sound))
-    ∙ ap (both_parts (Ok (entries_of P q))) (strings_read t P (line + 1) qs reads sound strings.1)
+    ∙ ap (λ x. both_parts x (entries_from t (line + 1) (lines more))) (line_is_read line_entries t rules Patterns line items read few ∙ ap Ok (entries_of_string t P q sound))
+    ∙ ap (both_parts (Ok (entries_of P q))) (strings_read t P (line + 1) qs rules sound strings.1)

@@ -1,6 +1,6 @@
 -- What the entries of a map of patterns keep.
 use Rattle.std.proofs.Common.{◌≡◌, ℕ, suc, zero, ◌<◌, ◌≤◌, true, false, cond, List, [], ◌∷◌, length, get_or, Some, unwrap_or, max, sym, refl, subst, arith}
-use Rattle.std.proofs.lemmas.Bool.{leb-true, le-leb}
+use Rattle.std.proofs.lemmas.Bool.{leb-true, le-leb, and_from}
 use Rattle.std.proofs.lemmas.List.Elements.{All-nil, All-cons}
 use Rattle.std.specs.declared.cmp.Ordering.TheVariants.{Less, Equal, Greater}
 use Rattle.std.specs.Ordering.{eq_by_cmp}
@@ -10,7 +10,7 @@ use Rattle.pg_types.specs.declared.limits.TheConstants.{LEVEL_MAX, PATTERN_SIGNS
 use Rattle.pg_types.specs.Signs.{is_sign}
 use Rattle.pg_patterns.specs.DottedSigns.{dotted_cmp, dotted_total}
 use Rattle.pg_patterns.specs.Values.{raise, value_of, largest, is_entry, IsPatternMap}
-use Rattle.pg_types.proofs.BoolFacts.{and_first, and_second, both_true}
+use Rattle.pg_types.proofs.BoolFacts.{and_first, and_second}
 
 -- what is said of an entry
 pub record EntryBounds (e : (List ℕ × ℕ) × ℕ) : Type 0 where
@@ -43,7 +43,7 @@ entry_bounds e h =
 
 pub entry_told : (e : (List ℕ × ℕ) × ℕ) → EntryBounds e → is_entry e ≡ true
 entry_told e b =
-    both_true _ _ (both_true _ _ (both_true _ _ (both_true _ _ (both_true _ _ (le-leb 1 (length e.0.0) b.some) (le-leb (length e.0.0) PATTERN_SIGNS_MAX b.few)) b.signs) (le-leb e.0.1 (length e.0.0) b.dot)) (le-leb 1 e.1 b.low)) (le-leb e.1 LEVEL_MAX b.high)
+    and_from _ _ (and_from _ _ (and_from _ _ (and_from _ _ (and_from _ _ (le-leb 1 (length e.0.0) b.some) (le-leb (length e.0.0) PATTERN_SIGNS_MAX b.few)) b.signs) (le-leb e.0.1 (length e.0.0) b.dot)) (le-leb 1 e.1 b.low)) (le-leb e.1 LEVEL_MAX b.high)
 
 pub entry_at : (P : List ((List ℕ × ℕ) × ℕ)) (i : ℕ) (d : (List ℕ × ℕ) × ℕ) → list_all is_entry P ≡ true → i < length P → is_entry (get_or P i d) ≡ true
 entry_at [] i d sound inside = absurd (omega arith)
@@ -83,15 +83,15 @@ greatest_bound P es n m map same is =
     below_greatest n m (largest es) is (largest_bound es (subst (λ x. list_all is_entry x ≡ true) (sym same) map.sound))
 
 sound_put : (k : List ℕ × ℕ) (v : ℕ) (P : List ((List ℕ × ℕ) × ℕ)) → is_entry (k, v) ≡ true → list_all is_entry P ≡ true → list_all is_entry (put dotted_cmp k v P) ≡ true
-sound_put k v [] new sound = both_true _ _ new refl
+sound_put k v [] new sound = and_from _ _ new refl
 sound_put k v (e ∷ es) new sound =
     let here = entry_bounds e (and_first _ _ sound) in
     let put_in = entry_bounds (k, v) new in
     let tied : is_entry (e.0, v) ≡ true = entry_told (e.0, v) (record { some = here.some; few = here.few; signs = here.signs; dot = here.dot; low = put_in.low; high = put_in.high }) in
     elim (dotted_cmp k e.0) as (λ o. list_all is_entry (by_order o ((k, v) ∷ e ∷ es) ((e.0, v) ∷ es) (e ∷ put dotted_cmp k v es)) ≡ true) [
-      | Less ↦ both_true _ _ new sound
-      | Equal ↦ both_true _ _ tied (and_second _ _ sound)
-      | Greater ↦ both_true _ _ (and_first _ _ sound) (sound_put k v es new (and_second _ _ sound))
+      | Less ↦ and_from _ _ new sound
+      | Equal ↦ and_from _ _ tied (and_second _ _ sound)
+      | Greater ↦ and_from _ _ (and_first _ _ sound) (sound_put k v es new (and_second _ _ sound))
     ]
 
 -- a map stays one when a value is raised

@@ -1,5 +1,5 @@
 -- The text of a map is a pattern file of the map.
-use Rattle.std.proofs.Common.{◌≡◌, ℕ, ◌+◌, ◌≤◌, true, false, cond, nat_eq, nat_lt, List, [], ◌∷◌, length, Ok, Err, ap, ◌∙◌}
+use Rattle.std.proofs.Common.{◌≡◌, ℕ, ◌+◌, ◌≤◌, true, false, cond, nat_eq, nat_lt, List, [], ◌∷◌, length, ◌++◌, Ok, Err, ap, subst, ◌∙◌}
 use Rattle.std.proofs.lemmas.Bool.{le-ltb}
 use Rattle.std.proofs.lemmas.List.Elements.{All-head, All-tail}
 use Rattle.std.specs.Cmp.Lexicographic.{pointwise}
@@ -8,12 +8,13 @@ use Rattle.pg_types.specs.declared.limits.TheConstants.{FILE_MAX}
 use Rattle.pg_types.specs.declared.refusals.Kind.TheVariants.{PatternsTooLong}
 use Rattle.pg_types.specs.Lines.{lines}
 use Rattle.pg_translate.specs.Alphabets.{Alphabet, letters_of}
+use Rattle.pg_translate.specs.Rules.{KeepsRules}
 use Rattle.pg_patterns.specs.Values.{IsPatternMap, SignsUpTo, is_entry}
 use Rattle.pg_patterns.specs.Starts.{joined_entries, entries_from, start}
 use Rattle.pg_patterns.specs.Texts.{with_string, strings_of, pattern_text}
 use Rattle.pg_types.proofs.BoolFacts.{and_first, and_second}
 use Rattle.pg_patterns.proofs.Sound.{each_sign, entry_bounds}
-use Rattle.pg_patterns.proofs.ReadBack.{ReadsItems, IsString, strings_read}
+use Rattle.pg_patterns.proofs.ReadBack.{IsString, strings_read}
 use Rattle.pg_patterns.proofs.Restored.{joined_strings}
 
 string_kept : (n : ℕ) (q : List ℕ) (rs : List (List ℕ)) → IsString n q → AllByRecursion (IsString n) rs → AllByRecursion (IsString n) (with_string q rs)
@@ -36,8 +37,14 @@ not_longer : (a b : ℕ) → b ≤ a → nat_lt a b ≡ false
 not_longer a b upto = le-ltb a b upto
 
 -- the text of a map is read back as the map
-pub text_reads_back : (t : Alphabet) (P : List ((List ℕ × ℕ) × ℕ)) → ReadsItems t → IsPatternMap P → SignsUpTo (letters_of t + 1) P → length (pattern_text t P) ≤ FILE_MAX → start t (pattern_text t P) ≡ Ok P
-text_reads_back t P reads map known few =
+pub text_reads_back : (t : Alphabet) (P : List ((List ℕ × ℕ) × ℕ)) → KeepsRules t → IsPatternMap P → SignsUpTo (letters_of t + 1) P → length (pattern_text t P) ≤ FILE_MAX → start t (pattern_text t P) ≡ Ok P
+text_reads_back t P rules map known few =
     ap (λ b. cond b (Err (record { kind = PatternsTooLong; line = 0; column = 0 })) (joined_entries (entries_from t 1 (lines (pattern_text t P))))) (not_longer FILE_MAX (length (pattern_text t P)) few)
-    ∙ ap joined_entries (strings_read t P 1 (strings_of P) reads map.sound (strings_known (letters_of t + 1) P map.sound known))
+    ∙ ap joined_entries (strings_read t P 1 (strings_of P) rules map.sound (strings_known (letters_of t + 1) P map.sound known))
     ∙ ap Ok (joined_strings P map)
+
+-- a text that was written from the start is a pattern file of the map
+pub written_reads_back : (t : Alphabet) (P Q es : List ((List ℕ × ℕ) × ℕ)) (text before : List ℕ) → KeepsRules t → IsPatternMap P → P ≡ Q → es ≡ P → SignsUpTo (letters_of t + 1) Q → before ≡ [] → text ≡ before ++ pattern_text t es → length text ≤ FILE_MAX → start t text ≡ Ok Q
+written_reads_back t P Q es text before rules map same entries known none written few =
+    let is : text ≡ pattern_text t Q = written ∙ ap (λ x. x ++ pattern_text t es) none ∙ ap (pattern_text t) (entries ∙ same) in
+    ap (start t) is ∙ text_reads_back t Q rules (subst IsPatternMap same map) known (subst (λ x. length x ≤ FILE_MAX) is few)

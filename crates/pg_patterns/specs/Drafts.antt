@@ -1,5 +1,5 @@
 -- What of a line of a pattern file was read so far.
-use Rattle.std.specs.Prelude.{ℕ, ◌-◌, ◌<◌, ◌≤◌, List, [], ◌∷◌, ◌++◌, length, fold, Option, Result}
+use Rattle.std.specs.Prelude.{◌≡◌, ℕ, ◌-◌, ◌<◌, ◌≤◌, List, [], ◌∷◌, ◌++◌, length, fold, Option, Result, Ok}
 use Rattle.std.specs.List.{All}
 use Rattle.pg_types.specs.declared.limits.TheConstants.{EDGE, LEVEL_MAX, PATTERN_SIGNS_MAX}
 use Rattle.pg_types.specs.declared.refusals.Refusal.{Refusal}
@@ -52,6 +52,14 @@ refusal_after n line c = refusal_with_room Patterns line (PATTERN_SIGNS_MAX - n)
 abbrev pub draft_left : Alphabet → ℕ → ℕ → Draft → List ℕ → Result Draft Refusal
 draft_left t line size d rest =
     let c = cut_rest t Patterns size rest in unless (refusal_after (length d.signs) line c) (fold with_token d (tokens_of c))
+
+-- an item was taken: the line read on from the new draft and rest is that read on from the old ones, and less is left
+abbrev pub ReadsOn : (Draft → List ℕ → Result Draft Refusal) → Draft → List ℕ → Draft → List ℕ → Type 0
+ReadsOn read old rest new after = (read old rest ≡ read new after) × (length after < length rest)
+
+-- no item was taken: the line ends with its draft
+abbrev pub EndsWith : (Draft → List ℕ → Result Draft Refusal) → Draft → List ℕ → Draft → Type 0
+EndsWith read old rest new = (read old rest ≡ Ok old) × (new ≡ old)
 
 -- a line read whole
 abbrev pub line_draft : Alphabet → ℕ → List ℕ → Result Draft Refusal

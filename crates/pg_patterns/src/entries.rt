@@ -15,7 +15,8 @@ use std::alloc::AllocError;
 fn seek(entries: &[(DottedSigns, u8)], place: &DottedSigns) -> usize
     requires { T (is_sorted dotted_cmp entries.now) }
     ensures bound { result ≤ length entries.now }
-    ensures point { IsPartitionPoint (λ e. is_after place.now e ≡ true) (λ e. is_after place.now e ≡ false) entries.now result }
+    ensures point { IsPartitionPoint (λ e. is_after place.now e ≡ true)
+        (λ e. is_after place.now e ≡ false) entries.now result }
 {
     if comes_last(entries, place) {
         return entries.len();
@@ -32,7 +33,7 @@ fn comes_last(entries: &[(DottedSigns, u8)], place: &DottedSigns) -> bool
 }
 
 /// Whether the entry at `at` is there, and is that of `place`.
-pub fn stands(entries: &[(DottedSigns, u8)], at: usize, place: &DottedSigns) -> bool
+pub fn is_entry_of(entries: &[(DottedSigns, u8)], at: usize, place: &DottedSigns) -> bool
     ensures { result ≡ begins_with place.now (drop at entries.now) }
 {
     at < entries.len() && *place == entries[at].0
@@ -49,7 +50,7 @@ pub fn raise_in(
     ensures err { OnErr result (entries.new.items ≡ entries.old.items) }
 {
     let at = seek(entries.as_slice(), &place);
-    if stands(entries.as_slice(), at, &place) {
+    if is_entry_of(entries.as_slice(), at, &place) {
         let held = entries[at].1;
         entries[at].1 = held.max(value);
         return Ok(());
@@ -58,8 +59,8 @@ pub fn raise_in(
     Ok(())
 }
 
-/// Joins the entries of one place by the greatest value: they are sorted where they stand, by place and falling value, and
-/// the first of each place is kept.
+/// Joins the entries of one place by the greatest value: they are sorted where they stand, by place and falling value,
+/// and the first of each place is kept.
 pub fn join(entries: &mut Vec<(DottedSigns, u8)>)
     requires { list_all is_entry entries.old.items ≡ true }
     ensures { IsPatternMap entries.new.items × (entries.new.items ≡ map_of_entries entries.old.items) }

@@ -1,11 +1,12 @@
 //! The reader of a pattern file.
-ghost use Rattle.std.specs.Prelude.{◌≡◌, ◌+◌, ◌<◌, ◌≤◌, ◌^◌, true, length, Ok, Err, IfOk, MatchOption, MatchResult};
+ghost use Rattle.std.specs.Prelude.{◌≡◌, ◌+◌, ◌<◌, ◌≤◌, ◌^◌, true, length, Err, IfOk, MatchOption, MatchResult};
 ghost use Rattle.std.specs.List.{list_all};
 ghost use Rattle.pg_types.specs.Lines.{lines};
 ghost use Rattle.pg_types.specs.Reading.{Gives};
 ghost use Rattle.pg_translate.specs.Alphabets.{letters_of};
+ghost use Rattle.pg_translate.specs.LineRefusals.{refused};
 ghost use Rattle.pg_patterns.specs.Values.{SignsUpTo, is_entry};
-ghost use Rattle.pg_patterns.specs.Drafts.{IsDraft, draft_left, line_draft, draft_with_sign};
+ghost use Rattle.pg_patterns.specs.Drafts.{IsDraft, EndsWith, ReadsOn, draft_left, line_draft, draft_with_sign};
 ghost use Rattle.pg_patterns.specs.Starts.{entries_from};
 
 use crate::dotted_signs::DottedSigns;
@@ -50,8 +51,8 @@ fn read_line(table: &Table, line: u32, text: &[u8]) -> Result<LineDraft, Refusal
     Ok(draft)
 }
 
-/// Takes the first item of `rest`, of a line of `size` bytes, into the draft, and gives what follows it; none where the line
-/// ends.
+/// Takes the first item of `rest`, of a line of `size` bytes, into the draft, and gives what follows it; none where
+/// the line ends.
 fn take_item<'a>(
     table: &Table,
     draft: &mut LineDraft,
@@ -62,7 +63,10 @@ fn take_item<'a>(
     requires size { size ≤ FILE_MAX }
     requires rest { length rest.now ≤ size }
     requires kept { IsDraft (letters_of table.now + 1) draft.old }
-    ensures step { MatchResult result (λ o. MatchOption o ((draft_left table.now line size draft.old rest.now ≡ Ok draft.old) × (draft.new ≡ draft.old)) (λ after. (draft_left table.now line size draft.old rest.now ≡ draft_left table.now line size draft.new after.now) × (length after.now < length rest.now))) (λ r. draft_left table.now line size draft.old rest.now ≡ Err r) }
+    ensures step { let read = draft_left table.now line size in MatchResult result
+        (λ o. MatchOption o (EndsWith read draft.old rest.now draft.new)
+        (λ after. ReadsOn read draft.old rest.now draft.new after.now))
+        (λ r. read draft.old rest.now ≡ Err r) }
     ensures kept { IfOk result (λ _. IsDraft (letters_of table.now + 1) draft.new) }
 {
     let column = (size - rest.len() + 1) as u32;
@@ -92,7 +96,9 @@ fn take_item<'a>(
 
 /// Adds a sign that stands in a column of a line; the sign after the last that a pattern may have is refused.
 fn add_sign(draft: &mut LineDraft, sign: Sign, line: u32, column: u32) -> Result<(), Refusal>
-    ensures { MatchResult result (λ _. (length draft.old.signs < PATTERN_SIGNS_MAX) × (draft.new ≡ draft_with_sign draft.old sign)) (λ r. (PATTERN_SIGNS_MAX ≤ length draft.old.signs) × (r ≡ record { kind = Kind.PatternTooLong; line = line; column = column })) }
+    ensures { MatchResult result (λ _. (length draft.old.signs < PATTERN_SIGNS_MAX)
+        × (draft.new ≡ draft_with_sign draft.old sign))
+        (λ r. (PATTERN_SIGNS_MAX ≤ length draft.old.signs) × (r ≡ refused line Kind.PatternTooLong column)) }
 {
     if draft.is_full() {
         return Err(Refusal {

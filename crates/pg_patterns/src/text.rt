@@ -55,8 +55,8 @@ fn push_line(
     Ok(next)
 }
 
-/// Appends the digit of `dot` among `signs`, where the entry at `next` is theirs, and gives where the entry of the next dot
-/// would stand.
+/// Appends the digit of `dot` among `signs`, where the entry at `next` is theirs, and gives where the entry of the
+/// next dot would stand.
 fn push_digit(
     entries: &[(DottedSigns, u8)],
     next: usize,
@@ -69,7 +69,7 @@ fn push_digit(
     ensures text { OnOk result (text.new.items ≡ text.old.items ++ value_digit entries.now (signs.now, dot)) }
     ensures next { IfOk result (λ after. HasRank entries.now (signs.now, dot + 1) after) }
 {
-    match value_at(entries, next, signs, dot) {
+    match entry_value_at(entries, next, signs, dot) {
         Some(value) => {
             text.push(b'0' + value)?;
             Ok(next + 1)
@@ -79,7 +79,12 @@ fn push_digit(
 }
 
 /// The value of the entry at `at`, where it is that of `dot` among `signs`.
-fn value_at(entries: &[(DottedSigns, u8)], at: usize, signs: &[Sign], dot: usize) -> Option<u8>
+fn entry_value_at(
+    entries: &[(DottedSigns, u8)],
+    at: usize,
+    signs: &[Sign],
+    dot: usize,
+) -> Option<u8>
     requires { IsPatternMap entries.now }
     ensures value { result ≡ first_value (signs.now, dot) (drop at entries.now) }
     ensures low { IfSome result (λ value. value ≤ LEVEL_MAX) }

@@ -1,6 +1,6 @@
 -- A weight added to a window, and the walk over the windows.
 use Rattle.std.proofs.Common.{◌≡◌, ℕ, ◌≤◌, Bool, true, false, cond, ◌&&◌, T, List, [], ◌∷◌, length, Option, Some, None, is_some, unwrap_or, nat_eq, nat_cmp, sym, refl, ap, ◌∙◌}
-use Rattle.std.proofs.lemmas.Bool.{le-leb, eqb-true}
+use Rattle.std.proofs.lemmas.Bool.{le-leb, eqb-true, and_from}
 use Rattle.std.proofs.lemmas.List.Elements.{All-head, All-tail}
 use Rattle.std.specs.declared.cmp.Ordering.TheVariants.{Equal}
 use Rattle.std.specs.declared.ops.Bound.TheVariants.{Excluded, Unbounded}
@@ -15,8 +15,7 @@ use Rattle.std.specs.Ordering.{is_lt}
 use Rattle.pg_types.specs.Signs.{is_sign}
 use Rattle.pg_types.specs.Counts.{Counts, SignsWithin, sums_of, with_weight, is_counted, above}
 use Rattle.pg_select.specs.Meanings.{with_position}
-use Rattle.pg_plain.proofs.Bools.{both_true}
-use Rattle.pg_plain.proofs.Maps.{insert-put, lookup-find, set_value-put, all_put, find_good, above_next}
+use Rattle.pg_types.proofs.EntryLists.{insert-put, lookup-find, set_value-put, all_put, find_good, above_next}
 
 pub same_window : (a b : List ℕ) → slice_cmp nat_cmp a b ≡ Equal → a ≡ b
 same_window a b same = slice_cmp-IsAntisymmetric nat_cmp-IsAntisymmetric a b same
@@ -24,7 +23,7 @@ same_window a b same = slice_cmp-IsAntisymmetric nat_cmp-IsAntisymmetric a b sam
 pub signs_told : (n : ℕ) (q : List ℕ) → SignsWithin n q → list_all is_sign q ≡ true
 signs_told n [] h = refl
 signs_told n (s ∷ q) h =
-    both_true _ _ (le-leb 1 s (All-head (λ s. (1 ≤ s) × (s ≤ n)) s q h).0) (signs_told n q (All-tail (λ s. (1 ≤ s) × (s ≤ n)) s q h))
+    and_from _ _ (le-leb 1 s (All-head (λ s. (1 ≤ s) × (s ≤ n)) s q h).0) (signs_told n q (All-tail (λ s. (1 ≤ s) × (s ≤ n)) s q h))
 
 -- sums that are not there are 0 and 0
 no_sums : (o : Option (ℕ × ℕ)) → is_some o ≡ false → unwrap_or o (0, 0) ≡ (0, 0)

@@ -1,6 +1,6 @@
 -- The values and the covers of a word, from the entries that apply in it.
 use Rattle.std.proofs.Common.{◌≡◌, ℕ, ◌+◌, ◌-◌, ◌<◌, ◌≤◌, Bool, true, false, cond, ◌&&◌, ◌||◌, List, [], ◌∷◌, length, take, drop, get_or, replicate, max, nat_le, nat_eq, sym, refl, ap, subst, ◌∙◌, arith}
-use Rattle.std.proofs.lemmas.Bool.{leb-true, le-leb}
+use Rattle.std.proofs.lemmas.Bool.{leb-true, le-leb, and_from}
 use Rattle.std.proofs.lemmas.List.{length-take-le, length-drop, take-take, drop-drop, drop-take, get_or-replicate}
 use Rattle.std.specs.Cmp.Lexicographic.{bytes_decides}
 use Rattle.std.specs.List.{starts_with, list_all, list_any}
@@ -11,7 +11,8 @@ use Rattle.pg_plain.specs.Strings.{is_string}
 use Rattle.pg_select.specs.Positions.{bit}
 use Rattle.pg_select.specs.Windows.{is_within}
 use Rattle.pg_plain.specs.Greatest.{greatest}
-use Rattle.pg_plain.proofs.Bools.{and_first, and_second, both_true, same_tests, all_weaker}
+use Rattle.pg_types.proofs.BoolFacts.{and_first, and_second, all_weaker}
+use Rattle.std.specs.Cmp.{both_ways}
 
 entry_string : (e : (List ℕ × ℕ) × ℕ) → is_entry e ≡ true → is_string e.0 ≡ true
 entry_string e h = and_first _ _ (and_first _ _ (and_first _ _ (and_first _ _ h)))
@@ -34,7 +35,7 @@ inner w p len dot k low high size =
 
 -- a place applies in a window that fits where it applies in the word, and stands within the window
 pub cover_law : (w : List ℕ) (p len dot : ℕ) (k : List ℕ × ℕ) → fits w p len dot ≡ true → applies (window w p len dot) dot k ≡ (applies w p k && is_within len dot (length k.0) k.1)
-cover_law w p len dot k fit = same_tests _ _ out back
+cover_law w p len dot k fit = both_ways _ _ out back
   where
     high : dot ≤ p
     high = leb-true dot p (and_first (nat_le dot p) (nat_le (p - dot + len) (length w)) fit)
@@ -55,10 +56,10 @@ cover_law w p len dot k fit = same_tests _ _ out back
         let there : k.0 ≡ take (length k.0) (drop (p - k.1) w) = signs ∙ inner w p len dot k low high fitting in
         let up : dot ≤ p = high in
         let space : p - dot + len ≤ length w = room in
-        both_true (applies w p k) (is_within len dot (length k.0) k.1)
-        (both_true (nat_le k.1 p) (stands_at k.0 w (p - k.1)) (le-leb k.1 p (omega arith))
-        (both_true (nat_le ((p - k.1) + length k.0) (length w)) (starts_with nat_eq (drop (p - k.1) w) k.0) (le-leb ((p - k.1) + length k.0) (length w) (omega arith)) ((bytes_decides k.0 (take (length k.0) (drop (p - k.1) w))).1 there)))
-        (both_true (nat_le k.1 dot) (nat_le (length k.0 + dot) (len + k.1)) (le-leb k.1 dot low) (le-leb (length k.0 + dot) (len + k.1) (omega arith)))
+        and_from (applies w p k) (is_within len dot (length k.0) k.1)
+        (and_from (nat_le k.1 p) (stands_at k.0 w (p - k.1)) (le-leb k.1 p (omega arith))
+        (and_from (nat_le ((p - k.1) + length k.0) (length w)) (starts_with nat_eq (drop (p - k.1) w) k.0) (le-leb ((p - k.1) + length k.0) (length w) (omega arith)) ((bytes_decides k.0 (take (length k.0) (drop (p - k.1) w))).1 there)))
+        (and_from (nat_le k.1 dot) (nat_le (length k.0 + dot) (len + k.1)) (le-leb k.1 dot low) (le-leb (length k.0 + dot) (len + k.1) (omega arith)))
 
     back : (applies w p k && is_within len dot (length k.0) k.1) ≡ true → applies (window w p len dot) dot k ≡ true
     back h =
@@ -70,8 +71,8 @@ cover_law w p len dot k fit = same_tests _ _ out back
         let stands = and_second (nat_le k.1 p) (stands_at k.0 w (p - k.1)) all in
         let signs : k.0 ≡ take (length k.0) (drop (p - k.1) w) = (bytes_decides k.0 (take (length k.0) (drop (p - k.1) w))).0 (and_second (nat_le ((p - k.1) + length k.0) (length w)) (starts_with nat_eq (drop (p - k.1) w) k.0) stands) in
         let there : k.0 ≡ take (length k.0) (drop (dot - k.1) (window w p len dot)) = signs ∙ sym (inner w p len dot k low high fitting) in
-        both_true (nat_le k.1 dot) (stands_at k.0 (window w p len dot) (dot - k.1)) (le-leb k.1 dot low)
-        (both_true (nat_le ((dot - k.1) + length k.0) (length (window w p len dot))) (starts_with nat_eq (drop (dot - k.1) (window w p len dot)) k.0)
+        and_from (nat_le k.1 dot) (stands_at k.0 (window w p len dot) (dot - k.1)) (le-leb k.1 dot low)
+        (and_from (nat_le ((dot - k.1) + length k.0) (length (window w p len dot))) (starts_with nat_eq (drop (dot - k.1) (window w p len dot)) k.0)
         (le-leb ((dot - k.1) + length k.0) (length (window w p len dot)) (subst (λ x. (dot - k.1) + length k.0 ≤ x) (sym size) fitting)) ((bytes_decides k.0 (take (length k.0) (drop (dot - k.1) (window w p len dot)))).1 there))
 
 bit_or : (a b c : Bool) → bit ((a && b) || c) ≡ max (cond a (bit b) 0) (bit c)

@@ -1,6 +1,6 @@
 -- Places that are entered into a map.
 use Rattle.std.proofs.Common.{◌≡◌, ℕ, Bool, ◌+◌, ◌≤◌, true, List, [], ◌++◌, length, take, max, Option, Some, None, unwrap_or, slice_get, sym, refl, ap, subst, ◌∙◌, arith, add-one}
-use Rattle.std.proofs.lemmas.Bool.{leb-true, le-leb}
+use Rattle.std.proofs.lemmas.Bool.{leb-true, le-leb, and_from}
 use Rattle.std.proofs.lemmas.List.{append-nil}
 use Rattle.std.specs.BTreeMap.{insert_entry}
 use Rattle.std.specs.FinMap.Entries.{put, find}
@@ -9,8 +9,8 @@ use Rattle.pg_types.specs.Signs.{is_sign}
 use Rattle.pg_patterns.specs.DottedSigns.{dotted_cmp, dotted_total, dotted_exact}
 use Rattle.pg_patterns.specs.Values.{raise, value_of, is_entry, IsPatternMap}
 use Rattle.pg_plain.specs.Strings.{is_string}
-use Rattle.pg_plain.proofs.Bools.{and_first, and_second, both_true}
-use Rattle.pg_plain.proofs.Maps.{insert-put, find_good, all_put, put_next}
+use Rattle.pg_types.proofs.EntryLists.{insert-put, find_good, all_put, put_next}
+use Rattle.pg_types.proofs.BoolFacts.{and_first, and_second}
 
 -- a value that is raised in a map
 pub raised_in : (P Q : List ((List ℕ × ℕ) × ℕ)) (k : List ℕ × ℕ) (v held n : ℕ) → held ≡ value_of P k → n ≡ max v held → Q ≡ insert_entry dotted_cmp P k n → Q ≡ raise P k v
@@ -35,7 +35,7 @@ greater_entry k v n new low =
     let some : 1 ≤ v = leb-true 1 v (and_second _ _ (and_first _ _ new)) in
     let most : v ≤ 9 = leb-true v 9 (and_second _ _ new) in
     let value = greater_bounds v n some most low in
-    both_true _ _ (both_true _ _ place (le-leb 1 (max v n) value.0)) (le-leb (max v n) 9 value.1)
+    and_from _ _ (and_from _ _ place (le-leb 1 (max v n) value.0)) (le-leb (max v n) 9 value.1)
 
 value_bound : (P : List ((List ℕ × ℕ) × ℕ)) (k : List ℕ × ℕ) → list_all is_entry P ≡ true → value_of P k ≤ 9
 value_bound P k all = by_find (find dotted_cmp k P) refl
@@ -57,10 +57,10 @@ entered_next P M N i k v map same there entered =
 -- a counted window at a dot that is at most its length, with a level
 pub window_entry : (u : List ℕ) (dot level len : ℕ) → length u ≡ len → list_all is_sign u ≡ true → 1 ≤ len → len ≤ 15 → dot ≤ len → 1 ≤ level → level ≤ 9 → is_entry ((u, dot), level) ≡ true
 window_entry u dot level len size signs some few inside low high =
-    both_true _ _ (both_true _ _ (both_true _ _ (both_true _ _ (both_true _ _ (le-leb 1 (length u) (omega arith)) (le-leb (length u) 32 (omega arith))) signs) (le-leb dot (length u) (omega arith))) (le-leb 1 level low)) (le-leb level 9 high)
+    and_from _ _ (and_from _ _ (and_from _ _ (and_from _ _ (and_from _ _ (le-leb 1 (length u) (omega arith)) (le-leb (length u) 32 (omega arith))) signs) (le-leb dot (length u) (omega arith))) (le-leb 1 level low)) (le-leb level 9 high)
 
 pub window_string : (u : List ℕ) (dot len : ℕ) → length u ≡ len → 1 ≤ len → len ≤ 15 → is_string (u, dot) ≡ true
-window_string u dot len size some few = both_true _ _ (le-leb 1 (length u) (omega arith)) (le-leb (length u) 32 (omega arith))
+window_string u dot len size some few = and_from _ _ (le-leb 1 (length u) (omega arith)) (le-leb (length u) 32 (omega arith))
 
 -- a list with nothing left behind it
 pub whole : {X : Type 0} (xs rest es : List X) → xs ++ rest ≡ es → rest ≡ [] → xs ≡ es

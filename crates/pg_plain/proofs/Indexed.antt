@@ -1,6 +1,6 @@
 -- Marked slots.
 use Rattle.std.proofs.Common.{◌≡◌, ℕ, suc, zero, ◌+◌, ◌<◌, ◌≤◌, ⊎_elim, Bool, true, false, not, List, [], ◌∷◌, length, take, get_or, set, min, max, nat_eq, sym, refl, ap, subst, ◌∙◌, arith, add-one}
-use Rattle.std.proofs.lemmas.Bool.{cases_eq, cases_lt}
+use Rattle.std.proofs.lemmas.Bool.{cases_eq, cases_lt, and_from}
 use Rattle.std.proofs.lemmas.List.{get_or-set_same, get_or-set_other, length-set, length-take}
 use Rattle.std.proofs.Math.Seq.{take-length}
 use Rattle.std.specs.Cmp.Lexicographic.{pointwise, bytes_decides}
@@ -8,8 +8,9 @@ use Rattle.std.specs.List.{starts_with, list_all, list_any}
 use Rattle.pg_plain.specs.Indexes.{index_slot, marked, is_indexed}
 use Rattle.pg_plain.specs.Greatest.{greatest, RaisesBy}
 use Rattle.pg_plain.specs.Walks.{has_signs_at, is_extension}
-use Rattle.pg_plain.proofs.Bools.{and_first, and_second, both_true, no_test, any_none}
+use Rattle.pg_plain.proofs.Bools.{any_none}
 use Rattle.pg_plain.proofs.Greatest.{greatest-none}
+use Rattle.pg_types.proofs.BoolFacts.{and_first, and_second, no_test}
 
 -- the marks of one list of slots are marks of another
 pub record Keeps (fronts more : List Bool) : Type 0 where
@@ -37,14 +38,14 @@ marked_kept fronts more q zero kept h = refl
 marked_kept fronts more q (suc m) kept h =
     let here : get_or fronts (index_slot (length fronts) (take (suc m) q)) false ≡ true = and_first (get_or fronts (index_slot (length fronts) (take (suc m) q)) false) (marked fronts q m) h in
     let moved : get_or fronts (index_slot (length more) (take (suc m) q)) false ≡ true = subst (λ n. get_or fronts (index_slot n (take (suc m) q)) false ≡ true) (sym kept.size) here in
-    both_true _ _ (kept.each (index_slot (length more) (take (suc m) q)) moved) (marked_kept fronts more q m kept (and_second (get_or fronts (index_slot (length fronts) (take (suc m) q)) false) (marked fronts q m) h))
+    and_from _ _ (kept.each (index_slot (length more) (take (suc m) q)) moved) (marked_kept fronts more q m kept (and_second (get_or fronts (index_slot (length fronts) (take (suc m) q)) false) (marked fronts q m) h))
 
 -- an index keeps what it has when slots are marked
 pub indexed_kept : (fronts more strings longer : List Bool) (q : List ℕ) → Keeps fronts more → Keeps strings longer → is_indexed fronts strings q ≡ true → is_indexed more longer q ≡ true
 indexed_kept fronts more strings longer q kept also h =
     let own : get_or strings (index_slot (length fronts) q) false ≡ true = and_second (marked fronts q (length q)) (get_or strings (index_slot (length fronts) q) false) h in
     let moved : get_or strings (index_slot (length more) q) false ≡ true = subst (λ n. get_or strings (index_slot n q) false ≡ true) (sym kept.size) own in
-    both_true _ _ (marked_kept fronts more q (length q) kept (and_first (marked fronts q (length q)) (get_or strings (index_slot (length fronts) q) false) h)) (also.each (index_slot (length more) q) moved)
+    and_from _ _ (marked_kept fronts more q (length q) kept (and_first (marked fronts q (length q)) (get_or strings (index_slot (length fronts) q) false) h)) (also.each (index_slot (length more) q) moved)
 
 -- one front more is marked
 pub marked_more : (fronts : List Bool) (q r : List ℕ) (k slot : ℕ) → slot < length fronts → r ≡ take (k + 1) q → slot ≡ index_slot (length fronts) r → marked fronts q k ≡ true → marked (set fronts slot true) q (k + 1) ≡ true
@@ -54,7 +55,7 @@ marked_more fronts q r k slot inside front is h =
     is ∙ ap (λ x. index_slot (length fronts) x) (front ∙ ap (λ n. take n q) (add-one k)) ∙ ap (λ n. index_slot n (take (suc k) q)) (sym kept.size) in
     let new : get_or (set fronts slot true) (index_slot (length (set fronts slot true)) (take (suc k) q)) false ≡ true =
     ap (λ x. get_or (set fronts slot true) x false) (sym there) ∙ get_or-set_same fronts slot true false inside in
-    let all : marked (set fronts slot true) q (suc k) ≡ true = both_true _ _ new (marked_kept fronts (set fronts slot true) q k kept h) in
+    let all : marked (set fronts slot true) q (suc k) ≡ true = and_from _ _ new (marked_kept fronts (set fronts slot true) q k kept h) in
     ap (λ n. marked (set fronts slot true) q n) (add-one k) ∙ all
 
 -- a front of a string is marked

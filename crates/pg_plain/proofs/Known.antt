@@ -1,21 +1,21 @@
 -- Signs that are at most the greatest.
 use Rattle.std.proofs.Common.{◌≡◌, ℕ, ◌≤◌, nat_le, true, ◌&&◌, List, [], ◌∷◌, refl}
-use Rattle.std.proofs.lemmas.Bool.{leb-true, le-leb}
+use Rattle.std.proofs.lemmas.Bool.{leb-true, le-leb, and_from}
 use Rattle.std.proofs.lemmas.List.Elements.{All-nil, All-cons, All-head, All-tail}
 use Rattle.std.specs.List.{All, list_all}
 use Rattle.pg_types.specs.Counts.{Counts, SignsWithin, is_counted}
 use Rattle.pg_types.specs.Signs.{is_sign}
 use Rattle.pg_patterns.specs.Values.{SignsUpTo, is_entry}
 use Rattle.pg_plain.specs.Strings.{has_signs_up_to}
-use Rattle.pg_plain.proofs.Bools.{and_first, and_second, both_true}
 use Rattle.pg_plain.proofs.Counted.{counted_good}
+use Rattle.pg_types.proofs.BoolFacts.{and_first, and_second}
 
 -- the test and the fact
 pub up_to_told : (n : ℕ) (q : List ℕ) → SignsWithin n q → has_signs_up_to n q ≡ true
 up_to_told n [] h = refl
 up_to_told n (s ∷ q) h =
     let here = All-head (λ s. (1 ≤ s) × (s ≤ n)) s q h in
-    both_true (nat_le 1 s && nat_le s n) (has_signs_up_to n q) (both_true (nat_le 1 s) (nat_le s n) (le-leb 1 s here.0) (le-leb s n here.1)) (up_to_told n q (All-tail (λ s. (1 ≤ s) × (s ≤ n)) s q h))
+    and_from (nat_le 1 s && nat_le s n) (has_signs_up_to n q) (and_from (nat_le 1 s) (nat_le s n) (le-leb 1 s here.0) (le-leb s n here.1)) (up_to_told n q (All-tail (λ s. (1 ≤ s) × (s ≤ n)) s q h))
 
 pub within_told : (n : ℕ) (q : List ℕ) → has_signs_up_to n q ≡ true → SignsWithin n q
 within_told n [] h = All-nil (λ s. (1 ≤ s) × (s ≤ n))
@@ -30,7 +30,7 @@ least_told n (s ∷ q) h = All-cons (λ s. s ≤ n) s q (leb-true s n (and_secon
 both_told : (n : ℕ) (q : List ℕ) → list_all is_sign q ≡ true → All (λ s. s ≤ n) q → has_signs_up_to n q ≡ true
 both_told n [] signs upto = refl
 both_told n (s ∷ q) signs upto =
-    both_true (nat_le 1 s && nat_le s n) (has_signs_up_to n q) (both_true (nat_le 1 s) (nat_le s n) (and_first (is_sign s) (list_all is_sign q) signs) (le-leb s n (All-head (λ s. s ≤ n) s q upto))) (both_told n q (and_second (is_sign s) (list_all is_sign q) signs) (All-tail (λ s. s ≤ n) s q upto))
+    and_from (nat_le 1 s && nat_le s n) (has_signs_up_to n q) (and_from (nat_le 1 s) (nat_le s n) (and_first (is_sign s) (list_all is_sign q) signs) (le-leb s n (All-head (λ s. s ≤ n) s q upto))) (both_told n q (and_second (is_sign s) (list_all is_sign q) signs) (All-tail (λ s. s ≤ n) s q upto))
 
 entry_signs : (e : (List ℕ × ℕ) × ℕ) → is_entry e ≡ true → list_all is_sign e.0.0 ≡ true
 entry_signs e h = and_second _ _ (and_first _ _ (and_first _ _ (and_first _ _ h)))
@@ -39,7 +39,7 @@ entry_signs e h = and_second _ _ (and_first _ _ (and_first _ _ (and_first _ _ h)
 pub patterns_told : (n : ℕ) (P : List ((List ℕ × ℕ) × ℕ)) → list_all is_entry P ≡ true → SignsUpTo n P → list_all (λ e. has_signs_up_to n e.0.0) P ≡ true
 patterns_told n [] sound upto = refl
 patterns_told n (e ∷ es) sound upto =
-    both_true (has_signs_up_to n e.0.0) (list_all (λ (x : (List ℕ × ℕ) × ℕ). has_signs_up_to n x.0.0) es)
+    and_from (has_signs_up_to n e.0.0) (list_all (λ (x : (List ℕ × ℕ) × ℕ). has_signs_up_to n x.0.0) es)
     (both_told n e.0.0 (entry_signs e (and_first (is_entry e) (list_all is_entry es) sound)) (All-head (λ (e : (List ℕ × ℕ) × ℕ). All (λ s. s ≤ n) e.0.0) e es upto))
     (patterns_told n es (and_second (is_entry e) (list_all is_entry es) sound) (All-tail (λ (e : (List ℕ × ℕ) × ℕ). All (λ s. s ≤ n) e.0.0) e es upto))
 

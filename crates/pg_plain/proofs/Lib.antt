@@ -1,7 +1,6 @@
 pub mod Bools
 pub mod Greatest
 pub mod Orders
-pub mod Maps
 pub mod OneString
 pub mod Indexed
 pub mod Strings

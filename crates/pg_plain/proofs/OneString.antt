@@ -11,9 +11,11 @@ use Rattle.pg_select.specs.Positions.{Positions}
 use Rattle.pg_select.specs.Positions.{RaisesAt, values_of, covers_of}
 use Rattle.pg_plain.specs.Greatest.{RaisesBy}
 use Rattle.pg_plain.specs.Walks.{has_signs_at, is_extension}
-use Rattle.pg_plain.proofs.Bools.{and_first, and_second, both_true, no_test, not_true, not_false, any_none, any_filter, all_filter, all_weaker}
+use Rattle.pg_plain.proofs.Bools.{any_none, any_filter, all_filter}
 use Rattle.pg_plain.proofs.Greatest.{Level, greatest-filter, level_end, level_first}
-use Rattle.pg_plain.proofs.Orders.{second_half, first_half, upto_itself, prefix_upto, prefix_between, both_upto, from_string, string_from, behind}
+use Rattle.pg_plain.proofs.Orders.{upto_itself, prefix_upto, prefix_between, both_upto, from_string, string_from, behind}
+use Rattle.pg_types.proofs.BoolFacts.{and_first, and_second, no_test, all_weaker, second_half, first_half}
+use Rattle.std.proofs.lemmas.Bool.{and_from, not_from_false, not-true}
 
 -- the entries of q that are left are the first of rest
 pub record StringLeft {X : Type 0} (value cover : (List ℕ × ℕ) × X → ℕ) (q : List ℕ) (i : ℕ) (es rest : List ((List ℕ × ℕ) × X)) (before now : Positions) : Type 0 where
@@ -38,7 +40,7 @@ string_at q i p k row =
 
 kept_from : (q : List ℕ) (k f : List ℕ × ℕ) → f ≡ (q, 0) → is_gt (slice_cmp nat_cmp q k.0) ≡ false → range_contains dotted_cmp (Included f) Unbounded k ≡ true
 kept_from q k f is low =
-    both_true _ _ (subst (λ x. is_le (dotted_cmp x k) ≡ true) (sym is) (from_string q k low)) refl
+    and_from _ _ (subst (λ x. is_le (dotted_cmp x k) ≡ true) (sym is) (from_string q k low)) refl
 
 module _ {X : Type 0} (value cover : (List ℕ × ℕ) × X → ℕ) (q : List ℕ) (i : ℕ) (es : List ((List ℕ × ℕ) × X)) where
   pub string_begins : (f : List ℕ × ℕ) (rest : List ((List ℕ × ℕ) × X)) (before : Positions) → f ≡ (q, 0) → T (is_sorted dotted_cmp es) → rest ≡ entries_between dotted_cmp (Included f) Unbounded es → StringLeft value cover q i es rest before before
@@ -57,7 +59,7 @@ module _ {X : Type 0} (value cover : (List ℕ × ℕ) × X → ℕ) (q : List �
       → RaisesAt (i + e.0.1) (value e) (values_of now) (values_of new) → RaisesAt (i + e.0.1) (cover e) (covers_of now) (covers_of new) → StringLeft value cover q i es rest before new
   string_steps e rest left before now new cut held same raised covered =
       let here = subst (λ x. StringLeft value cover q i es x before now) cut held in
-      let ends : is_extension q e.0.0 ≡ false = no_test (is_extension q e.0.0) (λ goes. sym (not_false _ (and_second _ _ goes)) ∙ same) in
+      let ends : is_extension q e.0.0 ≡ false = no_test (is_extension q e.0.0) (λ goes. sym (not-true _ (and_second _ _ goes)) ∙ same) in
       record {
         sorted = second_half _ _ here.sorted;
         from = and_second _ _ here.from;
@@ -71,7 +73,7 @@ module _ {X : Type 0} (value cover : (List ℕ × ℕ) × X → ℕ) (q : List �
   other_string e low other p k upto =
       no_test (has_signs_at q i p k) (λ row.
       let there : k.0 ≡ q = same_is k.0 q (and_first _ _ row) in
-      let high : is_gt (slice_cmp nat_cmp e.0.0 q) ≡ false = subst (λ r. is_gt (slice_cmp nat_cmp e.0.0 r) ≡ false) there (not_false _ upto) in
+      let high : is_gt (slice_cmp nat_cmp e.0.0 q) ≡ false = subst (λ r. is_gt (slice_cmp nat_cmp e.0.0 r) ≡ false) there (not-true _ upto) in
       let same : e.0.0 ≡ q = both_upto e.0.0 q high low in
       sym other ∙ (bytes_decides e.0.0 q).1 same)
 
@@ -79,7 +81,7 @@ module _ {X : Type 0} (value cover : (List ℕ × ℕ) × X → ℕ) (q : List �
   string_stops e rest left before now cut held other =
       let here = subst (λ x. StringLeft value cover q i es x before now) cut held in
       let low : is_gt (slice_cmp nat_cmp q e.0.0) ≡ false = string_from q e.0 (and_first _ _ here.from) in
-      let sound : list_all (λ (y : (List ℕ × ℕ) × X). not (is_gt (slice_cmp nat_cmp e.0.0 y.0.0))) (e ∷ rest) ≡ true = both_true _ _ (not_true _ (upto_itself e.0.0)) (behind e rest (first_half _ _ here.sorted)) in
+      let sound : list_all (λ (y : (List ℕ × ℕ) × X). not (is_gt (slice_cmp nat_cmp e.0.0 y.0.0))) (e ∷ rest) ≡ true = and_from _ _ (not_from_false _ (upto_itself e.0.0)) (behind e rest (first_half _ _ here.sorted)) in
       record {
         values = level_end value (λ k. not (is_gt (slice_cmp nat_cmp e.0.0 k.0))) (has_signs_at q i) (has_signs_at q i) (e ∷ rest) es (values_of now) (values_of before) sound (other_string e low other) here.values;
         covers = level_end cover (λ k. not (is_gt (slice_cmp nat_cmp e.0.0 k.0))) (has_signs_at q i) (has_signs_at q i) (e ∷ rest) es (covers_of now) (covers_of before) sound (other_string e low other) here.covers;
@@ -90,9 +92,9 @@ module _ {X : Type 0} (value cover : (List ℕ × ℕ) × X → ℕ) (q : List �
   string_stops_ends e rest left before now cut held apart =
       let here = subst (λ x. StringLeft value cover q i es x before now) cut held in
       let low : is_gt (slice_cmp nat_cmp q e.0.0) ≡ false = string_from q e.0 (and_first _ _ here.from) in
-      let sound : list_all (λ (y : (List ℕ × ℕ) × X). not (is_gt (slice_cmp nat_cmp e.0.0 y.0.0))) (e ∷ rest) ≡ true = both_true _ _ (not_true _ (upto_itself e.0.0)) (behind e rest (first_half _ _ here.sorted)) in
+      let sound : list_all (λ (y : (List ℕ × ℕ) × X). not (is_gt (slice_cmp nat_cmp e.0.0 y.0.0))) (e ∷ rest) ≡ true = and_from _ _ (not_from_false _ (upto_itself e.0.0)) (behind e rest (first_half _ _ here.sorted)) in
       sym here.going ∙ any_none (λ (y : (List ℕ × ℕ) × X). not (is_gt (slice_cmp nat_cmp e.0.0 y.0.0))) (λ (y : (List ℕ × ℕ) × X). is_extension q y.0.0) (e ∷ rest) sound
-      (λ y upto. no_test (is_extension q y.0.0) (λ goes. sym apart ∙ prefix_between q e.0.0 y.0.0 low (not_false _ upto) (and_first _ _ goes)))
+      (λ y upto. no_test (is_extension q y.0.0) (λ goes. sym apart ∙ prefix_between q e.0.0 y.0.0 low (not-true _ upto) (and_first _ _ goes)))
 
   pub string_ends : (left : List ((List ℕ × ℕ) × X)) (before now : Positions) → left ≡ [] → StringLeft value cover q i es left before now → StringDone value cover q i es before now
   string_ends left before now cut held =

@@ -1,6 +1,6 @@
 -- The order of signs around the strings that begin with given signs.
 use Rattle.std.proofs.Common.{◌≡◌, ℕ, ◌<◌, ◌≤◌, Bool, true, false, not, ◌&&◌, T, List, [], ◌∷◌, nat_eq, nat_cmp, sym, refl, ap, subst, ◌∙◌, arith}
-use Rattle.std.proofs.lemmas.Bool.{eqb-true, eq-eqb}
+use Rattle.std.proofs.lemmas.Bool.{eqb-true, eq-eqb, and_from}
 use Rattle.std.proofs.lemmas.Cmp.{ranked}
 use Rattle.std.specs.declared.cmp.Ordering.{Ordering}
 use Rattle.std.specs.declared.cmp.Ordering.TheVariants.{Less, Equal, Greater}
@@ -11,22 +11,7 @@ use Rattle.std.specs.FinMap.{nat_cmp-IsAntisymmetric, slice_cmp-IsAntisymmetric}
 use Rattle.std.specs.FinMap.Entries.{below_all}
 use Rattle.std.specs.List.{starts_with, list_all}
 use Rattle.pg_patterns.specs.DottedSigns.{dotted_cmp}
-use Rattle.pg_plain.proofs.Bools.{and_first, and_second, both_true}
-
-pub is_true : (b : Bool) → T b → b ≡ true
-is_true true t = refl
-is_true false t = absurd t
-
-pub holds : (b : Bool) → b ≡ true → T b
-holds b e = subst T (sym e) tt
-
-pub first_half : (a b : Bool) → T (a && b) → T a
-first_half true b p = tt
-first_half false b p = p
-
-pub second_half : (a b : Bool) → T (a && b) → T b
-second_half true b p = p
-second_half false b p = absurd p
+use Rattle.pg_types.proofs.BoolFacts.{and_first, and_second, is_true, first_half, second_half}
 
 -- the strings are not after themselves
 pub upto_itself : (q : List ℕ) → is_gt (slice_cmp nat_cmp q q) ≡ false
@@ -65,7 +50,7 @@ prefix_between (a ∷ q) (b ∷ e) (c ∷ y) low high start =
     let from : a ≤ b = signs_upto a b (nat_cmp a b) (slice_cmp nat_cmp q e) (ranked a b _ refl) low in
     let upto : b ≤ c = signs_upto b c (nat_cmp b c) (slice_cmp nat_cmp e y) (ranked b c _ refl) high in
     let same : a ≡ b = between_signs a b c from upto ends in
-    both_true _ _ (eq-eqb a b same)
+    and_from _ _ (eq-eqb a b same)
     (prefix_between q e y (rest_upto a b _ same low) (rest_upto b c _ (sym same ∙ ends) high) (and_second _ _ start))
 
 -- two strings of which neither is after the other
@@ -114,4 +99,4 @@ less_upto Greater s less = less
 pub behind : {X : Type 0} (e : (List ℕ × ℕ) × X) (es : List ((List ℕ × ℕ) × X)) → T (below_all dotted_cmp e.0 es) → list_all (λ y. not (is_gt (slice_cmp nat_cmp e.0.0 y.0.0))) es ≡ true
 behind e [] below = refl
 behind e (y ∷ es) below =
-    both_true _ _ (less_upto (slice_cmp nat_cmp e.0.0 y.0.0) (nat_cmp e.0.1 y.0.1) (is_true _ (first_half _ _ below))) (behind e es (second_half _ _ below))
+    and_from _ _ (less_upto (slice_cmp nat_cmp e.0.0 y.0.0) (nat_cmp e.0.1 y.0.1) (is_true _ (first_half _ _ below))) (behind e es (second_half _ _ below))

@@ -7,9 +7,10 @@ use Rattle.pg_select.specs.Positions.{values_of, covers_of}
 use Rattle.pg_plain.specs.Greatest.{RaisesBy}
 use Rattle.pg_plain.specs.Strings.{is_string}
 use Rattle.pg_plain.specs.Walks.{has_signs_at, is_extension, applies_from, applies_from_at_least, applies_not_before}
-use Rattle.pg_plain.proofs.Bools.{not_false, all_not}
+use Rattle.pg_plain.proofs.Bools.{all_not}
 use Rattle.pg_plain.proofs.Greatest.{Level, level_step, level_end, level_start}
 use Rattle.pg_plain.proofs.Strings.{longer_step, longer_first, longer_last, longer_out, longer_stops, later_step, later_first, later_last}
+use Rattle.std.proofs.lemmas.Bool.{not-true}
 
 -- the entries whose places pass the tests were met, beside those that are left
 pub record Left {X : Type 0} (value cover : (List ℕ × ℕ) × X → ℕ) (left all : ℕ → List ℕ × ℕ → Bool) (es : List ((List ℕ × ℕ) × X)) (before now : Positions) : Type 0 where
@@ -56,8 +57,8 @@ module _ {X : Type 0} (value cover : (List ℕ × ℕ) × X → ℕ) (w : List �
       let is : q ≡ take n (drop i w) = cut ∙ cut_is w i n in
       let none : list_all (λ (e : (List ℕ × ℕ) × X). not (is_extension (take n (drop i w)) e.0.0)) es ≡ true = all_not (λ (e : (List ℕ × ℕ) × X). is_extension (take n (drop i w)) e.0.0) es (subst (λ x. list_any (λ (e : (List ℕ × ℕ) × X). is_extension x e.0.0) es ≡ false) is stops) in
       record {
-        values = level_end value (λ k. not (is_extension (take n (drop i w)) k.0)) (applies_from_at_least w i (n + 1)) (applies_from w i) es es (values_of new) (values_of before) none (λ p k good. longer_stops w i n inside p k (not_false _ good)) left.values;
-        covers = level_end cover (λ k. not (is_extension (take n (drop i w)) k.0)) (applies_from_at_least w i (n + 1)) (applies_from w i) es es (covers_of new) (covers_of before) none (λ p k good. longer_stops w i n inside p k (not_false _ good)) left.covers;
+        values = level_end value (λ k. not (is_extension (take n (drop i w)) k.0)) (applies_from_at_least w i (n + 1)) (applies_from w i) es es (values_of new) (values_of before) none (λ p k good. longer_stops w i n inside p k (not-true _ good)) left.values;
+        covers = level_end cover (λ k. not (is_extension (take n (drop i w)) k.0)) (applies_from_at_least w i (n + 1)) (applies_from w i) es es (covers_of new) (covers_of before) none (λ p k good. longer_stops w i n inside p k (not-true _ good)) left.covers;
       }
 
   pub start_ends : (i : ℕ) (before now : Positions) → Left value cover (applies_from_at_least w i 33) (applies_from w i) es before now → Done value cover (applies_from w i) es before now

@@ -64,8 +64,8 @@ fn added(sums: (u64, u64), good: bool, weight: u64) -> (u64, u64)
     }
 }
 
-/// Moves the cursor to the least window that is greater, and gives its sums; none where there is no such window. It takes no
-/// memory.
+/// Moves the cursor to the least window that is greater, and gives its sums; none where there is no such window. It
+/// takes no memory.
 pub fn next_behind(counts: &BTreeMap<Cursor, (u64, u64)>, at: &mut Cursor) -> Option<(u64, u64)>
     ensures { IsNextAbove counts.now.entries at.old at.new result }
 {

@@ -25,9 +25,10 @@ const HOPELESS_SLOTS: usize = 524_288;
 
 /// An [`Engine`] over ordered maps, which tells no families.
 ///
-/// A word costs a step for each of its strings up to the longest that a pattern begins with, and a look-up for each that is a
-/// pattern's. A window that is counted, chosen or given up costs a look-up, and to begin a pass or end a level costs at most
-/// the size of what is emptied. An index beside each map of places tells which strings need no look-up.
+/// A word costs a step for each of its strings up to the longest that a pattern begins with, and a look-up for each
+/// that is a pattern's. A window that is counted, chosen or given up costs a look-up, and to begin a pass or end a
+/// level costs at most the size of what is emptied. An index beside each map of places tells which strings need no
+/// look-up.
 #[derive(Drop)]
 pub struct PlainEngine {
     signs: u16,
@@ -57,8 +58,8 @@ impl PlainEngine {
     ghost use Rattle.pg_select.specs.Meanings.{new_engine};
     ghost use Rattle.pg_plain.specs.Engines.{meaning_of};
 
-    /// An engine with the greatest sign `signs` whose patterns are those of `start`. Nothing is hopeless or counted, no pass
-    /// was begun, and the engine is tidy.
+    /// An engine with the greatest sign `signs` whose patterns are those of `start`. Nothing is hopeless or counted,
+    /// no pass was begun, and the engine is tidy.
     pub fn new(alloc: Global, signs: u16, start: &PatternSet) -> Result<PlainEngine, AllocError>
         requires { SignsUpTo signs start.now }
         ensures { IfOk result (λ engine. meaning_of engine ≡ new_engine signs start.now None) }

@@ -10,8 +10,8 @@ const FACTOR: usize = 1_000_003;
 
 /// Tells of signs that no string of a map begins with them, or that none is equal to them.
 ///
-/// Each string marks the slots of its fronts, and its own. Signs whose slot is not marked are in no string. Other signs may
-/// share a marked slot, so a mark tells nothing. It takes no memory once it is made.
+/// Each string marks the slots of its fronts, and its own. Signs whose slot is not marked are in no string. Other
+/// signs may share a marked slot, so a mark tells nothing. It takes no memory once it is made.
 #[derive(Drop)]
 pub struct Index {
     fronts: Vec<bool>,

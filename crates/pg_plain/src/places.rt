@@ -12,7 +12,7 @@ use std::alloc::{AllocError, Global};
 use std::collections::BTreeMap;
 
 /// The value of a place, 0 where it has none.
-fn value_at(map: &BTreeMap<DottedSigns, u8>, place: &DottedSigns) -> u8
+fn value_in(map: &BTreeMap<DottedSigns, u8>, place: &DottedSigns) -> u8
     ensures { result ≡ value_of map.now.entries place.now }
 {
     match map.get(place) {
@@ -34,7 +34,7 @@ pub fn raise_in(
     ensures places { (good : List ℕ × ℕ → Bool) → list_all (λ e. good e.0) map.old.entries ≡ true → good place
         ≡ true → list_all (λ e. good e.0) map.new.entries ≡ true }
 {
-    let held = value_at(map, &place);
+    let held = value_in(map, &place);
     map.insert(place, value.max(held))?;
     Ok(())
 }

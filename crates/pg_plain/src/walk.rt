@@ -1,7 +1,7 @@
 //! The entries that apply in a word.
 ghost use Rattle.std.specs.Prelude.{◌≡◌, ◌+◌, ◌<◌, ◌≤◌, true, false, length};
 ghost use Rattle.std.specs.List.{list_all, list_any};
-ghost use Rattle.pg_types.specs.declared.limits.TheConstants.{WORD_LETTERS_MAX};
+ghost use Rattle.pg_types.specs.declared.limits.TheConstants.{PATTERN_SIGNS_MAX, WORD_LETTERS_MAX};
 ghost use Rattle.pg_patterns.specs.Values.{applies};
 ghost use Rattle.pg_select.specs.Positions.{RaisesValues, RaisesCovers, RaisesAt, values_of, covers_of};
 ghost use Rattle.pg_plain.specs.Greatest.{greatest_at, entry_value, entry_cover};
@@ -17,10 +17,10 @@ use pg_types::{PATTERN_SIGNS_MAX, Sign};
 use std::collections::BTreeMap;
 use std::ops::Bound;
 
-/// Raises the values and covers of a word by each entry whose signs stand in it: the value of the position of its dot to its own,
-/// and it covers the window of that position where it stands in it and covers at the level of the pass. It takes no memory. From each place
-/// on it asks the index for each string of the word, up to the first with which no longer string of the map begins, and looks
-/// up in the map those that the index cannot exclude.
+/// Raises the values and covers of a word by each entry whose signs stand in it: the value of the position of its dot
+/// to its own, and it covers the window of that position where it stands in it and covers at the level of the pass. It
+/// takes no memory. From each place on it asks the index for each string of the word, up to the first with which no
+/// longer string of the map begins, and looks up in the map those that the index cannot exclude.
 pub fn walk<F: PlaceEntry>(
     map: &BTreeMap<DottedSigns, F>,
     index: &Index,
@@ -53,8 +53,10 @@ fn raise_from<F: PlaceEntry>(
     requires inside { i ≤ length w.now }
     requires strings { list_all (λ e. is_string e.0) map.now.entries ≡ true }
     requires indexed { AreIndexed index.now.fronts.items index.now.strings.items map.now.entries }
-    ensures values { RaisesValues (greatest_at (entry_value F.given) (applies_from w.now i) map.now.entries) out.old out.new }
-    ensures covers { RaisesCovers (greatest_at (entry_cover F.covers_at pass.now) (applies_from w.now i) map.now.entries)
+    ensures values { RaisesValues (greatest_at (entry_value F.given) (applies_from w.now i) map.now.entries) out.old
+        out.new }
+    ensures covers { RaisesCovers (greatest_at (entry_cover F.covers_at pass.now) (applies_from w.now i)
+        map.now.entries)
         out.old out.new }
 {
     for n in 1..PATTERN_SIGNS_MAX + 1 {
@@ -67,8 +69,8 @@ fn raise_from<F: PlaceEntry>(
     }
 }
 
-/// Raises them by the entries whose signs are `q`, which stand in the word from `i` on. It is false only where no longer string
-/// of the map begins with `q`.
+/// Raises them by the entries whose signs are `q`, which stand in the word from `i` on. It is false only where no
+/// longer string of the map begins with `q`.
 fn raise_by_string<F: PlaceEntry>(
     map: &BTreeMap<DottedSigns, F>,
     index: &Index,
@@ -78,7 +80,7 @@ fn raise_by_string<F: PlaceEntry>(
     out: &mut WordState,
 ) -> bool
     requires some { 0 < length q.now }
-    requires few { length q.now ≤ 32 }
+    requires few { length q.now ≤ PATTERN_SIGNS_MAX }
     requires inside { i ≤ WORD_LETTERS_MAX + 2 }
     requires indexed { AreIndexed index.now.fronts.items index.now.strings.items map.now.entries }
     ensures values { RaisesValues (greatest_at (entry_value F.given) (has_signs_at q.now i) map.now.entries) out.old
@@ -105,7 +107,7 @@ fn look_up<F: PlaceEntry>(
     pass: &Pass,
     out: &mut WordState,
 ) -> bool
-    requires few { length q.now ≤ 32 }
+    requires few { length q.now ≤ PATTERN_SIGNS_MAX }
     requires inside { i ≤ WORD_LETTERS_MAX + 2 }
     ensures values { RaisesValues (greatest_at (entry_value F.given) (has_signs_at q.now i) map.now.entries) out.old
         out.new }

@@ -1,5 +1,6 @@
 //! A run that skips no pass, over the calls of an engine: a second statement of what a run is. Its sums saturate, and stay far
 //! below that.
+ghost use Rattle.pg_types.specs.Limits.{begun_before_pass};
 ghost use Rattle.std.specs.Prelude.{◌≡◌, ◌+◌, ◌*◌, ◌<◌, ◌≤◌, ◌^◌, [], true, length, OnOk, vec_len};
 ghost use Rattle.pg_types.specs.declared.limits.TheConstants.{LEVEL_MAX, WEIGHT_MAX, WORD_LETTERS_MAX};
 ghost use Rattle.pg_types.specs.Parameters.{IsLevel};
@@ -310,7 +311,7 @@ fn run_pass<E: Engine>(
 ) -> Result<PassRecord, Fail>
     requires ranges { IsPass pass }
     requires level { IsLevel params.now }
-    requires begun { (E.meaning engine.old).begun < 2 ^ 60 }
+    requires begun { (E.meaning engine.old).begun < begun_before_pass }
     requires signs { SignsAtMost (E.meaning engine.old).signs dictionary.now }
     ensures begun { OnOk result ((E.meaning engine.new).begun ≡ (E.meaning engine.old).begun + 1) }
     ensures signs { OnOk result ((E.meaning engine.new).signs ≡ (E.meaning engine.old).signs) }

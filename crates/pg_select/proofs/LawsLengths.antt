@@ -6,12 +6,7 @@ use Rattle.pg_patterns.specs.Values.{stands_at, applies}
 use Rattle.pg_select.specs.Windows.{Hopeless, window, fits, covered, Patterns}
 use Rattle.pg_select.proofs.LawsLonger.{stands_wider}
 use Rattle.pg_select.specs.LawsSteps.{CoversUpTo, IsBelow}
-
--- two tests that follow from one another are equal
-pub same_test : (a b : Bool) → (a ≡ true → b ≡ true) → (b ≡ true → a ≡ true) → a ≡ b
-same_test true b there back = sym (there refl)
-same_test false true there back = back refl
-same_test false false there back = refl
+use Rattle.std.specs.Cmp.{both_ways}
 
 -- what a window that fits has: its place, and its length
 abbrev pub from : ℕ → ℕ → ℕ
@@ -65,7 +60,7 @@ module _ (w : List ℕ) (p len d : ℕ) (fit : fits w p (len + 1) d ≡ true) wh
 
   applies_split : (k : List ℕ × ℕ) → length k.0 ≤ len → applies (window w p (len + 1) d) d k ≡ (applies (window w p len d) d k || (nat_le 1 d && applies (window w p len (d - 1)) (d - 1) k))
   applies_split k short =
-      same_test (applies (window w p (len + 1) d) d k) (applies (window w p len d) d k || (nat_le 1 d && applies (window w p len (d - 1)) (d - 1) k))
+      both_ways (applies (window w p (len + 1) d) d k) (applies (window w p len d) d k || (nat_le 1 d && applies (window w p len (d - 1)) (d - 1) k))
       (λ is. in_shorter k short is)
       (λ is. ⊎_elim
       (λ (behind : applies (window w p len d) d k ≡ true). from_behind k behind)

@@ -2,7 +2,7 @@
 use Rattle.std.proofs.Common.{◌≡◌, ℕ, ◌+◌, ◌-◌, ◌≤◌, nat_le, nat_eq, Bool, true, false, cond, not, ◌&&◌, ◌||◌, ⊎_elim, List, [], ◌∷◌, length, map, take, drop, Option, Some, None, max, refl, sym, ap, ◌∙◌, arith}
 use Rattle.std.specs.List.{list_any, list_all, filter}
 use Rattle.std.specs.Ordering.{is_eq}
-use Rattle.std.specs.Cmp.{tied_itself}
+use Rattle.std.specs.Cmp.{tied_itself, both_ways}
 use Rattle.std.specs.Cmp.Lexicographic.{pointwise, texts_ties, nat_list_cmp_total}
 use Rattle.std.specs.FinMap.Entries.{put}
 use Rattle.std.proofs.lemmas.Bool.{and_parts, and_from, leb-true, eq-eqb, eqb-true, not-true, or_cases}
@@ -24,7 +24,7 @@ use Rattle.pg_select.proofs.LawsClosed.{is_among}
 use Rattle.pg_select.proofs.LawsLonger.{part_length}
 use Rattle.pg_select.proofs.LawsCandidates.{all_candidates, all_flat, applies_itself}
 use Rattle.pg_select.specs.LawsSteps.{candidate_at, is_candidate, patterns_after_pass, hopeless_after_pass}
-use Rattle.pg_select.proofs.LawsLengths.{same_test, fits_parts}
+use Rattle.pg_select.proofs.LawsLengths.{fits_parts}
 
 pub same_itself : (u : List ℕ) → same_signs u u ≡ true
 same_itself u = ap is_eq (tied_itself nat_list_cmp_total u)
@@ -124,7 +124,7 @@ passing_long test m words pass P H =
 -- where a window of that length applies in a word
 point_same : (u v : List ℕ) → pointwise nat_eq v u ≡ same_signs u v
 point_same u v =
-    same_test (pointwise nat_eq v u) (same_signs u v)
+    both_ways (pointwise nat_eq v u) (same_signs u v)
     (λ is. ap (same_signs u) (same_window v u (sym (texts_ties v u) ∙ is)) ∙ same_itself u)
     (λ is. ap (λ (x : List ℕ). pointwise nat_eq x u) (sym (same_window u v is)) ∙ texts_ties u u ∙ same_itself u)
 
@@ -141,7 +141,7 @@ applies_word w v p len dot long =
 applies_window : (w v : List ℕ) (p len d dot : ℕ) → length v ≡ len → fits w p len d ≡ true → applies (window w p len d) d (v, dot) ≡ (nat_eq d dot && same_signs (window w p len dot) v)
 applies_window w v p len d dot long fit =
     let size : length (window w p len d) ≡ len = part_length w (p - d) len (fits_parts w p len d fit).1 in
-    same_test (applies (window w p len d) d (v, dot)) (nat_eq d dot && same_signs (window w p len dot) v)
+    both_ways (applies (window w p len d) d (v, dot)) (nat_eq d dot && same_signs (window w p len dot) v)
     (λ is.
     let tests = and_parts (nat_le dot d) (stands_at v (window w p len d) (d - dot)) is in
     let parts = and_parts (nat_le (d - dot + length v) (length (window w p len d))) (pointwise nat_eq v (take (length v) (drop (d - dot) (window w p len d)))) tests.1 in

@@ -135,7 +135,7 @@ counted_few_in pass P H w [] = omega arith
 counted_few_in pass P H w (p ∷ ps) =
     omega (arith, seen_once (counted_at pass P H w p) (window w.signs p pass.len pass.dot) (position_weight w p), counted_few_in pass P H w ps, length-append (counted_positions_at pass P H w p) (flat_map (counted_positions_at pass P H w) ps))
 
--- a pass sees no more than positions in reach
+-- a pass counts no more than positions in reach
 pub counted_few : (m : Minima) (words : List Word) (pass : Pass) (P : List ((List ℕ × ℕ) × ℕ)) (H : Hopeless) → length (counted_positions m words pass P H) ≤ positions_in m words
 counted_few m [] pass P H = omega arith
 counted_few m (w ∷ ws) pass P H =

@@ -21,9 +21,9 @@ use Rattle.pg_select.specs.CountedPositions.{Minima, CountedPosition, Candidate,
 use Rattle.pg_select.proofs.LawsTally.{cmp, same_window, counted_as, is_counted_window, candidates_are_counted, windows_sorted}
 use Rattle.pg_select.specs.LawsSteps.{IsUpTo, candidate_at, is_candidate, patterns_after_pass, good_raised, bad_raised, FindsMore, PreventsMore}
 use Rattle.pg_types.proofs.BoolFacts.{is_true}
-use Rattle.pg_select.proofs.LawsLengths.{same_test}
 use Rattle.pg_select.proofs.LawsRaised.{same_itself, counted_uncovered, values_after}
 use Rattle.pg_select.proofs.LawsClosedDots.{counted_by, counts_by, best_up_to}
+use Rattle.std.specs.Cmp.{both_ways}
 
 -- sums that are joined, gained and lost
 joined : (x x' y y' a a' b b' n n' k k' : ℕ) → x + a ≡ y + b → x' + a' ≡ y' + b' → n ≡ x + x' → n' ≡ y + y' → k ≡ a + a' → k' ≡ b + b' → n + k ≡ n' + k'
@@ -51,7 +51,7 @@ sum_none {X} (x ∷ xs) = let rest : sum_by (λ (x : X). 0) xs ≡ 0 = sum_none 
 
 same_turned : (u v : List ℕ) → same_signs u v ≡ same_signs v u
 same_turned u v =
-    same_test (same_signs u v) (same_signs v u)
+    both_ways (same_signs u v) (same_signs v u)
     (λ is. ap (λ (x : List ℕ). same_signs x u) (sym (same_window u v is)) ∙ same_itself u)
     (λ is. ap (λ (x : List ℕ). same_signs x v) (sym (same_window v u is)) ∙ same_itself v)
 

@@ -10,3 +10,5 @@ pub mod LawsRaised
 pub mod LawsBounds
 pub mod LawsClosedDots
 pub mod LawsTotals
+pub mod Reaches
+pub mod MarkSteps

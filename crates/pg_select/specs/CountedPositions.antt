@@ -9,6 +9,7 @@ use Rattle.pg_types.specs.declared.marks.Mark.{Mark}
 use Rattle.pg_types.specs.declared.marks.Mark.TheVariants.{Nothing, Error, Missed, Found, DontCare}
 use Rattle.pg_dict.specs.Word.{Word}
 use Rattle.pg_select.specs.declared.pass.Pass.{Pass}
+use Rattle.pg_translate.specs.Alphabets.{Alphabet}
 use Rattle.pg_translate.specs.Reach.{positions}
 use Rattle.pg_select.specs.Statuses.{is_odd, status_at, position_weight}
 use Rattle.pg_select.specs.Windows.{Patterns, Hopeless, window, fits, covered}
@@ -17,6 +18,10 @@ use Rattle.pg_select.specs.Windows.{Patterns, Hopeless, window, fits, covered}
 pub record Minima : Type 0 where
   pub left : ℕ
   pub right : ℕ
+
+-- the minima of a table
+abbrev pub minima_of : Alphabet → Minima
+minima_of t = record { left = t.left; right = t.right }
 
 -- a window at a position that counts: whether it counts as good, and the weight of the position
 pub record CountedPosition : Type 0 where

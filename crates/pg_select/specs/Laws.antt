@@ -1,10 +1,11 @@
 -- The laws of the definitions of this crate, on candidates, sums, values, covers and passes that count nothing.
-use Rattle.std.specs.Prelude.{◌≡◌, ℕ, ◌+◌, ◌^◌, ◌<◌, ◌≤◌, max, Bool, true, false, if◌then◌else◌, ◌||◌, ◌⊎◌, Some, List, [], length, map, filter, fold, sum_by, slice_index_or, All}
+use Rattle.std.specs.Prelude.{◌≡◌, ℕ, ◌+◌, ◌<◌, ◌≤◌, max, Bool, true, false, if◌then◌else◌, ◌||◌, ◌⊎◌, Some, List, [], length, map, filter, fold, sum_by, slice_index_or, All}
 use Rattle.std.specs.List.{list_any, list_all}
 use Rattle.std.specs.declared.cmp.Ordering.TheVariants.{Less}
 use Rattle.std.specs.Ordering.{nat_cmp}
 use Rattle.std.specs.Cmp.Lexicographic.{slice_cmp}
 use Rattle.std.specs.FinMap.Entries.{put}
+use Rattle.pg_types.specs.Limits.{sums_limit}
 use Rattle.pg_types.specs.declared.limits.TheConstants.{FILE_MAX}
 use Rattle.pg_translate.specs.Reach.{positions}
 use Rattle.pg_dict.specs.Word.{Word, IsWord, letter_count}
@@ -50,13 +51,13 @@ PositionsAreFew = (m : Minima) (words : List Word) → 1 ≤ m.left → position
 abbrev pub CandidatesAreFew : Type 0
 CandidatesAreFew = (m : Minima) (words : List Word) (pass : Pass) (P : Patterns) (H : Hopeless) → length (candidates (counted_positions m words pass P H)) ≤ positions_in m words
 
--- the totals of such words are below 2^40, also together
+-- the totals of such words are below the limit of sums, also together
 abbrev pub TotalsAreSmall : Type 0
-TotalsAreSmall = (m : Minima) (words : List Word) (P : Patterns) → 1 ≤ m.left → AreFew words → (totals m words P).good + (totals m words P).bad + (totals m words P).missed < 2 ^ 40
+TotalsAreSmall = (m : Minima) (words : List Word) (P : Patterns) → 1 ≤ m.left → AreFew words → (totals m words P).good + (totals m words P).bad + (totals m words P).missed < sums_limit
 
--- the weights of all that a pass counts in them are below 2^40 together
+-- the weights of all that a pass counts in them are below the limit of sums together
 abbrev pub CountedAreLight : Type 0
-CountedAreLight = (m : Minima) (words : List Word) (pass : Pass) (P : Patterns) (H : Hopeless) → 1 ≤ m.left → AreFew words → sum_by (λ s. s.weight) (counted_positions m words pass P H) < 2 ^ 40
+CountedAreLight = (m : Minima) (words : List Word) (pass : Pass) (P : Patterns) (H : Hopeless) → 1 ≤ m.left → AreFew words → sum_by (λ s. s.weight) (counted_positions m words pass P H) < sums_limit
 
 -- the sums of a window are within the weights of all that is counted
 abbrev pub SumsAreParts : Type 0

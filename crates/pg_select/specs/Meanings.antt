@@ -79,7 +79,7 @@ after_give_up m u tidy = record m { hopeless = put dotted_cmp (u, m.pass.dot) (t
 abbrev pub after_end_level : Meaning → Meaning
 after_end_level m = record m { hopeless = []; families = option_map (kept (map (λ e. e.0.0) m.patterns)) m.families; tidy = true }
 
--- all but the families and tidiness stayed as it was; families that are told took in a front of the string, its first k signs
+-- all but the families and tidiness stayed as it was; a front of the string, its first k signs, was entered into families that are told
 pub record KeepsButFamilies (u : List ℕ) (old new : Meaning) : Type 0 where
   pub kept : new ≡ record old { families = new.families; tidy = new.tidy }
   pub k : ℕ

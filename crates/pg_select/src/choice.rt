@@ -1,5 +1,6 @@
 //! The choice among candidates, and the status of a position.
-ghost use Rattle.std.specs.Prelude.{◌≡◌, ◌<◌, ◌≤◌, ◌^◌};
+ghost use Rattle.std.specs.Prelude.{◌≡◌, ◌<◌, ◌≤◌};
+ghost use Rattle.pg_types.specs.Limits.{sums_limit};
 ghost use Rattle.pg_types.specs.Parameters.{IsLevel};
 ghost use Rattle.pg_select.specs.Choices.{choice};
 ghost use Rattle.pg_select.specs.Statuses.{status as status_of};
@@ -9,7 +10,7 @@ use pg_types::{LevelParams, Mark};
 /// What becomes of a candidate at the end of its pass.
 #[derive(Clone, Copy, Debug, PartialEq, Eq)]
 pub enum Choice {
-    /// It can reach the threshold no more, and knocks out longer windows to the end of the level.
+    /// It can reach the threshold no more, and covers longer windows to the end of the level.
     Hopeless,
     /// It becomes a pattern of the level.
     Chosen,
@@ -17,11 +18,11 @@ pub enum Choice {
     Left,
 }
 
-/// What becomes of a candidate with these sums of good and bad weights, by the weights and the threshold of its level (Liang's
-/// thesis, patgen).
+/// What becomes of a candidate with these sums of good and bad weights, by the weights and the threshold of its level
+/// (Liang's thesis, patgen).
 pub fn decide(good: u64, bad: u64, p: &LevelParams) -> Choice
-    requires good { good < 2 ^ 40 }
-    requires bad { bad < 2 ^ 40 }
+    requires good { good < sums_limit }
+    requires bad { bad < sums_limit }
     requires level { IsLevel p.now }
     ensures { result ≡ choice p.now good bad }
 {

@@ -9,13 +9,14 @@ pub fn candidates_in_order()
     ensures counted { CandidatesAreCounted }
 {}
 
-/// Counting what a pass counts, one position after the other, gives its candidates with their sums of good and bad weights.
+/// Counting what a pass counts, one position after the other, gives its candidates with their sums of good and bad
+/// weights.
 pub fn counts_are_tally()
     ensures { CountsAreTally }
 {}
 
-/// The words of a dictionary have no more positions in reach than letters, and a pass no more candidates. The totals of the words
-/// are below 2^40, and so is each sum of weights of a pass.
+/// The words of a dictionary have no more positions in reach than letters, and a pass no more candidates. The totals
+/// of the words are below 2^40, and so is each sum of weights of a pass.
 pub fn sums_are_small()
     ensures positions { PositionsAreFew }
     ensures candidates { CandidatesAreFew }
@@ -30,14 +31,16 @@ pub fn chosen_get_level()
     ensures chosen { ChosenGetLevel }
 {}
 
-/// An entry never falls: a raise leaves the values of the other places, and raises those of positions where its place applies.
+/// An entry never falls: a raise leaves the values of the other places, and raises those of positions where its place
+/// applies.
 pub fn entries_never_fall()
     ensures others { OthersStay }
     ensures falls { NoneFalls }
     ensures values { RaisesWhereItApplies }
 {}
 
-/// A hopeless entry changes no value. It covers the windows in which it stands with its dot, as an entry of the level does.
+/// A hopeless entry changes no value. It covers the windows in which it stands with its dot, as an entry of the level
+/// does.
 pub fn hopeless_only_covers()
     ensures values { GivenUpKeepsValues }
     ensures raised { RaisedCovers }
@@ -54,21 +57,23 @@ pub fn levels_go_on()
     ensures decided { LaterAfterPass }
 {}
 
-/// Within a level a position that is no longer counted is not counted later, so a pass that counts nothing counts nothing later.
+/// Within a level a position that is no longer counted is not counted later, so a pass that counts nothing counts
+/// nothing later.
 pub fn closed_stays_closed()
     ensures statuses { StatusBack }
     ensures counted { CountedBack }
     ensures closed { ClosedLater }
 {}
 
-/// A position that is not counted with a window is not counted with a longer one, so where a pass counts nothing, the passes that
-/// are longer by a sign, with the same dot or the next, count nothing.
+/// A position that is not counted with a window is not counted with a longer one, so where a pass counts nothing, the
+/// passes that are longer by a sign, with the same dot or the next, count nothing.
 pub fn closed_when_longer()
     ensures counted { CountedShorter }
     ensures closed { ClosedLonger }
 {}
 
-/// A pass that left no candidate, as it chose or gave up each of them, counts nothing from its end to the end of the level.
+/// A pass that left no candidate, as it chose or gave up each of them, counts nothing from its end to the end of the
+/// level.
 pub fn closed_at_end()
     ensures covered { ClosedWhenCovered }
     ensures decided { ClosedAtEnd }
@@ -83,7 +88,8 @@ pub fn values_up_to_the_level()
     ensures next { NextIsBelow }
 {}
 
-/// Where no string longer than a length covers, a window of the next length is covered where one of the two shorter ones in it is.
+/// Where no string longer than a length covers, a window of the next length is covered where one of the two shorter
+/// ones in it is.
 pub fn covers_by_length()
     ensures none { NothingCovered }
     ensures start { CoversUpToAtStart }
@@ -92,7 +98,8 @@ pub fn covers_by_length()
     ensures step { LengthStep }
 {}
 
-/// A pass changes the values of the positions whose windows it chooses, and the covers of its own windows at its own dot.
+/// A pass changes the values of the positions whose windows it chooses, and the covers of its own windows at its own
+/// dot.
 pub fn passes_change()
     ensures values { ValuesAfter }
     ensures covers { CoversAfter }
@@ -104,8 +111,8 @@ pub fn totals_by_the_chosen()
     ensures { TotalsAfter }
 {}
 
-/// A position whose window was chosen does not count any more, and one whose window was made hopeless is covered at the dot. Any
-/// other that counts keeps its status and its covers.
+/// A position whose window was chosen does not count any more, and one whose window was made hopeless is covered at
+/// the dot. Any other that counts keeps its status and its covers.
 pub fn positions_after_a_pass()
     ensures raised { RaisedStop }
     ensures hopeless { HopelessStop }

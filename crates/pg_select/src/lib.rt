@@ -4,6 +4,7 @@
 pub mod choice;
 pub mod engine;
 pub mod laws;
+pub mod marks;
 pub mod pass;
 #[cfg(test)]
 mod tests;

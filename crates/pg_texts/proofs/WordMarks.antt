@@ -13,7 +13,7 @@ use Rattle.pg_translate.specs.Alphabets.{Alphabet}
 use Rattle.pg_patterns.specs.Values.{value_at}
 use Rattle.pg_select.specs.AnyPositions.{is_in_reach}
 use Rattle.pg_select.specs.Windows.{Patterns}
-use Rattle.pg_driver.specs.Told.{minima_of}
+use Rattle.pg_select.specs.CountedPositions.{minima_of}
 use Rattle.pg_texts.specs.PattmpTexts.{statuses}
 use Rattle.pg_texts.proofs.Ranges.{same_map_over_range}
 use Rattle.pg_texts.proofs.WordItems.{inner_positions, between}

@@ -9,7 +9,7 @@ use Rattle.pg_dict.specs.Word.{Word}
 use Rattle.pg_select.specs.Statuses.{position_weight}
 use Rattle.pg_select.specs.AnyPositions.{status_of_position}
 use Rattle.pg_select.specs.Windows.{Patterns}
-use Rattle.pg_driver.specs.Told.{minima_of}
+use Rattle.pg_select.specs.CountedPositions.{minima_of}
 
 -- whether a word takes part: it has positions in reach
 abbrev pub is_taking_part : Alphabet → Word → Bool

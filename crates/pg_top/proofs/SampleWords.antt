@@ -19,6 +19,7 @@ use Rattle.pg_dict.specs.Words.{LineWord, line_reading, line_word, word_weight, 
 use Rattle.pg_dict.specs.Written.{letters_among, IsLine, file_of, LinesGive}
 use Rattle.pg_dict.proofs.LineLaws.{line_is_read, file_is_read, items_line}
 use Rattle.pg_top.specs.SampleTexts.{Made, next_state, drawn, consonants, vowels, closings, ending, syllable, further, word, words_made, sample_text}
+use Rattle.pg_types.proofs.BoolFacts.{and_first, and_second}
 
 -- letters, and hyphens beside them
 abbrev is_letter : ℕ → Bool
@@ -54,14 +55,6 @@ item_of b = (token_of (b == 45) b, b ∷ [])
 item_good : (b : ℕ) (hyphen : Bool) → (b == 45) ≡ hyphen → is_plain b ≡ true → IsItem default_alphabet Dictionary (token_of hyphen b) (b ∷ [])
 item_good b true is plain = let same : b ≡ 45 = grind (arith, nat_tests) in ap (λ x. x ∷ []) same
 item_good b false is plain = letter_among b (grind (arith, common_steps))
-
-and_first : (a b : Bool) → (a && b) ≡ true → a ≡ true
-and_first true b is = refl
-and_first false b is = is
-
-and_second : (a b : Bool) → (a && b) ≡ true → b ≡ true
-and_second true b is = is
-and_second false b is = cc
 
 items_each : (text : List ℕ) → list_all is_plain text ≡ true → AllByRecursion (λ (item : Token × List ℕ). IsItem default_alphabet Dictionary item.0 item.1) (map item_of text)
 items_each [] plain = tt

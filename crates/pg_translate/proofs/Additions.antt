@@ -1,6 +1,6 @@
 -- An index with one spelling more.
-use Rattle.std.proofs.Common.{◌≡◌, ℕ, ◌+◌, ◌-◌, ◌<◌, ◌≤◌, ◌==◌, max, Bool, true, false, if◌then◌else◌, not, ◌&&◌, ◌||◌, ⊎_elim, List, [], ◌∷◌, ◌++◌, length, map, get_or, slice_get, Option, Some, None, refl, sym, ap, ◌∙◌, subst, arith, suc, zero}
-use Rattle.std.specs.List.{list_any}
+use Rattle.std.proofs.Common.{◌≡◌, ℕ, ◌+◌, ◌-◌, ◌<◌, ◌≤◌, ◌==◌, max, Bool, true, false, if◌then◌else◌, not, ◌&&◌, ◌||◌, ⊎_elim, List, [], ◌∷◌, ◌++◌, length, map, get_or, slice_get, Option, Some, None, refl, sym, ap, ◌∙◌, subst, arith, suc, zero, nat_eq}
+use Rattle.std.specs.List.{list_any, starts_with}
 use Rattle.std.specs.Option.{option_or}
 use Rattle.std.proofs.lemmas.Bool.{cases_Bool, cases_lt, cases_eq, eq-eqb, ne_eqb}
 use Rattle.std.proofs.lemmas.List.{map_push, length-map, length_push}
@@ -9,7 +9,7 @@ use Rattle.std.proofs.lemmas.Option.{slice_get-get_or}
 use Rattle.pg_translate.specs.declared.index.Index.{Index}
 use Rattle.pg_translate.specs.declared.spellings.Text.{Text}
 use Rattle.pg_translate.specs.Alphabets.{letters_in, first_of}
-use Rattle.pg_translate.specs.Spellings.{begins, clash, IsAmong}
+use Rattle.pg_translate.specs.Spellings.{clash, IsAmong}
 use Rattle.pg_translate.specs.Texts.{text_of}
 use Rattle.pg_translate.specs.Fronts.{IsIndex, AreBytes, pairs, firsts_of, front_at, front_of, front_in, front_code}
 use Rattle.pg_translate.proofs.Fronts.{front_in-push, IsAmong-push, list_any_at}
@@ -59,7 +59,7 @@ letters_in-push spellings s = fold-append (λ n spelling. max n (spelling.0 - 1)
 -- two tests in either order
 clash_comm : (s t : ℕ × List ℕ) → clash s t ≡ false → clash t s ≡ false
 clash_comm s t h =
-    or_swap (begins s.1 t.1) (begins t.1 s.1) (s.0 == t.0) (t.0 == s.0) (length s.1 == length t.1) (length t.1 == length s.1) (eqb_swap s.0 t.0) (eqb_swap (length s.1) (length t.1)) h
+    or_swap (starts_with nat_eq s.1 t.1) (starts_with nat_eq t.1 s.1) (s.0 == t.0) (t.0 == s.0) (length s.1 == length t.1) (length t.1 == length s.1) (eqb_swap s.0 t.0) (eqb_swap (length s.1) (length t.1)) h
   where
     eqb_swap : (a b : ℕ) → (a == b) ≡ (b == a)
     eqb_swap a b = ⊎_elim (λ (same : a ≡ b). eq-eqb a b same ∙ sym (eq-eqb b a (sym same))) (λ (other : a ≡ b → ⊥). ne_eqb a b other ∙ sym (ne_eqb b a (λ same. other (sym same)))) (cases_eq a b)
@@ -75,7 +75,7 @@ clash_comm s t h =
 
 -- a spelling does not clash with itself
 clash_same : (s : ℕ × List ℕ) → clash s s ≡ false
-clash_same s = rw (eq-eqb s.0 s.0 refl, eq-eqb (length s.1) (length s.1) refl) (and_false (begins s.1 s.1 || begins s.1 s.1))
+clash_same s = rw (eq-eqb s.0 s.0 refl, eq-eqb (length s.1) (length s.1) refl) (and_false (starts_with nat_eq s.1 s.1 || starts_with nat_eq s.1 s.1))
   where
     and_false : (x : Bool) → (x && false) ≡ false
     and_false true = refl

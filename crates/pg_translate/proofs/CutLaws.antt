@@ -1,6 +1,6 @@
 -- The cut of a line is its longest list of items.
-use Rattle.std.proofs.Common.{◌≡◌, ℕ, ◌+◌, ◌-◌, ◌*◌, ◌<◌, ◌≤◌, ◌==◌, nat_lt, nat_le, true, false, ◌&&◌, ◌⊎◌, inl, inr, ⊎_elim, List, [], ◌∷◌, ◌++◌, length, take, drop, fold, find, slice_index, Option, Some, None, option_map, refl, sym, ap, ap₂, ◌∙◌, subst, le_refl, arith, suc, zero}
-use Rattle.std.specs.List.{list_all}
+use Rattle.std.proofs.Common.{◌≡◌, ℕ, ◌+◌, ◌-◌, ◌*◌, ◌<◌, ◌≤◌, ◌==◌, nat_lt, nat_le, true, false, ◌&&◌, ◌⊎◌, inl, inr, ⊎_elim, List, [], ◌∷◌, ◌++◌, length, take, drop, fold, find, slice_index, Option, Some, None, option_map, refl, sym, ap, ap₂, ◌∙◌, subst, le_refl, arith, suc, zero, nat_eq}
+use Rattle.std.specs.List.{list_all, starts_with}
 use Rattle.std.specs.Option.{option_or}
 use Rattle.std.proofs.lemmas.Bool.{and_parts, and_from, cases_Bool, true≢false, eqb-true, eq-eqb, ltb-true, leb-true}
 use Rattle.std.proofs.lemmas.List.{append_assoc, length-append, length-drop, length-take-le, take-append-drop, take_at}
@@ -9,7 +9,7 @@ use Rattle.pg_types.specs.declared.marks.Mark.TheVariants.{Error, Missed, Found,
 use Rattle.pg_translate.specs.declared.items.Place.{Place}
 use Rattle.pg_translate.specs.declared.items.Place.TheVariants.{Dictionary, Patterns}
 use Rattle.pg_translate.specs.Alphabets.{Alphabet}
-use Rattle.pg_translate.specs.Spellings.{begins, begins_well, IsAmong}
+use Rattle.pg_translate.specs.Spellings.{begins_well, IsAmong}
 use Rattle.std.specs.Char.{is_ascii_digit}
 use Rattle.pg_translate.specs.Tokens.{Token, Letter, Digit, Weight, Marked, Edge, letter_at, digit_at, weight_at, weight_from, weight_end, mark_at, edge_at, item_at}
 use Rattle.pg_translate.specs.Cuts.{Placed, Cut, cut_from, with_item}
@@ -41,17 +41,17 @@ or_some (Some y) p x h = inl h
 
 -- what is found at a letter
 letter_found : (t : Alphabet) → KeepsRules t → (text : List ℕ) (token : Token) (size : ℕ) → letter_at t.spellings text ≡ Some (token, size) → (sign : ℕ) × (token ≡ Letter sign) × IsAmong (sign, take size text) t.spellings × (0 < size) × (size ≤ length text)
-letter_found t rules text token size h = by_find (find (λ s. begins text s.1) t.spellings) refl h
+letter_found t rules text token size h = by_find (find (λ s. starts_with nat_eq text s.1) t.spellings) refl h
   where
     spelled_some : (text : List ℕ) → begins_well t.marks text ≡ true → 0 < length text
     spelled_some [] h = absurd (true≢false (sym h))
     spelled_some (b ∷ bs) h = omega arith
 
-    by_find : (o : Option (ℕ × List ℕ)) → o ≡ find (λ s. begins text s.1) t.spellings → option_map {U = Token × ℕ} (λ (s : ℕ × List ℕ). (Letter s.0, length s.1)) o ≡ Some (token, size) → (sign : ℕ) × (token ≡ Letter sign) × IsAmong (sign, take size text) t.spellings × (0 < size) × (size ≤ length text)
+    by_find : (o : Option (ℕ × List ℕ)) → o ≡ find (λ s. starts_with nat_eq text s.1) t.spellings → option_map {U = Token × ℕ} (λ (s : ℕ × List ℕ). (Letter s.0, length s.1)) o ≡ Some (token, size) → (sign : ℕ) × (token ≡ Letter sign) × IsAmong (sign, take size text) t.spellings × (0 < size) × (size ≤ length text)
     by_find None is h = absurd (cc)
     by_find (Some s) is h =
-        let among : IsAmong s t.spellings = find_among (λ s. begins text s.1) t.spellings s (sym is) in
-        let front : begins text s.1 ≡ true = found_passes (λ s. begins text s.1) t.spellings s (sym is) in
+        let among : IsAmong s t.spellings = find_among (λ s. starts_with nat_eq text s.1) t.spellings s (sym is) in
+        let front : starts_with nat_eq text s.1 ≡ true = found_passes (λ s. starts_with nat_eq text s.1) t.spellings s (sym is) in
         let found : (token ≡ Letter s.0) × (size ≡ length s.1) = same_found (Letter s.0) token (length s.1) size h in
         let same : length s.1 ≡ size = sym found.1 in
         let what : token ≡ Letter s.0 = found.0 in
@@ -166,16 +166,16 @@ item_found t rules place text token size h = by_place place h
     by_place Patterns h = ⊎_elim (λ l. letter Patterns l) (λ rest. ⊎_elim (λ d. digit Patterns d) (λ e. edge e) (or_some (digit_at text) (edge_at text) (token, size) rest)) (or_some (letter_at t.spellings text) (option_or (digit_at text) (edge_at text)) (token, size) h)
 
 -- what begins with a text and more begins with the text, and what follows it begins with the more
-begins_split : (line text more : List ℕ) → begins line (text ++ more) ≡ true → (line ≡ text ++ drop (length text) line) × (begins (drop (length text) line) more ≡ true)
+begins_split : (line text more : List ℕ) → starts_with nat_eq line (text ++ more) ≡ true → (line ≡ text ++ drop (length text) line) × (starts_with nat_eq (drop (length text) line) more ≡ true)
 begins_split line [] more h = (refl, h)
 begins_split [] (x ∷ xs) more h = absurd (cc)
 begins_split (b ∷ bs) (x ∷ xs) more h =
-    let parts : ((b == x) ≡ true) × (begins bs (xs ++ more) ≡ true) = and_parts _ _ h in
-    let rest : (bs ≡ xs ++ drop (length xs) bs) × (begins (drop (length xs) bs) more ≡ true) = begins_split bs xs more parts.1 in
-    (ap₂ (λ (y : ℕ) (ys : List ℕ). y ∷ ys) (eqb-true b x parts.0) rest.0, rest.1)
+    let parts : (nat_eq x b ≡ true) × (starts_with nat_eq bs (xs ++ more) ≡ true) = and_parts _ _ h in
+    let rest : (bs ≡ xs ++ drop (length xs) bs) × (starts_with nat_eq (drop (length xs) bs) more ≡ true) = begins_split bs xs more parts.1 in
+    (ap₂ (λ (y : ℕ) (ys : List ℕ). y ∷ ys) (sym (eqb-true x b parts.0)) rest.0, rest.1)
 
 -- a front of a line, and what its rest begins with
-begins_join : (n : ℕ) (line more : List ℕ) → begins (drop n line) more ≡ true → begins line (take n line ++ more) ≡ true
+begins_join : (n : ℕ) (line more : List ℕ) → starts_with nat_eq (drop n line) more ≡ true → starts_with nat_eq line (take n line ++ more) ≡ true
 begins_join zero line more h = h
 begins_join (suc n) [] more h = h
 begins_join (suc n) (b ∷ bs) more h = and_from _ _ (eq-eqb b b refl) (begins_join n bs more h)
@@ -183,7 +183,7 @@ begins_join (suc n) (b ∷ bs) more h = and_from _ _ (eq-eqb b b refl) (begins_j
 -- a cut that begins with an item: the item begins the line, and the rest is a cut of what follows
 cut_first : (t : Alphabet) → KeepsRules t → (place : Place) (line : List ℕ) (x : Token × List ℕ) (xs : List (Token × List ℕ)) → IsCut t place line (x ∷ xs) → (item_at t place line ≡ Some (x.0, length x.1)) × (line ≡ x.1 ++ drop (length x.1) line) × IsCut t place (drop (length x.1) line) xs
 cut_first t rules place line x xs cut =
-    let parts : (line ≡ x.1 ++ drop (length x.1) line) × (begins (drop (length x.1) line) (text_of_items xs) ≡ true) = begins_split line x.1 (text_of_items xs) cut.prefix in
+    let parts : (line ≡ x.1 ++ drop (length x.1) line) × (starts_with nat_eq (drop (length x.1) line) (text_of_items xs) ≡ true) = begins_split line x.1 (text_of_items xs) cut.prefix in
     let found : item_at t place (x.1 ++ drop (length x.1) line) ≡ Some (x.0, length x.1) = item_reads t rules place x.0 x.1 (drop (length x.1) line) cut.each.0 in
     (subst (λ (l : List ℕ). item_at t place l ≡ Some (x.0, length x.1)) (sym parts.0) found, parts.0, record { each = cut.each.1; prefix = parts.1 })
 

@@ -1,11 +1,11 @@
 -- Fronts of spellings, and the first spelling that begins a text.
-use Rattle.std.proofs.Common.{◌≡◌, ℕ, ◌<◌, ◌==◌, Bool, true, false, cond, ◌&&◌, ◌||◌, ◌⊎◌, inl, inr, ⊎_elim, List, [], ◌∷◌, ◌++◌, length, find, Option, Some, None, refl, sym, ap, ap₂, ◌∙◌, arith, subst}
-use Rattle.std.specs.List.{list_any}
+use Rattle.std.proofs.Common.{◌≡◌, ℕ, ◌<◌, ◌==◌, Bool, true, false, cond, ◌&&◌, ◌||◌, ◌⊎◌, inl, inr, ⊎_elim, List, [], ◌∷◌, ◌++◌, length, find, Option, Some, None, refl, sym, ap, ap₂, ◌∙◌, arith, subst, nat_eq}
+use Rattle.std.specs.List.{list_any, starts_with}
 use Rattle.std.specs.Option.{option_or}
 use Rattle.std.proofs.lemmas.Bool.{and_parts, and_cases, or_parts, or_from, or_left, or_right, not-false, eqb-true, true≢false, cases_lt, cases_Bool}
 use Rattle.pg_translate.specs.declared.index.Front.{Front}
 use Rattle.pg_translate.specs.declared.index.Front.TheVariants.{Inside, Whole}
-use Rattle.pg_translate.specs.Spellings.{begins, clash, IsAmong}
+use Rattle.pg_translate.specs.Spellings.{clash, IsAmong}
 use Rattle.pg_translate.specs.Fronts.{front_of, front_in}
 use Rattle.pg_translate.proofs.Prefixes.{begins_both, begins_equal}
 
@@ -24,38 +24,38 @@ pub record IsWhole (spelling : ℕ × List ℕ) (text : List ℕ) (sign : ℕ) :
   pub same_text : text ≡ spelling.1
 
 pub record IsInside (spelling : ℕ × List ℕ) (text : List ℕ) : Type 0 where
-  pub front : begins spelling.1 text ≡ true
+  pub front : starts_with nat_eq spelling.1 text ≡ true
   pub proper : (length text == length spelling.1) ≡ false
 
 front_whole : (spelling : ℕ × List ℕ) (text : List ℕ) (sign : ℕ) → front_of spelling text ≡ Some (Whole sign) → IsWhole spelling text sign
 front_whole spelling text sign h =
-    let by_length : (b c : Bool) → b ≡ begins spelling.1 text → c ≡ (length text == length spelling.1) → cond b (Some (cond c (Whole spelling.0) Inside)) None ≡ Some (Whole sign) → IsWhole spelling text sign = λ b c. elim b as (λ (b : Bool). b ≡ begins spelling.1 text → c ≡ (length text == length spelling.1) → cond b (Some (cond c (Whole spelling.0) Inside)) None ≡ Some (Whole sign) → IsWhole spelling text sign) [
-      | true ↦ elim c as (λ (c : Bool). true ≡ begins spelling.1 text → c ≡ (length text == length spelling.1) → Some (cond c (Whole spelling.0) Inside) ≡ Some (Whole sign) → IsWhole spelling text sign) [
+    let by_length : (b c : Bool) → b ≡ starts_with nat_eq spelling.1 text → c ≡ (length text == length spelling.1) → cond b (Some (cond c (Whole spelling.0) Inside)) None ≡ Some (Whole sign) → IsWhole spelling text sign = λ b c. elim b as (λ (b : Bool). b ≡ starts_with nat_eq spelling.1 text → c ≡ (length text == length spelling.1) → cond b (Some (cond c (Whole spelling.0) Inside)) None ≡ Some (Whole sign) → IsWhole spelling text sign) [
+      | true ↦ elim c as (λ (c : Bool). true ≡ starts_with nat_eq spelling.1 text → c ≡ (length text == length spelling.1) → Some (cond c (Whole spelling.0) Inside) ≡ Some (Whole sign) → IsWhole spelling text sign) [
         | true ↦ λ p q e. let same : sign ≡ spelling.0 = cc in record { same_sign = same; same_text = begins_equal spelling.1 text (sym p) (sym (eqb-true _ _ (sym q))) }
         | false ↦ λ p q e. absurd (cc)
       ]
       | false ↦ λ p q e. absurd (cc)
     ] in
-    by_length (begins spelling.1 text) (length text == length spelling.1) refl refl h
+    by_length (starts_with nat_eq spelling.1 text) (length text == length spelling.1) refl refl h
 
 front_inside : (spelling : ℕ × List ℕ) (text : List ℕ) → front_of spelling text ≡ Some Inside → IsInside spelling text
 front_inside spelling text h =
-    let by_length : (b c : Bool) → b ≡ begins spelling.1 text → c ≡ (length text == length spelling.1) → cond b (Some (cond c (Whole spelling.0) Inside)) None ≡ Some Inside → IsInside spelling text = λ b c. elim b as (λ (b : Bool). b ≡ begins spelling.1 text → c ≡ (length text == length spelling.1) → cond b (Some (cond c (Whole spelling.0) Inside)) None ≡ Some Inside → IsInside spelling text) [
-      | true ↦ elim c as (λ (c : Bool). true ≡ begins spelling.1 text → c ≡ (length text == length spelling.1) → Some (cond c (Whole spelling.0) Inside) ≡ Some Inside → IsInside spelling text) [
+    let by_length : (b c : Bool) → b ≡ starts_with nat_eq spelling.1 text → c ≡ (length text == length spelling.1) → cond b (Some (cond c (Whole spelling.0) Inside)) None ≡ Some Inside → IsInside spelling text = λ b c. elim b as (λ (b : Bool). b ≡ starts_with nat_eq spelling.1 text → c ≡ (length text == length spelling.1) → cond b (Some (cond c (Whole spelling.0) Inside)) None ≡ Some Inside → IsInside spelling text) [
+      | true ↦ elim c as (λ (c : Bool). true ≡ starts_with nat_eq spelling.1 text → c ≡ (length text == length spelling.1) → Some (cond c (Whole spelling.0) Inside) ≡ Some Inside → IsInside spelling text) [
         | true ↦ λ p q e. absurd (cc)
         | false ↦ λ p q e. record { front = sym p; proper = sym q }
       ]
       | false ↦ λ p q e. absurd (cc)
     ] in
-    by_length (begins spelling.1 text) (length text == length spelling.1) refl refl h
+    by_length (starts_with nat_eq spelling.1 text) (length text == length spelling.1) refl refl h
 
-front_nothing : (spelling : ℕ × List ℕ) (text : List ℕ) → front_of spelling text ≡ None → begins spelling.1 text ≡ false
+front_nothing : (spelling : ℕ × List ℕ) (text : List ℕ) → front_of spelling text ≡ None → starts_with nat_eq spelling.1 text ≡ false
 front_nothing spelling text h =
-    let by_front : (b : Bool) → b ≡ begins spelling.1 text → cond b (Some (cond (length text == length spelling.1) (Whole spelling.0) Inside)) None ≡ None → begins spelling.1 text ≡ false = λ b. elim b as (λ (b : Bool). b ≡ begins spelling.1 text → cond b (Some (cond (length text == length spelling.1) (Whole spelling.0) Inside)) None ≡ None → begins spelling.1 text ≡ false) [
+    let by_front : (b : Bool) → b ≡ starts_with nat_eq spelling.1 text → cond b (Some (cond (length text == length spelling.1) (Whole spelling.0) Inside)) None ≡ None → starts_with nat_eq spelling.1 text ≡ false = λ b. elim b as (λ (b : Bool). b ≡ starts_with nat_eq spelling.1 text → cond b (Some (cond (length text == length spelling.1) (Whole spelling.0) Inside)) None ≡ None → starts_with nat_eq spelling.1 text ≡ false) [
       | true ↦ λ p e. absurd (cc)
       | false ↦ λ p e. sym p
     ] in
-    by_front (begins spelling.1 text) refl h
+    by_front (starts_with nat_eq spelling.1 text) refl h
 
 -- a whole spelling is among the spellings
 pub whole_in : (spellings : List (ℕ × List ℕ)) (text : List ℕ) (sign : ℕ) → front_in spellings text ≡ Some (Whole sign) → IsAmong (sign, text) spellings
@@ -70,11 +70,11 @@ inside_in (x ∷ xs) text h =
     ⊎_elim (λ later. let found : (s : ℕ × List ℕ) × IsAmong s xs × IsInside s text = inside_in xs text later in (found.0, inr found.1, found.2)) (λ here. (x, inl refl, front_inside x text here)) (or_some (front_in xs text) (front_of x text) Inside h)
 
 -- no spelling begins with a text that is no front
-pub nothing_in : (spellings : List (ℕ × List ℕ)) (text : List ℕ) → front_in spellings text ≡ None → (s : ℕ × List ℕ) → IsAmong s spellings → begins s.1 text ≡ false
+pub nothing_in : (spellings : List (ℕ × List ℕ)) (text : List ℕ) → front_in spellings text ≡ None → (s : ℕ × List ℕ) → IsAmong s spellings → starts_with nat_eq s.1 text ≡ false
 nothing_in [] text h s among = absurd among
 nothing_in (x ∷ xs) text h s among =
     let parts : (front_in xs text ≡ None) × (front_of x text ≡ None) = or_none (front_in xs text) (front_of x text) h in
-    ⊎_elim (λ (here : s ≡ x). let none : begins x.1 text ≡ false = front_nothing x text parts.1 in subst (λ (y : ℕ × List ℕ). begins y.1 text ≡ false) (sym here) none) (λ later. nothing_in xs text parts.0 s later) among
+    ⊎_elim (λ (here : s ≡ x). let none : starts_with nat_eq x.1 text ≡ false = front_nothing x text parts.1 in subst (λ (y : ℕ × List ℕ). starts_with nat_eq y.1 text ≡ false) (sym here) none) (λ later. nothing_in xs text parts.0 s later) among
 
 -- a spelling at the end is the last one asked
 pub front_in-push : (spellings : List (ℕ × List ℕ)) (s : ℕ × List ℕ) (text : List ℕ) → front_in (spellings ++ s ∷ []) text ≡ option_or (front_of s text) (front_in spellings text)
@@ -117,9 +117,9 @@ list_any_at test (x ∷ xs) s h among =
     ⊎_elim (λ (here : s ≡ x). subst (λ (y : ℕ × List ℕ). test y ≡ false) (sym here) parts.0) (λ later. list_any_at test xs s parts.1 later) among
 
 -- spellings that do not clash, of which one begins with the other, are equal
-pub apart_equal : (s t : ℕ × List ℕ) → clash s t ≡ false → (begins s.1 t.1 || begins t.1 s.1) ≡ true → s ≡ t
+pub apart_equal : (s t : ℕ × List ℕ) → clash s t ≡ false → (starts_with nat_eq s.1 t.1 || starts_with nat_eq t.1 s.1) ≡ true → s ≡ t
 apart_equal s t apart touch =
-    let same : (s.0 == t.0 && length s.1 == length t.1) ≡ true = not-false _ (⊎_elim (λ (no : (begins s.1 t.1 || begins t.1 s.1) ≡ false). absurd (cc)) (λ yes. yes) (and_cases _ _ apart)) in
+    let same : (s.0 == t.0 && length s.1 == length t.1) ≡ true = not-false _ (⊎_elim (λ (no : (starts_with nat_eq s.1 t.1 || starts_with nat_eq t.1 s.1) ≡ false). absurd (cc)) (λ yes. yes) (and_cases _ _ apart)) in
     let signs : s.0 ≡ t.0 = eqb-true _ _ (and_parts _ _ same).0 in
     let lengths : length s.1 ≡ length t.1 = eqb-true _ _ (and_parts _ _ same).1 in
     let texts : s.1 ≡ t.1 = ⊎_elim (λ first. sym (begins_equal s.1 t.1 first lengths)) (λ second. begins_equal t.1 s.1 second (sym lengths)) (or_which _ _ touch) in
@@ -130,13 +130,13 @@ apart_equal s t apart touch =
     or_which false y h = inr h
 
 -- of two spellings that begin one text, one begins with the other
-pub begin_one : (text s t : List ℕ) → begins text s ≡ true → begins text t ≡ true → (begins s t || begins t s) ≡ true
+pub begin_one : (text s t : List ℕ) → starts_with nat_eq text s ≡ true → starts_with nat_eq text t ≡ true → (starts_with nat_eq s t || starts_with nat_eq t s) ≡ true
 begin_one text s t hs ht =
     ⊎_elim (λ (shorter : length s < length t). or_right _ _ (begins_both text t s ht hs (omega arith))) (λ longer. or_left _ _ (begins_both text s t hs ht longer)) (cases_lt (length s) (length t))
 
 -- the spelling that begins a text is the one that is found
-pub find_begins : (text : List ℕ) (spellings : List (ℕ × List ℕ)) (s : ℕ × List ℕ) → ((s t : ℕ × List ℕ) → IsAmong s spellings → IsAmong t spellings → clash s t ≡ false) → IsAmong s spellings → begins text s.1 ≡ true → find (λ spelling. begins text spelling.1) spellings ≡ Some s
+pub find_begins : (text : List ℕ) (spellings : List (ℕ × List ℕ)) (s : ℕ × List ℕ) → ((s t : ℕ × List ℕ) → IsAmong s spellings → IsAmong t spellings → clash s t ≡ false) → IsAmong s spellings → starts_with nat_eq text s.1 ≡ true → find (λ spelling. starts_with nat_eq text spelling.1) spellings ≡ Some s
 find_begins text [] s apart among h = absurd among
 find_begins text (x ∷ xs) s apart among h =
-    let here : begins text x.1 ≡ true → x ≡ s = λ first. apart_equal x s (apart x s (inl refl) among) (begin_one text x.1 s.1 first h) in
-    ⊎_elim (λ (yes : begins text x.1 ≡ true). rw yes (ap (λ (p : ℕ × List ℕ). Some p) (here yes))) (λ (no : begins text x.1 ≡ false). let later : IsAmong s xs = ⊎_elim (λ (is : s ≡ x). absurd (let yes : begins text x.1 ≡ true = subst (λ (y : ℕ × List ℕ). begins text y.1 ≡ true) is h in true≢false (sym yes ∙ no))) (λ later. later) among in rw no (find_begins text xs s (λ p q inp inq. apart p q (inr inp) (inr inq)) later h)) (cases_Bool (begins text x.1))
+    let here : starts_with nat_eq text x.1 ≡ true → x ≡ s = λ first. apart_equal x s (apart x s (inl refl) among) (begin_one text x.1 s.1 first h) in
+    ⊎_elim (λ (yes : starts_with nat_eq text x.1 ≡ true). rw yes (ap (λ (p : ℕ × List ℕ). Some p) (here yes))) (λ (no : starts_with nat_eq text x.1 ≡ false). let later : IsAmong s xs = ⊎_elim (λ (is : s ≡ x). absurd (let yes : starts_with nat_eq text x.1 ≡ true = subst (λ (y : ℕ × List ℕ). starts_with nat_eq text y.1 ≡ true) is h in true≢false (sym yes ∙ no))) (λ later. later) among in rw no (find_begins text xs s (λ p q inp inq. apart p q (inr inp) (inr inq)) later h)) (cases_Bool (starts_with nat_eq text x.1))

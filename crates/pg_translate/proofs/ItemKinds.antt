@@ -1,12 +1,12 @@
 -- Which items the lines of a dictionary and of patterns do not have.
-use Rattle.std.proofs.Common.{◌≡◌, ℕ, ◌+◌, ◌-◌, ◌*◌, ◌==◌, nat_lt, ◌&&◌, Bool, true, false, if◌then◌else◌, List, [], ◌∷◌, length, slice_index, find, Option, Some, None, option_map, refl, ap, suc, zero}
+use Rattle.std.proofs.Common.{◌≡◌, ℕ, ◌+◌, ◌-◌, ◌*◌, ◌==◌, nat_lt, ◌&&◌, Bool, true, false, if◌then◌else◌, List, [], ◌∷◌, length, slice_index, find, Option, Some, None, option_map, refl, ap, suc, zero, nat_eq}
+use Rattle.std.specs.List.{starts_with}
 use Rattle.std.specs.Option.{option_or}
 use Rattle.pg_types.specs.declared.marks.Mark.{Mark}
 use Rattle.pg_types.specs.declared.marks.Mark.TheVariants.{Error, Missed, Found, DontCare}
 use Rattle.pg_translate.specs.declared.items.Place.TheVariants.{Dictionary, Patterns}
 use Rattle.pg_translate.specs.Alphabets.{Alphabet}
 use Rattle.pg_translate.specs.Answers.{HasItem}
-use Rattle.pg_translate.specs.Spellings.{begins}
 use Rattle.std.specs.Char.{is_ascii_digit}
 use Rattle.pg_translate.specs.Tokens.{Token, Letter, Digit, Weight, Marked, Edge, item_at, letter_at, digit_at, weight_at, weight_from, weight_end, mark_at, edge_at}
 
@@ -29,7 +29,7 @@ digit_of_patterns (b ∷ bs) = elim (is_ascii_digit b) as (λ s. of_patterns (op
 
 item_of_patterns : (t : Alphabet) (text : List ℕ) → of_patterns (item_at t Patterns text) ≡ true
 item_of_patterns t text =
-    elim (find (λ spelling. begins text spelling.1) t.spellings) as (λ o. of_patterns (option_or (option_map (λ spelling. (Letter spelling.0, length spelling.1)) o) (option_or (digit_at text) (edge_at text))) ≡ true) [
+    elim (find (λ spelling. starts_with nat_eq text spelling.1) t.spellings) as (λ o. of_patterns (option_or (option_map (λ spelling. (Letter spelling.0, length spelling.1)) o) (option_or (digit_at text) (edge_at text))) ≡ true) [
       | None ↦ digit_of_patterns text
       | Some spelling ↦ refl
     ]
@@ -54,7 +54,7 @@ either_of_dictionary None p first second = second
 either_of_dictionary (Some x) p first second = first
 
 letter_of_dictionary : (t : Alphabet) (text : List ℕ) → of_dictionary (letter_at t.spellings text) ≡ true
-letter_of_dictionary t text = elim (find (λ spelling. begins text spelling.1) t.spellings) as (λ o. of_dictionary (option_map (λ spelling. (Letter spelling.0, length spelling.1)) o) ≡ true) [ None ↦ refl | Some spelling ↦ refl ]
+letter_of_dictionary t text = elim (find (λ spelling. starts_with nat_eq text spelling.1) t.spellings) as (λ o. of_dictionary (option_map (λ spelling. (Letter spelling.0, length spelling.1)) o) ≡ true) [ None ↦ refl | Some spelling ↦ refl ]
 
 digit_of_dictionary : (text : List ℕ) → of_dictionary (digit_at text) ≡ true
 digit_of_dictionary [] = refl

@@ -1,6 +1,6 @@
 -- An item is found where it stands, whatever follows it.
-use Rattle.std.proofs.Common.{◌≡◌, ℕ, ◌+◌, ◌-◌, ◌*◌, ◌<◌, ◌≤◌, ◌==◌, Bool, true, false, ◌||◌, List, [], ◌∷◌, ◌++◌, length, fold, find, slice_index, Some, None, refl, sym, ap, ◌∙◌, subst, arith, suc, zero}
-use Rattle.std.specs.List.{list_any, list_all}
+use Rattle.std.proofs.Common.{◌≡◌, ℕ, ◌+◌, ◌-◌, ◌*◌, ◌<◌, ◌≤◌, ◌==◌, Bool, true, false, ◌||◌, List, [], ◌∷◌, ◌++◌, length, fold, find, slice_index, Some, None, refl, sym, ap, ◌∙◌, subst, arith, suc, zero, nat_eq}
+use Rattle.std.specs.List.{list_any, list_all, starts_with}
 use Rattle.std.proofs.lemmas.Bool.{and_parts, or_parts, or_right, not_from_true, true≢false, false_from_ne_true, eqb-true, eqb-false, eq-eqb, ne_eqb, lt-ltb, le-leb}
 use Rattle.std.proofs.lemmas.List.{append_assoc, length-append}
 use Rattle.pg_types.specs.declared.marks.Mark.{Mark}
@@ -11,7 +11,7 @@ use Rattle.pg_types.specs.declared.refusals.Refusal.{Refusal}
 use Rattle.pg_translate.specs.declared.items.Place.{Place}
 use Rattle.pg_translate.specs.declared.items.Place.TheVariants.{Dictionary, Patterns}
 use Rattle.pg_translate.specs.Alphabets.{Alphabet}
-use Rattle.pg_translate.specs.Spellings.{is_space, may_begin, begins_well, begins, IsAmong}
+use Rattle.pg_translate.specs.Spellings.{is_space, may_begin, begins_well, IsAmong}
 use Rattle.std.specs.Char.{is_ascii_digit}
 use Rattle.pg_translate.specs.Tables.{check, mark_fails, mark_checks_from, mark_checks}
 use Rattle.pg_translate.specs.Tokens.{Token, Letter, Digit, Weight, Marked, Edge, letter_at, weight_from, mark_at, item_at}
@@ -27,13 +27,13 @@ begins_spelled t rules s among = (and_parts _ _ (and_parts _ _ (rules.spelled s 
 -- no spelling begins a text whose first byte may begin none
 pub no_letter : (t : Alphabet) → KeepsRules t → (b : ℕ) (bs : List ℕ) → may_begin t.marks b ≡ false → letter_at t.spellings (b ∷ bs) ≡ None
 no_letter t rules b bs bad =
-    let missed : find (λ spelling. begins (b ∷ bs) spelling.1) t.spellings ≡ None = find_none (λ spelling. begins (b ∷ bs) spelling.1) t.spellings (λ s among. false_from_ne_true _ (λ front. apart s.1 (begins_spelled t rules s among) front)) in
+    let missed : find (λ spelling. starts_with nat_eq (b ∷ bs) spelling.1) t.spellings ≡ None = find_none (λ spelling. starts_with nat_eq (b ∷ bs) spelling.1) t.spellings (λ s among. false_from_ne_true _ (λ front. apart s.1 (begins_spelled t rules s among) front)) in
     rw missed refl
   where
-    apart : (text : List ℕ) → begins_well t.marks text ≡ true → begins (b ∷ bs) text ≡ true → ⊥
+    apart : (text : List ℕ) → begins_well t.marks text ≡ true → starts_with nat_eq (b ∷ bs) text ≡ true → ⊥
     apart [] well front = true≢false (sym well)
     apart (x ∷ xs) well front =
-        let same : b ≡ x = eqb-true b x (and_parts (b == x) (begins bs xs) front).0 in
+        let same : b ≡ x = sym (eqb-true x b (and_parts _ _ front).0) in
         true≢false (sym well ∙ subst (λ (n : ℕ). may_begin t.marks n ≡ false) same bad)
 
 -- a digit begins no spelling
@@ -169,9 +169,9 @@ mark_reads t rules DontCare text more is = rw is (found_byte t rules DontCare _ 
 -- an item is read, whatever follows it
 pub item_reads : (t : Alphabet) → KeepsRules t → (place : Place) (token : Token) (text more : List ℕ) → IsItem t place token text → item_at t place (text ++ more) ≡ Some (token, length text)
 item_reads t rules Dictionary (Letter sign) text more is =
-    let hit : find (λ spelling. begins (text ++ more) spelling.1) t.spellings ≡ Some (sign, text) = find_begins (text ++ more) t.spellings (sign, text) rules.apart is (begins-append text more) in rw hit refl
+    let hit : find (λ spelling. starts_with nat_eq (text ++ more) spelling.1) t.spellings ≡ Some (sign, text) = find_begins (text ++ more) t.spellings (sign, text) rules.apart is (begins-append text more) in rw hit refl
 item_reads t rules Patterns (Letter sign) text more is =
-    let hit : find (λ spelling. begins (text ++ more) spelling.1) t.spellings ≡ Some (sign, text) = find_begins (text ++ more) t.spellings (sign, text) rules.apart is (begins-append text more) in rw hit refl
+    let hit : find (λ spelling. starts_with nat_eq (text ++ more) spelling.1) t.spellings ≡ Some (sign, text) = find_begins (text ++ more) t.spellings (sign, text) rules.apart is (begins-append text more) in rw hit refl
 item_reads t rules Dictionary (Digit digit) text more is =
     let test : is_ascii_digit (48 + digit) ≡ true = digit_test digit is.0 in
     let none : letter_at t.spellings ((48 + digit) ∷ more) ≡ None = no_letter t rules (48 + digit) more (digit_may_not t.marks (48 + digit) test) in

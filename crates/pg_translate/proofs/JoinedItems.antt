@@ -15,7 +15,7 @@ use Rattle.pg_translate.specs.Spellings.{begins_well}
 use Rattle.pg_translate.specs.Tokens.{Token, Letter, Digit, Weight, Marked, Edge, item_at}
 use Rattle.pg_translate.specs.Cuts.{Placed, Cut, cut, cut_from, with_item, tokens_of}
 use Rattle.pg_translate.specs.Gaps.{sign_of, signs_of}
-use Rattle.pg_translate.specs.Items.{IsItem, text_of_items}
+use Rattle.pg_translate.specs.Items.{IsItem, text_of_items, tokens_in}
 use Rattle.pg_translate.specs.LineRefusals.{refused, signs_max, long_kind, sign_column, sign_columns, stop_refusal, line_refusal, of_line}
 use Rattle.pg_translate.specs.Rules.{KeepsRules}
 use Rattle.pg_translate.proofs.Cuts.{cut_item}
@@ -40,10 +40,6 @@ item_some t rules Dictionary (Marked DontCare) text item = omega (arith, ap (λ 
 item_some t rules Patterns (Marked mark) text item = absurd item
 item_some t rules Dictionary Edge text item = absurd item
 item_some t rules Patterns Edge text item = omega (arith, ap (λ (xs : List ℕ). length xs) item)
-
--- what the items of a list are
-abbrev pub tokens_in : List (Token × List ℕ) → List Token
-tokens_in items = map (λ (item : Token × List ℕ). item.0) items
 
 -- the cut of items that are joined has these items, and nothing is left
 pub cut_joined : (t : Alphabet) → KeepsRules t → (place : Place) (column : ℕ) (items : List (Token × List ℕ)) → AllByRecursion (λ (item : Token × List ℕ). IsItem t place item.0 item.1) items → (tokens_of (cut_from t place column zero (text_of_items items)) ≡ tokens_in items) × ((cut_from t place column zero (text_of_items items)).rest ≡ [])

@@ -1,11 +1,11 @@
 -- A walk along the fronts of a text: what each front says of the spelling that begins the text, and of clashes.
-use Rattle.std.proofs.Common.{◌≡◌, ℕ, ◌+◌, ◌-◌, ◌<◌, ◌≤◌, ◌==◌, min, max, fold, Bool, true, false, not, ◌&&◌, ⊎_elim, List, [], ◌∷◌, length, take, find, Some, None, get_or, Fits, w8, ◌*◌, ◌^◌, suc, zero, refl, sym, ap, ◌∙◌, subst, arith}
-use Rattle.std.specs.List.{list_any}
+use Rattle.std.proofs.Common.{◌≡◌, ℕ, ◌+◌, ◌-◌, ◌<◌, ◌≤◌, ◌==◌, min, max, fold, Bool, true, false, not, ◌&&◌, ⊎_elim, List, [], ◌∷◌, length, take, find, Some, None, get_or, Fits, w8, ◌*◌, ◌^◌, suc, zero, refl, sym, ap, ◌∙◌, subst, arith, nat_eq}
+use Rattle.std.specs.List.{list_any, starts_with}
 use Rattle.std.proofs.lemmas.Bool.{and_from, and_left, or_from, or_left, or_right, not_from_false, eqb-true, eqb-false, ne_eqb, lt-ltb, true≢false, false_from_ne_true, cases_lt, cases_Bool}
 use Rattle.std.proofs.lemmas.List.{length-take-le, take_all}
 use Rattle.pg_translate.specs.declared.index.Front.TheVariants.{Inside, Whole}
 use Rattle.pg_translate.specs.Alphabets.{letters_in}
-use Rattle.pg_translate.specs.Spellings.{begins, clash, IsAmong}
+use Rattle.pg_translate.specs.Spellings.{clash, IsAmong}
 use Rattle.pg_translate.specs.Tokens.{Letter, letter_at}
 use Rattle.pg_translate.specs.declared.index.Index.{Index}
 use Rattle.pg_translate.specs.Fronts.{AreBytes, IsIndex, pairs, front_code, front_at, front_in}
@@ -19,10 +19,10 @@ AreApart spellings = (s t : ℕ × List ℕ) → IsAmong s spellings → IsAmong
 
 -- no spelling of at most some bytes begins a text
 abbrev pub NoneWithin : List (ℕ × List ℕ) → List ℕ → ℕ → Type 0
-NoneWithin spellings text size = (s : ℕ × List ℕ) → IsAmong s spellings → length s.1 ≤ size → begins text s.1 ≡ false
+NoneWithin spellings text size = (s : ℕ × List ℕ) → IsAmong s spellings → length s.1 ≤ size → starts_with nat_eq text s.1 ≡ false
 
 -- a spelling that begins a text is its front of that length
-front_at_length : (text s : List ℕ) (n : ℕ) → begins text s ≡ true → length s ≡ n → s ≡ take n text
+front_at_length : (text s : List ℕ) (n : ℕ) → starts_with nat_eq text s ≡ true → length s ≡ n → s ≡ take n text
 front_at_length text s n h same = subst (λ (k : ℕ). s ≡ take k text) same (begins_front text s h)
 
 -- inside spellings the walk goes on
@@ -32,10 +32,10 @@ walk_inside spellings text i apart inside none s among few = false_from_ne_true 
     found : (x : ℕ × List ℕ) × IsAmong x spellings × IsInside x (take (i + 1) text)
     found = inside_in spellings (take (i + 1) text) inside
 
-    longer : (s : ℕ × List ℕ) → IsAmong s spellings → begins text s.1 ≡ true → length s.1 ≡ i + 1 → ⊥
+    longer : (s : ℕ × List ℕ) → IsAmong s spellings → starts_with nat_eq text s.1 ≡ true → length s.1 ≡ i + 1 → ⊥
     longer s among h same =
         let is : s.1 ≡ take (i + 1) text = front_at_length text s.1 (i + 1) h same in
-        let front : begins found.0.1 s.1 ≡ true = subst (λ (t : List ℕ). begins found.0.1 t ≡ true) (sym is) found.2.front in
+        let front : starts_with nat_eq found.0.1 s.1 ≡ true = subst (λ (t : List ℕ). starts_with nat_eq found.0.1 t ≡ true) (sym is) found.2.front in
         let equal : found.0 ≡ s = apart_equal found.0 s (apart found.0 s found.1 among) (or_left _ _ front) in
         let lengths : length (take (i + 1) text) ≡ length found.0.1 = ap length (sym is) ∙ ap (λ (p : ℕ × List ℕ). length p.1) (sym equal) in
         eqb-false _ _ found.2.proper lengths
@@ -44,30 +44,30 @@ walk_inside spellings text i apart inside none s among few = false_from_ne_true 
 pub walk_hit : (spellings : List (ℕ × List ℕ)) (text : List ℕ) (i sign : ℕ) → AreApart spellings → i < length text → front_in spellings (take (i + 1) text) ≡ Some (Whole sign) → letter_at spellings text ≡ Some (Letter sign, i + 1)
 walk_hit spellings text i sign apart inside whole =
     let among : IsAmong (sign, take (i + 1) text) spellings = whole_in spellings (take (i + 1) text) sign whole in
-    let hit : find (λ spelling. begins text spelling.1) spellings ≡ Some (sign, take (i + 1) text) = find_begins text spellings (sign, take (i + 1) text) apart among (begins-take (i + 1) text) in
+    let hit : find (λ spelling. starts_with nat_eq text spelling.1) spellings ≡ Some (sign, take (i + 1) text) = find_begins text spellings (sign, take (i + 1) text) apart among (begins-take (i + 1) text) in
     let size : length (take (i + 1) text) ≡ i + 1 = length-take-le (i + 1) text (omega arith) in
     rw (hit, size) refl
 
 -- past the fronts of spellings there is no letter
 pub walk_miss : (spellings : List (ℕ × List ℕ)) (text : List ℕ) (i : ℕ) → front_in spellings (take (i + 1) text) ≡ None → NoneWithin spellings text i → letter_at spellings text ≡ None
 walk_miss spellings text i past none =
-    let missed : find (λ spelling. begins text spelling.1) spellings ≡ None = find_none (λ spelling. begins text spelling.1) spellings (λ s among. false_from_ne_true _ (λ h. ⊎_elim (λ (more : i < length s.1). true≢false (sym (begins_take (i + 1) text s.1 h (omega arith)) ∙ nothing_in spellings (take (i + 1) text) past s among)) (λ less. true≢false (sym h ∙ none s among less)) (cases_lt i (length s.1)))) in
+    let missed : find (λ spelling. starts_with nat_eq text spelling.1) spellings ≡ None = find_none (λ spelling. starts_with nat_eq text spelling.1) spellings (λ s among. false_from_ne_true _ (λ h. ⊎_elim (λ (more : i < length s.1). true≢false (sym (begins_take (i + 1) text s.1 h (omega arith)) ∙ nothing_in spellings (take (i + 1) text) past s among)) (λ less. true≢false (sym h ∙ none s among less)) (cases_lt i (length s.1)))) in
     rw missed refl
 
 -- at the end of the text, or past the longest spelling, there is no letter
 pub walk_end : (spellings : List (ℕ × List ℕ)) (text : List ℕ) (most : ℕ) → ((s : ℕ × List ℕ) → IsAmong s spellings → length s.1 ≤ most) → NoneWithin spellings text (min (length text) most) → letter_at spellings text ≡ None
 walk_end spellings text most few none =
-    let missed : find (λ spelling. begins text spelling.1) spellings ≡ None = find_none (λ spelling. begins text spelling.1) spellings (λ s among. false_from_ne_true _ (λ h. let short : length s.1 ≤ length text = begins_within text s.1 h in let small : length s.1 ≤ most = few s among in true≢false (sym h ∙ none s among (omega arith)))) in
+    let missed : find (λ spelling. starts_with nat_eq text spelling.1) spellings ≡ None = find_none (λ spelling. starts_with nat_eq text spelling.1) spellings (λ s among. false_from_ne_true _ (λ h. let short : length s.1 ≤ length text = begins_within text s.1 h in let small : length s.1 ≤ most = few s among in true≢false (sym h ∙ none s among (omega arith)))) in
     rw missed refl
 
 -- past the fronts of spellings nothing clashes
 pub clash_miss : (spellings : List (ℕ × List ℕ)) (sign : ℕ) (text : List ℕ) (i : ℕ) → front_in spellings (take (i + 1) text) ≡ None → NoneWithin spellings text i → list_any (clash (sign, text)) spellings ≡ false
 clash_miss spellings sign text i past none = list_any_none (clash (sign, text)) spellings (λ s among. and_left _ _ (or_from _ _ (front s among) (behind s among)))
   where
-    front : (s : ℕ × List ℕ) → IsAmong s spellings → begins text s.1 ≡ false
+    front : (s : ℕ × List ℕ) → IsAmong s spellings → starts_with nat_eq text s.1 ≡ false
     front s among = false_from_ne_true _ (λ h. ⊎_elim (λ (more : i < length s.1). true≢false (sym (begins_take (i + 1) text s.1 h (omega arith)) ∙ nothing_in spellings (take (i + 1) text) past s among)) (λ less. true≢false (sym h ∙ none s among less)) (cases_lt i (length s.1)))
 
-    behind : (s : ℕ × List ℕ) → IsAmong s spellings → begins s.1 text ≡ false
+    behind : (s : ℕ × List ℕ) → IsAmong s spellings → starts_with nat_eq s.1 text ≡ false
     behind s among = false_from_ne_true _ (λ h. true≢false (sym (begins_less (i + 1) s.1 text h) ∙ nothing_in spellings (take (i + 1) text) past s among))
 
 -- a whole spelling that is a proper front of the text clashes
@@ -87,7 +87,7 @@ pub clash_whole : (spellings : List (ℕ × List ℕ)) (sign other : ℕ) (text 
 clash_whole spellings sign other text i apart all whole =
     let is : take (i + 1) text ≡ text = take_all (i + 1) text (omega arith) in
     let among : IsAmong (other, text) spellings = subst (λ (t : List ℕ). IsAmong (other, t) spellings) is (whole_in spellings (take (i + 1) text) other whole) in
-    ⊎_elim (λ (yes : (other == sign) ≡ true). let same : other ≡ sign = eqb-true _ _ yes in rw yes (list_any_none (clash (sign, text)) spellings (λ s inside. subst (λ (n : ℕ). clash (n, text) s ≡ false) same (apart (other, text) s among inside)))) (λ (no : (other == sign) ≡ false). let differ : (sign == other) ≡ false = ne_eqb _ _ (λ same. eqb-false _ _ no (sym same)) in rw no (list_any_some (clash (sign, text)) spellings (other, text) among (and_from _ _ (or_left _ _ (subst (λ (t : List ℕ). begins text t ≡ true) is (begins-take (i + 1) text))) (not_from_false _ (and_left _ _ differ))))) (cases_Bool (other == sign))
+    ⊎_elim (λ (yes : (other == sign) ≡ true). let same : other ≡ sign = eqb-true _ _ yes in rw yes (list_any_none (clash (sign, text)) spellings (λ s inside. subst (λ (n : ℕ). clash (n, text) s ≡ false) same (apart (other, text) s among inside)))) (λ (no : (other == sign) ≡ false). let differ : (sign == other) ≡ false = ne_eqb _ _ (λ same. eqb-false _ _ no (sym same)) in rw no (list_any_some (clash (sign, text)) spellings (other, text) among (and_from _ _ (or_left _ _ (subst (λ (t : List ℕ). starts_with nat_eq text t ≡ true) is (begins-take (i + 1) text))) (not_from_false _ (and_left _ _ differ))))) (cases_Bool (other == sign))
 
 -- a text that is inside spellings clashes
 pub clash_inside : (spellings : List (ℕ × List ℕ)) (sign : ℕ) (text : List ℕ) → front_in spellings text ≡ Some Inside → list_any (clash (sign, text)) spellings ≡ true

@@ -1,6 +1,6 @@
 -- The fronts of spellings, and the index by their codes.
 use Rattle.std.specs.Prelude.{◌≡◌, ℕ, ◌+◌, ◌-◌, ◌*◌, ◌<◌, ◌≤◌, ◌==◌, nat_eq, nat_lt, true, false, if◌then◌else◌, List, [], ◌∷◌, length, map, fold, slice_get, slice_index_or, Option, None, Some}
-use Rattle.std.specs.List.{list_all}
+use Rattle.std.specs.List.{list_all, starts_with}
 use Rattle.std.specs.Option.{option_or}
 use Rattle.std.specs.HashMap.{get}
 use Rattle.pg_translate.specs.declared.index.Front.{Front}
@@ -9,7 +9,7 @@ use Rattle.pg_translate.specs.declared.index.Index.{Index}
 use Rattle.pg_translate.specs.declared.index.Spelling.{Spelling}
 use Rattle.pg_translate.specs.declared.spellings.TheConstants.{SPELLING_MAX}
 use Rattle.pg_translate.specs.Alphabets.{letters_in, first_of}
-use Rattle.pg_translate.specs.Spellings.{begins, clash, IsAmong}
+use Rattle.pg_translate.specs.Spellings.{clash, IsAmong}
 use Rattle.pg_translate.specs.Texts.{text_of}
 
 -- a spelling with its sign
@@ -38,7 +38,7 @@ front_at index code = if nat_lt code 512 then slice_index_or index.heads (code -
 
 -- what a text is to a spelling
 abbrev pub front_of : ℕ × List ℕ → List ℕ → Option Front
-front_of spelling text = if begins spelling.1 text then Some (if length text == length spelling.1 then Whole spelling.0 else Inside) else None
+front_of spelling text = if starts_with nat_eq spelling.1 text then Some (if length text == length spelling.1 then Whole spelling.0 else Inside) else None
 
 -- what a text is to the spellings
 abbrev pub front_in : List (ℕ × List ℕ) → List ℕ → Option Front

@@ -1,13 +1,13 @@
 -- What the items of a line are, and the cuts of a line into items.
-use Rattle.std.specs.Prelude.{◌≡◌, ℕ, ◌+◌, ◌<◌, ◌≤◌, true, List, [], ◌∷◌, ◌++◌, length, map, fold, codes}
-use Rattle.std.specs.List.{list_all, concat, AllByRecursion}
+use Rattle.std.specs.Prelude.{◌≡◌, ℕ, ◌+◌, ◌<◌, ◌≤◌, true, List, [], ◌∷◌, ◌++◌, length, map, fold, codes, nat_eq}
+use Rattle.std.specs.List.{list_all, concat, AllByRecursion, starts_with}
 use Rattle.pg_types.specs.Parameters.{with_digit}
 use Rattle.pg_types.specs.declared.marks.Mark.{Mark}
 use Rattle.pg_types.specs.declared.marks.Mark.TheVariants.{Nothing, Error, Missed, Found, DontCare}
 use Rattle.pg_translate.specs.declared.items.Place.{Place}
 use Rattle.pg_translate.specs.declared.items.Place.TheVariants.{Dictionary, Patterns}
 use Rattle.pg_translate.specs.Alphabets.{Alphabet, mark_byte_of}
-use Rattle.pg_translate.specs.Spellings.{begins, IsAmong}
+use Rattle.pg_translate.specs.Spellings.{IsAmong}
 use Rattle.std.specs.Char.{is_ascii_digit}
 use Rattle.pg_translate.specs.Tokens.{Token, Letter, Digit, Weight, Marked, Edge}
 use Rattle.pg_translate.specs.Cuts.{Placed, Cut}
@@ -44,14 +44,22 @@ IsItem t Patterns (Marked mark) text = ⊥
 IsItem t Dictionary Edge text = ⊥
 IsItem t Patterns Edge text = text ≡ codes "."
 
+-- each is an item
+abbrev pub AreItems : Alphabet → Place → List (Token × List ℕ) → Type 0
+AreItems t place items = AllByRecursion (λ item. IsItem t place item.0 item.1) items
+
+-- what items mean
+abbrev pub tokens_in : List (Token × List ℕ) → List Token
+tokens_in items = map (λ item. item.0) items
+
 -- the texts of items, joined
 abbrev pub text_of_items : List (Token × List ℕ) → List ℕ
 text_of_items items = concat (map (λ item. item.1) items)
 
 -- a list of items is a cut of a line: their texts, joined, are a prefix of the line
 pub record IsCut (t : Alphabet) (place : Place) (line : List ℕ) (items : List (Token × List ℕ)) : Type 0 where
-  pub each : AllByRecursion (λ item. IsItem t place item.0 item.1) items
-  pub prefix : begins line (text_of_items items) ≡ true
+  pub each : AreItems t place items
+  pub prefix : starts_with nat_eq line (text_of_items items) ≡ true
 
 -- a list begins another
 abbrev pub IsPrefix : List (Token × List ℕ) → List (Token × List ℕ) → Type 0

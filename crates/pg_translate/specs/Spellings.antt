@@ -1,7 +1,7 @@
 -- What a spelling may be, and when two spellings clash.
-use Rattle.std.specs.Prelude.{◌≡◌, ◌⊎◌, ℕ, ◌==◌, nat_le, Bool, true, false, not, ◌&&◌, ◌||◌, List, [], ◌∷◌, length}
+use Rattle.std.specs.Prelude.{◌≡◌, ◌⊎◌, ℕ, ◌==◌, nat_le, Bool, false, not, ◌&&◌, ◌||◌, List, [], ◌∷◌, length, nat_eq}
 use Rattle.std.specs.Char.{is_ascii_digit}
-use Rattle.std.specs.List.{list_any}
+use Rattle.std.specs.List.{list_any, starts_with}
 use Rattle.pg_translate.specs.declared.spellings.TheConstants.{SPELLING_MAX}
 
 -- whether a byte is a blank, a TAB, an LF or a CR, which no spelling holds and which is no mark
@@ -21,15 +21,9 @@ begins_well marks (b ∷ bs) = may_begin marks b
 abbrev pub is_spelling : List ℕ → List ℕ → Bool
 is_spelling marks text = nat_le (length text) SPELLING_MAX && begins_well marks text && not (list_any is_space text)
 
--- whether a text begins with another
-abbrev pub begins : List ℕ → List ℕ → Bool
-begins text [] = true
-begins [] (x ∷ xs) = false
-begins (b ∷ bs) (x ∷ xs) = b == x && begins bs xs
-
 -- two spellings clash where one begins with the other, unless they are equal and of one letter
 abbrev pub clash : ℕ × List ℕ → ℕ × List ℕ → Bool
-clash s t = (begins s.1 t.1 || begins t.1 s.1) && not (s.0 == t.0 && length s.1 == length t.1)
+clash s t = (starts_with nat_eq s.1 t.1 || starts_with nat_eq t.1 s.1) && not (s.0 == t.0 && length s.1 == length t.1)
 
 -- a spelling is among some
 abbrev pub IsAmong : ℕ × List ℕ → List (ℕ × List ℕ) → Type 0

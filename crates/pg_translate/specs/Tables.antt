@@ -124,6 +124,13 @@ abbrev pub spellings_at : ℕ → ℕ → ℕ → List (List ℕ) → List Liste
 spellings_at line column letter [] = []
 spellings_at line column letter (piece ∷ pieces) = record { line = line; column = column; letter = letter; text = piece } ∷ spellings_at line (column + (length piece + 1)) letter pieces
 
+-- the spellings of a letter in a line of this number, from what follows the delimiter at the line's begin, and from the whole line
+abbrev pub spellings_behind : ℕ → ℕ → ℕ → List ℕ → List ListedSpelling
+spellings_behind line letter delimiter text = spellings_at line 2 letter (pieces_of delimiter text)
+
+abbrev pub spellings_of_line : ℕ → ℕ → List ℕ → List ListedSpelling
+spellings_of_line line letter text = spellings_at line 2 letter (line_pieces text)
+
 -- the spellings of a line with these pieces, before those of the lines after it, which begin with the next letter
 abbrev pub with_line_spellings : ℕ → ℕ → List (List ℕ) → (ℕ → List ListedSpelling) → List ListedSpelling
 with_line_spellings line letter [] later = later letter
@@ -149,6 +156,10 @@ spelling_check marks earlier s =
 abbrev pub spelling_checks : List ℕ → List (ℕ × List ℕ) → List ListedSpelling → List Refusal
 spelling_checks marks earlier [] = []
 spelling_checks marks earlier (s ∷ later) = spelling_check marks earlier s ++ spelling_checks marks (earlier ++ spelling_with_sign s ∷ []) later
+
+-- whether all spellings pass their checks beside earlier ones, or the refusal of the first that fails
+abbrev pub spellings_outcome : List ℕ → List (ℕ × List ℕ) → List ListedSpelling → Result (Unit {0}) Refusal
+spellings_outcome marks earlier spellings = first_failure (spelling_checks marks earlier spellings)
 
 -- all checks of a translate file of some size, with this head and these letter lines, in their order
 abbrev pub checks : ℕ → List ℕ → List (List ℕ) → List Refusal

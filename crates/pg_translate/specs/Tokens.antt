@@ -1,5 +1,6 @@
 -- The item that begins a text, for both kinds of lines.
-use Rattle.std.specs.Prelude.{ℕ, zero, suc, ◌+◌, ◌-◌, ◌==◌, nat_lt, Bool, true, ◌&&◌, ◌||◌, if◌then◌else◌, List, [], ◌∷◌, length, slice_index, find, Option, None, Some, option_map}
+use Rattle.std.specs.Prelude.{ℕ, zero, suc, ◌+◌, ◌-◌, ◌==◌, nat_lt, Bool, true, ◌&&◌, ◌||◌, if◌then◌else◌, List, [], ◌∷◌, length, slice_index, find, Option, None, Some, option_map, nat_eq}
+use Rattle.std.specs.List.{starts_with}
 use Rattle.std.specs.Option.{option_or}
 use Rattle.pg_types.specs.Parameters.{with_digit}
 use Rattle.pg_types.specs.declared.marks.Mark.{Mark}
@@ -7,7 +8,6 @@ use Rattle.pg_types.specs.declared.marks.Mark.TheVariants.{Error, Missed, Found,
 use Rattle.pg_translate.specs.declared.items.Place.{Place}
 use Rattle.pg_translate.specs.declared.items.Place.TheVariants.{Dictionary, Patterns}
 use Rattle.pg_translate.specs.Alphabets.{Alphabet}
-use Rattle.pg_translate.specs.Spellings.{begins}
 use Rattle.std.specs.Char.{is_ascii_digit}
 
 -- what an item means: the letter with a sign, a digit, a weight in braces, a mark, or the edge
@@ -20,7 +20,7 @@ pub data Token : Type 0 where
 
 -- the letter whose spelling begins a text, and the length of that spelling
 abbrev pub letter_at : List (ℕ × List ℕ) → List ℕ → Option (Token × ℕ)
-letter_at spellings text = option_map (λ spelling. (Letter spelling.0, length spelling.1)) (find (λ spelling. begins text spelling.1) spellings)
+letter_at spellings text = option_map (λ spelling. (Letter spelling.0, length spelling.1)) (find (λ spelling. starts_with nat_eq text spelling.1) spellings)
 
 -- the digit that begins a text
 abbrev pub digit_at : List ℕ → Option (Token × ℕ)

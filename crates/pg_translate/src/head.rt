@@ -81,7 +81,8 @@ fn pair_at(head: &[u8], column: usize) -> (u8, u8)
 fn minimum(pair: (u8, u8), other: (u8, u8), default: u8) -> Option<u8>
     requires some { 0 < default }
     requires few { default ≤ MINIMUM_MAX }
-    ensures value { MatchOption result (table.pair_fails pair other ≡ true) (λ m. (table.pair_fails pair other ≡ false) × (m ≡ table.minimum pair default)) }
+    ensures value { MatchOption result (table.pair_fails pair other ≡ true)
+        (λ m. (table.pair_fails pair other ≡ false) × (m ≡ table.minimum pair default)) }
     ensures range { IfSome result (λ m. (0 < m) × (m ≤ MINIMUM_MAX)) }
 {
     let blank = (b' ', b' ');
@@ -110,7 +111,9 @@ fn mark_fails(earlier: &[u8], mark: u8) -> bool
 
 /// The two minima of a head, or the refusal of the first pair that fails.
 fn minima(line: &[u8]) -> Result<(u8, u8), Refusal>
-    ensures answer { MatchResult result (λ m. (table.minima_checks line.now ≡ []) × (m.0 ≡ table.left_minimum line.now) × (m.1 ≡ table.right_minimum line.now)) (λ r. table.first_failure (table.minima_checks line.now) ≡ Err r) }
+    ensures answer { MatchResult result
+        (λ m. (table.minima_checks line.now ≡ []) × (m.0 ≡ table.left_minimum line.now)
+        × (m.1 ≡ table.right_minimum line.now)) (λ r. table.first_failure (table.minima_checks line.now) ≡ Err r) }
     ensures range { IfOk result (λ m. (0 < m.0) × (m.0 ≤ MINIMUM_MAX) × (0 < m.1) × (m.1 ≤ MINIMUM_MAX)) }
 {
     let (left, right) = (pair_at(line, 1), pair_at(line, 3));
@@ -144,7 +147,8 @@ fn bad_mark(column: u32) -> Refusal
 
 /// Whether the mark bytes of a head are marks, one after the other, or the refusal of the first that is none.
 fn check_marks(error: u8, missed: u8, found: u8, dont_care: u8) -> Result<(), Refusal>
-    ensures { MatchResult result (λ _. table.mark_checks (error ∷ missed ∷ found ∷ dont_care ∷ []) ≡ []) (λ r. table.first_failure (table.mark_checks (error ∷ missed ∷ found ∷ dont_care ∷ [])) ≡ Err r) }
+    ensures { MatchResult result (λ _. table.mark_checks (error ∷ missed ∷ found ∷ dont_care ∷ []) ≡ [])
+        (λ r. table.first_failure (table.mark_checks (error ∷ missed ∷ found ∷ dont_care ∷ [])) ≡ Err r) }
 {
     if mark_fails(&[], error) {
         return Err(bad_mark(5));
@@ -168,7 +172,8 @@ impl Head {
 
     /// The minima and marks of a head, or the refusal of the first that fails. A blank means a default.
     pub(crate) fn read(line: &[u8]) -> Result<Head, Refusal>
-        ensures answer { MatchResult result (IsHead line.now) (λ r. table.first_failure (table.head_checks line.now) ≡ Err r) }
+        ensures answer { MatchResult result (IsHead line.now)
+            (λ r. table.first_failure (table.head_checks line.now) ≡ Err r) }
         ensures sound { IfOk result IsSoundHead }
     {
         let (left, right) = minima(line)?;

@@ -1,4 +1,5 @@
-//! The index of the spellings by their fronts: it finds the spelling that begins a text, and clashes, in a look-up for each byte.
+//! The index of the spellings by their fronts: it finds the spelling that begins a text, and clashes, in a look-up for
+//! each byte.
 ghost use Rattle.std.specs.Prelude.{◌≡◌, ℕ, ◌+◌, ◌<◌, ◌≤◌, false, ◌++◌, ◌==◌, if◌then◌else◌, ◌∷◌, [], List, length, MatchOption, IfSome, IfOk, OnOk, Some, None, slice_get, map};
 ghost use Rattle.std.specs.List.{list_any, flat_map, range_with_len};
 ghost use Rattle.pg_translate.specs.Tables.{default_letter};
@@ -105,7 +106,8 @@ impl Index {
     #[inline]
     pub(crate) fn letter(&self, text: &[u8]) -> Option<(Sign, usize)>
         requires { IsIndex self.now }
-        ensures letter { MatchOption result (letter_at (pairs self.now) text.now ≡ None) (λ l. letter_at (pairs self.now) text.now ≡ Some (token.Letter l.0, l.1)) }
+        ensures letter { MatchOption result (letter_at (pairs self.now) text.now ≡ None)
+            (λ l. letter_at (pairs self.now) text.now ≡ Some (token.Letter l.0, l.1)) }
         ensures sign { IfSome result (λ l. (1 < l.0) × (l.0 ≤ letters_in (pairs self.now) + 1)) }
         ensures within { IfSome result (λ l. (0 < l.1) × (l.1 ≤ length text.now)) }
     {
@@ -143,7 +145,8 @@ impl Index {
     /// Sets the front with a code.
     fn set_front(&mut self, code: u128, front: Front) -> Result<(), AllocError>
         requires { 256 ≤ code }
-        ensures front { OnOk result ((other : ℕ) → 256 ≤ other → front_at self.new other ≡ (if other == code then Some front else front_at self.old other)) }
+        ensures front { OnOk result ((other : ℕ) → 256 ≤ other → front_at self.new other
+            ≡ (if other == code then Some front else front_at self.old other)) }
         ensures spellings { self.new.spellings ≡ self.old.spellings }
         ensures firsts { self.new.firsts ≡ self.old.firsts }
     {
@@ -158,7 +161,8 @@ impl Index {
     /// Enters all fronts of a spelling.
     fn enter(&mut self, sign: Sign, text: &[u8]) -> Result<(), AllocError>
         requires { length text.now ≤ SPELLING_MAX }
-        ensures fronts { OnOk result ((q : List ℕ) → AreBytes q → 0 < length q → front_at self.new (front_code q) ≡ option_or (front_of (sign, text.now) q) (front_at self.old (front_code q))) }
+        ensures fronts { OnOk result ((q : List ℕ) → AreBytes q → 0 < length q → front_at self.new (front_code q)
+            ≡ option_or (front_of (sign, text.now) q) (front_at self.old (front_code q))) }
         ensures spellings { self.new.spellings ≡ self.old.spellings }
         ensures firsts { self.new.firsts ≡ self.old.firsts }
     {
@@ -172,7 +176,9 @@ impl Index {
 
     /// Keeps the first spelling of a new letter.
     fn keep_first(&mut self, sign: Sign, text: Text) -> Result<(), AllocError>
-        ensures firsts { OnOk result (self.new.firsts.items ≡ (if sign == length self.old.firsts.items + 2 then self.old.firsts.items ++ text ∷ [] else self.old.firsts.items)) }
+        ensures firsts { OnOk result (self.new.firsts.items
+            ≡ (if sign == length self.old.firsts.items + 2 then self.old.firsts.items ++ text ∷ [] else
+            self.old.firsts.items)) }
         ensures spellings { self.new.spellings ≡ self.old.spellings }
         ensures heads { self.new.heads ≡ self.old.heads }
         ensures longer { self.new.longer ≡ self.old.longer }

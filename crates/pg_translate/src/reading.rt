@@ -53,8 +53,8 @@ fn is_spelling(marks: &[u8], text: &[u8]) -> bool
     text.len() <= SPELLING_MAX && begins_well(marks, text) && !has_space(text)
 }
 
-/// Adds a spelling of the letter with this number to the index, unless one of its checks fails. The letter is the last of the
-/// index or a new one.
+/// Adds a spelling of the letter with this number to the index, unless one of its checks fails. The letter is the last
+/// of the index or a new one.
 fn add_spelling(
     index: &mut Index,
     marks: &[u8],
@@ -67,7 +67,9 @@ fn add_spelling(
     requires some { 0 < letter }
     requires low { letters_in (pairs index.old) ≤ letter }
     requires high { letter ≤ letters_in (pairs index.old) + 1 }
-    ensures answer { Gives (λ _. tt) result (table.first_failure (table.spelling_check marks.now (pairs index.old) (record { line = line; column = column; letter = letter; text = text.now }))) }
+    ensures answer { Gives (λ _. tt) result
+        (table.first_failure (table.spelling_check marks.now (pairs index.old)
+        (record { line = line; column = column; letter = letter; text = text.now }))) }
     ensures spellings { OnOk result (pairs index.new ≡ pairs index.old ++ (letter + 1, text.now) ∷ []) }
     ensures letters { OnOk result ((letters_in (pairs index.new) ≡ letter) × (letter ≤ SIGNS_MAX - 1)) }
     ensures sound { OnOk result (IsIndex index.new) }
@@ -92,10 +94,11 @@ fn find_delimiter(delimiter: u8, rest: &[u8]) -> Option<usize>
     rest.iter().position(|byte| *byte == delimiter)
 }
 
-/// The first piece of what is left of a letter line behind its delimiter, and what follows it; none where the piece is empty, at
-/// which the pieces end.
+/// The first piece of what is left of a letter line behind its delimiter, and what follows it; none where the piece is
+/// empty, at which the pieces end.
 fn next_piece(delimiter: u8, rest: &[u8]) -> Option<(&[u8], &[u8])>
-    ensures pieces { MatchOption result (table.pieces_of delimiter rest.now ≡ []) (λ p. table.pieces_of delimiter rest.now ≡ p.0.now ∷ table.pieces_of delimiter p.1.now) }
+    ensures pieces { MatchOption result (table.pieces_of delimiter rest.now ≡ [])
+        (λ p. table.pieces_of delimiter rest.now ≡ p.0.now ∷ table.pieces_of delimiter p.1.now) }
     ensures some { IfSome result (λ p. 0 < length p.0.now) }
     ensures shorter { IfSome result (λ p. length p.0.now + length p.1.now ≤ length rest.now) }
 {
@@ -120,8 +123,11 @@ fn add_pieces(
     requires letter { letter ≡ letters_in (pairs index.old) + 1 }
     requires letters { letter ≤ SIGNS_MAX }
     requires few { length text.now ≤ FILE_MAX }
-    ensures answer { Gives (λ _. tt) result (table.first_failure (table.spelling_checks marks.now (pairs index.old) (table.spellings_at line 2 letter (table.pieces_of delimiter text.now)))) }
-    ensures spellings { OnOk result (pairs index.new ≡ pairs index.old ++ map table.spelling_with_sign (table.spellings_at line 2 letter (table.pieces_of delimiter text.now))) }
+    ensures answer { Gives (λ _. tt) result
+        (table.spellings_outcome marks.now (pairs index.old) (table.spellings_behind line letter delimiter text.now)) }
+    ensures spellings { OnOk result
+        (pairs index.new ≡ pairs index.old ++ map table.spelling_with_sign
+        (table.spellings_behind line letter delimiter text.now)) }
     ensures letters { OnOk result (letters_in (pairs index.new) ≤ SIGNS_MAX - 1) }
     ensures sound { OnOk result (IsIndex index.new) }
 {
@@ -152,8 +158,12 @@ fn add_line(index: &mut Index, marks: &[u8], line: u32, text: &[u8]) -> Result<(
     requires sound { IsIndex index.old }
     requires letters { letters_in (pairs index.old) ≤ SIGNS_MAX - 1 }
     requires few { length text.now ≤ FILE_MAX }
-    ensures answer { Gives (λ _. tt) result (table.first_failure (table.spelling_checks marks.now (pairs index.old) (table.spellings_at line 2 (letters_in (pairs index.old) + 1) (table.line_pieces text.now)))) }
-    ensures spellings { OnOk result (pairs index.new ≡ pairs index.old ++ map table.spelling_with_sign (table.spellings_at line 2 (letters_in (pairs index.old) + 1) (table.line_pieces text.now))) }
+    ensures answer { Gives (λ _. tt) result
+        (let letter = letters_in (pairs index.old) + 1 in table.spellings_outcome marks.now (pairs index.old)
+        (table.spellings_of_line line letter text.now)) }
+    ensures spellings { OnOk result
+        (pairs index.new ≡ pairs index.old ++ map table.spelling_with_sign
+        (table.spellings_of_line line (letters_in (pairs index.old) + 1) text.now)) }
     ensures letters { OnOk result (letters_in (pairs index.new) ≤ SIGNS_MAX - 1) }
     ensures sound { OnOk result (IsIndex index.new) }
 {
@@ -168,7 +178,8 @@ fn add_line(index: &mut Index, marks: &[u8], line: u32, text: &[u8]) -> Result<(
 /// The letters of the lines that follow the head.
 pub(crate) fn read_letters(alloc: Global, marks: &[u8], text: &[u8]) -> Result<Index, ReadingError>
     requires { length text.now ≤ FILE_MAX }
-    ensures answer { Gives pairs result (first_refusal (table.spelling_checks marks.now [] (table.spellings_from 2 1 (lines text.now))) (map table.spelling_with_sign (table.spellings_from 2 1 (lines text.now)))) }
+    ensures answer { let all = table.spellings_from 2 1 (lines text.now) in Gives pairs result
+        (first_refusal (table.spelling_checks marks.now [] all) (map table.spelling_with_sign all)) }
     ensures sound { IfOk result IsIndex }
 {
     let mut index = Index::new(alloc);

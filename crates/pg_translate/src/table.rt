@@ -1,9 +1,7 @@
 //! The table of a translate file.
 ghost use Rattle.std.specs.Prelude.{◌≡◌, IfOk};
 ghost use Rattle.pg_translate.specs.Alphabets.{Alphabet};
-ghost use Rattle.pg_translate.specs.Fronts.{pairs};
-ghost use Rattle.pg_translate.specs.Heads.{head_marks};
-ghost use Rattle.pg_translate.specs.Sound.{IsTable};
+ghost use Rattle.pg_translate.specs.Sound.{IsTable, alphabet_in};
 
 pub mod laws;
 
@@ -30,7 +28,7 @@ pub struct Table {
 impl Model for Table {
     ghost Value = { Alphabet };
 
-    ghost view = { λ t. record { left = t.head.left; right = t.head.right; marks = head_marks t.head; spellings = pairs t.index } };
+    ghost view = { λ t. alphabet_in t.head t.index };
 
     ghost invariant = { λ t. IsTable t.head t.index };
 }
@@ -46,8 +44,8 @@ impl Table {
     ghost use Rattle.pg_translate.specs.Reach.{reach};
     ghost use Rattle.pg_types.specs.declared.limits.TheConstants.{WORD_LETTERS_MAX};
 
-    /// The default table: the minima 2 and 3, the marks `.`, `-`, `*` and `?`, and the letters a to z, each with its capital as
-    /// its second spelling.
+    /// The default table: the minima 2 and 3, the marks `.`, `-`, `*` and `?`, and the letters a to z, each with its
+    /// capital as its second spelling.
     pub fn default_letters(alloc: Global) -> Result<Table, AllocError>
         ensures { IfOk result (λ table. table ≡ default_alphabet) }
     {
@@ -63,8 +61,8 @@ impl Table {
         Ok(Table { head, index })
     }
 
-    /// The table of a translate file, or the first place at which its rules refuse it. A file of no bytes means the default
-    /// table. Want of memory is an error of its own.
+    /// The table of a translate file, or the first place at which its rules refuse it. A file of no bytes means the
+    /// default table. Want of memory is an error of its own.
     pub fn read(alloc: Global, bytes: &[u8]) -> Result<Table, ReadingError>
         ensures { Gives (λ t. t) result (table bytes.now) }
     {
@@ -127,12 +125,13 @@ impl Table {
         }
     }
 
-    /// The first and the last position in reach of a word of so many signs, its edges included; none where such a word takes no
-    /// part, as it has fewer letters than both minima together.
+    /// The first and the last position in reach of a word of so many signs, its edges included; none where such a word
+    /// takes no part, as it has fewer letters than both minima together.
     pub fn reach(&self, signs: usize) -> Option<(usize, usize)>
         requires low { 2 ≤ signs }
         requires high { signs ≤ WORD_LETTERS_MAX + 2 }
-        ensures { result ≡ reach self.now.left self.now.right signs }
+        ensures value { result ≡ reach self.now.left self.now.right signs }
+        ensures between { IfSome result (λ r. (2 ≤ r.0) × (r.0 ≤ r.1) × (r.1 + 2 ≤ signs)) }
     {
         let left = self.head.left as usize;
         let right = self.head.right as usize;
@@ -146,7 +145,8 @@ impl Table {
     /// The letter whose spelling begins `text`, with the size of that spelling.
     #[inline]
     fn letter(&self, text: &[u8]) -> Option<(Sign, usize)>
-        ensures letter { MatchOption result (letter_at self.now.spellings text.now ≡ None) (λ l. letter_at self.now.spellings text.now ≡ Some (token.Letter l.0, l.1)) }
+        ensures letter { MatchOption result (letter_at self.now.spellings text.now ≡ None)
+            (λ l. letter_at self.now.spellings text.now ≡ Some (token.Letter l.0, l.1)) }
         ensures sign { IfSome result (λ l. (1 < l.0) × (l.0 ≤ letters_of self.now + 1)) }
         ensures within { IfSome result (λ l. (0 < l.1) × (l.1 ≤ length text.now)) }
         ensures begun { IfSome result (λ _. is_ended text.now ≡ false) }
@@ -158,7 +158,8 @@ impl Table {
     #[inline]
     fn mark(&self, text: &[u8]) -> Option<Mark>
         requires { 0 < length text.now }
-        ensures mark { MatchOption result (mark_at self.now.marks text.now ≡ None) (λ m. mark_at self.now.marks text.now ≡ Some (token.Marked m, 1)) }
+        ensures mark { MatchOption result (mark_at self.now.marks text.now ≡ None)
+            (λ m. mark_at self.now.marks text.now ≡ Some (token.Marked m, 1)) }
         ensures begun { IfSome result (λ _. is_ended text.now ≡ false) }
     {
         let byte = text[0];
@@ -177,9 +178,9 @@ impl Table {
 
     /// The item that begins `rest`, a line of a file of this kind or what is left of it, and what follows that item.
     ///
-    /// `End` comes exactly where the line ends here, or a blank or TAB stands here. `Bad` comes exactly where no item stands
-    /// here and the line does not end. Letters have signs 2 to `letters` + 1, digits are 0 to 9, and weights 1 to 9,999. Marks
-    /// and weights come only in a dictionary, and `Edge` only in patterns.
+    /// `End` comes exactly where the line ends here, or a blank or TAB stands here. `Bad` comes exactly where no item
+    /// stands here and the line does not end. Letters have signs 2 to `letters` + 1, digits are 0 to 9, and weights
+    /// 1 to 9,999. Marks and weights come only in a dictionary, and `Edge` only in patterns.
     #[inline]
     pub fn item<'a>(&self, place: Place, rest: &'a [u8]) -> Item<'a>
         ensures item { IsFirstItem self.now place rest.now result }

@@ -7,7 +7,7 @@ use Rattle.std.specs.Ordering.{nat_cmp, eq_by_cmp, is_eq, is_lt, ordering_then}
 use Rattle.std.specs.Cmp.{tied_itself, unsigned_tied}
 use Rattle.std.specs.FinMap.Entries.{find, is_sorted, below_all}
 use Rattle.pg_patterns.specs.DottedSigns.{dotted_cmp, dotted_exact}
-use Rattle.pg_types.proofs.BoolFacts.{equal_is, first_half, second_half, is_true, less_is}
+use Rattle.pg_types.proofs.BoolFacts.{equal_is, first_half, second_half, is_true, less_is, both_halves}
 use Rattle.pg_cells.proofs.StringMaps.{order, equal_or_not, find_below, head_below, tail_sorted}
 use Rattle.pg_trie.specs.Maps.{with_entry, entries_of, entries}
 
@@ -92,10 +92,6 @@ module _ {X : Type 0} (pick : ℕ → Option X) where
   PicksRise [] r = Unit {0}
   PicksRise (x ∷ xs) r = picks_rise (pick x.0) r x.1 (PicksRise xs)
 
-  both : (a b : Bool) → T a → T b → T (a && b)
-  both true b p q = q
-  both false b p q = p
-
   below_dots : (q : List ℕ) (d e : ℕ) → d + 1 ≤ e → T (is_lt (dotted_cmp (q, d) (q, e)))
   below_dots q d e le =
       subst (λ r. T (is_lt (ordering_then r (nat_cmp d e)))) (sym (tied_itself nat_list_cmp_total q))
@@ -106,7 +102,7 @@ module _ {X : Type 0} (pick : ℕ → Option X) where
   below_string q d r (x ∷ xs) rest le rise below =
       elim (pick x.0) as (λ o. picks_rise o r x.1 (PicksRise xs) → T (below_all dotted_cmp (q, d) (with_entry pick (q, x.1) o (entries_of pick q xs) ++ rest))) [
         | None ↦ λ h. below_string q d r xs rest le h below
-        | Some v ↦ λ h. both (is_lt (dotted_cmp (q, d) (q, x.1))) (below_all dotted_cmp (q, d) (entries_of pick q xs ++ rest)) (below_dots q d x.1 (omega (arith, h.0))) (below_string q d (x.1 + 1) xs rest (omega (arith, h.0)) h.1 below)
+        | Some v ↦ λ h. both_halves (is_lt (dotted_cmp (q, d) (q, x.1))) (below_all dotted_cmp (q, d) (entries_of pick q xs ++ rest)) (below_dots q d x.1 (omega (arith, h.0))) (below_string q d (x.1 + 1) xs rest (omega (arith, h.0)) h.1 below)
       ] rise
 
   sorted_string : (q : List ℕ) (r : ℕ) (xs : List (ℕ × ℕ)) (rest : List ((List ℕ × ℕ) × X)) → PicksRise xs r → T (is_sorted dotted_cmp rest) → ((d : ℕ) → T (below_all dotted_cmp (q, d) rest)) → T (is_sorted dotted_cmp (entries_of pick q xs ++ rest))
@@ -114,7 +110,7 @@ module _ {X : Type 0} (pick : ℕ → Option X) where
   sorted_string q r (x ∷ xs) rest rise sorted below =
       elim (pick x.0) as (λ o. picks_rise o r x.1 (PicksRise xs) → T (is_sorted dotted_cmp (with_entry pick (q, x.1) o (entries_of pick q xs) ++ rest))) [
         | None ↦ λ h. sorted_string q r xs rest h sorted below
-        | Some v ↦ λ h. both (below_all dotted_cmp (q, x.1) (entries_of pick q xs ++ rest)) (is_sorted dotted_cmp (entries_of pick q xs ++ rest)) (below_string q x.1 (x.1 + 1) xs rest (omega arith) h.1 (below x.1)) (sorted_string q (x.1 + 1) xs rest h.1 sorted below)
+        | Some v ↦ λ h. both_halves (below_all dotted_cmp (q, x.1) (entries_of pick q xs ++ rest)) (is_sorted dotted_cmp (entries_of pick q xs ++ rest)) (below_string q x.1 (x.1 + 1) xs rest (omega arith) h.1 (below x.1)) (sorted_string q (x.1 + 1) xs rest h.1 sorted below)
       ] rise
 
   -- the places of a string are before those of a greater one
@@ -124,7 +120,7 @@ module _ {X : Type 0} (pick : ℕ → Option X) where
       let more = before_string p q d xs rest lt below in
       elim (pick x.0) as (λ o. T (below_all dotted_cmp (p, d) (with_entry pick (q, x.1) o (entries_of pick q xs) ++ rest))) [
         | None ↦ more
-        | Some v ↦ both (is_lt (dotted_cmp (p, d) (q, x.1))) (below_all dotted_cmp (p, d) (entries_of pick q xs ++ rest)) (subst (λ r. T (is_lt (ordering_then r (nat_cmp d x.1)))) (sym (less_is (order p q) (is_true (is_lt (order p q)) lt))) tt) more
+        | Some v ↦ both_halves (is_lt (dotted_cmp (p, d) (q, x.1))) (below_all dotted_cmp (p, d) (entries_of pick q xs ++ rest)) (subst (λ r. T (is_lt (ordering_then r (nat_cmp d x.1)))) (sym (less_is (order p q) (is_true (is_lt (order p q)) lt))) tt) more
       ]
 
   below_entries : (f : ℕ → List (ℕ × ℕ)) (p : List ℕ) (d : ℕ) (es : List (List ℕ × ℕ)) → T (below_all order p es) → T (below_all dotted_cmp (p, d) (entries pick f es))

@@ -1,6 +1,6 @@
 -- The entries of the strings, gathered string by string.
 use Rattle.std.proofs.Common.{◌≡◌, ℕ, ◌+◌, ◌*◌, ◌<◌, ◌≤◌, max, Bool, true, false, cond, ◌&&◌, nat_eq, nat_lt, List, [], ◌∷◌, ◌++◌, length, slice_get, Option, None, Some, unwrap_or, inl, inr, refl, sym, ◌∙◌, ap, subst, arith, append_assoc}
-use Rattle.std.proofs.lemmas.Bool.{cases_Bool, cases_lt, eqb-true}
+use Rattle.std.proofs.lemmas.Bool.{cases_Bool, cases_lt, eqb-true, and_from}
 use Rattle.std.proofs.lemmas.List.Folds.{list_all-append}
 use Rattle.std.proofs.lemmas.Option.{slice_get_within}
 use Rattle.std.specs.Cmp.Lexicographic.{pointwise, texts_ties}
@@ -9,7 +9,6 @@ use Rattle.std.specs.FinMap.Entries.{find}
 use Rattle.pg_patterns.specs.DottedSigns.{same_dotted}
 use Rattle.pg_patterns.specs.Values.{is_entry, best, value_of, map_of_entries}
 use Rattle.pg_patterns.proofs.Joins.{value_of_joined, joined_keeps, same_maps}
-use Rattle.pg_types.proofs.BoolFacts.{both_true}
 use Rattle.pg_outputs.specs.declared.records.Record.{Record}
 use Rattle.pg_outputs.specs.Lists.{list_of}
 use Rattle.pg_cells.specs.Held.{Held}
@@ -90,7 +89,7 @@ gathers_more cells records is strings i es new k head at value more g = subst (�
     here = is.heads k.0 head value
 
     sound : list_all is_entry (es ++ entries_of as_value k.0 (list_of records head)) ≡ true
-    sound = list_all-append is_entry es (entries_of as_value k.0 (list_of records head)) ∙ both_true (list_all is_entry es) (list_all is_entry (entries_of as_value k.0 (list_of records head))) g.sound (string_entries cells records is k.0 head value)
+    sound = list_all-append is_entry es (entries_of as_value k.0 (list_of records head)) ∙ and_from (list_all is_entry es) (list_all is_entry (entries_of as_value k.0 (list_of records head))) g.sound (string_entries cells records is k.0 head value)
 
     is_here : (d : ℕ) → best (same_dotted (k.0, d)) (entries_of as_value k.0 (list_of records head)) ≡ value_of (maps_of cells records).patterns (k.0, d)
     is_here d = best_here k.0 d 0 (list_of records head) here.rises ∙ sym (value_is cells records is k.0 d ∙ ap (λ o. unwrap_or (found_at as_value (list_of records) d o) 0) value)

@@ -1,6 +1,6 @@
 -- What the maps of a trie keep.
 use Rattle.std.proofs.Common.{◌≡◌, ℕ, ◌+◌, ◌≤◌, ◌<◌, Bool, true, false, cond, ◌&&◌, nat_le, nat_lt, T, List, [], ◌∷◌, ◌++◌, length, Option, None, Some, inl, inr, refl, sym, ◌∙◌, ap, subst, arith, append_assoc}
-use Rattle.std.proofs.lemmas.Bool.{le-leb, leb-true, ltb-true, cases_Bool}
+use Rattle.std.proofs.lemmas.Bool.{le-leb, leb-true, ltb-true, cases_Bool, and_from}
 use Rattle.std.proofs.lemmas.Cmp.{nat_list_cmp_total}
 use Rattle.std.proofs.lemmas.List.Elements.{All-nil, All-cons, All-head, All-tail, All-append}
 use Rattle.std.specs.Ordering.{is_eq}
@@ -11,7 +11,7 @@ use Rattle.pg_types.specs.declared.limits.TheConstants.{PATTERN_SIGNS_MAX}
 use Rattle.pg_types.specs.Signs.{is_sign}
 use Rattle.pg_types.specs.Placement.{cell_of}
 use Rattle.pg_patterns.specs.Values.{is_entry}
-use Rattle.pg_types.proofs.BoolFacts.{and_first, and_second, both_true}
+use Rattle.pg_types.proofs.BoolFacts.{and_first, and_second}
 use Rattle.pg_patterns.proofs.Sound.{entry_told}
 use Rattle.pg_outputs.specs.declared.records.Record.{Record}
 use Rattle.pg_outputs.specs.Lists.{list_of}
@@ -42,7 +42,7 @@ module _ {X : Type 0} (pick : ℕ → Option X) (P : (List ℕ × ℕ) × X → 
 
 pub all_tests : {X : Type 0} (test : X → Bool) (xs : List X) → All (λ x. test x ≡ true) xs → list_all test xs ≡ true
 all_tests test [] h = refl
-all_tests test (x ∷ xs) h = both_true (test x) (list_all test xs) (All-head (λ x. test x ≡ true) x xs h) (all_tests test xs (All-tail (λ x. test x ≡ true) x xs h))
+all_tests test (x ∷ xs) h = and_from (test x) (list_all test xs) (All-head (λ x. test x ≡ true) x xs h) (all_tests test xs (All-tail (λ x. test x ≡ true) x xs h))
 
 -- a sign of the table
 abbrev pub is_known : ℕ → ℕ → Bool
@@ -60,7 +60,7 @@ signs_behind h held p (x ∷ more) cell at =
     by None none there rest = absurd (let no : None ≡ Some cell = sym (held.closed p x more none) ∙ there in cc)
     by (Some c) some there rest =
         let known = held.signs p x c some in
-        both_true (is_known h.signs x) (list_all (is_known h.signs) more) (both_true (nat_le 1 x) (nat_le x h.signs) (le-leb 1 x known.0) (le-leb x h.signs known.1)) rest
+        and_from (is_known h.signs x) (list_all (is_known h.signs) more) (and_from (nat_le 1 x) (nat_le x h.signs) (le-leb 1 x known.0) (le-leb x h.signs known.1)) rest
 
 pub string_signs : (h : Held ℕ) → IsHeld h → (q : List ℕ) (cell : ℕ) → cell_of h.families q ≡ Some cell → list_all (is_known h.signs) q ≡ true
 string_signs h held q cell at = signs_behind h held [] q cell at
@@ -72,7 +72,7 @@ string_some h (x ∷ q) cell at = omega arith
 
 signs_low : (n : ℕ) (q : List ℕ) → list_all (is_known n) q ≡ true → list_all is_sign q ≡ true
 signs_low n [] h = refl
-signs_low n (x ∷ q) h = both_true (nat_le 1 x) (list_all is_sign q) (and_first (nat_le 1 x) (nat_le x n) (and_first (is_known n x) (list_all (is_known n) q) h)) (signs_low n q (and_second (is_known n x) (list_all (is_known n) q) h))
+signs_low n (x ∷ q) h = and_from (nat_le 1 x) (list_all is_sign q) (and_first (nat_le 1 x) (nat_le x n) (and_first (is_known n x) (list_all (is_known n) q) h)) (signs_low n q (and_second (is_known n x) (list_all (is_known n) q) h))
 
 signs_high : (n : ℕ) (q : List ℕ) → list_all (is_known n) q ≡ true → All (λ s. s ≤ n) q
 signs_high n [] h = All-nil (λ s. s ≤ n)
@@ -106,9 +106,9 @@ marks_places n q s (x ∷ xs) dots =
       | inr e ↦
           subst (λ o. All (λ e. is_dotted n e.0 ≡ true) (with_entry as_mark (q, x.1) o (entries_of as_mark q xs))) (sym (as_mark_is x.0 false e))
           (All-cons (λ e. is_dotted n e.0 ≡ true) ((q, x.1), tt {0}) (entries_of as_mark q xs)
-          (both_true (nat_le 1 (length q) && nat_le (length q) PATTERN_SIGNS_MAX && list_all (is_known n) q) (nat_le x.1 (length q))
-          (both_true (nat_le 1 (length q) && nat_le (length q) PATTERN_SIGNS_MAX) (list_all (is_known n) q)
-          (both_true (nat_le 1 (length q)) (nat_le (length q) PATTERN_SIGNS_MAX) (le-leb 1 (length q) s.some) (le-leb (length q) PATTERN_SIGNS_MAX s.few)) s.signs)
+          (and_from (nat_le 1 (length q) && nat_le (length q) PATTERN_SIGNS_MAX && list_all (is_known n) q) (nat_le x.1 (length q))
+          (and_from (nat_le 1 (length q) && nat_le (length q) PATTERN_SIGNS_MAX) (list_all (is_known n) q)
+          (and_from (nat_le 1 (length q)) (nat_le (length q) PATTERN_SIGNS_MAX) (le-leb 1 (length q) s.some) (le-leb (length q) PATTERN_SIGNS_MAX s.few)) s.signs)
           (le-leb x.1 (length q) dots.0)) more)
     ]
 

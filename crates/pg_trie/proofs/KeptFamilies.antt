@@ -1,13 +1,13 @@
 -- Families with the strings that pass a test.
 use Rattle.std.proofs.Common.{◌≡◌, ◌≢◌, ℕ, ◌+◌, Bool, true, false, not, cond, ◌&&◌, ◌||◌, nat_eq, T, List, [], ◌∷◌, ◌++◌, filter, Option, None, Some, inl, inr, refl, sym, ◌∙◌, ap, subst}
-use Rattle.std.proofs.lemmas.Bool.{cases_Bool, eqb-true, eq-eqb}
+use Rattle.std.proofs.lemmas.Bool.{cases_Bool, eqb-true, eq-eqb, and_from}
 use Rattle.std.proofs.lemmas.Cmp.{nat_list_cmp_total}
 use Rattle.std.specs.Ordering.{is_eq, is_lt}
 use Rattle.std.specs.Cmp.{tied_itself}
 use Rattle.std.specs.FinMap.Entries.{find, put, is_sorted, below_all}
 use Rattle.std.specs.List.{list_any}
 use Rattle.pg_types.specs.Placement.{Family, Families, family_at, cell_of, without_sign, without_family}
-use Rattle.pg_types.proofs.BoolFacts.{first_half, second_half, is_true, holds, both_true}
+use Rattle.pg_types.proofs.BoolFacts.{first_half, second_half, is_true, holds}
 use Rattle.pg_cells.specs.Held.{Held}
 use Rattle.pg_cells.specs.IsHeld.{IsHeld}
 use Rattle.pg_cells.proofs.StringMaps.{order, equal_or_not, same_maps, find_below, head_below, tail_sorted, find_put_same, find_put_other, find_without_same, find_without_other}
@@ -45,7 +45,7 @@ find_one_other q p base (x ∷ xs) rest n = elim (equal_or_not q p) [ inl h ↦ 
 
 below_one : (q p : List ℕ) (base : ℕ) (l : List ℕ) (rest : Families) → T (is_lt (order q p)) → T (below_all order q rest) → T (below_all order q (with_one p base l rest))
 below_one q p base [] rest lt below = below
-below_one q p base (x ∷ xs) rest lt below = holds (is_lt (order q p) && below_all order q rest) (both_true (is_lt (order q p)) (below_all order q rest) (is_true (is_lt (order q p)) lt) (is_true (below_all order q rest) below))
+below_one q p base (x ∷ xs) rest lt below = holds (is_lt (order q p) && below_all order q rest) (and_from (is_lt (order q p)) (below_all order q rest) (is_true (is_lt (order q p)) lt) (is_true (below_all order q rest) below))
 
 below_kept : (keep : List ℕ → Bool) (q : List ℕ) (fs : Families) → T (below_all order q fs) → T (below_all order q (kept_by keep fs))
 below_kept keep q [] below = tt
@@ -56,7 +56,7 @@ below_kept keep q (e ∷ es) below =
 
 sorted_one : (p : List ℕ) (base : ℕ) (l : List ℕ) (rest : Families) → T (below_all order p rest) → T (is_sorted order rest) → T (is_sorted order (with_one p base l rest))
 sorted_one p base [] rest below sorted = sorted
-sorted_one p base (x ∷ xs) rest below sorted = holds (below_all order p rest && is_sorted order rest) (both_true (below_all order p rest) (is_sorted order rest) (is_true (below_all order p rest) below) (is_true (is_sorted order rest) sorted))
+sorted_one p base (x ∷ xs) rest below sorted = holds (below_all order p rest && is_sorted order rest) (and_from (below_all order p rest) (is_sorted order rest) (is_true (below_all order p rest) below) (is_true (is_sorted order rest) sorted))
 
 pub sorted_kept : (keep : List ℕ → Bool) (fs : Families) → T (is_sorted order fs) → T (is_sorted order (kept_by keep fs))
 sorted_kept keep [] sorted = tt

@@ -6,7 +6,7 @@ use Rattle.std.proofs.lemmas.List.Folds.{list_any-append}
 use Rattle.std.proofs.lemmas.List.FromFn.{length-map-range_with_len}
 use Rattle.std.proofs.lemmas.Map.Made.{length-from_keys}
 use Rattle.std.proofs.lemmas.Option.{get_or_from_slice_get}
-use Rattle.std.specs.Cmp.{IsEquivalence, and_equiv, on_equiv, nat_eq_equiv}
+use Rattle.std.specs.Cmp.{IsEquivalence, and_equiv, on_equiv, nat_eq_equiv, both_ways}
 use Rattle.std.specs.Cmp.Lexicographic.{pointwise, lists_equiv, texts_ties}
 use Rattle.std.specs.List.{list_any, flat_map, range_with_len, IsDistinct, AllByRecursion}
 use Rattle.std.specs.FinMap.Entries.{find, is_sorted}
@@ -233,11 +233,6 @@ tails_is cells records is cells' fresh new one needed =
     (λ e. there s (range_has (λ h. map turned (list_of fresh h)) s 1 (length fresh) e))
     (λ e. back s (any_find (λ q. is_member same_list (suffixes (outputs_of (maps_of cells records).patterns q)) s) (λ h. has_value (list_of records h)) cells.values is.held.ordered (sym (any_there s) ∙ e))))
   where
-    both_ways : (a b : Bool) → (a ≡ true → b ≡ true) → (b ≡ true → a ≡ true) → a ≡ b
-    both_ways true b f g = sym (f refl)
-    both_ways false true f g = g refl
-    both_ways false false f g = refl
-
     any_there : (s : List (ℕ × ℕ)) → is_member same_list (flat_map (λ e. suffixes (outputs_of (maps_of cells records).patterns e.0.0)) (maps_of cells records).patterns) s
         ≡ list_any (λ e. is_member same_list (suffixes (outputs_of (maps_of cells records).patterns e.0)) s && has_value (list_of records e.1)) cells.values
     any_there s =

@@ -1,9 +1,9 @@
 -- The base of a placement is the least one from the lowest on at which the signs may stand.
-use Rattle.std.proofs.Common.{◌≡◌, ℕ, ◌+◌, ◌-◌, ◌<◌, ◌≤◌, max, inl, inr, Bool, true, false, not, cond, ◌&&◌, ◌||◌, nat_eq, nat_le, List, [], ◌∷◌, length, map, fold, suc, zero, refl, sym, ◌∙◌, ap, subst, arith}
+use Rattle.std.proofs.Common.{◌≡◌, ℕ, ◌+◌, ◌-◌, ◌<◌, ◌≤◌, max, inl, inr, Bool, true, false, not, cond, ◌||◌, nat_eq, nat_le, List, [], ◌∷◌, length, map, fold, suc, zero, refl, sym, ◌∙◌, ap, subst, arith}
 use Rattle.std.proofs.lemmas.Bool.{cases_Bool, cases_eq, false≢true, or_cases, or_left, or_right, and_parts, and_from, eqb-true, eq-eqb, ne_eqb, leb-true}
 use Rattle.std.proofs.lemmas.List.Folds.{list_any-append}
 use Rattle.std.specs.List.{list_any, list_all}
-use Rattle.pg_types.specs.Placement.{Family, Families, cells_of, used_cells, top, is_used, is_base, fits_at, lowest_base, first_from, IsLeast, least_base}
+use Rattle.pg_types.specs.Placement.{Families, cells_of, used_cells, top, is_used, is_base, fits_at, lowest_base, first_from, IsLeast, least_base}
 
 -- the greatest of a list
 fold_max_ge : (xs : List ℕ) (a : ℕ) → a ≤ fold max a xs

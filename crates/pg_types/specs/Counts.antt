@@ -1,5 +1,6 @@
 -- The windows that are counted in a pass, in the order of signs, each with its sums of good and bad weights.
-use Rattle.std.specs.Prelude.{◌≡◌, ℕ, ◌+◌, ◌<◌, ◌≤◌, ◌^◌, Bool, if◌then◌else◌, List, [], ◌∷◌, filter, unwrap_or, Option, None, Some, All, is_some}
+use Rattle.std.specs.Prelude.{◌≡◌, ℕ, ◌+◌, ◌<◌, ◌≤◌, Bool, if◌then◌else◌, List, [], ◌∷◌, filter, unwrap_or, Option, None, Some, All, is_some}
+use Rattle.pg_types.specs.Limits.{counts_limit}
 use Rattle.std.specs.Ordering.{nat_cmp, is_lt}
 use Rattle.std.specs.Cmp.Lexicographic.{slice_cmp}
 use Rattle.std.specs.FinMap.Entries.{put, find}
@@ -36,9 +37,9 @@ abbrev pub IsNextAbove : Counts → List ℕ → List ℕ → Option (ℕ × ℕ
 IsNextAbove counts old new None = (above old counts ≡ []) × (new ≡ old)
 IsNextAbove counts old new (Some sums) = above old counts ≡ (new, sums) ∷ above new counts
 
--- both sums are below 2^60
+-- both sums are below their limit
 abbrev pub AreSmall : ℕ × ℕ → Type 0
-AreSmall sums = (sums.0 < 2 ^ 60) × (sums.1 < 2 ^ 60)
+AreSmall sums = (sums.0 < counts_limit) × (sums.1 < counts_limit)
 
 -- each sign is at least 1, and at most the greatest
 abbrev pub SignsWithin : ℕ → List ℕ → Type 0

@@ -2,7 +2,9 @@ pub mod Refusals
 pub mod Reading
 pub mod Lines
 pub mod Signs
+pub mod Limits
 pub mod Parameters
+pub mod ItemSteps
 pub mod Counts
 pub mod Placement
 pub mod Tails

@@ -14,7 +14,7 @@ abbrev pub FailsBy : ReadingError → Option Refusal → Type 0
 FailsBy (Refused r) refusal = refusal ≡ Some r
 FailsBy Memory refusal = Unit {0}
 
--- what a reader gives, seen by view, is what the definition gives, or it fails as the definition does
+-- what a reader gives is, by this view of it, what the definition gives, or it fails as the definition does
 abbrev pub Gives : {X Y : Type 0} → (X → Y) → Result X ReadingError → Result Y Refusal → Type 0
 Gives view (Ok x) reading = reading ≡ Ok (view x)
 Gives view (Err e) reading = Fails e reading

@@ -1,6 +1,7 @@
 //! The items of a parameters file, taken one after the other.
 ghost use Rattle.std.specs.Prelude.{◌≡◌, ◌<◌, ◌≤◌, ◌+◌, ◌++◌, ◌∷◌, [], List, length, drop, min, option_map, IfOk, OnOk, None, Some, IfErr, IfSome, MatchOption, not, position, ◌-◌, nat_lt, slice_index};
 ghost use Rattle.std.specs.List.{position_or_len};
+ghost use Rattle.pg_types.specs.ItemSteps.{Meets, Misses};
 ghost use Rattle.pg_types.specs.Parameters.{Demand, between, items, is_separator as is_separator_byte, number, number_at, level_demands, level_of, refusal_from, refused_at, surplus, is_answer as is_answer_item, IsLevel};
 
 use crate::limits::{COST_MAX, LENGTH_MAX};
@@ -108,8 +109,8 @@ impl<'a> Items<'a> {
         ensures high { IfOk result (λ n. n ≤ greatest) }
         ensures rest { OnOk result (items self.new.rest.now ≡ drop 1 (items self.old.rest.now)) }
         ensures place { OnOk result (self.new.place ≡ self.old.place + 1) }
-        ensures passed { OnOk result ((more : List Demand) → refusal_from self.old.place (between least greatest ∷ more) (items self.old.rest.now) ≡ refusal_from self.new.place more (items self.new.rest.now)) }
-        ensures refused { IfErr result (λ refusal. (more : List Demand) → refusal_from self.old.place (between least greatest ∷ more) (items self.old.rest.now) ≡ Some refusal) }
+        ensures passed { OnOk result (Meets (between least greatest ∷ []) self.old self.new) }
+        ensures refused { IfErr result (Misses (between least greatest ∷ []) self.old) }
     {
         let Some((item, rest)) = next_item(self.rest) else {
             return Err(self.refusal(Kind::Missing));
@@ -133,8 +134,8 @@ impl<'a> Items<'a> {
         ensures high { IfOk result (λ n. n ≤ greatest) }
         ensures rest { OnOk result (items self.new.rest.now ≡ drop 1 (items self.old.rest.now)) }
         ensures place { OnOk result (self.new.place ≡ self.old.place + 1) }
-        ensures passed { OnOk result ((more : List Demand) → refusal_from self.old.place (between least greatest ∷ more) (items self.old.rest.now) ≡ refusal_from self.new.place more (items self.new.rest.now)) }
-        ensures refused { IfErr result (λ refusal. (more : List Demand) → refusal_from self.old.place (between least greatest ∷ more) (items self.old.rest.now) ≡ Some refusal) }
+        ensures passed { OnOk result (Meets (between least greatest ∷ []) self.old self.new) }
+        ensures refused { IfErr result (Misses (between least greatest ∷ []) self.old) }
     {
         let number = self.number(u32::from(least), u32::from(greatest))?;
         Ok(number as u8)
@@ -147,8 +148,8 @@ impl<'a> Items<'a> {
         ensures ranges { IfOk result (λ level. IsLevel level) }
         ensures rest { OnOk result (items self.new.rest.now ≡ drop 5 (items self.old.rest.now)) }
         ensures place { OnOk result (self.new.place ≡ self.old.place + 5) }
-        ensures passed { OnOk result ((more : List Demand) → refusal_from self.old.place (level_demands (items self.old.rest.now) ++ more) (items self.old.rest.now) ≡ refusal_from self.new.place more (items self.new.rest.now)) }
-        ensures refused { IfErr result (λ refusal. (more : List Demand) → refusal_from self.old.place (level_demands (items self.old.rest.now) ++ more) (items self.old.rest.now) ≡ Some refusal) }
+        ensures passed { OnOk result (Meets (level_demands (items self.old.rest.now)) self.old self.new) }
+        ensures refused { IfErr result (Misses (level_demands (items self.old.rest.now)) self.old) }
     {
         let pat_start = self.small_number(1, LENGTH_MAX)?;
         let pat_finish = self.small_number(pat_start, LENGTH_MAX)?;
@@ -164,7 +165,7 @@ impl<'a> Items<'a> {
         })
     }
 
-    /// Sees that at most one answer of patgen's last question is left: `y`, `Y`, `n` or `N`.
+    /// Tells whether at most one answer of patgen's last question is left: `y`, `Y`, `n` or `N`.
     pub fn end(&self) -> Result<(), Refusal>
         requires { self.now.place ≤ PLACE_MAX }
         ensures passed { OnOk result (surplus self.now.place (items self.now.rest.now) ≡ None) }

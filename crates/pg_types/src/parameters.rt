@@ -1,7 +1,9 @@
 //! The parameters of a run, and the reader of the file that holds them.
 ghost use Rattle.std.specs.Prelude.{◌≡◌, ◌<◌, ◌≤◌, ◌+◌, ◌-◌, ◌*◌, length, map, drop, slice_get, IfOk, IfErr, OnOk, All};
+ghost use Rattle.pg_types.specs.ItemSteps.{levels_refusal};
+ghost use Rattle.pg_types.specs.Limits.{items_end};
 ghost use Rattle.pg_types.specs.Reading.{Gives, FailsBy};
-ghost use Rattle.pg_types.specs.Parameters.{items as items_of, demands_of_levels, levels_of, refusal_from, surplus, parameters, IsLevel};
+ghost use Rattle.pg_types.specs.Parameters.{items as items_of, levels_of, surplus, parameters, IsLevel};
 
 use crate::items::Items;
 use crate::limits::{FILE_MAX, LEVEL_MAX};
@@ -80,9 +82,9 @@ impl Params {
     }
 }
 
-/// Reads a file of parameters: `start finish`, then for each level that is run `pat_start pat_finish good_wt bad_wt thresh`, and
-/// then perhaps the answer `y`, `Y`, `n` or `N` of patgen's last question, which has no effect. Items stand between blanks,
-/// TABs, CRs and LFs, in the order in which patgen asks for them.
+/// Reads a file of parameters: `start finish`, then for each level that is run `pat_start pat_finish good_wt bad_wt
+/// thresh`, and then perhaps the answer `y`, `Y`, `n` or `N` of patgen's last question, which has no effect. Items
+/// stand between blanks, TABs, CRs and LFs, in the order in which patgen asks for them.
 ///
 /// The first item that fails its demand is refused, with its number as the line.
 pub fn read_params(alloc: Global, bytes: &[u8]) -> Result<Params, ReadingError>
@@ -117,9 +119,10 @@ fn read_levels(
     requires count { count ≤ LEVEL_MAX }
     ensures value { IfOk result (λ levels. levels.items ≡ levels_of count (items_of items.old.rest.now)) }
     ensures ranges { IfOk result (λ levels. All IsLevel levels.items) }
-    ensures place { OnOk result (items.new.place ≤ 48) }
-    ensures passed { OnOk result (refusal_from 3 (demands_of_levels count (items_of items.old.rest.now)) (items_of items.old.rest.now) ≡ surplus items.new.place (items_of items.new.rest.now)) }
-    ensures refused { IfErr result (λ error. FailsBy error (refusal_from 3 (demands_of_levels count (items_of items.old.rest.now)) (items_of items.old.rest.now))) }
+    ensures place { OnOk result (items.new.place ≤ items_end) }
+    ensures passed { OnOk result (levels_refusal count items.old
+        ≡ surplus items.new.place (items_of items.new.rest.now)) }
+    ensures refused { IfErr result (λ error. FailsBy error (levels_refusal count items.old)) }
 {
     let mut levels = Vec::new(alloc);
     'levels: for i in 0..count {

@@ -82,7 +82,8 @@ fn a_letter_outside_ascii(rt: HostRuntime) -> Result<(), Fail> {
     Ok(())
 }
 
-/// The number, line and column of the refusal of a translate file, and 0 of one that is accepted; none for want of memory.
+/// The number, line and column of the refusal of a translate file, and 0 of one that is accepted; none for want of
+/// memory.
 fn refusal(alloc: Global, bytes: &[u8]) -> Option<(u16, u32, u32)> {
     match Table::read(alloc, bytes) {
         Ok(_) => Some((0, 0, 0)),

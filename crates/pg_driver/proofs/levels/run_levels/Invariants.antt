@@ -6,6 +6,7 @@ use Rattle.pg_driver.specs.Sound.{IsSmall}
 use Rattle.pg_driver.specs.Told.{over, run_from}
 use Rattle.pg_driver.proofs.RunSteps.{RunReaches}
 use Rattle.pg_driver.proofs.levels.run_levels.Given as goal
+use Rattle.pg_types.specs.Limits.{level_passes}
 
 abbrev pub invariant-levels : goal.invariant-levels
 invariant-levels g l =
@@ -19,6 +20,6 @@ invariant-levels g l =
       signs : m.signs ≡ m0.signs;
       tidy : m.tidy ≡ true;
       begun : m.begun ≡ m0.begun + l.records.begun;
-      passes : l.records.begun ≤ 240 * l.i;
+      passes : l.records.begun ≤ level_passes * l.i;
       chosen : l.records.chosen ≡ 0;
     }

@@ -1,7 +1,7 @@
 use Rattle.std.proofs.Common.{arith}
 use Rattle.pg_dict.specs.Lent.{lent_word}
 use Rattle.pg_driver.proofs.WordSteps.{signs_within}
-use Rattle.pg_driver.specs.Told.{minima_of}
+use Rattle.pg_select.specs.CountedPositions.{minima_of}
 use Rattle.pg_driver.proofs.OpenSteps.{few_words, word_added}
 use Rattle.pg_driver.proofs.open_positions.open_level.Goals as goal
 

@@ -1,5 +1,5 @@
 use Rattle.std.proofs.Common.{◌≡◌, ◌++◌, drop}
-use Rattle.pg_driver.specs.Told.{minima_of}
+use Rattle.pg_select.specs.CountedPositions.{minima_of}
 use Rattle.pg_driver.specs.OpenLevels.{open_from}
 use Rattle.pg_driver.proofs.open_positions.open_level.Given as goal
 

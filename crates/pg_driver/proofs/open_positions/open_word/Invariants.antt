@@ -1,7 +1,7 @@
 use Rattle.std.proofs.Common.{◌≡◌, ◌-◌, ◌++◌}
 use Rattle.std.specs.List.{flat_map, range_with_len}
 use Rattle.pg_dict.specs.Lent.{lent_word}
-use Rattle.pg_driver.specs.Told.{minima_of}
+use Rattle.pg_select.specs.CountedPositions.{minima_of}
 use Rattle.pg_driver.specs.OpenLevels.{open_by_status, open_in}
 use Rattle.pg_driver.proofs.open_positions.open_word.Given as goal
 

@@ -2,10 +2,9 @@ use Rattle.std.proofs.Common.{◌+◌, List, drop, ap, sym, ◌∙◌, arith}
 use Rattle.std.specs.List.{flat_map}
 use Rattle.pg_dict.specs.Lent.{lent_word}
 use Rattle.pg_dict.specs.Word.{Word}
-use Rattle.pg_select.specs.Sums.{marks_in}
-use Rattle.pg_driver.specs.Counting.{with_marks}
-use Rattle.pg_driver.specs.Told.{minima_of}
-use Rattle.pg_driver.proofs.MarkSteps.{marks_word}
+use Rattle.pg_select.specs.Sums.{marks_in, with_marks}
+use Rattle.pg_select.specs.CountedPositions.{minima_of}
+use Rattle.pg_select.proofs.MarkSteps.{marks_word}
 use Rattle.pg_driver.proofs.WordSteps.{drop_place, letters_left, signs_within}
 use Rattle.pg_driver.proofs.sums.totals.Goals as goal
 

@@ -6,8 +6,9 @@ use Rattle.pg_select.specs.declared.pass.Pass.{Pass}
 use Rattle.pg_select.specs.CountedPositions.{counted_positions_at}
 use Rattle.pg_select.specs.Statuses.{status_at, position_weight}
 use Rattle.pg_types.specs.declared.limits.TheConstants.{WEIGHT_MAX}
-use Rattle.pg_driver.specs.Counting.{IsRead, with_mark, sum_of}
-use Rattle.pg_driver.proofs.MarkSteps.{marks_step, mark_took, weight_small}
+use Rattle.pg_driver.specs.Counting.{IsRead}
+use Rattle.pg_select.specs.Sums.{with_mark, sum_of}
+use Rattle.pg_select.proofs.MarkSteps.{marks_step, mark_took, weight_small}
 use Rattle.pg_driver.proofs.Rooms.{room_left}
 use Rattle.pg_driver.proofs.Walks.{kept_on, read_on, position_step, room_on}
 use Rattle.pg_driver.proofs.words.count_word.Goals as goal

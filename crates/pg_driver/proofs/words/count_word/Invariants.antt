@@ -2,11 +2,10 @@ use Rattle.std.proofs.Common.{◌≡◌, ◌≤◌, ◌-◌}
 use Rattle.std.specs.List.{flat_map, range_with_len}
 use Rattle.pg_dict.specs.Word.{letter_count}
 use Rattle.pg_dict.specs.Lent.{lent_word}
-use Rattle.pg_select.specs.CountedPositions.{counted_positions_at, counted_positions_in}
-use Rattle.pg_select.specs.Sums.{marks_in}
-use Rattle.pg_driver.specs.Counting.{counting, with_marks, TookRoom, TookRoomFor}
-use Rattle.pg_driver.specs.Told.{minima_of}
-use Rattle.pg_driver.proofs.MarkSteps.{marks_from}
+use Rattle.pg_select.specs.CountedPositions.{counted_positions_at, counted_positions_in, minima_of}
+use Rattle.pg_select.specs.Sums.{marks_in, with_marks, TookRoomFor}
+use Rattle.pg_driver.specs.Counting.{counting, TookRoom}
+use Rattle.pg_select.proofs.MarkSteps.{marks_from}
 use Rattle.pg_driver.proofs.Walks.{KeepsButCounts}
 use Rattle.pg_driver.proofs.words.count_word.Given as goal
 

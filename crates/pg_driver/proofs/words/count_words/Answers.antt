@@ -4,11 +4,10 @@ use Rattle.pg_dict.specs.Lent.{lent_word}
 use Rattle.pg_dict.specs.Word.{Word, letter_count}
 use Rattle.pg_types.specs.Counts.{SignsWithin}
 use Rattle.pg_select.specs.Meanings.{Meaning}
-use Rattle.pg_select.specs.CountedPositions.{counted_positions, counted_positions_in}
-use Rattle.pg_select.specs.Sums.{marks_in}
-use Rattle.pg_driver.specs.Counting.{counting, with_marks}
-use Rattle.pg_driver.specs.Told.{minima_of}
-use Rattle.pg_driver.proofs.MarkSteps.{marks_word}
+use Rattle.pg_select.specs.CountedPositions.{counted_positions, counted_positions_in, minima_of}
+use Rattle.pg_select.specs.Sums.{marks_in, with_marks}
+use Rattle.pg_driver.specs.Counting.{counting}
+use Rattle.pg_select.proofs.MarkSteps.{marks_word}
 use Rattle.pg_driver.proofs.Rooms.{room_left, room_less}
 use Rattle.pg_driver.proofs.Walks.{kept_on, word_step}
 use Rattle.pg_driver.proofs.WordSteps.{drop_place, letters_left, signs_within}

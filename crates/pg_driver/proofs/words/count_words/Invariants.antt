@@ -1,10 +1,9 @@
 use Rattle.std.proofs.Common.{◌≡◌, drop}
 use Rattle.std.specs.List.{flat_map, sum_by}
 use Rattle.pg_dict.specs.Word.{letter_count}
-use Rattle.pg_select.specs.CountedPositions.{counted_positions}
-use Rattle.pg_select.specs.Sums.{marks_in, totals}
-use Rattle.pg_driver.specs.Counting.{counting, with_marks, HasRoom, HasRoomFor}
-use Rattle.pg_driver.specs.Told.{minima_of}
+use Rattle.pg_select.specs.CountedPositions.{counted_positions, minima_of}
+use Rattle.pg_select.specs.Sums.{marks_in, totals, with_marks, HasRoomFor}
+use Rattle.pg_driver.specs.Counting.{counting, HasRoom}
 use Rattle.pg_driver.proofs.Walks.{KeepsButCounts}
 use Rattle.pg_driver.proofs.words.count_words.Given as goal
 

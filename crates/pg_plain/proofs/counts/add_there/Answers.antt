@@ -1,6 +1,6 @@
 use Rattle.std.proofs.Common.{nat_cmp}
 use Rattle.std.specs.Cmp.Lexicographic.{slice_cmp}
-use Rattle.pg_plain.proofs.Maps.{sorted_from}
+use Rattle.pg_types.proofs.EntryLists.{sorted_from}
 use Rattle.pg_plain.proofs.Counted.{added_there}
 use Rattle.pg_plain.proofs.counts.add_there.Goals as goal
 

@@ -1,6 +1,6 @@
 use Rattle.std.proofs.Common.{◌≡◌, [], nat_cmp, refl, sym, ◌∙◌}
 use Rattle.std.specs.Cmp.Lexicographic.{slice_cmp}
-use Rattle.pg_plain.proofs.Maps.{sorted_from}
+use Rattle.pg_types.proofs.EntryLists.{sorted_from}
 use Rattle.pg_types.specs.Counts.{above}
 use Rattle.pg_plain.proofs.Counted.{between_above, next_above}
 use Rattle.pg_plain.proofs.counts.next_behind.Goals as goal

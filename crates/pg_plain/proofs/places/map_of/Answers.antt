@@ -1,8 +1,8 @@
 use Rattle.std.proofs.Common.{◌≡◌, ℕ, List, true, Some, sym, ap, subst, ◌∙◌}
 use Rattle.pg_plain.specs.Indexes.{is_indexed}
-use Rattle.pg_plain.proofs.Bools.{all_weaker}
 use Rattle.pg_plain.proofs.Entered.{entered_next, places_in}
 use Rattle.pg_plain.proofs.places.map_of.Goals as goal
+use Rattle.pg_types.proofs.BoolFacts.{all_weaker}
 
 pub loop-i-preserved : goal.loop-i-preserved
 loop-i-preserved c = record {

@@ -6,12 +6,12 @@ use Rattle.pg_plain.proofs.places.raise_in.Goals as goal
 
 pub returns-clause-ok : goal.returns-clause-ok
 returns-clause-ok c =
-    raised_in c.args.map.now.entries c.insert.new.self.entries c.args.place c.args.value c.value_at-held.result c.max.result c.value_at-held.ensures c.max.ensures c.in_ok-insert.ensures.entries
+    raised_in c.args.map.now.entries c.insert.new.self.entries c.args.place c.args.value c.value_in-held.result c.max.result c.value_in-held.ensures c.max.ensures c.in_ok-insert.ensures.entries
 
 pub returns-clause-kept : goal.returns-clause-kept
 returns-clause-kept c = λ all new.
     subst (λ x. list_all is_entry x ≡ true)
-    (sym (raised_in c.args.map.now.entries c.insert.new.self.entries c.args.place c.args.value c.value_at-held.result c.max.result c.value_at-held.ensures c.max.ensures c.in_ok-insert.ensures.entries))
+    (sym (raised_in c.args.map.now.entries c.insert.new.self.entries c.args.place c.args.value c.value_in-held.result c.max.result c.value_in-held.ensures c.max.ensures c.in_ok-insert.ensures.entries))
     (entries_raise c.args.map.now.entries c.args.place c.args.value all new)
 
 pub returns-clause-places : goal.returns-clause-places

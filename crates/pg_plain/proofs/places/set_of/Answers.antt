@@ -2,7 +2,7 @@ use Rattle.std.proofs.Common.{◌≡◌, T, sym, subst, ◌∙◌}
 use Rattle.std.specs.FinMap.Entries.{is_sorted}
 use Rattle.pg_patterns.specs.DottedSigns.{dotted_cmp}
 use Rattle.pg_plain.proofs.Entered.{whole}
-use Rattle.pg_plain.proofs.Maps.{sorted_from}
+use Rattle.pg_types.proofs.EntryLists.{sorted_from}
 use Rattle.pg_plain.proofs.places.set_of.Goals as goal
 
 pub returns : goal.returns

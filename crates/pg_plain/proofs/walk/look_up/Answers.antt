@@ -3,10 +3,10 @@ use Rattle.std.specs.Cmp.Lexicographic.{pointwise}
 use Rattle.std.specs.List.{starts_with}
 use Rattle.pg_patterns.specs.DottedSigns.{dotted_cmp}
 use Rattle.pg_plain.specs.Greatest.{entry_value, entry_cover}
-use Rattle.pg_plain.proofs.Bools.{not_false, not_not}
-use Rattle.pg_plain.proofs.Maps.{sorted_from}
+use Rattle.pg_types.proofs.EntryLists.{sorted_from}
 use Rattle.pg_plain.proofs.OneString.{string_begins, string_steps, string_stops, string_stops_ends}
 use Rattle.pg_plain.proofs.walk.look_up.Goals as goal
+use Rattle.std.proofs.lemmas.Bool.{not-true, not-false}
 
 pub loop-place-init : goal.loop-place-init
 loop-place-init g c =
@@ -15,12 +15,12 @@ loop-place-init g c =
 
 pub returns-then-ne-clause-values : goal.returns-then-ne-clause-values
 returns-then-ne-clause-values g c =
-    let other : pointwise nat_eq c.in-Some.place.now.0 c.args.q.now ≡ false = subst (λ s. pointwise nat_eq s c.args.q.now ≡ false) c.signs.ensures.value (not_false _ (sym c.ne.ensures ∙ c.if-ne.true)) in
+    let other : pointwise nat_eq c.in-Some.place.now.0 c.args.q.now ≡ false = subst (λ s. pointwise nat_eq s c.args.q.now ≡ false) c.signs.ensures.value (not-true _ (sym c.ne.ensures ∙ c.if-ne.true)) in
     (string_stops (entry_value g.F.PlaceEntry.given) (entry_cover g.F.PlaceEntry.covers_at c.args.pass.now) c.args.q.now c.args.i c.args.map.now.entries (c.in-Some.place.now, c.in-Some.entry.now) c.next.new.self c.loop-place.place-iterator c.args.out.now c.loop-place.out c.in-Some.ensures.steps c.loop-place.invariant other).values
 
 pub returns-then-ne-clause-covers : goal.returns-then-ne-clause-covers
 returns-then-ne-clause-covers g c =
-    let other : pointwise nat_eq c.in-Some.place.now.0 c.args.q.now ≡ false = subst (λ s. pointwise nat_eq s c.args.q.now ≡ false) c.signs.ensures.value (not_false _ (sym c.ne.ensures ∙ c.if-ne.true)) in
+    let other : pointwise nat_eq c.in-Some.place.now.0 c.args.q.now ≡ false = subst (λ s. pointwise nat_eq s c.args.q.now ≡ false) c.signs.ensures.value (not-true _ (sym c.ne.ensures ∙ c.if-ne.true)) in
     (string_stops (entry_value g.F.PlaceEntry.given) (entry_cover g.F.PlaceEntry.covers_at c.args.pass.now) c.args.q.now c.args.i c.args.map.now.entries (c.in-Some.place.now, c.in-Some.entry.now) c.next.new.self c.loop-place.place-iterator c.args.out.now c.loop-place.out c.in-Some.ensures.steps c.loop-place.invariant other).covers
 
 pub returns-then-ne-clause-ends : goal.returns-then-ne-clause-ends
@@ -31,6 +31,6 @@ returns-then-ne-clause-ends g c =
 
 pub loop-place-preserved : goal.loop-place-preserved
 loop-place-preserved g c =
-    let same : pointwise nat_eq c.in-Some.place.now.0 c.args.q.now ≡ true = subst (λ s. pointwise nat_eq s c.args.q.now ≡ true) c.signs.ensures.value (not_not _ (sym c.ne.ensures ∙ c.if-ne.false)) in
+    let same : pointwise nat_eq c.in-Some.place.now.0 c.args.q.now ≡ true = subst (λ s. pointwise nat_eq s c.args.q.now ≡ true) c.signs.ensures.value (not-false _ (sym c.ne.ensures ∙ c.if-ne.false)) in
     string_steps (entry_value g.F.PlaceEntry.given) (entry_cover g.F.PlaceEntry.covers_at c.args.pass.now) c.args.q.now c.args.i c.args.map.now.entries (c.in-Some.place.now, c.in-Some.entry.now) c.next.new.self c.loop-place.place-iterator c.args.out.now c.loop-place.out c.raise_by_entry.new.out c.in-Some.ensures.steps c.loop-place.invariant same
     c.raise_by_entry.ensures.values c.raise_by_entry.ensures.covers

@@ -20,10 +20,10 @@ words-preserved g c =
       | in-Some+in_ok-push_weight+in_ok-push_word w ↦
           rw (w.text-is, w.weight-is) (
           line_step c.args.table.now (g.E.Engine.meaning c.args.engine.now).patterns c.args.dictionary.now c.words.i c.words.weight (lent_word c.word-word.result) w.in-Some.reach w.hyphenate.new.out.values
-          c.words.text.items w.push_weight.new.text.items w.push_word.new.text.items _ c.word-word.ensures.lent (sym c.reach.ensures ∙ w.in-Some.is) c.word-word.ensures.word.long
+          c.words.text.items w.push_weight.new.text.items w.push_word.new.text.items _ c.word-word.ensures.lent (sym c.reach.ensures.value ∙ w.in-Some.is) c.word-word.ensures.word.long
           w.hyphenate.ensures.values w.in_ok-push_weight.ensures w.in_ok-push_word.ensures c.words.invariant)
       | in_default w ↦
           rw (w.text-is, w.weight-is) (
           no_line_step c.args.table.now (g.E.Engine.meaning c.args.engine.now).patterns c.args.dictionary.now c.words.i c.words.weight (lent_word c.word-word.result)
-          c.words.text.items _ c.word-word.ensures.lent (sym c.reach.ensures ∙ w.in_default.is) c.words.invariant)
+          c.words.text.items _ c.word-word.ensures.lent (sym c.reach.ensures.value ∙ w.in_default.is) c.words.invariant)
     ]

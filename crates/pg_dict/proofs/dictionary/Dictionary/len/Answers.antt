@@ -1,8 +1,8 @@
-use Rattle.pg_dict.proofs.Told.{words_from_tests, few_letters}
+use Rattle.pg_dict.proofs.Told.{few_letters}
 use Rattle.pg_dict.proofs.dictionary.Dictionary.len.Goals as goal
 
 pub returns-clause-words : goal.returns-clause-words
-returns-clause-words c = rw (← c.self.view_is) (words_from_tests _ c.self.invariant.sound.words)
+returns-clause-words c = rw (← c.self.view_is) c.self.invariant.sound.words
 
 pub returns-clause-letters : goal.returns-clause-letters
 returns-clause-letters c = rw (← c.self.view_is) (few_letters _ c.self.invariant)

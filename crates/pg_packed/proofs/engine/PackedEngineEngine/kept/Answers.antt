@@ -5,8 +5,8 @@ use Rattle.std.specs.List.{All, list_all}
 use Rattle.pg_types.specs.declared.limits.TheConstants.{PATTERN_SIGNS_MAX}
 use Rattle.pg_types.specs.Counts.{SignsWithin}
 use Rattle.pg_trie.specs.Maps.{is_dotted}
-use Rattle.pg_packed.proofs.Kept.{and_first, and_second}
 use Rattle.pg_packed.proofs.engine.PackedEngineEngine.kept.Goals as goal
+use Rattle.pg_types.proofs.BoolFacts.{and_first, and_second}
 
 -- the signs of a place, and of all hopeless places
 signs_of : (n : ℕ) (q : List ℕ) → list_all (λ s. nat_le 1 s && nat_le s n) q ≡ true → SignsWithin n q

@@ -1,4 +1,4 @@
-use Rattle.pg_patterns.proofs.TableItems.{written_reads_back}
+use Rattle.pg_patterns.proofs.TextLaw.{written_reads_back}
 use Rattle.pg_patterns.proofs.set.PatternSet.text.Goals as goal
 
 pub returns-clause-read_back : goal.returns-clause-read_back

@@ -1,11 +1,11 @@
 use Rattle.std.proofs.Common.{◌≡◌, ℕ, true, List, length, sym, ap, subst, ◌∙◌}
 use Rattle.pg_patterns.specs.Values.{is_entry}
 use Rattle.pg_plain.specs.Indexes.{is_indexed}
-use Rattle.pg_plain.proofs.Bools.{all_weaker}
 use Rattle.pg_plain.specs.Strings.{has_signs_up_to}
 use Rattle.pg_plain.proofs.Counted.{counted_len, counted_good}
 use Rattle.pg_plain.proofs.Entered.{window_entry}
 use Rattle.pg_plain.proofs.engine.PlainEngineEngine.choose.Goals as goal
+use Rattle.pg_types.proofs.BoolFacts.{all_weaker}
 
 pub invariant_of-self-clause-entries : goal.invariant_of-self-clause-entries
 invariant_of-self-clause-entries c =

@@ -1,10 +1,10 @@
 use Rattle.std.proofs.Common.{◌≡◌, ℕ, true, List, length, sym, ap, subst, ◌∙◌}
 use Rattle.pg_plain.specs.Indexes.{is_indexed}
-use Rattle.pg_plain.proofs.Bools.{all_weaker}
 use Rattle.pg_plain.specs.Strings.{is_string, has_signs_up_to}
 use Rattle.pg_plain.proofs.Counted.{counted_len, counted_good}
 use Rattle.pg_plain.proofs.Entered.{window_string}
 use Rattle.pg_plain.proofs.engine.PlainEngineEngine.give_up.Goals as goal
+use Rattle.pg_types.proofs.BoolFacts.{all_weaker}
 
 pub invariant_of-self-clause-strings : goal.invariant_of-self-clause-strings
 invariant_of-self-clause-strings c =

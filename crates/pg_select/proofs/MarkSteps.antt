@@ -9,10 +9,9 @@ use Rattle.pg_types.specs.declared.marks.Mark.TheVariants.{Nothing, Error, Misse
 use Rattle.pg_types.specs.declared.marks.Totals.{Totals}
 use Rattle.pg_dict.specs.Word.{Word, IsWord}
 use Rattle.pg_select.specs.Statuses.{status_at, position_weight}
-use Rattle.pg_select.specs.Sums.{is_found, is_error, is_missed, weight_of, totals_of, marks_in}
+use Rattle.pg_select.specs.Sums.{is_found, is_error, is_missed, weight_of, totals_of, marks_in, with_mark, with_marks, sum_of}
 use Rattle.pg_select.specs.CountedPositions.{Minima}
-use Rattle.pg_driver.proofs.Reaches.{range_step}
-use Rattle.pg_driver.specs.Counting.{with_mark, with_marks, sum_of}
+use Rattle.pg_select.proofs.Reaches.{range_step}
 
 abbrev totals_with : ℕ → ℕ → ℕ → Totals
 totals_with good bad missed = record { good = good; bad = bad; missed = missed }

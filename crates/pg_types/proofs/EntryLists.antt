@@ -9,27 +9,19 @@ use Rattle.std.specs.List.{AllByRecursion, filter, list_all}
 use Rattle.std.specs.List.Sorted.{IsStrictlySortedBy}
 use Rattle.std.specs.Map.{keys_of, lookup, set_value}
 use Rattle.std.specs.BTreeMap.{insert_entry, is_at}
-use Rattle.pg_plain.proofs.Bools.{and_first, and_second, both_true}
-use Rattle.pg_plain.proofs.Orders.{is_true, holds, first_half, second_half}
-
-less_is : (r : Ordering) → is_lt r ≡ true → r ≡ Less
-less_is Less e = refl
-less_is Equal e = cc
-less_is Greater e = cc
-
-some_is : {X : Type 0} (a b : X) → Some a ≡ Some b → a ≡ b
-some_is a b e = cc
+use Rattle.pg_types.proofs.BoolFacts.{and_first, and_second, is_true, holds, first_half, second_half, less_is, some_is}
+use Rattle.std.proofs.lemmas.Bool.{and_from}
 
 module _ {K X : Type 0} (R : K → K → Ordering) where
   below_from : (k : K) (es : List (K × X)) → AllByRecursion (λ q. R k q ≡ Less) (keys_of es) → T (below_all R k es)
   below_from k [] less = tt
-  below_from k (e ∷ es) less = holds _ (both_true _ _ (ap is_lt less.0) (is_true _ (below_from k es less.1)))
+  below_from k (e ∷ es) less = holds _ (and_from _ _ (ap is_lt less.0) (is_true _ (below_from k es less.1)))
 
   -- keys that ascend
   pub sorted_from : (es : List (K × X)) → IsStrictlySortedBy R (keys_of es) → T (is_sorted R es)
   unfolding IsStrictlySortedBy
   sorted_from [] ascend = tt
-  sorted_from (e ∷ es) ascend = holds _ (both_true _ _ (is_true _ (below_from e.0 es ascend.0)) (is_true _ (sorted_from es ascend.1)))
+  sorted_from (e ∷ es) ascend = holds _ (and_from _ _ (is_true _ (below_from e.0 es ascend.0)) (is_true _ (sorted_from es ascend.1)))
 
   pub insert-put : (k : K) (v : X) (es : List (K × X)) → insert_entry R es k v ≡ put R k v es
   insert-put k v [] = refl
@@ -64,12 +56,12 @@ module _ {K X : Type 0} (R : K → K → Ordering) where
 
   -- an entry that passes a test is put among others that do
   pub all_put : (good : K × X → Bool) → ((a b : K) → R a b ≡ Equal → a ≡ b) → (k : K) (v : X) (es : List (K × X)) → good (k, v) ≡ true → list_all good es ≡ true → list_all good (put R k v es) ≡ true
-  all_put good exact k v [] new all = both_true _ _ new refl
+  all_put good exact k v [] new all = and_from _ _ new refl
   all_put good exact k v (e ∷ es) new all =
       elim (R k e.0) as (λ o. R k e.0 ≡ o → list_all good (by_order o ((k, v) ∷ e ∷ es) ((e.0, v) ∷ es) (e ∷ put R k v es)) ≡ true) [
-        | Less ↦ λ is. both_true _ _ new all
-        | Equal ↦ λ is. both_true _ _ (subst (λ x. good (x, v) ≡ true) (exact k e.0 is) new) (and_second (good e) (list_all good es) all)
-        | Greater ↦ λ is. both_true _ _ (and_first (good e) (list_all good es) all) (all_put good exact k v es new (and_second (good e) (list_all good es) all))
+        | Less ↦ λ is. and_from _ _ new all
+        | Equal ↦ λ is. and_from _ _ (subst (λ x. good (x, v) ≡ true) (exact k e.0 is) new) (and_second (good e) (list_all good es) all)
+        | Greater ↦ λ is. and_from _ _ (and_first (good e) (list_all good es) all) (all_put good exact k v es new (and_second (good e) (list_all good es) all))
       ] refl
 
   above_all : (k : K) (es : List (K × X)) → T (below_all R k es) → filter (λ e. is_lt (R k e.0)) es ≡ es
@@ -92,7 +84,7 @@ module _ {K X : Type 0} (R : K → K → Ordering) where
     low_below x y [] less below = tt
     low_below x y (e ∷ es) less below =
         let low : R x e.0 ≡ Less = o.trans x y e.0 less (less_is _ (is_true _ (first_half _ _ below))) in
-        holds _ (both_true _ _ (ap is_lt low) (is_true _ (low_below x y es less (second_half _ _ below))))
+        holds _ (and_from _ _ (ap is_lt low) (is_true _ (low_below x y es less (second_half _ _ below))))
 
     -- a value that is written in its place
     pub set_value-put : (k : K) (v w : X) (es : List (K × X)) → T (is_sorted R es) → find R k es ≡ Some w → set_value (is_at (R k)) es v ≡ put R k v es
@@ -126,7 +118,7 @@ module _ {K X : Type 0} (R : K → K → Ordering) where
               ap (λ r. cond (is_lt r) (x ∷ filter (λ y. is_lt (R e.0 y.0)) es) (filter (λ y. is_lt (R e.0 y.0)) es)) after ∙ above_next k es t e (second_half _ _ sorted) cut
         ] refl cut
 
-    below_get : (x k : K) (v : X) (es : List (K × X)) (i : ℕ) → T (below_all R x es) → slice_get es i ≡ Some (k, v) → R x k ≡ Less
+    pub below_get : (x k : K) (v : X) (es : List (K × X)) (i : ℕ) → T (below_all R x es) → slice_get es i ≡ Some (k, v) → R x k ≡ Less
     below_get x k v [] zero below there = cc
     below_get x k v [] (suc i) below there = cc
     below_get x k v (e ∷ es) zero below there =
