@@ -9,3 +9,4 @@ pub mod Heads
 pub mod Entries
 pub mod Lent
 pub mod Written
+pub mod Parts
