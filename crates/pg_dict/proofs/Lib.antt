@@ -11,3 +11,4 @@ pub mod Lines
 pub mod Running
 pub mod WordLaws
 pub mod LineLaws
+pub mod Parts

@@ -9,3 +9,4 @@ pub mod LineStarts
 pub mod Entries
 pub mod Lent
 pub mod Written
+pub mod Parts

@@ -6,6 +6,7 @@ ghost use Rattle.pg_dict.specs.Word.{letter_count, IsWord, SignsAtMost};
 ghost use Rattle.pg_dict.specs.Words.{words};
 ghost use Rattle.pg_dict.specs.Store.{all_signs};
 ghost use Rattle.pg_dict.specs.Lent.{lent_word};
+ghost use Rattle.pg_dict.specs.Parts.{is_in_part, part_of};
 
 use crate::entries::read_line;
 use crate::store::Store;
@@ -13,7 +14,7 @@ use crate::word::WordRef;
 use pg_translate::Table;
 use pg_translate::laws::keeps_rules;
 use pg_types::{FILE_MAX, Kind, ReadingError, Refusal, Sign, next_line};
-use std::alloc::Global;
+use std::alloc::{AllocError, Global};
 use std::marker::Model;
 
 /// The words of a dictionary file, in its order. All of them lie in one store.
@@ -100,4 +101,35 @@ impl Dictionary {
     {
         self.store.signs.as_slice()
     }
+
+    /// The words of a fold where `inside`, else all other words, in their order. Words are counted from 0, and a fold has the
+    /// words whose number leaves the remainder `fold` when it is divided by `folds`. Each word keeps its weight.
+    pub fn part(
+        &self,
+        alloc: Global,
+        folds: u8,
+        fold: u8,
+        inside: bool,
+    ) -> Result<Dictionary, AllocError>
+        requires { fold < folds }
+        ensures words { IfOk result (λ part. part ≡ part_of folds fold inside self.now) }
+    {
+        let mut store = Store::new(alloc);
+        'words: for i in 0..self.store.words.len() {
+            let word = self.word(i);
+            if belongs(folds, fold, inside, i) {
+                store.push_word(&word)?;
+            }
+        }
+        Ok(Dictionary { store })
+    }
+}
+
+/// Whether the word with the number `i` is in the fold where `inside`, and out of it else.
+fn belongs(folds: u8, fold: u8, inside: bool, i: usize) -> bool
+    requires { fold < folds }
+    ensures { result ≡ is_in_part folds fold inside i }
+{
+    let is_in_fold = i % usize::from(folds) == usize::from(fold);
+    if inside { is_in_fold } else { !is_in_fold }
 }

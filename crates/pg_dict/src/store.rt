@@ -1,10 +1,13 @@
 //! The store: the signs of all words in one vector, and beside each sign the hyphen, weight and care of the position
 //! before it.
-ghost use Rattle.std.specs.Prelude.{◌≡◌, [], ◌∷◌, OnOk};
+ghost use Rattle.std.specs.Prelude.{◌≡◌, ◌+◌, [], ◌∷◌, ◌++◌, length, OnOk};
 ghost use Rattle.pg_dict.specs.PositionedSigns.{with_signs, no_columns, positioned_sign};
-ghost use Rattle.pg_dict.specs.Store.{columns_of};
+ghost use Rattle.pg_dict.specs.Store.{columns_of, stored_words, IsSound};
+ghost use Rattle.pg_dict.specs.Word.{IsWord};
+ghost use Rattle.pg_dict.specs.Lent.{lent_word};
 
 use crate::position::Position;
+use crate::word::WordRef;
 use pg_types::{Mark, Sign, Weight};
 use std::alloc::{AllocError, Global};
 
@@ -60,6 +63,29 @@ impl Store {
             .push(matches!(position.mark, Mark::Missed | Mark::Found))?;
         self.weights.push(position.weight)?;
         self.cares.push(!matches!(position.mark, Mark::DontCare))?;
+        Ok(())
+    }
+
+    /// Adds a word as it is lent. After an error nothing is said of the store.
+    pub(crate) fn push_word(&mut self, word: &WordRef<'_>) -> Result<(), AllocError>
+        requires word { IsWord (lent_word word.now) }
+        requires sound { IsSound self.old }
+        ensures words { OnOk result (stored_words self.new ≡ stored_words self.old ++ lent_word word.now ∷ []) }
+        ensures sound { OnOk result (IsSound self.new) }
+        ensures signs { OnOk result (length self.new.signs.items ≡ length self.old.signs.items + length word.now.signs.now) }
+        ensures count { OnOk result (length self.new.words.items ≡ length self.old.words.items + 1) }
+    {
+        let start = self.signs.len();
+        self.signs.extend_from_slice(word.signs)?;
+        self.hyphens.extend_from_slice(word.hyphens)?;
+        self.weights.extend_from_slice(word.weights)?;
+        self.cares.extend_from_slice(word.cares)?;
+        let end = self.signs.len();
+        self.words.push(Stored {
+            start,
+            end,
+            weight: word.weight,
+        })?;
         Ok(())
     }
 }

@@ -60,6 +60,33 @@ fn one_slice_of_all_signs(rt: HostRuntime) -> Result<(), Fail> {
 }
 
 #[test]
+fn words_of_a_fold_and_the_others(rt: HostRuntime) -> Result<(), Fail> {
+    let dictionary = dictionary_of(rt.alloc(), b"3ab-c\n7abc\nab\n1abca\n")?;
+    let inside = dictionary.part(rt.alloc(), 2, 1, true)?;
+    assert_eq!(rt; inside.len(), 2);
+    assert_eq!(rt;
+        (inside.word(0).weight(), inside.word(0).signs().len()),
+        (7, 5)
+    );
+    assert_eq!(rt;
+        (inside.word(1).weight(), inside.word(1).signs().len()),
+        (1, 6)
+    );
+    let outside = dictionary.part(rt.alloc(), 2, 1, false)?;
+    assert_eq!(rt; outside.len(), 2);
+    assert_eq!(rt;
+        (outside.word(0).weight(), outside.word(0).hyphens()[3]),
+        (3, true)
+    );
+    assert_eq!(rt;
+        (outside.word(1).weight(), outside.word(1).signs().len()),
+        (7, 4)
+    );
+    assert_eq!(rt; dictionary.part(rt.alloc(), 9, 8, true)?.len(), 0);
+    Ok(())
+}
+
+#[test]
 fn refused_dictionaries(rt: HostRuntime) -> Result<(), Fail> {
     let long = [b'a'; 101];
     let files: [(&[u8], u16, u32, u32); 9] = [

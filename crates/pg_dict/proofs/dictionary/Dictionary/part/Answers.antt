@@ -1,0 +1,29 @@
+use Rattle.std.proofs.Common.{◌≤◌, ◌∙◌, sym, arith}
+use Rattle.std.specs.List.{sum_by}
+use Rattle.pg_dict.specs.Lent.{lent_word}
+use Rattle.pg_types.specs.declared.limits.TheConstants.{FILE_MAX}
+use Rattle.pg_dict.specs.Word.{letter_count}
+use Rattle.pg_dict.specs.Store.{stored_words}
+use Rattle.pg_dict.proofs.Told.{few_letters}
+use Rattle.pg_dict.proofs.Parts.{part_taken, part_passed, letters_from}
+use Rattle.pg_dict.proofs.dictionary.Dictionary.part.Goals as goal
+use Rattle.pg_dict.proofs.dictionary.Dictionary.part.Goals.{then-belongs+in_ok-push_word, else-belongs}
+
+pub words-preserved : goal.words-preserved
+words-preserved c = elim c.if-belongs.branch [
+  | then-belongs+in_ok-push_word w ↦ record {
+    words = rw (w.store-is, w.in_ok-push_word.ensures.words) (part_taken c.args.folds c.args.fold c.args.inside c.words.i (stored_words c.words.store) c.args.self.now _ (lent_word c.word-word.result) c.word-word.ensures.lent (sym c.belongs.ensures ∙ w.if-belongs.true) c.words.invariant.words);
+    sound = rw (w.store-is) w.in_ok-push_word.ensures.sound;
+    few = rw (w.store-is) (omega (arith, letters_from c.args.self.now c.words.i (lent_word c.word-word.result) c.word-word.ensures.lent, c.words.invariant.few, w.in_ok-push_word.ensures.signs, w.in_ok-push_word.ensures.count, c.word-word.ensures.word.long));
+  }
+  | else-belongs w ↦ record {
+    words = rw (w.store-is) (part_passed c.args.folds c.args.fold c.args.inside c.words.i (stored_words c.words.store) c.args.self.now _ (lent_word c.word-word.result) c.word-word.ensures.lent (sym c.belongs.ensures ∙ w.if-belongs.false) c.words.invariant.words);
+    sound = rw (w.store-is) c.words.invariant.sound;
+    few = rw (w.store-is) (omega (arith, letters_from c.args.self.now c.words.i (lent_word c.word-word.result) c.word-word.ensures.lent, c.words.invariant.few));
+  }
+]
+
+pub invariant_of-result : goal.invariant_of-result
+invariant_of-result c =
+    let few : sum_by letter_count c.args.self.now ≤ FILE_MAX = rw (← c.self.view_is) (few_letters _ c.self.invariant) in
+    record { sound = c.words.invariant.sound; few = omega (arith, few, c.words.invariant.few) }

@@ -1,0 +1,28 @@
+use Rattle.std.proofs.Common.{◌≡◌, ◌++◌, ◌∷◌, [], ◌∙◌}
+use Rattle.pg_dict.specs.declared.store.Store.{Store}
+use Rattle.pg_dict.specs.Store.{stored_words, IsSound}
+use Rattle.pg_dict.specs.Lent.{lent_word}
+use Rattle.pg_dict.proofs.Parts.{word_pushed}
+use Rattle.pg_dict.proofs.store.Store.push_word.Goals as goal
+
+-- the store at the return
+abbrev after : goal.In_ok-push → Store
+after c = record { signs = c.extend_from_slice.new.self; hyphens = c.extend_from_slice-2.new.self; weights = c.extend_from_slice-3.new.self; cares = c.extend_from_slice-4.new.self; words = c.push.new.self }
+
+-- the word is there, and the store stays sound
+pushed : (c : goal.In_ok-push) → (stored_words (after c) ≡ stored_words c.args.self.now ++ lent_word c.args.word.now ∷ []) × IsSound (after c)
+pushed c =
+    word_pushed c.args.self.now (after c) (lent_word c.args.word.now) c.len-start.result c.len-end.result c.requires.sound c.requires.word
+    c.in_ok-extend_from_slice.ensures.items
+    c.in_ok-extend_from_slice-2.ensures.items
+    c.in_ok-extend_from_slice-3.ensures.items
+    c.in_ok-extend_from_slice-4.ensures.items
+    c.in_ok-push.ensures.items
+    (c.len-start.ensures ∙ c.args.self.now.signs.ok.0)
+    (c.len-end.ensures ∙ c.extend_from_slice.new.self.ok.0)
+
+pub returns-clause-words : goal.returns-clause-words
+returns-clause-words c = (pushed c).0
+
+pub returns-clause-sound : goal.returns-clause-sound
+returns-clause-sound c = (pushed c).1

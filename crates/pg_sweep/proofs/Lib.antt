@@ -1,0 +1,3 @@
+pub mod Winners
+pub mod Steps
+pub mod Floats

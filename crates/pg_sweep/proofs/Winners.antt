@@ -1,0 +1,80 @@
+-- The first of the least costs wins.
+use Rattle.std.proofs.Common.{◌≡◌, ℕ, ◌+◌, ◌-◌, ◌<◌, ◌≤◌, Bool, true, false, nat_lt, List, [], ◌∷◌, ◌++◌, length, take, refl, ap, sym, subst, ◌∙◌, arith}
+use Rattle.std.specs.Prelude.{slice_index, All, if◌then◌else◌}
+use Rattle.std.proofs.Math.ListN.{get_or-append}
+use Rattle.std.proofs.Math.Seq.{get_or-append_seam, take-append_seam}
+use Rattle.std.proofs.lemmas.List.{append_assoc, append-nil, length-append, take-append-le}
+use Rattle.std.proofs.lemmas.List.Elements.{All-append, All-cons, All-nil}
+use Rattle.std.proofs.lemmas.Bool.{ltb-true, ltb-false}
+use Rattle.pg_sweep.specs.Winners.{winner_from, winner_of, IsWinner}
+
+-- the best of the costs so far, which are not none
+pub record IsBest (done : List ℕ) (best least : ℕ) : Type 0 where
+  pub from_one : 1 ≤ best
+  pub there : best ≤ length done
+  pub at : slice_index done (best - 1) ≡ least
+  pub all : All (λ cost. least ≤ cost) done
+  pub before : All (λ cost. least < cost) (take (best - 1) done)
+
+-- the best of all costs wins
+wins : (costs : List ℕ) (best least : ℕ) → IsBest costs best least → IsWinner costs best
+wins costs best least is = record {
+  from_one = is.from_one;
+  there = is.there;
+  least = subst (λ n. All (λ cost. n ≤ cost) costs) (sym is.at) is.all;
+  first = subst (λ n. All (λ cost. n < cost) (take (best - 1) costs)) (sym is.at) is.before;
+}
+
+-- a cost that is not less
+stays : (done : List ℕ) (best least cost : ℕ) → IsBest done best least → least ≤ cost → IsBest (done ++ cost ∷ []) best least
+stays done best least cost is more =
+    let one : 1 ≤ best = is.from_one in
+    let within : best ≤ length done = is.there in
+    let front : take (best - 1) (done ++ cost ∷ []) ≡ take (best - 1) done = take-append-le (best - 1) done (cost ∷ []) (omega arith) in
+    record {
+      from_one = one;
+      there = omega (arith, length-append done (cost ∷ []));
+      at = get_or-append done (cost ∷ []) 0 (best - 1) (omega arith) ∙ is.at;
+      all = All-append (λ c. least ≤ c) done (cost ∷ []) is.all (All-cons (λ c. least ≤ c) cost [] more (All-nil (λ c. least ≤ c)));
+      before = subst (λ (cs : List ℕ). All (λ c. least < c) cs) (sym front) is.before;
+    }
+
+-- a cost that is less
+falls : (done : List ℕ) (best least cost : ℕ) → IsBest done best least → cost < least → IsBest (done ++ cost ∷ []) (length done + 1) cost
+falls done best least cost is less =
+    let at_end : length done + 1 - 1 ≡ length done = omega arith in
+    let front : take (length done + 1 - 1) (done ++ cost ∷ []) ≡ done = ap (λ n. take n (done ++ cost ∷ [])) at_end ∙ take-append_seam done (cost ∷ []) in
+    let lower : All (λ c. cost < c) done = λ k d within. omega (arith, is.all k d within) in
+    let not_more : All (λ c. cost ≤ c) done = λ k d within. omega (arith, is.all k d within) in
+    record {
+      from_one = omega arith;
+      there = omega (arith, length-append done (cost ∷ []));
+      at = ap (λ n. slice_index (done ++ cost ∷ []) n) at_end ∙ get_or-append_seam done cost [] 0;
+      all = All-append (λ c. cost ≤ c) done (cost ∷ []) not_more (All-cons (λ c. cost ≤ c) cost [] (omega arith) (All-nil (λ c. cost ≤ c)));
+      before = subst (λ (cs : List ℕ). All (λ c. cost < c) cs) (sym front) lower;
+    }
+
+-- a cost more
+grows : (b : Bool) (done : List ℕ) (best least cost : ℕ) → IsBest done best least → nat_lt cost least ≡ b → IsBest (done ++ cost ∷ []) (if b then length done + 1 else best) (if b then cost else least)
+grows true done best least cost is less = falls done best least cost is (ltb-true cost least less)
+grows false done best least cost is less = stays done best least cost is (ltb-false cost least less)
+
+-- the costs that are left
+goes_on : (costs done : List ℕ) (best least number : ℕ) → number ≡ length done + 1 → IsBest done best least → IsWinner (done ++ costs) (winner_from best least number costs)
+goes_on [] done best least number here is = subst (λ (cs : List ℕ). IsWinner cs best) (sym (append-nil done)) (wins done best least is)
+goes_on (cost ∷ costs) done best least number here is =
+    let more : IsBest (done ++ cost ∷ []) (if nat_lt cost least then length done + 1 else best) (if nat_lt cost least then cost else least) = grows (nat_lt cost least) done best least cost is refl in
+    let next : IsBest (done ++ cost ∷ []) (if nat_lt cost least then number else best) (if nat_lt cost least then cost else least) = subst (λ n. IsBest (done ++ cost ∷ []) (if nat_lt cost least then n else best) (if nat_lt cost least then cost else least)) (sym here) more in
+    let rest : IsWinner ((done ++ cost ∷ []) ++ costs) (winner_from best least number (cost ∷ costs)) = goes_on costs (done ++ cost ∷ []) (if nat_lt cost least then number else best) (if nat_lt cost least then cost else least) (number + 1) (omega (arith, here, length-append done (cost ∷ []))) next in
+    subst (λ (cs : List ℕ). IsWinner cs (winner_from best least number (cost ∷ costs))) (append_assoc done (cost ∷ []) costs) rest
+
+-- the winner of costs wins
+pub winner_wins : (costs : List ℕ) → 1 ≤ length costs → IsWinner costs (winner_of costs)
+winner_wins [] some = absurd (omega (arith, some))
+winner_wins (cost ∷ costs) some = goes_on costs (cost ∷ []) 1 cost 2 refl (record {
+  from_one = omega arith;
+  there = omega arith;
+  at = refl;
+  all = All-cons (λ c. cost ≤ c) cost [] (omega arith) (All-nil (λ c. cost ≤ c));
+  before = All-nil (λ c. cost < c);
+})

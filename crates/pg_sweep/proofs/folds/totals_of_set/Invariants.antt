@@ -1,0 +1,10 @@
+use Rattle.std.proofs.Common.{◌≡◌}
+use Rattle.pg_sweep.specs.Sweeps.{totals_of_folds}
+use Rattle.pg_sweep.specs.Given.{terms, IsSmallFor}
+use Rattle.pg_sweep.proofs.folds.totals_of_set.Given as goal
+
+abbrev pub invariant-folds : goal.invariant-folds
+invariant-folds g l = record {
+  sums : l.sums ≡ totals_of_folds (terms l.given) l.params l.fold;
+  small : IsSmallFor l.fold l.sums;
+}

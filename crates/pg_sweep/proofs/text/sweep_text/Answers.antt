@@ -1,0 +1,13 @@
+use Rattle.std.proofs.Common.{◌≡◌, ◌++◌, ◌∷◌, [], ◌∙◌, ap}
+use Rattle.std.specs.Prelude.{string_bytes}
+use Rattle.serde_json.specs.Written.{has_float, compact_text}
+use Rattle.pg_sweep.specs.Files.{sweep_data}
+use Rattle.pg_sweep.proofs.Floats.{sweep_no_float}
+use Rattle.pg_sweep.proofs.text.sweep_text.Goals as goal
+
+pub returns : goal.returns
+returns c =
+    let now = c.args.sweep.now in
+    let text : string_bytes c.in_ok-to_string.field-0 ≡ compact_text (sweep_data c.args.folds now.rows now.winner) =
+    c.in_ok-to_string.ensures.text (ap has_float c.in_ok-value.ensures ∙ sweep_no_float c.args.folds now.rows now.winner) ∙ ap compact_text c.in_ok-value.ensures in
+    rw (c.in_ok-push.ensures.items, c.into_bytes-text.ensures.value) (ap (λ bytes. bytes ++ 10 ∷ []) text)

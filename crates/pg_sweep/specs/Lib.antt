@@ -1,0 +1,4 @@
+pub mod Sweeps
+pub mod Winners
+pub mod Files
+pub mod Given

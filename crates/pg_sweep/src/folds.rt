@@ -1,0 +1,82 @@
+//! The runs of a set of parameters, each without the words of a fold.
+ghost use Rattle.std.specs.Prelude.{◌≡◌, ◌≤◌, ◌<◌, ◌+◌, ◌*◌, IfOk};
+ghost use Rattle.pg_translate.specs.Alphabets.{letters_of};
+ghost use Rattle.pg_dict.specs.Word.{SignsAtMost};
+ghost use Rattle.pg_patterns.specs.Values.{SignsUpTo};
+ghost use Rattle.pg_driver.specs.Sound.{IsSmall, sums_limit};
+ghost use Rattle.pg_sweep.specs.Sweeps.{fold_totals, totals_of_folds};
+ghost use Rattle.pg_sweep.specs.Given.{terms, HasSigns, IsSmallFor};
+
+use crate::maker::Maker;
+use pg_dict::Dictionary;
+use pg_driver::{generate, totals};
+use pg_patterns::PatternSet;
+use pg_translate::Table;
+use pg_types::{Params, Totals};
+use std::alloc::{AllocError, Global};
+
+/// What all runs of a sweep share.
+#[derive(Clone, Copy)]
+pub(crate) struct Given<'a> {
+    /// The words.
+    pub dictionary: &'a Dictionary,
+    /// The table by which they were read.
+    pub table: &'a Table,
+    /// The patterns to start with.
+    pub start: &'a PatternSet,
+    /// The number of folds.
+    pub folds: u8,
+}
+
+/// The totals of the words of a fold, by the patterns that are selected from all other words.
+fn totals_of_fold<K: Maker>(
+    alloc: Global,
+    maker: &K,
+    given: &Given<'_>,
+    params: &Params,
+    fold: u8,
+) -> Result<Totals, AllocError>
+    requires fold { fold < given.now.folds }
+    requires signs { HasSigns given.now }
+    ensures value { IfOk result (λ sums. sums ≡ fold_totals (terms given.now) params.now fold) }
+    ensures small { IfOk result IsSmall }
+{
+    let Given {
+        dictionary,
+        table,
+        start,
+        folds,
+    } = *given;
+    let rest = dictionary.part(alloc, folds, fold, false)?;
+    let left_out = dictionary.part(alloc, folds, fold, true)?;
+    let mut engine = maker.make(alloc, table.letters() + 1, start)?;
+    generate(alloc, &mut engine, &rest, table, params)?;
+    Ok(totals(&engine, &left_out, table))
+}
+
+/// The totals of the words that were left out, over all folds.
+pub(crate) fn totals_of_set<K: Maker>(
+    alloc: Global,
+    maker: &K,
+    given: &Given<'_>,
+    params: &Params,
+) -> Result<Totals, AllocError>
+    requires signs { HasSigns given.now }
+    ensures value { IfOk result (λ sums. sums ≡ totals_of_folds (terms given.now) params.now given.now.folds) }
+    ensures small { IfOk result (IsSmallFor given.now.folds) }
+{
+    let mut sums = Totals {
+        good: 0,
+        bad: 0,
+        missed: 0,
+    };
+    'folds: for fold in 0..given.folds {
+        let more = totals_of_fold(alloc, maker, given, params, fold)?;
+        sums = Totals {
+            good: sums.good + more.good,
+            bad: sums.bad + more.bad,
+            missed: sums.missed + more.missed,
+        };
+    }
+    Ok(sums)
+}

@@ -1,0 +1,70 @@
+//! The sweep over sets of parameters.
+ghost use Rattle.std.specs.Prelude.{◌≡◌, ◌≤◌, ◌+◌, length, IfOk};
+ghost use Rattle.pg_translate.specs.Alphabets.{letters_of};
+ghost use Rattle.pg_dict.specs.Word.{SignsAtMost};
+ghost use Rattle.pg_patterns.specs.Values.{SignsUpTo};
+ghost use Rattle.pg_sweep.specs.Sweeps.{rows_of, row_with, costs_of};
+ghost use Rattle.pg_sweep.specs.Winners.{winner_of};
+ghost use Rattle.pg_sweep.specs.Given.{IsSmallFor};
+
+use crate::folds::{Given, totals_of_set};
+use crate::found::Sweep;
+use crate::maker::Maker;
+use crate::rows::SweepRow;
+use pg_dict::Dictionary;
+use pg_patterns::PatternSet;
+use pg_translate::Table;
+use pg_types::{Params, Totals};
+use std::alloc::{AllocError, Global};
+
+/// What totals cost, beside the totals.
+fn priced(totals: Totals, bad: u32, missed: u32) -> SweepRow
+    requires small { IsSmallFor 10 totals }
+    requires prices { (bad ≤ 1000) × (missed ≤ 1000) }
+    ensures { result ≡ row_with (record { bad = bad; missed = missed }) totals }
+{
+    SweepRow {
+        totals,
+        cost: u64::from(bad) * totals.bad + u64::from(missed) * totals.missed,
+    }
+}
+
+/// Weighs each set of parameters: for each fold it selects patterns from all words but those of the fold, and adds up the totals of
+/// the words that were left out. `bad` and `missed` are what a unit of each costs, 1 to 1,000.
+///
+/// One engine is alive at a time. The only error is want of memory.
+pub fn sweep<K: Maker>(
+    alloc: Global,
+    maker: &K,
+    dictionary: &Dictionary,
+    table: &Table,
+    start: &PatternSet,
+    sets: &[Params],
+    folds: u8,
+    bad: u32,
+    missed: u32,
+) -> Result<Sweep, AllocError>
+    requires sets { (1 ≤ length sets.now) × (length sets.now ≤ 16) }
+    requires folds { (2 ≤ folds) × (folds ≤ 10) }
+    requires bad { (1 ≤ bad) × (bad ≤ 1000) }
+    requires missed { (1 ≤ missed) × (missed ≤ 1000) }
+    requires signs { SignsAtMost (letters_of table.now + 1) dictionary.now }
+    requires known { SignsUpTo (letters_of table.now + 1) start.now }
+    ensures rows { IfOk result (λ sweep. sweep.rows ≡ rows_of
+        (record { table = table.now; words = dictionary.now; start = start.now; folds = folds })
+        (record { bad = bad; missed = missed }) sets.now) }
+    ensures winner { IfOk result (λ sweep. sweep.winner ≡ winner_of (costs_of sweep.rows)) }
+{
+    let given = Given {
+        dictionary,
+        table,
+        start,
+        folds,
+    };
+    let mut rows = Vec::new(alloc);
+    'sets: for i in 0..sets.len() {
+        let totals = totals_of_set(alloc, maker, &given, &sets[i])?;
+        rows.push(priced(totals, bad, missed))?;
+    }
+    Ok(Sweep::new(rows))
+}
