@@ -5,7 +5,7 @@
 -- number of words and of differences is written.
 
 -- The word of a line, with `-` where its patterns break it; weights and don't-care marks are left out.
-local function wanted(line)
+local function listed(line)
     return (line:gsub("{%d+}", ""):gsub("[%d?%-]", ""):gsub("[*.]", "-"))
 end
 
@@ -33,7 +33,7 @@ end
 local words, differences = 0, 0
 callback.register("ligaturing", false)
 for line in io.lines(os.getenv("LIST")) do
-    local word = wanted(line)
+    local word = listed(line)
     local found = set((word:gsub("-", "")))
     words = words + 1
     local verdict = "same"
@@ -43,8 +43,8 @@ for line in io.lines(os.getenv("LIST")) do
     end
     -- widths in characters, since `%-24s` counts bytes
     local room = string.rep(" ", math.max(1, 28 - utf8.len(found)))
-    local listed = string.rep(" ", math.max(1, 28 - (utf8.len(line) or #line)))
-    texio.write_nl("term", found .. room .. line .. listed .. verdict)
+    local gap = string.rep(" ", math.max(1, 28 - (utf8.len(line) or #line)))
+    texio.write_nl("term", found .. room .. line .. gap .. verdict)
 end
 local answer = io.open(os.getenv("ANSWER"), "w")
 answer:write(words, " ", differences, "\n")
