@@ -1,8 +1,7 @@
--- Prints each word as LuaTeX breaks it in the language that is set, beside the line of the hyphenated list that PatGen wrote, and says
--- whether the two agree. They agree where LuaTeX breaks at the found hyphens and at the errors, and nowhere else.
+-- Writes each word as LuaTeX breaks it in the language that is set, beside the line of the hyphenated list that PatGen wrote, and whether
+-- the two agree. They agree if LuaTeX breaks at the found hyphens and at the errors, and nowhere else. The last line counts.
 --
--- The variables of the environment: LIST, the hyphenated list, whose marks are `.`, `-`, `*` and `?`; ANSWER, a file into which the
--- number of words and of differences is written.
+-- The variables of the environment: LIST, the hyphenated list, with the marks `.`, `-`, `*` and `?`; TABLE, the file that is written.
 
 -- The word of a line, with `-` where its patterns break it; weights and don't-care marks are left out.
 local function listed(line)
@@ -30,7 +29,13 @@ local function set(word)
     return broken(tex.box[0].head)
 end
 
+-- The text with blanks up to a width in characters.
+local function padded(text, width)
+    return text .. string.rep(" ", math.max(1, width - (utf8.len(text) or #text)))
+end
+
 local words, differences = 0, 0
+local rows = io.open(os.getenv("TABLE"), "w")
 callback.register("ligaturing", false)
 for line in io.lines(os.getenv("LIST")) do
     local word = listed(line)
@@ -41,11 +46,7 @@ for line in io.lines(os.getenv("LIST")) do
         differences = differences + 1
         verdict = "DIFFERS"
     end
-    -- widths in characters, since `%-24s` counts bytes
-    local room = string.rep(" ", math.max(1, 28 - utf8.len(found)))
-    local gap = string.rep(" ", math.max(1, 28 - (utf8.len(line) or #line)))
-    texio.write_nl("term", found .. room .. line .. gap .. verdict)
+    rows:write(padded(found, 28), padded(line, 28), verdict, "\n")
 end
-local answer = io.open(os.getenv("ANSWER"), "w")
-answer:write(words, " ", differences, "\n")
-answer:close()
+rows:write(words, " words, ", differences, " broken in another way than the list says\n")
+rows:close()
