@@ -1,37 +1,10 @@
 //! `patgen`: makes TeX hyphenation patterns from a word list whose hyphens are marked.
 #![tactic(auto)]
 
-use pg_outside::{HostFiles, HostSink};
-use pg_top::{exit_code, run};
-use std::env;
-use std::io::ErrorKind;
+use pg_main::run_words;
 use std::process::ExitCode;
 
-/// The status where the words find no memory; it is that of a call that finds none.
-const NO_MEMORY: u8 = 5;
-
-/// The status where the system does not give the words.
-const NO_WORDS: u8 = 6;
-
-/// Calls `run` on the words after the program's name, over the files of the system and standard output.
-///
-/// The status is that of the answer: 0 where all went well, 1 for a file that is not the wanted one, 2 where the words are no
-/// command, 3 for a refused file, 4 for a file that could not be read or written, and 5 where memory was wanted. It is 6 where
-/// the system does not give the words.
+/// Runs the command that its words name. `run_words` says what the status means.
 fn main(rt: HostRuntime) -> ExitCode {
-    let alloc = rt.alloc();
-    let arguments = match env::args(&rt) {
-        Ok(arguments) => arguments,
-        Err(error) if error.kind() == ErrorKind::OutOfMemory => return ExitCode::from(NO_MEMORY),
-        Err(_) => return ExitCode::from(NO_WORDS),
-    };
-    let mut words = Vec::new(alloc);
-    for word in arguments.skip(1) {
-        if words.push(word).is_err() {
-            return ExitCode::from(NO_MEMORY);
-        }
-    }
-    let mut files = HostFiles::new(alloc, &rt);
-    let mut out = HostSink::new(rt.stdout());
-    ExitCode::from(exit_code(&run(alloc, &words, &mut files, &mut out)))
+    run_words(&rt, rt.stdout())
 }

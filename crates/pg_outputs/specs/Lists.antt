@@ -22,7 +22,8 @@ pub record Grows (old new : List Record) : Type 0 where
 
 -- equal lists have equal heads
 abbrev pub OneHeadEach : List Record → Type 0
-OneHeadEach records = (h k : ℕ) → h ≤ length records → k ≤ length records → list_of records h ≡ list_of records k → h ≡ k
+OneHeadEach records = (h k : ℕ) → h ≤ length records → k ≤ length records
+    → list_of records h ≡ list_of records k → h ≡ k
 
 -- the record r has the head h
 abbrev pub IsRecordOf : List Record → ℕ → Record → Type 0

@@ -45,10 +45,14 @@ impl Outputs {
         requires { next ≤ length self.old }
         ensures list { IfOk result (λ h. list_of self.new h ≡ (value, dot) ∷ list_of self.old next) }
         ensures head { IfOk result (λ h. (0 < h) × (h ≤ length self.new)) }
-        ensures there { (i : ℕ) → slice_get self.old i ≡ Some (record { value = value; dot = dot; next = next }) → (result ≡ Ok (i + 1)) × (self.new ≡ self.old) }
-        ensures added { Lacks self.old (record { value = value; dot = dot; next = next }) → IfOk result (λ h. (h ≡ length self.old + 1) × (self.new ≡ self.old ++ record { value = value; dot = dot; next = next } ∷ [])) }
+        ensures there { (i : ℕ) → slice_get self.old i ≡ Some (record { value = value; dot = dot; next = next })
+            → (result ≡ Ok (i + 1)) × (self.new ≡ self.old) }
+        ensures added { Lacks self.old (record { value = value; dot = dot; next = next })
+            → IfOk result (λ h. (h ≡ length self.old + 1)
+            × (self.new ≡ self.old ++ record { value = value; dot = dot; next = next } ∷ [])) }
         ensures record { IfOk result (λ h. IsRecordOf self.new h (record { value = value; dot = dot; next = next })) }
-        ensures adds { OnOk result ((self.new ≡ self.old) ⊎ (self.new ≡ self.old ++ record { value = value; dot = dot; next = next } ∷ [])) }
+        ensures adds { OnOk result ((self.new ≡ self.old)
+            ⊎ (self.new ≡ self.old ++ record { value = value; dot = dot; next = next } ∷ [])) }
         ensures grows { Grows self.old self.new }
         ensures one_head { OneHeadEach self.new }
         ensures shared { AreShared self.new }
@@ -60,7 +64,8 @@ impl Outputs {
 
     /// The head of the list with (`value`, `dot`) before the list `next`, or `None` where no such record is there.
     pub fn find(&self, value: u8, dot: u8, next: u64) -> Option<u64>
-        ensures found { MatchOption result (Lacks self.now (record { value = value; dot = dot; next = next })) (λ h. IsRecordOf self.now h (record { value = value; dot = dot; next = next })) }
+        ensures found { MatchOption result (Lacks self.now (record { value = value; dot = dot; next = next }))
+            (λ h. IsRecordOf self.now h (record { value = value; dot = dot; next = next })) }
         ensures list { IfSome result (λ h. list_of self.now h ≡ (value, dot) ∷ list_of self.now next) }
         ensures one_head { OneHeadEach self.now }
         ensures shared { AreShared self.now }
@@ -73,8 +78,10 @@ impl Outputs {
     pub fn first(&self, head: u64) -> Option<(u8, u8, u64)>
         requires { head ≤ length self.now }
         ensures none { IsNone result ↔ (head ≡ 0) }
-        ensures record { IfSome result (λ r. IsRecordOf self.now head (record { value = r.0; dot = r.1; next = r.2 })) }
-        ensures list { MatchOption result (list_of self.now head ≡ []) (λ r. list_of self.now head ≡ (r.0, r.1) ∷ list_of self.now r.2) }
+        ensures record { IfSome result (λ r.
+            IsRecordOf self.now head (record { value = r.0; dot = r.1; next = r.2 })) }
+        ensures list { MatchOption result (list_of self.now head ≡ [])
+            (λ r. list_of self.now head ≡ (r.0, r.1) ∷ list_of self.now r.2) }
         ensures back { IfSome result (λ r. r.2 < head) }
     {
         let index = head.checked_sub(1)?;

@@ -8,7 +8,7 @@ use Rattle.std.specs.FinMap as map
 abbrev pub FileMap : Type 0
 FileMap = map.FinMap (slice_cmp nat_cmp) (List ℕ)
 
--- what files show at a moment: what they hold, told or not, and the counts of the faults of reading and of writing each name
+-- what files show at a moment: what they hold, told or not, and the counts of the faults of reading and writing a name
 pub record FilesShown : Type 0 where
   pub held : Option FileMap
   pub read_faults : List ℕ → ℕ
@@ -35,21 +35,24 @@ IsCut file limit front = MatchOption file ⊥ (λ bytes. (limit < length bytes) 
 abbrev pub IsFile : Option FileMap → List ℕ → List ℕ → Type 0
 IsFile held name bytes = IfSome held (λ files. file_at files name ≡ Some bytes)
 
--- where files are told, the file of this name has more than the limit, and these are its first bytes, one more than the limit
+-- where files are told, the file of this name has more than the limit, and these are its first limit + 1 bytes
 abbrev pub IsFileCut : Option FileMap → List ℕ → ℕ → List ℕ → Type 0
 IsFileCut held name limit front = IfSome held (λ files. IsCut (file_at files name) limit front)
 
 -- where files are told after the call, they are those told before it with this file set to these bytes
 abbrev pub WasWritten : Option FileMap → Option FileMap → List ℕ → List ℕ → Type 0
-WasWritten old new name bytes = IfSome new (λ after. MatchOption old ⊥ (λ before. after ≡ map.insert before name bytes))
+WasWritten old new name bytes = IfSome new (λ after. MatchOption old ⊥ (λ before.
+    after ≡ map.insert before name bytes))
 
 -- these files are those before, with this file as it was or set to a prefix of these bytes
 abbrev pub HasPart : FileMap → FileMap → List ℕ → List ℕ → Type 0
-HasPart before after name bytes = (after ≡ before) ⊎ ((kept : ℕ) × (after ≡ map.insert before name (take kept bytes)))
+HasPart before after name bytes = (after ≡ before)
+    ⊎ ((kept : ℕ) × (after ≡ map.insert before name (take kept bytes)))
 
 -- where files are told after the call, they were told before it, and this file is as it was or a prefix of these bytes
 abbrev pub WasPartWritten : Option FileMap → Option FileMap → List ℕ → List ℕ → Type 0
-WasPartWritten old new name bytes = IfSome new (λ after. MatchOption old ⊥ (λ before. HasPart before after name bytes))
+WasPartWritten old new name bytes = IfSome new (λ after. MatchOption old ⊥ (λ before.
+    HasPart before after name bytes))
 
 -- where the sink's bytes are told after the call, they are those told before it and then this text
 abbrev pub WasPut : Option (List ℕ) → Option (List ℕ) → List ℕ → Type 0
@@ -57,4 +60,5 @@ WasPut old new text = IfSome new (λ after. MatchOption old ⊥ (λ before. afte
 
 -- where the sink's bytes are told after the call, they are those told before it and then a prefix of this text
 abbrev pub WasPartPut : Option (List ℕ) → Option (List ℕ) → List ℕ → Type 0
-WasPartPut old new text = IfSome new (λ after. MatchOption old ⊥ (λ before. (kept : ℕ) × (after ≡ before ++ take kept text)))
+WasPartPut old new text = IfSome new (λ after. MatchOption old ⊥ (λ before.
+    (kept : ℕ) × (after ≡ before ++ take kept text)))

@@ -74,8 +74,10 @@ WritesRose old new = EachRose (writes_failed_of old) (writes_failed_of new)
 
 -- a listed write that keeps some first bytes sets the file to these, or leaves it as before
 abbrev pub KeepsFront : MemoryFiles → MemoryFiles → List ℕ → List ℕ → Type 0
-KeepsFront old new name bytes = (keep : ℕ) → next_listed old ≡ Some (Some keep) → SameFiles old new ⊎ WasSet old new name (take keep bytes)
+KeepsFront old new name bytes = (keep : ℕ) → next_listed old ≡ Some (Some keep)
+    → SameFiles old new ⊎ WasSet old new name (take keep bytes)
 
 -- a listed write that keeps some first bytes sets a file that is there to these, where they are within its room
 abbrev pub KeepsFrontWithin : MemoryFiles → MemoryFiles → List ℕ → List ℕ → Type 0
-KeepsFrontWithin old new name bytes = (keep : ℕ) → next_listed old ≡ Some (Some keep) → HasFile old name → min keep (length bytes) ≤ room_of old name → WasSet old new name (take keep bytes)
+KeepsFrontWithin old new name bytes = (keep : ℕ) → next_listed old ≡ Some (Some keep) → HasFile old name
+    → min keep (length bytes) ≤ room_of old name → WasSet old new name (take keep bytes)

@@ -43,4 +43,5 @@ SameBytes old new = sink_bytes new ≡ sink_bytes old
 
 -- a listed put for which the room suffices appends the first bytes that it keeps
 abbrev pub PutsFront : MemorySink → MemorySink → List ℕ → Type 0
-PutsFront old new bytes = (keep : ℕ) → next_listed_put old ≡ Some (Some keep) → IsWithin old bytes → sink_bytes new ≡ sink_bytes old ++ take keep bytes
+PutsFront old new bytes = (keep : ℕ) → next_listed_put old ≡ Some (Some keep) → IsWithin old bytes
+    → sink_bytes new ≡ sink_bytes old ++ take keep bytes

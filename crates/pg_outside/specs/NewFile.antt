@@ -13,7 +13,8 @@ pub data Step : Type 0 where
 abbrev pub Made : Option (List Step) → Option (List Step) → List Step → Type 0
 Made old new steps = IfSome new (λ after. MatchOption old ⊥ (λ before. after ≡ before ++ steps))
 
--- the steps that put these bytes in place: the file has the old one's permissions and all bytes, these are stored, and only then it takes the name
+-- the steps that put these bytes in place: the file has the old one's permissions and all bytes, these are stored, and
+-- only then it takes the name
 abbrev pub placing : List ℕ → List Step
 placing bytes = Permitted ∷ Wrote bytes ∷ Stored ∷ Named ∷ []
 

@@ -13,11 +13,13 @@ quiet_sink_room sink = sink.held.room
 
 -- where it told its bytes and the room suffices for these, it tells them with these behind
 abbrev pub PutsWithin : QuietSink → QuietSink → List ℕ → Type 0
-PutsWithin old new bytes = IfSome (told_text old) (λ text. length text + length bytes ≤ quiet_sink_room old → told_text new ≡ Some (text ++ bytes))
+PutsWithin old new bytes = IfSome (told_text old) (λ text.
+    length text + length bytes ≤ quiet_sink_room old → told_text new ≡ Some (text ++ bytes))
 
 -- where it told its bytes and the room does not suffice for these, it tells nothing
 abbrev pub EndsPast : QuietSink → QuietSink → List ℕ → Type 0
-EndsPast old new bytes = IfSome (told_text old) (λ text. quiet_sink_room old < length text + length bytes → told_text new ≡ None)
+EndsPast old new bytes = IfSome (told_text old) (λ text.
+    quiet_sink_room old < length text + length bytes → told_text new ≡ None)
 
 -- what it shows: its count of faults is 0
 abbrev pub quiet_sink_shown : QuietSink → SinkShown

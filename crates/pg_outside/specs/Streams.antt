@@ -7,7 +7,7 @@ use Rattle.pg_outside.specs.Content.{IsCut}
 abbrev pub IsWhole : Option (List ℕ) → List ℕ → Type 0
 IsWhole known bytes = IfSome known (λ all. bytes ≡ all)
 
--- where the bytes that a reader had are known, they are more than the limit and these are the first, one more than the limit
+-- where the bytes that a reader had are known, they are more than the limit and these are the first limit + 1
 abbrev pub IsFront : Option (List ℕ) → ℕ → List ℕ → Type 0
 IsFront known limit bytes = IfSome known (λ all. IsCut (Some all) limit bytes)
 

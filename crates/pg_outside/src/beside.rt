@@ -85,8 +85,10 @@ impl<R: rt::Files> NewFile for FileBeside<'_, R> {
         ensures err { OnErr result (Made None None []) }
 
         // The file gets the bytes, where it says which it holds.
-        ensures written { OnOk result (Appends (R.File.contents self.old.file) (R.File.contents self.new.file) bytes.now) }
-        ensures part_written { OnErr result (AppendsPart (R.File.contents self.old.file) (R.File.contents self.new.file) bytes.now) }
+        ensures written { OnOk result
+            (Appends (R.File.contents self.old.file) (R.File.contents self.new.file) bytes.now) }
+        ensures part_written { OnErr result
+            (AppendsPart (R.File.contents self.old.file) (R.File.contents self.new.file) bytes.now) }
     {
         write_bytes(&mut self.file, bytes)
     }

@@ -153,7 +153,11 @@ impl<R: rt::Files + Drop> HostFiles<R> {
 impl<R: rt::Files + Drop> Files for HostFiles<R> {
     ghost use Rattle.pg_outside.specs.HostFiles.{file_faults};
 
-    ghost shown = { λ files. record { held = None; read_faults = λ _. file_faults files; write_faults = λ _. file_faults files } };
+    ghost shown = { λ files. record {
+      held = None;
+      read_faults = λ _. file_faults files;
+      write_faults = λ _. file_faults files;
+    } };
 
     fn read(
         &mut self,

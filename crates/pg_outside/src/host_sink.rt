@@ -41,8 +41,10 @@ impl<W: Write + Drop> Sink for HostSink<W> {
         ensures failed { OnErr result (Rose (writer_faults self.old) (writer_faults self.new)) }
 
         // The writer gets the bytes, where it says which it holds.
-        ensures written { OnOk result (Appends (W.contents (writer_of self.old)) (W.contents (writer_of self.new)) bytes.now) }
-        ensures part_written { OnErr result (AppendsPart (W.contents (writer_of self.old)) (W.contents (writer_of self.new)) bytes.now) }
+        ensures written { OnOk result
+            (Appends (W.contents (writer_of self.old)) (W.contents (writer_of self.new)) bytes.now) }
+        ensures part_written { OnErr result
+            (AppendsPart (W.contents (writer_of self.old)) (W.contents (writer_of self.new)) bytes.now) }
     {
         let result = write_bytes(&mut self.writer, bytes);
         if result.is_err() {

@@ -126,7 +126,11 @@ impl MemoryFiles {
 impl Files for MemoryFiles {
     ghost use Rattle.pg_outside.specs.MemoryFiles.{files_of, room_of, reads_failed_of, writes_failed_of, calls_of, listed_of, next_listed, IsListed, IsUnlisted, HasFile, SameFiles, SameReads, SameWrites, ReadsRose, WritesRose, KeepsFront, KeepsFrontWithin};
 
-    ghost shown = { λ memory. record { held = Some (files_of memory); read_faults = reads_failed_of memory; write_faults = writes_failed_of memory } };
+    ghost shown = { λ memory. record {
+      held = Some (files_of memory);
+      read_faults = reads_failed_of memory;
+      write_faults = writes_failed_of memory;
+    } };
 
     fn read(
         &mut self,
@@ -145,8 +149,10 @@ impl Files for MemoryFiles {
         ensures fits { OnOk result (length into.new.items ≤ limit) }
         ensures cut { IsErrOf result ReadError.TooLong → length into.new.items ≡ limit + 1 }
         ensures file { OnOk result (IsFile (Some (files_of self.new)) name.now into.new.items) }
-        ensures cut_file { IsErrOf result ReadError.TooLong → IsFileCut (Some (files_of self.new)) name.now limit into.new.items }
-        ensures failed { IsErrOf result ReadError.Failed → RoseFor (reads_failed_of self.old) (reads_failed_of self.new) name.now }
+        ensures cut_file { IsErrOf result ReadError.TooLong
+            → IsFileCut (Some (files_of self.new)) name.now limit into.new.items }
+        ensures failed { IsErrOf result ReadError.Failed
+            → RoseFor (reads_failed_of self.old) (reads_failed_of self.new) name.now }
 
         // The call is counted, and the calls that are to fail stay listed.
         ensures calls { calls_of self.new ≡ next_count (calls_of self.old) }
@@ -161,7 +167,8 @@ impl Files for MemoryFiles {
         // Else only a missing name fails, and raises its own read faults alone.
         ensures found { IsUnlisted self.old → HasFile self.old name.now → IsErrOf result ReadError.Failed → ⊥ }
         ensures found_reads { IsUnlisted self.old → HasFile self.old name.now → SameReads self.old self.new }
-        ensures missing_reads { IsUnlisted self.old → SameOthers (reads_failed_of self.old) (reads_failed_of self.new) name.now }
+        ensures missing_reads { IsUnlisted self.old
+            → SameOthers (reads_failed_of self.old) (reads_failed_of self.new) name.now }
         ensures memory_reads { IsErrOf result ReadError.Memory → SameReads self.old self.new }
         ensures unlisted_writes { IsUnlisted self.old → SameWrites self.old self.new }
     {
@@ -179,8 +186,10 @@ impl Files for MemoryFiles {
 
     fn write(&mut self, name: &str, bytes: &[u8]) -> Result<(), Failed>
         // As for all files.
-        ensures whole { OnOk result (WasWritten (Some (files_of self.old)) (Some (files_of self.new)) name.now bytes.now) }
-        ensures part { OnErr result (WasPartWritten (Some (files_of self.old)) (Some (files_of self.new)) name.now bytes.now) }
+        ensures whole { OnOk result
+            (WasWritten (Some (files_of self.old)) (Some (files_of self.new)) name.now bytes.now) }
+        ensures part { OnErr result
+            (WasPartWritten (Some (files_of self.old)) (Some (files_of self.new)) name.now bytes.now) }
         ensures reads { NoneFell (reads_failed_of self.old) (reads_failed_of self.new) }
         ensures writes { NoneFell (writes_failed_of self.old) (writes_failed_of self.new) }
         ensures failed { OnErr result (RoseFor (writes_failed_of self.old) (writes_failed_of self.new) name.now) }
@@ -199,7 +208,8 @@ impl Files for MemoryFiles {
         ensures keeps_within { KeepsFrontWithin self.old self.new name.now bytes.now }
 
         // Any other fails only where memory is wanted, and changes no file then.
-        ensures within { IsUnlisted self.old → HasFile self.old name.now → length bytes.now ≤ room_of self.old name.now → IsOk result }
+        ensures within { IsUnlisted self.old → HasFile self.old name.now
+            → length bytes.now ≤ room_of self.old name.now → IsOk result }
         ensures unlisted_files { IsUnlisted self.old → OnErr result (SameFiles self.old self.new) }
 
         // A failed write raises the write faults of every name. Nothing else raises a count.

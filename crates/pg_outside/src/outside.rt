@@ -88,9 +88,11 @@ pub trait Files {
 
         // Where the files are told, the bytes are those of the file.
         ensures file { OnOk result (IsFile (shown self.new).held name.now into.new.items) }
-        ensures cut_file { IsErrOf result ReadError.TooLong → IsFileCut (shown self.new).held name.now limit into.new.items }
+        ensures cut_file { IsErrOf result ReadError.TooLong
+            → IsFileCut (shown self.new).held name.now limit into.new.items }
 
-        ensures failed { IsErrOf result ReadError.Failed → RoseFor (shown self.old).read_faults (shown self.new).read_faults name.now };
+        ensures failed { IsErrOf result ReadError.Failed
+            → RoseFor (shown self.old).read_faults (shown self.new).read_faults name.now };
 
     /// Sets the file of this name to `bytes`, and leaves all others as they were.
     ///

@@ -37,7 +37,8 @@ impl Plans {
 
     /// Lets the call of this number fail. Of two plans for one call the later counts.
     pub fn list(&mut self, call: u64, keep: Option<usize>) -> Result<(), AllocError>
-        ensures ok { OnOk result (listed_calls self.new.listed.items ≡ fin.insert (listed_calls self.old.listed.items) call keep) }
+        ensures ok { OnOk result
+            (listed_calls self.new.listed.items ≡ fin.insert (listed_calls self.old.listed.items) call keep) }
         ensures err { OnErr result (listed_calls self.new.listed.items ≡ listed_calls self.old.listed.items) }
         ensures calls { self.new.calls ≡ self.old.calls }
     {
@@ -47,7 +48,8 @@ impl Plans {
 
     /// Counts a call, and gives its plan where it is listed.
     pub fn next(&mut self) -> Option<Plan>
-        ensures plan { option_map (λ plan. plan.keep) result ≡ fin.get (listed_calls self.old.listed.items) (next_count self.old.calls) }
+        ensures plan { option_map (λ plan. plan.keep) result
+            ≡ fin.get (listed_calls self.old.listed.items) (next_count self.old.calls) }
         ensures listed { self.new.listed.items ≡ self.old.listed.items }
         ensures calls { self.new.calls ≡ next_count self.old.calls }
     {

@@ -94,8 +94,10 @@ impl Files for QuietFiles {
         ensures fits { OnOk result (length into.new.items ≤ limit) }
         ensures cut { IsErrOf result ReadError.TooLong → length into.new.items ≡ limit + 1 }
         ensures file { OnOk result (IsFile (told_files self.new) name.now into.new.items) }
-        ensures cut_file { IsErrOf result ReadError.TooLong → IsFileCut (told_files self.new) name.now limit into.new.items }
-        ensures failed { IsErrOf result ReadError.Failed → RoseFor (quiet_shown self.old).read_faults (quiet_shown self.new).read_faults name.now }
+        ensures cut_file { IsErrOf result ReadError.TooLong
+            → IsFileCut (told_files self.new) name.now limit into.new.items }
+        ensures failed { IsErrOf result ReadError.Failed
+            → RoseFor (quiet_shown self.old).read_faults (quiet_shown self.new).read_faults name.now }
 
         // A name that is not there is read as no byte, and nothing is told from then on.
         ensures missing { LacksFile self.old name.now → IsOk result }
@@ -123,11 +125,13 @@ impl Files for QuietFiles {
         ensures part { OnErr result (WasPartWritten (told_files self.old) (told_files self.new) name.now bytes.now) }
         ensures reads { NoneFell (quiet_shown self.old).read_faults (quiet_shown self.new).read_faults }
         ensures writes { NoneFell (quiet_shown self.old).write_faults (quiet_shown self.new).write_faults }
-        ensures failed { OnErr result (RoseFor (quiet_shown self.old).write_faults (quiet_shown self.new).write_faults name.now) }
+        ensures failed { OnErr result
+            (RoseFor (quiet_shown self.old).write_faults (quiet_shown self.new).write_faults name.now) }
 
         // Every write succeeds, and one to a name that is there stays told within its room.
         ensures succeeds { IsOk result }
-        ensures within { StoresFile self.old name.now → length bytes.now ≤ quiet_room_of self.old name.now → StaysTelling self.old self.new }
+        ensures within { StoresFile self.old name.now → length bytes.now ≤ quiet_room_of self.old name.now
+            → StaysTelling self.old self.new }
         ensures rooms { NoneFell (quiet_room_of self.old) (quiet_room_of self.new) }
     {
         if store(self.alloc, &mut self.files, name, bytes, 0).is_err() {

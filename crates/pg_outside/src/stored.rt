@@ -81,7 +81,8 @@ pub(crate) fn store(
     ensures room { OnOk result (room ≤ room_in files.new.items name.now) }
     ensures rooms { NoneFell (room_in files.old.items) (room_in files.new.items) }
     ensures err_rooms { OnErr result (SameCounts (room_in files.old.items) (room_in files.new.items)) }
-    ensures succeeds { IsSome (file_at (file_map files.old.items) name.now) → max room (length bytes.now) ≤ room_in files.old.items name.now → IsOk result }
+    ensures succeeds { IsSome (file_at (file_map files.old.items) name.now)
+        → max room (length bytes.now) ≤ room_in files.old.items name.now → IsOk result }
 {
     match place_of(files, name) {
         Some(place) => {

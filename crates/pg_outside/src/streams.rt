@@ -13,7 +13,8 @@ const PIECE: usize = 65536;
 /// Reads some bytes. A read that a signal interrupts is made again.
 fn read_some<R: Read>(from: &mut R, buffer: &mut [u8]) -> Result<usize, Failed>
     ensures bound { ReadsAtMost result buffer.new }
-    ensures ok { IfOk result (λ count. Consumes (R.remaining from.old) (R.remaining from.new) (take count buffer.new)) }
+    ensures ok { IfOk result (λ count.
+        Consumes (R.remaining from.old) (R.remaining from.new) (take count buffer.new)) }
     ensures end { IfOk result (λ count. count ≡ 0 → 0 < length buffer.old → IsAtEnd (R.remaining from.new)) }
     ensures err { OnErr result (Keeps (R.remaining from.old) (R.remaining from.new)) }
 {
@@ -39,7 +40,8 @@ pub(crate) fn read_within<R: Read>(
     ensures cut { IsErrOf result ReadError.TooLong → length into.new.items ≡ limit + 1 }
     ensures whole { OnOk result (IsWhole (R.remaining from.old) into.new.items) }
     ensures front { IsErrOf result ReadError.TooLong → IsFront (R.remaining from.old) limit into.new.items }
-    ensures failed { IsErrOf result ReadError.Failed → Consumes (R.remaining from.old) (R.remaining from.new) into.new.items }
+    ensures failed { IsErrOf result ReadError.Failed
+        → Consumes (R.remaining from.old) (R.remaining from.new) into.new.items }
 {
     let mut piece = [0u8; PIECE];
     while into.len() <= limit {
