@@ -1,5 +1,5 @@
 -- A pass, and what it records.
-use Rattle.std.proofs.Common.{◌≡◌, ℕ, ◌+◌, List, [], length, map, fold, Option, None, Some, refl, sym, ap, ◌∙◌, arith}
+use Rattle.std.proofs.Common.{◌≡◌, ℕ, List, [], length, map, fold, Option, None, Some, sym, ap, ◌∙◌}
 use Rattle.std.specs.List.{sum_by}
 use Rattle.std.specs.Option.{option_map, MatchOption}
 use Rattle.pg_types.specs.declared.marks.Layout.{Layout}
@@ -16,7 +16,7 @@ use Rattle.pg_driver.specs.declared.records.PassRecord.{PassRecord}
 use Rattle.pg_driver.specs.Accounts.{pass_line, totals_by}
 use Rattle.pg_driver.specs.Choosing.{HasChosen, candidate_of, no_choices, with_candidates}
 use Rattle.pg_driver.specs.Counting.{counting}
-use Rattle.pg_driver.specs.States.{DidPass, State, made_by, state_of, state_after}
+use Rattle.pg_driver.specs.States.{DidPass, made_by, state_of, state_after}
 use Rattle.pg_driver.specs.Told.{layout_told, line_of, minima_of, over}
 use Rattle.pg_driver.specs.Traces.{PassTrace, Source, chosen_of, hopeless_of}
 use Rattle.pg_driver.proofs.ChoiceSteps.{state_with}
