@@ -1,5 +1,5 @@
 -- The first false line of a file.
-use Rattle.std.specs.Prelude.{◌≡◌, ◌≢◌, ℕ, ◌+◌, ◌<◌, if◌then◌else◌, List, [], ◌∷◌, take, Option, None, Some, slice_get, unwrap_or}
+use Rattle.std.specs.Prelude.{◌≡◌, ◌≢◌, ℕ, ◌+◌, ◌<◌, if◌then◌else◌, List, [], ◌∷◌, length, take, Option, None, Some, slice_get, unwrap_or, option_map}
 use Rattle.std.specs.List.{onto_first}
 use Rattle.std.specs.Str.{bytes_eq}
 use Rattle.pg_types.specs.Lines.{is_line_feed}
@@ -39,3 +39,11 @@ pub record IsFirstFalse (given wanted : List ℕ) (d : Difference) : Type 0 wher
 -- a difference with no more than the first n bytes of its line
 abbrev pub shown : ℕ → Difference → Difference
 shown n d = record { line = d.line; found = take n d.found }
+
+-- the first false line of a given file, with no more than its first n bytes
+abbrev pub first_false_shown : ℕ → List ℕ → List ℕ → Option Difference
+first_false_shown n given wanted = option_map (shown n) (first_false given wanted)
+
+-- the first part of a given file, which has n bytes more than the wanted one
+abbrev pub first_part : ℕ → List ℕ → List ℕ → List ℕ
+first_part n given wanted = take (length wanted + n) given

@@ -1,7 +1,7 @@
 -- What is printed of a found line.
-use Rattle.std.specs.Prelude.{ℕ, ◌-◌, nat_lt, Bool, if◌then◌else◌, List, [], ◌∷◌, length, take, slice_index}
+use Rattle.std.specs.Prelude.{ℕ, ◌-◌, nat_lt, Bool, if◌then◌else◌, List, [], ◌∷◌, length, take, slice_index, Option, option_map}
 use Rattle.pg_types.specs.Lines.{is_line_feed}
-use Rattle.pg_audit.specs.Differences.{Difference}
+use Rattle.pg_audit.specs.Differences.{Difference, first_false}
 
 -- there is no such line; it has more than 200 bytes, and these are the first 200; it is this line, and its line feed follows; or it is
 -- this line, and the file ends
@@ -31,3 +31,7 @@ found_line (b ∷ bs) = line_there (b ∷ bs)
 -- what is printed of a difference: its line's number, and the found line
 abbrev pub printed_of : Difference → ℕ × FoundLine
 printed_of d = (d.line, found_line d.found)
+
+-- what is printed of the first false line of a given file
+abbrev pub first_false_printed : List ℕ → List ℕ → Option (ℕ × FoundLine)
+first_false_printed given wanted = option_map printed_of (first_false given wanted)

@@ -19,9 +19,11 @@ pub struct FalseLine<'a> {
 ///
 /// Lines are compared with their LF and CR, and a missing line differs from every line. It takes no memory.
 pub fn compare<'a>(given: &'a [u8], wanted: &[u8]) -> Option<FalseLine<'a>>
-    ensures answer { MatchOption result (first_false given.now wanted.now ≡ None) (λ f. first_false given.now wanted.now ≡ Some (record { line = f.line; found = f.found.now })) }
+    ensures answer { MatchOption result (first_false given.now wanted.now ≡ None)
+        (λ f. first_false given.now wanted.now ≡ Some (record { line = f.line; found = f.found.now })) }
     ensures equal { IsNone result ↔ (given.now ≡ wanted.now) }
-    ensures least { IfSome result (λ f. IsFirstFalse given.now wanted.now (record { line = f.line; found = f.found.now })) }
+    ensures least { IfSome result
+        (λ f. IsFirstFalse given.now wanted.now (record { line = f.line; found = f.found.now })) }
     ensures missing { IfSome result (λ f. (f.found.now ≡ []) ↔ (length (whole_lines given.now) + 1 ≡ f.line)) }
     ensures within { IfSome result (λ f. length f.found.now ≤ length given.now) }
 {

@@ -1,8 +1,8 @@
 -- A step of a level: a pass that is done, one that is skipped, and the next length.
-use Rattle.std.proofs.Common.{◌≡◌, ℕ, ◌+◌, ◌-◌, ◌<◌, ◌==◌, nat_le, zero, Bool, true, false, not, ◌&&◌, List, [], ◌∷◌, ◌++◌, length, map, Option, None, Some, refl, sym, ap, subst, ◌∙◌, append_assoc, append-nil, arith}
+use Rattle.std.proofs.Common.{◌≡◌, ℕ, ◌+◌, ◌-◌, ◌<◌, ◌==◌, nat_le, zero, Bool, true, false, not, List, [], ◌∷◌, ◌++◌, map, Option, None, Some, refl, sym, ap, subst, ◌∙◌, append_assoc, append-nil, arith}
 use Rattle.std.specs.List.{list_all, flat_map, range_with_len}
 use Rattle.std.specs.Option.{option_map}
-use Rattle.std.proofs.lemmas.Bool.{and_parts, leb-true, and_from}
+use Rattle.std.proofs.lemmas.Bool.{and_parts, and_from}
 use Rattle.std.proofs.lemmas.Bool.Decides.{nat_tests}
 use Rattle.std.proofs.lemmas.List.Folds.{list_all-append}
 use Rattle.std.proofs.lemmas.List.Sums.{fold-append}
@@ -12,10 +12,10 @@ use Rattle.pg_select.specs.Meanings.{Meaning}
 use Rattle.pg_select.specs.declared.pass.Pass.{Pass}
 use Rattle.pg_select.specs.CountedPositions.{Candidate}
 use Rattle.pg_driver.specs.declared.records.PassRecord.{PassRecord}
-use Rattle.pg_driver.specs.Accounts.{PassLine, is_skippable, left_none}
+use Rattle.pg_driver.specs.Accounts.{PassLine, left_none}
 use Rattle.pg_driver.specs.Dots.{dot_at}
 use Rattle.pg_driver.specs.Layouts.{after_passes}
-use Rattle.pg_driver.specs.Levels.{AreClosed, AreRecorded, ClosedDots, GoesOn, IsAt, LevelStart, Tells, all_made_by, is_set, layouts_in, point, unset}
+use Rattle.pg_driver.specs.Levels.{AreClosed, ClosedDots, GoesOn, IsAt, LevelStart, Tells, all_made_by, is_set, layouts_in, point, unset}
 use Rattle.pg_driver.specs.Sound.{Recorded, with_pass}
 use Rattle.pg_driver.specs.States.{DidPass, State, made_by, state_after, state_at_end, state_of}
 use Rattle.pg_driver.specs.Told.{known_of}

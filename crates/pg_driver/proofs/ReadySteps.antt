@@ -1,13 +1,13 @@
 -- A way to count is ready: what that gives for a pass, and how it goes on.
-use Rattle.std.proofs.Common.{◌≡◌, ℕ, ◌+◌, ◌≤◌, ◌<◌, List, [], length, map, fold, filter, sum_by, refl, sym, ap, subst, ◌∙◌, arith}
+use Rattle.std.proofs.Common.{◌≡◌, ℕ, ◌+◌, ◌≤◌, List, [], length, fold, sum_by, sym, ap, subst, ◌∙◌, arith}
 use Rattle.std.specs.List.{All, flat_map}
 use Rattle.pg_types.specs.declared.limits.TheConstants.{LENGTH_MAX, FILE_MAX}
 use Rattle.pg_types.specs.declared.marks.Totals.{Totals}
 use Rattle.pg_types.specs.declared.parameters.LevelParams.{LevelParams}
 use Rattle.pg_types.specs.Counts.{Counts}
-use Rattle.pg_dict.specs.Word.{Word, IsWord, letter_count}
+use Rattle.pg_dict.specs.Word.{IsWord, letter_count}
 use Rattle.pg_select.specs.declared.pass.Pass.{Pass}
-use Rattle.pg_select.specs.LawsSteps.{IsBelow, IsUpTo}
+use Rattle.pg_select.specs.LawsSteps.{IsBelow}
 use Rattle.pg_select.specs.Meanings.{Meaning, with_position}
 use Rattle.pg_select.specs.CountedPositions.{Candidate, counted_positions}
 use Rattle.pg_select.specs.Statuses.{is_odd}
@@ -15,13 +15,13 @@ use Rattle.pg_select.specs.Windows.{Hopeless, Patterns}
 use Rattle.pg_driver.specs.declared.choices.Choices.{Choices}
 use Rattle.pg_driver.specs.declared.counting.Counting.{Counting}
 use Rattle.pg_driver.specs.declared.counting.Counting.TheVariants.{Open, EachWord}
-use Rattle.pg_driver.specs.declared.counting.OpenLevel.{OpenLevel}
+use Rattle.pg_driver.specs.declared.open_positions.OpenLevel.{OpenLevel}
 use Rattle.pg_driver.specs.declared.open_positions.OpenPosition.{OpenPosition}
 use Rattle.pg_driver.specs.Accounts.{totals_by}
 use Rattle.pg_driver.specs.Choosing.{no_choices, with_candidates}
-use Rattle.pg_driver.specs.Counting.{HasRoom, counting}
+use Rattle.pg_driver.specs.Counting.{HasRoom}
 use Rattle.pg_driver.specs.LevelCounting.{ArePlaced, CanCarry, CanGoOn, Carries, GoesOnAfter, IsAfterPass, IsOpenAt, IsReady, TellsTotals}
-use Rattle.pg_driver.specs.OpenLevels.{InLevel, longer_positions, open_from, position_after}
+use Rattle.pg_driver.specs.OpenLevels.{InLevel, longer_positions, open_from}
 use Rattle.pg_driver.specs.OpenPositions.{IsPlaced, counted_of}
 use Rattle.pg_driver.specs.Sound.{IsSmall}
 use Rattle.pg_driver.specs.Told.{known_of}

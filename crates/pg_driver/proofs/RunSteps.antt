@@ -1,5 +1,5 @@
 -- A step of a run: a level, and what is read off the levels then.
-use Rattle.std.proofs.Common.{◌≡◌, ℕ, ◌+◌, ◌≤◌, Bool, true, List, [], ◌∷◌, ◌++◌, length, map, filter, fold, drop, slice_get, Option, None, Some, All, refl, sym, ap, subst, ◌∙◌, append_assoc, append-nil, add_assoc, arith}
+use Rattle.std.proofs.Common.{◌≡◌, ℕ, ◌+◌, ◌≤◌, true, List, [], ◌∷◌, ◌++◌, length, map, filter, drop, slice_get, Option, None, Some, refl, sym, ap, subst, ◌∙◌, append_assoc, append-nil, add_assoc}
 use Rattle.std.specs.List.{enumerate_from, flat_map}
 use Rattle.std.specs.Option.{option_map, MatchOption}
 use Rattle.std.proofs.lemmas.Grind.{flat_map-append}
@@ -8,20 +8,19 @@ use Rattle.std.proofs.lemmas.List.Sums.{fold-append, sum_by_push}
 use Rattle.pg_types.specs.declared.marks.Layout.{Layout}
 use Rattle.pg_types.specs.declared.marks.Totals.{Totals}
 use Rattle.pg_types.specs.declared.parameters.LevelParams.{LevelParams}
-use Rattle.pg_types.specs.Parameters.{Parameters}
 use Rattle.pg_types.specs.Placement.{Families, kept, taken, top}
 use Rattle.pg_types.specs.Tails.{tails}
 use Rattle.pg_select.specs.Meanings.{IsLayout, Meaning, after_end_level}
 use Rattle.pg_select.specs.declared.pass.Pass.{Pass}
 use Rattle.pg_select.specs.Windows.{Hopeless as HopelessPlaces, Patterns}
 use Rattle.pg_driver.specs.declared.records.LevelRecord.{LevelRecord}
-use Rattle.pg_driver.specs.Accounts.{LevelLine, begun, begun_among, chosen_by, has_candidate, level_line, pass_line, pass_lines, totals_by}
+use Rattle.pg_driver.specs.Accounts.{LevelLine, begun_among, chosen_by, has_candidate, level_line, pass_line, pass_lines, totals_by}
 use Rattle.pg_driver.specs.Layouts.{after_level, after_passes, at_level_end, final_families, layout_of, level_layout, levels_with_families, pass_layouts, strings_in}
-use Rattle.pg_driver.specs.Levels.{AreRecorded, DidLevel, DidRun, all_made_by, layouts_in, level_layouts, run_layouts, state_after_level, state_after_run}
+use Rattle.pg_driver.specs.Levels.{AreRecorded, DidLevel, DidRun, all_made_by, layouts_in, level_layouts, run_layouts}
 use Rattle.pg_driver.specs.Sound.{Recorded, with_level}
 use Rattle.pg_driver.specs.States.{State, state_at_end, state_of}
 use Rattle.pg_driver.specs.Told.{known_of, layout_told, level_layout_told, level_line_of, line_of}
-use Rattle.pg_driver.specs.Traces.{Known, LevelTrace, PassTrace, Source, Trace, at_start, final_patterns, known_at_end, level_made, levels_made, passes_made, passes_of, patterns_after, trace}
+use Rattle.pg_driver.specs.Traces.{Known, LevelTrace, PassTrace, Source, Trace, at_start, final_patterns, known_at_end, level_made, levels_made, passes_made, passes_of, patterns_after}
 use Rattle.pg_driver.proofs.Numbers.{plus_zero, zero_plus}
 use Rattle.pg_driver.proofs.WordSteps.{drop_place}
 

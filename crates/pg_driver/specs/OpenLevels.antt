@@ -1,29 +1,25 @@
 -- The open positions from a level's start through its passes and lengths, as the code changes them.
-use Rattle.std.specs.Prelude.{◌≡◌, ℕ, ◌+◌, ◌≤◌, ◌<◌, Bool, not, ◌&&◌, if◌then◌else◌, List, [], ◌∷◌, ◌++◌, length, map, fold, filter, slice_get, Option, None, Some}
+use Rattle.std.specs.Prelude.{ℕ, ◌+◌, Bool, not, ◌&&◌, if◌then◌else◌, List, [], ◌∷◌, ◌++◌, length, map, filter, slice_get, Option, None, Some}
 use Rattle.std.specs.List.{flat_map}
 use Rattle.std.specs.Option.{option_map, option_map_or}
 use Rattle.std.specs.Ordering.{nat_cmp}
 use Rattle.std.specs.Cmp.Lexicographic.{slice_cmp}
 use Rattle.std.specs.FinMap.Entries.{find}
-use Rattle.pg_types.specs.declared.limits.TheConstants.{LENGTH_MAX}
 use Rattle.pg_types.specs.declared.parameters.LevelParams.{LevelParams}
 use Rattle.pg_translate.specs.Reach.{positions}
 use Rattle.pg_dict.specs.Word.{Word}
-use Rattle.pg_patterns.specs.Values.{largest}
 use Rattle.pg_select.specs.declared.choice.Choice.{Choice}
 use Rattle.pg_select.specs.declared.choice.Choice.TheVariants.{Hopeless, Chosen, Left}
 use Rattle.pg_select.specs.Choices.{choice}
 use Rattle.pg_types.specs.Counts.{Counts}
-use Rattle.pg_select.specs.Meanings.{with_position}
 use Rattle.pg_select.specs.declared.pass.Pass.{Pass}
-use Rattle.pg_select.specs.CountedPositions.{Minima, counts_as, counted_positions}
+use Rattle.pg_select.specs.CountedPositions.{Minima, counts_as}
 use Rattle.pg_select.specs.Statuses.{status_at}
 use Rattle.pg_select.specs.Windows.{Patterns, Hopeless as HopelessPlaces, window, fits}
-use Rattle.pg_driver.specs.Traces.{choice_of, is_chosen, is_hopeless}
 use Rattle.pg_driver.specs.declared.dot_set.DotSet.{DotSet}
 use Rattle.pg_driver.specs.declared.open_positions.OpenPosition.{OpenPosition}
 use Rattle.pg_driver.specs.DotSets.{has_dot, no_dots, all_dots, with_dot, longer_dots, is_full}
-use Rattle.pg_select.specs.LawsSteps.{CoversUpTo, IsBelow, IsUpTo, patterns_after_pass, hopeless_after_pass}
+use Rattle.pg_select.specs.LawsSteps.{CoversUpTo, IsUpTo}
 use Rattle.pg_driver.specs.OpenPositions.{AreOpen, with_closed}
 
 -- the positions of a word that count by their status, and those of words, from a number on

@@ -2,16 +2,15 @@
 use Rattle.std.specs.Prelude.{◌≡◌, ℕ, ◌+◌, ◌<◌, Bool, List, [], ◌∷◌, ◌++◌, length, map, slice_get, Option, None, Some}
 use Rattle.std.specs.List.{flat_map}
 use Rattle.std.specs.Option.{option_map_or}
-use Rattle.pg_types.specs.declared.limits.TheConstants.{LENGTH_MAX}
 use Rattle.pg_translate.specs.Reach.{positions}
 use Rattle.pg_dict.specs.Word.{Word}
-use Rattle.pg_select.specs.CountedPositions.{Minima, CountedPosition, counted_positions}
+use Rattle.pg_select.specs.CountedPositions.{Minima, CountedPosition}
 use Rattle.pg_select.specs.Statuses.{position_weight}
 use Rattle.pg_select.specs.Windows.{Patterns, Hopeless, window}
 use Rattle.pg_driver.specs.declared.dot_set.DotSet.{DotSet}
 use Rattle.pg_driver.specs.declared.open_positions.OpenPosition.{OpenPosition}
 use Rattle.pg_driver.specs.DotSets.{has_dot}
-use Rattle.pg_select.specs.LawsClosedDots.{pass_at, counted_with, Tells, IsDone}
+use Rattle.pg_select.specs.LawsClosedDots.{counted_with, Tells, IsDone}
 
 -- the positions in reach of words, each with the number of its word, from a number on
 abbrev pub numbered_positions : Minima → ℕ → List Word → List (ℕ × ℕ)

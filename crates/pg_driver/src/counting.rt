@@ -16,7 +16,7 @@ ghost use Rattle.pg_driver.specs.Traces.{Known, Source};
 use crate::carried_totals::totals_after;
 use crate::choices::Choices;
 use crate::open_passes::{close_dots, count_open};
-use crate::open_positions::{OpenPosition, next_length, open_level};
+use crate::open_positions::{OpenLevel, next_length, open_level};
 use crate::sums::totals;
 use crate::words::count_words;
 use pg_dict::Dictionary;
@@ -24,15 +24,6 @@ use pg_select::{Engine, Pass};
 use pg_translate::Table;
 use pg_types::{LevelParams, Totals};
 use std::alloc::{AllocError, Global};
-
-/// The open positions of a level, and the totals, which are carried from pass to pass.
-#[derive(Drop)]
-pub struct OpenLevel {
-    /// The open positions, in the order of words and positions.
-    pub positions: Vec<OpenPosition>,
-    /// The totals.
-    pub totals: Totals,
-}
 
 /// How the windows of a level are counted.
 #[derive(Drop)]
@@ -45,8 +36,8 @@ pub enum Counting {
 }
 
 impl Counting {
-    /// The way to count of a level that begins, where these are the totals: over open positions, unless a starting pattern has a
-    /// value of the level or more. `greatest` is the greatest value of the starting patterns.
+    /// The way to count of a level that begins: over open positions, unless a starting pattern has a value of the level or more.
+    /// `greatest` is the greatest value of the starting patterns.
     pub fn start<E: Engine>(
         alloc: Global,
         engine: &E,
@@ -54,23 +45,20 @@ impl Counting {
         table: &Table,
         level: u8,
         greatest: u8,
-        totals: Totals,
     ) -> Result<Counting, AllocError>
         requires signs { SignsAtMost (E.meaning engine.now).signs dictionary.now }
         requires hopeless { (E.meaning engine.now).hopeless ≡ [] }
         requires below { greatest < level → IsBelow level (E.meaning engine.now).patterns }
-        requires totals { totals ≡ totals_by (over table.now dictionary.now) (E.meaning engine.now).patterns }
         ensures { IfOk result (λ counting. (len : ℕ)
             → IsReady (over table.now dictionary.now) level len (known_of (E.meaning engine.now)) counting) }
     {
         if level <= greatest {
             return Ok(Counting::EachWord);
         }
-        // A minimum is at least 1, and the letters are few, so that the totals and the sums of a pass are small.
+        // A minimum is at least 1, so that there are no more positions than letters.
         let _least = table.left();
-        let _few = dictionary.len();
-        let positions = open_level(engine, dictionary, table, level, alloc)?;
-        Ok(Counting::Open(OpenLevel { positions, totals }))
+        let opened = open_level(engine, dictionary, table, level, alloc)?;
+        Ok(Counting::Open(opened))
     }
 
     /// Counts the windows of a pass that has begun, and gives the totals before it.

@@ -205,8 +205,8 @@ fn run_lengths<E: Engine>(
     Ok(())
 }
 
-/// Does a level, which begins with these totals: its passes, and what stands at its end. Gives the totals at its end. `greatest` is
-/// the greatest value of the starting patterns.
+/// Does a level: its passes, and what stands at its end. Gives the totals at its end. `greatest` is the greatest value of the
+/// starting patterns.
 pub fn run_level<E: Engine>(
     alloc: Global,
     engine: &mut E,
@@ -215,7 +215,6 @@ pub fn run_level<E: Engine>(
     params: &LevelParams,
     number: u8,
     greatest: u8,
-    before: Totals,
     records: &mut Records,
 ) -> Result<Totals, AllocError>
     requires level { IsLevel params.now }
@@ -226,7 +225,6 @@ pub fn run_level<E: Engine>(
     requires chosen { records.old.chosen ≡ 0 }
     requires signs { SignsAtMost (E.meaning engine.old).signs dictionary.now }
     requires below { greatest < number → IsBelow number (E.meaning engine.old).patterns }
-    requires totals { before ≡ totals_by (over table.now dictionary.now) (E.meaning engine.old).patterns }
     ensures done { OnOk result (DidLevel (over table.now dictionary.now)
         (level_made (over table.now dictionary.now) (E.meaning engine.old).patterns (number, params.now))
         (E.meaning engine.old) (E.meaning engine.new) records.old records.new) }
@@ -240,7 +238,7 @@ pub fn run_level<E: Engine>(
     ensures chosen { OnOk result (records.new.chosen ≡ 0) }
     ensures signs { (E.meaning engine.new).signs ≡ (E.meaning engine.old).signs }
 {
-    let mut counting = Counting::start(alloc, engine, dictionary, table, number, greatest, before)?;
+    let mut counting = Counting::start(alloc, engine, dictionary, table, number, greatest)?;
     run_lengths(
         engine,
         dictionary,

@@ -44,14 +44,14 @@ fn run_levels<E: Engine>(
     ensures signs { (E.meaning engine.new).signs ≡ (E.meaning engine.old).signs }
 {
     let greatest = engine.copy_patterns(alloc)?.largest();
-    let mut sums = totals(engine, dictionary, table);
     let start = params.start();
     // The last level is at most 9, and so is the number of levels.
     let _last = params.finish();
     let count = params.count();
+    let mut last = None;
     'levels: for i in 0..count {
         let number = start + i as u8;
-        sums = run_level(
+        let after = run_level(
             alloc,
             engine,
             dictionary,
@@ -59,11 +59,15 @@ fn run_levels<E: Engine>(
             params.level(i),
             number,
             greatest,
-            sums,
             records,
         )?;
+        last = Some(after);
     }
-    Ok(sums)
+    match last {
+        Some(after) => Ok(after),
+        // No level is run.
+        None => Ok(totals(engine, dictionary, table)),
+    }
 }
 
 /// Does the run of a dictionary from the patterns of an engine: level after level, and in a level a pass for each length and dot,

@@ -1,10 +1,11 @@
-//! The open positions of a level: those that count by their status, each with its closed dots.
-ghost use Rattle.std.specs.Prelude.{◌≡◌, ◌≤◌, ◌++◌, not, map, filter, IfOk, OnOk, is_some};
-ghost use Rattle.pg_types.specs.declared.limits.TheConstants.{LENGTH_MAX};
+//! The open positions of a level: those that count by their status, each with its closed dots. Beside them the totals.
+ghost use Rattle.std.specs.Prelude.{◌≡◌, ◌≤◌, ◌++◌, not, map, filter, sum_by, All, IfOk, OnOk, is_some};
+ghost use Rattle.pg_types.specs.declared.limits.TheConstants.{FILE_MAX, LENGTH_MAX};
 ghost use Rattle.pg_types.specs.Counts.{SignsWithin};
-ghost use Rattle.pg_dict.specs.Word.{IsWord, SignsAtMost};
+ghost use Rattle.pg_dict.specs.Word.{IsWord, SignsAtMost, letter_count};
 ghost use Rattle.pg_dict.specs.Lent.{lent_word};
 ghost use Rattle.pg_select.specs.CountedPositions.{counts_as as counts_as_of, minima_of};
+ghost use Rattle.pg_select.specs.Sums.{totals as totals_of_words, marks_in, with_marks, HasRoomFor, TookRoomFor};
 ghost use Rattle.pg_driver.specs.DotSets.{is_full, longer_dots};
 ghost use Rattle.pg_driver.specs.OpenPositions.{with_closed};
 ghost use Rattle.pg_driver.specs.OpenLevels.{open_as, open_in, open_from, longer_positions};
@@ -12,10 +13,10 @@ ghost use Rattle.pg_driver.specs.OpenLevels.{open_as, open_in, open_from, longer
 use crate::dot_set::DotSet;
 use crate::marks::counts_as;
 use pg_dict::{Dictionary, WordRef};
-use pg_select::marks::{mark_at, positions};
+use pg_select::marks::{add_mark, mark_at, no_totals, positions};
 use pg_select::{Engine, WordState};
 use pg_translate::Table;
-use pg_types::Mark;
+use pg_types::{Mark, Totals};
 use std::alloc::{AllocError, Global};
 
 /// A position that counts by its status, and the dots of the present length whose windows do not count there. It has eight bytes.
@@ -27,6 +28,15 @@ pub struct OpenPosition {
     pub at: u8,
     /// The closed dots.
     pub closed: DotSet,
+}
+
+/// The open positions of a level, and the totals, which are carried from pass to pass.
+#[derive(Drop)]
+pub struct OpenLevel {
+    /// The open positions, in the order of words and positions.
+    pub positions: Vec<OpenPosition>,
+    /// The totals.
+    pub totals: Totals,
 }
 
 /// Adds position `p` of a word, which has this status, where it counts at a level. No dot of it is closed.
@@ -50,7 +60,8 @@ fn open_by_status(
     Ok(())
 }
 
-/// Adds the positions of a word that count at a level, with no dot closed. What `found` holds does not matter.
+/// Adds the positions of a word: those that count at a level are open, with no dot closed, and all in reach are in the totals. What
+/// `found` holds does not matter.
 fn open_word<E: Engine>(
     engine: &E,
     table: &Table,
@@ -58,13 +69,18 @@ fn open_word<E: Engine>(
     word: u32,
     w: &WordRef<'_>,
     found: &mut WordState,
-    open_positions: &mut Vec<OpenPosition>,
+    opened: &mut OpenLevel,
 ) -> Result<(), AllocError>
     requires word { IsWord (lent_word w.now) }
     requires signs { SignsWithin (E.meaning engine.now).signs w.now.signs.now }
-    ensures { OnOk result (open_positions.new.items
-        ≡ open_positions.old.items ++ open_in (minima_of table.now) level (E.meaning engine.now).patterns word
+    requires room { HasRoomFor opened.old.totals (letter_count (lent_word w.now)) }
+    ensures positions { OnOk result (opened.new.positions.items
+        ≡ opened.old.positions.items ++ open_in (minima_of table.now) level (E.meaning engine.now).patterns word
         (lent_word w.now)) }
+    ensures totals { OnOk result (opened.new.totals
+        ≡ with_marks opened.old.totals (marks_in (minima_of table.now) (E.meaning engine.now).patterns
+        (lent_word w.now))) }
+    ensures took { OnOk result (TookRoomFor opened.old.totals opened.new.totals (letter_count (lent_word w.now))) }
 {
     let Some((first, end)) = positions(table, w) else {
         return Ok(());
@@ -72,39 +88,39 @@ fn open_word<E: Engine>(
     engine.hyphenate(*w, found);
     'positions: for p in first..end {
         let mark = mark_at(w, found, p);
-        open_by_status(level, word, p as u8, mark, open_positions)?;
+        opened.totals = add_mark(opened.totals, mark, w.weights[p]);
+        open_by_status(level, word, p as u8, mark, &mut opened.positions)?;
     }
     Ok(())
 }
 
-/// The positions that count at a level's start, in the order of words and positions, with no dot closed. Each word is hyphenated
-/// once.
+/// The positions that count at a level's start, in the order of words and positions, with no dot closed, and the totals. Each word
+/// is hyphenated once.
 pub fn open_level<E: Engine>(
     engine: &E,
     dictionary: &Dictionary,
     table: &Table,
     level: u8,
     alloc: Global,
-) -> Result<Vec<OpenPosition>, AllocError>
+) -> Result<OpenLevel, AllocError>
     requires { SignsAtMost (E.meaning engine.now).signs dictionary.now }
-    ensures { IfOk result (λ opened. opened.items
+    ensures positions { IfOk result (λ opened. opened.positions.items
         ≡ open_from (minima_of table.now) level (E.meaning engine.now).patterns 0 dictionary.now) }
+    ensures totals { IfOk result (λ opened. opened.totals
+        ≡ totals_of_words (minima_of table.now) dictionary.now (E.meaning engine.now).patterns) }
+    ensures words { OnOk result (All IsWord dictionary.now) }
+    ensures letters { OnOk result (sum_by letter_count dictionary.now ≤ FILE_MAX) }
 {
     let mut found = WordState::new();
-    let mut open_positions = Vec::new(alloc);
+    let mut opened = OpenLevel {
+        positions: Vec::new(alloc),
+        totals: no_totals(),
+    };
     'words: for i in 0..dictionary.len() {
         let w = dictionary.word(i);
-        open_word(
-            engine,
-            table,
-            level,
-            i as u32,
-            &w,
-            &mut found,
-            &mut open_positions,
-        )?;
+        open_word(engine, table, level, i as u32, &w, &mut found, &mut opened)?;
     }
-    Ok(open_positions)
+    Ok(opened)
 }
 
 /// Drops the positions of which every dot of a length is closed.

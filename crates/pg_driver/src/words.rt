@@ -53,8 +53,8 @@ fn count_at<E: Engine>(
     requires room { HasRoom (E.meaning engine.old).counts 1 }
     ensures ok { OnOk result (E.meaning engine.new
         ≡ counting (E.meaning engine.old)
-        (counted_positions_at (E.meaning engine.old).pass (E.meaning engine.old).patterns (E.meaning engine.old).hopeless
-        (lent_word w.now) p)) }
+        (counted_positions_at (E.meaning engine.old).pass (E.meaning engine.old).patterns
+        (E.meaning engine.old).hopeless (lent_word w.now) p)) }
     ensures err { OnErr result (E.meaning engine.new ≡ E.meaning engine.old) }
 {
     if let Some(good) = counted(pass, w, found, p, mark) {
@@ -82,8 +82,8 @@ fn count_position<E: Engine>(
     requires room_for { HasRoomFor sums.old 1 }
     ensures ok { OnOk result (E.meaning engine.new
         ≡ counting (E.meaning engine.old)
-        (counted_positions_at (E.meaning engine.old).pass (E.meaning engine.old).patterns (E.meaning engine.old).hopeless
-        (lent_word w.now) p)) }
+        (counted_positions_at (E.meaning engine.old).pass (E.meaning engine.old).patterns
+        (E.meaning engine.old).hopeless (lent_word w.now) p)) }
     ensures sums { OnOk result (sums.new
         ≡ with_mark sums.old (status_at (E.meaning engine.old).patterns (lent_word w.now) p)
         (position_weight (lent_word w.now) p)) }
@@ -143,8 +143,8 @@ pub fn count_words<E: Engine>(
     requires signs { SignsAtMost (E.meaning engine.old).signs dictionary.now }
     ensures ok { OnOk result (E.meaning engine.new
         ≡ counting (E.meaning engine.old)
-        (counted_positions (minima_of table.now) dictionary.now (E.meaning engine.old).pass (E.meaning engine.old).patterns
-        (E.meaning engine.old).hopeless)) }
+        (counted_positions (minima_of table.now) dictionary.now (E.meaning engine.old).pass
+        (E.meaning engine.old).patterns (E.meaning engine.old).hopeless)) }
     ensures totals { IfOk result (λ sums. sums
         ≡ totals_of_words (minima_of table.now) dictionary.now (E.meaning engine.old).patterns) }
     ensures small { IfOk result IsSmall }

@@ -4,7 +4,7 @@ use Rattle.pg_types.specs.declared.marks.Totals.{Totals}
 use Rattle.pg_translate.specs.Alphabets.{letters_of}
 use Rattle.pg_dict.specs.Word.{SignsAtMost}
 use Rattle.pg_patterns.specs.Values.{SignsUpTo}
-use Rattle.pg_driver.specs.Sound.{sums_limit}
+use Rattle.pg_types.specs.Limits.{sums_limit}
 use Rattle.pg_sweep.specs.Sweeps.{Terms}
 use Rattle.pg_sweep.specs.declared.folds.Given.{Given}
 

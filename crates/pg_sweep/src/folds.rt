@@ -3,7 +3,7 @@ ghost use Rattle.std.specs.Prelude.{◌≡◌, ◌≤◌, ◌<◌, ◌+◌, ◌*
 ghost use Rattle.pg_translate.specs.Alphabets.{letters_of};
 ghost use Rattle.pg_dict.specs.Word.{SignsAtMost};
 ghost use Rattle.pg_patterns.specs.Values.{SignsUpTo};
-ghost use Rattle.pg_driver.specs.Sound.{IsSmall, sums_limit};
+ghost use Rattle.pg_driver.specs.Sound.{IsSmall};
 ghost use Rattle.pg_sweep.specs.Sweeps.{fold_totals, totals_of_folds};
 ghost use Rattle.pg_sweep.specs.Given.{terms, HasSigns, IsSmallFor};
 

@@ -53,7 +53,8 @@ fn push_pass(text: &mut Vec<u8>, pass: &PassRecord) -> Result<(), AllocError>
 /// Appends the lines of the passes of a level.
 fn push_passes(text: &mut Vec<u8>, passes: &[PassRecord], level: u8) -> Result<(), AllocError>
     requires { All (λ p. IsSome p.layout) passes.now }
-    ensures { OnOk result (text.new.items ≡ text.old.items ++ cells.passes_cells_text (map pass_told passes.now) level) }
+    ensures { OnOk result (text.new.items
+        ≡ text.old.items ++ cells.passes_cells_text (map pass_told passes.now) level) }
 {
     'passes: for pass in passes {
         if pass.level == level {
@@ -80,7 +81,8 @@ fn push_levels(
 ) -> Result<(), AllocError>
     requires passes { All (λ p. IsSome p.layout) passes.now }
     requires levels { All (λ l. IsSome l.layout) levels.now }
-    ensures { OnOk result (text.new.items ≡ text.old.items ++ flat_map (cells.level_cells_text (map pass_told passes.now)) (map level_told levels.now)) }
+    ensures { OnOk result (text.new.items
+        ≡ text.old.items ++ flat_map (cells.level_cells_text (map pass_told passes.now)) (map level_told levels.now)) }
 {
     'levels: for level in levels {
         push_passes(text, passes, level.level)?;
@@ -94,7 +96,8 @@ fn push_levels(
 pub fn cells_text(alloc: Global, run: &Run) -> Result<Vec<u8>, AllocError>
     requires { HasLayouts run.now }
     ensures told { IfOk result (λ text. text.items ≡ cells.cells_text (cells_told run.now)) }
-    ensures text { IfOk result (λ text. (a : CellsAccount) → TellsCells (Some a) run.now → text.items ≡ cells.cells_text a) }
+    ensures text { IfOk result (λ text. (a : CellsAccount) → TellsCells (Some a) run.now
+        → text.items ≡ cells.cells_text a) }
 {
     let mut text = Vec::from_slice(alloc, b"start: ")?;
     push_layout(&mut text, &layout_of(run.first_layout()))?;

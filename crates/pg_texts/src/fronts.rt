@@ -7,7 +7,8 @@ use std::alloc::AllocError;
 
 /// Appends the front of the line of a pass.
 pub fn push_pass_front(text: &mut Vec<u8>, level: u8, len: u8, dot: u8) -> Result<(), AllocError>
-    ensures { OnOk result (text.new.items ≡ text.old.items ++ pass_front (record { level = level; len = len; dot = dot })) }
+    ensures { OnOk result (text.new.items
+        ≡ text.old.items ++ pass_front (record { level = level; len = len; dot = dot })) }
 {
     push_number(text, b"pass ", u64::from(level))?;
     push_number(text, b" ", u64::from(len))?;

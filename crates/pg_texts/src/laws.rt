@@ -1,11 +1,9 @@
 //! The law that the hyphenated list is read back. A call does nothing; its contract is the law.
-ghost use Rattle.std.specs.Prelude.{◌≡◌, ◌+◌, ◌≤◌, List, length, All, Ok};
-ghost use Rattle.pg_types.specs.declared.limits.TheConstants.{FILE_MAX};
+ghost use Rattle.std.specs.Prelude.{◌+◌, List, All};
 ghost use Rattle.pg_translate.specs.Alphabets.{letters_of};
 ghost use Rattle.pg_dict.specs.Word.{Word, IsWord, SignsAtMost};
-ghost use Rattle.pg_dict.specs.Words.{words as words_of};
 ghost use Rattle.pg_select.specs.Windows.{Patterns};
-ghost use Rattle.pg_texts.specs.PattmpTexts.{pattmp_text, words_taking_part};
+ghost use Rattle.pg_texts.specs.PattmpTexts.{pattmp_text, ReadsBack};
 
 use pg_dict::laws::{files_are_read, items_are_lines, lines_are_read, words_are_read};
 use pg_translate::laws::items_are_read;
@@ -14,7 +12,8 @@ use pg_translate::{Place, Table};
 /// The hyphenated list of words, by any patterns, is a dictionary file of those that take part, under the same table: with their
 /// hyphens, their cares, their weights and their word weights. It must have at most 2^26 bytes.
 pub fn lists_are_read(table: &Table)
-    ensures { (P : Patterns) (words : List Word) → All IsWord words → SignsAtMost (letters_of table.now + 1) words → length (pattmp_text table.now P words) ≤ FILE_MAX → words_of table.now (pattmp_text table.now P words) ≡ Ok (words_taking_part table.now words) }
+    ensures { (P : Patterns) (words : List Word) → All IsWord words → SignsAtMost (letters_of table.now + 1) words
+        → ReadsBack table.now words (pattmp_text table.now P words) }
 {
     items_are_read(table, Place::Dictionary);
     words_are_read();

@@ -1,9 +1,7 @@
 //! The hyphenated list.
-ghost use Rattle.std.specs.Prelude.{◌≡◌, ◌+◌, ◌≤◌, length, Ok, IfOk};
-ghost use Rattle.pg_types.specs.declared.limits.TheConstants.{FILE_MAX};
+ghost use Rattle.std.specs.Prelude.{◌≡◌, ◌+◌, IfOk};
 ghost use Rattle.pg_translate.specs.Alphabets.{letters_of};
 ghost use Rattle.pg_dict.specs.Word.{SignsAtMost};
-ghost use Rattle.pg_dict.specs.Words.{words};
 ghost use Rattle.pg_texts.specs.PattmpTexts as pattmp;
 
 use crate::laws::lists_are_read;
@@ -26,8 +24,9 @@ pub fn pattmp_text<E: Engine>(
 ) -> Result<Vec<u8>, AllocError>
     requires signs { SignsAtMost (E.meaning engine.now).signs dictionary.now }
     requires letters { SignsAtMost (letters_of table.now + 1) dictionary.now }
-    ensures text { IfOk result (λ text. text.items ≡ pattmp.pattmp_text table.now (E.meaning engine.now).patterns dictionary.now) }
-    ensures read_back { IfOk result (λ text. length text.items ≤ FILE_MAX → words table.now text.items ≡ Ok (pattmp.words_taking_part table.now dictionary.now)) }
+    ensures text { IfOk result (λ text. text.items
+        ≡ pattmp.pattmp_text table.now (E.meaning engine.now).patterns dictionary.now) }
+    ensures read_back { IfOk result (λ text. pattmp.ReadsBack table.now dictionary.now text.items) }
 {
     lists_are_read(table);
     let mut text = Vec::new(alloc);

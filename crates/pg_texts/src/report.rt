@@ -101,7 +101,8 @@ fn push_levels(
     levels: &[LevelRecord],
 ) -> Result<(), AllocError>
     requires { All IsSoundPass passes.now }
-    ensures { OnOk result (text.new.items ≡ text.old.items ++ flat_map (report.level_text (map line_of passes.now)) (map level_line_of levels.now)) }
+    ensures { OnOk result (text.new.items
+        ≡ text.old.items ++ flat_map (report.level_text (map line_of passes.now)) (map level_line_of levels.now)) }
 {
     'levels: for level in levels {
         push_passes(text, passes, level.level)?;

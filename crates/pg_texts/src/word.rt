@@ -67,7 +67,8 @@ fn push_position(
     requires high { p < length word.signs.now }
     requires word { IsWord (lent_word word) }
     requires known { All (λ s. s ≤ letters_of table.now + 1) word.signs.now }
-    ensures { OnOk result (text.new.items ≡ text.old.items ++ pattmp.position_text table.now (λ _. mark) (lent_word word.entry) p) }
+    ensures { OnOk result (text.new.items
+        ≡ text.old.items ++ pattmp.position_text table.now (λ _. mark) (lent_word word.entry) p) }
 {
     text.extend_from_slice(table.spelling(word.signs[p - 1]))?;
     push_mark(text, table, mark)?;
@@ -85,7 +86,8 @@ pub fn push_word(
 ) -> Result<(), AllocError>
     requires word { IsWord (lent_word word) }
     requires known { All (λ s. s ≤ letters_of table.now + 1) word.signs.now }
-    ensures { OnOk result (text.new.items ≡ text.old.items ++ pattmp.word_text table.now (status_found found.now.values reach (lent_word word.entry)) (lent_word word.entry)) }
+    ensures { OnOk result (text.new.items ≡ text.old.items ++ pattmp.word_text table.now
+        (status_found found.now.values reach (lent_word word.entry)) (lent_word word.entry)) }
 {
     let last = word.signs.len() - 1;
     'positions: for p in 2..last {

@@ -1,4 +1,3 @@
-use Rattle.std.proofs.Common.{ap, ◌∙◌}
 use Rattle.pg_driver.specs.Told.{over}
 use Rattle.pg_driver.proofs.RunSteps.{did_level}
 use Rattle.pg_driver.proofs.level.run_level.Goals as goal

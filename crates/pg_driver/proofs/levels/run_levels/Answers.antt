@@ -1,4 +1,4 @@
-use Rattle.std.proofs.Common.{◌≡◌, ℕ, ◌+◌, ◌-◌, max, List, [], drop, refl, sym, ap, subst, ◌∙◌, arith}
+use Rattle.std.proofs.Common.{◌≡◌, ℕ, ◌+◌, ◌-◌, max, List, [], drop, refl, ap, subst, ◌∙◌, arith}
 use Rattle.std.specs.List.{enumerate_from}
 use Rattle.pg_types.specs.declared.parameters.LevelParams.{LevelParams}
 use Rattle.pg_patterns.specs.Values.{largest}
@@ -18,8 +18,8 @@ levels-init g c =
     record {
       reaches = record { done = []; did = run_begins source m0 c.args.records.now c.requires.hopeless c.requires.none; left = ap (λ (ls : List (ℕ × LevelParams)). levels_made source m0.patterns ls) (all_levels c.start-start.result c.args.params.now.levels ∙ ap (λ (n : ℕ). enumerate_from n c.args.params.now.levels) c.start-start.ensures.value) };
       upto = up_to_starting c.largest-greatest.result (c.start-start.result + 0 - 1) m0.patterns (c.largest-greatest.ensures.value ∙ ap largest c.in_ok-copy_patterns.ensures);
-      totals = c.totals-sums.ensures.value;
-      small = c.totals-sums.ensures.small;
+      totals = tt;
+      small = tt;
       signs = refl;
       tidy = c.requires.tidy;
       begun = omega (arith, ap (λ (r : Recorded). r.begun) c.requires.none);
@@ -44,21 +44,21 @@ levels-preserved g c =
     record {
       reaches =
           level_on source m0 m n c.levels.records c.run_level.new.records (start + i, c.level.result.now) (enumerate_from (start + i) (drop i levels)) (enumerate_from (start + (i + 1)) (drop (i + 1) levels)) (run_from c.args.table.now c.args.dictionary.now c.args.params.now m0) c.levels.invariant.signs
-          (levels_step start i levels c.level.result.now c.level.ensures.value) c.in_ok-sums.ensures.done c.levels.invariant.reaches;
+          (levels_step start i levels c.level.result.now c.level.ensures.value) c.in_ok-after.ensures.done c.levels.invariant.reaches;
       upto =
           subst (λ (k : ℕ). IsUpTo (max greatest (k - 1)) n.patterns) on
-          (up_to_next source c.level.result.now greatest (start + i) m.patterns n.patterns (ap (λ (s : State). s.known.patterns) c.in_ok-sums.ensures.done.state) c.levels.invariant.upto);
-      totals = c.in_ok-sums.ensures.totals;
-      small = c.in_ok-sums.ensures.small;
-      signs = c.in_ok-sums.ensures.signs ∙ c.levels.invariant.signs;
-      tidy = c.in_ok-sums.ensures.tidy;
-      begun = omega (arith, c.in_ok-sums.ensures.begun, c.levels.invariant.begun);
-      passes = omega (arith, c.in_ok-sums.ensures.few, c.levels.invariant.passes);
-      chosen = c.in_ok-sums.ensures.chosen;
+          (up_to_next source c.level.result.now greatest (start + i) m.patterns n.patterns (ap (λ (s : State). s.known.patterns) c.in_ok-after.ensures.done.state) c.levels.invariant.upto);
+      totals = c.in_ok-after.ensures.totals;
+      small = c.in_ok-after.ensures.small;
+      signs = c.in_ok-after.ensures.signs ∙ c.levels.invariant.signs;
+      tidy = c.in_ok-after.ensures.tidy;
+      begun = omega (arith, c.in_ok-after.ensures.begun, c.levels.invariant.begun);
+      passes = omega (arith, c.in_ok-after.ensures.few, c.levels.invariant.passes);
+      chosen = c.in_ok-after.ensures.chosen;
     }
 
-pub returns-clause-run : goal.returns-clause-run
-returns-clause-run g c =
+pub returns-in-Some-clause-run : goal.returns-in-Some-clause-run
+returns-in-Some-clause-run g c =
     let m0 = g.E.Engine.meaning c.args.engine.now in
     let m = g.E.Engine.meaning c.levels.engine in
     let rest = enumerate_from (c.start-start.result + c.levels.i) (drop c.levels.i c.args.params.now.levels) in

@@ -1,5 +1,6 @@
 use Rattle.std.proofs.Common.{◌≡◌, ◌+◌, ◌-◌, ◌*◌, ◌≤◌, max, true, drop}
 use Rattle.std.specs.List.{enumerate_from}
+use Rattle.std.specs.Option.{IfSome}
 use Rattle.pg_select.specs.LawsSteps.{IsUpTo}
 use Rattle.pg_driver.specs.Accounts.{totals_by}
 use Rattle.pg_driver.specs.Sound.{IsSmall}
@@ -15,8 +16,8 @@ invariant-levels g l =
     record {
       reaches : RunReaches (over l.table l.dictionary) m0 m l.records (enumerate_from (l.start + l.i) (drop l.i l.params.levels)) (run_from l.table l.dictionary l.params m0);
       upto : IsUpTo (max l.greatest (l.start + l.i - 1)) m.patterns;
-      totals : l.sums ≡ totals_by (over l.table l.dictionary) m.patterns;
-      small : IsSmall l.sums;
+      totals : IfSome l.last (λ after. after ≡ totals_by (over l.table l.dictionary) m.patterns);
+      small : IfSome l.last IsSmall;
       signs : m.signs ≡ m0.signs;
       tidy : m.tidy ≡ true;
       begun : m.begun ≡ m0.begun + l.records.begun;

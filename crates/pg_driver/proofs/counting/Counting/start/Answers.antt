@@ -5,11 +5,11 @@ use Rattle.pg_driver.proofs.counting.Counting.start.Goals as goal
 
 pub returns : goal.returns
 returns g c = λ len.
-    ready_at_start (over c.args.table.now c.args.dictionary.now) c.args.level len (g.E.Engine.meaning c.args.engine.now) (record { positions = c.in_ok-positions.positions; totals = c.args.totals })
+    ready_at_start (over c.args.table.now c.args.dictionary.now) c.args.level len (g.E.Engine.meaning c.args.engine.now) c.in_ok-opened.opened
     c.requires.hopeless
     (c.requires.below (omega (arith, c.if-level-greatest.false)))
     (omega (arith, c.left-least.ensures.value, c.left-least.ensures.range))
-    c.len-few.ensures.words
-    c.len-few.ensures.letters
-    c.in_ok-positions.ensures
-    c.requires.totals
+    c.in_ok-opened.ensures.words
+    c.in_ok-opened.ensures.letters
+    c.in_ok-opened.ensures.positions
+    c.in_ok-opened.ensures.totals
