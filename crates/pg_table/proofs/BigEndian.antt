@@ -1,5 +1,5 @@
 -- The bytes of a number, the greatest first.
-use Rattle.std.proofs.Common.{◌≡◌, ℕ, ◌+◌, ◌*◌, ◌/◌, ◌%◌, ◌<◌, List, [], ◌∷◌, ◌++◌, w16, w32, refl, arith}
+use Rattle.std.proofs.Common.{◌≡◌, ℕ, ◌/◌, ◌%◌, [], ◌∷◌, w16, w32, refl, arith}
 use Rattle.std.specs.Int.{to_be_bytes}
 use Rattle.pg_table.specs.Numbers.{u16_bytes, u32_bytes}
 

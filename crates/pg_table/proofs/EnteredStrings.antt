@@ -1,16 +1,13 @@
 -- The patterns are entered, string by string.
-use Rattle.std.proofs.Common.{◌≡◌, ◌≢◌, ℕ, suc, zero, ◌+◌, ◌-◌, ◌<◌, ◌≤◌, ◌⊎◌, inl, inr, Bool, true, false, cond, nat_eq, T, List, [], ◌∷◌, ◌++◌, length, map, fold, take, drop, get_or, slice_get, Option, None, Some, All, refl, sym, ◌∙◌, ap, subst, arith, append_assoc}
+use Rattle.std.proofs.Common.{◌≡◌, ◌≢◌, ℕ, suc, ◌-◌, ◌<◌, ◌≤◌, ◌⊎◌, inl, inr, true, cond, List, [], ◌∷◌, ◌++◌, length, map, fold, take, drop, get_or, slice_get, Option, None, Some, All, refl, sym, ◌∙◌, ap, subst, arith, append_assoc}
 use Rattle.std.specs.List.{list_all, range_with_len}
-use Rattle.std.specs.Ordering.{nat_cmp}
-use Rattle.std.specs.Cmp.Lexicographic.{slice_cmp}
-use Rattle.std.specs.FinMap.{find, put, is_sorted}
+use Rattle.std.specs.FinMap.{find, put}
 use Rattle.std.proofs.lemmas.Bool.{cases_Bool}
 use Rattle.std.proofs.lemmas.List.{map-append, take_all, drop_all, length-drop, length-take-le}
 use Rattle.std.proofs.lemmas.List.Sums.{fold-append}
 use Rattle.std.proofs.lemmas.Option.{slice_get_within, slice_get-get_or, get_or_from_slice_get}
 use Rattle.pg_types.specs.Placement.{Families, root, enter, enter_after, cell_in, cell_of, with_sign, few_signs}
 use Rattle.pg_types.specs.Tails.{outputs_of}
-use Rattle.pg_patterns.specs.DottedSigns.{dotted_cmp}
 use Rattle.pg_patterns.specs.Values.{IsPatternMap, SignsUpTo}
 use Rattle.pg_patterns.proofs.Sound.{each_sign}
 use Rattle.pg_types.specs.Signs.{is_sign}
@@ -25,9 +22,9 @@ use Rattle.pg_cells.specs.Root.{root_held}
 use Rattle.pg_cells.specs.Walks.{AddsBlanks}
 use Rattle.pg_cells.proofs.PlacementLaws.{cell_of_last}
 use Rattle.pg_cells.proofs.StringMaps.{order, same_string, same_from, equal_or_not, find_put_same, find_put_other}
-use Rattle.pg_table.specs.Packed.{IsGroup, IsPacked, IsReached, IsEntered, pairs}
+use Rattle.pg_table.specs.Packed.{IsGroup, IsReached, IsEntered, pairs}
 use Rattle.pg_table.specs.Sharing.{Lists, Shares, turned, with_ends}
-use Rattle.pg_table.specs.Texts.{layout, recorded, head_in, table_records}
+use Rattle.pg_table.specs.Texts.{layout, recorded}
 use Rattle.pg_table.proofs.Groups.{Entry, AreApart, apart_more, others_same, string_so_far, string_whole, strings_left, front_more, part_each}
 use Rattle.pg_table.proofs.RecordedStrings.{with_strings, recorded_is, recorded_ordered, recorded_known}
 use Rattle.pg_table.proofs.TableRecords.{head_is, records_are}

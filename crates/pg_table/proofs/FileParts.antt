@@ -1,5 +1,5 @@
 -- The cells and records of a file that was made of them.
-use Rattle.std.proofs.Common.{◌≡◌, ℕ, ◌+◌, ◌*◌, ◌^◌, ◌<◌, ◌≤◌, true, nat_eq, List, [], ◌∷◌, ◌++◌, length, get_or, slice_index, refl, sym, ◌∙◌, ap, subst, arith, map, append_assoc, length-append}
+use Rattle.std.proofs.Common.{◌≡◌, ℕ, ◌+◌, ◌<◌, ◌≤◌, true, nat_eq, List, [], ◌∷◌, ◌++◌, length, get_or, slice_index, refl, sym, ◌∙◌, ap, subst, arith, map, length-append}
 use Rattle.std.specs.List.{flat_map, range_with_len, starts_with}
 use Rattle.std.proofs.lemmas.List.{append-nil, get_or_default}
 use Rattle.std.proofs.lemmas.List.FromFn.{fill_by_all}
@@ -9,9 +9,9 @@ use Rattle.pg_table.specs.declared.cell.Cell.{Cell}
 use Rattle.pg_table.specs.declared.head.Head.{Head}
 use Rattle.pg_table.specs.declared.limits.TheConstants.{TABLE_MAX}
 use Rattle.pg_table.specs.Numbers.{u16_at, u32_at, u16_bytes, u32_bytes}
-use Rattle.pg_table.specs.Forms.{file_mark, head_of, cell_start, cell_at, record_start, record_at, records_of, read_record, file_len, is_well_formed}
+use Rattle.pg_table.specs.Forms.{file_mark, head_of, cell_start, cell_at, record_start, record_at, records_of, read_record, file_len}
 use Rattle.pg_table.specs.Texts.{cell_bytes, record_bytes, file_of}
-use Rattle.pg_table.proofs.FormLaws.{FitsHead, IsSoundCell, IsSoundRecord, IsWellFormed}
+use Rattle.pg_table.proofs.FormLaws.{IsSoundCell, IsSoundRecord, IsWellFormed}
 use Rattle.pg_table.proofs.Parts.{HasPart, part_first, part_rest, part_byte, part_of, u16_part, u32_part, length-parts, length-u16_bytes, length-u32_bytes}
 
 pub length-cell_bytes : (c : Cell) → length (cell_bytes c) ≡ 10

@@ -1,14 +1,11 @@
 -- The records of a file as a list.
-use Rattle.std.proofs.Common.{◌≡◌, ℕ, ◌+◌, ◌<◌, ◌≤◌, List, [], ◌∷◌, length, map, slice_get, get_or, Some, refl, sym, ◌∙◌, ap, arith}
-use Rattle.std.specs.List.{range_with_len}
+use Rattle.std.proofs.Common.{◌≡◌, ℕ, ◌+◌, ◌<◌, List, [], ◌∷◌, length, slice_get, Some, ◌∙◌, ap, arith}
 use Rattle.std.proofs.lemmas.List.FromFn.{length-map-range_with_len, get_or-map-range_with_len}
 use Rattle.std.proofs.lemmas.Option.{slice_get-get_or}
-use Rattle.pg_outputs.specs.declared.records.Record.{Record}
-use Rattle.pg_outputs.specs.Lists.{list_of}
 use Rattle.pg_outputs.proofs.ListLaws.{list_of-at, list_of-zero}
-use Rattle.pg_table.specs.Forms.{head_of, record_at, records_of, is_well_formed}
+use Rattle.pg_table.specs.Forms.{head_of, record_at, records_of}
 use Rattle.pg_table.specs.Lookups.{list_in}
-use Rattle.pg_table.proofs.FormLaws.{IsWellFormed, form_told}
+use Rattle.pg_table.proofs.FormLaws.{IsWellFormed}
 
 pub length-records : (b : List ℕ) → length (records_of b) ≡ (head_of b).records
 length-records b = length-map-range_with_len (record_at b) 0 (head_of b).records

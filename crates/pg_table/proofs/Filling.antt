@@ -1,22 +1,22 @@
 -- The row of cells, filled string by string.
-use Rattle.std.proofs.Common.{◌≡◌, ◌≢◌, ℕ, suc, zero, ◌+◌, ◌<◌, ◌≤◌, ◌⊎◌, inl, inr, Bool, true, false, cond, nat_eq, List, [], ◌∷◌, ◌++◌, length, map, take, drop, get_or, set, replicate, slice_get, Option, None, Some, unwrap_or, refl, sym, ◌∙◌, ap, subst, arith, append_assoc}
+use Rattle.std.proofs.Common.{◌≡◌, ℕ, ◌+◌, ◌<◌, ◌≤◌, ◌⊎◌, inl, inr, Bool, true, false, cond, nat_eq, List, [], ◌∷◌, ◌++◌, length, map, take, drop, get_or, set, replicate, slice_get, None, Some, unwrap_or, refl, sym, ◌∙◌, ap, subst, arith}
 use Rattle.std.specs.List.{range_with_len}
 use Rattle.std.specs.FinMap.{find}
 use Rattle.std.proofs.lemmas.Bool.{cases_eq, cases_lt, eqb-true}
 use Rattle.std.proofs.lemmas.List.{get_or-set_same, get_or-set_other, length-set, get_or-replicate, length-replicate, take-take, take-append-drop, length_push, nil_from_length}
 use Rattle.std.proofs.lemmas.List.FromFn.{fill_by_all}
-use Rattle.pg_types.specs.Placement.{Families, cell_of, base_of, top}
+use Rattle.pg_types.specs.Placement.{cell_of, base_of, top}
 use Rattle.pg_cells.specs.Held.{Held}
 use Rattle.pg_cells.specs.IsHeld.{IsHeld}
 use Rattle.pg_cells.proofs.StringCells.{cell_parts}
 use Rattle.pg_cells.proofs.StringMaps.{order}
 use Rattle.pg_outputs.specs.declared.records.Record.{Record}
 use Rattle.pg_table.specs.declared.cell.Cell.{Cell}
-use Rattle.pg_table.specs.Packed.{IsEntered, IsReached}
+use Rattle.pg_table.specs.Packed.{IsEntered}
 use Rattle.pg_table.specs.Rows.{HasHeads, IsRow, HasCell, Fills}
 use Rattle.pg_table.specs.Texts.{last_sign, cell_for, unused_cell, cell_of_table, head_in, table_cells}
 use Rattle.pg_table.proofs.Groups.{Entry}
-use Rattle.pg_table.proofs.TableCells.{cell_with, cell_cases, cell_within, last_sign_is}
+use Rattle.pg_table.proofs.TableCells.{cell_with, cell_cases, last_sign_is}
 
 module _ (h : Held ℕ) (held : IsHeld h) (heads : List ℕ → ℕ) (has : HasHeads h heads) where
   -- the cell of a string, from what is told of it

@@ -1,24 +1,22 @@
 -- The value of a position by a packed table is that of the patterns.
-use Rattle.std.proofs.Common.{◌≡◌, ℕ, suc, zero, ◌+◌, ◌-◌, ◌<◌, ◌≤◌, max, Bool, true, false, cond, ◌&&◌, nat_eq, nat_le, List, [], ◌∷◌, length, map, take, drop, get_or, slice_index_or, slice_get, Some, refl, sym, ◌∙◌, ap, subst, arith, inl, inr}
-use Rattle.std.specs.List.{flat_map, range_with_len, starts_with, list_all}
+use Rattle.std.proofs.Common.{◌≡◌, ℕ, suc, zero, ◌+◌, ◌-◌, ◌<◌, ◌≤◌, max, Bool, true, false, cond, ◌&&◌, nat_eq, nat_le, List, [], ◌∷◌, length, map, take, drop, slice_index_or, slice_get, Some, refl, sym, ◌∙◌, ap, arith, inl, inr}
+use Rattle.std.specs.List.{flat_map, range_with_len, starts_with}
 use Rattle.std.specs.Cmp.Lexicographic.{pointwise, texts_ties}
-use Rattle.std.proofs.lemmas.Bool.{cases_Bool, and_parts, and_from, leb-true, le-leb, eqb-true, eq-eqb, cases_eq}
+use Rattle.std.proofs.lemmas.Bool.{and_parts, and_from, leb-true, le-leb, eqb-true, eq-eqb, cases_eq}
 use Rattle.std.proofs.lemmas.List.{length-take-le, length-drop}
 use Rattle.std.proofs.lemmas.Option.{slice_get_within, get_or_from_slice_get}
 use Rattle.pg_types.specs.declared.limits.TheConstants.{PATTERN_SIGNS_MAX}
 use Rattle.pg_dict.specs.Word.{Word}
 use Rattle.pg_translate.specs.Reach.{positions}
 use Rattle.pg_patterns.specs.DottedSigns.{same_dotted}
-use Rattle.pg_patterns.specs.Values.{IsPatternMap, is_entry, best, applies, stands_at, value_of, value_at}
+use Rattle.pg_patterns.specs.Values.{IsPatternMap, is_entry, best, applies, stands_at, value_at}
 use Rattle.pg_patterns.proofs.Kept.{value_of_sorted}
-use Rattle.pg_types.proofs.BoolFacts.{and_first, and_second}
 use Rattle.pg_patterns.proofs.Sound.{entry_bounds, entry_at}
 use Rattle.pg_cells.proofs.StringMaps.{same_from, same_itself}
-use Rattle.pg_select.specs.CountedPositions.{Minima}
 use Rattle.pg_select.specs.Statuses.{status, weight_at}
-use Rattle.pg_select.specs.Sums.{totals, totals_of}
+use Rattle.pg_select.specs.Sums.{totals_of}
 use Rattle.pg_table.specs.Laws.{HasEntries, ValuesArePacked, TotalsArePacked}
-use Rattle.pg_table.specs.Lookups.{greatest, value_from, table_value, table_entry, table_totals}
+use Rattle.pg_table.specs.Lookups.{greatest, value_from, table_value, table_entry}
 use Rattle.pg_table.proofs.Groups.{Entry}
 
 -- the greatest number is within each bound, and over each number

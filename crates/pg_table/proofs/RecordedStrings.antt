@@ -1,19 +1,19 @@
 -- The lists of the strings of patterns are recorded.
-use Rattle.std.proofs.Common.{◌≡◌, ◌≢◌, ℕ, suc, zero, ◌+◌, ◌<◌, ◌≤◌, ◌⊎◌, inl, inr, Bool, true, false, cond, nat_eq, List, [], ◌∷◌, ◌++◌, length, map, filter, fold, reverse, get_or, slice_get, Some, refl, sym, ◌∙◌, ap, subst, arith}
+use Rattle.std.proofs.Common.{◌≡◌, ℕ, ◌⊎◌, inl, inr, true, cond, nat_eq, List, [], ◌∷◌, map, filter, fold, reverse, refl, sym, ◌∙◌, ap, subst, arith}
 use Rattle.std.specs.List.{flat_map, list_all, All}
 use Rattle.std.specs.Cmp.Lexicographic.{pointwise, texts_ties}
 use Rattle.std.proofs.lemmas.Bool.{cases_Bool}
 use Rattle.std.proofs.lemmas.List.Elements.{All-nil, All-cons}
 use Rattle.std.proofs.lemmas.List.Sums.{fold-append}
 use Rattle.pg_types.specs.Tails.{outputs_of, suffixes}
-use Rattle.pg_patterns.specs.Values.{IsPatternMap, is_entry}
+use Rattle.pg_patterns.specs.Values.{is_entry}
 use Rattle.pg_patterns.specs.Texts.{strings_of, with_string}
 use Rattle.pg_types.proofs.BoolFacts.{and_first, and_second}
 use Rattle.pg_patterns.proofs.Sound.{entry_bounds}
 use Rattle.pg_cells.proofs.StringMaps.{same_from}
 use Rattle.pg_table.specs.Sharing.{Lists, with_ends}
 use Rattle.pg_table.specs.Texts.{with_list, recorded}
-use Rattle.pg_table.proofs.Recorded.{Among, AreOrdered, Grows, Takes, ends_taken}
+use Rattle.pg_table.proofs.Recorded.{Among, AreOrdered, Grows, ends_taken}
 use Rattle.pg_table.proofs.TableRecords.{IsGood}
 
 -- a fold over lists that are joined

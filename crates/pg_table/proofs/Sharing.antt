@@ -1,5 +1,5 @@
 -- One more record, and the lists that the records stand for.
-use Rattle.std.proofs.Common.{◌≡◌, ℕ, ◌+◌, ◌-◌, ◌<◌, ◌≤◌, ◌⊎◌, inl, inr, true, false, List, [], ◌∷◌, ◌++◌, length, map, take, drop, get_or, slice_get, Some, refl, sym, ◌∙◌, ap, subst, arith, suc}
+use Rattle.std.proofs.Common.{◌≡◌, ℕ, ◌+◌, ◌-◌, ◌<◌, ◌≤◌, inl, inr, List, [], ◌∷◌, ◌++◌, length, map, take, drop, get_or, slice_get, Some, sym, ◌∙◌, ap, subst, arith, suc}
 use Rattle.std.proofs.lemmas.Bool.{false≢true}
 use Rattle.std.proofs.lemmas.List.{length_push, drop_more}
 use Rattle.std.proofs.lemmas.Option.{slice_get_within, slice_get-get_or, get_or_from_slice_get}
@@ -11,7 +11,7 @@ use Rattle.pg_outputs.proofs.RecordLaws.{there_or_new}
 use Rattle.pg_table.specs.Packed.{pairs}
 use Rattle.pg_table.specs.Sharing.{Lists, turned, Shares}
 use Rattle.pg_table.specs.Texts.{with_list}
-use Rattle.pg_table.proofs.Recorded.{Among, same_list, test_among, with_cases, get_cases}
+use Rattle.pg_table.proofs.Recorded.{test_among, with_cases, get_cases}
 use Rattle.pg_table.proofs.TableRecords.{turned_apart}
 
 -- what `cons` does: the record is there, or it is put last

@@ -1,19 +1,17 @@
 -- The cells of a table: each is that of its string, or unused.
-use Rattle.std.proofs.Common.{◌≡◌, ◌≢◌, ℕ, ◌+◌, ◌<◌, ◌≤◌, ◌⊎◌, inl, inr, Bool, true, false, cond, ◌||◌, nat_eq, T, List, [], ◌∷◌, ◌++◌, length, map, Option, None, Some, unwrap_or, refl, sym, ◌∙◌, ap, subst, arith}
-use Rattle.std.specs.List.{flat_map, list_any, find}
-use Rattle.std.specs.Option.{option_map, option_map_or}
+use Rattle.std.proofs.Common.{◌≡◌, ◌≢◌, ℕ, ◌+◌, ◌<◌, ◌≤◌, ◌⊎◌, inl, inr, Bool, true, false, cond, ◌||◌, nat_eq, List, [], ◌∷◌, ◌++◌, map, Option, None, Some, unwrap_or, refl, sym, ◌∙◌, ap, subst, arith}
+use Rattle.std.specs.List.{list_any, find}
+use Rattle.std.specs.Option.{option_map_or}
 use Rattle.std.proofs.lemmas.Bool.{cases_Bool, false≢true, or_cases, or_left, or_right, eqb-true, eq-eqb, cases_eq}
 use Rattle.std.proofs.lemmas.List.{same_from_push}
 use Rattle.std.proofs.lemmas.List.Folds.{list_any-append}
-use Rattle.pg_types.specs.declared.limits.TheConstants.{SIGNS_MAX}
 use Rattle.pg_types.specs.Placement.{Family, Families, family_at, is_used, cell_of, base_of, top}
 use Rattle.pg_cells.specs.Held.{Held}
 use Rattle.pg_cells.specs.IsHeld.{IsHeld}
-use Rattle.pg_cells.proofs.StringMaps.{order, same_string, same_from}
+use Rattle.pg_cells.proofs.StringMaps.{same_string, same_from}
 use Rattle.pg_types.proofs.LeastBase.{used_le_top}
 use Rattle.pg_cells.proofs.PlacementLaws.{cell_used}
-use Rattle.pg_cells.proofs.StringCells.{IsCellOf, cell_parts, parts_cell, base_parts}
-use Rattle.pg_table.specs.declared.cell.Cell.{Cell}
+use Rattle.pg_cells.proofs.StringCells.{cell_parts, base_parts}
 use Rattle.pg_table.specs.declared.head.Head.{Head}
 use Rattle.pg_table.specs.Texts.{strings_with_cells, has_cell, last_sign, cell_for, unused_cell, cell_of_table}
 use Rattle.pg_table.proofs.FormLaws.{IsSoundCell}

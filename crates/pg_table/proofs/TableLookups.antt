@@ -1,7 +1,7 @@
 -- The list that a table gives for a string is that of the string's cell, and empty where it has none.
-use Rattle.std.proofs.Common.{◌≡◌, ◌≢◌, ℕ, suc, zero, ◌+◌, ◌<◌, ◌≤◌, ◌⊎◌, inl, inr, Bool, true, false, cond, ◌&&◌, nat_eq, nat_lt, List, [], ◌∷◌, ◌++◌, length, Option, None, Some, unwrap_or, refl, sym, ◌∙◌, ap, subst, arith, append_assoc}
+use Rattle.std.proofs.Common.{◌≡◌, ◌≢◌, ℕ, ◌+◌, ◌<◌, ◌⊎◌, inl, inr, true, false, nat_eq, nat_lt, List, [], ◌∷◌, ◌++◌, length, Option, None, Some, unwrap_or, refl, sym, ◌∙◌, ap, arith, append_assoc}
 use Rattle.std.specs.Option.{option_map}
-use Rattle.std.proofs.lemmas.Bool.{cases_Bool, cases_lt, cases_eq, and_from, and_left, and_right, lt-ltb, le-ltb, eqb-true, eq-eqb, ne_eqb}
+use Rattle.std.proofs.lemmas.Bool.{cases_Bool, cases_lt, and_from, and_left, and_right, lt-ltb, le-ltb, eq-eqb, ne_eqb}
 use Rattle.std.proofs.lemmas.List.{length_push}
 use Rattle.pg_types.specs.Placement.{Family, Families, cell_of, base_of, top}
 use Rattle.pg_cells.specs.Held.{Held}
@@ -13,7 +13,7 @@ use Rattle.pg_table.specs.Forms.{head_of, cell_at}
 use Rattle.pg_table.specs.Lookups.{has_sign, list_in, lookup, lookup_from}
 use Rattle.pg_table.specs.Texts.{last_sign, cell_for, unused_cell, cell_of_table}
 use Rattle.pg_table.proofs.FileRecords.{list_in-zero}
-use Rattle.pg_table.proofs.TableCells.{cell_with, cell_cases, cell_within, cell_sign, cell_at_base, last_sign_is}
+use Rattle.pg_table.proofs.TableCells.{cell_with, cell_cases, cell_within, cell_at_base, last_sign_is}
 use Rattle.pg_table.proofs.Walks.{no_sign, no_child, list_here, list_below}
 
 -- the cells of the bytes b are those of the families

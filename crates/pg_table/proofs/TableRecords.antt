@@ -1,25 +1,23 @@
 -- The records of a table: what their lists are, and the values of a string by its list.
-use Rattle.std.proofs.Common.{◌≡◌, ◌≢◌, ℕ, suc, zero, ◌+◌, ◌<◌, ◌≤◌, ◌⊎◌, inl, inr, max, Bool, true, false, cond, ◌&&◌, nat_eq, List, [], ◌∷◌, ◌++◌, length, map, filter, get_or, slice_get, Option, None, Some, refl, sym, ◌∙◌, ap, subst, arith}
+use Rattle.std.proofs.Common.{◌≡◌, ℕ, suc, zero, ◌+◌, ◌<◌, ◌≤◌, ◌⊎◌, inl, inr, max, cond, ◌&&◌, nat_eq, List, [], ◌∷◌, length, map, filter, get_or, slice_get, Some, refl, sym, ◌∙◌, ap, subst, arith}
 use Rattle.std.specs.Option.{option_map}
 use Rattle.std.specs.Cmp.Lexicographic.{pointwise}
-use Rattle.std.specs.FinMap.Entries.{is_sorted}
-use Rattle.std.proofs.lemmas.Bool.{cases_Bool, cases_eq, eqb-true, eq-eqb, ne_eqb}
+use Rattle.std.proofs.lemmas.Bool.{cases_Bool, cases_eq, eq-eqb, ne_eqb}
 use Rattle.std.proofs.lemmas.List.{length-map, same_lists}
-use Rattle.std.proofs.lemmas.Option.{slice_get-map, slice_get_within, get_or_from_slice_get, slice_get-get_or}
+use Rattle.std.proofs.lemmas.Option.{slice_get-map, get_or_from_slice_get, slice_get-get_or}
 use Rattle.pg_types.specs.declared.limits.TheConstants.{LEVEL_MAX, PATTERN_SIGNS_MAX}
 use Rattle.pg_types.specs.Tails.{outputs_of}
-use Rattle.pg_patterns.specs.DottedSigns.{dotted_cmp, same_dotted}
+use Rattle.pg_patterns.specs.DottedSigns.{same_dotted}
 use Rattle.pg_patterns.specs.Values.{IsPatternMap, best, value_of}
 use Rattle.pg_patterns.proofs.Kept.{value_of_sorted}
 use Rattle.pg_outputs.specs.declared.records.Record.{Record}
-use Rattle.pg_outputs.specs.Lists.{list_of, OneHeadEach}
-use Rattle.pg_outputs.specs.Records.{AreShared}
+use Rattle.pg_outputs.specs.Lists.{list_of}
 use Rattle.pg_outputs.proofs.ListLaws.{list_of-at, list_of-zero}
 use Rattle.pg_table.specs.Lookups.{greatest_at}
 use Rattle.pg_table.specs.Sharing.{Lists, turned, Shares}
 use Rattle.pg_table.specs.Texts.{head_among, record_of}
 use Rattle.pg_table.proofs.FormLaws.{IsSoundRecord}
-use Rattle.pg_table.proofs.Recorded.{Among, AreOrdered, IsOrdered, head_cases, head_within}
+use Rattle.pg_table.proofs.Recorded.{Among, AreOrdered, head_cases, head_within}
 
 -- the dot and the value of a pattern
 pub record IsGood (x : ℕ × ℕ) : Type 0 where

@@ -1,14 +1,12 @@
 -- A packed table and its totals, and refused tables, computed. The edge is sign 1, `a` 2, `b` 3 and `c` 4, and the one pattern
 -- is `ab` with the value 1 between its letters.
-use Rattle.std.proofs.Common.{◌≡◌, ℕ, true, false, List, [], ◌∷◌, ◌++◌, length, take, refl}
+use Rattle.std.proofs.Common.{◌≡◌, ℕ, true, false, List, [], ◌∷◌, ◌++◌, take, refl}
 use Rattle.pg_types.specs.Placement.{with_sign}
-use Rattle.pg_types.specs.declared.marks.Totals.{Totals}
 use Rattle.pg_dict.specs.Word.{Word}
 use Rattle.pg_outputs.specs.Lists.{list_of}
-use Rattle.pg_select.specs.CountedPositions.{Minima}
 use Rattle.pg_table.specs.Numbers.{u16_at, u32_at, u16_bytes, u32_bytes}
 use Rattle.pg_table.specs.Forms.{is_well_formed}
-use Rattle.pg_table.specs.Lookups.{lookup, table_entry, table_value, table_totals}
+use Rattle.pg_table.specs.Lookups.{lookup, table_value, table_totals}
 use Rattle.pg_table.specs.Texts.{table_text}
 
 abbrev patterns : List ((List ℕ × ℕ) × ℕ)

@@ -1,28 +1,27 @@
 -- The packed table file of patterns is well formed, and gives each string the values of the patterns.
-use Rattle.std.proofs.Common.{◌≡◌, ◌≢◌, ℕ, suc, zero, ◌+◌, ◌*◌, ◌<◌, ◌≤◌, ◌⊎◌, inl, inr, Bool, true, false, List, [], ◌∷◌, length, map, get_or, slice_get, Option, None, Some, refl, sym, ◌∙◌, ap, subst, arith}
+use Rattle.std.proofs.Common.{◌≡◌, ℕ, ◌+◌, ◌*◌, ◌<◌, ◌≤◌, inl, inr, Bool, true, false, List, [], ◌∷◌, length, map, get_or, slice_get, Option, None, Some, refl, sym, ◌∙◌, ap, subst, arith}
 use Rattle.std.specs.List.{range_with_len}
 use Rattle.std.specs.Option.{option_map}
 use Rattle.std.proofs.lemmas.Bool.{cases_lt, false≢true}
-use Rattle.std.proofs.lemmas.List.{length-map, get_or_default}
+use Rattle.std.proofs.lemmas.List.{length-map}
 use Rattle.std.proofs.lemmas.List.FromFn.{length-map-range_with_len, get_or-map-range_with_len}
 use Rattle.std.proofs.lemmas.Option.{slice_get-map, slice_get-get_or, get_or_from_slice_get}
 use Rattle.pg_types.specs.declared.limits.TheConstants.{SIGNS_MAX}
-use Rattle.pg_types.specs.Placement.{Families, cell_of, top}
+use Rattle.pg_types.specs.Placement.{cell_of, top}
 use Rattle.pg_types.specs.Tails.{outputs_of}
 use Rattle.pg_patterns.specs.Values.{IsPatternMap, value_of}
 use Rattle.pg_cells.specs.Held.{Held}
-use Rattle.pg_cells.specs.IsHeld.{IsHeld}
 use Rattle.pg_outputs.specs.declared.records.Record.{Record}
 use Rattle.pg_outputs.specs.Lists.{list_of}
 use Rattle.pg_table.specs.declared.cell.Cell.{Cell}
 use Rattle.pg_table.specs.declared.limits.TheConstants.{TABLE_MAX}
-use Rattle.pg_table.specs.Forms.{head_of, cell_at, records_of, file_len, is_well_formed}
-use Rattle.pg_table.specs.Lookups.{lookup, table_entry, greatest_at, list_in}
+use Rattle.pg_table.specs.Forms.{is_well_formed}
+use Rattle.pg_table.specs.Lookups.{lookup, table_entry, greatest_at}
 use Rattle.pg_table.specs.Packed.{IsPacked, IsEntered}
 use Rattle.pg_table.specs.Sharing.{turned}
-use Rattle.pg_table.specs.Texts.{layout, recorded, head_in, record_of, cell_of_table, table_cells, table_records, file_of, table_text}
+use Rattle.pg_table.specs.Texts.{recorded, head_in, record_of, cell_of_table, table_cells, table_records, file_of, table_text}
 use Rattle.pg_table.proofs.FormLaws.{IsSoundCell, IsSoundRecord, form_from}
-use Rattle.pg_table.proofs.FileParts.{AreSmall, head_with, head_is, cell_is, record_is, file_sound, records_are_those, length-file_of}
+use Rattle.pg_table.proofs.FileParts.{AreSmall, head_with, head_is, cell_is, file_sound, records_are_those, length-file_of}
 use Rattle.pg_table.proofs.Recorded.{head_within}
 use Rattle.pg_table.proofs.RecordedStrings.{recorded_ordered, recorded_known}
 use Rattle.pg_table.proofs.TableCells.{cell_within, cells_sound}

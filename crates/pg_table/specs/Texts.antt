@@ -1,5 +1,5 @@
 -- The packed table file of patterns.
-use Rattle.std.specs.Prelude.{ℕ, ◌+◌, Bool, false, if◌then◌else◌, nat_eq, unwrap_or, List, [], ◌∷◌, ◌++◌, length, map, fold, reverse, Option, None, Some, position}
+use Rattle.std.specs.Prelude.{ℕ, ◌+◌, Bool, false, if◌then◌else◌, nat_eq, unwrap_or, List, [], ◌∷◌, ◌++◌, length, map, fold, reverse, position}
 use Rattle.std.specs.List.{flat_map, find, list_any, range_with_len}
 use Rattle.std.specs.Option.{option_map_or}
 use Rattle.std.specs.Cmp.Lexicographic.{pointwise}

@@ -1,5 +1,5 @@
-//! A packed table and its totals, tables that are refused, and a table with one byte changed. The edge is sign 1, `a` 2, `b` 3
-//! and `c` 4.
+//! A packed table and its totals, tables that are refused, and a table with one byte changed. The edge is sign 1, `a` 2,
+//! `b` 3 and `c` 4.
 ghost use Rattle.std.specs.Prelude.{◌+◌};
 ghost use Rattle.pg_translate.specs.Alphabets.{letters_of};
 ghost use Rattle.pg_dict.specs.Word.{SignsAtMost};
@@ -108,7 +108,7 @@ fn one_byte_changed(rt: HostRuntime) -> Result<(), Fail> {
     let dictionary = Dictionary::read(rt.alloc(), &table, b"ab-c\nab-a\n")?;
     for i in 0..TEXT.len() {
         let mut changed = TEXT;
-        changed[i] += 1;
+        changed[i] = changed[i].wrapping_add(1);
         let wanted = ACCEPTED
             .iter()
             .find(|accepted| accepted.0 == i)

@@ -1,8 +1,7 @@
-use Rattle.std.proofs.Common.{◌≡◌, ◌<◌, ◌≤◌, ℕ, List, [], length, get_or, slice_get, Some, All, sym, subst, ap, arith}
+use Rattle.std.proofs.Common.{◌<◌, ◌≤◌, ℕ, [], length, get_or, All, sym, subst, arith}
 use Rattle.std.proofs.lemmas.Option.{slice_get-get_or}
 use Rattle.pg_cells.specs.Held.{Held}
 use Rattle.pg_cells.specs.IsHeld.{IsHeld}
-use Rattle.pg_table.specs.Packed.{IsGroup}
 use Rattle.pg_table.proofs.Groups.{Entry}
 use Rattle.pg_table.proofs.EnteredStrings.{EnteredTo, entered_none, entered_string, entered_whole, signs_within}
 use Rattle.pg_table.proofs.entering.enter_all.Goals as goal

@@ -1,5 +1,4 @@
-use Rattle.std.proofs.Common.{◌≡◌, ℕ, ◌+◌, ◌-◌, ◌∷◌, List, [], map, refl, sym, ap, subst, ◌∙◌, arith}
-use Rattle.pg_outputs.specs.Lists.{list_of, Grows}
+use Rattle.std.proofs.Common.{◌≡◌, ℕ, ◌+◌, ◌-◌, ◌∷◌, List, map, refl, sym, ap, subst, ◌∙◌, arith}
 use Rattle.pg_outputs.proofs.ListLaws.{list_of-zero}
 use Rattle.pg_table.specs.Packed.{pairs}
 use Rattle.pg_table.specs.Sharing.{Shares, turned, with_ends}

@@ -1,4 +1,4 @@
-use Rattle.std.proofs.Common.{rules, arith, ◌∙◌}
+use Rattle.std.proofs.Common.{arith}
 use Rattle.pg_table.specs.Numbers.{u16_at}
 use Rattle.pg_table.proofs.numbers.u16_at.Goals as goal
 

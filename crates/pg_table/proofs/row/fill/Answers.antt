@@ -1,7 +1,6 @@
-use Rattle.std.proofs.Common.{◌≡◌, ◌<◌, ◌≤◌, ◌+◌, ℕ, List, [], ◌∷◌, ⊎_elim, inl, inr, length, take, get_or, slice_get, Some, All, sym, refl, ap, subst, ◌∙◌, arith}
+use Rattle.std.proofs.Common.{◌≡◌, ◌≤◌, ℕ, List, [], ◌∷◌, inl, inr, length, take, slice_get, Some, All, sym, ap, subst, ◌∙◌, arith}
 use Rattle.std.proofs.lemmas.Bool.{cases_lt}
 use Rattle.std.proofs.lemmas.List.{take_all}
-use Rattle.pg_cells.specs.Held.{Held}
 use Rattle.pg_table.specs.Rows.{HasHeads, HasCell}
 use Rattle.pg_table.specs.Texts.{head_in}
 use Rattle.pg_table.proofs.EnteredStrings.{signs_within}

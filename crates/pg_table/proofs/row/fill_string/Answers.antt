@@ -1,10 +1,10 @@
-use Rattle.std.proofs.Common.{◌≡◌, ◌<◌, ◌≤◌, ◌+◌, ℕ, List, [], ◌∷◌, ◌++◌, nat_eq, Bool, true, false, cond, length, take, get_or, Option, None, Some, sym, refl, ap, ◌∙◌, arith}
+use Rattle.std.proofs.Common.{◌≡◌, ◌<◌, ◌≤◌, ◌+◌, ℕ, List, [], ◌∷◌, ◌++◌, nat_eq, Bool, true, false, cond, length, take, get_or, None, Some, sym, refl, ap, ◌∙◌, arith}
 use Rattle.std.proofs.lemmas.Bool.{eqb-true}
 use Rattle.std.proofs.lemmas.List.{take_more}
-use Rattle.pg_types.specs.Placement.{cell_of, base_of, top}
+use Rattle.pg_types.specs.Placement.{cell_of, top}
 use Rattle.pg_table.specs.declared.cell.Cell.{Cell}
 use Rattle.pg_table.proofs.TableCells.{cell_within, base_within}
-use Rattle.pg_table.proofs.Filling.{cell_told, fills_none, fills_more, fills_rest}
+use Rattle.pg_table.proofs.Filling.{cell_told, fills_more, fills_rest}
 use Rattle.pg_table.proofs.row.fill_string.Goals as goal
 
 pub returns-in_default : goal.returns-in_default

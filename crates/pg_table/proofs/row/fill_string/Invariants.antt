@@ -1,5 +1,4 @@
-use Rattle.std.proofs.Common.{◌≡◌, ℕ, ◌+◌, List, length, take}
-use Rattle.pg_types.specs.Placement.{top}
+use Rattle.std.proofs.Common.{ℕ, List, take}
 use Rattle.pg_cells.specs.Walks.{IsAt}
 use Rattle.pg_table.specs.Rows.{HasHeads, IsRow, Fills}
 use Rattle.pg_table.proofs.row.fill_string.Given as goal

@@ -1,7 +1,5 @@
-use Rattle.std.proofs.Common.{◌≡◌, ◌<◌, ◌≤◌, ◌+◌, ◌*◌, ℕ, List, length, true, false, sym, ap, inl, inr, ◌∙◌, arith}
+use Rattle.std.proofs.Common.{◌≡◌, ◌+◌, length, ap, ◌∙◌, arith}
 use Rattle.pg_types.specs.Placement.{top}
-use Rattle.pg_table.specs.declared.limits.TheConstants.{TABLE_MAX}
-use Rattle.pg_table.specs.Texts.{table_text}
 use Rattle.pg_table.proofs.TableText.{text_size, fits, length-table_cells, text_of, sound_text, entries_text}
 use Rattle.pg_table.proofs.text.table_text.Goals as goal
 

@@ -1,4 +1,4 @@
-use Rattle.std.proofs.Common.{◌≡◌, true, false, sym, ◌∙◌, ap, arith, below_more}
+use Rattle.std.proofs.Common.{◌≡◌, true, sym, ◌∙◌, ap, arith, below_more}
 use Rattle.pg_table.specs.declared.cell.Cell.{Cell}
 use Rattle.pg_table.specs.Forms.{cell_at, is_sound_cell}
 use Rattle.pg_table.proofs.Ranges.{range_passes, range_fails}

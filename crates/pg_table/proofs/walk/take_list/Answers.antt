@@ -1,4 +1,4 @@
-use Rattle.std.proofs.Common.{◌≡◌, ℕ, ◌∷◌, List, refl, ap, ◌∙◌, arith}
+use Rattle.std.proofs.Common.{ℕ, List, refl, ap, ◌∙◌, arith}
 use Rattle.pg_table.specs.Lookups.{list_in}
 use Rattle.pg_select.specs.Positions.{values_of}
 use Rattle.pg_table.specs.Raising.{by_list, by_value}

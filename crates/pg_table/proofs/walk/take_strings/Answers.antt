@@ -1,7 +1,7 @@
-use Rattle.std.proofs.Common.{◌≡◌, ◌≢◌, ℕ, ◌+◌, ◌-◌, ◌<◌, ◌≤◌, max, true, List, [], ◌∷◌, ◌++◌, length, take, drop, get_or, refl, sym, ap, subst, ◌∙◌, arith, append_assoc}
+use Rattle.std.proofs.Common.{◌≡◌, ◌≢◌, ℕ, ◌+◌, ◌-◌, ◌<◌, ◌≤◌, max, true, List, [], ◌∷◌, ◌++◌, length, take, drop, get_or, refl, sym, ap, ◌∙◌, arith, append_assoc}
 use Rattle.pg_types.specs.declared.limits.TheConstants.{PATTERN_SIGNS_MAX}
 use Rattle.pg_table.specs.declared.cell.Cell.{Cell}
-use Rattle.pg_table.specs.Forms.{head_of, cell_at}
+use Rattle.pg_table.specs.Forms.{cell_at}
 use Rattle.pg_table.specs.Lookups.{has_sign, lookup, lookup_from, list_in}
 use Rattle.pg_select.specs.Positions.{values_of, Raises}
 use Rattle.pg_table.specs.Raising.{by_list, by_strings}

@@ -1,4 +1,4 @@
-use Rattle.std.proofs.Common.{◌≡◌, ◌+◌, ◌≤◌, length, ap, arith}
+use Rattle.std.proofs.Common.{◌+◌, ◌≤◌, length, ap, arith}
 use Rattle.pg_table.specs.declared.head.Head.{Head}
 use Rattle.pg_table.proofs.FormLaws.{form_told}
 use Rattle.pg_table.proofs.view.TableView.cell.Goals as goal

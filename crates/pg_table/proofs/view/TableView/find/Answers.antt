@@ -1,7 +1,7 @@
-use Rattle.std.proofs.Common.{◌≡◌, ◌+◌, ◌<◌, ◌≤◌, length, ap, subst, sym, ◌∙◌, arith}
+use Rattle.std.proofs.Common.{◌≡◌, ◌+◌, ap, subst, ◌∙◌, arith}
 use Rattle.pg_table.specs.declared.head.Head.{Head}
 use Rattle.pg_table.specs.declared.cell.Cell.{Cell}
-use Rattle.pg_table.specs.Forms.{head_of, cell_at, cell_start}
+use Rattle.pg_table.specs.Forms.{head_of, cell_at}
 use Rattle.pg_table.proofs.FormLaws.{IsWellFormed, form_told}
 use Rattle.pg_table.proofs.view.TableView.find.Goals as goal
 

@@ -1,5 +1,4 @@
-use Rattle.std.proofs.Common.{◌≡◌, true, false, sym, refl, ◌∙◌, ap}
-use Rattle.std.specs.Option.{MatchOption}
+use Rattle.std.proofs.Common.{◌≡◌, true, sym, refl}
 use Rattle.pg_table.specs.Forms.{is_well_formed}
 use Rattle.pg_table.proofs.FormLaws.{form_is, no_head, no_cells, no_records}
 use Rattle.pg_table.proofs.view.TableView.read.Goals as goal

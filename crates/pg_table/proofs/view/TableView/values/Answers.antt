@@ -1,9 +1,8 @@
-use Rattle.std.proofs.Common.{◌≡◌, ℕ, ◌+◌, ◌-◌, Bool, true, false, length, get_or, replicate, max, sym, ap, ◌∙◌, arith, refl}
-use Rattle.std.specs.List.{range_with_len}
-use Rattle.pg_types.specs.declared.limits.TheConstants.{PATTERN_SIGNS_MAX, WORD_LETTERS_MAX}
-use Rattle.pg_table.specs.Lookups.{table_value, greatest, value_from}
+use Rattle.std.proofs.Common.{◌≡◌, ℕ, ◌+◌, Bool, true, false, get_or, ap, ◌∙◌, arith, refl}
+use Rattle.pg_types.specs.declared.limits.TheConstants.{WORD_LETTERS_MAX}
+use Rattle.pg_table.specs.Lookups.{table_value}
 use Rattle.pg_select.specs.Positions.{values_of, bit}
-use Rattle.pg_table.specs.Raising.{by_strings, by_starts}
+use Rattle.pg_table.specs.Raising.{by_starts}
 use Rattle.pg_table.proofs.Walks.{all_same, table_value_is}
 use Rattle.pg_table.proofs.view.TableView.values.Goals as goal
 
