@@ -1,0 +1,61 @@
+-- What a packed table file says: the list of a string, its values, the values of the positions of a word, and the totals.
+use Rattle.std.specs.Prelude.{ℕ, ◌+◌, ◌-◌, Bool, true, false, ◌&&◌, nat_eq, nat_lt, nat_le, max, if◌then◌else◌, List, [], ◌∷◌, length, map, take, drop, slice_index_or}
+use Rattle.std.specs.List.{flat_map, range_with_len}
+use Rattle.pg_types.specs.declared.limits.TheConstants.{PATTERN_SIGNS_MAX}
+use Rattle.pg_types.specs.declared.marks.Mark.{Mark}
+use Rattle.pg_types.specs.declared.marks.Totals.{Totals}
+use Rattle.pg_translate.specs.Reach.{positions}
+use Rattle.pg_dict.specs.Word.{Word}
+use Rattle.pg_outputs.specs.Lists.{list_of}
+use Rattle.pg_select.specs.CountedPositions.{Minima}
+use Rattle.pg_select.specs.Statuses.{status, position_weight}
+use Rattle.pg_select.specs.Sums.{totals_of}
+use Rattle.pg_table.specs.Forms.{head_of, cell_at, records_of}
+
+-- the family at the base has the sign: the cell of the sign is there, and has it
+abbrev pub has_sign : List ℕ → ℕ → ℕ → Bool
+has_sign b base s = nat_lt (base + s) (head_of b).cells && nat_eq (cell_at b (base + s)).sign s
+
+-- the list whose head is h
+abbrev pub list_in : List ℕ → ℕ → List (ℕ × ℕ)
+list_in b h = list_of (records_of b) h
+
+-- the list of the string q below the family at the base, each value with its dot. It is empty where a cell is missing
+abbrev pub lookup_from : List ℕ → ℕ → List ℕ → List (ℕ × ℕ)
+lookup_from b base [] = []
+lookup_from b base (s ∷ []) = if has_sign b base s then list_in b (cell_at b (base + s)).head else []
+lookup_from b base (s ∷ t ∷ q) = if has_sign b base s && nat_lt 0 (cell_at b (base + s)).child then lookup_from b (cell_at b (base + s)).child (t ∷ q) else []
+
+-- the list of the string q
+unfoldable pub lookup : List ℕ → List ℕ → List (ℕ × ℕ)
+lookup b q = lookup_from b 0 q
+
+-- the greatest value at the dot in a list, 0 where there is none
+abbrev pub greatest_at : ℕ → List (ℕ × ℕ) → ℕ
+greatest_at d [] = 0
+greatest_at d (x ∷ xs) = max (if nat_eq x.1 d then x.0 else 0) (greatest_at d xs)
+
+-- the value of the string q at the dot d, 0 where it has none
+abbrev pub table_entry : List ℕ → List ℕ → ℕ → ℕ
+table_entry b q d = greatest_at d (lookup b q)
+
+-- the greatest of the numbers that f gives
+abbrev pub greatest : (ℕ → ℕ) → List ℕ → ℕ
+greatest f [] = 0
+greatest f (x ∷ xs) = max (f x) (greatest f xs)
+
+-- the value that the n signs of w from i on give to position p, which is their dot p - i
+abbrev pub value_from : List ℕ → List ℕ → ℕ → ℕ → ℕ → ℕ
+value_from b w p i n = if nat_le (i + n) (length w) && (nat_le i p && nat_le (p - i) n) then table_entry b (take n (drop i w)) (p - i) else 0
+
+-- the value of position p of w: the greatest of all strings of 1 to 32 signs that stand in w
+unfoldable pub table_value : List ℕ → List ℕ → ℕ → ℕ
+table_value b w p = greatest (λ i. greatest (value_from b w p i) (range_with_len 1 PATTERN_SIGNS_MAX)) (range_with_len 0 (length w))
+
+-- the status of each position in reach of a word by the table, and its weight
+abbrev pub table_marks : Minima → List ℕ → Word → List (Mark × ℕ)
+table_marks m b w = map (λ p. (status (slice_index_or w.hyphens p false) (slice_index_or w.cares p true) (table_value b w.signs p), position_weight w p)) (positions m.left m.right (length w.signs))
+
+-- the totals of all words by the table
+abbrev pub table_totals : Minima → List Word → List ℕ → Totals
+table_totals m words b = totals_of (flat_map (table_marks m b) words)

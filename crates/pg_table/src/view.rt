@@ -1,0 +1,157 @@
+//! A packed table that is read in place.
+ghost use Rattle.std.specs.Prelude.{◌≡◌, ◌+◌, ◌-◌, ◌<◌, ◌≤◌, ◌&&◌, true, false, ◌⊎◌, ℕ, [], ◌∷◌, length, slice_index, slice_index_or, slice_range, All, IfSome, MatchOption};
+ghost use Rattle.std.specs.List.{list_all, range_with_len};
+ghost use Rattle.pg_types.specs.declared.limits.TheConstants.{SIGNS_MAX, WORD_LETTERS_MAX};
+ghost use Rattle.pg_table.specs.Lookups.{has_sign, list_in, table_value};
+ghost use Rattle.pg_table.specs.Forms.{head_of, has_head, cell_start, cell_at, record_start, read_record, is_sound_cell, is_sound_record, file_len, is_well_formed};
+
+use crate::cell::{Cell, cell_start};
+use crate::head::Head;
+use crate::limits::{CELL_LEN, RECORD_LEN};
+use crate::record::{is_sound_record, read_record, record_start};
+use crate::walk::walk;
+use pg_dict::WordRef;
+use pg_select::WordState;
+use pg_types::Sign;
+use std::marker::Model;
+
+/// A packed table, whose bytes it lends.
+#[derive(Drop)]
+pub struct TableView<'a> {
+    bytes: &'a [u8],
+    head: Head,
+}
+
+impl<'a> Model for TableView<'a> {
+    ghost use Rattle.std.specs.Prelude.{ℕ, List, ◌≡◌, true};
+    ghost use Rattle.pg_table.specs.Forms.{head_of, is_well_formed};
+
+    ghost Value = { List ℕ };
+
+    ghost view = { λ v. v.bytes.now };
+
+    ghost invariant = { λ v. (is_well_formed v.bytes.now ≡ true) × (v.head ≡ head_of v.bytes.now) };
+}
+
+impl<'a> TableView<'a> {
+    /// The table of a file, or `None` exactly where the bytes are not well formed. Each byte is looked at once.
+    pub fn read(bytes: &'a [u8]) -> Option<TableView<'a>>
+        ensures { MatchOption result (is_well_formed bytes.now ≡ false)
+            (λ v. (is_well_formed bytes.now ≡ true) × (v ≡ bytes.now)) }
+    {
+        let head = Head::read(bytes)?;
+        if has_sound_cells(bytes, &head) && has_sound_records(bytes, &head) {
+            Some(TableView { bytes, head })
+        } else {
+            None
+        }
+    }
+
+    /// The greatest sign.
+    pub fn signs(&self) -> u16
+        ensures signs { result ≡ (head_of self.now).signs }
+        ensures range { (1 ≤ result) × (result ≤ SIGNS_MAX) }
+        ensures well_formed { is_well_formed self.now ≡ true }
+    {
+        self.head.signs as u16
+    }
+
+    /// The ten bytes of the cell with this number, or `None` exactly where there are not so many cells.
+    pub fn cell(&self, at: u32) -> Option<&'a [u8]>
+        ensures { MatchOption result ((head_of self.now).cells ≤ at) (λ c. (at < (head_of self.now).cells)
+            × (c.now ≡ slice_range self.now (cell_start at) (cell_start at + 10))) }
+    {
+        if at >= self.head.cells {
+            return None;
+        }
+        let start = cell_start(at);
+        Some(&self.bytes[start..start + CELL_LEN])
+    }
+
+    /// The six bytes of the record with this head, or `None` exactly where the head is 0 or greater than the number of
+    /// records.
+    pub fn output_at(&self, head: u32) -> Option<&'a [u8]>
+        ensures { let start = record_start (head_of self.now).cells (head - 1) in
+            MatchOption result ((head ≡ 0) ⊎ ((head_of self.now).records < head))
+            (λ r. (0 < head) × (head ≤ (head_of self.now).records) × (r.now ≡ slice_range self.now start (start + 6))) }
+    {
+        let i = head.checked_sub(1)?;
+        if i >= self.head.records {
+            return None;
+        }
+        let start = record_start(self.head.cells, i);
+        Some(&self.bytes[start..start + RECORD_LEN])
+    }
+
+    /// Sets the value of each position of a word to that of the table, and its cover to false. It takes no memory.
+    pub fn values(&self, w: WordRef<'_>, out: &mut WordState)
+        requires word { length w.signs.now ≤ WORD_LETTERS_MAX + 2 }
+        requires signs { All (λ s. s ≤ (head_of self.now).signs) w.signs.now }
+        ensures values { (p : ℕ) → p < length w.entry.signs.now →
+            slice_index out.new.values p ≡ table_value self.now w.entry.signs.now p }
+        ensures covers { (p : ℕ) → p < length w.entry.signs.now → slice_index_or out.new.covers p false ≡ false }
+    {
+        *out = WordState::new();
+        walk(self, w.signs, out);
+    }
+}
+
+impl TableView<'_> {
+    /// The cell of the sign in the family at the base, or `None` where the family does not have it.
+    pub(crate) fn find(&self, base: u32, s: Sign) -> Option<Cell>
+        requires { base < (head_of self.now).cells }
+        ensures cell { MatchOption result (has_sign self.now base s ≡ false)
+            (λ c. (has_sign self.now base s ≡ true) × (c ≡ cell_at self.now (base + s))) }
+        ensures within { IfSome result (λ c.
+            (c.child < (head_of self.now).cells) × (c.head ≤ (head_of self.now).records)) }
+    {
+        let cells = self.head.cells;
+        let at = base + u32::from(s);
+        if at >= cells {
+            return None;
+        }
+        let cell = Cell::read(self.bytes, at);
+        if cell.sign == s { Some(cell) } else { None }
+    }
+
+    /// The first value and dot of a list, with the head of its rest. `None` is the empty list, head 0.
+    pub(crate) fn first(&self, head: u32) -> Option<(u8, u8, u32)>
+        requires { head ≤ (head_of self.now).records }
+        ensures list { MatchOption result (list_in self.now head ≡ [])
+            (λ r. list_in self.now head ≡ (r.0, r.1) ∷ list_in self.now r.2) }
+        ensures back { IfSome result (λ r. r.2 < head) }
+    {
+        let i = head.checked_sub(1)?;
+        let entry = read_record(self.bytes, record_start(self.head.cells, i));
+        Some((entry.value, entry.dot, entry.next as u32))
+    }
+}
+
+/// Whether each cell may stand at its place.
+fn has_sound_cells(bytes: &[u8], head: &Head) -> bool
+    requires { file_len head.now ≤ length bytes.now }
+    ensures { result
+        ≡ list_all (λ at. is_sound_cell head.now at (cell_at bytes.now at)) (range_with_len 0 head.now.cells) }
+{
+    for at in 0..head.cells {
+        if !Cell::read(bytes, at).is_sound(at, head) {
+            return false;
+        }
+    }
+    true
+}
+
+/// Whether each record may stand at its place.
+fn has_sound_records(bytes: &[u8], head: &Head) -> bool
+    requires { file_len head.now ≤ length bytes.now }
+    ensures { result ≡ list_all (λ i. is_sound_record i (read_record bytes.now (record_start head.now.cells i)))
+        (range_with_len 0 head.now.records) }
+{
+    for i in 0..head.records {
+        let record = read_record(bytes, record_start(head.cells, i));
+        if !is_sound_record(i, record) {
+            return false;
+        }
+    }
+    true
+}
