@@ -1,10 +1,9 @@
 -- A line of items is cut into them, and a file of lines into those.
-use Rattle.std.proofs.Common.{◌≡◌, ℕ, ◌+◌, ◌≤◌, Bool, true, cond, not, List, [], ◌∷◌, ◌++◌, length, map, Ok, refl, ◌∙◌, ap, arith, false, ◌-◌, ◌==◌, ◌||◌, take, slice_index, zero, suc}
-use Rattle.std.specs.List.{list_all, list_any, AllByRecursion, onto_first}
-use Rattle.std.proofs.lemmas.Bool.{and_parts, and_from, or_parts, not-true}
+use Rattle.std.proofs.Common.{◌≡◌, ℕ, ◌+◌, ◌≤◌, Bool, cond, List, [], ◌∷◌, ◌++◌, length, map, Ok, refl, ◌∙◌, ap, arith, false, ◌-◌, take}
+use Rattle.std.specs.List.{list_any, AllByRecursion}
 use Rattle.std.proofs.lemmas.List.{append_assoc}
 use Rattle.pg_types.specs.declared.limits.TheConstants.{FILE_MAX, WORD_LETTERS_MAX}
-use Rattle.pg_types.specs.Lines.{pieces_at, is_line_feed, without_cr, lines}
+use Rattle.pg_types.specs.Lines.{without_cr, lines}
 use Rattle.pg_types.specs.Reading.{both_parts}
 use Rattle.pg_translate.specs.Alphabets.{Alphabet}
 use Rattle.pg_translate.specs.Tokens.{Token, Letter, Digit, Weight, Marked, Edge}

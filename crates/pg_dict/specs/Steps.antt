@@ -1,6 +1,5 @@
 -- The steps of the reading of a word.
 use Rattle.std.specs.Prelude.{◌≡◌, ◌+◌, ◌<◌, ◌≤◌, ℕ, length, Option, None, Some, Result, Ok, Err}
-use Rattle.pg_types.specs.declared.refusals.Refusal.{Refusal}
 use Rattle.pg_types.specs.declared.refusals.ReadingError.{ReadingError}
 use Rattle.pg_types.specs.Reading.{Fails}
 use Rattle.pg_dict.specs.declared.line.Line.{Line}

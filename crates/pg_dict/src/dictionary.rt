@@ -115,7 +115,7 @@ impl Dictionary {
         ensures words { IfOk result (λ part. part ≡ part_of folds fold inside self.now) }
     {
         let mut store = Store::new(alloc);
-        'words: for i in 0..self.store.words.len() {
+        'words: for i in 0..self.len() {
             let word = self.word(i);
             if belongs(folds, fold, inside, i) {
                 store.push_word(&word)?;

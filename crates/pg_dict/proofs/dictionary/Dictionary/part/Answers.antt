@@ -1,10 +1,6 @@
-use Rattle.std.proofs.Common.{◌≤◌, ◌∙◌, sym, arith}
-use Rattle.std.specs.List.{sum_by}
+use Rattle.std.proofs.Common.{◌∙◌, sym, arith}
 use Rattle.pg_dict.specs.Lent.{lent_word}
-use Rattle.pg_types.specs.declared.limits.TheConstants.{FILE_MAX}
-use Rattle.pg_dict.specs.Word.{letter_count}
 use Rattle.pg_dict.specs.Store.{stored_words}
-use Rattle.pg_dict.proofs.Told.{few_letters}
 use Rattle.pg_dict.proofs.Parts.{part_taken, part_passed, letters_from}
 use Rattle.pg_dict.proofs.dictionary.Dictionary.part.Goals as goal
 use Rattle.pg_dict.proofs.dictionary.Dictionary.part.Goals.{then-belongs+in_ok-push_word, else-belongs}
@@ -22,8 +18,3 @@ words-preserved c = elim c.if-belongs.branch [
     few = rw (w.store-is) (omega (arith, letters_from c.args.self.now c.words.i (lent_word c.word-word.result) c.word-word.ensures.lent, c.words.invariant.few));
   }
 ]
-
-pub invariant_of-result : goal.invariant_of-result
-invariant_of-result c =
-    let few : sum_by letter_count c.args.self.now ≤ FILE_MAX = rw (← c.self.view_is) (few_letters _ c.self.invariant) in
-    record { sound = c.words.invariant.sound; few = omega (arith, few, c.words.invariant.few) }
