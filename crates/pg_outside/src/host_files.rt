@@ -1,5 +1,5 @@
 //! The adapter over real files.
-ghost use Rattle.std.specs.Prelude.{◌≡◌, ℕ, ◌+◌, ◌-◌, ◌^◌, ◌<◌, ◌≤◌, [], length, OnOk, OnErr, None, IsErrOf};
+ghost use Rattle.std.specs.Prelude.{◌≡◌, ℕ, ◌+◌, ◌-◌, ◌^◌, ◌<◌, ◌≤◌, List, [], length, OnOk, OnErr, None, IsErrOf};
 ghost use Rattle.pg_outside.specs.Faults.{next_count};
 
 use super::beside::FileBeside;
@@ -152,6 +152,8 @@ impl<R: rt::Files + Drop> HostFiles<R> {
 
 impl<R: rt::Files + Drop> Files for HostFiles<R> {
     ghost use Rattle.pg_outside.specs.HostFiles.{file_faults};
+    ghost use Rattle.pg_outside.specs.Content.{KeepsHeld, IsFile, IsFileCut, WasWritten, WasPartWritten};
+    ghost use Rattle.pg_outside.specs.Faults.{Rose};
 
     ghost shown = { λ files. record {
       held = None;
@@ -165,7 +167,26 @@ impl<R: rt::Files + Drop> Files for HostFiles<R> {
         name: &str,
         limit: usize,
         into: &mut Vec<u8>,
-    ) -> Result<(), ReadError> {
+    ) -> Result<(), ReadError>
+        requires empty { into.old.items ≡ [] }
+        requires limit { limit < 2 ^ 64 - 1 }
+
+        // As for all files.
+        ensures held { KeepsHeld None None }
+        ensures reads { List ℕ → file_faults self.old ≤ file_faults self.new }
+        ensures writes { List ℕ → file_faults self.old ≤ file_faults self.new }
+        ensures fits { OnOk result (length into.new.items ≤ limit) }
+        ensures cut { IsErrOf result ReadError.TooLong → length into.new.items ≡ limit + 1 }
+        ensures file { OnOk result (IsFile None name.now into.new.items) }
+        ensures cut_file { IsErrOf result ReadError.TooLong → IsFileCut None name.now limit into.new.items }
+        ensures failed { IsErrOf result ReadError.Failed → Rose (file_faults self.old) (file_faults self.new) }
+
+        // A read that fails is one fault, and no other read is one.
+        ensures one_fault { IsErrOf result ReadError.Failed → file_faults self.new ≡ next_count (file_faults self.old) }
+        ensures ok_faults { OnOk result (file_faults self.new ≡ file_faults self.old) }
+        ensures long_faults { IsErrOf result ReadError.TooLong → file_faults self.new ≡ file_faults self.old }
+        ensures memory_faults { IsErrOf result ReadError.Memory → file_faults self.new ≡ file_faults self.old }
+    {
         let result = self.read_named(name, limit, into);
         if let Err(ReadError::Failed) = result {
             self.count_fault();
@@ -173,7 +194,18 @@ impl<R: rt::Files + Drop> Files for HostFiles<R> {
         result
     }
 
-    fn write(&mut self, name: &str, bytes: &[u8]) -> Result<(), Failed> {
+    fn write(&mut self, name: &str, bytes: &[u8]) -> Result<(), Failed>
+        // As for all files.
+        ensures whole { OnOk result (WasWritten None None name.now bytes.now) }
+        ensures part { OnErr result (WasPartWritten None None name.now bytes.now) }
+        ensures reads { List ℕ → file_faults self.old ≤ file_faults self.new }
+        ensures writes { List ℕ → file_faults self.old ≤ file_faults self.new }
+        ensures failed { OnErr result (Rose (file_faults self.old) (file_faults self.new)) }
+
+        // A write that fails is one fault, and no other write is one.
+        ensures one_fault { OnErr result (file_faults self.new ≡ next_count (file_faults self.old)) }
+        ensures ok_faults { OnOk result (file_faults self.new ≡ file_faults self.old) }
+    {
         let result = self.write_named(name, bytes);
         if result.is_err() {
             self.count_fault();

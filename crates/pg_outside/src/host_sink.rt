@@ -2,7 +2,7 @@
 ghost use Rattle.std.specs.Prelude.{◌≡◌, ◌≤◌, None, OnOk, OnErr};
 ghost use Rattle.std.specs.Io.KnownBytes.{Appends};
 ghost use Rattle.pg_outside.specs.Content.{WasPut, WasPartPut};
-ghost use Rattle.pg_outside.specs.Faults.{Rose};
+ghost use Rattle.pg_outside.specs.Faults.{Rose, next_count};
 ghost use Rattle.pg_outside.specs.Streams.{AppendsPart};
 
 use super::outside::{Failed, Sink};
@@ -39,6 +39,10 @@ impl<W: Write + Drop> Sink for HostSink<W> {
         ensures part { OnErr result (WasPartPut None None bytes.now) }
         ensures later { writer_faults self.old ≤ writer_faults self.new }
         ensures failed { OnErr result (Rose (writer_faults self.old) (writer_faults self.new)) }
+
+        // A put that fails is one fault, and no other put is one.
+        ensures one_fault { OnErr result (writer_faults self.new ≡ next_count (writer_faults self.old)) }
+        ensures ok_faults { OnOk result (writer_faults self.new ≡ writer_faults self.old) }
 
         // The writer gets the bytes, where it says which it holds.
         ensures written { OnOk result

@@ -1,0 +1,5 @@
+//! Worked sweeps over the packed engine.
+#![tactic(auto)]
+
+#[cfg(test)]
+mod sweeps;
