@@ -7,6 +7,7 @@ use Rattle.std.proofs.lemmas.List.Folds.{list_all-append}
 use Rattle.std.proofs.lemmas.List.Concat.{flat_map-append}
 use Rattle.std.proofs.lemmas.List.{append-nil}
 use Rattle.std.proofs.lemmas.Bool.{and_parts, and_from, leb-true, le-leb}
+use Rattle.pg_types.proofs.BoolFacts.{all_weaker}
 use Rattle.pg_dict.specs.declared.store.Store.{Store}
 use Rattle.pg_dict.specs.declared.store.Stored.{Stored}
 use Rattle.pg_dict.specs.PositionedSigns.{PositionedSign, Columns, with_signs}
@@ -84,13 +85,6 @@ adds_words s u positioned start end weight sound grown added from to =
     ∙ ap (λ (ws : List Word). ws ++ word_at c w ∷ []) (words_kept (columns_of s) positioned s.words.items (even_of s sound) sound.within)
     ∙ ap (λ (x : Word). stored_words s ++ x ∷ []) (word_new (columns_of s) positioned start end weight (even_of s sound) from (to ∙ length_signs s u positioned grown))
 
--- a test that follows from another, along a list
-pub list_all_weaker : {X : Type 0} (p q : X → Bool) → ((x : X) → p x ≡ true → q x ≡ true) → (xs : List X) → list_all p xs ≡ true → list_all q xs ≡ true
-list_all_weaker p q more [] h = refl
-list_all_weaker p q more (x ∷ xs) h =
-    let parts = and_parts (p x) (list_all p xs) h in
-    and_from (q x) (list_all q xs) (more x parts.0) (list_all_weaker p q more xs parts.1)
-
 -- a word lies within longer columns too
 pub lies_within_more : (n m : ℕ) → n ≤ m → (w : Stored) → lies_within n w ≡ true → lies_within m w ≡ true
 lies_within_more n m more w within =
@@ -108,7 +102,7 @@ adds_sound s u positioned start end weight sound grown added from to good =
     let weights : length u.weights.items ≡ length (s.weights.items ++ map (λ (x : PositionedSign). x.weight) positioned) = ap (λ (c : Columns). length c.weights) grown in
     let cares : length u.cares.items ≡ length (s.cares.items ++ map (λ (x : PositionedSign). x.care) positioned) = ap (λ (c : Columns). length c.cares) grown in
     let words : stored_words u ≡ stored_words s ++ word_with weight positioned ∷ [] = adds_words s u positioned start end weight sound grown added from to in
-    let kept : list_all (lies_within n) s.words.items ≡ true = list_all_weaker (lies_within (length s.signs.items)) (lies_within n) (lies_within_more (length s.signs.items) n (omega arith)) s.words.items sound.within in
+    let kept : list_all (lies_within n) s.words.items ≡ true = all_weaker (lies_within (length s.signs.items)) (lies_within n) s.words.items (lies_within_more (length s.signs.items) n (omega arith)) sound.within in
     let new : lies_within n w ≡ true = and_from (nat_le start end) (nat_le end n) (le-leb start end (omega arith)) (le-leb end n (omega arith)) in
     let joined : u.signs.items ≡ all_signs (stored_words s) ++ map (λ (x : PositionedSign). x.sign) positioned = ap (λ (c : Columns). c.signs) grown ∙ ap (λ (xs : List ℕ). xs ++ map (λ (x : PositionedSign). x.sign) positioned) sound.joined in
     let parts : all_signs (stored_words u) ≡ all_signs (stored_words s) ++ map (λ (x : PositionedSign). x.sign) positioned = ap all_signs words ∙ flat_map-append (λ (x : Word). x.signs) (stored_words s) (word_with weight positioned ∷ []) ∙ ap (λ (xs : List ℕ). all_signs (stored_words s) ++ xs) (append-nil (map (λ (x : PositionedSign). x.sign) positioned)) in

@@ -14,7 +14,7 @@ use Rattle.pg_dict.specs.Word.{Word, word_with, is_weight}
 use Rattle.pg_dict.proofs.WordTests.{is_word, is_plain_at, decides, has_lengths}
 use Rattle.pg_dict.specs.Running.{signs_behind, word_signs}
 use Rattle.pg_dict.specs.Store.{columns_of, is_sign_up_to, IsFit}
-use Rattle.pg_dict.proofs.Adds.{list_all_weaker}
+use Rattle.pg_types.proofs.BoolFacts.{all_weaker}
 
 -- whether an item is one of a dictionary: not the edge, nor a letter with its sign
 abbrev pub is_sound_item : Token → Bool
@@ -126,4 +126,4 @@ fits_word n s u weight sign items fit grown short small letter sound =
     let weights : list_all is_weight (s.weights.items ++ map (λ (x : PositionedSign). x.weight) positioned) ≡ true = ap (λ (c : Columns). list_all is_weight c.weights) (sym grown) ∙ fit.weights in
     let new_signs : list_all (is_sign_up_to n) (map (λ (x : PositionedSign). x.sign) positioned) ≡ true = (and_parts _ _ (sym (list_all-append (is_sign_up_to n) s.signs.items (map (λ (x : PositionedSign). x.sign) positioned)) ∙ signs)).1 in
     let new_weights : list_all is_weight (map (λ (x : PositionedSign). x.weight) positioned) ≡ true = (and_parts _ _ (sym (list_all-append is_weight s.weights.items (map (λ (x : PositionedSign). x.weight) positioned)) ∙ weights)).1 in
-    good_word weight sign items short (list_all_weaker (is_sign_up_to n) (nat_le 1) (sign_some n) (map (λ (x : PositionedSign). x.sign) positioned) new_signs) new_weights small letter sound
+    good_word weight sign items short (all_weaker (is_sign_up_to n) (nat_le 1) (map (λ (x : PositionedSign). x.sign) positioned) (sign_some n) new_signs) new_weights small letter sound
