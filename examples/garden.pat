@@ -1,0 +1,14 @@
+ar1
+b1b
+es2
+1ke
+n1t
+1pe
+p1k
+r1d
+r1f
+r1p
+r1v
+s1t
+1te
+t1t
