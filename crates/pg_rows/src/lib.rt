@@ -4,6 +4,8 @@
 #[cfg(test)]
 mod begun;
 #[cfg(test)]
+mod engines;
+#[cfg(test)]
 mod plain;
 #[cfg(test)]
 mod runs;

@@ -54,7 +54,7 @@ fn records(alloc: Global, run: &Run) -> Result<String, AllocError> {
 }
 
 /// The patterns in words.
-fn entries(alloc: Global, patterns: &PatternSet) -> Result<String, AllocError> {
+pub(crate) fn entries(alloc: Global, patterns: &PatternSet) -> Result<String, AllocError> {
     let mut text = String::new(alloc);
     for i in 0..patterns.len() {
         let entry = patterns.entry(i);
@@ -81,7 +81,7 @@ pub(crate) fn run_of(
 }
 
 /// The same over the packed engine.
-fn packed_run_of(
+pub(crate) fn packed_run_of(
     alloc: Global,
     translate: &[u8],
     dictionary: &[u8],
@@ -97,7 +97,7 @@ fn packed_run_of(
     Ok(run)
 }
 
-const ROWS: [Row; 13] = [
+const ROWS: [Row; 14] = [
     // One pattern of three passes.
     Row {
         dictionary: b"ab-c\nab-a\n",
@@ -205,6 +205,15 @@ const ROWS: [Row; 13] = [
         patterns: "[1, 2, 3] 2 1\n[2, 4, 2] 1 1\n[3, 4, 1] 1 1\n",
         records: "1 3 1: 0 0 3; 8 2 5; 2 0\n1 3 2: 2 0 1; 7 1 6; 1 0\n1 3 0: 3 0 0; 4 0 4; 0 0\n1 3 3: 3 0 0; 4 0 4; 0 0\n2 3 1: 3 0 0; 3 0 3; 0 0\n2 3 2: 3 0 0; 3 0 3; 0 0\n2 3 0: 3 0 0; 2 0 2; 0 0\n2 3 3: 3 0 0; 2 0 2; 0 0\nlevel 1: 3; 3 0 0\nlevel 2: 0; 3 0 0\n",
         totals: (3, 0, 0),
+    },
+    // Weights of 0 beside others: they give candidates, and add nothing to sums and totals.
+    Row {
+        dictionary: b"ab-0c\nab-a\n",
+        parameters: b"1 1 2 2 1 1 1",
+        start: b"",
+        patterns: "[3, 2] 1 1\n",
+        records: "1 2 1: 0 0 1; 3 1 2; 1 0\n1 2 0: 1 0 0; 3 0 3; 0 0\n1 2 2: 1 0 0; 2 0 2; 0 0\nlevel 1: 1; 1 0 0\n",
+        totals: (1, 0, 0),
     },
     // The sixteen dots of the greatest length, of which two fit at no position that counts.
     Row {

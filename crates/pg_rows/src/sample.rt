@@ -1,7 +1,7 @@
 //! Dictionaries that are drawn from a seed.
 ghost use Rattle.std.specs.Prelude.{◌<◌, ◌≤◌};
 
-use std::alloc::AllocError;
+use std::alloc::{AllocError, Global};
 
 /// The letters that a syllable begins with.
 const CONSONANTS: [u8; 12] = *b"bdfgklmnprst";
@@ -52,4 +52,14 @@ impl Draw {
         text.push(b'\n')?;
         Ok(())
     }
+}
+
+/// A list of 300 words that are drawn from the seed 7.
+pub(crate) fn drawn_words(alloc: Global) -> Result<Vec<u8>, AllocError> {
+    let mut draw = Draw { state: 7 };
+    let mut text = Vec::new(alloc);
+    for _ in 0..300 {
+        draw.push_word(&mut text)?;
+    }
+    Ok(text)
 }

@@ -1,7 +1,7 @@
 //! The run of the driver beside a run that skips no pass.
 use crate::plain::{PlainRun, run_plainly};
 use crate::runs::run_of;
-use crate::sample::Draw;
+use crate::sample::drawn_words;
 use pg_dict::Dictionary;
 use pg_driver::PassRecord;
 use pg_patterns::PatternSet;
@@ -29,16 +29,6 @@ fn with_candidates(alloc: Global, passes: &[PassRecord]) -> Result<Vec<PassRecor
         }
     }
     Ok(found)
-}
-
-/// A list of 300 words that are drawn from the seed 7.
-fn drawn_words(alloc: Global) -> Result<Vec<u8>, AllocError> {
-    let mut draw = Draw { state: 7 };
-    let mut text = Vec::new(alloc);
-    for _ in 0..300 {
-        draw.push_word(&mut text)?;
-    }
-    Ok(text)
 }
 
 #[test]
