@@ -35,7 +35,21 @@ pub fn sign_after<V: Copy, const FEW: usize>(
     }
 }
 
-/// The greatest sign below `s` in the family below the parent's string, which has the base; 0 where there is none.
+// Whether the family with the base has the sign; the base is 0 where there is no family.
+fn has_sign<V: Copy, const FEW: usize>(cells: &Placed<Member<V>, FEW>, base: usize, s: Sign) -> bool
+    requires held { IsHeld cells.now }
+    requires base { (q : List ℕ) × (base_of cells.now.families q ≡ (if base == 0 then None else Some base)) }
+    requires sign { (1 ≤ s) × (s ≤ cells.now.signs) }
+    ensures { (q : List ℕ) → base_of cells.now.families q ≡ (if base == 0 then None else Some base) → result ≡ goes_on cells.now.values q s }
+{
+    if base == 0 {
+        return false;
+    }
+    cells.find(base, s).is_some()
+}
+
+/// The greatest sign below `s` in the family below the parent's string, which has the base; 0 where there is none. It is sought
+/// along the signs from the first one on and, side by side, sign by sign down from `s`.
 pub fn sign_before<V: Copy, const FEW: usize>(
     cells: &Placed<Member<V>, FEW>,
     parent: usize,
@@ -44,14 +58,19 @@ pub fn sign_before<V: Copy, const FEW: usize>(
 ) -> Sign
     requires links { AreLinks cells.now }
     requires parent { (q : List ℕ) × ((cell_of cells.now.families q ≡ Some parent) × (base_of cells.now.families q ≡ (if base == 0 then None else Some base))) }
-    requires sign { 0 < s }
+    requires sign { (1 ≤ s) × (s ≤ cells.now.signs) }
     ensures { (q : List ℕ) → cell_of cells.now.families q ≡ Some parent → IsBefore cells.now.values q s result }
 {
     let mut before = 0;
     let mut next = sign_after(cells, parent, base, 0);
+    let mut below = s - 1;
     while next != 0 && next < s {
+        if has_sign(cells, base, below) {
+            return below;
+        }
         before = next;
         next = sign_after(cells, parent, base, before);
+        below -= 1;
     }
     before
 }
