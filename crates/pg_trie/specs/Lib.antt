@@ -1,3 +1,4 @@
+pub mod Heads
 pub mod IsTrie
 pub mod Lists
 pub mod Maps

@@ -8,6 +8,7 @@ ghost use Rattle.pg_trie.specs.IsTrie.{IsTrie};
 ghost use Rattle.pg_trie.specs.Maps.{maps_of, entries_of, as_value};
 ghost use Rattle.pg_trie.specs.Strings.{AreStrings};
 
+use crate::head::Head;
 use crate::mark::{FEW_SIGNS, HOPELESS};
 use crate::strings::{strings, value_of};
 use pg_cells::Cells;
@@ -39,7 +40,7 @@ fn push_values(
 // The values of the strings, each with its place.
 fn gather(
     alloc: Global,
-    cells: &Cells<u32, FEW_SIGNS>,
+    cells: &Cells<Head, FEW_SIGNS>,
     strings: &[DottedSigns],
     outputs: &Outputs,
 ) -> Result<Vec<(DottedSigns, u8)>, AllocError>
@@ -59,7 +60,7 @@ fn gather(
 /// The values of all strings, each with its place.
 pub fn entries(
     alloc: Global,
-    cells: &Cells<u32, FEW_SIGNS>,
+    cells: &Cells<Head, FEW_SIGNS>,
     outputs: &Outputs,
 ) -> Result<Vec<(DottedSigns, u8)>, AllocError>
     requires { IsTrie cells.now outputs.now }

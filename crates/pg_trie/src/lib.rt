@@ -2,6 +2,7 @@
 #![tactic(auto)]
 
 mod copy;
+mod head;
 mod mark;
 mod prune;
 mod raise;

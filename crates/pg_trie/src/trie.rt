@@ -13,9 +13,10 @@ ghost use Rattle.pg_trie.specs.Lists.{outputs_at};
 ghost use Rattle.pg_trie.specs.Maps.{AreKept};
 
 use crate::copy::entries;
+use crate::head::Head;
 use crate::mark::FEW_SIGNS;
 use crate::prune::prune;
-use crate::raise::raised_head;
+use crate::raise::raised;
 use crate::renew::{fresh_heads, renew};
 use pg_cells::Cells;
 use pg_outputs::Outputs;
@@ -31,7 +32,7 @@ use std::marker::Model;
 #[derive(Drop)]
 pub struct PatternTrie {
     alloc: Global,
-    cells: Cells<u32, FEW_SIGNS>,
+    cells: Cells<Head, FEW_SIGNS>,
     outputs: Outputs,
 }
 
@@ -54,7 +55,7 @@ impl PatternTrie {
     {
         Ok(PatternTrie {
             alloc,
-            cells: Cells::new(alloc, signs, 0)?,
+            cells: Cells::new(alloc, signs, Head::new(0))?,
             outputs: Outputs::new(alloc),
         })
     }
@@ -74,10 +75,10 @@ impl PatternTrie {
         ensures part { OnErr result ((k : ℕ) × (k ≤ length signs.now) × (self.new.families ≡ enter self.old.signs self.old.families (take k signs.now))) }
         ensures signs { self.new.signs ≡ self.old.signs }
     {
-        let cell = pg_cells::enter(&mut self.cells, signs, 0)?;
-        let head = self.cells.value(cell);
-        let head = raised_head(&mut self.outputs, head, value, dot)?;
-        self.cells.set_value(cell, head);
+        let cell = pg_cells::enter(&mut self.cells, signs, Head::new(0))?;
+        let old = self.cells.value(cell).number();
+        let head = raised(&mut self.outputs, old, value, dot)?;
+        self.cells.set_value(cell, Head::new(head));
         Ok(())
     }
 
@@ -98,7 +99,7 @@ impl PatternTrie {
         ensures list { (q : List ℕ) → cell_of self.now.families q ≡ Some cell → list_of self.now.records result ≡ outputs_at self.now.patterns self.now.hopeless q }
         ensures inside { result ≤ length self.now.records }
     {
-        u64::from(self.cells.value(cell))
+        self.cells.value(cell).number()
     }
 
     /// The lists of all strings.
