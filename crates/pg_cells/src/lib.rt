@@ -9,12 +9,10 @@ mod linked;
 mod links;
 mod member;
 mod moves;
+mod place;
 mod prune;
 mod root;
-mod settle;
 mod store;
-#[cfg(test)]
-mod tests;
 mod walks;
 
 pub use linked::Cells;

@@ -25,7 +25,8 @@ fn push_values(
 ) -> Result<(), AllocError>
     requires head { head ≤ length outputs.now }
     requires few { length string.now.0 ≤ PATTERN_SIGNS_MAX }
-    ensures { OnOk result (entries.new.items ≡ entries.old.items ++ entries_of as_value string.now.0 (list_of outputs.now head)) }
+    ensures { OnOk result (entries.new.items
+        ≡ entries.old.items ++ entries_of as_value string.now.0 (list_of outputs.now head)) }
 {
     let mut at = head;
     while let Some((value, dot, next)) = outputs.first(at) {

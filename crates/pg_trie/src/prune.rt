@@ -12,9 +12,10 @@ use pg_cells::{Cells, step};
 use pg_types::{PATTERN_SIGNS_MAX, Sign};
 
 // Takes the cell of a string of several signs away, where it has no list and no string goes on from it.
-fn drop_blank(cells: &mut Cells<Head, FEW_SIGNS>, parent: usize, cell: usize, s: Sign)
+fn remove_blank(cells: &mut Cells<Head, FEW_SIGNS>, parent: usize, cell: usize, s: Sign)
     requires held { IsHeld cells.old }
-    requires cell { (q : List ℕ) × ((cell_of cells.old.families q ≡ Some parent) × (cell_of cells.old.families (q ++ s ∷ []) ≡ Some cell)) }
+    requires cell { (q : List ℕ) × ((cell_of cells.old.families q ≡ Some parent)
+        × (cell_of cells.old.families (q ++ s ∷ []) ≡ Some cell)) }
     ensures { (q : List ℕ) → cell_of cells.old.families q ≡ Some parent → Drops cells.old cells.new (q ++ s ∷ []) }
 {
     if cells.value(cell).number() == 0 && cells.child(cell) == 0 {
@@ -27,7 +28,8 @@ fn drop_blank(cells: &mut Cells<Head, FEW_SIGNS>, parent: usize, cell: usize, s:
 fn prune_below(cells: &mut Cells<Head, FEW_SIGNS>, cell: usize, more: usize)
     requires held { IsHeld cells.old }
     requires short { AreShort cells.old }
-    requires cell { (q : List ℕ) × ((cell_of cells.old.families q ≡ Some cell) × (PATTERN_SIGNS_MAX ≤ length q + more)) }
+    requires cell { (q : List ℕ) × ((cell_of cells.old.families q ≡ Some cell)
+        × (PATTERN_SIGNS_MAX ≤ length q + more)) }
     ensures { (q : List ℕ) → cell_of cells.old.families q ≡ Some cell → PrunesBelow cells.old cells.new q }
 {
     let mut s = cells.first_sign(cell);
@@ -37,7 +39,7 @@ fn prune_below(cells: &mut Cells<Head, FEW_SIGNS>, cell: usize, more: usize)
         };
         let next = cells.next_sign(below);
         prune_below(cells, below, more - 1);
-        drop_blank(cells, cell, below, s);
+        remove_blank(cells, cell, below, s);
         s = next;
     }
 }

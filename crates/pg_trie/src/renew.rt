@@ -87,7 +87,8 @@ pub fn fresh_heads(
 /// Gives each string its new head.
 pub fn renew(cells: &mut Cells<Head, FEW_SIGNS>, heads: &[u64])
     requires held { IsHeld cells.old }
-    requires heads { (q : List ℕ) (u : ℕ) → find (slice_cmp nat_cmp) q cells.old.values ≡ Some u → u < length heads.now }
+    requires heads { (q : List ℕ) (u : ℕ) → find (slice_cmp nat_cmp) q cells.old.values ≡ Some u →
+        u < length heads.now }
     ensures { Renews cells.old heads.now cells.new }
 {
     let top = cells.top();

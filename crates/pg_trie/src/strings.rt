@@ -87,7 +87,8 @@ fn push_below(
     requires sound { (k : List ℕ × ℕ) → slice_get strings.old.items i ≡ Some k → IsString cells.now k.0 }
     requires short { AreShort cells.now }
     requires signs { cells.now.signs ≤ SIGNS_MAX }
-    ensures { OnOk result ((k : List ℕ × ℕ) → slice_get strings.old.items i ≡ Some k → PutsBelow cells.now k.0 (cells.now.signs + 1) strings.old.items strings.new.items) }
+    ensures { OnOk result ((k : List ℕ × ℕ) → slice_get strings.old.items i ≡ Some k →
+        PutsBelow cells.now k.0 (cells.now.signs + 1) strings.old.items strings.new.items) }
 {
     let _held = cells.signs();
     let prefix = DottedSigns::new(strings[i].signs(), 0);

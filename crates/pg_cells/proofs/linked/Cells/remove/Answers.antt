@@ -4,7 +4,7 @@ use Rattle.pg_cells.specs.declared.member.Member.{Member}
 use Rattle.pg_cells.specs.Held.{Held, without_key}
 use Rattle.pg_cells.specs.Links.{unlinked}
 use Rattle.pg_cells.specs.Members.{IsAlone, HasOther}
-use Rattle.pg_cells.proofs.Settled.{not_longer}
+use Rattle.pg_cells.proofs.PlacedFamily.{not_longer}
 use Rattle.pg_cells.proofs.SteppedLinks.{remove_behind, links_removed, values_removed, alone_told}
 use Rattle.pg_cells.proofs.Unlinked.{plain, held_unlinked}
 use Rattle.pg_cells.proofs.linked.Cells.remove.Goals as goal

@@ -2,7 +2,7 @@ use Rattle.std.proofs.Common.{◌≡◌, ℕ, [], ◌∷◌, ◌++◌, Some, inr
 use Rattle.pg_types.specs.Placement.{cell_of}
 use Rattle.pg_cells.specs.Held.{Held}
 use Rattle.pg_cells.proofs.LinkLaws.{some_string}
-use Rattle.pg_trie.proofs.prune.drop_blank.Goals as goal
+use Rattle.pg_trie.proofs.prune.remove_blank.Goals as goal
 
 pub returns-then-child-eq0 : goal.returns-then-child-eq0
 returns-then-child-eq0 c q e =
