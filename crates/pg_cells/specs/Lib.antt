@@ -11,4 +11,5 @@ pub mod OneTrie
 pub mod Root
 pub mod Store
 pub mod Walks
+pub mod Words64
 pub mod Writes

@@ -14,6 +14,8 @@ mod prune;
 mod root;
 mod store;
 mod walks;
+mod words;
 
 pub use linked::Cells;
 pub use walks::{enter, step};
+pub use words::TwoWords;

@@ -1,4 +1,3 @@
-pub mod Heads
 pub mod IsTrie
 pub mod Lists
 pub mod Maps

@@ -8,10 +8,9 @@ ghost use Rattle.pg_trie.specs.IsTrie.{IsTrie};
 ghost use Rattle.pg_trie.specs.Maps.{maps_of, entries_of, as_value};
 ghost use Rattle.pg_trie.specs.Strings.{AreStrings};
 
-use crate::head::Head;
 use crate::mark::{FEW_SIGNS, HOPELESS};
 use crate::strings::{strings, value_of};
-use pg_cells::Cells;
+use pg_cells::{Cells, TwoWords};
 use pg_outputs::Outputs;
 use pg_patterns::DottedSigns;
 use std::alloc::{AllocError, Global};
@@ -41,7 +40,7 @@ fn push_values(
 // The values of the strings, each with its place.
 fn gather(
     alloc: Global,
-    cells: &Cells<Head, FEW_SIGNS>,
+    cells: &Cells<TwoWords, FEW_SIGNS>,
     strings: &[DottedSigns],
     outputs: &Outputs,
 ) -> Result<Vec<(DottedSigns, u8)>, AllocError>
@@ -61,7 +60,7 @@ fn gather(
 /// The values of all strings, each with its place.
 pub fn entries(
     alloc: Global,
-    cells: &Cells<Head, FEW_SIGNS>,
+    cells: &Cells<TwoWords, FEW_SIGNS>,
     outputs: &Outputs,
 ) -> Result<Vec<(DottedSigns, u8)>, AllocError>
     requires { IsTrie cells.now outputs.now }

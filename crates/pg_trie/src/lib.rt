@@ -2,7 +2,6 @@
 #![tactic(auto)]
 
 mod copy;
-mod head;
 mod mark;
 mod prune;
 mod raise;

@@ -6,13 +6,12 @@ ghost use Rattle.pg_cells.specs.IsHeld.{IsHeld};
 ghost use Rattle.pg_trie.specs.Pruned.{Drops, IsKeep, Prunes, PrunesBelow};
 ghost use Rattle.pg_trie.specs.Strings.{AreShort};
 
-use crate::head::Head;
 use crate::mark::FEW_SIGNS;
-use pg_cells::{Cells, step};
+use pg_cells::{Cells, TwoWords, step};
 use pg_types::{PATTERN_SIGNS_MAX, Sign};
 
 // Takes the cell of a string of several signs away, where it has no list and no string goes on from it.
-fn remove_blank(cells: &mut Cells<Head, FEW_SIGNS>, parent: usize, cell: usize, s: Sign)
+fn remove_blank(cells: &mut Cells<TwoWords, FEW_SIGNS>, parent: usize, cell: usize, s: Sign)
     requires held { IsHeld cells.old }
     requires cell { (q : List ℕ) × ((cell_of cells.old.families q ≡ Some parent)
         × (cell_of cells.old.families (q ++ s ∷ []) ≡ Some cell)) }
@@ -25,7 +24,7 @@ fn remove_blank(cells: &mut Cells<Head, FEW_SIGNS>, parent: usize, cell: usize, 
 
 // Takes the cells of all strings away that go on from the cell's string and have no list, where no string goes on from them that
 // stays. A string below it has at most so many signs more.
-fn prune_below(cells: &mut Cells<Head, FEW_SIGNS>, cell: usize, more: usize)
+fn prune_below(cells: &mut Cells<TwoWords, FEW_SIGNS>, cell: usize, more: usize)
     requires held { IsHeld cells.old }
     requires short { AreShort cells.old }
     requires cell { (q : List ℕ) × ((cell_of cells.old.families q ≡ Some cell)
@@ -45,7 +44,7 @@ fn prune_below(cells: &mut Cells<Head, FEW_SIGNS>, cell: usize, more: usize)
 }
 
 /// Takes the cells of all strings away that have several signs and no list, where no string goes on from them that stays.
-pub fn prune(cells: &mut Cells<Head, FEW_SIGNS>)
+pub fn prune(cells: &mut Cells<TwoWords, FEW_SIGNS>)
     requires held { IsHeld cells.old }
     requires short { AreShort cells.old }
     requires signs { cells.old.signs ≤ SIGNS_MAX }

@@ -8,9 +8,8 @@ ghost use Rattle.pg_cells.specs.IsHeld.{IsHeld};
 ghost use Rattle.pg_trie.specs.IsTrie.{IsTrie};
 ghost use Rattle.pg_trie.specs.Renewed.{values_in, AreNeeded, AreFreshTo, AreFresh, Renews};
 
-use crate::head::Head;
 use crate::mark::{FEW_SIGNS, HOPELESS};
-use pg_cells::Cells;
+use pg_cells::{Cells, TwoWords};
 use pg_outputs::Outputs;
 use std::alloc::{AllocError, Global};
 
@@ -46,7 +45,7 @@ fn no_heads(alloc: Global, count: u64) -> Result<Vec<u64>, AllocError>
 
 // The new head of the string with the cell, beside its old one.
 fn renew_cell(
-    cells: &Cells<Head, FEW_SIGNS>,
+    cells: &Cells<TwoWords, FEW_SIGNS>,
     cell: usize,
     outputs: &Outputs,
     fresh: &mut Outputs,
@@ -68,7 +67,7 @@ fn renew_cell(
 /// The new heads of the strings' values by their old heads, among new records. There is no record but those of their ends.
 pub fn fresh_heads(
     alloc: Global,
-    cells: &Cells<Head, FEW_SIGNS>,
+    cells: &Cells<TwoWords, FEW_SIGNS>,
     outputs: &Outputs,
     fresh: &mut Outputs,
 ) -> Result<Vec<u64>, AllocError>
@@ -85,7 +84,7 @@ pub fn fresh_heads(
 }
 
 /// Gives each string its new head.
-pub fn renew(cells: &mut Cells<Head, FEW_SIGNS>, heads: &[u64])
+pub fn renew(cells: &mut Cells<TwoWords, FEW_SIGNS>, heads: &[u64])
     requires held { IsHeld cells.old }
     requires heads { (q : List ℕ) (u : ℕ) → find (slice_cmp nat_cmp) q cells.old.values ≡ Some u →
         u < length heads.now }
@@ -94,7 +93,7 @@ pub fn renew(cells: &mut Cells<Head, FEW_SIGNS>, heads: &[u64])
     let top = cells.top();
     for cell in 0..top + 1 {
         if let Some(head) = cells.value_at(cell) {
-            cells.set_value(cell, Head::new(heads[head.number() as usize]));
+            cells.set_value(cell, TwoWords::new(heads[head.number() as usize]));
         }
     }
 }

@@ -9,15 +9,14 @@ ghost use Rattle.pg_cells.specs.IsHeld.{IsHeld};
 ghost use Rattle.pg_cells.specs.Members.{IsNextSign};
 ghost use Rattle.pg_trie.specs.Strings.{AreShort, IsString, PutsBelow, AreStringsTo, AreStrings};
 
-use crate::head::Head;
 use crate::mark::FEW_SIGNS;
-use pg_cells::{Cells, step};
+use pg_cells::{Cells, TwoWords, step};
 use pg_patterns::DottedSigns;
 use pg_types::{EDGE, PATTERN_SIGNS_MAX, Sign};
 use std::alloc::{AllocError, Global};
 
 /// The cell of a string, or `None` where it has none.
-pub fn find_cell(cells: &Cells<Head, FEW_SIGNS>, signs: &[Sign]) -> Option<usize>
+pub fn find_cell(cells: &Cells<TwoWords, FEW_SIGNS>, signs: &[Sign]) -> Option<usize>
     requires { All (λ s. (1 ≤ s) × (s ≤ cells.now.signs)) signs.now }
     ensures { result ≡ cell_of cells.now.families signs.now }
 {
@@ -30,7 +29,7 @@ pub fn find_cell(cells: &Cells<Head, FEW_SIGNS>, signs: &[Sign]) -> Option<usize
 }
 
 /// The value of a string that has a cell.
-pub fn value_of(cells: &Cells<Head, FEW_SIGNS>, signs: &[Sign]) -> u64
+pub fn value_of(cells: &Cells<TwoWords, FEW_SIGNS>, signs: &[Sign]) -> u64
     requires { All (λ s. (1 ≤ s) × (s ≤ cells.now.signs)) signs.now }
     ensures { (v : ℕ) → find (slice_cmp nat_cmp) signs.now cells.now.values ≡ Some v → result ≡ v }
 {
@@ -54,7 +53,7 @@ fn longer(prefix: &[Sign], s: Sign) -> DottedSigns
 
 // Puts the strings of the family with the base and the first sign behind the others. It goes along the signs of the family.
 fn push_family(
-    cells: &Cells<Head, FEW_SIGNS>,
+    cells: &Cells<TwoWords, FEW_SIGNS>,
     prefix: &[Sign],
     base: usize,
     first: Sign,
@@ -79,7 +78,7 @@ fn push_family(
 
 // Puts the strings with one sign more than that with the number `i` behind the others.
 fn push_below(
-    cells: &Cells<Head, FEW_SIGNS>,
+    cells: &Cells<TwoWords, FEW_SIGNS>,
     strings: &mut Vec<DottedSigns>,
     i: usize,
 ) -> Result<(), AllocError>
@@ -104,7 +103,7 @@ fn push_below(
 /// The strings that have a cell, each before those with one sign more.
 pub fn strings(
     alloc: Global,
-    cells: &Cells<Head, FEW_SIGNS>,
+    cells: &Cells<TwoWords, FEW_SIGNS>,
 ) -> Result<Vec<DottedSigns>, AllocError>
     requires short { AreShort cells.now }
     requires signs { cells.now.signs ≤ SIGNS_MAX }

@@ -13,12 +13,11 @@ ghost use Rattle.pg_trie.specs.Lists.{outputs_at};
 ghost use Rattle.pg_trie.specs.Maps.{AreKept};
 
 use crate::copy::entries;
-use crate::head::Head;
 use crate::mark::FEW_SIGNS;
 use crate::prune::prune;
 use crate::raise::raised;
 use crate::renew::{fresh_heads, renew};
-use pg_cells::Cells;
+use pg_cells::{Cells, TwoWords};
 use pg_outputs::Outputs;
 use pg_patterns::PatternSet;
 use pg_types::{Layout, Sign};
@@ -32,7 +31,7 @@ use std::marker::Model;
 #[derive(Drop)]
 pub struct PatternTrie {
     alloc: Global,
-    cells: Cells<Head, FEW_SIGNS>,
+    cells: Cells<TwoWords, FEW_SIGNS>,
     outputs: Outputs,
 }
 
@@ -61,7 +60,7 @@ impl PatternTrie {
     {
         Ok(PatternTrie {
             alloc,
-            cells: Cells::new(alloc, signs, Head::new(0))?,
+            cells: Cells::new(alloc, signs, TwoWords::new(0))?,
             outputs: Outputs::new(alloc),
         })
     }
@@ -95,10 +94,10 @@ impl PatternTrie {
             × (self.new.families ≡ enter self.old.signs self.old.families (take k signs.now))) }
         ensures signs { self.new.signs ≡ self.old.signs }
     {
-        let cell = pg_cells::enter(&mut self.cells, signs, Head::new(0))?;
+        let cell = pg_cells::enter(&mut self.cells, signs, TwoWords::new(0))?;
         let old = self.cells.value(cell).number();
         let head = raised(&mut self.outputs, old, value, dot)?;
-        self.cells.set_value(cell, Head::new(head));
+        self.cells.set_value(cell, TwoWords::new(head));
         Ok(())
     }
 

@@ -1,4 +1,4 @@
-//! The head of a string's list, as it stands in the cell of the string.
+//! A number in two words, for the values of cells.
 ghost use Rattle.std.specs.Prelude.{◌≡◌};
 
 use std::marker::Model;
@@ -6,41 +6,41 @@ use std::marker::Model;
 /// How many numbers a word of four bytes has.
 const WORD_COUNT: u64 = 1 << 32;
 
-/// The head of a list in two words, which need no padding beside the links of a cell.
+/// A number of eight bytes in two words of four, which need no padding beside the links of a cell.
 #[derive(Clone, Copy)]
-pub struct Head {
+pub struct TwoWords {
     high: u32,
     low: u32,
 }
 
-impl Model for Head {
+impl Model for TwoWords {
     ghost use Rattle.std.specs.Prelude.{ℕ};
 
     ghost Value = { ℕ };
 
-    ghost use Rattle.pg_trie.specs.Heads.{head_of, IsHead, words_of, words_of-head_of};
+    ghost use Rattle.pg_cells.specs.Words64.{number_of, IsLowWord, words_of, words_of-number_of};
 
-    ghost view = { head_of };
+    ghost view = { number_of };
 
-    ghost invariant = { IsHead };
+    ghost invariant = { IsLowWord };
 
     ghost inverse = { words_of };
 
-    ghost inverse_ok = { words_of-head_of };
+    ghost inverse_ok = { words_of-number_of };
 }
 
-impl Head {
-    /// The head with the number.
-    pub fn new(number: u64) -> Head
+impl TwoWords {
+    /// The two words of a number.
+    pub fn new(number: u64) -> TwoWords
         ensures { result ≡ number }
     {
-        Head {
+        TwoWords {
             high: (number / WORD_COUNT) as u32,
             low: (number % WORD_COUNT) as u32,
         }
     }
 
-    /// Its number.
+    /// The number.
     pub fn number(self) -> u64
         ensures { result ≡ self }
     {
