@@ -1,5 +1,5 @@
 //! Cells against a slow list of families, with the values of their strings.
-ghost use Rattle.std.specs.Prelude.{◌<◌, ◌≤◌};
+ghost use Rattle.std.specs.Prelude.{◌<◌, ◌≤◌, max};
 ghost use Rattle.pg_types.specs.declared.limits.TheConstants.{SIGNS_MAX};
 
 use crate::families::Families;
@@ -17,7 +17,7 @@ struct Draws(u64);
 impl Draws {
     // The next number, below `count`.
     fn draw(&mut self, count: usize) -> usize
-        ensures { 0 < count → result < count }
+        ensures { result < max count 1 }
     {
         let product = self.0.wrapping_mul(1_103_515_245).wrapping_add(12_345);
         self.0 = product % (1 << 31);
