@@ -11,14 +11,14 @@ use Rattle.pg_cells.specs.Lists.{Row, sign_at, child_at, base_at, IsFree}
 use Rattle.pg_cells.specs.Store.{Extends}
 use Rattle.pg_cells.specs.Fit.{signs_of, slot_of}
 use Rattle.pg_cells.specs.Writes.{Takes}
-use Rattle.pg_cells.specs.Moves.{Outside, CanSettle, Moved, Collected}
+use Rattle.pg_cells.specs.Moves.{Outside, CanPlace, Moved, Collected}
 use Rattle.pg_cells.specs.Held.{Trie}
-use Rattle.pg_cells.specs.Laid.{IsTrie, standing, value_in}
+use Rattle.pg_cells.specs.Layouts.{IsTrie, standing, value_in}
 use Rattle.pg_cells.proofs.LinkedLists.{taken_within}
 use Rattle.pg_cells.proofs.StringMaps.{order, same_maps, find_put_same, find_without_same, find_without_other, sorted_without, equal_or_not}
-use Rattle.pg_cells.proofs.LaidLaws.{sign_stands, laid_alike, used_taken, taken_used}
+use Rattle.pg_cells.proofs.LayoutLaws.{sign_stands, laid_alike, used_taken, taken_used}
 use Rattle.pg_cells.proofs.Slots.{slot_or_none}
-use Rattle.pg_cells.proofs.Settled.{not_longer}
+use Rattle.pg_cells.proofs.PlacedFamily.{not_longer}
 use Rattle.pg_cells.proofs.StringCells.{cell_parts, parts_cell, cell_taken, base_parts, child_is}
 use Rattle.pg_cells.proofs.OneSign.{any_one_more}
 use Rattle.pg_cells.proofs.Joined.{joined, trie_joined}
@@ -29,7 +29,7 @@ use Rattle.pg_cells.proofs.MovedTrie.{trie_moved, base_is}
 pub trie_extended : {V : Type 0} (n : ℕ) (r new : Row V) (t : Trie V) → IsTrie n r t → Extends r new → IsTrie n new t
 trie_extended {V} n r new t trie more = record {
   sorted = trie.sorted;
-  laid = laid_alike (family_at t.families) trie.laid new more.signs more.children more.bases;
+  layout = laid_alike (family_at t.families) trie.layout new more.signs more.children more.bases;
   count = more.taken ∙ trie.count;
   ordered = trie.ordered;
   has = λ q. trie.has q ∙ same q (cell_of t.families q) refl;
@@ -111,7 +111,7 @@ module _ {V : Type 0} (few n : ℕ) (r : Row V) (t : Trie V) (trie : IsTrie n r 
 
   pub join_free : (f : Family) → family_at t.families p ≡ Some f → sign_at r (f.base + s) ≡ 0 → is_used t.families (f.base + s) ≡ false
   join_free f at free = elim (cases_Bool (is_used t.families (f.base + s))) [
-    | inl e ↦ absurd (used_taken n r t.families trie.sorted trie.laid (f.base + s) e free)
+    | inl e ↦ absurd (used_taken n r t.families trie.sorted trie.layout (f.base + s) e free)
     | inr e ↦ e
   ]
 
@@ -129,10 +129,10 @@ module _ {V : Type 0} (few n : ℕ) (r : Row V) (t : Trie V) (trie : IsTrie n r 
       | inr none ↦ none
     ]
 
-    pub can_settle : (slot : Slot V) → slot.sign ≡ s → slot.child ≡ 0 → length r.bases ≡ length r.signs → ((i : ℕ) → sign_at r i ≢ 0 → i + (n + 2) ≤ length r.signs) → CanSettle n r was slots slot parent
+    pub can_settle : (slot : Slot V) → slot.sign ≡ s → slot.child ≡ 0 → length r.bases ≡ length r.signs → ((i : ℕ) → sign_at r i ≢ 0 → i + (n + 2) ≤ length r.signs) → CanPlace n r was slots slot parent
     can_settle slot is no_child even room =
         let cell = cell_parts t.families p parent parent_is in
-        let stands = sign_stands n r (family_at t.families) trie.laid cell.front cell.family cell.last cell.at cell.has in
+        let stands = sign_stands n r (family_at t.families) trie.layout cell.front cell.family cell.last cell.at cell.has in
         let front_other : cell.front ≢ p = λ e. not_longer cell.front cell.last (sym cell.whole ∙ sym e) in
         record {
           distinct = own.distinct;
@@ -157,7 +157,7 @@ module _ {V : Type 0} (few n : ℕ) (r : Row V) (t : Trie V) (trie : IsTrie n r 
         base_within : (q : List ℕ) (g : Family) → family_at t.families q ≡ Some g → g.base < length r.signs
         base_within q g at = elim (cases_lt g.base (length r.bases)) [
           | inl lt ↦ omega (arith, even)
-          | inr le ↦ absurd (both_ways (base_at r g.base) (get_or_past r.bases g.base false le) (trie.laid.flag q g at))
+          | inr le ↦ absurd (both_ways (base_at r g.base) (get_or_past r.bases g.base false le) (trie.layout.flag q g at))
         ]
 
         child_within : (x : ℕ) (k : Slot V) → slot_of slots x ≡ Some k → k.child < length r.signs
@@ -172,10 +172,10 @@ module _ {V : Type 0} (few n : ℕ) (r : Row V) (t : Trie V) (trie : IsTrie n r 
 
         rooted : (b : ℕ) → base_at r b ≡ true → b ≢ was → 0 < b → (y : ℕ) × (0 < y) × (sign_at r (b + y) ≢ 0) × (Outside was slots (b + y))
         rooted b e other up =
-            let o = trie.laid.flagged b e in
+            let o = trie.layout.flagged b e in
             let not_p : o.0 ≢ p = λ same. other (sym o.3 ∙ (own.own_base o.1 (ap (family_at t.families) (sym same) ∙ o.2)).0) in
-            let y = first_sign o.1 o.1.signs refl (trie.laid.filled o.0 o.1 o.2) in
-            let stands = sign_stands n r (family_at t.families) trie.laid o.0 o.1 y.0 o.2 y.1 in
+            let y = first_sign o.1 o.1.signs refl (trie.layout.filled o.0 o.1 o.2) in
+            let stands = sign_stands n r (family_at t.families) trie.layout o.0 o.1 y.0 o.2 y.1 in
             let here : sign_at r (b + y.0) ≡ y.0 = ap (λ z. sign_at r (z + y.0)) (sym o.3) ∙ stands.2 in (
               y.0,
               stands.0,
@@ -190,7 +190,7 @@ module _ {V : Type 0} (few n : ℕ) (r : Row V) (t : Trie V) (trie : IsTrie n r 
             )
 
     -- the family, or none, is settled with the sign
-    pub trie_settles : (new : Row V) (base : ℕ) (slot : Slot V) → slot.sign ≡ s → CanSettle n r was slots slot parent → Moved few n r new was base slots slot parent
+    pub trie_settles : (new : Row V) (base : ℕ) (slot : Slot V) → slot.sign ≡ s → CanPlace n r was slots slot parent → Moved few n r new was base slots slot parent
         → with_sign few n t.families p s ≡ put order p (record { base = least_base few n (without_family t.families p) (with_one_sign s (signs_of slots)); signs = with_one_sign s (signs_of slots) }) (without_family t.families p)
         → IsTrie n new (added few n t p s slot.value)
     trie_settles new base slot is can moved step =
@@ -238,7 +238,7 @@ module _ {V : Type 0} (few n : ℕ) (old r : Row V) (t : Trie V) (before : IsTri
         let f = some_family (omega arith) in
         elim (cases_lt base (length r.bases)) [
           | inl lt ↦ omega arith
-          | inr le ↦ absurd (both_ways (base_at r base) (get_or_past r.bases base false le) (ap (base_at r) (sym f.2) ∙ grown.laid.flag p f.0 f.1))
+          | inr le ↦ absurd (both_ways (base_at r base) (get_or_past r.bases base false le) (ap (base_at r) (sym f.2) ∙ grown.layout.flag p f.0 f.1))
         ]
   ]
 
@@ -261,8 +261,8 @@ module _ {V : Type 0} (few n : ℕ) (old r : Row V) (t : Trie V) (before : IsTri
   pub joins_free : 0 < base → sign_at r (base + s) ≡ 0 → ((i : ℕ) → sign_at old i ≢ 0 → i + (n + 2) ≤ length r.signs) → IsFree r (base + s)
   joins_free up free room =
       let f = some_family up in
-      let y = first_of f.0.signs (grown.laid.filled p f.0 f.1) in
-      let stands = sign_stands n r (family_at t.families) grown.laid p f.0 y.0 f.1 y.1 in
+      let y = first_of f.0.signs (grown.layout.filled p f.0 f.1) in
+      let stands = sign_stands n r (family_at t.families) grown.layout p f.0 y.0 f.1 y.1 in
       let long = room (f.0.base + y.0) (λ z. let here = sym (more.signs (f.0.base + y.0)) ∙ stands.2 in let positive = stands.0 in let e = sym here ∙ z in omega arith) in
       get_or_default r.signs (base + s) 1 0 (let e = f.2 in omega arith) ∙ free
     where
@@ -280,7 +280,7 @@ module _ {V : Type 0} (few n : ℕ) (old r : Row V) (t : Trie V) (before : IsTri
           (owned_some n r t grown p f.0 f.1 (let e = f.2 in omega arith) slots (subst (λ b. Collected n r b slots) (sym f.2) (some (omega arith))))
     ]
 
-    pub settles_can : (slot : Slot V) → slot.sign ≡ s → slot.child ≡ 0 → length r.bases ≡ length r.signs → ((i : ℕ) → sign_at old i ≢ 0 → i + (n + 2) ≤ length r.signs) → CanSettle n r base slots slot parent
+    pub settles_can : (slot : Slot V) → slot.sign ≡ s → slot.child ≡ 0 → length r.bases ≡ length r.signs → ((i : ℕ) → sign_at old i ≢ 0 → i + (n + 2) ≤ length r.signs) → CanPlace n r base slots slot parent
     settles_can slot is no_child even room =
         can_settle few n r t grown p parent parent_is s low high lacks base slots owned slot is no_child even (λ i up. room i (λ z. up (more.signs i ∙ z)))
 
@@ -292,13 +292,13 @@ module _ {V : Type 0} (few n : ℕ) (old r : Row V) (t : Trie V) (before : IsTri
           ∙ ap (λ l. put order p (record { base = least_base few n (without_family t.families p) (with_one_sign s (signs_of l)); signs = with_one_sign s (signs_of l) }) (without_family t.families p)) (sym (none z))
       | inr up ↦
           let f = some_family (omega arith) in
-          let used = taken_used n r t.families grown.sorted grown.laid (f.0.base + s) (λ z. no_join (omega arith) (ap (λ b. sign_at r (b + s)) (sym f.2) ∙ z)) in
-          let signs : f.0.signs ≡ signs_of slots = grown.laid.members p f.0 f.1 ∙ ap (standing n r) f.2 ∙ sym (some (omega arith)).signs in
+          let used = taken_used n r t.families grown.sorted grown.layout (f.0.base + s) (λ z. no_join (omega arith) (ap (λ b. sign_at r (b + s)) (sym f.2) ∙ z)) in
+          let signs : f.0.signs ≡ signs_of slots = grown.layout.members p f.0 f.1 ∙ ap (standing n r) f.2 ∙ sym (some (omega arith)).signs in
           sign_moves few n t.families p s f.0 f.1 used
           ∙ ap (λ xs. put order p (record { base = least_base few n (without_family t.families p) (with_one_sign s xs); signs = with_one_sign s xs }) (without_family t.families p)) signs
     ]
 
-    module _ (new : Row V) (at : ℕ) (slot : Slot V) (is : slot.sign ≡ s) (can : CanSettle n r base slots slot parent) (moved : Moved few n r new base at slots slot parent) where
+    module _ (new : Row V) (at : ℕ) (slot : Slot V) (is : slot.sign ≡ s) (can : CanPlace n r base slots slot parent) (moved : Moved few n r new base at slots slot parent) where
       pub settles_trie : IsTrie n new (added few n t p s slot.value)
       settles_trie = trie_settles few n r t grown p parent parent_is s low high lacks base slots owned new at slot is can moved settles_step
 

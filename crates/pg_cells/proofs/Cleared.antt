@@ -11,10 +11,10 @@ use Rattle.pg_cells.specs.Store.{IsTop}
 use Rattle.pg_cells.specs.Fit.{signs_of, slot_of, fits_row}
 use Rattle.pg_cells.specs.Moves.{Gives, Drops, Outside, lowest_from}
 use Rattle.pg_cells.specs.Held.{Trie}
-use Rattle.pg_cells.specs.Laid.{IsTrie}
+use Rattle.pg_cells.specs.Layouts.{IsTrie}
 use Rattle.pg_cells.proofs.StringMaps.{order, find_without_same, find_without_other, sorted_without, equal_or_not}
 use Rattle.pg_cells.proofs.PlacementLaws.{used_cell, cell_used, base_had, had_base, top_is, first_is}
-use Rattle.pg_cells.proofs.LaidLaws.{sign_stands, stands_sign}
+use Rattle.pg_cells.proofs.LayoutLaws.{sign_stands, stands_sign}
 use Rattle.pg_cells.proofs.OneSign.{all_one_more, length_one_more}
 use Rattle.pg_cells.proofs.Slots.{slot_or_none, has_slot, outside_or}
 use Rattle.pg_cells.proofs.Owned.{Owned}
@@ -75,7 +75,7 @@ module _ {V : Type 0} (n : ℕ) (r gave dropped : Row V) (t : Trie V) (trie : Is
     | inl h ↦ absurd (up (ap (sign_at dropped) h.2 ∙ sign_inside h.0 h.1 h.3))
     | inr out ↦
         let same = sign_outside i out in
-        let o = trie.laid.owned i (λ z. up (same ∙ z)) in
+        let o = trie.layout.owned i (λ z. up (same ∙ z)) in
         let is : i ≡ o.1.base + sign_at dropped i = o.3 ∙ ap (λ x. o.1.base + x) (sym same) in (
           out,
           (
@@ -98,7 +98,7 @@ module _ {V : Type 0} (n : ℕ) (r gave dropped : Row V) (t : Trie V) (trie : Is
   rest_used i e z =
       let c = used_cell (without_family t.families p) rest_sorted i e in
       let o = rest_other c.prefix c.family c.at in
-      let s = sign_stands n r (family_at t.families) trie.laid c.prefix c.family c.sign o.1 c.has in
+      let s = sign_stands n r (family_at t.families) trie.layout c.prefix c.family c.sign o.1 c.has in
       let out = others_outside c.prefix c.family c.sign o.0 o.1 s.2 in
       let is : sign_at dropped i ≡ c.sign = ap (sign_at dropped) c.is ∙ sign_outside (c.family.base + c.sign) out ∙ s.2 in
       omega (arith, s.0)
@@ -109,7 +109,7 @@ module _ {V : Type 0} (n : ℕ) (r gave dropped : Row V) (t : Trie V) (trie : Is
       let stands : sign_at r (o.1.1.base + sign_at dropped i) ≡ sign_at dropped i = ap (sign_at r) (sym o.1.4) ∙ sym (sign_outside i o.0) in
       ap (is_used (without_family t.families p)) o.1.4
       ∙ cell_used (without_family t.families p) o.1.0 o.1.1 (sign_at dropped i) (other_rest o.1.0 o.1.1 o.1.2 o.1.3)
-      (stands_sign n r (family_at t.families) trie.laid o.1.0 o.1.1 (sign_at dropped i) o.1.3 (omega arith) stands)
+      (stands_sign n r (family_at t.families) trie.layout o.1.0 o.1.1 (sign_at dropped i) o.1.3 (omega arith) stands)
 
   free_test : (i : ℕ) → nat_eq (sign_at dropped i) 0 ≡ not (is_used (without_family t.families p) i)
   free_test i = elim (cases_eq (sign_at dropped i) 0) [
@@ -123,8 +123,8 @@ module _ {V : Type 0} (n : ℕ) (r gave dropped : Row V) (t : Trie V) (trie : Is
   -- another family keeps its flag
   pub other_flag : (q : List ℕ) (g : Family) → q ≢ p → family_at t.families q ≡ Some g → base_at dropped g.base ≡ true
   other_flag q g other at = elim drops [
-    | inl h ↦ ap (λ (k : Row V). base_at k g.base) h.1 ∙ gives.others.bases g.base ∙ trie.laid.flag q g at
-    | inr h ↦ h.1.bases g.base (own.other_base q g other at h.0) ∙ gives.others.bases g.base ∙ trie.laid.flag q g at
+    | inl h ↦ ap (λ (k : Row V). base_at k g.base) h.1 ∙ gives.others.bases g.base ∙ trie.layout.flag q g at
+    | inr h ↦ h.1.bases g.base (own.other_base q g other at h.0) ∙ gives.others.bases g.base ∙ trie.layout.flag q g at
   ]
 
   -- and each flag is that of another family
@@ -137,7 +137,7 @@ module _ {V : Type 0} (n : ℕ) (r gave dropped : Row V) (t : Trie V) (trie : Is
           | inr other ↦ sym (h.1.bases b other ∙ gives.others.bases b) ∙ e
         ]
       ] in
-      let o = trie.laid.flagged b old in (
+      let o = trie.layout.flagged b old in (
         o.0,
         o.1,
         (λ same.

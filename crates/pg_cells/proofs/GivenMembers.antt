@@ -8,9 +8,9 @@ use Rattle.pg_cells.specs.Lists.{Row, sign_at, child_at}
 use Rattle.pg_cells.specs.Store.{Extends}
 use Rattle.pg_cells.specs.Writes.{Frees}
 use Rattle.pg_cells.specs.Held.{Trie, Held}
-use Rattle.pg_cells.specs.Laid.{IsTrie, standing}
+use Rattle.pg_cells.specs.Layouts.{IsTrie, standing}
 use Rattle.pg_cells.specs.Members.{IsNext, ArePassing, number_before, has_sign, IsAlone, HasOther}
-use Rattle.pg_cells.proofs.LaidLaws.{sign_stands, taken_used}
+use Rattle.pg_cells.proofs.LayoutLaws.{sign_stands, taken_used}
 use Rattle.pg_cells.proofs.StringCells.{cell_parts, found_is}
 use Rattle.pg_cells.proofs.Walking.{childless}
 use Rattle.pg_cells.proofs.AddTrie.{grown, no_family, some_family, join_free}
@@ -42,7 +42,7 @@ module _ {V : Type 0} (n : ℕ) (r : Row V) (t : Trie V) (trie : IsTrie n r t) (
   sign_told x up = elim (cases_lt n x) [
     | inr le ↦ ap is_some (found_is n r t trie p base x has (omega arith) le) ∙ shown (nat_eq (sign_at r (base + x)) x) (base + x)
     | inl late ↦
-        let le = trie.laid.small (base + x) in
+        let le = trie.layout.small (base + x) in
         absent (cell_of t.families (p ++ x ∷ [])) refl late ∙ sym (ne_eqb (sign_at r (base + x)) x (λ z. omega arith))
   ]
     where
@@ -51,7 +51,7 @@ module _ {V : Type 0} (n : ℕ) (r : Row V) (t : Trie V) (trie : IsTrie n r t) (
       absent (Some cell) e late =
           let c = cell_parts t.families (p ++ x ∷ []) cell e in
           let parts = same_from_push p c.front x c.last c.whole in
-          let stands = sign_stands n r (family_at t.families) trie.laid c.front c.family c.last c.at c.has in
+          let stands = sign_stands n r (family_at t.families) trie.layout c.front c.family c.last c.at c.has in
           absurd (let is = parts.1 in let le = stands.1 in omega arith)
 
   pub alone_told : (s : ℕ) (freed : Row V) → Frees r freed (base + s) → (b : Bool) → MatchBool b (IsAlone t.families p s) (HasOther t.families p s) → MatchBool b (standing n freed base ≡ []) (standing n freed base ≢ [])
@@ -73,7 +73,7 @@ module _ {V : Type 0} (n : ℕ) (r : Row V) (t : Trie V) (trie : IsTrie n r t) (
       there x (Some cell) e some =
           let c = cell_parts t.families (p ++ x ∷ []) cell e in
           let parts = same_from_push p c.front x c.last c.whole in
-          let stands = sign_stands n r (family_at t.families) trie.laid c.front c.family c.last c.at c.has in
+          let stands = sign_stands n r (family_at t.families) trie.layout c.front c.family c.last c.at c.has in
           (let is = parts.1 in let up = stands.0 in omega arith, let is = parts.1 in let le = stands.1 in omega arith)
 
 pub extends_itself : {V : Type 0} (r : Row V) → Extends r r
@@ -101,7 +101,7 @@ module _ {V : Type 0} (few n : ℕ) (old r : Row V) (t : Trie V) (before : IsTri
       free_told : (f : Family) → family_at t.families p ≡ Some f → f.base ≡ base → nat_eq (sign_at r (base + s)) 0 ≡ not (is_used t.families (f.base + s))
       free_told f at is = elim (cases_eq (sign_at r (base + s)) 0) [
         | inl free ↦ eq-eqb (sign_at r (base + s)) 0 free ∙ sym (ap not (join_free few n r t trie p parent parent_is s low high lacks f at (ap (λ b. sign_at r (b + s)) is ∙ free)))
-        | inr taken ↦ ne_eqb (sign_at r (base + s)) 0 taken ∙ sym (ap not (taken_used n r t.families trie.sorted trie.laid (f.base + s) (λ z. taken (ap (λ b. sign_at r (b + s)) (sym is) ∙ z))))
+        | inr taken ↦ ne_eqb (sign_at r (base + s)) 0 taken ∙ sym (ap not (taken_used n r t.families trie.sorted trie.layout (f.base + s) (λ z. taken (ap (λ b. sign_at r (b + s)) (sym is) ∙ z))))
       ]
 
   -- where there is no family, it has no members

@@ -10,11 +10,11 @@ use Rattle.pg_types.specs.Placement.{Family, family_at, cell_of, base_of}
 use Rattle.pg_cells.specs.Lists.{Row, sign_at}
 use Rattle.pg_cells.specs.Held.{Trie}
 use Rattle.pg_cells.specs.IsHeld.{IsHeld}
-use Rattle.pg_cells.specs.Laid.{IsTrie, value_in}
+use Rattle.pg_cells.specs.Layouts.{IsTrie, value_in}
 use Rattle.pg_cells.specs.OneTrie.{HasLast, last_of}
 use Rattle.pg_cells.proofs.LinkedLists.{taken_within}
 use Rattle.pg_cells.proofs.StringMaps.{order}
-use Rattle.pg_cells.proofs.LaidLaws.{same_filter, sign_stands, stands_sign}
+use Rattle.pg_cells.proofs.LayoutLaws.{same_filter, sign_stands, stands_sign}
 use Rattle.pg_cells.proofs.RootTrie.{any_range}
 use Rattle.pg_cells.proofs.StringCells.{cell_parts, parts_cell, cell_taken, cells_apart, base_parts, found_is}
 
@@ -32,8 +32,8 @@ module _ {V : Type 0} (n : ℕ) (r : Row V) (t : Trie V) (trie : IsTrie n r t) (
   -- the parent of a family has a cell
   family_cell : (p : List ℕ) (x : ℕ) (f : Family) → family_at t.families (p ++ x ∷ []) ≡ Some f → (cell : ℕ) × (cell_of t.families (p ++ x ∷ []) ≡ Some cell)
   family_cell p x f at =
-      let up = trie.laid.parent p x f at in
-      (up.above.base + x, parts_cell t.families p x up.above up.at (stands_sign n r (family_at t.families) trie.laid p up.above x up.at up.positive up.sign))
+      let up = trie.layout.parent p x f at in
+      (up.above.base + x, parts_cell t.families p x up.above up.at (stands_sign n r (family_at t.families) trie.layout p up.above x up.at up.positive up.sign))
 
   -- and so has each string on the way to it
   way_cell : (k : ℕ) (p : List ℕ) (x : ℕ) (more : List ℕ) (f : Family) → length more ≤ k → HasLast more ⊎ (more ≡ []) → family_at t.families ((p ++ x ∷ []) ++ more) ≡ Some f
@@ -42,7 +42,7 @@ module _ {V : Type 0} (n : ℕ) (r : Row V) (t : Trie V) (trie : IsTrie n r t) (
   way_cell zero p x more f le (inl h) at = absurd (omega (arith, ap length h.whole, length_push h.front h.last))
   way_cell (suc k) p x more f le (inl h) at =
       let whole : ((p ++ x ∷ []) ++ h.front) ++ h.last ∷ [] ≡ (p ++ x ∷ []) ++ more = append_assoc (p ++ x ∷ []) h.front (h.last ∷ []) ∙ ap (λ l. (p ++ x ∷ []) ++ l) (sym h.whole) in
-      let up = trie.laid.parent ((p ++ x ∷ []) ++ h.front) h.last f (ap (family_at t.families) whole ∙ at) in
+      let up = trie.layout.parent ((p ++ x ∷ []) ++ h.front) h.last f (ap (family_at t.families) whole ∙ at) in
       way_cell k p x h.front up.above (omega (arith, ap length h.whole, length_push h.front h.last)) (swap (last_of h.front)) up.at
     where
       swap : {A B : Type 0} → A ⊎ B → B ⊎ A
@@ -76,11 +76,11 @@ module _ {V : Type 0} (n : ℕ) (r : Row V) (t : Trie V) (trie : IsTrie n r t) (
   bases p q base d e =
       let f = base_parts t.families p base d in
       let g = base_parts t.families q base e in
-      trie.laid.apart p q f.0 g.0 f.1 g.1 (f.2 ∙ sym g.2)
+      trie.layout.apart p q f.0 g.0 f.1 g.1 (f.2 ∙ sym g.2)
 
   members : (p : List ℕ) (f : Family) → family_at t.families p ≡ Some f → f.signs ≡ filter (λ x. is_some (cell_of t.families (p ++ x ∷ []))) (range_with_len 1 n)
   members p f at =
-      trie.laid.members p f at
+      trie.layout.members p f at
       ∙ same_filter (λ x. nat_eq (sign_at r (f.base + x)) x) (λ x. is_some (cell_of t.families (p ++ x ∷ []))) 1 n
       (λ x low high. shown (nat_eq (sign_at r (f.base + x)) x) (f.base + x) ∙ ap is_some (sym (found_is n r t trie p f.base x (ap (option_map (λ (g : Family). g.base)) at) low (omega arith))))
     where
@@ -99,16 +99,16 @@ module _ {V : Type 0} (n : ℕ) (r : Row V) (t : Trie V) (trie : IsTrie n r t) (
     signs = λ p x cell e.
         let c = cell_parts t.families (p ++ x ∷ []) cell e in
         let parts = same_from_push p c.front x c.last c.whole in
-        let s = sign_stands n r (family_at t.families) trie.laid c.front c.family c.last c.at c.has in
+        let s = sign_stands n r (family_at t.families) trie.layout c.front c.family c.last c.at c.has in
         (let is = parts.1 in let up = s.0 in omega arith, let is = parts.1 in let le = s.1 in omega arith);
     apart = cells_apart n r t trie;
-    root = ap (option_map (λ (f : Family). f.base)) trie.laid.root;
+    root = ap (option_map (λ (f : Family). f.base)) trie.layout.root;
     alone = λ x low high.
-        parts_cell t.families [] x (record { base = 0; signs = range_with_len 1 n }) trie.laid.root (any_range 1 n x low (omega arith)) ∙ ap Some (zero-add x);
+        parts_cell t.families [] x (record { base = 0; signs = range_with_len 1 n }) trie.layout.root (any_range 1 n x low (omega arith)) ∙ ap Some (zero-add x);
     based = λ p x base e. let f = base_parts t.families (p ++ x ∷ []) base e in family_cell p x f.0 f.1;
     filled = λ p base e.
         let f = base_parts t.families p base e in
-        let y = first_of f.0.signs (trie.laid.filled p f.0 f.1) in
+        let y = first_of f.0.signs (trie.layout.filled p f.0 f.1) in
         (y.0, f.0.base + y.0, parts_cell t.families p y.0 f.0 f.1 y.1);
     closed = closed;
     bases = bases;

@@ -7,12 +7,12 @@ use Rattle.pg_types.specs.Placement.{Family, Families, family_at, cell_of, with_
 use Rattle.pg_cells.specs.Lists.{Row, sign_at, child_at, base_at}
 use Rattle.pg_cells.specs.Writes.{Takes}
 use Rattle.pg_cells.specs.Held.{Trie}
-use Rattle.pg_cells.specs.Laid.{IsTrie, standing, value_in}
+use Rattle.pg_cells.specs.Layouts.{IsTrie, standing, value_in}
 use Rattle.pg_cells.proofs.StringMaps.{order, find_put_same, find_put_other, sorted_put, equal_or_not}
 use Rattle.pg_cells.proofs.PlacementLaws.{taken_put, size_of}
 use Rattle.pg_cells.proofs.OneSign.{filter_more, length_one_more, any_one_more}
-use Rattle.pg_cells.proofs.Settled.{Settles, settles}
-use Rattle.pg_cells.proofs.SettledValues.{HasValues, values_settle}
+use Rattle.pg_cells.proofs.PlacedFamily.{Settles, settles}
+use Rattle.pg_cells.proofs.PlacedValues.{HasValues, values_settle}
 use Rattle.pg_cells.proofs.StringCells.{cell_parts, parts_cell, parts_none}
 
 -- the family with one sign more
@@ -43,13 +43,13 @@ module _ {V : Type 0} (n : ℕ) (r new : Row V) (t : Trie V) (trie : IsTrie n r 
     | inl e ↦
         let was : sign_at r (g.base + y) ≡ 0 = ap (sign_at r) e ∙ free in
         let now : sign_at new (g.base + y) ≡ s = ap (sign_at new) e ∙ takes.sign_is in
-        ne_eqb (sign_at new (g.base + y)) y (λ z. other (trie.laid.apart q p g f gat at (omega arith)))
+        ne_eqb (sign_at new (g.base + y)) y (λ z. other (trie.layout.apart q p g f gat at (omega arith)))
         ∙ sym (ne_eqb (sign_at r (g.base + y)) y (λ z. omega arith))
   ]
 
   stands_more : with_one_sign s f.signs ≡ standing n new f.base
   stands_more =
-      ap (with_one_sign s) (trie.laid.members p f at)
+      ap (with_one_sign s) (trie.layout.members p f at)
       ∙ sym (filter_more (λ x. nat_eq (sign_at r (f.base + x)) x) (λ x. nat_eq (sign_at new (f.base + x)) x) s 1 n (omega arith)
       (λ x up other. ap (λ y. nat_eq y x) (sign_same (f.base + x) (λ z. other (omega arith))))
       (eq-eqb (sign_at new (f.base + s)) s takes.sign_is)
@@ -59,7 +59,7 @@ module _ {V : Type 0} (n : ℕ) (r new : Row V) (t : Trie V) (trie : IsTrie n r 
   owned_now i up = elim (cases_eq i (f.base + s)) [
     | inl e ↦ (p, joined f s, find_put_same p (joined f s) t.families, e ∙ ap (λ x. f.base + x) (sym (ap (sign_at new) e ∙ takes.sign_is)))
     | inr n ↦
-        let o = trie.laid.owned i (λ z. up (sign_same i n ∙ z)) in
+        let o = trie.layout.owned i (λ z. up (sign_same i n ∙ z)) in
         let is : i ≡ o.1.base + sign_at new i = o.3 ∙ ap (λ x. o.1.base + x) (sym (sign_same i n)) in
         elim (equal_or_not o.0 p) [
           | inl e ↦
@@ -73,7 +73,7 @@ module _ {V : Type 0} (n : ℕ) (r new : Row V) (t : Trie V) (trie : IsTrie n r 
   small_now : (i : ℕ) → sign_at new i ≤ n
   small_now i = elim (cases_eq i (f.base + s)) [
     | inl e ↦ let is = ap (sign_at new) e ∙ takes.sign_is in omega arith
-    | inr other ↦ let is = sign_same i other in let le = trie.laid.small i in omega arith
+    | inr other ↦ let is = sign_same i other in let le = trie.layout.small i in omega arith
   ]
 
   flag_now : (q : List ℕ) (g : Family) → family_at fs q ≡ Some g → base_at new g.base ≡ true
@@ -81,13 +81,13 @@ module _ {V : Type 0} (n : ℕ) (r new : Row V) (t : Trie V) (trie : IsTrie n r 
     | inl e ↦
         let same : Some g ≡ Some (joined f s) = sym gat ∙ ap (family_at fs) e.0 ∙ find_put_same p (joined f s) t.families in
         let family : g ≡ joined f s = cc in
-        ap (λ (h : Family). base_at r h.base) family ∙ trie.laid.flag p f at
-    | inr e ↦ trie.laid.flag q g (sym (find_put_other q p (joined f s) t.families e.0) ∙ gat)
+        ap (λ (h : Family). base_at r h.base) family ∙ trie.layout.flag p f at
+    | inr e ↦ trie.layout.flag q g (sym (find_put_other q p (joined f s) t.families e.0) ∙ gat)
   ]
 
   flagged_now : (b : ℕ) → base_at new b ≡ true → (q : List ℕ) × (g : Family) × (family_at fs q ≡ Some g) × (g.base ≡ b)
   flagged_now b e =
-      let o = trie.laid.flagged b (sym (takes.elsewhere.bases b) ∙ e) in
+      let o = trie.layout.flagged b (sym (takes.elsewhere.bases b) ∙ e) in
       elim (equal_or_not o.0 p) [
         | inl same ↦
             let is : Some o.1 ≡ Some f = sym o.2 ∙ ap (family_at t.families) same.0 ∙ at in
@@ -99,7 +99,7 @@ module _ {V : Type 0} (n : ℕ) (r new : Row V) (t : Trie V) (trie : IsTrie n r 
   step : Settles n r new (family_at t.families) (family_at fs) p (joined f s)
   step =
       let cell = cell_parts t.families p parent parent_is in
-      let up = trie.laid.parent cell.front cell.last f (ap (family_at t.families) (sym cell.whole) ∙ at) in
+      let up = trie.layout.parent cell.front cell.last f (ap (family_at t.families) (sym cell.whole) ∙ at) in
       record {
         here = find_put_same p (joined f s) t.families;
         there = λ q other. find_put_other q p (joined f s) t.families other;
@@ -115,7 +115,7 @@ module _ {V : Type 0} (n : ℕ) (r new : Row V) (t : Trie V) (trie : IsTrie n r 
         members = stands_more;
         filled = not_nil s f.signs;
         own_down = λ y g gat.
-            let down = trie.laid.parent p y g gat in
+            let down = trie.layout.parent p y g gat in
             let same : Some down.above ≡ Some f = sym down.at ∙ at in
             let family : down.above ≡ f = cc in
             let sign : sign_at r (f.base + y) ≡ y = ap (λ (h : Family). sign_at r (h.base + y)) (sym family) ∙ down.sign in
@@ -125,12 +125,12 @@ module _ {V : Type 0} (n : ℕ) (r new : Row V) (t : Trie V) (trie : IsTrie n r 
           | inl e ↦ absurd (let none = ap (child_at new) e ∙ takes.child_is in omega arith)
           | inr other ↦
               let child = takes.elsewhere.children (f.base + y) other in
-              let below = trie.laid.child p y f at positive (sym (sign_same (f.base + y) other) ∙ is) (omega arith) in
+              let below = trie.layout.child p y f at positive (sym (sign_same (f.base + y) other) ∙ is) (omega arith) in
               (below.0, below.1, below.2 ∙ sym child)
         ];
         test = same_test;
         child = λ q g y other gat positive is no_child. takes.elsewhere.children (g.base + y) (not_new (g.base + y) y positive is);
-        base = λ q g other gat e. other (trie.laid.apart q p g f gat at e);
+        base = λ q g other gat e. other (trie.layout.apart q p g f gat at e);
         owned = owned_now;
         small = small_now;
         flag = flag_now;
@@ -161,7 +161,7 @@ module _ {V : Type 0} (n : ℕ) (r new : Row V) (t : Trie V) (trie : IsTrie n r 
   pub trie_joined : IsTrie n new (record { families = put order p (joined f s) t.families; values = put order (p ++ s ∷ []) v t.values })
   trie_joined = record {
     sorted = sorted_put p (joined f s) t.families trie.sorted;
-    laid = settles n r new (family_at t.families) (family_at fs) p (joined f s) trie.laid step;
+    layout = settles n r new (family_at t.families) (family_at fs) p (joined f s) trie.layout step;
     count = omega (arith, takes.count, trie.count, taken_put p (joined f s) t.families trie.sorted, ap size_of at, length_one_more s f.signs lacks);
     ordered = sorted_put (p ++ s ∷ []) v t.values trie.ordered;
     has = values_settle n r new t trie fs p s v (joined f s) told;

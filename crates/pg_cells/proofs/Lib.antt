@@ -1,3 +1,6 @@
+mod Relinked
+mod RootLinks
+mod SteppedLinks
 pub mod AddTrie
 pub mod CellWrites
 pub mod CellsStay
@@ -5,16 +8,21 @@ pub mod Cleared
 pub mod Collecting
 pub mod FitSteps
 pub mod FreeWalks
+pub mod GivenMembers
 pub mod HeldLaws
 pub mod Joined
-pub mod LaidLaws
+pub mod LayoutLaws
+pub mod LinkLaws
 pub mod LinkedLists
 pub mod LinkedSteps
-pub mod Owned
-pub mod PlacementLaws
 pub mod MoveSteps
 pub mod MovedTrie
 pub mod OneSign
+pub mod Owned
+pub mod PlacedFamily
+pub mod PlacedRoom
+pub mod PlacedValues
+pub mod PlacementLaws
 pub mod RemoveTrie
 pub mod RemovedFamily
 pub mod RemovedSign
@@ -23,17 +31,9 @@ pub mod Removing
 pub mod RootSteps
 pub mod RootTrie
 pub mod RowWrites
-pub mod SettleRoom
-pub mod Settled
-pub mod SettledValues
 pub mod Slots
 pub mod StoreSteps
 pub mod StringCells
 pub mod StringMaps
-pub mod Walking
-pub mod GivenMembers
-pub mod LinkLaws
 pub mod Unlinked
-mod Relinked
-mod SteppedLinks
-mod RootLinks
+pub mod Walking

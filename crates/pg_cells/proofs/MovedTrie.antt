@@ -8,25 +8,25 @@ use Rattle.pg_types.specs.Placement.{Family, Families, family_at, without_family
 use Rattle.pg_cells.specs.declared.fit.Slot.{Slot}
 use Rattle.pg_cells.specs.Lists.{Row, sign_at, child_at, base_at}
 use Rattle.pg_cells.specs.Fit.{signs_of, slot_of}
-use Rattle.pg_cells.specs.Moves.{Outside, CanSettle, Moved}
+use Rattle.pg_cells.specs.Moves.{Outside, CanPlace, Moved}
 use Rattle.pg_cells.specs.Store.{taken_in}
 use Rattle.pg_cells.specs.Held.{Trie}
-use Rattle.pg_cells.specs.Laid.{IsTrie, standing}
+use Rattle.pg_cells.specs.Layouts.{IsTrie, standing}
 use Rattle.pg_cells.proofs.StringMaps.{order, find_put_same, find_put_other, find_without_same, find_without_other, sorted_put, sorted_without, equal_or_not}
 use Rattle.pg_cells.proofs.PlacementLaws.{size_of, taken_put, taken_without}
-use Rattle.pg_cells.proofs.LaidLaws.{sign_stands}
+use Rattle.pg_cells.proofs.LayoutLaws.{sign_stands}
 use Rattle.pg_cells.proofs.OneSign.{filter_more, length_one_more, any_one_more}
 use Rattle.pg_cells.proofs.Slots.{slot_or_none, slot_has, has_slot, outside_or, outside_here}
-use Rattle.pg_cells.proofs.SettleRoom.{new_free, slots_free, parent_outside, parent_not_new}
-use Rattle.pg_cells.proofs.Settled.{Settles, settles}
-use Rattle.pg_cells.proofs.SettledValues.{HasValues, values_settle}
+use Rattle.pg_cells.proofs.PlacedRoom.{new_free, slots_free, parent_outside, parent_not_new}
+use Rattle.pg_cells.proofs.PlacedFamily.{Settles, settles}
+use Rattle.pg_cells.proofs.PlacedValues.{HasValues, values_settle}
 use Rattle.pg_cells.proofs.StringCells.{cell_parts}
 use Rattle.pg_cells.proofs.Joined.{not_nil}
 use Rattle.pg_cells.proofs.Owned.{Owned}
 use Rattle.pg_cells.proofs.Cleared.{others_outside, sign_outside, child_outside, value_outside, taken_owner, other_flag, flag_other, least_same}
 
 module _ {V : Type 0} (few n : ℕ) (r new : Row V) (t : Trie V) (trie : IsTrie n r t) (p : List ℕ) (parent : ℕ) (parent_is : cell_of t.families p ≡ Some parent)
-    (was base : ℕ) (slots : List (Slot V)) (slot : Slot V) (own : Owned n r t p was slots) (can : CanSettle n r was slots slot parent) (moved : Moved few n r new was base slots slot parent) where
+    (was base : ℕ) (slots : List (Slot V)) (slot : Slot V) (own : Owned n r t p was slots) (can : CanPlace n r was slots slot parent) (moved : Moved few n r new was base slots slot parent) where
   -- the family as it is now, and all families
   abbrev pub family : Family
   family = record { base = base; signs = with_one_sign slot.sign (signs_of slots) }
@@ -207,7 +207,7 @@ module _ {V : Type 0} (few n : ℕ) (r new : Row V) (t : Trie V) (trie : IsTrie 
             let same = out_sign i out other in
             let o = taken_owner n r moved.gave moved.dropped t trie p was slots own moved.gives moved.drops i (λ z. up (same ∙ z)) in
             let old = sign_outside n r moved.gave moved.dropped t trie p was slots own moved.gives moved.drops i o.0 in
-            let le = trie.laid.small i in omega arith
+            let le = trie.layout.small i in omega arith
       ]
     ]
   ]
@@ -234,7 +234,7 @@ module _ {V : Type 0} (few n : ℕ) (r new : Row V) (t : Trie V) (trie : IsTrie 
   step : Settles n r new (family_at t.families) (family_at families) p family
   step =
       let cell = cell_parts t.families p parent parent_is in
-      let stands = sign_stands n r (family_at t.families) trie.laid cell.front cell.family cell.last cell.at cell.has in
+      let stands = sign_stands n r (family_at t.families) trie.layout cell.front cell.family cell.last cell.at cell.has in
       let parent_sign : sign_at moved.dropped parent ≡ cell.last =
       sign_outside n r moved.gave moved.dropped t trie p was slots own moved.gives moved.drops parent can.parent_other ∙ ap (sign_at r) cell.is ∙ stands.2 in
       record {
@@ -273,7 +273,7 @@ module _ {V : Type 0} (few n : ℕ) (r new : Row V) (t : Trie V) (trie : IsTrie 
             let not_parent : g.base + y ≢ parent = λ e.
             let sign : y ≡ cell.last = sym is ∙ ap (sign_at r) (e ∙ cell.is) ∙ stands.2 in
             let bases : g.base ≡ cell.family.base = let w = cell.is in omega arith in
-            let fronts = trie.laid.apart q cell.front g cell.family at cell.at bases in
+            let fronts = trie.layout.apart q cell.front g cell.family at cell.at bases in
             no_child ((λ i. fronts i ++ sign i ∷ []) ∙ sym cell.whole) in
             out_child (g.base + y) out.0 out.1 not_parent ∙ child_outside n r moved.gave moved.dropped t trie p was slots own moved.gives moved.drops (g.base + y) k.0;
         base = no_other;
@@ -320,7 +320,7 @@ module _ {V : Type 0} (few n : ℕ) (r new : Row V) (t : Trie V) (trie : IsTrie 
   pub trie_moved : IsTrie n new (record { families = put order p family (without_family t.families p); values = put order (p ++ slot.sign ∷ []) slot.value t.values })
   trie_moved = record {
     sorted = sorted_put p family (without_family t.families p) (sorted_without p t.families trie.sorted);
-    laid = settles n r new (family_at t.families) (family_at families) p family trie.laid step;
+    layout = settles n r new (family_at t.families) (family_at families) p family trie.layout step;
     count = omega (
       arith,
       moved.gives.count,

@@ -10,10 +10,10 @@ use Rattle.pg_cells.specs.Lists.{Row, sign_at, child_at}
 use Rattle.pg_cells.specs.Fit.{signs_of, slot_of}
 use Rattle.pg_cells.specs.Moves.{AreDistinct, Collected}
 use Rattle.pg_cells.specs.Held.{Trie}
-use Rattle.pg_cells.specs.Laid.{IsTrie, value_in}
+use Rattle.pg_cells.specs.Layouts.{IsTrie, value_in}
 use Rattle.pg_cells.proofs.StringMaps.{order}
 use Rattle.pg_cells.proofs.PlacementLaws.{size_of, cell_of_last}
-use Rattle.pg_cells.proofs.LaidLaws.{sign_stands, stands_sign}
+use Rattle.pg_cells.proofs.LayoutLaws.{sign_stands, stands_sign}
 use Rattle.pg_cells.proofs.Slots.{slot_has, has_slot}
 use Rattle.pg_cells.proofs.StringCells.{parts_cell, parts_none}
 
@@ -47,7 +47,7 @@ module _ {V : Type 0} (n : ℕ) (r : Row V) (t : Trie V) (trie : IsTrie n r t) (
     other_base = λ q g other at up. absurd (omega arith);
     own_base = λ g at. absurd (let x = sym none ∙ at in cc);
     has = λ g y at up is. absurd (let x = sym none ∙ at in cc);
-    below = λ y g at. absurd (let up = trie.laid.parent p y g at in let x = sym none ∙ up.at in cc);
+    below = λ y g at. absurd (let up = trie.layout.parent p y g at in let x = sym none ∙ up.at in cc);
     above = λ y k e. cc;
     value = λ y k e. cc;
     no_value = λ y e.
@@ -71,13 +71,13 @@ module _ {V : Type 0} (n : ℕ) (r : Row V) (t : Trie V) (trie : IsTrie n r t) (
 
     -- a slot's sign is one of the family
     slot_in : (x : ℕ) (k : Slot V) → slot_of slots x ≡ Some k → list_any (nat_eq x) f.signs ≡ true
-    slot_in x k e = ap (list_any (nat_eq x)) (trie.laid.members p f at ∙ sym c.signs) ∙ slot_has slots x k e
+    slot_in x k e = ap (list_any (nat_eq x)) (trie.layout.members p f at ∙ sym c.signs) ∙ slot_has slots x k e
 
     in_slot : (x : ℕ) → list_any (nat_eq x) f.signs ≡ true → (k : Slot V) × (slot_of slots x ≡ Some k)
-    in_slot x e = has_slot slots x (ap (list_any (nat_eq x)) (c.signs ∙ sym (trie.laid.members p f at)) ∙ e)
+    in_slot x e = has_slot slots x (ap (list_any (nat_eq x)) (c.signs ∙ sym (trie.layout.members p f at)) ∙ e)
 
     stands_in : (y : ℕ) → 0 < y → sign_at r (f.base + y) ≡ y → (k : Slot V) × (slot_of slots y ≡ Some k)
-    stands_in y positive is = in_slot y (stands_sign n r (family_at t.families) trie.laid p f y at positive is)
+    stands_in y positive is = in_slot y (stands_sign n r (family_at t.families) trie.layout p f y at positive is)
 
     not_in : (y : ℕ) → slot_of slots y ≡ None → list_any (nat_eq y) f.signs ≡ false
     not_in y none = elim (cases_Bool (list_any (nat_eq y) f.signs)) [
@@ -88,26 +88,26 @@ module _ {V : Type 0} (n : ℕ) (r : Row V) (t : Trie V) (trie : IsTrie n r t) (
     pub owned_some : Owned n r t p f.base slots
     owned_some = record {
       distinct = c.distinct;
-      stand = λ x k e. sign_stands n r (family_at t.families) trie.laid p f x at (slot_in x k e);
+      stand = λ x k e. sign_stands n r (family_at t.families) trie.layout p f x at (slot_in x k e);
       child = λ x k e. (c.told x k e).child;
       positive = λ x k e. up;
-      other_base = λ q g other gat positive e. other (trie.laid.apart q p g f gat at e);
+      other_base = λ q g other gat positive e. other (trie.layout.apart q p g f gat at e);
       own_base = λ g gat. (ap (λ (h : Family). h.base) (is_f g gat), up);
       has = λ g y gat positive is. stands_in y positive (ap (λ (h : Family). sign_at r (h.base + y)) (sym (is_f g gat)) ∙ is);
       below = λ y g gat.
-          let parent = trie.laid.parent p y g gat in
+          let parent = trie.layout.parent p y g gat in
           let same = is_f parent.above parent.at in
           let found = stands_in y parent.positive (ap (λ (h : Family). sign_at r (h.base + y)) (sym same) ∙ parent.sign) in
           (found.0, found.1, (c.told y found.0 found.1).child ∙ ap (λ (h : Family). child_at r (h.base + y)) (sym same) ∙ parent.child);
       above = λ y k e positive.
           let told = c.told y k e in
-          let s = sign_stands n r (family_at t.families) trie.laid p f y at (slot_in y k e) in
+          let s = sign_stands n r (family_at t.families) trie.layout p f y at (slot_in y k e) in
           let child : k.child ≡ child_at r (f.base + y) = told.child in
-          let down = trie.laid.child p y f at s.0 s.2 (omega arith) in
+          let down = trie.layout.child p y f at s.0 s.2 (omega arith) in
           (down.0, down.1, down.2 ∙ sym child);
       value = λ y k e. trie.has (p ++ y ∷ []) ∙ ap (value_in r) (parts_cell t.families p y f at (slot_in y k e)) ∙ (c.told y k e).value;
       no_value = λ y e. trie.has (p ++ y ∷ []) ∙ ap (value_in r) (parts_none t.families p y f at (not_in y e));
-      size = ap size_of at ∙ ap length (trie.laid.members p f at ∙ sym c.signs) ∙ length-map slots (λ (k : Slot V). k.sign);
+      size = ap size_of at ∙ ap length (trie.layout.members p f at ∙ sym c.signs) ∙ length-map slots (λ (k : Slot V). k.sign);
       test = λ x. nat_eq (sign_at r (f.base + x)) x;
       signs = c.signs;
       some_test = λ x k e. eq-eqb (sign_at r (f.base + x)) x (c.told x k e).sign;

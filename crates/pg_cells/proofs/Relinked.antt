@@ -10,7 +10,7 @@ use Rattle.pg_cells.specs.IsHeld.{IsHeld}
 use Rattle.pg_cells.specs.Links.{AreLinks, with_link, with_first, with_next}
 use Rattle.pg_cells.specs.Members.{IsNextSign, goes_on}
 use Rattle.pg_cells.proofs.StringMaps.{order, find_put_same, find_put_other, equal_or_not}
-use Rattle.pg_cells.proofs.Settled.{not_longer}
+use Rattle.pg_cells.proofs.PlacedFamily.{not_longer}
 use Rattle.pg_cells.proofs.GivenMembers.{next_alike}
 use Rattle.pg_cells.proofs.LinkLaws.{goes_cell}
 

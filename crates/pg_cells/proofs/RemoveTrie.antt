@@ -10,11 +10,11 @@ use Rattle.pg_cells.specs.Lists.{Row, sign_at, child_at}
 use Rattle.pg_cells.specs.Writes.{Frees, SetsBase}
 use Rattle.pg_cells.specs.Moves.{Prunes}
 use Rattle.pg_cells.specs.Held.{Trie}
-use Rattle.pg_cells.specs.Laid.{IsTrie, standing}
+use Rattle.pg_cells.specs.Layouts.{IsTrie, standing}
 use Rattle.pg_cells.proofs.LinkedLists.{taken_within}
 use Rattle.pg_cells.proofs.StringMaps.{order, without_key}
-use Rattle.pg_cells.proofs.LaidLaws.{sign_stands, has_range}
-use Rattle.pg_cells.proofs.Settled.{not_longer}
+use Rattle.pg_cells.proofs.LayoutLaws.{sign_stands, has_range}
+use Rattle.pg_cells.proofs.PlacedFamily.{not_longer}
 use Rattle.pg_cells.proofs.StringCells.{cell_parts, cell_taken, cells_apart, child_is}
 use Rattle.pg_cells.proofs.Removing.{signs_left, left_stands}
 use Rattle.pg_cells.proofs.RemovedSign.{trie_left}
@@ -97,7 +97,7 @@ module _ {V : Type 0} (n : ℕ) (r : Row V) (t : Trie V) (trie : IsTrie n r t) (
   pub sign_taken : (0 < s) × (sign_at r (base + s) ≢ 0)
   sign_taken =
       let f = its_family in
-      let h = sign_stands n r (family_at t.families) trie.laid p f.0 s f.1 f.2 in
+      let h = sign_stands n r (family_at t.families) trie.layout p f.0 s f.1 f.2 in
       (h.0, (λ z. let is = h.2 in let up = h.0 in let same = ap (λ b. sign_at r (b + s)) base_same in omega arith))
 
   pub base_in : length r.bases ≡ length r.signs → base < length r.signs

@@ -6,11 +6,11 @@ use Rattle.pg_types.specs.Placement.{Family, Families, family_at, without_family
 use Rattle.pg_cells.specs.Lists.{Row, sign_at, child_at, base_at}
 use Rattle.pg_cells.specs.Writes.{Frees, SetsBase, SetsChild}
 use Rattle.pg_cells.specs.Held.{Trie}
-use Rattle.pg_cells.specs.Laid.{Laid, IsParent, IsTrie}
+use Rattle.pg_cells.specs.Layouts.{IsLayout, IsParent, IsTrie}
 use Rattle.pg_cells.proofs.StringMaps.{without_key, find_without_same, find_without_other, sorted_without, equal_or_not}
 use Rattle.pg_cells.proofs.PlacementLaws.{size_of, taken_without}
-use Rattle.pg_cells.proofs.LaidLaws.{sign_stands, stands_sign}
-use Rattle.pg_cells.proofs.Settled.{not_empty, is_same_test, filter_same}
+use Rattle.pg_cells.proofs.LayoutLaws.{sign_stands, stands_sign}
+use Rattle.pg_cells.proofs.PlacedFamily.{not_empty, is_same_test, filter_same}
 use Rattle.pg_cells.proofs.StringCells.{cell_parts, parts_cell}
 use Rattle.pg_cells.proofs.Removing.{signs_left, one_less, left_has, others_test, others_cell, small_left, owner_left}
 use Rattle.pg_cells.proofs.RemovedValues.{cell_told, values_removed}
@@ -75,10 +75,10 @@ module _ {V : Type 0} (n : ℕ) (r freed unlinked new : Row V) (t : Trie V) (tri
   not_parent : (q : List ℕ) (g : Family) (y : ℕ) → family_at t.families q ≡ Some g → sign_at r (g.base + y) ≡ y → q ++ y ∷ [] ≢ p → g.base + y ≢ parent
   not_parent q g y gat is other e =
       let cell = cell_parts t.families p parent parent_is in
-      let stands = sign_stands n r (family_at t.families) trie.laid cell.front cell.family cell.last cell.at cell.has in
+      let stands = sign_stands n r (family_at t.families) trie.layout cell.front cell.family cell.last cell.at cell.has in
       let sign : y ≡ cell.last = sym is ∙ ap (sign_at r) (e ∙ cell.is) ∙ stands.2 in
       let bases : g.base ≡ cell.family.base = let w = cell.is in omega arith in
-      let fronts = trie.laid.apart q cell.front g cell.family gat cell.at bases in
+      let fronts = trie.layout.apart q cell.front g cell.family gat cell.at bases in
       other ((λ i. fronts i ++ sign i ∷ []) ∙ sym cell.whole)
 
   -- and that of p is
@@ -89,10 +89,10 @@ module _ {V : Type 0} (n : ℕ) (r freed unlinked new : Row V) (t : Trie V) (tri
   parent_left : (q : List ℕ) (x : ℕ) (g : Family) → family_at fs (q ++ x ∷ []) ≡ Some g → IsParent new (family_at fs) q x g
   parent_left q x g gat =
       let o = rest (q ++ x ∷ []) g gat in
-      let up = trie.laid.parent q x g o.1 in
+      let up = trie.layout.parent q x g o.1 in
       let other : q ≢ p = λ e.
       let family = is_f up.above (ap (family_at t.families) (sym e) ∙ up.at) in
-      let in_f = stands_sign n r (family_at t.families) trie.laid p f x at up.positive (ap (λ (h : Family). sign_at r (h.base + x)) (sym family) ∙ up.sign) in
+      let in_f = stands_sign n r (family_at t.families) trie.layout p f x at up.positive (ap (λ (h : Family). sign_at r (h.base + x)) (sym family) ∙ up.sign) in
       let is = only x in_f in
       let none = sym childless ∙ sym (λ i. family_at t.families (e i ++ is i ∷ [])) ∙ o.1 in cc in
       record {
@@ -113,22 +113,22 @@ module _ {V : Type 0} (n : ℕ) (r freed unlinked new : Row V) (t : Trie V) (tri
       let sign = is_same_test (sign_at r (g.base + x)) (sign_at new (g.base + x)) x (sym (test q g x o.0 o.1 up)) is in
       let off : g.base + x ≢ parent = λ e. let z = ap (child_at new) e ∙ parent_child in omega arith in
       let child = child_now (g.base + x) off ∙ frees.elsewhere.children (g.base + x) (others_cell n r new t trie p f at s has gone same q g x o.0 o.1 sign) in
-      let below = trie.laid.child q x g o.1 up sign (omega arith) in
-      let in_g = stands_sign n r (family_at t.families) trie.laid q g x o.1 up sign in
+      let below = trie.layout.child q x g o.1 up sign (omega arith) in
+      let in_g = stands_sign n r (family_at t.families) trie.layout q g x o.1 up sign in
       (below.0, there (q ++ x ∷ []) (λ e. off (is_parent q g x o.1 e in_g)) ∙ below.1, below.2 ∙ sym child)
 
-  laid_left : Laid n new (family_at fs)
+  laid_left : IsLayout n new (family_at fs)
   laid_left =
       let cell = cell_parts t.families p parent parent_is in
       record {
-        root = there [] (λ e. not_empty cell.front cell.last (sym cell.whole ∙ sym e)) ∙ trie.laid.root;
+        root = there [] (λ e. not_empty cell.front cell.last (sym cell.whole ∙ sym e)) ∙ trie.layout.root;
         members = λ q g gat.
             let o = rest q g gat in
-            trie.laid.members q g o.1 ∙ filter_same (λ x. nat_eq (sign_at r (g.base + x)) x) (λ x. nat_eq (sign_at new (g.base + x)) x) 1 n (omega arith) (λ x up. sym (test q g x o.0 o.1 up));
-        filled = λ q g gat. trie.laid.filled q g (rest q g gat).1;
+            trie.layout.members q g o.1 ∙ filter_same (λ x. nat_eq (sign_at r (g.base + x)) x) (λ x. nat_eq (sign_at new (g.base + x)) x) 1 n (omega arith) (λ x up. sym (test q g x o.0 o.1 up));
+        filled = λ q g gat. trie.layout.filled q g (rest q g gat).1;
         parent = parent_left;
         child = child_left;
-        apart = λ q u g h a b e. trie.laid.apart q u g h (rest q g a).1 (rest u h b).1 e;
+        apart = λ q u g h a b e. trie.layout.apart q u g h (rest q g a).1 (rest u h b).1 e;
         owned = λ i taken.
             let o = owner_left n r new t trie p f at s has gone same i taken in (
               o.1.0,
@@ -137,24 +137,24 @@ module _ {V : Type 0} (n : ℕ) (r freed unlinked new : Row V) (t : Trie V) (tri
                   let family = is_f o.1.1 (ap (family_at t.families) (sym e) ∙ o.1.2) in
                   let is : i ≡ f.base + sign_at new i = o.1.3 ∙ ap (λ (h : Family). h.base + sign_at new i) family in
                   let stands : sign_at r (f.base + sign_at new i) ≡ sign_at new i = ap (sign_at r) (sym is) ∙ sym (same i o.0) in
-                  let sign = only (sign_at new i) (stands_sign n r (family_at t.families) trie.laid p f (sign_at new i) at (omega arith) stands) in
+                  let sign = only (sign_at new i) (stands_sign n r (family_at t.families) trie.layout p f (sign_at new i) at (omega arith) stands) in
                   o.0 (is ∙ ap (λ x. f.base + x) sign)) ∙ o.1.2,
               o.1.3,
             );
         small = small_left n r new t trie p f at s has gone same;
         flag = λ q g gat.
             let o = rest q g gat in
-            base_now g.base (λ e. o.0 (trie.laid.apart q p g f o.1 at e)) ∙ trie.laid.flag q g o.1;
+            base_now g.base (λ e. o.0 (trie.layout.apart q p g f o.1 at e)) ∙ trie.layout.flag q g o.1;
         flagged = λ b e.
             let other : b ≢ f.base = λ z. false≢true (sym (ap (base_at new) z ∙ flags.base_is) ∙ e) in
-            let o = trie.laid.flagged b (sym (base_now b other) ∙ e) in
+            let o = trie.layout.flagged b (sym (base_now b other) ∙ e) in
             (o.0, o.1, there o.0 (λ is. other (sym o.3 ∙ ap (λ (h : Family). h.base) (is_f o.1 (ap (family_at t.families) (sym is) ∙ o.2)))) ∙ o.2, o.3);
       }
 
   pub trie_gone : IsTrie n new (record { families = without_family t.families p; values = without_key (p ++ s ∷ []) t.values })
   trie_gone = record {
     sorted = sorted_without p t.families trie.sorted;
-    laid = laid_left;
+    layout = laid_left;
     count = omega (arith, frees.count, links.count, flags.count, trie.count, taken_without p t.families trie.sorted, ap size_of at, one_less n r new t trie p f at s has gone same, ap length none_left);
     ordered = sorted_without (p ++ s ∷ []) t.values trie.ordered;
     has = values_removed n r new t trie fs p s there (ap (λ o. cell_told o s) (find_without_same p t.families))

@@ -6,10 +6,10 @@ use Rattle.pg_types.specs.Placement.{Family, Families, family_at, cell_of}
 use Rattle.pg_cells.specs.Lists.{Row, sign_at, child_at, base_at}
 use Rattle.pg_cells.specs.Writes.{Frees}
 use Rattle.pg_cells.specs.Held.{Trie}
-use Rattle.pg_cells.specs.Laid.{IsTrie}
+use Rattle.pg_cells.specs.Layouts.{IsTrie}
 use Rattle.pg_cells.proofs.StringMaps.{order, without_key, find_put_same, find_put_other, sorted_put, sorted_without, equal_or_not}
 use Rattle.pg_cells.proofs.PlacementLaws.{size_of, taken_put}
-use Rattle.pg_cells.proofs.Settled.{Settles, settles, not_longer}
+use Rattle.pg_cells.proofs.PlacedFamily.{Settles, settles, not_longer}
 use Rattle.pg_cells.proofs.StringCells.{cell_parts}
 use Rattle.pg_cells.proofs.Removing.{signs_left, left_stands, not_left, one_less, left_has, others_test, others_cell, small_left, owner_left}
 use Rattle.pg_cells.proofs.RemovedValues.{cell_told, values_removed}
@@ -42,7 +42,7 @@ module _ {V : Type 0} (n : ℕ) (r new : Row V) (t : Trie V) (trie : IsTrie n r 
   step : Settles n r new (family_at t.families) (family_at fs) p left
   step =
       let cell = cell_parts t.families p parent parent_is in
-      let up = trie.laid.parent cell.front cell.last f (ap (family_at t.families) (sym cell.whole) ∙ at) in
+      let up = trie.layout.parent cell.front cell.last f (ap (family_at t.families) (sym cell.whole) ∙ at) in
       let front_other : cell.front ≢ p = λ e. not_longer cell.front cell.last (sym cell.whole ∙ sym e) in
       let apart = others_cell n r new t trie p f at s has frees.sign_is same cell.front up.above cell.last front_other up.at up.sign in
       record {
@@ -60,7 +60,7 @@ module _ {V : Type 0} (n : ℕ) (r new : Row V) (t : Trie V) (trie : IsTrie n r 
         members = left_stands n r new t trie p f at s has frees.sign_is same;
         filled = some;
         own_down = λ y g gat.
-            let down = trie.laid.parent p y g gat in
+            let down = trie.layout.parent p y g gat in
             let family = is_f down.above down.at in
             let other : f.base + y ≢ f.base + s = λ e.
             let is : y ≡ s = omega arith in
@@ -71,11 +71,11 @@ module _ {V : Type 0} (n : ℕ) (r new : Row V) (t : Trie V) (trie : IsTrie n r 
         own_up = λ y positive is down.
             let other = not_freed y positive is in
             let child = frees.elsewhere.children (f.base + y) other in
-            let below = trie.laid.child p y f at positive (sym (same (f.base + y) other) ∙ is) (omega arith) in
+            let below = trie.layout.child p y f at positive (sym (same (f.base + y) other) ∙ is) (omega arith) in
             (below.0, below.1, below.2 ∙ sym child);
         test = others_test n r new t trie p f at s has frees.sign_is same;
         child = λ q g y other gat positive is no_child. frees.elsewhere.children (g.base + y) (others_cell n r new t trie p f at s has frees.sign_is same q g y other gat is);
-        base = λ q g other gat e. other (trie.laid.apart q p g f gat at e);
+        base = λ q g other gat e. other (trie.layout.apart q p g f gat at e);
         owned = λ i taken.
             let o = owner_left n r new t trie p f at s has frees.sign_is same i taken in
             elim (equal_or_not o.1.0 p) [
@@ -89,11 +89,11 @@ module _ {V : Type 0} (n : ℕ) (r new : Row V) (t : Trie V) (trie : IsTrie n r 
           | inl e ↦
               let is : Some g ≡ Some left = sym gat ∙ ap (family_at fs) e.0 ∙ here in
               let family : g ≡ left = cc in
-              ap (λ (h : Family). base_at r h.base) family ∙ trie.laid.flag p f at
-          | inr e ↦ trie.laid.flag q g (sym (there q e.0) ∙ gat)
+              ap (λ (h : Family). base_at r h.base) family ∙ trie.layout.flag p f at
+          | inr e ↦ trie.layout.flag q g (sym (there q e.0) ∙ gat)
         ];
         flagged = λ b e.
-            let o = trie.laid.flagged b (sym (frees.elsewhere.bases b) ∙ e) in
+            let o = trie.layout.flagged b (sym (frees.elsewhere.bases b) ∙ e) in
             elim (equal_or_not o.0 p) [
               | inl is ↦
                   let family = is_f o.1 (ap (family_at t.families) (sym is.0) ∙ o.2) in
@@ -105,7 +105,7 @@ module _ {V : Type 0} (n : ℕ) (r new : Row V) (t : Trie V) (trie : IsTrie n r 
   pub trie_left : IsTrie n new (record { families = put order p left t.families; values = without_key (p ++ s ∷ []) t.values })
   trie_left = record {
     sorted = sorted_put p left t.families trie.sorted;
-    laid = settles n r new (family_at t.families) (family_at fs) p left trie.laid step;
+    layout = settles n r new (family_at t.families) (family_at fs) p left trie.layout step;
     count = omega (arith, frees.count, trie.count, taken_put p left t.families trie.sorted, ap size_of at, one_less n r new t trie p f at s has frees.sign_is same);
     ordered = sorted_without (p ++ s ∷ []) t.values trie.ordered;
     has = values_removed n r new t trie fs p s there

@@ -5,8 +5,8 @@ use Rattle.std.specs.List.{list_any, range_with_len}
 use Rattle.pg_types.specs.Placement.{Family, family_at, with_one_sign}
 use Rattle.pg_cells.specs.Lists.{Row, sign_at}
 use Rattle.pg_cells.specs.Held.{Trie}
-use Rattle.pg_cells.specs.Laid.{IsTrie, standing}
-use Rattle.pg_cells.proofs.LaidLaws.{sign_stands, range_has}
+use Rattle.pg_cells.specs.Layouts.{IsTrie, standing}
+use Rattle.pg_cells.proofs.LayoutLaws.{sign_stands, range_has}
 use Rattle.pg_cells.proofs.OneSign.{filter_more, length_one_more, any_one_more}
 
 -- the signs of a family but one
@@ -44,7 +44,7 @@ filter_twice t u s a (suc n) up h gone =
 module _ {V : Type 0} (n : ℕ) (r new : Row V) (t : Trie V) (trie : IsTrie n r t) (p : List ℕ) (f : Family) (at : family_at t.families p ≡ Some f)
     (s : ℕ) (has : list_any (nat_eq s) f.signs ≡ true) (gone : sign_at new (f.base + s) ≡ 0) (same : (i : ℕ) → i ≢ f.base + s → sign_at new i ≡ sign_at r i) where
   pub stood : (0 < s) × (s ≤ n) × (sign_at r (f.base + s) ≡ s)
-  stood = sign_stands n r (family_at t.families) trie.laid p f s at has
+  stood = sign_stands n r (family_at t.families) trie.layout p f s at has
 
   test_other : (x : ℕ) → 0 < x → x ≢ s → nat_eq (sign_at new (f.base + x)) x ≡ nat_eq (sign_at r (f.base + x)) x
   test_other x up other = ap (λ y. nat_eq y x) (same (f.base + x) (λ z. other (omega arith)))
@@ -54,13 +54,13 @@ module _ {V : Type 0} (n : ℕ) (r new : Row V) (t : Trie V) (trie : IsTrie n r 
 
   pub left_stands : signs_left s f.signs ≡ standing n new f.base
   left_stands =
-      ap (signs_left s) (trie.laid.members p f at)
+      ap (signs_left s) (trie.layout.members p f at)
       ∙ filter_twice (λ x. nat_eq (sign_at r (f.base + x)) x) (λ x. nat_eq (sign_at new (f.base + x)) x) s 1 n (omega arith) test_other test_gone
 
   -- the old signs are those that are left, with the one
   pub was_one_more : f.signs ≡ with_one_sign s (signs_left s f.signs)
   was_one_more =
-      trie.laid.members p f at
+      trie.layout.members p f at
       ∙ filter_more (λ x. nat_eq (sign_at new (f.base + x)) x) (λ x. nat_eq (sign_at r (f.base + x)) x) s 1 n (omega arith)
       (λ x up other. sym (test_other x up other)) (eq-eqb (sign_at r (f.base + s)) s stood.2) test_gone (let h = stood.0 in omega arith) (let h = stood.1 in omega arith)
       ∙ ap (with_one_sign s) (sym left_stands)
@@ -90,18 +90,18 @@ module _ {V : Type 0} (n : ℕ) (r new : Row V) (t : Trie V) (trie : IsTrie n r 
         let was : sign_at r (g.base + y) ≡ s = ap (sign_at r) e ∙ stood.2 in
         let now : sign_at new (g.base + y) ≡ 0 = ap (sign_at new) e ∙ gone in
         ne_eqb (sign_at new (g.base + y)) y (λ z. omega arith)
-        ∙ sym (ne_eqb (sign_at r (g.base + y)) y (λ z. other (trie.laid.apart q p g f gat at (omega arith))))
+        ∙ sym (ne_eqb (sign_at r (g.base + y)) y (λ z. other (trie.layout.apart q p g f gat at (omega arith))))
   ]
 
   pub others_cell : (q : List ℕ) (g : Family) (y : ℕ) → q ≢ p → family_at t.families q ≡ Some g → sign_at r (g.base + y) ≡ y → g.base + y ≢ f.base + s
   others_cell q g y other gat is e =
       let sign : s ≡ y = sym stood.2 ∙ ap (sign_at r) (sym e) ∙ is in
-      other (trie.laid.apart q p g f gat at (omega arith))
+      other (trie.layout.apart q p g f gat at (omega arith))
 
   pub small_left : (i : ℕ) → sign_at new i ≤ n
   small_left i = elim (cases_eq i (f.base + s)) [
     | inl e ↦ let z = ap (sign_at new) e ∙ gone in omega arith
-    | inr other ↦ let z = same i other in let le = trie.laid.small i in omega arith
+    | inr other ↦ let z = same i other in let le = trie.layout.small i in omega arith
   ]
 
   -- the owner of a taken cell
@@ -109,5 +109,5 @@ module _ {V : Type 0} (n : ℕ) (r new : Row V) (t : Trie V) (trie : IsTrie n r 
   owner_left i up =
       let other : i ≢ f.base + s = λ e. up (ap (sign_at new) e ∙ gone) in
       let z = same i other in
-      let o = trie.laid.owned i (λ w. up (z ∙ w)) in
+      let o = trie.layout.owned i (λ w. up (z ∙ w)) in
       (other, (o.0, o.1, o.2, o.3 ∙ ap (λ x. o.1.base + x) (sym z)))

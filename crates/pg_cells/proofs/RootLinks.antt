@@ -10,7 +10,7 @@ use Rattle.pg_cells.specs.Links.{AreLinks, unlinked}
 use Rattle.pg_cells.specs.Members.{IsNext, goes_on}
 use Rattle.pg_cells.specs.Root.{root_held}
 use Rattle.pg_cells.proofs.StringMaps.{order, equal_or_not}
-use Rattle.pg_cells.proofs.Settled.{not_empty}
+use Rattle.pg_cells.proofs.PlacedFamily.{not_empty}
 use Rattle.pg_cells.proofs.LinkLaws.{goes_cell}
 use Rattle.pg_cells.proofs.Unlinked.{root_unlinked}
 

@@ -5,14 +5,14 @@ use Rattle.std.proofs.lemmas.List.{get_or_past, get_or_default}
 use Rattle.pg_cells.specs.Lists.{Row, sign_at, child_at, base_at, IsFree}
 use Rattle.pg_cells.specs.Store.{how_many, Extends, one_free}
 use Rattle.pg_cells.specs.Writes.{Takes, Frees, SetsBase}
-use Rattle.pg_cells.specs.Root.{IsPlanted, Clears}
+use Rattle.pg_cells.specs.Root.{IsRootTo, Clears}
 
 how_many_zero : (xs : List ℕ) → ((i : ℕ) → get_or xs i 0 ≡ 0) → how_many xs ≡ 0
 how_many_zero [] h = refl
 how_many_zero (x ∷ xs) h = let first = h 0 in let rest = how_many_zero xs (λ i. h (suc i)) in omega arith
 
 module _ {V : Type 0} where
-  pub planted_none : (blank : V) → IsPlanted 1 blank (one_free blank)
+  pub planted_none : (blank : V) → IsRootTo 1 blank (one_free blank)
   planted_none blank = record {
     stand = λ i p lt. absurd (omega arith);
     free = free;
@@ -35,7 +35,7 @@ module _ {V : Type 0} where
       bases zero = refl
       bases (suc i) = refl
 
-  pub planted_extended : (blank : V) (old new : Row V) → IsPlanted 1 blank old → Extends old new → IsPlanted 1 blank new
+  pub planted_extended : (blank : V) (old new : Row V) → IsRootTo 1 blank old → Extends old new → IsRootTo 1 blank new
   planted_extended blank old new h more = record {
     stand = λ i p lt. absurd (omega arith);
     free = λ i le. more.signs i ∙ h.free i le;
@@ -46,7 +46,7 @@ module _ {V : Type 0} where
     count = omega (arith, more.taken, h.count);
   }
 
-  pub planted_more : (blank : V) (k : ℕ) (old new : Row V) → 0 < k → IsPlanted k blank old → Takes old new k k blank 0 → IsPlanted (k + 1) blank new
+  pub planted_more : (blank : V) (k : ℕ) (old new : Row V) → 0 < k → IsRootTo k blank old → Takes old new k k blank 0 → IsRootTo (k + 1) blank new
   planted_more blank k old new up h t = record {
     stand = λ i p lt. elim (cases_eq i k) [
       | inl e ↦ ap (sign_at new) e ∙ t.sign_is ∙ sym e
@@ -66,12 +66,12 @@ module _ {V : Type 0} where
     count = omega (arith, t.count, h.count);
   }
 
-  pub free_here : (blank : V) (k : ℕ) (r : Row V) → IsPlanted k blank r → k < length r.signs → IsFree r k
+  pub free_here : (blank : V) (k : ℕ) (r : Row V) → IsRootTo k blank r → k < length r.signs → IsFree r k
   free_here blank k r h lt = get_or_default r.signs k 1 0 lt ∙ h.free k (omega arith)
 
   -- where no cell is taken and no index is a base
   pub planted_cleared : (blank : V) (r : Row V) → ((i : ℕ) → i < length r.signs → sign_at r i ≡ 0) → ((b : ℕ) → b < length r.signs → base_at r b ≡ false) → length r.bases ≡ length r.signs
-      → ((i : ℕ) → sign_at r i ≡ 0 → child_at r i ≡ 0) → IsPlanted 1 blank r
+      → ((i : ℕ) → sign_at r i ≡ 0 → child_at r i ≡ 0) → IsRootTo 1 blank r
   planted_cleared blank r signs bases even bare =
       let all : (i : ℕ) → sign_at r i ≡ 0 = λ i. elim (cases_lt i (length r.signs)) [ inl lt ↦ signs i lt | inr le ↦ get_or_past r.signs i 0 le ] in
       record {

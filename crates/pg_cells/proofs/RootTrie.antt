@@ -12,11 +12,11 @@ use Rattle.std.specs.FinMap.Entries.{below_all}
 use Rattle.pg_types.specs.Placement.{Family, family_at, root, cell_after, cell_of, taken}
 use Rattle.pg_cells.specs.Lists.{Row, sign_at, base_at}
 use Rattle.pg_cells.specs.Writes.{SetsBase}
-use Rattle.pg_cells.specs.Laid.{Laid, IsParent, IsTrie, standing, value_in}
-use Rattle.pg_cells.specs.Root.{IsPlanted}
+use Rattle.pg_cells.specs.Layouts.{IsLayout, IsParent, IsTrie, standing, value_in}
+use Rattle.pg_cells.specs.Root.{IsRootTo}
 use Rattle.pg_cells.proofs.StringMaps.{order, equal_or_not}
-use Rattle.pg_cells.proofs.LaidLaws.{range_has, has_range}
 use Rattle.pg_types.proofs.BoolFacts.{both_halves}
+use Rattle.pg_cells.proofs.LayoutLaws.{range_has, has_range}
 
 -- a test that all numbers of a range pass keeps the range
 filter_all : (test : ℕ → Bool) (a n : ℕ) → ((x : ℕ) → a ≤ x → x < a + n → test x ≡ true) → filter test (range_with_len a n) ≡ range_with_len a n
@@ -81,24 +81,24 @@ module _ {V : Type 0} (blank : V) where
   no_cell_after n x a (y ∷ []) = refl
   no_cell_after n x a (y ∷ z ∷ q) = no_cell_after n x (a ++ y ∷ []) (z ∷ q)
 
-  module _ (n : ℕ) (old r : Row V) (some : 1 ≤ n) (planted : IsPlanted (n + 1) blank old) (sets : SetsBase old r 0 true) where
+  module _ (n : ℕ) (old r : Row V) (some : 1 ≤ n) (root_to : IsRootTo (n + 1) blank old) (sets : SetsBase old r 0 true) where
     stands : (i : ℕ) → 0 < i → i < n + 1 → sign_at r i ≡ i
-    stands i p lt = sets.signs i ∙ planted.stand i p lt
+    stands i p lt = sets.signs i ∙ root_to.stand i p lt
 
     -- a taken cell is that of a sign of the root
     taken_in_root : (i : ℕ) → sign_at r i ≢ 0 → (0 < i) × (i < n + 1)
     taken_in_root i up = elim (cases_eq i 0) [
-      | inl z ↦ absurd (up (ap (sign_at r) z ∙ sets.signs 0 ∙ planted.zero_free))
+      | inl z ↦ absurd (up (ap (sign_at r) z ∙ sets.signs 0 ∙ root_to.zero_free))
       | inr p ↦ elim (cases_lt i (n + 1)) [
         | inl lt ↦ (omega arith, lt)
-        | inr le ↦ absurd (up (sets.signs i ∙ planted.free i le))
+        | inr le ↦ absurd (up (sets.signs i ∙ root_to.free i le))
       ]
     ]
 
     whole_root : Family
     whole_root = record { base = 0; signs = range_with_len 1 n }
 
-    root_laid : Laid n r (family_at (root n))
+    root_laid : IsLayout n r (family_at (root n))
     root_laid = record {
       root = refl;
       members = λ p f at.
@@ -111,7 +111,7 @@ module _ {V : Type 0} (blank : V) where
           let none : length (range_with_len 1 n) ≡ 0 = ap length (sym (ap (λ (g : Family). g.signs) h.1) ∙ e) in
           omega (arith, length-range_with_len 1 n);
       parent = no_parent;
-      child = λ p x g at up is down. absurd (let none = sets.children (g.base + x) ∙ planted.children (g.base + x) in omega arith);
+      child = λ p x g at up is down. absurd (let none = sets.children (g.base + x) ∙ root_to.children (g.base + x) in omega arith);
       apart = λ p q f g a b e. (root_only n p f a).0 ∙ sym (root_only n q g b).0;
       owned = λ i up. let h = taken_in_root i up in ([], record { base = 0; signs = range_with_len 1 n }, refl, sym (zero-add i) ∙ ap (λ x. 0 + x) (sym (stands i h.0 h.1)));
       small = λ i. elim (cases_eq (sign_at r i) 0) [
@@ -121,7 +121,7 @@ module _ {V : Type 0} (blank : V) where
       flag = λ p f at. ap (λ (g : Family). base_at r g.base) (root_only n p f at).1 ∙ sets.base_is;
       flagged = λ b e. elim (cases_eq b 0) [
         | inl z ↦ ([], record { base = 0; signs = range_with_len 1 n }, refl, sym z)
-        | inr up ↦ absurd (false≢true (sym (sets.bases b up ∙ planted.bases b) ∙ e))
+        | inr up ↦ absurd (false≢true (sym (sets.bases b up ∙ root_to.bases b) ∙ e))
       ];
     }
       where
@@ -132,8 +132,8 @@ module _ {V : Type 0} (blank : V) where
     pub root_trie : IsTrie n r (record { families = root n; values = blanks blank (range_with_len 1 n) })
     root_trie = record {
       sorted = tt;
-      laid = root_laid;
-      count = omega (arith, sets.count, planted.count, root_taken);
+      layout = root_laid;
+      count = omega (arith, sets.count, root_to.count, root_taken);
       ordered = blanks_sorted blank 1 n;
       has = has;
     }
@@ -144,7 +144,7 @@ module _ {V : Type 0} (blank : V) where
         value_here : (y : ℕ) (b : Bool) → list_any (nat_eq y) (range_with_len 1 n) ≡ b → cond b (Some blank) None ≡ value_in r (cond b (Some (0 + y)) None)
         value_here y true e =
             let in_range = range_any 1 n y e in
-            sym (ap (slice_get r.values) (zero-add y) ∙ sets.values y ∙ planted.values y (omega (arith, in_range.0)) (omega (arith, in_range.1)))
+            sym (ap (slice_get r.values) (zero-add y) ∙ sets.values y ∙ root_to.values y (omega (arith, in_range.0)) (omega (arith, in_range.1)))
         value_here y false e = refl
 
         has : (q : List ℕ) → find order q (blanks blank (range_with_len 1 n)) ≡ value_in r (cell_of (root n) q)

@@ -11,7 +11,7 @@ use Rattle.pg_cells.specs.IsHeld.{IsHeld}
 use Rattle.pg_cells.specs.Links.{AreLinks, IsBefore, with_link}
 use Rattle.pg_cells.specs.Members.{IsNextSign, goes_on, has_sign, IsAlone, HasOther}
 use Rattle.pg_cells.proofs.StringMaps.{order, find_put_same, find_put_other, find_without_same, find_without_other}
-use Rattle.pg_cells.proofs.Settled.{not_longer}
+use Rattle.pg_cells.proofs.PlacedFamily.{not_longer}
 use Rattle.pg_cells.proofs.LinkLaws.{some_string, goes_cell, goes_has, HasMore, more_after, more_before, more_other, HasLess, less_before, less_other}
 use Rattle.pg_cells.proofs.Relinked.{goes_by, goes_found, IsRelinked, relinked, links_stepped}
 use Rattle.pg_cells.proofs.Unlinked.{plain, put_plain, without_plain, relink_plain}

@@ -10,13 +10,13 @@ use Rattle.pg_types.proofs.LeastBase.{used_le_top}
 use Rattle.pg_cells.specs.Lists.{Row, sign_at, child_at, base_at}
 use Rattle.pg_cells.specs.Writes.{SetsValue}
 use Rattle.pg_cells.specs.Held.{Trie}
-use Rattle.pg_cells.specs.Laid.{IsTrie, value_in}
+use Rattle.pg_cells.specs.Layouts.{IsTrie, value_in}
 use Rattle.pg_cells.specs.OneTrie.{last_of}
 use Rattle.pg_cells.proofs.StringMaps.{order, find_put_same, find_put_other, sorted_put, equal_or_not}
 use Rattle.pg_cells.proofs.LinkedLists.{taken_within}
 use Rattle.pg_cells.proofs.RootTrie.{any_range}
 use Rattle.pg_cells.proofs.PlacementLaws.{cell_of_last, cell_used}
-use Rattle.pg_cells.proofs.LaidLaws.{sign_stands, stands_sign, laid_alike}
+use Rattle.pg_cells.proofs.LayoutLaws.{sign_stands, stands_sign, laid_alike}
 
 -- the string q has the cell: it is a sign of a family
 pub record IsCellOf (fs : Families) (q : List ℕ) (cell : ℕ) : Type 0 where
@@ -71,16 +71,16 @@ module _ {V : Type 0} (n : ℕ) (r : Row V) (t : Trie V) (trie : IsTrie n r t) w
   pub cell_taken : (q : List ℕ) (cell : ℕ) → cell_of t.families q ≡ Some cell → sign_at r cell ≢ 0
   cell_taken q cell e z =
       let c = cell_parts t.families q cell e in
-      let s = sign_stands n r (family_at t.families) trie.laid c.front c.family c.last c.at c.has in
+      let s = sign_stands n r (family_at t.families) trie.layout c.front c.family c.last c.at c.has in
       let same : sign_at r cell ≡ c.last = ap (sign_at r) c.is ∙ s.2 in
       omega (arith, s.0)
 
   -- a taken cell is that of a string
   pub string_there : (cell : ℕ) → sign_at r cell ≢ 0 → (q : List ℕ) × (cell_of t.families q ≡ Some cell)
   string_there cell taken =
-      let o = trie.laid.owned cell taken in
+      let o = trie.layout.owned cell taken in
       let s = sign_at r cell in
-      let has = stands_sign n r (family_at t.families) trie.laid o.0 o.1 s o.2 (omega arith) (ap (sign_at r) (sym o.3)) in
+      let has = stands_sign n r (family_at t.families) trie.layout o.0 o.1 s o.2 (omega arith) (ap (sign_at r) (sym o.3)) in
       (o.0 ++ s ∷ [], parts_cell t.families o.0 s o.1 o.2 has ∙ ap Some (sym o.3))
 
   pub value_is : (q : List ℕ) (cell : ℕ) (v : V) → cell_of t.families q ≡ Some cell → slice_get r.values cell ≡ Some v → find order q t.values ≡ Some v
@@ -89,12 +89,12 @@ module _ {V : Type 0} (n : ℕ) (r : Row V) (t : Trie V) (trie : IsTrie n r t) w
   pub child_is : (q : List ℕ) (cell : ℕ) → cell_of t.families q ≡ Some cell → base_of t.families q ≡ cond (nat_eq (child_at r cell) 0) None (Some (child_at r cell))
   child_is q cell e =
       let c = cell_parts t.families q cell e in
-      let s = sign_stands n r (family_at t.families) trie.laid c.front c.family c.last c.at c.has in
+      let s = sign_stands n r (family_at t.families) trie.layout c.front c.family c.last c.at c.has in
       let child : child_at r cell ≡ child_at r (c.family.base + c.last) = ap (child_at r) c.is in
       elim (cases_eq (child_at r cell) 0) [
         | inl z ↦ none c z (family_at t.families q) refl ∙ ap (λ b. cond b None (Some (child_at r cell))) (sym (eq-eqb (child_at r cell) 0 z))
         | inr up ↦
-            let down = trie.laid.child c.front c.last c.family c.at s.0 s.2 (omega arith) in
+            let down = trie.layout.child c.front c.last c.family c.at s.0 s.2 (omega arith) in
             ap (base_of t.families) c.whole ∙ ap (option_map (λ (f : Family). f.base)) down.1 ∙ ap Some (down.2 ∙ sym child)
             ∙ ap (λ b. cond b None (Some (child_at r cell))) (sym (ne_eqb (child_at r cell) 0 up))
       ]
@@ -102,7 +102,7 @@ module _ {V : Type 0} (n : ℕ) (r : Row V) (t : Trie V) (trie : IsTrie n r t) w
       none : (c : IsCellOf t.families q cell) → child_at r cell ≡ 0 → (o : Option Family) → family_at t.families q ≡ o → option_map (λ f. f.base) (family_at t.families q) ≡ None
       none c z None is = ap (option_map (λ (f : Family). f.base)) is
       none c z (Some f) is =
-          let up = trie.laid.parent c.front c.last f (ap (family_at t.families) (sym c.whole) ∙ is) in
+          let up = trie.layout.parent c.front c.last f (ap (family_at t.families) (sym c.whole) ∙ is) in
           let same : Some up.above ≡ Some c.family = sym up.at ∙ c.at in
           let above : up.above ≡ c.family = cc in
           let child : child_at r cell ≡ f.base = ap (child_at r) c.is ∙ ap (λ (g : Family). child_at r (g.base + c.last)) (sym above) ∙ up.child in
@@ -112,7 +112,7 @@ module _ {V : Type 0} (n : ℕ) (r : Row V) (t : Trie V) (trie : IsTrie n r t) w
   pub base_within : (p : List ℕ) (base : ℕ) → base_of t.families p ≡ Some base → base < length r.bases
   base_within p base e =
       let b = base_parts t.families p base e in
-      let flag : base_at r base ≡ true = ap (base_at r) (sym b.2) ∙ trie.laid.flag p b.0 b.1 in
+      let flag : base_at r base ≡ true = ap (base_at r) (sym b.2) ∙ trie.layout.flag p b.0 b.1 in
       elim (cases_lt base (length r.bases)) [
         | inl lt ↦ lt
         | inr le ↦ absurd (both_ways (base_at r base) (get_or_past r.bases base false le) flag)
@@ -121,7 +121,7 @@ module _ {V : Type 0} (n : ℕ) (r : Row V) (t : Trie V) (trie : IsTrie n r t) w
   pub root_within : 1 ≤ n → n < length r.signs
   root_within some =
       let has = any_range 1 n n some (omega arith) in
-      let s = sign_stands n r (family_at t.families) trie.laid [] (record { base = 0; signs = range_with_len 1 n }) n trie.laid.root has in
+      let s = sign_stands n r (family_at t.families) trie.layout [] (record { base = 0; signs = range_with_len 1 n }) n trie.layout.root has in
       taken_within r n (λ z. let e = ap (sign_at r) (sym (zero-add n)) ∙ s.2 in omega arith)
 
   pub found_is : (p : List ℕ) (base s : ℕ) → base_of t.families p ≡ Some base → 1 ≤ s → s ≤ n → cell_of t.families (p ++ s ∷ []) ≡ cond (nat_eq (sign_at r (base + s)) s) (Some (base + s)) None
@@ -130,7 +130,7 @@ module _ {V : Type 0} (n : ℕ) (r : Row V) (t : Trie V) (trie : IsTrie n r t) w
       let there : sign_at r (base + s) ≡ sign_at r (b.0.base + s) = ap (λ y. sign_at r (y + s)) (sym b.2) in
       elim (cases_eq (sign_at r (base + s)) s) [
         | inl is ↦
-            parts_cell t.families p s b.0 b.1 (stands_sign n r (family_at t.families) trie.laid p b.0 s b.1 (omega arith) (sym there ∙ is))
+            parts_cell t.families p s b.0 b.1 (stands_sign n r (family_at t.families) trie.layout p b.0 s b.1 (omega arith) (sym there ∙ is))
             ∙ ap (λ y. Some (y + s)) b.2 ∙ ap (λ x. cond x (Some (base + s)) None) (sym (eq-eqb (sign_at r (base + s)) s is))
         | inr other ↦
             parts_none t.families p s b.0 b.1 (lacks b.0 b.1 (λ z. other (there ∙ z)))
@@ -139,7 +139,7 @@ module _ {V : Type 0} (n : ℕ) (r : Row V) (t : Trie V) (trie : IsTrie n r t) w
     where
       lacks : (f : Family) → family_at t.families p ≡ Some f → sign_at r (f.base + s) ≢ s → list_any (nat_eq s) f.signs ≡ false
       lacks f at other = elim (cases_Bool (list_any (nat_eq s) f.signs)) [
-        | inl has ↦ absurd (other (sign_stands n r (family_at t.families) trie.laid p f s at has).2)
+        | inl has ↦ absurd (other (sign_stands n r (family_at t.families) trie.layout p f s at has).2)
         | inr no_sign ↦ no_sign
       ]
 
@@ -148,18 +148,18 @@ module _ {V : Type 0} (n : ℕ) (r : Row V) (t : Trie V) (trie : IsTrie n r t) w
   cells_apart q p cell e d =
       let a = cell_parts t.families q cell e in
       let b = cell_parts t.families p cell d in
-      let s = sign_stands n r (family_at t.families) trie.laid a.front a.family a.last a.at a.has in
-      let u = sign_stands n r (family_at t.families) trie.laid b.front b.family b.last b.at b.has in
+      let s = sign_stands n r (family_at t.families) trie.layout a.front a.family a.last a.at a.has in
+      let u = sign_stands n r (family_at t.families) trie.layout b.front b.family b.last b.at b.has in
       let last : a.last ≡ b.last = sym s.2 ∙ ap (sign_at r) (sym a.is ∙ b.is) ∙ u.2 in
       let bases : a.family.base ≡ b.family.base = let x = a.is in let y = b.is in omega arith in
-      let fronts = trie.laid.apart a.front b.front a.family b.family a.at b.at bases in
+      let fronts = trie.layout.apart a.front b.front a.family b.family a.at b.at bases in
       a.whole ∙ (λ i. fronts i ++ last i ∷ []) ∙ sym b.whole
 
   -- a value is written
   pub value_written : (q : List ℕ) (cell : ℕ) (v : V) (r' : Row V) → cell_of t.families q ≡ Some cell → SetsValue r r' cell v → IsTrie n r' (record { families = t.families; values = put order q v t.values })
   value_written q cell v r' e w = record {
     sorted = trie.sorted;
-    laid = laid_alike (family_at t.families) trie.laid r' signs children w.elsewhere.bases;
+    layout = laid_alike (family_at t.families) trie.layout r' signs children w.elsewhere.bases;
     count = w.count ∙ trie.count;
     ordered = sorted_put q v t.values trie.ordered;
     has = has;

@@ -1,14 +1,15 @@
 pub mod Fit
 pub mod Held
 pub mod IsHeld
-pub mod Laid
+pub mod Layouts
 pub mod Linked
 pub mod Links
-pub mod Members
 pub mod Lists
+pub mod Members
 pub mod Moves
 pub mod OneTrie
 pub mod Root
 pub mod Store
 pub mod Walks
+pub mod Words64
 pub mod Writes

@@ -6,7 +6,7 @@ use Rattle.pg_types.specs.Placement.{far_below, IsLeast}
 use Rattle.pg_cells.specs.Store.{taken_in, IsTop}
 use Rattle.pg_cells.specs.Writes.{Takes, SetsBase, SetsChild}
 use Rattle.pg_cells.specs.Fit.{signs_of, slot_of, fits_row}
-use Rattle.pg_cells.specs.Laid.{standing}
+use Rattle.pg_cells.specs.Layouts.{standing}
 
 -- the lowest base that is tried for so many signs, where t is the top
 abbrev pub lowest_from : ℕ → ℕ → ℕ → ℕ → ℕ
@@ -65,7 +65,7 @@ module _ {V : Type 0} where
   Drops old new was = ((was ≡ 0) × (new ≡ old)) ⊎ ((0 < was) × (SetsBase old new was false))
 
   -- what lets a family be settled: where its slots stand, that there is room past the last cell, and that each base has a cell
-  pub record CanSettle (n : ℕ) (r : Row V) (was : ℕ) (slots : List (Slot V)) (slot : Slot V) (parent : ℕ) : Type 0 where
+  pub record CanPlace (n : ℕ) (r : Row V) (was : ℕ) (slots : List (Slot V)) (slot : Slot V) (parent : ℕ) : Type 0 where
     pub distinct : AreDistinct slots
     pub stand : (x : ℕ) (k : Slot V) → slot_of slots x ≡ Some k → (0 < x) × (x ≤ n) × (sign_at r (was + x) ≢ 0) × (k.child < length r.signs)
     pub new : slot_of slots slot.sign ≡ None

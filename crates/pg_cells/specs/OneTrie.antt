@@ -13,7 +13,7 @@ use mathlib.Core.HLevel.{Σ_prop_path}
 use Rattle.pg_types.specs.Placement.{Family, family_at, cell_of}
 use Rattle.pg_cells.specs.Lists.{Row, child_at}
 use Rattle.pg_cells.specs.Held.{Trie, trie_code}
-use Rattle.pg_cells.specs.Laid.{Laid, IsTrie, standing, value_in}
+use Rattle.pg_cells.specs.Layouts.{IsLayout, IsTrie, standing, value_in}
 
 -- a string is empty, or has a last sign
 pub record HasLast (p : List ℕ) : Type 0 where
@@ -30,7 +30,7 @@ last_of (x ∷ xs) = inr (elim (last_of xs) [
 
 module _ {V : Type 0} (n : ℕ) (r : Row V) where
   -- a family of one placement is a family of the other
-  found_too : (F G : List ℕ → Option Family) → Laid n r F → Laid n r G → (k : ℕ) (p : List ℕ) (f : Family) → length p ≤ k → F p ≡ Some f → G p ≡ Some f
+  found_too : (F G : List ℕ → Option Family) → IsLayout n r F → IsLayout n r G → (k : ℕ) (p : List ℕ) (f : Family) → length p ≤ k → F p ≡ Some f → G p ≡ Some f
   found_too F G a b k p f le at = by k p f le at (last_of p)
     where
       at_root : (p : List ℕ) (f : Family) → F p ≡ Some f → p ≡ [] → G p ≡ Some f
@@ -51,7 +51,7 @@ module _ {V : Type 0} (n : ℕ) (r : Row V) where
           let same : down.0 ≡ f = λ t. record { base = bases t; signs = signs t } in
           ap G h.whole ∙ down.1 ∙ ap Some same
 
-  same_found : (F G : List ℕ → Option Family) → Laid n r F → Laid n r G → (p : List ℕ) → F p ≡ G p
+  same_found : (F G : List ℕ → Option Family) → IsLayout n r F → IsLayout n r G → (p : List ℕ) → F p ≡ G p
   same_found F G a b p = by (F p) (G p) refl refl
     where
       by : (x y : Option Family) → F p ≡ x → G p ≡ y → F p ≡ G p
@@ -62,7 +62,7 @@ module _ {V : Type 0} (n : ℕ) (r : Row V) where
   pub same_trie : (t u : Trie V) → IsTrie n r t → IsTrie n r u → t ≡ u
   same_trie t u a b =
       let families : t.families ≡ u.families = same_entries (slice_cmp nat_cmp) nat_list_cmp_total (slice_cmp-IsAntisymmetric nat_cmp-IsAntisymmetric) t.families u.families a.sorted b.sorted
-      (same_found (family_at t.families) (family_at u.families) a.laid b.laid) in
+      (same_found (family_at t.families) (family_at u.families) a.layout b.layout) in
       let values : t.values ≡ u.values = same_entries (slice_cmp nat_cmp) nat_list_cmp_total (slice_cmp-IsAntisymmetric nat_cmp-IsAntisymmetric) t.values u.values a.ordered b.ordered
       (λ q. a.has q ∙ ap (λ fs. value_in r (cell_of fs q)) families ∙ sym (b.has q)) in
       λ i. record { families = families i; values = values i }

@@ -12,7 +12,7 @@ root_held n blank = record { signs = n; families = root n; values = map (λ x. (
 
 module _ {V : Type 0} where
   -- the signs from 1 on and below k stand in their own cells, and nothing else is taken
-  pub record IsPlanted (k : ℕ) (blank : V) (r : Row V) : Type 0 where
+  pub record IsRootTo (k : ℕ) (blank : V) (r : Row V) : Type 0 where
     pub stand : (i : ℕ) → 0 < i → i < k → sign_at r i ≡ i
     pub free : (i : ℕ) → k ≤ i → sign_at r i ≡ 0
     pub zero_free : sign_at r 0 ≡ 0

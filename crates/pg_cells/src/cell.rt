@@ -81,7 +81,10 @@ pub fn set_child<V: Copy>(cells: &mut [Cell<V>], cell: usize, child: usize)
     requires cell { cell < length cells.old }
     requires taken { sign_at (lists cells.old).row cell ≢ 0 }
     requires child { child < 2 ^ 32 }
-    ensures { lists cells.new ≡ record (lists cells.old) { row = with_child (lists cells.old).row cell child; afters = set (lists cells.old).afters cell child } }
+    ensures { lists cells.new ≡ record (lists cells.old) {
+      row = with_child (lists cells.old).row cell child;
+      afters = set (lists cells.old).afters cell child;
+    } }
 {
     cells[cell].link = child as u32;
 }
@@ -104,7 +107,10 @@ pub fn set_taken<V: Copy>(cells: &mut [Cell<V>], cell: usize, sign: u16, value: 
     requires cell { cell < length cells.old }
     requires sign { sign ≢ 0 }
     requires child { child < 2 ^ 32 }
-    ensures { lists cells.new ≡ record (lists cells.old) { row = with_taken (lists cells.old).row cell sign value child; afters = set (lists cells.old).afters cell child } }
+    ensures { lists cells.new ≡ record (lists cells.old) {
+      row = with_taken (lists cells.old).row cell sign value child;
+      afters = set (lists cells.old).afters cell child;
+    } }
 {
     let taken = &mut cells[cell];
     taken.sign = sign;
@@ -116,7 +122,11 @@ pub fn set_free<V: Copy>(cells: &mut [Cell<V>], cell: usize, before: usize, afte
     requires cell { cell < length cells.old }
     requires before { before < 2 ^ 32 }
     requires after { after < 2 ^ 32 }
-    ensures { lists cells.new ≡ record { row = with_free (lists cells.old).row cell; befores = set (lists cells.old).befores cell before; afters = set (lists cells.old).afters cell after } }
+    ensures { lists cells.new ≡ record {
+      row = with_free (lists cells.old).row cell;
+      befores = set (lists cells.old).befores cell before;
+      afters = set (lists cells.old).afters cell after;
+    } }
 {
     let free = &mut cells[cell];
     free.sign = 0;

@@ -14,9 +14,9 @@ ghost use Rattle.pg_cells.specs.Walks.{EndsBefore};
 
 use crate::fit::Slot;
 use crate::moves::collect;
+use crate::place::place_family;
 use crate::prune::drop_family;
-use crate::root::{clear, plant};
-use crate::settle::settle;
+use crate::root::{clear, take_root};
 use crate::store::Store;
 use pg_types::{SIGNS_MAX, Sign};
 use std::alloc::{AllocError, Global};
@@ -29,20 +29,20 @@ pub struct Placed<V: Copy, const FEW: usize> {
     signs: u16,
     store: Store<V>,
     moving: Vec<Slot<V>>,
-    ghost laid: { Kept signs store } by { Kept-prop V.code signs store },
+    ghost layout: { Kept signs store } by { Kept-prop V.code signs store },
 }
 
 impl<V: Copy, const FEW: usize> Model for Placed<V, FEW> {
     ghost use Rattle.pg_cells.specs.Held.{Held, held_code};
-    ghost use Rattle.pg_cells.specs.Laid.{AreKept};
+    ghost use Rattle.pg_cells.specs.Layouts.{AreKept};
 
     ghost Value = { Held V };
 
     ghost coded = { held_code V.code };
 
-    ghost view = { λ c. record { signs = c.signs; families = c.laid.0.families; values = c.laid.0.values } };
+    ghost view = { λ c. record { signs = c.signs; families = c.layout.0.families; values = c.layout.0.values } };
 
-    ghost invariant = { λ c. AreKept c.signs c.store c.laid.0 };
+    ghost invariant = { λ c. AreKept c.signs c.store c.layout.0 };
 }
 
 impl<V: Copy, const FEW: usize> Placed<V, FEW> {
@@ -54,7 +54,7 @@ impl<V: Copy, const FEW: usize> Placed<V, FEW> {
     {
         let mut store = Store::new(alloc, blank)?;
         store.grow(signs as usize + 1, blank)?;
-        plant(&mut store, signs, blank);
+        take_root(&mut store, signs, blank);
         store.set_base(0, true);
         let _length = store.len();
         Ok(Placed {
@@ -78,8 +78,10 @@ impl<V: Copy, const FEW: usize> Placed<V, FEW> {
     pub fn find(&self, base: usize, s: Sign) -> Option<usize>
         requires base { (p : List ℕ) × (base_of self.now.families p ≡ Some base) }
         requires sign { (1 ≤ s) × (s ≤ self.now.signs) }
-        ensures cell { (p : List ℕ) → base_of self.now.families p ≡ Some base → result ≡ cell_of self.now.families (p ++ s ∷ []) }
-        ensures none { (p : List ℕ) → base_of self.now.families p ≡ Some base → result ≡ None → EndsBefore self.now.values (p ++ s ∷ []) }
+        ensures cell { (p : List ℕ) → base_of self.now.families p ≡ Some base →
+            result ≡ cell_of self.now.families (p ++ s ∷ []) }
+        ensures none { (p : List ℕ) → base_of self.now.families p ≡ Some base → result ≡ None →
+            EndsBefore self.now.values (p ++ s ∷ []) }
     {
         let _cells = self.store.len();
         let cell = base + s as usize;
@@ -93,9 +95,12 @@ impl<V: Copy, const FEW: usize> Placed<V, FEW> {
     /// The base of the family below the cell's string, 0 for none. It tells whether a longer string has a value.
     pub fn child(&self, cell: usize) -> usize
         requires { (q : List ℕ) × (cell_of self.now.families q ≡ Some cell) }
-        ensures base { (q : List ℕ) → cell_of self.now.families q ≡ Some cell → base_of self.now.families q ≡ (if result == 0 then None else Some result) }
-        ensures none { (q : List ℕ) → cell_of self.now.families q ≡ Some cell → result ≡ 0 → (x : ℕ) → EndsBefore self.now.values (q ++ x ∷ []) }
-        ensures some { (q : List ℕ) → cell_of self.now.families q ≡ Some cell → 0 < result → (x : ℕ) × (v : V) × (find (slice_cmp nat_cmp) (q ++ x ∷ []) self.now.values ≡ Some v) }
+        ensures base { (q : List ℕ) → cell_of self.now.families q ≡ Some cell →
+            base_of self.now.families q ≡ (if result == 0 then None else Some result) }
+        ensures none { (q : List ℕ) → cell_of self.now.families q ≡ Some cell → result ≡ 0 → (x : ℕ) →
+            EndsBefore self.now.values (q ++ x ∷ []) }
+        ensures some { (q : List ℕ) → cell_of self.now.families q ≡ Some cell → 0 < result →
+            (x : ℕ) × (v : V) × (find (slice_cmp nat_cmp) (q ++ x ∷ []) self.now.values ≡ Some v) }
     {
         let _cells = self.store.len();
         self.store.child(cell)
@@ -104,14 +109,16 @@ impl<V: Copy, const FEW: usize> Placed<V, FEW> {
     /// The value of the cell's string.
     pub fn value(&self, cell: usize) -> V
         requires { (q : List ℕ) × (cell_of self.now.families q ≡ Some cell) }
-        ensures { (q : List ℕ) → cell_of self.now.families q ≡ Some cell → find (slice_cmp nat_cmp) q self.now.values ≡ Some result }
+        ensures { (q : List ℕ) → cell_of self.now.families q ≡ Some cell → find (slice_cmp nat_cmp) q self.now.values
+            ≡ Some result }
     {
         self.store.value(cell)
     }
 
     /// The value of the string that has the cell, or `None` where no string has it.
     pub fn value_at(&self, cell: usize) -> Option<V>
-        ensures some { IfSome result (λ v. (q : List ℕ) × (cell_of self.now.families q ≡ Some cell) × (find (slice_cmp nat_cmp) q self.now.values ≡ Some v)) }
+        ensures some { IfSome result (λ v. (q : List ℕ) × (cell_of self.now.families q ≡ Some cell)
+            × (find (slice_cmp nat_cmp) q self.now.values ≡ Some v)) }
         ensures none { result ≡ None → (q : List ℕ) → cell_of self.now.families q ≡ Some cell → ⊥ }
     {
         let _cells = self.store.len();
@@ -124,7 +131,8 @@ impl<V: Copy, const FEW: usize> Placed<V, FEW> {
 
     /// Whether the sign joins the family below the parent's string in place.
     pub fn is_joining(&self, parent: usize, s: Sign) -> bool
-        requires parent { (q : List ℕ) × ((cell_of self.now.families q ≡ Some parent) × (cell_of self.now.families (q ++ s ∷ []) ≡ None)) }
+        requires parent { (q : List ℕ) × ((cell_of self.now.families q ≡ Some parent)
+            × (cell_of self.now.families (q ++ s ∷ []) ≡ None)) }
         requires sign { (1 ≤ s) × (s ≤ self.now.signs) }
         ensures { (q : List ℕ) → cell_of self.now.families q ≡ Some parent → result ≡ joins_at self.now.families q s }
     {
@@ -146,13 +154,22 @@ impl<V: Copy, const FEW: usize> Placed<V, FEW> {
         v: V,
         members: &[Sign],
     ) -> Result<usize, AllocError>
-        requires parent { (q : List ℕ) × ((cell_of self.old.families q ≡ Some parent) × (cell_of self.old.families (q ++ s ∷ []) ≡ None)) }
+        requires parent { (q : List ℕ) × ((cell_of self.old.families q ≡ Some parent)
+            × (cell_of self.old.families (q ++ s ∷ []) ≡ None)) }
         requires sign { (1 ≤ s) × (s ≤ self.old.signs) }
         requires positive { (k : ℕ) → k < length members.now → 0 < slice_index members.now k }
-        requires members { (q : List ℕ) → cell_of self.old.families q ≡ Some parent → joins_at self.old.families q s ≡ false → ArePassing (has_sign self.old.families q) members.now }
-        ensures held { (q : List ℕ) → cell_of self.old.families q ≡ Some parent → OnOk result (self.new ≡ record self.old { families = with_sign FEW self.old.signs self.old.families q s; values = put (slice_cmp nat_cmp) (q ++ s ∷ []) v self.old.values }) }
-        ensures cell { (q : List ℕ) → cell_of self.old.families q ≡ Some parent → IfOk result (λ cell. cell_of self.new.families (q ++ s ∷ []) ≡ Some cell) }
-        ensures cells { (q : List ℕ) → cell_of self.old.families q ≡ Some parent → OnOk result ((p : List ℕ) → ((x : ℕ) → p ≢ q ++ x ∷ []) → cell_of self.new.families p ≡ cell_of self.old.families p) }
+        requires members { (q : List ℕ) → cell_of self.old.families q ≡ Some parent →
+            joins_at self.old.families q s ≡ false → ArePassing (has_sign self.old.families q) members.now }
+        ensures held { (q : List ℕ) → cell_of self.old.families q ≡ Some parent →
+            OnOk result (self.new ≡ record self.old {
+              families = with_sign FEW self.old.signs self.old.families q s;
+              values = put (slice_cmp nat_cmp) (q ++ s ∷ []) v self.old.values;
+            }) }
+        ensures cell { (q : List ℕ) → cell_of self.old.families q ≡ Some parent →
+            IfOk result (λ cell. cell_of self.new.families (q ++ s ∷ []) ≡ Some cell) }
+        ensures cells { (q : List ℕ) → cell_of self.old.families q ≡ Some parent →
+            OnOk result ((p : List ℕ) → ((x : ℕ) → p ≢ q ++ x ∷ []) →
+            cell_of self.new.families p ≡ cell_of self.old.families p) }
         ensures kept { OnOk result (IsHeld self.new) }
         ensures err { OnErr result (self.new ≡ self.old) }
     {
@@ -172,7 +189,7 @@ impl<V: Copy, const FEW: usize> Placed<V, FEW> {
         }
         collect(&self.store, base, members, &mut self.moving)?;
         let slots = self.moving.as_slice();
-        let placed = settle(&mut self.store, slots, slot, parent, base, FEW, self.signs);
+        let placed = place_family(&mut self.store, slots, slot, parent, base, FEW, self.signs);
         let _length = self.store.len();
         Ok(placed + s as usize)
     }
@@ -180,10 +197,18 @@ impl<V: Copy, const FEW: usize> Placed<V, FEW> {
     /// Takes the sign away from the family below the parent's string, whose one sign it is where it is told to be alone. A family
     /// without a sign is gone. Every other string keeps its cell.
     pub fn remove(&mut self, parent: usize, s: Sign, is_alone: bool)
-        requires parent { (q : List ℕ) × (cell : ℕ) × ((cell_of self.old.families q ≡ Some parent) × (cell_of self.old.families (q ++ s ∷ []) ≡ Some cell) × (base_of self.old.families (q ++ s ∷ []) ≡ None)) }
-        requires alone { (q : List ℕ) → cell_of self.old.families q ≡ Some parent → MatchBool is_alone (IsAlone self.old.families q s) (HasOther self.old.families q s) }
-        ensures held { (q : List ℕ) → cell_of self.old.families q ≡ Some parent → self.new ≡ record self.old { families = without_sign self.old.families q s; values = without_key (q ++ s ∷ []) self.old.values } }
-        ensures cells { (q : List ℕ) → cell_of self.old.families q ≡ Some parent → (p : List ℕ) → p ≢ q ++ s ∷ [] → cell_of self.new.families p ≡ cell_of self.old.families p }
+        requires parent { (q : List ℕ) × (cell : ℕ)
+            × ((cell_of self.old.families q ≡ Some parent) × (cell_of self.old.families (q ++ s ∷ []) ≡ Some cell)
+            × (base_of self.old.families (q ++ s ∷ []) ≡ None)) }
+        requires alone { (q : List ℕ) → cell_of self.old.families q ≡ Some parent →
+            MatchBool is_alone (IsAlone self.old.families q s) (HasOther self.old.families q s) }
+        ensures held { (q : List ℕ) → cell_of self.old.families q ≡ Some parent →
+            self.new ≡ record self.old {
+              families = without_sign self.old.families q s;
+              values = without_key (q ++ s ∷ []) self.old.values;
+            } }
+        ensures cells { (q : List ℕ) → cell_of self.old.families q ≡ Some parent → (p : List ℕ) → p ≢ q ++ s ∷ [] →
+            cell_of self.new.families p ≡ cell_of self.old.families p }
         ensures kept { IsHeld self.new }
     {
         let _cells = self.store.len();
@@ -196,7 +221,8 @@ impl<V: Copy, const FEW: usize> Placed<V, FEW> {
     /// Gives the cell's string the value.
     pub fn set_value(&mut self, cell: usize, v: V)
         requires { (q : List ℕ) × (cell_of self.old.families q ≡ Some cell) }
-        ensures held { (q : List ℕ) → cell_of self.old.families q ≡ Some cell → self.new ≡ record self.old { values = put (slice_cmp nat_cmp) q v self.old.values } }
+        ensures held { (q : List ℕ) → cell_of self.old.families q ≡ Some cell →
+            self.new ≡ record self.old { values = put (slice_cmp nat_cmp) q v self.old.values } }
         ensures kept { IsHeld self.new }
     {
         self.store.set_value(cell, v);
@@ -209,7 +235,7 @@ impl<V: Copy, const FEW: usize> Placed<V, FEW> {
         ensures kept { IsHeld self.new }
     {
         clear(&mut self.store);
-        plant(&mut self.store, self.signs, blank);
+        take_root(&mut self.store, self.signs, blank);
         self.store.set_base(0, true);
         let _length = self.store.len();
     }

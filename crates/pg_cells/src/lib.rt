@@ -9,13 +9,13 @@ mod linked;
 mod links;
 mod member;
 mod moves;
+mod place;
 mod prune;
 mod root;
-mod settle;
 mod store;
-#[cfg(test)]
-mod tests;
 mod walks;
+mod words;
 
 pub use linked::Cells;
 pub use walks::{enter, step};
+pub use words::TwoWords;

@@ -65,8 +65,10 @@ impl<V: Copy, const FEW: usize> Cells<V, FEW> {
     pub fn find(&self, base: usize, s: Sign) -> Option<usize>
         requires base { (p : List ℕ) × (base_of self.now.families p ≡ Some base) }
         requires sign { (1 ≤ s) × (s ≤ self.now.signs) }
-        ensures cell { (p : List ℕ) → base_of self.now.families p ≡ Some base → result ≡ cell_of self.now.families (p ++ s ∷ []) }
-        ensures none { (p : List ℕ) → base_of self.now.families p ≡ Some base → result ≡ None → EndsBefore self.now.values (p ++ s ∷ []) }
+        ensures cell { (p : List ℕ) → base_of self.now.families p ≡ Some base →
+            result ≡ cell_of self.now.families (p ++ s ∷ []) }
+        ensures none { (p : List ℕ) → base_of self.now.families p ≡ Some base → result ≡ None →
+            EndsBefore self.now.values (p ++ s ∷ []) }
     {
         self.placed.find(base, s)
     }
@@ -74,9 +76,12 @@ impl<V: Copy, const FEW: usize> Cells<V, FEW> {
     /// The base of the family below the cell's string, 0 for none. It tells whether a longer string has a value.
     pub fn child(&self, cell: usize) -> usize
         requires { (q : List ℕ) × (cell_of self.now.families q ≡ Some cell) }
-        ensures base { (q : List ℕ) → cell_of self.now.families q ≡ Some cell → base_of self.now.families q ≡ (if result == 0 then None else Some result) }
-        ensures none { (q : List ℕ) → cell_of self.now.families q ≡ Some cell → result ≡ 0 → (x : ℕ) → EndsBefore self.now.values (q ++ x ∷ []) }
-        ensures some { (q : List ℕ) → cell_of self.now.families q ≡ Some cell → 0 < result → (x : ℕ) × (v : V) × (find (slice_cmp nat_cmp) (q ++ x ∷ []) self.now.values ≡ Some v) }
+        ensures base { (q : List ℕ) → cell_of self.now.families q ≡ Some cell →
+            base_of self.now.families q ≡ (if result == 0 then None else Some result) }
+        ensures none { (q : List ℕ) → cell_of self.now.families q ≡ Some cell → result ≡ 0 → (x : ℕ) →
+            EndsBefore self.now.values (q ++ x ∷ []) }
+        ensures some { (q : List ℕ) → cell_of self.now.families q ≡ Some cell → 0 < result →
+            (x : ℕ) × (v : V) × (find (slice_cmp nat_cmp) (q ++ x ∷ []) self.now.values ≡ Some v) }
     {
         self.placed.child(cell)
     }
@@ -92,7 +97,8 @@ impl<V: Copy, const FEW: usize> Cells<V, FEW> {
     /// The next sign of the family that the cell is in, 0 for none.
     pub fn next_sign(&self, cell: usize) -> Sign
         requires { (q : List ℕ) × (cell_of self.now.families q ≡ Some cell) }
-        ensures { (p : List ℕ) (s : ℕ) → cell_of self.now.families (p ++ s ∷ []) ≡ Some cell → IsNextSign self.now.values p s result }
+        ensures { (p : List ℕ) (s : ℕ) → cell_of self.now.families (p ++ s ∷ []) ≡ Some cell →
+            IsNextSign self.now.values p s result }
     {
         let signs = self.placed.signs();
         if cell < usize::from(signs) {
@@ -107,14 +113,16 @@ impl<V: Copy, const FEW: usize> Cells<V, FEW> {
     /// The value of the cell's string.
     pub fn value(&self, cell: usize) -> V
         requires { (q : List ℕ) × (cell_of self.now.families q ≡ Some cell) }
-        ensures { (q : List ℕ) → cell_of self.now.families q ≡ Some cell → find (slice_cmp nat_cmp) q self.now.values ≡ Some result }
+        ensures { (q : List ℕ) → cell_of self.now.families q ≡ Some cell → find (slice_cmp nat_cmp) q self.now.values
+            ≡ Some result }
     {
         self.placed.value(cell).value
     }
 
     /// The value of the string that has the cell, or `None` where no string has it.
     pub fn value_at(&self, cell: usize) -> Option<V>
-        ensures some { IfSome result (λ v. (q : List ℕ) × (cell_of self.now.families q ≡ Some cell) × (find (slice_cmp nat_cmp) q self.now.values ≡ Some v)) }
+        ensures some { IfSome result (λ v. (q : List ℕ) × (cell_of self.now.families q ≡ Some cell)
+            × (find (slice_cmp nat_cmp) q self.now.values ≡ Some v)) }
         ensures none { result ≡ None → (q : List ℕ) → cell_of self.now.families q ≡ Some cell → ⊥ }
     {
         let member = self.placed.value_at(cell)?;
@@ -127,11 +135,19 @@ impl<V: Copy, const FEW: usize> Cells<V, FEW> {
     /// family gives up its cells and is put anew. A cell in it that was told before may then be another's. The parent and each
     /// other string outside of the family keep their cells.
     pub fn add(&mut self, parent: usize, s: Sign, v: V) -> Result<usize, AllocError>
-        requires parent { (q : List ℕ) × ((cell_of self.old.families q ≡ Some parent) × (cell_of self.old.families (q ++ s ∷ []) ≡ None)) }
+        requires parent { (q : List ℕ) × ((cell_of self.old.families q ≡ Some parent)
+            × (cell_of self.old.families (q ++ s ∷ []) ≡ None)) }
         requires sign { (1 ≤ s) × (s ≤ self.old.signs) }
-        ensures held { (q : List ℕ) → cell_of self.old.families q ≡ Some parent → OnOk result (self.new ≡ record self.old { families = with_sign FEW self.old.signs self.old.families q s; values = put (slice_cmp nat_cmp) (q ++ s ∷ []) v self.old.values }) }
-        ensures cell { (q : List ℕ) → cell_of self.old.families q ≡ Some parent → IfOk result (λ cell. cell_of self.new.families (q ++ s ∷ []) ≡ Some cell) }
-        ensures cells { (q : List ℕ) → cell_of self.old.families q ≡ Some parent → OnOk result ((p : List ℕ) → ((x : ℕ) → p ≢ q ++ x ∷ []) → cell_of self.new.families p ≡ cell_of self.old.families p) }
+        ensures held { (q : List ℕ) → cell_of self.old.families q ≡ Some parent →
+            OnOk result (self.new ≡ record self.old {
+              families = with_sign FEW self.old.signs self.old.families q s;
+              values = put (slice_cmp nat_cmp) (q ++ s ∷ []) v self.old.values;
+            }) }
+        ensures cell { (q : List ℕ) → cell_of self.old.families q ≡ Some parent →
+            IfOk result (λ cell. cell_of self.new.families (q ++ s ∷ []) ≡ Some cell) }
+        ensures cells { (q : List ℕ) → cell_of self.old.families q ≡ Some parent →
+            OnOk result ((p : List ℕ) → ((x : ℕ) → p ≢ q ++ x ∷ []) →
+            cell_of self.new.families p ≡ cell_of self.old.families p) }
         ensures kept { OnOk result (IsHeld self.new) }
         ensures err { OnErr result (self.new ≡ self.old) }
     {
@@ -152,9 +168,16 @@ impl<V: Copy, const FEW: usize> Cells<V, FEW> {
     /// Takes the sign away from the family below the parent's string. A family without a sign is gone. Every other string
     /// keeps its cell.
     pub fn remove(&mut self, parent: usize, s: Sign)
-        requires parent { (q : List ℕ) × (cell : ℕ) × ((cell_of self.old.families q ≡ Some parent) × (cell_of self.old.families (q ++ s ∷ []) ≡ Some cell) × (base_of self.old.families (q ++ s ∷ []) ≡ None)) }
-        ensures held { (q : List ℕ) → cell_of self.old.families q ≡ Some parent → self.new ≡ record self.old { families = without_sign self.old.families q s; values = without_key (q ++ s ∷ []) self.old.values } }
-        ensures cells { (q : List ℕ) → cell_of self.old.families q ≡ Some parent → (p : List ℕ) → p ≢ q ++ s ∷ [] → cell_of self.new.families p ≡ cell_of self.old.families p }
+        requires parent { (q : List ℕ) × (cell : ℕ)
+            × ((cell_of self.old.families q ≡ Some parent) × (cell_of self.old.families (q ++ s ∷ []) ≡ Some cell)
+            × (base_of self.old.families (q ++ s ∷ []) ≡ None)) }
+        ensures held { (q : List ℕ) → cell_of self.old.families q ≡ Some parent →
+            self.new ≡ record self.old {
+              families = without_sign self.old.families q s;
+              values = without_key (q ++ s ∷ []) self.old.values;
+            } }
+        ensures cells { (q : List ℕ) → cell_of self.old.families q ≡ Some parent → (p : List ℕ) → p ≢ q ++ s ∷ [] →
+            cell_of self.new.families p ≡ cell_of self.old.families p }
         ensures kept { IsHeld self.new }
     {
         let base = self.placed.child(parent);
@@ -167,7 +190,8 @@ impl<V: Copy, const FEW: usize> Cells<V, FEW> {
     /// Gives the cell's string the value.
     pub fn set_value(&mut self, cell: usize, v: V)
         requires { (q : List ℕ) × (cell_of self.old.families q ≡ Some cell) }
-        ensures held { (q : List ℕ) → cell_of self.old.families q ≡ Some cell → self.new ≡ record self.old { values = put (slice_cmp nat_cmp) q v self.old.values } }
+        ensures held { (q : List ℕ) → cell_of self.old.families q ≡ Some cell →
+            self.new ≡ record self.old { values = put (slice_cmp nat_cmp) q v self.old.values } }
         ensures kept { IsHeld self.new }
     {
         let member = self.placed.value(cell);

@@ -20,7 +20,9 @@ pub fn sign_after<V: Copy, const FEW: usize>(
     s: Sign,
 ) -> Sign
     requires links { AreLinks cells.now }
-    requires parent { (q : List ℕ) × ((cell_of cells.now.families q ≡ Some parent) × (base_of cells.now.families q ≡ (if base == 0 then None else Some base)) × ((s ≡ 0) ⊎ (goes_on cells.now.values q s ≡ true))) }
+    requires parent { (q : List ℕ) × ((cell_of cells.now.families q ≡ Some parent)
+        × (base_of cells.now.families q ≡ (if base == 0 then None else Some base))
+        × ((s ≡ 0) ⊎ (goes_on cells.now.values q s ≡ true))) }
     ensures { (q : List ℕ) → cell_of cells.now.families q ≡ Some parent → IsNextSign cells.now.values q s result }
 {
     if s == 0 {
@@ -35,7 +37,22 @@ pub fn sign_after<V: Copy, const FEW: usize>(
     }
 }
 
-/// The greatest sign below `s` in the family below the parent's string, which has the base; 0 where there is none.
+// Whether the family with the base has the sign; the base is 0 where there is no family.
+fn has_sign<V: Copy, const FEW: usize>(cells: &Placed<Member<V>, FEW>, base: usize, s: Sign) -> bool
+    requires held { IsHeld cells.now }
+    requires base { (q : List ℕ) × (base_of cells.now.families q ≡ (if base == 0 then None else Some base)) }
+    requires sign { (1 ≤ s) × (s ≤ cells.now.signs) }
+    ensures { (q : List ℕ) → base_of cells.now.families q ≡ (if base == 0 then None else Some base) →
+        result ≡ goes_on cells.now.values q s }
+{
+    if base == 0 {
+        return false;
+    }
+    cells.find(base, s).is_some()
+}
+
+/// The greatest sign below `s` in the family below the parent's string, which has the base; 0 where there is none. It is sought
+/// along the signs from the first one on and, side by side, sign by sign down from `s`.
 pub fn sign_before<V: Copy, const FEW: usize>(
     cells: &Placed<Member<V>, FEW>,
     parent: usize,
@@ -43,15 +60,21 @@ pub fn sign_before<V: Copy, const FEW: usize>(
     s: Sign,
 ) -> Sign
     requires links { AreLinks cells.now }
-    requires parent { (q : List ℕ) × ((cell_of cells.now.families q ≡ Some parent) × (base_of cells.now.families q ≡ (if base == 0 then None else Some base))) }
-    requires sign { 0 < s }
+    requires parent { (q : List ℕ) × ((cell_of cells.now.families q ≡ Some parent)
+        × (base_of cells.now.families q ≡ (if base == 0 then None else Some base))) }
+    requires sign { (1 ≤ s) × (s ≤ cells.now.signs) }
     ensures { (q : List ℕ) → cell_of cells.now.families q ≡ Some parent → IsBefore cells.now.values q s result }
 {
     let mut before = 0;
     let mut next = sign_after(cells, parent, base, 0);
+    let mut below = s - 1;
     while next != 0 && next < s {
+        if has_sign(cells, base, below) {
+            return below;
+        }
         before = next;
         next = sign_after(cells, parent, base, before);
+        below -= 1;
     }
     before
 }
@@ -64,9 +87,11 @@ pub fn list_signs<V: Copy, const FEW: usize>(
     signs: &mut Vec<Sign>,
 ) -> Result<(), AllocError>
     requires links { AreLinks cells.now }
-    requires parent { (q : List ℕ) × ((cell_of cells.now.families q ≡ Some parent) × (base_of cells.now.families q ≡ (if base == 0 then None else Some base))) }
+    requires parent { (q : List ℕ) × ((cell_of cells.now.families q ≡ Some parent)
+        × (base_of cells.now.families q ≡ (if base == 0 then None else Some base))) }
     ensures positive { OnOk result ((k : ℕ) → k < length signs.new.items → 0 < slice_index signs.new.items k) }
-    ensures signs { (q : List ℕ) → cell_of cells.now.families q ≡ Some parent → OnOk result (ArePassing (goes_on cells.now.values q) signs.new.items) }
+    ensures signs { (q : List ℕ) → cell_of cells.now.families q ≡ Some parent →
+        OnOk result (ArePassing (goes_on cells.now.values q) signs.new.items) }
 {
     signs.clear();
     let mut next = sign_after(cells, parent, base, 0);
@@ -86,10 +111,14 @@ pub fn list_moving<V: Copy, const FEW: usize>(
     signs: &mut Vec<Sign>,
 ) -> Result<(), AllocError>
     requires links { AreLinks cells.now }
-    requires parent { (q : List ℕ) × ((cell_of cells.now.families q ≡ Some parent) × (cell_of cells.now.families (q ++ s ∷ []) ≡ None) × (base_of cells.now.families q ≡ (if base == 0 then None else Some base))) }
+    requires parent { (q : List ℕ) × ((cell_of cells.now.families q ≡ Some parent)
+        × (cell_of cells.now.families (q ++ s ∷ []) ≡ None)
+        × (base_of cells.now.families q ≡ (if base == 0 then None else Some base))) }
     requires sign { (1 ≤ s) × (s ≤ cells.now.signs) }
     ensures positive { OnOk result ((k : ℕ) → k < length signs.new.items → 0 < slice_index signs.new.items k) }
-    ensures signs { (q : List ℕ) → cell_of cells.now.families q ≡ Some parent → joins_at cells.now.families q s ≡ false → OnOk result (ArePassing (has_sign cells.now.families q) signs.new.items) }
+    ensures signs { (q : List ℕ) → cell_of cells.now.families q ≡ Some parent →
+        joins_at cells.now.families q s ≡ false →
+        OnOk result (ArePassing (has_sign cells.now.families q) signs.new.items) }
 {
     if cells.is_joining(parent, s) {
         signs.clear();
@@ -114,8 +143,10 @@ pub fn link<V: Copy, const FEW: usize>(
     to: Sign,
 )
     requires held { IsHeld cells.old }
-    requires parent { (q : List ℕ) × ((cell_of cells.old.families q ≡ Some parent) × ((s ≡ 0) ⊎ (goes_on cells.old.values q s ≡ true))) }
-    ensures linked { (q : List ℕ) → cell_of cells.old.families q ≡ Some parent → cells.new ≡ with_link cells.old q s to }
+    requires parent { (q : List ℕ) × ((cell_of cells.old.families q ≡ Some parent)
+        × ((s ≡ 0) ⊎ (goes_on cells.old.values q s ≡ true))) }
+    ensures linked { (q : List ℕ) → cell_of cells.old.families q ≡ Some parent →
+        cells.new ≡ with_link cells.old q s to }
     ensures kept { IsHeld cells.new }
 {
     if s == 0 {

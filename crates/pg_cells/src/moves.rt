@@ -15,7 +15,8 @@ use std::alloc::AllocError;
 pub fn give_up<V: Copy>(store: &mut Store<V>, base: usize, slots: &[Slot<V>])
     requires distinct { AreDistinct slots.now }
     requires base { base < 2 ^ 32 }
-    requires taken { (x : ℕ) (slot : SlotOf V) → slot_of slots.now x ≡ Some slot → (0 < x) × (sign_at store.old (base + x) ≢ 0) }
+    requires taken { (x : ℕ) (slot : SlotOf V) → slot_of slots.now x ≡ Some slot →
+        (0 < x) × (sign_at store.old (base + x) ≢ 0) }
     ensures { Gives store.old store.new base slots.now }
 {
     for slot in slots {
@@ -27,7 +28,8 @@ pub fn give_up<V: Copy>(store: &mut Store<V>, base: usize, slots: &[Slot<V>])
 pub fn put<V: Copy>(store: &mut Store<V>, base: usize, slots: &[Slot<V>])
     requires distinct { AreDistinct slots.now }
     requires base { base < 2 ^ 32 }
-    requires free { (x : ℕ) (slot : SlotOf V) → slot_of slots.now x ≡ Some slot → (0 < x) × (IsFree store.old (base + x)) × (slot.child < length store.old.signs) }
+    requires free { (x : ℕ) (slot : SlotOf V) → slot_of slots.now x ≡ Some slot →
+        (0 < x) × (IsFree store.old (base + x)) × (slot.child < length store.old.signs) }
     ensures { Puts store.old store.new base slots.now }
 {
     for slot in slots {
@@ -45,7 +47,9 @@ pub fn collect<V: Copy>(
     requires base { base < 2 ^ 32 }
     requires members { (k : ℕ) → k < length members.now → 0 < slice_index members.now k }
     ensures none { members.now ≡ [] → OnOk result (slots.new.items ≡ []) }
-    ensures some { (n : ℕ) → ((i : ℕ) → sign_at store.now i ≤ n) → ArePassing (λ x. nat_eq (sign_at store.now (base + x)) x) members.now → OnOk result (Collected n store.now base slots.new.items) }
+    ensures some { (n : ℕ) → ((i : ℕ) → sign_at store.now i ≤ n) →
+        ArePassing (λ x. nat_eq (sign_at store.now (base + x)) x) members.now →
+        OnOk result (Collected n store.now base slots.new.items) }
 {
     slots.clear();
     for sign in members {

@@ -1,17 +1,17 @@
 //! The root family, whose signs stand in their own cells.
 ghost use Rattle.std.specs.Prelude.{◌≡◌, ◌≢◌, ℕ, ◌+◌, ◌<◌, ◌≤◌, length};
-ghost use Rattle.pg_cells.specs.Root.{IsPlanted, Clears};
+ghost use Rattle.pg_cells.specs.Root.{IsRootTo, Clears};
 
 use crate::fit::Slot;
 use crate::store::Store;
 use pg_types::SIGNS_MAX;
 
 /// Takes the cells of the root, each with the value.
-pub fn plant<V: Copy>(store: &mut Store<V>, signs: u16, blank: V)
-    requires empty { IsPlanted 1 blank store.old }
+pub fn take_root<V: Copy>(store: &mut Store<V>, signs: u16, blank: V)
+    requires empty { IsRootTo 1 blank store.old }
     requires length { signs < length store.old.signs }
     requires signs { signs ≤ SIGNS_MAX }
-    ensures planted { IsPlanted (signs + 1) blank store.new }
+    ensures root_to { IsRootTo (signs + 1) blank store.new }
     ensures size { length store.new.signs ≡ length store.old.signs }
 {
     for sign in 1..signs + 1 {
@@ -28,7 +28,7 @@ pub fn plant<V: Copy>(store: &mut Store<V>, signs: u16, blank: V)
 
 /// Gives up all cells.
 pub fn clear<V: Copy>(store: &mut Store<V>)
-    ensures empty { (blank : V) → IsPlanted 1 blank store.new }
+    ensures empty { (blank : V) → IsRootTo 1 blank store.new }
     ensures size { length store.new.signs ≡ length store.old.signs }
 {
     let length = store.len();

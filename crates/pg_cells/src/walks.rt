@@ -36,7 +36,8 @@ pub fn step<V: Copy, const FEW: usize>(
     requires at { (q : List ℕ) × (IsAt cells.now.families at q) }
     requires sign { (1 ≤ s) × (s ≤ cells.now.signs) }
     ensures cell { (q : List ℕ) → IsAt cells.now.families at q → result ≡ cell_of cells.now.families (q ++ s ∷ []) }
-    ensures none { (q : List ℕ) → IsAt cells.now.families at q → result ≡ None → EndsBefore cells.now.values (q ++ s ∷ []) }
+    ensures none { (q : List ℕ) → IsAt cells.now.families at q → result ≡ None →
+        EndsBefore cells.now.values (q ++ s ∷ []) }
 {
     let _held = cells.signs();
     let base = base_below(cells, at)?;
@@ -52,10 +53,13 @@ fn step_or_add<V: Copy, const FEW: usize>(
 ) -> Result<usize, AllocError>
     requires parent { (q : List ℕ) × (cell_of cells.old.families q ≡ Some parent) }
     requires sign { (1 ≤ s) × (s ≤ cells.old.signs) }
-    ensures steps { (q : List ℕ) → cell_of cells.old.families q ≡ Some parent → OnOk result (Steps FEW cells.old cells.new q s blank) }
-    ensures cell { (q : List ℕ) → cell_of cells.old.families q ≡ Some parent → IfOk result (λ cell. cell_of cells.new.families (q ++ s ∷ []) ≡ Some cell) }
+    ensures steps { (q : List ℕ) → cell_of cells.old.families q ≡ Some parent →
+        OnOk result (Steps FEW cells.old cells.new q s blank) }
+    ensures cell { (q : List ℕ) → cell_of cells.old.families q ≡ Some parent →
+        IfOk result (λ cell. cell_of cells.new.families (q ++ s ∷ []) ≡ Some cell) }
     ensures err { OnErr result (cells.new ≡ cells.old) }
-    ensures ends { (q : List ℕ) → cell_of cells.old.families q ≡ Some parent → OnErr result (EndsBefore cells.old.values (q ++ s ∷ [])) }
+    ensures ends { (q : List ℕ) → cell_of cells.old.families q ≡ Some parent →
+        OnErr result (EndsBefore cells.old.values (q ++ s ∷ [])) }
     ensures kept { IsHeld cells.new }
 {
     let _held = cells.signs();
@@ -77,7 +81,8 @@ pub fn enter<V: Copy, const FEW: usize>(
     requires signs { All (λ s. (1 ≤ s) × (s ≤ cells.old.signs)) signs.now }
     ensures cell { IfOk result (λ cell. cell_of cells.new.families signs.now ≡ Some cell) }
     ensures families { OnOk result (cells.new.families ≡ enter_by FEW cells.old.signs cells.old.families signs.now) }
-    ensures part { OnErr result ((k : ℕ) × (k < length signs.now) × (cells.new.families ≡ enter_by FEW cells.old.signs cells.old.families (take k signs.now))) }
+    ensures part { OnErr result ((k : ℕ) × (k < length signs.now)
+        × (cells.new.families ≡ enter_by FEW cells.old.signs cells.old.families (take k signs.now))) }
     ensures blanks { AddsBlanks signs.now blank cells.old.values cells.new.values }
     ensures held { IsHeld cells.new }
     ensures signs { cells.new.signs ≡ cells.old.signs }

@@ -66,7 +66,8 @@ impl CountTrie {
         requires signs { SignsWithin self.old.signs window.now }
         requires weight { weight ≤ WEIGHT_MAX }
         requires small { AreSmall (with_weight (sums_of self.old.counts window.now) good weight) }
-        ensures ok { OnOk result (self.new ≡ record self.old { counts = with_count self.old.counts window.now good weight }) }
+        ensures ok { OnOk result (self.new
+            ≡ record self.old { counts = with_count self.old.counts window.now good weight }) }
         ensures there { is_counted self.old.counts window.now ≡ true → IsOk result }
         ensures err { OnErr result (self.new ≡ self.old) }
     {
@@ -88,7 +89,9 @@ impl CountTrie {
     /// Moves the cursor to the least counted window that is greater, and gives its good and bad sums; none exactly where there is
     /// no such window, and the cursor stays. It takes no memory.
     pub fn next(&self, at: &mut Cursor) -> Option<(u64, u64)>
-        ensures { MatchOption result ((above at.old self.now.counts ≡ []) × (at.new ≡ at.old)) (λ sums. above at.old self.now.counts ≡ (at.new, sums) ∷ above at.new self.now.counts) }
+        ensures { MatchOption result ((above at.old self.now.counts ≡ [])
+            × (at.new ≡ at.old)) (λ sums. above at.old self.now.counts
+            ≡ (at.new, sums) ∷ above at.new self.now.counts) }
     {
         let mut room = [0; LENGTH_MAX as usize];
         let path = &mut room[..usize::from(self.len)];

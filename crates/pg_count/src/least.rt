@@ -14,7 +14,8 @@ use pg_types::Sign;
 // The sign after one of the signs of the family with the base, 0 for none.
 fn sign_after(cells: &Cells<Tally, FEW_SIGNS>, base: usize, s: Sign) -> Sign
     requires held { IsHeld cells.now }
-    requires base { (p : List ℕ) × (cell : ℕ) × ((base_of cells.now.families p ≡ Some base) × (cell_of cells.now.families (p ++ s ∷ []) ≡ Some cell)) }
+    requires base { (p : List ℕ) × (cell : ℕ)
+        × ((base_of cells.now.families p ≡ Some base) × (cell_of cells.now.families (p ++ s ∷ []) ≡ Some cell)) }
     ensures { (p : List ℕ) → base_of cells.now.families p ≡ Some base → IsNextSign cells.now.values p s result }
 {
     match cells.find(base, s) {
@@ -27,9 +28,11 @@ fn sign_after(cells: &Cells<Tally, FEW_SIGNS>, base: usize, s: Sign) -> Sign
 // it; else it is sought from the family's first sign on.
 fn sign_from(cells: &Cells<Tally, FEW_SIGNS>, base: usize, first: Sign, from: Sign) -> Sign
     requires held { IsHeld cells.now }
-    requires base { (p : List ℕ) × ((base_of cells.now.families p ≡ Some base) × IsNextSign cells.now.values p 0 first) }
+    requires base { (p : List ℕ) × ((base_of cells.now.families p ≡ Some base)
+        × IsNextSign cells.now.values p 0 first) }
     requires from { 1 ≤ from }
-    ensures { (p : List ℕ) → base_of cells.now.families p ≡ Some base → IsNextSign cells.now.values p (from - 1) result }
+    ensures { (p : List ℕ) → base_of cells.now.families p ≡ Some base →
+        IsNextSign cells.now.values p (from - 1) result }
 {
     if cells.signs() < from {
         return 0;
@@ -56,9 +59,12 @@ pub fn least(
     path: &mut [Sign],
 ) -> Option<(u64, u64)>
     requires held { IsHeld cells.now }
-    requires base { (p : List ℕ) × ((base_of cells.now.families p ≡ Some base) × IsNextSign cells.now.values p 0 first) }
+    requires base { (p : List ℕ) × ((base_of cells.now.families p ≡ Some base)
+        × IsNextSign cells.now.values p 0 first) }
     requires some { 0 < length path.old }
-    ensures { (p : List ℕ) → base_of cells.now.families p ≡ Some base → MatchOption result (NoneAbove cells.now.values p bound.now (length path.old)) (λ sums. LeastAbove cells.now.values p bound.now path.new sums) }
+    ensures { (p : List ℕ) → base_of cells.now.families p ≡ Some base →
+        MatchOption result (NoneAbove cells.now.values p bound.now (length path.old))
+        (λ sums. LeastAbove cells.now.values p bound.now path.new sums) }
 {
     let mut s = sign_from(cells, base, first, first_of(bound));
     while s != 0 {
@@ -85,7 +91,9 @@ fn least_at(
     requires some { 0 < length path.old }
     requires from { first_sign bound.now ≤ s }
     requires sign { 1 ≤ s }
-    ensures { (p : List ℕ) → cell_of cells.now.families (p ++ s ∷ []) ≡ Some cell → MatchOption result (NoneAt cells.now.values p bound.now (length path.old) s) (λ sums. LeastAt cells.now.values p bound.now s path.new sums) }
+    ensures { (p : List ℕ) → cell_of cells.now.families (p ++ s ∷ []) ≡ Some cell →
+        MatchOption result (NoneAt cells.now.values p bound.now (length path.old) s)
+        (λ sums. LeastAt cells.now.values p bound.now s path.new sums) }
 {
     if path.len() == 1 {
         return last_at(cells, cell, s, bound, path);
@@ -115,7 +123,9 @@ fn last_at(
     requires cell { (p : List ℕ) × (cell_of cells.now.families (p ++ s ∷ []) ≡ Some cell) }
     requires one { length path.old ≡ 1 }
     requires sign { 1 ≤ s }
-    ensures { (p : List ℕ) → cell_of cells.now.families (p ++ s ∷ []) ≡ Some cell → MatchOption result (NoneAt cells.now.values p bound.now 1 s) (λ sums. LeastAt cells.now.values p bound.now s path.new sums) }
+    ensures { (p : List ℕ) → cell_of cells.now.families (p ++ s ∷ []) ≡ Some cell →
+        MatchOption result (NoneAt cells.now.values p bound.now 1 s)
+        (λ sums. LeastAt cells.now.values p bound.now s path.new sums) }
 {
     if !passes(bound, s) {
         return None;

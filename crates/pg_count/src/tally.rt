@@ -1,7 +1,8 @@
 //! The sums of a string that may be counted.
-ghost use Rattle.std.specs.Prelude.{◌≡◌, unwrap_or, Some, None};
+ghost use Rattle.std.specs.Prelude.{◌≡◌, ◌≢◌, unwrap_or, Some, None};
 ghost use Rattle.pg_types.specs.Counts.{AreSmall, with_weight};
 
+use pg_cells::TwoWords;
 use pg_types::Weight;
 use std::marker::Model;
 
@@ -11,11 +12,11 @@ pub const FEW_SIGNS: usize = 0;
 /// No good sum is so great; it stands in the tally of a string that is not counted.
 const NOT_COUNTED: u64 = u64::MAX;
 
-/// The sums of good and bad weights of a string, or none where it is not counted. Two words hold it.
+/// The sums of good and bad weights of a string, or none where it is not counted. Two numbers hold it.
 #[derive(Clone, Copy)]
 pub struct Tally {
-    good: u64,
-    bad: u64,
+    good: TwoWords,
+    bad: TwoWords,
 }
 
 impl Model for Tally {
@@ -40,8 +41,19 @@ impl Tally {
         ensures { result ≡ None }
     {
         Tally {
-            good: NOT_COUNTED,
-            bad: 0,
+            good: TwoWords::new(NOT_COUNTED),
+            bad: TwoWords::new(0),
+        }
+    }
+
+    // That of a string with these sums.
+    fn of(good: u64, bad: u64) -> Tally
+        requires { good ≢ NOT_COUNTED }
+        ensures { result ≡ Some (good, bad) }
+    {
+        Tally {
+            good: TwoWords::new(good),
+            bad: TwoWords::new(bad),
         }
     }
 
@@ -50,18 +62,12 @@ impl Tally {
         requires { AreSmall (with_weight (unwrap_or self (0, 0)) good weight) }
         ensures { result ≡ Some (with_weight (unwrap_or self (0, 0)) good weight) }
     {
-        let sums = self.sums().unwrap_or((0, 0));
+        let (good_sum, bad_sum) = self.sums().unwrap_or((0, 0));
         let weight = u64::from(weight);
         if good {
-            Tally {
-                good: sums.0 + weight,
-                bad: sums.1,
-            }
+            Tally::of(good_sum + weight, bad_sum)
         } else {
-            Tally {
-                good: sums.0,
-                bad: sums.1 + weight,
-            }
+            Tally::of(good_sum, bad_sum + weight)
         }
     }
 
@@ -69,10 +75,11 @@ impl Tally {
     pub fn sums(self) -> Option<(u64, u64)>
         ensures { result ≡ self }
     {
-        if self.good == NOT_COUNTED {
+        let good = self.good.number();
+        if good == NOT_COUNTED {
             None
         } else {
-            Some((self.good, self.bad))
+            Some((good, self.bad.number()))
         }
     }
 }

@@ -1,6 +1,6 @@
 -- The list of the strings that have a cell, as it grows.
-use Rattle.std.proofs.Common.{◌≡◌, ℕ, zero, suc, ◌+◌, ◌<◌, ◌≤◌, ◌⊎◌, true, false, nat_le, List, [], ◌∷◌, ◌++◌, length, get_or, take, drop, slice_get, Option, None, Some, is_some, Result, Ok, Err, OnOk, inl, inr, refl, sym, ◌∙◌, ap, subst, arith, append_assoc}
-use Rattle.std.proofs.lemmas.Bool.{leb-true, cases_lt}
+use Rattle.std.proofs.Common.{◌≡◌, ◌≢◌, ℕ, zero, suc, cond, nat_eq, ◌+◌, ◌<◌, ◌≤◌, ◌⊎◌, true, false, nat_le, List, [], ◌∷◌, ◌++◌, length, get_or, take, drop, slice_get, Option, None, Some, is_some, Result, Ok, Err, OnOk, inl, inr, refl, sym, ◌∙◌, ap, subst, arith, append_assoc}
+use Rattle.std.proofs.lemmas.Bool.{leb-true, cases_lt, ne_eqb}
 use Rattle.std.proofs.lemmas.List.{append-nil, length_push, take_more, take-append-drop}
 use Rattle.std.proofs.lemmas.List.Elements.{All-nil, All-cons}
 use Rattle.std.proofs.lemmas.Option.{slice_get_within}
@@ -10,7 +10,9 @@ use Rattle.pg_types.specs.Placement.{cell_of}
 use Rattle.pg_types.proofs.BoolFacts.{and_first, and_second}
 use Rattle.pg_cells.specs.Held.{Held}
 use Rattle.pg_cells.specs.IsHeld.{IsHeld}
+use Rattle.pg_cells.specs.Members.{IsNext, goes_on}
 use Rattle.pg_cells.specs.Walks.{EndsBefore}
+use Rattle.pg_cells.proofs.LinkLaws.{cell_goes}
 use Rattle.pg_cells.proofs.StringMaps.{order}
 use Rattle.pg_trie.specs.Strings.{AreShort, IsString, StandsFrom, PutsBelow, AreStringsTo, AreStrings}
 use Rattle.pg_trie.proofs.Kept.{is_known, string_signs}
@@ -67,6 +69,16 @@ module _ {X : Type 0} where
   get_index (y ∷ xs) zero x d at = (cc)
   get_index (y ∷ xs) (suc j) x d at = get_index xs j x d at
 
+-- a number below the bound that a sign sets, which is none for 0
+past : (next s most : ℕ) → s < cond (nat_eq next 0) most next → (0 < next) × (next ≤ s) → ⊥
+past next s most lt le =
+    let same : s < next = subst (λ b. s < cond b most next) (ne_eqb next 0 (λ e. let up = le.0 in omega arith)) lt in
+    let most = le.1 in
+    omega arith
+
+pub bound_is : (s most : ℕ) → s ≢ 0 → cond (nat_eq s 0) most s ≡ s
+bound_is s most up = ap (λ b. cond b most s) (ne_eqb s 0 up)
+
 -- no string was put
 pub puts_start : (h : Held ℕ) (p : List ℕ) (m : ℕ) (items : List (List ℕ × ℕ)) → ((s cell : ℕ) → s < m → cell_of h.families (p ++ s ∷ []) ≡ Some cell → ⊥) → PutsBelow h p m items items
 puts_start h p m items none = record {
@@ -84,20 +96,23 @@ puts_nothing h held p m items ends = puts_start h p m items (λ s cell lt at.
     let no : None ≡ Some v.0 = sym none ∙ v.1 in
     (cc))
 
--- the family lacks the sign m
-pub puts_none : (h : Held ℕ) (p : List ℕ) (m : ℕ) (old new : List (List ℕ × ℕ)) → PutsBelow h p m old new → cell_of h.families (p ++ m ∷ []) ≡ None → PutsBelow h p (m + 1) old new
-puts_none h p m old new puts none = record {
+-- no sign stands before the first one of a family
+pub puts_first : (h : Held ℕ) → IsHeld h → (p : List ℕ) (first : ℕ) (items : List (List ℕ × ℕ)) → IsNext (goes_on h.values p) 0 first → PutsBelow h p (cond (nat_eq first 0) (h.signs + 1) first) items items
+puts_first h held p first items is = puts_start h p (cond (nat_eq first 0) (h.signs + 1) first) items (λ s cell lt at.
+    let low = held.signs p s cell at in
+    past first s (h.signs + 1) lt (is.least s low.0 (cell_goes h held p s cell at)))
+
+-- nor between a sign and the next one
+pub puts_next : (h : Held ℕ) → IsHeld h → (p : List ℕ) (s next : ℕ) (old new : List (List ℕ × ℕ)) → IsNext (goes_on h.values p) s next → PutsBelow h p (s + 1) old new → PutsBelow h p (cond (nat_eq next 0) (h.signs + 1) next) old new
+puts_next h held p s next old new is puts = record {
   keeps = puts.keeps;
   longer = puts.longer;
   sound = puts.sound;
-  below = λ s cell lt at. elim (less_or_same s m lt) [
-    | inl l ↦ puts.below s cell l at
-    | inr e ↦ absurd (let no : None ≡ Some cell = sym none ∙ ap (λ x. cell_of h.families (p ++ x ∷ [])) (sym e) ∙ at in cc)
+  below = λ x cell lt at. elim (cases_lt x (s + 1)) [
+    | inl early ↦ puts.below x cell early at
+    | inr late ↦ absurd (past next x (h.signs + 1) lt (is.least x (omega arith) (cell_goes h held p x cell at)))
   ];
 }
-  where
-    less_or_same : (s m : ℕ) → s < m + 1 → (s < m) ⊎ (s ≡ m)
-    less_or_same s m lt = elim (cases_lt s m) [ inl l ↦ inl l | inr g ↦ inr (omega arith) ]
 
 -- the string with the sign m was put
 pub puts_one : (h : Held ℕ) (p : List ℕ) (m : ℕ) (old mid new : List (List ℕ × ℕ)) → PutsBelow h p m old mid → IsString h (p ++ m ∷ []) → new ≡ mid ++ (p ++ m ∷ [], 0) ∷ [] → PutsBelow h p (m + 1) old new

@@ -10,7 +10,7 @@ ghost use Rattle.pg_trie.specs.Strings.{AreStrings};
 
 use crate::mark::{FEW_SIGNS, HOPELESS};
 use crate::strings::{strings, value_of};
-use pg_cells::Cells;
+use pg_cells::{Cells, TwoWords};
 use pg_outputs::Outputs;
 use pg_patterns::DottedSigns;
 use std::alloc::{AllocError, Global};
@@ -24,7 +24,8 @@ fn push_values(
 ) -> Result<(), AllocError>
     requires head { head ≤ length outputs.now }
     requires few { length string.now.0 ≤ PATTERN_SIGNS_MAX }
-    ensures { OnOk result (entries.new.items ≡ entries.old.items ++ entries_of as_value string.now.0 (list_of outputs.now head)) }
+    ensures { OnOk result (entries.new.items
+        ≡ entries.old.items ++ entries_of as_value string.now.0 (list_of outputs.now head)) }
 {
     let mut at = head;
     while let Some((value, dot, next)) = outputs.first(at) {
@@ -39,7 +40,7 @@ fn push_values(
 // The values of the strings, each with its place.
 fn gather(
     alloc: Global,
-    cells: &Cells<u32, FEW_SIGNS>,
+    cells: &Cells<TwoWords, FEW_SIGNS>,
     strings: &[DottedSigns],
     outputs: &Outputs,
 ) -> Result<Vec<(DottedSigns, u8)>, AllocError>
@@ -59,7 +60,7 @@ fn gather(
 /// The values of all strings, each with its place.
 pub fn entries(
     alloc: Global,
-    cells: &Cells<u32, FEW_SIGNS>,
+    cells: &Cells<TwoWords, FEW_SIGNS>,
     outputs: &Outputs,
 ) -> Result<Vec<(DottedSigns, u8)>, AllocError>
     requires { IsTrie cells.now outputs.now }

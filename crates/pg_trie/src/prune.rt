@@ -7,26 +7,28 @@ ghost use Rattle.pg_trie.specs.Pruned.{Drops, IsKeep, Prunes, PrunesBelow};
 ghost use Rattle.pg_trie.specs.Strings.{AreShort};
 
 use crate::mark::FEW_SIGNS;
-use pg_cells::{Cells, step};
+use pg_cells::{Cells, TwoWords, step};
 use pg_types::{PATTERN_SIGNS_MAX, Sign};
 
 // Takes the cell of a string of several signs away, where it has no list and no string goes on from it.
-fn drop_blank(cells: &mut Cells<u32, FEW_SIGNS>, parent: usize, cell: usize, s: Sign)
+fn remove_blank(cells: &mut Cells<TwoWords, FEW_SIGNS>, parent: usize, cell: usize, s: Sign)
     requires held { IsHeld cells.old }
-    requires cell { (q : List ℕ) × ((cell_of cells.old.families q ≡ Some parent) × (cell_of cells.old.families (q ++ s ∷ []) ≡ Some cell)) }
+    requires cell { (q : List ℕ) × ((cell_of cells.old.families q ≡ Some parent)
+        × (cell_of cells.old.families (q ++ s ∷ []) ≡ Some cell)) }
     ensures { (q : List ℕ) → cell_of cells.old.families q ≡ Some parent → Drops cells.old cells.new (q ++ s ∷ []) }
 {
-    if cells.value(cell) == 0 && cells.child(cell) == 0 {
+    if cells.value(cell).number() == 0 && cells.child(cell) == 0 {
         cells.remove(parent, s);
     }
 }
 
 // Takes the cells of all strings away that go on from the cell's string and have no list, where no string goes on from them that
 // stays. A string below it has at most so many signs more.
-fn prune_below(cells: &mut Cells<u32, FEW_SIGNS>, cell: usize, more: usize)
+fn prune_below(cells: &mut Cells<TwoWords, FEW_SIGNS>, cell: usize, more: usize)
     requires held { IsHeld cells.old }
     requires short { AreShort cells.old }
-    requires cell { (q : List ℕ) × ((cell_of cells.old.families q ≡ Some cell) × (PATTERN_SIGNS_MAX ≤ length q + more)) }
+    requires cell { (q : List ℕ) × ((cell_of cells.old.families q ≡ Some cell)
+        × (PATTERN_SIGNS_MAX ≤ length q + more)) }
     ensures { (q : List ℕ) → cell_of cells.old.families q ≡ Some cell → PrunesBelow cells.old cells.new q }
 {
     let mut s = cells.first_sign(cell);
@@ -36,13 +38,13 @@ fn prune_below(cells: &mut Cells<u32, FEW_SIGNS>, cell: usize, more: usize)
         };
         let next = cells.next_sign(below);
         prune_below(cells, below, more - 1);
-        drop_blank(cells, cell, below, s);
+        remove_blank(cells, cell, below, s);
         s = next;
     }
 }
 
 /// Takes the cells of all strings away that have several signs and no list, where no string goes on from them that stays.
-pub fn prune(cells: &mut Cells<u32, FEW_SIGNS>)
+pub fn prune(cells: &mut Cells<TwoWords, FEW_SIGNS>)
     requires held { IsHeld cells.old }
     requires short { AreShort cells.old }
     requires signs { cells.old.signs ≤ SIGNS_MAX }

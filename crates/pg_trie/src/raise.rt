@@ -40,24 +40,3 @@ pub fn raised(outputs: &mut Outputs, head: u64, value: u8, dot: u8) -> Result<u6
     let rest = raised(outputs, next, value, dot)?;
     outputs.cons(first, at, rest)
 }
-
-/// The head of the list with `value` at `dot`, as it stands in a cell. Where it does not fit there, memory is wanting.
-pub fn raised_head(outputs: &mut Outputs, head: u32, value: u8, dot: u8) -> Result<u32, AllocError>
-    requires { head ≤ length outputs.old }
-    ensures list { IfOk result (λ h. list_of outputs.new h ≡ entered (value, dot) (list_of outputs.old head)) }
-    ensures inside { IfOk result (λ h. h ≤ length outputs.new) }
-    ensures grows { Grows outputs.old outputs.new }
-{
-    let head = raised(outputs, u64::from(head), value, dot)?;
-    cell_head(head)
-}
-
-/// A head as it stands in a cell. Where it does not fit there, memory is wanting.
-pub fn cell_head(head: u64) -> Result<u32, AllocError>
-    ensures { IfOk result (λ h. h ≡ head) }
-{
-    if head >= 1 << 32 {
-        return Err(AllocError);
-    }
-    Ok(head as u32)
-}

@@ -9,8 +9,7 @@ ghost use Rattle.pg_trie.specs.IsTrie.{IsTrie};
 ghost use Rattle.pg_trie.specs.Renewed.{values_in, AreNeeded, AreFreshTo, AreFresh, Renews};
 
 use crate::mark::{FEW_SIGNS, HOPELESS};
-use crate::raise::cell_head;
-use pg_cells::Cells;
+use pg_cells::{Cells, TwoWords};
 use pg_outputs::Outputs;
 use std::alloc::{AllocError, Global};
 
@@ -34,7 +33,7 @@ fn fresh_head(outputs: &Outputs, head: u64, fresh: &mut Outputs) -> Result<u64, 
 }
 
 // The heads of the empty list, one more than so many.
-fn no_heads(alloc: Global, count: u64) -> Result<Vec<u32>, AllocError>
+fn no_heads(alloc: Global, count: u64) -> Result<Vec<u64>, AllocError>
     ensures { IfOk result (λ heads. length heads.items ≡ count + 1) }
 {
     let mut heads = Vec::new(alloc);
@@ -46,11 +45,11 @@ fn no_heads(alloc: Global, count: u64) -> Result<Vec<u32>, AllocError>
 
 // The new head of the string with the cell, beside its old one.
 fn renew_cell(
-    cells: &Cells<u32, FEW_SIGNS>,
+    cells: &Cells<TwoWords, FEW_SIGNS>,
     cell: usize,
     outputs: &Outputs,
     fresh: &mut Outputs,
-    heads: &mut [u32],
+    heads: &mut [u64],
 ) -> Result<(), AllocError>
     requires trie { IsTrie cells.now outputs.now }
     requires heads { AreFreshTo cells.now outputs.now cell fresh.old heads.old }
@@ -59,18 +58,19 @@ fn renew_cell(
     let Some(head) = cells.value_at(cell) else {
         return Ok(());
     };
-    let new_head = fresh_head(outputs, u64::from(head), fresh)?;
-    heads[head as usize] = cell_head(new_head)?;
+    let old_head = head.number();
+    let new_head = fresh_head(outputs, old_head, fresh)?;
+    heads[old_head as usize] = new_head;
     Ok(())
 }
 
 /// The new heads of the strings' values by their old heads, among new records. There is no record but those of their ends.
 pub fn fresh_heads(
     alloc: Global,
-    cells: &Cells<u32, FEW_SIGNS>,
+    cells: &Cells<TwoWords, FEW_SIGNS>,
     outputs: &Outputs,
     fresh: &mut Outputs,
-) -> Result<Vec<u32>, AllocError>
+) -> Result<Vec<u64>, AllocError>
     requires trie { IsTrie cells.now outputs.now }
     requires empty { length fresh.old ≡ 0 }
     ensures { IfOk result (λ heads. AreFresh cells.now outputs.now fresh.new heads.items) }
@@ -84,15 +84,16 @@ pub fn fresh_heads(
 }
 
 /// Gives each string its new head.
-pub fn renew(cells: &mut Cells<u32, FEW_SIGNS>, heads: &[u32])
+pub fn renew(cells: &mut Cells<TwoWords, FEW_SIGNS>, heads: &[u64])
     requires held { IsHeld cells.old }
-    requires heads { (q : List ℕ) (u : ℕ) → find (slice_cmp nat_cmp) q cells.old.values ≡ Some u → u < length heads.now }
+    requires heads { (q : List ℕ) (u : ℕ) → find (slice_cmp nat_cmp) q cells.old.values ≡ Some u →
+        u < length heads.now }
     ensures { Renews cells.old heads.now cells.new }
 {
     let top = cells.top();
     for cell in 0..top + 1 {
         if let Some(head) = cells.value_at(cell) {
-            cells.set_value(cell, heads[head as usize]);
+            cells.set_value(cell, TwoWords::new(heads[head.number() as usize]));
         }
     }
 }

@@ -5,16 +5,18 @@ ghost use Rattle.std.specs.Cmp.Lexicographic.{slice_cmp};
 ghost use Rattle.std.specs.Ordering.{nat_cmp};
 ghost use Rattle.pg_types.specs.declared.limits.TheConstants.{PATTERN_SIGNS_MAX, SIGNS_MAX};
 ghost use Rattle.pg_types.specs.Placement.{cell_of, base_of};
+ghost use Rattle.pg_cells.specs.IsHeld.{IsHeld};
+ghost use Rattle.pg_cells.specs.Members.{IsNextSign};
 ghost use Rattle.pg_trie.specs.Strings.{AreShort, IsString, PutsBelow, AreStringsTo, AreStrings};
 
 use crate::mark::FEW_SIGNS;
-use pg_cells::{Cells, step};
+use pg_cells::{Cells, TwoWords, step};
 use pg_patterns::DottedSigns;
-use pg_types::{PATTERN_SIGNS_MAX, Sign};
+use pg_types::{EDGE, PATTERN_SIGNS_MAX, Sign};
 use std::alloc::{AllocError, Global};
 
 /// The cell of a string, or `None` where it has none.
-pub fn find_cell(cells: &Cells<u32, FEW_SIGNS>, signs: &[Sign]) -> Option<usize>
+pub fn find_cell(cells: &Cells<TwoWords, FEW_SIGNS>, signs: &[Sign]) -> Option<usize>
     requires { All (λ s. (1 ≤ s) × (s ≤ cells.now.signs)) signs.now }
     ensures { result ≡ cell_of cells.now.families signs.now }
 {
@@ -27,13 +29,13 @@ pub fn find_cell(cells: &Cells<u32, FEW_SIGNS>, signs: &[Sign]) -> Option<usize>
 }
 
 /// The value of a string that has a cell.
-pub fn value_of(cells: &Cells<u32, FEW_SIGNS>, signs: &[Sign]) -> u64
+pub fn value_of(cells: &Cells<TwoWords, FEW_SIGNS>, signs: &[Sign]) -> u64
     requires { All (λ s. (1 ≤ s) × (s ≤ cells.now.signs)) signs.now }
     ensures { (v : ℕ) → find (slice_cmp nat_cmp) signs.now cells.now.values ≡ Some v → result ≡ v }
 {
     let _held = cells.signs();
     match find_cell(cells, signs) {
-        Some(cell) => u64::from(cells.value(cell)),
+        Some(cell) => cells.value(cell).number(),
         None => 0,
     }
 }
@@ -49,29 +51,34 @@ fn longer(prefix: &[Sign], s: Sign) -> DottedSigns
     DottedSigns::new(&signs[..prefix.len() + 1], 0)
 }
 
-// Puts the strings of a family behind the others.
+// Puts the strings of the family with the base and the first sign behind the others. It goes along the signs of the family.
 fn push_family(
-    cells: &Cells<u32, FEW_SIGNS>,
+    cells: &Cells<TwoWords, FEW_SIGNS>,
     prefix: &[Sign],
     base: usize,
+    first: Sign,
     strings: &mut Vec<DottedSigns>,
 ) -> Result<(), AllocError>
     requires base { base_of cells.now.families prefix.now ≡ Some base }
+    requires first { IsNextSign cells.now.values prefix.now 0 first }
     requires short { AreShort cells.now }
-    requires signs { cells.now.signs ≤ SIGNS_MAX }
+    requires held { IsHeld cells.now }
     ensures { OnOk result (PutsBelow cells.now prefix.now (cells.now.signs + 1) strings.old.items strings.new.items) }
 {
-    for s in 1..cells.signs() + 1 {
-        if cells.find(base, s).is_some() {
-            strings.push(longer(prefix, s))?;
-        }
+    let mut s = first;
+    while s != 0 {
+        let Some(cell) = cells.find(base, s) else {
+            return Ok(());
+        };
+        strings.push(longer(prefix, s))?;
+        s = cells.next_sign(cell);
     }
     Ok(())
 }
 
 // Puts the strings with one sign more than that with the number `i` behind the others.
 fn push_below(
-    cells: &Cells<u32, FEW_SIGNS>,
+    cells: &Cells<TwoWords, FEW_SIGNS>,
     strings: &mut Vec<DottedSigns>,
     i: usize,
 ) -> Result<(), AllocError>
@@ -79,7 +86,8 @@ fn push_below(
     requires sound { (k : List ℕ × ℕ) → slice_get strings.old.items i ≡ Some k → IsString cells.now k.0 }
     requires short { AreShort cells.now }
     requires signs { cells.now.signs ≤ SIGNS_MAX }
-    ensures { OnOk result ((k : List ℕ × ℕ) → slice_get strings.old.items i ≡ Some k → PutsBelow cells.now k.0 (cells.now.signs + 1) strings.old.items strings.new.items) }
+    ensures { OnOk result ((k : List ℕ × ℕ) → slice_get strings.old.items i ≡ Some k →
+        PutsBelow cells.now k.0 (cells.now.signs + 1) strings.old.items strings.new.items) }
 {
     let _held = cells.signs();
     let prefix = DottedSigns::new(strings[i].signs(), 0);
@@ -88,19 +96,22 @@ fn push_below(
     };
     match cells.child(cell) {
         0 => Ok(()),
-        base => push_family(cells, prefix.signs(), base, strings),
+        base => push_family(cells, prefix.signs(), base, cells.first_sign(cell), strings),
     }
 }
 
 /// The strings that have a cell, each before those with one sign more.
-pub fn strings(alloc: Global, cells: &Cells<u32, FEW_SIGNS>) -> Result<Vec<DottedSigns>, AllocError>
+pub fn strings(
+    alloc: Global,
+    cells: &Cells<TwoWords, FEW_SIGNS>,
+) -> Result<Vec<DottedSigns>, AllocError>
     requires short { AreShort cells.now }
     requires signs { cells.now.signs ≤ SIGNS_MAX }
     ensures { IfOk result (λ strings. AreStrings cells.now strings.items) }
 {
     let _held = cells.signs();
     let mut strings = Vec::new(alloc);
-    push_family(cells, &[], 0, &mut strings)?;
+    push_family(cells, &[], 0, EDGE, &mut strings)?;
     for i in 0..usize::MAX {
         if i == strings.len() {
             return Ok(strings);

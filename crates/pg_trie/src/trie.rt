@@ -15,9 +15,9 @@ ghost use Rattle.pg_trie.specs.Maps.{AreKept};
 use crate::copy::entries;
 use crate::mark::FEW_SIGNS;
 use crate::prune::prune;
-use crate::raise::raised_head;
+use crate::raise::raised;
 use crate::renew::{fresh_heads, renew};
-use pg_cells::Cells;
+use pg_cells::{Cells, TwoWords};
 use pg_outputs::Outputs;
 use pg_patterns::PatternSet;
 use pg_types::{Layout, Sign};
@@ -31,7 +31,7 @@ use std::marker::Model;
 #[derive(Drop)]
 pub struct PatternTrie {
     alloc: Global,
-    cells: Cells<u32, FEW_SIGNS>,
+    cells: Cells<TwoWords, FEW_SIGNS>,
     outputs: Outputs,
 }
 
@@ -50,11 +50,17 @@ impl PatternTrie {
     /// The trie of signs up to `signs`, with neither a value nor a mark.
     pub fn new(alloc: Global, signs: u16) -> Result<PatternTrie, AllocError>
         requires { (1 ≤ signs) × (signs ≤ SIGNS_MAX) }
-        ensures { IfOk result (λ t. t ≡ record { signs = signs; families = root signs; patterns = []; hopeless = []; records = [] }) }
+        ensures { IfOk result (λ t. t ≡ record {
+          signs = signs;
+          families = root signs;
+          patterns = [];
+          hopeless = [];
+          records = [];
+        }) }
     {
         Ok(PatternTrie {
             alloc,
-            cells: Cells::new(alloc, signs, 0)?,
+            cells: Cells::new(alloc, signs, TwoWords::new(0))?,
             outputs: Outputs::new(alloc),
         })
     }
@@ -68,16 +74,30 @@ impl PatternTrie {
         requires signs { All (λ s. (1 ≤ s) × (s ≤ self.old.signs)) signs.now }
         requires dot { dot ≤ length signs.now }
         requires value { (1 ≤ value) × (value ≤ HOPELESS) }
-        ensures raised { OnOk result (value ≤ LEVEL_MAX → self.new ≡ record self.old { patterns = raise self.old.patterns (signs.now, dot) value; families = enter self.old.signs self.old.families signs.now; records = self.new.records }) }
-        ensures marked { OnOk result (value ≡ HOPELESS → self.new ≡ record self.old { hopeless = put dotted_cmp (signs.now, dot) (tt {0}) self.old.hopeless; families = enter self.old.signs self.old.families signs.now; records = self.new.records }) }
-        ensures err { OnErr result (self.new ≡ record self.old { families = self.new.families; records = self.new.records }) }
-        ensures part { OnErr result ((k : ℕ) × (k ≤ length signs.now) × (self.new.families ≡ enter self.old.signs self.old.families (take k signs.now))) }
+        ensures raised { OnOk result (value ≤ LEVEL_MAX →
+            self.new ≡ record self.old {
+              patterns = raise self.old.patterns (signs.now, dot) value;
+              families = enter self.old.signs self.old.families signs.now;
+              records = self.new.records;
+            }) }
+        ensures marked { OnOk result (value ≡ HOPELESS →
+            self.new ≡ record self.old {
+              hopeless = put dotted_cmp (signs.now, dot) (tt {0}) self.old.hopeless;
+              families = enter self.old.signs self.old.families signs.now;
+              records = self.new.records;
+            }) }
+        ensures err { OnErr result (self.new ≡ record self.old {
+          families = self.new.families;
+          records = self.new.records;
+        }) }
+        ensures part { OnErr result ((k : ℕ) × (k ≤ length signs.now)
+            × (self.new.families ≡ enter self.old.signs self.old.families (take k signs.now))) }
         ensures signs { self.new.signs ≡ self.old.signs }
     {
-        let cell = pg_cells::enter(&mut self.cells, signs, 0)?;
-        let head = self.cells.value(cell);
-        let head = raised_head(&mut self.outputs, head, value, dot)?;
-        self.cells.set_value(cell, head);
+        let cell = pg_cells::enter(&mut self.cells, signs, TwoWords::new(0))?;
+        let old = self.cells.value(cell).number();
+        let head = raised(&mut self.outputs, old, value, dot)?;
+        self.cells.set_value(cell, TwoWords::new(head));
         Ok(())
     }
 
@@ -87,7 +107,8 @@ impl PatternTrie {
         requires at { (q : List ℕ) × (IsAt self.now.families at q) }
         requires sign { (1 ≤ s) × (s ≤ self.now.signs) }
         ensures cell { (q : List ℕ) → IsAt self.now.families at q → result ≡ cell_of self.now.families (q ++ s ∷ []) }
-        ensures none { (q : List ℕ) → IsAt self.now.families at q → result ≡ None → (more : List ℕ) → outputs_at self.now.patterns self.now.hopeless ((q ++ s ∷ []) ++ more) ≡ [] }
+        ensures none { (q : List ℕ) → IsAt self.now.families at q → result ≡ None → (more : List ℕ) →
+            outputs_at self.now.patterns self.now.hopeless ((q ++ s ∷ []) ++ more) ≡ [] }
     {
         pg_cells::step(&self.cells, at, s)
     }
@@ -95,10 +116,11 @@ impl PatternTrie {
     /// The head of the list of the cell's string, by [`PatternTrie::outputs`]. It takes no memory.
     pub fn head(&self, cell: usize) -> u64
         requires { (q : List ℕ) × (cell_of self.now.families q ≡ Some cell) }
-        ensures list { (q : List ℕ) → cell_of self.now.families q ≡ Some cell → list_of self.now.records result ≡ outputs_at self.now.patterns self.now.hopeless q }
+        ensures list { (q : List ℕ) → cell_of self.now.families q ≡ Some cell →
+            list_of self.now.records result ≡ outputs_at self.now.patterns self.now.hopeless q }
         ensures inside { result ≤ length self.now.records }
     {
-        u64::from(self.cells.value(cell))
+        self.cells.value(cell).number()
     }
 
     /// The lists of all strings.
@@ -112,7 +134,12 @@ impl PatternTrie {
     /// Deletes the hopeless marks: a string of several signs that is no prefix of a pattern's loses its cell, and there is no
     /// record that the values do not need. It takes its memory before it changes anything.
     pub fn delete_hopeless(&mut self) -> Result<(), AllocError>
-        ensures ok { OnOk result (self.new ≡ record self.old { hopeless = []; families = kept (map (λ e. e.0.0) self.old.patterns) self.old.families; records = self.new.records }) }
+        ensures ok { OnOk result (self.new
+            ≡ record self.old {
+              hopeless = [];
+              families = kept (map (λ e. e.0.0) self.old.patterns) self.old.families;
+              records = self.new.records;
+            }) }
         ensures tails { OnOk result (length self.new.records ≡ tails self.old.patterns) }
         ensures err { OnErr result (self.new ≡ self.old) }
         ensures signs { self.new.signs ≡ self.old.signs }
@@ -138,7 +165,11 @@ impl PatternTrie {
     /// that no list uses, so the tails are those of the patterns right after [`PatternTrie::delete_hopeless`]. It takes no
     /// memory.
     pub fn layout(&self) -> Layout
-        ensures { result ≡ record { taken = taken self.now.families; top = top self.now.families; tails = length self.now.records } }
+        ensures { result ≡ record {
+          taken = taken self.now.families;
+          top = top self.now.families;
+          tails = length self.now.records;
+        } }
     {
         Layout {
             taken: self.cells.taken() as u64,

@@ -1,22 +1,47 @@
-use Rattle.std.proofs.Common.{inl, inr, refl, arith}
+use Rattle.std.proofs.Common.{◌≡◌, cond, nat_eq, None, Some, inl, inr, refl, sym, subst, ◌∙◌, arith}
+use Rattle.pg_types.specs.Placement.{base_of}
 use Rattle.pg_cells.specs.Members.{goes_on}
-use Rattle.pg_cells.proofs.LinkLaws.{none_between}
+use Rattle.pg_cells.proofs.LinkLaws.{none_between, down_to, below_most}
 use Rattle.pg_cells.proofs.links.sign_before.Goals as goal
 
 pub loop-next-init : goal.loop-next-init
-loop-next-init g c = record { less = omega arith; next = λ q e. (c.sign_after-next.ensures q e, inl refl) }
+loop-next-init g c = let up = c.requires.sign.0 in record {
+  less = omega arith;
+  under = omega arith;
+  next = λ q e. (c.sign_after-next.ensures q e, inl refl);
+  free = λ q e z late lt. absurd (omega arith);
+}
 
 pub loop-next-preserved : goal.loop-next-preserved
-loop-next-preserved g c = record {
-  less = omega arith;
-  next = λ q e. (c.sign_after-next-in-loop-next.ensures q e, inr ((c.loop-next.invariant.next q e).0.found (omega arith)).1);
-}
+loop-next-preserved g c =
+    let under = c.loop-next.invariant.under in
+    record {
+      less = omega arith;
+      under = omega arith;
+      next = λ q e. (c.sign_after-next-in-loop-next.ensures q e, inr ((c.loop-next.invariant.next q e).0.found (omega arith)).1);
+      free = λ q e.
+          let fs = c.args.cells.now.families in
+          let same : c.requires.parent.0 ≡ q = c.requires.links.held.apart c.requires.parent.0 q c.args.parent c.requires.parent.1.0 e in
+          let told = subst (λ p. base_of fs p ≡ cond (nat_eq c.args.base 0) None (Some c.args.base)) same c.requires.parent.1.1 in
+          down_to (goes_on c.args.cells.now.values q) c.loop-next.below c.args.s (c.loop-next.invariant.free q e) (sym (c.has_sign.ensures q told) ∙ c.if-has_sign.false);
+    }
 
 pub loop-next-smaller : goal.loop-next-smaller
 loop-next-smaller g c =
     let h = (c.loop-next.invariant.next c.requires.parent.0 c.requires.parent.1.0).0.found (omega arith) in
     let less = h.0 in
     omega arith
+
+pub returns-then-has_sign : goal.returns-then-has_sign
+returns-then-has_sign g c q e =
+    let fs = c.args.cells.now.families in
+    let same : c.requires.parent.0 ≡ q = c.requires.links.held.apart c.requires.parent.0 q c.args.parent c.requires.parent.1.0 e in
+    let told = subst (λ p. base_of fs p ≡ cond (nat_eq c.args.base 0) None (Some c.args.base)) same c.requires.parent.1.1 in
+    record {
+      less = c.loop-next.invariant.under;
+      there = inr (sym (c.has_sign.ensures q told) ∙ c.if-has_sign.true);
+      most = below_most (goes_on c.args.cells.now.values q) c.loop-next.below c.args.s (c.loop-next.invariant.free q e);
+    }
 
 pub returns-else-next-s : goal.returns-else-next-s
 returns-else-next-s g c q e =

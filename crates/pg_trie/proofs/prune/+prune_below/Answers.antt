@@ -51,8 +51,8 @@ prune_below-requires t c =
     let room = c.requires.cell.1.1 in
     (omega (arith, c.decreases), (to.held, ((λ q u f. c.requires.short q u (to.less q u f)), (p ++ c.loop-s.s ∷ [], (there, omega arith)))))
 
-pub drop_blank-requires-clause-held : goal.drop_blank-requires-clause-held
-drop_blank-requires-clause-held t c =
+pub remove_blank-requires-clause-held : goal.remove_blank-requires-clause-held
+remove_blank-requires-clause-held t c =
     let p = c.requires.cell.0 in
     let at = c.requires.cell.1.0 in
     let to = c.loop-s.invariant.to p at in
@@ -60,8 +60,8 @@ drop_blank-requires-clause-held t c =
     let there : cell_of c.loop-s.cells.families (p ++ c.loop-s.s ∷ []) ≡ Some c.in-Some.below = sym (c.in-Some.ensures.cell p now_at) in
     (c.prune_below.ensures (p ++ c.loop-s.s ∷ []) there).held
 
-pub drop_blank-requires-clause-cell : goal.drop_blank-requires-clause-cell
-drop_blank-requires-clause-cell t c =
+pub remove_blank-requires-clause-cell : goal.remove_blank-requires-clause-cell
+remove_blank-requires-clause-cell t c =
     let p = c.requires.cell.0 in
     let at = c.requires.cell.1.0 in
     let to = c.loop-s.invariant.to p at in
@@ -89,7 +89,7 @@ loop-s-preserved t c =
     record {
       small = c.next_sign-next.type_inv;
       to = λ q e.
-          to_step c.args.cells.now c.loop-s.cells c.prune_below.new.cells c.drop_blank.new.cells q c.loop-s.s c.next_sign-next.result (c.loop-s.invariant.to q e) (below q e) (c.drop_blank.ensures q (mid_at q e)) (c.next_sign-next.ensures q c.loop-s.s (there q e));
+          to_step c.args.cells.now c.loop-s.cells c.prune_below.new.cells c.remove_blank.new.cells q c.loop-s.s c.next_sign-next.result (c.loop-s.invariant.to q e) (below q e) (c.remove_blank.ensures q (mid_at q e)) (c.next_sign-next.ensures q c.loop-s.s (there q e));
       goes = λ q e up.
-          next_goes c.args.cells.now c.loop-s.cells c.prune_below.new.cells c.drop_blank.new.cells q c.loop-s.s c.next_sign-next.result (c.loop-s.invariant.to q e) (below q e) (c.drop_blank.ensures q (mid_at q e)) (c.next_sign-next.ensures q c.loop-s.s (there q e)) up;
+          next_goes c.args.cells.now c.loop-s.cells c.prune_below.new.cells c.remove_blank.new.cells q c.loop-s.s c.next_sign-next.result (c.loop-s.invariant.to q e) (below q e) (c.remove_blank.ensures q (mid_at q e)) (c.next_sign-next.ensures q c.loop-s.s (there q e)) up;
     }

@@ -1,7 +1,11 @@
 use Rattle.std.proofs.Common.{◌+◌, ◌<◌, [], length, subst, arith, rules}
+use Rattle.pg_cells.proofs.LinkLaws.{root_first}
 use Rattle.pg_trie.specs.Strings.{PutsBelow}
 use Rattle.pg_trie.proofs.Listing.{strings_start, strings_step, get_there}
 use Rattle.pg_trie.proofs.strings.strings.Goals as goal
+
+pub push_family-requires-clause-first : goal.push_family-requires-clause-first
+push_family-requires-clause-first c = root_first c.args.cells.now c.signs-held.ensures.held
 
 pub loop-i-init : goal.loop-i-init
 loop-i-init c = record {

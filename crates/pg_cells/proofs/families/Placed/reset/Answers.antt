@@ -3,7 +3,7 @@ use Rattle.std.specs.List.{range_with_len}
 use Rattle.pg_types.specs.Placement.{root}
 use Rattle.pg_cells.specs.Held.{Trie, Held}
 use Rattle.pg_cells.specs.IsHeld.{IsHeld}
-use Rattle.pg_cells.specs.Laid.{AreKept}
+use Rattle.pg_cells.specs.Layouts.{AreKept}
 use Rattle.pg_cells.specs.OneTrie.{Kept, settled, held}
 use Rattle.pg_cells.specs.Root.{root_held}
 use Rattle.pg_cells.proofs.HeldLaws.{is_held}
@@ -11,26 +11,26 @@ use Rattle.pg_cells.proofs.StringCells.{root_within}
 use Rattle.pg_cells.proofs.RootTrie.{root_trie}
 use Rattle.pg_cells.proofs.families.Placed.reset.Goals as goal
 
-pub plant-requires-clause-empty : goal.plant-requires-clause-empty
-plant-requires-clause-empty g c = c.clear.ensures.empty c.args.blank
+pub take_root-requires-clause-empty : goal.take_root-requires-clause-empty
+take_root-requires-clause-empty g c = c.clear.ensures.empty c.args.blank
 
-pub plant-requires-clause-length : goal.plant-requires-clause-length
-plant-requires-clause-length g c = let within = root_within c.self.inside.signs c.self.inside.store c.self.inside.laid.0 c.self.invariant.trie c.self.invariant.some in let size = c.clear.ensures.size in omega arith
+pub take_root-requires-clause-length : goal.take_root-requires-clause-length
+take_root-requires-clause-length g c = let within = root_within c.self.inside.signs c.self.inside.store c.self.inside.layout.0 c.self.invariant.trie c.self.invariant.some in let size = c.clear.ensures.size in omega arith
 
 pub invariant_of-self-inside : goal.invariant_of-self-inside
 invariant_of-self-inside g c =
-    ((record { families = root c.self.inside.signs; values = map (λ x. (x ∷ [], c.args.blank)) (range_with_len 1 c.self.inside.signs) }, ∣ root_trie c.args.blank c.self.inside.signs c.plant.new.store c.set_base.new.self c.self.invariant.some c.plant.ensures.planted c.set_base.ensures ∣₁), tt)
+    ((record { families = root c.self.inside.signs; values = map (λ x. (x ∷ [], c.args.blank)) (range_with_len 1 c.self.inside.signs) }, ∣ root_trie c.args.blank c.self.inside.signs c.take_root.new.store c.set_base.new.self c.self.invariant.some c.take_root.ensures.root_to c.set_base.ensures ∣₁), tt)
 
 pub invariant_of-self : goal.invariant_of-self
 invariant_of-self g c =
-    let trie = root_trie c.args.blank c.self.inside.signs c.plant.new.store c.set_base.new.self c.self.invariant.some c.plant.ensures.planted c.set_base.ensures in
+    let trie = root_trie c.args.blank c.self.inside.signs c.take_root.new.store c.set_base.new.self c.self.invariant.some c.take_root.ensures.root_to c.set_base.ensures in
     let all : (d : Kept c.self.inside.signs c.set_base.new.self) → AreKept c.self.inside.signs c.set_base.new.self d.0 =
     λ d. record { trie = held g.row.V.coded c.self.inside.signs c.set_base.new.self d _ trie; some = c.self.invariant.some; few = c.self.invariant.few } in
     search all
 
 pub returns-clause-held : goal.returns-clause-held
 returns-clause-held g c =
-    let trie = root_trie c.args.blank c.self.inside.signs c.plant.new.store c.set_base.new.self c.self.invariant.some c.plant.ensures.planted c.set_base.ensures in
+    let trie = root_trie c.args.blank c.self.inside.signs c.take_root.new.store c.set_base.new.self c.self.invariant.some c.take_root.ensures.root_to c.set_base.ensures in
     let all : (d : Kept c.self.inside.signs c.set_base.new.self) → ◌≡◌ {A = Held g.row.V.Denot} (record { signs = c.self.inside.signs; families = d.0.families; values = d.0.values }) (root_held c.args.self.now.signs c.args.blank) =
     λ d. ap (λ (t : Trie g.row.V.Denot). record { signs = c.self.inside.signs; families = t.families; values = t.values }) (settled g.row.V.coded c.self.inside.signs c.set_base.new.self d _ trie)
     ∙ ap (λ (h : Held g.row.V.Denot). root_held h.signs c.args.blank) c.self.view_is in
@@ -38,7 +38,7 @@ returns-clause-held g c =
 
 pub returns-clause-kept : goal.returns-clause-kept
 returns-clause-kept g c =
-    let trie = root_trie c.args.blank c.self.inside.signs c.plant.new.store c.set_base.new.self c.self.invariant.some c.plant.ensures.planted c.set_base.ensures in
+    let trie = root_trie c.args.blank c.self.inside.signs c.take_root.new.store c.set_base.new.self c.self.invariant.some c.take_root.ensures.root_to c.set_base.ensures in
     let all : (d : Kept c.self.inside.signs c.set_base.new.self) → IsHeld (record { signs = c.self.inside.signs; families = d.0.families; values = d.0.values }) =
     λ d. is_held c.self.inside.signs c.set_base.new.self d.0 (held g.row.V.coded c.self.inside.signs c.set_base.new.self d _ trie) c.len-length.ensures.values in
     search all

@@ -6,4 +6,4 @@ use Rattle.pg_cells.proofs.families.Placed.signs.Goals as goal
 
 pub returns-clause-held : goal.returns-clause-held
 returns-clause-held g c =
-    subst (λ (h : Held g.row.V.Denot). IsHeld h) c.self.view_is (is_held c.self.inside.signs c.self.inside.store c.self.inside.laid.0 c.self.invariant.trie c.len-cells.ensures.values)
+    subst (λ (h : Held g.row.V.Denot). IsHeld h) c.self.view_is (is_held c.self.inside.signs c.self.inside.store c.self.inside.layout.0 c.self.invariant.trie c.len-cells.ensures.values)

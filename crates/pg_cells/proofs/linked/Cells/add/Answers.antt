@@ -5,7 +5,7 @@ use Rattle.pg_cells.specs.declared.member.Member.{Member}
 use Rattle.pg_cells.specs.Held.{Held}
 use Rattle.pg_cells.specs.Links.{unlinked}
 use Rattle.pg_cells.proofs.StringMaps.{order}
-use Rattle.pg_cells.proofs.Settled.{not_longer}
+use Rattle.pg_cells.proofs.PlacedFamily.{not_longer}
 use Rattle.pg_cells.proofs.SteppedLinks.{add_behind, links_added, values_added}
 use Rattle.pg_cells.proofs.Unlinked.{plain, held_unlinked}
 use Rattle.pg_cells.proofs.linked.Cells.add.Goals as goal

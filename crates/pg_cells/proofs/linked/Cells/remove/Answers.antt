@@ -4,10 +4,17 @@ use Rattle.pg_cells.specs.declared.member.Member.{Member}
 use Rattle.pg_cells.specs.Held.{Held, without_key}
 use Rattle.pg_cells.specs.Links.{unlinked}
 use Rattle.pg_cells.specs.Members.{IsAlone, HasOther}
-use Rattle.pg_cells.proofs.Settled.{not_longer}
+use Rattle.pg_cells.proofs.PlacedFamily.{not_longer}
 use Rattle.pg_cells.proofs.SteppedLinks.{remove_behind, links_removed, values_removed, alone_told}
 use Rattle.pg_cells.proofs.Unlinked.{plain, held_unlinked}
 use Rattle.pg_cells.proofs.linked.Cells.remove.Goals as goal
+
+pub sign_before-before-requires : goal.sign_before-before-requires
+sign_before-before-requires g c =
+    let h = c.self.inside.placed in
+    let at : cell_of h.families c.requires.parent.0 ≡ Some c.args.parent = subst (λ (k : Held g.row.V.Denot). cell_of k.families c.requires.parent.0 ≡ Some c.args.parent) (sym c.self.view_is) c.requires.parent.2.0 in
+    let there : cell_of h.families (c.requires.parent.0 ++ c.args.s ∷ []) ≡ Some c.requires.parent.1 = subst (λ (k : Held g.row.V.Denot). cell_of k.families (c.requires.parent.0 ++ c.args.s ∷ []) ≡ Some c.requires.parent.1) (sym c.self.view_is) c.requires.parent.2.1 in
+    (search rules, (c.self.invariant, ((c.requires.parent.0, (at, c.child-base.ensures.base c.requires.parent.0 at)), c.self.invariant.held.signs c.requires.parent.0 c.args.s c.requires.parent.1 there)))
 
 pub remove-requires : goal.remove-requires
 remove-requires g c =

@@ -8,7 +8,7 @@ use Rattle.pg_trie.proofs.trie.PatternTrie.head.Goals as goal
 
 pub returns-clause-list : goal.returns-clause-list
 returns-clause-list c q at =
-    subst (λ h. list_of c.args.self.now.records h ≡ outputs_at c.args.self.now.patterns c.args.self.now.hopeless q) (sym c.from.ensures)
+    subst (λ h. list_of c.args.self.now.records h ≡ outputs_at c.args.self.now.patterns c.args.self.now.hopeless q) (sym c.number.ensures)
     (
     let there = c.value.ensures q (subst (λ (m : Maps). cell_of m.families q ≡ Some c.args.cell) (sym c.self.view_is) at) in
     subst (λ (m : Maps). list_of m.records c.value.result ≡ outputs_at m.patterns m.hopeless q) c.self.view_is
@@ -18,6 +18,6 @@ returns-clause-list c q at =
 pub returns-clause-inside : goal.returns-clause-inside
 returns-clause-inside c =
     let at = subst (λ (m : Maps). cell_of m.families c.requires.0 ≡ Some c.args.cell) (sym c.self.view_is) c.requires.1 in
-    subst (λ h. h ≤ length c.args.self.now.records) (sym c.from.ensures)
+    subst (λ h. h ≤ length c.args.self.now.records) (sym c.number.ensures)
     (subst (λ (m : Maps). c.value.result ≤ length m.records) c.self.view_is
     (c.self.invariant.heads c.requires.0 c.value.result (c.value.ensures c.requires.0 at)).inside)

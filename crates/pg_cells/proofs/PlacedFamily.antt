@@ -6,7 +6,7 @@ use Rattle.std.proofs.lemmas.List.{length_push, same_from_push}
 use Rattle.std.specs.List.{range_with_len}
 use Rattle.pg_types.specs.Placement.{Family}
 use Rattle.pg_cells.specs.Lists.{Row, sign_at, child_at, base_at}
-use Rattle.pg_cells.specs.Laid.{Laid, IsParent, standing}
+use Rattle.pg_cells.specs.Layouts.{IsLayout, IsParent, standing}
 use Rattle.pg_cells.proofs.StringMaps.{equal_or_not}
 
 pub filter_same : (f g : ℕ → Bool) (a n : ℕ) → 0 < a → ((x : ℕ) → 0 < x → f x ≡ g x) → filter f (range_with_len a n) ≡ filter g (range_with_len a n)
@@ -47,7 +47,7 @@ pub record Settles {V : Type 0} (n : ℕ) (r new : Row V) (F G : List ℕ → Op
   pub flag : (q : List ℕ) (g : Family) → G q ≡ Some g → base_at new g.base ≡ true
   pub flagged : (b : ℕ) → base_at new b ≡ true → (q : List ℕ) × (g : Family) × (G q ≡ Some g) × (g.base ≡ b)
 
-module _ {V : Type 0} (n : ℕ) (r new : Row V) (F G : List ℕ → Option Family) (p : List ℕ) (f : Family) (laid : Laid n r F) (step : Settles n r new F G p f) where
+module _ {V : Type 0} (n : ℕ) (r new : Row V) (F G : List ℕ → Option Family) (p : List ℕ) (f : Family) (layout : IsLayout n r F) (step : Settles n r new F G p f) where
   -- the family at p is f
   is_f : (q : List ℕ) (g : Family) → q ≡ p → G q ≡ Some g → g ≡ f
   is_f q g e at = let same : Some g ≡ Some f = sym at ∙ ap G e ∙ step.here in cc
@@ -67,7 +67,7 @@ module _ {V : Type 0} (n : ℕ) (r new : Row V) (F G : List ℕ → Option Famil
   members_now : (q : List ℕ) (g : Family) → G q ≡ Some g → g.signs ≡ standing n new g.base
   members_now q g at = elim (equal_or_not q p) [
     | inl e ↦ let same = is_f q g e.0 at in ap (λ (h : Family). h.signs) same ∙ step.members ∙ ap (λ (h : Family). standing n new h.base) (sym same)
-    | inr e ↦ laid.members q g (was q g e.0 at) ∙ stands_too q g e.0 (was q g e.0 at)
+    | inr e ↦ layout.members q g (was q g e.0 at) ∙ stands_too q g e.0 (was q g e.0 at)
   ]
 
   parent_now : (q : List ℕ) (x : ℕ) (g : Family) → G (q ++ x ∷ []) ≡ Some g → IsParent new G q x g
@@ -84,7 +84,7 @@ module _ {V : Type 0} (n : ℕ) (r new : Row V) (F G : List ℕ → Option Famil
           positive = let e = parts.1 in let u = step.last_up in omega arith;
         }
     | inr e ↦
-        let old = laid.parent q x g (was (q ++ x ∷ []) g e.0 at) in
+        let old = layout.parent q x g (was (q ++ x ∷ []) g e.0 at) in
         elim (equal_or_not q p) [
           | inl h ↦
               let own = step.own_down x g (ap (λ l. F (l ++ x ∷ [])) (sym h.0) ∙ was (q ++ x ∷ []) g e.0 at) in
@@ -118,7 +118,7 @@ module _ {V : Type 0} (n : ℕ) (r new : Row V) (F G : List ℕ → Option Famil
               (f, ap G h.0 ∙ step.here, sym step.above_child ∙ (λ t. child_at new ((sym same t).base + sym parts.1 t)))
           | inr h ↦
               let child = step.child q g x e.0 old_at up old_sign h.0 in
-              let old = laid.child q x g old_at up old_sign (omega arith) in
+              let old = layout.child q x g old_at up old_sign (omega arith) in
               (old.0, now (q ++ x ∷ []) old.0 h.0 old.1, old.2 ∙ sym child)
         ]
   ]
@@ -131,17 +131,17 @@ module _ {V : Type 0} (n : ℕ) (r new : Row V) (F G : List ℕ → Option Famil
     ]
     | inr qe ↦ elim (equal_or_not u p) [
       | inl ue ↦ absurd (step.base q g qe.0 (was q g qe.0 a) (e ∙ ap (λ (k : Family). k.base) (is_f u h ue.0 b)))
-      | inr ue ↦ laid.apart q u g h (was q g qe.0 a) (was u h ue.0 b) e
+      | inr ue ↦ layout.apart q u g h (was q g qe.0 a) (was u h ue.0 b) e
     ]
   ]
 
-  pub settles : Laid n new G
+  pub settles : IsLayout n new G
   settles = record {
-    root = step.there [] (λ e. not_empty step.front step.last (sym step.whole ∙ sym e)) ∙ laid.root;
+    root = step.there [] (λ e. not_empty step.front step.last (sym step.whole ∙ sym e)) ∙ layout.root;
     members = members_now;
     filled = λ q g at. elim (equal_or_not q p) [
       | inl e ↦ λ z. step.filled (ap (λ (h : Family). h.signs) (sym (is_f q g e.0 at)) ∙ z)
-      | inr e ↦ laid.filled q g (was q g e.0 at)
+      | inr e ↦ layout.filled q g (was q g e.0 at)
     ];
     parent = parent_now;
     child = child_now;

@@ -27,7 +27,7 @@ module _ {V : Type 0} where
 
   -- the families F, by their prefixes, lie in the row: each family's signs stand at its base; the cell of a string tells the
   -- base of the family below it; no two families have one base; and each taken cell and each flag belongs to a family
-  pub record Laid (n : ℕ) (r : Row V) (F : List ℕ → Option Family) : Type 0 where
+  pub record IsLayout (n : ℕ) (r : Row V) (F : List ℕ → Option Family) : Type 0 where
     pub root : F [] ≡ Some (record { base = 0; signs = range_with_len 1 n })
     pub members : (p : List ℕ) (f : Family) → F p ≡ Some f → f.signs ≡ standing n r f.base
     pub filled : (p : List ℕ) (f : Family) → F p ≡ Some f → f.signs ≢ []
@@ -47,7 +47,7 @@ module _ {V : Type 0} where
   -- the families and values of the trie are what the row holds
   pub record IsTrie (n : ℕ) (r : Row V) (t : Trie V) : Type 0 where
     pub sorted : T (is_sorted (slice_cmp nat_cmp) t.families)
-    pub laid : Laid n r (family_at t.families)
+    pub layout : IsLayout n r (family_at t.families)
     pub count : taken_in r ≡ taken t.families
     pub ordered : T (is_sorted (slice_cmp nat_cmp) t.values)
     pub has : (q : List ℕ) → find (slice_cmp nat_cmp) q t.values ≡ value_in r (cell_of t.families q)

@@ -1,6 +1,6 @@
 use Rattle.std.proofs.Common.{◌≤◌, arith}
-use Rattle.pg_cells.proofs.SettleRoom.{room_within, room_fits, can_put, can_take, parent_stays}
-use Rattle.pg_cells.proofs.settle.settle.Goals as goal
+use Rattle.pg_cells.proofs.PlacedRoom.{room_within, room_fits, can_put, can_take, parent_stays}
+use Rattle.pg_cells.proofs.place.place_family.Goals as goal
 
 pub find_base-base-requires-clause-within : goal.find_base-base-requires-clause-within
 find_base-base-requires-clause-within g c =

@@ -6,12 +6,12 @@ use Rattle.std.specs.FinMap.{find, put}
 use Rattle.pg_types.specs.Placement.{Family, Families, family_at, cell_of}
 use Rattle.pg_cells.specs.Lists.{Row, sign_at}
 use Rattle.pg_cells.specs.Held.{Trie}
-use Rattle.pg_cells.specs.Laid.{IsTrie, value_in}
+use Rattle.pg_cells.specs.Layouts.{IsTrie, value_in}
 use Rattle.pg_cells.specs.OneTrie.{last_of}
 use Rattle.pg_cells.proofs.StringMaps.{order, find_put_same, find_put_other, equal_or_not}
 use Rattle.pg_cells.proofs.PlacementLaws.{cell_of_last}
-use Rattle.pg_cells.proofs.LaidLaws.{sign_stands}
-use Rattle.pg_cells.proofs.Settled.{not_empty}
+use Rattle.pg_cells.proofs.LayoutLaws.{sign_stands}
+use Rattle.pg_cells.proofs.PlacedFamily.{not_empty}
 use Rattle.pg_cells.proofs.StringCells.{parts_cell, parts_none}
 
 -- what is told of the values: that of the new string q ++ s, those of its family's other signs, and those elsewhere
@@ -35,7 +35,7 @@ module _ {V : Type 0} (n : ℕ) (r new : Row V) (t : Trie V) (trie : IsTrie n r 
     where
       by : (b : Bool) → list_any (nat_eq y) g.signs ≡ b → value_in r (cond b (Some (g.base + y)) None) ≡ value_in new (cond b (Some (g.base + y)) None)
       by true has =
-          let stands = sign_stands n r (family_at t.families) trie.laid q g y at has in
+          let stands = sign_stands n r (family_at t.families) trie.layout q g y at has in
           sym (told.elsewhere q g y other at stands.0 stands.2)
       by false lacks = refl
 

@@ -1,6 +1,6 @@
 //! A family is put at the least base that fits.
 ghost use Rattle.std.specs.Prelude.{◌≡◌, ◌≢◌, ℕ, ◌+◌, ◌<◌, ◌≤◌, ◌^◌, max, length};
-ghost use Rattle.pg_cells.specs.Moves.{Drops, Moved, CanSettle, lowest_from};
+ghost use Rattle.pg_cells.specs.Moves.{Drops, Moved, CanPlace, lowest_from};
 
 use crate::fit::Slot;
 use crate::moves::{give_up, put};
@@ -32,7 +32,7 @@ fn drop_base<V: Copy>(store: &mut Store<V>, base: usize)
 }
 
 /// Gives up the cells of a family, whose slots these are, and puts it with one sign more below its parent. Answers its base.
-pub fn settle<V: Copy>(
+pub fn place_family<V: Copy>(
     store: &mut Store<V>,
     slots: &[Slot<V>],
     slot: Slot<V>,
@@ -41,7 +41,7 @@ pub fn settle<V: Copy>(
     few: usize,
     signs: u16,
 ) -> usize
-    requires can { CanSettle signs store.old was slots.now slot parent }
+    requires can { CanPlace signs store.old was slots.now slot parent }
     requires was { was < length store.old.signs }
     requires signs { signs ≤ SIGNS_MAX }
     ensures { Moved few signs store.old store.new was result slots.now slot parent }

@@ -1,8 +1,8 @@
-use Rattle.std.proofs.Common.{◌≡◌, ℕ, [], ◌∷◌, ◌++◌, Some, inr, refl, ap, subst, ◌∙◌}
+use Rattle.std.proofs.Common.{◌≡◌, ℕ, [], ◌∷◌, ◌++◌, Some, inr, refl, ap, sym, subst, ◌∙◌}
 use Rattle.pg_types.specs.Placement.{cell_of}
 use Rattle.pg_cells.specs.Held.{Held}
 use Rattle.pg_cells.proofs.LinkLaws.{some_string}
-use Rattle.pg_trie.proofs.prune.drop_blank.Goals as goal
+use Rattle.pg_trie.proofs.prune.remove_blank.Goals as goal
 
 pub returns-then-child-eq0 : goal.returns-then-child-eq0
 returns-then-child-eq0 c q e =
@@ -16,7 +16,7 @@ returns-then-child-eq0 c q e =
         last = c.args.s;
         whole = refl;
         several = some_string c.args.cells.now.families q c.args.parent e;
-        blank = c.value.ensures (q ++ c.args.s ∷ []) at ∙ ap Some c.if-value-eq0.true;
+        blank = c.value.ensures (q ++ c.args.s ∷ []) at ∙ ap Some (sym c.number.ensures ∙ c.if-number-eq0.true);
         ends = λ x. c.child.ensures.none (q ++ c.args.s ∷ []) at c.if-child-eq0.true x;
         families = ap (λ (h : Held ℕ). h.families) (c.remove.ensures.held q e);
         values = ap (λ (h : Held ℕ). h.values) (c.remove.ensures.held q e);

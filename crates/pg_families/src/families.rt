@@ -20,6 +20,7 @@ pub struct Families {
     signs: Sign,
     few: usize,
     list: Vec<Family>,
+    values: Vec<(Vec<Sign>, u32)>,
 }
 
 // The cell of a sign at a base.
@@ -53,12 +54,18 @@ impl Families {
             signs,
             few,
             list,
+            values: Vec::new(alloc),
         })
     }
 
     /// The families.
     pub fn list(&self) -> &[Family] {
         self.list.as_slice()
+    }
+
+    /// The strings of more than one sign, each with its value.
+    pub fn values(&self) -> &[(Vec<Sign>, u32)] {
+        self.values.as_slice()
     }
 
     /// The used cells, in rising order.
@@ -83,17 +90,21 @@ impl Families {
         Ok(None)
     }
 
-    /// Adds the sign to the family of the prefix, or removes it where it is there and no family is below it.
-    pub fn change(&mut self, prefix: &[Sign], sign: Sign) -> Result<(), AllocError> {
+    /// Adds the sign with the value to the family of the prefix, or removes it where it is there and no family is below it.
+    pub fn change(&mut self, prefix: &[Sign], sign: Sign, value: u32) -> Result<(), AllocError> {
+        let mut string = prefix.to_vec(self.alloc)?;
+        string.push(sign)?;
         let Some(at) = self.position(prefix) else {
+            self.values.push((string, value))?;
             return self.place(prefix, sign);
         };
         if !self.has(at, sign) {
+            self.values.push((string, value))?;
             return self.add(at, sign);
         }
-        let mut string = prefix.to_vec(self.alloc)?;
-        string.push(sign)?;
         if self.position(string.as_slice()).is_none() {
+            self.values
+                .retain(|entry| entry.0.as_slice() != string.as_slice());
             self.remove(at, sign);
         }
         Ok(())

@@ -1,4 +1,4 @@
--- There is room to settle a family: past the last cell, and where the search finds its base.
+-- There is room to place_family a family: past the last cell, and where the search finds its base.
 use Rattle.std.proofs.Common.{◌≡◌, ◌≢◌, ℕ, ◌+◌, ◌<◌, ◌≤◌, max, inl, inr, Bool, true, false, not, nat_eq, List, [], ◌∷◌, length, Some, refl, sym, ◌∙◌, ap, arith}
 use Rattle.std.proofs.lemmas.Bool.{cases_Bool, cases_eq, eq-eqb, eqb-true, false≢true, and_parts, and_from, or_cases, or_left, or_right}
 use Rattle.std.proofs.lemmas.List.{get_or_default}
@@ -8,7 +8,7 @@ use Rattle.pg_cells.specs.Lists.{Row, sign_at, base_at, IsFree}
 use Rattle.pg_cells.specs.Fit.{signs_of, slot_of, fits_row}
 use Rattle.pg_cells.specs.Store.{IsTop}
 use Rattle.pg_cells.specs.Writes.{Takes, SetsBase}
-use Rattle.pg_cells.specs.Moves.{Gives, Drops, Puts, Outside, CanSettle}
+use Rattle.pg_cells.specs.Moves.{Gives, Drops, Puts, Outside, CanPlace}
 use Rattle.pg_cells.proofs.Slots.{has_slot, slot_has, outside_or, outside_here}
 
 pub all_true : (test : ℕ → Bool) (xs : List ℕ) → ((y : ℕ) → list_any (nat_eq y) xs ≡ true → test y ≡ true) → list_all test xs ≡ true
@@ -25,7 +25,7 @@ all_has test (x ∷ xs) y h e =
     ]
 
 module _ {V : Type 0} (n : ℕ) (old gave dropped : Row V) (was : ℕ) (slots : List (Slot V)) (slot : Slot V) (parent : ℕ)
-    (can : CanSettle n old was slots slot parent) (gives : Gives old gave was slots) (drops : Drops gave dropped was) where
+    (can : CanPlace n old was slots slot parent) (gives : Gives old gave was slots) (drops : Drops gave dropped was) where
   pub dropped_sign : (i : ℕ) → sign_at dropped i ≡ sign_at gave i
   dropped_sign i = elim drops [ inl h ↦ ap (λ (r : Row V). sign_at r i) h.1 | inr h ↦ h.1.signs i ]
 

@@ -1,6 +1,0 @@
-use Rattle.std.proofs.Common.{◌≡◌, length}
-use Rattle.pg_cells.specs.Root.{IsPlanted}
-use Rattle.pg_cells.proofs.root.plant.Given as goal
-
-abbrev pub invariant-loop-sign : goal.invariant-loop-sign
-invariant-loop-sign g l = record { planted : IsPlanted l.sign l.blank l.store; size : length l.store.signs ≡ length l.initial.store.signs }
