@@ -6,7 +6,7 @@ ghost use Rattle.pg_types.specs.Placement.{cell_of, root, enter, kept, taken, to
 ghost use Rattle.pg_types.specs.Tails.{tails};
 ghost use Rattle.pg_patterns.specs.DottedSigns.{dotted_cmp};
 ghost use Rattle.pg_patterns.specs.Values.{raise};
-ghost use Rattle.pg_outputs.specs.Lists.{list_of};
+ghost use Rattle.pg_outputs.specs.Lists.{list_of, Grows};
 ghost use Rattle.pg_cells.specs.Walks.{IsAt};
 ghost use Rattle.pg_trie.specs.declared.mark.TheConstants.{HOPELESS};
 ghost use Rattle.pg_trie.specs.Lists.{outputs_at};
@@ -92,6 +92,7 @@ impl PatternTrie {
         }) }
         ensures part { OnErr result ((k : ℕ) × (k ≤ length signs.now)
             × (self.new.families ≡ enter self.old.signs self.old.families (take k signs.now))) }
+        ensures grows { Grows self.old.records self.new.records }
         ensures signs { self.new.signs ≡ self.old.signs }
     {
         let cell = pg_cells::enter(&mut self.cells, signs, TwoWords::new(0))?;
