@@ -1,4 +1,4 @@
-use Rattle.std.proofs.Common.{◌≡◌, ℕ, ap, sym, ◌∙◌, ◌+◌, subst}
+use Rattle.std.proofs.Common.{ℕ, ap, sym, ◌∙◌, ◌+◌, subst}
 use Rattle.pg_dict.specs.Word.{SignsAtMost}
 use Rattle.pg_select.specs.Meanings.{Meaning}
 use Rattle.pg_driver.specs.Told.{TellsCells, cells_from}
