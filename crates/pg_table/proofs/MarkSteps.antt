@@ -8,7 +8,7 @@ use Rattle.pg_types.specs.declared.marks.Mark.{Mark}
 use Rattle.pg_types.specs.declared.marks.Mark.TheVariants.{Nothing, Error, Missed, Found, DontCare}
 use Rattle.pg_types.specs.declared.marks.Totals.{Totals}
 use Rattle.pg_dict.specs.Word.{Word, IsWord}
-use Rattle.pg_select.specs.Statuses.{status, position_weight}
+use Rattle.pg_select.specs.Statuses.{status, weight_at}
 use Rattle.pg_select.specs.Sums.{is_found, is_error, is_missed, weight_of, totals_of}
 use Rattle.pg_select.specs.CountedPositions.{Minima}
 use Rattle.pg_table.specs.Lookups.{table_marks, table_value}
@@ -57,7 +57,7 @@ pub marks_zero : (ms : List (Mark × ℕ)) → with_marks (totals_with 0 0 0) ms
 marks_zero ms = same_totals _ _ _ _ _ _ (omega arith) (omega arith) (omega arith)
 
 -- a weight is within its limit
-pub weight_small : (w : Word) (p : ℕ) → IsWord w → p < length w.signs → position_weight w p ≤ WEIGHT_MAX
+pub weight_small : (w : Word) (p : ℕ) → IsWord w → p < length w.signs → weight_at w p ≤ WEIGHT_MAX
 weight_small w p word within = All-get_or (λ x. x ≤ WEIGHT_MAX) w.weights p 0 (omega (arith, word.weights_len)) word.weights
 
 -- the status of a position
@@ -66,14 +66,14 @@ mark_of b w p = status (slice_index_or w.hyphens p false) (slice_index_or w.care
 
 -- the marks of the positions from one on
 abbrev pub marks_from : List ℕ → Word → ℕ → ℕ → List (Mark × ℕ)
-marks_from b w p end = map (λ p. (mark_of b w p, position_weight w p)) (range_with_len p (end - p))
+marks_from b w p end = map (λ p. (mark_of b w p, weight_at w p)) (range_with_len p (end - p))
 
 -- a position that was added, and then the rest
-pub marks_step : (t n whole : Totals) (b : List ℕ) (w : Word) (p end : ℕ) → p < end → n ≡ with_mark t (mark_of b w p) (position_weight w p) → with_marks t (marks_from b w p end) ≡ whole → with_marks n (marks_from b w (p + 1) end) ≡ whole
+pub marks_step : (t n whole : Totals) (b : List ℕ) (w : Word) (p end : ℕ) → p < end → n ≡ with_mark t (mark_of b w p) (weight_at w p) → with_marks t (marks_from b w p end) ≡ whole → with_marks n (marks_from b w (p + 1) end) ≡ whole
 marks_step t n whole b w p end before is left =
-    let mark : ℕ → Mark × ℕ = λ p. (mark_of b w p, position_weight w p) in
+    let mark : ℕ → Mark × ℕ = λ p. (mark_of b w p, weight_at w p) in
     let rest : List (Mark × ℕ) = marks_from b w (p + 1) end in
-    ap (λ (x : Totals). with_marks x rest) is ∙ sym (mark_step t (mark_of b w p) (position_weight w p) rest) ∙ ap (λ ps. with_marks t (map mark ps)) (sym (range_step p end before)) ∙ left
+    ap (λ (x : Totals). with_marks x rest) is ∙ sym (mark_step t (mark_of b w p) (weight_at w p) rest) ∙ ap (λ ps. with_marks t (map mark ps)) (sym (range_step p end before)) ∙ left
 
 -- a word that was added, and then the rest
 pub marks_word : (t n whole : Totals) (m : Minima) (b : List ℕ) (w : Word) (ws : List Word) → n ≡ with_marks t (table_marks m b w) → with_marks t (flat_map (table_marks m b) (w ∷ ws)) ≡ whole → with_marks n (flat_map (table_marks m b) ws) ≡ whole

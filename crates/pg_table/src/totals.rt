@@ -2,8 +2,8 @@
 ghost use Rattle.std.specs.Prelude.{◌≡◌, ◌<◌, ◌≤◌, ◌+◌, ◌-◌, ◌^◌, [], true, false, length, slice_index, slice_index_or, All, IfSome, IfNone};
 ghost use Rattle.std.specs.List.{range_with_len};
 ghost use Rattle.pg_translate.specs.Reach.{positions as positions_of};
-ghost use Rattle.pg_dict.specs.Word.{IsWord, SignsAtMost, letter_count};
-ghost use Rattle.pg_dict.specs.Lent.{lent_word};
+ghost use Rattle.pg_dict.specs.Word.{IsWord, SignsAtMost, letters_of};
+ghost use Rattle.pg_dict.specs.Lent.{word_of};
 ghost use Rattle.pg_table.specs.Forms.{head_of};
 ghost use Rattle.pg_table.specs.Lookups.{table_marks, table_totals};
 ghost use Rattle.pg_table.specs.Summing.{minima_of, sum_of, with_mark, with_marks, HasRoomFor, TookRoomFor};
@@ -41,11 +41,11 @@ fn add_word(
     found: &mut WordState,
     sums: Totals,
 ) -> Totals
-    requires word { IsWord (lent_word w.now) }
+    requires word { IsWord (word_of w.now) }
     requires signs { All (λ s. s ≤ (head_of view.now).signs) w.now.signs.now }
-    requires room { HasRoomFor sums (letter_count (lent_word w.now)) }
-    ensures took { TookRoomFor sums result (letter_count (lent_word w.now)) }
-    ensures value { result ≡ with_marks sums (table_marks (minima_of table.now) view.now (lent_word w.now)) }
+    requires room { HasRoomFor sums (letters_of (word_of w.now)) }
+    ensures took { TookRoomFor sums result (letters_of (word_of w.now)) }
+    ensures value { result ≡ with_marks sums (table_marks (minima_of table.now) view.now (word_of w.now)) }
 {
     let Some((first, end)) = positions(table, w) else {
         return sums;
@@ -61,12 +61,12 @@ fn add_word(
 
 /// The first position of a word in reach, and the place behind the last one; none where the word takes no part.
 fn positions(table: &Table, w: &WordRef<'_>) -> Option<(usize, usize)>
-    requires { IsWord (lent_word w.now) }
+    requires { IsWord (word_of w.now) }
     ensures none { IfNone result (positions_of table.now.left table.now.right (length w.now.signs.now) ≡ []) }
     ensures some { IfSome result (λ r.
         positions_of table.now.left table.now.right (length w.now.signs.now) ≡ range_with_len r.0 (r.1 - r.0)) }
     ensures within { IfSome result (λ r. r.1 ≤ length w.now.signs.now) }
-    ensures few { IfSome result (λ r. r.1 - r.0 ≤ letter_count (lent_word w.now)) }
+    ensures few { IfSome result (λ r. r.1 - r.0 ≤ letters_of (word_of w.now)) }
 {
     // A minimum is at least 1, so that there are no more positions than letters.
     let _least = table.left();
