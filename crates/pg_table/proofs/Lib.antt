@@ -10,7 +10,6 @@ pub mod MarkSteps
 pub mod PackedValues
 pub mod Parts
 pub mod Ranges
-pub mod Reaches
 mod TableRows
 pub mod Recorded
 pub mod RecordedStrings

@@ -13,7 +13,7 @@ use Rattle.pg_patterns.specs.Values.{IsPatternMap, is_entry, best, applies, stan
 use Rattle.pg_patterns.proofs.Kept.{value_of_sorted}
 use Rattle.pg_patterns.proofs.Sound.{entry_bounds, entry_at}
 use Rattle.pg_cells.proofs.StringMaps.{same_from, same_itself}
-use Rattle.pg_select.specs.Statuses.{status, weight_at}
+use Rattle.pg_select.specs.Statuses.{status, position_weight}
 use Rattle.pg_select.specs.Sums.{totals_of}
 use Rattle.pg_table.specs.Laws.{HasEntries, ValuesArePacked, TotalsArePacked}
 use Rattle.pg_table.specs.Lookups.{greatest, value_from, table_value, table_entry}
@@ -141,4 +141,4 @@ values_are_packed P b sound has w p = value_same P b sound has w p
 
 pub totals_are_packed : TotalsArePacked
 totals_are_packed P b sound has m words i =
-    totals_of (flat_map (λ (w : Word). map (λ p. (status (slice_index_or w.hyphens p false) (slice_index_or w.cares p true) (value_same P b sound has w.signs p i), weight_at w p)) (positions m.left m.right (length w.signs))) words)
+    totals_of (flat_map (λ (w : Word). map (λ p. (status (slice_index_or w.hyphens p false) (slice_index_or w.cares p true) (value_same P b sound has w.signs p i), position_weight w p)) (positions m.left m.right (length w.signs))) words)

@@ -6,5 +6,4 @@ pub mod Packed
 pub mod Raising
 pub mod Rows
 pub mod Sharing
-pub mod Summing
 pub mod Texts

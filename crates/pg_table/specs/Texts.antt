@@ -3,7 +3,7 @@ use Rattle.std.specs.Prelude.{ℕ, ◌+◌, Bool, false, if◌then◌else◌, na
 use Rattle.std.specs.List.{flat_map, find, list_any, range_with_len}
 use Rattle.std.specs.Option.{option_map_or}
 use Rattle.std.specs.Cmp.Lexicographic.{pointwise}
-use Rattle.pg_types.specs.Placement.{Families, entered_all, top, cell_of, base_of}
+use Rattle.pg_types.specs.Placement.{Families, entered_families, top, cell_of, base_of}
 use Rattle.pg_types.specs.Tails.{outputs_of, suffixes, same_pair}
 use Rattle.pg_patterns.specs.Texts.{strings_of}
 use Rattle.pg_outputs.specs.declared.records.Record.{Record}
@@ -13,7 +13,7 @@ use Rattle.pg_table.specs.Forms.{file_mark}
 
 -- the families after the strings of the patterns are entered, from the root of n signs alone
 abbrev pub layout : ℕ → List ((List ℕ × ℕ) × ℕ) → Families
-layout n P = entered_all n (map (λ e. e.0.0) P)
+layout n P = entered_families n (map (λ e. e.0.0) P)
 
 -- lists, with one more behind them where it is not among them
 abbrev pub with_list : List (List (ℕ × ℕ)) → List (ℕ × ℕ) → List (List (ℕ × ℕ))

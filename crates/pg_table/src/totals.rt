@@ -1,18 +1,18 @@
 //! The totals of a word list by a packed table.
 ghost use Rattle.std.specs.Prelude.{◌≡◌, ◌<◌, ◌≤◌, ◌+◌, ◌-◌, ◌^◌, [], true, false, length, slice_index, slice_index_or, All, IfSome, IfNone};
-ghost use Rattle.std.specs.List.{range_with_len};
-ghost use Rattle.pg_translate.specs.Reach.{positions as positions_of};
-ghost use Rattle.pg_dict.specs.Word.{IsWord, SignsAtMost, letters_of};
-ghost use Rattle.pg_dict.specs.Lent.{word_of};
+ghost use Rattle.pg_dict.specs.Word.{IsWord, SignsAtMost, letter_count};
+ghost use Rattle.pg_dict.specs.Lent.{lent_word};
 ghost use Rattle.pg_table.specs.Forms.{head_of};
 ghost use Rattle.pg_table.specs.Lookups.{table_marks, table_totals};
-ghost use Rattle.pg_table.specs.Summing.{minima_of, sum_of, with_mark, with_marks, HasRoomFor, TookRoomFor};
+ghost use Rattle.pg_select.specs.CountedPositions.{minima_of};
+ghost use Rattle.pg_select.specs.Sums.{sum_of, with_marks, HasRoomFor, TookRoomFor};
 
 use crate::view::TableView;
 use pg_dict::{Dictionary, WordRef};
-use pg_select::{WordState, status};
+use pg_select::WordState;
+use pg_select::marks::{add_mark, mark_at, no_totals, positions};
 use pg_translate::Table;
-use pg_types::{Mark, Totals, Weight};
+use pg_types::Totals;
 
 /// The totals of the words of a dictionary by a packed table: the sums of the weights of the positions in reach that are
 /// found, that are errors and that are missed. It takes no memory.
@@ -22,11 +22,7 @@ pub fn table_totals(view: &TableView<'_>, dictionary: &Dictionary, table: &Table
     ensures small { sum_of result < 2 ^ 40 }
 {
     let mut found = WordState::new();
-    let mut sums = Totals {
-        good: 0,
-        bad: 0,
-        missed: 0,
-    };
+    let mut sums = no_totals();
     'words: for i in 0..dictionary.len() {
         sums = add_word(view, table, &dictionary.word(i), &mut found, sums);
     }
@@ -41,11 +37,11 @@ fn add_word(
     found: &mut WordState,
     sums: Totals,
 ) -> Totals
-    requires word { IsWord (word_of w.now) }
+    requires word { IsWord (lent_word w.now) }
     requires signs { All (λ s. s ≤ (head_of view.now).signs) w.now.signs.now }
-    requires room { HasRoomFor sums (letters_of (word_of w.now)) }
-    ensures took { TookRoomFor sums result (letters_of (word_of w.now)) }
-    ensures value { result ≡ with_marks sums (table_marks (minima_of table.now) view.now (word_of w.now)) }
+    requires room { HasRoomFor sums (letter_count (lent_word w.now)) }
+    ensures took { TookRoomFor sums result (letter_count (lent_word w.now)) }
+    ensures value { result ≡ with_marks sums (table_marks (minima_of table.now) view.now (lent_word w.now)) }
 {
     let Some((first, end)) = positions(table, w) else {
         return sums;
@@ -53,50 +49,7 @@ fn add_word(
     view.values(*w, found);
     let mut sums = sums;
     'positions: for p in first..end {
-        let mark = status(w.hyphens[p], w.cares[p], found.value(p));
-        sums = add_mark(sums, mark, w.weights[p]);
+        sums = add_mark(sums, mark_at(w, found, p), w.weights[p]);
     }
     sums
-}
-
-/// The first position of a word in reach, and the place behind the last one; none where the word takes no part.
-fn positions(table: &Table, w: &WordRef<'_>) -> Option<(usize, usize)>
-    requires { IsWord (word_of w.now) }
-    ensures none { IfNone result (positions_of table.now.left table.now.right (length w.now.signs.now) ≡ []) }
-    ensures some { IfSome result (λ r.
-        positions_of table.now.left table.now.right (length w.now.signs.now) ≡ range_with_len r.0 (r.1 - r.0)) }
-    ensures within { IfSome result (λ r. r.1 ≤ length w.now.signs.now) }
-    ensures few { IfSome result (λ r. r.1 - r.0 ≤ letters_of (word_of w.now)) }
-{
-    // A minimum is at least 1, so that there are no more positions than letters.
-    let _least = table.left();
-    let (first, last) = table.reach(w.signs.len())?;
-    Some((first, last + 1))
-}
-
-/// The totals with a position of this status and weight more.
-fn add_mark(sums: Totals, mark: Mark, weight: Weight) -> Totals
-    requires { sum_of sums + weight < 2 ^ 64 }
-    ensures { result ≡ with_mark sums mark weight }
-{
-    let weight = u64::from(weight);
-    let Totals { good, bad, missed } = sums;
-    match mark {
-        Mark::Found => Totals {
-            good: good + weight,
-            bad,
-            missed,
-        },
-        Mark::Error => Totals {
-            good,
-            bad: bad + weight,
-            missed,
-        },
-        Mark::Missed => Totals {
-            good,
-            bad,
-            missed: missed + weight,
-        },
-        Mark::Nothing | Mark::DontCare => sums,
-    }
 }

@@ -1,24 +1,25 @@
 use Rattle.std.proofs.Common.{◌+◌, List, drop, ap, sym, ◌∙◌, arith}
 use Rattle.std.specs.List.{flat_map}
-use Rattle.pg_dict.specs.Lent.{word_of}
+use Rattle.pg_dict.specs.Lent.{lent_word}
 use Rattle.pg_dict.specs.Word.{Word}
 use Rattle.pg_table.specs.Lookups.{table_marks}
-use Rattle.pg_table.specs.Summing.{minima_of, with_marks}
+use Rattle.pg_select.specs.CountedPositions.{minima_of}
+use Rattle.pg_select.specs.Sums.{with_marks}
 use Rattle.pg_table.proofs.MarkSteps.{marks_word}
 use Rattle.pg_table.proofs.WordSteps.{drop_place, letters_left, signs_within}
 use Rattle.pg_table.proofs.totals.table_totals.Goals as goal
 
 pub add_word-sums-requires-clause-signs : goal.add_word-sums-requires-clause-signs
-add_word-sums-requires-clause-signs c = signs_within _ c.args.dictionary.now c.words.i (word_of c.word.result) c.word.ensures.lent c.requires
+add_word-sums-requires-clause-signs c = signs_within _ c.args.dictionary.now c.words.i (lent_word c.word.result) c.word.ensures.lent c.requires
 
 pub add_word-sums-requires-clause-room : goal.add_word-sums-requires-clause-room
-add_word-sums-requires-clause-room c = omega (arith, letters_left c.args.dictionary.now c.words.i (word_of c.word.result) c.word.ensures.lent, c.words.invariant.room_for)
+add_word-sums-requires-clause-room c = omega (arith, letters_left c.args.dictionary.now c.words.i (lent_word c.word.result) c.word.ensures.lent, c.words.invariant.room_for)
 
 pub words-preserved : goal.words-preserved
 words-preserved c =
     let b = c.args.view.now in
     let minima = minima_of c.args.table.now in
-    let w = word_of c.word.result in
+    let w = lent_word c.word.result in
     let place = drop_place c.args.dictionary.now c.words.i w c.word.ensures.lent in
     record {
       sums = marks_word c.words.sums _ _ minima b w (drop (c.words.i + 1) c.args.dictionary.now) c.add_word-sums.ensures.value (ap (λ (ws : List Word). with_marks c.words.sums (flat_map (table_marks minima b) ws)) (sym place) ∙ c.words.invariant.sums);
