@@ -44,7 +44,8 @@ def lines(*texts):
 
 
 def measured(words, folder, seconds=None):
-    """Runs the words in the folder: the status (none where it took longer), what was printed, processor seconds, and MB at most."""
+    """Runs the words in the folder: the status (none where it took longer), what was printed, processor seconds, and the greatest
+    memory in MB, which is never below that of the script itself."""
     with open(os.path.join(folder, "printed"), "w+b") as printed:
         started = subprocess.Popen(words, cwd=folder, stdin=subprocess.DEVNULL, stdout=printed, stderr=subprocess.STDOUT)
         ended = threading.Timer(seconds, started.kill) if seconds else None
