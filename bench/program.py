@@ -4,8 +4,8 @@ import os
 import signal
 import subprocess
 import sys
-import threading
 
+TIME = "/usr/bin/time"
 HERE = os.path.dirname(os.path.dirname(os.path.abspath(__file__)))
 
 
@@ -44,17 +44,19 @@ def lines(*texts):
 
 
 def measured(words, folder, seconds=None):
-    """Runs the words in the folder: the status (none where it took longer), what was printed, processor seconds, and MB at most."""
-    with open(os.path.join(folder, "printed"), "w+b") as printed:
-        started = subprocess.Popen(words, cwd=folder, stdin=subprocess.DEVNULL, stdout=printed, stderr=subprocess.STDOUT)
-        ended = threading.Timer(seconds, started.kill) if seconds else None
-        if ended:
-            ended.start()
-        _, status, usage = os.wait4(started.pid, 0)
-        started.returncode = os.waitstatus_to_exitcode(status)
-        if ended:
-            ended.cancel()
-        printed.seek(0)
-        text = printed.read()
-    status = None if started.returncode == -signal.SIGKILL else started.returncode
-    return status, text, usage.ru_utime + usage.ru_stime, usage.ru_maxrss / 1000
+    """Runs the words in the folder under GNU time: the status (none where it took longer), what was printed, processor seconds, and
+    the greatest memory in MB."""
+    if not os.access(TIME, os.X_OK):
+        sys.exit("bench: GNU time is not installed. On Debian: apt-get install time")
+    cost = os.path.join(folder, "cost")
+    timed = [TIME, "-q", "-o", cost, "-f", "%U %S %M", *words]
+    with subprocess.Popen(timed, cwd=folder, stdin=subprocess.DEVNULL, stdout=subprocess.PIPE, stderr=subprocess.STDOUT,
+                          start_new_session=True) as started:
+        try:
+            printed, _ = started.communicate(timeout=seconds)
+        except subprocess.TimeoutExpired:
+            os.killpg(started.pid, signal.SIGKILL)
+            return None, b"", float(seconds), 0.0
+    with open(cost, encoding="ascii") as file:
+        user, system, memory = map(float, file.read().split())
+    return started.returncode, printed, user + system, memory / 1000
