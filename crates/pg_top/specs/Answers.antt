@@ -32,13 +32,15 @@ MayAnswer asked status = ⊥
 -- the outcome is this answer; its files were written, and its lines were put
 abbrev pub DoesAll : Moment → Moment → Status → FileMap → FileMap → Outcome → Type 0
 DoesAll old new status before after Unknown = ⊥
-DoesAll old new status before after (Ends wanted writing lines) = (status ≡ wanted) × (after ≡ after_all before writing) × Puts old.1 new.1 lines
+DoesAll old new status before after (Ends wanted writing lines) =
+    (status ≡ wanted) × (after ≡ after_all before writing) × Puts old.1 new.1 lines
 
 -- an answer but a fault and want of memory is that of the outcome, and all of that was done
 abbrev pub IsAnswered : Option Request → Status → Moment → Moment → Type 0
 IsAnswered asked Fault old new = Unit {0}
 IsAnswered asked Memory old new = Unit {0}
-IsAnswered asked status old new = OfFiles old new (λ before after. DoesAll old new status before after (outcome (file_at before) asked))
+IsAnswered asked status old new =
+    OfFiles old new (λ before after. DoesAll old new status before after (outcome (file_at before) asked))
 
 -- nothing was written and nothing put
 pub record IsUntouched (old new : Moment) : Type 0 where
@@ -53,7 +55,8 @@ IsAnswerOf status (Ends wanted writing lines) = status ≡ wanted
 -- the answer where no fault rose: usage where the words are no command, else that of the outcome, or want of memory
 abbrev pub IsComplete : Option Request → Status → Moment → Moment → Type 0
 IsComplete None status old new = status ≡ Usage
-IsComplete (Some request) status old new = (status ≡ Memory) ⊎ OfFiles old new (λ before after. IsAnswerOf status (outcome_of (file_at before) request))
+IsComplete (Some request) status old new =
+    (status ≡ Memory) ⊎ OfFiles old new (λ before after. IsAnswerOf status (outcome_of (file_at before) request))
 
 -- all that is said of the answer of a call
 pub record IsCall (asked : Option Request) (status : Status) (old new : Moment) : Type 0 where

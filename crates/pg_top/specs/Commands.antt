@@ -14,7 +14,16 @@ name_now name = option_map (λ n. n.now) name
 
 -- the names as their bytes
 abbrev pub texts_of : Names → FileNames
-texts_of n = record { dict = n.dict.now; patterns = n.patterns.now; output = n.output.now; translate = n.translate.now; params = n.params.now; report = n.report.now; pattmp = name_now n.pattmp; cells = name_now n.cells }
+texts_of n = record {
+  dict = n.dict.now;
+  patterns = n.patterns.now;
+  output = n.output.now;
+  translate = n.translate.now;
+  params = n.params.now;
+  report = n.report.now;
+  pattmp = name_now n.pattmp;
+  cells = name_now n.cells;
+}
 
 -- the command as what it asks for
 abbrev pub asked_by : Command → Request

@@ -47,7 +47,8 @@ pub record HasInputs (files : Held) (n : FileNames) (i : Inputs) : Type 0 where
   pub start : read_as (start i.table) files n.patterns ≡ Some (Ok i.start)
   pub words : read_as (words i.table) files n.dict ≡ Some (Ok i.dictionary)
 
--- the files that are written: the pattern file, the hyphenated list and the cells file where they are asked for, and the report
+-- the files that are written: the pattern file, the hyphenated list and the cells file where they are asked for, and
+-- the report
 abbrev pub selected_files : FileNames → Inputs → Writing
 selected_files n i =
     (n.output, selected_text i)
@@ -57,7 +58,9 @@ selected_files n i =
 
 -- the lines that are put: the Done line and the work line
 abbrev pub selected_lines : Inputs → List ℕ
-selected_lines i = done_line (selected_text i) (selected_account i).totals ++ work_line (passes_begun i) (last_layout (selected_cells i))
+selected_lines i =
+    done_line (selected_text i) (selected_account i).totals
+    ++ work_line (passes_begun i) (last_layout (selected_cells i))
 
 -- what is written and printed when all that is read is accepted
 abbrev pub generated : FileNames → Inputs → Outcome

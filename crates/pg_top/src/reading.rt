@@ -80,7 +80,8 @@ pub fn read_table<'a, F: Files>(alloc: Global, name: &'a str, files: &mut F) -> 
     ensures reads { NoneFell (F.shown files.old).read_faults (F.shown files.new).read_faults }
     ensures writes { NoneFell (F.shown files.old).write_faults (F.shown files.new).write_faults }
     ensures ok { IfOk result (λ table.
-        IfSome (F.shown files.new).held (λ files. read_as table_of_file (file_at files) name.now ≡ Some (Ok table))) }
+        IfSome (F.shown files.new).held (λ files.
+        read_as table_of_file (file_at files) name.now ≡ Some (Ok table))) }
     ensures stopped { IfErr result
         (StopsAt (input_file Input.Translate name.now (λ _. table_of_file)) (F.shown files.old) (F.shown files.new)) }
 {
