@@ -15,9 +15,9 @@ use Rattle.pg_top.specs.declared.inputs.Stop.TheVariants as stop
 use Rattle.pg_top.specs.declared.packing.Source.{Source}
 
 -- the files of these names are accepted as these patterns under this table
-pub record HasSource (files : Held) (patterns translate : List ℕ) (s : Source) : Type 0 where
+pub record HasSource (files : Held) (patterns_name translate : List ℕ) (s : Source) : Type 0 where
   pub table : read_as table files translate ≡ Some (Ok s.table)
-  pub patterns : read_as (start s.table) files patterns ≡ Some (Ok s.patterns)
+  pub patterns : read_as (start s.table) files patterns_name ≡ Some (Ok s.patterns)
 
 -- why `pack` stops where no table is made
 abbrev pub stop_of_table : TableError → Stop

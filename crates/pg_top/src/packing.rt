@@ -7,7 +7,9 @@ ghost use Rattle.pg_translate.specs.Alphabets.{letters_of};
 ghost use Rattle.pg_top.specs.Calls.{outcome_of, writes_of};
 ghost use Rattle.pg_top.specs.Outcomes.{Ends};
 ghost use Rattle.pg_top.specs.declared.answers.Status.TheVariants.{Done};
+ghost use Rattle.pg_patterns.specs.Texts.{pattern_text};
 ghost use Rattle.pg_top.specs.PackedTables.{packed, packing_reads};
+ghost use Rattle.pg_top.specs.PrintedLines.{packed_line as packed_line_of};
 ghost use Rattle.pg_top.specs.Requests.{ToPack};
 ghost use Rattle.pg_top.specs.Sources.{HasSource, stop_of_table};
 ghost use Rattle.pg_top.specs.Stops.{StopsCommand, StopsMaking, StopsReading};
@@ -23,7 +25,7 @@ use pg_patterns::PatternSet;
 use pg_table::{TableError, table_text};
 use pg_translate::Table;
 use pg_types::{Kind, Refusal};
-use std::alloc::Global;
+use std::alloc::{AllocError, Global};
 
 /// What `pack` reads.
 #[derive(Drop)]
@@ -74,6 +76,25 @@ fn table_stop<'a>(error: TableError) -> Stop<'a>
     }
 }
 
+/// What `pack` writes and prints, where this is the table.
+fn write_table<'a>(
+    alloc: Global,
+    name: &'a str,
+    text: Vec<u8>,
+    source: &Source,
+) -> Result<Outputs<'a>, AllocError>
+    requires { SignsUpTo (letters_of source.now.table + 1) source.now.patterns }
+    ensures files { IfOk result (λ made. writing_of made.files.items ≡ (name.now, text.items) ∷ []) }
+    ensures lines { IfOk result (λ made.
+        made.lines.items ≡ packed_line_of (pattern_text source.now.table source.now.patterns) text.items) }
+{
+    let patterns = source.patterns.text(alloc, &source.table)?;
+    let lines = packed_line(alloc, &patterns, &text)?;
+    let mut files = Vec::new(alloc);
+    files.push(Output { name, text })?;
+    Ok(Outputs { files, lines })
+}
+
 /// Builds the table, and all that `pack` writes and prints.
 fn make_table<'a>(alloc: Global, name: &'a str, source: &Source) -> Result<Outputs<'a>, Stop<'a>>
     requires { SignsUpTo (letters_of source.now.table + 1) source.now.patterns }
@@ -82,15 +103,13 @@ fn make_table<'a>(alloc: Global, name: &'a str, source: &Source) -> Result<Outpu
     ensures named { IfOk result (λ made. written_names (writing_of made.files.items) ≡ name.now ∷ []) }
     ensures stopped { IfErr result (StopsMaking (packed name.now source.now.table source.now.patterns)) }
 {
-    let text = match table_text(alloc, source.table.letters() + 1, &source.patterns) {
-        Ok(text) => text,
-        Err(error) => return Err(table_stop(error)),
-    };
-    let patterns = source.patterns.text(alloc, &source.table)?;
-    let lines = packed_line(alloc, &patterns, &text)?;
-    let mut files = Vec::new(alloc);
-    files.push(Output { name, text })?;
-    Ok(Outputs { files, lines })
+    match table_text(alloc, source.table.letters() + 1, &source.patterns) {
+        Ok(text) => {
+            let outputs = write_table(alloc, name, text, source)?;
+            Ok(outputs)
+        }
+        Err(error) => Err(table_stop(error)),
+    }
 }
 
 /// Reads what `pack` reads, and builds all that it writes and prints.
