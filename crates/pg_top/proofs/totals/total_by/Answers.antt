@@ -31,12 +31,12 @@ returns-in-Ok-clause-ok g c =
     let bytes = c.in_ok-bytes.bytes.items in
     let s : FilesShown = g.F.Files.shown c.read_front.new.files in
     let is : packed_table t bytes ≡ Ok b = subst (λ b. packed_table t b ≡ Ok c.in-Ok.view) c.deref.ensures.value (sym c.open_table.ensures ∙ c.in-Ok.is) in
-    let lines : c.in_ok-lines.lines.items ≡ totals_lines t ws b = c.in_ok-lines.ensures ∙ ap ending_text c.table_totals.ensures.value in
-    mapped s.held (λ files. read_as (packed_table t) (file_at files) name ≡ Some (Ok b)) (λ files. IsTotalled t ws (file_at files) name c.in_ok-lines.lines.items) (λ files h. (b, h, lines))
+    let lines : c.in_ok-lines-in-Ok.lines.items ≡ totals_lines t ws b = c.in_ok-lines-in-Ok.ensures ∙ ap ending_text c.table_totals.ensures.value in
+    mapped s.held (λ files. read_as (packed_table t) (file_at files) name ≡ Some (Ok b)) (λ files. IsTotalled t ws (file_at files) name c.in_ok-lines-in-Ok.lines.items) (λ files h. (b, h, lines))
     (read_up_to TABLE_MAX (packed_table t) (packed_table-front t) s.held name bytes (Ok b) c.in_ok-bytes.ensures.front is)
 
-pub returns-in-Err-clause-stopped : goal.returns-in-Err-clause-stopped
-returns-in-Err-clause-stopped g c =
+pub returns-clause-stopped : goal.returns-clause-stopped
+returns-clause-stopped g c =
     let t = c.args.table.now in
     let is : packed_table t c.in_ok-bytes.bytes.items ≡ Err c.in-Err.refusal = subst (λ b. packed_table t b ≡ Err c.in-Err.refusal) c.deref.ensures.value (sym c.open_table.ensures ∙ c.in-Err.is) in
     stopped_up_to TABLE_MAX (packed_table t) (packed_table-front t) input.Table c.args.name.now c.in_ok-bytes.bytes.items (g.F.Files.shown c.args.files.now) (g.F.Files.shown c.read_front.new.files) (reader.Refused c.in-Err.refusal) c.in_ok-bytes.ensures.front is
