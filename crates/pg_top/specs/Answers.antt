@@ -6,7 +6,7 @@ use Rattle.pg_top.specs.Faults.{SomeRose, IsFault}
 use Rattle.pg_top.specs.Moments.{Moment, OfFiles, KeepsFiles, Puts}
 use Rattle.pg_top.specs.Outcomes.{Outcome, Unknown, Ends}
 use Rattle.pg_top.specs.PrintedLines.{usage_line}
-use Rattle.pg_top.specs.Requests.{Request, ToGenerate, ToAudit, ToSample}
+use Rattle.pg_top.specs.Requests.{Request, ToGenerate, ToAudit, ToSample, ToPack, ToTotals}
 use Rattle.pg_top.specs.Writings.{after_all}
 use Rattle.pg_top.specs.declared.answers.Status.{Status}
 use Rattle.pg_top.specs.declared.answers.Status.TheVariants.{Done, Yes, No, Usage, Refused, Fault, Memory}
@@ -21,6 +21,10 @@ MayAnswer (Some (ToAudit n)) Yes = Unit {0}
 MayAnswer (Some (ToAudit n)) No = Unit {0}
 MayAnswer (Some (ToAudit n)) Refused = Unit {0}
 MayAnswer (Some (ToSample seed count)) Done = Unit {0}
+MayAnswer (Some (ToPack patterns translate table)) Done = Unit {0}
+MayAnswer (Some (ToPack patterns translate table)) Refused = Unit {0}
+MayAnswer (Some (ToTotals dict translate table)) Done = Unit {0}
+MayAnswer (Some (ToTotals dict translate table)) Refused = Unit {0}
 MayAnswer (Some request) Fault = Unit {0}
 MayAnswer (Some request) Memory = Unit {0}
 MayAnswer asked status = ⊥
@@ -28,13 +32,15 @@ MayAnswer asked status = ⊥
 -- the outcome is this answer; its files were written, and its lines were put
 abbrev pub DoesAll : Moment → Moment → Status → FileMap → FileMap → Outcome → Type 0
 DoesAll old new status before after Unknown = ⊥
-DoesAll old new status before after (Ends wanted writing lines) = (status ≡ wanted) × (after ≡ after_all before writing) × Puts old.1 new.1 lines
+DoesAll old new status before after (Ends wanted writing lines) =
+    (status ≡ wanted) × (after ≡ after_all before writing) × Puts old.1 new.1 lines
 
 -- an answer but a fault and want of memory is that of the outcome, and all of that was done
 abbrev pub IsAnswered : Option Request → Status → Moment → Moment → Type 0
 IsAnswered asked Fault old new = Unit {0}
 IsAnswered asked Memory old new = Unit {0}
-IsAnswered asked status old new = OfFiles old new (λ before after. DoesAll old new status before after (outcome (file_at before) asked))
+IsAnswered asked status old new =
+    OfFiles old new (λ before after. DoesAll old new status before after (outcome (file_at before) asked))
 
 -- nothing was written and nothing put
 pub record IsUntouched (old new : Moment) : Type 0 where
@@ -49,7 +55,8 @@ IsAnswerOf status (Ends wanted writing lines) = status ≡ wanted
 -- the answer where no fault rose: usage where the words are no command, else that of the outcome, or want of memory
 abbrev pub IsComplete : Option Request → Status → Moment → Moment → Type 0
 IsComplete None status old new = status ≡ Usage
-IsComplete (Some request) status old new = (status ≡ Memory) ⊎ OfFiles old new (λ before after. IsAnswerOf status (outcome_of (file_at before) request))
+IsComplete (Some request) status old new =
+    (status ≡ Memory) ⊎ OfFiles old new (λ before after. IsAnswerOf status (outcome_of (file_at before) request))
 
 -- all that is said of the answer of a call
 pub record IsCall (asked : Option Request) (status : Status) (old new : Moment) : Type 0 where

@@ -12,14 +12,16 @@ use Rattle.pg_top.specs.Writings.{after_all, StandsAt}
 
 -- the faults of files rose: the read faults of a name that the command reads, or the write faults of one that it writes
 abbrev pub FilesRose : Request → Moment → Moment → Type 0
-FilesRose request old new = Any (λ r. ReadRose old new r.name) (reads_of request) ⊎ Any (WriteRose old new) (writes_of request)
+FilesRose request old new =
+    Any (λ r. ReadRose old new r.name) (reads_of request) ⊎ Any (WriteRose old new) (writes_of request)
 
 -- some fault rose: one of the sink, or of the files of the command
 abbrev pub SomeRose : Option Request → Moment → Moment → Type 0
 SomeRose None old new = PutRose old.1 new.1
 SomeRose (Some request) old new = PutRose old.1 new.1 ⊎ FilesRose request old new
 
--- the read faults of this name rose, it is due at a place of the reading order, and no file before that place ends the call
+-- the read faults of this name rose, it is due at a place of the reading order, and no file before that place ends the
+-- call
 pub record IsUnread (reads : List Reading) (name : List ℕ) (old new : FilesShown) : Type 0 where
   pub place : ℕ
   pub reading : Reading
@@ -51,7 +53,8 @@ pub record IsWriteFault (request : Request) (old new : Moment) : Type 0 where
 -- the outcome's writes were made, and a part of its lines was put
 abbrev pub DoesPart : Moment → Moment → FileMap → FileMap → Outcome → Type 0
 DoesPart old new before after Unknown = ⊥
-DoesPart old new before after (Ends status writing lines) = (after ≡ after_all before writing) × PutsPart old.1 new.1 lines
+DoesPart old new before after (Ends status writing lines) =
+    (after ≡ after_all before writing) × PutsPart old.1 new.1 lines
 
 -- the lines of the outcome could not be put
 pub record IsPutFault (request : Request) (old new : Moment) : Type 0 where
@@ -61,4 +64,5 @@ pub record IsPutFault (request : Request) (old new : Moment) : Type 0 where
 -- what stands after a fault. Of words that are no command it is that the usage line could not be put
 abbrev pub IsFault : Option Request → Moment → Moment → Type 0
 IsFault None old new = KeepsFiles old new × PutRose old.1 new.1 × PutsPart old.1 new.1 usage_line
-IsFault (Some request) old new = IsReadFault request old new ⊎ (IsWriteFault request old new ⊎ IsPutFault request old new)
+IsFault (Some request) old new =
+    IsReadFault request old new ⊎ (IsWriteFault request old new ⊎ IsPutFault request old new)

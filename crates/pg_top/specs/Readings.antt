@@ -30,4 +30,5 @@ input_file input name parse = record { name = name; ends = λ files bytes. unles
 -- the outcome of the first file that ends the call; a name that is not held ends it too
 abbrev pub first_end : Held → List Reading → Option Outcome
 first_end files [] = None
-first_end files (r ∷ rs) = option_map_or (λ bytes. option_or (r.ends files bytes) (first_end files rs)) (files r.name) (Some Unknown)
+first_end files (r ∷ rs) =
+    option_map_or (λ bytes. option_or (r.ends files bytes) (first_end files rs)) (files r.name) (Some Unknown)

@@ -5,7 +5,8 @@ use Rattle.std.specs.Option.{option_and_then, option_map, option_map_or, is_none
 use Rattle.std.specs.Str.{bytes_eq}
 use Rattle.pg_types.specs.Parameters.{number_from}
 
--- the names of the files of `generate` and `audit`, each as its bytes; those of the hyphenated list and of the cells file where they are asked for
+-- the names of the files of `generate` and `audit`, each as its bytes; those of the hyphenated list and of the cells
+-- file where they are asked for
 pub record FileNames : Type 0 where
   pub dict : List ℕ
   pub patterns : List ℕ
@@ -16,11 +17,14 @@ pub record FileNames : Type 0 where
   pub pattmp : Option (List ℕ)
   pub cells : Option (List ℕ)
 
--- what words ask for
+-- what words ask for. `pack` has the names of the patterns, of the translate file and of the table, and `totals` those of
+-- the dictionary, of the translate file and of the table
 pub data Request : Type 0 where
   ToGenerate : FileNames → Request
   ToAudit : FileNames → Request
   ToSample : ℕ → ℕ → Request
+  ToPack : List ℕ → List ℕ → List ℕ → Request
+  ToTotals : List ℕ → List ℕ → List ℕ → Request
 
 -- one for what is asked for by an option, and none where it is not
 abbrev pub if_asked : {X : Type 0} → Option (List ℕ) → (List ℕ → X) → List X
@@ -60,16 +64,28 @@ with_option n option name =
 abbrev pub with_options : FileNames → List (List ℕ) → Option FileNames
 with_options n [] = Some n
 with_options n (option ∷ name ∷ []) = with_option n option name
-with_options n (first ∷ one ∷ second ∷ two ∷ []) = if bytes_eq first second then None else option_and_then (λ with_first. with_option with_first second two) (with_option n first one)
+with_options n (first ∷ one ∷ second ∷ two ∷ []) =
+    if bytes_eq first second then None
+    else option_and_then (λ with_first. with_option with_first second two) (with_option n first one)
 with_options n words = None
 
 -- six names in the order in which they are given
 abbrev pub six_names : List ℕ → List ℕ → List ℕ → List ℕ → List ℕ → List ℕ → FileNames
-six_names dict patterns output translate params report = record { dict = dict; patterns = patterns; output = output; translate = translate; params = params; report = report; pattmp = None; cells = None }
+six_names dict patterns output translate params report = record {
+  dict = dict;
+  patterns = patterns;
+  output = output;
+  translate = translate;
+  params = params;
+  report = report;
+  pattmp = None;
+  cells = None;
+}
 
 -- the names in words: six, and then the options
 abbrev pub names_in : List (List ℕ) → Option FileNames
-names_in (dict ∷ patterns ∷ output ∷ translate ∷ params ∷ report ∷ options) = with_options (six_names dict patterns output translate params report) options
+names_in (dict ∷ patterns ∷ output ∷ translate ∷ params ∷ report ∷ options) =
+    with_options (six_names dict patterns output translate params report) options
 names_in words = None
 
 -- `generate DICT PATTERNS OUT TRANSLATE PARAMS REPORT`, then `--pattmp FILE` and `--cells FILE`
@@ -86,12 +102,27 @@ at_most most number = option_and_then (λ n. if nat_le n most then Some n else N
 
 -- the number that a word of 1 to 10 decimal digits is, where it is not greater than this
 abbrev pub number_up_to : ℕ → List ℕ → Option ℕ
-number_up_to most word = if nat_lt 0 (length word) && nat_le (length word) 10 then at_most most (number_from 0 word) else None
+number_up_to most word =
+    if nat_lt 0 (length word) && nat_le (length word) 10 then at_most most (number_from 0 word) else None
 
 -- `sample N COUNT`
 abbrev pub sample_in : List (List ℕ) → Option Request
-sample_in (seed ∷ count ∷ []) = option_and_then (λ s. option_map (ToSample s) (number_up_to 100000 count)) (number_up_to 2147483647 seed)
+sample_in (seed ∷ count ∷ []) =
+    option_and_then (λ s. option_map (ToSample s) (number_up_to 100000 count)) (number_up_to 2147483647 seed)
 sample_in words = None
+
+-- `pack PATTERNS TRANSLATE TABLE`, where the table is an output
+abbrev pub pack_in : List (List ℕ) → Option Request
+pack_in (patterns ∷ translate ∷ table ∷ []) =
+    if list_all is_name (patterns ∷ translate ∷ table ∷ []) && outputs_differ (table ∷ []) (patterns ∷ translate ∷ [])
+    then Some (ToPack patterns translate table) else None
+pack_in words = None
+
+-- `totals DICT TRANSLATE TABLE`, whose names may be equal
+abbrev pub totals_in : List (List ℕ) → Option Request
+totals_in (dict ∷ translate ∷ table ∷ []) =
+    if list_all is_name (dict ∷ translate ∷ table ∷ []) then Some (ToTotals dict translate table) else None
+totals_in words = None
 
 -- what words ask for
 abbrev pub request_of : List (List ℕ) → Option Request
@@ -99,4 +130,6 @@ request_of [] = None
 request_of (word ∷ words) =
     if bytes_eq word (codes "generate") then option_and_then to_generate (names_in words)
     else (if bytes_eq word (codes "audit") then option_and_then to_audit (names_in words)
-    else (if bytes_eq word (codes "sample") then sample_in words else None))
+    else (if bytes_eq word (codes "sample") then sample_in words
+    else (if bytes_eq word (codes "pack") then pack_in words
+    else (if bytes_eq word (codes "totals") then totals_in words else None))))

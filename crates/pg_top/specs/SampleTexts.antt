@@ -35,7 +35,10 @@ closings = codes "nrs"
 
 -- the end of a syllable, behind the draw that says whether it is closed: a consonant where that draw is 0
 unfoldable pub ending : ℕ → Made
-ending x = if drawn 4 x == 0 then (record { text = slice_index closings (drawn 3 (next_state x)) ∷ []; state = next_state x }) else (record { text = []; state = x })
+ending x =
+    if drawn 4 x == 0
+    then (record { text = slice_index closings (drawn 3 (next_state x)) ∷ []; state = next_state x })
+    else (record { text = []; state = x })
 
 -- a syllable: a consonant, a vowel, and its end
 unfoldable pub syllable : ℕ → Made
@@ -75,16 +78,27 @@ abbrev pub sample_parameters : Parameters
 sample_parameters = record {
   start = 1;
   finish = 2;
-  levels = record { pat_start = 1; pat_finish = 3; good_wt = 1; bad_wt = 2; thresh = 20 } ∷ record { pat_start = 2; pat_finish = 4; good_wt = 2; bad_wt = 1; thresh = 8 } ∷ [];
+  levels =
+      record { pat_start = 1; pat_finish = 3; good_wt = 1; bad_wt = 2; thresh = 20 }
+      ∷ record { pat_start = 2; pat_finish = 4; good_wt = 2; bad_wt = 1; thresh = 8 }
+      ∷ [];
 }
 
 -- the selection: the default table, no starting patterns, and the words of the dictionary
 unfoldable pub sample_inputs : ℕ → ℕ → Inputs
-sample_inputs seed count = record { table = default_alphabet; params = sample_parameters; start = []; dictionary = result_unwrap_or (words default_alphabet (sample_text seed count)) [] }
+sample_inputs seed count = record {
+  table = default_alphabet;
+  params = sample_parameters;
+  start = [];
+  dictionary = result_unwrap_or (words default_alphabet (sample_text seed count)) [];
+}
 
 -- whether a line of the report is printed: that of a level, of the totals or of the rates
 abbrev pub is_printed : List ℕ → Bool
-is_printed line = starts_with nat_eq line (codes "level") || starts_with nat_eq line (codes "total") || starts_with nat_eq line (codes "rate")
+is_printed line =
+    starts_with nat_eq line (codes "level")
+    || starts_with nat_eq line (codes "total")
+    || starts_with nat_eq line (codes "rate")
 
 -- these lines of a report, each with its line's end
 abbrev pub printed_part : List ℕ → List ℕ

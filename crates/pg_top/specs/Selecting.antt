@@ -14,9 +14,13 @@ use Rattle.pg_top.specs.declared.answers.Status.TheVariants.{Done}
 use Rattle.pg_top.specs.declared.inputs.Input.TheVariants as input
 use Rattle.pg_top.specs.declared.reading.Inputs.{Inputs}
 
--- the table of the files that are held
+-- the table of a translate file that is held
+abbrev pub table_named : List ℕ → Held → Alphabet
+table_named name files = meant table default_alphabet files name
+
+-- that of the files of a selection
 abbrev pub table_in : Held → FileNames → Alphabet
-table_in files n = meant table default_alphabet files n.translate
+table_in files n = table_named n.translate files
 
 -- what they give a selection: the table, the parameters, the starting patterns and the words
 abbrev pub inputs_in : Held → FileNames → Inputs
@@ -43,7 +47,8 @@ pub record HasInputs (files : Held) (n : FileNames) (i : Inputs) : Type 0 where
   pub start : read_as (start i.table) files n.patterns ≡ Some (Ok i.start)
   pub words : read_as (words i.table) files n.dict ≡ Some (Ok i.dictionary)
 
--- the files that are written: the pattern file, the hyphenated list and the cells file where they are asked for, and the report
+-- the files that are written: the pattern file, the hyphenated list and the cells file where they are asked for, and
+-- the report
 abbrev pub selected_files : FileNames → Inputs → Writing
 selected_files n i =
     (n.output, selected_text i)
@@ -53,7 +58,9 @@ selected_files n i =
 
 -- the lines that are put: the Done line and the work line
 abbrev pub selected_lines : Inputs → List ℕ
-selected_lines i = done_line (selected_text i) (selected_account i).totals ++ work_line (passes_begun i) (last_layout (selected_cells i))
+selected_lines i =
+    done_line (selected_text i) (selected_account i).totals
+    ++ work_line (passes_begun i) (last_layout (selected_cells i))
 
 -- what is written and printed when all that is read is accepted
 abbrev pub generated : FileNames → Inputs → Outcome

@@ -5,11 +5,13 @@ use Rattle.pg_types.specs.declared.refusals.ReadingError.{ReadingError}
 use Rattle.pg_types.specs.declared.refusals.ReadingError.TheVariants as reader
 use Rattle.pg_outside.specs.Content.{FilesShown, SinkShown, file_at}
 use Rattle.pg_outside.specs.Faults.{Rose}
+use Rattle.pg_top.specs.Calls.{outcome_of, reads_of}
 use Rattle.pg_top.specs.Faults.{IsUnread}
 use Rattle.pg_top.specs.Moments.{Moment, Puts, PutsPart, PutRose, PutOrRose}
-use Rattle.pg_top.specs.Outcomes.{Writing, refuses}
+use Rattle.pg_top.specs.Outcomes.{Outcome, Writing, refuses}
 use Rattle.pg_top.specs.PrintedLines.{refused_line, reading_line, writing_line}
 use Rattle.pg_top.specs.Readings.{Reading, first_end}
+use Rattle.pg_top.specs.Requests.{Request}
 use Rattle.pg_top.specs.Writings.{WroteAll, StoppedAt}
 use Rattle.pg_top.specs.declared.answers.Status.{Status}
 use Rattle.pg_top.specs.declared.answers.Status.TheVariants as status
@@ -19,15 +21,30 @@ use Rattle.pg_top.specs.declared.inputs.Stop.TheVariants.{Refused, Unread, Memor
 
 -- why reading one file stopped: it is refused, its read faults rose, or memory was wanted
 abbrev pub StopsAt : Reading → FilesShown → FilesShown → Stop → Type 0
-StopsAt r old new (Refused input refusal) = IfSome new.held (λ files. option_map (r.ends (file_at files)) (file_at files r.name) ≡ Some (Some (refuses input refusal)))
+StopsAt r old new (Refused input refusal) = IfSome new.held (λ files.
+    option_map (r.ends (file_at files)) (file_at files r.name) ≡ Some (Some (refuses input refusal)))
 StopsAt r old new (Unread name) = (name.now ≡ r.name) × Rose (old.read_faults name.now) (new.read_faults name.now)
 StopsAt r old new Memory = Unit {0}
 
 -- why reading files stopped: the first that ends the call is refused, or one could not be read, or memory was wanted
 abbrev pub StopsReading : List Reading → FilesShown → FilesShown → Stop → Type 0
-StopsReading reads old new (Refused input refusal) = IfSome new.held (λ files. first_end (file_at files) reads ≡ Some (refuses input refusal))
+StopsReading reads old new (Refused input refusal) =
+    IfSome new.held (λ files. first_end (file_at files) reads ≡ Some (refuses input refusal))
 StopsReading reads old new (Unread name) = IsUnread reads name.now old new
 StopsReading reads old new Memory = Unit {0}
+
+-- why a command stopped before it wrote: it is refused, or a file could not be read, or memory was wanted
+abbrev pub StopsCommand : Request → FilesShown → FilesShown → Stop → Type 0
+StopsCommand request old new (Refused input refusal) =
+    IfSome new.held (λ files. outcome_of (file_at files) request ≡ refuses input refusal)
+StopsCommand request old new (Unread name) = IsUnread (reads_of request) name.now old new
+StopsCommand request old new Memory = Unit {0}
+
+-- why making what a command comes to stopped: it is refused, or memory was wanted
+abbrev pub StopsMaking : Outcome → Stop → Type 0
+StopsMaking outcome (Refused input refusal) = outcome ≡ refuses input refusal
+StopsMaking outcome (Unread name) = ⊥
+StopsMaking outcome Memory = Unit {0}
 
 -- why reading the first bytes of a file stopped: its read faults rose, or memory was wanted
 abbrev pub StopsFront : List ℕ → FilesShown → FilesShown → Stop → Type 0
@@ -42,15 +59,19 @@ stop_of input reader.Memory = Memory
 
 -- the line of an answer was put, or its put failed, which is a fault
 abbrev pub PutsAnswer : List ℕ → Status → Status → SinkShown → SinkShown → Type 0
-PutsAnswer line wanted answer old new = ((answer ≡ wanted) × Puts old new line) ⊎ ((answer ≡ status.Fault) × PutRose old new × PutsPart old new line)
+PutsAnswer line wanted answer old new =
+    ((answer ≡ wanted) × Puts old new line) ⊎ ((answer ≡ status.Fault) × PutRose old new × PutsPart old new line)
 
 -- nothing was put for want of memory, or the lines of a command that is done were
 abbrev pub PutsLines : List ℕ → Status → SinkShown → SinkShown → Type 0
-PutsLines lines answer old new = ((answer ≡ status.Memory) × Puts old new []) ⊎ PutsAnswer lines status.Done answer old new
+PutsLines lines answer old new =
+    ((answer ≡ status.Memory) × Puts old new []) ⊎ PutsAnswer lines status.Done answer old new
 
 -- the answer of a command that stopped, and what was put
 abbrev pub PutsStop : Stop → Status → SinkShown → SinkShown → Type 0
-PutsStop (Refused input refusal) answer old new = ((answer ≡ status.Memory) × Puts old new []) ⊎ PutsAnswer (refused_line input refusal) status.Refused answer old new
+PutsStop (Refused input refusal) answer old new =
+    ((answer ≡ status.Memory) × Puts old new [])
+    ⊎ PutsAnswer (refused_line input refusal) status.Refused answer old new
 PutsStop (Unread name) answer old new = (answer ≡ status.Fault) × PutOrRose old new (reading_line name.now)
 PutsStop Memory answer old new = (answer ≡ status.Memory) × Puts old new []
 
@@ -58,4 +79,5 @@ PutsStop Memory answer old new = (answer ≡ status.Memory) × Puts old new []
 abbrev pub Finishes : Writing → List ℕ → Status → Moment → Moment → Type 0
 Finishes writing lines answer old new =
     (WroteAll old.0 new.0 writing × PutsAnswer lines status.Done answer old.1 new.1)
-    ⊎ ((answer ≡ status.Fault) × (place : ℕ) × (stopped : StoppedAt old.0 new.0 writing place) × PutOrRose old.1 new.1 (writing_line stopped.write.0))
+    ⊎ ((answer ≡ status.Fault) × (place : ℕ) × (stopped : StoppedAt old.0 new.0 writing place)
+    × PutOrRose old.1 new.1 (writing_line stopped.write.0))

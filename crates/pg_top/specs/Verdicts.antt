@@ -16,7 +16,10 @@ use Rattle.pg_top.specs.declared.audit.Wanted.{Wanted}
 
 -- a given file as it is read and compared with its text
 abbrev pub wanted_file : Wanted → Reading
-wanted_file w = record { name = w.name.now; ends = λ files bytes. option_map (denies w.given) (first_false bytes w.text.items) }
+wanted_file w = record {
+  name = w.name.now;
+  ends = λ files bytes. option_map (denies w.given) (first_false bytes w.text.items);
+}
 
 abbrev pub wanted_files : List Wanted → List Reading
 wanted_files ws = map wanted_file ws
@@ -32,7 +35,8 @@ outcome_by verdict = unwrap_or (end_of verdict) (Ends Yes [] yes_line)
 
 -- these bytes are the file, or of one that is longer than this size by more than so many the first, one more than these
 abbrev pub IsFrontOf : Option (List ℕ) → ℕ → ℕ → List ℕ → Type 0
-IsFrontOf file size more bytes = MatchOption file ⊥ (λ whole. (bytes ≡ whole) ⊎ ((size + more < length whole) × (bytes ≡ take (size + (more + 1)) whole)))
+IsFrontOf file size more bytes = MatchOption file ⊥ (λ whole.
+    (bytes ≡ whole) ⊎ ((size + more < length whole) × (bytes ≡ take (size + (more + 1)) whole)))
 
 -- the line of a verdict was put
 abbrev pub PutsVerdict : Verdict → Status → SinkShown → SinkShown → Type 0

@@ -15,10 +15,12 @@ abbrev pub after_all : FileMap → Writing → FileMap
 after_all files [] = files
 after_all files (w ∷ ws) = after_all (fin.insert files w.0 w.1) ws
 
--- writing stopped at this name: the writes before it are whole, its file is as it was or a prefix of its text, and no other is written
+-- writing stopped at this name: the writes before it are whole, its file is as it was or a prefix of its text, and no
+-- other is written
 abbrev pub StandsAt : FileMap → FileMap → Writing → List ℕ → Type 0
 StandsAt before after [] name = ⊥
-StandsAt before after (w ∷ ws) name = ((w.0 ≡ name) × HasPart before after w.0 w.1) ⊎ StandsAt (fin.insert before w.0 w.1) after ws name
+StandsAt before after (w ∷ ws) name =
+    ((w.0 ≡ name) × HasPart before after w.0 w.1) ⊎ StandsAt (fin.insert before w.0 w.1) after ws name
 
 -- a file that is to be written as its name and its text
 abbrev pub named_text : Output → List ℕ × List ℕ

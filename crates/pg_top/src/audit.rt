@@ -87,7 +87,8 @@ fn make_wanted<'a>(
     inputs: &Inputs,
 ) -> Result<Vec<Wanted<'a>>, AllocError>
     requires { HasSigns inputs.now }
-    ensures { IfOk result (λ wanted. wanted_files wanted.items ≡ given_files (λ _. inputs.now) (texts_of names.now)) }
+    ensures { IfOk result (λ wanted.
+        wanted_files wanted.items ≡ given_files (λ _. inputs.now) (texts_of names.now)) }
 {
     let mut engine = PlainEngine::new(alloc, inputs.table.letters() + 1, &inputs.start)?;
     let run = select(alloc, &mut engine, inputs)?;

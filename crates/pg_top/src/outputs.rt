@@ -60,7 +60,8 @@ fn push_cells<'a>(
 ) -> Result<(), AllocError>
     requires { TellsCells (Some (selected_cells inputs.now)) run.now }
     ensures { OnOk result (writing_of files.new.items ≡
-        writing_of files.old.items ++ if_asked (name_now name.entry) (λ name. (name, selected_cells_text inputs.now))) }
+        writing_of files.old.items
+        ++ if_asked (name_now name.entry) (λ name. (name, selected_cells_text inputs.now))) }
 {
     if let Some(name) = name {
         let text = cells_text(alloc, run)?;
@@ -117,7 +118,8 @@ fn make_files<'a, E: Engine>(
     requires account { account_of run.now ≡ selected_account inputs.now }
     requires begun { run.now.begun ≡ passes_begun inputs.now }
     requires cells { TellsCells (Some (selected_cells inputs.now)) run.now }
-    ensures files { IfOk result (λ made. writing_of made.files.items ≡ selected_files (texts_of names.now) inputs.now) }
+    ensures files { IfOk result (λ made.
+        writing_of made.files.items ≡ selected_files (texts_of names.now) inputs.now) }
     ensures lines { IfOk result (λ made. made.lines.items ≡ selected_lines inputs.now) }
 {
     let patterns = run.patterns().text(alloc, &inputs.table)?;
@@ -144,7 +146,8 @@ pub fn make_outputs<'a>(
     inputs: &Inputs,
 ) -> Result<Outputs<'a>, AllocError>
     requires { HasSigns inputs.now }
-    ensures files { IfOk result (λ made. writing_of made.files.items ≡ selected_files (texts_of names.now) inputs.now) }
+    ensures files { IfOk result (λ made.
+        writing_of made.files.items ≡ selected_files (texts_of names.now) inputs.now) }
     ensures lines { IfOk result (λ made. made.lines.items ≡ selected_lines inputs.now) }
 {
     let mut engine = PackedEngine::new(alloc, inputs.table.letters() + 1, &inputs.start)?;

@@ -1,0 +1,64 @@
+//! Calls over files and a sink that never fail.
+use crate::calls::{
+    Inputs, TWO_WORDS, TWO_WORDS_LIST, TWO_WORDS_PATTERNS, TWO_WORDS_PRINTED, TWO_WORDS_REPORT,
+    words,
+};
+use crate::quiet_calls::run_quietly;
+use pg_outside::{QuietFiles, QuietSink};
+use pg_top::Status;
+use std::alloc::{AllocError, Global};
+use std::test::Fail;
+
+/// The inputs under the names T, A, P and D.
+fn quiet_files(alloc: Global, inputs: &Inputs<'_>) -> Result<QuietFiles, AllocError> {
+    let mut files = QuietFiles::new(alloc);
+    files.add("T", inputs.translate, 0)?;
+    files.add("A", inputs.params, 0)?;
+    files.add("P", inputs.patterns, 0)?;
+    files.add("D", inputs.dict, 0)?;
+    Ok(files)
+}
+
+/// `generate` and then `audit` of what it wrote.
+#[test]
+fn files_that_never_fail(rt: HostRuntime) -> Result<(), Fail> {
+    let alloc = rt.alloc();
+    let mut held = quiet_files(alloc, &TWO_WORDS)?;
+    let mut out = QuietSink::new(alloc, 200)?;
+    let generate = words(alloc, "generate D P O T A R --pattmp M")?;
+    assert_eq!(rt;
+        run_quietly(alloc, &generate, &mut held, &mut out),
+        Status::Done
+    );
+    assert_eq!(rt; out.bytes().ok_or("not told")?, TWO_WORDS_PRINTED);
+    assert!(rt; held.told());
+    assert_eq!(rt; held.bytes("O").ok_or("no file")?, TWO_WORDS_PATTERNS);
+    assert_eq!(rt; held.bytes("M").ok_or("no file")?, TWO_WORDS_LIST);
+    assert_eq!(rt; held.bytes("R").ok_or("no file")?, TWO_WORDS_REPORT);
+    let audit = words(alloc, "audit D P O T A R --pattmp M")?;
+    let mut out = QuietSink::new(alloc, 200)?;
+    assert_eq!(rt;
+        run_quietly(alloc, &audit, &mut held, &mut out),
+        Status::Yes
+    );
+    assert_eq!(rt; out.bytes().ok_or("not told")?, b"yes\n".as_slice());
+    Ok(())
+}
+
+/// A name that is missing is read as an empty file, and a sink without room takes what is put. Neither tells its
+/// content then.
+#[test]
+fn a_missing_name_and_no_room(rt: HostRuntime) -> Result<(), Fail> {
+    let alloc = rt.alloc();
+    let mut held = quiet_files(alloc, &TWO_WORDS)?;
+    let mut out = QuietSink::new(alloc, 3)?;
+    let generate = words(alloc, "generate Z P O T A R")?;
+    assert_eq!(rt;
+        run_quietly(alloc, &generate, &mut held, &mut out),
+        Status::Done
+    );
+    assert!(rt; !held.told());
+    assert_eq!(rt; held.bytes("O"), None);
+    assert_eq!(rt; out.bytes(), None);
+    Ok(())
+}
