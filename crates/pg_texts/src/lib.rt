@@ -12,4 +12,5 @@ mod word;
 
 pub use cells::cells_text;
 pub use pattmp::pattmp_text;
+pub use rates::push_ending;
 pub use report::report_text;

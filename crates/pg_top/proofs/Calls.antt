@@ -12,9 +12,9 @@ use Rattle.pg_top.specs.Moments.{Moment, OfFiles, Puts, PutsPart, PutRose, PutOr
 use Rattle.pg_top.specs.Outcomes.{Ends, Writing, refuses}
 use Rattle.pg_top.specs.PrintedLines.{usage_line, refused_line, reading_line, writing_line}
 use Rattle.pg_top.specs.Readings.{first_end}
-use Rattle.pg_top.specs.Requests.{Request, ToGenerate, ToAudit, ToSample}
+use Rattle.pg_top.specs.Requests.{Request, ToGenerate, ToAudit, ToSample, ToPack, ToTotals}
 use Rattle.pg_top.specs.SampleTexts.{sample_lines}
-use Rattle.pg_top.specs.Stops.{StopsReading, PutsAnswer, PutsLines, PutsStop, Finishes}
+use Rattle.pg_top.specs.Stops.{StopsReading, StopsCommand, PutsAnswer, PutsLines, PutsStop, Finishes}
 use Rattle.pg_top.specs.Writings.{written_names, after_all, StandsAt, WroteAll, StoppedAt}
 use Rattle.pg_top.specs.declared.answers.Status.{Status}
 use Rattle.pg_top.specs.declared.answers.Status.TheVariants.{Done, Yes, No, Usage, Refused, Fault, Memory}
@@ -44,11 +44,15 @@ pub may_fault : (request : Request) → MayAnswer (Some request) Fault
 may_fault (ToGenerate n) = tt
 may_fault (ToAudit n) = tt
 may_fault (ToSample seed count) = tt
+may_fault (ToPack patterns translate table) = tt
+may_fault (ToTotals dict translate table) = tt
 
 pub may_want : (request : Request) → MayAnswer (Some request) Memory
 may_want (ToGenerate n) = tt
 may_want (ToAudit n) = tt
 may_want (ToSample seed count) = tt
+may_want (ToPack patterns translate table) = tt
+may_want (ToTotals dict translate table) = tt
 
 answered_as : (asked : Option Request) (status : Status) (old new : Moment) → OfFiles old new (λ before after. DoesAll old new status before after (outcome (file_at before) asked)) → IsAnswered asked status old new
 answered_as asked Done old new h = h
@@ -161,13 +165,21 @@ unread_call request name s0 s1 o0 o1 keeps unread line =
     }
 
 -- a command stopped before it wrote
-pub stopped_call : (request : Request) (s0 s1 : FilesShown) (o0 o1 : SinkShown) (stop : Stop) (answer : Status) → MayAnswer (Some request) Refused → KeepsHeld s0.held s1.held → StopsReading (reads_of request) s0 s1 stop → PutsStop stop answer o0 o1 → IsCall (Some request) answer (s0, o0) (s1, o1)
-stopped_call request s0 s1 o0 o1 (stop.Refused input refusal) answer may keeps stops (inl h) = memory_call request s0 s1 o0 o1 answer keeps h.0 h.1
-stopped_call request s0 s1 o0 o1 (stop.Refused input refusal) answer may keeps stops (inr h) =
-    answered_call request Refused (refused_line input refusal) s0 s1 o0 o1 answer tt may keeps
-    (mapped s1.held (λ files. first_end (file_at files) (reads_of request) ≡ Some (refuses input refusal)) (λ files. outcome_of (file_at files) request ≡ Ends Refused [] (refused_line input refusal)) (λ files is. ap (λ end. unwrap_or end (finished (file_at files) request)) is) stops) h
-stopped_call request s0 s1 o0 o1 (stop.Unread name) answer may keeps stops puts = subst (λ (status : Status). IsCall (Some request) status (s0, o0) (s1, o1)) (sym puts.0) (unread_call request name.now s0 s1 o0 o1 keeps stops puts.1)
-stopped_call request s0 s1 o0 o1 stop.Memory answer may keeps stops puts = memory_call request s0 s1 o0 o1 answer keeps puts.0 puts.1
+pub stopped_command : (request : Request) (s0 s1 : FilesShown) (o0 o1 : SinkShown) (why : Stop) (answer : Status) → MayAnswer (Some request) Refused → KeepsHeld s0.held s1.held → StopsCommand request s0 s1 why → PutsStop why answer o0 o1 → IsCall (Some request) answer (s0, o0) (s1, o1)
+stopped_command request s0 s1 o0 o1 (stop.Refused input refusal) answer may keeps stops (inl h) = memory_call request s0 s1 o0 o1 answer keeps h.0 h.1
+stopped_command request s0 s1 o0 o1 (stop.Refused input refusal) answer may keeps stops (inr h) = answered_call request Refused (refused_line input refusal) s0 s1 o0 o1 answer tt may keeps stops h
+stopped_command request s0 s1 o0 o1 (stop.Unread name) answer may keeps stops puts = subst (λ (status : Status). IsCall (Some request) status (s0, o0) (s1, o1)) (sym puts.0) (unread_call request name.now s0 s1 o0 o1 keeps stops puts.1)
+stopped_command request s0 s1 o0 o1 stop.Memory answer may keeps stops puts = memory_call request s0 s1 o0 o1 answer keeps puts.0 puts.1
+
+-- it stopped while it read
+pub stops_reading : (request : Request) (s0 s1 : FilesShown) (why : Stop) → StopsReading (reads_of request) s0 s1 why → StopsCommand request s0 s1 why
+stops_reading request s0 s1 (stop.Refused input refusal) stops =
+    mapped s1.held (λ files. first_end (file_at files) (reads_of request) ≡ Some (refuses input refusal)) (λ files. outcome_of (file_at files) request ≡ refuses input refusal) (λ files is. ap (λ end. unwrap_or end (finished (file_at files) request)) is) stops
+stops_reading request s0 s1 (stop.Unread name) stops = stops
+stops_reading request s0 s1 stop.Memory stops = tt
+
+pub stopped_call : (request : Request) (s0 s1 : FilesShown) (o0 o1 : SinkShown) (why : Stop) (answer : Status) → MayAnswer (Some request) Refused → KeepsHeld s0.held s1.held → StopsReading (reads_of request) s0 s1 why → PutsStop why answer o0 o1 → IsCall (Some request) answer (s0, o0) (s1, o1)
+stopped_call request s0 s1 o0 o1 why answer may keeps stops puts = stopped_command request s0 s1 o0 o1 why answer may keeps (stops_reading request s0 s1 why stops) puts
 
 -- a file could not be written
 write_failed : (request : Request) (writing : Writing) (lines : List ℕ) (s0 s1 s2 : FilesShown) (o0 o1 : SinkShown) (place : ℕ) (stopped : StoppedAt s1 s2 writing place) → written_names writing ≡ writes_of request → KeepsHeld s0.held s1.held → NoneFell s0.write_faults s1.write_faults → IfSome s1.held (λ files. outcome_of (file_at files) request ≡ Ends Done writing lines)

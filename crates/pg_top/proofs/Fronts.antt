@@ -1,5 +1,5 @@
 -- The first bytes of a file, one more than a file may have, are read as the whole file is.
-use Rattle.std.proofs.Common.{◌≡◌, ℕ, ◌+◌, ◌<◌, ◌≤◌, nat_lt, true, false, cond, List, [], ◌∷◌, length, map, take, Option, None, Some, Result, Err, IfSome, sym, refl, ap, ◌∙◌, arith}
+use Rattle.std.proofs.Common.{◌≡◌, ℕ, ◌+◌, ◌<◌, ◌≤◌, nat_lt, nat_eq, not, true, false, cond, List, [], ◌∷◌, length, map, take, Option, None, Some, Result, Ok, Err, IfSome, sym, refl, ap, ◌∙◌, arith}
 use Rattle.std.proofs.lemmas.Bool.{ltb-true, ltb-false, lt-ltb}
 use Rattle.std.proofs.lemmas.List.{take_all, length-take-le}
 use Rattle.std.specs.List.{onto_first}
@@ -8,17 +8,20 @@ use Rattle.pg_types.specs.declared.limits.TheConstants.{FILE_MAX}
 use Rattle.pg_types.specs.declared.refusals.Refusal.{Refusal}
 use Rattle.pg_types.specs.declared.refusals.ReadingError.{ReadingError}
 use Rattle.pg_types.specs.declared.refusals.ReadingError.TheVariants as reader
-use Rattle.pg_types.specs.declared.refusals.Kind.TheVariants.{TranslateTooLong, ParametersTooLong, PatternsTooLong, DictionaryTooLong}
+use Rattle.pg_types.specs.declared.refusals.Kind.TheVariants.{TranslateTooLong, ParametersTooLong, PatternsTooLong, DictionaryTooLong, TableTooLong, BadTable, OtherTable}
 use Rattle.pg_types.specs.Lines.{lines, pieces_at, is_line_feed, without_cr}
 use Rattle.pg_types.specs.Parameters.{parameters, parameters_of, items, demands, refusal_from, refused_at}
 use Rattle.pg_types.specs.Reading.{Fails, unless}
 use Rattle.pg_outside.specs.Content.{FileMap, FilesShown, file_at, IsCut}
-use Rattle.pg_translate.specs.Alphabets.{Alphabet}
+use Rattle.pg_table.specs.declared.limits.TheConstants.{TABLE_MAX}
+use Rattle.pg_table.specs.Forms.{head_of, is_well_formed}
+use Rattle.pg_translate.specs.Alphabets.{Alphabet, letters_of}
 use Rattle.pg_translate.specs.Tables.{table, table_of}
 use Rattle.pg_translate.specs.LineRefusals.{refused as refused_in}
 use Rattle.pg_dict.specs.Words.{words, words_from}
 use Rattle.pg_patterns.specs.Starts.{start, entries_from, joined_entries}
 use Rattle.pg_top.specs.Outcomes.{refuses, unless_accepted}
+use Rattle.pg_top.specs.PackedTables.{packed_table, table_refused}
 use Rattle.pg_top.specs.Readings.{read_as, input_file}
 use Rattle.pg_top.specs.Stops.{StopsAt, stop_of}
 use Rattle.pg_top.specs.declared.inputs.Input.{Input}
@@ -49,8 +52,14 @@ limited refusal rest n whole =
     ] refl
 
 -- reading the first bytes of a file, one more than it may have, gives what reading the whole gives
+abbrev pub IsReadUpTo : {Y : Type 0} → ℕ → (List ℕ → Result Y Refusal) → Type 0
+IsReadUpTo n parse = (whole : List ℕ) → parse (take (n + 1) whole) ≡ parse whole
+
 abbrev pub IsReadByFront : {Y : Type 0} → (List ℕ → Result Y Refusal) → Type 0
-IsReadByFront parse = (whole : List ℕ) → parse (take (FILE_MAX + 1) whole) ≡ parse whole
+IsReadByFront parse = IsReadUpTo FILE_MAX parse
+
+pub packed_table-front : (t : Alphabet) → IsReadUpTo TABLE_MAX (packed_table t)
+packed_table-front t whole = limited (Err (table_refused TableTooLong)) (λ b. cond (not (is_well_formed b)) (Err (table_refused BadTable)) (cond (nat_eq (head_of b).signs (letters_of t + 1)) (Ok b) (Err (table_refused OtherTable)))) TABLE_MAX whole
 
 pub parameters-front : IsReadByFront parameters
 parameters-front whole = limited (Err (refused_at 0 ParametersTooLong)) (λ bytes. unless (refusal_from 1 (demands (items bytes)) (items bytes)) (parameters_of (items bytes))) FILE_MAX whole
@@ -105,15 +114,18 @@ front_of_cut_held None name bytes n cut = tt
 front_of_cut_held (Some files) name bytes n cut = front_of_cut (file_at files name) bytes n cut
 
 -- what the first bytes of a file are read as, the file is read as
-file_as_front : {Y : Type 0} (parse : List ℕ → Result Y Refusal) → IsReadByFront parse → (file : Option (List ℕ)) (bytes : List ℕ) → option_map (take (FILE_MAX + 1)) file ≡ Some bytes → option_map parse file ≡ Some (parse bytes)
-file_as_front parse front None bytes e = cc
-file_as_front parse front (Some whole) bytes e =
-    let same : take (FILE_MAX + 1) whole ≡ bytes = cc in
+file_as_front : {Y : Type 0} (n : ℕ) (parse : List ℕ → Result Y Refusal) → IsReadUpTo n parse → (file : Option (List ℕ)) (bytes : List ℕ) → option_map (take (n + 1)) file ≡ Some bytes → option_map parse file ≡ Some (parse bytes)
+file_as_front n parse front None bytes e = cc
+file_as_front n parse front (Some whole) bytes e =
+    let same : take (n + 1) whole ≡ bytes = cc in
     ap Some (sym (front whole) ∙ ap parse same)
 
+pub read_up_to : {Y : Type 0} (n : ℕ) (parse : List ℕ → Result Y Refusal) → IsReadUpTo n parse → (held : Option FileMap) (name bytes : List ℕ) (reading : Result Y Refusal) → IfSome held (λ files. option_map (take (n + 1)) (file_at files name) ≡ Some bytes) → parse bytes ≡ reading → IfSome held (λ files. read_as parse (file_at files) name ≡ Some reading)
+read_up_to n parse front None name bytes reading e r = tt
+read_up_to n parse front (Some files) name bytes reading e r = file_as_front n parse front (file_at files name) bytes e ∙ ap Some r
+
 pub read_by_front : {Y : Type 0} (parse : List ℕ → Result Y Refusal) → IsReadByFront parse → (held : Option FileMap) (name bytes : List ℕ) (reading : Result Y Refusal) → IfSome held (λ files. option_map (take (FILE_MAX + 1)) (file_at files name) ≡ Some bytes) → parse bytes ≡ reading → IfSome held (λ files. read_as parse (file_at files) name ≡ Some reading)
-read_by_front parse front None name bytes reading e r = tt
-read_by_front parse front (Some files) name bytes reading e r = file_as_front parse front (file_at files name) bytes e ∙ ap Some r
+read_by_front parse front held name bytes reading e r = read_up_to FILE_MAX parse front held name bytes reading e r
 
 -- a file that its rules refuse is refused
 refused : {Y : Type 0} (input : Input) (parse : List ℕ → Result Y Refusal) (file : Option (List ℕ)) (refusal : Refusal) → option_map parse file ≡ Some (Err refusal) → option_map (λ bytes. unless_accepted input (parse bytes)) file ≡ Some (Some (refuses input refusal))
@@ -121,8 +133,11 @@ refused input parse None refusal is = cc
 refused input parse (Some bytes) refusal is = let no : parse bytes ≡ Err refusal = cc in ap (λ got. Some (unless_accepted input got)) no
 
 -- a reader that failed on the first bytes stops the input
-pub stopped_by_front : {Y : Type 0} (parse : List ℕ → Result Y Refusal) → IsReadByFront parse → (input : Input) (name bytes : List ℕ) (old new : FilesShown) (error : ReadingError) → IfSome new.held (λ files. option_map (take (FILE_MAX + 1)) (file_at files name) ≡ Some bytes) → Fails error (parse bytes) → StopsAt (input_file input name (λ _. parse)) old new (stop_of input error)
-stopped_by_front parse front input name bytes old new (reader.Refused refusal) e failed =
+pub stopped_up_to : {Y : Type 0} (n : ℕ) (parse : List ℕ → Result Y Refusal) → IsReadUpTo n parse → (input : Input) (name bytes : List ℕ) (old new : FilesShown) (error : ReadingError) → IfSome new.held (λ files. option_map (take (n + 1)) (file_at files name) ≡ Some bytes) → Fails error (parse bytes) → StopsAt (input_file input name (λ _. parse)) old new (stop_of input error)
+stopped_up_to n parse front input name bytes old new (reader.Refused refusal) e failed =
     mapped new.held (λ files. read_as parse (file_at files) name ≡ Some (Err refusal)) (λ files. option_map (λ bytes. unless_accepted input (parse bytes)) (file_at files name) ≡ Some (Some (refuses input refusal)))
-    (λ files is. refused input parse (file_at files name) refusal is) (read_by_front parse front new.held name bytes (Err refusal) e failed)
-stopped_by_front parse front input name bytes old new reader.Memory e failed = tt
+    (λ files is. refused input parse (file_at files name) refusal is) (read_up_to n parse front new.held name bytes (Err refusal) e failed)
+stopped_up_to n parse front input name bytes old new reader.Memory e failed = tt
+
+pub stopped_by_front : {Y : Type 0} (parse : List ℕ → Result Y Refusal) → IsReadByFront parse → (input : Input) (name bytes : List ℕ) (old new : FilesShown) (error : ReadingError) → IfSome new.held (λ files. option_map (take (FILE_MAX + 1)) (file_at files name) ≡ Some bytes) → Fails error (parse bytes) → StopsAt (input_file input name (λ _. parse)) old new (stop_of input error)
+stopped_by_front parse front input name bytes old new error e failed = stopped_up_to FILE_MAX parse front input name bytes old new error e failed

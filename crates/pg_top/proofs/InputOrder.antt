@@ -24,6 +24,7 @@ use Rattle.pg_top.specs.declared.reading.Inputs.{Inputs}
 use Rattle.pg_top.specs.declared.inputs.Stop.{Stop}
 use Rattle.pg_top.specs.declared.inputs.Stop.TheVariants.{Refused, Unread, Memory}
 use Rattle.pg_top.proofs.Orders.{AreAccepted, accepted_all, mapped, both, held_later, stopped_behind}
+use Rattle.pg_top.proofs.UnderTable.{accepted, means, HasTable as HasTableNamed, is_table, table_accepted, accepted_under, means_under, stopped_first, stopped_under}
 
 -- the inputs
 abbrev translate_input : FileNames → Reading
@@ -38,36 +39,10 @@ patterns_input n = input_file input.Patterns n.patterns (λ files. start (table_
 abbrev dictionary_input : FileNames → Reading
 dictionary_input n = input_file input.Dictionary n.dict (λ files. words (table_in files n))
 
--- a file that is read by its rules is accepted, and means what it is read as
-accepted : {Y : Type 0} (input : Input) (parse : List ℕ → Result Y Refusal) (file : Option (List ℕ)) (y : Y) → option_map parse file ≡ Some (Ok y) → option_map (λ bytes. unless_accepted input (parse bytes)) file ≡ Some None
-accepted input parse None y is = cc
-accepted input parse (Some bytes) y is = let ok : parse bytes ≡ Ok y = cc in ap (λ got. Some (unless_accepted input got)) ok
-
-means : {Y : Type 0} (parse : List ℕ → Result Y Refusal) (other : Y) (files : Held) (name : List ℕ) (y : Y) → read_as parse files name ≡ Some (Ok y) → meant parse other files name ≡ y
-means {Y} parse other files name y is = ap (λ (got : Option (Result Y Refusal)). option_map_or (λ (r : Result Y Refusal). result_unwrap_or r other) got other) is
-
--- the table that is read is the one under which the rest is read
+-- what is known once the table is read
 module _ (n : FileNames) (t : Alphabet) where
   abbrev pub HasTable : FileMap → Type 0
-  HasTable files = read_as table (file_at files) n.translate ≡ Some (Ok t)
-
-  is_table : (files : FileMap) → HasTable files → table_in (file_at files) n ≡ t
-  is_table files h = means table default_alphabet (file_at files) n.translate t h
-
-  under_table : {Y : Type 0} (parse : Alphabet → List ℕ → Result Y Refusal) (files : FileMap) (name : List ℕ) (got : Option (Result Y Refusal)) → HasTable files → read_as (parse t) (file_at files) name ≡ got → read_as (parse (table_in (file_at files) n)) (file_at files) name ≡ got
-  under_table parse files name got h is = subst (λ (u : Alphabet). read_as (parse u) (file_at files) name ≡ got) (sym (is_table files h)) is
-
-  table_accepted : (files : FileMap) → HasTable files → AreAccepted (file_at files) (translate_input n ∷ [])
-  table_accepted files h = (accepted input.Translate table (file_at files n.translate) t h, tt)
-
-  -- a stop at an input that is read under the table
-  stopped_under : {Y : Type 0} (parse : Alphabet → List ℕ → Result Y Refusal) (input : Input) (name : List ℕ) (old new : FilesShown) (stop : Stop) → IfSome new.held HasTable → StopsAt (input_file input name (λ _. parse t)) old new stop → StopsAt (input_file input name (λ files. parse (table_in files n))) old new stop
-  stopped_under parse input name old new (Refused at refusal) h stops =
-      mapped new.held (λ files. HasTable files × (option_map (λ bytes. unless_accepted input (parse t bytes)) (file_at files name) ≡ Some (Some (refuses at refusal)))) (λ files. option_map (λ bytes. unless_accepted input (parse (table_in (file_at files) n) bytes)) (file_at files name) ≡ Some (Some (refuses at refusal)))
-      (λ files both. subst (λ (u : Alphabet). option_map (λ bytes. unless_accepted input (parse u bytes)) (file_at files name) ≡ Some (Some (refuses at refusal))) (sym (is_table files both.0)) both.1)
-      (both new.held HasTable _ h stops)
-  stopped_under parse input name old new (Unread at) h stops = stops
-  stopped_under parse input name old new Memory h stops = tt
+  HasTable files = HasTableNamed n.translate t files
 
   module _ (p : Parameters) where
     -- what is known once two inputs are read
@@ -75,7 +50,7 @@ module _ (n : FileNames) (t : Alphabet) where
     HasTwo files = HasTable files × (read_as parameters (file_at files) n.params ≡ Some (Ok p))
 
     two_accepted : (files : FileMap) → HasTwo files → AreAccepted (file_at files) (translate_input n ∷ parameters_input n ∷ [])
-    two_accepted files h = ((table_accepted files h.0).0, (accepted input.Parameters parameters (file_at files n.params) p h.1, tt))
+    two_accepted files h = (table_accepted n.translate t files h.0, (accepted input.Parameters parameters (file_at files n.params) p h.1, tt))
 
     module _ (S : List ((List ℕ × ℕ) × ℕ)) where
       -- once three are read
@@ -85,7 +60,7 @@ module _ (n : FileNames) (t : Alphabet) where
       three_accepted : (files : FileMap) → HasThree files → AreAccepted (file_at files) (translate_input n ∷ parameters_input n ∷ patterns_input n ∷ [])
       three_accepted files h =
           let two : AreAccepted (file_at files) (translate_input n ∷ parameters_input n ∷ []) = two_accepted files h.0 in
-          (two.0, (two.1.0, (accepted input.Patterns (start (table_in (file_at files) n)) (file_at files n.patterns) S (under_table start files n.patterns (Some (Ok S)) h.0.0 h.1), tt)))
+          (two.0, (two.1.0, (accepted_under n.translate t start input.Patterns n.patterns S files h.0.0 h.1, tt)))
 
       module _ (ws : List Word) where
         abbrev all : Inputs
@@ -95,15 +70,15 @@ module _ (n : FileNames) (t : Alphabet) where
         pub inputs_accepted : (files : FileMap) → HasInputs (file_at files) n all → AreAccepted (file_at files) (inputs_of n)
         inputs_accepted files h =
             let three : AreAccepted (file_at files) (translate_input n ∷ parameters_input n ∷ patterns_input n ∷ []) = three_accepted files ((h.table, h.params), h.start) in
-            (three.0, (three.1.0, (three.1.1.0, (accepted input.Dictionary (words (table_in (file_at files) n)) (file_at files n.dict) ws (under_table words files n.dict (Some (Ok ws)) h.table h.words), tt))))
+            (three.0, (three.1.0, (three.1.1.0, (accepted_under n.translate t words input.Dictionary n.dict ws files h.table h.words, tt))))
 
         -- and this is what is given
         pub given : (files : FileMap) → HasInputs (file_at files) n all → inputs_in (file_at files) n ≡ all
         given files h =
-            let is_t : table_in (file_at files) n ≡ t = is_table files h.table in
+            let is_t : table_in (file_at files) n ≡ t = is_table n.translate t files h.table in
             let is_p : (inputs_in (file_at files) n).params ≡ p = means parameters _ (file_at files) n.params p h.params in
-            let is_S : (inputs_in (file_at files) n).start ≡ S = means (start (table_in (file_at files) n)) [] (file_at files) n.patterns S (under_table start files n.patterns (Some (Ok S)) h.table h.start) in
-            let is_ws : (inputs_in (file_at files) n).dictionary ≡ ws = means (words (table_in (file_at files) n)) [] (file_at files) n.dict ws (under_table words files n.dict (Some (Ok ws)) h.table h.words) in
+            let is_S : (inputs_in (file_at files) n).start ≡ S = means_under n.translate t start [] n.patterns S files h.table h.start in
+            let is_ws : (inputs_in (file_at files) n).dictionary ≡ ws = means_under n.translate t words [] n.dict ws files h.table h.words in
             (λ i. record { table = is_t i; params = is_p i; start = is_S i; dictionary = is_ws i })
 
 -- where all are read the outcome of `generate` is what it writes and prints
@@ -126,29 +101,23 @@ all_read n t p S ws h3 h4 keeps three more =
 
 -- a stop at the first input, at the second, at the third and at the last
 pub stopped_1 : (n : FileNames) (s0 s1 : FilesShown) (stop : Stop) → StopsAt (translate_input n) s0 s1 stop → StopsReading (inputs_of n) s0 s1 stop
-stopped_1 n s0 s1 stop stops =
-    stopped_behind [] (translate_input n) (parameters_input n ∷ patterns_input n ∷ dictionary_input n ∷ []) s0 s0 s1 stop (λ name. omega arith)
-    (nothing_said s1.held) stops
-  where
-    nothing_said : (held : Option FileMap) → IfSome held (λ files. AreAccepted (file_at files) [])
-    nothing_said None = tt
-    nothing_said (Some files) = tt
+stopped_1 n s0 s1 stop stops = stopped_first (translate_input n) (parameters_input n ∷ patterns_input n ∷ dictionary_input n ∷ []) s0 s1 stop stops
 
 pub stopped_2 : (n : FileNames) (t : Alphabet) (s0 s1 s2 : FilesShown) (stop : Stop) → NoneFell s0.read_faults s1.read_faults → KeepsHeld s1.held s2.held → IfSome s1.held (HasTable n t) → StopsAt (parameters_input n) s1 s2 stop → StopsReading (inputs_of n) s0 s2 stop
 stopped_2 n t s0 s1 s2 stop fell keeps one stops =
     stopped_behind (translate_input n ∷ []) (parameters_input n) (patterns_input n ∷ dictionary_input n ∷ []) s0 s1 s2 stop fell
-    (mapped s2.held (HasTable n t) (λ files. AreAccepted (file_at files) (translate_input n ∷ [])) (table_accepted n t) (held_later s1.held s2.held (HasTable n t) keeps one)) stops
+    (mapped s2.held (HasTable n t) (λ files. AreAccepted (file_at files) (translate_input n ∷ [])) (λ files h. (table_accepted n.translate t files h, tt)) (held_later s1.held s2.held (HasTable n t) keeps one)) stops
 
 pub stopped_3 : (n : FileNames) (t : Alphabet) (p : Parameters) (s0 s2 s3 : FilesShown) (stop : Stop) → NoneFell s0.read_faults s2.read_faults → KeepsHeld s2.held s3.held → IfSome s2.held (HasTwo n t p) → StopsAt (input_file input.Patterns n.patterns (λ _. start t)) s2 s3 stop → StopsReading (inputs_of n) s0 s3 stop
 stopped_3 n t p s0 s2 s3 stop fell keeps two stops =
     let later : IfSome s3.held (HasTwo n t p) = held_later s2.held s3.held (HasTwo n t p) keeps two in
     stopped_behind (translate_input n ∷ parameters_input n ∷ []) (patterns_input n) (dictionary_input n ∷ []) s0 s2 s3 stop fell
     (mapped s3.held (HasTwo n t p) (λ files. AreAccepted (file_at files) (translate_input n ∷ parameters_input n ∷ [])) (two_accepted n t p) later)
-    (stopped_under n t start input.Patterns n.patterns s2 s3 stop (mapped s3.held (HasTwo n t p) (HasTable n t) (λ files h. h.0) later) stops)
+    (stopped_under n.translate t start input.Patterns n.patterns s2 s3 stop (mapped s3.held (HasTwo n t p) (HasTable n t) (λ files h. h.0) later) stops)
 
 pub stopped_4 : (n : FileNames) (t : Alphabet) (p : Parameters) (S : List ((List ℕ × ℕ) × ℕ)) (s0 s3 s4 : FilesShown) (stop : Stop) → NoneFell s0.read_faults s3.read_faults → KeepsHeld s3.held s4.held → IfSome s3.held (HasThree n t p S) → StopsAt (input_file input.Dictionary n.dict (λ _. words t)) s3 s4 stop → StopsReading (inputs_of n) s0 s4 stop
 stopped_4 n t p S s0 s3 s4 stop fell keeps three stops =
     let later : IfSome s4.held (HasThree n t p S) = held_later s3.held s4.held (HasThree n t p S) keeps three in
     stopped_behind (translate_input n ∷ parameters_input n ∷ patterns_input n ∷ []) (dictionary_input n) [] s0 s3 s4 stop fell
     (mapped s4.held (HasThree n t p S) (λ files. AreAccepted (file_at files) (translate_input n ∷ parameters_input n ∷ patterns_input n ∷ [])) (three_accepted n t p S) later)
-    (stopped_under n t words input.Dictionary n.dict s3 s4 stop (mapped s4.held (HasThree n t p S) (HasTable n t) (λ files h. h.0.0) later) stops)
+    (stopped_under n.translate t words input.Dictionary n.dict s3 s4 stop (mapped s4.held (HasThree n t p S) (HasTable n t) (λ files h. h.0.0) later) stops)

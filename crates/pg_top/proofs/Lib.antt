@@ -4,7 +4,10 @@ pub mod Selections
 pub mod Faults
 pub mod Writings
 pub mod Orders
+pub mod UnderTable
 pub mod InputOrder
+pub mod PackedOrder
+pub mod PackedTexts
 pub mod WrittenNames
 pub mod Calls
 pub mod DigitValues

@@ -1,15 +1,19 @@
 -- Worked rows of the definitions: what words ask for, what whole calls come to on small files, and the lines that are printed.
-use Rattle.std.proofs.Common.{◌≡◌, ℕ, List, [], ◌∷◌, Some, None, codes, refl}
+use Rattle.std.proofs.Common.{◌≡◌, ℕ, List, [], ◌∷◌, ◌++◌, Some, None, codes, refl}
 use Rattle.std.specs.Fmt.{digits}
 use Rattle.std.specs.Prelude.{Option, if◌then◌else◌}
 use Rattle.std.specs.Str.{bytes_eq}
 use Rattle.pg_types.specs.Placement.{with_sign}
 use Rattle.pg_types.specs.declared.refusals.Kind.TheVariants.{OutOfRange, ParametersTooLong}
+use Rattle.pg_table.specs.Forms.{is_well_formed}
+use Rattle.pg_table.specs.Lookups.{lookup, table_value}
+use Rattle.pg_table.specs.Numbers.{u16_at, u32_at, u16_bytes, u32_bytes}
+use Rattle.pg_table.specs.Texts.{table_text}
 use Rattle.pg_top.specs.Calls.{outcome_of}
 use Rattle.pg_top.specs.Outcomes.{Ends, Unknown}
 use Rattle.pg_top.specs.PrintedLines.{refused_line, reading_line}
 use Rattle.pg_top.specs.Readings.{Held}
-use Rattle.pg_top.specs.Requests.{FileNames, ToGenerate, ToAudit, ToSample, request_of}
+use Rattle.pg_top.specs.Requests.{FileNames, ToGenerate, ToAudit, ToSample, ToPack, ToTotals, request_of}
 use Rattle.pg_top.specs.SampleTexts.{ending, syllable, word, sample_text}
 use Rattle.pg_top.specs.Selection.{selection, selected, selected_account, passes_begun, selected_cells_from, selected_cells, selected_text, selected_list, selected_cells_text, selected_report}
 use Rattle.pg_top.specs.declared.answers.Status.TheVariants.{Done, Yes, No, Refused}
@@ -117,3 +121,37 @@ refused_file = refl
 
 fault : reading_line (codes "D") ≡ codes "fault: reading D\n"
 fault = refl
+
+-- `pack` and `totals` with three names; a table may not be an input of `pack`, and the names of `totals` may be equal
+asks_pack : request_of (codes "pack" ∷ codes "P" ∷ codes "T" ∷ codes "B" ∷ []) ≡ Some (ToPack (codes "P") (codes "T") (codes "B"))
+asks_pack = refl
+
+table_is_input : request_of (codes "pack" ∷ codes "P" ∷ codes "T" ∷ codes "P" ∷ []) ≡ None
+table_is_input = refl
+
+asks_totals : request_of (codes "totals" ∷ codes "D" ∷ codes "T" ∷ codes "D" ∷ []) ≡ Some (ToTotals (codes "D") (codes "T") (codes "D"))
+asks_totals = refl
+
+-- a pattern is packed, and the totals of two words are read off the table
+packed_pattern : List ℕ
+packed_pattern =
+    codes "PGT1" ++ (0 ∷ 0 ∷ 0 ∷ 4 ∷ 0 ∷ 0 ∷ 0 ∷ 6 ∷ 0 ∷ 0 ∷ 0 ∷ 1 ∷ [])
+    ++ (0 ∷ 0 ∷ 0 ∷ 0 ∷ 0 ∷ 0 ∷ 0 ∷ 0 ∷ 0 ∷ 0 ∷ []) ++ (0 ∷ 1 ∷ 0 ∷ 0 ∷ 0 ∷ 0 ∷ 0 ∷ 0 ∷ 0 ∷ 0 ∷ [])
+    ++ (0 ∷ 2 ∷ 0 ∷ 0 ∷ 0 ∷ 2 ∷ 0 ∷ 0 ∷ 0 ∷ 0 ∷ []) ++ (0 ∷ 3 ∷ 0 ∷ 0 ∷ 0 ∷ 0 ∷ 0 ∷ 0 ∷ 0 ∷ 0 ∷ [])
+    ++ (0 ∷ 4 ∷ 0 ∷ 0 ∷ 0 ∷ 0 ∷ 0 ∷ 0 ∷ 0 ∷ 0 ∷ []) ++ (0 ∷ 3 ∷ 0 ∷ 0 ∷ 0 ∷ 0 ∷ 0 ∷ 0 ∷ 0 ∷ 1 ∷ [])
+    ++ (1 ∷ 2 ∷ 0 ∷ 0 ∷ 0 ∷ 0 ∷ [])
+
+packs : outcome_of (found ((codes "T", codes " 1 1\n a\n b\n c\n") ∷ (codes "P", codes "ab1\n") ∷ [])) (ToPack (codes "P") (codes "T") (codes "B"))
+    ≡ Ends Done ((codes "B", packed_pattern) ∷ []) (codes "packed: 1 patterns, 82 bytes\n")
+unfolding found packed_pattern table_text u16_bytes u32_bytes digits with_sign
+packs = refl
+
+totals_of_pack : outcome_of (files (codes "ab-c\nab-a\n") ((codes "B", packed_pattern) ∷ [])) (ToTotals (codes "D") (codes "T") (codes "B"))
+    ≡ Ends Done [] (codes "total: 2 good, 0 bad, 0 missed\nrate: 100.00 % good, 0.00 % bad, 0.00 % missed\n")
+unfolding files found packed_pattern is_well_formed u16_at u32_at lookup table_value digits
+totals_of_pack = refl
+
+other_letters : outcome_of (found ((codes "T", []) ∷ (codes "D", []) ∷ (codes "B", packed_pattern) ∷ [])) (ToTotals (codes "D") (codes "T") (codes "B"))
+    ≡ Ends Refused [] (codes "refused: table 603 OtherTable\n")
+unfolding found packed_pattern is_well_formed u16_at u32_at digits
+other_letters = refl

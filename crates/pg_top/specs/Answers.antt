@@ -6,7 +6,7 @@ use Rattle.pg_top.specs.Faults.{SomeRose, IsFault}
 use Rattle.pg_top.specs.Moments.{Moment, OfFiles, KeepsFiles, Puts}
 use Rattle.pg_top.specs.Outcomes.{Outcome, Unknown, Ends}
 use Rattle.pg_top.specs.PrintedLines.{usage_line}
-use Rattle.pg_top.specs.Requests.{Request, ToGenerate, ToAudit, ToSample}
+use Rattle.pg_top.specs.Requests.{Request, ToGenerate, ToAudit, ToSample, ToPack, ToTotals}
 use Rattle.pg_top.specs.Writings.{after_all}
 use Rattle.pg_top.specs.declared.answers.Status.{Status}
 use Rattle.pg_top.specs.declared.answers.Status.TheVariants.{Done, Yes, No, Usage, Refused, Fault, Memory}
@@ -21,6 +21,10 @@ MayAnswer (Some (ToAudit n)) Yes = Unit {0}
 MayAnswer (Some (ToAudit n)) No = Unit {0}
 MayAnswer (Some (ToAudit n)) Refused = Unit {0}
 MayAnswer (Some (ToSample seed count)) Done = Unit {0}
+MayAnswer (Some (ToPack patterns translate table)) Done = Unit {0}
+MayAnswer (Some (ToPack patterns translate table)) Refused = Unit {0}
+MayAnswer (Some (ToTotals dict translate table)) Done = Unit {0}
+MayAnswer (Some (ToTotals dict translate table)) Refused = Unit {0}
 MayAnswer (Some request) Fault = Unit {0}
 MayAnswer (Some request) Memory = Unit {0}
 MayAnswer asked status = ⊥

@@ -3,10 +3,10 @@ use Rattle.std.specs.Prelude.{ℕ, ◌<◌, ◌≤◌, ◌^◌, List, String, ma
 use Rattle.std.specs.Option.{option_map}
 use denote.Ref.{Bor}
 use Rattle.std.specs.declared.alloc.Global.{Global}
-use Rattle.pg_top.specs.Requests.{FileNames, Request, ToGenerate, ToAudit, ToSample, request_of}
+use Rattle.pg_top.specs.Requests.{FileNames, Request, ToGenerate, ToAudit, ToSample, ToPack, ToTotals, request_of}
 use Rattle.pg_top.specs.declared.commands.Names.{Names}
 use Rattle.pg_top.specs.declared.commands.Command.{Command}
-use Rattle.pg_top.specs.declared.commands.Command.TheVariants.{Generate, Audit, Sample}
+use Rattle.pg_top.specs.declared.commands.Command.TheVariants.{Generate, Audit, Sample, Pack, Totals}
 
 -- a name that may be asked for as its bytes
 abbrev pub name_now : Option (Bor (List ℕ)) → Option (List ℕ)
@@ -30,12 +30,16 @@ abbrev pub asked_by : Command → Request
 asked_by (Generate names) = ToGenerate (texts_of names)
 asked_by (Audit names) = ToAudit (texts_of names)
 asked_by (Sample seed count) = ToSample seed count
+asked_by (Pack patterns translate table) = ToPack patterns.now translate.now table.now
+asked_by (Totals dict translate table) = ToTotals dict.now translate.now table.now
 
 -- the numbers of `sample` are within their limits
 abbrev pub IsWithin : Command → Type 0
 IsWithin (Generate names) = Unit {0}
 IsWithin (Audit names) = Unit {0}
 IsWithin (Sample seed count) = (seed < 2 ^ 31) × (count ≤ 100000)
+IsWithin (Pack patterns translate table) = Unit {0}
+IsWithin (Totals dict translate table) = Unit {0}
 
 -- words as their bytes
 abbrev pub words_of : List (String Global) → List (List ℕ)

@@ -8,6 +8,7 @@ pub mod Selection
 pub mod Runs
 pub mod Selecting
 pub mod SampleTexts
+pub mod PackedTables
 pub mod Auditing
 pub mod Calls
 pub mod Writings
@@ -15,4 +16,5 @@ pub mod Moments
 pub mod Faults
 pub mod Answers
 pub mod Stops
+pub mod Sources
 pub mod Verdicts

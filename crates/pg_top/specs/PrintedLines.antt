@@ -26,6 +26,12 @@ done_line patterns t =
 abbrev pub work_line : ℕ → Layout → List ℕ
 work_line passes layout = codes "work: " ++ decimal passes ++ codes " passes, " ++ layout_text layout
 
+-- where `pack` is done: how many lines the pattern file has, and how many bytes the table
+abbrev pub packed_line : List ℕ → List ℕ → List ℕ
+packed_line patterns table =
+    codes "packed: " ++ decimal (length (lines patterns)) ++ codes " patterns, " ++ decimal (length table)
+    ++ codes " bytes\n"
+
 -- the words for a file in a line of refusal or of `no`
 abbrev pub word_of : Input → List ℕ
 word_of input.Translate = codes "translate"

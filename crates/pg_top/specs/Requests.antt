@@ -17,11 +17,14 @@ pub record FileNames : Type 0 where
   pub pattmp : Option (List ℕ)
   pub cells : Option (List ℕ)
 
--- what words ask for
+-- what words ask for. `pack` has the names of the patterns, of the translate file and of the table, and `totals` those of
+-- the dictionary, of the translate file and of the table
 pub data Request : Type 0 where
   ToGenerate : FileNames → Request
   ToAudit : FileNames → Request
   ToSample : ℕ → ℕ → Request
+  ToPack : List ℕ → List ℕ → List ℕ → Request
+  ToTotals : List ℕ → List ℕ → List ℕ → Request
 
 -- one for what is asked for by an option, and none where it is not
 abbrev pub if_asked : {X : Type 0} → Option (List ℕ) → (List ℕ → X) → List X
@@ -108,10 +111,25 @@ sample_in (seed ∷ count ∷ []) =
     option_and_then (λ s. option_map (ToSample s) (number_up_to 100000 count)) (number_up_to 2147483647 seed)
 sample_in words = None
 
+-- `pack PATTERNS TRANSLATE TABLE`, where the table is an output
+abbrev pub pack_in : List (List ℕ) → Option Request
+pack_in (patterns ∷ translate ∷ table ∷ []) =
+    if list_all is_name (patterns ∷ translate ∷ table ∷ []) && outputs_differ (table ∷ []) (patterns ∷ translate ∷ [])
+    then Some (ToPack patterns translate table) else None
+pack_in words = None
+
+-- `totals DICT TRANSLATE TABLE`, whose names may be equal
+abbrev pub totals_in : List (List ℕ) → Option Request
+totals_in (dict ∷ translate ∷ table ∷ []) =
+    if list_all is_name (dict ∷ translate ∷ table ∷ []) then Some (ToTotals dict translate table) else None
+totals_in words = None
+
 -- what words ask for
 abbrev pub request_of : List (List ℕ) → Option Request
 request_of [] = None
 request_of (word ∷ words) =
     if bytes_eq word (codes "generate") then option_and_then to_generate (names_in words)
     else (if bytes_eq word (codes "audit") then option_and_then to_audit (names_in words)
-    else (if bytes_eq word (codes "sample") then sample_in words else None))
+    else (if bytes_eq word (codes "sample") then sample_in words
+    else (if bytes_eq word (codes "pack") then pack_in words
+    else (if bytes_eq word (codes "totals") then totals_in words else None))))

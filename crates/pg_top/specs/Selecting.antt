@@ -14,9 +14,13 @@ use Rattle.pg_top.specs.declared.answers.Status.TheVariants.{Done}
 use Rattle.pg_top.specs.declared.inputs.Input.TheVariants as input
 use Rattle.pg_top.specs.declared.reading.Inputs.{Inputs}
 
--- the table of the files that are held
+-- the table of a translate file that is held
+abbrev pub table_named : List ℕ → Held → Alphabet
+table_named name files = meant table default_alphabet files name
+
+-- that of the files of a selection
 abbrev pub table_in : Held → FileNames → Alphabet
-table_in files n = meant table default_alphabet files n.translate
+table_in files n = table_named n.translate files
 
 -- what they give a selection: the table, the parameters, the starting patterns and the words
 abbrev pub inputs_in : Held → FileNames → Inputs

@@ -5,11 +5,13 @@ use Rattle.pg_types.specs.declared.refusals.ReadingError.{ReadingError}
 use Rattle.pg_types.specs.declared.refusals.ReadingError.TheVariants as reader
 use Rattle.pg_outside.specs.Content.{FilesShown, SinkShown, file_at}
 use Rattle.pg_outside.specs.Faults.{Rose}
+use Rattle.pg_top.specs.Calls.{outcome_of, reads_of}
 use Rattle.pg_top.specs.Faults.{IsUnread}
 use Rattle.pg_top.specs.Moments.{Moment, Puts, PutsPart, PutRose, PutOrRose}
-use Rattle.pg_top.specs.Outcomes.{Writing, refuses}
+use Rattle.pg_top.specs.Outcomes.{Outcome, Writing, refuses}
 use Rattle.pg_top.specs.PrintedLines.{refused_line, reading_line, writing_line}
 use Rattle.pg_top.specs.Readings.{Reading, first_end}
+use Rattle.pg_top.specs.Requests.{Request}
 use Rattle.pg_top.specs.Writings.{WroteAll, StoppedAt}
 use Rattle.pg_top.specs.declared.answers.Status.{Status}
 use Rattle.pg_top.specs.declared.answers.Status.TheVariants as status
@@ -30,6 +32,19 @@ StopsReading reads old new (Refused input refusal) =
     IfSome new.held (λ files. first_end (file_at files) reads ≡ Some (refuses input refusal))
 StopsReading reads old new (Unread name) = IsUnread reads name.now old new
 StopsReading reads old new Memory = Unit {0}
+
+-- why a command stopped before it wrote: it is refused, or a file could not be read, or memory was wanted
+abbrev pub StopsCommand : Request → FilesShown → FilesShown → Stop → Type 0
+StopsCommand request old new (Refused input refusal) =
+    IfSome new.held (λ files. outcome_of (file_at files) request ≡ refuses input refusal)
+StopsCommand request old new (Unread name) = IsUnread (reads_of request) name.now old new
+StopsCommand request old new Memory = Unit {0}
+
+-- why making what a command comes to stopped: it is refused, or memory was wanted
+abbrev pub StopsMaking : Outcome → Stop → Type 0
+StopsMaking outcome (Refused input refusal) = outcome ≡ refuses input refusal
+StopsMaking outcome (Unread name) = ⊥
+StopsMaking outcome Memory = Unit {0}
 
 -- why reading the first bytes of a file stopped: its read faults rose, or memory was wanted
 abbrev pub StopsFront : List ℕ → FilesShown → FilesShown → Stop → Type 0

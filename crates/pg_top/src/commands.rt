@@ -31,4 +31,22 @@ pub enum Command<'a> {
     /// To make a dictionary of so many words from a seed, and to print how a selection on it goes: the seed and the
     /// number of words.
     Sample(u32, u32),
+    /// To write the packed table of patterns.
+    Pack {
+        /// The patterns.
+        patterns: &'a str,
+        /// The translate file.
+        translate: &'a str,
+        /// Where the table is written.
+        table: &'a str,
+    },
+    /// To print the totals of a dictionary by a packed table.
+    Totals {
+        /// The dictionary.
+        dict: &'a str,
+        /// The translate file.
+        translate: &'a str,
+        /// The table.
+        table: &'a str,
+    },
 }

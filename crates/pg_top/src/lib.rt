@@ -8,6 +8,7 @@ pub mod inputs;
 mod no_lines;
 mod numbers;
 mod outputs;
+mod packing;
 mod printed;
 mod puts;
 mod reading;
@@ -15,6 +16,7 @@ mod sample;
 mod samples;
 mod selection;
 mod top;
+mod totals;
 pub mod words;
 pub mod writes;
 

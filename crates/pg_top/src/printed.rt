@@ -1,7 +1,7 @@
 //! The lines that are printed.
 ghost use Rattle.std.specs.Prelude.{◌≡◌, ◌++◌, ◌==◌, [], if◌then◌else◌, length, decimal, OnOk, IfOk};
 ghost use Rattle.pg_types.specs.Lines.{lines};
-ghost use Rattle.pg_top.specs.PrintedLines.{done_line as done_line_of, refused_line as refused_line_of, word_of, place_of, work_line};
+ghost use Rattle.pg_top.specs.PrintedLines.{done_line as done_line_of, packed_line as packed_line_of, refused_line as refused_line_of, word_of, place_of, work_line};
 
 use crate::inputs::{Given, Input};
 use itoa::Buffer;
@@ -49,6 +49,17 @@ pub fn done_line(alloc: Global, patterns: &[u8], totals: &Totals) -> Result<Vec<
     push_number(&mut line, b" good, ", totals.bad)?;
     push_number(&mut line, b" bad, ", totals.missed)?;
     line.extend_from_slice(b" missed\n")?;
+    Ok(line)
+}
+
+/// The line where `pack` is done: how many lines the pattern file has, and how many bytes the table.
+pub fn packed_line(alloc: Global, patterns: &[u8], table: &[u8]) -> Result<Vec<u8>, AllocError>
+    ensures { IfOk result (λ line. line.items ≡ packed_line_of patterns.now table.now) }
+{
+    let mut line = Vec::new(alloc);
+    push_number(&mut line, b"packed: ", count_lines(patterns) as u64)?;
+    push_number(&mut line, b" patterns, ", table.len() as u64)?;
+    line.extend_from_slice(b" bytes\n")?;
     Ok(line)
 }
 

@@ -1,5 +1,5 @@
 //! The readers of the input files.
-ghost use Rattle.std.specs.Prelude.{◌≡◌, ◌+◌, [], take, IfOk, IfErr, IfSome, OnOk, Some, Ok, Err};
+ghost use Rattle.std.specs.Prelude.{◌≡◌, ◌+◌, ◌-◌, ◌<◌, ◌^◌, [], take, IfOk, IfErr, IfSome, OnOk, Some, Ok, Err};
 ghost use Rattle.std.specs.Option.{option_map};
 ghost use Rattle.pg_types.specs.Parameters.{parameters};
 ghost use Rattle.pg_types.specs.Reading.{Gives};
@@ -39,22 +39,24 @@ pub struct Inputs {
     pub dictionary: Dictionary,
 }
 
-/// Reads a file, or of one that is too long the first bytes, one more than a file may have.
-fn read_front<'a, F: Files>(
+/// Reads a file of at most `limit` bytes, or of a longer one the first bytes, one more than these.
+pub fn read_front<'a, F: Files>(
     alloc: Global,
     name: &'a str,
+    limit: usize,
     files: &mut F,
 ) -> Result<Vec<u8>, Stop<'a>>
+    requires { limit < 2 ^ 64 - 1 }
     ensures held { KeepsHeld (F.shown files.old).held (F.shown files.new).held }
     ensures reads { NoneFell (F.shown files.old).read_faults (F.shown files.new).read_faults }
     ensures writes { NoneFell (F.shown files.old).write_faults (F.shown files.new).write_faults }
     ensures front { IfOk result (λ bytes.
         IfSome (F.shown files.new).held (λ files.
-        option_map (take (FILE_MAX + 1)) (file_at files name.now) ≡ Some bytes.items)) }
+        option_map (take (limit + 1)) (file_at files name.now) ≡ Some bytes.items)) }
     ensures stopped { IfErr result (StopsFront name.now (F.shown files.old) (F.shown files.new)) }
 {
     let mut bytes = Vec::new(alloc);
-    match files.read(alloc, name, FILE_MAX, &mut bytes) {
+    match files.read(alloc, name, limit, &mut bytes) {
         Ok(()) => Ok(bytes),
         Err(ReadError::TooLong) => Ok(bytes),
         Err(ReadError::Failed) => Err(Stop::Unread(name)),
@@ -73,7 +75,7 @@ fn stop<'a>(input: Input, error: ReadingError) -> Stop<'a>
 }
 
 /// Reads the translate file.
-fn read_table<'a, F: Files>(alloc: Global, name: &'a str, files: &mut F) -> Result<Table, Stop<'a>>
+pub fn read_table<'a, F: Files>(alloc: Global, name: &'a str, files: &mut F) -> Result<Table, Stop<'a>>
     ensures held { KeepsHeld (F.shown files.old).held (F.shown files.new).held }
     ensures reads { NoneFell (F.shown files.old).read_faults (F.shown files.new).read_faults }
     ensures writes { NoneFell (F.shown files.old).write_faults (F.shown files.new).write_faults }
@@ -83,7 +85,7 @@ fn read_table<'a, F: Files>(alloc: Global, name: &'a str, files: &mut F) -> Resu
     ensures stopped { IfErr result
         (StopsAt (input_file Input.Translate name.now (λ _. table_of_file)) (F.shown files.old) (F.shown files.new)) }
 {
-    let bytes = read_front(alloc, name, files)?;
+    let bytes = read_front(alloc, name, FILE_MAX, files)?;
     match Table::read(alloc, &bytes) {
         Ok(table) => Ok(table),
         Err(error) => Err(stop(Input::Translate, error)),
@@ -104,7 +106,7 @@ fn read_parameters<'a, F: Files>(
     ensures stopped { IfErr result
         (StopsAt (input_file Input.Parameters name.now (λ _. parameters)) (F.shown files.old) (F.shown files.new)) }
 {
-    let bytes = read_front(alloc, name, files)?;
+    let bytes = read_front(alloc, name, FILE_MAX, files)?;
     match read_params(alloc, &bytes) {
         Ok(params) => Ok(params),
         Err(error) => Err(stop(Input::Parameters, error)),
@@ -112,7 +114,7 @@ fn read_parameters<'a, F: Files>(
 }
 
 /// Reads the starting patterns under a table.
-fn read_start<'a, F: Files>(
+pub fn read_start<'a, F: Files>(
     alloc: Global,
     table: &Table,
     name: &'a str,
@@ -128,7 +130,7 @@ fn read_start<'a, F: Files>(
     ensures stopped { IfErr result
         (StopsAt (input_file Input.Patterns name.now (λ _. start table.now)) (F.shown files.old) (F.shown files.new)) }
 {
-    let bytes = read_front(alloc, name, files)?;
+    let bytes = read_front(alloc, name, FILE_MAX, files)?;
     match PatternSet::read(alloc, table, &bytes) {
         Ok(patterns) => Ok(patterns),
         Err(error) => Err(stop(Input::Patterns, error)),
@@ -136,7 +138,7 @@ fn read_start<'a, F: Files>(
 }
 
 /// Reads the dictionary under a table.
-fn read_dictionary<'a, F: Files>(
+pub fn read_dictionary<'a, F: Files>(
     alloc: Global,
     table: &Table,
     name: &'a str,
@@ -153,7 +155,7 @@ fn read_dictionary<'a, F: Files>(
         (StopsAt (input_file Input.Dictionary name.now (λ _. words table.now))
         (F.shown files.old) (F.shown files.new)) }
 {
-    let bytes = read_front(alloc, name, files)?;
+    let bytes = read_front(alloc, name, FILE_MAX, files)?;
     match Dictionary::read(alloc, table, &bytes) {
         Ok(dictionary) => Ok(dictionary),
         Err(error) => Err(stop(Input::Dictionary, error)),

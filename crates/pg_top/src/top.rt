@@ -9,7 +9,7 @@ ghost use Rattle.pg_top.specs.Faults.{SomeRose, IsFault};
 ghost use Rattle.pg_top.specs.Moments.{Puts};
 ghost use Rattle.pg_top.specs.Outcomes.{Ends};
 ghost use Rattle.pg_top.specs.PrintedLines.{usage_line};
-ghost use Rattle.pg_top.specs.Requests.{ToGenerate, ToAudit};
+ghost use Rattle.pg_top.specs.Requests.{ToGenerate, ToAudit, ToPack, ToTotals};
 ghost use Rattle.pg_top.specs.Stops.{StopsReading, Finishes};
 ghost use Rattle.pg_top.specs.Writings.{written_names, writing_of};
 
@@ -18,10 +18,12 @@ use crate::audit::{audit_files, put_verdict};
 use crate::commands::{Command, Names};
 use crate::inputs::Stop;
 use crate::outputs::{Outputs, make_outputs};
+use crate::packing::pack_files;
 use crate::printed::{USAGE, WRITING};
 use crate::puts::{answer, put_fault, put_stop};
 use crate::reading::read_inputs;
 use crate::samples::sample;
+use crate::totals::total_files;
 use crate::words::command;
 use crate::writes::{output_at, write_all};
 use pg_outside::{Files, Sink};
@@ -87,6 +89,42 @@ fn audit<F: Files, O: Sink>(alloc: Global, names: &Names<'_>, files: &mut F, out
     }
 }
 
+/// Writes the packed table of patterns.
+fn pack<F: Files, O: Sink>(
+    alloc: Global,
+    patterns: &str,
+    translate: &str,
+    table: &str,
+    files: &mut F,
+    out: &mut O,
+) -> Status
+    ensures { IsCall (Some (ToPack patterns.now translate.now table.now)) result
+        (F.shown files.old, O.shown out.old) (F.shown files.new, O.shown out.new) }
+{
+    match pack_files(alloc, patterns, translate, table, files) {
+        Ok(outputs) => finish(files, out, &outputs),
+        Err(stop) => put_stop(alloc, out, &stop),
+    }
+}
+
+/// Prints the totals of a dictionary by a packed table.
+fn totals<F: Files, O: Sink>(
+    alloc: Global,
+    dict: &str,
+    translate: &str,
+    table: &str,
+    files: &mut F,
+    out: &mut O,
+) -> Status
+    ensures { IsCall (Some (ToTotals dict.now translate.now table.now)) result
+        (F.shown files.old, O.shown out.old) (F.shown files.new, O.shown out.new) }
+{
+    match total_files(alloc, dict, translate, table, files) {
+        Ok(lines) => answer(out, &lines, Status::Done),
+        Err(stop) => put_stop(alloc, out, &stop),
+    }
+}
+
 /// Does what a command asks for.
 fn perform<F: Files, O: Sink>(
     alloc: Global,
@@ -103,6 +141,16 @@ fn perform<F: Files, O: Sink>(
         Command::Generate(names) => generate(alloc, names, files, out),
         Command::Audit(names) => audit(alloc, names, files, out),
         Command::Sample(seed, count) => sample(alloc, *seed, *count, out),
+        Command::Pack {
+            patterns,
+            translate,
+            table,
+        } => pack(alloc, patterns, translate, table, files, out),
+        Command::Totals {
+            dict,
+            translate,
+            table,
+        } => totals(alloc, dict, translate, table, files, out),
     }
 }
 
@@ -126,13 +174,15 @@ fn call<F: Files, O: Sink>(alloc: Global, words: &[String], files: &mut F, out: 
 /// list, the cells file and the report, those asked for, and prints. From the first write on it takes no memory.
 /// `audit` reads the same, builds the texts with another engine, and reads and compares the given files one after the
 /// other, up to the first false line. `sample` makes a dictionary from a number and prints how a selection on it
-/// goes.
+/// goes. `pack` reads the translate file and the patterns, and writes their packed table. `totals` reads the translate
+/// file, the dictionary and the packed table, and prints the totals of the words by the table, which it reads in place.
 ///
 /// The first refusal ends a call, and so does the first fault. All lines of an answer are put at once, as the last
 /// step, but those of a fault, of which the front, the name and the end are put each by itself.
 ///
 /// - `Usage` comes exactly where the words are no command, unless the line cannot be put.
-/// - `Refused` comes only where an input is refused, the first in the order of reading. `sample` is never refused.
+/// - `Refused` comes only where an input is refused, the first in the order of reading, or where the table of `pack`
+///   would be too long. `sample` is never refused.
 /// - `Fault` comes only where the read faults of a name that the command reads, the write faults of one that it
 ///   writes, or the faults of `out` rose.
 /// - `Memory` may always come where the words are a command; nothing was written and nothing put then.

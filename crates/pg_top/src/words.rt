@@ -2,7 +2,7 @@
 ghost use Rattle.std.specs.Prelude.{◌≡◌, ◌≤◌, ◌++◌, ◌∷◌, [], length, drop, IfSome};
 ghost use Rattle.std.specs.List.{list_all};
 ghost use Rattle.std.specs.Option.{option_map, option_and_then};
-ghost use Rattle.pg_top.specs.Requests.{is_name as is_name_word, if_asked, input_names, output_names, differs_from, outputs_differ, are_taken as are_taken_names, with_option as with_option_of, with_options as with_options_of, six_names, names_in, to_generate, to_audit, sample_in, request_of};
+ghost use Rattle.pg_top.specs.Requests.{is_name as is_name_word, if_asked, input_names, output_names, differs_from, outputs_differ, are_taken as are_taken_names, with_option as with_option_of, with_options as with_options_of, six_names, names_in, to_generate, to_audit, sample_in, pack_in, totals_in, request_of};
 ghost use Rattle.pg_top.specs.Commands.{name_now, texts_of, asked_by, IsWithin, words_of};
 
 use crate::commands::{Command, Names};
@@ -229,10 +229,59 @@ fn sample(words: &[String]) -> Option<Command<'_>>
     Some(Command::Sample(seed, count))
 }
 
+/// What the words behind `pack` ask for.
+fn pack(words: &[String]) -> Option<Command<'_>>
+    ensures value { option_map asked_by result ≡ pack_in (words_of words.now) }
+    ensures within { IfSome result IsWithin }
+{
+    if words.len() != 3 {
+        return None;
+    }
+    let patterns = words[0].as_str();
+    let translate = words[1].as_str();
+    let table = words[2].as_str();
+    if is_name(patterns)
+        && is_name(translate)
+        && is_name(table)
+        && table != patterns
+        && table != translate
+    {
+        Some(Command::Pack {
+            patterns,
+            translate,
+            table,
+        })
+    } else {
+        None
+    }
+}
+
+/// What the words behind `totals` ask for.
+fn totals(words: &[String]) -> Option<Command<'_>>
+    ensures value { option_map asked_by result ≡ totals_in (words_of words.now) }
+    ensures within { IfSome result IsWithin }
+{
+    if words.len() != 3 {
+        return None;
+    }
+    let dict = words[0].as_str();
+    let translate = words[1].as_str();
+    let table = words[2].as_str();
+    if is_name(dict) && is_name(translate) && is_name(table) {
+        Some(Command::Totals {
+            dict,
+            translate,
+            table,
+        })
+    } else {
+        None
+    }
+}
+
 /// What the words, without the program's name, ask for; none exactly where they are no command. Commands are
 /// `generate DICT PATTERNS OUT TRANSLATE PARAMS REPORT`, then `--pattmp FILE` and `--cells FILE`, each at most once
-/// and in either order, `audit` with the same six names and at most one `--pattmp FILE`, and `sample N COUNT`. It
-/// takes no memory.
+/// and in either order, `audit` with the same six names and at most one `--pattmp FILE`, `sample N COUNT`,
+/// `pack PATTERNS TRANSLATE TABLE`, and `totals DICT TRANSLATE TABLE`. It takes no memory.
 pub fn command(words: &[String]) -> Option<Command<'_>>
     ensures value { option_map asked_by result ≡ request_of (words_of words.now) }
     ensures within { IfSome result IsWithin }
@@ -247,6 +296,10 @@ pub fn command(words: &[String]) -> Option<Command<'_>>
         audit(&words[1..])
     } else if word == "sample" {
         sample(&words[1..])
+    } else if word == "pack" {
+        pack(&words[1..])
+    } else if word == "totals" {
+        totals(&words[1..])
     } else {
         None
     }

@@ -1,10 +1,9 @@
 use Rattle.std.proofs.Common.{Err, ap}
-use Rattle.pg_types.specs.declared.limits.TheConstants.{FILE_MAX}
 use Rattle.pg_top.proofs.Fronts.{front_of_held, front_of_cut_held}
 use Rattle.pg_top.proofs.reading.read_front.Goals as goal
 
 pub returns-in-Ok-clause-front : goal.returns-in-Ok-clause-front
-returns-in-Ok-clause-front g c = front_of_held (g.F.Files.shown c.read.new.self).held c.args.name.now c.read.new.into.items FILE_MAX c.in-Ok.ensures.file c.in-Ok.ensures.fits
+returns-in-Ok-clause-front g c = front_of_held (g.F.Files.shown c.read.new.self).held c.args.name.now c.read.new.into.items c.args.limit c.in-Ok.ensures.file c.in-Ok.ensures.fits
 
 pub returns-in-Err-TooLong-clause-front : goal.returns-in-Err-TooLong-clause-front
-returns-in-Err-TooLong-clause-front g c = front_of_cut_held (g.F.Files.shown c.read.new.self).held c.args.name.now c.read.new.into.items FILE_MAX (c.in-Err-TooLong.ensures.cut_file (ap Err c.in-Err-TooLong.field-0-is))
+returns-in-Err-TooLong-clause-front g c = front_of_cut_held (g.F.Files.shown c.read.new.self).held c.args.name.now c.read.new.into.items c.args.limit (c.in-Err-TooLong.ensures.cut_file (ap Err c.in-Err-TooLong.field-0-is))

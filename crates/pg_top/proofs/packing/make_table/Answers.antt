@@ -1,0 +1,33 @@
+use Rattle.std.proofs.Common.{◌≡◌, ◌≤◌, ◌<◌, ◌+◌, ◌∙◌, ◌∷◌, [], List, ℕ, length, sym, ap, subst}
+use Rattle.pg_patterns.specs.Texts.{pattern_text}
+use Rattle.pg_table.specs.Texts.{table_text}
+use Rattle.pg_table.specs.declared.error.TableError.TheVariants as table_error
+use Rattle.pg_table.specs.declared.limits.TheConstants.{TABLE_MAX}
+use Rattle.pg_top.specs.Outcomes.{Ends}
+use Rattle.pg_top.specs.PackedTables.{packed, packed_text}
+use Rattle.pg_top.specs.PrintedLines.{packed_line}
+use Rattle.pg_top.specs.Writings.{writing_of, written_names}
+use Rattle.pg_top.specs.declared.answers.Status.TheVariants.{Done}
+use Rattle.pg_top.proofs.PackedTexts.{packed_short, stops_making}
+use Rattle.pg_top.proofs.packing.make_table.Goals as goal
+
+pub returns-in_ok-outputs-in-Ok-clause-made : goal.returns-in_ok-outputs-in-Ok-clause-made
+returns-in_ok-outputs-in-Ok-clause-made c =
+    let t = c.args.source.now.table in
+    let P = c.args.source.now.patterns in
+    let name = c.args.name.now in
+    let text : c.in-Ok.text.items ≡ packed_text t P = c.in-Ok.ensures.text ∙ ap (λ n. table_text (n + 1) P) c.letters.ensures.value in
+    let short : length (packed_text t P) ≤ TABLE_MAX = subst (λ n. length (table_text (n + 1) P) ≤ TABLE_MAX) c.letters.ensures.value c.in-Ok.ensures.short in
+    let files = c.in_ok-outputs-in-Ok.ensures.files ∙ ap (λ (b : List ℕ). (name, b) ∷ []) text in
+    let lines = c.in_ok-outputs-in-Ok.ensures.lines ∙ ap (λ (b : List ℕ). packed_line (pattern_text t P) b) text in
+    packed_short name t P short ∙ (λ k. Ends Done (sym files k) (sym lines k))
+
+pub returns-in_ok-outputs-in-Ok-clause-named : goal.returns-in_ok-outputs-in-Ok-clause-named
+returns-in_ok-outputs-in-Ok-clause-named c = ap written_names c.in_ok-outputs-in-Ok.ensures.files
+
+pub returns-in-Err-clause-stopped : goal.returns-in-Err-clause-stopped
+returns-in-Err-clause-stopped c =
+    let t = c.args.source.now.table in
+    let P = c.args.source.now.patterns in
+    let long = λ (is : c.in-Err.error ≡ table_error.TooLong). subst (λ n. TABLE_MAX < length (table_text (n + 1) P)) c.letters.ensures.value (c.in-Err.ensures.too_long is) in
+    rw c.table_stop.ensures (stops_making c.args.name.now t P c.in-Err.error long)

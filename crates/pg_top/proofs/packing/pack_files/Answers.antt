@@ -1,0 +1,32 @@
+use Rattle.std.proofs.Common.{◌≡◌, ◌∙◌, rules}
+use Rattle.pg_outside.specs.Content.{FilesShown, file_at}
+use Rattle.pg_top.specs.Calls.{outcome_of}
+use Rattle.pg_top.specs.Outcomes.{Ends}
+use Rattle.pg_top.specs.Requests.{ToPack}
+use Rattle.pg_top.specs.Sources.{HasSource}
+use Rattle.pg_top.specs.Writings.{writing_of}
+use Rattle.pg_top.specs.declared.answers.Status.TheVariants.{Done}
+use Rattle.pg_top.proofs.Calls.{stops_reading}
+use Rattle.pg_top.proofs.Orders.{mapped}
+use Rattle.pg_top.proofs.PackedOrder.{pack_outcome, stopped_making}
+use Rattle.pg_top.proofs.packing.pack_files.Goals as goal
+
+pub returns-clause-ok : goal.returns-clause-ok
+returns-clause-ok g c =
+    let p = c.args.patterns.now in
+    let t = c.args.translate.now in
+    let n = c.args.table.now in
+    let s = c.in_ok-source.source in
+    mapped (g.F.Files.shown c.read_source.new.files).held (λ files. HasSource (file_at files) p t s)
+    (λ files. outcome_of (file_at files) (ToPack p t n) ≡ Ends Done (writing_of c.in_ok-outputs.outputs.files.items) c.in_ok-outputs.outputs.lines.items)
+    (λ files h. pack_outcome p t n s files h ∙ c.in_ok-outputs.ensures.made) c.in_ok-source.ensures.ok
+
+pub returns-in_err-source-clause-stopped : goal.returns-in_err-source-clause-stopped
+returns-in_err-source-clause-stopped g c =
+    let h = stops_reading (ToPack c.args.patterns.now c.args.translate.now c.args.table.now) (g.F.Files.shown c.args.files.now) (g.F.Files.shown c.read_source.new.files) c.in_err-source.field-0.0 c.in_err-source.ensures.stopped in
+    search rules
+
+pub returns-in_err-outputs-clause-stopped : goal.returns-in_err-outputs-clause-stopped
+returns-in_err-outputs-clause-stopped g c =
+    let h = stopped_making c.args.patterns.now c.args.translate.now c.args.table.now c.in_ok-source.source (g.F.Files.shown c.args.files.now) (g.F.Files.shown c.read_source.new.files) c.in_err-outputs.field-0.0 c.in_ok-source.ensures.ok c.in_err-outputs.ensures.stopped in
+    search rules

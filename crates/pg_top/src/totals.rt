@@ -1,0 +1,110 @@
+//! `totals`: the totals of a dictionary by a packed table.
+ghost use Rattle.std.specs.Prelude.{◌≡◌, ◌+◌, IfOk, IfErr, IfSome, Some, [], ◌∷◌};
+ghost use Rattle.pg_dict.specs.Word.{SignsAtMost};
+ghost use Rattle.pg_driver.specs.Sound.{IsSmall};
+ghost use Rattle.pg_outside.specs.Content.{KeepsHeld, file_at};
+ghost use Rattle.pg_texts.specs.ReportTexts.{ending_text};
+ghost use Rattle.pg_translate.specs.Alphabets.{letters_of};
+ghost use Rattle.pg_top.specs.Calls.{outcome_of};
+ghost use Rattle.pg_top.specs.Outcomes.{Ends};
+ghost use Rattle.pg_top.specs.declared.answers.Status.TheVariants.{Done};
+ghost use Rattle.pg_top.specs.PackedTables.{packed_table, table_refused};
+ghost use Rattle.pg_top.specs.Readings.{input_file};
+ghost use Rattle.pg_top.specs.Requests.{ToTotals};
+ghost use Rattle.pg_top.specs.Sources.{IsTotalled};
+ghost use Rattle.pg_top.specs.Stops.{StopsAt, StopsCommand};
+
+use crate::inputs::{Input, Stop};
+use crate::reading::{read_dictionary, read_front, read_table};
+use pg_dict::Dictionary;
+use pg_outside::Files;
+use pg_table::{TABLE_MAX, TableView, table_totals};
+use pg_texts::push_ending;
+use pg_translate::Table;
+use pg_types::{Kind, Refusal, Totals};
+use std::alloc::{AllocError, Global};
+
+/// The refusal of a packed table, which has no place.
+fn refused(kind: Kind) -> Refusal
+    ensures { result ≡ table_refused kind }
+{
+    Refusal {
+        kind,
+        line: 0,
+        column: 0,
+    }
+}
+
+/// The packed table in these bytes for the letters of a table, or why it is refused.
+fn open_table<'a>(bytes: &'a [u8], table: &Table) -> Result<TableView<'a>, Refusal>
+    ensures { result ≡ packed_table table.now bytes.now }
+{
+    if bytes.len() > TABLE_MAX {
+        return Err(refused(Kind::TableTooLong));
+    }
+    let Some(view) = TableView::read(bytes) else {
+        return Err(refused(Kind::BadTable));
+    };
+    if view.signs() == table.letters() + 1 {
+        Ok(view)
+    } else {
+        Err(refused(Kind::OtherTable))
+    }
+}
+
+/// The line of totals, and that of the rates.
+fn total_lines(alloc: Global, totals: &Totals) -> Result<Vec<u8>, AllocError>
+    requires { IsSmall totals.now }
+    ensures { IfOk result (λ lines. lines.items ≡ ending_text totals.now) }
+{
+    let mut lines = Vec::new(alloc);
+    push_ending(&mut lines, totals)?;
+    Ok(lines)
+}
+
+/// Reads a packed table and gives the lines of the totals of the words by it.
+fn total_by<'a, F: Files>(
+    alloc: Global,
+    table: &Table,
+    dictionary: &Dictionary,
+    name: &'a str,
+    files: &mut F,
+) -> Result<Vec<u8>, Stop<'a>>
+    requires { SignsAtMost (letters_of table.now + 1) dictionary.now }
+    ensures held { KeepsHeld (F.shown files.old).held (F.shown files.new).held }
+    ensures ok { IfOk result (λ lines. IfSome (F.shown files.new).held (λ files.
+        IsTotalled table.now dictionary.now (file_at files) name.now lines.items)) }
+    ensures stopped { IfErr result
+        (StopsAt (input_file Input.Table name.now (λ _. packed_table table.now))
+        (F.shown files.old) (F.shown files.new)) }
+{
+    let bytes = read_front(alloc, name, TABLE_MAX, files)?;
+    match open_table(&bytes, table) {
+        Ok(view) => {
+            let lines = total_lines(alloc, &table_totals(&view, dictionary, table))?;
+            Ok(lines)
+        }
+        Err(refusal) => Err(Stop::Refused(Input::Table, refusal)),
+    }
+}
+
+/// Reads what `totals` reads, and gives the lines that it prints.
+pub fn total_files<'a, F: Files>(
+    alloc: Global,
+    dict: &'a str,
+    translate: &'a str,
+    table: &'a str,
+    files: &mut F,
+) -> Result<Vec<u8>, Stop<'a>>
+    ensures held { KeepsHeld (F.shown files.old).held (F.shown files.new).held }
+    ensures ok { IfOk result (λ lines. IfSome (F.shown files.new).held (λ files.
+        outcome_of (file_at files) (ToTotals dict.now translate.now table.now)
+        ≡ Ends Done [] lines.items)) }
+    ensures stopped { IfErr result (StopsCommand (ToTotals dict.now translate.now table.now)
+        (F.shown files.old) (F.shown files.new)) }
+{
+    let letters = read_table(alloc, translate, files)?;
+    let dictionary = read_dictionary(alloc, &letters, dict, files)?;
+    let lines = total_by(alloc, &letters, &dictionary, table, files)?;
+    Ok(lines)
+}
