@@ -13,7 +13,7 @@ use Rattle.pg_select.specs.Windows.{Patterns}
 use Rattle.pg_table.specs.declared.limits.TheConstants.{TABLE_MAX}
 use Rattle.pg_table.specs.Forms.{head_of, is_well_formed}
 use Rattle.pg_table.specs.Lookups.{table_totals}
-use Rattle.pg_table.specs.Summing.{minima_of}
+use Rattle.pg_select.specs.CountedPositions.{minima_of}
 use Rattle.pg_table.specs.Texts.{table_text}
 use Rattle.pg_texts.specs.ReportTexts.{ending_text}
 use Rattle.pg_top.specs.Outcomes.{Outcome, Ends, refuses}
