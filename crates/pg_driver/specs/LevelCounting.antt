@@ -33,6 +33,11 @@ abbrev pub IsReady : Source → ℕ → ℕ → Known → Counting → Type 0
 IsReady source level len known (Open o) = IsOpenAt source level len known o
 IsReady source level len known EachWord = Unit {0}
 
+-- windows are counted at open positions, so that no word is hyphenated after the level's start
+abbrev pub IsOverOpen : Counting → Type 0
+IsOverOpen (Open o) = Unit {0}
+IsOverOpen EachWord = ⊥
+
 -- carried totals are those by the patterns, and small
 abbrev pub TellsTotals : Source → Patterns → Counting → Type 0
 TellsTotals source P (Open o) = (o.totals ≡ totals_by source P) × IsSmall o.totals

@@ -7,7 +7,7 @@ ghost use Rattle.pg_select.specs.LawsSteps.{IsBelow};
 ghost use Rattle.pg_select.specs.CountedPositions.{counted_positions, minima_of};
 ghost use Rattle.pg_driver.specs.Accounts.{totals_by};
 ghost use Rattle.pg_driver.specs.Counting.{counting, HasRoom};
-ghost use Rattle.pg_driver.specs.LevelCounting.{ArePlaced, CanGoOn, GoesOnAfter, IsReady, TellsTotals};
+ghost use Rattle.pg_driver.specs.LevelCounting.{ArePlaced, CanGoOn, GoesOnAfter, IsOverOpen, IsReady, TellsTotals};
 ghost use Rattle.pg_driver.specs.Sound.{IsSmall};
 ghost use Rattle.pg_driver.specs.States.{IsPass};
 ghost use Rattle.pg_driver.specs.Told.{known_of, over};
@@ -49,8 +49,9 @@ impl Counting {
         requires signs { SignsAtMost (E.meaning engine.now).signs dictionary.now }
         requires hopeless { (E.meaning engine.now).hopeless ≡ [] }
         requires below { greatest < level → IsBelow level (E.meaning engine.now).patterns }
-        ensures { IfOk result (λ counting. (len : ℕ)
+        ensures ready { IfOk result (λ counting. (len : ℕ)
             → IsReady (over table.now dictionary.now) level len (known_of (E.meaning engine.now)) counting) }
+        ensures form { IfOk result (λ counting. greatest < level → IsOverOpen counting) }
     {
         if level <= greatest {
             return Ok(Counting::EachWord);
