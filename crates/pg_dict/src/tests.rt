@@ -74,9 +74,10 @@ fn words_of_a_fold_and_the_others(rt: HostRuntime) -> Result<(), Fail> {
     );
     let outside = dictionary.part(rt.alloc(), 2, 1, false)?;
     assert_eq!(rt; outside.len(), 2);
+    assert_eq!(rt; outside.word(0).weight(), 3);
     assert_eq!(rt;
-        (outside.word(0).weight(), outside.word(0).hyphens()[3]),
-        (3, true)
+        outside.word(0).hyphens(),
+        [false, false, false, true, false].as_slice()
     );
     assert_eq!(rt;
         (outside.word(1).weight(), outside.word(1).signs().len()),
