@@ -75,7 +75,11 @@ fn stop<'a>(input: Input, error: ReadingError) -> Stop<'a>
 }
 
 /// Reads the translate file.
-pub fn read_table<'a, F: Files>(alloc: Global, name: &'a str, files: &mut F) -> Result<Table, Stop<'a>>
+pub fn read_table<'a, F: Files>(
+    alloc: Global,
+    name: &'a str,
+    files: &mut F,
+) -> Result<Table, Stop<'a>>
     ensures held { KeepsHeld (F.shown files.old).held (F.shown files.new).held }
     ensures reads { NoneFell (F.shown files.old).read_faults (F.shown files.new).read_faults }
     ensures writes { NoneFell (F.shown files.old).write_faults (F.shown files.new).write_faults }
