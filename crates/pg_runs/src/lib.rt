@@ -25,4 +25,6 @@ mod reports;
 #[cfg(test)]
 mod samples;
 #[cfg(test)]
+mod tables;
+#[cfg(test)]
 mod usage;

@@ -1,28 +1,22 @@
 -- The inputs of `generate`: what is read of each, and a stop at each.
-use Rattle.std.proofs.Common.{◌≡◌, ℕ, List, [], ◌∷◌, Option, None, Some, Result, Ok, IfSome, sym, ap, ◌∙◌, subst, arith}
-use Rattle.std.specs.Option.{option_map, option_map_or}
+use Rattle.std.proofs.Common.{◌≡◌, ℕ, List, [], ◌∷◌, Option, Some, Ok, IfSome, ap, ◌∙◌}
 use Rattle.std.specs.Prelude.{unwrap_or}
-use Rattle.std.specs.Result.{result_unwrap_or}
 use Rattle.pg_types.specs.Parameters.{Parameters, parameters}
-use Rattle.pg_types.specs.declared.refusals.Refusal.{Refusal}
 use Rattle.pg_outside.specs.Content.{FileMap, FilesShown, KeepsHeld, file_at}
 use Rattle.pg_outside.specs.Faults.{NoneFell}
 use Rattle.pg_translate.specs.Alphabets.{Alphabet}
-use Rattle.pg_translate.specs.Tables.{table, default_alphabet}
+use Rattle.pg_translate.specs.Tables.{table}
 use Rattle.pg_dict.specs.Word.{Word}
 use Rattle.pg_dict.specs.Words.{words}
 use Rattle.pg_patterns.specs.Starts.{start}
 use Rattle.pg_top.specs.Calls.{outcome_of, finished}
-use Rattle.pg_top.specs.Outcomes.{unless_accepted, refuses}
-use Rattle.pg_top.specs.Readings.{Held, Reading, read_as, meant, input_file}
+use Rattle.pg_top.specs.Readings.{Reading, read_as, input_file}
 use Rattle.pg_top.specs.Requests.{FileNames, ToGenerate}
 use Rattle.pg_top.specs.Selecting.{table_in, inputs_in, inputs_of, generated, HasInputs}
 use Rattle.pg_top.specs.Stops.{StopsAt, StopsReading}
-use Rattle.pg_top.specs.declared.inputs.Input.{Input}
 use Rattle.pg_top.specs.declared.inputs.Input.TheVariants as input
 use Rattle.pg_top.specs.declared.reading.Inputs.{Inputs}
 use Rattle.pg_top.specs.declared.inputs.Stop.{Stop}
-use Rattle.pg_top.specs.declared.inputs.Stop.TheVariants.{Refused, Unread, Memory}
 use Rattle.pg_top.proofs.Orders.{AreAccepted, accepted_all, mapped, both, held_later, stopped_behind}
 use Rattle.pg_top.proofs.UnderTable.{accepted, means, HasTable as HasTableNamed, is_table, table_accepted, accepted_under, means_under, stopped_first, stopped_under}
 

@@ -1,17 +1,17 @@
 -- Given files that are compared.
-use Rattle.std.proofs.Common.{◌≡◌, ℕ, ◌+◌, ◌<◌, ◌≤◌, List, [], ◌∷◌, ◌++◌, length, map, take, drop, Option, None, Some, IfSome, MatchOption, inl, inr, refl, sym, ap, ◌∙◌, subst, arith, ◌⊎◌}
+use Rattle.std.proofs.Common.{◌≡◌, ℕ, ◌+◌, ◌≤◌, List, [], ◌∷◌, ◌++◌, length, map, take, drop, Option, None, Some, IfSome, inl, inr, refl, sym, ap, ◌∙◌, subst, arith}
 use Rattle.std.specs.Option.{option_map, option_map_or, option_or}
 use Rattle.std.specs.Prelude.{slice_get, unwrap_or}
 use Rattle.std.proofs.lemmas.List.{drop_more, take_more, take_all, take-map, map-append, take-append-drop, length-map}
-use Rattle.std.proofs.lemmas.Option.{slice_get_within, get_or_from_slice_get, slice_get-map, slice_get_read}
+use Rattle.std.proofs.lemmas.Option.{slice_get_within, get_or_from_slice_get, slice_get-map}
 use Rattle.pg_audit.specs.Differences.{Difference, first_false}
-use Rattle.pg_audit.specs.FoundLines.{FoundLine, printed_of}
+use Rattle.pg_audit.specs.FoundLines.{printed_of}
 use Rattle.pg_audit.proofs.PrintedPart.{part_printed}
 use Rattle.pg_outside.specs.Content.{FileMap, FilesShown, SinkShown, KeepsHeld, file_at}
 use Rattle.pg_outside.specs.Faults.{NoneFell}
-use Rattle.pg_top.specs.Answers.{MayAnswer, IsCall}
+use Rattle.pg_top.specs.Answers.{IsCall}
 use Rattle.pg_top.specs.Auditing.{denies, given_file, given_names, given_files}
-use Rattle.pg_top.specs.Calls.{outcome_of, reads_of, finished}
+use Rattle.pg_top.specs.Calls.{outcome_of, reads_of}
 use Rattle.pg_top.specs.Faults.{IsUnread}
 use Rattle.pg_top.specs.Outcomes.{Outcome, Unknown, Ends, refuses}
 use Rattle.pg_top.specs.PrintedLines.{no_line, yes_line}
@@ -19,7 +19,7 @@ use Rattle.pg_top.specs.Readings.{Held, Reading, first_end}
 use Rattle.pg_top.specs.Requests.{FileNames, ToAudit, if_asked}
 use Rattle.pg_top.specs.Selection.{selected_text, selected_report}
 use Rattle.pg_top.specs.Selecting.{HasInputs, inputs_in, inputs_of}
-use Rattle.pg_top.specs.Stops.{StopsAt, StopsReading, PutsAnswer}
+use Rattle.pg_top.specs.Stops.{StopsAt, StopsReading}
 use Rattle.pg_top.specs.Verdicts.{wanted_file, wanted_files, end_of, outcome_by, IsFrontOf, PutsVerdict}
 use Rattle.pg_top.specs.declared.answers.Status.{Status}
 use Rattle.pg_top.specs.declared.answers.Status.TheVariants.{Yes, No}

@@ -6,7 +6,6 @@ use Rattle.std.specs.Str.{bytes_eq}
 use Rattle.pg_types.specs.Placement.{with_sign}
 use Rattle.pg_types.specs.declared.refusals.Kind.TheVariants.{OutOfRange, ParametersTooLong}
 use Rattle.pg_table.specs.Forms.{is_well_formed}
-use Rattle.pg_table.specs.Lookups.{lookup, table_value}
 use Rattle.pg_table.specs.Numbers.{u16_at, u32_at, u16_bytes, u32_bytes}
 use Rattle.pg_table.specs.Texts.{table_text}
 use Rattle.pg_top.specs.Calls.{outcome_of}
@@ -132,7 +131,7 @@ table_is_input = refl
 asks_totals : request_of (codes "totals" ∷ codes "D" ∷ codes "T" ∷ codes "D" ∷ []) ≡ Some (ToTotals (codes "D") (codes "T") (codes "D"))
 asks_totals = refl
 
--- a pattern is packed, and the totals of two words are read off the table
+-- a pattern is packed; its table is refused under other letters
 packed_pattern : List ℕ
 packed_pattern =
     codes "PGT1" ++ (0 ∷ 0 ∷ 0 ∷ 4 ∷ 0 ∷ 0 ∷ 0 ∷ 6 ∷ 0 ∷ 0 ∷ 0 ∷ 1 ∷ [])
@@ -145,11 +144,6 @@ packs : outcome_of (found ((codes "T", codes " 1 1\n a\n b\n c\n") ∷ (codes "P
     ≡ Ends Done ((codes "B", packed_pattern) ∷ []) (codes "packed: 1 patterns, 82 bytes\n")
 unfolding found packed_pattern table_text u16_bytes u32_bytes digits with_sign
 packs = refl
-
-totals_of_pack : outcome_of (files (codes "ab-c\nab-a\n") ((codes "B", packed_pattern) ∷ [])) (ToTotals (codes "D") (codes "T") (codes "B"))
-    ≡ Ends Done [] (codes "total: 2 good, 0 bad, 0 missed\nrate: 100.00 % good, 0.00 % bad, 0.00 % missed\n")
-unfolding files found packed_pattern is_well_formed u16_at u32_at lookup table_value digits
-totals_of_pack = refl
 
 other_letters : outcome_of (found ((codes "T", []) ∷ (codes "D", []) ∷ (codes "B", packed_pattern) ∷ [])) (ToTotals (codes "D") (codes "T") (codes "B"))
     ≡ Ends Refused [] (codes "refused: table 603 OtherTable\n")

@@ -1,14 +1,13 @@
 -- The table that `pack` writes, and why it makes none.
-use Rattle.std.proofs.Common.{◌≡◌, ℕ, ◌+◌, ◌<◌, ◌≤◌, List, [], ◌∷◌, length, nat_lt, cond, refl, ap, ◌∙◌, subst}
+use Rattle.std.proofs.Common.{◌≡◌, ℕ, ◌<◌, ◌≤◌, List, [], ◌∷◌, length, cond, refl, ap}
 use Rattle.std.proofs.lemmas.Bool.{le-ltb, lt-ltb}
 use Rattle.pg_types.specs.declared.refusals.Kind.TheVariants.{TableTooLong}
-use Rattle.pg_translate.specs.Alphabets.{Alphabet, letters_of}
+use Rattle.pg_translate.specs.Alphabets.{Alphabet}
 use Rattle.pg_patterns.specs.Texts.{pattern_text}
 use Rattle.pg_select.specs.Windows.{Patterns}
 use Rattle.pg_table.specs.declared.error.TableError.{TableError}
 use Rattle.pg_table.specs.declared.error.TableError.TheVariants as table_error
 use Rattle.pg_table.specs.declared.limits.TheConstants.{TABLE_MAX}
-use Rattle.pg_table.specs.Texts.{table_text}
 use Rattle.pg_top.specs.Outcomes.{Ends, refuses}
 use Rattle.pg_top.specs.PackedTables.{packed, packed_text, table_refused}
 use Rattle.pg_top.specs.PrintedLines.{packed_line}

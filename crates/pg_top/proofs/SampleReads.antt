@@ -1,5 +1,5 @@
 -- What `sample` reads is not refused.
-use Rattle.std.proofs.Common.{◌≡◌, Result, Ok, Err, List, [], ℕ, refl, ap, ◌∙◌, sym, subst}
+use Rattle.std.proofs.Common.{◌≡◌, Result, Ok, List, [], ℕ, refl, ap, sym}
 use Rattle.std.specs.Prelude.{codes}
 use Rattle.std.specs.Result.{result_unwrap_or}
 use Rattle.pg_types.specs.Parameters.{Parameters, parameters}

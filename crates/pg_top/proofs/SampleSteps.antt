@@ -1,5 +1,5 @@
 -- The loops that make the dictionary of `sample`: what is made so far, with the rest behind it, is the whole.
-use Rattle.std.proofs.Common.{◌≡◌, ℕ, suc, ◌+◌, ◌-◌, ◌<◌, List, [], ◌∷◌, ◌++◌, refl, sym, ap, ◌∙◌, append_assoc, arith}
+use Rattle.std.proofs.Common.{◌≡◌, ℕ, suc, ◌+◌, ◌-◌, ◌<◌, List, [], ◌∷◌, ◌++◌, sym, ap, ◌∙◌, append_assoc, arith}
 use Rattle.pg_top.specs.SampleTexts.{Made, syllable, further, word, sample_text}
 
 -- a syllable more

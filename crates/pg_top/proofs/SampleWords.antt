@@ -15,7 +15,7 @@ use Rattle.pg_translate.specs.Tokens.{Token, Letter, Marked}
 use Rattle.pg_translate.specs.Items.{IsItem, text_of_items}
 use Rattle.pg_translate.specs.declared.items.Place.TheVariants.{Dictionary}
 use Rattle.pg_dict.specs.Word.{Word}
-use Rattle.pg_dict.specs.Words.{LineWord, line_reading, line_word, word_weight, word_of_items, words}
+use Rattle.pg_dict.specs.Words.{line_reading, line_word, word_weight, word_of_items, words}
 use Rattle.pg_dict.specs.Written.{letters_among, IsLine, file_of, LinesGive}
 use Rattle.pg_dict.proofs.LineLaws.{line_is_read, file_is_read, items_line}
 use Rattle.pg_top.specs.SampleTexts.{Made, next_state, drawn, consonants, vowels, closings, ending, syllable, further, word, words_made, sample_text}

@@ -1,4 +1,4 @@
-use Rattle.std.proofs.Common.{◌≡◌, ◌∙◌, Some, IfSome, List, ℕ, length, ap, sym, subst, rules}
+use Rattle.std.proofs.Common.{◌≡◌, ◌∙◌, Some, IfSome, ℕ, length, ap, sym, subst, rules}
 use Rattle.std.specs.Option.{option_map}
 use Rattle.pg_audit.specs.Differences.{first_false}
 use Rattle.pg_outside.specs.Content.{FilesShown, file_at}

@@ -4,7 +4,7 @@ use Rattle.pg_top.specs.Auditing.{given_file}
 use Rattle.pg_top.specs.Commands.{name_now}
 use Rattle.pg_top.specs.Readings.{Reading}
 use Rattle.pg_top.specs.Requests.{if_asked}
-use Rattle.pg_top.specs.Selection.{selected_text, selected_report}
+use Rattle.pg_top.specs.Selection.{selected_text}
 use Rattle.pg_top.specs.Verdicts.{wanted_file, wanted_files}
 use Rattle.pg_top.specs.declared.audit.Wanted.{Wanted}
 use Rattle.pg_top.specs.declared.inputs.Given.TheVariants.{Patterns, Pattmp, Report}

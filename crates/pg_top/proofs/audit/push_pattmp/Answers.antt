@@ -1,7 +1,4 @@
-use Rattle.std.proofs.Common.{◌≡◌, ◌++◌, ◌∷◌, [], ◌∙◌, List, ℕ, ap}
-use Rattle.pg_audit.specs.Differences.{first_false}
-use Rattle.pg_top.specs.Auditing.{denies}
-use Rattle.pg_top.specs.Readings.{Reading}
+use Rattle.std.proofs.Common.{◌++◌, ◌∷◌, [], ◌∙◌, List, ℕ, ap}
 use Rattle.pg_top.specs.Verdicts.{wanted_files}
 use Rattle.pg_top.specs.declared.audit.Wanted.{Wanted}
 use Rattle.pg_top.specs.declared.inputs.Given.TheVariants.{Pattmp}

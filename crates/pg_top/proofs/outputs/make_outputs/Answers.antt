@@ -1,4 +1,4 @@
-use Rattle.std.proofs.Common.{◌≡◌, ◌+◌, ◌∙◌, Some, ap}
+use Rattle.std.proofs.Common.{◌+◌, ◌∙◌, Some, ap}
 use Rattle.pg_packed.specs.Starts.{pattern_families}
 use Rattle.pg_select.specs.Meanings.{Meaning}
 use Rattle.pg_packed.specs.Engines.{meaning_of}

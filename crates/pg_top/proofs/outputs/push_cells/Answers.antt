@@ -1,6 +1,6 @@
-use Rattle.std.proofs.Common.{◌≡◌, ◌++◌, ◌∷◌, [], ◌∙◌, List, ℕ, ap}
+use Rattle.std.proofs.Common.{◌++◌, ◌∷◌, [], ◌∙◌, List, ℕ, ap}
 use Rattle.pg_texts.proofs.Layouts.{layouts_there}
-use Rattle.pg_top.specs.Selection.{selected_cells, selected_cells_text}
+use Rattle.pg_top.specs.Selection.{selected_cells}
 use Rattle.pg_top.specs.Writings.{writing_of}
 use Rattle.pg_top.specs.declared.writes.Output.{Output}
 use Rattle.pg_top.proofs.Selections.{cells_text_selected}

@@ -1,4 +1,4 @@
-use Rattle.std.proofs.Common.{◌≡◌, ◌∙◌, ◌++◌, Some, None, OnOk, sym, subst}
+use Rattle.std.proofs.Common.{◌≡◌, ◌∙◌, ◌++◌, OnOk, sym, subst}
 use Rattle.pg_types.specs.declared.marks.Layout.{Layout}
 use Rattle.pg_top.specs.PrintedLines.{work_line}
 use Rattle.pg_top.specs.Selection.{selected_cells, last_layout}

@@ -1,4 +1,4 @@
-use Rattle.std.proofs.Common.{◌≡◌, ◌++◌, ◌∷◌, [], ◌∙◌, List, ℕ, ap}
+use Rattle.std.proofs.Common.{◌++◌, ◌∷◌, [], ◌∙◌, List, ℕ, ap}
 use Rattle.pg_top.specs.Writings.{writing_of}
 use Rattle.pg_top.specs.declared.writes.Output.{Output}
 use Rattle.pg_top.proofs.Selections.{list_selected}

@@ -4,9 +4,9 @@ use Rattle.pg_table.specs.Texts.{table_text}
 use Rattle.pg_table.specs.declared.error.TableError.TheVariants as table_error
 use Rattle.pg_table.specs.declared.limits.TheConstants.{TABLE_MAX}
 use Rattle.pg_top.specs.Outcomes.{Ends}
-use Rattle.pg_top.specs.PackedTables.{packed, packed_text}
+use Rattle.pg_top.specs.PackedTables.{packed_text}
 use Rattle.pg_top.specs.PrintedLines.{packed_line}
-use Rattle.pg_top.specs.Writings.{writing_of, written_names}
+use Rattle.pg_top.specs.Writings.{written_names}
 use Rattle.pg_top.specs.declared.answers.Status.TheVariants.{Done}
 use Rattle.pg_top.proofs.PackedTexts.{packed_short, stops_making}
 use Rattle.pg_top.proofs.packing.make_table.Goals as goal

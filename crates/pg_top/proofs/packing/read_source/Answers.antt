@@ -1,5 +1,4 @@
 use Rattle.std.proofs.Common.{◌∷◌, [], rules}
-use Rattle.pg_outside.specs.Content.{FilesShown}
 use Rattle.pg_patterns.specs.Starts.{start}
 use Rattle.pg_translate.specs.Tables.{table}
 use Rattle.pg_top.specs.PackedTables.{file_under}

@@ -1,4 +1,4 @@
-use Rattle.std.proofs.Common.{◌≡◌, ◌∙◌, ◌++◌, ◌∷◌, [], List, ℕ, ap}
+use Rattle.std.proofs.Common.{◌∙◌, ◌++◌, ◌∷◌, [], List, ap}
 use Rattle.pg_top.specs.PrintedLines.{packed_line}
 use Rattle.pg_top.specs.Writings.{writing_of}
 use Rattle.pg_top.specs.declared.writes.Output.{Output}

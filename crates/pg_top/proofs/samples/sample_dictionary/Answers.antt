@@ -1,4 +1,4 @@
-use Rattle.std.proofs.Common.{◌≡◌, ◌∙◌, sym, subst}
+use Rattle.std.proofs.Common.{◌∙◌, sym, subst}
 use Rattle.pg_translate.specs.Rules.{KeepsRules}
 use Rattle.pg_dict.specs.Words.{words}
 use Rattle.pg_top.proofs.SampleReads.{only_memory, dictionary_is}

@@ -1,11 +1,8 @@
-use Rattle.std.proofs.Common.{◌≡◌, ◌≤◌, ◌+◌, ◌∙◌, Some, Ok, Err, Result, List, ℕ, sym, ap, subst, rules}
-use Rattle.pg_types.specs.Reading.{Fails}
+use Rattle.std.proofs.Common.{◌≡◌, ◌∙◌, Some, Ok, Err, sym, ap, subst}
 use Rattle.pg_types.specs.declared.refusals.ReadingError.TheVariants as reader
-use Rattle.pg_types.specs.declared.refusals.Refusal.{Refusal}
 use Rattle.pg_dict.specs.Word.{SignsAtMost}
 use Rattle.pg_outside.specs.Content.{FilesShown, file_at}
 use Rattle.pg_table.specs.declared.limits.TheConstants.{TABLE_MAX}
-use Rattle.pg_table.specs.Forms.{head_of}
 use Rattle.pg_texts.specs.ReportTexts.{ending_text}
 use Rattle.pg_top.specs.PackedTables.{packed_table, totals_lines}
 use Rattle.pg_top.specs.Readings.{read_as}
