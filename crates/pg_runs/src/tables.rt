@@ -45,7 +45,7 @@ fn a_table_and_its_totals(rt: HostRuntime) -> Result<(), Fail> {
         printed.as_slice(),
         b"packed: 1 patterns, 82 bytes\n".as_slice()
     );
-    assert_eq!(rt; held.bytes("B"), Some(TABLE.as_slice()));
+    assert_eq!(rt; held.bytes("B").ok_or("no file")?, TABLE.as_slice());
     let (status, printed) = call(alloc, "totals D T B", &mut held)?;
     assert_eq!(rt; status, Status::Done);
     assert_eq!(rt;
@@ -54,7 +54,7 @@ fn a_table_and_its_totals(rt: HostRuntime) -> Result<(), Fail> {
 rate: 100.00 % good, 0.00 % bad, 0.00 % missed\n"
             .as_slice()
     );
-    assert_eq!(rt; held.bytes("B"), Some(TABLE.as_slice()));
+    assert_eq!(rt; held.bytes("B").ok_or("no file")?, TABLE.as_slice());
     Ok(())
 }
 
@@ -143,11 +143,12 @@ const ROWS: [Row; 8] = [
 #[test]
 fn calls_that_end_early(rt: HostRuntime) -> Result<(), Fail> {
     let alloc = rt.alloc();
-    for row in ROWS {
+    for row in ROWS.iter() {
+        let words = row.words;
         let mut held = files_with(alloc, &row.inputs, row.table)?;
-        let (status, printed) = call(alloc, row.words, &mut held)?;
-        assert_eq!(rt; status, row.status, "{}", row.words);
-        assert_eq!(rt; printed.as_slice(), row.printed, "{}", row.words);
+        let (status, printed) = call(alloc, words, &mut held)?;
+        assert_eq!(rt; status, row.status, "{words}");
+        assert_eq!(rt; printed.as_slice(), row.printed, "{words}");
     }
     Ok(())
 }
