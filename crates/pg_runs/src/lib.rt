@@ -25,6 +25,4 @@ mod reports;
 #[cfg(test)]
 mod samples;
 #[cfg(test)]
-mod tables;
-#[cfg(test)]
 mod usage;

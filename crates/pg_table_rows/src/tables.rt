@@ -1,14 +1,23 @@
 //! Packed tables: `pack`, and `totals` by its table and by tables that are refused.
-use crate::calls::{ABC, Inputs, call, files};
-use pg_outside::MemoryFiles;
-use pg_top::Status;
+use pg_outside::{MemoryFiles, MemorySink};
+use pg_top::{Status, run};
 use std::alloc::{AllocError, Global};
 use std::test::Fail;
 
+/// The inputs of a call.
+#[derive(Clone, Copy)]
+struct Inputs {
+    translate: &'static [u8],
+    patterns: &'static [u8],
+    dict: &'static [u8],
+}
+
+/// Minima 1 and 1, and the letters a, b and c.
+const ABC: &[u8] = b" 1 1\n a\n b\n c\n";
+
 /// Two words, and the pattern that they need.
-const ONE_PATTERN: Inputs<'static> = Inputs {
+const ONE_PATTERN: Inputs = Inputs {
     translate: ABC,
-    params: b"",
     patterns: b"ab1\n",
     dict: b"ab-c\nab-a\n",
 };
@@ -28,11 +37,30 @@ const TABLE: [u8; 82] = [
 /// The line where words are no command.
 const USAGE: &[u8] = b"usage: patgen COMMAND NAMES [OPTIONS]\n";
 
-/// These inputs, and a table under the name B.
-fn files_with(alloc: Global, inputs: &Inputs<'_>, table: &[u8]) -> Result<MemoryFiles, AllocError> {
-    let mut held = files(alloc, inputs)?;
-    held.add("B", table, 100)?;
-    Ok(held)
+/// These inputs under the names T, P and D, and a table under the name B.
+fn files_with(alloc: Global, inputs: &Inputs, table: &[u8]) -> Result<MemoryFiles, AllocError> {
+    let mut files = MemoryFiles::new(alloc);
+    files.add("T", inputs.translate, 0)?;
+    files.add("P", inputs.patterns, 0)?;
+    files.add("D", inputs.dict, 0)?;
+    files.add("B", table, 100)?;
+    Ok(files)
+}
+
+/// Calls the program with the words of a line: its answer, and what it prints.
+fn call(
+    alloc: Global,
+    line: &str,
+    files: &mut MemoryFiles,
+) -> Result<(Status, Vec<u8>), AllocError> {
+    let mut words = Vec::new(alloc);
+    for word in line.split(' ') {
+        words.push(String::from_str(alloc, word)?)?;
+    }
+    let mut out = MemorySink::new(alloc, 400)?;
+    let status = run(alloc, &words, files, &mut out);
+    let printed = out.bytes().to_vec(alloc)?;
+    Ok((status, printed))
 }
 
 #[test]
@@ -45,7 +73,7 @@ fn a_table_and_its_totals(rt: HostRuntime) -> Result<(), Fail> {
         printed.as_slice(),
         b"packed: 1 patterns, 82 bytes\n".as_slice()
     );
-    assert_eq!(rt; held.bytes("B"), Some(TABLE.as_slice()));
+    assert_eq!(rt; held.bytes("B").ok_or("no file")?, TABLE.as_slice());
     let (status, printed) = call(alloc, "totals D T B", &mut held)?;
     assert_eq!(rt; status, Status::Done);
     assert_eq!(rt;
@@ -54,7 +82,7 @@ fn a_table_and_its_totals(rt: HostRuntime) -> Result<(), Fail> {
 rate: 100.00 % good, 0.00 % bad, 0.00 % missed\n"
             .as_slice()
     );
-    assert_eq!(rt; held.bytes("B"), Some(TABLE.as_slice()));
+    assert_eq!(rt; held.bytes("B").ok_or("no file")?, TABLE.as_slice());
     Ok(())
 }
 
@@ -62,16 +90,15 @@ rate: 100.00 % good, 0.00 % bad, 0.00 % missed\n"
 #[derive(Clone, Copy)]
 struct Row {
     words: &'static str,
-    inputs: Inputs<'static>,
+    inputs: Inputs,
     table: &'static [u8],
     status: Status,
     printed: &'static [u8],
 }
 
 /// No letter of its own, and no word.
-const DEFAULT_LETTERS: Inputs<'static> = Inputs {
+const DEFAULT_LETTERS: Inputs = Inputs {
     translate: b"",
-    params: b"",
     patterns: b"",
     dict: b"",
 };
@@ -88,7 +115,6 @@ const ROWS: [Row; 8] = [
         words: "totals D T B",
         inputs: Inputs {
             translate: ABC,
-            params: b"",
             patterns: b"",
             dict: b"ad\n",
         },
@@ -143,11 +169,12 @@ const ROWS: [Row; 8] = [
 #[test]
 fn calls_that_end_early(rt: HostRuntime) -> Result<(), Fail> {
     let alloc = rt.alloc();
-    for row in ROWS {
+    for row in ROWS.iter() {
+        let words = row.words;
         let mut held = files_with(alloc, &row.inputs, row.table)?;
-        let (status, printed) = call(alloc, row.words, &mut held)?;
-        assert_eq!(rt; status, row.status, "{}", row.words);
-        assert_eq!(rt; printed.as_slice(), row.printed, "{}", row.words);
+        let (status, printed) = call(alloc, words, &mut held)?;
+        assert_eq!(rt; status, row.status, "{words}");
+        assert_eq!(rt; printed.as_slice(), row.printed, "{words}");
     }
     Ok(())
 }

@@ -1,0 +1,5 @@
+//! Packed tables through whole calls of the program.
+#![tactic(auto)]
+
+#[cfg(test)]
+mod tables;
