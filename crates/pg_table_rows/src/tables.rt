@@ -191,3 +191,17 @@ fn a_byte_too_few(rt: HostRuntime) -> Result<(), Fail> {
     );
     Ok(())
 }
+
+#[test]
+fn a_table_too_long(rt: HostRuntime) -> Result<(), Fail> {
+    let alloc = rt.alloc();
+    let table = vec![in alloc; 0u8; 268_435_457]?;
+    let mut held = files_with(alloc, &ONE_PATTERN, &table)?;
+    let (status, printed) = call(alloc, "totals D T B", &mut held)?;
+    assert_eq!(rt; status, Status::Refused);
+    assert_eq!(rt;
+        printed.as_slice(),
+        b"refused: table 601 TableTooLong\n".as_slice()
+    );
+    Ok(())
+}
