@@ -3,7 +3,5 @@
 
 pub mod laws;
 mod lines;
-#[cfg(test)]
-mod tests;
 
 pub use lines::{FalseLine, compare};

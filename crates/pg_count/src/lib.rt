@@ -6,7 +6,5 @@ mod counts;
 mod least;
 mod sums;
 mod tally;
-#[cfg(test)]
-mod tests;
 
 pub use counts::CountTrie;

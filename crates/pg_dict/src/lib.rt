@@ -9,8 +9,6 @@ mod line;
 mod line_start;
 mod position;
 mod store;
-#[cfg(test)]
-mod tests;
 pub mod word;
 
 pub use dictionary::Dictionary;

@@ -2,8 +2,6 @@
 #![tactic(auto)]
 
 mod records;
-#[cfg(test)]
-mod tests;
 mod walk;
 mod word;
 

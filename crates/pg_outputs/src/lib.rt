@@ -3,8 +3,6 @@
 
 mod lists;
 mod records;
-#[cfg(test)]
-mod tests;
 
 pub use lists::Outputs;
 pub use records::Record;

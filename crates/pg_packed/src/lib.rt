@@ -3,7 +3,5 @@
 
 pub mod engine;
 mod start;
-#[cfg(test)]
-mod tests;
 
 pub use engine::PackedEngine;

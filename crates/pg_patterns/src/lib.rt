@@ -10,6 +10,3 @@ mod text;
 
 pub use dotted_signs::DottedSigns;
 pub use set::{Entry, PatternSet};
-
-#[cfg(test)]
-mod tests;

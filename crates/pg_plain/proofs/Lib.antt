@@ -2,7 +2,6 @@ pub mod Bools
 pub mod Greatest
 pub mod Orders
 pub mod OneString
-pub mod Indexed
 pub mod Strings
 pub mod Starts
 pub mod Covers

@@ -3,11 +3,9 @@ ghost use Rattle.std.specs.Prelude.{◌≡◌, ℕ, ◌≤◌, true, nat_eq, len
 ghost use Rattle.std.specs.List.{list_all};
 ghost use Rattle.pg_types.specs.declared.limits.TheConstants.{LEVEL_MAX, LENGTH_MAX};
 ghost use Rattle.pg_patterns.specs.Values.{is_entry};
-ghost use Rattle.pg_plain.specs.Indexes.{AreIndexed};
 ghost use Rattle.pg_plain.specs.Strings.{is_string, has_signs_up_to};
 
 use crate::counts::{add, next_behind};
-use crate::index::Index;
 use crate::places::{map_of, put_in, raise_in, set_of};
 use crate::walk::walk;
 use pg_dict::WordRef;
@@ -17,32 +15,21 @@ use pg_types::{Cursor, Layout, Sign, Weight};
 use std::alloc::{AllocError, Global};
 use std::collections::BTreeMap;
 
-/// How many slots the index of the patterns has, of which real tables have some ten thousands.
-const PATTERN_SLOTS: usize = 131_072;
-
-/// How many slots the index of the hopeless places has, of which a level of a real list has some hundred thousands.
-const HOPELESS_SLOTS: usize = 524_288;
-
 /// An [`Engine`] over ordered maps, which tells no families.
 ///
-/// A word costs a step for each of its strings up to the longest that a pattern begins with, and a look-up for each
-/// that is a pattern's. A window that is counted, chosen or given up costs a look-up, and to begin a pass or end a
-/// level costs at most the size of what is emptied. An index beside each map of places tells which strings need no
-/// look-up.
+/// A word costs a look-up for each of its strings up to the longest that a pattern begins with. A window that is
+/// counted, chosen or given up costs a look-up, and to begin a pass or end a level costs at most the size of what is
+/// emptied.
 #[derive(Drop)]
 pub struct PlainEngine {
     signs: u16,
     patterns: BTreeMap<DottedSigns, u8>,
-    pattern_index: Index,
     hopeless: BTreeMap<DottedSigns, ()>,
-    hopeless_index: Index,
     counts: BTreeMap<Cursor, (u64, u64)>,
     pass: Pass,
     begun: u64,
     ghost entries: { list_all is_entry patterns.entries ≡ true },
     ghost strings: { list_all (λ e. is_string e.0) hopeless.entries ≡ true },
-    ghost indexed: { AreIndexed pattern_index.fronts.items pattern_index.strings.items patterns.entries },
-    ghost hopeless_indexed: { AreIndexed hopeless_index.fronts.items hopeless_index.strings.items hopeless.entries },
     ghost known: { list_all (λ e. has_signs_up_to signs e.0.0) patterns.entries ≡ true },
     ghost hopeless_known: { list_all (λ e. has_signs_up_to signs e.0.0) hopeless.entries ≡ true },
     ghost counts_known: { list_all (λ e. has_signs_up_to signs e.0) counts.entries ≡ true },
@@ -64,15 +51,11 @@ impl PlainEngine {
         requires { SignsUpTo signs start.now }
         ensures { IfOk result (λ engine. meaning_of engine ≡ new_engine signs start.now None) }
     {
-        let mut pattern_index = Index::new(alloc, PATTERN_SLOTS)?;
-        let patterns = map_of(alloc, start, &mut pattern_index)?;
-        let hopeless_index = Index::new(alloc, HOPELESS_SLOTS)?;
+        let patterns = map_of(alloc, start)?;
         Ok(PlainEngine {
             signs,
             patterns,
-            pattern_index,
             hopeless: BTreeMap::new(alloc),
-            hopeless_index,
             counts: BTreeMap::new(alloc),
             pass: Pass {
                 level: 1,
@@ -103,20 +86,8 @@ impl Engine for PlainEngine {
 
     fn hyphenate(&self, w: WordRef<'_>, out: &mut WordState) {
         *out = WordState::new();
-        walk(
-            &self.patterns,
-            &self.pattern_index,
-            w.signs,
-            &self.pass,
-            out,
-        );
-        walk(
-            &self.hopeless,
-            &self.hopeless_index,
-            w.signs,
-            &self.pass,
-            out,
-        );
+        walk(&self.patterns, w.signs, &self.pass, out);
+        walk(&self.hopeless, w.signs, &self.pass, out);
     }
 
     fn count(&mut self, window: &[Sign], good: bool, weight: Weight) -> Result<(), AllocError> {
@@ -139,7 +110,6 @@ impl Engine for PlainEngine {
     fn choose(&mut self, at: &Cursor) -> Result<(), AllocError> {
         let signs = at.signs();
         let place = DottedSigns::new(signs, self.pass.dot);
-        self.pattern_index.enter(signs);
         raise_in(&mut self.patterns, place, self.pass.level)?;
         Ok(())
     }
@@ -147,14 +117,12 @@ impl Engine for PlainEngine {
     fn give_up(&mut self, at: &Cursor) -> Result<(), AllocError> {
         let signs = at.signs();
         let place = DottedSigns::new(signs, self.pass.dot);
-        self.hopeless_index.enter(signs);
         put_in(&mut self.hopeless, place)?;
         Ok(())
     }
 
     fn end_level(&mut self) -> Result<(), AllocError> {
         self.hopeless.clear();
-        self.hopeless_index.clear();
         Ok(())
     }
 

@@ -3,11 +3,8 @@
 
 mod counts;
 pub mod engine;
-mod index;
 mod place_entry;
 mod places;
-#[cfg(test)]
-mod tests;
 mod walk;
 
 pub use engine::PlainEngine;

@@ -4,9 +4,7 @@ ghost use Rattle.std.specs.List.{list_all};
 ghost use Rattle.std.specs.FinMap.Entries.{put};
 ghost use Rattle.pg_patterns.specs.DottedSigns.{dotted_cmp};
 ghost use Rattle.pg_patterns.specs.Values.{raise, value_of, is_entry};
-ghost use Rattle.pg_plain.specs.Indexes.{AreIndexed};
 
-use crate::index::Index;
 use pg_patterns::{DottedSigns, Entry, PatternSet};
 use std::alloc::{AllocError, Global};
 use std::collections::BTreeMap;
@@ -50,20 +48,14 @@ pub fn put_in(set: &mut BTreeMap<DottedSigns, ()>, place: DottedSigns) -> Result
     Ok(())
 }
 
-/// The map of a set of patterns, whose strings are entered into an index.
-pub fn map_of(
-    alloc: Global,
-    patterns: &PatternSet,
-    index: &mut Index,
-) -> Result<BTreeMap<DottedSigns, u8>, AllocError>
+/// The map of a set of patterns.
+pub fn map_of(alloc: Global, patterns: &PatternSet) -> Result<BTreeMap<DottedSigns, u8>, AllocError>
     ensures value { IfOk result (λ map. map.entries ≡ patterns.now) }
     ensures sound { IfOk result (λ map. list_all is_entry map.entries ≡ true) }
-    ensures indexed { IfOk result (λ map. AreIndexed index.new.fronts.items index.new.strings.items map.entries) }
 {
     let mut map = BTreeMap::new(alloc);
     for i in 0..patterns.len() {
         let Entry { signs, dot, value } = patterns.entry(i);
-        index.enter(signs);
         map.insert(DottedSigns::new(signs, dot), value)?;
     }
     Ok(map)

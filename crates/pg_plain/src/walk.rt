@@ -5,11 +5,9 @@ ghost use Rattle.pg_types.specs.declared.limits.TheConstants.{PATTERN_SIGNS_MAX,
 ghost use Rattle.pg_patterns.specs.Values.{applies};
 ghost use Rattle.pg_select.specs.Positions.{RaisesValues, RaisesCovers, RaisesAt, values_of, covers_of};
 ghost use Rattle.pg_plain.specs.Greatest.{greatest_at, entry_value, entry_cover};
-ghost use Rattle.pg_plain.specs.Indexes.{AreIndexed};
 ghost use Rattle.pg_plain.specs.Strings.{is_string};
 ghost use Rattle.pg_plain.specs.Walks.{has_signs_at, is_extension, applies_from};
 
-use crate::index::Index;
 use crate::place_entry::PlaceEntry;
 use pg_patterns::DottedSigns;
 use pg_select::{Pass, WordState};
@@ -19,31 +17,28 @@ use std::ops::Bound;
 
 /// Raises the values and covers of a word by each entry whose signs stand in it: the value of the position of its dot
 /// to its own, and it covers the window of that position where it stands in it and covers at the level of the pass. It
-/// takes no memory. From each place on it asks the index for each string of the word, up to the first with which no
-/// longer string of the map begins, and looks up in the map those that the index cannot exclude.
+/// takes no memory. From each place on it looks up each string of the word in the map, up to the first with which no
+/// longer string of the map begins.
 pub fn walk<F: PlaceEntry>(
     map: &BTreeMap<DottedSigns, F>,
-    index: &Index,
     w: &[Sign],
     pass: &Pass,
     out: &mut WordState,
 )
     requires len { length w.now ≤ WORD_LETTERS_MAX + 2 }
     requires strings { list_all (λ e. is_string e.0) map.now.entries ≡ true }
-    requires indexed { AreIndexed index.now.fronts.items index.now.strings.items map.now.entries }
     ensures values { RaisesValues (greatest_at (entry_value F.given) (applies w.now) map.now.entries) out.old out.new }
     ensures covers { RaisesCovers (greatest_at (entry_cover F.covers_at pass.now) (applies w.now) map.now.entries)
         out.old out.new }
 {
     for i in 0..w.len() {
-        raise_from(map, index, w, i, pass, out);
+        raise_from(map, w, i, pass, out);
     }
 }
 
 /// Raises them by the entries whose signs stand in the word from `i` on, the shorter ones first.
 fn raise_from<F: PlaceEntry>(
     map: &BTreeMap<DottedSigns, F>,
-    index: &Index,
     w: &[Sign],
     i: usize,
     pass: &Pass,
@@ -52,7 +47,6 @@ fn raise_from<F: PlaceEntry>(
     requires len { length w.now ≤ WORD_LETTERS_MAX + 2 }
     requires inside { i ≤ length w.now }
     requires strings { list_all (λ e. is_string e.0) map.now.entries ≡ true }
-    requires indexed { AreIndexed index.now.fronts.items index.now.strings.items map.now.entries }
     ensures values { RaisesValues (greatest_at (entry_value F.given) (applies_from w.now i) map.now.entries) out.old
         out.new }
     ensures covers { RaisesCovers (greatest_at (entry_cover F.covers_at pass.now) (applies_from w.now i)
@@ -63,7 +57,7 @@ fn raise_from<F: PlaceEntry>(
         if n > w.len() - i {
             return;
         }
-        if !raise_by_string(map, index, &w[i..i + n], i, pass, out) {
+        if !raise_by_string(map, &w[i..i + n], i, pass, out) {
             return;
         }
     }
@@ -72,35 +66,6 @@ fn raise_from<F: PlaceEntry>(
 /// Raises them by the entries whose signs are `q`, which stand in the word from `i` on. It is false only where no
 /// longer string of the map begins with `q`.
 fn raise_by_string<F: PlaceEntry>(
-    map: &BTreeMap<DottedSigns, F>,
-    index: &Index,
-    q: &[Sign],
-    i: usize,
-    pass: &Pass,
-    out: &mut WordState,
-) -> bool
-    requires some { 0 < length q.now }
-    requires few { length q.now ≤ PATTERN_SIGNS_MAX }
-    requires inside { i ≤ WORD_LETTERS_MAX + 2 }
-    requires indexed { AreIndexed index.now.fronts.items index.now.strings.items map.now.entries }
-    ensures values { RaisesValues (greatest_at (entry_value F.given) (has_signs_at q.now i) map.now.entries) out.old
-        out.new }
-    ensures covers { RaisesCovers (greatest_at (entry_cover F.covers_at pass.now) (has_signs_at q.now i)
-        map.now.entries) out.old out.new }
-    ensures ends { result ≡ false → list_any (λ e. is_extension q.now e.0.0) map.now.entries ≡ false }
-{
-    let slot = index.slot(q);
-    if !index.may_begin(slot) {
-        return false;
-    }
-    if !index.may_be(slot) {
-        return true;
-    }
-    look_up(map, q, i, pass, out)
-}
-
-/// The same, by a look-up in the map.
-fn look_up<F: PlaceEntry>(
     map: &BTreeMap<DottedSigns, F>,
     q: &[Sign],
     i: usize,

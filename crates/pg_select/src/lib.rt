@@ -6,8 +6,6 @@ pub mod engine;
 pub mod laws;
 pub mod marks;
 pub mod pass;
-#[cfg(test)]
-mod tests;
 pub mod word_state;
 
 pub use choice::{Choice, decide, status};

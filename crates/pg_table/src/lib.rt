@@ -10,8 +10,6 @@ mod limits;
 mod numbers;
 mod record;
 mod row;
-#[cfg(test)]
-mod tests;
 mod text;
 mod totals;
 mod view;

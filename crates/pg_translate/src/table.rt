@@ -219,6 +219,3 @@ impl Table {
         }
     }
 }
-
-#[cfg(test)]
-mod tests;

@@ -7,8 +7,6 @@ mod prune;
 mod raise;
 mod renew;
 mod strings;
-#[cfg(test)]
-mod tests;
 mod trie;
 
 pub use mark::HOPELESS;

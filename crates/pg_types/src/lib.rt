@@ -9,8 +9,6 @@ pub mod lines;
 pub mod marks;
 pub mod parameters;
 pub mod refusals;
-#[cfg(test)]
-mod tests;
 
 pub use cursor::Cursor;
 pub use limits::{

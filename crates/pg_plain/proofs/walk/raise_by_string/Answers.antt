@@ -1,25 +1,36 @@
-use Rattle.std.proofs.Common.{false, get_or, sym, ap, ◌∙◌}
-use Rattle.pg_select.specs.Positions.{values_of, covers_of}
+use Rattle.std.proofs.Common.{◌≡◌, false, true, nat_eq, sym, subst, ◌∙◌}
+use Rattle.std.specs.Cmp.Lexicographic.{pointwise}
+use Rattle.std.specs.List.{starts_with}
+use Rattle.pg_patterns.specs.DottedSigns.{dotted_cmp}
 use Rattle.pg_plain.specs.Greatest.{entry_value, entry_cover}
-use Rattle.pg_plain.proofs.Indexed.{front_not_there, string_not_there, none_goes_on}
+use Rattle.pg_types.proofs.EntryLists.{sorted_from}
+use Rattle.pg_plain.proofs.OneString.{string_begins, string_steps, string_stops, string_stops_ends}
 use Rattle.pg_plain.proofs.walk.raise_by_string.Goals as goal
+use Rattle.std.proofs.lemmas.Bool.{not-true, not-false}
 
-pub returns-then-not-may_begin-clause-values : goal.returns-then-not-may_begin-clause-values
-returns-then-not-may_begin-clause-values g c =
-    front_not_there c.args.index.now.fronts.items c.args.index.now.strings.items c.args.q.now (entry_value g.F.PlaceEntry.given) c.args.i c.args.map.now.entries c.requires.indexed (values_of c.args.out.now) c.requires.some (ap (λ x. get_or c.args.index.now.fronts.items x false) (sym c.slot-slot.ensures.value) ∙ sym c.may_begin.ensures ∙ c.if-not-may_begin.true)
+pub loop-place-init : goal.loop-place-init
+loop-place-init g c =
+    string_begins (entry_value g.F.PlaceEntry.given) (entry_cover g.F.PlaceEntry.covers_at c.args.pass.now) c.args.q.now c.args.i c.args.map.now.entries c.new-first.result c.into_iter-place-iterator.result c.args.out.now c.new-first.ensures
+    (sorted_from dotted_cmp c.args.map.now.entries c.range-place-items.ensures.ordered) (c.into_iter-place-iterator.ensures.into_iter_gives ∙ c.range-place-items.ensures.between tt)
 
-pub returns-then-not-may_begin-clause-covers : goal.returns-then-not-may_begin-clause-covers
-returns-then-not-may_begin-clause-covers g c =
-    front_not_there c.args.index.now.fronts.items c.args.index.now.strings.items c.args.q.now (entry_cover g.F.PlaceEntry.covers_at c.args.pass.now) c.args.i c.args.map.now.entries c.requires.indexed (covers_of c.args.out.now) c.requires.some (ap (λ x. get_or c.args.index.now.fronts.items x false) (sym c.slot-slot.ensures.value) ∙ sym c.may_begin.ensures ∙ c.if-not-may_begin.true)
+pub returns-then-ne-clause-values : goal.returns-then-ne-clause-values
+returns-then-ne-clause-values g c =
+    let other : pointwise nat_eq c.in-Some.place.now.0 c.args.q.now ≡ false = subst (λ s. pointwise nat_eq s c.args.q.now ≡ false) c.signs.ensures.value (not-true _ (sym c.ne.ensures ∙ c.if-ne.true)) in
+    (string_stops (entry_value g.F.PlaceEntry.given) (entry_cover g.F.PlaceEntry.covers_at c.args.pass.now) c.args.q.now c.args.i c.args.map.now.entries (c.in-Some.place.now, c.in-Some.entry.now) c.next.new.self c.loop-place.place-iterator c.args.out.now c.loop-place.out c.in-Some.ensures.steps c.loop-place.invariant other).values
 
-pub returns-then-not-may_begin-clause-ends : goal.returns-then-not-may_begin-clause-ends
-returns-then-not-may_begin-clause-ends g c = λ stops.
-    none_goes_on c.args.index.now.fronts.items c.args.index.now.strings.items c.args.q.now c.args.map.now.entries c.requires.indexed c.requires.some (ap (λ x. get_or c.args.index.now.fronts.items x false) (sym c.slot-slot.ensures.value) ∙ sym c.may_begin.ensures ∙ c.if-not-may_begin.true)
+pub returns-then-ne-clause-covers : goal.returns-then-ne-clause-covers
+returns-then-ne-clause-covers g c =
+    let other : pointwise nat_eq c.in-Some.place.now.0 c.args.q.now ≡ false = subst (λ s. pointwise nat_eq s c.args.q.now ≡ false) c.signs.ensures.value (not-true _ (sym c.ne.ensures ∙ c.if-ne.true)) in
+    (string_stops (entry_value g.F.PlaceEntry.given) (entry_cover g.F.PlaceEntry.covers_at c.args.pass.now) c.args.q.now c.args.i c.args.map.now.entries (c.in-Some.place.now, c.in-Some.entry.now) c.next.new.self c.loop-place.place-iterator c.args.out.now c.loop-place.out c.in-Some.ensures.steps c.loop-place.invariant other).covers
 
-pub returns-then-not-may_be-clause-values : goal.returns-then-not-may_be-clause-values
-returns-then-not-may_be-clause-values g c =
-    string_not_there c.args.index.now.fronts.items c.args.index.now.strings.items c.args.q.now (entry_value g.F.PlaceEntry.given) c.args.i c.args.map.now.entries c.requires.indexed (values_of c.args.out.now) (ap (λ x. get_or c.args.index.now.strings.items x false) (sym c.slot-slot.ensures.value) ∙ sym c.may_be.ensures ∙ c.if-not-may_be.true)
+pub returns-then-ne-clause-ends : goal.returns-then-ne-clause-ends
+returns-then-ne-clause-ends g c =
+    λ stops.
+    let apart : starts_with nat_eq c.in-Some.place.now.0 c.args.q.now ≡ false = subst (λ s. starts_with nat_eq s c.args.q.now ≡ false) c.signs-then-ne.ensures.value (sym c.starts_with.ensures.value ∙ stops) in
+    string_stops_ends (entry_value g.F.PlaceEntry.given) (entry_cover g.F.PlaceEntry.covers_at c.args.pass.now) c.args.q.now c.args.i c.args.map.now.entries (c.in-Some.place.now, c.in-Some.entry.now) c.next.new.self c.loop-place.place-iterator c.args.out.now c.loop-place.out c.in-Some.ensures.steps c.loop-place.invariant apart
 
-pub returns-then-not-may_be-clause-covers : goal.returns-then-not-may_be-clause-covers
-returns-then-not-may_be-clause-covers g c =
-    string_not_there c.args.index.now.fronts.items c.args.index.now.strings.items c.args.q.now (entry_cover g.F.PlaceEntry.covers_at c.args.pass.now) c.args.i c.args.map.now.entries c.requires.indexed (covers_of c.args.out.now) (ap (λ x. get_or c.args.index.now.strings.items x false) (sym c.slot-slot.ensures.value) ∙ sym c.may_be.ensures ∙ c.if-not-may_be.true)
+pub loop-place-preserved : goal.loop-place-preserved
+loop-place-preserved g c =
+    let same : pointwise nat_eq c.in-Some.place.now.0 c.args.q.now ≡ true = subst (λ s. pointwise nat_eq s c.args.q.now ≡ true) c.signs.ensures.value (not-false _ (sym c.ne.ensures ∙ c.if-ne.false)) in
+    string_steps (entry_value g.F.PlaceEntry.given) (entry_cover g.F.PlaceEntry.covers_at c.args.pass.now) c.args.q.now c.args.i c.args.map.now.entries (c.in-Some.place.now, c.in-Some.entry.now) c.next.new.self c.loop-place.place-iterator c.args.out.now c.loop-place.out c.raise_by_entry.new.out c.in-Some.ensures.steps c.loop-place.invariant same
+    c.raise_by_entry.ensures.values c.raise_by_entry.ensures.covers

@@ -1,11 +1,9 @@
 use Rattle.std.proofs.Common.{◌≡◌, ℕ, true, List, length, sym, ap, subst, ◌∙◌}
 use Rattle.pg_patterns.specs.Values.{is_entry}
-use Rattle.pg_plain.specs.Indexes.{is_indexed}
 use Rattle.pg_plain.specs.Strings.{has_signs_up_to}
 use Rattle.pg_plain.proofs.Counted.{counted_len, counted_good}
 use Rattle.pg_plain.proofs.Entered.{window_entry}
 use Rattle.pg_plain.proofs.engine.PlainEngineEngine.choose.Goals as goal
-use Rattle.pg_types.proofs.BoolFacts.{all_weaker}
 
 pub invariant_of-self-clause-entries : goal.invariant_of-self-clause-entries
 invariant_of-self-clause-entries c =
@@ -13,13 +11,6 @@ invariant_of-self-clause-entries c =
     c.raise_in.ensures.kept c.args.self.now.entries
     (subst (λ k. is_entry (k, c.args.self.now.pass.level) ≡ true) (sym c.new-place.ensures)
     (window_entry c.signs-signs.result.now c.args.self.now.pass.dot c.args.self.now.pass.level c.args.self.now.pass.len size c.signs-signs.ensures.signs c.args.self.now.len.0 c.args.self.now.len.1 c.args.self.now.dot c.args.self.now.level.0 c.args.self.now.level.1))
-
-pub invariant_of-self-clause-indexed : goal.invariant_of-self-clause-indexed
-invariant_of-self-clause-indexed c =
-    c.raise_in.ensures.places (λ k. is_indexed c.enter.new.self.fronts.items c.enter.new.self.strings.items k.0)
-    (all_weaker (λ (e : (List ℕ × ℕ) × ℕ). is_indexed c.args.self.now.pattern_index.fronts.items c.args.self.now.pattern_index.strings.items e.0.0) (λ (e : (List ℕ × ℕ) × ℕ). is_indexed c.enter.new.self.fronts.items c.enter.new.self.strings.items e.0.0) c.args.self.now.patterns.entries
-    (λ e. c.enter.ensures.kept e.0.0) c.args.self.now.indexed)
-    (subst (λ k. is_indexed c.enter.new.self.fronts.items c.enter.new.self.strings.items k.0 ≡ true) (sym c.new-place.ensures) c.enter.ensures.entered)
 
 pub invariant_of-self-clause-known : goal.invariant_of-self-clause-known
 invariant_of-self-clause-known c =

@@ -1,0 +1,126 @@
+//! What a dictionary gives of small files, and of the longest.
+use pg_dict::Dictionary;
+use pg_translate::Table;
+use pg_types::ReadingError;
+use std::alloc::Global;
+use std::test::Fail;
+
+/// The dictionary of a file under the letters a, b and c.
+fn dictionary_of(alloc: Global, bytes: &[u8]) -> Result<Dictionary, Fail> {
+    let table = Table::read(alloc, b" 1 1\n a\n b\n c\n")?;
+    Ok(Dictionary::read(alloc, &table, bytes)?)
+}
+
+/// The number, line and column of the refusal of a file, zeros where it is accepted.
+fn refusal_of(alloc: Global, bytes: &[u8]) -> Result<(u16, u32, u32), Fail> {
+    let table = Table::read(alloc, b" 1 1\n a\n b\n c\n")?;
+    match Dictionary::read(alloc, &table, bytes) {
+        Ok(_) => Ok((0, 0, 0)),
+        Err(ReadingError::Refused(refusal)) => {
+            Ok((refusal.kind.number(), refusal.line, refusal.column))
+        }
+        Err(ReadingError::Memory) => Err(Fail::new("no memory")),
+    }
+}
+
+#[test]
+fn words_as_they_were_read(rt: HostRuntime) -> Result<(), Fail> {
+    let weights = [3, 3, 1];
+    let dictionary = dictionary_of(rt.alloc(), b"3ab-c\nab-a\n1abc\n")?;
+    assert_eq!(rt; dictionary.len(), weights.len());
+    for i in 0..weights.len() {
+        assert_eq!(rt; dictionary.word(i).weight(), weights[i]);
+    }
+    let dictionary = dictionary_of(rt.alloc(), b"a-2b*c.a")?;
+    assert_eq!(rt; dictionary.len(), 1);
+    let word = dictionary.word(0);
+    assert_eq!(rt; word.signs(), [1, 2, 3, 4, 2, 1].as_slice());
+    assert_eq!(rt;
+        word.hyphens(),
+        [false, false, true, true, false, false].as_slice()
+    );
+    assert_eq!(rt; word.weights(), [1, 1, 2, 1, 1, 1].as_slice());
+    assert_eq!(rt; word.cares(), [true; 6].as_slice());
+    Ok(())
+}
+
+#[test]
+fn one_slice_of_all_signs(rt: HostRuntime) -> Result<(), Fail> {
+    let dictionary = dictionary_of(rt.alloc(), b"ab-c\nab?a\n")?;
+    assert_eq!(rt;
+        dictionary.all_signs(),
+        [1, 2, 3, 4, 1, 1, 2, 3, 2, 1].as_slice()
+    );
+    assert_eq!(rt; dictionary.len(), 2);
+    assert_eq!(rt;
+        dictionary.word(1).cares(),
+        [true, true, true, false, true].as_slice()
+    );
+    Ok(())
+}
+
+#[test]
+fn words_of_a_fold_and_the_others(rt: HostRuntime) -> Result<(), Fail> {
+    let dictionary = dictionary_of(rt.alloc(), b"3ab-c\n7abc\nab\n1abca\n")?;
+    let inside = dictionary.part(rt.alloc(), 2, 1, true)?;
+    assert_eq!(rt; inside.len(), 2);
+    assert_eq!(rt;
+        (inside.word(0).weight(), inside.word(0).signs().len()),
+        (7, 5)
+    );
+    assert_eq!(rt;
+        (inside.word(1).weight(), inside.word(1).signs().len()),
+        (1, 6)
+    );
+    let outside = dictionary.part(rt.alloc(), 2, 1, false)?;
+    assert_eq!(rt; outside.len(), 2);
+    assert_eq!(rt; outside.word(0).weight(), 3);
+    assert_eq!(rt;
+        outside.word(0).hyphens(),
+        [false, false, false, true, false].as_slice()
+    );
+    assert_eq!(rt;
+        (outside.word(1).weight(), outside.word(1).signs().len()),
+        (7, 4)
+    );
+    assert_eq!(rt; dictionary.part(rt.alloc(), 9, 8, true)?.len(), 0);
+    Ok(())
+}
+
+#[test]
+fn refused_dictionaries(rt: HostRuntime) -> Result<(), Fail> {
+    let long = [b'a'; 101];
+    let files: [(&[u8], u16, u32, u32); 9] = [
+        (b"ab-c x?\r\nab-a\r\n", 0, 0, 0),
+        (b"abc\ncba\nad\n", 401, 3, 2),
+        (b"a\rb", 401, 1, 2),
+        (&long, 402, 1, 101),
+        (&long[1..], 0, 0, 0),
+        (b"ab-{0}c\n", 404, 1, 4),
+        (b"ab-{12c\n", 404, 1, 4),
+        (b"ab-{12345}c\n", 404, 1, 4),
+        (b"{250}ab-{12}3c\n", 0, 0, 0),
+    ];
+    for (file, number, line, column) in files {
+        assert_eq!(rt; refusal_of(rt.alloc(), file)?, (number, line, column));
+    }
+    Ok(())
+}
+
+#[test]
+fn lines_of_a_million_items(rt: HostRuntime) -> Result<(), Fail> {
+    for item in [b'9', b'-'] {
+        let line = vec![in rt.alloc(); item; 1_000_000]?;
+        assert_eq!(rt; dictionary_of(rt.alloc(), &line)?.len(), 0);
+    }
+    Ok(())
+}
+
+#[test]
+fn the_longest_file(rt: HostRuntime) -> Result<(), Fail> {
+    let mut file = vec![in rt.alloc(); b'\n'; 67_108_864]?;
+    assert_eq!(rt; dictionary_of(rt.alloc(), &file)?.len(), 0);
+    file.push(b'\n')?;
+    assert_eq!(rt; refusal_of(rt.alloc(), &file)?, (403, 0, 0));
+    Ok(())
+}

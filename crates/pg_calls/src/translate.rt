@@ -1,0 +1,142 @@
+//! Tables of letters, and the items of lines under them.
+use pg_translate::{Item, Place, Table};
+use pg_types::{EDGE, FILE_MAX, Mark, ReadingError, Refusal};
+use std::alloc::{AllocError, Global};
+use std::test::Fail;
+
+#[test]
+fn parts_of_the_default_table(rt: HostRuntime) -> Result<(), Fail> {
+    let table = Table::default_letters(rt.alloc())?;
+    assert_eq!(rt; table.letters(), 26);
+    assert_eq!(rt; (table.left(), table.right()), (2, 3));
+    assert_eq!(rt; table.spelling(EDGE), b".".as_slice());
+    assert_eq!(rt; table.spelling(2), b"a".as_slice());
+    assert_eq!(rt; table.spelling(27), b"z".as_slice());
+    for (mark, byte) in [
+        (Mark::Error, b'.'),
+        (Mark::Missed, b'-'),
+        (Mark::Found, b'*'),
+        (Mark::DontCare, b'?'),
+    ] {
+        assert_eq!(rt; table.mark_byte(mark), byte);
+    }
+    for (signs, ends) in [
+        (2, None),
+        (6, None),
+        (7, Some((3, 3))),
+        (8, Some((3, 4))),
+        (102, Some((3, 98))),
+    ] {
+        assert_eq!(rt; table.reach(signs), ends, "at {signs}");
+    }
+    Ok(())
+}
+
+#[test]
+fn items_of_dictionary_lines(rt: HostRuntime) -> Result<(), Fail> {
+    let table = Table::default_letters(rt.alloc())?;
+    let item = |rest| table.item(Place::Dictionary, rest);
+    assert_eq!(rt; item(b"ab"), Item::Letter(2, b"b"));
+    assert_eq!(rt; item(b"Z"), Item::Letter(27, b""));
+    assert_eq!(rt; item(b"90"), Item::Digit(9, b"0"));
+    assert_eq!(rt; item(b"{0012}c"), Item::Weight(12, b"c"));
+    assert_eq!(rt; item(b"{9999}"), Item::Weight(9999, b""));
+    assert_eq!(rt; item(b".a"), Item::Mark(Mark::Error, b"a"));
+    assert_eq!(rt; item(b"?a"), Item::Mark(Mark::DontCare, b"a"));
+    for bad in ["{0}c", "{12c", "{12345}c", "\u{e4}", "\r"] {
+        assert_eq!(rt; item(bad.as_bytes()), Item::Bad, "at {bad}");
+    }
+    for end in ["", " a", "\ta"] {
+        assert_eq!(rt; item(end.as_bytes()), Item::End, "at {end}");
+    }
+    Ok(())
+}
+
+#[test]
+fn items_of_pattern_lines(rt: HostRuntime) -> Result<(), Fail> {
+    let table = Table::default_letters(rt.alloc())?;
+    let item = |rest| table.item(Place::Patterns, rest);
+    assert_eq!(rt; item(b"a1"), Item::Letter(2, b"1"));
+    assert_eq!(rt; item(b"1a"), Item::Digit(1, b"a"));
+    assert_eq!(rt; item(b".a"), Item::Edge(b"a"));
+    assert_eq!(rt; item(b"-a"), Item::Bad);
+    assert_eq!(rt; item(b"{1}"), Item::Bad);
+    assert_eq!(rt; item(b"\t"), Item::End);
+    Ok(())
+}
+
+#[test]
+fn a_letter_outside_ascii(rt: HostRuntime) -> Result<(), Fail> {
+    let text = b" 1 1\n a\n b\n \xc3\xa4 \\\"a\n";
+    let table = Table::read(rt.alloc(), text).map_err(|_| "refused")?;
+    assert_eq!(rt; table.letters(), 3);
+    assert_eq!(rt; (table.left(), table.right()), (1, 1));
+    assert_eq!(rt; table.spelling(4), b"\xc3\xa4".as_slice());
+    assert_eq!(rt;
+        table.item(Place::Dictionary, b"\\\"a-"),
+        Item::Letter(4, b"-")
+    );
+    assert_eq!(rt;
+        table.item(Place::Dictionary, b"\xc3\xa4b"),
+        Item::Letter(4, b"b")
+    );
+    assert_eq!(rt; table.item(Place::Dictionary, b"\xc3\xa5"), Item::Bad);
+    Ok(())
+}
+
+/// The number, line and column of the refusal of a translate file, and 0 of one that is accepted; none for want of
+/// memory.
+fn refusal(alloc: Global, bytes: &[u8]) -> Option<(u16, u32, u32)> {
+    match Table::read(alloc, bytes) {
+        Ok(_) => Some((0, 0, 0)),
+        Err(ReadingError::Refused(Refusal { kind, line, column })) => {
+            Some((kind.number(), line, column))
+        }
+        Err(ReadingError::Memory) => None,
+    }
+}
+
+#[test]
+fn refused_tables(rt: HostRuntime) {
+    for (text, place) in [
+        ("", (0, 0, 0)),
+        (" 1 1\n s\n ss\n", (105, 3, 2)),
+        (" 1\n", (102, 1, 3)),
+        (" 1 1   -\n", (103, 1, 8)),
+        (" 1 1\n abcdefgh\n", (0, 0, 0)),
+        (" 1 1\n abcdefghi\n", (104, 2, 2)),
+    ] {
+        assert_eq!(rt;
+            refusal(rt.alloc(), text.as_bytes()),
+            Some(place),
+            "at {text}"
+        );
+    }
+}
+
+/// A translate file with so many letters, each spelled by three letters of ASCII.
+fn letters_text(alloc: Global, letters: u32) -> Result<Vec<u8>, AllocError> {
+    let mut text = b" 1 1\n".to_vec(alloc)?;
+    for n in 0..letters {
+        let (high, middle, low) = ((n / 676 % 26) as u8, (n / 26 % 26) as u8, (n % 26) as u8);
+        text.extend_from_slice(&[b' ', b'a' + high, b'a' + middle, b'a' + low, b'\n'])?;
+    }
+    Ok(text)
+}
+
+#[test]
+fn two_thousand_letters(rt: HostRuntime) -> Result<(), Fail> {
+    let text = letters_text(rt.alloc(), 2000)?;
+    let table = Table::read(rt.alloc(), text.as_slice()).map_err(|_| "refused")?;
+    assert_eq!(rt; table.letters(), 2000);
+    let text = letters_text(rt.alloc(), 2001)?;
+    assert_eq!(rt; refusal(rt.alloc(), text.as_slice()), Some((106, 2002, 1)));
+    Ok(())
+}
+
+#[test]
+fn a_file_past_its_limit(rt: HostRuntime) -> Result<(), Fail> {
+    let text = vec![in rt.alloc(); b'\n'; FILE_MAX + 1]?;
+    assert_eq!(rt; refusal(rt.alloc(), text.as_slice()), Some((101, 0, 0)));
+    Ok(())
+}
