@@ -1,5 +1,5 @@
 -- What entering a window and setting its sums leaves of the counts.
-use Rattle.std.proofs.Common.{◌≡◌, ℕ, Bool, true, List, length, unwrap_or, Option, None, Some, sym, ◌∙◌, ap, subst}
+use Rattle.std.proofs.Common.{◌≡◌, ℕ, Bool, true, false, List, length, unwrap_or, is_some, Option, None, Some, sym, ◌∙◌, ap, subst}
 use Rattle.std.specs.FinMap.Entries.{find, put}
 use Rattle.pg_cells.specs.Held.{Held}
 use Rattle.pg_cells.specs.IsHeld.{IsHeld}
@@ -7,7 +7,7 @@ use Rattle.pg_cells.specs.Walks.{AddsBlanks}
 use Rattle.pg_cells.proofs.StringMaps.{order}
 use Rattle.pg_types.specs.Counts.{SignsWithin, AreSmall, sums_of, with_weight, with_count, is_counted}
 use Rattle.pg_count.specs.Counting.{Counting, IsCounting, AreCounting, counting_of, counts_in}
-use Rattle.pg_count.proofs.Counted.{counts_in-put, counts_in-blanks, sums_told, not_counted, counting_put}
+use Rattle.pg_count.proofs.Counted.{find-counts_in, counts_in-put, counts_in-blanks, sums_told, not_counted, counting_put}
 
 -- a window that has no cell is not counted
 pub absent : (c : Counting) (cells : Held (Option (ℕ × ℕ))) (len : ℕ) (u : List ℕ) → counting_of cells len ≡ c → AreCounting cells len → find order u cells.values ≡ None → is_counted c.counts u ≡ true → ⊥
@@ -39,6 +39,13 @@ module _ (c : Counting) (old mid : Held (Option (ℕ × ℕ))) (len : ℕ) (u : 
 
   pub small : (tally : Option (ℕ × ℕ)) (good : Bool) (weight : ℕ) → find order u mid.values ≡ Some tally → AreSmall (with_weight (sums_of c.counts u) good weight) → AreSmall (with_weight (unwrap_or tally (0, 0)) good weight)
   small tally good weight there low = subst (λ sums. AreSmall (with_weight sums good weight)) (sums_entered tally there) low
+
+  pub blank_there : find order u mid.values ≡ Some None → is_counted c.counts u ≡ true → ⊥
+  blank_there there counted =
+      let no : is_counted (counts_in mid.values) u ≡ false = ap is_some (find-counts_in mid.values e.held.ordered u ∙ ap (λ o. unwrap_or o None) there) in
+      let yes : is_counted (counts_in mid.values) u ≡ true = ap (λ (d : Counting). is_counted d.counts u) entered ∙ counted in
+      let wrong : true ≡ false = sym yes ∙ no in
+      cc
 
   module _ (new : Held (Option (ℕ × ℕ))) (tally v : Option (ℕ × ℕ)) (good : Bool) (weight : ℕ) (there : find order u mid.values ≡ Some tally)
       (sums : v ≡ Some (with_weight (unwrap_or tally (0, 0)) good weight)) (set : new ≡ record mid { values = put order u v mid.values }) where

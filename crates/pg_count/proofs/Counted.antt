@@ -1,5 +1,5 @@
 -- How the counts stand in the tallies of the strings that have a cell.
-use Rattle.std.proofs.Common.{◌≡◌, ℕ, ◌≤◌, inl, inr, Bool, true, false, cond, ◌&&◌, T, List, [], ◌∷◌, map, length, unwrap_or, is_some, Option, None, Some, refl, sym, ◌∙◌, ap, subst}
+use Rattle.std.proofs.Common.{◌≡◌, ℕ, ◌≤◌, inl, inr, true, false, cond, T, List, [], ◌∷◌, map, length, unwrap_or, is_some, Option, None, Some, refl, sym, ◌∙◌, ap, subst}
 use Rattle.std.specs.Ordering.{is_lt}
 use Rattle.std.specs.FinMap.Entries.{find, put, is_sorted, below_all}
 use Rattle.pg_cells.specs.Walks.{AddsBlanks}

@@ -3,6 +3,8 @@ pub mod Adding
 pub mod Beginning
 pub mod Bounding
 pub mod Counted
+pub mod Mapped
 pub mod Nexting
 pub mod Searching
+pub mod Telling
 mod Chaining

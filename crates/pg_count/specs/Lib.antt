@@ -1,4 +1,4 @@
 pub mod Bounds
 pub mod Counting
 pub mod Least
-pub mod Tally
+pub mod Tallied

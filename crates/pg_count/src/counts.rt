@@ -6,18 +6,19 @@ ghost use Rattle.pg_count.specs.Counting.{IsCounting};
 
 use crate::least::least;
 use crate::sums::sums_in;
-use crate::tally::{FEW_SIGNS, Tally};
-use pg_cells::{Cells, enter};
+use crate::tallied::Tallied;
+use crate::tally::add_weight;
 use pg_types::{Cursor, EDGE, LENGTH_MAX, Sign, Weight};
 use std::alloc::{AllocError, Global};
 use std::marker::Model;
 
 /// The windows that are counted in a pass, each with its sums of good and bad weights.
 ///
-/// A window's signs lead from cell to cell, and the last cell holds its sums. The memory of the cells stays for later passes.
+/// A window's signs lead from cell to cell, and the last cell has the number of its sums. The memory of the cells and of the sums
+/// stays for later passes.
 #[derive(Drop)]
 pub struct CountTrie {
-    cells: Cells<Tally, FEW_SIGNS>,
+    cells: Tallied,
     len: u8,
 }
 
@@ -39,7 +40,7 @@ impl CountTrie {
         requires { (1 ≤ signs) × (signs ≤ SIGNS_MAX) }
         ensures { IfOk result (λ counts. counts ≡ record { signs = signs; len = 1; counts = [] }) }
     {
-        let cells = Cells::new(alloc, signs, Tally::none())?;
+        let cells = Tallied::new(alloc, signs)?;
         Ok(CountTrie { cells, len: 1 })
     }
 
@@ -48,7 +49,7 @@ impl CountTrie {
         requires { (1 ≤ len) × (len ≤ LENGTH_MAX) }
         ensures { self.new ≡ record self.old { len = len; counts = [] } }
     {
-        self.cells.reset(Tally::none());
+        self.cells.reset();
         self.len = len;
     }
 
@@ -71,10 +72,17 @@ impl CountTrie {
         ensures there { is_counted self.old.counts window.now ≡ true → IsOk result }
         ensures err { OnErr result (self.new ≡ self.old) }
     {
-        let cell = enter(&mut self.cells, window, Tally::none())?;
-        let tally = self.cells.value(cell);
-        self.cells.set_value(cell, tally.with(good, weight));
-        Ok(())
+        let cell = self.cells.enter(window)?;
+        match self.cells.sums(cell) {
+            Some(sums) => {
+                self.cells.set_sums(cell, add_weight(sums, good, weight));
+                Ok(())
+            }
+            None => {
+                self.cells.count(cell, add_weight((0, 0), good, weight))?;
+                Ok(())
+            }
+        }
     }
 
     /// The good and the bad sum of a window; none exactly where it is not counted. It takes no memory.

@@ -7,12 +7,11 @@ ghost use Rattle.pg_count.specs.Bounds.{first_sign};
 ghost use Rattle.pg_count.specs.Least.{NoneAt, NoneAbove, LeastAt, LeastAbove};
 
 use crate::bound::{first_of, passes, rest_of};
-use crate::tally::{FEW_SIGNS, Tally};
-use pg_cells::Cells;
+use crate::tallied::Tallied;
 use pg_types::Sign;
 
 // The sign after one of the signs of the family with the base, 0 for none.
-fn sign_after(cells: &Cells<Tally, FEW_SIGNS>, base: usize, s: Sign) -> Sign
+fn sign_after(cells: &Tallied, base: usize, s: Sign) -> Sign
     requires held { IsHeld cells.now }
     requires base { (p : List ℕ) × (cell : ℕ)
         × ((base_of cells.now.families p ≡ Some base) × (cell_of cells.now.families (p ++ s ∷ []) ≡ Some cell)) }
@@ -26,7 +25,7 @@ fn sign_after(cells: &Cells<Tally, FEW_SIGNS>, base: usize, s: Sign) -> Sign
 
 // The least sign of the family with the base that is not below another, 0 for none. It is that sign itself, where the family has
 // it; else it is sought from the family's first sign on.
-fn sign_from(cells: &Cells<Tally, FEW_SIGNS>, base: usize, first: Sign, from: Sign) -> Sign
+fn sign_from(cells: &Tallied, base: usize, first: Sign, from: Sign) -> Sign
     requires held { IsHeld cells.now }
     requires base { (p : List ℕ) × ((base_of cells.now.families p ≡ Some base)
         × IsNextSign cells.now.values p 0 first) }
@@ -52,7 +51,7 @@ fn sign_from(cells: &Cells<Tally, FEW_SIGNS>, base: usize, first: Sign, from: Si
 /// nothing is said of the path. It goes along the signs of the families, and takes no memory.
 #[cycle(least)]
 pub fn least(
-    cells: &Cells<Tally, FEW_SIGNS>,
+    cells: &Tallied,
     base: usize,
     first: Sign,
     bound: &[Sign],
@@ -80,7 +79,7 @@ pub fn least(
 // The same among the strings that go on by the sign, whose string has the cell.
 #[cycle(least)]
 fn least_at(
-    cells: &Cells<Tally, FEW_SIGNS>,
+    cells: &Tallied,
     cell: usize,
     s: Sign,
     bound: &[Sign],
@@ -114,7 +113,7 @@ fn least_at(
 
 // The same where the sign is the last.
 fn last_at(
-    cells: &Cells<Tally, FEW_SIGNS>,
+    cells: &Tallied,
     cell: usize,
     s: Sign,
     bound: &[Sign],
@@ -130,7 +129,7 @@ fn last_at(
     if !passes(bound, s) {
         return None;
     }
-    let sums = cells.value(cell).sums()?;
+    let sums = cells.sums(cell)?;
     path[0] = s;
     Some(sums)
 }

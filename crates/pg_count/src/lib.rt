@@ -5,6 +5,7 @@ mod bound;
 mod counts;
 mod least;
 mod sums;
+mod tallied;
 mod tally;
 
 pub use counts::CountTrie;

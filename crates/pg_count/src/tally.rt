@@ -1,85 +1,53 @@
-//! The sums of a string that may be counted.
-ghost use Rattle.std.specs.Prelude.{◌≡◌, ◌≢◌, unwrap_or, Some, None};
+//! The sums of good and bad weights of a string, as one tally of a list.
+ghost use Rattle.std.specs.Prelude.{◌≡◌, ◌<◌, ◌≤◌, ◌++◌, [], ◌∷◌, length, slice_get, set, IfOk, OnOk, OnErr};
 ghost use Rattle.pg_types.specs.Counts.{AreSmall, with_weight};
 
-use pg_cells::TwoWords;
 use pg_types::Weight;
-use std::marker::Model;
+use std::alloc::AllocError;
 
-/// Of the windows' families each is placed near the top, since their layout is told to no one.
-pub const FEW_SIGNS: usize = 0;
+/// In a cell it says that the string is not counted: no tally has this number.
+pub const NOT_COUNTED: u32 = u32::MAX;
 
-/// No good sum is so great; it stands in the tally of a string that is not counted.
-const NOT_COUNTED: u64 = u64::MAX;
-
-/// The sums of good and bad weights of a string, or none where it is not counted. Two numbers hold it.
-#[derive(Clone, Copy)]
-pub struct Tally {
-    good: TwoWords,
-    bad: TwoWords,
+/// The sums with one weight more, in the good or the bad one.
+pub fn add_weight(sums: (u64, u64), good: bool, weight: Weight) -> (u64, u64)
+    requires { AreSmall (with_weight sums good weight) }
+    ensures { result ≡ with_weight sums good weight }
+{
+    let weight = u64::from(weight);
+    if good {
+        (sums.0 + weight, sums.1)
+    } else {
+        (sums.0, sums.1 + weight)
+    }
 }
 
-impl Model for Tally {
-    ghost use Rattle.std.specs.Prelude.{ℕ, Option};
-
-    ghost Value = { Option (ℕ × ℕ) };
-
-    ghost use Rattle.pg_count.specs.Tally.{tally_of, IsTally, told_by, told_by-tally_of};
-
-    ghost view = { tally_of };
-
-    ghost invariant = { IsTally };
-
-    ghost inverse = { told_by };
-
-    ghost inverse_ok = { told_by-tally_of };
+/// The tally with a number, or `None` where no tally has it.
+pub fn tally_at(tallies: &[(u64, u64)], number: u32) -> Option<(u64, u64)>
+    ensures { result ≡ slice_get tallies.now number }
+{
+    tallies.get(number as usize).copied()
 }
 
-impl Tally {
-    /// That of a string that is not counted.
-    pub fn none() -> Tally
-        ensures { result ≡ None }
-    {
-        Tally {
-            good: TwoWords::new(NOT_COUNTED),
-            bad: TwoWords::new(0),
-        }
-    }
+/// Sets the tally with a number.
+pub fn set_tally(tallies: &mut Vec<(u64, u64)>, number: u32, sums: (u64, u64))
+    requires { number < length tallies.old.items }
+    ensures { tallies.new.items ≡ set tallies.old.items number sums }
+{
+    tallies[number as usize] = sums;
+}
 
-    // That of a string with these sums.
-    fn of(good: u64, bad: u64) -> Tally
-        requires { good ≢ NOT_COUNTED }
-        ensures { result ≡ Some (good, bad) }
-    {
-        Tally {
-            good: TwoWords::new(good),
-            bad: TwoWords::new(bad),
-        }
+/// Adds a tally and gives its number, as long as a number fits its cell. Refused: the tallies are as before.
+pub fn push_tally(tallies: &mut Vec<(u64, u64)>, sums: (u64, u64)) -> Result<u32, AllocError>
+    requires { length tallies.old.items ≤ NOT_COUNTED }
+    ensures number { IfOk result (λ number. number ≡ length tallies.old.items) }
+    ensures items { OnOk result (tallies.new.items ≡ tallies.old.items ++ sums ∷ []) }
+    ensures few { length tallies.new.items ≤ NOT_COUNTED }
+    ensures err { OnErr result (tallies.new.items ≡ tallies.old.items) }
+{
+    let number = tallies.len();
+    if number >= NOT_COUNTED as usize {
+        return Err(AllocError);
     }
-
-    /// The tally with one weight more in its good or its bad sum.
-    pub fn with(self, good: bool, weight: Weight) -> Tally
-        requires { AreSmall (with_weight (unwrap_or self (0, 0)) good weight) }
-        ensures { result ≡ Some (with_weight (unwrap_or self (0, 0)) good weight) }
-    {
-        let (good_sum, bad_sum) = self.sums().unwrap_or((0, 0));
-        let weight = u64::from(weight);
-        if good {
-            Tally::of(good_sum + weight, bad_sum)
-        } else {
-            Tally::of(good_sum, bad_sum + weight)
-        }
-    }
-
-    /// The sums of good and bad weights, or `None` where the string is not counted.
-    pub fn sums(self) -> Option<(u64, u64)>
-        ensures { result ≡ self }
-    {
-        let good = self.good.number();
-        if good == NOT_COUNTED {
-            None
-        } else {
-            Some((good, self.bad.number()))
-        }
-    }
+    tallies.push(sums)?;
+    Ok(number as u32)
 }

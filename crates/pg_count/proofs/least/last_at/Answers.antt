@@ -1,4 +1,4 @@
-use Rattle.std.proofs.Common.{[], ◌∷◌, ◌++◌, Some, sym, ◌∙◌, ap, subst}
+use Rattle.std.proofs.Common.{[], ◌∷◌, ◌++◌, sym, ◌∙◌, subst}
 use Rattle.pg_count.specs.Least.{LeastAt}
 use Rattle.pg_count.proofs.Searching.{none_passes, least_last, one_is}
 use Rattle.pg_count.proofs.least.last_at.Goals as goal
@@ -10,4 +10,4 @@ pub returns : goal.returns
 returns c = λ p at.
     subst (λ path. LeastAt c.args.cells.now.values p c.args.bound.now c.args.s path c.in_ok-sums.sums) (sym (one_is c.args.path.now c.args.s c.requires.one))
     (least_last c.args.cells.now.values p c.args.bound.now c.args.s c.in_ok-sums.sums c.requires.sign (sym c.passes.ensures ∙ c.if-not-passes.false)
-    (c.value.ensures (p ++ c.args.s ∷ []) at ∙ ap Some (sym c.in_ok-sums.ensures)))
+    (c.in_ok-sums.ensures (p ++ c.args.s ∷ []) at))

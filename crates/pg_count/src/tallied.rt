@@ -1,0 +1,172 @@
+//! The cells of strings of which some are counted.
+ghost use Rattle.std.specs.Prelude.{◌≡◌, ◌<◌, ◌≤◌, ◌==◌, ℕ, List, [], ◌∷◌, ◌++◌, length, All, Some, None, IfOk, OnOk, OnErr, if◌then◌else◌};
+ghost use Rattle.std.specs.FinMap.{find, put};
+ghost use Rattle.std.specs.Cmp.Lexicographic.{slice_cmp};
+ghost use Rattle.std.specs.Ordering.{nat_cmp};
+ghost use Rattle.pg_types.specs.declared.limits.TheConstants.{SIGNS_MAX};
+ghost use Rattle.pg_types.specs.Placement.{cell_of, base_of};
+ghost use Rattle.pg_cells.specs.IsHeld.{IsHeld};
+ghost use Rattle.pg_cells.specs.Members.{IsNextSign};
+ghost use Rattle.pg_cells.specs.Root.{root_held};
+ghost use Rattle.pg_cells.specs.Walks.{IsAt, EndsBefore, AddsBlanks};
+
+use crate::tally::{NOT_COUNTED, push_tally, set_tally, tally_at};
+use pg_cells::Cells;
+use pg_types::Sign;
+use std::alloc::{AllocError, Global};
+use std::marker::Model;
+
+/// Of the windows' families each is placed near the top, since their layout is told to no one.
+const FEW_SIGNS: usize = 0;
+
+/// Cells of strings, each with its sums where it is counted. The cell of a string has the number of its tally, and the tallies
+/// stand in a list of their own, since most cells are of strings that are not counted.
+#[derive(Drop)]
+pub struct Tallied {
+    cells: Cells<u32, FEW_SIGNS>,
+    tallies: Vec<(u64, u64)>,
+}
+
+impl Model for Tallied {
+    ghost use Rattle.std.specs.Prelude.{ℕ, Option};
+    ghost use Rattle.std.specs.Coded.{coded_option, coded×, coded_ℕ};
+    ghost use Rattle.pg_cells.specs.Held.{Held, held_code};
+    ghost use Rattle.pg_count.specs.Tallied.{told, AreTold};
+
+    ghost Value = { Held (Option (ℕ × ℕ)) };
+
+    ghost coded = { held_code (coded_option (coded× coded_ℕ coded_ℕ)) };
+
+    ghost view = { λ t. told t.cells t.tallies.items };
+
+    ghost invariant = { λ t. AreTold t.cells t.tallies.items };
+}
+
+impl Tallied {
+    /// Each sign alone has a cell, and no string is counted.
+    pub fn new(alloc: Global, signs: u16) -> Result<Tallied, AllocError>
+        requires { (1 ≤ signs) × (signs ≤ SIGNS_MAX) }
+        ensures held { IfOk result (λ t. t ≡ root_held signs None) }
+        ensures kept { IfOk result (λ t. IsHeld t) }
+    {
+        let cells = Cells::new(alloc, signs, NOT_COUNTED)?;
+        let tallies = Vec::new(alloc);
+        Ok(Tallied { cells, tallies })
+    }
+
+    /// Each sign alone has a cell, and no string is counted. It takes no memory.
+    pub fn reset(&mut self)
+        ensures held { self.new ≡ root_held self.old.signs None }
+        ensures kept { IsHeld self.new }
+    {
+        self.cells.reset(NOT_COUNTED);
+        self.tallies.clear();
+    }
+
+    /// The number of signs of the table.
+    pub fn signs(&self) -> u16
+        ensures signs { result ≡ self.now.signs }
+        ensures held { IsHeld self.now }
+    {
+        self.cells.signs()
+    }
+
+    /// The cell of the sign in the family with the base, or `None` where the family lacks the sign.
+    pub fn find(&self, base: usize, s: Sign) -> Option<usize>
+        requires base { (p : List ℕ) × (base_of self.now.families p ≡ Some base) }
+        requires sign { (1 ≤ s) × (s ≤ self.now.signs) }
+        ensures cell { (p : List ℕ) → base_of self.now.families p ≡ Some base →
+            result ≡ cell_of self.now.families (p ++ s ∷ []) }
+    {
+        self.cells.find(base, s)
+    }
+
+    /// The base of the family below the cell's string, 0 for none.
+    pub fn child(&self, cell: usize) -> usize
+        requires { (q : List ℕ) × (cell_of self.now.families q ≡ Some cell) }
+        ensures base { (q : List ℕ) → cell_of self.now.families q ≡ Some cell →
+            base_of self.now.families q ≡ (if result == 0 then None else Some result) }
+        ensures none { (q : List ℕ) → cell_of self.now.families q ≡ Some cell → result ≡ 0 → (x : ℕ) →
+            EndsBefore self.now.values (q ++ x ∷ []) }
+    {
+        self.cells.child(cell)
+    }
+
+    /// The first sign of the family below the cell's string, 0 for none.
+    pub fn first_sign(&self, cell: usize) -> Sign
+        requires { (q : List ℕ) × (cell_of self.now.families q ≡ Some cell) }
+        ensures { (q : List ℕ) → cell_of self.now.families q ≡ Some cell → IsNextSign self.now.values q 0 result }
+    {
+        self.cells.first_sign(cell)
+    }
+
+    /// The next sign of the family that the cell is in, 0 for none.
+    pub fn next_sign(&self, cell: usize) -> Sign
+        requires { (q : List ℕ) × (cell_of self.now.families q ≡ Some cell) }
+        ensures { (p : List ℕ) (s : ℕ) → cell_of self.now.families (p ++ s ∷ []) ≡ Some cell →
+            IsNextSign self.now.values p s result }
+    {
+        self.cells.next_sign(cell)
+    }
+
+    /// Goes from a cell, or from the start for `None`, to the cell of the string with the sign added. `None` tells that no
+    /// string that begins with this one has a cell.
+    pub fn step(&self, at: Option<usize>, s: Sign) -> Option<usize>
+        requires at { (q : List ℕ) × (IsAt self.now.families at q) }
+        requires sign { (1 ≤ s) × (s ≤ self.now.signs) }
+        ensures cell { (q : List ℕ) → IsAt self.now.families at q → result ≡ cell_of self.now.families (q ++ s ∷ []) }
+        ensures none { (q : List ℕ) → IsAt self.now.families at q → result ≡ None →
+            EndsBefore self.now.values (q ++ s ∷ []) }
+    {
+        pg_cells::step(&self.cells, at, s)
+    }
+
+    /// The good and the bad sum of the cell's string, or `None` where it is not counted.
+    pub fn sums(&self, cell: usize) -> Option<(u64, u64)>
+        requires { (q : List ℕ) × (cell_of self.now.families q ≡ Some cell) }
+        ensures { (q : List ℕ) → cell_of self.now.families q ≡ Some cell → find (slice_cmp nat_cmp) q self.now.values
+            ≡ Some result }
+    {
+        tally_at(self.tallies.as_slice(), self.cells.value(cell))
+    }
+
+    /// Gives each prefix of the string a cell, and answers the cell of the string. What is counted stays.
+    ///
+    /// Refused: a shorter prefix is entered in its place. The string had no cell.
+    pub fn enter(&mut self, signs: &[Sign]) -> Result<usize, AllocError>
+        requires some { 0 < length signs.now }
+        requires signs { All (λ s. (1 ≤ s) × (s ≤ self.old.signs)) signs.now }
+        ensures cell { IfOk result (λ cell. cell_of self.new.families signs.now ≡ Some cell) }
+        ensures blanks { AddsBlanks signs.now None self.old.values self.new.values }
+        ensures held { IsHeld self.new }
+        ensures signs { self.new.signs ≡ self.old.signs }
+        ensures err { OnErr result (find (slice_cmp nat_cmp) signs.now self.old.values ≡ None) }
+    {
+        pg_cells::enter(&mut self.cells, signs, NOT_COUNTED)
+    }
+
+    /// Sets the sums of a string that is counted.
+    pub fn set_sums(&mut self, cell: usize, sums: (u64, u64))
+        requires { (q : List ℕ) × (was : ℕ × ℕ) × ((cell_of self.old.families q ≡ Some cell)
+            × (find (slice_cmp nat_cmp) q self.old.values ≡ Some (Some was))) }
+        ensures held { (q : List ℕ) → cell_of self.old.families q ≡ Some cell →
+            self.new ≡ record self.old { values = put (slice_cmp nat_cmp) q (Some sums) self.old.values } }
+        ensures kept { IsHeld self.new }
+    {
+        let number = self.cells.value(cell);
+        set_tally(&mut self.tallies, number, sums);
+    }
+
+    /// Counts a string, with the sums. Refused: it is not counted.
+    pub fn count(&mut self, cell: usize, sums: (u64, u64)) -> Result<(), AllocError>
+        requires { (q : List ℕ) × (cell_of self.old.families q ≡ Some cell) }
+        ensures held { (q : List ℕ) → cell_of self.old.families q ≡ Some cell → OnOk result (self.new
+            ≡ record self.old { values = put (slice_cmp nat_cmp) q (Some sums) self.old.values }) }
+        ensures kept { IsHeld self.new }
+        ensures err { OnErr result (self.new ≡ self.old) }
+    {
+        let number = push_tally(&mut self.tallies, sums)?;
+        self.cells.set_value(cell, number);
+        Ok(())
+    }
+}
