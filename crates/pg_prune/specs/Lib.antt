@@ -1,0 +1,7 @@
+pub mod Places
+pub mod Prunes
+pub mod Promises
+pub mod Reports
+pub mod Standing
+pub mod Holders
+pub mod Picks
