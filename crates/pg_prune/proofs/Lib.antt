@@ -1,0 +1,4 @@
+pub mod RoundLaws
+pub mod Told
+pub mod NeedLaws
+pub mod PrunedLaws
