@@ -2,3 +2,5 @@ pub mod RoundLaws
 pub mod Told
 pub mod NeedLaws
 pub mod PrunedLaws
+pub mod TrailLists
+pub mod TrailStarts
