@@ -4,3 +4,5 @@ pub mod NeedLaws
 pub mod PrunedLaws
 pub mod TrailLists
 pub mod TrailStarts
+pub mod TrailSteps
+pub mod TrailPlaces

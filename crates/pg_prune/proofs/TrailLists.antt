@@ -13,7 +13,10 @@ range_agree f g lo (suc n) same =
 
 -- a range in two parts
 pub range_parts : (lo m n : ℕ) → range_with_len lo (m + n) ≡ range_with_len lo m ++ range_with_len (lo + m) n
-range_parts lo zero n = ap (λ k. range_with_len k n) (omega arith) ∙ ap (λ k. range_with_len lo k) (omega arith)
+range_parts lo zero n =
+    let size : 0 + n ≡ n = omega arith in
+    let place : lo ≡ lo + 0 = omega arith in
+    ap (range_with_len lo) size ∙ ap (λ k. range_with_len k n) place
 range_parts lo (suc m) n =
     let size : suc m + n ≡ suc (m + n) = omega arith in
     let place : lo + 1 + m ≡ lo + suc m = omega arith in

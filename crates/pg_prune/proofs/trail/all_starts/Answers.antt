@@ -1,4 +1,4 @@
-use Rattle.std.proofs.Common.{◌≡◌, ◌≤◌, ◌+◌, ◌++◌, length, drop, sum_by, ap, sym, subst, ◌∙◌, arith}
+use Rattle.std.proofs.Common.{◌≡◌, ◌≤◌, ◌+◌, ◌-◌, ◌++◌, length, drop, sum_by, ap, ◌∙◌, arith}
 use Rattle.std.proofs.lemmas.List.Elements.{All-append, All-same}
 use Rattle.pg_dict.specs.Lent.{lent_word}
 use Rattle.pg_dict.specs.Word.{letter_count}
@@ -16,8 +16,15 @@ words-preserved c =
     let m = minima_of c.args.table.now in
     let w = lent_word c.word-w.result in
     let added : c.push_starts.new.starts.items ≡ c.words.starts.items ++ starts_in c.words.word c.words.places (length w.signs) = c.in_ok-push_starts.ensures in
-    let next : c.match-reach.places ≡ c.words.places + width m (length w.signs) = ? in
-    let fewer : width m (length w.signs) ≤ letter_count w = ? in
+    let size : (c.match-reach.places ≡ c.words.places + width m (length w.signs)) × (width m (length w.signs) ≤ letter_count w) =
+      elim c.match-reach.branch [
+        | in-Some v ↦
+            let wide : v.in-Some.last + 1 - v.in-Some.first ≡ width m (length w.signs) = ap width_of v.in-Some.ensures.value in
+            (omega (arith, v.places-is), omega (arith, v.in-Some.ensures.between))
+        | in_default v ↦ let wide : 0 ≡ width m (length w.signs) = ap width_of v.in_default.ensures.value in (omega (arith, v.places-is), omega arith)
+      ] in
+    let next : c.match-reach.places ≡ c.words.places + width m (length w.signs) = size.0 in
+    let fewer : width m (length w.signs) ≤ letter_count w = size.1 in
     let letters : sum_by letter_count (drop c.words.word ws) ≡ letter_count w + sum_by letter_count (drop (c.words.word + 1) ws) = letters_from ws c.words.word w c.word-w.ensures.lent in
     record {
       whole =
