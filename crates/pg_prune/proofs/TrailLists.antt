@@ -1,7 +1,8 @@
 -- Ranges, and lists that are filtered.
-use Rattle.std.proofs.Common.{◌≡◌, ℕ, zero, suc, ◌+◌, ◌<◌, ◌≤◌, Bool, true, false, cond, ◌&&◌, List, [], ◌∷◌, ◌++◌, length, map, take, Option, Some, None, refl, sym, subst, ap, ◌∙◌, arith, All}
+use Rattle.std.proofs.Common.{◌≡◌, ℕ, zero, suc, ◌+◌, ◌<◌, ◌≤◌, Bool, true, false, cond, ◌&&◌, List, [], ◌∷◌, ◌++◌, length, map, take, get_or, Option, Some, None, refl, sym, subst, ap, ◌∙◌, arith, All}
 use Rattle.std.specs.List.{range_with_len, filter, filter_map, cons_option}
-use Rattle.std.proofs.lemmas.List.Elements.{All-nil, All-cons, All-head, All-tail}
+use Rattle.std.proofs.lemmas.List.{append-nil, take_more}
+use Rattle.std.proofs.lemmas.List.Elements.{All-head, All-tail, filter_map-append}
 
 -- two functions that agree on a range
 pub range_agree : {X : Type 0} (f g : ℕ → X) (lo n : ℕ) → ((k : ℕ) → lo ≤ k → k < lo + n → f k ≡ g k) → map f (range_with_len lo n) ≡ map g (range_with_len lo n)
@@ -53,3 +54,17 @@ given_shifted h g d lo (suc n) same =
     let place : lo + 1 + d ≡ lo + d + 1 = omega arith in
     ap (λ o. cons_option o (filter_map h (range_with_len (lo + 1) n))) (same lo)
     ∙ ap (cons_option (g (lo + d))) (given_shifted h g d (lo + 1) n same ∙ ap (λ k. filter_map g (range_with_len k n)) place)
+
+-- what a function gives on an element more
+pub given_more : {X Y : Type 0} (f : X → Option Y) (xs : List X) (i : ℕ) (d : X) (y : Y) → i < length xs → Some y ≡ f (get_or xs i d) → filter_map f (take i xs) ++ y ∷ [] ≡ filter_map f (take (i + 1) xs)
+given_more f xs i d y inside is =
+    ap (λ o. filter_map f (take i xs) ++ cons_option o []) is
+    ∙ sym (filter_map-append f (take i xs) (get_or xs i d ∷ []))
+    ∙ ap (λ ys. filter_map f ys) (sym (take_more xs i d inside))
+
+pub given_none : {X Y : Type 0} (f : X → Option Y) (xs : List X) (i : ℕ) (d : X) → i < length xs → None ≡ f (get_or xs i d) → filter_map f (take i xs) ≡ filter_map f (take (i + 1) xs)
+given_none f xs i d inside is =
+    sym (append-nil (filter_map f (take i xs)))
+    ∙ ap (λ o. filter_map f (take i xs) ++ cons_option o []) is
+    ∙ sym (filter_map-append f (take i xs) (get_or xs i d ∷ []))
+    ∙ ap (λ ys. filter_map f ys) (sym (take_more xs i d inside))

@@ -3,7 +3,8 @@ use Rattle.std.proofs.Common.{◌≡◌, ℕ, zero, suc, ◌+◌, ◌-◌, ◌<�
 use Rattle.std.specs.List.{range_with_len, filter, filter_map, cons_option}
 use Rattle.std.specs.Option.{option_map_or}
 use Rattle.std.proofs.lemmas.Bool.{leb-true, leb-false, le-leb, lt-leb, and_from, and_left, and_right, cases_lt, and_parts}
-use Rattle.std.proofs.lemmas.List.{append-nil, length-map}
+use Rattle.std.proofs.lemmas.List.{append-nil, length-map, length-drop, drop_more}
+use Rattle.std.proofs.lemmas.Option.{slice_get-get_or}
 use Rattle.std.proofs.lemmas.List.Elements.{filter-append, filter_map-append}
 use Rattle.std.proofs.lemmas.List.FromFn.{length-range_with_len}
 use Rattle.pg_types.proofs.BoolFacts.{no_test}
@@ -118,16 +119,16 @@ numbers-append test at (x ∷ xs) ys =
     by_test (test x) (numbers_of test (at + 1) xs) (numbers_of test (at + suc (length xs)) ys) (numbers_of test (at + 1) (xs ++ ys))
     (numbers-append test (at + 1) xs ys ∙ ap (λ n. numbers_of test (at + 1) xs ++ numbers_of test n ys) place)
   where
-    by_test : (t : Bool) (as bs cs : List ℕ) → cs ≡ as ++ bs → (if t then at ∷ cs else cs) ≡ (if t then at ∷ as else as) ++ bs
-    by_test true as bs cs same = ap (λ zs. at ∷ zs) same
-    by_test false as bs cs same = same
+    by_test : (t : Bool) (front back whole : List ℕ) → whole ≡ front ++ back → (if t then at ∷ whole else whole) ≡ (if t then at ∷ front else front) ++ back
+    by_test true front back whole same = ap (λ zs. at ∷ zs) same
+    by_test false front back whole same = same
 
 -- a function of what is kept
-kept_given : {X : Type 0} (f : X → Option ℕ) (p : X → Bool) (g : ℕ → X) (h : ℕ → Option ℕ) → ((a : ℕ) → h a ≡ only_if (p (g a)) (f (g a))) → (as : List ℕ) → filter_map f (filter p (map g as)) ≡ filter_map h as
+kept_given : {X : Type 0} (f : X → Option ℕ) (p : X → Bool) (g : ℕ → X) (h : ℕ → Option ℕ) → ((a : ℕ) → h a ≡ only_if (p (g a)) (f (g a))) → (xs : List ℕ) → filter_map f (filter p (map g xs)) ≡ filter_map h xs
 kept_given f p g h same [] = refl
-kept_given f p g h same (a ∷ as) =
-    by_test (p (g a)) (filter p (map g as)) ∙ ap (λ (o : Option ℕ). cons_option o (filter_map f (filter p (map g as)))) (sym (same a))
-    ∙ ap (cons_option (h a)) (kept_given f p g h same as)
+kept_given {X} f p g h same (a ∷ rest) =
+    by_test (p (g a)) (filter p (map g rest)) ∙ ap (λ (o : Option ℕ). cons_option o (filter_map f (filter p (map g rest)))) (sym (same a))
+    ∙ ap (cons_option (h a)) (kept_given f p g h same rest)
   where
     by_test : (t : Bool) (xs : List X) → filter_map f (cond t (g a ∷ xs) xs) ≡ cons_option (only_if t (f (g a))) (filter_map f xs)
     by_test true xs = refl
@@ -165,8 +166,12 @@ module _ (m : Minima) (all : List Word) (u : List ℕ) (v d : ℕ) where
   in_words (w ∷ ws) word b is =
       let first : List Start = starts_in word b (length w.signs) in
       let behind : List Start = starts_from m (word + 1) (b + width m (length w.signs)) ws in
-      let at : slice_get all word ≡ Some w = ? in
-      let next : drop (word + 1) all ≡ ws = ? in
+      let size : length all - word ≡ suc (length ws) = sym (length-drop word all) ∙ ap (λ (xs : List Word). length xs) is in
+      let within : word < length all = omega arith in
+      let more : w ∷ ws ≡ get_or all word w ∷ drop (word + 1) all = sym is ∙ drop_more all word w within in
+      let same : get_or all word w ≡ w = cc in
+      let next : drop (word + 1) all ≡ ws = cc in
+      let at : slice_get all word ≡ Some w = slice_get-get_or all word w within ∙ ap (λ (x : Word). Some x) same in
       let here : filter_map (place_of m all d) (filter (begins_at all u) first) ≡ numbers_of (stands ((u, d), v)) b (places_in m (word + 1) w) =
         in_word word b w at ∙ by_starts u d w.signs (reach m.left m.right (length w.signs)) b ∙ in_reach_of (word + 1) b w.signs (reach m.left m.right (length w.signs)) refl in
       let there : filter_map (place_of m all d) (filter (begins_at all u) behind) ≡ numbers_of (stands ((u, d), v)) (b + length (places_in m (word + 1) w)) (places_from m (word + 1 + 1) ws) =
