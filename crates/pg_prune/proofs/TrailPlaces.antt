@@ -1,12 +1,12 @@
 -- The places at which a string stands, by its starts.
-use Rattle.std.proofs.Common.{◌≡◌, ℕ, zero, suc, ◌+◌, ◌-◌, ◌<◌, ◌≤◌, Bool, true, false, cond, ◌&&◌, nat_le, if◌then◌else◌, List, [], ◌∷◌, ◌++◌, length, map, drop, get_or, slice_get, Option, Some, None, refl, sym, ap, ◌∙◌, ⊎_elim, arith, map-append}
+use Rattle.std.proofs.Common.{◌≡◌, ℕ, zero, suc, ◌+◌, ◌-◌, ◌<◌, ◌≤◌, Bool, true, false, cond, ◌&&◌, nat_le, if◌then◌else◌, List, [], ◌∷◌, ◌++◌, length, map, drop, get_or, slice_get, Option, Some, None, refl, sym, ap, ◌∙◌, ⊎_elim, arith}
 use Rattle.std.specs.List.{range_with_len, filter, filter_map, cons_option}
 use Rattle.std.specs.Option.{option_map_or}
 use Rattle.std.proofs.lemmas.Bool.{leb-true, leb-false, le-leb, lt-leb, and_from, and_left, and_right, cases_lt, and_parts}
-use Rattle.std.proofs.lemmas.List.{append-nil, length-map, length-drop, drop_more}
+use Rattle.std.proofs.lemmas.List.{append-nil, length-drop, drop_more}
 use Rattle.std.proofs.lemmas.Option.{slice_get-get_or}
 use Rattle.std.proofs.lemmas.List.Elements.{filter-append, filter_map-append}
-use Rattle.std.proofs.lemmas.List.FromFn.{length-range_with_len}
+use Rattle.std.proofs.lemmas.List.FromFn.{length-map-range_with_len}
 use Rattle.pg_types.proofs.BoolFacts.{no_test}
 use Rattle.pg_translate.specs.Reach.{reach, positions}
 use Rattle.pg_dict.specs.Word.{Word}
@@ -20,6 +20,10 @@ use Rattle.pg_prune.specs.Trails.{signs_of, width_of, width, start_at, starts_in
 use Rattle.pg_prune.proofs.TrailLists.{range_parts, nothing_in, given_shifted}
 use Rattle.pg_prune.proofs.TrailSteps.{Stands, stands_parts}
 use Rattle.pg_prune.proofs.TrailStarts.{signs_at}
+
+-- a place of a word
+abbrev pub place_at : ℕ → List ℕ → ℕ → Place
+place_at number signs p = record { word = number; signs = signs; position = p }
 
 -- what is given where a test passes
 abbrev pub only_if : Bool → Option ℕ → Option ℕ
@@ -77,7 +81,7 @@ module _ (u : List ℕ) (v d : ℕ) (w : List ℕ) (first last b : ℕ) where
 
   -- the numbers of places from a position on
   numbered : (number p n at : ℕ) → first ≤ p → p + n ≤ last + 1 → at ≡ b + (p - first)
-      → numbers_of (stands ((u, d), v)) at (map (λ q. record { word = number; signs = w; position = q }) (range_with_len p n))
+      → numbers_of (stands ((u, d), v)) at (map (place_at number w) (range_with_len p n))
         ≡ filter_map (placed u d w (Some (first, last)) b) (range_with_len p n)
   numbered number p zero at low high is = refl
   numbered number p (suc n) at low high is =
@@ -145,7 +149,7 @@ module _ (m : Minima) (all : List Word) (u : List ℕ) (v d : ℕ) where
   -- the places of a word
   in_reach_of : (number b : ℕ) (w : List ℕ) (r : Option (ℕ × ℕ)) → reach m.left m.right (length w) ≡ r
       → filter_map (placed u d w r b) (range_with_len 0 (d + length w))
-        ≡ numbers_of (stands ((u, d), v)) b (map (λ q. record { word = number; signs = w; position = q }) (option_map_or (λ ends. range_with_len ends.0 (ends.1 + 1 - ends.0)) r []))
+        ≡ numbers_of (stands ((u, d), v)) b (map (place_at number w) (option_map_or (λ ends. range_with_len ends.0 (ends.1 + 1 - ends.0)) r []))
   in_reach_of number b w None is = nothing_in (placed u d w None b) 0 (d + length w) (λ p low high. out_of_reach u d w None b p refl)
   in_reach_of number b w (Some ends) is =
       let h : Reaches m.left m.right (length w) ends.0 ends.1 = reach_is m.left m.right (length w) ends.0 ends.1 is in
@@ -155,11 +159,9 @@ module _ (m : Minima) (all : List Word) (u : List ℕ) (v d : ℕ) where
       sym (numbered u v d w ends.0 ends.1 b number ends.0 (ends.1 + 1 - ends.0) b (omega arith) (omega arith) (omega arith)
       ∙ by_reach u v d w ends.0 ends.1 b (d + length w) (omega arith) (omega arith))
 
-  width_is : (w : Word) (number : ℕ) (r : Option (ℕ × ℕ)) → length (map (λ q. record { word = number; signs = w.signs; position = q }) (option_map_or (λ ends. range_with_len ends.0 (ends.1 + 1 - ends.0)) r [])) ≡ width_of r
+  width_is : (w : Word) (number : ℕ) (r : Option (ℕ × ℕ)) → length (map (place_at number w.signs) (option_map_or (λ ends. range_with_len ends.0 (ends.1 + 1 - ends.0)) r [])) ≡ width_of r
   width_is w number None = refl
-  width_is w number (Some ends) =
-      length-map (λ q. record { word = number; signs = w.signs; position = q }) (range_with_len ends.0 (ends.1 + 1 - ends.0))
-      ∙ length-range_with_len ends.0 (ends.1 + 1 - ends.0)
+  width_is w number (Some ends) = length-map-range_with_len (place_at number w.signs) ends.0 (ends.1 + 1 - ends.0)
 
   in_words : (ws : List Word) (word b : ℕ) → drop word all ≡ ws → filter_map (place_of m all d) (filter (begins_at all u) (starts_from m word b ws)) ≡ numbers_of (stands ((u, d), v)) b (places_from m (word + 1) ws)
   in_words [] word b is = refl

@@ -5,13 +5,13 @@ use Rattle.std.specs.Cmp.{both_ways}
 use Rattle.std.specs.Cmp.Lexicographic.{pointwise, bytes_decides}
 use Rattle.std.proofs.Math.Seq.{take-append_seam, get_or-append_seam}
 use Rattle.std.proofs.lemmas.Bool.{leb-true, le-leb, ltb-true, lt-ltb, eqb-true, eq-eqb, ne_eqb, and_from}
-use Rattle.std.proofs.lemmas.List.{take_more, get_or-drop, take-take, length-take-le}
+use Rattle.std.proofs.lemmas.List.{take_more, take_all, get_or-drop, take-take, length-take-le}
 use Rattle.std.proofs.lemmas.List.FromFn.{take-map-range_with_len, map-range_with_len_more, get_or-map-range_with_len, length-map-range_with_len}
 use Rattle.pg_types.proofs.BoolFacts.{and_first, and_second}
 use Rattle.pg_dict.specs.Word.{Word}
 use Rattle.pg_patterns.specs.Values.{stands_at}
 use Rattle.pg_prune.specs.declared.trail.Start.{Start}
-use Rattle.pg_prune.specs.Trails.{signs_of, IsStart, begins_at, goes_on, starts_of, trail_upto, last_of}
+use Rattle.pg_prune.specs.Trails.{signs_of, IsStart, begins_at, goes_on, starts_of, trail_upto, IsTrail, last_of}
 use Rattle.pg_prune.proofs.TrailLists.{range_agree, filter_both, filter_all}
 
 -- what it means that q stands in w at a
@@ -103,6 +103,9 @@ module _ (ws : List Word) (all : List Start) (u : List ℕ) where
       ∙ ap (λ t. if t then all else get_or (trail_upto ws all u (suc j)) (suc j - 1) []) (ne_eqb (suc j) 0 (λ (e : suc j ≡ 0). omega arith))
       ∙ get_or-map-range_with_len (λ k. starts_of ws all (take (k + 1) u)) 0 (suc j) (suc j - 1) j [] (omega arith) (omega arith)
       ∙ ap (λ (n : ℕ). starts_of ws all (take n u)) next
+
+  pub whole_trail : (lists : List (List Start)) → All (IsStart ws) all → IsTrail ws all u lists → last_of all lists ≡ starts_of ws all u
+  whole_trail lists known is = ap (last_of all) is ∙ last_trail (length u) known ∙ ap (starts_of ws all) (take_all (length u) u (omega arith))
 
   -- a list more
   pub trail_more : (i : ℕ) → trail_upto ws all u i ++ starts_of ws all (take (i + 1) u) ∷ [] ≡ trail_upto ws all u (i + 1)
