@@ -1,14 +1,13 @@
 -- The places at which a string stands, by its starts.
-use Rattle.std.proofs.Common.{◌≡◌, ℕ, zero, suc, ◌+◌, ◌-◌, ◌<◌, ◌≤◌, Bool, true, false, cond, ◌&&◌, nat_le, if◌then◌else◌, List, [], ◌∷◌, ◌++◌, length, map, drop, get_or, slice_get, Option, Some, None, refl, sym, ap, ◌∙◌, ⊎_elim, arith}
+use Rattle.std.proofs.Common.{◌≡◌, ℕ, zero, suc, ◌+◌, ◌-◌, ◌<◌, ◌≤◌, Bool, true, false, cond, ◌&&◌, nat_le, if◌then◌else◌, List, [], ◌∷◌, ◌++◌, length, map, drop, get_or, slice_get, Option, Some, None, refl, sym, ap, ◌∙◌, arith}
 use Rattle.std.specs.List.{range_with_len, filter, filter_map, cons_option}
 use Rattle.std.specs.Option.{option_map_or}
-use Rattle.std.proofs.lemmas.Bool.{leb-true, leb-false, le-leb, lt-leb, and_from, and_left, and_right, cases_lt, and_parts}
+use Rattle.std.proofs.lemmas.Bool.{le-leb, lt-leb, and_from, and_left, and_right}
 use Rattle.std.proofs.lemmas.List.{append-nil, length-drop, drop_more}
 use Rattle.std.proofs.lemmas.Option.{slice_get-get_or}
 use Rattle.std.proofs.lemmas.List.Elements.{filter-append, filter_map-append}
 use Rattle.std.proofs.lemmas.List.FromFn.{length-map-range_with_len}
-use Rattle.pg_types.proofs.BoolFacts.{no_test}
-use Rattle.pg_translate.specs.Reach.{reach, positions}
+use Rattle.pg_translate.specs.Reach.{reach}
 use Rattle.pg_dict.specs.Word.{Word}
 use Rattle.pg_patterns.specs.Values.{stands_at, applies}
 use Rattle.pg_select.specs.CountedPositions.{Minima}
@@ -16,9 +15,8 @@ use Rattle.pg_select.proofs.Reaches.{Reaches, reach_is}
 use Rattle.pg_prune.specs.Places.{Place, places_in, places_from, places}
 use Rattle.pg_prune.specs.Standing.{numbers_of, stands, standing}
 use Rattle.pg_prune.specs.declared.trail.Start.{Start}
-use Rattle.pg_prune.specs.Trails.{signs_of, width_of, width, start_at, starts_in, starts_from, all_starts, begins_at, starts_of, place_in, place_of}
+use Rattle.pg_prune.specs.Trails.{width_of, width, start_at, starts_in, starts_from, all_starts, begins_at, starts_of, place_in, place_of}
 use Rattle.pg_prune.proofs.TrailLists.{range_parts, nothing_in, given_shifted}
-use Rattle.pg_prune.proofs.TrailSteps.{Stands, stands_parts}
 use Rattle.pg_prune.proofs.TrailStarts.{signs_at}
 
 -- a place of a word
@@ -82,7 +80,7 @@ module _ (u : List ℕ) (v d : ℕ) (w : List ℕ) (first last b : ℕ) where
   -- the numbers of places from a position on
   numbered : (number p n at : ℕ) → first ≤ p → p + n ≤ last + 1 → at ≡ b + (p - first)
       → numbers_of (stands ((u, d), v)) at (map (place_at number w) (range_with_len p n))
-        ≡ filter_map (placed u d w (Some (first, last)) b) (range_with_len p n)
+      ≡ filter_map (placed u d w (Some (first, last)) b) (range_with_len p n)
   numbered number p zero at low high is = refl
   numbered number p (suc n) at low high is =
       let rest = numbered number (p + 1) n (at + 1) (omega arith) (omega arith) (omega arith) in
@@ -103,11 +101,11 @@ module _ (u : List ℕ) (v d : ℕ) (w : List ℕ) (first last b : ℕ) where
       let begins : filter_map g (range_with_len 0 first) ≡ [] = nothing_in g 0 first (λ p low high. out_of_reach u d w (Some (first, last)) b p (before_reach p (omega arith))) in
       let ends : filter_map g (range_with_len (0 + first + (last + 1 - first)) (total - (last + 1))) ≡ [] = nothing_in g (0 + first + (last + 1 - first)) (total - (last + 1)) (λ p low high. out_of_reach u d w (Some (first, last)) b p (behind_reach p (omega arith))) in
       let parts : filter_map g (range_with_len 0 total) ≡ filter_map g (range_with_len 0 first) ++ (filter_map g (range_with_len (0 + first) (last + 1 - first)) ++ filter_map g (range_with_len (0 + first + (last + 1 - first)) (total - (last + 1)))) =
-        ap (λ n. filter_map g (range_with_len 0 n)) size
-        ∙ ap (λ xs. filter_map g xs) (range_parts 0 first ((last + 1 - first) + (total - (last + 1))))
-        ∙ filter_map-append g (range_with_len 0 first) (range_with_len (0 + first) ((last + 1 - first) + (total - (last + 1))))
-        ∙ ap (λ xs. filter_map g (range_with_len 0 first) ++ filter_map g xs) (range_parts (0 + first) (last + 1 - first) (total - (last + 1)))
-        ∙ ap (λ xs. filter_map g (range_with_len 0 first) ++ xs) (filter_map-append g (range_with_len (0 + first) (last + 1 - first)) (range_with_len (0 + first + (last + 1 - first)) (total - (last + 1)))) in
+      ap (λ n. filter_map g (range_with_len 0 n)) size
+      ∙ ap (λ xs. filter_map g xs) (range_parts 0 first ((last + 1 - first) + (total - (last + 1))))
+      ∙ filter_map-append g (range_with_len 0 first) (range_with_len (0 + first) ((last + 1 - first) + (total - (last + 1))))
+      ∙ ap (λ xs. filter_map g (range_with_len 0 first) ++ filter_map g xs) (range_parts (0 + first) (last + 1 - first) (total - (last + 1)))
+      ∙ ap (λ xs. filter_map g (range_with_len 0 first) ++ xs) (filter_map-append g (range_with_len (0 + first) (last + 1 - first)) (range_with_len (0 + first + (last + 1 - first)) (total - (last + 1)))) in
       let place : 0 + first ≡ first = omega arith in
       sym (parts
       ∙ ap (λ xs. xs ++ (filter_map g (range_with_len (0 + first) (last + 1 - first)) ++ filter_map g (range_with_len (0 + first + (last + 1 - first)) (total - (last + 1))))) begins
@@ -149,7 +147,7 @@ module _ (m : Minima) (all : List Word) (u : List ℕ) (v d : ℕ) where
   -- the places of a word
   in_reach_of : (number b : ℕ) (w : List ℕ) (r : Option (ℕ × ℕ)) → reach m.left m.right (length w) ≡ r
       → filter_map (placed u d w r b) (range_with_len 0 (d + length w))
-        ≡ numbers_of (stands ((u, d), v)) b (map (place_at number w) (option_map_or (λ ends. range_with_len ends.0 (ends.1 + 1 - ends.0)) r []))
+      ≡ numbers_of (stands ((u, d), v)) b (map (place_at number w) (option_map_or (λ ends. range_with_len ends.0 (ends.1 + 1 - ends.0)) r []))
   in_reach_of number b w None is = nothing_in (placed u d w None b) 0 (d + length w) (λ p low high. out_of_reach u d w None b p refl)
   in_reach_of number b w (Some ends) is =
       let h : Reaches m.left m.right (length w) ends.0 ends.1 = reach_is m.left m.right (length w) ends.0 ends.1 is in
@@ -175,10 +173,10 @@ module _ (m : Minima) (all : List Word) (u : List ℕ) (v d : ℕ) where
       let next : drop (word + 1) all ≡ ws = cc in
       let at : slice_get all word ≡ Some w = slice_get-get_or all word w within ∙ ap (λ (x : Word). Some x) same in
       let here : filter_map (place_of m all d) (filter (begins_at all u) first) ≡ numbers_of (stands ((u, d), v)) b (places_in m (word + 1) w) =
-        in_word word b w at ∙ by_starts u d w.signs (reach m.left m.right (length w.signs)) b ∙ in_reach_of (word + 1) b w.signs (reach m.left m.right (length w.signs)) refl in
+      in_word word b w at ∙ by_starts u d w.signs (reach m.left m.right (length w.signs)) b ∙ in_reach_of (word + 1) b w.signs (reach m.left m.right (length w.signs)) refl in
       let there : filter_map (place_of m all d) (filter (begins_at all u) behind) ≡ numbers_of (stands ((u, d), v)) (b + length (places_in m (word + 1) w)) (places_from m (word + 1 + 1) ws) =
-        in_words ws (word + 1) (b + width m (length w.signs)) next
-        ∙ ap (λ n. numbers_of (stands ((u, d), v)) (b + n) (places_from m (word + 1 + 1) ws)) (sym (width_is w (word + 1) (reach m.left m.right (length w.signs)))) in
+      in_words ws (word + 1) (b + width m (length w.signs)) next
+      ∙ ap (λ n. numbers_of (stands ((u, d), v)) (b + n) (places_from m (word + 1 + 1) ws)) (sym (width_is w (word + 1) (reach m.left m.right (length w.signs)))) in
       ap (filter_map (place_of m all d)) (filter-append (begins_at all u) first behind)
       ∙ filter_map-append (place_of m all d) (filter (begins_at all u) first) (filter (begins_at all u) behind)
       ∙ ap (λ (xs : List ℕ). xs ++ filter_map (place_of m all d) (filter (begins_at all u) behind)) here

@@ -1,5 +1,5 @@
 -- The starts of all words, and what is known of them.
-use Rattle.std.proofs.Common.{◌≡◌, ℕ, ◌+◌, ◌-◌, ◌<◌, ◌≤◌, List, [], ◌∷◌, ◌++◌, length, map, drop, get_or, slice_get, Option, None, Some, refl, sym, subst, ap, ◌∙◌, arith, append_assoc, All}
+use Rattle.std.proofs.Common.{◌≡◌, ℕ, ◌+◌, ◌<◌, ◌≤◌, List, [], ◌∷◌, ◌++◌, length, drop, get_or, slice_get, Option, Some, sym, ap, ◌∙◌, arith, append_assoc, All}
 use Rattle.std.specs.List.{range_with_len}
 use Rattle.std.specs.Option.{option_map_or}
 use Rattle.std.proofs.lemmas.List.FromFn.{map-range_with_len_more, get_or-range_with_len, length-range_with_len}
@@ -33,8 +33,8 @@ pub known_in : (ws : List Word) (word places : ℕ) (w : Word) → slice_get ws 
 known_in ws word places w at within few =
     All-map (IsStart ws) (start_at word places) (range_with_len 0 (length w.signs))
     (λ k d below.
-      let size : length (range_with_len 0 (length w.signs)) ≡ length w.signs = length-range_with_len 0 (length w.signs) in
-      let inside : k < length w.signs = omega arith in
-      let place : get_or (range_with_len 0 (length w.signs)) k d ≡ 0 + k = get_or-range_with_len 0 (length w.signs) k d inside in
-      let signs : length (signs_of ws word) ≡ length w.signs = ap (λ (s : List ℕ). length s) (signs_at ws word w at) in
-      record { word = within; places = few; at = omega arith })
+    let size : length (range_with_len 0 (length w.signs)) ≡ length w.signs = length-range_with_len 0 (length w.signs) in
+    let inside : k < length w.signs = omega arith in
+    let place : get_or (range_with_len 0 (length w.signs)) k d ≡ 0 + k = get_or-range_with_len 0 (length w.signs) k d inside in
+    let signs : length (signs_of ws word) ≡ length w.signs = ap (λ (s : List ℕ). length s) (signs_at ws word w at) in
+    record { word = within; places = few; at = omega arith })

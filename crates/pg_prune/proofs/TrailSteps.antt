@@ -1,8 +1,8 @@
 -- The starts of a string that is longer by a sign, and the trail of a string.
-use Rattle.std.proofs.Common.{◌≡◌, ℕ, zero, suc, ◌+◌, ◌-◌, ◌<◌, ◌≤◌, Bool, true, false, cond, ◌&&◌, nat_le, nat_lt, nat_eq, if◌then◌else◌, List, [], ◌∷◌, ◌++◌, length, map, take, drop, get_or, refl, sym, subst, ap, ◌∙◌, arith, All, length-append, length-take, length-drop}
-use Rattle.std.specs.List.{range_with_len, filter, starts_with}
+use Rattle.std.proofs.Common.{◌≡◌, ℕ, zero, suc, ◌+◌, ◌-◌, ◌<◌, ◌≤◌, true, ◌&&◌, nat_le, nat_lt, nat_eq, if◌then◌else◌, List, [], ◌∷◌, ◌++◌, length, take, drop, get_or, refl, sym, ap, ◌∙◌, arith, All, length-append, length-drop}
+use Rattle.std.specs.List.{filter, starts_with}
 use Rattle.std.specs.Cmp.{both_ways}
-use Rattle.std.specs.Cmp.Lexicographic.{pointwise, bytes_decides}
+use Rattle.std.specs.Cmp.Lexicographic.{bytes_decides}
 use Rattle.std.proofs.Math.Seq.{take-append_seam, get_or-append_seam}
 use Rattle.std.proofs.lemmas.Bool.{leb-true, le-leb, ltb-true, lt-ltb, eqb-true, eq-eqb, ne_eqb, and_from}
 use Rattle.std.proofs.lemmas.List.{take_more, take_all, get_or-drop, take-take, length-take-le}
@@ -50,13 +50,13 @@ module _ (q w : List ℕ) (a s : ℕ) where
       let first_len : length (take (length q) (drop a w)) ≡ length q = length-take-le (length q) (drop a w) (omega arith) in
       let whole : q ++ s ∷ [] ≡ take (length q) (drop a w) ++ get_or w (a + length q) 0 ∷ [] = h.signs ∙ ap (λ (n : ℕ). take n (drop a w)) size ∙ next_sign w a (length q) inside in
       let first : q ≡ take (length q) (drop a w) =
-        sym (take-append_seam q (s ∷ [])) ∙ ap (λ (x : List ℕ). take (length q) x) whole
-        ∙ ap (λ (n : ℕ). take n (take (length q) (drop a w) ++ get_or w (a + length q) 0 ∷ [])) (sym first_len)
-        ∙ take-append_seam (take (length q) (drop a w)) (get_or w (a + length q) 0 ∷ []) in
+      sym (take-append_seam q (s ∷ [])) ∙ ap (λ (x : List ℕ). take (length q) x) whole
+      ∙ ap (λ (n : ℕ). take n (take (length q) (drop a w) ++ get_or w (a + length q) 0 ∷ [])) (sym first_len)
+      ∙ take-append_seam (take (length q) (drop a w)) (get_or w (a + length q) 0 ∷ []) in
       let last : s ≡ get_or w (a + length q) 0 =
-        sym (get_or-append_seam q s [] 0) ∙ ap (λ (x : List ℕ). get_or x (length q) 0) whole
-        ∙ ap (λ (n : ℕ). get_or (take (length q) (drop a w) ++ get_or w (a + length q) 0 ∷ []) n 0) (sym first_len)
-        ∙ get_or-append_seam (take (length q) (drop a w)) (get_or w (a + length q) 0) [] 0 in
+      sym (get_or-append_seam q s [] 0) ∙ ap (λ (x : List ℕ). get_or x (length q) 0) whole
+      ∙ ap (λ (n : ℕ). get_or (take (length q) (drop a w) ++ get_or w (a + length q) 0 ∷ []) n 0) (sym first_len)
+      ∙ get_or-append_seam (take (length q) (drop a w)) (get_or w (a + length q) 0) [] 0 in
       and_from (stands_at q w a) (nat_lt (a + length q) (length w) && nat_eq (get_or w (a + length q) 0) s)
       (stands_from q w a (record { fits = omega arith; signs = first }))
       (and_from (nat_lt (a + length q) (length w)) (nat_eq (get_or w (a + length q) 0) s) (lt-ltb (a + length q) (length w) inside) (eq-eqb (get_or w (a + length q) 0) s (sym last)))
@@ -69,8 +69,8 @@ module _ (q w : List ℕ) (a s : ℕ) where
       let sign : get_or w (a + length q) 0 ≡ s = eqb-true (get_or w (a + length q) 0) s (and_second (nat_lt (a + length q) (length w)) (nat_eq (get_or w (a + length q) 0) s) more) in
       let size : length (q ++ s ∷ []) ≡ length q + 1 = longer_size in
       let signs : q ++ s ∷ [] ≡ take (length (q ++ s ∷ [])) (drop a w) =
-        ap (λ (x : List ℕ). x ++ s ∷ []) h.signs ∙ ap (λ (x : ℕ). take (length q) (drop a w) ++ x ∷ []) (sym sign)
-        ∙ sym (next_sign w a (length q) inside) ∙ ap (λ (n : ℕ). take n (drop a w)) (sym size) in
+      ap (λ (x : List ℕ). x ++ s ∷ []) h.signs ∙ ap (λ (x : ℕ). take (length q) (drop a w) ++ x ∷ []) (sym sign)
+      ∙ sym (next_sign w a (length q) inside) ∙ ap (λ (n : ℕ). take n (drop a w)) (sym size) in
       stands_from (q ++ s ∷ []) w a (record { fits = omega arith; signs = signs })
 
   -- a string stands at a place where it stands without its last sign, and that follows
@@ -84,9 +84,9 @@ module _ (ws : List Word) (all : List Start) (u : List ℕ) where
       let size : length (take i u) ≡ i = length-take-le i u (omega arith) in
       filter_both (goes_on ws i (get_or u i 0)) (begins_at ws (take i u)) (begins_at ws (take (i + 1) u))
       (λ x.
-        ap (λ (q : List ℕ). stands_at q (signs_of ws x.word) x.at) (take_more u i 0 inside)
-        ∙ stands_longer (take i u) (signs_of ws x.word) x.at (get_or u i 0)
-        ∙ ap (λ (n : ℕ). stands_at (take i u) (signs_of ws x.word) x.at && (nat_lt (x.at + n) (length (signs_of ws x.word)) && nat_eq (get_or (signs_of ws x.word) (x.at + n) 0) (get_or u i 0))) size)
+      ap (λ (q : List ℕ). stands_at q (signs_of ws x.word) x.at) (take_more u i 0 inside)
+      ∙ stands_longer (take i u) (signs_of ws x.word) x.at (get_or u i 0)
+      ∙ ap (λ (n : ℕ). stands_at (take i u) (signs_of ws x.word) x.at && (nat_lt (x.at + n) (length (signs_of ws x.word)) && nat_eq (get_or (signs_of ws x.word) (x.at + n) 0) (get_or u i 0))) size)
       all
 
   -- the empty string begins at each start
@@ -117,4 +117,4 @@ module _ (ws : List Word) (all : List Start) (u : List ℕ) where
       take-map-range_with_len (λ k. starts_of ws all (take (k + 1) u)) 0 count kept few
       ∙ range_agree (λ k. starts_of ws all (take (k + 1) u)) (λ k. starts_of ws all (take (k + 1) v)) 0 kept
       (λ k low high. ap (starts_of ws all) (
-        sym (take-take (k + 1) kept u (omega arith)) ∙ ap (λ (x : List ℕ). take (k + 1) x) same ∙ take-take (k + 1) kept v (omega arith)))
+      sym (take-take (k + 1) kept u (omega arith)) ∙ ap (λ (x : List ℕ). take (k + 1) x) same ∙ take-take (k + 1) kept v (omega arith)))

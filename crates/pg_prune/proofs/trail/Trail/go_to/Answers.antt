@@ -1,4 +1,4 @@
-use Rattle.std.proofs.Common.{◌≡◌, ◌≤◌, ◌+◌, ◌++◌, ◌∷◌, [], length, take, map, get_or, ap, sym, ◌∙◌, arith, List, All, ℕ}
+use Rattle.std.proofs.Common.{◌≡◌, ◌≤◌, ◌+◌, ◌++◌, ◌∷◌, [], length, take, map, get_or, ap, sym, ◌∙◌, arith, List, ℕ}
 use Rattle.std.specs.List.{filter}
 use Rattle.std.proofs.lemmas.List.{take-map, map-append, take_more}
 use Rattle.std.proofs.lemmas.List.Elements.{All-filter, All-same}
@@ -18,10 +18,10 @@ signs-init c =
     record {
       signs = c.truncate.ensures.items ∙ held;
       starts =
-        ap (λ ls. map (λ t. t.items) ls) c.truncate-2.ensures.items
-        ∙ sym (take-map (λ t. t.items) kept starts)
-        ∙ ap (λ ls. take kept ls) c.requires.trail
-        ∙ trail_cut c.args.dictionary.now c.args.all.now old c.args.signs.now kept (length old) first held;
+          ap (λ ls. map (λ t. t.items) ls) c.truncate-2.ensures.items
+          ∙ sym (take-map (λ t. t.items) kept starts)
+          ∙ ap (λ ls. take kept ls) c.requires.trail
+          ∙ trail_cut c.args.dictionary.now c.args.all.now old c.args.signs.now kept (length old) first held;
     }
 
 pub longer-requires-clause-known : goal.longer-requires-clause-known
@@ -43,9 +43,9 @@ signs-preserved c =
     record {
       signs = c.in_ok-push-2.ensures.items ∙ ap (λ xs. xs ++ get_or u i 0 ∷ []) c.signs.invariant.signs ∙ sym (take_more u i 0 (omega arith));
       starts =
-        ap (λ ls. map (λ t. t.items) ls) c.in_ok-push.ensures.items
-        ∙ map-append (λ t. t.items) c.signs.self.starts.items (c.in_ok-starts.starts ∷ [])
-        ∙ ap (λ (ls : List (List Start)). ls ++ c.in_ok-starts.starts.items ∷ []) c.signs.invariant.starts
-        ∙ ap (λ (x : List Start). trail_upto ws all u i ++ x ∷ []) found
-        ∙ trail_more ws all u i;
+          ap (λ ls. map (λ t. t.items) ls) c.in_ok-push.ensures.items
+          ∙ map-append (λ t. t.items) c.signs.self.starts.items (c.in_ok-starts.starts ∷ [])
+          ∙ ap (λ (ls : List (List Start)). ls ++ c.in_ok-starts.starts.items ∷ []) c.signs.invariant.starts
+          ∙ ap (λ (x : List Start). trail_upto ws all u i ++ x ∷ []) found
+          ∙ trail_more ws all u i;
     }
