@@ -1,0 +1,32 @@
+-- How many entries give each value to a place.
+use Rattle.std.specs.Prelude.{ℕ, ◌+◌, ◌-◌, ◌%◌, Bool, ◌&&◌, nat_eq, nat_lt, if◌then◌else◌, List, [], ◌∷◌, length, map, count_by, slice_index, slice_set}
+use Rattle.pg_select.specs.Windows.{Patterns}
+use Rattle.pg_prune.specs.Places.{Place}
+use Rattle.pg_prune.specs.Standing.{stands}
+
+-- how many entries of a map stand at a place and have this value
+abbrev pub count_at : Patterns → Place → ℕ → ℕ
+count_at Q x v = count_by (λ e. stands e x && nat_eq e.1 v) Q
+
+-- these numbers for the values 1 to 9
+abbrev pub tally : Patterns → Place → List ℕ
+tally Q x = map (count_at Q x) (1 ∷ 2 ∷ 3 ∷ 4 ∷ 5 ∷ 6 ∷ 7 ∷ 8 ∷ 9 ∷ [])
+
+-- the greatest value that some entry gives, where the first number is that of the value v + 1; v0 where none is
+abbrev pub top_from : ℕ → ℕ → List ℕ → ℕ
+top_from best v [] = best
+top_from best v (n ∷ ns) = top_from (if nat_lt 0 n then v + 1 else best) (v + 1) ns
+
+abbrev pub top : List ℕ → ℕ
+top counts = top_from 0 0 counts
+
+-- one entry more, or less, with this value
+abbrev pub with_one : List ℕ → ℕ → List ℕ
+with_one counts v = slice_set counts (v - 1) (slice_index counts (v - 1) + 1)
+
+abbrev pub less_one : List ℕ → ℕ → List ℕ
+less_one counts v = slice_set counts (v - 1) (slice_index counts (v - 1) - 1)
+
+-- whether the greatest value stays odd, or even, where an entry with this value goes
+abbrev pub stays_alike : ℕ → List ℕ → Bool
+stays_alike v counts = nat_eq (top counts % 2) (top (less_one counts v) % 2)

@@ -1,0 +1,74 @@
+//! How many entries give each value to a place.
+use std::marker::Model;
+
+/// For each value from 1 to 9 the number of entries that give it to a place.
+#[derive(Drop)]
+pub(crate) struct Holders {
+    counts: [u64; 9],
+}
+
+impl Model for Holders {
+    ghost use Rattle.std.specs.Prelude.{ℕ, List};
+
+    ghost Value = { List ℕ };
+
+    ghost view = { λ h. h.counts };
+}
+
+impl Holders {
+    ghost use Rattle.std.specs.Prelude.{◌≡◌, ◌+◌, ◌-◌, ◌<◌, ◌≤◌, ◌^◌, slice_index, replicate};
+    ghost use Rattle.pg_prune.specs.Holders.{top, with_one, less_one, stays_alike};
+
+    /// No entry.
+    pub fn none() -> Holders
+        ensures { result ≡ replicate 9 0 }
+    {
+        Holders { counts: [0; 9] }
+    }
+
+    /// Adds an entry with this value.
+    pub fn add(&mut self, value: u8)
+        requires value { (1 ≤ value) × (value ≤ 9) }
+        requires room { slice_index self.old (value - 1) < 2 ^ 64 - 1 }
+        ensures { self.new ≡ with_one self.old value }
+    {
+        self.counts[usize::from(value) - 1] += 1;
+    }
+
+    /// Takes off an entry with this value.
+    pub fn take_off(&mut self, value: u8)
+        requires value { (1 ≤ value) × (value ≤ 9) }
+        requires some { 0 < slice_index self.old (value - 1) }
+        ensures { self.new ≡ less_one self.old value }
+    {
+        self.counts[usize::from(value) - 1] -= 1;
+    }
+
+    /// The greatest value that some entry gives, 0 where there is none.
+    fn top(&self) -> u8
+        ensures { result ≡ top self.now }
+    {
+        let mut best = 0;
+        let mut value = 0;
+        'counts: for count in &self.counts {
+            value += 1;
+            if 0 < *count {
+                best = value;
+            }
+        }
+        best
+    }
+
+    /// Whether the greatest value stays odd, or even, where an entry with this value is taken off.
+    pub fn stays_alike(&self, value: u8) -> bool
+        requires value { (1 ≤ value) × (value ≤ 9) }
+        requires some { 0 < slice_index self.now (value - 1) }
+        ensures { result ≡ stays_alike value self.now }
+    {
+        let mut rest = Holders {
+            counts: self.counts,
+        };
+        rest.take_off(value);
+        self.top() % 2 == rest.top() % 2
+    }
+}

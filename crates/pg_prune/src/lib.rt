@@ -1,0 +1,16 @@
+//! Patterns pruned by a dictionary: the entries that it needs, and where it needs them.
+#![tactic(auto)]
+
+mod gather;
+mod holders;
+mod kept;
+mod places;
+pub mod pruned;
+pub mod pruning;
+pub mod report;
+mod rounds;
+mod trail;
+
+pub use pruned::{Need, Pruned};
+pub use pruning::prune;
+pub use report::prune_text;

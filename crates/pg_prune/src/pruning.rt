@@ -1,0 +1,75 @@
+//! The call that prunes.
+ghost use Rattle.std.specs.Prelude.{◌≡◌, ◌+◌, IfOk, All, Contains};
+ghost use Rattle.pg_translate.specs.Alphabets.{letters_of};
+ghost use Rattle.pg_patterns.specs.Values.{SignsUpTo};
+ghost use Rattle.pg_select.specs.CountedPositions.{minima_of};
+ghost use Rattle.pg_prune.specs.Prunes.{pruned};
+ghost use Rattle.pg_prune.specs.Promises.{BreakAlike, NoneCanGo, HasNeeds};
+
+use crate::gather::gather;
+use crate::kept::kept_patterns;
+use crate::places::places;
+use crate::pruned::Pruned;
+use crate::rounds::{all_holders, needs, round};
+use pg_dict::Dictionary;
+use pg_patterns::PatternSet;
+use pg_translate::Table;
+use std::alloc::{AllocError, Global};
+
+/// Takes the entries out of `patterns` that change no break of the words, in rounds, and finds for each entry that stays the first
+/// position that needs it.
+///
+/// Values are compared at all positions in reach of the words that take part, also where a position is marked don't-care. An entry
+/// goes where each of these values stays odd, or even, without it. Rounds through the entries, in the order of signs and then of dots,
+/// are made until one takes out nothing. A round costs about the number of places at which its entries stand. The only error is want of memory.
+pub fn prune(
+    alloc: Global,
+    dictionary: &Dictionary,
+    table: &Table,
+    patterns: &PatternSet,
+) -> Result<Pruned, AllocError>
+    requires known { SignsUpTo (letters_of table.now + 1) patterns.now }
+    ensures pruned { IfOk result (λ found. found ≡ pruned (minima_of table.now) dictionary.now patterns.now) }
+    ensures alike { IfOk result
+        (λ found. BreakAlike (minima_of table.now) dictionary.now patterns.now found.patterns) }
+    ensures least { IfOk result
+        (λ found. NoneCanGo (minima_of table.now) dictionary.now patterns.now found.patterns) }
+    ensures needs { IfOk result HasNeeds }
+    ensures part { IfOk result (λ found. All (Contains patterns.now) found.patterns) }
+    ensures known { IfOk result (λ found. SignsUpTo (letters_of table.now + 1) found.patterns) }
+{
+    let all_places = places(alloc, dictionary, table)?;
+    let standing = gather(alloc, dictionary, table, patterns)?;
+    let mut holders = all_holders(alloc, patterns, standing.as_slice(), all_places.len())?;
+    let mut kept = Vec::new(alloc);
+    'entries: for i in 0..patterns.len() {
+        kept.push(i)?;
+    }
+    let mut rounds = 0;
+    'rounds: loop {
+        let stay = round(
+            alloc,
+            patterns,
+            standing.as_slice(),
+            holders.as_mut_slice(),
+            kept.as_slice(),
+        )?;
+        rounds += 1;
+        let is_last = stay.len() == kept.len();
+        kept = stay;
+        if is_last {
+            break;
+        }
+    }
+    let needs = needs(
+        alloc,
+        patterns,
+        standing.as_slice(),
+        all_places.as_slice(),
+        holders.as_slice(),
+        kept.as_slice(),
+    )?;
+    let removed = patterns.len() - kept.len();
+    let patterns = kept_patterns(alloc, patterns, kept.as_slice())?;
+    Ok(Pruned::new(patterns, needs, rounds, removed as u64))
+}

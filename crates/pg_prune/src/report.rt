@@ -1,0 +1,71 @@
+//! The report of what pruning comes to.
+ghost use Rattle.std.specs.Prelude.{◌≡◌, ◌≤◌, ◌+◌, ◌++◌, [], ◌∷◌, decimal, OnOk, IfOk};
+ghost use Rattle.pg_translate.specs.Alphabets.{letters_of};
+ghost use Rattle.pg_patterns.specs.Values.{SignsUpTo};
+ghost use Rattle.pg_prune.specs.Reports.{entry_text, keep_line, last_line, prune_report};
+
+use crate::pruned::{Need, Pruned};
+use itoa::Buffer;
+use pg_patterns::{DottedSigns, Entry, PatternSet};
+use pg_translate::Table;
+use std::alloc::{AllocError, Global};
+
+/// Appends a text and a number.
+fn push_number(text: &mut Vec<u8>, front: &[u8], number: u64) -> Result<(), AllocError>
+    ensures { OnOk result (text.new.items ≡ text.old.items ++ front.now ++ decimal number) }
+{
+    let mut digits = Buffer::new();
+    text.extend_from_slice(front)?;
+    text.extend_from_slice(digits.format(number).as_bytes())
+}
+
+/// The text of an entry: the pattern file of this entry alone, without its line feed.
+fn text_of_entry(alloc: Global, table: &Table, entry: Entry<'_>) -> Result<Vec<u8>, AllocError> {
+    let mut entries = Vec::new(alloc);
+    entries.push((DottedSigns::new(entry.signs, entry.dot), entry.value))?;
+    let mut text = PatternSet::from_entries(entries).text(alloc, table)?;
+    text.pop();
+    Ok(text)
+}
+
+/// Appends the line of an entry and its need.
+fn push_line(
+    alloc: Global,
+    text: &mut Vec<u8>,
+    table: &Table,
+    entry: Entry<'_>,
+    need: Need,
+) -> Result<(), AllocError> {
+    text.extend_from_slice(b"keep ")?;
+    text.extend_from_slice(text_of_entry(alloc, table, entry)?.as_slice())?;
+    push_number(text, b": word ", need.word)?;
+    push_number(text, b" after ", u64::from(need.position) - 1)?;
+    text.extend_from_slice(b" letters\n")
+}
+
+/// Appends the last line: the numbers of rounds, and of entries that were taken out and that stay.
+fn push_last_line(text: &mut Vec<u8>, pruned: &Pruned) -> Result<(), AllocError>
+    ensures { OnOk result (text.new.items ≡ text.old.items ++ last_line pruned.now) }
+{
+    push_number(text, b"rounds: ", pruned.rounds())?;
+    push_number(text, b", removed ", pruned.removed())?;
+    push_number(text, b", kept ", pruned.patterns().len() as u64)?;
+    text.push(b'\n')?;
+    Ok(())
+}
+
+/// The report: a line for each entry that stays, with its need, and a last line with the numbers of rounds, of entries that were taken
+/// out and of those that stay.
+pub fn prune_text(alloc: Global, table: &Table, pruned: &Pruned) -> Result<Vec<u8>, AllocError>
+    requires { SignsUpTo (letters_of table.now + 1) pruned.now.patterns }
+    ensures { IfOk result (λ text. text.items ≡ prune_report table.now pruned.now) }
+{
+    let patterns = pruned.patterns();
+    let needs = pruned.needs();
+    let mut text = Vec::new(alloc);
+    'entries: for i in 0..patterns.len() {
+        push_line(alloc, &mut text, table, patterns.entry(i), needs[i])?;
+    }
+    push_last_line(&mut text, pruned)?;
+    Ok(text)
+}

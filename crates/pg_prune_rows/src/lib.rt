@@ -1,0 +1,5 @@
+//! Worked prunes.
+#![tactic(auto)]
+
+#[cfg(test)]
+mod prunes;
