@@ -16,6 +16,7 @@ use Rattle.pg_cells.specs.Held.{Trie}
 use Rattle.pg_cells.specs.Layouts.{IsTrie, standing, value_in}
 use Rattle.pg_cells.proofs.LinkedLists.{taken_within}
 use Rattle.pg_cells.proofs.StringMaps.{order, same_maps, find_put_same, find_without_same, find_without_other, sorted_without, equal_or_not}
+use Rattle.pg_cells.proofs.BaseCells.{first_sign}
 use Rattle.pg_cells.proofs.LayoutLaws.{sign_stands, laid_alike, used_taken, taken_used}
 use Rattle.pg_cells.proofs.Slots.{slot_or_none}
 use Rattle.pg_cells.proofs.PlacedFamily.{not_longer}
@@ -165,10 +166,6 @@ module _ {V : Type 0} (few n : ℕ) (r : Row V) (t : Trie V) (trie : IsTrie n r 
           | inl z ↦ let h = room parent (cell_taken n r t trie p parent parent_is) in omega arith
           | inr up ↦ let above = own.above x k e (omega arith) in let within = base_within (p ++ x ∷ []) above.0 above.1 in let same = above.2 in omega arith
         ]
-
-        first_sign : (g : Family) (signs : List ℕ) → g.signs ≡ signs → signs ≢ [] → (y : ℕ) × (list_any (nat_eq y) g.signs ≡ true)
-        first_sign g [] e some = absurd (some refl)
-        first_sign g (y ∷ ys) e some = (y, ap (list_any (nat_eq y)) e ∙ or_left (nat_eq y y) (list_any (nat_eq y) ys) (eq-eqb y y refl))
 
         rooted : (b : ℕ) → base_at r b ≡ true → b ≢ was → 0 < b → (y : ℕ) × (0 < y) × (sign_at r (b + y) ≢ 0) × (Outside was slots (b + y))
         rooted b e other up =

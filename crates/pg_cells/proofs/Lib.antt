@@ -2,6 +2,8 @@ mod Relinked
 mod RootLinks
 mod SteppedLinks
 pub mod AddTrie
+pub mod BaseCells
+pub mod BoundLaws
 pub mod CellWrites
 pub mod CellsStay
 pub mod Cleared

@@ -1,9 +1,9 @@
 -- The root takes its cells one by one, and the cells are cleared one by one.
-use Rattle.std.proofs.Common.{◌≡◌, ℕ, ◌+◌, ◌<◌, ◌≤◌, false, List, [], ◌∷◌, length, get_or, slice_get, suc, zero, inl, inr, refl, sym, ◌∙◌, ap, arith}
-use Rattle.std.proofs.lemmas.Bool.{cases_eq, cases_lt}
+use Rattle.std.proofs.Common.{◌≡◌, ℕ, ◌+◌, ◌≢◌, ◌<◌, ◌≤◌, true, false, List, [], ◌∷◌, length, get_or, slice_get, suc, zero, inl, inr, refl, sym, ◌∙◌, ap, arith}
+use Rattle.std.proofs.lemmas.Bool.{cases_Bool, cases_eq, cases_lt}
 use Rattle.std.proofs.lemmas.List.{get_or_past, get_or_default}
 use Rattle.pg_cells.specs.Lists.{Row, sign_at, child_at, base_at, IsFree}
-use Rattle.pg_cells.specs.Store.{how_many, Extends, one_free}
+use Rattle.pg_cells.specs.Store.{how_many, Extends, one_free, IsTop}
 use Rattle.pg_cells.specs.Writes.{Takes, Frees, SetsBase}
 use Rattle.pg_cells.specs.Root.{IsRootTo, Clears}
 
@@ -83,6 +83,28 @@ module _ {V : Type 0} where
         bases = λ b. elim (cases_lt b (length r.signs)) [ inl lt ↦ bases b lt | inr le ↦ get_or_past r.bases b false (omega arith) ];
         count = omega (arith, how_many_zero r.signs all);
       }
+
+  -- past the greatest taken cell nothing is taken and no index is a base
+  pub none_above : (old first last : Row V) (top cell : ℕ) → IsTop old.signs top → top < cell → SetsBase old first 0 false → ((b : ℕ) → base_at old b ≡ true → (y : ℕ) × (sign_at old (b + y) ≢ 0))
+      → ((i : ℕ) → i < cell → sign_at last i ≡ 0) → ((b : ℕ) → b < cell → base_at last b ≡ false)
+      → ((i : ℕ) → cell ≤ i → sign_at last i ≡ sign_at first i) → ((b : ℕ) → cell ≤ b → base_at last b ≡ base_at first b)
+      → ((i : ℕ) → sign_at last i ≡ 0) × ((b : ℕ) → base_at last b ≡ false)
+  none_above old first last top cell is_top over set based signs bases later_signs later_bases = (
+    (λ i. elim (cases_lt i cell) [
+      | inl lt ↦ signs i lt
+      | inr le ↦ later_signs i le ∙ set.signs i ∙ elim (cases_eq (sign_at old i) 0) [
+        | inl z ↦ z
+        | inr up ↦ absurd (let most = is_top.most i up in omega arith)
+      ]
+    ]),
+    (λ b. elim (cases_lt b cell) [
+      | inl lt ↦ bases b lt
+      | inr le ↦ later_bases b le ∙ set.bases b (omega arith) ∙ elim (cases_Bool (base_at old b)) [
+        | inr flag ↦ flag
+        | inl base ↦ absurd (let y = based b base in let most = is_top.most (b + y.0) y.1 in omega arith)
+      ]
+    ]),
+  )
 
   pub clears_taken : (old mid new : Row V) (cell : ℕ) → Frees old mid cell → SetsBase mid new cell false → Clears old new cell
   clears_taken old mid new cell f b = record {

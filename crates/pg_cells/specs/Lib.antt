@@ -1,3 +1,4 @@
+pub mod Bounds
 pub mod Fit
 pub mod Held
 pub mod IsHeld

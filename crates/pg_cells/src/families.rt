@@ -52,7 +52,7 @@ impl<V: Copy, const FEW: usize> Placed<V, FEW> {
         ensures held { IfOk result (λ c. c ≡ root_held signs blank) }
         ensures kept { IfOk result (λ c. IsHeld c) }
     {
-        let mut store = Store::new(alloc, blank)?;
+        let mut store = Store::new(alloc, signs, blank)?;
         store.grow(signs as usize + 1, blank)?;
         take_root(&mut store, signs, blank);
         store.set_base(0, true);

@@ -1,6 +1,7 @@
 //! The families of a trie in one row of cells, each at the least base at which it fits; free cells are linked in rising order.
 #![tactic(auto)]
 
+mod bounds;
 mod cell;
 mod chain;
 mod families;

@@ -1,5 +1,7 @@
 //! A family is put at the least base that fits.
-ghost use Rattle.std.specs.Prelude.{◌≡◌, ◌≢◌, ℕ, ◌+◌, ◌<◌, ◌≤◌, ◌^◌, max, length};
+ghost use Rattle.std.specs.Prelude.{◌≡◌, ◌≢◌, ℕ, ◌+◌, ◌<◌, ◌≤◌, ◌^◌, max, true, ◌∷◌, length};
+ghost use Rattle.pg_types.specs.Placement.{IsLeast};
+ghost use Rattle.pg_cells.specs.Fit.{fits_row, signs_of};
 ghost use Rattle.pg_cells.specs.Moves.{Drops, Moved, CanPlace, lowest_from};
 
 use crate::fit::Slot;
@@ -12,7 +14,8 @@ const FAR_BELOW: usize = 255;
 
 // The lowest base that is tried.
 fn lowest_base(few: usize, signs: u16, count: usize, top: usize) -> usize
-    ensures { result ≡ lowest_from few signs count top }
+    ensures is { result ≡ lowest_from few signs count top }
+    ensures positive { 0 < result }
 {
     if count <= few {
         1
@@ -29,6 +32,32 @@ fn drop_base<V: Copy>(store: &mut Store<V>, base: usize)
     if base != 0 {
         store.set_base(base, false);
     }
+}
+
+// The least base from `low` on at which the sign and those of the slots may stand; at `room` they may. It is sought from the
+// bound of the sign on. A search for one sign from its bound on raises the bound.
+fn least_base<V: Copy>(
+    store: &mut Store<V>,
+    slots: &[Slot<V>],
+    sign: u16,
+    low: usize,
+    room: usize,
+) -> usize
+    requires positive { 0 < sign }
+    requires low { (0 < low) × (low ≤ room) }
+    requires within { room + sign < length store.old.signs }
+    requires room { fits_row store.old (sign ∷ signs_of slots.now) room ≡ true }
+    ensures least { IsLeast (fits_row store.old (sign ∷ signs_of slots.now)) low result }
+    ensures room { result ≤ room }
+    ensures same { store.new ≡ store.old }
+{
+    let bound = store.bound(sign);
+    let base = store.find_base(slots, sign, low.max(bound), room);
+    if 0 < slots.len() || bound.max(1) < low {
+        return base;
+    }
+    store.raise_bound(sign, base);
+    base
 }
 
 /// Gives up the cells of a family, whose slots these are, and puts it with one sign more below its parent. Answers its base.
@@ -51,7 +80,7 @@ pub fn place_family<V: Copy>(
     drop_base(store, was);
     let top = store.top();
     let low = lowest_base(few, signs, slots.len() + 1, top);
-    let base = store.find_base(slots, slot.sign, low, top.max(1));
+    let base = least_base(store, slots, slot.sign, low, top.max(1));
     put(store, base, slots);
     store.take(base + slot.sign as usize, slot);
     store.set_base(base, true);

@@ -1,5 +1,6 @@
 //! The root family, whose signs stand in their own cells.
-ghost use Rattle.std.specs.Prelude.{◌≡◌, ◌≢◌, ℕ, ◌+◌, ◌<◌, ◌≤◌, length};
+ghost use Rattle.std.specs.Prelude.{◌≡◌, ◌≢◌, ℕ, ◌+◌, ◌<◌, ◌≤◌, true, length};
+ghost use Rattle.pg_cells.specs.Lists.{sign_at, base_at};
 ghost use Rattle.pg_cells.specs.Root.{IsRootTo, Clears};
 
 use crate::fit::Slot;
@@ -26,14 +27,16 @@ pub fn take_root<V: Copy>(store: &mut Store<V>, signs: u16, blank: V)
     }
 }
 
-/// Gives up all cells.
+/// Gives up all cells, where each base has a taken cell behind it. It goes up to the greatest taken cell.
 pub fn clear<V: Copy>(store: &mut Store<V>)
+    requires { (b : ℕ) → base_at store.old b ≡ true → (y : ℕ) × (sign_at store.old (b + y) ≢ 0) }
     ensures empty { (blank : V) → IsRootTo 1 blank store.new }
     ensures size { length store.new.signs ≡ length store.old.signs }
 {
-    let length = store.len();
+    let _cells = store.len();
+    let top = store.top();
     store.set_base(0, false);
-    for cell in 1..length {
+    for cell in 1..top + 1 {
         clear_cell(store, cell);
     }
     let _length = store.len();

@@ -3,10 +3,12 @@ ghost use Rattle.std.specs.Prelude.{◌≡◌, ◌≢◌, ℕ, ◌+◌, ◌-◌,
 ghost use Rattle.pg_types.specs.Placement.{IsLeast};
 ghost use Rattle.pg_cells.specs.Lists.{lists, row_of, sign_at, child_at, base_at, IsFree};
 ghost use Rattle.pg_cells.specs.Linked.{AreLinked};
+ghost use Rattle.pg_cells.specs.Bounds.{NoneFree};
 ghost use Rattle.pg_cells.specs.Fit.{fits_row, signs_of};
 ghost use Rattle.pg_cells.specs.Store.{one_free, taken_in, IsTop, Extends};
 ghost use Rattle.pg_cells.specs.Writes.{Takes, Frees, SetsChild, SetsValue, SetsBase};
 
+use crate::bounds::{bound_of, least_dropped, lower, no_bounds, set_low};
 use crate::cell::{Cell, child_of, set_base, set_child, set_value, sign_of, value_of};
 use crate::chain::{free_cell, push_cell, take_cell};
 use crate::fit::{Slot, find_base, sign_or_free};
@@ -14,16 +16,22 @@ use std::alloc::{AllocError, Global};
 use std::marker::Model;
 
 /// The cells. Cell 0 is never taken.
+///
+/// `lows` has a bound for each sign. No base below it is free with the cell of the sign, but for what was given up since the
+/// bounds were lowered: `freed` is the least such cell, and `dropped` the least such base.
 #[derive(Drop)]
 pub struct Store<V: Copy> {
     cells: Vec<Cell<V>>,
     top: usize,
     taken: usize,
+    lows: Vec<u32>,
+    freed: usize,
+    dropped: usize,
 }
 
 impl<V: Copy> Model for Store<V> {
     ghost use Rattle.pg_cells.specs.Lists.{Row, row_of};
-    ghost use Rattle.pg_cells.specs.Store.{row_code, IsKept};
+    ghost use Rattle.pg_cells.specs.Store.{row_code, IsStore};
 
     ghost Value = { Row V };
 
@@ -31,12 +39,12 @@ impl<V: Copy> Model for Store<V> {
 
     ghost view = { λ s. row_of s.cells.items };
 
-    ghost invariant = { λ s. IsKept s.cells.items s.top s.taken };
+    ghost invariant = { λ s. IsStore s.cells.items s.top s.taken s.lows.items s.freed s.dropped };
 }
 
 impl<V: Copy> Store<V> {
-    /// One free cell.
-    pub fn new(alloc: Global, value: V) -> Result<Store<V>, AllocError>
+    /// One free cell, for so many signs.
+    pub fn new(alloc: Global, signs: u16, value: V) -> Result<Store<V>, AllocError>
         ensures { IfOk result (λ s. s ≡ one_free value) }
     {
         let mut cells = Vec::new(alloc);
@@ -47,10 +55,14 @@ impl<V: Copy> Store<V> {
             sign: 0,
             is_base: false,
         })?;
+        let lows = no_bounds(alloc, signs)?;
         Ok(Store {
             cells,
             top: 0,
             taken: 0,
+            lows,
+            freed: 0,
+            dropped: 0,
         })
     }
 
@@ -128,6 +140,7 @@ impl<V: Copy> Store<V> {
         ensures { SetsBase self.old self.new cell is_base }
     {
         set_base(self.cells.as_mut_slice(), cell, is_base);
+        self.dropped = least_dropped(self.dropped, cell, is_base);
     }
 
     /// Takes a free cell.
@@ -158,6 +171,7 @@ impl<V: Copy> Store<V> {
         free_cell(self.cells.as_mut_slice(), cell);
         self.top = taken_up_to(self.cells.as_slice(), self.top);
         self.taken -= 1;
+        self.freed = self.freed.min(cell);
     }
 
     /// Adds free cells until there are `count`. Refused: the cells that were there are as before.
@@ -176,6 +190,25 @@ impl<V: Copy> Store<V> {
     {
         let count = self.top + more;
         self.grow(count, value)
+    }
+
+    /// The bound of a sign: no base below it is free with the sign's cell.
+    pub fn bound(&self, sign: u16) -> usize
+        ensures { (b : ℕ) → 0 < b → b < result → NoneFree self.now sign b }
+    {
+        bound_of(self.lows.as_slice(), self.freed, self.dropped, sign)
+    }
+
+    /// Raises the bound of a sign to a base, where none below it is free with the sign's cell.
+    pub fn raise_bound(&mut self, sign: u16, base: usize)
+        requires base { base < length self.old.signs }
+        requires none { (b : ℕ) → 0 < b → b < base → NoneFree self.old sign b }
+        ensures { self.new ≡ self.old }
+    {
+        lower(&mut self.lows, self.freed, self.dropped);
+        set_low(&mut self.lows, sign, base);
+        self.freed = usize::MAX;
+        self.dropped = usize::MAX;
     }
 
     /// The least base from `low` on at which the sign and those of the slots may stand; at `room` they may.

@@ -1,22 +1,23 @@
-use Rattle.std.proofs.Common.{◌≤◌, arith}
+use Rattle.std.proofs.Common.{◌≤◌, subst, arith}
+use Rattle.pg_cells.specs.Moves.{Puts}
 use Rattle.pg_cells.proofs.PlacedRoom.{room_within, room_fits, can_put, can_take, parent_stays}
 use Rattle.pg_cells.proofs.place.place_family.Goals as goal
 
-pub find_base-base-requires-clause-within : goal.find_base-base-requires-clause-within
-find_base-base-requires-clause-within g c =
+pub least_base-base-requires-clause-within : goal.least_base-base-requires-clause-within
+least_base-base-requires-clause-within g c =
     let within = room_within c.args.signs c.args.store.now c.give_up.new.store c.drop_base.new.store c.args.was c.args.slots.now c.args.slot c.args.parent c.requires.can c.give_up.ensures c.drop_base.ensures c.top-top.result c.top-top.ensures c.max.result c.max.ensures in
     let le : c.args.slot.sign ≤ c.args.signs = c.requires.can.sign.1 in
     omega arith
 
-pub find_base-base-requires-clause-room : goal.find_base-base-requires-clause-room
-find_base-base-requires-clause-room g c = room_fits c.args.signs c.args.store.now c.give_up.new.store c.drop_base.new.store c.args.was c.args.slots.now c.args.slot c.args.parent c.requires.can c.give_up.ensures c.drop_base.ensures c.top-top.result c.top-top.ensures c.max.result c.max.ensures
+pub least_base-base-requires-clause-room : goal.least_base-base-requires-clause-room
+least_base-base-requires-clause-room g c = room_fits c.args.signs c.args.store.now c.give_up.new.store c.drop_base.new.store c.args.was c.args.slots.now c.args.slot c.args.parent c.requires.can c.give_up.ensures c.drop_base.ensures c.top-top.result c.top-top.ensures c.max.result c.max.ensures
 
 pub put-requires-clause-free : goal.put-requires-clause-free
-put-requires-clause-free g c = can_put c.args.signs c.args.store.now c.give_up.new.store c.drop_base.new.store c.args.was c.args.slots.now c.args.slot c.args.parent c.requires.can c.give_up.ensures c.drop_base.ensures c.top-top.result c.top-top.ensures c.max.result c.max.ensures c.find_base-base.result c.find_base-base.ensures.room c.find_base-base.ensures.least.passes
+put-requires-clause-free g c = rw (c.least_base-base.ensures.same) (can_put c.args.signs c.args.store.now c.give_up.new.store c.drop_base.new.store c.args.was c.args.slots.now c.args.slot c.args.parent c.requires.can c.give_up.ensures c.drop_base.ensures c.top-top.result c.top-top.ensures c.max.result c.max.ensures c.least_base-base.result c.least_base-base.ensures.room c.least_base-base.ensures.least.passes)
 
 pub take-requires-clause-free : goal.take-requires-clause-free
-take-requires-clause-free g c = can_take c.args.signs c.args.store.now c.give_up.new.store c.drop_base.new.store c.args.was c.args.slots.now c.args.slot c.args.parent c.requires.can c.give_up.ensures c.drop_base.ensures c.top-top.result c.top-top.ensures c.max.result c.max.ensures c.find_base-base.result c.find_base-base.ensures.room c.find_base-base.ensures.least.passes c.put.new.store c.put.ensures
+take-requires-clause-free g c = can_take c.args.signs c.args.store.now c.give_up.new.store c.drop_base.new.store c.args.was c.args.slots.now c.args.slot c.args.parent c.requires.can c.give_up.ensures c.drop_base.ensures c.top-top.result c.top-top.ensures c.max.result c.max.ensures c.least_base-base.result c.least_base-base.ensures.room c.least_base-base.ensures.least.passes c.put.new.store (subst (λ r. Puts r c.put.new.store c.least_base-base.result c.args.slots.now) c.least_base-base.ensures.same c.put.ensures)
 
 pub set_child-requires-clause-taken : goal.set_child-requires-clause-taken
 set_child-requires-clause-taken g c =
-    parent_stays c.args.signs c.args.store.now c.give_up.new.store c.drop_base.new.store c.args.was c.args.slots.now c.args.slot c.args.parent c.requires.can c.give_up.ensures c.drop_base.ensures c.top-top.result c.top-top.ensures c.max.result c.max.ensures c.find_base-base.result c.find_base-base.ensures.room c.find_base-base.ensures.least.passes c.put.new.store c.put.ensures c.take.new.self c.set_base.new.self c.take.ensures c.set_base.ensures
+    parent_stays c.args.signs c.args.store.now c.give_up.new.store c.drop_base.new.store c.args.was c.args.slots.now c.args.slot c.args.parent c.requires.can c.give_up.ensures c.drop_base.ensures c.top-top.result c.top-top.ensures c.max.result c.max.ensures c.least_base-base.result c.least_base-base.ensures.room c.least_base-base.ensures.least.passes c.put.new.store (subst (λ r. Puts r c.put.new.store c.least_base-base.result c.args.slots.now) c.least_base-base.ensures.same c.put.ensures) c.take.new.self c.set_base.new.self c.take.ensures c.set_base.ensures

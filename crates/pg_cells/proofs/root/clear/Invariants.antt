@@ -1,4 +1,4 @@
-use Rattle.std.proofs.Common.{◌≡◌, ℕ, ◌<◌, false, length}
+use Rattle.std.proofs.Common.{◌≡◌, ℕ, ◌<◌, ◌≤◌, false, length}
 use Rattle.pg_cells.specs.Lists.{sign_at, base_at}
 use Rattle.pg_cells.proofs.root.clear.Given as goal
 
@@ -6,5 +6,7 @@ abbrev pub invariant-loop-cell : goal.invariant-loop-cell
 invariant-loop-cell g l = record {
   signs : (i : ℕ) → i < l.cell → sign_at l.store i ≡ 0;
   bases : (b : ℕ) → b < l.cell → base_at l.store b ≡ false;
+  later_signs : (i : ℕ) → l.cell ≤ i → sign_at l.store i ≡ sign_at l.initial.store i;
+  later_bases : (b : ℕ) → l.cell ≤ b → base_at l.store b ≡ base_at l.initial.store b;
   size : length l.store.signs ≡ length l.initial.store.signs;
 }

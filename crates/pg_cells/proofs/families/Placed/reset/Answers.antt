@@ -1,15 +1,19 @@
 use Rattle.std.proofs.Common.{◌≡◌, [], ◌∷◌, map, ap, ◌∙◌, arith}
 use Rattle.std.specs.List.{range_with_len}
-use Rattle.pg_types.specs.Placement.{root}
+use Rattle.pg_types.specs.Placement.{root, family_at}
 use Rattle.pg_cells.specs.Held.{Trie, Held}
 use Rattle.pg_cells.specs.IsHeld.{IsHeld}
 use Rattle.pg_cells.specs.Layouts.{AreKept}
 use Rattle.pg_cells.specs.OneTrie.{Kept, settled, held}
 use Rattle.pg_cells.specs.Root.{root_held}
+use Rattle.pg_cells.proofs.BaseCells.{base_taken}
 use Rattle.pg_cells.proofs.HeldLaws.{is_held}
 use Rattle.pg_cells.proofs.StringCells.{root_within}
 use Rattle.pg_cells.proofs.RootTrie.{root_trie}
 use Rattle.pg_cells.proofs.families.Placed.reset.Goals as goal
+
+pub clear-requires : goal.clear-requires
+clear-requires g c = base_taken c.self.inside.signs c.self.inside.store (family_at c.self.inside.layout.0.families) c.self.invariant.trie.layout
 
 pub take_root-requires-clause-empty : goal.take_root-requires-clause-empty
 take_root-requires-clause-empty g c = c.clear.ensures.empty c.args.blank

@@ -4,6 +4,7 @@ use Rattle.pg_cells.specs.Lists.{row_of, sign_at, with_free}
 use Rattle.pg_cells.proofs.LinkedLists.{taken_within}
 use Rattle.pg_cells.specs.Writes.{Frees}
 use Rattle.pg_cells.proofs.RowWrites.{row_frees}
+use Rattle.pg_cells.proofs.BoundLaws.{bounds_free}
 use Rattle.pg_cells.proofs.StoreSteps.{given_back, kept_freed, some_taken}
 use Rattle.pg_cells.proofs.store.Store.free.Goals as goal
 
@@ -18,14 +19,19 @@ invariant_of-self g c =
     let r = c.taken_up_to-self-inside.result in
     let top = c.taken_up_to-self-inside.ensures in
     rw back
-    (kept_freed c.self.inside.cells.items c.free_cell.new.cells _ _ c.self.invariant same c.args.cell r within taken
-    (c.free_cell.ensures.row ∙ ap (λ cells. with_free (row_of cells) c.args.cell) c.as_mut_slice.ensures.value) c.free_cell.ensures.linked
-    top.below (subst (λ cells. 0 < r → sign_at (row_of cells) r ≢ 0) seen top.used)
-    (subst (λ cells. (k : ℕ) → k ≤ c.self.inside.top → sign_at (row_of cells) k ≢ 0 → k ≤ r) seen top.most))
+    (record {
+      kept = kept_freed c.self.inside.cells.items c.free_cell.new.cells _ _ c.self.invariant.kept same c.args.cell r within taken
+          (c.free_cell.ensures.row ∙ ap (λ cells. with_free (row_of cells) c.args.cell) c.as_mut_slice.ensures.value) c.free_cell.ensures.linked
+          top.below (subst (λ cells. 0 < r → sign_at (row_of cells) r ≢ 0) seen top.used)
+          (subst (λ cells. (k : ℕ) → k ≤ c.self.inside.top → sign_at (row_of cells) k ≢ 0 → k ≤ r) seen top.most);
+      bounds = bounds_free (row_of c.self.inside.cells.items) (row_of c.free_cell.new.cells) c.self.inside.lows.items c.self.inside.freed c.self.inside.dropped c.self.invariant.bounds c.args.cell _ (omega arith) (omega arith)
+          (subst (λ r. Frees (row_of c.self.inside.cells.items) r c.args.cell) (sym (c.free_cell.ensures.row ∙ ap (λ cells. with_free (row_of cells) c.args.cell) c.as_mut_slice.ensures.value))
+          (row_frees c.self.inside.cells.items c.args.cell taken));
+    })
 
 pub overflow_sub-self : goal.overflow_sub-self
 overflow_sub-self g c =
-    some_taken c.self.inside.cells.items c.self.inside.top c.self.inside.taken c.args.cell c.self.invariant
+    some_taken c.self.inside.cells.items c.self.inside.top c.self.inside.taken c.args.cell c.self.invariant.kept
     (λ z. c.requires.taken (subst (λ r. sign_at r c.args.cell ≡ 0) c.self.view_is z))
 
 pub returns : goal.returns

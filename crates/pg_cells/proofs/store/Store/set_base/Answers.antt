@@ -1,5 +1,9 @@
-use Rattle.std.proofs.Common.{◌≡◌, refl, ap, ◌∙◌, length, arith}
+use Rattle.std.proofs.Common.{◌≡◌, refl, ap, sym, subst, ◌∙◌, ◌<◌, length, arith}
 use Rattle.pg_cells.specs.Lists.{lists, with_base}
+use Rattle.pg_cells.specs.Lists.{Lists, Row, row_of}
+use Rattle.pg_cells.specs.Writes.{SetsBase}
+use Rattle.pg_cells.proofs.RowWrites.{row_base}
+use Rattle.pg_cells.proofs.BoundLaws.{bounds_base}
 use Rattle.pg_cells.proofs.StoreSteps.{given_back, kept_write}
 use Rattle.pg_cells.proofs.store.Store.set_base.Goals as goal
 
@@ -8,4 +12,10 @@ invariant_of-self g c =
     let size : length c.set_base.new.cells ≡ c.self.inside.cells.len = omega arith in
     let same : length c.set_base.new.cells ≡ length c.self.inside.cells.items = omega arith in
     rw (given_back c.set_base.new.cells c.self.inside.cells.items c.self.inside.cells.len size)
-    (kept_write c.self.inside.cells.items c.set_base.new.cells _ _ c.self.invariant same _ refl (c.set_base.ensures ∙ ap (λ cells. record (lists cells) { row = with_base (lists cells).row c.args.cell c.args.is_base }) c.as_mut_slice.ensures.value))
+    (record {
+      kept = kept_write c.self.inside.cells.items c.set_base.new.cells _ _ c.self.invariant.kept same _ refl (c.set_base.ensures ∙ ap (λ cells. record (lists cells) { row = with_base (lists cells).row c.args.cell c.args.is_base }) c.as_mut_slice.ensures.value);
+      bounds = bounds_base (row_of c.self.inside.cells.items) (row_of c.set_base.new.cells) c.self.inside.lows.items c.self.inside.freed c.self.inside.dropped c.self.invariant.bounds c.args.cell c.least_dropped-self-inside.result c.args.is_base c.least_dropped-self-inside.ensures.least c.least_dropped-self-inside.ensures.base
+          (subst (λ r. SetsBase (row_of c.self.inside.cells.items) r c.args.cell c.args.is_base)
+          (sym (ap (λ (ls : Lists g.row.V.Denot). ls.row) c.set_base.ensures ∙ ap (λ cells. with_base (row_of cells) c.args.cell c.args.is_base) c.as_mut_slice.ensures.value))
+          (row_base c.self.inside.cells.items c.args.cell c.args.is_base (subst (λ (r : Row g.row.V.Denot). c.args.cell < length r.signs) (sym c.self.view_is) c.requires)));
+    })

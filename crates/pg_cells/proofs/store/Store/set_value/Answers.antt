@@ -2,6 +2,7 @@ use Rattle.std.proofs.Common.{◌≡◌, refl, sym, ap, subst, ◌∙◌, length
 use Rattle.pg_cells.specs.Lists.{Lists, lists, row_of, sign_at, with_value}
 use Rattle.pg_cells.specs.Writes.{SetsValue}
 use Rattle.pg_cells.proofs.RowWrites.{row_value}
+use Rattle.pg_cells.proofs.BoundLaws.{bounds_value}
 use Rattle.pg_cells.proofs.StoreSteps.{given_back, kept_write}
 use Rattle.pg_cells.proofs.store.Store.set_value.Goals as goal
 
@@ -10,7 +11,13 @@ invariant_of-self g c =
     let size : length c.set_value.new.cells ≡ c.self.inside.cells.len = omega arith in
     let same : length c.set_value.new.cells ≡ length c.self.inside.cells.items = omega arith in
     rw (given_back c.set_value.new.cells c.self.inside.cells.items c.self.inside.cells.len size)
-    (kept_write c.self.inside.cells.items c.set_value.new.cells _ _ c.self.invariant same _ refl (c.set_value.ensures ∙ ap (λ cells. record (lists cells) { row = with_value (lists cells).row c.args.cell c.args.value }) c.as_mut_slice.ensures.value))
+    (record {
+      kept = kept_write c.self.inside.cells.items c.set_value.new.cells _ _ c.self.invariant.kept same _ refl (c.set_value.ensures ∙ ap (λ cells. record (lists cells) { row = with_value (lists cells).row c.args.cell c.args.value }) c.as_mut_slice.ensures.value);
+      bounds = bounds_value (row_of c.self.inside.cells.items) (row_of c.set_value.new.cells) c.self.inside.lows.items c.self.inside.freed c.self.inside.dropped c.self.invariant.bounds c.args.cell c.args.value
+          (subst (λ r. SetsValue (row_of c.self.inside.cells.items) r c.args.cell c.args.value)
+          (sym (ap (λ (ls : Lists g.row.V.Denot). ls.row) c.set_value.ensures ∙ ap (λ cells. with_value (row_of cells) c.args.cell c.args.value) c.as_mut_slice.ensures.value))
+          (row_value c.self.inside.cells.items c.args.cell c.args.value (λ z. c.requires (subst (λ r. sign_at r c.args.cell ≡ 0) c.self.view_is z))));
+    })
 
 pub returns : goal.returns
 returns g c =

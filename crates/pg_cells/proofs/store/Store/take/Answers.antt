@@ -4,14 +4,15 @@ use Rattle.pg_cells.specs.Lists.{row_of, IsFree, with_taken}
 use Rattle.pg_cells.proofs.LinkedLists.{free_within}
 use Rattle.pg_cells.specs.Writes.{Takes}
 use Rattle.pg_cells.proofs.RowWrites.{row_takes}
+use Rattle.pg_cells.proofs.BoundLaws.{bounds_take}
 use Rattle.pg_cells.proofs.StoreSteps.{given_back, taken_le, kept_taken}
 use Rattle.pg_cells.proofs.store.Store.take.Goals as goal
 
 pub overflow_add-self : goal.overflow_add-self
 overflow_add-self g c =
     let le = taken_le c.self.inside.cells.items in
-    let small = c.self.invariant.small in
-    let count = c.self.invariant.count in
+    let small = c.self.invariant.kept.small in
+    let count = c.self.invariant.kept.count in
     omega arith
 
 pub invariant_of-self : goal.invariant_of-self
@@ -23,8 +24,14 @@ invariant_of-self g c =
     let within : c.args.cell < length c.self.inside.cells.items = omega (arith, free_within (row_of c.self.inside.cells.items) c.args.cell free, length-map c.self.inside.cells.items (λ x. x.sign)) in
     let max = c.max-self-inside.ensures in
     rw (given_back c.take_cell.new.cells c.self.inside.cells.items c.self.inside.cells.len size)
-    (kept_taken c.self.inside.cells.items c.take_cell.new.cells _ _ c.self.invariant same c.args.cell c.args.slot.sign c.args.slot.value c.args.slot.child _ within free c.requires.sign
-    (c.take_cell.ensures.row ∙ ap (λ cells. with_taken (row_of cells) c.args.cell c.args.slot.sign c.args.slot.value c.args.slot.child) value) c.take_cell.ensures.linked max)
+    (record {
+      kept = kept_taken c.self.inside.cells.items c.take_cell.new.cells _ _ c.self.invariant.kept same c.args.cell c.args.slot.sign c.args.slot.value c.args.slot.child _ within free c.requires.sign
+          (c.take_cell.ensures.row ∙ ap (λ cells. with_taken (row_of cells) c.args.cell c.args.slot.sign c.args.slot.value c.args.slot.child) value) c.take_cell.ensures.linked max;
+      bounds = bounds_take (row_of c.self.inside.cells.items) (row_of c.take_cell.new.cells) c.self.inside.lows.items c.self.inside.freed c.self.inside.dropped c.self.invariant.bounds c.args.cell c.args.slot.sign c.args.slot.child c.args.slot.value c.requires.sign
+          (subst (λ r. Takes (row_of c.self.inside.cells.items) r c.args.cell c.args.slot.sign c.args.slot.value c.args.slot.child)
+          (sym (c.take_cell.ensures.row ∙ ap (λ cells. with_taken (row_of cells) c.args.cell c.args.slot.sign c.args.slot.value c.args.slot.child) value))
+          (row_takes c.self.inside.cells.items c.args.cell c.args.slot.sign c.args.slot.value c.args.slot.child free c.requires.sign));
+    })
 
 pub returns : goal.returns
 returns g c =

@@ -5,6 +5,6 @@ use Rattle.pg_cells.proofs.store.Store.taken.Goals as goal
 pub returns-clause-small : goal.returns-clause-small
 returns-clause-small g c =
     let le = taken_le c.self.inside.cells.items in
-    let small = c.self.invariant.small in
-    let count = c.self.invariant.count in
+    let small = c.self.invariant.kept.small in
+    let count = c.self.invariant.kept.count in
     omega arith

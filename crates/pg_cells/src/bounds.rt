@@ -1,0 +1,55 @@
+//! Bounds by sign below which no base is free.
+ghost use Rattle.std.specs.Prelude.{◌≡◌, ◌≢◌, ℕ, ◌+◌, ◌<◌, ◌≤◌, ◌^◌, false, length, slice_index, IfOk};
+ghost use Rattle.pg_cells.specs.Bounds.{IsBelow};
+
+use std::alloc::{AllocError, Global};
+
+/// The bounds of so many signs, and of 0.
+pub fn no_bounds(alloc: Global, signs: u16) -> Result<Vec<u32>, AllocError>
+    ensures { IfOk result (λ lows. length lows.items ≡ signs + 1) }
+{
+    let mut lows = Vec::new(alloc);
+    'grow: while lows.len() < signs as usize + 1 {
+        lows.push(0)?;
+    }
+    Ok(lows)
+}
+
+/// The bound of a sign, where these are the least cell and the least base that were given up.
+pub fn bound_of(lows: &[u32], freed: usize, dropped: usize, sign: u16) -> usize
+    ensures { (b : ℕ) → b < result → IsBelow lows.now freed dropped sign b }
+{
+    let low = lows.get(sign as usize).copied().unwrap_or(0);
+    (low as usize)
+        .min(dropped)
+        .min(freed.saturating_sub(sign as usize))
+}
+
+/// Lowers each bound as far as the cells and bases ask that were given up.
+pub fn lower(lows: &mut Vec<u32>, freed: usize, dropped: usize)
+    ensures { (s b : ℕ) → b < slice_index lows.new.items s → IsBelow lows.old.items freed dropped s b }
+{
+    for sign in 0..lows.len() {
+        let low = lows[sign] as usize;
+        lows[sign] = low.min(dropped).min(freed.saturating_sub(sign)) as u32;
+    }
+}
+
+/// Sets the bound of a sign, where it has one.
+pub fn set_low(lows: &mut Vec<u32>, sign: u16, low: usize)
+    requires { low < 2 ^ 32 }
+    ensures here { slice_index lows.new.items sign ≤ low }
+    ensures there { (s : ℕ) → s ≢ sign → slice_index lows.new.items s ≡ slice_index lows.old.items s }
+{
+    if (sign as usize) < lows.len() {
+        lows[sign as usize] = low as u32;
+    }
+}
+
+/// The lesser of the least base that was given up and a base, where that one is given up now.
+pub fn least_dropped(dropped: usize, base: usize, is_base: bool) -> usize
+    ensures least { result ≤ dropped }
+    ensures base { is_base ≡ false → result ≤ base }
+{
+    if is_base { dropped } else { dropped.min(base) }
+}
