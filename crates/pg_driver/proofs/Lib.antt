@@ -21,5 +21,7 @@ pub mod OpenSteps
 pub mod OpenLevels
 pub mod CarriedTotals
 pub mod OpenTraces
+pub mod AbovePositions
+pub mod WordLevels
 pub mod ReadySteps
 mod DotRows

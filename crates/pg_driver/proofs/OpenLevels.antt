@@ -29,7 +29,7 @@ use Rattle.pg_driver.specs.declared.open_positions.OpenPosition.{OpenPosition}
 use Rattle.pg_driver.specs.Traces.{choice_of, is_chosen, is_hopeless}
 use Rattle.pg_driver.specs.DotSets.{has_dot, no_dots, all_dots, longer_dots, is_full}
 use Rattle.pg_driver.specs.OpenPositions.{numbered_positions, open_with, IsKnown, AreOpen, with_closed, changed}
-use Rattle.pg_driver.specs.OpenLevels.{open_by_status, open_from, InLevel, longer_positions, dots_after, closed_dots_after, position_after}
+use Rattle.pg_driver.specs.OpenLevels.{listed_from, open_as, open_from, InLevel, longer_positions, dots_after, closed_dots_after, position_after}
 use Rattle.pg_driver.proofs.DotBits.{bit_with, bit_longer}
 use Rattle.pg_driver.proofs.OpenPositions.{open_go_on}
 
@@ -38,32 +38,33 @@ tells_same : (level len : ℕ) (P : Patterns) (H : Hopeless) (w : Word) (p : ℕ
 tells_same level len P H w p a b same tells d within = tells d within ∙ ap (λ c. counted_with level w p len d c) (same d within)
 
 -- a level begins
-abbrev start_with : Option Bool → Option DotSet
+abbrev pub start_with : Option Bool → Option DotSet
 start_with None = None
 start_with (Some good) = Some no_dots
 
-none_in : (d : ℕ) → has_dot no_dots d ≡ false
+pub none_in : (d : ℕ) → has_dot no_dots d ≡ false
 none_in d = ap (λ n. nat_eq n 1) (bit_at-zero d)
 
-module _ (level len : ℕ) (m : Minima) (P : Patterns) (below : IsBelow level P) (words : List Word) where
+-- the listed positions of words, as entries of their positions
+module _ (m : Minima) (words : List Word) (counts : Word → ℕ → Option Bool) where
   -- the closed dots of a position of a word, where there is such a word
   abbrev start_in : ℕ → Option Word → Option DotSet
   start_in p None = None
-  start_in p (Some w) = start_with (counts_as level (status_at P w p))
+  start_in p (Some w) = start_with (counts w p)
 
-  abbrev start_at : ℕ → ℕ → Option DotSet
+  abbrev pub start_at : ℕ → ℕ → Option DotSet
   start_at n p = start_in p (slice_get words n)
 
-  start_entry : (n p : ℕ) (w : Word) (o : Option Bool) → option_map_or {U = List OpenPosition} (λ (b : Bool). record { word = n; at = p; closed = no_dots } ∷ []) o [] ≡ option_map_or (λ (dots : DotSet). record { word = n; at = p; closed = dots } ∷ []) (start_with o) []
-  start_entry n p w None = refl
-  start_entry n p w (Some good) = refl
+  start_entry : (n p : ℕ) (o : Option Bool) → open_as n p o ≡ option_map_or (λ (dots : DotSet). record { word = n; at = p; closed = dots } ∷ []) (start_with o) []
+  start_entry n p None = refl
+  start_entry n p (Some good) = refl
 
-  start_word : (n : ℕ) (w : Word) → slice_get words n ≡ Some w → (ps : List ℕ) → flat_map (open_by_status level P n w) ps ≡ flat_map (open_with start_at) (map (λ p. (n, p)) ps)
+  start_word : (n : ℕ) (w : Word) → slice_get words n ≡ Some w → (ps : List ℕ) → flat_map (λ p. open_as n p (counts w p)) ps ≡ flat_map (open_with start_at) (map (λ p. (n, p)) ps)
   start_word n w at [] = refl
   start_word n w at (p ∷ ps) =
-      λ i. (start_entry n p w (counts_as level (status_at P w p)) ∙ ap (λ (o : Option Word). option_map_or (λ (dots : DotSet). record { word = n; at = p; closed = dots } ∷ []) (start_in p o) []) (sym at)) i ++ start_word n w at ps i
+      λ i. (start_entry n p (counts w p) ∙ ap (λ (o : Option Word). option_map_or (λ (dots : DotSet). record { word = n; at = p; closed = dots } ∷ []) (start_in p o) []) (sym at)) i ++ start_word n w at ps i
 
-  start_words : (n : ℕ) (ws : List Word) → ((k : ℕ) (w : Word) → slice_get ws k ≡ Some w → slice_get words (n + k) ≡ Some w) → open_from m level P n ws ≡ flat_map (open_with start_at) (numbered_positions m n ws)
+  start_words : (n : ℕ) (ws : List Word) → ((k : ℕ) (w : Word) → slice_get ws k ≡ Some w → slice_get words (n + k) ≡ Some w) → listed_from m counts n ws ≡ flat_map (open_with start_at) (numbered_positions m n ws)
   start_words n [] place = refl
   start_words n (w ∷ ws) place =
       let here : slice_get words n ≡ Some w = ap (slice_get words) (plus_zero n) ∙ place 0 w refl in
@@ -76,8 +77,19 @@ module _ (level len : ℕ) (m : Minima) (P : Patterns) (below : IsBelow level P)
       plus_one : (n k : ℕ) → n + 1 + k ≡ n + suc k
       plus_one n k = omega arith
 
-  start_known : (n p : ℕ) (w : Word) → slice_get words n ≡ Some w → IsKnown level len P [] w p (start_at n p)
-  start_known n p w at = subst (λ (o : Option Word). IsKnown level len P [] w p (start_in p o)) (sym at) (by_count (counts_as level (status_at P w p)) refl)
+  pub listed_are : listed_from m counts 0 words ≡ flat_map (open_with start_at) (numbered_positions m 0 words)
+  listed_are = start_words 0 words (λ k w at. ap (slice_get words) (zero_plus k) ∙ at)
+    where
+      zero_plus : (k : ℕ) → 0 + k ≡ k
+      zero_plus k = omega arith
+
+-- those that count by their status are open
+abbrev by_status : ℕ → Patterns → Word → ℕ → Option Bool
+by_status level P w p = counts_as level (status_at P w p)
+
+module _ (level len : ℕ) (m : Minima) (P : Patterns) (below : IsBelow level P) (words : List Word) where
+  start_known : (n p : ℕ) (w : Word) → slice_get words n ≡ Some w → IsKnown level len P [] w p (start_at m words (by_status level P) n p)
+  start_known n p w at = subst (λ (o : Option Word). IsKnown level len P [] w p (start_in m words (by_status level P) p o)) (sym at) (by_count (counts_as level (status_at P w p)) refl)
     where
       by_count : (o : Option Bool) → counts_as level (status_at P w p) ≡ o → IsKnown level len P [] w p (start_with o)
       by_count None is = done_by_status level len P [] w p is
@@ -88,14 +100,11 @@ level_begins level len m words P below = record {
   short = covers_up_to_at_start level len P below;
   upto = up_to_at_start level P below;
   are_open = record {
-    closed = start_at level len m P below words;
-    are = start_words level len m P below words 0 words (λ k w at. ap (slice_get words) (zero_plus k) ∙ at);
+    closed = start_at m words (by_status level P);
+    are = listed_are m words (by_status level P);
     known = start_known level len m P below words;
   };
 }
-  where
-    zero_plus : (k : ℕ) → 0 + k ≡ k
-    zero_plus k = omega arith
 
 -- a level goes on to the next length
 full_in : (dots : DotSet) (n k d : ℕ) → list_all (has_dot dots) (range_with_len n k) ≡ true → n ≤ d → d < n + k → has_dot dots d ≡ true
@@ -135,7 +144,7 @@ level_longer level len m words P H entries upto is = record {
 all_in : (d : ℕ) → d ≤ LENGTH_MAX → has_dot all_dots d ≡ true
 all_in d within = ap (λ n. nat_eq n 1) (bit_at_ones 16 d (omega arith))
 
-found_is : (seen : List CountedPosition) (u : List ℕ) → find cmp u (fold with_position [] seen) ≡ cond (is_counted_window seen u) (Some (good_of seen u, bad_of seen u)) None
+pub found_is : (seen : List CountedPosition) (u : List ℕ) → find cmp u (fold with_position [] seen) ≡ cond (is_counted_window seen u) (Some (good_of seen u, bad_of seen u)) None
 found_is seen u = sums_found u [] seen ∙ plain (is_counted_window seen u) (good_of seen u) (bad_of seen u)
   where
     zero_plus : (n : ℕ) → 0 + n ≡ n

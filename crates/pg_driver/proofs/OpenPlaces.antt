@@ -69,14 +69,17 @@ placed_with words closed s here_in = by_dots (closed s.0 s.1)
     by_dots None = All-nil (IsPlaced words)
     by_dots (Some dots) = All-cons (IsPlaced words) (record { word = s.0; at = s.1; closed = dots }) [] (record { word = here_in.word; within = here_in.within }) (All-nil (IsPlaced words))
 
--- open positions stand in the words
-pub open_placed : (level len : ℕ) (m : Minima) (words : List Word) (P : Patterns) (H : Hopeless) (entries : List OpenPosition) → AreOpen level len m words P H entries → All (IsPlaced words) entries
-open_placed level len m words P H entries are_open =
-    All-same (IsPlaced words) entries (flat_map (open_with are_open.closed) (numbered_positions m 0 words)) are_open.are
-    (all_flat (IsPlaced words) (IsNumbered words) (open_with are_open.closed) (placed_with words are_open.closed) (numbered_positions m 0 words) (numbered_in m words 0 words (λ k w at. ap (slice_get words) (zero_plus k) ∙ at)))
+-- entries stand in the words
+pub entries_placed : (m : Minima) (words : List Word) (closed : ℕ → ℕ → Option DotSet) (entries : List OpenPosition) → entries ≡ flat_map (open_with closed) (numbered_positions m 0 words) → All (IsPlaced words) entries
+entries_placed m words closed entries are =
+    All-same (IsPlaced words) entries (flat_map (open_with closed) (numbered_positions m 0 words)) are
+    (all_flat (IsPlaced words) (IsNumbered words) (open_with closed) (placed_with words closed) (numbered_positions m 0 words) (numbered_in m words 0 words (λ k w at. ap (slice_get words) (zero_plus k) ∙ at)))
   where
     zero_plus : (k : ℕ) → 0 + k ≡ k
     zero_plus k = omega arith
+
+pub open_placed : (level len : ℕ) (m : Minima) (words : List Word) (P : Patterns) (H : Hopeless) (entries : List OpenPosition) → AreOpen level len m words P H entries → All (IsPlaced words) entries
+open_placed level len m words P H entries are_open = entries_placed m words are_open.closed entries are_open.are
 
 few_open : (closed : ℕ → ℕ → Option DotSet) (numbered : List (ℕ × ℕ)) → length (flat_map (open_with closed) numbered) ≤ length numbered
 few_open closed [] = omega arith
@@ -97,6 +100,9 @@ numbered_length m n (w ∷ words) =
     omega (arith, length-append (map (λ p. (n, p)) (positions m.left m.right (length w.signs))) (numbered_positions m (n + 1) words), sizes, sum_by-cons (λ (w : Word). length (positions m.left m.right (length w.signs))) w words)
 
 -- and there are no more than letters
+pub entries_few : (m : Minima) (words : List Word) (closed : ℕ → ℕ → Option DotSet) (entries : List OpenPosition) → 1 ≤ m.left → entries ≡ flat_map (open_with closed) (numbered_positions m 0 words) → length entries ≤ sum_by letter_count words
+entries_few m words closed entries low are =
+    omega (arith, ap (λ (es : List OpenPosition). length es) are, few_open closed (numbered_positions m 0 words), numbered_length m 0 words, positions_within m words low)
+
 pub open_few : (level len : ℕ) (m : Minima) (words : List Word) (P : Patterns) (H : Hopeless) (entries : List OpenPosition) → 1 ≤ m.left → AreOpen level len m words P H entries → length entries ≤ sum_by letter_count words
-open_few level len m words P H entries low are_open =
-    omega (arith, ap (λ (es : List OpenPosition). length es) are_open.are, few_open are_open.closed (numbered_positions m 0 words), numbered_length m 0 words, positions_within m words low)
+open_few level len m words P H entries low are_open = entries_few m words are_open.closed entries low are_open.are

@@ -7,7 +7,7 @@ use Rattle.std.proofs.lemmas.List.Concat.{flat_map-append}
 use Rattle.pg_types.specs.declared.limits.TheConstants.{LENGTH_MAX}
 use Rattle.pg_translate.specs.Reach.{positions}
 use Rattle.pg_dict.specs.Word.{Word}
-use Rattle.pg_select.specs.CountedPositions.{Minima, counted_positions_at, counted_positions_in, counted_positions}
+use Rattle.pg_select.specs.CountedPositions.{Minima, CountedPosition, counted_positions_at, counted_positions}
 use Rattle.pg_select.specs.Statuses.{position_weight}
 use Rattle.pg_select.specs.Windows.{Patterns, Hopeless, window}
 use Rattle.pg_select.proofs.LawsTally.{counted_as}
@@ -63,8 +63,40 @@ open_go_on level len l m words P P' H H' next entries done tells are_open = reco
     on n p w at None known = done w p known
     on n p w at (Some dots) known = tells n p w dots at known
 
+-- what is counted at the positions of words, by the entries that stand for them
+module _ (m : Minima) (words : List Word) (closed : ℕ → ℕ → Option DotSet) (at_entry : OpenPosition → List CountedPosition) (at_position : Word → ℕ → List CountedPosition)
+    (each : (n p : ℕ) (w : Word) → slice_get words n ≡ Some w → at_position w p ≡ flat_map at_entry (open_with closed (n, p))) where
+  counted_word : (n : ℕ) (w : Word) → slice_get words n ≡ Some w → (ps : List ℕ) → flat_map (at_position w) ps ≡ flat_map at_entry (flat_map (open_with closed) (map (λ p. (n, p)) ps))
+  counted_word n w at [] = refl
+  counted_word n w at (p ∷ ps) =
+      (λ i. each n p w at i ++ counted_word n w at ps i)
+      ∙ sym (flat_map-append at_entry (open_with closed (n, p)) (flat_map (open_with closed) (map (λ p. (n, p)) ps)))
+
+  abbrev in_reach : Word → List CountedPosition
+  in_reach w = flat_map (at_position w) (positions m.left m.right (length w.signs))
+
+  counted_words : (n : ℕ) (ws : List Word) → ((k : ℕ) (w : Word) → slice_get ws k ≡ Some w → slice_get words (n + k) ≡ Some w) → flat_map in_reach ws ≡ flat_map at_entry (flat_map (open_with closed) (numbered_positions m n ws))
+  counted_words n [] place = refl
+  counted_words n (w ∷ ws) place =
+      let here : slice_get words n ≡ Some w = ap (slice_get words) (plus_zero n) ∙ place 0 w refl in
+      (λ i. counted_word n w here (positions m.left m.right (length w.signs)) i ++ counted_words (n + 1) ws (λ k v at. ap (slice_get words) (plus_one n k) ∙ place (suc k) v at) i)
+      ∙ sym (flat_map-append at_entry (flat_map (open_with closed) (map (λ p. (n, p)) (positions m.left m.right (length w.signs)))) (flat_map (open_with closed) (numbered_positions m (n + 1) ws)))
+      ∙ ap (flat_map at_entry) (sym (flat_map-append (open_with closed) (map (λ p. (n, p)) (positions m.left m.right (length w.signs))) (numbered_positions m (n + 1) ws)))
+    where
+      plus_zero : (n : ℕ) → n ≡ n + 0
+      plus_zero n = omega arith
+
+      plus_one : (n k : ℕ) → n + 1 + k ≡ n + suc k
+      plus_one n k = omega arith
+
+  pub counted_by_entries : (entries : List OpenPosition) → entries ≡ flat_map (open_with closed) (numbered_positions m 0 words) → flat_map in_reach words ≡ flat_map at_entry entries
+  counted_by_entries entries are = counted_words 0 words (λ k w at. ap (slice_get words) (zero_plus k) ∙ at) ∙ ap (flat_map at_entry) (sym are)
+    where
+      zero_plus : (k : ℕ) → 0 + k ≡ k
+      zero_plus k = omega arith
+
 -- what a pass counts
-module _ (level len dot : ℕ) (m : Minima) (words : List Word) (P : Patterns) (H : Hopeless) (closed : ℕ → ℕ → Option DotSet) (short : len ≤ LENGTH_MAX) (within : dot ≤ len) (known : (n p : ℕ) (w : Word) → slice_get words n ≡ Some w → IsKnown level len P H w p (closed n p)) where
+module _ (level len dot : ℕ) (words : List Word) (P : Patterns) (H : Hopeless) (closed : ℕ → ℕ → Option DotSet) (short : len ≤ LENGTH_MAX) (within : dot ≤ len) (known : (n p : ℕ) (w : Word) → slice_get words n ≡ Some w → IsKnown level len P H w p (closed n p)) where
   counted_entry : (n p : ℕ) (w : Word) → slice_get words n ≡ Some w → counted_positions_at (pass_at level len dot) P H w p ≡ flat_map (counted_of level len dot words) (open_with closed (n, p))
   counted_entry n p w at = by_dots (closed n p) (known n p w at)
     where
@@ -75,31 +107,7 @@ module _ (level len dot : ℕ) (m : Minima) (words : List Word) (P : Patterns) (
           ∙ ap (λ (o : Option Word). option_map_or (λ (u : Word). counted_in level len dot u p (has_dot dots dot)) o []) (sym at)
           ∙ sym (append-nil (counted_of level len dot words (record { word = n; at = p; closed = dots })))
 
-  counted_word : (n : ℕ) (w : Word) → slice_get words n ≡ Some w → (ps : List ℕ) → flat_map (counted_positions_at (pass_at level len dot) P H w) ps ≡ flat_map (counted_of level len dot words) (flat_map (open_with closed) (map (λ p. (n, p)) ps))
-  counted_word n w at [] = refl
-  counted_word n w at (p ∷ ps) =
-      (λ i. counted_entry n p w at i ++ counted_word n w at ps i)
-      ∙ sym (flat_map-append (counted_of level len dot words) (open_with closed (n, p)) (flat_map (open_with closed) (map (λ p. (n, p)) ps)))
-
-  counted_words : (n : ℕ) (ws : List Word) → ((k : ℕ) (w : Word) → slice_get ws k ≡ Some w → slice_get words (n + k) ≡ Some w) → flat_map (counted_positions_in m (pass_at level len dot) P H) ws ≡ flat_map (counted_of level len dot words) (flat_map (open_with closed) (numbered_positions m n ws))
-  counted_words n [] place = refl
-  counted_words n (w ∷ ws) place =
-      let here : slice_get words n ≡ Some w = ap (slice_get words) (plus_zero n) ∙ place 0 w refl in
-      (λ i. counted_word n w here (positions m.left m.right (length w.signs)) i ++ counted_words (n + 1) ws (λ k v at. ap (slice_get words) (plus_one n k) ∙ place (suc k) v at) i)
-      ∙ sym (flat_map-append (counted_of level len dot words) (flat_map (open_with closed) (map (λ p. (n, p)) (positions m.left m.right (length w.signs)))) (flat_map (open_with closed) (numbered_positions m (n + 1) ws)))
-      ∙ ap (flat_map (counted_of level len dot words)) (sym (flat_map-append (open_with closed) (map (λ p. (n, p)) (positions m.left m.right (length w.signs))) (numbered_positions m (n + 1) ws)))
-    where
-      plus_zero : (n : ℕ) → n ≡ n + 0
-      plus_zero n = omega arith
-
-      plus_one : (n k : ℕ) → n + 1 + k ≡ n + suc k
-      plus_one n k = omega arith
-
 pub counted_are_open : (level len dot : ℕ) (m : Minima) (words : List Word) (P : Patterns) (H : Hopeless) (entries : List OpenPosition) → len ≤ LENGTH_MAX → dot ≤ len → AreOpen level len m words P H entries
     → counted_positions m words (pass_at level len dot) P H ≡ flat_map (counted_of level len dot words) entries
 counted_are_open level len dot m words P H entries short within are_open =
-    counted_words level len dot m words P H are_open.closed short within are_open.known 0 words (λ k w at. ap (slice_get words) (zero_plus k) ∙ at)
-    ∙ ap (flat_map (counted_of level len dot words)) (sym are_open.are)
-  where
-    zero_plus : (k : ℕ) → 0 + k ≡ k
-    zero_plus k = omega arith
+    counted_by_entries m words are_open.closed (counted_of level len dot words) (counted_positions_at (pass_at level len dot) P H) (counted_entry level len dot words P H are_open.closed short within are_open.known) entries are_open.are

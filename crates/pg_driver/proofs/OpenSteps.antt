@@ -11,7 +11,7 @@ use Rattle.pg_types.specs.Counts.{Counts}
 use Rattle.pg_select.specs.Meanings.{Meaning, with_position}
 use Rattle.pg_select.specs.CountedPositions.{Minima, CountedPosition}
 use Rattle.pg_select.specs.Statuses.{position_weight}
-use Rattle.pg_select.specs.Windows.{Patterns, window, fits}
+use Rattle.pg_select.specs.Windows.{window, fits}
 use Rattle.pg_driver.specs.Counting.{counting, HasRoom, TookRoom}
 use Rattle.pg_select.proofs.MarkSteps.{weight_small}
 use Rattle.pg_driver.proofs.Puts.{cmp, weight_found}
@@ -20,7 +20,7 @@ use Rattle.pg_driver.proofs.Rooms.{took_none, took_with, window_filled}
 use Rattle.pg_driver.proofs.Walks.{counted_step}
 use Rattle.pg_driver.proofs.WordSteps.{drop_place}
 use Rattle.pg_driver.specs.declared.open_positions.OpenPosition.{OpenPosition}
-use Rattle.pg_driver.specs.OpenLevels.{open_in, open_from}
+use Rattle.pg_driver.specs.OpenLevels.{listed_in, listed_from}
 use Rattle.pg_select.specs.LawsClosedDots.{is_good}
 use Rattle.pg_driver.specs.OpenPositions.{counted_in}
 
@@ -75,12 +75,12 @@ few_words (w ∷ words) all =
     omega (arith, sum_by-cons letter_count w words, word.long)
 
 -- the positions of one word more
-pub word_added : (m : Minima) (level : ℕ) (P : Patterns) (items more whole : List OpenPosition) (words : List Word) (i : ℕ) (w : Word) → slice_get words i ≡ Some w → more ≡ items ++ open_in m level P i w → items ++ open_from m level P i (drop i words) ≡ whole
-    → more ++ open_from m level P (i + 1) (drop (i + 1) words) ≡ whole
-word_added m level P items more whole words i w at is left =
-    ap (λ (es : List OpenPosition). es ++ open_from m level P (i + 1) (drop (i + 1) words)) is
-    ∙ append_assoc items (open_in m level P i w) (open_from m level P (i + 1) (drop (i + 1) words))
-    ∙ ap (λ (ws : List Word). items ++ open_from m level P i ws) (sym (drop_place words i w at))
+pub word_added : (m : Minima) (counts : Word → ℕ → Option Bool) (items more whole : List OpenPosition) (words : List Word) (i : ℕ) (w : Word) → slice_get words i ≡ Some w → more ≡ items ++ listed_in m counts i w → items ++ listed_from m counts i (drop i words) ≡ whole
+    → more ++ listed_from m counts (i + 1) (drop (i + 1) words) ≡ whole
+word_added m counts items more whole words i w at is left =
+    ap (λ (es : List OpenPosition). es ++ listed_from m counts (i + 1) (drop (i + 1) words)) is
+    ∙ append_assoc items (listed_in m counts i w) (listed_from m counts (i + 1) (drop (i + 1) words))
+    ∙ ap (λ (ws : List Word). items ++ listed_from m counts i ws) (sym (drop_place words i w at))
     ∙ left
 
 -- an entry that was counted, and then the rest

@@ -5,7 +5,7 @@ use Rattle.pg_types.specs.declared.limits.TheConstants.{LENGTH_MAX, FILE_MAX}
 use Rattle.pg_types.specs.declared.marks.Totals.{Totals}
 use Rattle.pg_types.specs.declared.parameters.LevelParams.{LevelParams}
 use Rattle.pg_types.specs.Counts.{Counts}
-use Rattle.pg_dict.specs.Word.{IsWord, letter_count}
+use Rattle.pg_dict.specs.Word.{Word, IsWord, letter_count}
 use Rattle.pg_select.specs.declared.pass.Pass.{Pass}
 use Rattle.pg_select.specs.LawsSteps.{IsBelow}
 use Rattle.pg_select.specs.Meanings.{Meaning, with_position}
@@ -20,7 +20,7 @@ use Rattle.pg_driver.specs.declared.open_positions.OpenPosition.{OpenPosition}
 use Rattle.pg_driver.specs.Accounts.{totals_by}
 use Rattle.pg_driver.specs.Choosing.{no_choices, with_candidates}
 use Rattle.pg_driver.specs.Counting.{HasRoom}
-use Rattle.pg_driver.specs.LevelCounting.{ArePlaced, CanCarry, CanGoOn, Carries, GoesOnAfter, IsAfterPass, IsOpenAt, IsReady, TellsTotals}
+use Rattle.pg_driver.specs.LevelCounting.{ArePlaced, CanCarry, CanGoOn, Carries, GoesOnAfter, IsAfterPass, IsCounted, IsOpenAt, IsReady, TellsTotals}
 use Rattle.pg_driver.specs.OpenLevels.{InLevel, longer_positions, open_from}
 use Rattle.pg_driver.specs.OpenPositions.{IsPlaced, counted_of}
 use Rattle.pg_driver.specs.Sound.{IsSmall}
@@ -33,6 +33,7 @@ use Rattle.pg_driver.proofs.OpenPlaces.{open_few, open_placed}
 use Rattle.pg_driver.proofs.OpenPositions.{counted_are_open}
 use Rattle.pg_driver.proofs.OpenTraces.{level_on, totals_on}
 use Rattle.pg_driver.proofs.Rooms.{room_none}
+use Rattle.pg_driver.proofs.WordLevels.{words_after, words_can_move, words_placed}
 
 -- where a level begins
 pub ready_at_start : (source : Source) (level len : ℕ) (m : Meaning) (o : OpenLevel) → m.hopeless ≡ [] → IsBelow level m.patterns → 1 ≤ source.minima.left → All IsWord source.words → sum_by letter_count source.words ≤ FILE_MAX
@@ -76,13 +77,22 @@ module _ (source : Source) (level len : ℕ) (known : Known) (o : OpenLevel) (re
   }
 
 -- totals that a ready way tells
-pub tells_totals : (source : Source) (level len : ℕ) (known : Known) (P : Patterns) (c : Counting) → known.patterns ≡ P → IsReady source level len known c → TellsTotals source P c
-tells_totals source level len known P (Open o) same ready = (ready.totals ∙ ap (totals_by source) same, is_small source level len known o ready)
-tells_totals source level len known P EachWord same ready = tt
+pub tells_totals : (source : Source) (level len : ℕ) (known : Known) (P : Patterns) (c : Counting) → known.patterns ≡ P → IsCounted c → IsReady source level len known c → TellsTotals source P c
+tells_totals source level len known P (Open o) same counted ready = (ready.totals ∙ ap (totals_by source) same, is_small source level len known o ready)
+tells_totals source level len known P (EachWord e) same counted ready =
+    let totals : e.totals ≡ totals_by source P = ready.totals counted ∙ ap (totals_by source) same in
+    (totals, subst IsSmall (sym totals) (totals_are_small source.minima source.words P ready.least ready.words ready.letters))
+
+-- a pass was counted still after the choices of a pass
+pub counted_after : (params : LevelParams) (pass : Pass) (counts : Counts) (words : List Word) (n : Choices) (c d : Counting) → GoesOnAfter params pass counts words n c d → IsCounted c → IsCounted d
+counted_after params pass counts words n (Open o) (Open p) on counted = tt
+counted_after params pass counts words n (Open o) (EachWord f) on counted = absurd on
+counted_after params pass counts words n (EachWord e) (Open p) on counted = absurd on
+counted_after params pass counts words n (EachWord e) (EachWord f) on counted = on.counted ∙ counted
 
 pub placed : (source : Source) (level len : ℕ) (known : Known) (c : Counting) → IsReady source level len known c → ArePlaced source.words c
 placed source level len known (Open o) ready = are_placed source level len known o ready
-placed source level len known EachWord ready = tt
+placed source level len known (EachWord e) ready = words_placed source level known e ready
 
 -- after a pass
 module _ (source : Source) (params : LevelParams) (known : Known) (pass : Pass) (n : Choices) where
@@ -130,13 +140,13 @@ module _ (source : Source) (params : LevelParams) (known : Known) (pass : Pass) 
       totals = carried_same (is_odd pass.level) o.totals p.totals (totals_by source (known_after made).patterns) n.good n.bad is.totals carries;
     }
 
-  pub can_go_on : (c : Counting) → AreOf → IsReady source pass.level pass.len known c → CanGoOn pass n c
-  can_go_on (Open o) of ready = can_carry o of ready
-  can_go_on EachWord of ready = tt
+  pub can_go_on : (counts : Counts) (c : Counting) → AreOf → IsCounted c → counts ≡ fold with_position [] (counted_positions source.minima source.words pass known.patterns known.hopeless) → IsReady source pass.level pass.len known c → CanGoOn params pass counts source.words n c
+  can_go_on counts (Open o) of begun counted ready = can_carry o of ready
+  can_go_on counts (EachWord e) of begun counted ready = words_can_move source params known pass n counts e ready begun counted of.good of.bad
 
-  pub ready_after : (counts : Counts) (c d : Counting) → AreOf → pass.dot ≤ LENGTH_MAX → counts ≡ fold with_position [] (counted_positions source.minima source.words pass known.patterns known.hopeless) → GoesOnAfter params pass counts source.words n c d
+  pub ready_after : (counts : Counts) (c d : Counting) → AreOf → IsCounted c → pass.dot ≤ LENGTH_MAX → counts ≡ fold with_position [] (counted_positions source.minima source.words pass known.patterns known.hopeless) → GoesOnAfter params pass counts source.words n c d
       → IsReady source pass.level pass.len known c → IsReady source pass.level pass.len (known_after made) d
-  ready_after counts (Open o) (Open p) of low counted on ready = open_after o of ready counts p low counted on
-  ready_after counts (Open o) EachWord of low counted on ready = tt
-  ready_after counts EachWord (Open p) of low counted on ready = absurd on
-  ready_after counts EachWord EachWord of low counted on ready = tt
+  ready_after counts (Open o) (Open p) of begun low counted on ready = open_after o of ready counts p low counted on
+  ready_after counts (Open o) (EachWord f) of begun low counted on ready = absurd on
+  ready_after counts (EachWord e) (Open p) of begun low counted on ready = absurd on
+  ready_after counts (EachWord e) (EachWord f) of begun low counted on ready = words_after source params known pass n counts e ready begun counted of.good of.bad f on

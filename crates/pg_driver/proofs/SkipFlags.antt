@@ -12,7 +12,7 @@ unset_at zero i = refl
 unset_at (suc n) zero = refl
 unset_at (suc n) (suc i) = unset_at n i
 
-none_set : (flags : List Bool) (dot : ℕ) → flags ≡ unset → is_set flags dot ≡ false
+pub none_set : (flags : List Bool) (dot : ℕ) → flags ≡ unset → is_set flags dot ≡ false
 none_set flags dot is = ap (λ (fs : List Bool). is_set fs dot) is ∙ unset_at 17 dot
 
 -- where a level begins

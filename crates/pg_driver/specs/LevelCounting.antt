@@ -1,5 +1,5 @@
 -- How the windows of a level are counted: what its way to count knows before a pass, and what it makes of the choices after it.
-use Rattle.std.specs.Prelude.{◌≡◌, ℕ, ◌≤◌, ◌<◌, ◌^◌, Bool, List, map, sum_by, All, MatchBool}
+use Rattle.std.specs.Prelude.{◌≡◌, ℕ, ◌-◌, ◌≤◌, ◌<◌, Bool, true, List, length, map, sum_by, All, MatchBool}
 use Rattle.pg_types.specs.declared.limits.TheConstants.{FILE_MAX}
 use Rattle.pg_types.specs.declared.marks.Totals.{Totals}
 use Rattle.pg_types.specs.declared.parameters.LevelParams.{LevelParams}
@@ -13,11 +13,14 @@ use Rattle.pg_driver.specs.declared.choices.Choices.{Choices}
 use Rattle.pg_driver.specs.declared.counting.Counting.{Counting}
 use Rattle.pg_driver.specs.declared.counting.Counting.TheVariants.{Open, EachWord}
 use Rattle.pg_driver.specs.declared.open_positions.OpenLevel.{OpenLevel}
+use Rattle.pg_driver.specs.declared.word_level.WordLevel.{WordLevel}
+use Rattle.pg_driver.specs.declared.above_positions.Kept.{Kept}
 use Rattle.pg_driver.specs.Accounts.{totals_by}
 use Rattle.pg_driver.specs.OpenLevels.{InLevel, position_after}
 use Rattle.pg_driver.specs.OpenPositions.{IsPlaced}
 use Rattle.pg_driver.specs.Sound.{IsSmall}
 use Rattle.pg_driver.specs.Traces.{Known, Source}
+use Rattle.pg_driver.specs.WordLevels.{IsWordsAt, kept_by}
 use Rattle.pg_types.specs.Limits.{sums_limit}
 
 -- the positions are the open ones at a length of a level, and the totals are those by the patterns
@@ -31,22 +34,30 @@ pub record IsOpenAt (source : Source) (level len : ℕ) (known : Known) (o : Ope
 -- a way to count is ready for the passes of a length
 abbrev pub IsReady : Source → ℕ → ℕ → Known → Counting → Type 0
 IsReady source level len known (Open o) = IsOpenAt source level len known o
-IsReady source level len known EachWord = Unit {0}
+IsReady source level len known (EachWord e) = IsWordsAt source level known e
 
 -- windows are counted at open positions, so that no word is hyphenated after the level's start
 abbrev pub IsOverOpen : Counting → Type 0
 IsOverOpen (Open o) = Unit {0}
-IsOverOpen EachWord = ⊥
+IsOverOpen (EachWord e) = ⊥
+
+-- a pass was counted, where each word is hyphenated in each pass
+abbrev pub IsCounted : Counting → Type 0
+IsCounted (Open o) = Unit {0}
+IsCounted (EachWord e) = e.is_counted ≡ true
 
 -- carried totals are those by the patterns, and small
-abbrev pub TellsTotals : Source → Patterns → Counting → Type 0
-TellsTotals source P (Open o) = (o.totals ≡ totals_by source P) × IsSmall o.totals
-TellsTotals source P EachWord = Unit {0}
+abbrev pub totals_in : Counting → Totals
+totals_in (Open o) = o.totals
+totals_in (EachWord e) = e.totals
 
--- each open position stands in one of the words
+abbrev pub TellsTotals : Source → Patterns → Counting → Type 0
+TellsTotals source P c = (totals_in c ≡ totals_by source P) × IsSmall (totals_in c)
+
+-- each position that is kept stands in one of the words, and there are no more than letters in the longest dictionary
 abbrev pub ArePlaced : List Word → Counting → Type 0
 ArePlaced words (Open o) = All (IsPlaced words) o.positions.items
-ArePlaced words EachWord = Unit {0}
+ArePlaced words (EachWord e) = All (IsPlaced words) e.above.items × (length e.above.items ≤ FILE_MAX)
 
 -- the totals before and after a pass whose chosen windows have these sums
 abbrev pub Carries : Bool → Totals → Totals → ℕ → ℕ → Type 0
@@ -58,17 +69,30 @@ pub record CanCarry (odd : Bool) (totals : Totals) (good bad : ℕ) : Type 0 whe
   pub sums : (good < sums_limit) × (bad < sums_limit)
   pub within : MatchBool odd (good ≤ totals.missed) ((bad ≤ totals.good) × (good ≤ totals.bad))
 
-abbrev pub CanGoOn : Pass → Choices → Counting → Type 0
-CanGoOn pass n (Open o) = CanCarry (is_odd pass.level) o.totals n.good n.bad
-CanGoOn pass n EachWord = Unit {0}
+-- of the choices of a pass a part stays, and the totals have what the rest takes away
+pub record CanMove (odd : Bool) (totals : Totals) (n : Choices) (stays : Kept) : Type 0 where
+  pub good : stays.good ≤ n.good
+  pub bad : stays.bad ≤ n.bad
+  pub rest : CanCarry odd totals (n.good - stays.good) (n.bad - stays.bad)
+
+abbrev pub CanGoOn : LevelParams → Pass → Counts → List Word → Choices → Counting → Type 0
+CanGoOn params pass counts words n (Open o) = CanCarry (is_odd pass.level) o.totals n.good n.bad
+CanGoOn params pass counts words n (EachWord e) = CanMove (is_odd pass.level) e.totals n (kept_by params pass counts words e.above.items)
 
 -- what the choices of a pass make of open positions: the dots are closed, and the totals are carried on
 pub record IsAfterPass (params : LevelParams) (pass : Pass) (counts : Counts) (words : List Word) (n : Choices) (old new : OpenLevel) : Type 0 where
   pub positions : new.positions.items ≡ map (position_after params pass counts words) old.positions.items
   pub totals : Carries (is_odd pass.level) old.totals new.totals n.good n.bad
 
+-- what they make of a level of which each word is hyphenated: the totals are carried on, but the listed positions stay
+pub record IsAfterWords (params : LevelParams) (pass : Pass) (counts : Counts) (words : List Word) (n : Choices) (old new : WordLevel) : Type 0 where
+  pub above : new.above.items ≡ old.above.items
+  pub counted : new.is_counted ≡ old.is_counted
+  pub totals : Carries (is_odd pass.level) old.totals new.totals
+      (n.good - (kept_by params pass counts words old.above.items).good) (n.bad - (kept_by params pass counts words old.above.items).bad)
+
 abbrev pub GoesOnAfter : LevelParams → Pass → Counts → List Word → Choices → Counting → Counting → Type 0
 GoesOnAfter params pass counts words n (Open o) (Open p) = IsAfterPass params pass counts words n o p
-GoesOnAfter params pass counts words n (Open o) EachWord = ⊥
-GoesOnAfter params pass counts words n EachWord (Open p) = ⊥
-GoesOnAfter params pass counts words n EachWord EachWord = Unit {0}
+GoesOnAfter params pass counts words n (Open o) (EachWord e) = ⊥
+GoesOnAfter params pass counts words n (EachWord e) (Open p) = ⊥
+GoesOnAfter params pass counts words n (EachWord e) (EachWord f) = IsAfterWords params pass counts words n e f

@@ -1,5 +1,5 @@
 -- How far a level is, and what a level that was done has made of an engine and of the records.
-use Rattle.std.specs.Prelude.{◌≡◌, ℕ, ◌+◌, ◌≤◌, nat_le, Bool, true, false, List, [], ◌∷◌, ◌++◌, length, map, filter, slice_index_or, replicate, Option, None, Some}
+use Rattle.std.specs.Prelude.{◌≡◌, ℕ, ◌+◌, ◌≤◌, nat_le, Bool, true, false, List, [], ◌∷◌, ◌++◌, length, map, filter, slice_index_or, replicate, Option, None, Some, ◌⊎◌}
 use Rattle.std.specs.List.{list_all, flat_map}
 use Rattle.std.specs.Option.{option_map}
 use Rattle.pg_types.specs.declared.limits.TheConstants.{LENGTH_MAX}
@@ -10,6 +10,8 @@ use Rattle.pg_select.specs.Meanings.{Meaning}
 use Rattle.pg_select.specs.declared.pass.Pass.{Pass}
 use Rattle.pg_select.specs.Laws.{IsClosed}
 use Rattle.pg_select.specs.Windows.{Patterns}
+use Rattle.pg_driver.specs.declared.counting.Counting.{Counting}
+use Rattle.pg_driver.specs.LevelCounting.{IsCounted}
 use Rattle.pg_driver.specs.Traces.{Known, Source, PassTrace, LevelTrace, Trace, patterns_after, final_patterns, known_at_end, passes_made, at_start}
 use Rattle.pg_driver.specs.Accounts.{pass_line, pass_lines, has_candidate, chosen_by, level_line, is_skippable, begun_among, begun}
 use Rattle.pg_driver.specs.Layouts.{pass_layouts, after_level, final_families, levels_with_families, level_layout}
@@ -38,6 +40,10 @@ pub record ClosedDots : Type 0 where
 -- no flag is set
 abbrev pub unset : List Bool
 unset = replicate (LENGTH_MAX + 2) false
+
+-- no pass of a length is skipped, or a pass was counted already
+abbrev pub WillCount : ClosedDots → Counting → Type 0
+WillCount flags counting = (flags.here ≡ unset) ⊎ IsCounted counting
 
 -- the flag of a dot
 abbrev pub is_set : List Bool → ℕ → Bool

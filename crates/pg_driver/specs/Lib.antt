@@ -7,8 +7,9 @@ pub mod Sound
 pub mod Told
 pub mod States
 pub mod Choosing
-pub mod Levels
 pub mod DotSets
 pub mod OpenPositions
 pub mod OpenLevels
+pub mod WordLevels
 pub mod LevelCounting
+pub mod Levels

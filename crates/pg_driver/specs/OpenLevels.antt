@@ -32,9 +32,16 @@ open_by_status level P n w p = open_as n p (counts_as level (status_at P w p))
 abbrev pub open_in : Minima → ℕ → Patterns → ℕ → Word → List OpenPosition
 open_in m level P n w = flat_map (open_by_status level P n w) (positions m.left m.right (length w.signs))
 
+-- the positions of a word that count as this says, and those of words, from a number on
+abbrev pub listed_in : Minima → (Word → ℕ → Option Bool) → ℕ → Word → List OpenPosition
+listed_in m counts n w = flat_map (λ p. open_as n p (counts w p)) (positions m.left m.right (length w.signs))
+
+abbrev pub listed_from : Minima → (Word → ℕ → Option Bool) → ℕ → List Word → List OpenPosition
+listed_from m counts n [] = []
+listed_from m counts n (w ∷ words) = listed_in m counts n w ++ listed_from m counts (n + 1) words
+
 abbrev pub open_from : Minima → ℕ → Patterns → ℕ → List Word → List OpenPosition
-open_from m level P n [] = []
-open_from m level P n (w ∷ words) = open_in m level P n w ++ open_from m level P (n + 1) words
+open_from m level P n words = listed_from m (λ w p. counts_as level (status_at P w p)) n words
 
 -- how far a level is: no string that covers is longer than the length, no value is above the level, and the entries are open
 pub record InLevel (level len : ℕ) (m : Minima) (words : List Word) (P : Patterns) (H : HopelessPlaces) (entries : List OpenPosition) : Type 0 where

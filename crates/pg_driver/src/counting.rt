@@ -7,18 +7,18 @@ ghost use Rattle.pg_select.specs.LawsSteps.{IsBelow};
 ghost use Rattle.pg_select.specs.CountedPositions.{counted_positions, minima_of};
 ghost use Rattle.pg_driver.specs.Accounts.{totals_by};
 ghost use Rattle.pg_driver.specs.Counting.{counting, HasRoom};
-ghost use Rattle.pg_driver.specs.LevelCounting.{ArePlaced, CanGoOn, GoesOnAfter, IsOverOpen, IsReady, TellsTotals};
+ghost use Rattle.pg_driver.specs.LevelCounting.{ArePlaced, CanGoOn, GoesOnAfter, IsCounted, IsOverOpen, IsReady, totals_in};
 ghost use Rattle.pg_driver.specs.Sound.{IsSmall};
 ghost use Rattle.pg_driver.specs.States.{IsPass};
 ghost use Rattle.pg_driver.specs.Told.{known_of, over};
 ghost use Rattle.pg_driver.specs.Traces.{Known, Source};
 
+use crate::above_positions::kept_above;
 use crate::carried_totals::totals_after;
 use crate::choices::Choices;
 use crate::open_passes::{close_dots, count_open};
 use crate::open_positions::{OpenLevel, next_length, open_level};
-use crate::sums::totals;
-use crate::words::count_words;
+use crate::word_level::WordLevel;
 use pg_dict::Dictionary;
 use pg_select::{Engine, Pass};
 use pg_translate::Table;
@@ -31,8 +31,8 @@ pub enum Counting {
     /// At the open positions: no word is hyphenated after the level's start. It is exact where no pattern has a value of the
     /// level or more then.
     Open(OpenLevel),
-    /// At the positions of each word, which is hyphenated in each pass.
-    EachWord,
+    /// At the positions of each word, which is hyphenated in each pass, and at no other moment.
+    EachWord(WordLevel),
 }
 
 impl Counting {
@@ -53,18 +53,19 @@ impl Counting {
             → IsReady (over table.now dictionary.now) level len (known_of (E.meaning engine.now)) counting) }
         ensures form { IfOk result (λ counting. greatest < level → IsOverOpen counting) }
     {
-        if level <= greatest {
-            return Ok(Counting::EachWord);
-        }
         // A minimum is at least 1, so that there are no more positions than letters.
         let _least = table.left();
+        if level <= greatest {
+            let _words = dictionary.len();
+            return Ok(Counting::EachWord(WordLevel::new(alloc)));
+        }
         let opened = open_level(engine, dictionary, table, level, alloc)?;
         Ok(Counting::Open(opened))
     }
 
     /// Counts the windows of a pass that has begun, and gives the totals before it.
     pub fn count<E: Engine>(
-        &self,
+        &mut self,
         engine: &mut E,
         dictionary: &Dictionary,
         table: &Table,
@@ -75,7 +76,7 @@ impl Counting {
         requires fresh { (E.meaning engine.old).counts ≡ [] }
         requires signs { SignsAtMost (E.meaning engine.old).signs dictionary.now }
         requires ready { IsReady (over table.now dictionary.now) pass.level pass.len
-            (known_of (E.meaning engine.old)) self.now }
+            (known_of (E.meaning engine.old)) self.old }
         ensures ok { OnOk result (E.meaning engine.new
             ≡ counting (E.meaning engine.old)
             (counted_positions (minima_of table.now) dictionary.now pass (E.meaning engine.old).patterns
@@ -84,6 +85,9 @@ impl Counting {
             ≡ totals_by (over table.now dictionary.now) (E.meaning engine.old).patterns) }
         ensures small { IfOk result IsSmall }
         ensures room { OnOk result (HasRoom (E.meaning engine.new).counts 0) }
+        ensures ready { OnOk result (IsReady (over table.now dictionary.now) pass.level pass.len
+            (known_of (E.meaning engine.old)) self.new) }
+        ensures counted { OnOk result (IsCounted self.new) }
         ensures signs { (E.meaning engine.new).signs ≡ (E.meaning engine.old).signs }
     {
         match self {
@@ -91,11 +95,12 @@ impl Counting {
                 count_open(engine, dictionary, pass, &open.positions)?;
                 Ok(open.totals)
             }
-            Counting::EachWord => count_words(engine, dictionary, table, pass),
+            Counting::EachWord(level) => level.count(engine, dictionary, table, pass),
         }
     }
 
-    /// Takes in what was chosen in a pass: the open positions have dots closed, and the totals are carried on. It takes no memory.
+    /// Takes in what was chosen in a pass: the open positions have dots closed, and the totals are carried on. A position whose value
+    /// is above the level stays as it is, so that it is left out of what was chosen. It takes no memory.
     pub fn after_choices<E: Engine>(
         &mut self,
         engine: &E,
@@ -110,36 +115,42 @@ impl Counting {
         requires signs { SignsAtMost (E.meaning engine.now).signs dictionary.now }
         requires room { HasRoom (E.meaning engine.now).counts 0 }
         requires placed { ArePlaced dictionary.now self.old }
-        requires totals { CanGoOn pass choices self.old }
+        requires totals { CanGoOn params.now pass (E.meaning engine.now).counts dictionary.now choices self.old }
         ensures { GoesOnAfter params.now pass (E.meaning engine.now).counts dictionary.now choices self.old self.new }
     {
-        if let Counting::Open(open) = self {
-            close_dots(engine, dictionary, params, pass, &mut open.positions);
-            open.totals = totals_after(open.totals, pass.level, choices.good, choices.bad);
+        match self {
+            Counting::Open(open) => {
+                close_dots(engine, dictionary, params, pass, &mut open.positions);
+                open.totals = totals_after(open.totals, pass.level, choices.good, choices.bad);
+            }
+            Counting::EachWord(words) => {
+                let kept = kept_above(engine, dictionary, params, pass, &words.above);
+                let good = choices.good - kept.good;
+                let bad = choices.bad - kept.bad;
+                words.totals = totals_after(words.totals, pass.level, good, bad);
+            }
         }
     }
 
     /// Goes on to the next length.
     pub fn next_length(&mut self, len: u8)
         requires { len ≤ LENGTH_MAX }
-        ensures { (source : Source) (level : ℕ) (known : Known) → IsReady source level len known self.old
+        ensures ready { (source : Source) (level : ℕ) (known : Known) → IsReady source level len known self.old
             → IsReady source level (len + 1) known self.new }
+        ensures counted { IsCounted self.old → IsCounted self.new }
     {
         if let Counting::Open(open) = self {
             next_length(&mut open.positions, len);
         }
     }
 
-    /// The totals by the patterns of an engine: those that are carried, or those of the words, which are hyphenated for that.
-    pub fn totals<E: Engine>(&self, engine: &E, dictionary: &Dictionary, table: &Table) -> Totals
-        requires signs { SignsAtMost (E.meaning engine.now).signs dictionary.now }
-        requires told { TellsTotals (over table.now dictionary.now) (E.meaning engine.now).patterns self.now }
-        ensures value { result ≡ totals_by (over table.now dictionary.now) (E.meaning engine.now).patterns }
-        ensures small { IsSmall result }
+    /// The totals that are carried. No word is hyphenated for them.
+    pub fn totals(&self) -> Totals
+        ensures { result ≡ totals_in self.now }
     {
         match self {
             Counting::Open(open) => open.totals,
-            Counting::EachWord => totals(engine, dictionary, table),
+            Counting::EachWord(words) => words.totals,
         }
     }
 }

@@ -5,8 +5,8 @@ ghost use Rattle.pg_types.specs.Parameters.{IsLevel};
 ghost use Rattle.pg_dict.specs.Word.{SignsAtMost};
 ghost use Rattle.pg_select.specs.LawsSteps.{IsBelow};
 ghost use Rattle.pg_driver.specs.Accounts.{totals_by};
-ghost use Rattle.pg_driver.specs.LevelCounting.{IsReady, TellsTotals};
-ghost use Rattle.pg_driver.specs.Levels.{AreRecorded, DidLevel, GoesOn, all_made_by, point};
+ghost use Rattle.pg_driver.specs.LevelCounting.{IsCounted, IsReady, TellsTotals};
+ghost use Rattle.pg_driver.specs.Levels.{AreRecorded, DidLevel, GoesOn, WillCount, all_made_by, point};
 ghost use Rattle.pg_driver.specs.Sound.{IsSmall, IsSoundPass};
 ghost use Rattle.pg_types.specs.Limits.{begun_before_pass, length_passes, level_passes};
 ghost use Rattle.pg_driver.specs.States.{DidPass, IsPass, made_by, state_of, state_at_end};
@@ -45,6 +45,7 @@ fn run_pass<E: Engine>(
     ensures few { IfOk result (λ r. r.chosen ≤ FILE_MAX) }
     ensures ready { OnOk result (IsReady (over table.now dictionary.now) pass.level pass.len
         (known_of (E.meaning engine.new)) counting.new) }
+    ensures counted { OnOk result (IsCounted counting.new) }
     ensures signs { (E.meaning engine.new).signs ≡ (E.meaning engine.old).signs }
 {
     engine.begin_pass(pass.level, pass.len, pass.dot);
@@ -93,6 +94,8 @@ fn run_or_skip<E: Engine>(
     ensures chosen { OnOk result (records.new.chosen ≤ records.old.chosen + FILE_MAX) }
     ensures ready { OnOk result (IsReady (over table.now dictionary.now) pass.level pass.len
         (known_of (E.meaning engine.new)) counting.new) }
+    ensures here { closed.new.here ≡ closed.old.here }
+    ensures counted { OnOk result (WillCount closed.old counting.old → IsCounted counting.new) }
     ensures signs { (E.meaning engine.new).signs ≡ (E.meaning engine.old).signs }
 {
     if closed.is_skippable(pass.dot) {
@@ -126,6 +129,7 @@ fn run_length<E: Engine>(
     requires signs { SignsAtMost (E.meaning engine.old).signs dictionary.now }
     requires ready { IsReady (over table.now dictionary.now) number len (known_of (E.meaning engine.old))
         counting.old }
+    requires counts { WillCount closed.old counting.old }
     ensures ok { OnOk result (GoesOn (over table.now dictionary.now) number len
         (all_made_by (over table.now dictionary.now) params.now (E.meaning engine.old)
         (passes_of_length number len)) (point (E.meaning engine.old) records.old closed.old)
@@ -136,6 +140,7 @@ fn run_length<E: Engine>(
     ensures chosen { OnOk result (records.new.chosen ≤ records.old.chosen + length_passes * FILE_MAX) }
     ensures ready { OnOk result (IsReady (over table.now dictionary.now) number len
         (known_of (E.meaning engine.new)) counting.new) }
+    ensures counted { OnOk result (IsCounted counting.new) }
     ensures signs { (E.meaning engine.new).signs ≡ (E.meaning engine.old).signs }
 {
     let end = len + 1;
@@ -249,7 +254,7 @@ pub fn run_level<E: Engine>(
         records,
     )?;
     engine.end_level()?;
-    let after = counting.totals(engine, dictionary, table);
+    let after = counting.totals();
     records.end_level(number, after, engine.layout())?;
     Ok(after)
 }

@@ -1,6 +1,7 @@
 //! The driver: the run over levels and passes, for any engine.
 #![tactic(auto)]
 
+mod above_positions;
 mod carried_totals;
 mod choices;
 mod closed;
@@ -15,6 +16,7 @@ mod open_positions;
 mod records;
 mod run;
 mod sums;
+mod word_level;
 mod words;
 
 pub use levels::generate;

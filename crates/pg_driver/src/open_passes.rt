@@ -21,7 +21,7 @@ use pg_types::LevelParams;
 use std::alloc::AllocError;
 
 /// Whether a position with or without a hyphen counts as good at a level, where it counts.
-fn is_good(level: u8, hyphen: bool) -> bool
+pub fn is_good(level: u8, hyphen: bool) -> bool
     ensures { result ≡ (if is_odd level then hyphen else not hyphen) }
 {
     hyphen == (level % 2 == 1)

@@ -40,7 +40,7 @@ pub struct OpenLevel {
 }
 
 /// Adds position `p` of a word, which has this status, where it counts at a level. No dot of it is closed.
-fn open_by_status(
+pub fn open_by_status(
     level: u8,
     word: u32,
     p: u8,

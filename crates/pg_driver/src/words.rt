@@ -1,5 +1,5 @@
 //! The walk over the words in a pass that hyphenates each of them.
-ghost use Rattle.std.specs.Prelude.{◌≡◌, ◌≤◌, ◌<◌, ◌+◌, ◌*◌, ◌&&◌, [], not, false, if◌then◌else◌, None, length, slice_index, slice_index_or, IfOk, OnOk, OnErr};
+ghost use Rattle.std.specs.Prelude.{◌≡◌, ◌≤◌, ◌<◌, ◌+◌, ◌*◌, ◌++◌, ◌&&◌, [], not, false, if◌then◌else◌, None, length, slice_index, slice_index_or, IfOk, OnOk, OnErr};
 ghost use Rattle.pg_types.specs.Counts.{SignsWithin};
 ghost use Rattle.pg_types.specs.declared.limits.TheConstants.{WORD_LETTERS_MAX};
 ghost use Rattle.pg_dict.specs.Word.{IsWord, SignsAtMost, letter_count};
@@ -9,10 +9,14 @@ ghost use Rattle.pg_select.specs.Statuses.{status_at, position_weight};
 ghost use Rattle.pg_select.specs.Sums.{marks_in, totals as totals_of_words, with_mark, with_marks, HasRoomFor, TookRoomFor};
 ghost use Rattle.pg_select.specs.Windows.{fits as fits_in};
 ghost use Rattle.pg_driver.specs.Counting.{counting, HasRoom, TookRoom, IsRead};
+ghost use Rattle.pg_driver.specs.OpenLevels.{listed_in, listed_from};
 ghost use Rattle.pg_driver.specs.Sound.{IsSmall};
 ghost use Rattle.pg_driver.specs.States.{IsPass};
+ghost use Rattle.pg_driver.specs.WordLevels.{listing};
 
+use crate::above_positions::list_above;
 use crate::marks::{counts_as, fits};
+use crate::open_positions::OpenPosition;
 use pg_dict::{Dictionary, WordRef};
 use pg_select::marks::{add_mark, mark_at, no_totals, positions};
 use pg_select::{Engine, Pass, WordState};
@@ -94,14 +98,18 @@ fn count_position<E: Engine>(
     count_at(engine, pass, w, found, p, mark)
 }
 
-/// Counts the positions of a word, and adds them to the totals. What `found` holds does not matter.
-pub fn count_word<E: Engine>(
+/// Counts the positions of a word, and adds them to the totals. Where `lists` says so, those that count and have a value above the
+/// level are listed. What `found` holds does not matter.
+fn count_word<E: Engine>(
     engine: &mut E,
     table: &Table,
     pass: Pass,
+    word: u32,
     w: &WordRef<'_>,
     found: &mut WordState,
     sums: &mut Totals,
+    lists: bool,
+    above: &mut Vec<OpenPosition>,
 ) -> Result<(), AllocError>
     requires ranges { IsPass pass }
     requires pass { (E.meaning engine.old).pass ≡ pass }
@@ -115,6 +123,8 @@ pub fn count_word<E: Engine>(
         (E.meaning engine.old).hopeless (lent_word w.now))) }
     ensures sums { OnOk result (sums.new
         ≡ with_marks sums.old (marks_in (minima_of table.now) (E.meaning engine.old).patterns (lent_word w.now))) }
+    ensures above { OnOk result (above.new.items ≡ above.old.items ++ listed_in (minima_of table.now)
+        (listing lists pass.level (E.meaning engine.old).patterns) word (lent_word w.now)) }
     ensures took { OnOk result (TookRoom (E.meaning engine.old).counts (E.meaning engine.new).counts
         (letter_count (lent_word w.now))) }
     ensures took_for { OnOk result (TookRoomFor sums.old sums.new (letter_count (lent_word w.now))) }
@@ -127,15 +137,21 @@ pub fn count_word<E: Engine>(
     'positions: for p in first..end {
         count_position(engine, pass, w, found, p, sums)?;
     }
+    if lists {
+        list_above(table, pass.level, word, w, found, above)?;
+    }
     Ok(())
 }
 
-/// Counts the windows of a pass that has begun, and gives the totals. Each word is hyphenated once.
+/// Counts the windows of a pass that has begun, and gives the totals. Each word is hyphenated once. Where `lists` says so, the
+/// positions that count and have a value above the level are listed; else this takes no memory but for what is counted.
 pub fn count_words<E: Engine>(
     engine: &mut E,
     dictionary: &Dictionary,
     table: &Table,
     pass: Pass,
+    lists: bool,
+    above: &mut Vec<OpenPosition>,
 ) -> Result<Totals, AllocError>
     requires ranges { IsPass pass }
     requires pass { (E.meaning engine.old).pass ≡ pass }
@@ -148,6 +164,8 @@ pub fn count_words<E: Engine>(
     ensures totals { IfOk result (λ sums. sums
         ≡ totals_of_words (minima_of table.now) dictionary.now (E.meaning engine.old).patterns) }
     ensures small { IfOk result IsSmall }
+    ensures above { OnOk result (above.new.items ≡ above.old.items ++ listed_from (minima_of table.now)
+        (listing lists pass.level (E.meaning engine.old).patterns) 0 dictionary.now) }
     ensures room { OnOk result (HasRoom (E.meaning engine.new).counts 0) }
     ensures signs { (E.meaning engine.new).signs ≡ (E.meaning engine.old).signs }
 {
@@ -158,9 +176,12 @@ pub fn count_words<E: Engine>(
             engine,
             table,
             pass,
+            i as u32,
             &dictionary.word(i),
             &mut found,
             &mut sums,
+            lists,
+            above,
         )?;
     }
     Ok(sums)

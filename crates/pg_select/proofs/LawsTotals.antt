@@ -1,14 +1,16 @@
 -- What a pass makes of the totals.
-use Rattle.std.proofs.Common.{◌≡◌, ℕ, ◌+◌, ◌≤◌, Bool, true, false, cond, not, ◌&&◌, ◌||◌, List, [], ◌∷◌, length, map, fold, Option, Some, None, max, refl, sym, ap, ◌∙◌, arith}
+use Rattle.std.proofs.Common.{◌≡◌, ℕ, ◌+◌, ◌-◌, ◌<◌, ◌≤◌, nat_lt, Bool, true, false, cond, not, ◌&&◌, ◌||◌, List, [], ◌∷◌, length, map, fold, Option, Some, None, max, refl, sym, ap, subst, ◌++◌, ◌∙◌, arith}
 use Rattle.std.specs.Bool.{MatchBool}
 use Rattle.std.specs.declared.cmp.Ordering.{Ordering}
 use Rattle.std.specs.declared.cmp.Ordering.TheVariants.{Less, Equal, Greater}
 use Rattle.std.specs.List.{list_any, filter, flat_map, sum_by, slice_index_or}
 use Rattle.std.specs.Ordering.{is_eq, is_lt}
 use Rattle.std.specs.FinMap.Entries.{is_sorted, below_all}
-use Rattle.std.proofs.lemmas.Bool.{and_parts, or_from}
+use Rattle.std.proofs.lemmas.Bool.{and_parts, or_from, ltb-true}
+use Rattle.std.proofs.lemmas.Bool.Decides.{nat_tests}
 use Rattle.std.proofs.lemmas.List.Sums.{sum_by-cons, sum_by-append}
 use Rattle.pg_types.specs.declared.marks.Mark.{Mark}
+use Rattle.pg_types.specs.declared.marks.Totals.{Totals}
 use Rattle.pg_types.specs.declared.marks.Mark.TheVariants.{Nothing, Error, Missed, Found, DontCare}
 use Rattle.pg_dict.specs.Word.{Word}
 use Rattle.pg_translate.specs.Reach.{positions}
@@ -20,6 +22,7 @@ use Rattle.pg_select.specs.declared.pass.Pass.{Pass}
 use Rattle.pg_select.specs.CountedPositions.{Minima, CountedPosition, Candidate, counts_as, counted_at, counted_positions_at, counted_positions_in, counted_positions, same_signs, with_window, candidates, tally}
 use Rattle.pg_select.proofs.LawsTally.{cmp, same_window, counted_as, is_counted_window, candidates_are_counted, windows_sorted}
 use Rattle.pg_select.specs.LawsSteps.{IsUpTo, candidate_at, is_candidate, patterns_after_pass, good_raised, bad_raised, FindsMore, PreventsMore}
+use Rattle.pg_select.specs.LawsAbove.{counts_above, above_at, above_in, above_positions, good_above, bad_above, MovesAllBut}
 use Rattle.pg_types.proofs.BoolFacts.{is_true}
 use Rattle.pg_select.proofs.LawsRaised.{same_itself, counted_uncovered, values_after}
 use Rattle.pg_select.proofs.LawsClosedDots.{counted_by, counts_by, best_up_to}
@@ -29,11 +32,12 @@ use Rattle.std.specs.Cmp.{both_ways}
 joined : (x x' y y' a a' b b' n n' k k' : ℕ) → x + a ≡ y + b → x' + a' ≡ y' + b' → n ≡ x + x' → n' ≡ y + y' → k ≡ a + a' → k' ≡ b + b' → n + k ≡ n' + k'
 joined x x' y y' a a' b b' n n' k k' here rest p q r s = omega arith
 
-gained : (new old none part sum : ℕ) → new + none ≡ old + part → none ≡ 0 → sum ≡ part → new ≡ old + sum
-gained new old none part sum e p q = omega arith
+-- a sum of which a part stays is gained, or lost
+gained : (new old stays part kept sum : ℕ) → new + stays ≡ old + part → kept ≡ stays → sum ≡ part → kept ≤ sum → new ≡ old + (sum - kept)
+gained new old stays part kept sum e p q within = omega arith
 
-lost : (new old none part sum : ℕ) → new + part ≡ old + none → none ≡ 0 → sum ≡ part → new + sum ≡ old
-lost new old none part sum e p q = omega arith
+lost : (new old stays part kept sum : ℕ) → new + part ≡ old + stays → kept ≡ stays → sum ≡ part → kept ≤ sum → new + (sum - kept) ≡ old
+lost new old stays part kept sum e p q within = omega arith
 
 abbrev Windows : Type 0
 Windows = List (List ℕ × Unit {0})
@@ -207,25 +211,74 @@ even_at false true false true x = (omega arith, omega arith, omega arith)
 even_at false true false false x = (omega arith, omega arith, omega arith)
 
 -- what moves at a position, as what is counted there
+none_moves : (x : ℕ) (k : Bool) → 0 ≡ cond (k && false) x 0
+none_moves x true = refl
+none_moves x false = refl
+
 changed_one : (kind : Bool → Bool) (x : ℕ) (f r c : Bool) (o : Option Bool) → (r ≡ true → c ≡ false) → changed_weight kind x r (cond (f && not c) o None) ≡ changed_weight kind x (f && r) o
 changed_one kind x false r c None open_now = refl
-changed_one kind x false r c (Some good) open_now = none (kind good)
-  where
-    none : (k : Bool) → 0 ≡ cond (k && false) x 0
-    none true = refl
-    none false = refl
+changed_one kind x false r c (Some good) open_now = none_moves x (kind good)
 changed_one kind x true r false o open_now = refl
 changed_one kind x true true true o open_now = cc (open_now refl)
 changed_one kind x true false true None open_now = refl
-changed_one kind x true false true (Some good) open_now = none (kind good)
+changed_one kind x true false true (Some good) open_now = none_moves x (kind good)
+
+-- and where its value is above the level
+stays_one : (kind : Bool → Bool) (x : ℕ) (f r a : Bool) (o : Option Bool) → changed_weight kind x r (cond f (cond a o None) None) ≡ changed_weight kind x ((f && r) && a) o
+stays_one kind x false r a None = refl
+stays_one kind x false r a (Some good) = none_moves x (kind good)
+stays_one kind x true r false None = refl
+stays_one kind x true true false (Some good) = none_moves x (kind good)
+stays_one kind x true false false (Some good) = none_moves x (kind good)
+stays_one kind x true true true o = refl
+stays_one kind x true false true o = refl
+
+-- what moves at a position is what is lifted and what stays
+parted : (kind : Bool → Bool) (x : ℕ) (r a : Bool) (o : Option Bool) → changed_weight kind x (r && not a) o + changed_weight kind x (r && a) o ≡ changed_weight kind x r o
+parted kind x r a None = refl
+parted kind x false a (Some good) = none (kind good)
   where
-    none : (k : Bool) → 0 ≡ cond (k && false) x 0
+    none : (k : Bool) → cond (k && false) x 0 + cond (k && false) x 0 ≡ cond (k && false) x 0
     none true = refl
     none false = refl
+parted kind x true true (Some good) = left (kind good)
+  where
+    left : (k : Bool) → cond (k && false) x 0 + cond (k && true) x 0 ≡ cond (k && true) x 0
+    left true = omega arith
+    left false = refl
+parted kind x true false (Some good) = right (kind good)
+  where
+    right : (k : Bool) → cond (k && true) x 0 + cond (k && false) x 0 ≡ cond (k && true) x 0
+    right true = omega arith
+    right false = refl
+
+-- a value after a pass of the level
+above_or_not : (level v : ℕ) → nat_lt level v ≡ false → v ≤ level
+above_or_not level v is = grind (arith, nat_tests)
+
+not_above_itself : (level : ℕ) → nat_lt level level ≡ false
+not_above_itself level = grind (arith, nat_tests)
+
+odd_by : (level v : ℕ) (r a : Bool) → nat_lt level v ≡ a → is_odd (max (cond r level 0) v) ≡ cond (r && not a) (is_odd level) (is_odd v)
+odd_by level v false a is = let same : max 0 v ≡ v = omega arith in ap is_odd same
+odd_by level v true true is =
+    let more : level < v = ltb-true level v is in
+    let same : max level v ≡ v = omega arith in
+    ap is_odd same
+odd_by level v true false is =
+    let low : v ≤ level = above_or_not level v is in
+    let highest : max level v ≡ level = omega arith in
+    ap is_odd highest
 
 module _ (m : Minima) (words : List Word) (pass : Pass) (P : Patterns) (H : Hopeless) (raised : Candidate → Bool) (w : Word) (p : ℕ) where
+  abbrev is_raised : Bool
+  is_raised = is_candidate raised (counted_positions m words pass P H) (window w.signs p pass.len pass.dot)
+
   abbrev rises : Bool
-  rises = fits w.signs p pass.len pass.dot && is_candidate raised (counted_positions m words pass P H) (window w.signs p pass.len pass.dot)
+  rises = fits w.signs p pass.len pass.dot && is_raised
+
+  abbrev is_above : Bool
+  is_above = nat_lt pass.level (value_at P w.signs p)
 
   abbrev hyphen_at : Bool
   hyphen_at = slice_index_or w.hyphens p false
@@ -236,48 +289,98 @@ module _ (m : Minima) (words : List Word) (pass : Pass) (P : Patterns) (H : Hope
   abbrev odd_before : Bool
   odd_before = is_odd (value_at P w.signs p)
 
-  odd_after : IsUpTo pass.level P → is_odd (value_at (patterns_after_pass m words pass P H raised) w.signs p) ≡ cond rises (is_odd pass.level) odd_before
-  odd_after upto = ap is_odd (values_after m words pass P H raised w.signs p) ∙ by_test rises (value_at P w.signs p) (best_up_to pass.level (applies w.signs p) P upto)
+  abbrev counts_before : Option Bool
+  counts_before = counted_by (is_odd pass.level) (status_at P w p)
+
+  mark_after : status_at (patterns_after_pass m words pass P H raised) w p ≡ mark_by hyphen_at care_at (cond (rises && not is_above) (is_odd pass.level) odd_before)
+  mark_after = ap (λ b. mark_by hyphen_at care_at b) (ap is_odd (values_after m words pass P H raised w.signs p) ∙ odd_by pass.level (value_at P w.signs p) rises is_above refl)
+
+  -- a position that counts above the level counts so after a pass, and as the same
+  pub above_stay : counts_above pass.level (patterns_after_pass m words pass P H raised) w p ≡ counts_above pass.level P w p
+  above_stay = ap counts_by_value (values_after m words pass P H raised w.signs p) ∙ by_test rises is_above refl
     where
-      by_test : (b : Bool) (v : ℕ) → v ≤ pass.level → is_odd (max (cond b pass.level 0) v) ≡ cond b (is_odd pass.level) (is_odd v)
-      by_test true v low = let highest : max pass.level v ≡ pass.level = omega arith in ap is_odd highest
-      by_test false v low = let same : max 0 v ≡ v = omega arith in ap is_odd same
+      counts_by_value : ℕ → Option Bool
+      counts_by_value v = cond (nat_lt pass.level v) (counts_as pass.level (mark_by hyphen_at care_at (is_odd v))) None
 
-  mark_after : IsUpTo pass.level P → status_at (patterns_after_pass m words pass P H raised) w p ≡ mark_by hyphen_at care_at (cond rises (is_odd pass.level) odd_before)
-  mark_after upto = ap (λ b. mark_by hyphen_at care_at b) (odd_after upto)
+      by_test : (r a : Bool) → is_above ≡ a → counts_by_value (max (cond r pass.level 0) (value_at P w.signs p)) ≡ counts_by_value (value_at P w.signs p)
+      by_test false a is = let same : max 0 (value_at P w.signs p) ≡ value_at P w.signs p = omega arith in ap counts_by_value same
+      by_test true true is =
+          let more : pass.level < value_at P w.signs p = ltb-true pass.level (value_at P w.signs p) is in
+          let same : max pass.level (value_at P w.signs p) ≡ value_at P w.signs p = omega arith in
+          ap counts_by_value same
+      by_test true false is =
+          let low : value_at P w.signs p ≤ pass.level = above_or_not pass.level (value_at P w.signs p) is in
+          let highest : max pass.level (value_at P w.signs p) ≡ pass.level = omega arith in
+          ap counts_by_value highest
+          ∙ ap (λ b. cond b (counts_as pass.level (mark_by hyphen_at care_at (is_odd pass.level))) None) (not_above_itself pass.level)
+          ∙ sym (ap (λ b. cond b (counts_as pass.level (mark_by hyphen_at care_at odd_before)) None) is)
 
-  moved_is : (kind : Bool → Bool) → sum_by (raised_weight raised (counted_positions m words pass P H) (λ (s : CountedPosition). kind s.good)) (counted_positions_at pass P H w p) ≡ changed_weight kind (position_weight w p) rises (counted_by (is_odd pass.level) (mark_by hyphen_at care_at odd_before))
-  moved_is kind =
-      single (counted_at pass P H w p)
-      ∙ changed_one kind (position_weight w p) (fits w.signs p pass.len pass.dot) (is_candidate raised (counted_positions m words pass P H) (window w.signs p pass.len pass.dot)) (covered pass.level P H (window w.signs p pass.len pass.dot) pass.dot) (counts_as pass.level (status_at P w p))
-      (λ is. (counted_uncovered m words pass P H (window w.signs p pass.len pass.dot) (and_parts (is_counted_window (counted_positions m words pass P H) (window w.signs p pass.len pass.dot)) (raised (candidate_at (counted_positions m words pass P H) (window w.signs p pass.len pass.dot))) is).0).1)
-      ∙ ap (λ (o : Option Bool). changed_weight kind (position_weight w p) rises o) (counts_by pass.level (status_at P w p))
+  abbrev part_of : (Bool → Bool) → CountedPosition → ℕ
+  part_of kind = raised_weight raised (counted_positions m words pass P H) (λ (s : CountedPosition). kind s.good)
+
+  single : (kind : Bool → Bool) (o : Option Bool) → sum_by (part_of kind) (counted_as (window w.signs p pass.len pass.dot) (position_weight w p) o) ≡ changed_weight kind (position_weight w p) is_raised o
+  single kind None = refl
+  single kind (Some good) = zero (cond (kind good && is_raised) (position_weight w p) 0)
     where
       zero : (n : ℕ) → 0 + n ≡ n
       zero n = omega arith
 
-      single : (o : Option Bool) → sum_by (raised_weight raised (counted_positions m words pass P H) (λ (s : CountedPosition). kind s.good)) (counted_as (window w.signs p pass.len pass.dot) (position_weight w p) o) ≡ changed_weight kind (position_weight w p) (is_candidate raised (counted_positions m words pass P H) (window w.signs p pass.len pass.dot)) o
-      single None = refl
-      single (Some good) = zero (cond (kind good && is_candidate raised (counted_positions m words pass P H) (window w.signs p pass.len pass.dot)) (position_weight w p) 0)
+  moved_is : (kind : Bool → Bool) → sum_by (part_of kind) (counted_positions_at pass P H w p) ≡ changed_weight kind (position_weight w p) rises counts_before
+  moved_is kind =
+      single kind (counted_at pass P H w p)
+      ∙ changed_one kind (position_weight w p) (fits w.signs p pass.len pass.dot) is_raised (covered pass.level P H (window w.signs p pass.len pass.dot) pass.dot) (counts_as pass.level (status_at P w p))
+      (λ is. (counted_uncovered m words pass P H (window w.signs p pass.len pass.dot) (and_parts (is_counted_window (counted_positions m words pass P H) (window w.signs p pass.len pass.dot)) (raised (candidate_at (counted_positions m words pass P H) (window w.signs p pass.len pass.dot))) is).0).1)
+      ∙ ap (λ (o : Option Bool). changed_weight kind (position_weight w p) rises o) (counts_by pass.level (status_at P w p))
+
+  stays_is : (kind : Bool → Bool) → sum_by (part_of kind) (above_at pass P w p) ≡ changed_weight kind (position_weight w p) (rises && is_above) counts_before
+  stays_is kind =
+      single kind (cond (fits w.signs p pass.len pass.dot) (counts_above pass.level P w p) None)
+      ∙ stays_one kind (position_weight w p) (fits w.signs p pass.len pass.dot) is_raised is_above (counts_as pass.level (status_at P w p))
+      ∙ ap (λ (o : Option Bool). changed_weight kind (position_weight w p) (rises && is_above) o) (counts_by pass.level (status_at P w p))
+
+  -- no more stays than is raised
+  stays_less : (kind : Bool → Bool) → sum_by (part_of kind) (above_at pass P w p) ≤ sum_by (part_of kind) (counted_positions_at pass P H w p)
+  stays_less kind = omega (arith, stays_is kind, moved_is kind, parted kind (position_weight w p) rises is_above counts_before)
+
+  abbrev lifted : (Bool → Bool) → ℕ
+  lifted kind = changed_weight kind (position_weight w p) (rises && not is_above) counts_before
+
+  -- what a test of marks gains at the position, or loses
+  gains : (test : Mark → Bool) (kind : Bool → Bool)
+      → weight_in test (mark_by hyphen_at care_at (cond (rises && not is_above) (is_odd pass.level) odd_before)) (position_weight w p) + 0 ≡ weight_in test (status_at P w p) (position_weight w p) + lifted kind
+      → weight_in test (status_at (patterns_after_pass m words pass P H raised) w p) (position_weight w p) + sum_by (part_of kind) (above_at pass P w p) ≡ weight_in test (status_at P w p) (position_weight w p) + sum_by (part_of kind) (counted_positions_at pass P H w p)
+  gains test kind is =
+      let mark : weight_in test (status_at (patterns_after_pass m words pass P H raised) w p) (position_weight w p) ≡ weight_in test (mark_by hyphen_at care_at (cond (rises && not is_above) (is_odd pass.level) odd_before)) (position_weight w p) = ap (λ (x : Mark). weight_in test x (position_weight w p)) mark_after in
+      omega (arith, mark, is, stays_is kind, moved_is kind, parted kind (position_weight w p) rises is_above counts_before)
+
+  loses : (test : Mark → Bool) (kind : Bool → Bool)
+      → weight_in test (mark_by hyphen_at care_at (cond (rises && not is_above) (is_odd pass.level) odd_before)) (position_weight w p) + lifted kind ≡ weight_in test (status_at P w p) (position_weight w p) + 0
+      → weight_in test (status_at (patterns_after_pass m words pass P H raised) w p) (position_weight w p) + sum_by (part_of kind) (counted_positions_at pass P H w p) ≡ weight_in test (status_at P w p) (position_weight w p) + sum_by (part_of kind) (above_at pass P w p)
+  loses test kind is =
+      let mark : weight_in test (status_at (patterns_after_pass m words pass P H raised) w p) (position_weight w p) ≡ weight_in test (mark_by hyphen_at care_at (cond (rises && not is_above) (is_odd pass.level) odd_before)) (position_weight w p) = ap (λ (x : Mark). weight_in test x (position_weight w p)) mark_after in
+      omega (arith, mark, is, stays_is kind, moved_is kind, parted kind (position_weight w p) rises is_above counts_before)
 
 -- what balances at each position balances in sum
-module _ (m : Minima) (pass : Pass) (P P' : Patterns) (H : Hopeless) (test : Mark → Bool) (a b : CountedPosition → ℕ)
-    (each : (w : Word) (p : ℕ) → weight_in test (status_at P' w p) (position_weight w p) + sum_by a (counted_positions_at pass P H w p) ≡ weight_in test (status_at P w p) (position_weight w p) + sum_by b (counted_positions_at pass P H w p)) where
+module _ (m : Minima) (P P' : Patterns) (test : Mark → Bool) (part : CountedPosition → ℕ) (f g : Word → ℕ → List CountedPosition)
+    (each : (w : Word) (p : ℕ) → weight_in test (status_at P' w p) (position_weight w p) + sum_by part (f w p) ≡ weight_in test (status_at P w p) (position_weight w p) + sum_by part (g w p)) where
   abbrev weighed : Mark × ℕ → ℕ
   weighed e = cond (test e.0) e.1 0
 
-  balanced_word : (w : Word) (ps : List ℕ) → sum_by weighed (map (λ p. (status_at P' w p, position_weight w p)) ps) + sum_by a (flat_map (counted_positions_at pass P H w) ps) ≡ sum_by weighed (map (λ p. (status_at P w p, position_weight w p)) ps) + sum_by b (flat_map (counted_positions_at pass P H w) ps)
+  abbrev in_reach : (Word → ℕ → List CountedPosition) → Word → List CountedPosition
+  in_reach h w = flat_map (h w) (positions m.left m.right (length w.signs))
+
+  balanced_word : (w : Word) (ps : List ℕ) → sum_by weighed (map (λ p. (status_at P' w p, position_weight w p)) ps) + sum_by part (flat_map (f w) ps) ≡ sum_by weighed (map (λ p. (status_at P w p, position_weight w p)) ps) + sum_by part (flat_map (g w) ps)
   balanced_word w [] = refl
   balanced_word w (p ∷ ps) =
-      let here : weight_in test (status_at P' w p) (position_weight w p) + sum_by a (counted_positions_at pass P H w p) ≡ weight_in test (status_at P w p) (position_weight w p) + sum_by b (counted_positions_at pass P H w p) = each w p in
-      let rest : sum_by weighed (map (λ p. (status_at P' w p, position_weight w p)) ps) + sum_by a (flat_map (counted_positions_at pass P H w) ps) ≡ sum_by weighed (map (λ p. (status_at P w p, position_weight w p)) ps) + sum_by b (flat_map (counted_positions_at pass P H w) ps) = balanced_word w ps in
-      let after : sum_by weighed (map (λ p. (status_at P' w p, position_weight w p)) (p ∷ ps)) ≡ weight_in test (status_at P' w p) (position_weight w p) + sum_by weighed (map (λ p. (status_at P' w p, position_weight w p)) ps) = sum_by-cons weighed (status_at P' w p, position_weight w p) (map (λ p. (status_at P' w p, position_weight w p)) ps) in
-      let before : sum_by weighed (map (λ p. (status_at P w p, position_weight w p)) (p ∷ ps)) ≡ weight_in test (status_at P w p) (position_weight w p) + sum_by weighed (map (λ p. (status_at P w p, position_weight w p)) ps) = sum_by-cons weighed (status_at P w p, position_weight w p) (map (λ p. (status_at P w p, position_weight w p)) ps) in
-      let left : sum_by a (flat_map (counted_positions_at pass P H w) (p ∷ ps)) ≡ sum_by a (counted_positions_at pass P H w p) + sum_by a (flat_map (counted_positions_at pass P H w) ps) = sum_by-append a (counted_positions_at pass P H w p) (flat_map (counted_positions_at pass P H w) ps) in
-      let right : sum_by b (flat_map (counted_positions_at pass P H w) (p ∷ ps)) ≡ sum_by b (counted_positions_at pass P H w p) + sum_by b (flat_map (counted_positions_at pass P H w) ps) = sum_by-append b (counted_positions_at pass P H w p) (flat_map (counted_positions_at pass P H w) ps) in
-      joined _ _ _ _ _ _ _ _ _ _ _ _ here rest after before left right
+      joined _ _ _ _ _ _ _ _ _ _ _ _
+      (each w p)
+      (balanced_word w ps)
+      (sum_by-cons weighed (status_at P' w p, position_weight w p) (map (λ p. (status_at P' w p, position_weight w p)) ps))
+      (sum_by-cons weighed (status_at P w p, position_weight w p) (map (λ p. (status_at P w p, position_weight w p)) ps))
+      (sum_by-append part (f w p) (flat_map (f w) ps))
+      (sum_by-append part (g w p) (flat_map (g w) ps))
 
-  balanced : (words : List Word) → weight_of test (flat_map (marks_in m P') words) + sum_by a (flat_map (counted_positions_in m pass P H) words) ≡ weight_of test (flat_map (marks_in m P) words) + sum_by b (flat_map (counted_positions_in m pass P H) words)
+  balanced : (words : List Word) → weight_of test (flat_map (marks_in m P') words) + sum_by part (flat_map (in_reach f) words) ≡ weight_of test (flat_map (marks_in m P) words) + sum_by part (flat_map (in_reach g) words)
   balanced [] = refl
   balanced (w ∷ words) =
       joined _ _ _ _ _ _ _ _ _ _ _ _
@@ -285,69 +388,113 @@ module _ (m : Minima) (pass : Pass) (P P' : Patterns) (H : Hopeless) (test : Mar
       (balanced words)
       (sum_by-append weighed (marks_in m P' w) (flat_map (marks_in m P') words))
       (sum_by-append weighed (marks_in m P w) (flat_map (marks_in m P) words))
-      (sum_by-append a (counted_positions_in m pass P H w) (flat_map (counted_positions_in m pass P H) words))
-      (sum_by-append b (counted_positions_in m pass P H w) (flat_map (counted_positions_in m pass P H) words))
+      (sum_by-append part (in_reach f w) (flat_map (in_reach f) words))
+      (sum_by-append part (in_reach g w) (flat_map (in_reach g) words))
 
-module _ (m : Minima) (words : List Word) (pass : Pass) (P : Patterns) (H : Hopeless) (raised : Candidate → Bool) (upto : IsUpTo pass.level P) where
-  abbrev good_part : CountedPosition → ℕ
-  good_part = raised_weight raised (counted_positions m words pass P H) (λ (s : CountedPosition). s.good)
+-- and so what is no more at each
+less_flat : {X : Type 0} (part : CountedPosition → ℕ) (f g : X → List CountedPosition) → ((x : X) → sum_by part (f x) ≤ sum_by part (g x)) → (xs : List X) → sum_by part (flat_map f xs) ≤ sum_by part (flat_map g xs)
+less_flat part f g each [] = omega arith
+less_flat part f g each (x ∷ xs) = omega (arith, each x, less_flat part f g each xs, sum_by-append part (f x) (flat_map f xs), sum_by-append part (g x) (flat_map g xs))
 
-  abbrev bad_part : CountedPosition → ℕ
-  bad_part = raised_weight raised (counted_positions m words pass P H) (λ (s : CountedPosition). not s.good)
+-- where no value is above the level, nothing stays
+flat_none : {X Y : Type 0} (f : X → List Y) → ((x : X) → f x ≡ []) → (xs : List X) → flat_map f xs ≡ []
+flat_none f none [] = refl
+flat_none f none (x ∷ xs) = (λ i. none x i ++ flat_none f none xs i)
 
-  abbrev none_part : CountedPosition → ℕ
-  none_part s = 0
-
-  -- the equation of a position, from that of its tests
-  at : (test : Mark → Bool) (odd : Bool) (a b : CountedPosition → ℕ) (x y : ℕ) (w : Word) (p : ℕ) → is_odd pass.level ≡ odd → sum_by a (counted_positions_at pass P H w p) ≡ x → sum_by b (counted_positions_at pass P H w p) ≡ y
-      → weight_in test (mark_by (hyphen_at m words pass P H raised w p) (care_at m words pass P H raised w p) (cond (rises m words pass P H raised w p) odd (odd_before m words pass P H raised w p))) (position_weight w p) + x ≡ weight_in test (status_at P w p) (position_weight w p) + y
-      → weight_in test (status_at (patterns_after_pass m words pass P H raised) w p) (position_weight w p) + sum_by a (counted_positions_at pass P H w p) ≡ weight_in test (status_at P w p) (position_weight w p) + sum_by b (counted_positions_at pass P H w p)
-  at test odd a b x y w p parity left right is =
-      let mark : status_at (patterns_after_pass m words pass P H raised) w p ≡ mark_by (hyphen_at m words pass P H raised w p) (care_at m words pass P H raised w p) (cond (rises m words pass P H raised w p) odd (odd_before m words pass P H raised w p)) =
-      mark_after m words pass P H raised w p upto ∙ ap (λ b. mark_by (hyphen_at m words pass P H raised w p) (care_at m words pass P H raised w p) (cond (rises m words pass P H raised w p) b (odd_before m words pass P H raised w p))) parity in
-      (λ i. weight_in test (mark i) (position_weight w p) + left i) ∙ is ∙ ap (λ n. weight_in test (status_at P w p) (position_weight w p) + n) (sym right)
-
-  good_at : (odd : Bool) → is_odd pass.level ≡ odd → (w : Word) (p : ℕ) → sum_by good_part (counted_positions_at pass P H w p) ≡ changed_weight itself (position_weight w p) (rises m words pass P H raised w p) (counted_by odd (status_at P w p))
-  good_at odd parity w p = moved_is m words pass P H raised w p itself ∙ ap (λ b. changed_weight itself (position_weight w p) (rises m words pass P H raised w p) (counted_by b (status_at P w p))) parity
-
-  bad_at : (odd : Bool) → is_odd pass.level ≡ odd → (w : Word) (p : ℕ) → sum_by bad_part (counted_positions_at pass P H w p) ≡ changed_weight not (position_weight w p) (rises m words pass P H raised w p) (counted_by odd (status_at P w p))
-  bad_at odd parity w p = moved_is m words pass P H raised w p not ∙ ap (λ b. changed_weight not (position_weight w p) (rises m words pass P H raised w p) (counted_by b (status_at P w p))) parity
-
-  tests_odd : (w : Word) (p : ℕ) → OddAt (hyphen_at m words pass P H raised w p) (care_at m words pass P H raised w p) (odd_before m words pass P H raised w p) (rises m words pass P H raised w p) (position_weight w p)
-  tests_odd w p = odd_at (hyphen_at m words pass P H raised w p) (care_at m words pass P H raised w p) (odd_before m words pass P H raised w p) (rises m words pass P H raised w p) (position_weight w p)
-
-  pub finds_more : is_odd pass.level ≡ true → FindsMore (totals m words P) (totals m words (patterns_after_pass m words pass P H raised)) (good_raised raised (counted_positions m words pass P H)) (bad_raised raised (counted_positions m words pass P H))
-  finds_more odd = record {
-    found = let e = balanced m pass P (patterns_after_pass m words pass P H raised) H is_found none_part good_part (λ w p. at is_found true none_part good_part 0 (changed_weight itself (position_weight w p) (rises m words pass P H raised w p) (counted_by true (status_at P w p))) w p odd (sum_none (counted_positions_at pass P H w p)) (good_at true odd w p) (tests_odd w p).0) words in
-        gained _ _ _ _ _ e (sum_none (counted_positions m words pass P H)) (good_raised_sum raised (counted_positions m words pass P H));
-    errors = let e = balanced m pass P (patterns_after_pass m words pass P H raised) H is_error none_part bad_part (λ w p. at is_error true none_part bad_part 0 (changed_weight not (position_weight w p) (rises m words pass P H raised w p) (counted_by true (status_at P w p))) w p odd (sum_none (counted_positions_at pass P H w p)) (bad_at true odd w p) (tests_odd w p).1) words in
-        gained _ _ _ _ _ e (sum_none (counted_positions m words pass P H)) (bad_raised_sum raised (counted_positions m words pass P H));
-    missed = let e = balanced m pass P (patterns_after_pass m words pass P H raised) H is_missed good_part none_part (λ w p. at is_missed true good_part none_part (changed_weight itself (position_weight w p) (rises m words pass P H raised w p) (counted_by true (status_at P w p))) 0 w p odd (good_at true odd w p) (sum_none (counted_positions_at pass P H w p)) (tests_odd w p).2) words in
-        lost _ _ _ _ _ e (sum_none (counted_positions m words pass P H)) (good_raised_sum raised (counted_positions m words pass P H));
-  }
-
-  tests_even : (w : Word) (p : ℕ) → EvenAt (hyphen_at m words pass P H raised w p) (care_at m words pass P H raised w p) (odd_before m words pass P H raised w p) (rises m words pass P H raised w p) (position_weight w p)
-  tests_even w p = even_at (hyphen_at m words pass P H raised w p) (care_at m words pass P H raised w p) (odd_before m words pass P H raised w p) (rises m words pass P H raised w p) (position_weight w p)
-
-  pub prevents_more : is_odd pass.level ≡ false → PreventsMore (totals m words P) (totals m words (patterns_after_pass m words pass P H raised)) (good_raised raised (counted_positions m words pass P H)) (bad_raised raised (counted_positions m words pass P H))
-  prevents_more even = record {
-    found = let e = balanced m pass P (patterns_after_pass m words pass P H raised) H is_found bad_part none_part (λ w p. at is_found false bad_part none_part (changed_weight not (position_weight w p) (rises m words pass P H raised w p) (counted_by false (status_at P w p))) 0 w p even (bad_at false even w p) (sum_none (counted_positions_at pass P H w p)) (tests_even w p).0) words in
-        lost _ _ _ _ _ e (sum_none (counted_positions m words pass P H)) (bad_raised_sum raised (counted_positions m words pass P H));
-    errors = let e = balanced m pass P (patterns_after_pass m words pass P H raised) H is_error good_part none_part (λ w p. at is_error false good_part none_part (changed_weight itself (position_weight w p) (rises m words pass P H raised w p) (counted_by false (status_at P w p))) 0 w p even (good_at false even w p) (sum_none (counted_positions_at pass P H w p)) (tests_even w p).1) words in
-        lost _ _ _ _ _ e (sum_none (counted_positions m words pass P H)) (good_raised_sum raised (counted_positions m words pass P H));
-    missed = let e = balanced m pass P (patterns_after_pass m words pass P H raised) H is_missed none_part bad_part (λ w p. at is_missed false none_part bad_part 0 (changed_weight not (position_weight w p) (rises m words pass P H raised w p) (counted_by false (status_at P w p))) w p even (sum_none (counted_positions_at pass P H w p)) (bad_at false even w p) (tests_even w p).2) words in
-        gained _ _ _ _ _ e (sum_none (counted_positions m words pass P H)) (bad_raised_sum raised (counted_positions m words pass P H));
-  }
-
-pub totals_after : (m : Minima) (words : List Word) (pass : Pass) (P : Patterns) (H : Hopeless) (raised : Candidate → Bool) → IsUpTo pass.level P
-    → MatchBool (is_odd pass.level)
-    (FindsMore (totals m words P) (totals m words (patterns_after_pass m words pass P H raised)) (good_raised raised (counted_positions m words pass P H)) (bad_raised raised (counted_positions m words pass P H)))
-    (PreventsMore (totals m words P) (totals m words (patterns_after_pass m words pass P H raised)) (good_raised raised (counted_positions m words pass P H)) (bad_raised raised (counted_positions m words pass P H)))
-totals_after m words pass P H raised upto = by_parity (is_odd pass.level) refl
+none_above : (m : Minima) (words : List Word) (pass : Pass) (P : Patterns) → IsUpTo pass.level P → above_positions m words pass P ≡ []
+none_above m words pass P upto = flat_none (above_in m pass P) (λ w. flat_none (above_at pass P w) (λ p. here w p) (positions m.left m.right (length w.signs))) words
   where
-    by_parity : (odd : Bool) → is_odd pass.level ≡ odd
-        → MatchBool odd
-        (FindsMore (totals m words P) (totals m words (patterns_after_pass m words pass P H raised)) (good_raised raised (counted_positions m words pass P H)) (bad_raised raised (counted_positions m words pass P H)))
-        (PreventsMore (totals m words P) (totals m words (patterns_after_pass m words pass P H raised)) (good_raised raised (counted_positions m words pass P H)) (bad_raised raised (counted_positions m words pass P H)))
-    by_parity true odd = finds_more m words pass P H raised upto odd
-    by_parity false even = prevents_more m words pass P H raised upto even
+    not_above : (v : ℕ) → v ≤ pass.level → nat_lt pass.level v ≡ false
+    not_above v low = grind (arith, nat_tests)
+
+    none_at : (w : Word) (p : ℕ) (f : Bool) (o : Option Bool) → counted_as (window w.signs p pass.len pass.dot) (position_weight w p) (cond f (cond false o None) None) ≡ []
+    none_at w p true o = refl
+    none_at w p false o = refl
+
+    here : (w : Word) (p : ℕ) → above_at pass P w p ≡ []
+    here w p =
+        ap (λ b. counted_as (window w.signs p pass.len pass.dot) (position_weight w p) (cond (fits w.signs p pass.len pass.dot) (cond b (counts_as pass.level (status_at P w p)) None) None)) (not_above (value_at P w.signs p) (best_up_to pass.level (applies w.signs p) P upto))
+        ∙ none_at w p (fits w.signs p pass.len pass.dot) (counts_as pass.level (status_at P w p))
+
+module _ (m : Minima) (words : List Word) (pass : Pass) (P : Patterns) (H : Hopeless) (raised : Candidate → Bool) where
+  abbrev weighs : (Bool → Bool) → CountedPosition → ℕ
+  weighs kind = raised_weight raised (counted_positions m words pass P H) (λ (s : CountedPosition). kind s.good)
+
+  less_above : (kind : Bool → Bool) → sum_by (weighs kind) (above_positions m words pass P) ≤ sum_by (weighs kind) (counted_positions m words pass P H)
+  less_above kind = less_flat (weighs kind) (above_in m pass P) (counted_positions_in m pass P H) (λ w. less_flat (weighs kind) (above_at pass P w) (counted_positions_at pass P H w) (λ p. stays_less m words pass P H raised w p kind) (positions m.left m.right (length w.signs))) words
+
+  good_within : good_above raised (counted_positions m words pass P H) (above_positions m words pass P) ≤ good_raised raised (counted_positions m words pass P H)
+  good_within = omega (arith, less_above itself, good_raised_sum raised (counted_positions m words pass P H))
+
+  bad_within : bad_above raised (counted_positions m words pass P H) (above_positions m words pass P) ≤ bad_raised raised (counted_positions m words pass P H)
+  bad_within = omega (arith, less_above not, bad_raised_sum raised (counted_positions m words pass P H))
+
+  -- a test of marks gains at each position what is lifted there, or loses it, at a level that is odd or not
+  abbrev GainsBy : (Mark → Bool) → (Bool → Bool) → Bool → Type 0
+  GainsBy test kind odd = (w : Word) (p : ℕ) → weight_in test (mark_by (hyphen_at m words pass P H raised w p) (care_at m words pass P H raised w p) (cond (rises m words pass P H raised w p && not (is_above m words pass P H raised w p)) odd (odd_before m words pass P H raised w p))) (position_weight w p) + 0
+      ≡ weight_in test (status_at P w p) (position_weight w p) + changed_weight kind (position_weight w p) (rises m words pass P H raised w p && not (is_above m words pass P H raised w p)) (counted_by odd (status_at P w p))
+
+  abbrev LosesBy : (Mark → Bool) → (Bool → Bool) → Bool → Type 0
+  LosesBy test kind odd = (w : Word) (p : ℕ) → weight_in test (mark_by (hyphen_at m words pass P H raised w p) (care_at m words pass P H raised w p) (cond (rises m words pass P H raised w p && not (is_above m words pass P H raised w p)) odd (odd_before m words pass P H raised w p))) (position_weight w p) + changed_weight kind (position_weight w p) (rises m words pass P H raised w p && not (is_above m words pass P H raised w p)) (counted_by odd (status_at P w p))
+      ≡ weight_in test (status_at P w p) (position_weight w p) + 0
+
+  gained_of : (test : Mark → Bool) (kind : Bool → Bool) → GainsBy test kind (is_odd pass.level) → weight_of test (flat_map (marks_in m (patterns_after_pass m words pass P H raised)) words) + sum_by (weighs kind) (above_positions m words pass P) ≡ weight_of test (flat_map (marks_in m P) words) + sum_by (weighs kind) (counted_positions m words pass P H)
+  gained_of test kind each = balanced m P (patterns_after_pass m words pass P H raised) test (weighs kind) (above_at pass P) (counted_positions_at pass P H) (λ w p. gains m words pass P H raised w p test kind (each w p)) words
+
+  lost_of : (test : Mark → Bool) (kind : Bool → Bool) → LosesBy test kind (is_odd pass.level) → weight_of test (flat_map (marks_in m (patterns_after_pass m words pass P H raised)) words) + sum_by (weighs kind) (counted_positions m words pass P H) ≡ weight_of test (flat_map (marks_in m P) words) + sum_by (weighs kind) (above_positions m words pass P)
+  lost_of test kind each = balanced m P (patterns_after_pass m words pass P H raised) test (weighs kind) (counted_positions_at pass P H) (above_at pass P) (λ w p. loses m words pass P H raised w p test kind (each w p)) words
+
+  abbrev raised_good : ℕ
+  raised_good = good_raised raised (counted_positions m words pass P H)
+
+  abbrev raised_bad : ℕ
+  raised_bad = bad_raised raised (counted_positions m words pass P H)
+
+  abbrev stays_good : ℕ
+  stays_good = good_above raised (counted_positions m words pass P H) (above_positions m words pass P)
+
+  abbrev stays_bad : ℕ
+  stays_bad = bad_above raised (counted_positions m words pass P H) (above_positions m words pass P)
+
+  abbrev new_totals : Totals
+  new_totals = totals m words (patterns_after_pass m words pass P H raised)
+
+  odd_tests : (w : Word) (p : ℕ) → OddAt (hyphen_at m words pass P H raised w p) (care_at m words pass P H raised w p) (odd_before m words pass P H raised w p) (rises m words pass P H raised w p && not (is_above m words pass P H raised w p)) (position_weight w p)
+  odd_tests w p = odd_at (hyphen_at m words pass P H raised w p) (care_at m words pass P H raised w p) (odd_before m words pass P H raised w p) (rises m words pass P H raised w p && not (is_above m words pass P H raised w p)) (position_weight w p)
+
+  even_tests : (w : Word) (p : ℕ) → EvenAt (hyphen_at m words pass P H raised w p) (care_at m words pass P H raised w p) (odd_before m words pass P H raised w p) (rises m words pass P H raised w p && not (is_above m words pass P H raised w p)) (position_weight w p)
+  even_tests w p = even_at (hyphen_at m words pass P H raised w p) (care_at m words pass P H raised w p) (odd_before m words pass P H raised w p) (rises m words pass P H raised w p && not (is_above m words pass P H raised w p)) (position_weight w p)
+
+  finds_more : is_odd pass.level ≡ true → FindsMore (totals m words P) new_totals (raised_good - stays_good) (raised_bad - stays_bad)
+  finds_more odd = record {
+    found = gained _ _ _ _ _ _ (gained_of is_found itself (subst (GainsBy is_found itself) (sym odd) (λ w p. (odd_tests w p).0))) refl (good_raised_sum raised (counted_positions m words pass P H)) good_within;
+    errors = gained _ _ _ _ _ _ (gained_of is_error not (subst (GainsBy is_error not) (sym odd) (λ w p. (odd_tests w p).1))) refl (bad_raised_sum raised (counted_positions m words pass P H)) bad_within;
+    missed = lost _ _ _ _ _ _ (lost_of is_missed itself (subst (LosesBy is_missed itself) (sym odd) (λ w p. (odd_tests w p).2))) refl (good_raised_sum raised (counted_positions m words pass P H)) good_within;
+  }
+
+  prevents_more : is_odd pass.level ≡ false → PreventsMore (totals m words P) new_totals (raised_good - stays_good) (raised_bad - stays_bad)
+  prevents_more even = record {
+    found = lost _ _ _ _ _ _ (lost_of is_found not (subst (LosesBy is_found not) (sym even) (λ w p. (even_tests w p).0))) refl (bad_raised_sum raised (counted_positions m words pass P H)) bad_within;
+    errors = lost _ _ _ _ _ _ (lost_of is_error itself (subst (LosesBy is_error itself) (sym even) (λ w p. (even_tests w p).1))) refl (good_raised_sum raised (counted_positions m words pass P H)) good_within;
+    missed = gained _ _ _ _ _ _ (gained_of is_missed not (subst (GainsBy is_missed not) (sym even) (λ w p. (even_tests w p).2))) refl (bad_raised_sum raised (counted_positions m words pass P H)) bad_within;
+  }
+
+  by_parity : (odd : Bool) → is_odd pass.level ≡ odd → MatchBool odd (FindsMore (totals m words P) new_totals (raised_good - stays_good) (raised_bad - stays_bad)) (PreventsMore (totals m words P) new_totals (raised_good - stays_good) (raised_bad - stays_bad))
+  by_parity true odd = finds_more odd
+  by_parity false even = prevents_more even
+
+  pub totals_after_above : MovesAllBut (is_odd pass.level) (totals m words P) new_totals raised_good raised_bad stays_good stays_bad
+  totals_after_above = record { good_within = good_within; bad_within = bad_within; totals = by_parity (is_odd pass.level) refl }
+
+  -- where no value is above the level, all that is raised moves
+  abbrev Moves : ℕ → ℕ → Type 0
+  Moves good bad = MatchBool (is_odd pass.level) (FindsMore (totals m words P) new_totals good bad) (PreventsMore (totals m words P) new_totals good bad)
+
+  pub totals_after : IsUpTo pass.level P → MatchBool (is_odd pass.level) (FindsMore (totals m words P) new_totals raised_good raised_bad) (PreventsMore (totals m words P) new_totals raised_good raised_bad)
+  totals_after upto =
+      let some : Moves (raised_good - 0) (raised_bad - 0) =
+      subst (λ (above : List CountedPosition). Moves (raised_good - good_above raised (counted_positions m words pass P H) above) (raised_bad - bad_above raised (counted_positions m words pass P H) above)) (none_above m words pass P upto) totals_after_above.totals in
+      subst (λ (good : ℕ). Moves good raised_bad) (less_none raised_good) (subst (Moves (raised_good - 0)) (less_none raised_bad) some)
+    where
+      less_none : (n : ℕ) → n - 0 ≡ n
+      less_none n = omega arith

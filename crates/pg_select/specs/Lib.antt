@@ -9,3 +9,4 @@ pub mod Meanings
 pub mod Laws
 pub mod LawsSteps
 pub mod LawsClosedDots
+pub mod LawsAbove

@@ -1,6 +1,7 @@
 //! Laws of the definitions of this crate. A call does nothing; its contract is the law.
 ghost use Rattle.pg_select.specs.Laws.{CandidatesInOrder, CandidatesAreCounted, CountsAreTally, PositionsAreFew, CandidatesAreFew, TotalsAreSmall, CountedAreLight, SumsAreParts, CandidatesAreLow, ChosenGetLevel, OthersStay, NoneFalls, RaisesWhereItApplies, GivenUpKeepsValues, RaisedCovers, HopelessCovers, GivenUpCovers, LaterAtOnce, LaterStill, LaterRaised, LaterHopeless, StatusBack, CountedBack, ClosedLater, CountedShorter, ClosedLonger, LaterAfterPass, ClosedWhenCovered, ClosedAtEnd};
 ghost use Rattle.pg_select.specs.LawsSteps.{BelowByLargest, UpToLargest, UpToAtStart, NextIsBelow, UpToAfter, CoversUpToAtStart, CoversUpToLonger, CoversUpToAfter, LengthStep, NothingCovered, ValuesAfter, CoversAfter, CountedAreUncovered, TotalsAfter};
+ghost use Rattle.pg_select.specs.LawsAbove.{AboveStay, TotalsAfterAbove};
 ghost use Rattle.pg_select.specs.LawsClosedDots.{TellsAtStart, TellsLonger, TellsAfter, DoneByStatus, DoneWhenClosed, DoneLonger, DoneAfter, RaisedStop, HopelessStop, LeftStay, UncountedStay};
 
 /// The candidates of a pass are the windows that it counts. They stand strictly in the order of signs, so each once.
@@ -106,9 +107,12 @@ pub fn passes_change()
     ensures counted { CountedAreUncovered }
 {}
 
-/// A pass adds to the totals, or takes from them, the sums of the candidates that it chooses.
+/// A pass adds to the totals, or takes from them, the sums of the candidates that it chooses, where no value is above
+/// its level. Where some are, the positions that have them are left out: they are counted, and stay as they are.
 pub fn totals_by_the_chosen()
-    ensures { TotalsAfter }
+    ensures chosen { TotalsAfter }
+    ensures above { TotalsAfterAbove }
+    ensures stay { AboveStay }
 {}
 
 /// A position whose window was chosen does not count any more, and one whose window was made hopeless is covered at

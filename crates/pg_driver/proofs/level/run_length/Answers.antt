@@ -1,4 +1,4 @@
-use Rattle.std.proofs.Common.{◌≡◌, ℕ, ◌+◌, List, [], ◌∷◌, ◌++◌, refl, ap, subst, ◌∙◌, arith}
+use Rattle.std.proofs.Common.{◌≡◌, ℕ, ◌+◌, ◌≤◌, inr, List, [], ◌∷◌, ◌++◌, refl, ap, subst, ◌∙◌, arith}
 use Rattle.pg_select.specs.declared.pass.Pass.{Pass}
 use Rattle.pg_driver.specs.Levels.{GoesOn, all_made_by, point}
 use Rattle.pg_driver.specs.Told.{known_of, over}
@@ -19,6 +19,9 @@ dots-init g c =
         known = ap (λ (passes : List Pass). known_at_end (known_of m0) (all_made_by source c.args.params.now m0 passes)) (all_from c.args.number c.args.len);
       };
       ready = c.requires.ready;
+      here = refl;
+      will = c.requires.counts;
+      counted = λ some. absurd (omega arith);
       signs = refl;
       begun = refl;
       passes = omega arith;
@@ -44,6 +47,9 @@ dots-preserved g c =
           reaches_on source params number len start m n c.dots.records c.run_or_skip.new.records c.dots.closed c.run_or_skip.new.closed (passes_from number len k (len + 1)) (pass_with number len (dot_at len k) ∷ []) (passes_from number len (k + 1) (len + 1)) (ps ++ all) (known_at_end (known_of m0) all)
           (passes_step number len k (len + 1) c.dots-test.true) on (c.dots.invariant.reaches start ps at);
       ready = c.in_ok-run_or_skip.ensures.ready;
+      here = c.in_ok-run_or_skip.ensures.here ∙ c.dots.invariant.here;
+      will = inr (c.in_ok-run_or_skip.ensures.counted c.dots.invariant.will);
+      counted = λ _. c.in_ok-run_or_skip.ensures.counted c.dots.invariant.will;
       signs = c.in_ok-run_or_skip.ensures.signs ∙ c.dots.invariant.signs;
       begun = omega (arith, c.in_ok-run_or_skip.ensures.begun, c.dots.invariant.begun);
       passes = omega (arith, c.in_ok-run_or_skip.ensures.few, c.dots.invariant.passes);
@@ -61,3 +67,8 @@ returns-clause-ok g c = λ start ps at.
     let ends : c.dots.k ≡ len + 1 = omega arith in
     let none : passes_from number len c.dots.k (len + 1) ≡ [] = ap (λ k. passes_from number len k (len + 1)) ends ∙ none_from number len (len + 1) in
     at_whole source c.args.params.now number len start (g.E.Engine.meaning c.dots.engine) c.dots.records c.dots.closed (passes_from number len c.dots.k (len + 1)) (ps ++ all) (known_at_end (known_of m0) all) none (c.dots.invariant.reaches start ps at)
+
+pub returns-clause-counted : goal.returns-clause-counted
+returns-clause-counted g c =
+    let some : 1 ≤ c.dots.k = omega arith in
+    c.dots.invariant.counted some

@@ -1,6 +1,6 @@
 use Rattle.std.proofs.Common.{◌≡◌, ◌+◌, ◌*◌, ◌^◌, ◌≤◌, ◌++◌, List}
-use Rattle.pg_driver.specs.LevelCounting.{IsReady}
-use Rattle.pg_driver.specs.Levels.{IsAt, LevelStart, all_made_by, point}
+use Rattle.pg_driver.specs.LevelCounting.{IsCounted, IsReady}
+use Rattle.pg_driver.specs.Levels.{IsAt, LevelStart, WillCount, all_made_by, point}
 use Rattle.pg_driver.specs.Told.{known_of, over}
 use Rattle.pg_driver.specs.Traces.{PassTrace, known_at_end, passes_of_length}
 use Rattle.pg_driver.proofs.LevelSteps.{Reaches, passes_from}
@@ -15,6 +15,9 @@ invariant-dots g l =
     record {
       reaches : (start : LevelStart) (ps : List PassTrace) → IsAt source l.number l.len start ps (point m0 l.fn.records l.fn.closed) → Reaches source l.params l.number l.len start m l.records l.closed (passes_from l.number l.len l.k l.end) (ps ++ all) (known_at_end (known_of m0) all);
       ready : IsReady source l.number l.len (known_of m) l.counting;
+      here : l.closed.here ≡ l.fn.closed.here;
+      will : WillCount l.closed l.counting;
+      counted : 1 ≤ l.k → IsCounted l.counting;
       signs : m.signs ≡ m0.signs;
       begun : m.begun + l.fn.records.begun ≡ m0.begun + l.records.begun;
       passes : l.records.begun ≤ l.fn.records.begun + l.k;

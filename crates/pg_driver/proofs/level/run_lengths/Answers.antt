@@ -1,4 +1,4 @@
-use Rattle.std.proofs.Common.{◌≡◌, ◌+◌, [], refl, ap, ◌∙◌, arith}
+use Rattle.std.proofs.Common.{◌≡◌, ◌+◌, ◌<◌, inl, inr, [], refl, ap, ◌∙◌, arith}
 use Rattle.pg_driver.specs.Levels.{LevelStart, all_made_by}
 use Rattle.pg_driver.specs.Told.{known_of, over}
 use Rattle.pg_driver.specs.Traces.{known_at_end, passes_of, passes_of_length}
@@ -18,6 +18,8 @@ lengths-init g c =
         known = refl;
       };
       ready = c.requires.ready c.args.params.now.pat_start;
+      will = inl c.new-closed.ensures.here;
+      counted = λ some. absurd (omega arith);
       signs = refl;
       begun = refl;
       passes = omega (arith, c.requires.level.start_low);
@@ -46,7 +48,9 @@ lengths-preserved g c =
         left = reached.left;
         known = reached.known;
       };
-      ready = c.next_length-in-lengths.ensures source number (known_of n) c.in_ok-run_length.ensures.ready;
+      ready = c.next_length-in-lengths.ensures.ready source number (known_of n) c.in_ok-run_length.ensures.ready;
+      will = inr (c.next_length-in-lengths.ensures.counted c.in_ok-run_length.ensures.counted);
+      counted = λ _. c.next_length-in-lengths.ensures.counted c.in_ok-run_length.ensures.counted;
       signs = c.in_ok-run_length.ensures.signs ∙ c.lengths.invariant.signs;
       begun = omega (arith, c.in_ok-run_length.ensures.begun, c.lengths.invariant.begun);
       passes = omega (arith, c.in_ok-run_length.ensures.few, c.lengths.invariant.passes);
@@ -83,4 +87,5 @@ returns-clause-records g c =
 pub returns-clause-ready : goal.returns-clause-ready
 returns-clause-ready g c =
     let m = g.E.Engine.meaning c.lengths.engine in
-    tells_totals (over c.args.table.now c.args.dictionary.now) c.args.number c.lengths.len (known_of m) m.patterns c.lengths.counting refl c.lengths.invariant.ready
+    let some : c.args.params.now.pat_start < c.lengths.len = omega (arith, c.requires.level.start_high) in
+    tells_totals (over c.args.table.now c.args.dictionary.now) c.args.number c.lengths.len (known_of m) m.patterns c.lengths.counting refl (c.lengths.invariant.counted some) c.lengths.invariant.ready

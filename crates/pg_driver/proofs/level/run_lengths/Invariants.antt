@@ -1,6 +1,6 @@
-use Rattle.std.proofs.Common.{◌≡◌, ◌+◌, ◌*◌, ◌^◌, ◌≤◌}
-use Rattle.pg_driver.specs.LevelCounting.{IsReady}
-use Rattle.pg_driver.specs.Levels.{all_made_by}
+use Rattle.std.proofs.Common.{◌≡◌, ◌+◌, ◌*◌, ◌^◌, ◌≤◌, ◌<◌}
+use Rattle.pg_driver.specs.LevelCounting.{IsCounted, IsReady}
+use Rattle.pg_driver.specs.Levels.{WillCount, all_made_by}
 use Rattle.pg_driver.specs.Told.{known_of, over}
 use Rattle.pg_driver.specs.Traces.{known_at_end, passes_of}
 use Rattle.pg_driver.proofs.LevelSteps.{Reaches, lengths_from}
@@ -15,6 +15,8 @@ invariant-lengths g l =
     record {
       reaches : Reaches source l.params l.number l.len (record { engine = m0; records = l.fn.records }) m l.records l.closed (lengths_from l.number l.len l.end) all (known_at_end (known_of m0) all);
       ready : IsReady source l.number l.len (known_of m) l.counting;
+      will : WillCount l.closed l.counting;
+      counted : l.params.pat_start < l.len → IsCounted l.counting;
       signs : m.signs ≡ m0.signs;
       begun : m.begun + l.fn.records.begun ≡ m0.begun + l.records.begun;
       passes : l.records.begun + 16 ≤ l.fn.records.begun + 16 * l.len;

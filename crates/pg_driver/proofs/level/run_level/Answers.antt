@@ -1,3 +1,6 @@
+use Rattle.std.proofs.Common.{sym, ap, ◌∙◌}
+use Rattle.pg_select.specs.Meanings.{Meaning}
+use Rattle.pg_driver.specs.Accounts.{totals_by}
 use Rattle.pg_driver.specs.Told.{over}
 use Rattle.pg_driver.proofs.RunSteps.{did_level}
 use Rattle.pg_driver.proofs.level.run_level.Goals as goal
@@ -10,6 +13,6 @@ returns-clause-done g c =
     c.in_ok-run_lengths.ensures.records
     c.requires.chosen
     c.in_ok-end_level.ensures.ok
-    c.totals-after.ensures.value
+    (c.totals-after.ensures ∙ c.in_ok-run_lengths.ensures.ready.0 ∙ ap (λ (x : Meaning). totals_by (over c.args.table.now c.args.dictionary.now) x.patterns) (sym c.in_ok-end_level.ensures.ok))
     c.layout.ensures
     c.in_ok-end_level-2.ensures

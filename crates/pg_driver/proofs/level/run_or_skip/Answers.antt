@@ -1,4 +1,7 @@
-use Rattle.std.proofs.Common.{sym, ◌∙◌}
+use Rattle.std.proofs.Common.{◌≡◌, Bool, true, false, ⊎_elim, sym, ◌∙◌}
+use Rattle.pg_driver.specs.LevelCounting.{IsCounted}
+use Rattle.pg_driver.specs.Levels.{is_set, unset}
+use Rattle.pg_driver.proofs.SkipFlags.{none_set}
 use Rattle.pg_driver.specs.Told.{over}
 use Rattle.pg_driver.proofs.LevelSteps.{done_on, skipped_on}
 use Rattle.pg_driver.proofs.level.run_or_skip.Goals as goal
@@ -20,3 +23,13 @@ returns-clause-ok g c =
     c.in_ok-record.ensures.signs
     c.in_ok-record.ensures.done
     c.in_ok-add_pass.ensures
+
+pub returns-then-is_skippable-clause-counted : goal.returns-then-is_skippable-clause-counted
+returns-then-is_skippable-clause-counted g c = λ will.
+    ⊎_elim
+    (λ (none : c.args.closed.now.here ≡ unset). not_both (is_set c.args.closed.now.here c.args.pass.dot) (none_set c.args.closed.now.here c.args.pass.dot none) (sym c.is_skippable.ensures ∙ c.if-is_skippable.true))
+    (λ (counted : IsCounted c.args.counting.now). counted)
+    will
+  where
+    not_both : (b : Bool) → b ≡ false → b ≡ true → IsCounted c.args.counting.now
+    not_both b is not = cc

@@ -6,20 +6,29 @@ use Rattle.pg_driver.specs.States.{State}
 use Rattle.pg_driver.specs.Told.{known_of, over}
 use Rattle.pg_driver.specs.Traces.{Known}
 use Rattle.pg_driver.proofs.PassSteps.{counted_as, counts_kept, did_pass, numbers_are, pass_state}
-use Rattle.pg_driver.proofs.ReadySteps.{are_of, can_go_on, placed, ready_after}
+use Rattle.pg_driver.proofs.ReadySteps.{are_of, can_go_on, counted_after, placed, ready_after}
 use Rattle.pg_driver.proofs.level.run_pass.Goals as goal
 
 pub after_choices-requires-clause-placed : goal.after_choices-requires-clause-placed
-after_choices-requires-clause-placed g c = placed (over c.args.table.now c.args.dictionary.now) c.args.pass.level c.args.pass.len (known_of (g.E.Engine.meaning c.args.engine.now)) c.args.counting.now c.requires.ready
+after_choices-requires-clause-placed g c =
+    let ready : IsReady (over c.args.table.now c.args.dictionary.now) c.args.pass.level c.args.pass.len (known_of (g.E.Engine.meaning c.args.engine.now)) c.count.new.self =
+    subst (λ (k : Known). IsReady (over c.args.table.now c.args.dictionary.now) c.args.pass.level c.args.pass.len k c.count.new.self) (ap known_of c.begin_pass.ensures) c.in_ok-before.ensures.ready in
+    placed (over c.args.table.now c.args.dictionary.now) c.args.pass.level c.args.pass.len (known_of (g.E.Engine.meaning c.args.engine.now)) c.count.new.self ready
 
 pub after_choices-requires-clause-totals : goal.after_choices-requires-clause-totals
 after_choices-requires-clause-totals g c =
     let m = g.E.Engine.meaning c.args.engine.now in
+    let m2 = g.E.Engine.meaning c.count.new.engine in
+    let n = g.E.Engine.meaning c.choose_all.new.engine in
     let words = c.args.dictionary.now in
-    let counted = counted_as c.args.table.now words c.args.pass m _ _ c.begin_pass.ensures c.in_ok-before.ensures.ok in
-    let numbers = numbers_are c.args.table.now words c.args.params.now c.args.pass m (g.E.Engine.meaning c.count.new.engine) c.in_ok-choices.choices counted c.in_ok-choices.ensures.choices in
+    let params = c.args.params.now in
+    let pass = c.args.pass in
+    let ready : IsReady (over c.args.table.now c.args.dictionary.now) c.args.pass.level c.args.pass.len (known_of (g.E.Engine.meaning c.args.engine.now)) c.count.new.self =
+    subst (λ (k : Known). IsReady (over c.args.table.now c.args.dictionary.now) c.args.pass.level c.args.pass.len k c.count.new.self) (ap known_of c.begin_pass.ensures) c.in_ok-before.ensures.ready in
+    let counted = counted_as c.args.table.now words pass m _ _ c.begin_pass.ensures c.in_ok-before.ensures.ok in
+    let numbers = numbers_are c.args.table.now words params pass m m2 c.in_ok-choices.choices counted c.in_ok-choices.ensures.choices in
     let source = over c.args.table.now words in
-    can_go_on source c.args.params.now (known_of m) c.args.pass c.in_ok-choices.choices c.args.counting.now (are_of source c.args.params.now (known_of m) c.args.pass c.in_ok-choices.choices numbers) c.requires.ready
+    can_go_on source params (known_of m) pass c.in_ok-choices.choices n.counts c.count.new.self (are_of source params (known_of m) pass c.in_ok-choices.choices numbers) c.in_ok-before.ensures.counted (counts_kept c.args.table.now words params pass m m2 n counted c.in_ok-choices.ensures.ok) ready
 
 pub returns-clause-done : goal.returns-clause-done
 returns-clause-done g c =
@@ -41,5 +50,11 @@ returns-clause-ready g c =
     let counted = counted_as c.args.table.now words pass m _ _ c.begin_pass.ensures c.in_ok-before.ensures.ok in
     let numbers = numbers_are c.args.table.now words params pass m m2 c.in_ok-choices.choices counted c.in_ok-choices.ensures.choices in
     let state = pass_state c.args.table.now words params pass m m2 n counted c.in_ok-choices.ensures.ok in
+    let ready : IsReady (over c.args.table.now c.args.dictionary.now) c.args.pass.level c.args.pass.len (known_of (g.E.Engine.meaning c.args.engine.now)) c.count.new.self =
+    subst (λ (k : Known). IsReady (over c.args.table.now c.args.dictionary.now) c.args.pass.level c.args.pass.len k c.count.new.self) (ap known_of c.begin_pass.ensures) c.in_ok-before.ensures.ready in
     subst (λ (k : Known). IsReady source pass.level pass.len k c.after_choices.new.self) (sym (ap (λ (s : State). s.known) state))
-    (ready_after source params (known_of m) pass c.in_ok-choices.choices n.counts c.args.counting.now c.after_choices.new.self (are_of source params (known_of m) pass c.in_ok-choices.choices numbers) (omega (arith, c.requires.ranges.within, c.requires.ranges.len_high)) (counts_kept c.args.table.now words params pass m m2 n counted c.in_ok-choices.ensures.ok) c.after_choices.ensures c.requires.ready)
+    (ready_after source params (known_of m) pass c.in_ok-choices.choices n.counts c.count.new.self c.after_choices.new.self (are_of source params (known_of m) pass c.in_ok-choices.choices numbers) c.in_ok-before.ensures.counted (omega (arith, c.requires.ranges.within, c.requires.ranges.len_high)) (counts_kept c.args.table.now words params pass m m2 n counted c.in_ok-choices.ensures.ok) c.after_choices.ensures ready)
+
+pub returns-clause-counted : goal.returns-clause-counted
+returns-clause-counted g c =
+    counted_after c.args.params.now c.args.pass (g.E.Engine.meaning c.choose_all.new.engine).counts c.args.dictionary.now c.in_ok-choices.choices c.count.new.self c.after_choices.new.self c.after_choices.ensures c.in_ok-before.ensures.counted

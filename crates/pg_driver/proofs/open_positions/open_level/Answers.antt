@@ -1,8 +1,9 @@
-use Rattle.std.proofs.Common.{◌+◌, List, drop, ap, sym, ◌∙◌, arith}
+use Rattle.std.proofs.Common.{◌+◌, ℕ, List, drop, ap, sym, ◌∙◌, arith}
 use Rattle.std.specs.List.{flat_map}
 use Rattle.pg_dict.specs.Lent.{lent_word}
 use Rattle.pg_driver.proofs.WordSteps.{signs_within}
-use Rattle.pg_select.specs.CountedPositions.{minima_of}
+use Rattle.pg_select.specs.CountedPositions.{counts_as, minima_of}
+use Rattle.pg_select.specs.Statuses.{status_at}
 use Rattle.pg_dict.specs.Word.{Word}
 use Rattle.pg_select.specs.Sums.{marks_in, with_marks}
 use Rattle.pg_select.proofs.MarkSteps.{marks_word}
@@ -28,7 +29,7 @@ words-preserved g c =
     let lent = c.word-w.ensures.lent in
     let before = c.words.opened in
     record {
-      positions = word_added minima c.args.level P before.positions.items c.open_word.new.opened.positions.items _ words c.words.i w lent c.in_ok-open_word.ensures.positions c.words.invariant.positions;
+      positions = word_added minima (λ (u : Word) (q : ℕ). counts_as c.args.level (status_at P u q)) before.positions.items c.open_word.new.opened.positions.items _ words c.words.i w lent c.in_ok-open_word.ensures.positions c.words.invariant.positions;
       sums = marks_word before.totals _ _ minima P w (drop (c.words.i + 1) words) c.in_ok-open_word.ensures.totals (ap (λ (ws : List Word). with_marks before.totals (flat_map (marks_in minima P) ws)) (sym (drop_place words c.words.i w lent)) ∙ c.words.invariant.sums);
       room_for = omega (arith, letters_left words c.words.i w lent, c.words.invariant.room_for, c.in_ok-open_word.ensures.took);
     }

@@ -1,9 +1,13 @@
-use Rattle.std.proofs.Common.{◌≡◌, ◌≤◌, ◌<◌, ◌+◌, ◌-◌, length, ap, ◌∙◌, arith}
+use Rattle.std.proofs.Common.{◌≡◌, ◌≤◌, ◌<◌, ◌+◌, ◌-◌, ◌++◌, Bool, List, length, sym, ap, ◌∙◌, append-nil, arith}
 use Rattle.pg_dict.specs.Lent.{lent_word}
 use Rattle.pg_dict.specs.Word.{letter_count}
 use Rattle.pg_select.specs.Meanings.{Meaning}
 use Rattle.pg_select.specs.declared.pass.Pass.{Pass}
-use Rattle.pg_select.specs.CountedPositions.{counted_positions_at}
+use Rattle.pg_select.specs.CountedPositions.{counted_positions_at, minima_of}
+use Rattle.pg_driver.specs.declared.open_positions.OpenPosition.{OpenPosition}
+use Rattle.pg_driver.specs.OpenLevels.{listed_in}
+use Rattle.pg_driver.specs.WordLevels.{listing}
+use Rattle.pg_driver.proofs.WordLevels.{none_listed_in}
 use Rattle.pg_select.specs.Statuses.{status_at, position_weight}
 use Rattle.pg_types.specs.declared.limits.TheConstants.{WEIGHT_MAX}
 use Rattle.pg_driver.specs.Counting.{IsRead}
@@ -50,3 +54,19 @@ positions-preserved g c =
       sums = marks_step c.positions.sums _ _ m0.patterns w c.positions.p c.in-Some.end c.positions-test.true sums c.positions.invariant.sums;
       took_for = omega (arith, c.positions.invariant.took_for);
     }
+
+pub returns-in_ok-list_above-clause-above : goal.returns-in_ok-list_above-clause-above
+returns-in_ok-list_above-clause-above g c =
+    let P = (g.E.Engine.meaning c.args.engine.now).patterns in
+    let w = lent_word c.args.w.now in
+    c.in_ok-list_above.ensures P c.hyphenate.ensures.values
+    ∙ ap (λ (lists : Bool). c.args.above.now.items ++ listed_in (minima_of c.args.table.now) (listing lists c.args.pass.level P) c.args.word w) (sym c.if-lists.true)
+
+pub returns-else-lists-clause-above : goal.returns-else-lists-clause-above
+returns-else-lists-clause-above g c =
+    let P = (g.E.Engine.meaning c.args.engine.now).patterns in
+    let w = lent_word c.args.w.now in
+    let minima = minima_of c.args.table.now in
+    sym (append-nil c.args.above.now.items)
+    ∙ ap (λ (es : List OpenPosition). c.args.above.now.items ++ es) (sym (none_listed_in minima c.args.pass.level P c.args.word w))
+    ∙ ap (λ (lists : Bool). c.args.above.now.items ++ listed_in minima (listing lists c.args.pass.level P) c.args.word w) (sym c.if-lists.false)

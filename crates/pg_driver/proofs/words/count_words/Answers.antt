@@ -1,4 +1,4 @@
-use Rattle.std.proofs.Common.{◌+◌, ℕ, List, drop, ap, subst, sym, ◌∙◌, arith}
+use Rattle.std.proofs.Common.{◌+◌, ◌++◌, ℕ, List, drop, ap, subst, sym, ◌∙◌, arith}
 use Rattle.std.specs.List.{flat_map, sum_by}
 use Rattle.pg_dict.specs.Lent.{lent_word}
 use Rattle.pg_dict.specs.Word.{Word, letter_count}
@@ -8,10 +8,16 @@ use Rattle.pg_select.specs.CountedPositions.{counted_positions, counted_position
 use Rattle.pg_select.specs.Sums.{marks_in, with_marks}
 use Rattle.pg_driver.specs.Counting.{counting}
 use Rattle.pg_select.proofs.MarkSteps.{marks_word}
+use Rattle.pg_driver.specs.OpenLevels.{listed_in}
+use Rattle.pg_driver.specs.WordLevels.{listing}
+use Rattle.pg_driver.proofs.OpenSteps.{few_words, word_added}
 use Rattle.pg_driver.proofs.Rooms.{room_left, room_less}
 use Rattle.pg_driver.proofs.Walks.{kept_on, word_step}
 use Rattle.pg_driver.proofs.WordSteps.{drop_place, letters_left, signs_within}
 use Rattle.pg_driver.proofs.words.count_words.Goals as goal
+
+pub overflow_cast-i : goal.overflow_cast-i
+overflow_cast-i g c = omega (arith, few_words c.args.dictionary.now c.len-i-end.ensures.words, c.len-i-end.ensures.letters, c.len-i-end.ensures.len, c.words-test.true)
 
 pub count_word-requires-clause-signs : goal.count_word-requires-clause-signs
 count_word-requires-clause-signs g c =
@@ -41,5 +47,8 @@ words-preserved g c =
       whole = word_step m0 m _ _ minima w rest kept c.in_ok-count_word.ensures.ok (ap (λ (ws : List Word). counting m (counted_positions minima ws m0.pass m0.patterns m0.hopeless)) (sym place) ∙ c.words.invariant.whole);
       room = room_left m.counts _ (sum_by letter_count (drop c.words.i c.args.dictionary.now)) (letter_count w) (sum_by letter_count rest) c.words.invariant.room c.in_ok-count_word.ensures.took (omega (arith, letters));
       sums = marks_word c.words.sums _ _ minima m0.patterns w rest sums (ap (λ (ws : List Word). with_marks c.words.sums (flat_map (marks_in minima m0.patterns) ws)) (sym place) ∙ c.words.invariant.sums);
+      above =
+          word_added minima (listing c.args.lists c.args.pass.level m0.patterns) c.words.above.items c.count_word.new.above.items _ c.args.dictionary.now c.words.i w c.word.ensures.lent
+          (c.in_ok-count_word.ensures.above ∙ ap (λ (x : Meaning). c.words.above.items ++ listed_in minima (listing c.args.lists c.args.pass.level x.patterns) c.words.i w) kept) c.words.invariant.above;
       room_for = omega (arith, letters, c.words.invariant.room_for, c.in_ok-count_word.ensures.took_for);
     }

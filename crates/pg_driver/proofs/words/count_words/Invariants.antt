@@ -1,9 +1,11 @@
-use Rattle.std.proofs.Common.{◌≡◌, drop}
+use Rattle.std.proofs.Common.{◌≡◌, ◌++◌, drop}
 use Rattle.std.specs.List.{flat_map, sum_by}
 use Rattle.pg_dict.specs.Word.{letter_count}
 use Rattle.pg_select.specs.CountedPositions.{counted_positions, minima_of}
 use Rattle.pg_select.specs.Sums.{marks_in, totals, with_marks, HasRoomFor}
 use Rattle.pg_driver.specs.Counting.{counting, HasRoom}
+use Rattle.pg_driver.specs.OpenLevels.{listed_from}
+use Rattle.pg_driver.specs.WordLevels.{listing}
 use Rattle.pg_driver.proofs.Walks.{KeepsButCounts}
 use Rattle.pg_driver.proofs.words.count_words.Given as goal
 
@@ -16,5 +18,6 @@ invariant-words g l =
       whole : counting m (counted_positions (minima_of l.table) (drop l.i l.dictionary) m0.pass m0.patterns m0.hopeless) ≡ counting m0 (counted_positions (minima_of l.table) l.dictionary m0.pass m0.patterns m0.hopeless);
       room : HasRoom m.counts (sum_by letter_count (drop l.i l.dictionary));
       sums : with_marks l.sums (flat_map (marks_in (minima_of l.table) m0.patterns) (drop l.i l.dictionary)) ≡ totals (minima_of l.table) l.dictionary m0.patterns;
+      above : (l.above.items ++ listed_from (minima_of l.table) (listing l.lists l.pass.level m0.patterns) l.i (drop l.i l.dictionary)) ≡ (l.fn.above.items ++ listed_from (minima_of l.table) (listing l.lists l.pass.level m0.patterns) 0 l.dictionary);
       room_for : HasRoomFor l.sums (sum_by letter_count (drop l.i l.dictionary));
     }

@@ -1,4 +1,4 @@
-use Rattle.std.proofs.Common.{◌≡◌, ◌≤◌, ◌<◌, ◌+◌, ◌-◌, ℕ, true, false, length, slice_index, slice_index_or, ap, ◌∙◌, arith}
+use Rattle.std.proofs.Common.{◌≡◌, ◌≤◌, ◌<◌, ◌+◌, ◌-◌, ℕ, true, false, length, slice_index_or, ap, ◌∙◌, arith}
 use Rattle.pg_dict.specs.Lent.{lent_word}
 use Rattle.pg_dict.specs.Word.{letter_count}
 use Rattle.pg_select.specs.Statuses.{status, status_at, position_weight}

@@ -1,5 +1,6 @@
 use Rattle.std.proofs.Common.{arith}
-use Rattle.pg_driver.specs.Told.{over}
+use Rattle.pg_driver.specs.Told.{known_of, over}
+use Rattle.pg_driver.proofs.WordLevels.{words_begin}
 use Rattle.pg_driver.proofs.ReadySteps.{ready_at_start}
 use Rattle.pg_driver.proofs.counting.Counting.start.Goals as goal
 
@@ -16,3 +17,12 @@ returns-clause-ready g c = λ len.
 
 pub returns-then-level-greatest-clause-form : goal.returns-then-level-greatest-clause-form
 returns-then-level-greatest-clause-form g c = λ low. absurd (omega (arith, c.if-level-greatest.true))
+
+pub returns-then-level-greatest-clause-ready : goal.returns-then-level-greatest-clause-ready
+returns-then-level-greatest-clause-ready g c = λ len.
+    words_begin (over c.args.table.now c.args.dictionary.now) c.args.level (known_of (g.E.Engine.meaning c.args.engine.now)) c.new.result
+    (omega (arith, c.left-least.ensures.value, c.left-least.ensures.range))
+    c.len-words.ensures.words
+    c.len-words.ensures.letters
+    c.new.ensures.counted
+    c.new.ensures.above

@@ -1,0 +1,78 @@
+//! A level of which each word is hyphenated in each pass. Its totals are carried from pass to pass.
+ghost use Rattle.std.specs.Prelude.{◌≡◌, [], false, true, IfOk, OnOk};
+ghost use Rattle.pg_dict.specs.Word.{SignsAtMost};
+ghost use Rattle.pg_select.specs.CountedPositions.{counted_positions, minima_of};
+ghost use Rattle.pg_driver.specs.Accounts.{totals_by};
+ghost use Rattle.pg_driver.specs.Counting.{counting, HasRoom};
+ghost use Rattle.pg_driver.specs.Sound.{IsSmall};
+ghost use Rattle.pg_driver.specs.States.{IsPass};
+ghost use Rattle.pg_driver.specs.Told.{known_of, over};
+ghost use Rattle.pg_driver.specs.WordLevels.{IsWordsAt};
+
+use crate::open_positions::OpenPosition;
+use crate::words::count_words;
+use pg_dict::Dictionary;
+use pg_select::marks::no_totals;
+use pg_select::{Engine, Pass};
+use pg_translate::Table;
+use pg_types::Totals;
+use std::alloc::{AllocError, Global};
+
+/// A level of which each word is hyphenated in each pass. The first pass that is counted lists the positions whose value is above
+/// the level: they stay the same in the level.
+#[derive(Drop)]
+pub struct WordLevel {
+    /// Whether a pass was counted.
+    pub is_counted: bool,
+    /// The positions that count and have a value above the level, once a pass was counted. No dot of them is closed.
+    pub above: Vec<OpenPosition>,
+    /// The totals, once a pass was counted.
+    pub totals: Totals,
+}
+
+impl WordLevel {
+    /// A level that begins: no pass was counted.
+    pub fn new(alloc: Global) -> WordLevel
+        ensures counted { result.is_counted ≡ false }
+        ensures above { result.above.items ≡ [] }
+    {
+        WordLevel {
+            is_counted: false,
+            above: Vec::new(alloc),
+            totals: no_totals(),
+        }
+    }
+
+    /// Counts the windows of a pass that has begun, and gives the totals before it. Each word is hyphenated once.
+    pub fn count<E: Engine>(
+        &mut self,
+        engine: &mut E,
+        dictionary: &Dictionary,
+        table: &Table,
+        pass: Pass,
+    ) -> Result<Totals, AllocError>
+        requires ranges { IsPass pass }
+        requires pass { (E.meaning engine.old).pass ≡ pass }
+        requires fresh { (E.meaning engine.old).counts ≡ [] }
+        requires signs { SignsAtMost (E.meaning engine.old).signs dictionary.now }
+        requires ready { IsWordsAt (over table.now dictionary.now) pass.level (known_of (E.meaning engine.old)) self.old }
+        ensures ok { OnOk result (E.meaning engine.new
+            ≡ counting (E.meaning engine.old)
+            (counted_positions (minima_of table.now) dictionary.now pass (E.meaning engine.old).patterns
+            (E.meaning engine.old).hopeless)) }
+        ensures totals { IfOk result (λ before. before
+            ≡ totals_by (over table.now dictionary.now) (E.meaning engine.old).patterns) }
+        ensures small { IfOk result IsSmall }
+        ensures room { OnOk result (HasRoom (E.meaning engine.new).counts 0) }
+        ensures ready { OnOk result (IsWordsAt (over table.now dictionary.now) pass.level
+            (known_of (E.meaning engine.old)) self.new) }
+        ensures counted { OnOk result (self.new.is_counted ≡ true) }
+        ensures signs { (E.meaning engine.new).signs ≡ (E.meaning engine.old).signs }
+    {
+        let lists = !self.is_counted;
+        let before = count_words(engine, dictionary, table, pass, lists, &mut self.above)?;
+        self.is_counted = true;
+        self.totals = before;
+        Ok(before)
+    }
+}
