@@ -2,3 +2,4 @@ pub mod RoundLaws
 pub mod Told
 pub mod NeedLaws
 pub mod PrunedLaws
+pub mod Tallies

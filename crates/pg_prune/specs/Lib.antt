@@ -5,3 +5,4 @@ pub mod Reports
 pub mod Standing
 pub mod Holders
 pub mod Picks
+pub mod Turns

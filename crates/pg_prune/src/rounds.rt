@@ -1,8 +1,58 @@
 //! The rounds.
+ghost use Rattle.std.specs.Prelude.{◌≡◌, ℕ, ◌<◌, ◌≤◌, ◌+◌, ◌^◌, [], ◌∷◌, List, length, map, All, IfOk, OnOk, OnSome, IfNone, MatchOption, None};
+ghost use Rattle.pg_patterns.specs.Values.{value_at};
+ghost use Rattle.pg_prune.specs.Places.{Place};
+ghost use Rattle.pg_prune.specs.Prunes.{break_alike, round_from, first_difference, need_at, needs as needs_of};
+ghost use Rattle.pg_prune.specs.Standing.{all_standing};
+ghost use Rattle.pg_prune.specs.Holders.{tally};
+ghost use Rattle.pg_prune.specs.Picks.{picked};
+ghost use Rattle.pg_prune.specs.Turns.{Turn, with_entry, without_entry, IsEntryOf, IsTallied, IsFound};
+
 use crate::holders::Holders;
 use crate::pruned::Need;
 use pg_patterns::PatternSet;
 use std::alloc::{AllocError, Global};
+
+/// Adds an entry with this value at its places.
+fn add(holders: &mut [Holders], places: &[usize], value: u8)
+    ghost turn: { Turn }
+    requires entry { IsEntryOf turn places.now value }
+    requires few { length (without_entry turn) < 2 ^ 64 - 1 }
+    requires holders { IsTallied turn.places (without_entry turn) holders.old }
+    ensures { IsTallied turn.places (with_entry turn) holders.new }
+{
+    'places: for place in places {
+        holders[*place].add(value);
+    }
+}
+
+/// Takes an entry with this value off its places.
+fn take_off(holders: &mut [Holders], places: &[usize], value: u8)
+    ghost turn: { Turn }
+    requires entry { IsEntryOf turn places.now value }
+    requires holders { IsTallied turn.places (with_entry turn) holders.old }
+    ensures { IsTallied turn.places (without_entry turn) holders.new }
+{
+    'places: for place in places {
+        holders[*place].take_off(value);
+    }
+}
+
+/// The first of the places of an entry that needs it, as it would not stay odd, or even, without it; none where the entry can go.
+fn first_need(holders: &[Holders], places: &[usize], value: u8) -> Option<usize>
+    ghost turn: { Turn }
+    requires entry { IsEntryOf turn places.now value }
+    requires holders { IsTallied turn.places (with_entry turn) holders.now }
+    ensures { let found = first_difference turn.places (with_entry turn) (without_entry turn) in
+        MatchOption result (found ≡ None) (IsFound turn.places found) }
+{
+    'places: for place in places {
+        if !holders[*place].stays_alike(value) {
+            return Some(*place);
+        }
+    }
+    None
+}
 
 /// How many entries give each value to each of `count` places, where all entries stay.
 pub(crate) fn all_holders(
@@ -10,43 +60,34 @@ pub(crate) fn all_holders(
     patterns: &PatternSet,
     standing: &[Vec<usize>],
     count: usize,
-) -> Result<Vec<Holders>, AllocError> {
+) -> Result<Vec<Holders>, AllocError>
+    ghost places: { List Place }
+    requires standing { map (λ l. l.items) standing.now ≡ all_standing places patterns.now }
+    requires count { count ≡ length places }
+    ensures { IfOk result (λ holders. IsTallied places patterns.now holders.items) }
+{
     let mut holders = Vec::new(alloc);
     'places: for _ in 0..count {
         holders.push(Holders::none())?;
     }
     'entries: for i in 0..patterns.len() {
-        add(
-            holders.as_mut_slice(),
-            standing[i].as_slice(),
-            patterns.entry(i).value,
-        );
+        let value = patterns.entry(i).value;
+        add(holders.as_mut_slice(), standing[i].as_slice(), value);
     }
     Ok(holders)
 }
 
-/// Adds an entry with this value at its places.
-fn add(holders: &mut [Holders], places: &[usize], value: u8) {
-    'places: for place in places {
-        holders[*place].add(value);
+/// Takes an entry with this value off its places, where none of them needs it. The answer is whether one does.
+fn keep_or_take_off(holders: &mut [Holders], places: &[usize], value: u8) -> bool
+    ghost turn: { Turn }
+    requires entry { IsEntryOf turn places.now value }
+    requires holders { IsTallied turn.places (with_entry turn) holders.old }
+{
+    let is_needed = first_need(holders, places, value).is_some();
+    if !is_needed {
+        take_off(holders, places, value);
     }
-}
-
-/// Takes an entry with this value off its places.
-fn take_off(holders: &mut [Holders], places: &[usize], value: u8) {
-    'places: for place in places {
-        holders[*place].take_off(value);
-    }
-}
-
-/// The first of the places of an entry that needs it, as it would not stay odd, or even, without it; none where the entry can go.
-fn first_need(holders: &[Holders], places: &[usize], value: u8) -> Option<usize> {
-    'places: for place in places {
-        if !holders[*place].stays_alike(value) {
-            return Some(*place);
-        }
-    }
-    None
+    is_needed
 }
 
 /// A round through the entries with the numbers `kept`: those that stay.
@@ -56,15 +97,17 @@ pub(crate) fn round(
     standing: &[Vec<usize>],
     holders: &mut [Holders],
     kept: &[usize],
-) -> Result<Vec<usize>, AllocError> {
+) -> Result<Vec<usize>, AllocError>
+    ghost places: { List Place }
+    requires standing { map (λ l. l.items) standing.now ≡ all_standing places patterns.now }
+    requires holders { IsTallied places (picked patterns.now kept.now) holders.old }
+    requires kept { All (λ i. i < length patterns.now) kept.now }
+{
     let mut stay = Vec::new(alloc);
     'entries: for i in kept {
         let value = patterns.entry(*i).value;
-        let places = standing[*i].as_slice();
-        if first_need(holders, places, value).is_some() {
+        if keep_or_take_off(holders, standing[*i].as_slice(), value) {
             stay.push(*i)?;
-        } else {
-            take_off(holders, places, value);
         }
     }
     Ok(stay)
@@ -78,7 +121,14 @@ pub(crate) fn needs(
     places: &[Need],
     holders: &[Holders],
     kept: &[usize],
-) -> Result<Vec<Need>, AllocError> {
+) -> Result<Vec<Need>, AllocError>
+    ghost all_places: { List Place }
+    requires standing { map (λ l. l.items) standing.now ≡ all_standing all_places patterns.now }
+    requires places { places.now ≡ map need_at all_places }
+    requires holders { IsTallied all_places (picked patterns.now kept.now) holders.now }
+    requires kept { All (λ i. i < length patterns.now) kept.now }
+    ensures { IfOk result (λ needs. needs.items ≡ needs_of all_places (picked patterns.now kept.now)) }
+{
     let mut needs = Vec::new(alloc);
     'entries: for i in kept {
         let value = patterns.entry(*i).value;
