@@ -3,3 +3,6 @@ pub mod Told
 pub mod NeedLaws
 pub mod PrunedLaws
 pub mod Tallies
+pub mod Walks
+pub mod TurnLaws
+pub mod TurnSteps

@@ -4,5 +4,5 @@ pub mod Promises
 pub mod Reports
 pub mod Standing
 pub mod Holders
-pub mod Picks
 pub mod Turns
+pub mod Picks

@@ -1,12 +1,10 @@
 //! The rounds.
-ghost use Rattle.std.specs.Prelude.{◌≡◌, ℕ, ◌<◌, ◌≤◌, ◌+◌, ◌^◌, [], ◌∷◌, List, length, map, All, IfOk, OnOk, OnSome, IfNone, MatchOption, None};
-ghost use Rattle.pg_patterns.specs.Values.{value_at};
+ghost use Rattle.std.specs.Prelude.{◌≡◌, ◌<◌, ◌≤◌, not, [], ◌∷◌, List, length, map, if◌then◌else◌, IfOk, None, MatchOption};
 ghost use Rattle.pg_prune.specs.Places.{Place};
-ghost use Rattle.pg_prune.specs.Prunes.{break_alike, round_from, first_difference, need_at, needs as needs_of};
+ghost use Rattle.pg_prune.specs.Prunes.{break_alike, first_difference, need_at, needs as needs_of};
 ghost use Rattle.pg_prune.specs.Standing.{all_standing};
-ghost use Rattle.pg_prune.specs.Holders.{tally};
-ghost use Rattle.pg_prune.specs.Picks.{picked};
-ghost use Rattle.pg_prune.specs.Turns.{Turn, with_entry, without_entry, IsEntryOf, IsTallied, IsFound};
+ghost use Rattle.pg_prune.specs.Picks.{picked, IsGround, RoundStart, RoundDone};
+ghost use Rattle.pg_prune.specs.Turns.{Turn, with_entry, without_entry, IsHeld, IsAwaited, IsTallied, IsFound};
 
 use crate::holders::Holders;
 use crate::pruned::Need;
@@ -15,11 +13,9 @@ use std::alloc::{AllocError, Global};
 
 /// Adds an entry with this value at its places.
 fn add(holders: &mut [Holders], places: &[usize], value: u8)
-    ghost turn: { Turn }
-    requires entry { IsEntryOf turn places.now value }
-    requires few { length (without_entry turn) < 2 ^ 64 - 1 }
-    requires holders { IsTallied turn.places (without_entry turn) holders.old }
-    ensures { IsTallied turn.places (with_entry turn) holders.new }
+    requires { (turn : Turn) × IsAwaited turn holders.old places.now value }
+    ensures { (turn : Turn) → IsAwaited turn holders.old places.now value
+        → IsTallied turn.places (with_entry turn) holders.new }
 {
     'places: for place in places {
         holders[*place].add(value);
@@ -28,10 +24,9 @@ fn add(holders: &mut [Holders], places: &[usize], value: u8)
 
 /// Takes an entry with this value off its places.
 fn take_off(holders: &mut [Holders], places: &[usize], value: u8)
-    ghost turn: { Turn }
-    requires entry { IsEntryOf turn places.now value }
-    requires holders { IsTallied turn.places (with_entry turn) holders.old }
-    ensures { IsTallied turn.places (without_entry turn) holders.new }
+    requires { (turn : Turn) × IsHeld turn holders.old places.now value }
+    ensures { (turn : Turn) → IsHeld turn holders.old places.now value
+        → IsTallied turn.places (without_entry turn) holders.new }
 {
     'places: for place in places {
         holders[*place].take_off(value);
@@ -40,11 +35,10 @@ fn take_off(holders: &mut [Holders], places: &[usize], value: u8)
 
 /// The first of the places of an entry that needs it, as it would not stay odd, or even, without it; none where the entry can go.
 fn first_need(holders: &[Holders], places: &[usize], value: u8) -> Option<usize>
-    ghost turn: { Turn }
-    requires entry { IsEntryOf turn places.now value }
-    requires holders { IsTallied turn.places (with_entry turn) holders.now }
-    ensures { let found = first_difference turn.places (with_entry turn) (without_entry turn) in
-        MatchOption result (found ≡ None) (IsFound turn.places found) }
+    requires { (turn : Turn) × IsHeld turn holders.now places.now value }
+    ensures { (turn : Turn) → IsHeld turn holders.now places.now value
+        → (let found = first_difference turn.places (with_entry turn) (without_entry turn) in
+        MatchOption result (found ≡ None) (IsFound turn.places found)) }
 {
     'places: for place in places {
         if !holders[*place].stays_alike(value) {
@@ -61,10 +55,9 @@ pub(crate) fn all_holders(
     standing: &[Vec<usize>],
     count: usize,
 ) -> Result<Vec<Holders>, AllocError>
-    ghost places: { List Place }
-    requires standing { map (λ l. l.items) standing.now ≡ all_standing places patterns.now }
-    requires count { count ≡ length places }
-    ensures { IfOk result (λ holders. IsTallied places patterns.now holders.items) }
+    requires { (places : List Place) × IsGround places patterns.now (map (λ l. l.items) standing.now) count }
+    ensures { (places : List Place) → IsGround places patterns.now (map (λ l. l.items) standing.now) count
+        → IfOk result (λ holders. IsTallied places patterns.now holders.items) }
 {
     let mut holders = Vec::new(alloc);
     'places: for _ in 0..count {
@@ -79,9 +72,11 @@ pub(crate) fn all_holders(
 
 /// Takes an entry with this value off its places, where none of them needs it. The answer is whether one does.
 fn keep_or_take_off(holders: &mut [Holders], places: &[usize], value: u8) -> bool
-    ghost turn: { Turn }
-    requires entry { IsEntryOf turn places.now value }
-    requires holders { IsTallied turn.places (with_entry turn) holders.old }
+    requires { (turn : Turn) × IsHeld turn holders.old places.now value }
+    ensures answer { (turn : Turn) → IsHeld turn holders.old places.now value
+        → result ≡ not (break_alike turn.places (with_entry turn) (without_entry turn)) }
+    ensures holders { (turn : Turn) → IsHeld turn holders.old places.now value
+        → IsTallied turn.places (if result then with_entry turn else without_entry turn) holders.new }
 {
     let is_needed = first_need(holders, places, value).is_some();
     if !is_needed {
@@ -98,10 +93,11 @@ pub(crate) fn round(
     holders: &mut [Holders],
     kept: &[usize],
 ) -> Result<Vec<usize>, AllocError>
-    ghost places: { List Place }
-    requires standing { map (λ l. l.items) standing.now ≡ all_standing places patterns.now }
-    requires holders { IsTallied places (picked patterns.now kept.now) holders.old }
-    requires kept { All (λ i. i < length patterns.now) kept.now }
+    requires { (places : List Place)
+        × RoundStart places patterns.now (map (λ l. l.items) standing.now) holders.old kept.now }
+    ensures { (places : List Place)
+        → RoundStart places patterns.now (map (λ l. l.items) standing.now) holders.old kept.now
+        → IfOk result (λ stay. RoundDone places patterns.now (map (λ l. l.items) standing.now) holders.new kept.now stay.items) }
 {
     let mut stay = Vec::new(alloc);
     'entries: for i in kept {
@@ -122,12 +118,11 @@ pub(crate) fn needs(
     holders: &[Holders],
     kept: &[usize],
 ) -> Result<Vec<Need>, AllocError>
-    ghost all_places: { List Place }
-    requires standing { map (λ l. l.items) standing.now ≡ all_standing all_places patterns.now }
-    requires places { places.now ≡ map need_at all_places }
-    requires holders { IsTallied all_places (picked patterns.now kept.now) holders.now }
-    requires kept { All (λ i. i < length patterns.now) kept.now }
-    ensures { IfOk result (λ needs. needs.items ≡ needs_of all_places (picked patterns.now kept.now)) }
+    requires { (all : List Place) × (places.now ≡ map need_at all)
+        × RoundStart all patterns.now (map (λ l. l.items) standing.now) holders.now kept.now }
+    ensures { (all : List Place) → (places.now ≡ map need_at all)
+        → RoundStart all patterns.now (map (λ l. l.items) standing.now) holders.now kept.now
+        → IfOk result (λ needs. needs.items ≡ needs_of all (picked patterns.now kept.now)) }
 {
     let mut needs = Vec::new(alloc);
     'entries: for i in kept {
