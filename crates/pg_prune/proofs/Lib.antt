@@ -6,3 +6,5 @@ pub mod Tallies
 pub mod Walks
 pub mod TurnLaws
 pub mod TurnSteps
+pub mod Found
+pub mod RoundSteps

@@ -13,10 +13,10 @@ use Rattle.pg_prune.specs.Turns.{Turn, with_entry, without_entry, IsOf, IsHeld, 
 use Rattle.pg_prune.proofs.Walks.{Walked, Step, walk_begins, walk_steps, walk_ends}
 use Rattle.pg_prune.proofs.TurnLaws.{away_same, away_alike, there_alike, there_less, there_more, there_some, held_low, value_high, Looked, LookStep, look_begins, look_steps, look_ends}
 
-left_at : (numbers : List ℕ) (i : ℕ) → i < length numbers → drop i numbers ≡ get_or numbers i 0 ∷ drop (i + 1) numbers
+pub left_at : (numbers : List ℕ) (i : ℕ) → i < length numbers → drop i numbers ≡ get_or numbers i 0 ∷ drop (i + 1) numbers
 left_at numbers i inside = drop-cons numbers i 0 inside ∙ (let at : suc i ≡ i + 1 = omega arith in ap (λ j. get_or numbers i 0 ∷ drop j numbers) at)
 
-none_left : (numbers : List ℕ) (i : ℕ) → length numbers ≤ i → drop i numbers ≡ []
+pub none_left : (numbers : List ℕ) (i : ℕ) → length numbers ≤ i → drop i numbers ≡ []
 none_left numbers i behind = nil_from_length (drop i numbers) (let many = length-drop i numbers in omega (arith, many))
 
 module _ (t : Turn) (numbers : List ℕ) (value : ℕ) (start : List (List ℕ)) where
