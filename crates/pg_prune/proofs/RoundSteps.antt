@@ -2,7 +2,8 @@
 use Rattle.std.proofs.Common.{◌≡◌, ℕ, zero, suc, ◌+◌, ◌<◌, ◌≤◌, Bool, true, false, not, cond, List, [], ◌∷◌, ◌++◌, map, length, get_or, drop, refl, sym, subst, ap, ◌∙◌, arith, append_assoc, Some}
 use Rattle.std.specs.Prelude.{slice_get, nat_eq}
 use Rattle.std.specs.List.{All, list_all}
-use Rattle.std.proofs.lemmas.List.{append-nil, map-append}
+use Rattle.std.proofs.lemmas.List.{append-nil, map-append, length-map, get_or-map}
+use Rattle.std.proofs.lemmas.Option.{get_or_from_slice_get}
 use Rattle.std.proofs.lemmas.List.Elements.{All-nil, All-cons, All-head, All-tail, All-push}
 use Rattle.std.proofs.lemmas.List.Folds.{list_all-append}
 use Rattle.std.proofs.lemmas.Bool.{and_from, eq-eqb, eqb-true}
@@ -16,6 +17,7 @@ use Rattle.pg_prune.specs.Turns.{Turn, with_entry, without_entry, IsOf, IsHeld, 
 use Rattle.pg_prune.specs.Picks.{picked, RoundStart, RoundDone}
 use Rattle.pg_prune.proofs.RoundLaws.{by_test, regrouped}
 use Rattle.pg_prune.proofs.NeedLaws.{alike_over}
+use Rattle.pg_prune.proofs.TurnSteps.{left_at}
 
 -- the entry with a number
 abbrev pub entry_of : Patterns → ℕ → (List ℕ × ℕ) × ℕ
@@ -126,3 +128,18 @@ module _ (places : List Place) (P : Patterns) (stands : List (List ℕ)) (kept :
     };
     done = r.so_far
   }
+
+module _ {V : Type 0} (items : V → List ℕ) (places : List Place) (P : Patterns) (vs : List V) (kept : List ℕ) where
+  pub rounding_at : (holders : List (List ℕ)) (stay : List ℕ) (i : ℕ) → i < length kept → Rounding places P kept holders stay (drop i kept) → Rounding places P kept holders stay (get_or kept i 0 ∷ drop (i + 1) kept)
+  rounding_at holders stay i inside r = subst (λ left. Rounding places P kept holders stay left) (left_at kept i inside) r
+
+  -- the turn of the entry whose number is the i-th
+  pub turn_at : (start holders : List (List ℕ)) (stay : List ℕ) (i : ℕ) (v : V) (numbers : List ℕ) (x : (List ℕ × ℕ) × ℕ) → RoundStart places P (map items vs) start kept → Rounding places P kept holders stay (drop i kept) → i < length kept
+      → v ≡ get_or vs (get_or kept i 0) v → numbers ≡ items v → slice_get P (get_or kept i 0) ≡ Some x → IsHeld (turn_of places P stay (get_or kept i 0) (drop (i + 1) kept)) holders numbers x.1
+  turn_at start holders stay i v numbers x s r inside is own entry =
+      let k = get_or kept i 0 in
+      let at = rounding_at holders stay i inside r in
+      let within : k < length P = All-head (λ i. i < length P) k (drop (i + 1) kept) at.rest in
+      let many : length vs ≡ length P = sym (length-map vs items) ∙ ap length s.all ∙ length-map P (standing places) in
+      let stands : numbers ≡ get_or (map items vs) k [] = own ∙ ap items is ∙ sym (get_or-map items vs k v [] (omega arith)) in
+      rounding_turn places P (map items vs) kept start holders stay k (drop (i + 1) kept) numbers x.1 s at stands (ap (λ (e : (List ℕ × ℕ) × ℕ). e.1) (sym (get_or_from_slice_get P k x (([], 0), 0) entry)))
