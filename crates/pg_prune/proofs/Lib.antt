@@ -8,3 +8,4 @@ pub mod TurnLaws
 pub mod TurnSteps
 pub mod Found
 pub mod RoundSteps
+pub mod NeedSteps

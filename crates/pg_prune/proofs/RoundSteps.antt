@@ -49,6 +49,23 @@ alike_back (x ∷ xs) P Q alike = and_from _ _ (eq-eqb _ _ (sym (eqb-true _ _ (a
 abbrev pub turn_of : List Place → Patterns → List ℕ → ℕ → List ℕ → Turn
 turn_of places P stay k left = record { places = places; before = picked P stay; entry = entry_of P k; behind = picked P left }
 
+-- what an entry's turn has: its places, its value, and the holders of the map
+module _ {V : Type 0} (items : V → List ℕ) (places : List Place) (P : Patterns) (vs : List V) where
+  pub turn_from : (holders : List (List ℕ)) (stay : List ℕ) (k : ℕ) (left : List ℕ) (v : V) (numbers : List ℕ) (x : (List ℕ × ℕ) × ℕ) → map items vs ≡ all_standing places P → list_all is_entry P ≡ true
+      → All (λ i. i < length P) stay → All (λ i. i < length P) (k ∷ left) → IsTallied places (picked P stay ++ picked P (k ∷ left)) holders
+      → v ≡ get_or vs k v → numbers ≡ items v → slice_get P k ≡ Some x → IsHeld (turn_of places P stay k left) holders numbers x.1
+  turn_from holders stay k left v numbers x stands sound within rest tallied is own entry =
+      let inside : k < length P = All-head (λ i. i < length P) k left rest in
+      let many : length vs ≡ length P = sym (length-map vs items) ∙ ap length stands ∙ length-map P (standing places) in
+      record {
+        entry = record {
+          stands = own ∙ ap items is ∙ sym (get_or-map items vs k v [] (omega arith)) ∙ ap (λ t. get_or t k []) stands ∙ standing_at places P k inside;
+          gives = ap (λ (e : (List ℕ × ℕ) × ℕ). e.1) (sym (get_or_from_slice_get P k x (([], 0), 0) entry));
+          sound = list_all-append is_entry (picked P stay) (picked P (k ∷ left)) ∙ and_from _ _ (picked_sound P stay sound within) (picked_sound P (k ∷ left) sound rest)
+        };
+        tallied = tallied
+      }
+
 -- a round in its middle
 pub record Rounding (places : List Place) (P : Patterns) (kept : List ℕ) (holders : List (List ℕ)) (stay left : List ℕ) : Type 0 where
   pub within : All (λ i. i < length P) stay
@@ -79,17 +96,6 @@ module _ (places : List Place) (P : Patterns) (stands : List (List ℕ)) (kept :
   pub rounding_begins : (holders : List (List ℕ)) → RoundStart places P stands holders kept → Rounding places P kept holders [] kept
   unfolding round
   rounding_begins holders s = record { within = All-nil (λ i. i < length P); rest = s.within; tallied = s.tallied; alike = s.alike; so_far = refl }
-
-  pub rounding_turn : (start holders : List (List ℕ)) (stay : List ℕ) (k : ℕ) (left : List ℕ) (numbers : List ℕ) (value : ℕ) → RoundStart places P stands start kept → Rounding places P kept holders stay (k ∷ left)
-      → numbers ≡ get_or stands k [] → value ≡ (entry_of P k).1 → IsHeld (turn_of places P stay k left) holders numbers value
-  rounding_turn start holders stay k left numbers value s r at gives = record {
-    entry = record {
-      stands = at ∙ ap (λ t. get_or t k []) s.all ∙ standing_at places P k (All-head (λ i. i < length P) k left r.rest);
-      gives = gives;
-      sound = list_all-append is_entry (picked P stay) (picked P (k ∷ left)) ∙ and_from _ _ (picked_sound P stay s.sound r.within) (picked_sound P (k ∷ left) s.sound r.rest)
-    };
-    tallied = r.tallied
-  }
 
   pub rounding_goes : (holders new : List (List ℕ)) (stay : List ℕ) (k : ℕ) (left : List ℕ) → Rounding places P kept holders stay (k ∷ left)
       → false ≡ not (break_alike places (with_entry (turn_of places P stay k left)) (without_entry (turn_of places P stay k left))) → IsTallied places (without_entry (turn_of places P stay k left)) new → Rounding places P kept new stay left
@@ -137,9 +143,5 @@ module _ {V : Type 0} (items : V → List ℕ) (places : List Place) (P : Patter
   pub turn_at : (start holders : List (List ℕ)) (stay : List ℕ) (i : ℕ) (v : V) (numbers : List ℕ) (x : (List ℕ × ℕ) × ℕ) → RoundStart places P (map items vs) start kept → Rounding places P kept holders stay (drop i kept) → i < length kept
       → v ≡ get_or vs (get_or kept i 0) v → numbers ≡ items v → slice_get P (get_or kept i 0) ≡ Some x → IsHeld (turn_of places P stay (get_or kept i 0) (drop (i + 1) kept)) holders numbers x.1
   turn_at start holders stay i v numbers x s r inside is own entry =
-      let k = get_or kept i 0 in
       let at = rounding_at holders stay i inside r in
-      let within : k < length P = All-head (λ i. i < length P) k (drop (i + 1) kept) at.rest in
-      let many : length vs ≡ length P = sym (length-map vs items) ∙ ap length s.all ∙ length-map P (standing places) in
-      let stands : numbers ≡ get_or (map items vs) k [] = own ∙ ap items is ∙ sym (get_or-map items vs k v [] (omega arith)) in
-      rounding_turn places P (map items vs) kept start holders stay k (drop (i + 1) kept) numbers x.1 s at stands (ap (λ (e : (List ℕ × ℕ) × ℕ). e.1) (sym (get_or_from_slice_get P k x (([], 0), 0) entry)))
+      turn_from items places P vs holders stay (get_or kept i 0) (drop (i + 1) kept) v numbers x s.all s.sound at.within at.rest at.tallied is own entry
