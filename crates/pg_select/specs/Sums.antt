@@ -40,7 +40,11 @@ weight_of test marks = sum_by (λ m. if test m.0 then m.1 else 0) marks
 
 -- the totals of marks: good over the found, bad over the errors, missed over the missed
 abbrev pub totals_of : List (Mark × ℕ) → Totals
-totals_of marks = record { good = weight_of is_found marks; bad = weight_of is_error marks; missed = weight_of is_missed marks }
+totals_of marks = record {
+  good = weight_of is_found marks;
+  bad = weight_of is_error marks;
+  missed = weight_of is_missed marks;
+}
 
 -- the totals of all words
 abbrev pub totals : Minima → List Word → Patterns → Totals
@@ -59,7 +63,11 @@ with_mark t other weight = t
 
 -- totals with more positions
 abbrev pub with_marks : Totals → List (Mark × ℕ) → Totals
-with_marks t marks = record { good = t.good + weight_of is_found marks; bad = t.bad + weight_of is_error marks; missed = t.missed + weight_of is_missed marks }
+with_marks t marks = record {
+  good = t.good + weight_of is_found marks;
+  bad = t.bad + weight_of is_error marks;
+  missed = t.missed + weight_of is_missed marks;
+}
 
 -- totals have become new ones by at most so many positions
 abbrev pub TookRoomFor : Totals → Totals → ℕ → Type 0
