@@ -201,7 +201,7 @@ module _ (source : Source) (params : LevelParams) (known : Known) (pass : Pass) 
           };
         }
 
-    pub words_after : (f : WordLevel) → IsAfterWords params pass counts source.words n e f → IsWordsAt source pass.level (known_after made) f
+    pub words_after : (f : WordLevel) → IsAfterWords (is_odd pass.level) n kept e f → IsWordsAt source pass.level (known_after made) f
     words_after f on = record {
       least = is.least;
       words = is.words;

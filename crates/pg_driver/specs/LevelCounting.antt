@@ -77,7 +77,8 @@ pub record CanMove (odd : Bool) (totals : Totals) (n : Choices) (stays : Kept) :
 
 abbrev pub CanGoOn : LevelParams → Pass → Counts → List Word → Choices → Counting → Type 0
 CanGoOn params pass counts words n (Open o) = CanCarry (is_odd pass.level) o.totals n.good n.bad
-CanGoOn params pass counts words n (EachWord e) = CanMove (is_odd pass.level) e.totals n (kept_by params pass counts words e.above.items)
+CanGoOn params pass counts words n (EachWord e) =
+    CanMove (is_odd pass.level) e.totals n (kept_by params pass counts words e.above.items)
 
 -- what the choices of a pass make of open positions: the dots are closed, and the totals are carried on
 pub record IsAfterPass (params : LevelParams) (pass : Pass) (counts : Counts) (words : List Word) (n : Choices) (old new : OpenLevel) : Type 0 where
@@ -85,14 +86,14 @@ pub record IsAfterPass (params : LevelParams) (pass : Pass) (counts : Counts) (w
   pub totals : Carries (is_odd pass.level) old.totals new.totals n.good n.bad
 
 -- what they make of a level of which each word is hyphenated: the totals are carried on, but the listed positions stay
-pub record IsAfterWords (params : LevelParams) (pass : Pass) (counts : Counts) (words : List Word) (n : Choices) (old new : WordLevel) : Type 0 where
+pub record IsAfterWords (odd : Bool) (n : Choices) (stays : Kept) (old new : WordLevel) : Type 0 where
   pub above : new.above.items ≡ old.above.items
   pub counted : new.is_counted ≡ old.is_counted
-  pub totals : Carries (is_odd pass.level) old.totals new.totals
-      (n.good - (kept_by params pass counts words old.above.items).good) (n.bad - (kept_by params pass counts words old.above.items).bad)
+  pub totals : Carries odd old.totals new.totals (n.good - stays.good) (n.bad - stays.bad)
 
 abbrev pub GoesOnAfter : LevelParams → Pass → Counts → List Word → Choices → Counting → Counting → Type 0
 GoesOnAfter params pass counts words n (Open o) (Open p) = IsAfterPass params pass counts words n o p
 GoesOnAfter params pass counts words n (Open o) (EachWord e) = ⊥
 GoesOnAfter params pass counts words n (EachWord e) (Open p) = ⊥
-GoesOnAfter params pass counts words n (EachWord e) (EachWord f) = IsAfterWords params pass counts words n e f
+GoesOnAfter params pass counts words n (EachWord e) (EachWord f) =
+    IsAfterWords (is_odd pass.level) n (kept_by params pass counts words e.above.items) e f

@@ -26,8 +26,8 @@ use Rattle.pg_driver.specs.Traces.{Known, Source, is_chosen}
 abbrev pub listing : Bool → ℕ → Patterns → Word → ℕ → Option Bool
 listing listed level P w p = if listed then counts_above level P w p else None
 
--- a level of which each word is hyphenated in each pass, where so much is known: once a pass was counted, the positions above the
--- level are listed, and the totals are those by the patterns
+-- a level of which each word is hyphenated in each pass, where so much is known: once a pass was counted, the positions
+-- above the level are listed, and the totals are those by the patterns
 pub record IsWordsAt (source : Source) (level : ℕ) (known : Known) (e : WordLevel) : Type 0 where
   pub least : 1 ≤ source.minima.left
   pub words : All IsWord source.words
@@ -37,7 +37,8 @@ pub record IsWordsAt (source : Source) (level : ℕ) (known : Known) (e : WordLe
 
 -- a window was chosen in a pass that has these sums
 abbrev pub was_chosen : LevelParams → Counts → List ℕ → Bool
-was_chosen params counts u = option_map_or (λ sums. is_chosen (choice params sums.0 sums.1)) (find (slice_cmp nat_cmp) u counts) false
+was_chosen params counts u =
+    option_map_or (λ sums. is_chosen (choice params sums.0 sums.1)) (find (slice_cmp nat_cmp) u counts) false
 
 -- the weight of a good position, and of a bad one, whose window was chosen
 abbrev pub good_kept : LevelParams → Counts → CountedPosition → ℕ
@@ -48,7 +49,8 @@ bad_kept params counts s = if not s.good && was_chosen params counts s.window th
 
 -- a listed position with its window of a pass, where that fits
 abbrev pub window_of : Pass → List Word → OpenPosition → List CountedPosition
-window_of pass words e = option_map_or (λ w. counted_in pass.level pass.len pass.dot w e.at false) (slice_get words e.word) []
+window_of pass words e =
+    option_map_or (λ w. counted_in pass.level pass.len pass.dot w e.at false) (slice_get words e.word) []
 
 -- the weights of listed positions whose windows were chosen: of the good ones, and of the bad ones
 abbrev pub kept_by : LevelParams → Pass → Counts → List Word → List OpenPosition → Kept

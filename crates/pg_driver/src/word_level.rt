@@ -55,7 +55,8 @@ impl WordLevel {
         requires pass { (E.meaning engine.old).pass ≡ pass }
         requires fresh { (E.meaning engine.old).counts ≡ [] }
         requires signs { SignsAtMost (E.meaning engine.old).signs dictionary.now }
-        requires ready { IsWordsAt (over table.now dictionary.now) pass.level (known_of (E.meaning engine.old)) self.old }
+        requires ready { IsWordsAt (over table.now dictionary.now) pass.level (known_of (E.meaning engine.old))
+            self.old }
         ensures ok { OnOk result (E.meaning engine.new
             ≡ counting (E.meaning engine.old)
             (counted_positions (minima_of table.now) dictionary.now pass (E.meaning engine.old).patterns

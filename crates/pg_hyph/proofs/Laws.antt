@@ -11,6 +11,7 @@ use Rattle.pg_trie.specs.Lists.{outputs_at}
 use Rattle.pg_trie.specs.Maps.{Maps, AreKept, is_dotted}
 use Rattle.pg_select.specs.declared.pass.Pass.{Pass}
 use Rattle.pg_select.specs.Positions.{bit, Raises}
+use Rattle.pg_select.proofs.Bits.{same_bits}
 use Rattle.pg_hyph.specs.ListValues.{value_given, value_by, cover_by}
 use Rattle.pg_hyph.specs.Walks.{by_starts}
 use Rattle.pg_hyph.proofs.Members.{In, all_in, in_any, any_in, in_found, found_in, in_best, best_within}
@@ -147,12 +148,6 @@ module _ (m : Maps) (kept : AreKept m) where
 
 from_zero : (x y n : ℕ) → x ≡ 0 → y ≡ max x n → y ≡ n
 from_zero x y n p q = omega arith
-
-same_bits : (a b : Bool) → bit a ≡ bit b → a ≡ b
-same_bits true true e = refl
-same_bits true false e = absurd (omega arith)
-same_bits false true e = absurd (omega arith)
-same_bits false false e = refl
 
 module _ (m : Maps) (kept : AreKept m) (w : List ℕ) (long : length w ≤ WORD_LETTERS_MAX + 2) where
   -- the values of a word, raised from 0 by the lists

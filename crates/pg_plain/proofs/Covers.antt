@@ -10,6 +10,7 @@ use Rattle.pg_select.specs.Windows.{Hopeless, window, fits, covered}
 use Rattle.pg_plain.specs.Strings.{is_string}
 use Rattle.pg_select.specs.Positions.{bit}
 use Rattle.pg_select.specs.Windows.{is_within}
+use Rattle.pg_select.proofs.Bits.{same_bits}
 use Rattle.pg_plain.specs.Greatest.{greatest}
 use Rattle.pg_types.proofs.BoolFacts.{and_first, and_second, all_weaker}
 use Rattle.std.specs.Cmp.{both_ways}
@@ -100,12 +101,6 @@ joined_bits true true x y z p q r = omega arith
 joined_bits true false x y z p q r = omega arith
 joined_bits false true x y z p q r = omega arith
 joined_bits false false x y z p q r = omega arith
-
-same_bits : (a b : Bool) → bit a ≡ bit b → a ≡ b
-same_bits true true e = refl
-same_bits true false e = absurd (omega arith)
-same_bits false true e = absurd (omega arith)
-same_bits false false e = refl
 
 best_greatest : (t : List ℕ × ℕ → Bool) (P : List ((List ℕ × ℕ) × ℕ)) → greatest (λ e. e.1) t P ≡ best t P
 best_greatest t [] = refl

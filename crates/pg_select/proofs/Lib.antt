@@ -12,3 +12,4 @@ pub mod LawsClosedDots
 pub mod LawsTotals
 pub mod Reaches
 pub mod MarkSteps
+pub mod Bits

@@ -1,6 +1,6 @@
 -- Totals with a position more.
-use Rattle.std.proofs.Common.{◌≡◌, ℕ, ◌+◌, ◌-◌, ◌≤◌, ◌<◌, Bool, cond, List, [], ◌∷◌, ◌++◌, length, map, sym, ap, ◌∙◌, arith}
-use Rattle.std.specs.List.{flat_map, range_with_len}
+use Rattle.std.proofs.Common.{◌≡◌, ℕ, ◌+◌, ◌-◌, ◌≤◌, ◌<◌, Bool, true, false, cond, List, [], ◌∷◌, ◌++◌, length, map, sym, ap, ◌∙◌, arith}
+use Rattle.std.specs.List.{flat_map, range_with_len, slice_index_or}
 use Rattle.std.proofs.lemmas.List.Sums.{sum_by-cons, sum_by-append}
 use Rattle.std.proofs.lemmas.List.Elements.{All-get_or}
 use Rattle.pg_types.specs.declared.limits.TheConstants.{WEIGHT_MAX}
@@ -8,7 +8,8 @@ use Rattle.pg_types.specs.declared.marks.Mark.{Mark}
 use Rattle.pg_types.specs.declared.marks.Mark.TheVariants.{Nothing, Error, Missed, Found, DontCare}
 use Rattle.pg_types.specs.declared.marks.Totals.{Totals}
 use Rattle.pg_dict.specs.Word.{Word, IsWord}
-use Rattle.pg_select.specs.Statuses.{status_at, position_weight}
+use Rattle.pg_patterns.specs.Values.{value_at}
+use Rattle.pg_select.specs.Statuses.{status, status_at, position_weight}
 use Rattle.pg_select.specs.Sums.{is_found, is_error, is_missed, weight_of, totals_of, marks_in, with_mark, with_marks, sum_of}
 use Rattle.pg_select.specs.CountedPositions.{Minima}
 use Rattle.pg_select.proofs.Reaches.{range_step}
@@ -58,16 +59,25 @@ marks_zero ms = same_totals _ _ _ _ _ _ (omega arith) (omega arith) (omega arith
 pub weight_small : (w : Word) (p : ℕ) → IsWord w → p < length w.signs → position_weight w p ≤ WEIGHT_MAX
 weight_small w p word within = All-get_or (λ x. x ≤ WEIGHT_MAX) w.weights p 0 (omega (arith, word.weights_len)) word.weights
 
--- the marks of the positions from one on
+-- the marks of the positions from one on, by their values, and by the patterns
+abbrev mark_by : (ℕ → ℕ) → Word → ℕ → Mark
+mark_by value w p = status (slice_index_or w.hyphens p false) (slice_index_or w.cares p true) (value p)
+
+abbrev pub marks_from_by : (ℕ → ℕ) → Word → ℕ → ℕ → List (Mark × ℕ)
+marks_from_by value w p end = map (λ p. (mark_by value w p, position_weight w p)) (range_with_len p (end - p))
+
 abbrev pub marks_from : List ((List ℕ × ℕ) × ℕ) → Word → ℕ → ℕ → List (Mark × ℕ)
-marks_from P w p end = map (λ p. (status_at P w p, position_weight w p)) (range_with_len p (end - p))
+marks_from P w p end = marks_from_by (value_at P w.signs) w p end
 
 -- a position that was added, and then the rest
+pub marks_step_by : (t n whole : Totals) (value : ℕ → ℕ) (w : Word) (p end : ℕ) → p < end → n ≡ with_mark t (mark_by value w p) (position_weight w p) → with_marks t (marks_from_by value w p end) ≡ whole → with_marks n (marks_from_by value w (p + 1) end) ≡ whole
+marks_step_by t n whole value w p end before is left =
+    let mark : ℕ → Mark × ℕ = λ p. (mark_by value w p, position_weight w p) in
+    let rest : List (Mark × ℕ) = marks_from_by value w (p + 1) end in
+    ap (λ (x : Totals). with_marks x rest) is ∙ sym (mark_step t (mark_by value w p) (position_weight w p) rest) ∙ ap (λ ps. with_marks t (map mark ps)) (sym (range_step p end before)) ∙ left
+
 pub marks_step : (t n whole : Totals) (P : List ((List ℕ × ℕ) × ℕ)) (w : Word) (p end : ℕ) → p < end → n ≡ with_mark t (status_at P w p) (position_weight w p) → with_marks t (marks_from P w p end) ≡ whole → with_marks n (marks_from P w (p + 1) end) ≡ whole
-marks_step t n whole P w p end before is left =
-    let mark : ℕ → Mark × ℕ = λ p. (status_at P w p, position_weight w p) in
-    let rest : List (Mark × ℕ) = marks_from P w (p + 1) end in
-    ap (λ (x : Totals). with_marks x rest) is ∙ sym (mark_step t (status_at P w p) (position_weight w p) rest) ∙ ap (λ ps. with_marks t (map mark ps)) (sym (range_step p end before)) ∙ left
+marks_step t n whole P w p end before is left = marks_step_by t n whole (value_at P w.signs) w p end before is left
 
 -- a word that was added, and then the rest
 pub marks_word : (t n whole : Totals) (m : Minima) (P : List ((List ℕ × ℕ) × ℕ)) (w : Word) (ws : List Word) → n ≡ with_marks t (marks_in m P w) → with_marks t (flat_map (marks_in m P) (w ∷ ws)) ≡ whole → with_marks n (flat_map (marks_in m P) ws) ≡ whole

@@ -45,11 +45,14 @@ counted_at pass P H w p =
 
 -- what a pass counts at a position
 abbrev pub counted_positions_at : Pass → Patterns → Hopeless → Word → ℕ → List CountedPosition
-counted_positions_at pass P H w p = option_map_or (λ good. record { window = window w.signs p pass.len pass.dot; good = good; weight = position_weight w p } ∷ []) (counted_at pass P H w p) []
+counted_positions_at pass P H w p = option_map_or
+    (λ good. record { window = window w.signs p pass.len pass.dot; good = good; weight = position_weight w p } ∷ [])
+    (counted_at pass P H w p) []
 
 -- what a pass counts in a word: at each position in reach
 abbrev pub counted_positions_in : Minima → Pass → Patterns → Hopeless → Word → List CountedPosition
-counted_positions_in m pass P H w = flat_map (counted_positions_at pass P H w) (positions m.left m.right (length w.signs))
+counted_positions_in m pass P H w = flat_map (counted_positions_at pass P H w)
+    (positions m.left m.right (length w.signs))
 
 -- what a pass counts in all words
 abbrev pub counted_positions : Minima → List Word → Pass → Patterns → Hopeless → List CountedPosition

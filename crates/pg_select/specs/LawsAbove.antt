@@ -31,25 +31,30 @@ above_positions m words pass P = flat_map (above_in m pass P) words
 
 -- the weights of the good ones, and of the bad ones, among them whose windows a pass raised
 abbrev pub good_above : (Candidate → Bool) → List CountedPosition → List CountedPosition → ℕ
-good_above raised counted above = sum_by (λ s. if s.good && is_candidate raised counted s.window then s.weight else 0) above
+good_above raised counted above = sum_by
+    (λ s. if s.good && is_candidate raised counted s.window then s.weight else 0) above
 
 abbrev pub bad_above : (Candidate → Bool) → List CountedPosition → List CountedPosition → ℕ
-bad_above raised counted above = sum_by (λ s. if not s.good && is_candidate raised counted s.window then s.weight else 0) above
+bad_above raised counted above = sum_by
+    (λ s. if not s.good && is_candidate raised counted s.window then s.weight else 0) above
 
 -- the same positions count so after a pass, and as the same
 abbrev pub AboveStay : Type 0
-AboveStay = (m : Minima) (words : List Word) (pass : Pass) (P : Patterns) (H : Hopeless) (raised : Candidate → Bool) (w : Word) (p : ℕ)
+AboveStay = (m : Minima) (words : List Word) (pass : Pass) (P : Patterns) (H : Hopeless)
+    (raised : Candidate → Bool) (w : Word) (p : ℕ)
     → counts_above pass.level (patterns_after_pass m words pass P H raised) w p ≡ counts_above pass.level P w p
 
 -- of sums that are raised a part stays, and the rest moves in the totals
 pub record MovesAllBut (odd : Bool) (old new : Totals) (good bad good_stays bad_stays : ℕ) : Type 0 where
   pub good_within : good_stays ≤ good
   pub bad_within : bad_stays ≤ bad
-  pub totals : MatchBool odd (FindsMore old new (good - good_stays) (bad - bad_stays)) (PreventsMore old new (good - good_stays) (bad - bad_stays))
+  pub totals : MatchBool odd (FindsMore old new (good - good_stays) (bad - bad_stays))
+      (PreventsMore old new (good - good_stays) (bad - bad_stays))
 
 -- a pass moves in the totals what it raised, but the positions whose value is above the level
 abbrev pub TotalsAfterAbove : Type 0
-TotalsAfterAbove = (m : Minima) (words : List Word) (pass : Pass) (P : Patterns) (H : Hopeless) (raised : Candidate → Bool)
+TotalsAfterAbove = (m : Minima) (words : List Word) (pass : Pass) (P : Patterns) (H : Hopeless)
+    (raised : Candidate → Bool)
     → MovesAllBut (is_odd pass.level) (totals m words P) (totals m words (patterns_after_pass m words pass P H raised))
     (good_raised raised (counted_positions m words pass P H)) (bad_raised raised (counted_positions m words pass P H))
     (good_above raised (counted_positions m words pass P H) (above_positions m words pass P))

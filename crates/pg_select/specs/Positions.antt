@@ -16,7 +16,8 @@ HasValues P w values = (p : ℕ) → p < length w → get_or values p 0 ≡ valu
 
 -- the covers are right at each position whose window of the pass fits in the word
 abbrev pub HasCovers : Pass → Patterns → Hopeless → List ℕ → List Bool → Type 0
-HasCovers pass P H w covers = (p : ℕ) → p < length w → fits w p pass.len pass.dot ≡ true → get_or covers p false ≡ covered pass.level P H (window w p pass.len pass.dot) pass.dot
+HasCovers pass P H w covers = (p : ℕ) → p < length w → fits w p pass.len pass.dot ≡ true
+    → get_or covers p false ≡ covered pass.level P H (window w p pass.len pass.dot) pass.dot
 
 -- 1 where the test holds, else 0
 abbrev pub bit : Bool → ℕ

@@ -1,5 +1,5 @@
 -- The totals of a word list.
-use Rattle.std.specs.Prelude.{ℕ, ◌+◌, ◌*◌, ◌≤◌, Bool, true, false, if◌then◌else◌, List, length, map, sum_by}
+use Rattle.std.specs.Prelude.{ℕ, ◌+◌, ◌*◌, ◌≤◌, Bool, true, false, if◌then◌else◌, List, length, map, slice_index_or, sum_by}
 use Rattle.std.specs.List.{flat_map}
 use Rattle.pg_types.specs.declared.limits.TheConstants.{WEIGHT_MAX, FILE_MAX}
 use Rattle.pg_types.specs.declared.marks.Mark.{Mark}
@@ -7,13 +7,20 @@ use Rattle.pg_types.specs.declared.marks.Mark.TheVariants.{Error, Missed, Found}
 use Rattle.pg_types.specs.declared.marks.Totals.{Totals}
 use Rattle.pg_dict.specs.Word.{Word}
 use Rattle.pg_translate.specs.Reach.{positions}
-use Rattle.pg_select.specs.Statuses.{status_at, position_weight}
+use Rattle.pg_patterns.specs.Values.{value_at}
+use Rattle.pg_select.specs.Statuses.{status, position_weight}
 use Rattle.pg_select.specs.CountedPositions.{Minima}
 use Rattle.pg_select.specs.Windows.{Patterns}
 
--- the status and the weight of each position in reach of a word
+-- the status and the weight of each position in reach of a word, by the values of its positions
+abbrev pub marks_by : Minima → (ℕ → ℕ) → Word → List (Mark × ℕ)
+marks_by m value w = map
+    (λ p. (status (slice_index_or w.hyphens p false) (slice_index_or w.cares p true) (value p), position_weight w p))
+    (positions m.left m.right (length w.signs))
+
+-- and by the patterns
 abbrev pub marks_in : Minima → Patterns → Word → List (Mark × ℕ)
-marks_in m P w = map (λ p. (status_at P w p, position_weight w p)) (positions m.left m.right (length w.signs))
+marks_in m P w = marks_by m (value_at P w.signs) w
 
 abbrev pub is_found : Mark → Bool
 is_found Found = true
@@ -33,7 +40,11 @@ weight_of test marks = sum_by (λ m. if test m.0 then m.1 else 0) marks
 
 -- the totals of marks: good over the found, bad over the errors, missed over the missed
 abbrev pub totals_of : List (Mark × ℕ) → Totals
-totals_of marks = record { good = weight_of is_found marks; bad = weight_of is_error marks; missed = weight_of is_missed marks }
+totals_of marks = record {
+  good = weight_of is_found marks;
+  bad = weight_of is_error marks;
+  missed = weight_of is_missed marks;
+}
 
 -- the totals of all words
 abbrev pub totals : Minima → List Word → Patterns → Totals
@@ -52,7 +63,11 @@ with_mark t other weight = t
 
 -- totals with more positions
 abbrev pub with_marks : Totals → List (Mark × ℕ) → Totals
-with_marks t marks = record { good = t.good + weight_of is_found marks; bad = t.bad + weight_of is_error marks; missed = t.missed + weight_of is_missed marks }
+with_marks t marks = record {
+  good = t.good + weight_of is_found marks;
+  bad = t.bad + weight_of is_error marks;
+  missed = t.missed + weight_of is_missed marks;
+}
 
 -- totals have become new ones by at most so many positions
 abbrev pub TookRoomFor : Totals → Totals → ℕ → Type 0

@@ -1,15 +1,13 @@
 //! The marks of a word's positions, and the totals with them.
-ghost use Rattle.std.specs.Prelude.{◌≡◌, ◌<◌, ◌≤◌, ◌+◌, ◌-◌, ◌^◌, [], true, false, length, slice_index, slice_index_or, IfSome, IfNone};
+ghost use Rattle.std.specs.Prelude.{ℕ, ◌≡◌, ◌<◌, ◌≤◌, ◌+◌, ◌-◌, ◌^◌, [], true, false, length, slice_index, slice_index_or, IfSome, IfNone};
 ghost use Rattle.std.specs.List.{range_with_len};
 ghost use Rattle.pg_types.specs.declared.limits.TheConstants.{WORD_LETTERS_MAX};
 ghost use Rattle.pg_translate.specs.Reach.{positions as positions_of};
 ghost use Rattle.pg_dict.specs.Word.{IsWord, letter_count};
 ghost use Rattle.pg_dict.specs.Lent.{lent_word};
 ghost use Rattle.pg_select.specs.CountedPositions.{minima_of};
-ghost use Rattle.pg_select.specs.Positions.{HasValues};
 ghost use Rattle.pg_select.specs.Statuses.{status as status_of};
-ghost use Rattle.pg_select.specs.Sums.{marks_in, with_mark, with_marks, sum_of, HasRoomFor, TookRoomFor};
-ghost use Rattle.pg_select.specs.Windows.{Patterns};
+ghost use Rattle.pg_select.specs.Sums.{marks_by, with_mark, with_marks, sum_of, HasRoomFor, TookRoomFor};
 
 use crate::choice::status;
 use crate::word_state::WordState;
@@ -83,8 +81,9 @@ pub fn add_marks(table: &Table, w: &WordRef<'_>, found: &WordState, sums: Totals
     requires word { IsWord (lent_word w.now) }
     requires room { HasRoomFor sums (letter_count (lent_word w.now)) }
     ensures took { TookRoomFor sums result (letter_count (lent_word w.now)) }
-    ensures value { (P : Patterns) → HasValues P w.now.signs.now found.now.values
-        → result ≡ with_marks sums (marks_in (minima_of table.now) P (lent_word w.now)) }
+    ensures value { (value : ℕ → ℕ) → ((p : ℕ) → p < length w.now.signs.now
+        → slice_index found.now.values p ≡ value p)
+        → result ≡ with_marks sums (marks_by (minima_of table.now) value (lent_word w.now)) }
 {
     let Some((first, end)) = positions(table, w) else {
         return sums;

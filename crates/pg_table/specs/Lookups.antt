@@ -9,7 +9,7 @@ use Rattle.pg_dict.specs.Word.{Word}
 use Rattle.pg_outputs.specs.Lists.{list_of}
 use Rattle.pg_select.specs.CountedPositions.{Minima}
 use Rattle.pg_select.specs.Statuses.{status, position_weight}
-use Rattle.pg_select.specs.Sums.{totals_of}
+use Rattle.pg_select.specs.Sums.{marks_by, totals_of}
 use Rattle.pg_table.specs.Forms.{head_of, cell_at, records_of}
 
 -- the family at the base has the sign: the cell of the sign is there, and has it
@@ -54,7 +54,7 @@ table_value b w p = greatest (λ i. greatest (value_from b w p i) (range_with_le
 
 -- the status of each position in reach of a word by the table, and its weight
 abbrev pub table_marks : Minima → List ℕ → Word → List (Mark × ℕ)
-table_marks m b w = map (λ p. (status (slice_index_or w.hyphens p false) (slice_index_or w.cares p true) (table_value b w.signs p), position_weight w p)) (positions m.left m.right (length w.signs))
+table_marks m b w = marks_by m (table_value b w.signs) w
 
 -- the totals of all words by the table
 abbrev pub table_totals : Minima → List Word → List ℕ → Totals

@@ -10,7 +10,7 @@ ghost use Rattle.pg_select.specs.Sums.{sum_of, with_marks, HasRoomFor, TookRoomF
 use crate::view::TableView;
 use pg_dict::{Dictionary, WordRef};
 use pg_select::WordState;
-use pg_select::marks::{add_mark, mark_at, no_totals, positions};
+use pg_select::marks::{add_marks, no_totals};
 use pg_translate::Table;
 use pg_types::Totals;
 
@@ -43,13 +43,6 @@ fn add_word(
     ensures took { TookRoomFor sums result (letter_count (lent_word w.now)) }
     ensures value { result ≡ with_marks sums (table_marks (minima_of table.now) view.now (lent_word w.now)) }
 {
-    let Some((first, end)) = positions(table, w) else {
-        return sums;
-    };
     view.values(*w, found);
-    let mut sums = sums;
-    'positions: for p in first..end {
-        sums = add_mark(sums, mark_at(w, found, p), w.weights[p]);
-    }
-    sums
+    add_marks(table, w, found, sums)
 }

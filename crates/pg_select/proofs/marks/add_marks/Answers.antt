@@ -1,11 +1,11 @@
 use Rattle.std.proofs.Common.{◌≡◌, ◌≤◌, ◌<◌, ◌+◌, ◌-◌, ℕ, true, false, length, slice_index_or, ap, ◌∙◌, arith}
 use Rattle.pg_dict.specs.Lent.{lent_word}
 use Rattle.pg_dict.specs.Word.{letter_count}
-use Rattle.pg_select.specs.Statuses.{status, status_at, position_weight}
+use Rattle.pg_select.specs.Statuses.{status, position_weight}
 use Rattle.pg_select.specs.Sums.{with_mark, sum_of}
 use Rattle.pg_types.specs.declared.marks.Mark.{Mark}
 use Rattle.pg_types.specs.declared.limits.TheConstants.{WEIGHT_MAX}
-use Rattle.pg_select.proofs.MarkSteps.{marks_step, mark_took, weight_small}
+use Rattle.pg_select.proofs.MarkSteps.{marks_step_by, mark_took, weight_small}
 use Rattle.pg_select.proofs.marks.add_marks.Goals as goal
 
 pub positions-preserved : goal.positions-preserved
@@ -19,9 +19,10 @@ positions-preserved c =
     let few : p - c.in-Some.first + 1 ≤ letter_count w = omega (arith, c.positions-test.true, c.in-Some.ensures.few, c.positions.auto) in
     let on : p + 1 - c.in-Some.first ≡ p - c.in-Some.first + 1 = omega (arith, c.positions.auto) in
     record {
-      sums = λ P values.
-          let mark : c.mark_at.result ≡ status_at P w p = c.mark_at.ensures ∙ ap (λ (v : ℕ). status (slice_index_or w.hyphens p false) (slice_index_or w.cares p true) v) (values p within) in
-          marks_step c.positions.sums _ _ P w p c.in-Some.end c.positions-test.true (sums ∙ ap (λ (x : Mark). with_mark c.positions.sums x (position_weight w p)) mark) (c.positions.invariant.sums P values);
+      sums = λ value values.
+          marks_step_by c.positions.sums _ _ value w p c.in-Some.end c.positions-test.true
+          (sums ∙ ap (λ (x : Mark). with_mark c.positions.sums x (position_weight w p)) (c.mark_at.ensures ∙ ap (λ (v : ℕ). status (slice_index_or w.hyphens p false) (slice_index_or w.cares p true) v) (values p within)))
+          (c.positions.invariant.sums value values);
       few = omega arith;
       took_for = omega (arith, c.positions.invariant.took_for);
     }
