@@ -6,3 +6,4 @@ pub mod Standing
 pub mod Holders
 pub mod Turns
 pub mod Picks
+pub mod Ends
