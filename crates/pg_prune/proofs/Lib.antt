@@ -12,3 +12,4 @@ pub mod NeedSteps
 pub mod Picking
 pub mod RoundsSteps
 pub mod HolderSteps
+pub mod PlaceSteps
