@@ -6,3 +6,9 @@ pub mod TrailLists
 pub mod TrailStarts
 pub mod TrailSteps
 pub mod TrailPlaces
+pub mod Tallies
+pub mod Walks
+pub mod TurnLaws
+pub mod TurnSteps
+pub mod Found
+pub mod RoundSteps

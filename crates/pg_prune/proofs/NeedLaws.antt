@@ -29,7 +29,7 @@ none_step x true r o none others = others none
 none_step x false r o none others = absurd (cc)
 
 -- where no place is found, all are alike
-alike_where_none : (P Q : Patterns) (xs : List Place) → first_difference xs P Q ≡ None → break_alike xs P Q ≡ true
+pub alike_where_none : (P Q : Patterns) (xs : List Place) → first_difference xs P Q ≡ None → break_alike xs P Q ≡ true
 alike_where_none P Q [] none = refl
 alike_where_none P Q (x ∷ xs) none = none_step x (break_alike_at P Q x) (break_alike xs P Q) (first_difference xs P Q) none (alike_where_none P Q xs)
 

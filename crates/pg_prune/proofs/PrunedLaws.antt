@@ -32,7 +32,7 @@ sorted_without [] e rest sorted = second_half _ _ sorted
 sorted_without (b ∷ before) e rest sorted =
     both_halves _ _ (below_without b.0 before e rest (first_half _ _ sorted)) (sorted_without before e rest (second_half _ _ sorted))
 
-sound_without : (before : Patterns) (e : (List ℕ × ℕ) × ℕ) (rest : Patterns) → list_all is_entry (before ++ e ∷ rest) ≡ true → list_all is_entry (before ++ rest) ≡ true
+pub sound_without : (before : Patterns) (e : (List ℕ × ℕ) × ℕ) (rest : Patterns) → list_all is_entry (before ++ e ∷ rest) ≡ true → list_all is_entry (before ++ rest) ≡ true
 sound_without [] e rest sound = and_second _ _ sound
 sound_without (b ∷ before) e rest sound = and_from _ _ (and_first _ _ sound) (sound_without before e rest (and_second _ _ sound))
 

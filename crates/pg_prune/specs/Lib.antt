@@ -4,5 +4,6 @@ pub mod Promises
 pub mod Reports
 pub mod Standing
 pub mod Holders
+pub mod Turns
 pub mod Picks
 pub mod Trails

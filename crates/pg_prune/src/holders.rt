@@ -49,11 +49,9 @@ impl Holders {
         ensures { result ≡ top self.now }
     {
         let mut best = 0;
-        let mut value = 0;
-        'counts: for count in &self.counts {
-            value += 1;
-            if 0 < *count {
-                best = value;
+        'counts: for i in 0..9 {
+            if 0 < self.counts[i] {
+                best = i as u8 + 1;
             }
         }
         best

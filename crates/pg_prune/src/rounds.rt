@@ -1,8 +1,52 @@
 //! The rounds.
+ghost use Rattle.std.specs.Prelude.{◌≡◌, ◌<◌, ◌≤◌, not, [], ◌∷◌, List, length, map, if◌then◌else◌, IfOk, None, MatchOption};
+ghost use Rattle.pg_prune.specs.Places.{Place};
+ghost use Rattle.pg_prune.specs.Prunes.{break_alike, first_difference, need_at, needs as needs_of};
+ghost use Rattle.pg_prune.specs.Standing.{all_standing};
+ghost use Rattle.pg_prune.specs.Picks.{picked, IsGround, RoundStart, RoundDone};
+ghost use Rattle.pg_prune.specs.Turns.{Turn, with_entry, without_entry, IsHeld, IsAwaited, IsTallied, IsFound};
+
 use crate::holders::Holders;
 use crate::pruned::Need;
 use pg_patterns::PatternSet;
 use std::alloc::{AllocError, Global};
+
+/// Adds an entry with this value at its places.
+fn add(holders: &mut [Holders], places: &[usize], value: u8)
+    requires { (turn : Turn) × IsAwaited turn holders.old places.now value }
+    ensures { (turn : Turn) → IsAwaited turn holders.old places.now value
+        → IsTallied turn.places (with_entry turn) holders.new }
+{
+    'places: for place in places {
+        holders[*place].add(value);
+    }
+}
+
+/// Takes an entry with this value off its places.
+fn take_off(holders: &mut [Holders], places: &[usize], value: u8)
+    requires { (turn : Turn) × IsHeld turn holders.old places.now value }
+    ensures { (turn : Turn) → IsHeld turn holders.old places.now value
+        → IsTallied turn.places (without_entry turn) holders.new }
+{
+    'places: for place in places {
+        holders[*place].take_off(value);
+    }
+}
+
+/// The first of the places of an entry that needs it, as it would not stay odd, or even, without it; none where the entry can go.
+fn first_need(holders: &[Holders], places: &[usize], value: u8) -> Option<usize>
+    requires { (turn : Turn) × IsHeld turn holders.now places.now value }
+    ensures { (turn : Turn) → IsHeld turn holders.now places.now value
+        → (let found = first_difference turn.places (with_entry turn) (without_entry turn) in
+        MatchOption result (found ≡ None) (IsFound turn.places found)) }
+{
+    'places: for place in places {
+        if !holders[*place].stays_alike(value) {
+            return Some(*place);
+        }
+    }
+    None
+}
 
 /// How many entries give each value to each of `count` places, where all entries stay.
 pub(crate) fn all_holders(
@@ -10,43 +54,35 @@ pub(crate) fn all_holders(
     patterns: &PatternSet,
     standing: &[Vec<usize>],
     count: usize,
-) -> Result<Vec<Holders>, AllocError> {
+) -> Result<Vec<Holders>, AllocError>
+    requires { (places : List Place) × IsGround places patterns.now (map (λ l. l.items) standing.now) count }
+    ensures { (places : List Place) → IsGround places patterns.now (map (λ l. l.items) standing.now) count
+        → IfOk result (λ holders. IsTallied places patterns.now holders.items) }
+{
     let mut holders = Vec::new(alloc);
     'places: for _ in 0..count {
         holders.push(Holders::none())?;
     }
     'entries: for i in 0..patterns.len() {
-        add(
-            holders.as_mut_slice(),
-            standing[i].as_slice(),
-            patterns.entry(i).value,
-        );
+        let value = patterns.entry(i).value;
+        add(holders.as_mut_slice(), standing[i].as_slice(), value);
     }
     Ok(holders)
 }
 
-/// Adds an entry with this value at its places.
-fn add(holders: &mut [Holders], places: &[usize], value: u8) {
-    'places: for place in places {
-        holders[*place].add(value);
+/// Takes an entry with this value off its places, where none of them needs it. The answer is whether one does.
+fn keep_or_take_off(holders: &mut [Holders], places: &[usize], value: u8) -> bool
+    requires { (turn : Turn) × IsHeld turn holders.old places.now value }
+    ensures answer { (turn : Turn) → IsHeld turn holders.old places.now value
+        → result ≡ not (break_alike turn.places (with_entry turn) (without_entry turn)) }
+    ensures holders { (turn : Turn) → IsHeld turn holders.old places.now value
+        → IsTallied turn.places (if result then with_entry turn else without_entry turn) holders.new }
+{
+    let is_needed = first_need(holders, places, value).is_some();
+    if !is_needed {
+        take_off(holders, places, value);
     }
-}
-
-/// Takes an entry with this value off its places.
-fn take_off(holders: &mut [Holders], places: &[usize], value: u8) {
-    'places: for place in places {
-        holders[*place].take_off(value);
-    }
-}
-
-/// The first of the places of an entry that needs it, as it would not stay odd, or even, without it; none where the entry can go.
-fn first_need(holders: &[Holders], places: &[usize], value: u8) -> Option<usize> {
-    'places: for place in places {
-        if !holders[*place].stays_alike(value) {
-            return Some(*place);
-        }
-    }
-    None
+    is_needed
 }
 
 /// A round through the entries with the numbers `kept`: those that stay.
@@ -56,15 +92,18 @@ pub(crate) fn round(
     standing: &[Vec<usize>],
     holders: &mut [Holders],
     kept: &[usize],
-) -> Result<Vec<usize>, AllocError> {
+) -> Result<Vec<usize>, AllocError>
+    requires { (places : List Place)
+        × RoundStart places patterns.now (map (λ l. l.items) standing.now) holders.old kept.now }
+    ensures { (places : List Place)
+        → RoundStart places patterns.now (map (λ l. l.items) standing.now) holders.old kept.now
+        → IfOk result (λ stay. RoundDone places patterns.now (map (λ l. l.items) standing.now) holders.new kept.now stay.items) }
+{
     let mut stay = Vec::new(alloc);
     'entries: for i in kept {
         let value = patterns.entry(*i).value;
-        let places = standing[*i].as_slice();
-        if first_need(holders, places, value).is_some() {
+        if keep_or_take_off(holders, standing[*i].as_slice(), value) {
             stay.push(*i)?;
-        } else {
-            take_off(holders, places, value);
         }
     }
     Ok(stay)
@@ -78,7 +117,13 @@ pub(crate) fn needs(
     places: &[Need],
     holders: &[Holders],
     kept: &[usize],
-) -> Result<Vec<Need>, AllocError> {
+) -> Result<Vec<Need>, AllocError>
+    requires { (all : List Place) × (places.now ≡ map need_at all)
+        × RoundStart all patterns.now (map (λ l. l.items) standing.now) holders.now kept.now }
+    ensures { (all : List Place) → (places.now ≡ map need_at all)
+        → RoundStart all patterns.now (map (λ l. l.items) standing.now) holders.now kept.now
+        → IfOk result (λ needs. needs.items ≡ needs_of all (picked patterns.now kept.now)) }
+{
     let mut needs = Vec::new(alloc);
     'entries: for i in kept {
         let value = patterns.entry(*i).value;

@@ -1,0 +1,145 @@
+-- A round through the entries with some numbers.
+use Rattle.std.proofs.Common.{◌≡◌, ℕ, zero, suc, ◌+◌, ◌<◌, ◌≤◌, Bool, true, false, not, cond, List, [], ◌∷◌, ◌++◌, map, length, get_or, drop, refl, sym, subst, ap, ◌∙◌, arith, append_assoc, Some}
+use Rattle.std.specs.Prelude.{slice_get, nat_eq}
+use Rattle.std.specs.List.{All, list_all}
+use Rattle.std.proofs.lemmas.List.{append-nil, map-append, length-map, get_or-map}
+use Rattle.std.proofs.lemmas.Option.{get_or_from_slice_get}
+use Rattle.std.proofs.lemmas.List.Elements.{All-nil, All-cons, All-head, All-tail, All-push}
+use Rattle.std.proofs.lemmas.List.Folds.{list_all-append}
+use Rattle.std.proofs.lemmas.Bool.{and_from, eq-eqb, eqb-true}
+use Rattle.pg_types.proofs.BoolFacts.{and_first, and_second}
+use Rattle.pg_patterns.specs.Values.{is_entry, value_at}
+use Rattle.pg_select.specs.Windows.{Patterns}
+use Rattle.pg_prune.specs.Places.{Place}
+use Rattle.pg_prune.specs.Prunes.{break_alike, break_alike_at, round_from, round}
+use Rattle.pg_prune.specs.Standing.{standing, all_standing}
+use Rattle.pg_prune.specs.Turns.{Turn, with_entry, without_entry, IsOf, IsHeld, IsTallied}
+use Rattle.pg_prune.specs.Picks.{picked, RoundStart, RoundDone}
+use Rattle.pg_prune.proofs.RoundLaws.{by_test, regrouped}
+use Rattle.pg_prune.proofs.NeedLaws.{alike_over}
+use Rattle.pg_prune.proofs.TurnSteps.{left_at}
+
+-- the entry with a number
+abbrev pub entry_of : Patterns → ℕ → (List ℕ × ℕ) × ℕ
+entry_of P k = get_or P k (([], 0), 0)
+
+sound_at : (P : Patterns) (k : ℕ) → k < length P → list_all is_entry P ≡ true → is_entry (entry_of P k) ≡ true
+sound_at [] k inside sound = absurd (omega arith)
+sound_at (e ∷ P) zero inside sound = and_first _ _ sound
+sound_at (e ∷ P) (suc k) inside sound = sound_at P k (omega arith) (and_second _ _ sound)
+
+-- entries of a map are sound
+pub picked_sound : (P : Patterns) (ks : List ℕ) → list_all is_entry P ≡ true → All (λ i. i < length P) ks → list_all is_entry (picked P ks) ≡ true
+picked_sound P [] sound within = refl
+picked_sound P (k ∷ ks) sound within =
+    and_from _ _ (sound_at P k (All-head (λ i. i < length P) k ks within) sound) (picked_sound P ks sound (All-tail (λ i. i < length P) k ks within))
+
+-- the places of the entry with a number
+pub standing_at : (places : List Place) (P : Patterns) (k : ℕ) → k < length P → get_or (all_standing places P) k [] ≡ standing places (entry_of P k)
+standing_at places [] k inside = absurd (omega arith)
+standing_at places (e ∷ P) zero inside = refl
+standing_at places (e ∷ P) (suc k) inside = standing_at places P k (omega arith)
+
+-- maps break alike the other way round too
+pub alike_back : (xs : List Place) (P Q : Patterns) → break_alike xs P Q ≡ true → break_alike xs Q P ≡ true
+alike_back [] P Q alike = refl
+alike_back (x ∷ xs) P Q alike = and_from _ _ (eq-eqb _ _ (sym (eqb-true _ _ (and_first _ _ alike)))) (alike_back xs P Q (and_second _ _ alike))
+
+-- the turn of the entry with the number k, where those before it with the numbers `stay` stay
+abbrev pub turn_of : List Place → Patterns → List ℕ → ℕ → List ℕ → Turn
+turn_of places P stay k left = record { places = places; before = picked P stay; entry = entry_of P k; behind = picked P left }
+
+-- a round in its middle
+pub record Rounding (places : List Place) (P : Patterns) (kept : List ℕ) (holders : List (List ℕ)) (stay left : List ℕ) : Type 0 where
+  pub within : All (λ i. i < length P) stay
+  pub rest : All (λ i. i < length P) left
+  pub tallied : IsTallied places (picked P stay ++ picked P left) holders
+  pub alike : break_alike places P (picked P stay ++ picked P left) ≡ true
+  pub so_far : round_from places P (picked P stay) (picked P left) ≡ round places P (picked P kept)
+
+goes_on : (places : List Place) (P kept : Patterns) (e : (List ℕ × ℕ) × ℕ) (left : Patterns) → break_alike places P (kept ++ left) ≡ true → round_from places P kept (e ∷ left) ≡ round_from places P kept left
+goes_on places P kept e left goes = ap (λ b. cond b (round_from places P kept left) (round_from places P (kept ++ e ∷ []) left)) goes
+
+stays_on : (places : List Place) (P kept : Patterns) (e : (List ℕ × ℕ) × ℕ) (left : Patterns) → break_alike places P (kept ++ left) ≡ false → round_from places P kept (e ∷ left) ≡ round_from places P (kept ++ e ∷ []) left
+stays_on places P kept e left stays = ap (λ b. cond b (round_from places P kept left) (round_from places P (kept ++ e ∷ []) left)) stays
+
+is_alike : (b : Bool) → false ≡ not b → b ≡ true
+is_alike true e = refl
+is_alike false e = cc
+
+is_unlike : (b : Bool) → true ≡ not b → b ≡ false
+is_unlike true e = cc
+is_unlike false e = refl
+
+unlike : (b c : Bool) → (b ≡ true → c ≡ true) → c ≡ false → b ≡ false
+unlike true c both e = absurd (cc (both refl))
+unlike false c both e = refl
+
+module _ (places : List Place) (P : Patterns) (stands : List (List ℕ)) (kept : List ℕ) where
+  pub rounding_begins : (holders : List (List ℕ)) → RoundStart places P stands holders kept → Rounding places P kept holders [] kept
+  unfolding round
+  rounding_begins holders s = record { within = All-nil (λ i. i < length P); rest = s.within; tallied = s.tallied; alike = s.alike; so_far = refl }
+
+  pub rounding_turn : (start holders : List (List ℕ)) (stay : List ℕ) (k : ℕ) (left : List ℕ) (numbers : List ℕ) (value : ℕ) → RoundStart places P stands start kept → Rounding places P kept holders stay (k ∷ left)
+      → numbers ≡ get_or stands k [] → value ≡ (entry_of P k).1 → IsHeld (turn_of places P stay k left) holders numbers value
+  rounding_turn start holders stay k left numbers value s r at gives = record {
+    entry = record {
+      stands = at ∙ ap (λ t. get_or t k []) s.all ∙ standing_at places P k (All-head (λ i. i < length P) k left r.rest);
+      gives = gives;
+      sound = list_all-append is_entry (picked P stay) (picked P (k ∷ left)) ∙ and_from _ _ (picked_sound P stay s.sound r.within) (picked_sound P (k ∷ left) s.sound r.rest)
+    };
+    tallied = r.tallied
+  }
+
+  pub rounding_goes : (holders new : List (List ℕ)) (stay : List ℕ) (k : ℕ) (left : List ℕ) → Rounding places P kept holders stay (k ∷ left)
+      → false ≡ not (break_alike places (with_entry (turn_of places P stay k left)) (without_entry (turn_of places P stay k left))) → IsTallied places (without_entry (turn_of places P stay k left)) new → Rounding places P kept new stay left
+  rounding_goes holders new stay k left r answer tallied =
+      let goes : break_alike places P (picked P stay ++ picked P left) ≡ true = alike_over places P (with_entry (turn_of places P stay k left)) (without_entry (turn_of places P stay k left)) r.alike (is_alike _ answer) in
+      record {
+        within = r.within;
+        rest = All-tail (λ i. i < length P) k left r.rest;
+        tallied = tallied;
+        alike = goes;
+        so_far = sym (goes_on places P (picked P stay) (entry_of P k) (picked P left) goes) ∙ r.so_far
+      }
+
+  pub rounding_stays : (holders new : List (List ℕ)) (stay : List ℕ) (k : ℕ) (left : List ℕ) → Rounding places P kept holders stay (k ∷ left)
+      → true ≡ not (break_alike places (with_entry (turn_of places P stay k left)) (without_entry (turn_of places P stay k left))) → IsTallied places (with_entry (turn_of places P stay k left)) new → Rounding places P kept new (stay ++ k ∷ []) left
+  rounding_stays holders new stay k left r answer tallied =
+      let t = turn_of places P stay k left in
+      let stays : break_alike places P (picked P stay ++ picked P left) ≡ false =
+          unlike (break_alike places P (without_entry t)) (break_alike places (with_entry t) (without_entry t)) (λ goes. alike_over places (with_entry t) P (without_entry t) (alike_back places P (with_entry t) r.alike) goes) (is_unlike _ answer) in
+      let longer : picked P (stay ++ k ∷ []) ≡ picked P stay ++ entry_of P k ∷ [] = map-append (entry_of P) stay (k ∷ []) in
+      let whole : picked P (stay ++ k ∷ []) ++ picked P left ≡ picked P stay ++ entry_of P k ∷ picked P left = ap (λ q. q ++ picked P left) longer ∙ regrouped (picked P stay) (entry_of P k) (picked P left) in
+      record {
+        within = All-push (λ i. i < length P) stay k r.within (All-head (λ i. i < length P) k left r.rest);
+        rest = All-tail (λ i. i < length P) k left r.rest;
+        tallied = subst (λ (Q : Patterns). IsTallied places Q new) (sym whole) tallied;
+        alike = subst (λ (Q : Patterns). break_alike places P Q ≡ true) (sym whole) r.alike;
+        so_far = ap (λ (q : Patterns). round_from places P q (picked P left)) longer ∙ sym (stays_on places P (picked P stay) (entry_of P k) (picked P left) stays) ∙ r.so_far
+      }
+
+  pub rounding_ends : (start holders : List (List ℕ)) (stay : List ℕ) → RoundStart places P stands start kept → Rounding places P kept holders stay [] → RoundDone places P stands holders kept stay
+  rounding_ends start holders stay s r = record {
+    next = record {
+      all = s.all; sound = s.sound; within = r.within;
+      tallied = subst (λ (Q : Patterns). IsTallied places Q holders) (append-nil (picked P stay)) r.tallied;
+      alike = subst (λ (Q : Patterns). break_alike places P Q ≡ true) (append-nil (picked P stay)) r.alike
+    };
+    done = r.so_far
+  }
+
+module _ {V : Type 0} (items : V → List ℕ) (places : List Place) (P : Patterns) (vs : List V) (kept : List ℕ) where
+  pub rounding_at : (holders : List (List ℕ)) (stay : List ℕ) (i : ℕ) → i < length kept → Rounding places P kept holders stay (drop i kept) → Rounding places P kept holders stay (get_or kept i 0 ∷ drop (i + 1) kept)
+  rounding_at holders stay i inside r = subst (λ left. Rounding places P kept holders stay left) (left_at kept i inside) r
+
+  -- the turn of the entry whose number is the i-th
+  pub turn_at : (start holders : List (List ℕ)) (stay : List ℕ) (i : ℕ) (v : V) (numbers : List ℕ) (x : (List ℕ × ℕ) × ℕ) → RoundStart places P (map items vs) start kept → Rounding places P kept holders stay (drop i kept) → i < length kept
+      → v ≡ get_or vs (get_or kept i 0) v → numbers ≡ items v → slice_get P (get_or kept i 0) ≡ Some x → IsHeld (turn_of places P stay (get_or kept i 0) (drop (i + 1) kept)) holders numbers x.1
+  turn_at start holders stay i v numbers x s r inside is own entry =
+      let k = get_or kept i 0 in
+      let at = rounding_at holders stay i inside r in
+      let within : k < length P = All-head (λ i. i < length P) k (drop (i + 1) kept) at.rest in
+      let many : length vs ≡ length P = sym (length-map vs items) ∙ ap length s.all ∙ length-map P (standing places) in
+      let stands : numbers ≡ get_or (map items vs) k [] = own ∙ ap items is ∙ sym (get_or-map items vs k v [] (omega arith)) in
+      rounding_turn places P (map items vs) kept start holders stay k (drop (i + 1) kept) numbers x.1 s at stands (ap (λ (e : (List ℕ × ℕ) × ℕ). e.1) (sym (get_or_from_slice_get P k x (([], 0), 0) entry)))

@@ -1,0 +1,82 @@
+-- The loops over the places of an entry.
+use Rattle.std.proofs.Common.{◌≡◌, ℕ, zero, suc, ◌+◌, ◌-◌, ◌^◌, ◌<◌, ◌≤◌, Bool, true, false, not, List, [], ◌∷◌, ◌++◌, map, length, get_or, drop, Option, Some, None, refl, sym, subst, ap, ◌∙◌, arith, add-one, length-drop}
+use Rattle.std.proofs.Math.ListN.{set}
+use Rattle.std.proofs.Math.Seq.{drop-cons}
+use Rattle.std.proofs.lemmas.List.{nil_from_length}
+use Rattle.std.specs.List.{find}
+use Rattle.pg_select.specs.Windows.{Patterns}
+use Rattle.pg_prune.specs.Places.{Place}
+use Rattle.pg_prune.specs.Prunes.{break_alike_at, first_difference}
+use Rattle.pg_prune.specs.Standing.{stands}
+use Rattle.pg_prune.specs.Holders.{tally, with_one, less_one, stays_alike}
+use Rattle.pg_prune.specs.Turns.{Turn, with_entry, without_entry, IsOf, IsHeld, IsAwaited, IsFound}
+use Rattle.pg_prune.proofs.Walks.{Walked, Step, walk_begins, walk_steps, walk_ends}
+use Rattle.pg_prune.proofs.TurnLaws.{away_same, away_alike, there_alike, there_less, there_more, there_some, held_low, value_high, Looked, LookStep, look_begins, look_steps, look_ends}
+
+pub left_at : (numbers : List ℕ) (i : ℕ) → i < length numbers → drop i numbers ≡ get_or numbers i 0 ∷ drop (i + 1) numbers
+left_at numbers i inside = drop-cons numbers i 0 inside ∙ (let at : suc i ≡ i + 1 = omega arith in ap (λ j. get_or numbers i 0 ∷ drop j numbers) at)
+
+pub none_left : (numbers : List ℕ) (i : ℕ) → length numbers ≤ i → drop i numbers ≡ []
+none_left numbers i behind = nil_from_length (drop i numbers) (let many = length-drop i numbers in omega (arith, many))
+
+module _ (t : Turn) (numbers : List ℕ) (value : ℕ) (start : List (List ℕ)) where
+  -- the entry is taken off
+  abbrev pub Off : List (List ℕ) → List ℕ → Type 0
+  Off held left = Walked t.places (tally (with_entry t)) (tally (without_entry t)) (stands t.entry) held left
+
+  pub off_begins : IsHeld t start numbers value → Off start numbers
+  off_begins h = walk_begins t.places (tally (with_entry t)) (tally (without_entry t)) (stands t.entry) start numbers h.tallied h.entry.stands
+
+  pub off_steps : IsHeld t start numbers value → (held : List (List ℕ)) (i : ℕ) → i < length numbers → Off held (drop i numbers)
+      → Step t.places (tally (with_entry t)) (tally (without_entry t)) (stands t.entry) held (get_or numbers i 0) (drop (i + 1) numbers)
+  off_steps h held i inside w =
+      walk_steps t.places (tally (with_entry t)) (tally (without_entry t)) (stands t.entry) (away_same t numbers value h.entry) held (get_or numbers i 0) (drop (i + 1) numbers)
+      (subst (λ left. Off held left) (left_at numbers i inside) w)
+
+  pub off_ends : IsHeld t start numbers value → (held : List (List ℕ)) (i : ℕ) → length numbers ≤ i → Off held (drop i numbers) → held ≡ map (tally (without_entry t)) t.places
+  off_ends h held i behind w =
+      walk_ends t.places (tally (with_entry t)) (tally (without_entry t)) (stands t.entry) (away_same t numbers value h.entry) held (subst (λ left. Off held left) (none_left numbers i behind) w)
+
+  -- it is added
+  abbrev pub On : List (List ℕ) → List ℕ → Type 0
+  On held left = Walked t.places (tally (without_entry t)) (tally (with_entry t)) (stands t.entry) held left
+
+  pub on_begins : IsAwaited t start numbers value → On start numbers
+  on_begins h = walk_begins t.places (tally (without_entry t)) (tally (with_entry t)) (stands t.entry) start numbers h.tallied h.entry.stands
+
+  pub on_steps : IsAwaited t start numbers value → (held : List (List ℕ)) (i : ℕ) → i < length numbers → On held (drop i numbers)
+      → Step t.places (tally (without_entry t)) (tally (with_entry t)) (stands t.entry) held (get_or numbers i 0) (drop (i + 1) numbers)
+  on_steps h held i inside w =
+      walk_steps t.places (tally (without_entry t)) (tally (with_entry t)) (stands t.entry) (λ x away. sym (away_same t numbers value h.entry x away)) held (get_or numbers i 0) (drop (i + 1) numbers)
+      (subst (λ left. On held left) (left_at numbers i inside) w)
+
+  pub on_ends : IsAwaited t start numbers value → (held : List (List ℕ)) (i : ℕ) → length numbers ≤ i → On held (drop i numbers) → held ≡ map (tally (with_entry t)) t.places
+  on_ends h held i behind w =
+      walk_ends t.places (tally (without_entry t)) (tally (with_entry t)) (stands t.entry) (λ x away. sym (away_same t numbers value h.entry x away)) held (subst (λ left. On held left) (none_left numbers i behind) w)
+
+  -- it is looked at
+  abbrev pub Looks : List ℕ → Type 0
+  Looks left = Looked t.places (break_alike_at (with_entry t) (without_entry t)) (stands t.entry) left
+
+  pub looks_begin : IsHeld t start numbers value → Looks numbers
+  looks_begin h = look_begins t.places (break_alike_at (with_entry t) (without_entry t)) (stands t.entry) numbers h.entry.stands
+
+  pub looks_step : IsHeld t start numbers value → (i : ℕ) → i < length numbers → Looks (drop i numbers)
+      → LookStep t.places (break_alike_at (with_entry t) (without_entry t)) (stands t.entry) (get_or numbers i 0) (drop (i + 1) numbers)
+  looks_step h i inside w =
+      look_steps t.places (break_alike_at (with_entry t) (without_entry t)) (stands t.entry) (away_alike t numbers value h.entry) (get_or numbers i 0) (drop (i + 1) numbers)
+      (subst (λ left. Looks left) (left_at numbers i inside) w)
+
+  pub looks_end : IsHeld t start numbers value → (i : ℕ) → length numbers ≤ i → Looks (drop i numbers) → first_difference t.places (with_entry t) (without_entry t) ≡ None
+  looks_end h i behind w =
+      look_ends t.places (break_alike_at (with_entry t) (without_entry t)) (stands t.entry) (away_alike t numbers value h.entry) (subst (λ left. Looks left) (none_left numbers i behind) w)
+
+get_or-mapped : {A : Type 0} (f : Place → A) (xs : List Place) (k : ℕ) (x : Place) → k < length xs → ((d : Place) → get_or xs k d ≡ x) → (d : A) → get_or (map f xs) k d ≡ f x
+get_or-mapped f [] k x inside at d = absurd (omega arith)
+get_or-mapped f (y ∷ ys) zero x inside at d = ap f (at y)
+get_or-mapped f (y ∷ ys) (suc k) x inside at d = get_or-mapped f ys k x (omega arith) at d
+
+-- the holders at a place of the entry
+pub held_at : (t : Turn) (numbers : List ℕ) (value : ℕ) (start : List (List ℕ)) → IsHeld t start numbers value → (k : ℕ) (x : Place) → k < length t.places → ((d : Place) → get_or t.places k d ≡ x)
+    → (d : List ℕ) → get_or start k d ≡ tally (with_entry t) x
+held_at t numbers value start h k x inside at d = ap (λ s. get_or s k d) h.tallied ∙ get_or-mapped (tally (with_entry t)) t.places k x inside at d

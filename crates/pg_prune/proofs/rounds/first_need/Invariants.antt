@@ -1,0 +1,10 @@
+use Rattle.std.proofs.Common.{◌+◌, drop}
+use Rattle.pg_prune.specs.Prunes.{break_alike_at}
+use Rattle.pg_prune.specs.Standing.{stands}
+use Rattle.pg_prune.specs.Turns.{Turn, with_entry, without_entry, IsHeld}
+use Rattle.pg_prune.proofs.TurnLaws.{Looked}
+use Rattle.pg_prune.proofs.rounds.first_need.Given as goal
+
+abbrev pub invariant-places : goal.invariant-places
+invariant-places l = (turn : Turn) → IsHeld turn l.holders l.places l.value
+    → Looked turn.places (break_alike_at (with_entry turn) (without_entry turn)) (stands turn.entry) (drop l.place-index l.places)

@@ -1,0 +1,48 @@
+-- The turn of an entry in a round.
+use Rattle.std.specs.Prelude.{◌≡◌, ℕ, ◌<◌, ◌≤◌, true, List, ◌∷◌, ◌++◌, ◌-◌, ◌^◌, length, map, slice_index_or, Option, Some}
+use Rattle.std.specs.List.{list_all}
+use Rattle.pg_patterns.specs.Values.{is_entry}
+use Rattle.pg_select.specs.Windows.{Patterns}
+use Rattle.pg_prune.specs.Places.{Place}
+use Rattle.pg_prune.specs.Standing.{standing}
+use Rattle.pg_prune.specs.Holders.{tally}
+
+-- an entry between others
+pub record Turn : Type 0 where
+  pub places : List Place
+  pub before : Patterns
+  pub entry : (List ℕ × ℕ) × ℕ
+  pub behind : Patterns
+
+-- the map with the entry, and without it
+abbrev pub with_entry : Turn → Patterns
+with_entry t = t.before ++ t.entry ∷ t.behind
+
+abbrev pub without_entry : Turn → Patterns
+without_entry t = t.before ++ t.behind
+
+-- these numbers of holders are those of the map at each place
+abbrev pub IsTallied : List Place → Patterns → List (List ℕ) → Type 0
+IsTallied places Q holders = holders ≡ map (tally Q) places
+
+-- these are the numbers of the places at which the entry stands, and its value
+pub record IsOf (t : Turn) (numbers : List ℕ) (value : ℕ) : Type 0 where
+  pub stands : numbers ≡ standing t.places t.entry
+  pub gives : value ≡ t.entry.1
+  pub sound : list_all is_entry (with_entry t) ≡ true
+
+-- the same, where the map with the entry has these holders
+pub record IsHeld (t : Turn) (holders : List (List ℕ)) (numbers : List ℕ) (value : ℕ) : Type 0 where
+  pub entry : IsOf t numbers value
+  pub tallied : IsTallied t.places (with_entry t) holders
+
+-- the same, where the map without the entry has them, and has room for it
+pub record IsAwaited (t : Turn) (holders : List (List ℕ)) (numbers : List ℕ) (value : ℕ) : Type 0 where
+  pub entry : IsOf t numbers value
+  pub tallied : IsTallied t.places (without_entry t) holders
+  pub room : length (without_entry t) < 2 ^ 64 - 1
+
+-- the place with this number is found
+pub record IsFound (places : List Place) (found : Option Place) (number : ℕ) : Type 0 where
+  pub within : number < length places
+  pub place : (d : Place) → found ≡ Some (slice_index_or places number d)
