@@ -2,6 +2,10 @@ pub mod RoundLaws
 pub mod Told
 pub mod NeedLaws
 pub mod PrunedLaws
+pub mod TrailLists
+pub mod TrailStarts
+pub mod TrailSteps
+pub mod TrailPlaces
 pub mod Tallies
 pub mod Walks
 pub mod TurnLaws

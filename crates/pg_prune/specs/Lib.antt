@@ -7,3 +7,4 @@ pub mod Holders
 pub mod Turns
 pub mod Picks
 pub mod Ends
+pub mod Trails

@@ -4,7 +4,7 @@ ghost use Rattle.pg_select.specs.CountedPositions.{minima_of};
 ghost use Rattle.pg_prune.specs.Places.{places as places_of};
 ghost use Rattle.pg_prune.specs.Standing.{all_standing};
 
-use crate::trail::{Trail, standing};
+use crate::trail::{Trail, all_starts, standing};
 use pg_dict::Dictionary;
 use pg_patterns::PatternSet;
 use pg_translate::Table;
@@ -23,12 +23,14 @@ pub(crate) fn gather(
     ensures { IfOk result (λ lists. map (λ l. l.items) lists.items
         ≡ all_standing (places_of (minima_of table.now) dictionary.now) patterns.now) }
 {
-    let mut trail = Trail::new(alloc, dictionary, table)?;
+    let all = all_starts(alloc, dictionary, table)?;
+    let mut trail = Trail::new(alloc);
     let mut lists = Vec::new(alloc);
     'entries: for i in 0..patterns.len() {
         let entry = patterns.entry(i);
-        trail.go_to(alloc, dictionary, entry.signs)?;
-        lists.push(standing(alloc, dictionary, table, trail.starts(), entry.dot)?)?;
+        trail.go_to(alloc, dictionary, all.as_slice(), entry.signs)?;
+        let starts = trail.starts_of(all.as_slice());
+        lists.push(standing(alloc, dictionary, table, starts, entry.dot)?)?;
     }
     Ok(lists)
 }
