@@ -13,3 +13,7 @@ pub mod TurnSteps
 pub mod Found
 pub mod RoundSteps
 pub mod NeedSteps
+pub mod Picking
+pub mod RoundsSteps
+pub mod HolderSteps
+pub mod PlaceSteps

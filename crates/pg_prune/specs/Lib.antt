@@ -6,4 +6,5 @@ pub mod Standing
 pub mod Holders
 pub mod Turns
 pub mod Picks
+pub mod Ends
 pub mod Trails

@@ -29,3 +29,9 @@ pub record RoundStart (places : List Place) (P : Patterns) (stands : List (List 
 pub record RoundDone (places : List Place) (P : Patterns) (stands : List (List ℕ)) (holders : List (List ℕ)) (kept stay : List ℕ) : Type 0 where
   pub next : RoundStart places P stands holders stay
   pub done : picked P stay ≡ round places P (picked P kept)
+
+-- before the first round: the holders are those of all entries
+pub record RoundsStart (places : List Place) (P : Patterns) (stands : List (List ℕ)) (holders : List (List ℕ)) : Type 0 where
+  pub all : stands ≡ all_standing places P
+  pub sound : list_all is_entry P ≡ true
+  pub tallied : IsTallied places P holders

@@ -6,12 +6,16 @@ ghost use Rattle.pg_prune.specs.Picks.{picked};
 use pg_patterns::{DottedSigns, PatternSet};
 use std::alloc::{AllocError, Global};
 
-/// The patterns of the entries with these numbers.
+/// The patterns of the entries with these numbers, which are in order.
 pub(crate) fn kept_patterns(
     alloc: Global,
     patterns: &PatternSet,
     kept: &[usize],
-) -> Result<PatternSet, AllocError> {
+) -> Result<PatternSet, AllocError>
+    requires within { All (λ i. i < length patterns.now) kept.now }
+    requires map { IsPatternMap (picked patterns.now kept.now) }
+    ensures { IfOk result (λ set. set ≡ picked patterns.now kept.now) }
+{
     let mut entries = Vec::new(alloc);
     'entries: for i in kept {
         let entry = patterns.entry(*i);

@@ -10,7 +10,7 @@ use crate::gather::gather;
 use crate::kept::kept_patterns;
 use crate::places::places;
 use crate::pruned::Pruned;
-use crate::rounds::{all_holders, needs, round};
+use crate::rounds::{all_holders, all_rounds, needs};
 use pg_dict::Dictionary;
 use pg_patterns::PatternSet;
 use pg_translate::Table;
@@ -41,35 +41,17 @@ pub fn prune(
     let all_places = places(alloc, dictionary, table)?;
     let standing = gather(alloc, dictionary, table, patterns)?;
     let mut holders = all_holders(alloc, patterns, standing.as_slice(), all_places.len())?;
-    let mut kept = Vec::new(alloc);
-    'entries: for i in 0..patterns.len() {
-        kept.push(i)?;
-    }
-    let mut rounds = 0;
-    'rounds: loop {
-        let stay = round(
-            alloc,
-            patterns,
-            standing.as_slice(),
-            holders.as_mut_slice(),
-            kept.as_slice(),
-        )?;
-        rounds += 1;
-        let is_last = stay.len() == kept.len();
-        kept = stay;
-        if is_last {
-            break;
-        }
-    }
+    let finished = all_rounds(alloc, patterns, standing.as_slice(), holders.as_mut_slice())?;
+    let kept = finished.kept.as_slice();
     let needs = needs(
         alloc,
         patterns,
         standing.as_slice(),
         all_places.as_slice(),
         holders.as_slice(),
-        kept.as_slice(),
+        kept,
     )?;
     let removed = patterns.len() - kept.len();
-    let patterns = kept_patterns(alloc, patterns, kept.as_slice())?;
-    Ok(Pruned::new(patterns, needs, rounds, removed as u64))
+    let patterns = kept_patterns(alloc, patterns, kept)?;
+    Ok(Pruned::new(patterns, needs, finished.count, removed as u64))
 }

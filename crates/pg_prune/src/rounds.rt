@@ -3,7 +3,9 @@ ghost use Rattle.std.specs.Prelude.{◌≡◌, ◌<◌, ◌≤◌, not, [], ◌�
 ghost use Rattle.pg_prune.specs.Places.{Place};
 ghost use Rattle.pg_prune.specs.Prunes.{break_alike, first_difference, need_at, needs as needs_of};
 ghost use Rattle.pg_prune.specs.Standing.{all_standing};
-ghost use Rattle.pg_prune.specs.Picks.{picked, IsGround, RoundStart, RoundDone};
+ghost use Rattle.pg_prune.specs.Picks.{picked, IsGround, RoundStart, RoundDone, RoundsStart};
+ghost use Rattle.std.specs.List.{range_with_len};
+ghost use Rattle.pg_prune.specs.Ends.{RoundsDone};
 ghost use Rattle.pg_prune.specs.Turns.{Turn, with_entry, without_entry, IsHeld, IsAwaited, IsTallied, IsFound};
 
 use crate::holders::Holders;
@@ -107,6 +109,49 @@ pub(crate) fn round(
         }
     }
     Ok(stay)
+}
+
+/// What rounds leave: the numbers of the entries that stay, and how many rounds there were.
+#[derive(Drop)]
+pub(crate) struct Finished {
+    pub kept: Vec<usize>,
+    pub count: u64,
+}
+
+/// All numbers below `count`.
+fn numbers(alloc: Global, count: usize) -> Result<Vec<usize>, AllocError>
+    ensures { IfOk result (λ numbers. numbers.items ≡ range_with_len 0 count) }
+{
+    let mut numbers = Vec::new(alloc);
+    'numbers: for i in 0..count {
+        numbers.push(i)?;
+    }
+    Ok(numbers)
+}
+
+/// Rounds, until one takes out nothing.
+pub(crate) fn all_rounds(
+    alloc: Global,
+    patterns: &PatternSet,
+    standing: &[Vec<usize>],
+    holders: &mut [Holders],
+) -> Result<Finished, AllocError>
+    requires { (places : List Place)
+        × RoundsStart places patterns.now (map (λ l. l.items) standing.now) holders.old }
+    ensures { (places : List Place)
+        → RoundsStart places patterns.now (map (λ l. l.items) standing.now) holders.old
+        → IfOk result (RoundsDone places patterns.now (map (λ l. l.items) standing.now) holders.new) }
+{
+    let mut kept = numbers(alloc, patterns.len())?;
+    let mut count = 0;
+    'rounds: loop {
+        let stay = round(alloc, patterns, standing, holders, kept.as_slice())?;
+        count += 1;
+        if stay.len() == kept.len() {
+            return Ok(Finished { kept, count });
+        }
+        kept = stay;
+    }
 }
 
 /// The needs of the entries with the numbers `kept`.

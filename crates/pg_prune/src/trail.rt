@@ -21,10 +21,12 @@ pub(crate) struct Start {
     pub at: usize,
 }
 
-/// The starts of a string, and those of all strings with which it begins, the shorter ones first, without the empty one.
+/// The starts of a string, and those of all its first parts that have a sign.
 #[derive(Drop)]
 pub(crate) struct Trail {
+    /// The string.
     pub signs: Vec<Sign>,
+    /// The starts of its first parts, the shorter ones first, and its own last.
     pub starts: Vec<Vec<Start>>,
 }
 
@@ -123,7 +125,7 @@ impl Trail {
         }
     }
 
-    /// Goes to another string. What it has in common with the last one stays.
+    /// Goes to another string, where `all` are all starts. What it has in common with the last one stays.
     pub fn go_to(
         &mut self,
         alloc: Global,
@@ -149,7 +151,7 @@ impl Trail {
         Ok(())
     }
 
-    /// The starts of the string, where these are all starts.
+    /// The starts of the string, where `all` are all starts.
     pub fn starts_of<'a>(&'a self, all: &'a [Start]) -> &'a [Start]
         ensures { result.now ≡ last_of all.now (map (λ l. l.items) self.now.starts.items) }
     {

@@ -1,0 +1,17 @@
+use Rattle.std.proofs.Common.{◌≡◌, ◌∙◌, ◌++◌, map, ap}
+use Rattle.pg_select.specs.CountedPositions.{minima_of}
+use Rattle.pg_dict.specs.Lent.{lent_word}
+use Rattle.std.proofs.Common.{arith, ◌<◌, length}
+use Rattle.pg_prune.specs.Places.{places, places_from}
+use Rattle.pg_prune.specs.Prunes.{need_at}
+use Rattle.pg_prune.proofs.PlaceSteps.{word_more}
+use Rattle.pg_prune.proofs.places.places.Goals as goal
+
+pub words-init : goal.words-init
+unfolding places
+words-init c = ap (λ ns. ns ++ map need_at (places_from (minima_of c.args.table.now) 1 c.args.dictionary.now)) c.new-places.ensures.items
+
+pub words-preserved : goal.words-preserved
+words-preserved c =
+    let inside : c.words.i < length c.args.dictionary.now = omega (arith, c.len-i-end.ensures.len) in
+    word_more (minima_of c.args.table.now) c.words.i c.args.dictionary.now (lent_word c.word.result) c.words.places.items c.add_word.new.places.items inside c.word.ensures.lent c.in_ok-add_word.ensures ∙ c.words.invariant
