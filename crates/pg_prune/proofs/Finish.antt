@@ -13,6 +13,9 @@ use Rattle.pg_prune.specs.Turns.{IsTallied}
 use Rattle.pg_prune.specs.Picks.{picked, IsGround, RoundStart}
 use Rattle.pg_prune.proofs.RoundSteps.{entry_of}
 
+abbrev pub to_rounds : Patterns → ℕ → Rounds
+to_rounds Q count = record { patterns = Q; count = count }
+
 module _ (m : Minima) (ws : List Word) (P : Patterns) where
   -- the entries that stay, with their needs and numbers, are what pruning comes to
   pub finish : (kept : List ℕ) (found : List Need) (count : ℕ) → rounds (places m ws) P ≡ record { patterns = picked P kept; count = count } → found ≡ needs (places m ws) (picked P kept)
