@@ -17,3 +17,4 @@ pub mod Picking
 pub mod RoundsSteps
 pub mod HolderSteps
 pub mod PlaceSteps
+pub mod Finish

@@ -1,5 +1,5 @@
 -- What pruning keeps.
-use Rattle.std.proofs.Common.{◌≡◌, ℕ, suc, zero, ◌+◌, ◌-◌, ◌<◌, ◌≤◌, Bool, true, false, cond, T, ◌&&◌, List, [], ◌∷◌, ◌++◌, length, refl, sym, subst, ap, ◌∙◌, arith, lit≤}
+use Rattle.std.proofs.Common.{◌≡◌, ℕ, suc, zero, ◌+◌, ◌-◌, ◌<◌, ◌≤◌, Bool, true, false, cond, T, ◌&&◌, List, [], ◌∷◌, ◌++◌, length, refl, sym, subst, ap, ◌∙◌, arith, length-append}
 use Rattle.std.specs.List.{All, Contains, list_all}
 use Rattle.std.specs.FinMap.Entries.{is_sorted, below_all}
 use Rattle.std.proofs.lemmas.List.Elements.{All-nil, All-cons, All-head, All-tail, All-contains_itself}
@@ -74,3 +74,7 @@ module _ (m : Minima) (ws : List Word) (P : Patterns) where
     each = needs_many (places m ws) P [] (pruned m ws P).patterns alike_at_end none_at_end;
     positions = needs_behind (places m ws) [] (pruned m ws P).patterns (all_behind m 1 ws)
   }
+
+  pub pruned_few : length (pruned m ws P).patterns ≤ length P
+  unfolding pruned rounds
+  pruned_few = rounds_keep (places m ws) P (λ Q. length Q ≤ length P) (λ before e rest goes few. (let a = length-append before (e ∷ rest) in let b = length-append before rest in omega (arith, a, b))) 0 (length P) P (omega arith)

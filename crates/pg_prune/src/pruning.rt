@@ -38,20 +38,21 @@ pub fn prune(
     ensures part { IfOk result (λ found. All (Contains patterns.now) found.patterns) }
     ensures known { IfOk result (λ found. SignsUpTo (letters_of table.now + 1) found.patterns) }
 {
-    let all_places = places(alloc, dictionary, table)?;
-    let standing = gather(alloc, dictionary, table, patterns)?;
-    let mut holders = all_holders(alloc, patterns, standing.as_slice(), all_places.len())?;
-    let finished = all_rounds(alloc, patterns, standing.as_slice(), holders.as_mut_slice())?;
+    let count = patterns.len();
+    let places = places(alloc, dictionary, table)?;
+    let lists = gather(alloc, dictionary, table, patterns)?;
+    let standing = lists.as_slice();
+    let mut all = all_holders(alloc, patterns, standing, places.len())?;
+    let holders = all.as_mut_slice();
+    let finished = all_rounds(alloc, patterns, standing, holders)?;
     let kept = finished.kept.as_slice();
-    let needs = needs(
-        alloc,
-        patterns,
-        standing.as_slice(),
-        all_places.as_slice(),
-        holders.as_slice(),
-        kept,
-    )?;
-    let removed = patterns.len() - kept.len();
+    let needs = needs(alloc, patterns, standing, places.as_slice(), holders, kept)?;
+    let removed = count - kept.len();
     let patterns = kept_patterns(alloc, patterns, kept)?;
-    Ok(Pruned::new(patterns, needs, finished.count, removed as u64))
+    Ok(Pruned::new(
+        patterns,
+        needs,
+        finished.count,
+        removed as u64,
+    ))
 }
