@@ -8,6 +8,10 @@ pub mod UnderTable
 pub mod InputOrder
 pub mod PackedOrder
 pub mod PackedTexts
+pub mod SetFiles
+pub mod SweepOrder
+pub mod SweepTexts
+pub mod SweepParts
 pub mod WrittenNames
 pub mod Calls
 pub mod DigitValues
@@ -18,4 +22,5 @@ pub mod FoundTexts
 pub mod GivenFronts
 pub mod Judgements
 pub mod TooFewWords
+pub mod AllWords
 pub mod OutcomeRows

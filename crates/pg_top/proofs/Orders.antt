@@ -77,6 +77,10 @@ pub accepted_and : (files : Held) (front : List Reading) (r : Reading) → AreAc
 accepted_and files [] r accepted here = (here, tt)
 accepted_and files (first ∷ front) r accepted here = (accepted.0, accepted_and files front r accepted.1 here)
 
+pub accepted_both : (files : Held) (front rest : List Reading) → AreAccepted files front → AreAccepted files rest → AreAccepted files (front ++ rest)
+accepted_both files [] rest accepted more = more
+accepted_both files (r ∷ front) rest accepted more = (accepted.0, accepted_both files front rest accepted.1 more)
+
 -- a file that could not be read stands in the order where more files stand before it, which are accepted
 pub unread_behind : (front rest : List Reading) (s0 s1 s2 : FilesShown) (name : List ℕ) → NoneFell s0.read_faults s1.read_faults → IfSome s2.held (λ files. AreAccepted (file_at files) front) → IsUnread rest name s1 s2 → IsUnread (front ++ rest) name s0 s2
 unread_behind front rest s0 s1 s2 name fell accepted u =
@@ -92,6 +96,15 @@ unread_behind front rest s0 s1 s2 name fell accepted u =
           (λ files h. ap (first_end (file_at files)) (take-append-add front rest u.place) ∙ accepted_front (file_at files) front (take u.place rest) h.0 ∙ h.1)
           (both s2.held (λ files. AreAccepted (file_at files) front) (λ files. first_end (file_at files) (take u.place rest) ≡ None) accepted u.before_it);
     }
+
+-- a stop while more files are read is a stop of all
+pub stopped_after : (front rest : List Reading) (s0 s1 s2 : FilesShown) (stop : Stop) → NoneFell s0.read_faults s1.read_faults → IfSome s2.held (λ files. AreAccepted (file_at files) front) → StopsReading rest s1 s2 stop → StopsReading (front ++ rest) s0 s2 stop
+stopped_after front rest s0 s1 s2 (Refused input refusal) fell accepted stops =
+    mapped s2.held (λ files. AreAccepted (file_at files) front × (first_end (file_at files) rest ≡ Some (refuses input refusal))) (λ files. first_end (file_at files) (front ++ rest) ≡ Some (refuses input refusal))
+    (λ files h. accepted_front (file_at files) front rest h.0 ∙ h.1)
+    (both s2.held (λ files. AreAccepted (file_at files) front) (λ files. first_end (file_at files) rest ≡ Some (refuses input refusal)) accepted stops)
+stopped_after front rest s0 s1 s2 (Unread name) fell accepted stops = unread_behind front rest s0 s1 s2 name.now fell accepted stops
+stopped_after front rest s0 s1 s2 Memory fell accepted stops = tt
 
 -- a stop at a file of the front is a stop of all
 ended_front : (ends : List ℕ → Option Outcome) (file : Option (List ℕ)) (a b : Option Outcome) (end : Outcome) → (a ≡ Some end → b ≡ Some end) → option_map_or (λ bytes. option_or (ends bytes) a) file (Some Unknown) ≡ Some end → option_map_or (λ bytes. option_or (ends bytes) b) file (Some Unknown) ≡ Some end

@@ -12,7 +12,7 @@ use Rattle.pg_top.specs.Calls.{outcome_of}
 use Rattle.pg_top.specs.Outcomes.{Ends, Unknown}
 use Rattle.pg_top.specs.PrintedLines.{refused_line, reading_line}
 use Rattle.pg_top.specs.Readings.{Held}
-use Rattle.pg_top.specs.Requests.{FileNames, ToGenerate, ToAudit, ToSample, ToPack, ToTotals, request_of}
+use Rattle.pg_top.specs.Requests.{FileNames, SweepRequest, ToGenerate, ToAudit, ToSample, ToPack, ToTotals, ToSweep, request_of}
 use Rattle.pg_top.specs.SampleTexts.{ending, syllable, word, sample_text}
 use Rattle.pg_top.specs.Selection.{selection, selected, selected_account, passes_begun, selected_cells_from, selected_cells, selected_text, selected_list, selected_cells_text, selected_report}
 use Rattle.pg_top.specs.declared.answers.Status.TheVariants.{Done, Yes, No, Refused}
@@ -149,3 +149,21 @@ other_letters : outcome_of (found ((codes "T", []) ∷ (codes "D", []) ∷ (code
     ≡ Ends Refused [] (codes "refused: table 603 OtherTable\n")
 unfolding found packed_pattern is_well_formed u16_at u32_at digits
 other_letters = refl
+
+-- `sweep` with two parameter files, with none, and with an output that is one; the second file is refused
+two_sets : SweepRequest
+two_sets = record { dict = codes "D"; patterns = codes "P"; output = codes "O"; translate = codes "T"; folds = 2; bad = 3; missed = 1; params = codes "A" ∷ codes "B" ∷ [] }
+
+asks_sweep : request_of (codes "sweep" ∷ codes "D" ∷ codes "P" ∷ codes "O" ∷ codes "T" ∷ codes "02" ∷ codes "3" ∷ codes "0001" ∷ codes "A" ∷ codes "B" ∷ []) ≡ Some (ToSweep two_sets)
+unfolding two_sets
+asks_sweep = refl
+
+no_set : request_of (codes "sweep" ∷ codes "D" ∷ codes "P" ∷ codes "O" ∷ codes "T" ∷ codes "2" ∷ codes "3" ∷ codes "1" ∷ []) ≡ None
+no_set = refl
+
+output_is_set : request_of (codes "sweep" ∷ codes "D" ∷ codes "P" ∷ codes "O" ∷ codes "T" ∷ codes "2" ∷ codes "3" ∷ codes "1" ∷ codes "O" ∷ []) ≡ None
+output_is_set = refl
+
+refused_second : outcome_of (files (codes "ab-c\nab-c\n") ((codes "B", codes "1 1 2 2 1 0 5\n") ∷ [])) (ToSweep two_sets) ≡ Ends Refused [] (codes "refused: set 2 202 OutOfRange item 6\n")
+unfolding two_sets files found digits
+refused_second = refl

@@ -6,9 +6,10 @@ use Rattle.pg_top.specs.Outcomes.{Outcome, Ends}
 use Rattle.pg_top.specs.PackedTables.{packing_reads, packed_in, totals_reads, totalled_in}
 use Rattle.pg_top.specs.PrintedLines.{usage_line, yes_line}
 use Rattle.pg_top.specs.Readings.{Held, Reading, first_end}
-use Rattle.pg_top.specs.Requests.{Request, ToGenerate, ToAudit, ToSample, ToPack, ToTotals, output_names}
+use Rattle.pg_top.specs.Requests.{Request, ToGenerate, ToAudit, ToSample, ToPack, ToTotals, ToSweep, output_names}
 use Rattle.pg_top.specs.SampleTexts.{sample_lines}
 use Rattle.pg_top.specs.Selecting.{inputs_of, inputs_in, generated}
+use Rattle.pg_top.specs.Sweeping.{sweep_reads, swept_in}
 use Rattle.pg_top.specs.declared.answers.Status.TheVariants.{Done, Usage, Yes}
 
 -- what a command reads, in its order
@@ -18,6 +19,7 @@ reads_of (ToSample seed count) = []
 reads_of (ToAudit n) = inputs_of n ++ given_files (λ files. inputs_in files n) n
 reads_of (ToPack patterns translate table) = packing_reads patterns translate
 reads_of (ToTotals dict translate table) = totals_reads dict translate table
+reads_of (ToSweep s) = sweep_reads s
 
 -- the names that a command writes, in its order
 abbrev pub writes_of : Request → List (List ℕ)
@@ -26,6 +28,7 @@ writes_of (ToAudit n) = []
 writes_of (ToSample seed count) = []
 writes_of (ToPack patterns translate table) = table ∷ []
 writes_of (ToTotals dict translate table) = []
+writes_of (ToSweep s) = s.output ∷ []
 
 -- what a command comes to where no file that it reads ends the call
 abbrev pub finished : Held → Request → Outcome
@@ -34,6 +37,7 @@ finished files (ToAudit n) = Ends Yes [] yes_line
 finished files (ToSample seed count) = Ends Done [] (sample_lines seed count)
 finished files (ToPack patterns translate table) = packed_in files patterns translate table
 finished files (ToTotals dict translate table) = totalled_in files dict translate table
+finished files (ToSweep s) = swept_in files s
 
 -- the outcome of a command: that of the first file that ends the call, and where none does, what it writes and prints
 abbrev pub outcome_of : Held → Request → Outcome
@@ -51,3 +55,4 @@ has_files (Some (ToAudit n)) = true
 has_files (Some (ToSample seed count)) = false
 has_files (Some (ToPack patterns translate table)) = true
 has_files (Some (ToTotals dict translate table)) = true
+has_files (Some (ToSweep s)) = true

@@ -1,12 +1,13 @@
 -- How the definitions see a command.
-use Rattle.std.specs.Prelude.{ℕ, ◌<◌, ◌≤◌, ◌^◌, List, String, map, string_bytes, Option}
+use Rattle.std.specs.Prelude.{ℕ, ◌<◌, ◌≤◌, ◌^◌, List, String, length, map, string_bytes, Option}
 use Rattle.std.specs.Option.{option_map}
 use denote.Ref.{Bor}
 use Rattle.std.specs.declared.alloc.Global.{Global}
-use Rattle.pg_top.specs.Requests.{FileNames, Request, ToGenerate, ToAudit, ToSample, ToPack, ToTotals, request_of}
+use Rattle.pg_top.specs.Requests.{FileNames, SweepRequest, Request, ToGenerate, ToAudit, ToSample, ToPack, ToTotals, ToSweep, request_of}
 use Rattle.pg_top.specs.declared.commands.Names.{Names}
+use Rattle.pg_top.specs.declared.commands.SweepWords.{SweepWords}
 use Rattle.pg_top.specs.declared.commands.Command.{Command}
-use Rattle.pg_top.specs.declared.commands.Command.TheVariants.{Generate, Audit, Sample, Pack, Totals}
+use Rattle.pg_top.specs.declared.commands.Command.TheVariants.{Generate, Audit, Sample, Pack, Totals, Sweep}
 
 -- a name that may be asked for as its bytes
 abbrev pub name_now : Option (Bor (List ℕ)) → Option (List ℕ)
@@ -25,6 +26,23 @@ texts_of n = record {
   cells = name_now n.cells;
 }
 
+-- words as their bytes
+abbrev pub words_of : List (String Global) → List (List ℕ)
+words_of words = map string_bytes words
+
+-- what `sweep` is asked for, each name as its bytes
+abbrev pub sweep_of : SweepWords → SweepRequest
+sweep_of w = record {
+  dict = w.dict.now;
+  patterns = w.patterns.now;
+  output = w.output.now;
+  translate = w.translate.now;
+  folds = w.folds;
+  bad = w.bad;
+  missed = w.missed;
+  params = words_of w.params.now;
+}
+
 -- the command as what it asks for
 abbrev pub asked_by : Command → Request
 asked_by (Generate names) = ToGenerate (texts_of names)
@@ -32,18 +50,23 @@ asked_by (Audit names) = ToAudit (texts_of names)
 asked_by (Sample seed count) = ToSample seed count
 asked_by (Pack patterns translate table) = ToPack patterns.now translate.now table.now
 asked_by (Totals dict translate table) = ToTotals dict.now translate.now table.now
+asked_by (Sweep words) = ToSweep (sweep_of words)
 
--- the numbers of `sample` are within their limits
+-- the numbers of `sweep` are within their limits
+pub record IsSweepWithin (w : SweepWords) : Type 0 where
+  pub folds : (2 ≤ w.folds) × (w.folds ≤ 10)
+  pub bad : (1 ≤ w.bad) × (w.bad ≤ 1000)
+  pub missed : (1 ≤ w.missed) × (w.missed ≤ 1000)
+  pub params : (1 ≤ length w.params.now) × (length w.params.now ≤ 16)
+
+-- the numbers of `sample` and `sweep` are within their limits
 abbrev pub IsWithin : Command → Type 0
 IsWithin (Generate names) = Unit {0}
 IsWithin (Audit names) = Unit {0}
 IsWithin (Sample seed count) = (seed < 2 ^ 31) × (count ≤ 100000)
 IsWithin (Pack patterns translate table) = Unit {0}
 IsWithin (Totals dict translate table) = Unit {0}
-
--- words as their bytes
-abbrev pub words_of : List (String Global) → List (List ℕ)
-words_of words = map string_bytes words
+IsWithin (Sweep words) = IsSweepWithin words
 
 -- what the words of a call ask for, none where they are no command
 abbrev pub asked : List (String Global) → Option Request

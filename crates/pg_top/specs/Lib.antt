@@ -9,6 +9,7 @@ pub mod Runs
 pub mod Selecting
 pub mod SampleTexts
 pub mod PackedTables
+pub mod Sweeping
 pub mod Auditing
 pub mod Calls
 pub mod Writings
@@ -17,4 +18,5 @@ pub mod Faults
 pub mod Answers
 pub mod Stops
 pub mod Sources
+pub mod SweepInputs
 pub mod Verdicts

@@ -32,6 +32,10 @@ packed_line patterns table =
     codes "packed: " ++ decimal (length (lines patterns)) ++ codes " patterns, " ++ decimal (length table)
     ++ codes " bytes\n"
 
+-- where `sweep` is done: the number of the cheapest set of parameters, and what it costs
+abbrev pub winner_line : ℕ → ℕ → List ℕ
+winner_line winner cost = codes "winner: set " ++ decimal winner ++ codes ", cost " ++ decimal cost ++ codes "\n"
+
 -- the words for a file in a line of refusal or of `no`
 abbrev pub word_of : Input → List ℕ
 word_of input.Translate = codes "translate"

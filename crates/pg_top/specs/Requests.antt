@@ -17,6 +17,18 @@ pub record FileNames : Type 0 where
   pub pattmp : Option (List ℕ)
   pub cells : Option (List ℕ)
 
+-- what `sweep` is asked for: the names of its files, the number of folds, what a unit of bad and of missed costs, and the
+-- names of the parameter files
+pub record SweepRequest : Type 0 where
+  pub dict : List ℕ
+  pub patterns : List ℕ
+  pub output : List ℕ
+  pub translate : List ℕ
+  pub folds : ℕ
+  pub bad : ℕ
+  pub missed : ℕ
+  pub params : List (List ℕ)
+
 -- what words ask for. `pack` has the names of the patterns, of the translate file and of the table, and `totals` those of
 -- the dictionary, of the translate file and of the table
 pub data Request : Type 0 where
@@ -25,6 +37,7 @@ pub data Request : Type 0 where
   ToSample : ℕ → ℕ → Request
   ToPack : List ℕ → List ℕ → List ℕ → Request
   ToTotals : List ℕ → List ℕ → List ℕ → Request
+  ToSweep : SweepRequest → Request
 
 -- one for what is asked for by an option, and none where it is not
 abbrev pub if_asked : {X : Type 0} → Option (List ℕ) → (List ℕ → X) → List X
@@ -124,6 +137,42 @@ totals_in (dict ∷ translate ∷ table ∷ []) =
     if list_all is_name (dict ∷ translate ∷ table ∷ []) then Some (ToTotals dict translate table) else None
 totals_in words = None
 
+-- the number that a word of at most so many decimal digits is, where it is within these bounds
+abbrev pub number_within : ℕ → ℕ → ℕ → List ℕ → Option ℕ
+number_within digits least most word =
+    if nat_le (length word) digits
+    then option_and_then (λ n. if nat_le least n then Some n else None) (number_up_to most word) else None
+
+-- whether `sweep` takes these names: 1 to 16 of parameter files, and an output that differs from all other names
+abbrev pub is_sweep_taken : List ℕ → List ℕ → List ℕ → List ℕ → List (List ℕ) → Bool
+is_sweep_taken dict patterns output translate params =
+    nat_lt 0 (length params) && nat_le (length params) 16
+    && list_all is_name (dict ∷ patterns ∷ output ∷ translate ∷ params)
+    && outputs_differ (output ∷ []) (dict ∷ patterns ∷ translate ∷ params)
+
+-- `sweep DICT PATTERNS OUT TRANSLATE K BAD MISSED`, then the names of the parameter files
+abbrev pub sweep_in : List (List ℕ) → Option Request
+sweep_in (dict ∷ patterns ∷ output ∷ translate ∷ k ∷ bad_word ∷ missed_word ∷ params) =
+    if is_sweep_taken dict patterns output translate params
+    then option_and_then
+    (λ folds. option_and_then
+    (λ bad. option_map
+    (λ missed. ToSweep (record {
+      dict = dict;
+      patterns = patterns;
+      output = output;
+      translate = translate;
+      folds = folds;
+      bad = bad;
+      missed = missed;
+      params = params;
+    }))
+    (number_within 4 1 1000 missed_word))
+    (number_within 4 1 1000 bad_word))
+    (number_within 2 2 10 k)
+    else None
+sweep_in words = None
+
 -- what words ask for
 abbrev pub request_of : List (List ℕ) → Option Request
 request_of [] = None
@@ -132,4 +181,5 @@ request_of (word ∷ words) =
     else (if bytes_eq word (codes "audit") then option_and_then to_audit (names_in words)
     else (if bytes_eq word (codes "sample") then sample_in words
     else (if bytes_eq word (codes "pack") then pack_in words
-    else (if bytes_eq word (codes "totals") then totals_in words else None))))
+    else (if bytes_eq word (codes "totals") then totals_in words
+    else (if bytes_eq word (codes "sweep") then sweep_in words else None)))))

@@ -21,6 +21,27 @@ pub struct Names<'a> {
     pub cells: Option<&'a str>,
 }
 
+/// What `sweep` is given.
+#[derive(Clone, Copy, Debug)]
+pub struct SweepWords<'a> {
+    /// The dictionary.
+    pub dict: &'a str,
+    /// The starting patterns.
+    pub patterns: &'a str,
+    /// Where the table of the sweep is written.
+    pub output: &'a str,
+    /// The translate file.
+    pub translate: &'a str,
+    /// The number of folds, 2 to 10.
+    pub folds: u8,
+    /// What a unit of bad costs, 1 to 1,000.
+    pub bad: u32,
+    /// What a unit of missed costs, 1 to 1,000.
+    pub missed: u32,
+    /// The parameter files, 1 to 16.
+    pub params: &'a [String],
+}
+
 /// What words ask for.
 #[derive(Clone, Copy, Debug)]
 pub enum Command<'a> {
@@ -49,4 +70,6 @@ pub enum Command<'a> {
         /// The table.
         table: &'a str,
     },
+    /// To find the cheapest of several parameter files, and to write what each comes to.
+    Sweep(SweepWords<'a>),
 }

@@ -15,13 +15,15 @@ mod reading;
 mod sample;
 mod samples;
 mod selection;
+mod sets;
+mod sweeping;
 mod top;
 mod totals;
 pub mod words;
 pub mod writes;
 
 pub use answers::{Status, exit_code};
-pub use commands::{Command, Names};
+pub use commands::{Command, Names, SweepWords};
 pub use sample::sample_text;
 pub use top::run;
 pub use words::command;

@@ -1,7 +1,7 @@
 //! Numbers in the words of a command.
 ghost use Rattle.std.specs.Prelude.{◌≡◌, ◌≤◌, IfSome};
 ghost use Rattle.pg_types.specs.Parameters.{number_from};
-ghost use Rattle.pg_top.specs.Requests.{at_most, number_up_to};
+ghost use Rattle.pg_top.specs.Requests.{at_most, number_up_to, number_within as number_within_of};
 
 /// How many digits a number has at most.
 const DIGITS: usize = 10;
@@ -34,4 +34,16 @@ pub fn number(word: &str, most: u32) -> Option<u32>
         return None;
     }
     digits_value(word.as_bytes(), most)
+}
+
+/// The number that a word of at most so many decimal digits is, where it is at least `least` and at most `most`.
+pub fn number_within(word: &str, digits: usize, least: u32, most: u32) -> Option<u32>
+    ensures value { result ≡ number_within_of digits least most word.now }
+    ensures within { IfSome result (λ n. (least ≤ n) × (n ≤ most)) }
+{
+    if word.len() > digits {
+        return None;
+    }
+    let number = number(word, most)?;
+    if number >= least { Some(number) } else { None }
 }

@@ -1,7 +1,7 @@
 //! The lines that are printed.
 ghost use Rattle.std.specs.Prelude.{◌≡◌, ◌++◌, ◌==◌, [], if◌then◌else◌, length, decimal, OnOk, IfOk};
 ghost use Rattle.pg_types.specs.Lines.{lines};
-ghost use Rattle.pg_top.specs.PrintedLines.{done_line as done_line_of, packed_line as packed_line_of, refused_line as refused_line_of, word_of, place_of, work_line};
+ghost use Rattle.pg_top.specs.PrintedLines.{done_line as done_line_of, packed_line as packed_line_of, refused_line as refused_line_of, winner_line as winner_line_of, word_of, place_of, work_line};
 
 use crate::inputs::{Given, Input};
 use itoa::Buffer;
@@ -60,6 +60,17 @@ pub fn packed_line(alloc: Global, patterns: &[u8], table: &[u8]) -> Result<Vec<u
     push_number(&mut line, b"packed: ", count_lines(patterns) as u64)?;
     push_number(&mut line, b" patterns, ", table.len() as u64)?;
     line.extend_from_slice(b" bytes\n")?;
+    Ok(line)
+}
+
+/// The line where `sweep` is done: the number of the cheapest set of parameters, and what it costs.
+pub fn winner_line(alloc: Global, winner: usize, cost: u64) -> Result<Vec<u8>, AllocError>
+    ensures { IfOk result (λ line. line.items ≡ winner_line_of winner cost) }
+{
+    let mut line = Vec::new(alloc);
+    push_number(&mut line, b"winner: set ", winner as u64)?;
+    push_number(&mut line, b", cost ", cost)?;
+    line.extend_from_slice(b"\n")?;
     Ok(line)
 }
 

@@ -96,9 +96,10 @@ pub fn read_table<'a, F: Files>(
     }
 }
 
-/// Reads the parameters.
-fn read_parameters<'a, F: Files>(
+/// Reads parameters as this input.
+pub fn read_parameters<'a, F: Files>(
     alloc: Global,
+    input: Input,
     name: &'a str,
     files: &mut F,
 ) -> Result<Params, Stop<'a>>
@@ -108,12 +109,12 @@ fn read_parameters<'a, F: Files>(
     ensures ok { IfOk result (λ params.
         IfSome (F.shown files.new).held (λ files. read_as parameters (file_at files) name.now ≡ Some (Ok params))) }
     ensures stopped { IfErr result
-        (StopsAt (input_file Input.Parameters name.now (λ _. parameters)) (F.shown files.old) (F.shown files.new)) }
+        (StopsAt (input_file input name.now (λ _. parameters)) (F.shown files.old) (F.shown files.new)) }
 {
     let bytes = read_front(alloc, name, FILE_MAX, files)?;
     match read_params(alloc, &bytes) {
         Ok(params) => Ok(params),
-        Err(error) => Err(stop(Input::Parameters, error)),
+        Err(error) => Err(stop(input, error)),
     }
 }
 
@@ -182,7 +183,7 @@ pub fn read_inputs<'a, F: Files>(
         (StopsReading (inputs_of (texts_of names.now)) (F.shown files.old) (F.shown files.new)) }
 {
     let table = read_table(alloc, names.translate, files)?;
-    let params = read_parameters(alloc, names.params, files)?;
+    let params = read_parameters(alloc, Input::Parameters, names.params, files)?;
     let start = read_start(alloc, &table, names.patterns, files)?;
     let dictionary = read_dictionary(alloc, &table, names.dict, files)?;
     Ok(Inputs {

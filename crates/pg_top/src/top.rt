@@ -4,18 +4,18 @@ ghost use Rattle.pg_outside.specs.Content.{KeepsHeld, file_at};
 ghost use Rattle.pg_outside.specs.Faults.{NoneFell};
 ghost use Rattle.pg_top.specs.Answers.{MayAnswer, IsAnswered, IsUntouched, IsComplete, IsCall};
 ghost use Rattle.pg_top.specs.Calls.{has_files, outcome_of, reads_of, writes_of};
-ghost use Rattle.pg_top.specs.Commands.{texts_of, asked_by, IsWithin, asked};
+ghost use Rattle.pg_top.specs.Commands.{texts_of, sweep_of, asked_by, IsSweepWithin, IsWithin, asked};
 ghost use Rattle.pg_top.specs.Faults.{SomeRose, IsFault};
 ghost use Rattle.pg_top.specs.Moments.{Puts};
 ghost use Rattle.pg_top.specs.Outcomes.{Ends};
 ghost use Rattle.pg_top.specs.PrintedLines.{usage_line};
-ghost use Rattle.pg_top.specs.Requests.{ToGenerate, ToAudit, ToPack, ToTotals};
+ghost use Rattle.pg_top.specs.Requests.{ToGenerate, ToAudit, ToPack, ToTotals, ToSweep};
 ghost use Rattle.pg_top.specs.Stops.{StopsReading, Finishes};
 ghost use Rattle.pg_top.specs.Writings.{written_names, writing_of};
 
 use crate::answers::Status;
 use crate::audit::{audit_files, put_verdict};
-use crate::commands::{Command, Names};
+use crate::commands::{Command, Names, SweepWords};
 use crate::inputs::Stop;
 use crate::outputs::{Outputs, make_outputs};
 use crate::packing::pack_files;
@@ -23,6 +23,7 @@ use crate::printed::{USAGE, WRITING};
 use crate::puts::{answer, put_fault, put_stop};
 use crate::reading::read_inputs;
 use crate::samples::sample;
+use crate::sweeping::sweep_files;
 use crate::totals::total_files;
 use crate::words::command;
 use crate::writes::{output_at, write_all};
@@ -125,6 +126,23 @@ fn totals<F: Files, O: Sink>(
     }
 }
 
+/// Finds the cheapest of several parameter files, writes what each comes to, and prints which it is.
+fn sweep<F: Files, O: Sink>(
+    alloc: Global,
+    words: &SweepWords<'_>,
+    files: &mut F,
+    out: &mut O,
+) -> Status
+    requires { IsSweepWithin words.now }
+    ensures { IsCall (Some (ToSweep (sweep_of words.now))) result
+        (F.shown files.old, O.shown out.old) (F.shown files.new, O.shown out.new) }
+{
+    match sweep_files(alloc, words, files) {
+        Ok(outputs) => finish(files, out, &outputs),
+        Err(stop) => put_stop(alloc, out, &stop),
+    }
+}
+
 /// Does what a command asks for.
 fn perform<F: Files, O: Sink>(
     alloc: Global,
@@ -151,6 +169,7 @@ fn perform<F: Files, O: Sink>(
             translate,
             table,
         } => totals(alloc, dict, translate, table, files, out),
+        Command::Sweep(words) => sweep(alloc, words, files, out),
     }
 }
 
@@ -176,6 +195,8 @@ fn call<F: Files, O: Sink>(alloc: Global, words: &[String], files: &mut F, out: 
 /// other, up to the first false line. `sample` makes a dictionary from a number and prints how a selection on it
 /// goes. `pack` reads the translate file and the patterns, and writes their packed table. `totals` reads the translate
 /// file, the dictionary and the packed table, and prints the totals of the words by the table, which it reads in place.
+/// `sweep` reads the translate file, the parameter files, the starting patterns and the dictionary. It makes a run for
+/// each parameter file and fold, writes the table of what they come to, and prints which file is the cheapest.
 ///
 /// The first refusal ends a call, and so does the first fault. All lines of an answer are put at once, as the last
 /// step, but those of a fault, of which the front, the name and the end are put each by itself.

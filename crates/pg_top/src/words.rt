@@ -1,18 +1,27 @@
 //! The words of a command.
-ghost use Rattle.std.specs.Prelude.{◌≡◌, ◌≤◌, ◌++◌, ◌∷◌, [], length, drop, IfSome};
+ghost use Rattle.std.specs.Prelude.{◌≡◌, ◌≤◌, ◌<◌, ◌++◌, ◌∷◌, [], length, drop, slice_index_or, IfSome};
 ghost use Rattle.std.specs.List.{list_all};
 ghost use Rattle.std.specs.Option.{option_map, option_and_then};
-ghost use Rattle.pg_top.specs.Requests.{is_name as is_name_word, if_asked, input_names, output_names, differs_from, outputs_differ, are_taken as are_taken_names, with_option as with_option_of, with_options as with_options_of, six_names, names_in, to_generate, to_audit, sample_in, pack_in, totals_in, request_of};
+ghost use Rattle.pg_top.specs.Requests.{is_name as is_name_word, if_asked, input_names, output_names, differs_from, outputs_differ, are_taken as are_taken_names, with_option as with_option_of, with_options as with_options_of, six_names, names_in, to_generate, to_audit, sample_in, pack_in, totals_in, is_sweep_taken, sweep_in, request_of};
 ghost use Rattle.pg_top.specs.Commands.{name_now, texts_of, asked_by, IsWithin, words_of};
 
-use crate::commands::{Command, Names};
-use crate::numbers::number;
+use crate::commands::{Command, Names, SweepWords};
+use crate::numbers::{number, number_within};
 
 /// The greatest seed of `sample`.
 const SEED_MAX: u32 = 2_147_483_647;
 
 /// How many words `sample` makes at most.
 const COUNT_MAX: u32 = 100_000;
+
+/// How many folds `sweep` makes at most.
+const FOLDS_MAX: u32 = 10;
+
+/// What a unit of bad or of missed costs at most.
+const PRICE_MAX: u32 = 1_000;
+
+/// How many parameter files `sweep` takes at most.
+const SETS_MAX: usize = 16;
 
 /// Whether a word can be a name: it is not empty and does not begin with two dashes.
 fn is_name(word: &str) -> bool
@@ -278,10 +287,99 @@ fn totals(words: &[String]) -> Option<Command<'_>>
     }
 }
 
+/// Whether all words can be names.
+fn are_all_names(words: &[String]) -> bool
+    ensures { result ≡ list_all is_name_word (words_of words.now) }
+{
+    'words: for i in 0..words.len() {
+        if !is_name(words[i].as_str()) {
+            return false;
+        }
+    }
+    true
+}
+
+/// Whether a name differs from all these words.
+fn differs_from_all(name: &str, words: &[String]) -> bool
+    ensures { result ≡ differs_from name.now (words_of words.now) }
+{
+    'words: for i in 0..words.len() {
+        if name == words[i].as_str() {
+            return false;
+        }
+    }
+    true
+}
+
+/// Whether `sweep` takes these names.
+fn is_taken(dict: &str, patterns: &str, output: &str, translate: &str, params: &[String]) -> bool
+    ensures { result ≡ is_sweep_taken dict.now patterns.now output.now translate.now (words_of params.now) }
+{
+    !params.is_empty()
+        && params.len() <= SETS_MAX
+        && is_name(dict)
+        && is_name(patterns)
+        && is_name(output)
+        && is_name(translate)
+        && are_all_names(params)
+        && output != dict
+        && output != patterns
+        && output != translate
+        && differs_from_all(output, params)
+}
+
+/// The word at a place.
+fn word_at(words: &[String], i: usize) -> &str
+    requires { i < length words.now }
+    ensures { result.now ≡ slice_index_or (words_of words.now) i [] }
+{
+    words[i].as_str()
+}
+
+/// The words behind the seventh.
+fn behind_seven(words: &[String]) -> &[String]
+    requires { 7 ≤ length words.now }
+    ensures { words_of result.now ≡ drop 7 (words_of words.now) }
+{
+    &words[7..]
+}
+
+/// What the words behind `sweep` ask for.
+fn sweep(words: &[String]) -> Option<Command<'_>>
+    ensures value { option_map asked_by result ≡ sweep_in (words_of words.now) }
+    ensures within { IfSome result IsWithin }
+{
+    if words.len() < 7 {
+        return None;
+    }
+    let dict = word_at(words, 0);
+    let patterns = word_at(words, 1);
+    let output = word_at(words, 2);
+    let translate = word_at(words, 3);
+    let params = behind_seven(words);
+    if !is_taken(dict, patterns, output, translate, params) {
+        return None;
+    }
+    let folds = number_within(word_at(words, 4), 2, 2, FOLDS_MAX)?;
+    let bad = number_within(word_at(words, 5), 4, 1, PRICE_MAX)?;
+    let missed = number_within(word_at(words, 6), 4, 1, PRICE_MAX)?;
+    Some(Command::Sweep(SweepWords {
+        dict,
+        patterns,
+        output,
+        translate,
+        folds: folds as u8,
+        bad,
+        missed,
+        params,
+    }))
+}
+
 /// What the words, without the program's name, ask for; none exactly where they are no command. Commands are
 /// `generate DICT PATTERNS OUT TRANSLATE PARAMS REPORT`, then `--pattmp FILE` and `--cells FILE`, each at most once
 /// and in either order, `audit` with the same six names and at most one `--pattmp FILE`, `sample N COUNT`,
-/// `pack PATTERNS TRANSLATE TABLE`, and `totals DICT TRANSLATE TABLE`. It takes no memory.
+/// `pack PATTERNS TRANSLATE TABLE`, `totals DICT TRANSLATE TABLE`, and `sweep DICT PATTERNS OUT TRANSLATE K BAD MISSED`
+/// with the names of 1 to 16 parameter files. It takes no memory.
 pub fn command(words: &[String]) -> Option<Command<'_>>
     ensures value { option_map asked_by result ≡ request_of (words_of words.now) }
     ensures within { IfSome result IsWithin }
@@ -300,6 +398,8 @@ pub fn command(words: &[String]) -> Option<Command<'_>>
         pack(&words[1..])
     } else if word == "totals" {
         totals(&words[1..])
+    } else if word == "sweep" {
+        sweep(&words[1..])
     } else {
         None
     }

@@ -1,0 +1,5 @@
+//! Sweeps through whole calls of the program.
+#![tactic(auto)]
+
+#[cfg(test)]
+mod sweeps;
