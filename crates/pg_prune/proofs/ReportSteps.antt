@@ -2,7 +2,7 @@
 use Rattle.std.proofs.Common.{◌≡◌, ℕ, suc, ◌+◌, ◌-◌, ◌<◌, ◌≤◌, Bool, true, T, ◌&&◌, List, [], ◌∷◌, ◌++◌, length, drop, get_or, refl, sym, ap, ◌∙◌, arith}
 use Rattle.std.proofs.Math.Seq.{drop-cons}
 use Rattle.std.specs.List.{All, list_all}
-use Rattle.std.proofs.lemmas.List.{append_assoc}
+use Rattle.std.proofs.lemmas.List.{append_assoc, append-nil, nil_from_length, length-drop}
 use Rattle.std.proofs.lemmas.Bool.{and_from, le-leb}
 use Rattle.pg_types.specs.Signs.{is_sign}
 use Rattle.pg_types.specs.declared.limits.TheConstants.{LEVEL_MAX, PATTERN_SIGNS_MAX}
@@ -29,3 +29,9 @@ line_more t P needs done new i n inside within is longer =
     ∙ append_assoc done (keep_line t (entry_of P i) n) (keep_lines t (drop (i + 1) P) (drop (i + 1) needs))
     ∙ ap (λ es. done ++ keep_lines t es (n ∷ drop (i + 1) needs)) (sym entries)
     ∙ ap (λ ns. done ++ keep_lines t (drop i P) ns) (sym others)
+
+-- the lines are whole
+pub lines_end : (t : Alphabet) (P : Patterns) (needs : List Need) (done : List ℕ) (i : ℕ) → length P ≤ i → done ++ keep_lines t (drop i P) (drop i needs) ≡ keep_lines t P needs → done ≡ keep_lines t P needs
+lines_end t P needs done i behind so =
+    let none : drop i P ≡ [] = nil_from_length (drop i P) (let many = length-drop i P in omega (arith, many)) in
+    sym (append-nil done) ∙ ap (λ es. done ++ keep_lines t es (drop i needs)) (sym none) ∙ so
