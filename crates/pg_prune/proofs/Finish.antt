@@ -11,7 +11,7 @@ use Rattle.pg_prune.specs.Prunes.{rounds, needs, pruned, found_by, Found, Rounds
 use Rattle.pg_prune.specs.Standing.{all_standing}
 use Rattle.pg_prune.specs.Turns.{IsTallied}
 use Rattle.pg_prune.specs.Picks.{picked, IsGround, RoundStart}
-use Rattle.pg_prune.proofs.RoundSteps.{entry_of}
+use Rattle.pg_prune.specs.Picks.{entry_of}
 
 abbrev pub to_rounds : Patterns → ℕ → Rounds
 to_rounds Q count = record { patterns = Q; count = count }

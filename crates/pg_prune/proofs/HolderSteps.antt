@@ -13,7 +13,8 @@ use Rattle.pg_prune.specs.Standing.{standing, all_standing}
 use Rattle.pg_prune.specs.Holders.{tally}
 use Rattle.pg_prune.specs.Turns.{Turn, with_entry, IsAwaited, IsTallied}
 use Rattle.pg_prune.specs.Picks.{IsGround}
-use Rattle.pg_prune.proofs.RoundSteps.{entry_of, standing_at}
+use Rattle.pg_prune.proofs.RoundSteps.{standing_at}
+use Rattle.pg_prune.specs.Picks.{entry_of}
 
 -- where no entry is, no place has a holder
 pub none_tallied : (places : List Place) → IsTallied places [] (replicate (length places) (replicate 9 0))

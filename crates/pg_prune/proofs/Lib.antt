@@ -18,3 +18,4 @@ pub mod RoundsSteps
 pub mod HolderSteps
 pub mod PlaceSteps
 pub mod Finish
+pub mod ReportSteps

@@ -14,16 +14,12 @@ use Rattle.pg_prune.specs.Places.{Place}
 use Rattle.pg_prune.specs.Prunes.{break_alike, break_alike_at, round_from, round}
 use Rattle.pg_prune.specs.Standing.{standing, all_standing}
 use Rattle.pg_prune.specs.Turns.{Turn, with_entry, without_entry, IsOf, IsHeld, IsTallied}
-use Rattle.pg_prune.specs.Picks.{picked, RoundStart, RoundDone}
+use Rattle.pg_prune.specs.Picks.{entry_of, picked, RoundStart, RoundDone}
 use Rattle.pg_prune.proofs.RoundLaws.{by_test, regrouped}
 use Rattle.pg_prune.proofs.NeedLaws.{alike_over}
 use Rattle.pg_prune.proofs.TurnSteps.{left_at}
 
--- the entry with a number
-abbrev pub entry_of : Patterns → ℕ → (List ℕ × ℕ) × ℕ
-entry_of P k = get_or P k (([], 0), 0)
-
-sound_at : (P : Patterns) (k : ℕ) → k < length P → list_all is_entry P ≡ true → is_entry (entry_of P k) ≡ true
+pub sound_at : (P : Patterns) (k : ℕ) → k < length P → list_all is_entry P ≡ true → is_entry (entry_of P k) ≡ true
 sound_at [] k inside sound = absurd (omega arith)
 sound_at (e ∷ P) zero inside sound = and_first _ _ sound
 sound_at (e ∷ P) (suc k) inside sound = sound_at P k (omega arith) (and_second _ _ sound)

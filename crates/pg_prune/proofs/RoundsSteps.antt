@@ -13,7 +13,7 @@ use Rattle.pg_prune.specs.Turns.{IsTallied}
 use Rattle.pg_prune.specs.Picks.{picked, RoundStart, RoundDone, RoundsStart}
 use Rattle.pg_prune.proofs.RoundLaws.{round_length, round_same}
 use Rattle.pg_prune.proofs.NeedLaws.{alike_self}
-use Rattle.pg_prune.proofs.RoundSteps.{entry_of}
+use Rattle.pg_prune.specs.Picks.{entry_of}
 use Rattle.pg_prune.proofs.Picking.{picked_all, range_below}
 
 -- so many rounds are made, and the entries with the numbers `kept` are left

@@ -8,9 +8,13 @@ use Rattle.pg_prune.specs.Prunes.{break_alike, round}
 use Rattle.pg_prune.specs.Standing.{all_standing}
 use Rattle.pg_prune.specs.Turns.{IsTallied}
 
+-- the entry of a map with a number
+abbrev pub entry_of : Patterns → ℕ → (List ℕ × ℕ) × ℕ
+entry_of P i = slice_index_or P i (([], 0), 0)
+
 -- the entries of a map with these numbers
 abbrev pub picked : Patterns → List ℕ → Patterns
-picked P numbers = map (λ i. slice_index_or P i (([], 0), 0)) numbers
+picked P numbers = map (entry_of P) numbers
 
 -- these are the numbers of the places at which the entries of a map stand, and there are so many places
 pub record IsGround (places : List Place) (P : Patterns) (stands : List (List ℕ)) (count : ℕ) : Type 0 where

@@ -1,12 +1,13 @@
 //! The report of what pruning comes to.
-ghost use Rattle.std.specs.Prelude.{◌≡◌, ◌≤◌, ◌+◌, ◌++◌, [], ◌∷◌, decimal, OnOk, IfOk};
+ghost use Rattle.std.specs.Prelude.{◌≡◌, ◌≤◌, ◌+◌, ◌++◌, [], ◌∷◌, length, ◌<◌, decimal, OnOk, IfOk};
 ghost use Rattle.pg_translate.specs.Alphabets.{letters_of};
 ghost use Rattle.pg_patterns.specs.Values.{SignsUpTo};
+ghost use Rattle.pg_prune.specs.Picks.{entry_of};
 ghost use Rattle.pg_prune.specs.Reports.{entry_text, keep_line, last_line, prune_report};
 
 use crate::pruned::{Need, Pruned};
 use itoa::Buffer;
-use pg_patterns::{DottedSigns, Entry, PatternSet};
+use pg_patterns::{DottedSigns, PatternSet};
 use pg_translate::Table;
 use std::alloc::{AllocError, Global};
 
@@ -19,25 +20,43 @@ fn push_number(text: &mut Vec<u8>, front: &[u8], number: u64) -> Result<(), Allo
     text.extend_from_slice(digits.format(number).as_bytes())
 }
 
-/// The text of an entry: the pattern file of this entry alone, without its line feed.
-fn text_of_entry(alloc: Global, table: &Table, entry: Entry<'_>) -> Result<Vec<u8>, AllocError> {
+/// The text of the entry with the number `i`: the pattern file of this entry alone, without its line feed.
+fn text_of_entry(
+    alloc: Global,
+    table: &Table,
+    patterns: &PatternSet,
+    i: usize,
+) -> Result<Vec<u8>, AllocError>
+    requires within { i < length patterns.now }
+    requires known { SignsUpTo (letters_of table.now + 1) patterns.now }
+    ensures { IfOk result (λ text. text.items ≡ entry_text table.now (entry_of patterns.now i)) }
+{
+    let entry = patterns.entry(i);
     let mut entries = Vec::new(alloc);
     entries.push((DottedSigns::new(entry.signs, entry.dot), entry.value))?;
     let mut text = PatternSet::from_entries(entries).text(alloc, table)?;
-    text.pop();
+    let len = text.len().saturating_sub(1);
+    text.truncate(len);
     Ok(text)
 }
 
-/// Appends the line of an entry and its need.
+/// Appends the line of the entry with the number `i` and its need.
 fn push_line(
     alloc: Global,
     text: &mut Vec<u8>,
     table: &Table,
-    entry: Entry<'_>,
+    patterns: &PatternSet,
+    i: usize,
     need: Need,
-) -> Result<(), AllocError> {
+) -> Result<(), AllocError>
+    requires within { i < length patterns.now }
+    requires known { SignsUpTo (letters_of table.now + 1) patterns.now }
+    requires behind { 1 ≤ need.position }
+    ensures { OnOk result (text.new.items
+        ≡ text.old.items ++ keep_line table.now (entry_of patterns.now i) need) }
+{
     text.extend_from_slice(b"keep ")?;
-    text.extend_from_slice(text_of_entry(alloc, table, entry)?.as_slice())?;
+    text.extend_from_slice(text_of_entry(alloc, table, patterns, i)?.as_slice())?;
     push_number(text, b": word ", need.word)?;
     push_number(text, b" after ", u64::from(need.position) - 1)?;
     text.extend_from_slice(b" letters\n")
@@ -64,7 +83,7 @@ pub fn prune_text(alloc: Global, table: &Table, pruned: &Pruned) -> Result<Vec<u
     let needs = pruned.needs();
     let mut text = Vec::new(alloc);
     'entries: for i in 0..patterns.len() {
-        push_line(alloc, &mut text, table, patterns.entry(i), needs[i])?;
+        push_line(alloc, &mut text, table, patterns, i, needs[i])?;
     }
     push_last_line(&mut text, pruned)?;
     Ok(text)
