@@ -12,7 +12,7 @@ use Rattle.pg_top.specs.Moments.{Moment, OfFiles, Puts, PutsPart, PutRose, PutOr
 use Rattle.pg_top.specs.Outcomes.{Ends, Writing, refuses}
 use Rattle.pg_top.specs.PrintedLines.{usage_line, refused_line, reading_line, writing_line}
 use Rattle.pg_top.specs.Readings.{first_end}
-use Rattle.pg_top.specs.Requests.{Request, ToGenerate, ToAudit, ToSample, ToPack, ToTotals, ToSweep}
+use Rattle.pg_top.specs.Requests.{Request, ToGenerate, ToAudit, ToSample, ToPack, ToTotals, ToPrune, ToSweep}
 use Rattle.pg_top.specs.SampleTexts.{sample_lines}
 use Rattle.pg_top.specs.Stops.{StopsReading, StopsCommand, PutsAnswer, PutsLines, PutsStop, Finishes}
 use Rattle.pg_top.specs.Writings.{written_names, after_all, StandsAt, WroteAll, StoppedAt}
@@ -46,6 +46,7 @@ may_fault (ToAudit n) = tt
 may_fault (ToSample seed count) = tt
 may_fault (ToPack patterns translate table) = tt
 may_fault (ToTotals dict translate table) = tt
+may_fault (ToPrune p) = tt
 may_fault (ToSweep s) = tt
 
 pub may_want : (request : Request) → MayAnswer (Some request) Memory
@@ -54,6 +55,7 @@ may_want (ToAudit n) = tt
 may_want (ToSample seed count) = tt
 may_want (ToPack patterns translate table) = tt
 may_want (ToTotals dict translate table) = tt
+may_want (ToPrune p) = tt
 may_want (ToSweep s) = tt
 
 answered_as : (asked : Option Request) (status : Status) (old new : Moment) → OfFiles old new (λ before after. DoesAll old new status before after (outcome (file_at before) asked)) → IsAnswered asked status old new

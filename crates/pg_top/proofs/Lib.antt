@@ -9,6 +9,8 @@ pub mod InputOrder
 pub mod PackedOrder
 pub mod PackedTexts
 pub mod SetFiles
+pub mod PruneOrder
+pub mod PruneWords
 pub mod SweepOrder
 pub mod SweepTexts
 pub mod SweepParts

@@ -6,7 +6,7 @@ use Rattle.pg_top.specs.Faults.{SomeRose, IsFault}
 use Rattle.pg_top.specs.Moments.{Moment, OfFiles, KeepsFiles, Puts}
 use Rattle.pg_top.specs.Outcomes.{Outcome, Unknown, Ends}
 use Rattle.pg_top.specs.PrintedLines.{usage_line}
-use Rattle.pg_top.specs.Requests.{Request, ToGenerate, ToAudit, ToSample, ToPack, ToTotals, ToSweep}
+use Rattle.pg_top.specs.Requests.{Request, ToGenerate, ToAudit, ToSample, ToPack, ToTotals, ToPrune, ToSweep}
 use Rattle.pg_top.specs.Writings.{after_all}
 use Rattle.pg_top.specs.declared.answers.Status.{Status}
 use Rattle.pg_top.specs.declared.answers.Status.TheVariants.{Done, Yes, No, Usage, Refused, Fault, Memory}
@@ -25,6 +25,8 @@ MayAnswer (Some (ToPack patterns translate table)) Done = Unit {0}
 MayAnswer (Some (ToPack patterns translate table)) Refused = Unit {0}
 MayAnswer (Some (ToTotals dict translate table)) Done = Unit {0}
 MayAnswer (Some (ToTotals dict translate table)) Refused = Unit {0}
+MayAnswer (Some (ToPrune p)) Done = Unit {0}
+MayAnswer (Some (ToPrune p)) Refused = Unit {0}
 MayAnswer (Some (ToSweep s)) Done = Unit {0}
 MayAnswer (Some (ToSweep s)) Refused = Unit {0}
 MayAnswer (Some request) Fault = Unit {0}

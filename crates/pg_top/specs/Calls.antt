@@ -5,8 +5,9 @@ use Rattle.pg_top.specs.Auditing.{given_files}
 use Rattle.pg_top.specs.Outcomes.{Outcome, Ends}
 use Rattle.pg_top.specs.PackedTables.{packing_reads, packed_in, totals_reads, totalled_in}
 use Rattle.pg_top.specs.PrintedLines.{usage_line, yes_line}
+use Rattle.pg_top.specs.Pruning.{prune_reads, pruned_in}
 use Rattle.pg_top.specs.Readings.{Held, Reading, first_end}
-use Rattle.pg_top.specs.Requests.{Request, ToGenerate, ToAudit, ToSample, ToPack, ToTotals, ToSweep, output_names}
+use Rattle.pg_top.specs.Requests.{Request, ToGenerate, ToAudit, ToSample, ToPack, ToTotals, ToPrune, ToSweep, output_names}
 use Rattle.pg_top.specs.SampleTexts.{sample_lines}
 use Rattle.pg_top.specs.Selecting.{inputs_of, inputs_in, generated}
 use Rattle.pg_top.specs.Sweeping.{sweep_reads, swept_in}
@@ -19,6 +20,7 @@ reads_of (ToSample seed count) = []
 reads_of (ToAudit n) = inputs_of n ++ given_files (λ files. inputs_in files n) n
 reads_of (ToPack patterns translate table) = packing_reads patterns translate
 reads_of (ToTotals dict translate table) = totals_reads dict translate table
+reads_of (ToPrune p) = prune_reads p
 reads_of (ToSweep s) = sweep_reads s
 
 -- the names that a command writes, in its order
@@ -28,6 +30,7 @@ writes_of (ToAudit n) = []
 writes_of (ToSample seed count) = []
 writes_of (ToPack patterns translate table) = table ∷ []
 writes_of (ToTotals dict translate table) = []
+writes_of (ToPrune p) = p.output ∷ p.report ∷ []
 writes_of (ToSweep s) = s.output ∷ []
 
 -- what a command comes to where no file that it reads ends the call
@@ -37,6 +40,7 @@ finished files (ToAudit n) = Ends Yes [] yes_line
 finished files (ToSample seed count) = Ends Done [] (sample_lines seed count)
 finished files (ToPack patterns translate table) = packed_in files patterns translate table
 finished files (ToTotals dict translate table) = totalled_in files dict translate table
+finished files (ToPrune p) = pruned_in files p
 finished files (ToSweep s) = swept_in files s
 
 -- the outcome of a command: that of the first file that ends the call, and where none does, what it writes and prints
@@ -55,4 +59,5 @@ has_files (Some (ToAudit n)) = true
 has_files (Some (ToSample seed count)) = false
 has_files (Some (ToPack patterns translate table)) = true
 has_files (Some (ToTotals dict translate table)) = true
+has_files (Some (ToPrune p)) = true
 has_files (Some (ToSweep s)) = true

@@ -3,11 +3,11 @@ use Rattle.std.specs.Prelude.{ℕ, ◌<◌, ◌≤◌, ◌^◌, List, String, le
 use Rattle.std.specs.Option.{option_map}
 use denote.Ref.{Bor}
 use Rattle.std.specs.declared.alloc.Global.{Global}
-use Rattle.pg_top.specs.Requests.{FileNames, SweepRequest, Request, ToGenerate, ToAudit, ToSample, ToPack, ToTotals, ToSweep, request_of}
+use Rattle.pg_top.specs.Requests.{FileNames, SweepRequest, Request, ToGenerate, ToAudit, ToSample, ToPack, ToTotals, ToPrune, ToSweep, request_of}
 use Rattle.pg_top.specs.declared.commands.Names.{Names}
 use Rattle.pg_top.specs.declared.commands.SweepWords.{SweepWords}
 use Rattle.pg_top.specs.declared.commands.Command.{Command}
-use Rattle.pg_top.specs.declared.commands.Command.TheVariants.{Generate, Audit, Sample, Pack, Totals, Sweep}
+use Rattle.pg_top.specs.declared.commands.Command.TheVariants.{Generate, Audit, Sample, Pack, Totals, Prune, Sweep}
 
 -- a name that may be asked for as its bytes
 abbrev pub name_now : Option (Bor (List ℕ)) → Option (List ℕ)
@@ -50,6 +50,13 @@ asked_by (Audit names) = ToAudit (texts_of names)
 asked_by (Sample seed count) = ToSample seed count
 asked_by (Pack patterns translate table) = ToPack patterns.now translate.now table.now
 asked_by (Totals dict translate table) = ToTotals dict.now translate.now table.now
+asked_by (Prune dict patterns output translate report) = ToPrune (record {
+  dict = dict.now;
+  patterns = patterns.now;
+  output = output.now;
+  translate = translate.now;
+  report = report.now;
+})
 asked_by (Sweep words) = ToSweep (sweep_of words)
 
 -- the numbers of `sweep` are within their limits
@@ -66,6 +73,7 @@ IsWithin (Audit names) = Unit {0}
 IsWithin (Sample seed count) = (seed < 2 ^ 31) × (count ≤ 100000)
 IsWithin (Pack patterns translate table) = Unit {0}
 IsWithin (Totals dict translate table) = Unit {0}
+IsWithin (Prune dict patterns output translate report) = Unit {0}
 IsWithin (Sweep words) = IsSweepWithin words
 
 -- what the words of a call ask for, none where they are no command

@@ -9,6 +9,7 @@ pub mod Runs
 pub mod Selecting
 pub mod SampleTexts
 pub mod PackedTables
+pub mod Pruning
 pub mod Sweeping
 pub mod Auditing
 pub mod Calls
@@ -18,5 +19,6 @@ pub mod Faults
 pub mod Answers
 pub mod Stops
 pub mod Sources
+pub mod PruneInputs
 pub mod SweepInputs
 pub mod Verdicts

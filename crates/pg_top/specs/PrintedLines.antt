@@ -32,6 +32,12 @@ packed_line patterns table =
     codes "packed: " ++ decimal (length (lines patterns)) ++ codes " patterns, " ++ decimal (length table)
     ++ codes " bytes\n"
 
+-- where `prune` is done: how many rounds were made, and how many entries were taken out and stay
+abbrev pub pruned_line : ℕ → ℕ → ℕ → List ℕ
+pruned_line rounds removed kept =
+    codes "done: " ++ decimal rounds ++ codes " rounds, " ++ decimal removed ++ codes " removed, " ++ decimal kept
+    ++ codes " kept\n"
+
 -- where `sweep` is done: the number of the cheapest set of parameters, and what it costs
 abbrev pub winner_line : ℕ → ℕ → List ℕ
 winner_line winner cost = codes "winner: set " ++ decimal winner ++ codes ", cost " ++ decimal cost ++ codes "\n"

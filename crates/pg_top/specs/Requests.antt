@@ -29,6 +29,14 @@ pub record SweepRequest : Type 0 where
   pub missed : ℕ
   pub params : List (List ℕ)
 
+-- what `prune` is asked for: the names of its files
+pub record PruneRequest : Type 0 where
+  pub dict : List ℕ
+  pub patterns : List ℕ
+  pub output : List ℕ
+  pub translate : List ℕ
+  pub report : List ℕ
+
 -- what words ask for. `pack` has the names of the patterns, of the translate file and of the table, and `totals` those of
 -- the dictionary, of the translate file and of the table
 pub data Request : Type 0 where
@@ -37,6 +45,7 @@ pub data Request : Type 0 where
   ToSample : ℕ → ℕ → Request
   ToPack : List ℕ → List ℕ → List ℕ → Request
   ToTotals : List ℕ → List ℕ → List ℕ → Request
+  ToPrune : PruneRequest → Request
   ToSweep : SweepRequest → Request
 
 -- one for what is asked for by an option, and none where it is not
@@ -137,6 +146,26 @@ totals_in (dict ∷ translate ∷ table ∷ []) =
     if list_all is_name (dict ∷ translate ∷ table ∷ []) then Some (ToTotals dict translate table) else None
 totals_in words = None
 
+-- whether `prune` takes these names: the two outputs differ from each other and from all inputs
+abbrev pub is_prune_taken : PruneRequest → Bool
+is_prune_taken p =
+    list_all is_name (p.dict ∷ p.patterns ∷ p.output ∷ p.translate ∷ p.report ∷ [])
+    && outputs_differ (p.output ∷ p.report ∷ []) (p.dict ∷ p.patterns ∷ p.translate ∷ [])
+
+abbrev pub to_prune : PruneRequest → Option Request
+to_prune p = if is_prune_taken p then Some (ToPrune p) else None
+
+-- `prune DICT PATTERNS OUT TRANSLATE REPORT`
+abbrev pub prune_in : List (List ℕ) → Option Request
+prune_in (dict ∷ patterns ∷ output ∷ translate ∷ report ∷ []) = to_prune (record {
+  dict = dict;
+  patterns = patterns;
+  output = output;
+  translate = translate;
+  report = report;
+})
+prune_in words = None
+
 -- the number that a word of at most so many decimal digits is, where it is within these bounds
 abbrev pub number_within : ℕ → ℕ → ℕ → List ℕ → Option ℕ
 number_within digits least most word =
@@ -182,4 +211,5 @@ request_of (word ∷ words) =
     else (if bytes_eq word (codes "sample") then sample_in words
     else (if bytes_eq word (codes "pack") then pack_in words
     else (if bytes_eq word (codes "totals") then totals_in words
-    else (if bytes_eq word (codes "sweep") then sweep_in words else None)))))
+    else (if bytes_eq word (codes "prune") then prune_in words
+    else (if bytes_eq word (codes "sweep") then sweep_in words else None))))))

@@ -70,6 +70,19 @@ pub enum Command<'a> {
         /// The table.
         table: &'a str,
     },
+    /// To take out the entries of patterns that change no break of a dictionary, and to write the rest and a report.
+    Prune {
+        /// The dictionary.
+        dict: &'a str,
+        /// The patterns.
+        patterns: &'a str,
+        /// Where the patterns that stay are written.
+        output: &'a str,
+        /// The translate file.
+        translate: &'a str,
+        /// Where the report is written.
+        report: &'a str,
+    },
     /// To find the cheapest of several parameter files, and to write what each comes to.
     Sweep(SweepWords<'a>),
 }

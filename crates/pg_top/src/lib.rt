@@ -10,6 +10,7 @@ mod numbers;
 mod outputs;
 mod packing;
 mod printed;
+mod pruning;
 mod puts;
 mod reading;
 mod sample;

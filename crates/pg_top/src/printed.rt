@@ -1,7 +1,7 @@
 //! The lines that are printed.
 ghost use Rattle.std.specs.Prelude.{◌≡◌, ◌++◌, ◌==◌, [], if◌then◌else◌, length, decimal, OnOk, IfOk};
 ghost use Rattle.pg_types.specs.Lines.{lines};
-ghost use Rattle.pg_top.specs.PrintedLines.{done_line as done_line_of, packed_line as packed_line_of, refused_line as refused_line_of, winner_line as winner_line_of, word_of, place_of, work_line};
+ghost use Rattle.pg_top.specs.PrintedLines.{done_line as done_line_of, packed_line as packed_line_of, pruned_line as pruned_line_of, refused_line as refused_line_of, winner_line as winner_line_of, word_of, place_of, work_line};
 
 use crate::inputs::{Given, Input};
 use itoa::Buffer;
@@ -60,6 +60,23 @@ pub fn packed_line(alloc: Global, patterns: &[u8], table: &[u8]) -> Result<Vec<u
     push_number(&mut line, b"packed: ", count_lines(patterns) as u64)?;
     push_number(&mut line, b" patterns, ", table.len() as u64)?;
     line.extend_from_slice(b" bytes\n")?;
+    Ok(line)
+}
+
+/// The line where `prune` is done: how many rounds were made, and how many entries were taken out and stay.
+pub fn pruned_line(
+    alloc: Global,
+    rounds: u64,
+    removed: u64,
+    kept: u64,
+) -> Result<Vec<u8>, AllocError>
+    ensures { IfOk result (λ line. line.items ≡ pruned_line_of rounds removed kept) }
+{
+    let mut line = Vec::new(alloc);
+    push_number(&mut line, b"done: ", rounds)?;
+    push_number(&mut line, b" rounds, ", removed)?;
+    push_number(&mut line, b" removed, ", kept)?;
+    line.extend_from_slice(b" kept\n")?;
     Ok(line)
 }
 

@@ -9,7 +9,8 @@ ghost use Rattle.pg_top.specs.Faults.{SomeRose, IsFault};
 ghost use Rattle.pg_top.specs.Moments.{Puts};
 ghost use Rattle.pg_top.specs.Outcomes.{Ends};
 ghost use Rattle.pg_top.specs.PrintedLines.{usage_line};
-ghost use Rattle.pg_top.specs.Requests.{ToGenerate, ToAudit, ToPack, ToTotals, ToSweep};
+ghost use Rattle.pg_top.specs.PruneInputs.{prune_of};
+ghost use Rattle.pg_top.specs.Requests.{ToGenerate, ToAudit, ToPack, ToTotals, ToPrune, ToSweep};
 ghost use Rattle.pg_top.specs.Stops.{StopsReading, Finishes};
 ghost use Rattle.pg_top.specs.Writings.{written_names, writing_of};
 
@@ -20,6 +21,7 @@ use crate::inputs::Stop;
 use crate::outputs::{Outputs, make_outputs};
 use crate::packing::pack_files;
 use crate::printed::{USAGE, WRITING};
+use crate::pruning::{PruneNames, prune_files};
 use crate::puts::{answer, put_fault, put_stop};
 use crate::reading::read_inputs;
 use crate::samples::sample;
@@ -126,6 +128,22 @@ fn totals<F: Files, O: Sink>(
     }
 }
 
+/// Writes the patterns that a dictionary needs, and a report of what needs each.
+fn prune<F: Files, O: Sink>(
+    alloc: Global,
+    names: &PruneNames<'_>,
+    files: &mut F,
+    out: &mut O,
+) -> Status
+    ensures { IsCall (Some (ToPrune (prune_of names.now))) result
+        (F.shown files.old, O.shown out.old) (F.shown files.new, O.shown out.new) }
+{
+    match prune_files(alloc, names, files) {
+        Ok(outputs) => finish(files, out, &outputs),
+        Err(stop) => put_stop(alloc, out, &stop),
+    }
+}
+
 /// Finds the cheapest of several parameter files, writes what each comes to, and prints which it is.
 fn sweep<F: Files, O: Sink>(
     alloc: Global,
@@ -169,6 +187,22 @@ fn perform<F: Files, O: Sink>(
             translate,
             table,
         } => totals(alloc, dict, translate, table, files, out),
+        Command::Prune {
+            dict,
+            patterns,
+            output,
+            translate,
+            report,
+        } => {
+            let names = PruneNames {
+                dict,
+                patterns,
+                output,
+                translate,
+                report,
+            };
+            prune(alloc, &names, files, out)
+        }
         Command::Sweep(words) => sweep(alloc, words, files, out),
     }
 }
@@ -195,6 +229,8 @@ fn call<F: Files, O: Sink>(alloc: Global, words: &[String], files: &mut F, out: 
 /// other, up to the first false line. `sample` makes a dictionary from a number and prints how a selection on it
 /// goes. `pack` reads the translate file and the patterns, and writes their packed table. `totals` reads the translate
 /// file, the dictionary and the packed table, and prints the totals of the words by the table, which it reads in place.
+/// `prune` reads the translate file, the patterns and the dictionary. It takes out the entries that change no break of
+/// a word, writes the rest, and then a report of the first position that needs each.
 /// `sweep` reads the translate file, the parameter files, the starting patterns and the dictionary. It makes a run for
 /// each parameter file and fold, writes the table of what they come to, and prints which file is the cheapest.
 ///

@@ -2,7 +2,7 @@
 ghost use Rattle.std.specs.Prelude.{◌≡◌, ◌≤◌, ◌<◌, ◌++◌, ◌∷◌, [], length, drop, slice_index_or, IfSome};
 ghost use Rattle.std.specs.List.{list_all};
 ghost use Rattle.std.specs.Option.{option_map, option_and_then};
-ghost use Rattle.pg_top.specs.Requests.{is_name as is_name_word, if_asked, input_names, output_names, differs_from, outputs_differ, are_taken as are_taken_names, with_option as with_option_of, with_options as with_options_of, six_names, names_in, to_generate, to_audit, sample_in, pack_in, totals_in, is_sweep_taken, sweep_in, request_of};
+ghost use Rattle.pg_top.specs.Requests.{is_name as is_name_word, if_asked, input_names, output_names, differs_from, outputs_differ, are_taken as are_taken_names, with_option as with_option_of, with_options as with_options_of, six_names, names_in, to_generate, to_audit, sample_in, pack_in, totals_in, is_prune_taken as is_prune_taken_names, prune_in, is_sweep_taken, sweep_in, request_of};
 ghost use Rattle.pg_top.specs.Commands.{name_now, texts_of, asked_by, IsWithin, words_of};
 
 use crate::commands::{Command, Names, SweepWords};
@@ -287,6 +287,56 @@ fn totals(words: &[String]) -> Option<Command<'_>>
     }
 }
 
+/// Whether `prune` takes these names.
+fn is_prune_taken(dict: &str, patterns: &str, output: &str, translate: &str, report: &str) -> bool
+    ensures { result ≡ is_prune_taken_names (record {
+      dict = dict.now;
+      patterns = patterns.now;
+      output = output.now;
+      translate = translate.now;
+      report = report.now;
+    }) }
+{
+    is_name(dict)
+        && is_name(patterns)
+        && is_name(output)
+        && is_name(translate)
+        && is_name(report)
+        && output != report
+        && output != dict
+        && output != patterns
+        && output != translate
+        && report != dict
+        && report != patterns
+        && report != translate
+}
+
+/// What the words behind `prune` ask for.
+fn prune(words: &[String]) -> Option<Command<'_>>
+    ensures value { option_map asked_by result ≡ prune_in (words_of words.now) }
+    ensures within { IfSome result IsWithin }
+{
+    if words.len() != 5 {
+        return None;
+    }
+    let dict = words[0].as_str();
+    let patterns = words[1].as_str();
+    let output = words[2].as_str();
+    let translate = words[3].as_str();
+    let report = words[4].as_str();
+    if is_prune_taken(dict, patterns, output, translate, report) {
+        Some(Command::Prune {
+            dict,
+            patterns,
+            output,
+            translate,
+            report,
+        })
+    } else {
+        None
+    }
+}
+
 /// Whether all words can be names.
 fn are_all_names(words: &[String]) -> bool
     ensures { result ≡ list_all is_name_word (words_of words.now) }
@@ -378,8 +428,8 @@ fn sweep(words: &[String]) -> Option<Command<'_>>
 /// What the words, without the program's name, ask for; none exactly where they are no command. Commands are
 /// `generate DICT PATTERNS OUT TRANSLATE PARAMS REPORT`, then `--pattmp FILE` and `--cells FILE`, each at most once
 /// and in either order, `audit` with the same six names and at most one `--pattmp FILE`, `sample N COUNT`,
-/// `pack PATTERNS TRANSLATE TABLE`, `totals DICT TRANSLATE TABLE`, and `sweep DICT PATTERNS OUT TRANSLATE K BAD MISSED`
-/// with the names of 1 to 16 parameter files. It takes no memory.
+/// `pack PATTERNS TRANSLATE TABLE`, `totals DICT TRANSLATE TABLE`, `prune DICT PATTERNS OUT TRANSLATE REPORT`, and
+/// `sweep DICT PATTERNS OUT TRANSLATE K BAD MISSED` with the names of 1 to 16 parameter files. It takes no memory.
 pub fn command(words: &[String]) -> Option<Command<'_>>
     ensures value { option_map asked_by result ≡ request_of (words_of words.now) }
     ensures within { IfSome result IsWithin }
@@ -398,6 +448,8 @@ pub fn command(words: &[String]) -> Option<Command<'_>>
         pack(&words[1..])
     } else if word == "totals" {
         totals(&words[1..])
+    } else if word == "prune" {
+        prune(&words[1..])
     } else if word == "sweep" {
         sweep(&words[1..])
     } else {

@@ -1,0 +1,83 @@
+-- What `prune` reads, and what it comes to.
+use Rattle.std.proofs.Common.{◌≡◌, ℕ, List, [], ◌∷◌, Option, Some, Ok, IfSome, ap, ◌∙◌}
+use Rattle.std.specs.Prelude.{unwrap_or}
+use Rattle.pg_outside.specs.Content.{FileMap, FilesShown, KeepsHeld, file_at}
+use Rattle.pg_outside.specs.Faults.{NoneFell}
+use Rattle.pg_translate.specs.Alphabets.{Alphabet}
+use Rattle.pg_translate.specs.Tables.{table}
+use Rattle.pg_dict.specs.Word.{Word}
+use Rattle.pg_dict.specs.Words.{words}
+use Rattle.pg_patterns.specs.Starts.{start}
+use Rattle.pg_select.specs.Windows.{Patterns}
+use Rattle.pg_top.specs.Calls.{outcome_of, finished}
+use Rattle.pg_top.specs.PackedTables.{file_under}
+use Rattle.pg_top.specs.PruneInputs.{HasPrune}
+use Rattle.pg_top.specs.Pruning.{prune_reads, pruned_by}
+use Rattle.pg_top.specs.Readings.{Reading, read_as, input_file}
+use Rattle.pg_top.specs.Requests.{PruneRequest, ToPrune}
+use Rattle.pg_top.specs.Stops.{StopsAt, StopsReading}
+use Rattle.pg_top.specs.declared.inputs.Input.TheVariants as input
+use Rattle.pg_top.specs.declared.inputs.Stop.{Stop}
+use Rattle.pg_top.specs.declared.pruning.PruneInputs.{PruneInputs}
+use Rattle.pg_top.proofs.Orders.{AreAccepted, accepted_all, both, held_later, mapped, stopped_behind}
+use Rattle.pg_top.proofs.UnderTable.{HasTable, is_table, table_accepted, accepted_under, means_under, stopped_first, stopped_second, stopped_under}
+
+module _ (p : PruneRequest) where
+  abbrev translate_file : Reading
+  translate_file = input_file input.Translate p.translate (λ files. table)
+
+  abbrev patterns_file : Reading
+  patterns_file = file_under p.translate input.Patterns p.patterns start
+
+  abbrev dictionary_file : Reading
+  dictionary_file = file_under p.translate input.Dictionary p.dict words
+
+  -- a stop at the translate file
+  pub stopped_table : (s0 s1 : FilesShown) (stop : Stop) → StopsAt translate_file s0 s1 stop → StopsReading (prune_reads p) s0 s1 stop
+  stopped_table s0 s1 stop stops = stopped_first translate_file (patterns_file ∷ dictionary_file ∷ []) s0 s1 stop stops
+
+  module _ (t : Alphabet) where
+    -- a stop at the patterns
+    pub stopped_patterns : (s0 s1 s2 : FilesShown) (stop : Stop) → NoneFell s0.read_faults s1.read_faults → KeepsHeld s1.held s2.held → IfSome s1.held (HasTable p.translate t) → StopsAt (input_file input.Patterns p.patterns (λ _. start t)) s1 s2 stop → StopsReading (prune_reads p) s0 s2 stop
+    stopped_patterns s0 s1 s2 stop fell keeps one stops = stopped_second p.translate t start input.Patterns p.patterns (dictionary_file ∷ []) s0 s1 s2 stop fell keeps one stops
+
+    module _ (P : Patterns) where
+      -- what is known once the patterns are read
+      abbrev pub HasPatterns : FileMap → Type 0
+      HasPatterns files = HasTable p.translate t files × (read_as (start t) (file_at files) p.patterns ≡ Some (Ok P))
+
+      patterns_accepted : (files : FileMap) → HasPatterns files → AreAccepted (file_at files) (translate_file ∷ patterns_file ∷ [])
+      patterns_accepted files h = (table_accepted p.translate t files h.0, (accepted_under p.translate t start input.Patterns p.patterns P files h.0 h.1, tt))
+
+      pub patterns_read : (h1 h2 : Option FileMap) → KeepsHeld h1 h2 → IfSome h1 (HasTable p.translate t) → IfSome h2 (λ files. read_as (start t) (file_at files) p.patterns ≡ Some (Ok P)) → IfSome h2 HasPatterns
+      patterns_read h1 h2 keeps one more = both h2 (HasTable p.translate t) (λ files. read_as (start t) (file_at files) p.patterns ≡ Some (Ok P)) (held_later h1 h2 (HasTable p.translate t) keeps one) more
+
+      -- a stop at the dictionary
+      pub stopped_words : (s0 s2 s3 : FilesShown) (stop : Stop) → NoneFell s0.read_faults s2.read_faults → KeepsHeld s2.held s3.held → IfSome s2.held HasPatterns → StopsAt (input_file input.Dictionary p.dict (λ _. words t)) s2 s3 stop → StopsReading (prune_reads p) s0 s3 stop
+      stopped_words s0 s2 s3 stop fell keeps two stops =
+          let later : IfSome s3.held HasPatterns = held_later s2.held s3.held HasPatterns keeps two in
+          stopped_behind (translate_file ∷ patterns_file ∷ []) dictionary_file [] s0 s2 s3 stop fell
+          (mapped s3.held HasPatterns (λ files. AreAccepted (file_at files) (translate_file ∷ patterns_file ∷ [])) patterns_accepted later)
+          (stopped_under p.translate t words input.Dictionary p.dict s2 s3 stop (mapped s3.held HasPatterns (HasTable p.translate t) (λ files h. h.0) later) stops)
+
+      -- once all are read
+      pub all_read : (ws : List Word) (h2 h3 : Option FileMap) → KeepsHeld h2 h3 → IfSome h2 HasPatterns → IfSome h3 (λ files. read_as (words t) (file_at files) p.dict ≡ Some (Ok ws))
+          → IfSome h3 (λ files. HasPrune (file_at files) p (record { table = t; patterns = P; dictionary = ws }))
+      all_read ws h2 h3 keeps two more =
+          mapped h3 (λ files. HasPatterns files × (read_as (words t) (file_at files) p.dict ≡ Some (Ok ws))) (λ files. HasPrune (file_at files) p (record { table = t; patterns = P; dictionary = ws }))
+          (λ files h. record { table = h.0.0; patterns = h.0.1; words = h.1 })
+          (both h3 HasPatterns (λ files. read_as (words t) (file_at files) p.dict ≡ Some (Ok ws)) (held_later h2 h3 HasPatterns keeps two) more)
+
+-- then it comes to what pruning writes and prints
+pub prune_outcome : (p : PruneRequest) (i : PruneInputs) (files : FileMap) → HasPrune (file_at files) p i → outcome_of (file_at files) (ToPrune p) ≡ pruned_by p i.table i.dictionary i.patterns
+prune_outcome p i files h =
+    let t : Alphabet = i.table in
+    let P : Patterns = i.patterns in
+    let ws : List Word = i.dictionary in
+    let front : AreAccepted (file_at files) (translate_file p ∷ patterns_file p ∷ []) = patterns_accepted p t P files (h.table, h.patterns) in
+    let accepted : AreAccepted (file_at files) (prune_reads p) = (front.0, (front.1.0, (accepted_under p.translate t words input.Dictionary p.dict ws files h.table h.words, tt))) in
+    let is_t = is_table p.translate t files h.table in
+    let is_P = means_under p.translate t start [] p.patterns P files h.table h.patterns in
+    let is_ws = means_under p.translate t words [] p.dict ws files h.table h.words in
+    ap (λ end. unwrap_or end (finished (file_at files) (ToPrune p))) (accepted_all (file_at files) (prune_reads p) accepted)
+    ∙ (λ k. pruned_by p (is_t k) (is_ws k) (is_P k))

@@ -1,0 +1,143 @@
+//! `prune`: the patterns that a dictionary needs.
+ghost use Rattle.std.specs.Prelude.{◌≡◌, ◌+◌, ◌∷◌, [], IfOk, IfErr, IfSome};
+ghost use Rattle.pg_outside.specs.Content.{KeepsHeld, file_at};
+ghost use Rattle.pg_outside.specs.Faults.{NoneFell};
+ghost use Rattle.pg_patterns.specs.Values.{SignsUpTo};
+ghost use Rattle.pg_translate.specs.Alphabets.{letters_of};
+ghost use Rattle.pg_top.specs.Calls.{outcome_of, writes_of};
+ghost use Rattle.pg_top.specs.Outcomes.{Ends};
+ghost use Rattle.pg_top.specs.PruneInputs.{prune_of, HasPrune, HasKnownSigns};
+ghost use Rattle.pg_top.specs.Pruning.{prune_reads, pruned_files, line_of_pruned, pruned_by};
+ghost use Rattle.pg_top.specs.Requests.{ToPrune};
+ghost use Rattle.pg_top.specs.Stops.{StopsCommand, StopsReading};
+ghost use Rattle.pg_top.specs.Writings.{written_names, writing_of};
+ghost use Rattle.pg_top.specs.declared.answers.Status.TheVariants.{Done};
+
+use crate::inputs::Stop;
+use crate::outputs::Outputs;
+use crate::printed::pruned_line;
+use crate::reading::{read_dictionary, read_start, read_table};
+use crate::writes::Output;
+use pg_dict::Dictionary;
+use pg_outside::Files;
+use pg_patterns::PatternSet;
+use pg_prune::{Pruned, prune, prune_text};
+use pg_translate::Table;
+use std::alloc::{AllocError, Global};
+
+/// The names that `prune` is given.
+#[derive(Clone, Copy, Debug)]
+pub struct PruneNames<'a> {
+    /// The dictionary.
+    pub dict: &'a str,
+    /// The patterns.
+    pub patterns: &'a str,
+    /// Where the patterns that stay are written.
+    pub output: &'a str,
+    /// The translate file.
+    pub translate: &'a str,
+    /// Where the report is written.
+    pub report: &'a str,
+}
+
+/// What `prune` reads.
+#[derive(Drop)]
+struct PruneInputs {
+    /// The table of the translate file.
+    table: Table,
+    /// The patterns.
+    patterns: PatternSet,
+    /// The words.
+    dictionary: Dictionary,
+}
+
+/// Reads what `prune` reads, in its order, up to the first refusal or fault.
+fn read_prune<'a, F: Files>(
+    alloc: Global,
+    names: &PruneNames<'a>,
+    files: &mut F,
+) -> Result<PruneInputs, Stop<'a>>
+    ensures held { KeepsHeld (F.shown files.old).held (F.shown files.new).held }
+    ensures writes { NoneFell (F.shown files.old).write_faults (F.shown files.new).write_faults }
+    ensures ok { IfOk result (λ inputs. IfSome (F.shown files.new).held (λ files.
+        HasPrune (file_at files) (prune_of names.now) inputs)) }
+    ensures known { IfOk result HasKnownSigns }
+    ensures stopped { IfErr result
+        (StopsReading (prune_reads (prune_of names.now)) (F.shown files.old) (F.shown files.new)) }
+{
+    let table = read_table(alloc, names.translate, files)?;
+    let patterns = read_start(alloc, &table, names.patterns, files)?;
+    let dictionary = read_dictionary(alloc, &table, names.dict, files)?;
+    Ok(PruneInputs {
+        table,
+        patterns,
+        dictionary,
+    })
+}
+
+/// What `prune` writes and prints, where pruning comes to this.
+fn write_pruned<'a>(
+    alloc: Global,
+    names: &PruneNames<'a>,
+    table: &Table,
+    pruned: &Pruned,
+) -> Result<Outputs<'a>, AllocError>
+    requires { SignsUpTo (letters_of table.now + 1) pruned.now.patterns }
+    ensures files { IfOk result (λ made.
+        writing_of made.files.items ≡ pruned_files (prune_of names.now) table.now pruned.now) }
+    ensures lines { IfOk result (λ made. made.lines.items ≡ line_of_pruned pruned.now) }
+{
+    let kept = pruned.patterns();
+    let text = kept.text(alloc, table)?;
+    let report = prune_text(alloc, table, pruned)?;
+    let lines = pruned_line(alloc, pruned.rounds(), pruned.removed(), kept.len() as u64)?;
+    let mut files = Vec::new(alloc);
+    files.push(Output {
+        name: names.output,
+        text,
+    })?;
+    files.push(Output {
+        name: names.report,
+        text: report,
+    })?;
+    Ok(Outputs { files, lines })
+}
+
+/// Prunes, and builds all that `prune` writes and prints.
+fn make_prune<'a>(
+    alloc: Global,
+    names: &PruneNames<'a>,
+    inputs: &PruneInputs,
+) -> Result<Outputs<'a>, AllocError>
+    requires { HasKnownSigns inputs.now }
+    ensures made { IfOk result (λ made.
+        pruned_by (prune_of names.now) inputs.now.table inputs.now.dictionary inputs.now.patterns
+        ≡ Ends Done (writing_of made.files.items) made.lines.items) }
+    ensures named { IfOk result (λ made.
+        written_names (writing_of made.files.items) ≡ names.now.output.now ∷ names.now.report.now ∷ []) }
+{
+    let pruned = prune(alloc, &inputs.dictionary, &inputs.table, &inputs.patterns)?;
+    let outputs = write_pruned(alloc, names, &inputs.table, &pruned)?;
+    Ok(outputs)
+}
+
+/// Reads what `prune` reads, and builds all that it writes and prints.
+pub fn prune_files<'a, F: Files>(
+    alloc: Global,
+    names: &PruneNames<'a>,
+    files: &mut F,
+) -> Result<Outputs<'a>, Stop<'a>>
+    ensures held { KeepsHeld (F.shown files.old).held (F.shown files.new).held }
+    ensures writes { NoneFell (F.shown files.old).write_faults (F.shown files.new).write_faults }
+    ensures ok { IfOk result (λ made. IfSome (F.shown files.new).held (λ files.
+        outcome_of (file_at files) (ToPrune (prune_of names.now))
+        ≡ Ends Done (writing_of made.files.items) made.lines.items)) }
+    ensures named { IfOk result (λ made.
+        written_names (writing_of made.files.items) ≡ writes_of (ToPrune (prune_of names.now))) }
+    ensures stopped { IfErr result
+        (StopsCommand (ToPrune (prune_of names.now)) (F.shown files.old) (F.shown files.new)) }
+{
+    let inputs = read_prune(alloc, names, files)?;
+    let outputs = make_prune(alloc, names, &inputs)?;
+    Ok(outputs)
+}
