@@ -1,14 +1,12 @@
 -- What a packed table file says: the list of a string, its values, the values of the positions of a word, and the totals.
-use Rattle.std.specs.Prelude.{ℕ, ◌+◌, ◌-◌, Bool, true, false, ◌&&◌, nat_eq, nat_lt, nat_le, max, if◌then◌else◌, List, [], ◌∷◌, length, map, take, drop, slice_index_or}
+use Rattle.std.specs.Prelude.{ℕ, ◌+◌, ◌-◌, Bool, ◌&&◌, nat_eq, nat_lt, nat_le, max, if◌then◌else◌, List, [], ◌∷◌, length, take, drop}
 use Rattle.std.specs.List.{flat_map, range_with_len}
 use Rattle.pg_types.specs.declared.limits.TheConstants.{PATTERN_SIGNS_MAX}
 use Rattle.pg_types.specs.declared.marks.Mark.{Mark}
 use Rattle.pg_types.specs.declared.marks.Totals.{Totals}
-use Rattle.pg_translate.specs.Reach.{positions}
 use Rattle.pg_dict.specs.Word.{Word}
 use Rattle.pg_outputs.specs.Lists.{list_of}
 use Rattle.pg_select.specs.CountedPositions.{Minima}
-use Rattle.pg_select.specs.Statuses.{status, position_weight}
 use Rattle.pg_select.specs.Sums.{marks_by, totals_of}
 use Rattle.pg_table.specs.Forms.{head_of, cell_at, records_of}
 
