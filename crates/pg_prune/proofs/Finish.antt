@@ -1,16 +1,13 @@
 -- What the rounds come to.
-use Rattle.std.proofs.Common.{◌≡◌, ℕ, ◌+◌, ◌-◌, ◌≤◌, List, map, length, refl, sym, subst, ap, ◌∙◌, arith}
-use Rattle.std.specs.List.{All}
+use Rattle.std.proofs.Common.{◌≡◌, ℕ, ◌-◌, ◌≤◌, List, length, sym, subst, ap, ◌∙◌, arith}
 use Rattle.std.proofs.lemmas.List.{length-map}
 use Rattle.pg_dict.specs.Word.{Word}
 use Rattle.pg_select.specs.CountedPositions.{Minima}
 use Rattle.pg_select.specs.Windows.{Patterns}
 use Rattle.pg_prune.specs.declared.pruned.Need.{Need}
 use Rattle.pg_prune.specs.Places.{Place, places}
-use Rattle.pg_prune.specs.Prunes.{rounds, needs, pruned, found_by, Found, Rounds, need_at}
-use Rattle.pg_prune.specs.Standing.{all_standing}
-use Rattle.pg_prune.specs.Turns.{IsTallied}
-use Rattle.pg_prune.specs.Picks.{picked, IsGround, RoundStart}
+use Rattle.pg_prune.specs.Prunes.{rounds, needs, pruned, found_by, Found, Rounds}
+use Rattle.pg_prune.specs.Picks.{picked, RoundStart}
 use Rattle.pg_prune.specs.Picks.{entry_of}
 
 abbrev pub to_rounds : Patterns → ℕ → Rounds

@@ -1,5 +1,5 @@
 -- The loop that adds all entries at their places.
-use Rattle.std.proofs.Common.{◌≡◌, ℕ, zero, suc, ◌+◌, ◌-◌, ◌^◌, ◌<◌, ◌≤◌, true, List, [], ◌∷◌, ◌++◌, map, length, get_or, take, Some, refl, sym, subst, ap, ◌∙◌, arith, add-one}
+use Rattle.std.proofs.Common.{◌≡◌, ℕ, zero, suc, ◌+◌, ◌-◌, ◌^◌, ◌<◌, true, List, [], ◌∷◌, ◌++◌, map, length, get_or, take, Some, refl, sym, subst, ap, ◌∙◌, arith}
 use Rattle.std.specs.Prelude.{slice_get, replicate}
 use Rattle.std.specs.List.{list_all}
 use Rattle.std.proofs.lemmas.List.{append-nil, take_more, length-map, get_or-map, length-take-le}
@@ -9,8 +9,7 @@ use Rattle.pg_types.proofs.BoolFacts.{and_first, and_second}
 use Rattle.pg_patterns.specs.Values.{is_entry}
 use Rattle.pg_select.specs.Windows.{Patterns}
 use Rattle.pg_prune.specs.Places.{Place}
-use Rattle.pg_prune.specs.Standing.{standing, all_standing}
-use Rattle.pg_prune.specs.Holders.{tally}
+use Rattle.pg_prune.specs.Standing.{standing}
 use Rattle.pg_prune.specs.Turns.{Turn, with_entry, IsAwaited, IsTallied}
 use Rattle.pg_prune.specs.Picks.{IsGround}
 use Rattle.pg_prune.proofs.RoundSteps.{standing_at}
@@ -48,8 +47,8 @@ turn_awaited items places P vs count holders i v numbers x g sound tallied insid
       entry = record {
         stands = own ∙ ap items is ∙ sym (get_or-map items vs i v [] (omega arith)) ∙ ap (λ t. get_or t i []) g.all ∙ standing_at places P i inside;
         gives = ap (λ (e : (List ℕ × ℕ) × ℕ). e.1) (sym (get_or_from_slice_get P i x (([], 0), 0) entry));
-        sound = subst (λ (Q : Patterns). list_all is_entry Q ≡ true) (with_next places P i inside) (sound_take (i + 1) P sound)
+        sound = subst (λ (Q : Patterns). list_all is_entry Q ≡ true) (with_next places P i inside) (sound_take (i + 1) P sound);
       };
       tallied = subst (λ (Q : Patterns). IsTallied places Q holders) (sym (append-nil (take i P))) tallied;
-      room = (let short : length (take i P ++ []) ≡ i = ap length (append-nil (take i P)) ∙ length-take-le i P (omega arith) in omega arith)
+      room = (let short : length (take i P ++ []) ≡ i = ap length (append-nil (take i P)) ∙ length-take-le i P (omega arith) in omega arith);
     }

@@ -1,7 +1,6 @@
 -- Each entry that stays has a need.
-use Rattle.std.proofs.Common.{◌≡◌, ℕ, suc, ◌+◌, ◌%◌, ◌<◌, ◌≤◌, Bool, true, false, cond, not, ◌&&◌, List, [], ◌∷◌, ◌++◌, length, Option, Some, None, refl, sym, subst, ap, ◌∙◌, arith, length-append}
-use Rattle.std.specs.Prelude.{nat_eq}
-use Rattle.std.specs.List.{All, list_all, find}
+use Rattle.std.proofs.Common.{◌≡◌, ℕ, suc, ◌%◌, ◌≤◌, Bool, true, false, cond, not, ◌&&◌, List, [], ◌∷◌, ◌++◌, length, Option, Some, None, refl, sym, subst, ap, ◌∙◌}
+use Rattle.std.specs.List.{All, find}
 use Rattle.std.proofs.lemmas.List.Elements.{All-nil, All-cons, All-head, All-tail, All-append}
 use Rattle.std.proofs.lemmas.Bool.{eq-eqb, eqb-true, and_from}
 use Rattle.pg_types.proofs.BoolFacts.{and_first, and_second}
@@ -59,6 +58,6 @@ module _ (places : List Place) where
   needs_many P before (e ∷ rest) alike none =
       one_need (first_difference places (before ++ e ∷ rest) (before ++ rest)) (needs_from places (before ++ e ∷ []) rest) (length rest)
       (λ is. let goes = alike_over places P (before ++ e ∷ rest) (before ++ rest) alike (alike_where_none (before ++ e ∷ rest) (before ++ rest) places is) in
-             let stays : break_alike places P (before ++ rest) ≡ false = none [] e rest refl in absurd (cc))
+      let stays : break_alike places P (before ++ rest) ≡ false = none [] e rest refl in absurd (cc))
       (needs_many P (before ++ e ∷ []) rest (subst (λ (R : Patterns). break_alike places P R ≡ true) (sym (regrouped before e rest)) alike)
       (λ b f behind is. subst (λ (R : Patterns). break_alike places P R ≡ false) (sym (regrouped before e (b ++ behind))) (none (e ∷ b) f behind (ap (λ (r : Patterns). e ∷ r) is))))

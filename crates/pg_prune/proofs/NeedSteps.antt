@@ -1,7 +1,7 @@
 -- The loop over the needs of entries with some numbers.
-use Rattle.std.proofs.Common.{◌≡◌, ℕ, zero, suc, ◌+◌, ◌<◌, ◌≤◌, Bool, true, List, [], ◌∷◌, ◌++◌, map, length, get_or, take, drop, Option, None, Some, refl, sym, subst, ap, ◌∙◌, arith, append_assoc, take-append-drop}
-use Rattle.std.specs.Prelude.{slice_get, MatchOption}
-use Rattle.std.specs.List.{All, list_all}
+use Rattle.std.proofs.Common.{◌≡◌, ℕ, ◌+◌, ◌<◌, ◌≤◌, List, [], ◌∷◌, ◌++◌, map, length, get_or, take, drop, Option, Some, refl, sym, subst, ap, ◌∙◌, append_assoc, take-append-drop}
+use Rattle.std.specs.Prelude.{slice_get}
+use Rattle.std.specs.List.{All}
 use Rattle.std.proofs.lemmas.List.{append-nil, map-append, take_more, get_or-map}
 use Rattle.std.proofs.lemmas.List.Elements.{All-take, All-drop}
 use Rattle.pg_select.specs.Windows.{Patterns}
@@ -46,7 +46,7 @@ module _ (places : List Place) (P : Patterns) (kept : List ℕ) where
       → v ≡ get_or vs (get_or kept i 0) v → numbers ≡ items v → slice_get P (get_or kept i 0) ≡ Some x → IsHeld (turn_of places P (take i kept) (get_or kept i 0) (drop (i + 1) kept)) holders numbers x.1
   need_turn items vs holders i v numbers x s inside is own entry =
       let whole : picked P kept ≡ picked P (take i kept) ++ picked P (get_or kept i 0 ∷ drop (i + 1) kept) =
-          ap (picked P) (sym (take-append-drop i kept)) ∙ map-append (entry_of P) (take i kept) (drop i kept) ∙ ap (λ left. picked P (take i kept) ++ picked P left) (left_at kept i inside) in
+      ap (picked P) (sym (take-append-drop i kept)) ∙ map-append (entry_of P) (take i kept) (drop i kept) ∙ ap (λ left. picked P (take i kept) ++ picked P left) (left_at kept i inside) in
       turn_from items places P vs holders (take i kept) (get_or kept i 0) (drop (i + 1) kept) v numbers x s.all s.sound
       (All-take (λ i. i < length P) i kept s.within) (subst (All (λ i. i < length P)) (left_at kept i inside) (All-drop (λ i. i < length P) i kept s.within))
       (subst (λ (Q : Patterns). IsTallied places Q holders) whole s.tallied) is own entry

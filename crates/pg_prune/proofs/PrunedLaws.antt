@@ -1,13 +1,13 @@
 -- What pruning keeps.
-use Rattle.std.proofs.Common.{◌≡◌, ℕ, suc, zero, ◌+◌, ◌-◌, ◌<◌, ◌≤◌, Bool, true, false, cond, T, ◌&&◌, List, [], ◌∷◌, ◌++◌, length, refl, sym, subst, ap, ◌∙◌, arith, length-append}
+use Rattle.std.proofs.Common.{◌≡◌, ℕ, ◌≤◌, true, false, T, List, [], ◌∷◌, ◌++◌, length, arith, length-append}
 use Rattle.std.specs.List.{All, Contains, list_all}
 use Rattle.std.specs.FinMap.Entries.{is_sorted, below_all}
-use Rattle.std.proofs.lemmas.List.Elements.{All-nil, All-cons, All-head, All-tail, All-contains_itself}
+use Rattle.std.proofs.lemmas.List.Elements.{All-cons, All-head, All-tail, All-contains_itself}
 use Rattle.std.proofs.lemmas.Bool.{and_from}
 use Rattle.pg_types.proofs.BoolFacts.{and_first, and_second, first_half, second_half, both_halves}
 use Rattle.pg_dict.specs.Word.{Word}
 use Rattle.pg_patterns.specs.DottedSigns.{dotted_cmp}
-use Rattle.pg_patterns.specs.Values.{IsPatternMap, SignsUpTo, is_entry}
+use Rattle.pg_patterns.specs.Values.{IsPatternMap, is_entry}
 use Rattle.pg_select.specs.CountedPositions.{Minima}
 use Rattle.pg_select.specs.Windows.{Patterns}
 use Rattle.pg_prune.specs.Places.{places}
@@ -48,7 +48,7 @@ module _ (m : Minima) (ws : List Word) (P : Patterns) where
   unfolding pruned rounds
   pruned_map map = record {
     sorted = rounds_keep (places m ws) P (λ Q. T (is_sorted dotted_cmp Q)) (λ before e rest goes. sorted_without before e rest) 0 (length P) P map.sorted;
-    sound = rounds_keep (places m ws) P (λ Q. list_all is_entry Q ≡ true) (λ before e rest goes. sound_without before e rest) 0 (length P) P map.sound
+    sound = rounds_keep (places m ws) P (λ Q. list_all is_entry Q ≡ true) (λ before e rest goes. sound_without before e rest) 0 (length P) P map.sound;
   }
 
   alike_at_end : break_alike (places m ws) P (pruned m ws P).patterns ≡ true
@@ -72,7 +72,7 @@ module _ (m : Minima) (ws : List Word) (P : Patterns) where
   unfolding pruned needs places
   pruned_needs = record {
     each = needs_many (places m ws) P [] (pruned m ws P).patterns alike_at_end none_at_end;
-    positions = needs_behind (places m ws) [] (pruned m ws P).patterns (all_behind m 1 ws)
+    positions = needs_behind (places m ws) [] (pruned m ws P).patterns (all_behind m 1 ws);
   }
 
   pub pruned_few : length (pruned m ws P).patterns ≤ length P

@@ -1,11 +1,11 @@
 -- What rounds keep, and when they end.
-use Rattle.std.proofs.Common.{◌≡◌, ◌≢◌, ℕ, zero, suc, ◌+◌, ◌<◌, ◌≤◌, Bool, true, false, cond, T, List, [], ◌∷◌, ◌++◌, length, refl, sym, subst, ap, ◌∙◌, arith, append_assoc, length-append}
+use Rattle.std.proofs.Common.{◌≡◌, ◌≢◌, ℕ, zero, suc, ◌+◌, ◌≤◌, Bool, true, false, cond, List, [], ◌∷◌, ◌++◌, length, refl, sym, subst, ap, ◌∙◌, arith, append_assoc, length-append}
 use Rattle.std.specs.Prelude.{nat_eq}
 use Rattle.std.proofs.lemmas.List.{append-nil}
 use Rattle.std.proofs.lemmas.Bool.{eq-eqb, eqb-true}
 use Rattle.pg_select.specs.Windows.{Patterns}
 use Rattle.pg_prune.specs.Places.{Place}
-use Rattle.pg_prune.specs.Prunes.{break_alike, round_from, round, rounds_from, rounds, Rounds}
+use Rattle.pg_prune.specs.Prunes.{break_alike, round_from, round, rounds_from, Rounds}
 
 -- a fact of either of two values, as the test says
 pub by_test : {A : Type 0} (F : A → Type 0) (b : Bool) (x y : A) → (b ≡ true → F x) → (b ≡ false → F y) → F (cond b x y)
@@ -83,6 +83,6 @@ module _ (places : List Place) (P : Patterns) where
       by_test (λ (r : Rounds). length (round places P r.patterns) ≡ length r.patterns) (nat_eq (length (round places P Q)) (length Q)) (record { patterns = Q; count = count + 1 }) (rounds_from places P (count + 1) most (round places P Q))
       (λ goes. eqb-true _ _ goes)
       (λ stays.
-        let fewer : length (round_from places P [] Q) ≤ 0 + length Q = round_length [] Q in
-        let other : length (round places P Q) ≢ length Q = λ same. absurd (cc (eq-eqb (length (round places P Q)) (length Q) same)) in
-        rounds_end (count + 1) most (round places P Q) (omega arith))
+      let fewer : length (round_from places P [] Q) ≤ 0 + length Q = round_length [] Q in
+      let other : length (round places P Q) ≢ length Q = λ same. absurd (cc (eq-eqb (length (round places P Q)) (length Q) same)) in
+      rounds_end (count + 1) most (round places P Q) (omega arith))

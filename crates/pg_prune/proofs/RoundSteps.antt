@@ -1,21 +1,21 @@
 -- A round through the entries with some numbers.
-use Rattle.std.proofs.Common.{◌≡◌, ℕ, zero, suc, ◌+◌, ◌<◌, ◌≤◌, Bool, true, false, not, cond, List, [], ◌∷◌, ◌++◌, map, length, get_or, drop, refl, sym, subst, ap, ◌∙◌, arith, append_assoc, Some}
-use Rattle.std.specs.Prelude.{slice_get, nat_eq}
+use Rattle.std.proofs.Common.{◌≡◌, ℕ, zero, suc, ◌+◌, ◌<◌, Bool, true, false, not, cond, List, [], ◌∷◌, ◌++◌, map, length, get_or, drop, refl, sym, subst, ap, ◌∙◌, arith, Some}
+use Rattle.std.specs.Prelude.{slice_get}
 use Rattle.std.specs.List.{All, list_all}
 use Rattle.std.proofs.lemmas.List.{append-nil, map-append, length-map, get_or-map}
 use Rattle.std.proofs.lemmas.Option.{get_or_from_slice_get}
-use Rattle.std.proofs.lemmas.List.Elements.{All-nil, All-cons, All-head, All-tail, All-push}
+use Rattle.std.proofs.lemmas.List.Elements.{All-nil, All-head, All-tail, All-push}
 use Rattle.std.proofs.lemmas.List.Folds.{list_all-append}
 use Rattle.std.proofs.lemmas.Bool.{and_from, eq-eqb, eqb-true}
 use Rattle.pg_types.proofs.BoolFacts.{and_first, and_second}
-use Rattle.pg_patterns.specs.Values.{is_entry, value_at}
+use Rattle.pg_patterns.specs.Values.{is_entry}
 use Rattle.pg_select.specs.Windows.{Patterns}
 use Rattle.pg_prune.specs.Places.{Place}
-use Rattle.pg_prune.specs.Prunes.{break_alike, break_alike_at, round_from, round}
+use Rattle.pg_prune.specs.Prunes.{break_alike, round_from, round}
 use Rattle.pg_prune.specs.Standing.{standing, all_standing}
-use Rattle.pg_prune.specs.Turns.{Turn, with_entry, without_entry, IsOf, IsHeld, IsTallied}
+use Rattle.pg_prune.specs.Turns.{Turn, with_entry, without_entry, IsHeld, IsTallied}
 use Rattle.pg_prune.specs.Picks.{entry_of, picked, RoundStart, RoundDone}
-use Rattle.pg_prune.proofs.RoundLaws.{by_test, regrouped}
+use Rattle.pg_prune.proofs.RoundLaws.{regrouped}
 use Rattle.pg_prune.proofs.NeedLaws.{alike_over}
 use Rattle.pg_prune.proofs.TurnSteps.{left_at}
 
@@ -57,9 +57,9 @@ module _ {V : Type 0} (items : V → List ℕ) (places : List Place) (P : Patter
         entry = record {
           stands = own ∙ ap items is ∙ sym (get_or-map items vs k v [] (omega arith)) ∙ ap (λ t. get_or t k []) stands ∙ standing_at places P k inside;
           gives = ap (λ (e : (List ℕ × ℕ) × ℕ). e.1) (sym (get_or_from_slice_get P k x (([], 0), 0) entry));
-          sound = list_all-append is_entry (picked P stay) (picked P (k ∷ left)) ∙ and_from _ _ (picked_sound P stay sound within) (picked_sound P (k ∷ left) sound rest)
+          sound = list_all-append is_entry (picked P stay) (picked P (k ∷ left)) ∙ and_from _ _ (picked_sound P stay sound within) (picked_sound P (k ∷ left) sound rest);
         };
-        tallied = tallied
+        tallied = tallied;
       }
 
 -- a round in its middle
@@ -102,7 +102,7 @@ module _ (places : List Place) (P : Patterns) (stands : List (List ℕ)) (kept :
         rest = All-tail (λ i. i < length P) k left r.rest;
         tallied = tallied;
         alike = goes;
-        so_far = sym (goes_on places P (picked P stay) (entry_of P k) (picked P left) goes) ∙ r.so_far
+        so_far = sym (goes_on places P (picked P stay) (entry_of P k) (picked P left) goes) ∙ r.so_far;
       }
 
   pub rounding_stays : (holders new : List (List ℕ)) (stay : List ℕ) (k : ℕ) (left : List ℕ) → Rounding places P kept holders stay (k ∷ left)
@@ -110,7 +110,7 @@ module _ (places : List Place) (P : Patterns) (stands : List (List ℕ)) (kept :
   rounding_stays holders new stay k left r answer tallied =
       let t = turn_of places P stay k left in
       let stays : break_alike places P (picked P stay ++ picked P left) ≡ false =
-          unlike (break_alike places P (without_entry t)) (break_alike places (with_entry t) (without_entry t)) (λ goes. alike_over places (with_entry t) P (without_entry t) (alike_back places P (with_entry t) r.alike) goes) (is_unlike _ answer) in
+      unlike (break_alike places P (without_entry t)) (break_alike places (with_entry t) (without_entry t)) (λ goes. alike_over places (with_entry t) P (without_entry t) (alike_back places P (with_entry t) r.alike) goes) (is_unlike _ answer) in
       let longer : picked P (stay ++ k ∷ []) ≡ picked P stay ++ entry_of P k ∷ [] = map-append (entry_of P) stay (k ∷ []) in
       let whole : picked P (stay ++ k ∷ []) ++ picked P left ≡ picked P stay ++ entry_of P k ∷ picked P left = ap (λ q. q ++ picked P left) longer ∙ regrouped (picked P stay) (entry_of P k) (picked P left) in
       record {
@@ -118,17 +118,19 @@ module _ (places : List Place) (P : Patterns) (stands : List (List ℕ)) (kept :
         rest = All-tail (λ i. i < length P) k left r.rest;
         tallied = subst (λ (Q : Patterns). IsTallied places Q new) (sym whole) tallied;
         alike = subst (λ (Q : Patterns). break_alike places P Q ≡ true) (sym whole) r.alike;
-        so_far = ap (λ (q : Patterns). round_from places P q (picked P left)) longer ∙ sym (stays_on places P (picked P stay) (entry_of P k) (picked P left) stays) ∙ r.so_far
+        so_far = ap (λ (q : Patterns). round_from places P q (picked P left)) longer ∙ sym (stays_on places P (picked P stay) (entry_of P k) (picked P left) stays) ∙ r.so_far;
       }
 
   pub rounding_ends : (start holders : List (List ℕ)) (stay : List ℕ) → RoundStart places P stands start kept → Rounding places P kept holders stay [] → RoundDone places P stands holders kept stay
   rounding_ends start holders stay s r = record {
     next = record {
-      all = s.all; sound = s.sound; within = r.within;
+      all = s.all;
+      sound = s.sound;
+      within = r.within;
       tallied = subst (λ (Q : Patterns). IsTallied places Q holders) (append-nil (picked P stay)) r.tallied;
-      alike = subst (λ (Q : Patterns). break_alike places P Q ≡ true) (append-nil (picked P stay)) r.alike
+      alike = subst (λ (Q : Patterns). break_alike places P Q ≡ true) (append-nil (picked P stay)) r.alike;
     };
-    done = r.so_far
+    done = r.so_far;
   }
 
 module _ {V : Type 0} (items : V → List ℕ) (places : List Place) (P : Patterns) (vs : List V) (kept : List ℕ) where

@@ -1,7 +1,7 @@
 -- The loop over the rounds.
-use Rattle.std.proofs.Common.{◌≡◌, ◌≢◌, ℕ, zero, suc, ◌+◌, ◌<◌, ◌≤◌, Bool, true, false, cond, List, [], ◌∷◌, map, length, refl, sym, subst, ap, ◌∙◌, arith}
+use Rattle.std.proofs.Common.{◌≡◌, ◌≢◌, ℕ, zero, suc, ◌+◌, ◌<◌, ◌≤◌, true, cond, List, [], length, refl, sym, subst, ap, ◌∙◌, arith}
 use Rattle.std.specs.Prelude.{nat_eq}
-use Rattle.std.specs.List.{All, range_with_len}
+use Rattle.std.specs.List.{range_with_len}
 use Rattle.std.proofs.lemmas.List.{length-map}
 use Rattle.std.proofs.lemmas.List.FromFn.{length-range_with_len}
 use Rattle.std.proofs.lemmas.Bool.{eq-eqb, eqb-true}
@@ -32,11 +32,11 @@ module _ (places : List Place) (P : Patterns) (stands : List (List ℕ)) where
       sound = s.sound;
       within = range_below 0 (length P) (length P) (omega arith);
       tallied = subst (λ (Q : Patterns). IsTallied places Q holders) (sym (picked_all P)) s.tallied;
-      alike = subst (λ (Q : Patterns). break_alike places P Q ≡ true) (sym (picked_all P)) (alike_self places P)
+      alike = subst (λ (Q : Patterns). break_alike places P Q ≡ true) (sym (picked_all P)) (alike_self places P);
     };
     most = length P;
     few = (let many = length-range_with_len 0 (length P) in omega (arith, many));
-    so_far = ap (λ (Q : Patterns). rounds_from places P 0 (length P) Q) (sym (picked_all P))
+    so_far = ap (λ (Q : Patterns). rounds_from places P 0 (length P) Q) (sym (picked_all P));
   }
 
   -- how many entries a round leaves
@@ -53,10 +53,12 @@ module _ (places : List Place) (P : Patterns) (stands : List (List ℕ)) where
 
   one_more : (count most : ℕ) (Q : Patterns) → length Q ≤ most → length (round places P Q) < length Q → (n : ℕ) × (length (round places P Q) ≤ n) × (rounds_from places P count most Q ≡ rounds_from places P (count + 1) n (round places P Q))
   one_more count zero Q few less = absurd (omega arith)
-  one_more count (suc most) Q few less =
-      (most, omega arith,
-       ap (λ b. cond {A = Rounds} b (record { patterns = Q; count = count + 1 }) (rounds_from places P (count + 1) most (round places P Q)))
-       (no_test (nat_eq (length (round places P Q)) (length Q)) (λ same. let is = eqb-true _ _ same in absurd (omega (arith, is)))))
+  one_more count (suc most) Q few less = (
+    most,
+    omega arith,
+    ap (λ b. cond {A = Rounds} b (record { patterns = Q; count = count + 1 }) (rounds_from places P (count + 1) most (round places P Q)))
+        (no_test (nat_eq (length (round places P Q)) (length Q)) (λ same. let is = eqb-true _ _ same in absurd (omega (arith, is)))),
+  )
 
   pub rounds_next : (old new : List (List ℕ)) (kept stay : List ℕ) (count : ℕ) → RoundsSoFar places P stands old kept count → RoundDone places P stands new kept stay → length stay ≢ length kept → RoundsSoFar places P stands new stay (count + 1)
   rounds_next old new kept stay count r d other =
@@ -69,7 +71,7 @@ module _ (places : List Place) (P : Patterns) (stands : List (List ℕ)) where
         ready = d.next;
         most = more.0;
         few = (let low = more.1 in omega (arith, low));
-        so_far = r.so_far ∙ more.2 ∙ ap (λ (Q : Patterns). rounds_from places P (count + 1) more.0 Q) (sym d.done)
+        so_far = r.so_far ∙ more.2 ∙ ap (λ (Q : Patterns). rounds_from places P (count + 1) more.0 Q) (sym d.done);
       }
 
   no_more : (count most : ℕ) (Q : Patterns) → length (round places P Q) ≡ length Q → rounds_from places P count most Q ≡ record { patterns = Q; count = count + 1 }
@@ -84,11 +86,13 @@ module _ (places : List Place) (P : Patterns) (stands : List (List ℕ)) where
       let left : length stay ≡ length (round places P (picked P kept)) = left_by new kept stay d in
       let many : length (picked P kept) ≡ length kept = length-map kept (entry_of P) in
       let as_many : length (round places P (picked P kept)) ≡ length (picked P kept) = omega arith in
-      let is : picked P stay ≡ picked P kept = d.done ∙ round_same places P [] (picked P kept) (let all : length (round places P (picked P kept)) ≡ 0 + length (picked P kept) = omega arith in all) in
-      (record {
-        all = r.ready.all;
-        sound = r.ready.sound;
-        within = r.ready.within;
-        tallied = subst (λ (Q : Patterns). IsTallied places Q new) is d.next.tallied;
-        alike = r.ready.alike
-      }, r.so_far ∙ no_more count r.most (picked P kept) as_many)
+      let is : picked P stay ≡ picked P kept = d.done ∙ round_same places P [] (picked P kept) (let all : length (round places P (picked P kept)) ≡ 0 + length (picked P kept) = omega arith in all) in (
+        record {
+          all = r.ready.all;
+          sound = r.ready.sound;
+          within = r.ready.within;
+          tallied = subst (λ (Q : Patterns). IsTallied places Q new) is d.next.tallied;
+          alike = r.ready.alike;
+        },
+        r.so_far ∙ no_more count r.most (picked P kept) as_many,
+      )

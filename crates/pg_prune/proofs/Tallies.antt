@@ -1,19 +1,16 @@
 -- The numbers of entries by value, with an entry and without it, and the greatest value.
-use Rattle.std.proofs.Common.{◌≡◌, ◌≢◌, ℕ, zero, suc, ◌+◌, ◌-◌, ◌%◌, ◌<◌, ◌≤◌, Bool, true, false, cond, not, ◌&&◌, List, [], ◌∷◌, ◌++◌, map, length, get_or, max, ◌⊎◌, inl, inr, refl, sym, subst, ap, ◌∙◌, arith, add-one}
-use Rattle.std.proofs.Math.ListN.{set, length-set}
-use Rattle.std.specs.Prelude.{nat_eq, nat_lt, nat_le, sum_by, count_by}
-use Rattle.std.specs.List.{All, list_all, range_with_len}
-use Rattle.std.proofs.lemmas.Bool.{eq-eqb, eqb-true, lt-ltb, leb-true, and_from}
-use Rattle.std.proofs.lemmas.Bool.Decides.{eqb_tells}
+use Rattle.std.proofs.Common.{◌≡◌, ◌≢◌, ℕ, zero, suc, ◌+◌, ◌-◌, ◌<◌, ◌≤◌, Bool, true, false, cond, ◌&&◌, List, [], ◌∷◌, ◌++◌, map, length, get_or, max, ◌⊎◌, inl, inr, refl, sym, subst, ap, ◌∙◌, arith}
+use Rattle.std.proofs.Math.ListN.{set}
+use Rattle.std.specs.Prelude.{nat_eq, nat_lt, sum_by}
+use Rattle.std.specs.List.{list_all, range_with_len}
+use Rattle.std.proofs.lemmas.Bool.{eq-eqb, eqb-true, lt-ltb, leb-true}
 use Rattle.std.proofs.lemmas.List.Sums.{sum_by-append}
 use Rattle.pg_types.proofs.BoolFacts.{and_first, and_second, no_test}
-use Rattle.pg_patterns.specs.Values.{is_entry, value_at, best, applies}
+use Rattle.pg_patterns.specs.Values.{is_entry, value_at}
 use Rattle.pg_select.specs.Windows.{Patterns}
 use Rattle.pg_prune.specs.Places.{Place}
-use Rattle.pg_prune.specs.Prunes.{break_alike_at}
 use Rattle.pg_prune.specs.Standing.{stands}
-use Rattle.pg_prune.specs.Holders.{count_at, tally, top_from, top, with_one, less_one, stays_alike}
-use Rattle.pg_prune.proofs.RoundLaws.{by_test}
+use Rattle.pg_prune.specs.Holders.{count_at, tally, top_from, top, with_one, less_one}
 
 -- where two functions agree on numbers, so do the lists that they make
 map_same : (f g : ℕ → ℕ) (a n : ℕ) → ((u : ℕ) → a ≤ u → f u ≡ g u) → map f (range_with_len a n) ≡ map g (range_with_len a n)

@@ -1,8 +1,7 @@
 -- The turn of an entry: where it stands its number of holders changes, and nothing else changes.
-use Rattle.std.proofs.Common.{◌≡◌, ℕ, zero, suc, ◌+◌, ◌-◌, ◌%◌, ◌^◌, ◌<◌, ◌≤◌, Bool, true, false, cond, not, ◌&&◌, List, [], ◌∷◌, ◌++◌, map, length, get_or, Option, Some, None, refl, sym, subst, ap, ◌∙◌, arith, append_assoc, length-append, get_or-set_same}
-use Rattle.std.proofs.Math.ListN.{set}
+use Rattle.std.proofs.Common.{◌≡◌, ℕ, zero, suc, ◌+◌, ◌-◌, ◌%◌, ◌<◌, ◌≤◌, Bool, true, false, cond, not, ◌&&◌, List, [], ◌∷◌, ◌++◌, map, length, get_or, Some, None, refl, sym, subst, ap, ◌∙◌, arith, append_assoc, length-append, get_or-set_same}
 use Rattle.std.proofs.Math.Seq.{get_or-append_seam}
-use Rattle.std.specs.Prelude.{nat_eq, count_by}
+use Rattle.std.specs.Prelude.{nat_eq}
 use Rattle.std.specs.List.{list_all, find, range_with_len}
 use Rattle.std.proofs.lemmas.List.Folds.{list_all-append}
 use Rattle.std.proofs.lemmas.List.Sums.{count_by-le-length}
@@ -11,14 +10,13 @@ use Rattle.pg_types.proofs.BoolFacts.{and_first, and_second}
 use Rattle.pg_patterns.specs.Values.{is_entry, value_at}
 use Rattle.pg_select.specs.Windows.{Patterns}
 use Rattle.pg_prune.specs.Places.{Place}
-use Rattle.pg_prune.specs.Prunes.{break_alike_at, break_alike, first_difference}
-use Rattle.pg_prune.specs.Standing.{stands, numbers_of, standing}
+use Rattle.pg_prune.specs.Prunes.{break_alike_at}
+use Rattle.pg_prune.specs.Standing.{stands, numbers_of}
 use Rattle.pg_prune.specs.Holders.{count_at, tally, top, with_one, less_one, stays_alike}
-use Rattle.pg_prune.specs.Turns.{Turn, with_entry, without_entry, IsOf, IsHeld, IsAwaited, IsFound}
-use Rattle.pg_prune.proofs.RoundLaws.{by_test}
+use Rattle.pg_prune.specs.Turns.{Turn, with_entry, without_entry, IsOf}
 use Rattle.pg_prune.proofs.PrunedLaws.{sound_without}
 use Rattle.pg_prune.proofs.Tallies.{tally_away, tally_there, less_with, top_is_value, entry_low, entry_high}
-use Rattle.pg_prune.proofs.Walks.{Next, next_of, none_of, is_false}
+use Rattle.pg_prune.proofs.Walks.{next_of, none_of, is_false}
 
 sound_entry : (before : Patterns) (e : (List ℕ × ℕ) × ℕ) (behind : Patterns) → list_all is_entry (before ++ e ∷ behind) ≡ true → is_entry e ≡ true
 sound_entry [] e behind sound = and_first _ _ sound
@@ -129,9 +127,9 @@ module _ (places : List Place) (alike : Place → Bool) (test : Place → Bool) 
             back = n.more;
             is = whole ∙ sym (append_assoc front (n.place ∷ []) n.more);
             fine = list_all-append alike front (n.place ∷ []) ∙ and_from _ _ fine (and_from _ _ same refl);
-            left_is = n.rest ∙ ap (λ j. numbers_of test j n.more) (let many = length-append front (n.place ∷ []) in omega (arith, many))
+            left_is = n.rest ∙ ap (λ j. numbers_of test j n.more) (let many = length-append front (n.place ∷ []) in omega (arith, many));
           };
-          found = λ differs. ap (find (λ x. not (alike x))) whole ∙ find_behind alike front n.place n.more fine differs
+          found = λ differs. ap (find (λ x. not (alike x))) whole ∙ find_behind alike front n.place n.more fine differs;
         }
 
     pub look_ends : Looked places alike test [] → find (λ x. not (alike x)) places ≡ None

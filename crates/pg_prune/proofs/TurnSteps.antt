@@ -1,17 +1,14 @@
 -- The loops over the places of an entry.
-use Rattle.std.proofs.Common.{◌≡◌, ℕ, zero, suc, ◌+◌, ◌-◌, ◌^◌, ◌<◌, ◌≤◌, Bool, true, false, not, List, [], ◌∷◌, ◌++◌, map, length, get_or, drop, Option, Some, None, refl, sym, subst, ap, ◌∙◌, arith, add-one, length-drop}
-use Rattle.std.proofs.Math.ListN.{set}
+use Rattle.std.proofs.Common.{◌≡◌, ℕ, zero, suc, ◌+◌, ◌<◌, ◌≤◌, List, [], ◌∷◌, map, length, get_or, drop, None, sym, subst, ap, ◌∙◌, arith, length-drop}
 use Rattle.std.proofs.Math.Seq.{drop-cons}
 use Rattle.std.proofs.lemmas.List.{nil_from_length}
-use Rattle.std.specs.List.{find}
-use Rattle.pg_select.specs.Windows.{Patterns}
 use Rattle.pg_prune.specs.Places.{Place}
 use Rattle.pg_prune.specs.Prunes.{break_alike_at, first_difference}
 use Rattle.pg_prune.specs.Standing.{stands}
-use Rattle.pg_prune.specs.Holders.{tally, with_one, less_one, stays_alike}
-use Rattle.pg_prune.specs.Turns.{Turn, with_entry, without_entry, IsOf, IsHeld, IsAwaited, IsFound}
+use Rattle.pg_prune.specs.Holders.{tally}
+use Rattle.pg_prune.specs.Turns.{Turn, with_entry, without_entry, IsHeld, IsAwaited}
 use Rattle.pg_prune.proofs.Walks.{Walked, Step, walk_begins, walk_steps, walk_ends}
-use Rattle.pg_prune.proofs.TurnLaws.{away_same, away_alike, there_alike, there_less, there_more, there_some, held_low, value_high, Looked, LookStep, look_begins, look_steps, look_ends}
+use Rattle.pg_prune.proofs.TurnLaws.{away_same, away_alike, Looked, LookStep, look_begins, look_steps, look_ends}
 
 pub left_at : (numbers : List ℕ) (i : ℕ) → i < length numbers → drop i numbers ≡ get_or numbers i 0 ∷ drop (i + 1) numbers
 left_at numbers i inside = drop-cons numbers i 0 inside ∙ (let at : suc i ≡ i + 1 = omega arith in ap (λ j. get_or numbers i 0 ∷ drop j numbers) at)

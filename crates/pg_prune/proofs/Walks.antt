@@ -1,9 +1,9 @@
 -- A walk over the numbers of the places that pass a test.
-use Rattle.std.proofs.Common.{◌≡◌, ℕ, zero, suc, ◌+◌, ◌<◌, ◌≤◌, Bool, true, false, cond, not, ◌&&◌, List, [], ◌∷◌, ◌++◌, map, length, get_or, drop, ◌⊎◌, inl, inr, refl, sym, subst, ap, ◌∙◌, arith, append_assoc, length-append}
+use Rattle.std.proofs.Common.{◌≡◌, ℕ, ◌+◌, ◌<◌, Bool, true, false, cond, not, List, [], ◌∷◌, ◌++◌, map, length, get_or, refl, sym, subst, ap, ◌∙◌, arith, append_assoc, length-append}
 use Rattle.std.proofs.Math.ListN.{set}
 use Rattle.std.proofs.Math.Seq.{set-append_seam, get_or-append_seam}
 use Rattle.std.specs.List.{list_all}
-use Rattle.std.proofs.lemmas.List.{append-nil, length-map, map-append}
+use Rattle.std.proofs.lemmas.List.{length-map, map-append}
 use Rattle.std.proofs.lemmas.Bool.{and_from}
 use Rattle.pg_types.proofs.BoolFacts.{and_first, and_second}
 use Rattle.pg_prune.specs.Places.{Place}
@@ -98,9 +98,9 @@ module _ {A : Type 0} (places : List Place) (f g : Place → A) (test : Place �
             back = n.more;
             is = whole ∙ sym (append_assoc front (n.place ∷ []) n.more);
             held_is = ap (λ h. set h k new) held_is ∙ ap (λ j. set (map g front ++ f n.place ∷ map f n.more) j new) k_at ∙ set-append_seam (map g front) (f n.place) (map f n.more) new
-              ∙ ap (λ h. map g front ++ h ∷ map f n.more) is ∙ sym (append_assoc (map g front) (g n.place ∷ []) (map f n.more)) ∙ ap (λ t. t ++ map f n.more) (sym (map-append g front (n.place ∷ [])));
-            left_is = n.rest ∙ ap (λ j. numbers_of test j n.more) (let many = length-append front (n.place ∷ []) in omega (arith, many))
-          }
+                ∙ ap (λ h. map g front ++ h ∷ map f n.more) is ∙ sym (append_assoc (map g front) (g n.place ∷ []) (map f n.more)) ∙ ap (λ t. t ++ map f n.more) (sym (map-append g front (n.place ∷ [])));
+            left_is = n.rest ∙ ap (λ j. numbers_of test j n.more) (let many = length-append front (n.place ∷ []) in omega (arith, many));
+          };
         }
 
     pub walk_ends : (held : List A) → Walked places f g test held [] → held ≡ map g places

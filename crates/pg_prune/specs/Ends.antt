@@ -1,5 +1,5 @@
 -- What all rounds leave.
-use Rattle.std.specs.Prelude.{◌≡◌, ℕ, List, map}
+use Rattle.std.specs.Prelude.{◌≡◌, ℕ, List}
 use Rattle.pg_select.specs.Windows.{Patterns}
 use Rattle.pg_prune.specs.declared.rounds.Finished.{Finished}
 use Rattle.pg_prune.specs.Places.{Place}

@@ -49,10 +49,5 @@ pub fn prune(
     let needs = needs(alloc, patterns, standing, places.as_slice(), holders, kept)?;
     let removed = count - kept.len();
     let patterns = kept_patterns(alloc, patterns, kept)?;
-    Ok(Pruned::new(
-        patterns,
-        needs,
-        finished.count,
-        removed as u64,
-    ))
+    Ok(Pruned::new(patterns, needs, finished.count, removed as u64))
 }

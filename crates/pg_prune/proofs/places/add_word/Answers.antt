@@ -1,8 +1,7 @@
-use Rattle.std.proofs.Common.{◌≡◌, ◌∙◌, ◌∷◌, ◌++◌, ◌+◌, ◌-◌, ℕ, [], List, map, sym, ap, arith}
+use Rattle.std.proofs.Common.{◌≡◌, ◌∙◌, ◌∷◌, ◌++◌, ◌+◌, ◌-◌, [], map, sym, ap, arith}
 use Rattle.std.specs.List.{range_with_len}
 use Rattle.std.proofs.lemmas.List.{append-nil, append_assoc}
 use Rattle.pg_select.proofs.Reaches.{range_step}
-use Rattle.pg_prune.specs.Prunes.{need_at}
 use Rattle.pg_prune.proofs.PlaceSteps.{at_word, needs_in}
 use Rattle.pg_prune.proofs.places.add_word.Goals as goal
 

@@ -1,14 +1,14 @@
-use Rattle.std.proofs.Common.{◌≡◌, ◌≤◌, ◌-◌, ◌+◌, ◌∙◌, ℕ, List, map, length, ap, sym, subst, arith}
+use Rattle.std.proofs.Common.{◌≡◌, ◌≤◌, ◌-◌, ◌+◌, ◌∙◌, map, length, ap, sym, subst, arith}
 use Rattle.std.specs.List.{All, Contains}
 use Rattle.std.proofs.lemmas.List.{length-map}
 use Rattle.pg_translate.specs.Alphabets.{letters_of}
 use Rattle.pg_patterns.specs.Values.{IsPatternMap, SignsUpTo}
 use Rattle.pg_select.specs.CountedPositions.{minima_of}
 use Rattle.pg_select.specs.Windows.{Patterns}
-use Rattle.pg_prune.specs.Places.{Place, places}
+use Rattle.pg_prune.specs.Places.{places}
 use Rattle.pg_prune.specs.Prunes.{need_at, pruned, needs, rounds, Found}
 use Rattle.pg_prune.specs.Promises.{BreakAlike, NoneCanGo, HasNeeds}
-use Rattle.pg_prune.specs.Picks.{picked, IsGround, RoundsStart, RoundStart}
+use Rattle.pg_prune.specs.Picks.{picked}
 use Rattle.pg_prune.proofs.PrunedLaws.{pruned_all, pruned_part, pruned_map, pruned_alike, pruned_least, pruned_needs, pruned_few}
 use Rattle.pg_prune.proofs.Finish.{finish, to_rounds, rounds_patterns, with_kept, picked_few}
 use Rattle.pg_prune.proofs.pruning.prune.Goals as goal

@@ -1,4 +1,4 @@
-use Rattle.std.proofs.Common.{◌≡◌, ◌≤◌, ◌∙◌, ◌++◌, length, ap, arith}
+use Rattle.std.proofs.Common.{◌≤◌, ◌∙◌, ◌++◌, length, ap, arith}
 use Rattle.pg_prune.specs.Reports.{keep_lines, last_line, prune_report}
 use Rattle.pg_prune.proofs.ReportSteps.{lines_end}
 use Rattle.pg_prune.proofs.report.prune_text.Goals as goal

@@ -1,5 +1,5 @@
-use Rattle.std.proofs.Common.{◌≡◌, ◌<◌, ◌-◌, ◌^◌, ◌∙◌, ℕ, length, get_or, ap, sym, subst, arith}
-use Rattle.pg_prune.specs.Holders.{tally, with_one}
+use Rattle.std.proofs.Common.{◌<◌, ◌-◌, ◌^◌, ◌∙◌, length, get_or, ap, sym, subst, arith}
+use Rattle.pg_prune.specs.Holders.{with_one}
 use Rattle.pg_prune.specs.Turns.{without_entry}
 use Rattle.pg_prune.proofs.TurnLaws.{there_more, held_low, value_low, value_high}
 use Rattle.pg_prune.proofs.TurnSteps.{on_begins, on_steps, on_ends}

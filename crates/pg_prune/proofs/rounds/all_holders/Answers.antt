@@ -1,4 +1,4 @@
-use Rattle.std.proofs.Common.{◌≡◌, ◌<◌, ◌-◌, ◌^◌, ◌+◌, ◌∙◌, ◌∷◌, ◌++◌, [], ℕ, List, map, take, drop, length, ap, sym, subst, arith}
+use Rattle.std.proofs.Common.{◌≡◌, ◌<◌, ◌-◌, ◌^◌, ◌∙◌, ◌∷◌, ◌++◌, [], map, take, drop, length, ap, sym, subst, arith}
 use Rattle.std.proofs.Math.Seq.{take-append_seam}
 use Rattle.std.specs.Prelude.{replicate}
 use Rattle.pg_select.specs.Windows.{Patterns}
@@ -21,9 +21,10 @@ add-requires c =
     let P = c.args.patterns.now in
     let room : c.entries.i < 2 ^ 64 - 1 = omega arith in
     let inside : c.entries.i < length P = omega (arith, c.len-i-end.ensures.value) in
-    let held : IsTallied c.requires.0 (take c.entries.i P) c.as_mut_slice.result.now = subst (λ hs. IsTallied c.requires.0 (take c.entries.i P) hs) (sym c.as_mut_slice.ensures.value) (c.entries.invariant c.requires.0 c.requires.1) in
-    (turn_after c.requires.0 c.args.patterns.now c.entries.i,
-     turn_awaited (λ v. v.items) c.requires.0 c.args.patterns.now c.args.standing.now c.args.count c.as_mut_slice.result.now c.entries.i c.index-standing-i.result c.as_slice.result.now _ c.requires.1 c.len-i-end.ensures.kept.sound held inside room c.index-standing-i.is c.as_slice.ensures.value c.entry-value.ensures.value)
+    let held : IsTallied c.requires.0 (take c.entries.i P) c.as_mut_slice.result.now = subst (λ hs. IsTallied c.requires.0 (take c.entries.i P) hs) (sym c.as_mut_slice.ensures.value) (c.entries.invariant c.requires.0 c.requires.1) in (
+      turn_after c.requires.0 c.args.patterns.now c.entries.i,
+      turn_awaited (λ v. v.items) c.requires.0 c.args.patterns.now c.args.standing.now c.args.count c.as_mut_slice.result.now c.entries.i c.index-standing-i.result c.as_slice.result.now _ c.requires.1 c.len-i-end.ensures.kept.sound held inside room c.index-standing-i.is c.as_slice.ensures.value c.entry-value.ensures.value,
+    )
 
 pub entries-preserved : goal.entries-preserved
 entries-preserved c = λ places g.

@@ -1,4 +1,4 @@
-use Rattle.std.proofs.Common.{◌≡◌, List, ℕ, map, take}
+use Rattle.std.proofs.Common.{◌≡◌, List, map, take}
 use Rattle.std.specs.Prelude.{replicate}
 use Rattle.pg_prune.specs.Places.{Place}
 use Rattle.pg_prune.specs.Picks.{IsGround}

@@ -1,16 +1,18 @@
-use Rattle.std.proofs.Common.{◌≡◌, ◌≢◌, ◌<◌, ◌≤◌, ◌+◌, ◌∙◌, ℕ, List, map, length, ap, sym, subst, arith}
+use Rattle.std.proofs.Common.{◌≡◌, ◌≢◌, ◌<◌, ◌≤◌, ◌+◌, ◌∙◌, map, length, ap, sym, subst, arith}
 use Rattle.std.specs.List.{range_with_len}
-use Rattle.pg_prune.specs.Places.{Place}
-use Rattle.pg_prune.specs.Picks.{RoundStart, RoundDone, RoundsStart}
+use Rattle.pg_prune.specs.Picks.{RoundStart, RoundDone}
 use Rattle.pg_prune.proofs.RoundsSteps.{RoundsSoFar, rounds_begin, round_fewer, rounds_next, rounds_end_with}
 use Rattle.pg_prune.proofs.rounds.all_rounds.Goals as goal
 
 pub rounds-init : goal.rounds-init
-rounds-init c = (omega arith, λ places s.
-    let P = c.args.patterns.now in
-    let stands = map (λ v. v.items) c.args.standing.now in
-    let all : c.in_ok-kept.kept.items ≡ range_with_len 0 (length P) = c.in_ok-kept.ensures ∙ ap (range_with_len 0) c.len.ensures.value in
-    subst (λ ks. RoundsSoFar places P stands c.args.holders.now ks 0) (sym all) (rounds_begin places P stands c.args.holders.now s))
+rounds-init c = (
+  omega arith,
+  λ places s.
+      let P = c.args.patterns.now in
+      let stands = map (λ v. v.items) c.args.standing.now in
+      let all : c.in_ok-kept.kept.items ≡ range_with_len 0 (length P) = c.in_ok-kept.ensures ∙ ap (range_with_len 0) c.len.ensures.value in
+      subst (λ ks. RoundsSoFar places P stands c.args.holders.now ks 0) (sym all) (rounds_begin places P stands c.args.holders.now s),
+)
 
 pub round-requires : goal.round-requires
 round-requires c =
@@ -39,17 +41,18 @@ rounds-smaller c =
 
 pub rounds-preserved : goal.rounds-preserved
 rounds-preserved c = (
-    (let P = c.args.patterns.now in
-     let stands = map (λ v. v.items) c.args.standing.now in
-     let r = c.rounds.invariant.1 c.requires.0 c.requires.1 in
-     let d = subst (λ ks. RoundDone c.requires.0 P stands c.round.new.holders ks c.in_ok-stay.stay.items) c.as_slice.ensures.value (c.in_ok-stay.ensures c.requires.0 (subst (λ ks. RoundStart c.requires.0 P stands c.rounds.holders ks) (sym c.as_slice.ensures.value) r.ready)) in
-     let fewer : length c.in_ok-stay.stay.items ≤ length c.rounds.kept.items = round_fewer c.requires.0 P stands c.round.new.holders c.rounds.kept.items c.in_ok-stay.stay.items d in
-     let few : c.rounds.count + length c.rounds.kept.items ≤ length c.in_ok-kept.kept.items = c.rounds.invariant.0 in
-     omega (arith, c.in_ok-stay.stay.ok.0, c.rounds.kept.ok.0)),
-    λ places s.
+  (let P = c.args.patterns.now in
+      let stands = map (λ v. v.items) c.args.standing.now in
+      let r = c.rounds.invariant.1 c.requires.0 c.requires.1 in
+      let d = subst (λ ks. RoundDone c.requires.0 P stands c.round.new.holders ks c.in_ok-stay.stay.items) c.as_slice.ensures.value (c.in_ok-stay.ensures c.requires.0 (subst (λ ks. RoundStart c.requires.0 P stands c.rounds.holders ks) (sym c.as_slice.ensures.value) r.ready)) in
+      let fewer : length c.in_ok-stay.stay.items ≤ length c.rounds.kept.items = round_fewer c.requires.0 P stands c.round.new.holders c.rounds.kept.items c.in_ok-stay.stay.items d in
+      let few : c.rounds.count + length c.rounds.kept.items ≤ length c.in_ok-kept.kept.items = c.rounds.invariant.0 in
+      omega (arith, c.in_ok-stay.stay.ok.0, c.rounds.kept.ok.0)),
+  λ places s.
       let P = c.args.patterns.now in
       let stands = map (λ v. v.items) c.args.standing.now in
       let r = c.rounds.invariant.1 places s in
       let d = subst (λ ks. RoundDone places P stands c.round.new.holders ks c.in_ok-stay.stay.items) c.as_slice.ensures.value (c.in_ok-stay.ensures places (subst (λ ks. RoundStart places P stands c.rounds.holders ks) (sym c.as_slice.ensures.value) r.ready)) in
       let other : length c.in_ok-stay.stay.items ≢ length c.rounds.kept.items = omega (arith, c.in_ok-stay.stay.ok.0, c.rounds.kept.ok.0) in
-      rounds_next places P stands c.rounds.holders c.round.new.holders c.rounds.kept.items c.in_ok-stay.stay.items c.rounds.count r d other)
+      rounds_next places P stands c.rounds.holders c.round.new.holders c.rounds.kept.items c.in_ok-stay.stay.items c.rounds.count r d other,
+)

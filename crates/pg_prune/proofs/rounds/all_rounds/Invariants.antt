@@ -1,4 +1,4 @@
-use Rattle.std.proofs.Common.{◌+◌, ◌≤◌, List, map, length, vec_len}
+use Rattle.std.proofs.Common.{◌+◌, ◌≤◌, List, map, length}
 use Rattle.pg_prune.specs.Places.{Place}
 use Rattle.pg_prune.specs.Picks.{RoundsStart}
 use Rattle.pg_prune.proofs.RoundsSteps.{RoundsSoFar}

@@ -1,4 +1,4 @@
-use Rattle.std.proofs.Common.{◌≡◌, ◌<◌, ◌-◌, ◌∙◌, ℕ, true, false, length, get_or, map, Some, ap, sym, subst, arith}
+use Rattle.std.proofs.Common.{◌≡◌, ◌<◌, ◌-◌, ◌∙◌, true, false, length, get_or, Some, ap, sym, subst, arith}
 use Rattle.std.proofs.lemmas.List.{length-map}
 use Rattle.pg_prune.specs.Holders.{tally, stays_alike}
 use Rattle.pg_prune.specs.Prunes.{break_alike_at}
@@ -35,7 +35,7 @@ places-preserved c = λ turn held.
     let s = looks_step turn c.args.places.now c.args.value c.args.holders.now held c.places.place-index c.places-test.true (c.places.invariant turn held) in
     let at = c.index-holders-place.is ∙ held_at turn c.args.places.now c.args.value c.args.holders.now held (get_or c.args.places.now c.places.place-index 0) s.place s.within s.at c.index-holders-place.result in
     let alike : break_alike_at (with_entry turn) (without_entry turn) s.place ≡ true =
-        there_alike turn c.args.places.now c.args.value held.entry s.place s.there ∙ ap (stays_alike c.args.value) (sym at) ∙ sym c.stays_alike.ensures ∙ c.if-not-stays_alike.false in
+    there_alike turn c.args.places.now c.args.value held.entry s.place s.there ∙ ap (stays_alike c.args.value) (sym at) ∙ sym c.stays_alike.ensures ∙ c.if-not-stays_alike.false in
     s.next alike
 
 pub returns-then-not-stays_alike : goal.returns-then-not-stays_alike
@@ -43,7 +43,7 @@ returns-then-not-stays_alike c = λ turn held.
     let s = looks_step turn c.args.places.now c.args.value c.args.holders.now held c.places.place-index c.places-test.true (c.places.invariant turn held) in
     let at = c.index-holders-place.is ∙ held_at turn c.args.places.now c.args.value c.args.holders.now held (get_or c.args.places.now c.places.place-index 0) s.place s.within s.at c.index-holders-place.result in
     let differs : break_alike_at (with_entry turn) (without_entry turn) s.place ≡ false =
-        there_alike turn c.args.places.now c.args.value held.entry s.place s.there ∙ ap (stays_alike c.args.value) (sym at) ∙ sym c.stays_alike.ensures ∙ c.if-not-stays_alike.true in
+    there_alike turn c.args.places.now c.args.value held.entry s.place s.there ∙ ap (stays_alike c.args.value) (sym at) ∙ sym c.stays_alike.ensures ∙ c.if-not-stays_alike.true in
     record { within = s.within; place = λ d. s.found differs ∙ ap Some (sym (s.at d)) }
 
 pub returns : goal.returns

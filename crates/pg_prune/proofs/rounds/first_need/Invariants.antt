@@ -1,4 +1,4 @@
-use Rattle.std.proofs.Common.{◌+◌, drop}
+use Rattle.std.proofs.Common.{drop}
 use Rattle.pg_prune.specs.Prunes.{break_alike_at}
 use Rattle.pg_prune.specs.Standing.{stands}
 use Rattle.pg_prune.specs.Turns.{Turn, with_entry, without_entry, IsHeld}

@@ -1,4 +1,4 @@
-use Rattle.std.proofs.Common.{sym, ◌∙◌}
+use Rattle.std.proofs.Common.{◌∙◌}
 use Rattle.pg_prune.specs.Turns.{with_entry, without_entry}
 use Rattle.pg_prune.proofs.Found.{some_need}
 use Rattle.pg_prune.proofs.rounds.keep_or_take_off.Goals as goal

@@ -1,6 +1,5 @@
-use Rattle.std.proofs.Common.{◌≡◌, ◌<◌, ◌+◌, ◌∙◌, ◌∷◌, ◌++◌, [], ℕ, List, map, length, get_or, take, drop, sym, subst, ap, arith}
+use Rattle.std.proofs.Common.{◌≡◌, ◌<◌, ◌+◌, ◌∙◌, ◌∷◌, ◌++◌, [], length, get_or, take, drop, sym, subst, ap, arith}
 use Rattle.std.proofs.lemmas.List.{length-map, append-nil}
-use Rattle.pg_prune.specs.Places.{Place}
 use Rattle.pg_prune.specs.Prunes.{need_at, need_list, first_difference}
 use Rattle.pg_prune.specs.Standing.{standing}
 use Rattle.pg_prune.specs.Turns.{with_entry, without_entry}
@@ -22,9 +21,10 @@ offset_bounds-standing-i c =
 pub first_need-requires : goal.first_need-requires
 first_need-requires c =
     let kept = c.args.kept.now in
-    let i = c.entries.i-index in
-    (turn_of c.requires.0 c.args.patterns.now (take i kept) (get_or kept i 0) (drop (i + 1) kept),
-     need_turn c.requires.0 c.args.patterns.now kept (λ v. v.items) c.args.standing.now c.args.holders.now i c.index-standing-i.result c.as_slice.result.now _ c.requires.2 c.entries-test.true c.index-standing-i.is c.as_slice.ensures.value c.entry-value.ensures.value)
+    let i = c.entries.i-index in (
+      turn_of c.requires.0 c.args.patterns.now (take i kept) (get_or kept i 0) (drop (i + 1) kept),
+      need_turn c.requires.0 c.args.patterns.now kept (λ v. v.items) c.args.standing.now c.args.holders.now i c.index-standing-i.result c.as_slice.result.now _ c.requires.2 c.entries-test.true c.index-standing-i.is c.as_slice.ensures.value c.entry-value.ensures.value,
+    )
 
 pub bounds-places-place : goal.bounds-places-place
 bounds-places-place c =

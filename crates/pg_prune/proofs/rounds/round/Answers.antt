@@ -1,5 +1,4 @@
-use Rattle.std.proofs.Common.{◌≡◌, ◌∙◌, ◌+◌, ℕ, List, true, false, [], ◌∷◌, ◌++◌, if◌then◌else◌, map, get_or, drop, sym, subst, ap}
-use Rattle.pg_prune.specs.Places.{Place}
+use Rattle.std.proofs.Common.{◌∙◌, ◌+◌, if◌then◌else◌, map, get_or, drop, sym, subst, ap}
 use Rattle.pg_prune.specs.Turns.{with_entry, without_entry, IsTallied}
 use Rattle.pg_prune.proofs.RoundSteps.{Rounding, rounding_begins, rounding_at, turn_at, turn_of, rounding_goes, rounding_stays, rounding_ends}
 use Rattle.pg_prune.proofs.TurnSteps.{none_left}
@@ -14,9 +13,10 @@ entries-init c = λ places s.
 pub keep_or_take_off-requires : goal.keep_or_take_off-requires
 keep_or_take_off-requires c =
     let places = c.requires.0 in
-    let r = c.entries.invariant places c.requires.1 in
-    (turn_of places c.args.patterns.now c.entries.stay.items (get_or c.args.kept.now c.entries.i-index 0) (drop (c.entries.i-index + 1) c.args.kept.now),
-     turn_at (λ v. v.items) places c.args.patterns.now c.args.standing.now c.args.kept.now c.args.holders.now c.entries.holders c.entries.stay.items c.entries.i-index c.index-standing-i.result c.as_slice.result.now _ c.requires.1 r c.entries-test.true c.index-standing-i.is c.as_slice.ensures.value c.entry-value.ensures.value)
+    let r = c.entries.invariant places c.requires.1 in (
+      turn_of places c.args.patterns.now c.entries.stay.items (get_or c.args.kept.now c.entries.i-index 0) (drop (c.entries.i-index + 1) c.args.kept.now),
+      turn_at (λ v. v.items) places c.args.patterns.now c.args.standing.now c.args.kept.now c.args.holders.now c.entries.holders c.entries.stay.items c.entries.i-index c.index-standing-i.result c.as_slice.result.now _ c.requires.1 r c.entries-test.true c.index-standing-i.is c.as_slice.ensures.value c.entry-value.ensures.value,
+    )
 
 pub entries-preserved : goal.entries-preserved
 entries-preserved c = λ places s.

@@ -1,6 +1,5 @@
-use Rattle.std.proofs.Common.{◌≡◌, ◌<◌, ◌-◌, ◌∙◌, ℕ, length, get_or, ap, sym, subst, arith}
-use Rattle.pg_prune.specs.Holders.{tally, less_one}
-use Rattle.pg_prune.specs.Turns.{with_entry}
+use Rattle.std.proofs.Common.{◌<◌, ◌-◌, ◌∙◌, length, get_or, ap, sym, subst, arith}
+use Rattle.pg_prune.specs.Holders.{less_one}
 use Rattle.pg_prune.proofs.TurnLaws.{there_less, there_some}
 use Rattle.pg_prune.proofs.TurnSteps.{off_begins, off_steps, off_ends}
 use Rattle.pg_prune.proofs.rounds.take_off.Goals as goal
