@@ -12,7 +12,7 @@ use Rattle.pg_cells.specs.Store.{Extends}
 use Rattle.pg_cells.specs.Fit.{signs_of, slot_of}
 use Rattle.pg_cells.specs.Writes.{Takes}
 use Rattle.pg_cells.specs.Moves.{Outside, CanPlace, Moved, Collected}
-use Rattle.pg_cells.specs.Held.{Trie}
+use Rattle.pg_cells.specs.ValuedFamilies.{Trie}
 use Rattle.pg_cells.specs.Layouts.{IsTrie, standing, value_in}
 use Rattle.pg_cells.proofs.LinkedLists.{taken_within}
 use Rattle.pg_cells.proofs.StringMaps.{order, same_maps, find_put_same, find_without_same, find_without_other, sorted_without, equal_or_not}

@@ -7,7 +7,7 @@ use Rattle.pg_types.specs.Placement.{Family, family_at, is_used, cell_of, base_o
 use Rattle.pg_cells.specs.Lists.{Row, sign_at, child_at}
 use Rattle.pg_cells.specs.Store.{Extends}
 use Rattle.pg_cells.specs.Writes.{Frees}
-use Rattle.pg_cells.specs.Held.{Trie, Held}
+use Rattle.pg_cells.specs.ValuedFamilies.{Trie, ValuedFamilies}
 use Rattle.pg_cells.specs.Layouts.{IsTrie, standing}
 use Rattle.pg_cells.specs.Members.{IsNext, ArePassing, number_before, has_sign, IsAlone, HasOther}
 use Rattle.pg_cells.proofs.LayoutLaws.{sign_stands, taken_used}
@@ -118,21 +118,21 @@ module _ {V : Type 0} (few n : ℕ) (old r : Row V) (t : Trie V) (before : IsTri
       passing_alike (has_sign t.families p) (λ x. nat_eq (sign_at r (base + x)) x) xs (sign_told n r t (grown few n old r t before more p parent parent_is s low high lacks base base_is_child) p base has) are
 
   -- the members that are owed where the sign does not join
-  pub given_are : (xs : List ℕ) (h : Held V) → ◌≡◌ {A = Held V} (record { signs = n; families = t.families; values = t.values }) h
+  pub given_are : (xs : List ℕ) (h : ValuedFamilies V) → ◌≡◌ {A = ValuedFamilies V} (record { signs = n; families = t.families; values = t.values }) h
       → ((q : List ℕ) → cell_of h.families q ≡ Some parent → joins_at h.families q s ≡ false → ArePassing (has_sign h.families q) xs)
       → (nat_lt 0 base && nat_eq (sign_at r (base + s)) 0) ≡ false → ArePassing (has_sign t.families p) xs
   given_are xs h view owed off =
-      let told = subst (λ (k : Held V). (q : List ℕ) → cell_of k.families q ≡ Some parent → joins_at k.families q s ≡ false → ArePassing (has_sign k.families q) xs) (sym view) owed in
+      let told = subst (λ (k : ValuedFamilies V). (q : List ℕ) → cell_of k.families q ≡ Some parent → joins_at k.families q s ≡ false → ArePassing (has_sign k.families q) xs) (sym view) owed in
       told p parent_is (sym joins_told ∙ off)
 
 module _ {V : Type 0} (n : ℕ) (r : Row V) (t : Trie V) (trie : IsTrie n r t) (p : List ℕ) (parent : ℕ) (parent_is : cell_of t.families p ≡ Some parent)
     (s cell : ℕ) (cell_is : cell_of t.families (p ++ s ∷ []) ≡ Some cell) (childless : base_of t.families (p ++ s ∷ []) ≡ None) (base : ℕ) (base_is_child : base ≡ child_at r parent) where
   -- whether a family is left without a sign, as it was told
-  pub removed_alone : (h : Held V) → ◌≡◌ {A = Held V} (record { signs = n; families = t.families; values = t.values }) h → (b : Bool)
+  pub removed_alone : (h : ValuedFamilies V) → ◌≡◌ {A = ValuedFamilies V} (record { signs = n; families = t.families; values = t.values }) h → (b : Bool)
       → ((q : List ℕ) → cell_of h.families q ≡ Some parent → MatchBool b (IsAlone h.families q s) (HasOther h.families q s))
       → (freed : Row V) → Frees r freed (base + s) → MatchBool b (standing n freed base ≡ []) (standing n freed base ≢ [])
   removed_alone h view b owed freed frees =
-      let told = subst (λ (k : Held V). (q : List ℕ) → cell_of k.families q ≡ Some parent → MatchBool b (IsAlone k.families q s) (HasOther k.families q s)) (sym view) owed in
+      let told = subst (λ (k : ValuedFamilies V). (q : List ℕ) → cell_of k.families q ≡ Some parent → MatchBool b (IsAlone k.families q s) (HasOther k.families q s)) (sym view) owed in
       let f = its_family n r t trie p parent parent_is s cell cell_is childless base base_is_child in
       let has : base_of t.families p ≡ Some base = ap (option_map (λ (g : Family). g.base)) f.1 ∙ ap Some (base_same n r t trie p parent parent_is s cell cell_is childless base base_is_child) in
       alone_told n r t trie p base has s freed frees b (told p parent_is)

@@ -11,7 +11,7 @@ pub mod Collecting
 pub mod FitSteps
 pub mod FreeWalks
 pub mod GivenMembers
-pub mod HeldLaws
+pub mod ValuedFamilyLaws
 pub mod Joined
 pub mod LayoutLaws
 pub mod LinkLaws

@@ -5,8 +5,8 @@ use Rattle.std.proofs.lemmas.List.{append-nil, same_from_push, length_push, get_
 use Rattle.std.specs.Option.{is_some}
 use Rattle.std.specs.FinMap.{find}
 use Rattle.pg_types.specs.Placement.{Families, cell_of, base_of}
-use Rattle.pg_cells.specs.Held.{Held}
-use Rattle.pg_cells.specs.IsHeld.{IsHeld}
+use Rattle.pg_cells.specs.ValuedFamilies.{ValuedFamilies}
+use Rattle.pg_cells.specs.AreValuedFamilies.{AreValuedFamilies}
 use Rattle.pg_cells.specs.Members.{IsNext, goes_on, has_sign, number_before}
 use Rattle.pg_cells.proofs.StringMaps.{order}
 use Rattle.pg_cells.proofs.StringCells.{cell_parts}
@@ -19,7 +19,7 @@ some_string fs q cell at e = let no : None ≡ Some cell = sym (ap (cell_of fs) 
 pub some_base : (fs : Families) (q : List ℕ) (base : ℕ) → base_of fs q ≡ cond (nat_eq base 0) None (Some base) → base ≢ 0 → base_of fs q ≡ Some base
 some_base fs q base told up = told ∙ ap (λ b. cond b None (Some base)) (ne_eqb base 0 up)
 
-module _ {V : Type 0} (h : Held V) (held : IsHeld h) where
+module _ {V : Type 0} (h : ValuedFamilies V) (held : AreValuedFamilies h) where
   -- where a string has no family below it, no sign goes on
   pub none_goes_on : (q : List ℕ) (base : ℕ) → base_of h.families q ≡ cond (nat_eq base 0) None (Some base) → base ≡ 0 → (x : ℕ) → goes_on h.values q x ≡ false
   none_goes_on q base told z x = ap is_some (ap (λ l. find order l h.values) (sym (append-nil (q ++ x ∷ []))) ∙ none_below h held q base told z x [])

@@ -5,8 +5,8 @@ use Rattle.std.proofs.lemmas.List.{same_from_push}
 use Rattle.std.specs.Option.{is_some}
 use Rattle.std.specs.FinMap.{find, put}
 use Rattle.pg_cells.specs.declared.member.Member.{Member}
-use Rattle.pg_cells.specs.Held.{Held}
-use Rattle.pg_cells.specs.IsHeld.{IsHeld}
+use Rattle.pg_cells.specs.ValuedFamilies.{ValuedFamilies}
+use Rattle.pg_cells.specs.AreValuedFamilies.{AreValuedFamilies}
 use Rattle.pg_cells.specs.Links.{AreLinks, with_link, with_first, with_next}
 use Rattle.pg_cells.specs.Members.{IsNextSign, goes_on}
 use Rattle.pg_cells.proofs.StringMaps.{order, find_put_same, find_put_other, equal_or_not}
@@ -35,7 +35,7 @@ module _ {V : Type 0} where
     | inr e ↦ goes_by (put order w new es) es p z (find_put_other (p ++ z ∷ []) w new es e.0)
   ]
 
-  module _ (h new : Held (Member V)) (links : AreLinks h) (held : IsHeld new) (q : List ℕ) (m k : Member V) (at : find order q h.values ≡ Some m) (values : new.values ≡ put order q k h.values) (next : k.next ≡ m.next) (first : k.first ≡ m.first) where
+  module _ (h new : ValuedFamilies (Member V)) (links : AreLinks h) (held : AreValuedFamilies new) (q : List ℕ) (m k : Member V) (at : find order q h.values ≡ Some m) (values : new.values ≡ put order q k h.values) (next : k.next ≡ m.next) (first : k.first ≡ m.first) where
     same_goes : (p : List ℕ) (z : ℕ) → 0 < z → goes_on h.values p z ≡ goes_on new.values p z
     same_goes p z up = sym (ap (λ es. goes_on es p z) values ∙ put_goes q m k h.values at p z)
 
@@ -66,7 +66,7 @@ module _ {V : Type 0} where
     pub value : now.value ≡ was.value
     pub either : ((b ≡ 0) × (string ≡ q) × (now.first ≡ to) × (now.next ≡ was.next)) ⊎ ((b ≢ 0) × (string ≡ q ++ b ∷ []) × (now.next ≡ to) × (now.first ≡ was.first))
 
-  pub relinked : (h new : Held (Member V)) (q : List ℕ) (b to : ℕ) (m : Member V) → find order q h.values ≡ Some m → (b ≡ 0) ⊎ (goes_on h.values q b ≡ true) → new ≡ with_link h q b to → IsRelinked h.values new.values q b to
+  pub relinked : (h new : ValuedFamilies (Member V)) (q : List ℕ) (b to : ℕ) (m : Member V) → find order q h.values ≡ Some m → (b ≡ 0) ⊎ (goes_on h.values q b ≡ true) → new ≡ with_link h q b to → IsRelinked h.values new.values q b to
   relinked h new q b to m at there is = elim (cases_eq b 0) [
     | inl z ↦ record {
       string = q;
@@ -74,7 +74,7 @@ module _ {V : Type 0} where
       now = record m { first = to };
       at = at;
       values =
-          ap (λ (x : Held (Member V)). x.values) is
+          ap (λ (x : ValuedFamilies (Member V)). x.values) is
           ∙ ap (λ c. cond c (with_first (find order q h.values) to q h.values) (with_next (find order (q ++ b ∷ []) h.values) to (q ++ b ∷ []) h.values)) (eq-eqb b 0 z)
           ∙ ap (λ o. with_first o to q h.values) at;
       value = refl;
@@ -93,7 +93,7 @@ module _ {V : Type 0} where
             now = record (k.0) { next = to };
             at = k.1;
             values =
-                ap (λ (x : Held (Member V)). x.values) is
+                ap (λ (x : ValuedFamilies (Member V)). x.values) is
                 ∙ ap (λ c. cond c (with_first (find order q h.values) to q h.values) (with_next (find order (q ++ b ∷ []) h.values) to (q ++ b ∷ []) h.values)) (ne_eqb b 0 up)
                 ∙ ap (λ o. with_next o to (q ++ b ∷ []) h.values) k.1;
             value = refl;
@@ -101,9 +101,9 @@ module _ {V : Type 0} where
           }
 
   -- the links of cells after the sign s is linked in or out below q, told of the signs that go on below it
-  pub record Steps (h mid new : Held (Member V)) (q : List ℕ) (s b to : ℕ) : Type 0 where
+  pub record Steps (h mid new : ValuedFamilies (Member V)) (q : List ℕ) (s b to : ℕ) : Type 0 where
     pub links : AreLinks h
-    pub held : IsHeld new
+    pub held : AreValuedFamilies new
     pub some : q ≢ []
     pub positive : 0 < s
     pub less : b < s
@@ -116,7 +116,7 @@ module _ {V : Type 0} where
     pub own : (m : Member V) → find order (q ++ s ∷ []) mid.values ≡ Some m → (IsNextSign mid.values q s m.next) × IsNextSign mid.values (q ++ s ∷ []) 0 m.first
     pub others : (t y : ℕ) → t ≢ b → t ≢ s → (t ≡ 0) ⊎ (goes_on h.values q t ≡ true) → IsNextSign h.values q t y → IsNextSign mid.values q t y
 
-  module _ (h mid new : Held (Member V)) (q : List ℕ) (s b to : ℕ) (step : Steps h mid new q s b to) where
+  module _ (h mid new : ValuedFamilies (Member V)) (q : List ℕ) (s b to : ℕ) (step : Steps h mid new q s b to) where
     re_values : new.values ≡ put order step.relink.string step.relink.now mid.values
     re_values = step.relink.values
 

@@ -9,7 +9,7 @@ use Rattle.pg_types.specs.Placement.{Family, Families, family_at, without_family
 use Rattle.pg_cells.specs.Lists.{Row, sign_at, child_at}
 use Rattle.pg_cells.specs.Writes.{Frees, SetsBase}
 use Rattle.pg_cells.specs.Moves.{Prunes}
-use Rattle.pg_cells.specs.Held.{Trie}
+use Rattle.pg_cells.specs.ValuedFamilies.{Trie}
 use Rattle.pg_cells.specs.Layouts.{IsTrie, standing}
 use Rattle.pg_cells.proofs.LinkedLists.{taken_within}
 use Rattle.pg_cells.proofs.StringMaps.{order, without_key}

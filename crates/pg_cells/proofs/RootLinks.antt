@@ -4,8 +4,8 @@ use Rattle.std.proofs.lemmas.List.{same_from_push}
 use Rattle.std.specs.List.{range_with_len}
 use Rattle.std.specs.FinMap.{find}
 use Rattle.pg_cells.specs.declared.member.Member.{Member}
-use Rattle.pg_cells.specs.Held.{Held}
-use Rattle.pg_cells.specs.IsHeld.{IsHeld}
+use Rattle.pg_cells.specs.ValuedFamilies.{ValuedFamilies}
+use Rattle.pg_cells.specs.AreValuedFamilies.{AreValuedFamilies}
 use Rattle.pg_cells.specs.Links.{AreLinks, unlinked}
 use Rattle.pg_cells.specs.Members.{IsNext, goes_on}
 use Rattle.pg_cells.specs.Root.{root_held}
@@ -26,7 +26,7 @@ module _ {V : Type 0} where
     | inr h ↦ root_found q m x ss (sym (ap (λ b. cond b (Some m) (find order q (map (λ s. (s ∷ [], m)) ss))) h.1) ∙ e)
   ]
 
-  pub root_links : (n : ℕ) (m : Member V) (h : Held (Member V)) → m.first ≡ 0 → h ≡ root_held n m → IsHeld h → AreLinks h
+  pub root_links : (n : ℕ) (m : Member V) (h : ValuedFamilies (Member V)) → m.first ≡ 0 → h ≡ root_held n m → AreValuedFamilies h → AreLinks h
   root_links n m h none is held = record {
     held = held;
     first = λ q x e. (
@@ -39,7 +39,7 @@ module _ {V : Type 0} where
   }
     where
       found : (q : List ℕ) (x : Member V) → find order q h.values ≡ Some x → (s : ℕ) × (q ≡ s ∷ []) × (x ≡ m)
-      found q x e = root_found q m x (range_with_len 1 n) (sym (ap (λ (k : Held (Member V)). find order q k.values) is) ∙ e)
+      found q x e = root_found q m x (range_with_len 1 n) (sym (ap (λ (k : ValuedFamilies (Member V)). find order q k.values) is) ∙ e)
 
       longer : (q : List ℕ) (s z : ℕ) → q ≡ s ∷ [] → goes_on h.values q z ≡ true → ⊥
       longer q s z e goes =
@@ -48,5 +48,5 @@ module _ {V : Type 0} where
           let f = found (q ++ z ∷ []) v.0 v.1 in
           not_empty [] s (sym e ∙ (same_from_push q [] z f.0 f.1).0)
 
-  pub root_seen : (n : ℕ) (m : Member V) (v : V) (h : Held (Member V)) → m.value ≡ v → h ≡ root_held n m → unlinked h ≡ root_held n v
+  pub root_seen : (n : ℕ) (m : Member V) (v : V) (h : ValuedFamilies (Member V)) → m.value ≡ v → h ≡ root_held n m → unlinked h ≡ root_held n v
   root_seen n m v h value is = ap unlinked is ∙ root_unlinked n m ∙ ap (root_held n) value

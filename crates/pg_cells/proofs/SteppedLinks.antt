@@ -6,8 +6,8 @@ use Rattle.std.specs.Option.{is_some}
 use Rattle.std.specs.FinMap.{find, put, is_sorted}
 use Rattle.pg_types.specs.Placement.{cell_of}
 use Rattle.pg_cells.specs.declared.member.Member.{Member}
-use Rattle.pg_cells.specs.Held.{Held, without_key}
-use Rattle.pg_cells.specs.IsHeld.{IsHeld}
+use Rattle.pg_cells.specs.ValuedFamilies.{ValuedFamilies, without_key}
+use Rattle.pg_cells.specs.AreValuedFamilies.{AreValuedFamilies}
 use Rattle.pg_cells.specs.Links.{AreLinks, IsBefore, with_link}
 use Rattle.pg_cells.specs.Members.{IsNextSign, goes_on, has_sign, IsAlone, HasOther}
 use Rattle.pg_cells.proofs.StringMaps.{order, find_put_same, find_put_other, find_without_same, find_without_other}
@@ -27,7 +27,7 @@ sign_differs p x y other e = other (same_sign p e)
 longer_differs : (p : List ℕ) (s z : ℕ) → (p ++ s ∷ []) ++ z ∷ [] ≢ p ++ s ∷ []
 longer_differs p s z e = not_longer (p ++ s ∷ []) z e
 
-module _ {V : Type 0} (h mid new : Held (Member V)) (links : AreLinks h) (p : List ℕ) (parent : ℕ) (at : cell_of h.families p ≡ Some parent) (s : ℕ) (up : 1 ≤ s) (b : ℕ) (before : IsBefore h.values p s b) where
+module _ {V : Type 0} (h mid new : ValuedFamilies (Member V)) (links : AreLinks h) (p : List ℕ) (parent : ℕ) (at : cell_of h.families p ≡ Some parent) (s : ℕ) (up : 1 ≤ s) (b : ℕ) (before : IsBefore h.values p s b) where
   -- the parent's own entry
   own_entry : (m : Member V) × (find order p h.values ≡ Some m)
   own_entry = links.held.valued p parent at
@@ -72,7 +72,7 @@ module _ {V : Type 0} (h mid new : Held (Member V)) (links : AreLinks h) (p : Li
           }),
         )
 
-    pub links_added : IsHeld new → new ≡ with_link mid p b s → AreLinks new
+    pub links_added : AreValuedFamilies new → new ≡ with_link mid p b s → AreLinks new
     links_added held is = links_stepped h mid new p s b s (record {
       links = links;
       held = held;
@@ -110,7 +110,7 @@ module _ {V : Type 0} (h mid new : Held (Member V)) (links : AreLinks h) (p : Li
     remove_relinked : new ≡ with_link mid p b after → IsRelinked mid.values new.values p b after
     remove_relinked is = relinked mid new p b after own_entry.0 (without_there p (λ e. not_longer p s (sym e)) ∙ own_entry.1) remove_behind is
 
-    pub links_removed : IsHeld new → new ≡ with_link mid p b after → AreLinks new
+    pub links_removed : AreValuedFamilies new → new ≡ with_link mid p b after → AreLinks new
     links_removed held is = links_stepped h mid new p s b after (record {
       links = links;
       held = held;

@@ -7,8 +7,8 @@ use Rattle.std.specs.FinMap.{find, put, is_sorted}
 use Rattle.std.specs.FinMap.Entries.{below_all}
 use Rattle.pg_types.specs.Placement.{cell_of}
 use Rattle.pg_cells.specs.declared.member.Member.{Member}
-use Rattle.pg_cells.specs.Held.{Held}
-use Rattle.pg_cells.specs.IsHeld.{IsHeld}
+use Rattle.pg_cells.specs.ValuedFamilies.{ValuedFamilies}
+use Rattle.pg_cells.specs.AreValuedFamilies.{AreValuedFamilies}
 use Rattle.pg_cells.specs.Links.{unlinked}
 use Rattle.pg_cells.specs.Members.{goes_on}
 use Rattle.pg_cells.specs.Root.{root_held}
@@ -87,7 +87,7 @@ module _ {V : Type 0} where
       by (x ∷ xs) = ap (λ l. (x ∷ [], m.value) ∷ l) (by xs)
 
   -- what is always true of the cells stays true
-  pub held_unlinked : (h : Held (Member V)) → IsHeld h → IsHeld (unlinked h)
+  pub held_unlinked : (h : ValuedFamilies (Member V)) → AreValuedFamilies h → AreValuedFamilies (unlinked h)
   held_unlinked h is = record {
     sorted = is.sorted;
     ordered = sorted_plain h.values is.ordered;

@@ -7,8 +7,8 @@ use Rattle.std.specs.List.{list_any}
 use Rattle.std.specs.Option.{option_map}
 use Rattle.std.specs.FinMap.{find, put}
 use Rattle.pg_types.specs.Placement.{Family, Families, family_at, cell_in, cell_of, base_of, with_sign, enter_by, enter_after}
-use Rattle.pg_cells.specs.Held.{Held}
-use Rattle.pg_cells.specs.IsHeld.{IsHeld}
+use Rattle.pg_cells.specs.ValuedFamilies.{ValuedFamilies}
+use Rattle.pg_cells.specs.AreValuedFamilies.{AreValuedFamilies}
 use Rattle.pg_cells.specs.Walks.{EndsBefore, StepsBy, Steps, AddsBlanks}
 use Rattle.pg_cells.proofs.StringMaps.{order, equal_or_not, find_put_same, find_put_other}
 use Rattle.pg_cells.proofs.PlacementLaws.{cell_of_last}
@@ -53,7 +53,7 @@ enter_last few n fs (t ∷ q) s some = enter_after_last few n fs (t ∷ []) q s
 
 module _ {V : Type 0} where
   -- where a string has no cell, no string that begins with it has a value
-  pub ends_before : (h : Held V) → IsHeld h → (p : List ℕ) (x : ℕ) → cell_of h.families (p ++ x ∷ []) ≡ None → EndsBefore h.values (p ++ x ∷ [])
+  pub ends_before : (h : ValuedFamilies V) → AreValuedFamilies h → (p : List ℕ) (x : ℕ) → cell_of h.families (p ++ x ∷ []) ≡ None → EndsBefore h.values (p ++ x ∷ [])
   ends_before h held p x none more = by (find order ((p ++ x ∷ []) ++ more) h.values) refl
     where
       by : (o : Option V) → find order ((p ++ x ∷ []) ++ more) h.values ≡ o → find order ((p ++ x ∷ []) ++ more) h.values ≡ None
@@ -64,11 +64,11 @@ module _ {V : Type 0} where
           absurd (let no : ⊥ = cc in no)
 
   -- where there is no base, no string goes on
-  pub none_below : (h : Held V) → IsHeld h → (q : List ℕ) (base : ℕ) → base_of h.families q ≡ cond (nat_eq base 0) None (Some base) → base ≡ 0 → (x : ℕ) → EndsBefore h.values (q ++ x ∷ [])
+  pub none_below : (h : ValuedFamilies V) → AreValuedFamilies h → (q : List ℕ) (base : ℕ) → base_of h.families q ≡ cond (nat_eq base 0) None (Some base) → base ≡ 0 → (x : ℕ) → EndsBefore h.values (q ++ x ∷ [])
   none_below h held q base e z x = ends_before h held q x (childless h.families q x (e ∙ ap (λ b. cond b None (Some base)) (eq-eqb base 0 z)))
 
   -- and where there is one, some string does
-  pub some_below : (h : Held V) → IsHeld h → (q : List ℕ) (base : ℕ) → base_of h.families q ≡ cond (nat_eq base 0) None (Some base) → 0 < base → (x : ℕ) × (v : V) × (find order (q ++ x ∷ []) h.values ≡ Some v)
+  pub some_below : (h : ValuedFamilies V) → AreValuedFamilies h → (q : List ℕ) (base : ℕ) → base_of h.families q ≡ cond (nat_eq base 0) None (Some base) → 0 < base → (x : ℕ) × (v : V) × (find order (q ++ x ∷ []) h.values ≡ Some v)
   some_below h held q base e up =
       let other : base ≢ 0 = λ z. omega arith in
       let below = held.filled q base (e ∙ ap (λ b. cond b None (Some base)) (ne_eqb base 0 other)) in
@@ -120,7 +120,7 @@ module _ {V : Type 0} where
       by (Some v) is = absurd (let no : None ≡ Some v = sym none ∙ a.keeps q v is in cc)
 
   -- the families after a step
-  pub step_families : (few : ℕ) (old new : Held V) (q : List ℕ) (s : ℕ) (blank : V) → Steps few old new q s blank
+  pub step_families : (few : ℕ) (old new : ValuedFamilies V) (q : List ℕ) (s : ℕ) (blank : V) → Steps few old new q s blank
       → new.families ≡ (elim (cell_in old.families q s) as (λ _. Families) [ Some cell ↦ old.families | None ↦ with_sign few old.signs old.families q s ])
   step_families few old new q s blank steps = by (cell_of old.families (q ++ s ∷ [])) refl
     where
@@ -132,27 +132,27 @@ module _ {V : Type 0} where
           ∙ sym (ap (λ x. elim x as (λ _. Families) [ Some cell ↦ old.families | None ↦ with_sign few old.signs old.families q s ]) there)
         where
           at : (x : Option ℕ) → StepsBy few x old new q s blank → new.families ≡ (elim x as (λ _. Families) [ Some cell ↦ old.families | None ↦ with_sign few old.signs old.families q s ])
-          at None e = ap (λ (h : Held V). h.families) e
-          at (Some cell) e = ap (λ (h : Held V). h.families) e
+          at None e = ap (λ (h : ValuedFamilies V). h.families) e
+          at (Some cell) e = ap (λ (h : ValuedFamilies V). h.families) e
 
-  pub step_signs : (few : ℕ) (old new : Held V) (q : List ℕ) (s : ℕ) (blank : V) → Steps few old new q s blank → new.signs ≡ old.signs
+  pub step_signs : (few : ℕ) (old new : ValuedFamilies V) (q : List ℕ) (s : ℕ) (blank : V) → Steps few old new q s blank → new.signs ≡ old.signs
   step_signs few old new q s blank steps = by (cell_of old.families (q ++ s ∷ [])) steps
     where
       by : (o : Option ℕ) → StepsBy few o old new q s blank → new.signs ≡ old.signs
-      by None e = ap (λ (h : Held V). h.signs) e
-      by (Some cell) e = ap (λ (h : Held V). h.signs) e
+      by None e = ap (λ (h : ValuedFamilies V). h.signs) e
+      by (Some cell) e = ap (λ (h : ValuedFamilies V). h.signs) e
 
   -- the values after a step on the way to w
-  pub step_values : (few : ℕ) (w : List ℕ) (old new : Held V) (k : ℕ) (q : List ℕ) (s : ℕ) (blank : V) → IsHeld old → take k w ≡ q ++ s ∷ [] → Steps few old new q s blank → AddsBlanks w blank old.values new.values
+  pub step_values : (few : ℕ) (w : List ℕ) (old new : ValuedFamilies V) (k : ℕ) (q : List ℕ) (s : ℕ) (blank : V) → AreValuedFamilies old → take k w ≡ q ++ s ∷ [] → Steps few old new q s blank → AddsBlanks w blank old.values new.values
   step_values few w old new k q s blank held way steps = by (cell_of old.families (q ++ s ∷ [])) refl steps
     where
       by : (o : Option ℕ) → cell_of old.families (q ++ s ∷ []) ≡ o → StepsBy few o old new q s blank → AddsBlanks w blank old.values new.values
       by None is e =
           let none : find order (take k w) old.values ≡ None = ap (λ y. find order y old.values) way ∙ sym (ap (λ y. find order y old.values) (append-nil (q ++ s ∷ []))) ∙ ends_before old held q s is [] in
-          blank_added w blank old.values new.values k none (ap (λ (h : Held V). h.values) e ∙ ap (λ y. put order y blank old.values) (sym way))
-      by (Some cell) is e = none_added w blank old.values new.values (ap (λ (h : Held V). h.values) e)
+          blank_added w blank old.values new.values k none (ap (λ (h : ValuedFamilies V). h.values) e ∙ ap (λ y. put order y blank old.values) (sym way))
+      by (Some cell) is e = none_added w blank old.values new.values (ap (λ (h : ValuedFamilies V). h.values) e)
 
-  pub enter_more : (few n : ℕ) (old new : Held V) (w : List ℕ) (i : ℕ) (blank : V) → old.signs ≡ n → i + 1 < length w → Steps few old new (take (i + 1) w) (get_or w (i + 1) 0) blank
+  pub enter_more : (few n : ℕ) (old new : ValuedFamilies V) (w : List ℕ) (i : ℕ) (blank : V) → old.signs ≡ n → i + 1 < length w → Steps few old new (take (i + 1) w) (get_or w (i + 1) 0) blank
       → enter_after few n new.families (take (i + 1 + 1) w) (drop (i + 1 + 1) w) ≡ enter_after few n old.families (take (i + 1) w) (drop (i + 1) w)
   enter_more few n old new w i blank signs lt steps =
       let p = take (i + 1) w in
@@ -163,7 +163,7 @@ module _ {V : Type 0} where
       ∙ sym (ap (enter_after few n old.families p) (drop_more w (i + 1) 0 lt))
 
   -- so much of w is entered
-  pub front_more : (few n : ℕ) (fs : Families) (old new : Held V) (w : List ℕ) (i : ℕ) (blank : V) → old.signs ≡ n → i + 1 < length w → Steps few old new (take (i + 1) w) (get_or w (i + 1) 0) blank
+  pub front_more : (few n : ℕ) (fs : Families) (old new : ValuedFamilies V) (w : List ℕ) (i : ℕ) (blank : V) → old.signs ≡ n → i + 1 < length w → Steps few old new (take (i + 1) w) (get_or w (i + 1) 0) blank
       → old.families ≡ enter_by few n fs (take (i + 1) w) → new.families ≡ enter_by few n fs (take (i + 1 + 1) w)
   front_more few n fs old new w i blank signs lt steps front =
       let p = take (i + 1) w in

@@ -1,7 +1,7 @@
 pub mod Bounds
 pub mod Fit
-pub mod Held
-pub mod IsHeld
+pub mod ValuedFamilies
+pub mod AreValuedFamilies
 pub mod Layouts
 pub mod Linked
 pub mod Links

@@ -4,18 +4,18 @@ use Rattle.std.specs.Ordering.{nat_cmp}
 use Rattle.std.specs.Cmp.Lexicographic.{slice_cmp}
 use Rattle.std.specs.FinMap.{find, put}
 use Rattle.pg_cells.specs.declared.member.Member.{Member}
-use Rattle.pg_cells.specs.Held.{Held}
-use Rattle.pg_cells.specs.IsHeld.{IsHeld}
+use Rattle.pg_cells.specs.ValuedFamilies.{ValuedFamilies}
+use Rattle.pg_cells.specs.AreValuedFamilies.{AreValuedFamilies}
 use Rattle.pg_cells.specs.Members.{IsNextSign, goes_on}
 
 module _ {V : Type 0} where
   -- the cells without their links
-  abbrev pub unlinked : Held (Member V) → Held V
+  abbrev pub unlinked : ValuedFamilies (Member V) → ValuedFamilies V
   unlinked h = record { signs = h.signs; families = h.families; values = map (λ e. (e.0, e.1.value)) h.values }
 
   -- each string has the first sign below it, and each string below a string the next sign
-  pub record AreLinks (h : Held (Member V)) : Type 0 where
-    pub held : IsHeld h
+  pub record AreLinks (h : ValuedFamilies (Member V)) : Type 0 where
+    pub held : AreValuedFamilies h
     pub first : (q : List ℕ) (m : Member V) → find (slice_cmp nat_cmp) q h.values ≡ Some m → IsNextSign h.values q 0 m.first
     pub next : (q : List ℕ) (s : ℕ) (m : Member V) → q ≢ [] → find (slice_cmp nat_cmp) (q ++ s ∷ []) h.values ≡ Some m → IsNextSign h.values q s m.next
 
@@ -34,5 +34,5 @@ module _ {V : Type 0} where
   with_next (Some m) to q values = put (slice_cmp nat_cmp) q (record m { next = to }) values
 
   -- the sign `to` stands behind s in the family below q, as the first one where s is 0
-  abbrev pub with_link : Held (Member V) → List ℕ → ℕ → ℕ → Held (Member V)
+  abbrev pub with_link : ValuedFamilies (Member V) → List ℕ → ℕ → ℕ → ValuedFamilies (Member V)
   with_link h q s to = record h { values = if nat_eq s 0 then with_first (find (slice_cmp nat_cmp) q h.values) to q h.values else with_next (find (slice_cmp nat_cmp) (q ++ s ∷ []) h.values) to (q ++ s ∷ []) h.values }

@@ -2,15 +2,11 @@
 use Rattle.std.specs.Prelude.{◌≡◌, ◌≢◌, ℕ, ◌+◌, ◌-◌, ◌<◌, ◌≤◌, ◌⊎◌, max, true, false, nat_le, if◌then◌else◌, List, [], ◌∷◌, ◌++◌, length, take, get_or, slice_get, None, Some}
 use Rattle.pg_cells.specs.declared.fit.Slot.{Slot}
 use Rattle.pg_cells.specs.Lists.{Row, sign_at, child_at, base_at}
-use Rattle.pg_types.specs.Placement.{far_below, IsLeast}
+use Rattle.pg_types.specs.Placement.{lowest_base, IsLeast}
 use Rattle.pg_cells.specs.Store.{taken_in, IsTop}
 use Rattle.pg_cells.specs.Writes.{Takes, SetsBase, SetsChild}
 use Rattle.pg_cells.specs.Fit.{signs_of, slot_of, fits_row}
 use Rattle.pg_cells.specs.Layouts.{standing}
-
--- the lowest base that is tried for so many signs, where t is the top
-abbrev pub lowest_from : ℕ → ℕ → ℕ → ℕ → ℕ
-lowest_from few n count t = if nat_le count few then 1 else max 1 (t - max far_below n)
 
 module _ {V : Type 0} where
   -- no two slots have one sign
@@ -87,7 +83,7 @@ module _ {V : Type 0} where
     pub drops : Drops gave dropped was
     pub top : ℕ
     pub is_top : IsTop dropped.signs top
-    pub least : IsLeast (fits_row dropped (slot.sign ∷ signs_of slots)) (lowest_from few n (length slots + 1) top) base
+    pub least : IsLeast (fits_row dropped (slot.sign ∷ signs_of slots)) (lowest_base few n (length slots + 1) top) base
     pub near : base ≤ max 1 top
     pub puts : Puts dropped settled base slots
     pub takes : Takes settled took (base + slot.sign) slot.sign slot.value slot.child

@@ -4,7 +4,7 @@ use Rattle.std.specs.Ordering.{nat_cmp}
 use Rattle.std.specs.Cmp.Lexicographic.{slice_cmp}
 use Rattle.std.specs.FinMap.{find, put}
 use Rattle.pg_types.specs.Placement.{Families, cell_of, with_sign}
-use Rattle.pg_cells.specs.Held.{Held}
+use Rattle.pg_cells.specs.ValuedFamilies.{ValuedFamilies}
 
 -- where a walk stands: at the empty string, or at the string that has the cell
 abbrev pub IsAt : Families → Option ℕ → List ℕ → Type 0
@@ -17,11 +17,11 @@ module _ {V : Type 0} where
   EndsBefore values q = (more : List ℕ) → find (slice_cmp nat_cmp) (q ++ more) values ≡ None
 
   -- the sign s below the string q has a cell as before, or it gets one and the value
-  abbrev pub StepsBy : ℕ → Option ℕ → Held V → Held V → List ℕ → ℕ → V → Type 0
+  abbrev pub StepsBy : ℕ → Option ℕ → ValuedFamilies V → ValuedFamilies V → List ℕ → ℕ → V → Type 0
   StepsBy few None old new q s v = new ≡ record old { families = with_sign few old.signs old.families q s; values = put (slice_cmp nat_cmp) (q ++ s ∷ []) v old.values }
   StepsBy few (Some cell) old new q s v = new ≡ old
 
-  abbrev pub Steps : ℕ → Held V → Held V → List ℕ → ℕ → V → Type 0
+  abbrev pub Steps : ℕ → ValuedFamilies V → ValuedFamilies V → List ℕ → ℕ → V → Type 0
   Steps few old new q s v = StepsBy few (cell_of old.families (q ++ s ∷ [])) old new q s v
 
   -- each string keeps its value, and one that had none is on the way to w and has the blank

@@ -4,8 +4,8 @@ ghost use Rattle.std.specs.FinMap.{find, put};
 ghost use Rattle.std.specs.Cmp.Lexicographic.{slice_cmp};
 ghost use Rattle.std.specs.Ordering.{nat_cmp};
 ghost use Rattle.pg_types.specs.Placement.{taken, top, cell_of, base_of, joins_at, with_sign, without_sign};
-ghost use Rattle.pg_cells.specs.Held.{Held, without_key};
-ghost use Rattle.pg_cells.specs.IsHeld.{IsHeld};
+ghost use Rattle.pg_cells.specs.ValuedFamilies.{ValuedFamilies, without_key};
+ghost use Rattle.pg_cells.specs.AreValuedFamilies.{AreValuedFamilies};
 ghost use Rattle.pg_cells.specs.Lists.{sign_at};
 ghost use Rattle.pg_cells.specs.Members.{ArePassing, IsAlone, HasOther, has_sign};
 ghost use Rattle.pg_cells.specs.OneTrie.{Kept, Kept-prop};
@@ -33,12 +33,12 @@ pub struct Placed<V: Copy, const FEW: usize> {
 }
 
 impl<V: Copy, const FEW: usize> Model for Placed<V, FEW> {
-    ghost use Rattle.pg_cells.specs.Held.{Held, held_code};
+    ghost use Rattle.pg_cells.specs.ValuedFamilies.{ValuedFamilies, valued_families_code};
     ghost use Rattle.pg_cells.specs.Layouts.{AreKept};
 
-    ghost Value = { Held V };
+    ghost Value = { ValuedFamilies V };
 
-    ghost coded = { held_code V.code };
+    ghost coded = { valued_families_code V.code };
 
     ghost view = { λ c. record { signs = c.signs; families = c.layout.0.families; values = c.layout.0.values } };
 
@@ -50,7 +50,7 @@ impl<V: Copy, const FEW: usize> Placed<V, FEW> {
     pub fn new(alloc: Global, signs: u16, blank: V) -> Result<Placed<V, FEW>, AllocError>
         requires { (1 ≤ signs) × (signs ≤ SIGNS_MAX) }
         ensures held { IfOk result (λ c. c ≡ root_held signs blank) }
-        ensures kept { IfOk result (λ c. IsHeld c) }
+        ensures kept { IfOk result (λ c. AreValuedFamilies c) }
     {
         let mut store = Store::new(alloc, signs, blank)?;
         store.grow(signs as usize + 1, blank)?;
@@ -67,7 +67,7 @@ impl<V: Copy, const FEW: usize> Placed<V, FEW> {
     /// The number of signs of the table.
     pub fn signs(&self) -> u16
         ensures signs { result ≡ self.now.signs }
-        ensures held { IsHeld self.now }
+        ensures held { AreValuedFamilies self.now }
     {
         let _cells = self.store.len();
         self.signs
@@ -170,7 +170,7 @@ impl<V: Copy, const FEW: usize> Placed<V, FEW> {
         ensures cells { (q : List ℕ) → cell_of self.old.families q ≡ Some parent →
             OnOk result ((p : List ℕ) → ((x : ℕ) → p ≢ q ++ x ∷ []) →
             cell_of self.new.families p ≡ cell_of self.old.families p) }
-        ensures kept { OnOk result (IsHeld self.new) }
+        ensures kept { OnOk result (AreValuedFamilies self.new) }
         ensures err { OnErr result (self.new ≡ self.old) }
     {
         self.store.make_room(self.signs as usize + 2, v)?;
@@ -209,7 +209,7 @@ impl<V: Copy, const FEW: usize> Placed<V, FEW> {
             } }
         ensures cells { (q : List ℕ) → cell_of self.old.families q ≡ Some parent → (p : List ℕ) → p ≢ q ++ s ∷ [] →
             cell_of self.new.families p ≡ cell_of self.old.families p }
-        ensures kept { IsHeld self.new }
+        ensures kept { AreValuedFamilies self.new }
     {
         let _cells = self.store.len();
         let base = self.store.child(parent);
@@ -223,7 +223,7 @@ impl<V: Copy, const FEW: usize> Placed<V, FEW> {
         requires { (q : List ℕ) × (cell_of self.old.families q ≡ Some cell) }
         ensures held { (q : List ℕ) → cell_of self.old.families q ≡ Some cell →
             self.new ≡ record self.old { values = put (slice_cmp nat_cmp) q v self.old.values } }
-        ensures kept { IsHeld self.new }
+        ensures kept { AreValuedFamilies self.new }
     {
         self.store.set_value(cell, v);
         let _length = self.store.len();
@@ -232,7 +232,7 @@ impl<V: Copy, const FEW: usize> Placed<V, FEW> {
     /// The root family alone, each value `blank`.
     pub fn reset(&mut self, blank: V)
         ensures held { self.new ≡ root_held self.old.signs blank }
-        ensures kept { IsHeld self.new }
+        ensures kept { AreValuedFamilies self.new }
     {
         clear(&mut self.store);
         take_root(&mut self.store, self.signs, blank);

@@ -4,8 +4,8 @@ ghost use Rattle.std.specs.FinMap.{find, put};
 ghost use Rattle.std.specs.Cmp.Lexicographic.{slice_cmp};
 ghost use Rattle.std.specs.Ordering.{nat_cmp};
 ghost use Rattle.pg_types.specs.Placement.{taken, top, cell_of, base_of, with_sign, without_sign};
-ghost use Rattle.pg_cells.specs.Held.{Held, without_key};
-ghost use Rattle.pg_cells.specs.IsHeld.{IsHeld};
+ghost use Rattle.pg_cells.specs.ValuedFamilies.{ValuedFamilies, without_key};
+ghost use Rattle.pg_cells.specs.AreValuedFamilies.{AreValuedFamilies};
 ghost use Rattle.pg_cells.specs.Members.{IsNextSign};
 ghost use Rattle.pg_cells.specs.Root.{root_held};
 ghost use Rattle.pg_cells.specs.Walks.{EndsBefore};
@@ -26,12 +26,12 @@ pub struct Cells<V: Copy, const FEW: usize> {
 }
 
 impl<V: Copy, const FEW: usize> Model for Cells<V, FEW> {
-    ghost use Rattle.pg_cells.specs.Held.{Held, held_code};
+    ghost use Rattle.pg_cells.specs.ValuedFamilies.{ValuedFamilies, valued_families_code};
     ghost use Rattle.pg_cells.specs.Links.{unlinked, AreLinks};
 
-    ghost Value = { Held V };
+    ghost Value = { ValuedFamilies V };
 
-    ghost coded = { held_code V.code };
+    ghost coded = { valued_families_code V.code };
 
     ghost view = { λ c. unlinked c.placed };
 
@@ -43,7 +43,7 @@ impl<V: Copy, const FEW: usize> Cells<V, FEW> {
     pub fn new(alloc: Global, signs: u16, blank: V) -> Result<Cells<V, FEW>, AllocError>
         requires { (1 ≤ signs) × (signs ≤ SIGNS_MAX) }
         ensures held { IfOk result (λ c. c ≡ root_held signs blank) }
-        ensures kept { IfOk result (λ c. IsHeld c) }
+        ensures kept { IfOk result (λ c. AreValuedFamilies c) }
     {
         let placed = Placed::new(alloc, signs, Member::alone(blank))?;
         Ok(Cells {
@@ -55,7 +55,7 @@ impl<V: Copy, const FEW: usize> Cells<V, FEW> {
     /// The number of signs of the table.
     pub fn signs(&self) -> u16
         ensures signs { result ≡ self.now.signs }
-        ensures held { IsHeld self.now }
+        ensures held { AreValuedFamilies self.now }
     {
         self.placed.signs()
     }
@@ -148,7 +148,7 @@ impl<V: Copy, const FEW: usize> Cells<V, FEW> {
         ensures cells { (q : List ℕ) → cell_of self.old.families q ≡ Some parent →
             OnOk result ((p : List ℕ) → ((x : ℕ) → p ≢ q ++ x ∷ []) →
             cell_of self.new.families p ≡ cell_of self.old.families p) }
-        ensures kept { OnOk result (IsHeld self.new) }
+        ensures kept { OnOk result (AreValuedFamilies self.new) }
         ensures err { OnErr result (self.new ≡ self.old) }
     {
         let base = self.placed.child(parent);
@@ -178,7 +178,7 @@ impl<V: Copy, const FEW: usize> Cells<V, FEW> {
             } }
         ensures cells { (q : List ℕ) → cell_of self.old.families q ≡ Some parent → (p : List ℕ) → p ≢ q ++ s ∷ [] →
             cell_of self.new.families p ≡ cell_of self.old.families p }
-        ensures kept { IsHeld self.new }
+        ensures kept { AreValuedFamilies self.new }
     {
         let base = self.placed.child(parent);
         let before = sign_before(&self.placed, parent, base, s);
@@ -192,7 +192,7 @@ impl<V: Copy, const FEW: usize> Cells<V, FEW> {
         requires { (q : List ℕ) × (cell_of self.old.families q ≡ Some cell) }
         ensures held { (q : List ℕ) → cell_of self.old.families q ≡ Some cell →
             self.new ≡ record self.old { values = put (slice_cmp nat_cmp) q v self.old.values } }
-        ensures kept { IsHeld self.new }
+        ensures kept { AreValuedFamilies self.new }
     {
         let member = self.placed.value(cell);
         self.placed.set_value(cell, Member { value: v, ..member });
@@ -201,7 +201,7 @@ impl<V: Copy, const FEW: usize> Cells<V, FEW> {
     /// The root family alone, each value `blank`.
     pub fn reset(&mut self, blank: V)
         ensures held { self.new ≡ root_held self.old.signs blank }
-        ensures kept { IsHeld self.new }
+        ensures kept { AreValuedFamilies self.new }
     {
         self.placed.reset(Member::alone(blank));
     }

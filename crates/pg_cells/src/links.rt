@@ -2,7 +2,7 @@
 //! first one, and each has the next.
 ghost use Rattle.std.specs.Prelude.{◌≡◌, ◌≢◌, ℕ, ◌<◌, ◌≤◌, ◌⊎◌, ◌==◌, ◌&&◌, nat_eq, true, false, length, List, [], ◌∷◌, ◌++◌, Some, None, OnOk, slice_index, if◌then◌else◌};
 ghost use Rattle.pg_types.specs.Placement.{cell_of, base_of, joins_at};
-ghost use Rattle.pg_cells.specs.IsHeld.{IsHeld};
+ghost use Rattle.pg_cells.specs.AreValuedFamilies.{AreValuedFamilies};
 ghost use Rattle.pg_cells.specs.Members.{IsNextSign, goes_on, has_sign, ArePassing};
 ghost use Rattle.pg_cells.specs.Links.{AreLinks, IsBefore, with_link};
 
@@ -39,7 +39,7 @@ pub fn sign_after<V: Copy, const FEW: usize>(
 
 // Whether the family with the base has the sign; the base is 0 where there is no family.
 fn has_sign<V: Copy, const FEW: usize>(cells: &Placed<Member<V>, FEW>, base: usize, s: Sign) -> bool
-    requires held { IsHeld cells.now }
+    requires held { AreValuedFamilies cells.now }
     requires base { (q : List ℕ) × (base_of cells.now.families q ≡ (if base == 0 then None else Some base)) }
     requires sign { (1 ≤ s) × (s ≤ cells.now.signs) }
     ensures { (q : List ℕ) → base_of cells.now.families q ≡ (if base == 0 then None else Some base) →
@@ -142,12 +142,12 @@ pub fn link<V: Copy, const FEW: usize>(
     s: Sign,
     to: Sign,
 )
-    requires held { IsHeld cells.old }
+    requires held { AreValuedFamilies cells.old }
     requires parent { (q : List ℕ) × ((cell_of cells.old.families q ≡ Some parent)
         × ((s ≡ 0) ⊎ (goes_on cells.old.values q s ≡ true))) }
     ensures linked { (q : List ℕ) → cell_of cells.old.families q ≡ Some parent →
         cells.new ≡ with_link cells.old q s to }
-    ensures kept { IsHeld cells.new }
+    ensures kept { AreValuedFamilies cells.new }
 {
     if s == 0 {
         let member = cells.value(parent);

@@ -1,8 +1,8 @@
 //! A family is put at the least base that fits.
 ghost use Rattle.std.specs.Prelude.{◌≡◌, ◌≢◌, ℕ, ◌+◌, ◌<◌, ◌≤◌, ◌^◌, max, true, ◌∷◌, length};
-ghost use Rattle.pg_types.specs.Placement.{IsLeast};
+ghost use Rattle.pg_types.specs.Placement.{IsLeast, lowest_base};
 ghost use Rattle.pg_cells.specs.Fit.{fits_row, signs_of};
-ghost use Rattle.pg_cells.specs.Moves.{Drops, Moved, CanPlace, lowest_from};
+ghost use Rattle.pg_cells.specs.Moves.{Drops, Moved, CanPlace};
 
 use crate::fit::Slot;
 use crate::moves::{give_up, put};
@@ -14,7 +14,7 @@ const FAR_BELOW: usize = 255;
 
 // The lowest base that is tried.
 fn lowest_base(few: usize, signs: u16, count: usize, top: usize) -> usize
-    ensures is { result ≡ lowest_from few signs count top }
+    ensures is { result ≡ lowest_base few signs count top }
     ensures positive { 0 < result }
 {
     if count <= few {

@@ -4,7 +4,7 @@ ghost use Rattle.std.specs.FinMap.{find};
 ghost use Rattle.std.specs.Cmp.Lexicographic.{slice_cmp};
 ghost use Rattle.std.specs.Ordering.{nat_cmp};
 ghost use Rattle.pg_types.specs.Placement.{cell_of, base_of, enter_by};
-ghost use Rattle.pg_cells.specs.IsHeld.{IsHeld};
+ghost use Rattle.pg_cells.specs.AreValuedFamilies.{AreValuedFamilies};
 ghost use Rattle.pg_cells.specs.Walks.{IsAt, EndsBefore, Steps, AddsBlanks};
 
 use crate::Cells;
@@ -60,7 +60,7 @@ fn step_or_add<V: Copy, const FEW: usize>(
     ensures err { OnErr result (cells.new ≡ cells.old) }
     ensures ends { (q : List ℕ) → cell_of cells.old.families q ≡ Some parent →
         OnErr result (EndsBefore cells.old.values (q ++ s ∷ [])) }
-    ensures kept { IsHeld cells.new }
+    ensures kept { AreValuedFamilies cells.new }
 {
     let _held = cells.signs();
     if let Some(cell) = step(cells, Some(parent), s) {
@@ -84,7 +84,7 @@ pub fn enter<V: Copy, const FEW: usize>(
     ensures part { OnErr result ((k : ℕ) × (k < length signs.now)
         × (cells.new.families ≡ enter_by FEW cells.old.signs cells.old.families (take k signs.now))) }
     ensures blanks { AddsBlanks signs.now blank cells.old.values cells.new.values }
-    ensures held { IsHeld cells.new }
+    ensures held { AreValuedFamilies cells.new }
     ensures signs { cells.new.signs ≡ cells.old.signs }
     ensures err { OnErr result (find (slice_cmp nat_cmp) signs.now cells.old.values ≡ None) }
 {

@@ -1,8 +1,8 @@
 -- What entering a window and setting its sums leaves of the counts.
 use Rattle.std.proofs.Common.{◌≡◌, ℕ, Bool, true, false, List, length, unwrap_or, is_some, Option, None, Some, sym, ◌∙◌, ap, subst}
 use Rattle.std.specs.FinMap.Entries.{find, put}
-use Rattle.pg_cells.specs.Held.{Held}
-use Rattle.pg_cells.specs.IsHeld.{IsHeld}
+use Rattle.pg_cells.specs.ValuedFamilies.{ValuedFamilies}
+use Rattle.pg_cells.specs.AreValuedFamilies.{AreValuedFamilies}
 use Rattle.pg_cells.specs.Walks.{AddsBlanks}
 use Rattle.pg_cells.proofs.StringMaps.{order}
 use Rattle.pg_types.specs.Counts.{SignsWithin, AreSmall, sums_of, with_weight, with_count, is_counted}
@@ -10,19 +10,19 @@ use Rattle.pg_count.specs.Counting.{Counting, IsCounting, AreCounting, counting_
 use Rattle.pg_count.proofs.Counted.{find-counts_in, counts_in-put, counts_in-blanks, sums_told, not_counted, counting_put}
 
 -- a window that has no cell is not counted
-pub absent : (c : Counting) (cells : Held (Option (ℕ × ℕ))) (len : ℕ) (u : List ℕ) → counting_of cells len ≡ c → AreCounting cells len → find order u cells.values ≡ None → is_counted c.counts u ≡ true → ⊥
+pub absent : (c : Counting) (cells : ValuedFamilies (Option (ℕ × ℕ))) (len : ℕ) (u : List ℕ) → counting_of cells len ≡ c → AreCounting cells len → find order u cells.values ≡ None → is_counted c.counts u ≡ true → ⊥
 absent c cells len u is kept none counted =
     not_counted cells.values u kept.held.ordered none (ap (λ (d : Counting). is_counted d.counts u) is ∙ counted)
 
 -- the window u was entered
-pub record Enters (c : Counting) (old mid : Held (Option (ℕ × ℕ))) (len : ℕ) (u : List ℕ) : Type 0 where
+pub record Enters (c : Counting) (old mid : ValuedFamilies (Option (ℕ × ℕ))) (len : ℕ) (u : List ℕ) : Type 0 where
   pub is : counting_of old len ≡ c
   pub kept : AreCounting old len
-  pub held : IsHeld mid
+  pub held : AreValuedFamilies mid
   pub signs : mid.signs ≡ old.signs
   pub adds : AddsBlanks u None old.values mid.values
 
-module _ (c : Counting) (old mid : Held (Option (ℕ × ℕ))) (len : ℕ) (u : List ℕ) (e : Enters c old mid len u) where
+module _ (c : Counting) (old mid : ValuedFamilies (Option (ℕ × ℕ))) (len : ℕ) (u : List ℕ) (e : Enters c old mid len u) where
   same_counts : counts_in mid.values ≡ counts_in old.values
   same_counts = counts_in-blanks u old.values mid.values e.kept.held.ordered e.held.ordered e.adds
 
@@ -47,7 +47,7 @@ module _ (c : Counting) (old mid : Held (Option (ℕ × ℕ))) (len : ℕ) (u : 
       let wrong : true ≡ false = sym yes ∙ no in
       cc
 
-  module _ (new : Held (Option (ℕ × ℕ))) (tally v : Option (ℕ × ℕ)) (good : Bool) (weight : ℕ) (there : find order u mid.values ≡ Some tally)
+  module _ (new : ValuedFamilies (Option (ℕ × ℕ))) (tally v : Option (ℕ × ℕ)) (good : Bool) (weight : ℕ) (there : find order u mid.values ≡ Some tally)
       (sums : v ≡ Some (with_weight (unwrap_or tally (0, 0)) good weight)) (set : new ≡ record mid { values = put order u v mid.values }) where
     pub added : counting_of new len ≡ record c { counts = with_count c.counts u good weight }
     added =
@@ -57,7 +57,7 @@ module _ (c : Counting) (old mid : Held (Option (ℕ × ℕ))) (len : ℕ) (u : 
         ∙ ap (λ counts. record { signs = mid.signs; len = len; counts = counts }) (counts_in-put mid.values u n e.held.ordered)
         ∙ ap (λ (d : Counting). record d { counts = put order u n d.counts }) entered
 
-    pub added_kept : IsHeld new → length u ≡ c.len → SignsWithin c.signs u → AreCounting new len
+    pub added_kept : AreValuedFamilies new → length u ≡ c.len → SignsWithin c.signs u → AreCounting new len
     added_kept held size within = record {
       held = held;
       counting = subst IsCounting (sym added) (counting_put c (subst IsCounting e.is e.kept.counting) u (with_weight (sums_of c.counts u) good weight) size within);

@@ -2,15 +2,15 @@
 use Rattle.std.proofs.Common.{◌≡◌, ℕ, ◌≤◌, [], Option, None, sym, ◌∙◌, ap, subst}
 use Rattle.std.specs.List.{range_with_len}
 use Rattle.pg_types.specs.declared.limits.TheConstants.{LENGTH_MAX}
-use Rattle.pg_cells.specs.Held.{Held}
-use Rattle.pg_cells.specs.IsHeld.{IsHeld}
+use Rattle.pg_cells.specs.ValuedFamilies.{ValuedFamilies}
+use Rattle.pg_cells.specs.AreValuedFamilies.{AreValuedFamilies}
 use Rattle.pg_cells.specs.Root.{root_held}
 use Rattle.pg_count.specs.Counting.{IsCounting, AreCounting, counting_of}
 use Rattle.pg_count.proofs.Counted.{counts_in-root, counting_none}
 
-module _ (cells : Held (Option (ℕ × ℕ))) (n len : ℕ) (root : cells ≡ root_held n None) where
+module _ (cells : ValuedFamilies (Option (ℕ × ℕ))) (n len : ℕ) (root : cells ≡ root_held n None) where
   pub begun : counting_of cells len ≡ record { signs = n; len = len; counts = [] }
   begun = ap (λ h. counting_of h len) root ∙ ap (λ counts. record { signs = n; len = len; counts = counts }) (counts_in-root (range_with_len 1 n))
 
-  pub begun_kept : IsHeld cells → 1 ≤ len → len ≤ LENGTH_MAX → AreCounting cells len
+  pub begun_kept : AreValuedFamilies cells → 1 ≤ len → len ≤ LENGTH_MAX → AreCounting cells len
   begun_kept held some most = record { held = held; counting = subst IsCounting (sym begun) (counting_none n len some most) }

@@ -3,8 +3,8 @@ use Rattle.std.proofs.Common.{◌≡◌, ℕ, ◌-◌, ◌<◌, ◌≤◌, ◌�
 use Rattle.std.proofs.lemmas.Bool.{cases_Bool, cases_eq, cases_lt}
 use Rattle.std.specs.Option.{is_some}
 use Rattle.pg_types.specs.Placement.{cell_of}
-use Rattle.pg_cells.specs.Held.{Held}
-use Rattle.pg_cells.specs.IsHeld.{IsHeld}
+use Rattle.pg_cells.specs.ValuedFamilies.{ValuedFamilies}
+use Rattle.pg_cells.specs.AreValuedFamilies.{AreValuedFamilies}
 use Rattle.pg_cells.specs.Members.{IsNextSign, goes_on}
 use Rattle.pg_cells.proofs.LinkLaws.{goes_has}
 use Rattle.pg_cells.proofs.Walking.{ends_before}
@@ -19,7 +19,7 @@ pub first_up : (bound : List ℕ) → 1 ≤ first_sign bound
 first_up [] = omega arith
 first_up (s ∷ q) = omega arith
 
-module _ (h : Held Sums) (held : IsHeld h) (p bound : List ℕ) (k : ℕ) where
+module _ (h : ValuedFamilies Sums) (held : AreValuedFamilies h) (p bound : List ℕ) (k : ℕ) where
   -- a sign that the family lacks does not serve
   absent_none : (x : ℕ) → goes_on h.values p x ≡ false → NoneAt h.values p bound k x
   absent_none x off = none_ends h.values p bound k x (ends_before h held p x (none (cell_of h.families (p ++ x ∷ [])) refl))

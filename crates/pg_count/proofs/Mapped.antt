@@ -4,8 +4,8 @@ use Rattle.std.specs.Option.{option_map, is_some}
 use Rattle.std.specs.Ordering.{is_lt}
 use Rattle.std.specs.FinMap.{find, put, is_sorted}
 use Rattle.std.specs.FinMap.Entries.{below_all}
-use Rattle.pg_cells.specs.Held.{Held}
-use Rattle.pg_cells.specs.IsHeld.{IsHeld}
+use Rattle.pg_cells.specs.ValuedFamilies.{ValuedFamilies}
+use Rattle.pg_cells.specs.AreValuedFamilies.{AreValuedFamilies}
 use Rattle.pg_cells.specs.Members.{goes_on}
 use Rattle.pg_cells.proofs.StringMaps.{order, same_string, same_maps, find_put_same, find_put_other, sorted_put, equal_or_not}
 
@@ -66,8 +66,8 @@ module _ {X Y : Type 0} (f : X → Y) where
   root_mapped x (s ∷ ss) = ap (λ l. (s ∷ [], f x) ∷ l) (root_mapped x ss)
 
   -- what is always true of the cells stays true
-  pub held_mapped : (h : Held X) → IsHeld h → IsHeld (record { signs = h.signs; families = h.families; values = mapped h.values })
-  held_mapped h is = record {
+  pub valued_families_mapped : (h : ValuedFamilies X) → AreValuedFamilies h → AreValuedFamilies (record { signs = h.signs; families = h.families; values = mapped h.values })
+  valued_families_mapped h is = record {
     sorted = is.sorted;
     ordered = sorted_mapped h.values is.ordered;
     valued = λ q cell e. (let v = is.valued q cell e in (f v.0, found_mapped q v.0 h.values v.1));

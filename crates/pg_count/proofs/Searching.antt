@@ -12,8 +12,8 @@ use Rattle.std.specs.Ordering.{nat_cmp, ordering_then, is_lt}
 use Rattle.std.specs.FinMap.Entries.{find}
 use Rattle.pg_types.specs.Placement.{cell_of}
 use Rattle.pg_types.specs.Signs.{is_sign}
-use Rattle.pg_cells.specs.Held.{Held}
-use Rattle.pg_cells.specs.IsHeld.{IsHeld}
+use Rattle.pg_cells.specs.ValuedFamilies.{ValuedFamilies}
+use Rattle.pg_cells.specs.AreValuedFamilies.{AreValuedFamilies}
 use Rattle.pg_cells.specs.Walks.{EndsBefore}
 use Rattle.pg_cells.proofs.StringMaps.{order}
 use Rattle.pg_count.specs.Bounds.{first_sign, rest_after, is_past}
@@ -35,7 +35,7 @@ value_of ts q n there = by (find order q ts) refl
     by (Some tally) is = is ∙ ap Some (sym (ap (λ o. unwrap_or o None) is) ∙ there)
 
 -- and each of its signs is one of the table
-pub counted_sign : (h : Held (Option (ℕ × ℕ))) → IsHeld h → (p : List ℕ) (s : ℕ) (q : List ℕ) (n : ℕ × ℕ) → sums_at h.values (p ++ s ∷ q) ≡ Some n → (1 ≤ s) × (s ≤ h.signs)
+pub counted_sign : (h : ValuedFamilies (Option (ℕ × ℕ))) → AreValuedFamilies h → (p : List ℕ) (s : ℕ) (q : List ℕ) (n : ℕ × ℕ) → sums_at h.values (p ++ s ∷ q) ≡ Some n → (1 ≤ s) × (s ≤ h.signs)
 counted_sign h held p s q n there = by (cell_of h.families (p ++ s ∷ [])) refl
   where
     by : (o : Option ℕ) → cell_of h.families (p ++ s ∷ []) ≡ o → (1 ≤ s) × (s ≤ h.signs)
@@ -45,7 +45,7 @@ counted_sign h held p s q n there = by (cell_of h.families (p ++ s ∷ [])) refl
     by (Some cell) is = held.signs p s cell is
 
 -- no sign before the first of the bound serves
-pub none_before : (h : Held (Option (ℕ × ℕ))) → IsHeld h → (p bound : List ℕ) (k s : ℕ) → s < first_sign bound → NoneAt h.values p bound k s
+pub none_before : (h : ValuedFamilies (Option (ℕ × ℕ))) → AreValuedFamilies h → (p bound : List ℕ) (k s : ℕ) → s < first_sign bound → NoneAt h.values p bound k s
 none_before h held p bound k s lt = λ q n size there over.
     let sign = counted_sign h held p s q n there in
     let less = below_first bound s q sign.0 lt in
@@ -53,7 +53,7 @@ none_before h held p bound k s lt = λ q n size there over.
     cc
 
 -- nor one past the table's
-pub none_past : (h : Held (Option (ℕ × ℕ))) → IsHeld h → (p bound : List ℕ) (k s : ℕ) → h.signs < s → NoneAt h.values p bound k s
+pub none_past : (h : ValuedFamilies (Option (ℕ × ℕ))) → AreValuedFamilies h → (p bound : List ℕ) (k s : ℕ) → h.signs < s → NoneAt h.values p bound k s
 none_past h held p bound k s lt = λ q n size there over. let sign = counted_sign h held p s q n there in omega arith
 
 -- nor one below which no string has a value

@@ -5,48 +5,48 @@ use Rattle.std.proofs.lemmas.List.{get_or-set_same, get_or_append_left, length-s
 use Rattle.std.proofs.lemmas.Option.{slice_get_past, slice_get_within, slice_get-get_or}
 use Rattle.std.specs.List.{slice_get, range_with_len}
 use Rattle.std.specs.FinMap.{find, put}
-use Rattle.pg_cells.specs.Held.{Held}
-use Rattle.pg_cells.specs.IsHeld.{IsHeld}
+use Rattle.pg_cells.specs.ValuedFamilies.{ValuedFamilies}
+use Rattle.pg_cells.specs.AreValuedFamilies.{AreValuedFamilies}
 use Rattle.pg_cells.specs.Root.{root_held}
 use Rattle.pg_cells.specs.Walks.{AddsBlanks}
 use Rattle.pg_cells.proofs.StringMaps.{order, equal_or_not, find_put_same, find_put_other}
 use Rattle.pg_count.specs.declared.tally.TheConstants.{NOT_COUNTED}
 use Rattle.pg_count.specs.Tallied.{told, AreTold}
-use Rattle.pg_count.proofs.Mapped.{mapped, found_mapped, none_mapped, unmapped, unmapped_none, sorted_mapped, root_mapped, held_mapped, put_from, root_blank}
+use Rattle.pg_count.proofs.Mapped.{mapped, found_mapped, none_mapped, unmapped, unmapped_none, sorted_mapped, root_mapped, valued_families_mapped, put_from, root_blank}
 
 abbrev Sums : Type 0
 Sums = List (ℕ × ℕ)
 
-pub held_told : (h : Held ℕ) (tallies : Sums) → IsHeld h → IsHeld (told h tallies)
-held_told h tallies is = held_mapped (slice_get tallies) h is
+pub held_told : (h : ValuedFamilies ℕ) (tallies : Sums) → AreValuedFamilies h → AreValuedFamilies (told h tallies)
+held_told h tallies is = valued_families_mapped (slice_get tallies) h is
 
 -- no tally has the number of what is not counted
 pub uncounted : (tallies : Sums) → length tallies ≤ NOT_COUNTED → slice_get tallies NOT_COUNTED ≡ None
 uncounted tallies few = slice_get_past tallies NOT_COUNTED few
 
 -- what is counted has the number of a tally
-pub is_tally : (h : Held ℕ) (tallies : Sums) (q : List ℕ) (k : ℕ) (was : ℕ × ℕ) → find order q h.values ≡ Some k → find order q (told h tallies).values ≡ Some (Some was) → k < length tallies
+pub is_tally : (h : ValuedFamilies ℕ) (tallies : Sums) (q : List ℕ) (k : ℕ) (was : ℕ × ℕ) → find order q h.values ≡ Some k → find order q (told h tallies).values ≡ Some (Some was) → k < length tallies
 is_tally h tallies q k was at told_at =
     let both : Some (slice_get tallies k) ≡ Some (Some was) = sym (found_mapped (slice_get tallies) q k h.values at) ∙ told_at in
     slice_get_within tallies k was (cc)
 
 -- the root alone
-module _ (n : ℕ) (h : Held ℕ) (tallies : Sums) (root : h ≡ root_held n NOT_COUNTED) (none : tallies ≡ []) where
+module _ (n : ℕ) (h : ValuedFamilies ℕ) (tallies : Sums) (root : h ≡ root_held n NOT_COUNTED) (none : tallies ≡ []) where
   pub root_told : told h tallies ≡ root_held n None
   root_told =
       ap (λ t. told h t) none ∙ ap (λ k. told k []) root
       ∙ ap (λ es. record { signs = n; families = (root_held n NOT_COUNTED).families; values = es }) (root_mapped (slice_get []) NOT_COUNTED (range_with_len 1 n))
 
-  pub root_kept : IsHeld h → AreTold h tallies
+  pub root_kept : AreValuedFamilies h → AreTold h tallies
   root_kept held = record {
     held = held;
     few = (let size = ap length none in omega arith);
-    numbers = λ q k e. inl (root_blank q NOT_COUNTED k (range_with_len 1 n) (ap (λ (g : Held ℕ). find order q g.values) (sym root) ∙ e));
+    numbers = λ q k e. inl (root_blank q NOT_COUNTED k (range_with_len 1 n) (ap (λ (g : ValuedFamilies ℕ). find order q g.values) (sym root) ∙ e));
     apart = λ q p k e d lt. absurd (let size = ap length none in omega arith);
   }
 
 -- a string was entered
-module _ (w : List ℕ) (old new : Held ℕ) (tallies : Sums) (are : AreTold old tallies) (adds : AddsBlanks w NOT_COUNTED old.values new.values) where
+module _ (w : List ℕ) (old new : ValuedFamilies ℕ) (tallies : Sums) (are : AreTold old tallies) (adds : AddsBlanks w NOT_COUNTED old.values new.values) where
   pub entered_told : AddsBlanks w None (told old tallies).values (told new tallies).values
   entered_told = record {
     keeps = λ q v e. (let x = unmapped (slice_get tallies) q v old.values e in found_mapped (slice_get tallies) q x.0 new.values (adds.keeps q x.0 x.1) ∙ ap Some (sym x.2));
@@ -70,7 +70,7 @@ module _ (w : List ℕ) (old new : Held ℕ) (tallies : Sums) (are : AreTold old
     | inr d ↦ d
   ]
 
-  pub entered_are : IsHeld new → AreTold new tallies
+  pub entered_are : AreValuedFamilies new → AreTold new tallies
   entered_are held = record {
     held = held;
     few = are.few;
@@ -87,7 +87,7 @@ set_other (x ∷ xs) (suc i) zero y n = refl
 set_other (x ∷ xs) (suc i) (suc j) y n = set_other xs i j y (λ e. n (ap suc e))
 
 -- the tally k of the string q is set
-module _ (h : Held ℕ) (tallies : Sums) (are : AreTold h tallies) (q : List ℕ) (k : ℕ) (at : find order q h.values ≡ Some k) (lt : k < length tallies) (sums : ℕ × ℕ) where
+module _ (h : ValuedFamilies ℕ) (tallies : Sums) (are : AreTold h tallies) (q : List ℕ) (k : ℕ) (at : find order q h.values ≡ Some k) (lt : k < length tallies) (sums : ℕ × ℕ) where
   set_here : slice_get (set tallies k sums) k ≡ Some sums
   set_here = slice_get-get_or (set tallies k sums) k sums (let e = length-set tallies k sums in omega arith) ∙ ap Some (get_or-set_same tallies k sums sums lt)
 
@@ -112,8 +112,8 @@ module _ (h : Held ℕ) (tallies : Sums) (are : AreTold h tallies) (q : List ℕ
       }
 
 -- the string q gets a tally of its own
-module _ (h new : Held ℕ) (tallies more : Sums) (are : AreTold h tallies) (q : List ℕ) (sums : ℕ × ℕ) (pushed : more ≡ tallies ++ sums ∷ []) (few : length more ≤ NOT_COUNTED)
-    (is : new ≡ record h { values = put order q (length tallies) h.values }) (held : IsHeld new) where
+module _ (h new : ValuedFamilies ℕ) (tallies more : Sums) (are : AreTold h tallies) (q : List ℕ) (sums : ℕ × ℕ) (pushed : more ≡ tallies ++ sums ∷ []) (few : length more ≤ NOT_COUNTED)
+    (is : new ≡ record h { values = put order q (length tallies) h.values }) (held : AreValuedFamilies new) where
   size : length more ≡ length tallies + 1
   size = ap length pushed ∙ length-append tallies (sums ∷ [])
 
@@ -127,7 +127,7 @@ module _ (h new : Held ℕ) (tallies more : Sums) (are : AreTold h tallies) (q :
       ∙ ap Some (get_or_append_left tallies (sums ∷ []) sums m lt) ∙ sym (slice_get-get_or tallies m sums lt)
 
   values : new.values ≡ put order q (length tallies) h.values
-  values = ap (λ (g : Held ℕ). g.values) is
+  values = ap (λ (g : ValuedFamilies ℕ). g.values) is
 
   new_here : find order q new.values ≡ Some (length tallies)
   new_here = ap (find order q) values ∙ find_put_same q (length tallies) h.values
@@ -137,7 +137,7 @@ module _ (h new : Held ℕ) (tallies more : Sums) (are : AreTold h tallies) (q :
 
   pub count_told : told new more ≡ record (told h tallies) { values = put order q (Some sums) (told h tallies).values }
   count_told =
-      ap (λ (g : Held ℕ). record { signs = g.signs; families = g.families; values = mapped (slice_get more) new.values }) is
+      ap (λ (g : ValuedFamilies ℕ). record { signs = g.signs; families = g.families; values = mapped (slice_get more) new.values }) is
       ∙ ap (λ es. record (told h tallies) { values = es }) (put_from q (Some sums) (told h tallies).values (told new more).values (sorted_mapped (slice_get tallies) h.values are.held.ordered) (sorted_mapped (slice_get more) new.values held.ordered)
       (found_mapped (slice_get more) q (length tallies) new.values new_here ∙ ap Some here) (λ p n. by p n (find order p h.values) refl))
     where

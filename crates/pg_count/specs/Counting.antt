@@ -6,8 +6,8 @@ use Rattle.std.specs.Ordering.{nat_cmp}
 use Rattle.std.specs.Cmp.Lexicographic.{slice_cmp}
 use Rattle.std.specs.FinMap.Entries.{find, is_sorted}
 use Rattle.pg_types.specs.declared.limits.TheConstants.{LENGTH_MAX}
-use Rattle.pg_cells.specs.Held.{Held}
-use Rattle.pg_cells.specs.IsHeld.{IsHeld}
+use Rattle.pg_cells.specs.ValuedFamilies.{ValuedFamilies}
+use Rattle.pg_cells.specs.AreValuedFamilies.{AreValuedFamilies}
 use Rattle.pg_types.specs.Counts.{Counts, SignsWithin, is_counted}
 
 -- the number of signs of the table; how many signs a window has; and the counts of the windows
@@ -39,10 +39,10 @@ abbrev pub counts_in : Tallies → Counts
 counts_in tallies = filter_map (λ e. option_map (λ sums. (e.0, sums)) e.1) tallies
 
 -- a count trie by its cells
-abbrev pub counting_of : Held (Option (ℕ × ℕ)) → ℕ → Counting
+abbrev pub counting_of : ValuedFamilies (Option (ℕ × ℕ)) → ℕ → Counting
 counting_of cells len = record { signs = cells.signs; len = len; counts = counts_in cells.values }
 
 -- what is always true of the cells
-pub record AreCounting (cells : Held (Option (ℕ × ℕ))) (len : ℕ) : Type 0 where
-  pub held : IsHeld cells
+pub record AreCounting (cells : ValuedFamilies (Option (ℕ × ℕ))) (len : ℕ) : Type 0 where
+  pub held : AreValuedFamilies cells
   pub counting : IsCounting (counting_of cells len)

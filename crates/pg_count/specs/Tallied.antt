@@ -3,17 +3,17 @@ use Rattle.std.specs.Prelude.{◌≡◌, ℕ, ◌<◌, ◌≤◌, ◌⊎◌, Lis
 use Rattle.std.specs.Ordering.{nat_cmp}
 use Rattle.std.specs.Cmp.Lexicographic.{slice_cmp}
 use Rattle.std.specs.FinMap.Entries.{find}
-use Rattle.pg_cells.specs.Held.{Held}
-use Rattle.pg_cells.specs.IsHeld.{IsHeld}
+use Rattle.pg_cells.specs.ValuedFamilies.{ValuedFamilies}
+use Rattle.pg_cells.specs.AreValuedFamilies.{AreValuedFamilies}
 use Rattle.pg_count.specs.declared.tally.TheConstants.{NOT_COUNTED}
 
 -- each string has the tally with the number that its cell has, or none where no tally has it
-abbrev pub told : Held ℕ → List (ℕ × ℕ) → Held (Option (ℕ × ℕ))
+abbrev pub told : ValuedFamilies ℕ → List (ℕ × ℕ) → ValuedFamilies (Option (ℕ × ℕ))
 told cells tallies = record { signs = cells.signs; families = cells.families; values = map (λ e. (e.0, slice_get tallies e.1)) cells.values }
 
 -- what is always true of the numbers
-pub record AreTold (cells : Held ℕ) (tallies : List (ℕ × ℕ)) : Type 0 where
-  pub held : IsHeld cells
+pub record AreTold (cells : ValuedFamilies ℕ) (tallies : List (ℕ × ℕ)) : Type 0 where
+  pub held : AreValuedFamilies cells
   -- no tally has the number that says that a string is not counted
   pub few : length tallies ≤ NOT_COUNTED
   -- each string has that number or that of a tally

@@ -1,7 +1,7 @@
 //! The search for the least counted string above a bound.
 ghost use Rattle.std.specs.Prelude.{◌≡◌, ◌<◌, ◌≤◌, ◌-◌, ℕ, List, [], ◌∷◌, ◌++◌, length, Some, None, MatchOption};
 ghost use Rattle.pg_types.specs.Placement.{base_of, cell_of};
-ghost use Rattle.pg_cells.specs.IsHeld.{IsHeld};
+ghost use Rattle.pg_cells.specs.AreValuedFamilies.{AreValuedFamilies};
 ghost use Rattle.pg_cells.specs.Members.{IsNextSign};
 ghost use Rattle.pg_count.specs.Bounds.{first_sign};
 ghost use Rattle.pg_count.specs.Least.{NoneAt, NoneAbove, LeastAt, LeastAbove};
@@ -12,7 +12,7 @@ use pg_types::Sign;
 
 // The sign after one of the signs of the family with the base, 0 for none.
 fn sign_after(cells: &Tallied, base: usize, s: Sign) -> Sign
-    requires held { IsHeld cells.now }
+    requires held { AreValuedFamilies cells.now }
     requires base { (p : List ℕ) × (cell : ℕ)
         × ((base_of cells.now.families p ≡ Some base) × (cell_of cells.now.families (p ++ s ∷ []) ≡ Some cell)) }
     ensures { (p : List ℕ) → base_of cells.now.families p ≡ Some base → IsNextSign cells.now.values p s result }
@@ -26,7 +26,7 @@ fn sign_after(cells: &Tallied, base: usize, s: Sign) -> Sign
 // The least sign of the family with the base that is not below another, 0 for none. It is that sign itself, where the family has
 // it; else it is sought from the family's first sign on.
 fn sign_from(cells: &Tallied, base: usize, first: Sign, from: Sign) -> Sign
-    requires held { IsHeld cells.now }
+    requires held { AreValuedFamilies cells.now }
     requires base { (p : List ℕ) × ((base_of cells.now.families p ≡ Some base)
         × IsNextSign cells.now.values p 0 first) }
     requires from { 1 ≤ from }
@@ -57,7 +57,7 @@ pub fn least(
     bound: &[Sign],
     path: &mut [Sign],
 ) -> Option<(u64, u64)>
-    requires held { IsHeld cells.now }
+    requires held { AreValuedFamilies cells.now }
     requires base { (p : List ℕ) × ((base_of cells.now.families p ≡ Some base)
         × IsNextSign cells.now.values p 0 first) }
     requires some { 0 < length path.old }
@@ -85,7 +85,7 @@ fn least_at(
     bound: &[Sign],
     path: &mut [Sign],
 ) -> Option<(u64, u64)>
-    requires held { IsHeld cells.now }
+    requires held { AreValuedFamilies cells.now }
     requires cell { (p : List ℕ) × (cell_of cells.now.families (p ++ s ∷ []) ≡ Some cell) }
     requires some { 0 < length path.old }
     requires from { first_sign bound.now ≤ s }

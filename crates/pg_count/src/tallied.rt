@@ -5,7 +5,7 @@ ghost use Rattle.std.specs.Cmp.Lexicographic.{slice_cmp};
 ghost use Rattle.std.specs.Ordering.{nat_cmp};
 ghost use Rattle.pg_types.specs.declared.limits.TheConstants.{SIGNS_MAX};
 ghost use Rattle.pg_types.specs.Placement.{cell_of, base_of};
-ghost use Rattle.pg_cells.specs.IsHeld.{IsHeld};
+ghost use Rattle.pg_cells.specs.AreValuedFamilies.{AreValuedFamilies};
 ghost use Rattle.pg_cells.specs.Members.{IsNextSign};
 ghost use Rattle.pg_cells.specs.Root.{root_held};
 ghost use Rattle.pg_cells.specs.Walks.{IsAt, EndsBefore, AddsBlanks};
@@ -30,12 +30,12 @@ pub struct Tallied {
 impl Model for Tallied {
     ghost use Rattle.std.specs.Prelude.{ℕ, Option};
     ghost use Rattle.std.specs.Coded.{coded_option, coded×, coded_ℕ};
-    ghost use Rattle.pg_cells.specs.Held.{Held, held_code};
+    ghost use Rattle.pg_cells.specs.ValuedFamilies.{ValuedFamilies, valued_families_code};
     ghost use Rattle.pg_count.specs.Tallied.{told, AreTold};
 
-    ghost Value = { Held (Option (ℕ × ℕ)) };
+    ghost Value = { ValuedFamilies (Option (ℕ × ℕ)) };
 
-    ghost coded = { held_code (coded_option (coded× coded_ℕ coded_ℕ)) };
+    ghost coded = { valued_families_code (coded_option (coded× coded_ℕ coded_ℕ)) };
 
     ghost view = { λ t. told t.cells t.tallies.items };
 
@@ -47,7 +47,7 @@ impl Tallied {
     pub fn new(alloc: Global, signs: u16) -> Result<Tallied, AllocError>
         requires { (1 ≤ signs) × (signs ≤ SIGNS_MAX) }
         ensures held { IfOk result (λ t. t ≡ root_held signs None) }
-        ensures kept { IfOk result (λ t. IsHeld t) }
+        ensures kept { IfOk result (λ t. AreValuedFamilies t) }
     {
         let cells = Cells::new(alloc, signs, NOT_COUNTED)?;
         let tallies = Vec::new(alloc);
@@ -57,7 +57,7 @@ impl Tallied {
     /// Each sign alone has a cell, and no string is counted. It takes no memory.
     pub fn reset(&mut self)
         ensures held { self.new ≡ root_held self.old.signs None }
-        ensures kept { IsHeld self.new }
+        ensures kept { AreValuedFamilies self.new }
     {
         self.cells.reset(NOT_COUNTED);
         self.tallies.clear();
@@ -66,7 +66,7 @@ impl Tallied {
     /// The number of signs of the table.
     pub fn signs(&self) -> u16
         ensures signs { result ≡ self.now.signs }
-        ensures held { IsHeld self.now }
+        ensures held { AreValuedFamilies self.now }
     {
         self.cells.signs()
     }
@@ -138,7 +138,7 @@ impl Tallied {
         requires signs { All (λ s. (1 ≤ s) × (s ≤ self.old.signs)) signs.now }
         ensures cell { IfOk result (λ cell. cell_of self.new.families signs.now ≡ Some cell) }
         ensures blanks { AddsBlanks signs.now None self.old.values self.new.values }
-        ensures held { IsHeld self.new }
+        ensures held { AreValuedFamilies self.new }
         ensures signs { self.new.signs ≡ self.old.signs }
         ensures err { OnErr result (find (slice_cmp nat_cmp) signs.now self.old.values ≡ None) }
     {
@@ -151,7 +151,7 @@ impl Tallied {
             × (find (slice_cmp nat_cmp) q self.old.values ≡ Some (Some was))) }
         ensures held { (q : List ℕ) → cell_of self.old.families q ≡ Some cell →
             self.new ≡ record self.old { values = put (slice_cmp nat_cmp) q (Some sums) self.old.values } }
-        ensures kept { IsHeld self.new }
+        ensures kept { AreValuedFamilies self.new }
     {
         let number = self.cells.value(cell);
         set_tally(&mut self.tallies, number, sums);
@@ -162,7 +162,7 @@ impl Tallied {
         requires { (q : List ℕ) × (cell_of self.old.families q ≡ Some cell) }
         ensures held { (q : List ℕ) → cell_of self.old.families q ≡ Some cell → OnOk result (self.new
             ≡ record self.old { values = put (slice_cmp nat_cmp) q (Some sums) self.old.values }) }
-        ensures kept { IsHeld self.new }
+        ensures kept { AreValuedFamilies self.new }
         ensures err { OnErr result (self.new ≡ self.old) }
     {
         let number = push_tally(&mut self.tallies, sums)?;

@@ -70,8 +70,8 @@ pub record Rounding (places : List Place) (P : Patterns) (kept : List ℕ) (hold
   pub alike : break_alike places P (picked P stay ++ picked P left) ≡ true
   pub so_far : round_from places P (picked P stay) (picked P left) ≡ round places P (picked P kept)
 
-goes_on : (places : List Place) (P kept : Patterns) (e : (List ℕ × ℕ) × ℕ) (left : Patterns) → break_alike places P (kept ++ left) ≡ true → round_from places P kept (e ∷ left) ≡ round_from places P kept left
-goes_on places P kept e left goes = ap (λ b. cond b (round_from places P kept left) (round_from places P (kept ++ e ∷ []) left)) goes
+continues_with : (places : List Place) (P kept : Patterns) (e : (List ℕ × ℕ) × ℕ) (left : Patterns) → break_alike places P (kept ++ left) ≡ true → round_from places P kept (e ∷ left) ≡ round_from places P kept left
+continues_with places P kept e left goes = ap (λ b. cond b (round_from places P kept left) (round_from places P (kept ++ e ∷ []) left)) goes
 
 stays_on : (places : List Place) (P kept : Patterns) (e : (List ℕ × ℕ) × ℕ) (left : Patterns) → break_alike places P (kept ++ left) ≡ false → round_from places P kept (e ∷ left) ≡ round_from places P (kept ++ e ∷ []) left
 stays_on places P kept e left stays = ap (λ b. cond b (round_from places P kept left) (round_from places P (kept ++ e ∷ []) left)) stays
@@ -102,7 +102,7 @@ module _ (places : List Place) (P : Patterns) (stands : List (List ℕ)) (kept :
         rest = All-tail (λ i. i < length P) k left r.rest;
         tallied = tallied;
         alike = goes;
-        so_far = sym (goes_on places P (picked P stay) (entry_of P k) (picked P left) goes) ∙ r.so_far;
+        so_far = sym (continues_with places P (picked P stay) (entry_of P k) (picked P left) goes) ∙ r.so_far;
       }
 
   pub rounding_stays : (holders new : List (List ℕ)) (stay : List ℕ) (k : ℕ) (left : List ℕ) → Rounding places P kept holders stay (k ∷ left)

@@ -10,7 +10,7 @@ use Rattle.pg_patterns.specs.Values.{is_entry, value_at}
 use Rattle.pg_select.specs.Windows.{Patterns}
 use Rattle.pg_prune.specs.Places.{Place}
 use Rattle.pg_prune.specs.Standing.{stands}
-use Rattle.pg_prune.specs.Holders.{count_at, tally, top_from, top, with_one, less_one}
+use Rattle.pg_prune.specs.Holders.{count_at, tally, greatest_value_from, greatest_value, with_one, less_one}
 
 -- where two functions agree on numbers, so do the lists that they make
 map_same : (f g : ℕ → ℕ) (a n : ℕ) → ((u : ℕ) → a ≤ u → f u ≡ g u) → map f (range_with_len a n) ≡ map g (range_with_len a n)
@@ -68,11 +68,11 @@ pub less_with : (c : List ℕ) (v : ℕ) → v - 1 < length c → less_one (with
 less_with c v inside = less_more c (v - 1) inside
 
 -- the greatest value, where one at most as great as all that follow is known
-top_max : (b a n : ℕ) (cs : List ℕ) → b ≤ n → top_from (max b a) n cs ≡ max b (top_from a n cs)
+top_max : (b a n : ℕ) (cs : List ℕ) → b ≤ n → greatest_value_from (max b a) n cs ≡ max b (greatest_value_from a n cs)
 top_max b a n [] low = refl
 top_max b a n (c ∷ cs) low =
-    elim (nat_lt 0 c) as (λ t. top_from (cond t (n + 1) (max b a)) (n + 1) cs ≡ max b (top_from (cond t (n + 1) a) (n + 1) cs)) [
-      | true ↦ ap (λ k. top_from k (n + 1) cs) (omega arith) ∙ top_max b (n + 1) (n + 1) cs (omega arith)
+    elim (nat_lt 0 c) as (λ t. greatest_value_from (cond t (n + 1) (max b a)) (n + 1) cs ≡ max b (greatest_value_from (cond t (n + 1) a) (n + 1) cs)) [
+      | true ↦ ap (λ k. greatest_value_from k (n + 1) cs) (omega arith) ∙ top_max b (n + 1) (n + 1) cs (omega arith)
       | false ↦ top_max b a (n + 1) cs (omega arith)
     ]
 
@@ -85,19 +85,19 @@ next_is_max true b n low = omega arith
 next_is_max false b n low = omega arith
 
 -- the greatest value with one entry more
-top_more : (b n : ℕ) (cs : List ℕ) (i : ℕ) → b ≤ n → i < length cs → top_from b n (set cs i (get_or cs i 0 + 1)) ≡ max (n + i + 1) (top_from b n cs)
+top_more : (b n : ℕ) (cs : List ℕ) (i : ℕ) → b ≤ n → i < length cs → greatest_value_from b n (set cs i (get_or cs i 0 + 1)) ≡ max (n + i + 1) (greatest_value_from b n cs)
 top_more b n [] i low inside = absurd (omega arith)
 top_more b n (c ∷ cs) zero low inside =
     let some : nat_lt 0 (c + 1) ≡ true = lt-ltb 0 (c + 1) (omega arith) in
-    ap (λ t. top_from (cond t (n + 1) b) (n + 1) cs) some
-    ∙ ap (λ k. top_from k (n + 1) cs) (next_is_max (nat_lt 0 c) b n low)
+    ap (λ t. greatest_value_from (cond t (n + 1) b) (n + 1) cs) some
+    ∙ ap (λ k. greatest_value_from k (n + 1) cs) (next_is_max (nat_lt 0 c) b n low)
     ∙ top_max (n + zero + 1) (cond (nat_lt 0 c) (n + 1) b) (n + 1) cs (omega arith)
 top_more b n (c ∷ cs) (suc i) low inside =
     top_more (cond (nat_lt 0 c) (n + 1) b) (n + 1) cs i (below_next (nat_lt 0 c) b n low) (omega arith)
-    ∙ (let at : n + 1 + i + 1 ≡ n + suc i + 1 = omega arith in ap (λ k. max k (top_from (cond (nat_lt 0 c) (n + 1) b) (n + 1) cs)) at)
+    ∙ (let at : n + 1 + i + 1 ≡ n + suc i + 1 = omega arith in ap (λ k. max k (greatest_value_from (cond (nat_lt 0 c) (n + 1) b) (n + 1) cs)) at)
 
-pub top_with : (c : List ℕ) (v : ℕ) → 1 ≤ v → v - 1 < length c → top (with_one c v) ≡ max v (top c)
-top_with c v low inside = top_more 0 0 c (v - 1) (omega arith) inside ∙ (let at : 0 + (v - 1) + 1 ≡ v = omega arith in ap (λ k. max k (top c)) at)
+pub greatest_value_with : (c : List ℕ) (v : ℕ) → 1 ≤ v → v - 1 < length c → greatest_value (with_one c v) ≡ max v (greatest_value c)
+greatest_value_with c v low inside = top_more 0 0 c (v - 1) (omega arith) inside ∙ (let at : 0 + (v - 1) + 1 ≡ v = omega arith in ap (λ k. max k (greatest_value c)) at)
 
 -- the bounds of an entry's value
 pub entry_low : (e : (List ℕ × ℕ) × ℕ) → is_entry e ≡ true → 1 ≤ e.1
@@ -111,13 +111,13 @@ either true = inl refl
 either false = inr refl
 
 -- the value of a place is the greatest that some entry gives
-pub top_is_value : (Q : Patterns) (x : Place) → list_all is_entry Q ≡ true → top (tally Q x) ≡ value_at Q x.signs x.position
-top_is_value [] x sound = refl
-top_is_value (e ∷ Q) x sound =
+pub greatest_value_is : (Q : Patterns) (x : Place) → list_all is_entry Q ≡ true → greatest_value (tally Q x) ≡ value_at Q x.signs x.position
+greatest_value_is [] x sound = refl
+greatest_value_is (e ∷ Q) x sound =
     let low = entry_low e (and_first _ _ sound) in
     let high = entry_high e (and_first _ _ sound) in
-    let others = top_is_value Q x (and_second _ _ sound) in
+    let others = greatest_value_is Q x (and_second _ _ sound) in
     elim (either (stands e x)) [
-      | inl there ↦ ap top (tally_there [] e Q x low high there) ∙ top_with (tally Q x) e.1 low (omega arith) ∙ ap (max e.1) others ∙ ap (λ b. max (cond b e.1 0) (value_at Q x.signs x.position)) (sym there)
-      | inr away ↦ ap top (tally_away [] e Q x away) ∙ others ∙ (let at : value_at Q x.signs x.position ≡ max 0 (value_at Q x.signs x.position) = omega arith in at) ∙ ap (λ b. max (cond b e.1 0) (value_at Q x.signs x.position)) (sym away)
+      | inl there ↦ ap greatest_value (tally_there [] e Q x low high there) ∙ greatest_value_with (tally Q x) e.1 low (omega arith) ∙ ap (max e.1) others ∙ ap (λ b. max (cond b e.1 0) (value_at Q x.signs x.position)) (sym there)
+      | inr away ↦ ap greatest_value (tally_away [] e Q x away) ∙ others ∙ (let at : value_at Q x.signs x.position ≡ max 0 (value_at Q x.signs x.position) = omega arith in at) ∙ ap (λ b. max (cond b e.1 0) (value_at Q x.signs x.position)) (sym away)
     ]

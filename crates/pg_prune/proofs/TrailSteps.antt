@@ -11,7 +11,7 @@ use Rattle.pg_types.proofs.BoolFacts.{and_first, and_second}
 use Rattle.pg_dict.specs.Word.{Word}
 use Rattle.pg_patterns.specs.Values.{stands_at}
 use Rattle.pg_prune.specs.declared.trail.Start.{Start}
-use Rattle.pg_prune.specs.Trails.{signs_of, IsStart, begins_at, goes_on, starts_of, trail_upto, IsTrail, last_of}
+use Rattle.pg_prune.specs.Trails.{signs_of, IsStart, begins_at, continues_with, starts_of, trail_upto, IsTrail, last_of}
 use Rattle.pg_prune.proofs.TrailLists.{range_agree, filter_both, filter_all}
 
 -- what it means that q stands in w at a
@@ -79,10 +79,10 @@ module _ (q w : List ℕ) (a s : ℕ) where
 
 module _ (ws : List Word) (all : List Start) (u : List ℕ) where
   -- the starts of a string that is longer by a sign
-  pub longer_starts : (i : ℕ) → i < length u → filter (goes_on ws i (get_or u i 0)) (starts_of ws all (take i u)) ≡ starts_of ws all (take (i + 1) u)
+  pub longer_starts : (i : ℕ) → i < length u → filter (continues_with ws i (get_or u i 0)) (starts_of ws all (take i u)) ≡ starts_of ws all (take (i + 1) u)
   longer_starts i inside =
       let size : length (take i u) ≡ i = length-take-le i u (omega arith) in
-      filter_both (goes_on ws i (get_or u i 0)) (begins_at ws (take i u)) (begins_at ws (take (i + 1) u))
+      filter_both (continues_with ws i (get_or u i 0)) (begins_at ws (take i u)) (begins_at ws (take (i + 1) u))
       (λ x.
       ap (λ (q : List ℕ). stands_at q (signs_of ws x.word) x.at) (take_more u i 0 inside)
       ∙ stands_longer (take i u) (signs_of ws x.word) x.at (get_or u i 0)

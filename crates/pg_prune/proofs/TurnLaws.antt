@@ -12,10 +12,10 @@ use Rattle.pg_select.specs.Windows.{Patterns}
 use Rattle.pg_prune.specs.Places.{Place}
 use Rattle.pg_prune.specs.Prunes.{break_alike_at}
 use Rattle.pg_prune.specs.Standing.{stands, numbers_of}
-use Rattle.pg_prune.specs.Holders.{count_at, tally, top, with_one, less_one, stays_alike}
+use Rattle.pg_prune.specs.Holders.{count_at, tally, greatest_value, with_one, less_one, stays_alike}
 use Rattle.pg_prune.specs.Turns.{Turn, with_entry, without_entry, IsOf}
 use Rattle.pg_prune.proofs.PrunedLaws.{sound_without}
-use Rattle.pg_prune.proofs.Tallies.{tally_away, tally_there, less_with, top_is_value, entry_low, entry_high}
+use Rattle.pg_prune.proofs.Tallies.{tally_away, tally_there, less_with, greatest_value_is, entry_low, entry_high}
 use Rattle.pg_prune.proofs.Walks.{next_of, none_of, is_false}
 
 sound_entry : (before : Patterns) (e : (List ℕ × ℕ) × ℕ) (behind : Patterns) → list_all is_entry (before ++ e ∷ behind) ≡ true → is_entry e ≡ true
@@ -58,22 +58,22 @@ module _ (t : Turn) (numbers : List ℕ) (value : ℕ) (of : IsOf t numbers valu
       let more : get_or (tally (with_entry t) x) (value - 1) 0 ≡ n + 1 = ap (λ c. get_or c (value - 1) 0) (there_more x there) ∙ get_or-set_same (tally (without_entry t) x) (value - 1) (n + 1) 0 (omega arith) in
       omega arith
 
-  top_with_is : (x : Place) → top (tally (with_entry t) x) ≡ value_at (with_entry t) x.signs x.position
-  top_with_is x = top_is_value (with_entry t) x of.sound
+  top_with_is : (x : Place) → greatest_value (tally (with_entry t) x) ≡ value_at (with_entry t) x.signs x.position
+  top_with_is x = greatest_value_is (with_entry t) x of.sound
 
-  top_without_is : (x : Place) → top (tally (without_entry t) x) ≡ value_at (without_entry t) x.signs x.position
-  top_without_is x = top_is_value (without_entry t) x (sound_without t.before t.entry t.behind of.sound)
+  top_without_is : (x : Place) → greatest_value (tally (without_entry t) x) ≡ value_at (without_entry t) x.signs x.position
+  top_without_is x = greatest_value_is (without_entry t) x (sound_without t.before t.entry t.behind of.sound)
 
-  alike_as : (x : Place) (c : List ℕ) → c ≡ tally (without_entry t) x → break_alike_at (with_entry t) (without_entry t) x ≡ nat_eq (top (tally (with_entry t) x) % 2) (top c % 2)
+  alike_as : (x : Place) (c : List ℕ) → c ≡ tally (without_entry t) x → break_alike_at (with_entry t) (without_entry t) x ≡ nat_eq (greatest_value (tally (with_entry t) x) % 2) (greatest_value c % 2)
   alike_as x c is =
       ap (λ v. nat_eq (v % 2) (value_at (without_entry t) x.signs x.position % 2)) (sym (top_with_is x))
-      ∙ ap (λ v. nat_eq (top (tally (with_entry t) x) % 2) (v % 2)) (sym (top_without_is x) ∙ ap top (sym is))
+      ∙ ap (λ v. nat_eq (greatest_value (tally (with_entry t) x) % 2) (v % 2)) (sym (top_without_is x) ∙ ap greatest_value (sym is))
 
   pub there_alike : (x : Place) → stands t.entry x ≡ true → break_alike_at (with_entry t) (without_entry t) x ≡ stays_alike value (tally (with_entry t) x)
   there_alike x there = alike_as x (less_one (tally (with_entry t) x) value) (there_less x there)
 
   pub away_alike : (x : Place) → stands t.entry x ≡ false → break_alike_at (with_entry t) (without_entry t) x ≡ true
-  away_alike x away = alike_as x (tally (with_entry t) x) (away_same x away) ∙ eq-eqb (top (tally (with_entry t) x) % 2) _ refl
+  away_alike x away = alike_as x (tally (with_entry t) x) (away_same x away) ∙ eq-eqb (greatest_value (tally (with_entry t) x) % 2) _ refl
 
 -- a search is in the middle: in front all break alike
 pub record Looked (places : List Place) (alike : Place → Bool) (test : Place → Bool) (left : List ℕ) : Type 0 where

@@ -13,12 +13,12 @@ abbrev pub tally : Patterns → Place → List ℕ
 tally Q x = map (count_at Q x) (1 ∷ 2 ∷ 3 ∷ 4 ∷ 5 ∷ 6 ∷ 7 ∷ 8 ∷ 9 ∷ [])
 
 -- the greatest value that some entry gives, where the first number is that of the value v + 1; v0 where none is
-abbrev pub top_from : ℕ → ℕ → List ℕ → ℕ
-top_from best v [] = best
-top_from best v (n ∷ ns) = top_from (if nat_lt 0 n then v + 1 else best) (v + 1) ns
+abbrev pub greatest_value_from : ℕ → ℕ → List ℕ → ℕ
+greatest_value_from best v [] = best
+greatest_value_from best v (n ∷ ns) = greatest_value_from (if nat_lt 0 n then v + 1 else best) (v + 1) ns
 
-abbrev pub top : List ℕ → ℕ
-top counts = top_from 0 0 counts
+abbrev pub greatest_value : List ℕ → ℕ
+greatest_value counts = greatest_value_from 0 0 counts
 
 -- one entry more, or less, with this value
 abbrev pub with_one : List ℕ → ℕ → List ℕ
@@ -29,4 +29,4 @@ less_one counts v = slice_set counts (v - 1) (slice_index counts (v - 1) - 1)
 
 -- whether the greatest value stays odd, or even, where an entry with this value goes
 abbrev pub stays_alike : ℕ → List ℕ → Bool
-stays_alike v counts = nat_eq (top counts % 2) (top (less_one counts v) % 2)
+stays_alike v counts = nat_eq (greatest_value counts % 2) (greatest_value (less_one counts v) % 2)

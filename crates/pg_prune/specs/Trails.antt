@@ -49,8 +49,8 @@ abbrev pub begins_at : List Word → List ℕ → Start → Bool
 begins_at ws u s = stands_at u (signs_of ws s.word) s.at
 
 -- whether a sign follows so many signs behind a start
-abbrev pub goes_on : List Word → ℕ → ℕ → Start → Bool
-goes_on ws len sign s = nat_lt (s.at + len) (length (signs_of ws s.word)) && nat_eq (slice_index (signs_of ws s.word) (s.at + len)) sign
+abbrev pub continues_with : List Word → ℕ → ℕ → Start → Bool
+continues_with ws len sign s = nat_lt (s.at + len) (length (signs_of ws s.word)) && nat_eq (slice_index (signs_of ws s.word) (s.at + len)) sign
 
 -- the starts of a string
 abbrev pub starts_of : List Word → List Start → List ℕ → List Start

@@ -17,7 +17,7 @@ impl Model for Holders {
 
 impl Holders {
     ghost use Rattle.std.specs.Prelude.{◌≡◌, ◌+◌, ◌-◌, ◌<◌, ◌≤◌, ◌^◌, slice_index, replicate};
-    ghost use Rattle.pg_prune.specs.Holders.{top, with_one, less_one, stays_alike};
+    ghost use Rattle.pg_prune.specs.Holders.{greatest_value, with_one, less_one, stays_alike};
 
     /// No entry.
     pub fn none() -> Holders
@@ -45,8 +45,8 @@ impl Holders {
     }
 
     /// The greatest value that some entry gives, 0 where there is none.
-    fn top(&self) -> u8
-        ensures { result ≡ top self.now }
+    fn greatest_value(&self) -> u8
+        ensures { result ≡ greatest_value self.now }
     {
         let mut best = 0;
         'counts: for i in 0..9 {
@@ -67,6 +67,6 @@ impl Holders {
             counts: self.counts,
         };
         rest.take_off(value);
-        self.top() % 2 == rest.top() % 2
+        self.greatest_value() % 2 == rest.greatest_value() % 2
     }
 }

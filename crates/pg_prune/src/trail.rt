@@ -3,7 +3,7 @@ ghost use Rattle.std.specs.Prelude.{◌≡◌, ◌≤◌, ◌+◌, ◌++◌, [],
 ghost use Rattle.std.specs.List.{filter, filter_map};
 ghost use Rattle.pg_types.specs.declared.limits.TheConstants.{PATTERN_SIGNS_MAX};
 ghost use Rattle.pg_select.specs.CountedPositions.{minima_of};
-ghost use Rattle.pg_prune.specs.Trails.{IsStart, IsTrail, starts_in, all_starts as all_starts_of, goes_on as goes_on_by, last_of, place_of as place_by};
+ghost use Rattle.pg_prune.specs.Trails.{IsStart, IsTrail, starts_in, all_starts as all_starts_of, continues_with as continues_with_by, last_of, place_of as place_by};
 
 use pg_dict::Dictionary;
 use pg_translate::Table;
@@ -76,11 +76,11 @@ fn longer(
 ) -> Result<Vec<Start>, AllocError>
     requires known { All (IsStart dictionary.now) starts.now }
     requires few { len ≤ PATTERN_SIGNS_MAX }
-    ensures { IfOk result (λ found. found.items ≡ filter (goes_on_by dictionary.now len sign) starts.now) }
+    ensures { IfOk result (λ found. found.items ≡ filter (continues_with_by dictionary.now len sign) starts.now) }
 {
     let mut found = Vec::new(alloc);
     'starts: for start in starts {
-        if goes_on(dictionary, *start, len, sign) {
+        if continues_with(dictionary, *start, len, sign) {
             found.push(*start)?;
         }
     }
@@ -88,10 +88,10 @@ fn longer(
 }
 
 /// Whether this sign follows behind the first `len` signs of a start.
-fn goes_on(dictionary: &Dictionary, start: Start, len: usize, sign: Sign) -> bool
+fn continues_with(dictionary: &Dictionary, start: Start, len: usize, sign: Sign) -> bool
     requires known { IsStart dictionary.now start }
     requires few { len ≤ PATTERN_SIGNS_MAX }
-    ensures { result ≡ goes_on_by dictionary.now len sign start }
+    ensures { result ≡ continues_with_by dictionary.now len sign start }
 {
     let signs = dictionary.word(start.word).signs;
     let at = start.at + len;

@@ -16,8 +16,8 @@ use Rattle.pg_outputs.specs.declared.records.Record.{Record}
 use Rattle.pg_outputs.specs.Lists.{list_of, OneHeadEach, Grows}
 use Rattle.pg_outputs.specs.Records.{AreShared}
 use Rattle.pg_outputs.proofs.ListLaws.{list_of-zero}
-use Rattle.pg_cells.specs.Held.{Held}
-use Rattle.pg_cells.specs.IsHeld.{IsHeld}
+use Rattle.pg_cells.specs.ValuedFamilies.{ValuedFamilies}
+use Rattle.pg_cells.specs.AreValuedFamilies.{AreValuedFamilies}
 use Rattle.pg_cells.specs.Root.{root_held}
 use Rattle.pg_cells.specs.Walks.{AddsBlanks}
 use Rattle.pg_cells.proofs.PlacementLaws.{cell_of_last}
@@ -30,7 +30,7 @@ use Rattle.pg_table.proofs.RecordedStrings.{with_strings, recorded_is, recorded_
 use Rattle.pg_table.proofs.TableRecords.{head_is, records_are}
 
 -- a string that has a cell is entered without effect
-pub enter_there : (n : ℕ) (h : Held ℕ) → IsHeld h → (q : List ℕ) (c : ℕ) → cell_of h.families q ≡ Some c → enter n h.families q ≡ h.families
+pub enter_there : (n : ℕ) (h : ValuedFamilies ℕ) → AreValuedFamilies h → (q : List ℕ) (c : ℕ) → cell_of h.families q ≡ Some c → enter n h.families q ≡ h.families
 enter_there n h held [] c is = refl
 enter_there n h held (s ∷ q) c is = after (s ∷ []) q is
   where
@@ -67,9 +67,9 @@ root_values (x ∷ xs) b q v at = elim (cases_Bool (same_string q (x ∷ []))) [
 ]
 
 -- the patterns before a place are entered: the cells, the records, and the lists that they stand for
-pub record EnteredTo (n : ℕ) (P : List Entry) (at : ℕ) (h : Held ℕ) (records : List Record) : Type 0 where
+pub record EnteredTo (n : ℕ) (P : List Entry) (at : ℕ) (h : ValuedFamilies ℕ) (records : List Record) : Type 0 where
   pub within : at ≤ length P
-  pub held : IsHeld h
+  pub held : AreValuedFamilies h
   pub signs : h.signs ≡ n
   pub families : h.families ≡ layout n (take at P)
   pub values : (q : List ℕ) (v : ℕ) → find order q h.values ≡ Some v → (v ≤ length records) × (list_of records v ≡ map turned (outputs_of (take at P) q))
@@ -81,7 +81,7 @@ pub record EnteredTo (n : ℕ) (P : List Entry) (at : ℕ) (h : Held ℕ) (recor
   pub apart : AreApart P at
 
 -- none is entered at first
-pub entered_none : (n : ℕ) (P : List Entry) (records : List Record) → records ≡ [] → OneHeadEach records → IsHeld {V = ℕ} (root_held n 0) → EnteredTo n P 0 (root_held n 0) records
+pub entered_none : (n : ℕ) (P : List Entry) (records : List Record) → records ≡ [] → OneHeadEach records → AreValuedFamilies {V = ℕ} (root_held n 0) → EnteredTo n P 0 (root_held n 0) records
 entered_none n P records none one_head held = record {
   within = omega arith;
   held = held;
@@ -104,15 +104,15 @@ entered_none n P records none one_head held = record {
 }
 
 module _ (n : ℕ) (P : List Entry) (sound : IsPatternMap P) (at end : ℕ) (q : List ℕ) (group : IsGroup P q at end) where
-  module _ (h h1 h2 : Held ℕ) (rs new : List Record) (head c : ℕ) (to : EnteredTo n P at h rs)
+  module _ (h h1 h2 : ValuedFamilies ℕ) (rs new : List Record) (head c : ℕ) (to : EnteredTo n P at h rs)
       (grows : Grows rs new) (inside : head ≤ length new) (list : list_of new head ≡ map turned (pairs P at end)) (shares : (lists : Lists) → Shares rs lists → Shares new (with_ends lists (pairs P at end)))
-      (held1 : IsHeld h1) (signs1 : h1.signs ≡ h.signs) (families1 : h1.families ≡ enter h.signs h.families q) (blanks : AddsBlanks q 0 h.values h1.values) (cell : cell_of h1.families q ≡ Some c)
-      (held2 : IsHeld h2) (is2 : h2 ≡ record h1 { values = put order q head h1.values }) where
+      (held1 : AreValuedFamilies h1) (signs1 : h1.signs ≡ h.signs) (families1 : h1.families ≡ enter h.signs h.families q) (blanks : AddsBlanks q 0 h.values h1.values) (cell : cell_of h1.families q ≡ Some c)
+      (held2 : AreValuedFamilies h2) (is2 : h2 ≡ record h1 { values = put order q head h1.values }) where
     families2 : h2.families ≡ h1.families
-    families2 = ap (λ (g : Held ℕ). g.families) is2
+    families2 = ap (λ (g : ValuedFamilies ℕ). g.families) is2
 
     values2 : h2.values ≡ put order q head h1.values
-    values2 = ap (λ (g : Held ℕ). g.values) is2
+    values2 = ap (λ (g : ValuedFamilies ℕ). g.values) is2
 
     -- a string but this one has a value as before, or it is new and has the blank
     other_value : (r : List ℕ) (v : ℕ) → r ≢ q → find order r h2.values ≡ Some v → find order r h1.values ≡ Some v
@@ -201,7 +201,7 @@ module _ (n : ℕ) (P : List Entry) (sound : IsPatternMap P) (at end : ℕ) (q :
     entered_string = record {
       within = group.within;
       held = held2;
-      signs = ap (λ (g : Held ℕ). g.signs) is2 ∙ signs1 ∙ to.signs;
+      signs = ap (λ (g : ValuedFamilies ℕ). g.signs) is2 ∙ signs1 ∙ to.signs;
       families = families_more;
       values = values_more;
       reached = reached_more;
@@ -213,7 +213,7 @@ module _ (n : ℕ) (P : List Entry) (sound : IsPatternMap P) (at end : ℕ) (q :
     }
 
 -- all patterns are entered at the end
-pub entered_whole : (n : ℕ) (P : List Entry) (at : ℕ) (h : Held ℕ) (records : List Record) → IsPatternMap P → length P ≤ at → EnteredTo n P at h records → IsEntered n P h records
+pub entered_whole : (n : ℕ) (P : List Entry) (at : ℕ) (h : ValuedFamilies ℕ) (records : List Record) → IsPatternMap P → length P ≤ at → EnteredTo n P at h records → IsEntered n P h records
 entered_whole n P at h records sound past to =
     let whole : take at P ≡ P = take_all at P past in
     let none : drop at P ≡ [] = drop_all at P past in

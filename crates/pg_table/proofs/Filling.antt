@@ -6,8 +6,8 @@ use Rattle.std.proofs.lemmas.Bool.{cases_eq, cases_lt, eqb-true}
 use Rattle.std.proofs.lemmas.List.{get_or-set_same, get_or-set_other, length-set, get_or-replicate, length-replicate, take-take, take-append-drop, length_push, nil_from_length}
 use Rattle.std.proofs.lemmas.List.FromFn.{fill_by_all}
 use Rattle.pg_types.specs.Placement.{cell_of, base_of, top}
-use Rattle.pg_cells.specs.Held.{Held}
-use Rattle.pg_cells.specs.IsHeld.{IsHeld}
+use Rattle.pg_cells.specs.ValuedFamilies.{ValuedFamilies}
+use Rattle.pg_cells.specs.AreValuedFamilies.{AreValuedFamilies}
 use Rattle.pg_cells.proofs.StringCells.{cell_parts}
 use Rattle.pg_cells.proofs.StringMaps.{order}
 use Rattle.pg_outputs.specs.declared.records.Record.{Record}
@@ -18,7 +18,7 @@ use Rattle.pg_table.specs.Texts.{last_sign, cell_for, unused_cell, cell_of_table
 use Rattle.pg_table.proofs.Groups.{Entry}
 use Rattle.pg_table.proofs.TableCells.{cell_with, cell_cases, last_sign_is}
 
-module _ (h : Held ℕ) (held : IsHeld h) (heads : List ℕ → ℕ) (has : HasHeads h heads) where
+module _ (h : ValuedFamilies ℕ) (held : AreValuedFamilies h) (heads : List ℕ → ℕ) (has : HasHeads h heads) where
   -- the cell of a string, from what is told of it
   pub cell_told : (q : List ℕ) (s c child head : ℕ) → cell_of h.families (q ++ s ∷ []) ≡ Some c → base_of h.families (q ++ s ∷ []) ≡ cond (nat_eq child 0) None (Some child)
       → find order (q ++ s ∷ []) h.values ≡ Some head → record { sign = s; child = child; head = head } ≡ cell_of_table h.families heads c
@@ -106,7 +106,7 @@ module _ (h : Held ℕ) (held : IsHeld h) (heads : List ℕ → ℕ) (has : HasH
   }
 
 -- the row at the end
-pub row_last : (n : ℕ) (P : List Entry) (h : Held ℕ) (records : List Record) (row : List Cell) → IsEntered n P h records → IsRow h (head_in P) row → ((x : ℕ) → 1 ≤ x → x ≤ n → HasCell h (head_in P) row (x ∷ []))
+pub row_last : (n : ℕ) (P : List Entry) (h : ValuedFamilies ℕ) (records : List Record) (row : List Cell) → IsEntered n P h records → IsRow h (head_in P) row → ((x : ℕ) → 1 ≤ x → x ≤ n → HasCell h (head_in P) row (x ∷ []))
     → ((j k : ℕ) (e : Entry) → j < length P → slice_get P j ≡ Some e → HasCell h (head_in P) row (take k e.0.0)) → row ≡ table_cells n P
 row_last n P h records row entered is roots fronts =
     let held = entered.packed.held in

@@ -6,8 +6,8 @@ use Rattle.std.proofs.lemmas.Bool.{cases_Bool, false≢true, or_cases, or_left, 
 use Rattle.std.proofs.lemmas.List.{same_from_push}
 use Rattle.std.proofs.lemmas.List.Folds.{list_any-append}
 use Rattle.pg_types.specs.Placement.{Family, Families, family_at, is_used, cell_of, base_of, top}
-use Rattle.pg_cells.specs.Held.{Held}
-use Rattle.pg_cells.specs.IsHeld.{IsHeld}
+use Rattle.pg_cells.specs.ValuedFamilies.{ValuedFamilies}
+use Rattle.pg_cells.specs.AreValuedFamilies.{AreValuedFamilies}
 use Rattle.pg_cells.proofs.StringMaps.{same_string, same_from}
 use Rattle.pg_types.proofs.LeastBase.{used_le_top}
 use Rattle.pg_cells.proofs.PlacementLaws.{cell_used}
@@ -79,7 +79,7 @@ cell_at_base fs p x base c below is =
     let bases : parts.family.base ≡ base = ap (λ (f : Family). f.base) (sym same) ∙ family.2 in
     omega (arith, parts.is, ends.1)
 
-module _ (h : Held ℕ) (held : IsHeld h) where
+module _ (h : ValuedFamilies ℕ) (held : AreValuedFamilies h) where
   -- a cell of a string is at most the top
   pub cell_within : (q : List ℕ) (c : ℕ) → cell_of h.families q ≡ Some c → c ≤ top h.families
   cell_within q c is =

@@ -4,13 +4,13 @@ use Rattle.std.specs.Option.{option_map}
 use Rattle.std.proofs.lemmas.Bool.{cases_Bool, cases_lt, and_from, and_left, and_right, lt-ltb, le-ltb, eq-eqb, ne_eqb}
 use Rattle.std.proofs.lemmas.List.{length_push}
 use Rattle.pg_types.specs.Placement.{Family, Families, cell_of, base_of, top}
-use Rattle.pg_cells.specs.Held.{Held}
-use Rattle.pg_cells.specs.IsHeld.{IsHeld}
+use Rattle.pg_cells.specs.ValuedFamilies.{ValuedFamilies}
+use Rattle.pg_cells.specs.AreValuedFamilies.{AreValuedFamilies}
 use Rattle.pg_cells.proofs.StringCells.{cell_parts}
 use Rattle.pg_cells.proofs.Walking.{childless}
 use Rattle.pg_table.specs.declared.cell.Cell.{Cell}
 use Rattle.pg_table.specs.Forms.{head_of, cell_at}
-use Rattle.pg_table.specs.Lookups.{has_sign, list_in, lookup, lookup_from}
+use Rattle.pg_table.specs.Lookups.{cell_has_sign, list_in, lookup, lookup_from}
 use Rattle.pg_table.specs.Texts.{last_sign, cell_for, unused_cell, cell_of_table}
 use Rattle.pg_table.proofs.FileRecords.{list_in-zero}
 use Rattle.pg_table.proofs.TableCells.{cell_with, cell_cases, cell_within, cell_at_base, last_sign_is}
@@ -21,9 +21,9 @@ pub record HasCells (b : List ℕ) (fs : Families) (heads : List ℕ → ℕ) : 
   pub count : (head_of b).cells ≡ top fs + 1
   pub each : (at : ℕ) → at < top fs + 1 → cell_at b at ≡ cell_of_table fs heads at
 
-module _ (b : List ℕ) (h : Held ℕ) (held : IsHeld h) (heads : List ℕ → ℕ) (has : HasCells b h.families heads) where
+module _ (b : List ℕ) (h : ValuedFamilies ℕ) (held : AreValuedFamilies h) (heads : List ℕ → ℕ) (has : HasCells b h.families heads) where
   -- where a string has a cell, the family before it has its last sign there
-  found : (p : List ℕ) (x base c : ℕ) → base_of h.families p ≡ Some base → cell_of h.families (p ++ x ∷ []) ≡ Some c → (has_sign b base x ≡ true) × (cell_at b (base + x) ≡ cell_for h.families heads (p ++ x ∷ []))
+  found : (p : List ℕ) (x base c : ℕ) → base_of h.families p ≡ Some base → cell_of h.families (p ++ x ∷ []) ≡ Some c → (cell_has_sign b base x ≡ true) × (cell_at b (base + x) ≡ cell_for h.families heads (p ++ x ∷ []))
   found p x base c below is =
       let place : c ≡ base + x = cell_at_base h.families p x base c below is in
       let within : base + x < top h.families + 1 = omega (arith, cell_within h held (p ++ x ∷ []) c is) in
@@ -32,7 +32,7 @@ module _ (b : List ℕ) (h : Held ℕ) (held : IsHeld h) (heads : List ℕ → �
       (and_from (nat_lt (base + x) (head_of b).cells) (nat_eq (cell_at b (base + x)).sign x) (lt-ltb (base + x) (head_of b).cells (omega (arith, has.count))) (eq-eqb (cell_at b (base + x)).sign x sign), here)
 
   -- and else it lacks the sign, or the cell is unused
-  lacks : (p : List ℕ) (x base : ℕ) → base_of h.families p ≡ Some base → cell_of h.families (p ++ x ∷ []) ≡ None → (has_sign b base x ≡ false) ⊎ (cell_at b (base + x) ≡ unused_cell)
+  lacks : (p : List ℕ) (x base : ℕ) → base_of h.families p ≡ Some base → cell_of h.families (p ++ x ∷ []) ≡ None → (cell_has_sign b base x ≡ false) ⊎ (cell_at b (base + x) ≡ unused_cell)
   lacks p x base below none = elim (cases_lt (base + x) (top h.families + 1)) [
     | inr past ↦ inl (and_left (nat_lt (base + x) (head_of b).cells) (nat_eq (cell_at b (base + x)).sign x) (le-ltb (base + x) (head_of b).cells (omega (arith, has.count))))
     | inl within ↦ elim (cell_cases h held heads (base + x)) [
@@ -95,7 +95,7 @@ module _ (b : List ℕ) (h : Held ℕ) (held : IsHeld h) (heads : List ℕ → �
   list_without [] p base below none = refl
   list_without (x ∷ []) p base below none = elim (lacks p x base below none) [
     | inl missing ↦ no_sign b base x missing []
-    | inr unused ↦ elim (cases_Bool (has_sign b base x)) [
+    | inr unused ↦ elim (cases_Bool (cell_has_sign b base x)) [
       | inl sign ↦ list_here b base x sign ∙ ap (λ (k : Cell). list_in b k.head) unused ∙ list_in-zero b
       | inr missing ↦ no_sign b base x missing []
     ]

@@ -13,7 +13,7 @@ use Rattle.pg_patterns.proofs.Kept.{value_of_sorted}
 use Rattle.pg_outputs.specs.declared.records.Record.{Record}
 use Rattle.pg_outputs.specs.Lists.{list_of}
 use Rattle.pg_outputs.proofs.ListLaws.{list_of-at, list_of-zero}
-use Rattle.pg_table.specs.Lookups.{greatest_at}
+use Rattle.pg_table.specs.Lookups.{value_in_list}
 use Rattle.pg_table.specs.Sharing.{Lists, turned, Shares}
 use Rattle.pg_table.specs.Texts.{head_among, record_of}
 use Rattle.pg_table.proofs.FormLaws.{IsSoundRecord}
@@ -125,7 +125,7 @@ module _ (records : List Record) (lists : Lists) (ordered : AreOrdered IsGood li
           ∙ sym (get_or_from_slice_get (map (record_of lists) lists) i (record_of lists l) d (slice_get-map (record_of lists) lists i ∙ ap (option_map (record_of lists)) l_at))
 
 -- the greatest value at a dot in the list of a string is the value of the string's place
-pub entry_is : (P : List ((List ℕ × ℕ) × ℕ)) (q : List ℕ) (d : ℕ) → IsPatternMap P → greatest_at d (map turned (outputs_of P q)) ≡ value_of P (q, d)
+pub entry_is : (P : List ((List ℕ × ℕ) × ℕ)) (q : List ℕ) (d : ℕ) → IsPatternMap P → value_in_list d (map turned (outputs_of P q)) ≡ value_of P (q, d)
 entry_is P q d sound = all P ∙ sym (value_of_sorted P (q, d) sound.sorted)
   where
     turned_test : (x : ℕ) → nat_eq x d ≡ nat_eq d x
@@ -134,19 +134,19 @@ entry_is P q d sound = all P ∙ sym (value_of_sorted P (q, d) sound.sorted)
       | inr other ↦ ne_eqb x d other ∙ sym (ne_eqb d x (λ z. other (sym z)))
     ]
 
-    all : (es : List ((List ℕ × ℕ) × ℕ)) → greatest_at d (map turned (outputs_of es q)) ≡ best (same_dotted (q, d)) es
+    all : (es : List ((List ℕ × ℕ) × ℕ)) → value_in_list d (map turned (outputs_of es q)) ≡ best (same_dotted (q, d)) es
     all [] = refl
     all (e ∷ es) =
         let rest : ℕ = best (same_dotted (q, d)) es in
         elim (cases_Bool (pointwise nat_eq q e.0.0)) [
           | inl same ↦
-              ap (λ t. greatest_at d (map turned (map (λ f. (f.0.1, f.1)) (cond t (e ∷ filter (λ f. pointwise nat_eq q f.0.0) es) (filter (λ f. pointwise nat_eq q f.0.0) es))))) same
+              ap (λ t. value_in_list d (map turned (map (λ f. (f.0.1, f.1)) (cond t (e ∷ filter (λ f. pointwise nat_eq q f.0.0) es) (filter (λ f. pointwise nat_eq q f.0.0) es))))) same
               ∙ ap (λ n. max (cond (nat_eq e.0.1 d) e.1 0) n) (all es)
               ∙ ap (λ t. max (cond t e.1 0) rest) (turned_test e.0.1)
               ∙ ap (λ t. max (cond (t && nat_eq d e.0.1) e.1 0) rest) (sym same)
           | inr other ↦
               let none : rest ≡ max 0 rest = omega arith in
-              ap (λ t. greatest_at d (map turned (map (λ f. (f.0.1, f.1)) (cond t (e ∷ filter (λ f. pointwise nat_eq q f.0.0) es) (filter (λ f. pointwise nat_eq q f.0.0) es))))) other
+              ap (λ t. value_in_list d (map turned (map (λ f. (f.0.1, f.1)) (cond t (e ∷ filter (λ f. pointwise nat_eq q f.0.0) es) (filter (λ f. pointwise nat_eq q f.0.0) es))))) other
               ∙ all es
               ∙ none
               ∙ ap (λ t. max (cond (t && nat_eq d e.0.1) e.1 0) rest) (sym other)

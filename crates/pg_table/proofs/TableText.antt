@@ -10,13 +10,13 @@ use Rattle.pg_types.specs.declared.limits.TheConstants.{SIGNS_MAX}
 use Rattle.pg_types.specs.Placement.{cell_of, top}
 use Rattle.pg_types.specs.Tails.{outputs_of}
 use Rattle.pg_patterns.specs.Values.{IsPatternMap, value_of}
-use Rattle.pg_cells.specs.Held.{Held}
+use Rattle.pg_cells.specs.ValuedFamilies.{ValuedFamilies}
 use Rattle.pg_outputs.specs.declared.records.Record.{Record}
 use Rattle.pg_outputs.specs.Lists.{list_of}
 use Rattle.pg_table.specs.declared.cell.Cell.{Cell}
 use Rattle.pg_table.specs.declared.limits.TheConstants.{TABLE_MAX}
 use Rattle.pg_table.specs.Forms.{is_well_formed}
-use Rattle.pg_table.specs.Lookups.{lookup, table_entry, greatest_at}
+use Rattle.pg_table.specs.Lookups.{lookup, table_entry, value_in_list}
 use Rattle.pg_table.specs.Packed.{IsPacked, IsEntered}
 use Rattle.pg_table.specs.Sharing.{turned}
 use Rattle.pg_table.specs.Texts.{recorded, head_in, record_of, cell_of_table, table_cells, table_records, file_of, table_text}
@@ -28,7 +28,7 @@ use Rattle.pg_table.proofs.TableCells.{cell_within, cells_sound}
 use Rattle.pg_table.proofs.TableLookups.{HasCells, lookup_with, lookup_without}
 use Rattle.pg_table.proofs.TableRecords.{sound_record, listed, entry_is}
 
-module _ (n : ℕ) (P : List ((List ℕ × ℕ) × ℕ)) (h : Held ℕ) (sound : IsPatternMap P) (packed : IsPacked n P h) where
+module _ (n : ℕ) (P : List ((List ℕ × ℕ) × ℕ)) (h : ValuedFamilies ℕ) (sound : IsPatternMap P) (packed : IsPacked n P h) where
   abbrev cells : List Cell
   cells = map (cell_of_table h.families (head_in P)) (range_with_len 0 (top h.families + 1))
 
@@ -107,15 +107,15 @@ module _ (n : ℕ) (P : List ((List ℕ × ℕ) × ℕ)) (h : Held ℕ) (sound :
 
     -- and its values are those of the patterns
     pub text_entries : (q : List ℕ) (d : ℕ) → table_entry (table_text n P) q d ≡ value_of P (q, d)
-    text_entries q d = ap (greatest_at d) (text_lists q) ∙ entry_is P q d sound
+    text_entries q d = ap (value_in_list d) (text_lists q) ∙ entry_is P q d sound
 
 -- the length of the file
-pub text_size : (n : ℕ) (P : List ((List ℕ × ℕ) × ℕ)) (h : Held ℕ) (rs : List Record) → IsPatternMap P → IsEntered n P h rs → length (table_text n P) ≡ 16 + 10 * (top h.families + 1) + 6 * length rs
+pub text_size : (n : ℕ) (P : List ((List ℕ × ℕ) × ℕ)) (h : ValuedFamilies ℕ) (rs : List Record) → IsPatternMap P → IsEntered n P h rs → length (table_text n P) ≡ 16 + 10 * (top h.families + 1) + 6 * length rs
 text_size n P h rs sound entered =
     let size : length rs ≡ length (recorded P) = ap length entered.records_are ∙ length-map (recorded P) (record_of (recorded P)) in
     length-text n P h sound entered.packed ∙ ap (λ k. 16 + 10 * (top h.families + 1) + 6 * k) (sym size)
 
-pub length-table_cells : (n : ℕ) (P : List ((List ℕ × ℕ) × ℕ)) (h : Held ℕ) → IsPatternMap P → IsPacked n P h → length (table_cells n P) ≡ top h.families + 1
+pub length-table_cells : (n : ℕ) (P : List ((List ℕ × ℕ) × ℕ)) (h : ValuedFamilies ℕ) → IsPatternMap P → IsPacked n P h → length (table_cells n P) ≡ top h.families + 1
 length-table_cells n P h sound packed = ap length (cells_are n P h sound packed) ∙ length-cells n P h sound packed
 
 -- the text by its parts
@@ -124,14 +124,14 @@ unfolding table_text
 text_of n P cs rs text is cells_is records_is = is ∙ ap (λ c. file_of n c rs) cells_is ∙ ap (file_of n (table_cells n P)) records_is
 
 -- bytes that are the text are a table that gives the values of the patterns
-pub sound_text : (n : ℕ) (P : List ((List ℕ × ℕ) × ℕ)) (h : Held ℕ) → IsPatternMap P → IsPacked n P h → 1 ≤ n → n ≤ SIGNS_MAX → length (table_text n P) ≤ TABLE_MAX → (text : List ℕ) → text ≡ table_text n P → is_well_formed text ≡ true
+pub sound_text : (n : ℕ) (P : List ((List ℕ × ℕ) × ℕ)) (h : ValuedFamilies ℕ) → IsPatternMap P → IsPacked n P h → 1 ≤ n → n ≤ SIGNS_MAX → length (table_text n P) ≤ TABLE_MAX → (text : List ℕ) → text ≡ table_text n P → is_well_formed text ≡ true
 sound_text n P h sound packed some few short text is = ap is_well_formed is ∙ text_sound n P h sound packed some few short
 
-pub entries_text : (n : ℕ) (P : List ((List ℕ × ℕ) × ℕ)) (h : Held ℕ) → IsPatternMap P → IsPacked n P h → 1 ≤ n → n ≤ SIGNS_MAX → length (table_text n P) ≤ TABLE_MAX → (text : List ℕ) → text ≡ table_text n P → (q : List ℕ) (d : ℕ) → table_entry text q d ≡ value_of P (q, d)
+pub entries_text : (n : ℕ) (P : List ((List ℕ × ℕ) × ℕ)) (h : ValuedFamilies ℕ) → IsPatternMap P → IsPacked n P h → 1 ≤ n → n ≤ SIGNS_MAX → length (table_text n P) ≤ TABLE_MAX → (text : List ℕ) → text ≡ table_text n P → (q : List ℕ) (d : ℕ) → table_entry text q d ≡ value_of P (q, d)
 entries_text n P h sound packed some few short text is q d = ap (λ b. table_entry b q d) is ∙ text_entries n P h sound packed some few short q d
 
 -- a file that a test does not find too long is short enough
-pub fits : (n : ℕ) (P : List ((List ℕ × ℕ) × ℕ)) (h : Held ℕ) (rs : List Record) → IsPatternMap P → IsEntered n P h rs → (b : Bool) → (TABLE_MAX < 16 + 10 * (top h.families + 1) + 6 * length rs → b ≡ true) → b ≡ false → length (table_text n P) ≤ TABLE_MAX
+pub fits : (n : ℕ) (P : List ((List ℕ × ℕ) × ℕ)) (h : ValuedFamilies ℕ) (rs : List Record) → IsPatternMap P → IsEntered n P h rs → (b : Bool) → (TABLE_MAX < 16 + 10 * (top h.families + 1) + 6 * length rs → b ≡ true) → b ≡ false → length (table_text n P) ≤ TABLE_MAX
 fits n P h rs sound entered b long fails = elim (cases_lt TABLE_MAX (16 + 10 * (top h.families + 1) + 6 * length rs)) [
   | inl past ↦ absurd (false≢true (sym fails ∙ long past))
   | inr low ↦ omega (arith, text_size n P h rs sound entered)

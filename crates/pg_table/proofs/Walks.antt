@@ -6,8 +6,8 @@ use Rattle.std.proofs.lemmas.Bool.{cases_Bool, cases_lt, le-leb, lt-leb, lt-ltb,
 use Rattle.std.proofs.lemmas.List.{drop-drop, drop_more}
 use Rattle.pg_types.specs.declared.limits.TheConstants.{PATTERN_SIGNS_MAX}
 use Rattle.pg_table.specs.Forms.{cell_at}
-use Rattle.pg_table.specs.Lookups.{has_sign, list_in, lookup, lookup_from, greatest, greatest_at, value_from, table_value}
-use Rattle.pg_table.specs.Raising.{by_value, by_list, by_strings, by_starts}
+use Rattle.pg_table.specs.Lookups.{cell_has_sign, list_in, lookup, lookup_from, greatest, value_in_list, value_from, table_value}
+use Rattle.pg_table.specs.Raising.{by_value, by_record_list, by_strings, by_starts}
 
 -- the greatest of numbers that are all 0
 pub greatest_none : (f : ℕ → ℕ) (a n : ℕ) → ((i : ℕ) → a ≤ i → i < a + n → f i ≡ 0) → greatest f (range_with_len a n) ≡ 0
@@ -18,7 +18,7 @@ greatest_none f a (suc n) each =
     omega arith
 
 -- a family that lacks the next sign gives no longer string a list
-pub no_sign : (b : List ℕ) (base s : ℕ) → has_sign b base s ≡ false → (more : List ℕ) → lookup_from b base (s ∷ more) ≡ []
+pub no_sign : (b : List ℕ) (base s : ℕ) → cell_has_sign b base s ≡ false → (more : List ℕ) → lookup_from b base (s ∷ more) ≡ []
 no_sign b base s none [] = ap (λ t. cond t (list_in b (cell_at b (base + s)).head) []) none
 no_sign b base s none (t ∷ more) = ap (λ x. cond (x && nat_lt 0 (cell_at b (base + s)).child) (lookup_from b (cell_at b (base + s)).child (t ∷ more)) []) none
 
@@ -26,20 +26,20 @@ no_sign b base s none (t ∷ more) = ap (λ x. cond (x && nat_lt 0 (cell_at b (b
 pub no_child : (b : List ℕ) (base s : ℕ) → (cell_at b (base + s)).child ≡ 0 → (t : ℕ) (more : List ℕ) → lookup_from b base (s ∷ t ∷ more) ≡ []
 no_child b base s none t more =
     let ends : nat_lt 0 (cell_at b (base + s)).child ≡ false = le-ltb 0 (cell_at b (base + s)).child (omega arith) in
-    elim (cases_Bool (has_sign b base s)) [
-      | inl has ↦ ap (λ x. cond (has_sign b base s && x) (lookup_from b (cell_at b (base + s)).child (t ∷ more)) []) ends ∙ ap (λ x. cond (x && false) (lookup_from b (cell_at b (base + s)).child (t ∷ more)) []) has
+    elim (cases_Bool (cell_has_sign b base s)) [
+      | inl has ↦ ap (λ x. cond (cell_has_sign b base s && x) (lookup_from b (cell_at b (base + s)).child (t ∷ more)) []) ends ∙ ap (λ x. cond (x && false) (lookup_from b (cell_at b (base + s)).child (t ∷ more)) []) has
       | inr lacks ↦ no_sign b base s lacks (t ∷ more)
     ]
 
 -- the list of a string that ends at its cell
-pub list_here : (b : List ℕ) (base s : ℕ) → has_sign b base s ≡ true → lookup_from b base (s ∷ []) ≡ list_in b (cell_at b (base + s)).head
+pub list_here : (b : List ℕ) (base s : ℕ) → cell_has_sign b base s ≡ true → lookup_from b base (s ∷ []) ≡ list_in b (cell_at b (base + s)).head
 list_here b base s has = ap (λ t. cond t (list_in b (cell_at b (base + s)).head) []) has
 
 -- and a longer one goes on in the family below it
-pub list_below : (b : List ℕ) (base s : ℕ) → has_sign b base s ≡ true → (cell_at b (base + s)).child ≢ 0 → (t : ℕ) (more : List ℕ) → lookup_from b base (s ∷ t ∷ more) ≡ lookup_from b (cell_at b (base + s)).child (t ∷ more)
+pub list_below : (b : List ℕ) (base s : ℕ) → cell_has_sign b base s ≡ true → (cell_at b (base + s)).child ≢ 0 → (t : ℕ) (more : List ℕ) → lookup_from b base (s ∷ t ∷ more) ≡ lookup_from b (cell_at b (base + s)).child (t ∷ more)
 list_below b base s has child t more =
     let goes : nat_lt 0 (cell_at b (base + s)).child ≡ true = lt-ltb 0 (cell_at b (base + s)).child (omega arith) in
-    ap (λ x. cond (has_sign b base s && x) (lookup_from b (cell_at b (base + s)).child (t ∷ more)) []) goes ∙ ap (λ x. cond (x && true) (lookup_from b (cell_at b (base + s)).child (t ∷ more)) []) has
+    ap (λ x. cond (cell_has_sign b base s && x) (lookup_from b (cell_at b (base + s)).child (t ∷ more)) []) goes ∙ ap (λ x. cond (x && true) (lookup_from b (cell_at b (base + s)).child (t ∷ more)) []) has
 
 -- the signs from a start on, up to a stop and on
 pub record GoesOn (w : List ℕ) (start stop n : ℕ) : Type 0 where
@@ -69,9 +69,9 @@ module _ (b w : List ℕ) where
   -- what strings give that have no list
   value_none : (p start n : ℕ) → (start + n ≤ length w → lookup b (take n (drop start w)) ≡ []) → value_from b w p start n ≡ 0
   value_none p start n none = elim (cases_lt (length w) (start + n)) [
-    | inl past ↦ ap (λ t. cond (t && (nat_le start p && nat_le (p - start) n)) (greatest_at (p - start) (lookup b (take n (drop start w)))) 0) (lt-leb (start + n) (length w) past)
+    | inl past ↦ ap (λ t. cond (t && (nat_le start p && nat_le (p - start) n)) (value_in_list (p - start) (lookup b (take n (drop start w)))) 0) (lt-leb (start + n) (length w) past)
     | inr inside ↦
-        ap (λ l. cond (nat_le (start + n) (length w) && (nat_le start p && nat_le (p - start) n)) (greatest_at (p - start) l) 0) (none inside)
+        ap (λ l. cond (nat_le (start + n) (length w) && (nat_le start p && nat_le (p - start) n)) (value_in_list (p - start) l) 0) (none inside)
         ∙ same (nat_le (start + n) (length w) && (nat_le start p && nat_le (p - start) n)) 0
   ]
     where
@@ -84,12 +84,12 @@ module _ (b w : List ℕ) where
   strings_none p start n none = greatest_none (value_from b w p start) n (PATTERN_SIGNS_MAX + 1 - n) (λ m low high. value_none p start m (none m low (omega arith)))
 
   -- what the strings of n signs or more give is what that of n signs gives, and what the longer ones do
-  pub strings_more : (p start n : ℕ) → n ≤ PATTERN_SIGNS_MAX → start + n ≤ length w → by_strings b w start n p ≡ max (by_list start n (lookup b (take n (drop start w))) p) (by_strings b w start (n + 1) p)
+  pub strings_more : (p start n : ℕ) → n ≤ PATTERN_SIGNS_MAX → start + n ≤ length w → by_strings b w start n p ≡ max (by_record_list start n (lookup b (take n (drop start w))) p) (by_strings b w start (n + 1) p)
   unfolding by_strings
   strings_more p start n few inside =
       let size : PATTERN_SIGNS_MAX + 1 - n ≡ suc (PATTERN_SIGNS_MAX + 1 - (n + 1)) = omega arith in
       ap (λ k. greatest (value_from b w p start) (range_with_len n k)) size
-      ∙ ap (λ t. max (cond (t && (nat_le start p && nat_le (p - start) n)) (greatest_at (p - start) (lookup b (take n (drop start w)))) 0) (by_strings b w start (n + 1) p)) (le-leb (start + n) (length w) inside)
+      ∙ ap (λ t. max (cond (t && (nat_le start p && nat_le (p - start) n)) (value_in_list (p - start) (lookup b (take n (drop start w)))) 0) (by_strings b w start (n + 1) p)) (le-leb (start + n) (length w) inside)
 
   -- and so for the starts
   pub starts_more : (p start : ℕ) → start < length w → by_starts b w start p ≡ max (by_strings b w start 1 p) (by_starts b w (start + 1) p)
@@ -99,18 +99,18 @@ module _ (b w : List ℕ) where
       ap (λ k. greatest (λ i. by_strings b w i 1 p) (range_with_len start k)) size
 
 -- what one value gives, of those of a list
-pub list_more : (start n : ℕ) (x : ℕ × ℕ) (xs : List (ℕ × ℕ)) (p : ℕ) → by_list start n (x ∷ xs) p ≡ max (by_value start n x p) (by_list start n xs p)
+pub list_more : (start n : ℕ) (x : ℕ × ℕ) (xs : List (ℕ × ℕ)) (p : ℕ) → by_record_list start n (x ∷ xs) p ≡ max (by_value start n x p) (by_record_list start n xs p)
 list_more start n x xs p = elim (cases_lt p start) [
   | inl before ↦
       let no : nat_le start p ≡ false = lt-leb start p before in
       let other : nat_eq (start + x.1) p ≡ false = ne_eqb (start + x.1) p (λ e. omega arith) in
-      ap (λ t. cond (t && nat_le (p - start) n) (greatest_at (p - start) (x ∷ xs)) 0) no
-      ∙ sym (ap (λ t. max (cond (nat_le x.1 n && t) x.0 0) (by_list start n xs p)) other ∙ ap (λ t. max (cond t x.0 0) (by_list start n xs p)) (no_and (nat_le x.1 n)) ∙ ap (λ t. max 0 (cond (t && nat_le (p - start) n) (greatest_at (p - start) xs) 0)) no)
+      ap (λ t. cond (t && nat_le (p - start) n) (value_in_list (p - start) (x ∷ xs)) 0) no
+      ∙ sym (ap (λ t. max (cond (nat_le x.1 n && t) x.0 0) (by_record_list start n xs p)) other ∙ ap (λ t. max (cond t x.0 0) (by_record_list start n xs p)) (no_and (nat_le x.1 n)) ∙ ap (λ t. max 0 (cond (t && nat_le (p - start) n) (value_in_list (p - start) xs) 0)) no)
   | inr after ↦
       let yes : nat_le start p ≡ true = le-leb start p after in
-      ap (λ t. cond (t && nat_le (p - start) n) (greatest_at (p - start) (x ∷ xs)) 0) yes
+      ap (λ t. cond (t && nat_le (p - start) n) (value_in_list (p - start) (x ∷ xs)) 0) yes
       ∙ inside (nat_eq x.1 (p - start)) (nat_le (p - start) n) refl refl after
-      ∙ ap (λ t. max (by_value start n x p) (cond (t && nat_le (p - start) n) (greatest_at (p - start) xs) 0)) (sym yes)
+      ∙ ap (λ t. max (by_value start n x p) (cond (t && nat_le (p - start) n) (value_in_list (p - start) xs) 0)) (sym yes)
 ]
   where
     no_and : (t : Bool) → (t && false) ≡ false
@@ -124,9 +124,9 @@ list_more start n x xs p = elim (cases_lt p start) [
     by_cases false false v g = refl
 
     inside : (same fits : Bool) → nat_eq x.1 (p - start) ≡ same → nat_le (p - start) n ≡ fits → start ≤ p
-        → cond (nat_le (p - start) n) (max (cond (nat_eq x.1 (p - start)) x.0 0) (greatest_at (p - start) xs)) 0 ≡ max (by_value start n x p) (cond (nat_le (p - start) n) (greatest_at (p - start) xs) 0)
+        → cond (nat_le (p - start) n) (max (cond (nat_eq x.1 (p - start)) x.0 0) (value_in_list (p - start) xs)) 0 ≡ max (by_value start n x p) (cond (nat_le (p - start) n) (value_in_list (p - start) xs) 0)
     inside same fits e d after =
-        let g : ℕ = greatest_at (p - start) xs in
+        let g : ℕ = value_in_list (p - start) xs in
         let left : cond (nat_le (p - start) n) (max (cond (nat_eq x.1 (p - start)) x.0 0) g) 0 ≡ cond fits (max (cond same x.0 0) g) 0 =
         ap (λ t. cond t (max (cond (nat_eq x.1 (p - start)) x.0 0) g) 0) d ∙ ap (λ t. cond fits (max (cond t x.0 0) g) 0) e in
         let right : max (by_value start n x p) (cond (nat_le (p - start) n) g 0) ≡ max (cond (fits && same) x.0 0) (cond fits g 0) =
@@ -142,7 +142,7 @@ list_more start n x xs p = elim (cases_lt p start) [
             let other : nat_eq (start + x.1) p ≡ false = ne_eqb (start + x.1) p (λ z. eqb-false x.1 (p - start) e (omega arith)) in
             ap (λ t. nat_le x.1 n && t) other ∙ no_and (nat_le x.1 n) ∙ sym (no_and fits)
 
-pub empty_list : (start n p : ℕ) → by_list start n [] p ≡ 0
+pub empty_list : (start n p : ℕ) → by_record_list start n [] p ≡ 0
 empty_list start n p = same (nat_le start p && nat_le (p - start) n) 0
   where
     same : (t : Bool) (z : ℕ) → cond t z z ≡ z

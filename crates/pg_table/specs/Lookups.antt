@@ -11,8 +11,8 @@ use Rattle.pg_select.specs.Sums.{marks_by, totals_of}
 use Rattle.pg_table.specs.Forms.{head_of, cell_at, records_of}
 
 -- the family at the base has the sign: the cell of the sign is there, and has it
-abbrev pub has_sign : List ℕ → ℕ → ℕ → Bool
-has_sign b base s = nat_lt (base + s) (head_of b).cells && nat_eq (cell_at b (base + s)).sign s
+abbrev pub cell_has_sign : List ℕ → ℕ → ℕ → Bool
+cell_has_sign b base s = nat_lt (base + s) (head_of b).cells && nat_eq (cell_at b (base + s)).sign s
 
 -- the list whose head is h
 abbrev pub list_in : List ℕ → ℕ → List (ℕ × ℕ)
@@ -21,21 +21,21 @@ list_in b h = list_of (records_of b) h
 -- the list of the string q below the family at the base, each value with its dot. It is empty where a cell is missing
 abbrev pub lookup_from : List ℕ → ℕ → List ℕ → List (ℕ × ℕ)
 lookup_from b base [] = []
-lookup_from b base (s ∷ []) = if has_sign b base s then list_in b (cell_at b (base + s)).head else []
-lookup_from b base (s ∷ t ∷ q) = if has_sign b base s && nat_lt 0 (cell_at b (base + s)).child then lookup_from b (cell_at b (base + s)).child (t ∷ q) else []
+lookup_from b base (s ∷ []) = if cell_has_sign b base s then list_in b (cell_at b (base + s)).head else []
+lookup_from b base (s ∷ t ∷ q) = if cell_has_sign b base s && nat_lt 0 (cell_at b (base + s)).child then lookup_from b (cell_at b (base + s)).child (t ∷ q) else []
 
 -- the list of the string q
 unfoldable pub lookup : List ℕ → List ℕ → List (ℕ × ℕ)
 lookup b q = lookup_from b 0 q
 
 -- the greatest value at the dot in a list, 0 where there is none
-abbrev pub greatest_at : ℕ → List (ℕ × ℕ) → ℕ
-greatest_at d [] = 0
-greatest_at d (x ∷ xs) = max (if nat_eq x.1 d then x.0 else 0) (greatest_at d xs)
+abbrev pub value_in_list : ℕ → List (ℕ × ℕ) → ℕ
+value_in_list d [] = 0
+value_in_list d (x ∷ xs) = max (if nat_eq x.1 d then x.0 else 0) (value_in_list d xs)
 
 -- the value of the string q at the dot d, 0 where it has none
 abbrev pub table_entry : List ℕ → List ℕ → ℕ → ℕ
-table_entry b q d = greatest_at d (lookup b q)
+table_entry b q d = value_in_list d (lookup b q)
 
 -- the greatest of the numbers that f gives
 abbrev pub greatest : (ℕ → ℕ) → List ℕ → ℕ

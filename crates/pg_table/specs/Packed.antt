@@ -6,8 +6,8 @@ use Rattle.std.specs.FinMap.{find}
 use Rattle.pg_types.specs.Placement.{cell_of}
 use Rattle.pg_types.specs.Tails.{outputs_of}
 use Rattle.pg_outputs.specs.declared.records.Record.{Record}
-use Rattle.pg_cells.specs.Held.{Held}
-use Rattle.pg_cells.specs.IsHeld.{IsHeld}
+use Rattle.pg_cells.specs.ValuedFamilies.{ValuedFamilies}
+use Rattle.pg_cells.specs.AreValuedFamilies.{AreValuedFamilies}
 use Rattle.pg_table.specs.Texts.{layout, head_in, table_records}
 
 -- the entries from `at` to `end` are those of the string q
@@ -22,8 +22,8 @@ abbrev pub pairs : List ((List ℕ × ℕ) × ℕ) → ℕ → ℕ → List (ℕ
 pairs P at end = map (λ e. (e.0.1, e.1)) (take (end - at) (drop at P))
 
 -- the strings of the patterns have their cells
-pub record IsPacked (n : ℕ) (P : List ((List ℕ × ℕ) × ℕ)) (h : Held ℕ) : Type 0 where
-  pub held : IsHeld h
+pub record IsPacked (n : ℕ) (P : List ((List ℕ × ℕ) × ℕ)) (h : ValuedFamilies ℕ) : Type 0 where
+  pub held : AreValuedFamilies h
   pub signs : h.signs ≡ n
   pub families : h.families ≡ layout n P
   pub entered : (q : List ℕ) → outputs_of P q ≢ [] → (c : ℕ) × (cell_of h.families q ≡ Some c)
@@ -34,7 +34,7 @@ IsReached P n q = (length q ≤ 1) ⊎ ((j : ℕ) × (k : ℕ) × (e : (List ℕ
 
 -- all patterns are entered: each string that has a cell is one of theirs, its value is the head of its list, and the records are
 -- those of the table
-pub record IsEntered (n : ℕ) (P : List ((List ℕ × ℕ) × ℕ)) (h : Held ℕ) (records : List Record) : Type 0 where
+pub record IsEntered (n : ℕ) (P : List ((List ℕ × ℕ) × ℕ)) (h : ValuedFamilies ℕ) (records : List Record) : Type 0 where
   pub packed : IsPacked n P h
   pub heads : (q : List ℕ) (v : ℕ) → find (slice_cmp nat_cmp) q h.values ≡ Some v → v ≡ head_in P q
   pub reached : (q : List ℕ) (v : ℕ) → find (slice_cmp nat_cmp) q h.values ≡ Some v → IsReached P (length P) q

@@ -3,7 +3,7 @@ use Rattle.std.specs.Prelude.{◌≡◌, ℕ, ◌+◌, ◌-◌, ◌<◌, ◌&&�
 use Rattle.std.specs.List.{range_with_len}
 use Rattle.pg_types.specs.declared.limits.TheConstants.{PATTERN_SIGNS_MAX, WORD_LETTERS_MAX}
 use Rattle.pg_select.specs.Positions.{Positions, covers_of}
-use Rattle.pg_table.specs.Lookups.{greatest, greatest_at, value_from}
+use Rattle.pg_table.specs.Lookups.{greatest, value_in_list, value_from}
 
 -- no position is covered
 abbrev pub IsUncovered : Positions → Type 0
@@ -14,8 +14,8 @@ abbrev pub by_value : ℕ → ℕ → ℕ × ℕ → ℕ → ℕ
 by_value start n x p = if nat_le x.1 n && nat_eq (start + x.1) p then x.0 else 0
 
 -- what their whole list gives
-abbrev pub by_list : ℕ → ℕ → List (ℕ × ℕ) → ℕ → ℕ
-by_list start n xs p = if nat_le start p && nat_le (p - start) n then greatest_at (p - start) xs else 0
+abbrev pub by_record_list : ℕ → ℕ → List (ℕ × ℕ) → ℕ → ℕ
+by_record_list start n xs p = if nat_le start p && nat_le (p - start) n then value_in_list (p - start) xs else 0
 
 -- what the lists of the strings that begin at start give, from n signs on
 unfoldable pub by_strings : List ℕ → List ℕ → ℕ → ℕ → ℕ → ℕ

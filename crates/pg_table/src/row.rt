@@ -6,7 +6,7 @@ ghost use Rattle.std.specs.Ordering.{nat_cmp};
 ghost use Rattle.pg_types.specs.declared.limits.TheConstants.{SIGNS_MAX};
 ghost use Rattle.pg_types.specs.Placement.{top};
 ghost use Rattle.pg_patterns.specs.Values.{SignsUpTo};
-ghost use Rattle.pg_cells.specs.IsHeld.{IsHeld};
+ghost use Rattle.pg_cells.specs.AreValuedFamilies.{AreValuedFamilies};
 ghost use Rattle.pg_table.specs.Packed.{IsEntered};
 ghost use Rattle.pg_table.specs.Rows.{HasHeads, IsRow, Fills};
 ghost use Rattle.pg_table.specs.Texts.{head_in, table_cells};
@@ -66,7 +66,7 @@ fn fill(signs: u16, patterns: &PatternSet, packed: &Packed, row: &mut [Cell])
 
 /// Fills in the cells of a string and of its fronts.
 fn fill_string(cells: &Cells<u64, FEW_SIGNS>, signs: &[Sign], row: &mut [Cell])
-    requires held { IsHeld cells.now }
+    requires held { AreValuedFamilies cells.now }
     requires signs { All (λ s. (1 ≤ s) × (s ≤ cells.now.signs)) signs.now }
     requires size { length row.old ≡ top cells.now.families + 1 }
     requires cells { top cells.now.families + 1 < 2 ^ 32 }

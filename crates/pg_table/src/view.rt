@@ -2,7 +2,7 @@
 ghost use Rattle.std.specs.Prelude.{◌≡◌, ◌+◌, ◌-◌, ◌<◌, ◌≤◌, ◌&&◌, true, false, ◌⊎◌, ℕ, [], ◌∷◌, length, slice_index, slice_index_or, slice_range, All, IfSome, MatchOption};
 ghost use Rattle.std.specs.List.{list_all, range_with_len};
 ghost use Rattle.pg_types.specs.declared.limits.TheConstants.{SIGNS_MAX, WORD_LETTERS_MAX};
-ghost use Rattle.pg_table.specs.Lookups.{has_sign, list_in, table_value};
+ghost use Rattle.pg_table.specs.Lookups.{cell_has_sign, list_in, table_value};
 ghost use Rattle.pg_table.specs.Forms.{head_of, has_head, cell_start, cell_at, record_start, read_record, is_sound_cell, is_sound_record, file_len, is_well_formed};
 
 use crate::cell::{Cell, cell_start};
@@ -100,8 +100,8 @@ impl TableView<'_> {
     /// The cell of the sign in the family at the base, or `None` where the family does not have it.
     pub(crate) fn find(&self, base: u32, s: Sign) -> Option<Cell>
         requires { base < (head_of self.now).cells }
-        ensures cell { MatchOption result (has_sign self.now base s ≡ false)
-            (λ c. (has_sign self.now base s ≡ true) × (c ≡ cell_at self.now (base + s))) }
+        ensures cell { MatchOption result (cell_has_sign self.now base s ≡ false)
+            (λ c. (cell_has_sign self.now base s ≡ true) × (c ≡ cell_at self.now (base + s))) }
         ensures within { IfSome result (λ c.
             (c.child < (head_of self.now).cells) × (c.head ≤ (head_of self.now).records)) }
     {

@@ -4,7 +4,7 @@ ghost use Rattle.pg_types.specs.declared.limits.TheConstants.{WORD_LETTERS_MAX};
 ghost use Rattle.pg_table.specs.Forms.{head_of};
 ghost use Rattle.pg_table.specs.Lookups.{list_in};
 ghost use Rattle.pg_select.specs.Positions.{values_of, Raises};
-ghost use Rattle.pg_table.specs.Raising.{IsUncovered, by_value, by_list, by_strings, by_starts};
+ghost use Rattle.pg_table.specs.Raising.{IsUncovered, by_value, by_record_list, by_strings, by_starts};
 
 use crate::view::TableView;
 use pg_select::WordState;
@@ -50,7 +50,7 @@ fn take_list(view: &TableView<'_>, head: u32, start: usize, len: usize, out: &mu
     requires head { head ≤ (head_of view.now).records }
     requires start { start ≤ WORD_LETTERS_MAX + 2 }
     requires uncovered { IsUncovered out.old }
-    ensures values { Raises (by_list start len (list_in view.now head)) (values_of out.old) (values_of out.new) }
+    ensures values { Raises (by_record_list start len (list_in view.now head)) (values_of out.old) (values_of out.new) }
     ensures uncovered { IsUncovered out.new }
 {
     let mut at = head;

@@ -10,8 +10,8 @@ use Rattle.pg_patterns.specs.Values.{raise, value_of}
 use Rattle.pg_outputs.specs.declared.records.Record.{Record}
 use Rattle.pg_outputs.specs.Lists.{list_of, Grows}
 use Rattle.pg_outputs.proofs.ListLaws.{list_of-zero}
-use Rattle.pg_cells.specs.Held.{Held}
-use Rattle.pg_cells.specs.IsHeld.{IsHeld}
+use Rattle.pg_cells.specs.ValuedFamilies.{ValuedFamilies}
+use Rattle.pg_cells.specs.AreValuedFamilies.{AreValuedFamilies}
 use Rattle.pg_cells.specs.Walks.{AddsBlanks}
 use Rattle.pg_cells.proofs.StringMaps.{order, equal_or_not, find_put_same, find_put_other}
 use Rattle.pg_trie.specs.declared.mark.TheConstants.{HOPELESS}
@@ -23,10 +23,10 @@ use Rattle.pg_trie.proofs.Rising.{values_rise, marks_rise}
 use Rattle.pg_trie.proofs.Entered.{rises-entered, dots-entered, value-entered, marks_stay, mark-entered, values_stay}
 
 -- the values and the marks stand in order
-pub sorted_values : (cells : Held ℕ) (records : List Record) → IsTrie cells records → T (is_sorted dotted_cmp (maps_of cells records).patterns)
+pub sorted_values : (cells : ValuedFamilies ℕ) (records : List Record) → IsTrie cells records → T (is_sorted dotted_cmp (maps_of cells records).patterns)
 sorted_values cells records is = sorted-entries as_value (list_of records) cells.values is.held.ordered (λ q head at. values_rise 0 0 (list_of records head) (omega arith) (is.heads q head at).rises)
 
-pub sorted_marks : (cells : Held ℕ) (records : List Record) → IsTrie cells records → T (is_sorted dotted_cmp (maps_of cells records).hopeless)
+pub sorted_marks : (cells : ValuedFamilies ℕ) (records : List Record) → IsTrie cells records → T (is_sorted dotted_cmp (maps_of cells records).hopeless)
 sorted_marks cells records is = sorted-entries as_mark (list_of records) cells.values is.held.ordered (λ q head at. marks_rise 0 0 (list_of records head) (omega arith) (is.heads q head at).rises)
 
 module _ {X : Type 0} (pick : ℕ → Option X) where
@@ -70,12 +70,12 @@ module _ {X : Type 0} (pick : ℕ → Option X) where
       ])
 
 -- the maps of a trie stay
-pub record SameMaps (cells : Held ℕ) (records : List Record) (cells' : Held ℕ) (records' : List Record) : Type 0 where
+pub record SameMaps (cells : ValuedFamilies ℕ) (records : List Record) (cells' : ValuedFamilies ℕ) (records' : List Record) : Type 0 where
   pub trie : IsTrie cells' records'
   pub patterns : (maps_of cells' records').patterns ≡ (maps_of cells records).patterns
   pub hopeless : (maps_of cells' records').hopeless ≡ (maps_of cells records).hopeless
 
-same_when : (cells : Held ℕ) (records : List Record) (cells' : Held ℕ) (records' : List Record) → IsTrie cells records → IsTrie cells' records'
+same_when : (cells : ValuedFamilies ℕ) (records : List Record) (cells' : ValuedFamilies ℕ) (records' : List Record) → IsTrie cells records → IsTrie cells' records'
     → ((q : List ℕ) (d : ℕ) → found_at as_value (list_of records') d (find order q cells'.values) ≡ found_at as_value (list_of records) d (find order q cells.values))
     → ((q : List ℕ) (d : ℕ) → found_at as_mark (list_of records') d (find order q cells'.values) ≡ found_at as_mark (list_of records) d (find order q cells.values))
     → SameMaps cells records cells' records'
@@ -86,7 +86,7 @@ same_when cells records cells' records' is is' same same_marks = record {
 }
 
 -- new cells without a list
-pub blanks_stay : (cells cells' : Held ℕ) (records : List Record) (w : List ℕ) → IsTrie cells records → IsHeld cells' → cells'.signs ≡ cells.signs → length w ≤ PATTERN_SIGNS_MAX → AddsBlanks w 0 cells.values cells'.values → SameMaps cells records cells' records
+pub blanks_stay : (cells cells' : ValuedFamilies ℕ) (records : List Record) (w : List ℕ) → IsTrie cells records → AreValuedFamilies cells' → cells'.signs ≡ cells.signs → length w ≤ PATTERN_SIGNS_MAX → AddsBlanks w 0 cells.values cells'.values → SameMaps cells records cells' records
 blanks_stay cells cells' records w is held signs short adds = same_when cells records cells' records is trie (same as_value) (same as_mark)
   where
     blank : (k : ℕ) → IsHead records (take k w) 0
@@ -122,7 +122,7 @@ blanks_stay cells cells' records w is held signs short adds = same_when cells re
             ap (found_at pick (list_of records) d) new ∙ ap (λ h. found_in pick d (list_of records h)) b.0 ∙ ap (found_in pick d) (list_of-zero records) ∙ sym (ap (found_at pick (list_of records) d) old)
 
 -- further records
-pub records_stay : (cells : Held ℕ) (records records' : List Record) → IsTrie cells records → Grows records records' → SameMaps cells records cells records'
+pub records_stay : (cells : ValuedFamilies ℕ) (records records' : List Record) → IsTrie cells records → Grows records records' → SameMaps cells records cells records'
 records_stay cells records records' is grows = same_when cells records cells records' is trie (same as_value) (same as_mark)
   where
     heads : (q : List ℕ) (head : ℕ) → find order q cells.values ≡ Some head → IsHead records' q head
@@ -146,21 +146,21 @@ records_stay cells records records' is grows = same_when cells records cells rec
         by None at = refl
         by (Some u) at = ap (found_in pick d) (grows.same u (is.heads q u at).inside)
 
-pub both_stay : (a b c : Held ℕ) (r s t : List Record) → SameMaps a r b s → SameMaps b s c t → SameMaps a r c t
+pub both_stay : (a b c : ValuedFamilies ℕ) (r s t : List Record) → SameMaps a r b s → SameMaps b s c t → SameMaps a r c t
 both_stay a b c r s t x y = record { trie = y.trie; patterns = y.patterns ∙ x.patterns; hopeless = y.hopeless ∙ x.hopeless }
 
 -- a string's new head, whose list has x entered
-pub record Enters (cells : Held ℕ) (records : List Record) (q : List ℕ) (x : ℕ × ℕ) (cells' : Held ℕ) : Type 0 where
+pub record Enters (cells : ValuedFamilies ℕ) (records : List Record) (q : List ℕ) (x : ℕ × ℕ) (cells' : ValuedFamilies ℕ) : Type 0 where
   pub trie : IsTrie cells' records
   pub raised : nat_lt x.0 HOPELESS ≡ true → ((maps_of cells' records).patterns ≡ raise (maps_of cells records).patterns (q, x.1) x.0) × ((maps_of cells' records).hopeless ≡ (maps_of cells records).hopeless)
   pub marked : nat_lt x.0 HOPELESS ≡ false → ((maps_of cells' records).patterns ≡ (maps_of cells records).patterns) × ((maps_of cells' records).hopeless ≡ put dotted_cmp (q, x.1) (tt {0}) (maps_of cells records).hopeless)
 
-pub enters : (cells cells' : Held ℕ) (records : List Record) (q : List ℕ) (head new : ℕ) (x : ℕ × ℕ) → IsTrie cells records → IsHeld cells' → cells' ≡ record cells { values = put order q new cells.values }
+pub enters : (cells cells' : ValuedFamilies ℕ) (records : List Record) (q : List ℕ) (head new : ℕ) (x : ℕ × ℕ) → IsTrie cells records → AreValuedFamilies cells' → cells' ≡ record cells { values = put order q new cells.values }
     → find order q cells.values ≡ Some head → new ≤ length records → list_of records new ≡ entered x (list_of records head) → 1 ≤ x.0 → x.0 ≤ HOPELESS → x.1 ≤ length q → Enters cells records q x cells'
 enters cells cells' records q head new x is held put_is at inside list low high dot = record { trie = trie; raised = raised; marked = marked }
   where
     values : cells'.values ≡ put order q new cells.values
-    values = ap (λ (h : Held ℕ). h.values) put_is
+    values = ap (λ (h : ValuedFamilies ℕ). h.values) put_is
 
     here : IsHead records q head
     here = is.heads q head at
@@ -183,7 +183,7 @@ enters cells cells' records q head new x is held put_is at inside list low high 
     ]
 
     signs : cells'.signs ≡ cells.signs
-    signs = ap (λ (h : Held ℕ). h.signs) put_is
+    signs = ap (λ (h : ValuedFamilies ℕ). h.signs) put_is
 
     trie : IsTrie cells' records
     trie = record { signs = omega (arith, is.signs, signs); held = held; heads = heads }
@@ -219,7 +219,7 @@ enters cells cells' records q head new x is held put_is at inside list low high 
     )
 
 -- what is seen where the maps stay
-pub same_view : (cells : Held ℕ) (records : List Record) (cells' : Held ℕ) (records' : List Record) (m : Maps) → maps_of cells records ≡ m → SameMaps cells records cells' records' → cells'.signs ≡ cells.signs
+pub same_view : (cells : ValuedFamilies ℕ) (records : List Record) (cells' : ValuedFamilies ℕ) (records' : List Record) (m : Maps) → maps_of cells records ≡ m → SameMaps cells records cells' records' → cells'.signs ≡ cells.signs
     → maps_of cells' records' ≡ record m { families = cells'.families; records = records' }
 same_view cells records cells' records' m seen s signs =
     let signs_are : cells'.signs ≡ m.signs = signs ∙ ap (λ (m : Maps). m.signs) seen in
@@ -228,7 +228,7 @@ same_view cells records cells' records' m seen s signs =
     λ i. record { signs = signs_are i; families = cells'.families; patterns = patterns_are i; hopeless = marks_are i; records = records' }
 
 -- what is seen after a value is entered
-pub raised_view : (old cells cells' : Held ℕ) (start records : List Record) (q : List ℕ) (x : ℕ × ℕ) (m : Maps) → maps_of old start ≡ m → SameMaps old start cells records → Enters cells records q x cells' → nat_lt x.0 HOPELESS ≡ true
+pub raised_view : (old cells cells' : ValuedFamilies ℕ) (start records : List Record) (q : List ℕ) (x : ℕ × ℕ) (m : Maps) → maps_of old start ≡ m → SameMaps old start cells records → Enters cells records q x cells' → nat_lt x.0 HOPELESS ≡ true
     → cells'.signs ≡ old.signs → cells'.families ≡ enter old.signs old.families q
     → maps_of cells' records ≡ record m { patterns = raise m.patterns (q, x.1) x.0; families = enter m.signs m.families q; records = records }
 raised_view old cells cells' start records q x m seen s e value signs families =
@@ -240,7 +240,7 @@ raised_view old cells cells' start records q x m seen s e value signs families =
     λ i. record { signs = signs_are i; families = families_are i; patterns = patterns_are i; hopeless = marks_are i; records = records }
 
 -- what is seen after a mark is entered
-pub marked_view : (old cells cells' : Held ℕ) (start records : List Record) (q : List ℕ) (x : ℕ × ℕ) (m : Maps) → maps_of old start ≡ m → SameMaps old start cells records → Enters cells records q x cells' → nat_lt x.0 HOPELESS ≡ false
+pub marked_view : (old cells cells' : ValuedFamilies ℕ) (start records : List Record) (q : List ℕ) (x : ℕ × ℕ) (m : Maps) → maps_of old start ≡ m → SameMaps old start cells records → Enters cells records q x cells' → nat_lt x.0 HOPELESS ≡ false
     → cells'.signs ≡ old.signs → cells'.families ≡ enter old.signs old.families q
     → maps_of cells' records ≡ record m { hopeless = put dotted_cmp (q, x.1) (tt {0}) m.hopeless; families = enter m.signs m.families q; records = records }
 marked_view old cells cells' start records q x m seen s e mark signs families =
@@ -252,12 +252,12 @@ marked_view old cells cells' start records q x m seen s e mark signs families =
     λ i. record { signs = signs_are i; families = families_are i; patterns = patterns_are i; hopeless = marks_are i; records = records }
 
 -- a front of a string that is entered, seen from outside
-pub part_seen : (old new : Held ℕ) (records : List Record) (m : Maps) (q : List ℕ) → maps_of old records ≡ m → (k : ℕ) × (k < length q) × (new.families ≡ enter old.signs old.families (take k q)) → (k : ℕ) × (k ≤ length q) × (new.families ≡ enter m.signs m.families (take k q))
+pub part_seen : (old new : ValuedFamilies ℕ) (records : List Record) (m : Maps) (q : List ℕ) → maps_of old records ≡ m → (k : ℕ) × (k < length q) × (new.families ≡ enter old.signs old.families (take k q)) → (k : ℕ) × (k ≤ length q) × (new.families ≡ enter m.signs m.families (take k q))
 part_seen old new records m q view part = (part.0, less_upto part.0 (length q) part.1, part.2 ∙ ap (λ (x : Maps). enter x.signs x.families (take part.0 q)) view)
   where
     less_upto : (a b : ℕ) → a < b → a ≤ b
     less_upto a b less = omega arith
 
 -- and the whole string
-pub whole_seen : (old new : Held ℕ) (records : List Record) (m : Maps) (q : List ℕ) → maps_of old records ≡ m → new.families ≡ enter old.signs old.families q → (k : ℕ) × (k ≤ length q) × (new.families ≡ enter m.signs m.families (take k q))
+pub whole_seen : (old new : ValuedFamilies ℕ) (records : List Record) (m : Maps) (q : List ℕ) → maps_of old records ≡ m → new.families ≡ enter old.signs old.families q → (k : ℕ) × (k ≤ length q) × (new.families ≡ enter m.signs m.families (take k q))
 whole_seen old new records m q view whole = (length q, omega arith, whole ∙ ap (λ (x : Maps). enter x.signs x.families q) view ∙ ap (λ x. enter m.signs m.families x) (sym (take_all (length q) q (omega arith))))

@@ -9,8 +9,8 @@ use Rattle.pg_patterns.specs.DottedSigns.{dotted_cmp, dotted_total, dotted_exact
 use Rattle.pg_outputs.specs.declared.records.Record.{Record}
 use Rattle.pg_outputs.specs.Lists.{list_of, OneHeadEach}
 use Rattle.pg_outputs.proofs.ListLaws.{list_of-zero}
-use Rattle.pg_cells.specs.Held.{Held}
-use Rattle.pg_cells.specs.IsHeld.{IsHeld}
+use Rattle.pg_cells.specs.ValuedFamilies.{ValuedFamilies}
+use Rattle.pg_cells.specs.AreValuedFamilies.{AreValuedFamilies}
 use Rattle.pg_cells.proofs.StringMaps.{order}
 use Rattle.pg_trie.specs.declared.mark.TheConstants.{HOPELESS}
 use Rattle.pg_trie.specs.IsTrie.{IsTrie}
@@ -60,14 +60,14 @@ no_marks d (x ∷ xs) =
     ]
 
 -- the strings with new heads for their values
-pub record HasFresh (cells : Held ℕ) (records : List Record) (cells' : Held ℕ) (fresh : List Record) : Type 0 where
-  pub held : IsHeld cells'
+pub record HasFresh (cells : ValuedFamilies ℕ) (records : List Record) (cells' : ValuedFamilies ℕ) (fresh : List Record) : Type 0 where
+  pub held : AreValuedFamilies cells'
   pub signs : cells'.signs ≡ cells.signs
   pub families : cells'.families ≡ cells.families
   pub lists : (q : List ℕ) (u : ℕ) → find order q cells.values ≡ Some u → (head : ℕ) × (find order q cells'.values ≡ Some head) × (head ≤ length fresh) × (list_of fresh head ≡ values_in (list_of records u))
   pub back : (q : List ℕ) (head : ℕ) → find order q cells'.values ≡ Some head → (u : ℕ) × (find order q cells.values ≡ Some u)
 
-pub has_fresh : (cells : Held ℕ) (records : List Record) (fresh : List Record) (heads : List ℕ) (cells' : Held ℕ) → IsHeld cells → AreFresh cells records fresh heads → Renews cells heads cells' → HasFresh cells records cells' fresh
+pub has_fresh : (cells : ValuedFamilies ℕ) (records : List Record) (fresh : List Record) (heads : List ℕ) (cells' : ValuedFamilies ℕ) → AreValuedFamilies cells → AreFresh cells records fresh heads → Renews cells heads cells' → HasFresh cells records cells' fresh
 has_fresh cells records fresh heads cells' held f r = record {
   held = r.held;
   signs = r.signs;
@@ -81,7 +81,7 @@ has_fresh cells records fresh heads cells' held f r = record {
       held.valued q cell.0 (ap (λ fs. cell_of fs q) (sym r.families) ∙ cell.1);
 }
 
-module _ (cells : Held ℕ) (records : List Record) (is : IsTrie cells records) (cells' : Held ℕ) (fresh : List Record) (new : HasFresh cells records cells' fresh) (one_head : OneHeadEach fresh) where
+module _ (cells : ValuedFamilies ℕ) (records : List Record) (is : IsTrie cells records) (cells' : ValuedFamilies ℕ) (fresh : List Record) (new : HasFresh cells records cells' fresh) (one_head : OneHeadEach fresh) where
   -- the strings of the patterns, and whether a string keeps its cell
   abbrev strings_of : List (List ℕ)
   strings_of = map (λ e. e.0.0) (maps_of cells records).patterns
@@ -158,7 +158,7 @@ module _ (cells : Held ℕ) (records : List Record) (is : IsTrie cells records) 
   pub is_keep : IsKeep keeps cells'
   is_keep = record { single = single; listed = listed; goes_on = goes_on; blank = blank }
 
-  module _ (left : Held ℕ) (p : Prunes keeps cells' left) where
+  module _ (left : ValuedFamilies ℕ) (p : Prunes keeps cells' left) where
     -- the head of a string that is left
     left_head : (q : List ℕ) (head : ℕ) → find order q left.values ≡ Some head → find order q cells'.values ≡ Some head
     left_head q head at = by (keeps q) refl
@@ -239,11 +239,11 @@ module _ (cells : Held ℕ) (records : List Record) (is : IsTrie cells records) 
         λ i. record { signs = signs_are i; families = families_are i; patterns = patterns_are i; hopeless = left_hopeless i; records = fresh }
 
 -- what a trie is whose hopeless marks were deleted
-pub record IsDeleted (m : Maps) (left : Held ℕ) (fresh : List Record) : Type 0 where
+pub record IsDeleted (m : Maps) (left : ValuedFamilies ℕ) (fresh : List Record) : Type 0 where
   pub trie : IsTrie left fresh
   pub view : maps_of left fresh ≡ record m { hopeless = []; families = kept (map (λ e. e.0.0) m.patterns) m.families; records = fresh }
 
-pub deleted : (cells : Held ℕ) (records : List Record) (is : IsTrie cells records) (cells' : Held ℕ) (fresh : List Record) (new : HasFresh cells records cells' fresh) (one_head : OneHeadEach fresh) (left : Held ℕ)
+pub deleted : (cells : ValuedFamilies ℕ) (records : List Record) (is : IsTrie cells records) (cells' : ValuedFamilies ℕ) (fresh : List Record) (new : HasFresh cells records cells' fresh) (one_head : OneHeadEach fresh) (left : ValuedFamilies ℕ)
     → ((keep : List ℕ → Bool) → IsKeep keep cells' → Prunes keep cells' left) → (m : Maps) → maps_of cells records ≡ m → IsDeleted m left fresh
 deleted cells records is cells' fresh new one_head left prunes m seen =
     let p = prunes (keeps cells records is cells' fresh new one_head) (is_keep cells records is cells' fresh new one_head) in

@@ -11,7 +11,7 @@ use Rattle.pg_patterns.specs.Values.{is_entry, best, value_of, map_of_entries}
 use Rattle.pg_patterns.proofs.Joins.{value_of_joined, joined_keeps, same_maps}
 use Rattle.pg_outputs.specs.declared.records.Record.{Record}
 use Rattle.pg_outputs.specs.Lists.{list_of}
-use Rattle.pg_cells.specs.Held.{Held}
+use Rattle.pg_cells.specs.ValuedFamilies.{ValuedFamilies}
 use Rattle.pg_cells.proofs.StringMaps.{order, equal_or_not}
 use Rattle.pg_trie.specs.declared.mark.TheConstants.{HOPELESS}
 use Rattle.pg_trie.specs.IsTrie.{IsTrie, IsHead}
@@ -68,7 +68,7 @@ best_elsewhere p q d (x ∷ xs) n =
     ]
 
 -- the value of a place by its string's list
-value_is : (cells : Held ℕ) (records : List Record) → IsTrie cells records → (q : List ℕ) (d : ℕ) → value_of (maps_of cells records).patterns (q, d) ≡ unwrap_or (found_at as_value (list_of records) d (find order q cells.values)) 0
+value_is : (cells : ValuedFamilies ℕ) (records : List Record) → IsTrie cells records → (q : List ℕ) (d : ℕ) → value_of (maps_of cells records).patterns (q, d) ≡ unwrap_or (found_at as_value (list_of records) d (find order q cells.values)) 0
 value_is cells records is q d = ap (λ o. unwrap_or o 0) (find-entries as_value (list_of records) cells.values q d is.held.ordered)
 
 -- the entries of the strings below the number i are gathered
@@ -80,7 +80,7 @@ pub record Gathers (P : List ((List ℕ × ℕ) × ℕ)) (strings : List (List �
 pub gathers_none : (P : List ((List ℕ × ℕ) × ℕ)) (strings : List (List ℕ × ℕ)) → Gathers P strings 0 []
 gathers_none P strings = record { sound = refl; under = λ k. omega arith; reached = λ j k lt at d. absurd (omega arith) }
 
-pub gathers_more : (cells : Held ℕ) (records : List Record) → IsTrie cells records → (strings : List (List ℕ × ℕ)) (i : ℕ) (es new : List ((List ℕ × ℕ) × ℕ)) (k : List ℕ × ℕ) (head : ℕ)
+pub gathers_more : (cells : ValuedFamilies ℕ) (records : List Record) → IsTrie cells records → (strings : List (List ℕ × ℕ)) (i : ℕ) (es new : List ((List ℕ × ℕ) × ℕ)) (k : List ℕ × ℕ) (head : ℕ)
     → slice_get strings i ≡ Some k → find order k.0 cells.values ≡ Some head → new ≡ es ++ entries_of as_value k.0 (list_of records head)
     → Gathers (maps_of cells records).patterns strings i es → Gathers (maps_of cells records).patterns strings (i + 1) new
 gathers_more cells records is strings i es new k head at value more g = subst (λ l. Gathers (maps_of cells records).patterns strings (i + 1) l) (sym more) (record { sound = sound; under = λ j. under j.0 j.1; reached = reached })
@@ -123,7 +123,7 @@ gathers_more cells records is strings i es new k head at value more g = subst (�
         ]
 
 -- the entries of all strings, joined, are the values
-pub gathered : (cells : Held ℕ) (records : List Record) → IsTrie cells records → (strings : List (List ℕ × ℕ)) → AreStrings cells strings → (es : List ((List ℕ × ℕ) × ℕ)) → Gathers (maps_of cells records).patterns strings (length strings) es → map_of_entries es ≡ (maps_of cells records).patterns
+pub gathered : (cells : ValuedFamilies ℕ) (records : List Record) → IsTrie cells records → (strings : List (List ℕ × ℕ)) → AreStrings cells strings → (es : List ((List ℕ × ℕ) × ℕ)) → Gathers (maps_of cells records).patterns strings (length strings) es → map_of_entries es ≡ (maps_of cells records).patterns
 gathered cells records is strings listed es g =
     same_maps (map_of_entries es) (maps_of cells records).patterns (joined_keeps es g.sound) (are_kept cells records is).patterns (λ k. value_of_joined es k ∙ same k.0 k.1 (find order k.0 cells.values) refl)
   where

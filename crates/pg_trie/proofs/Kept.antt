@@ -15,8 +15,8 @@ use Rattle.pg_types.proofs.BoolFacts.{and_first, and_second}
 use Rattle.pg_patterns.proofs.Sound.{entry_told}
 use Rattle.pg_outputs.specs.declared.records.Record.{Record}
 use Rattle.pg_outputs.specs.Lists.{list_of}
-use Rattle.pg_cells.specs.Held.{Held}
-use Rattle.pg_cells.specs.IsHeld.{IsHeld}
+use Rattle.pg_cells.specs.ValuedFamilies.{ValuedFamilies}
+use Rattle.pg_cells.specs.AreValuedFamilies.{AreValuedFamilies}
 use Rattle.pg_cells.proofs.StringMaps.{order, equal_or_not, find_below, head_below, tail_sorted}
 use Rattle.pg_trie.specs.declared.mark.TheConstants.{HOPELESS}
 use Rattle.pg_trie.specs.IsTrie.{IsTrie}
@@ -49,7 +49,7 @@ abbrev pub is_known : ℕ → ℕ → Bool
 is_known n s = nat_le 1 s && nat_le s n
 
 -- the signs of a string with a cell are those of the table
-signs_behind : (h : Held ℕ) → IsHeld h → (p rest : List ℕ) (cell : ℕ) → cell_of h.families (p ++ rest) ≡ Some cell → list_all (is_known h.signs) rest ≡ true
+signs_behind : (h : ValuedFamilies ℕ) → AreValuedFamilies h → (p rest : List ℕ) (cell : ℕ) → cell_of h.families (p ++ rest) ≡ Some cell → list_all (is_known h.signs) rest ≡ true
 signs_behind h held p [] cell at = refl
 signs_behind h held p (x ∷ more) cell at =
     let whole : (p ++ x ∷ []) ++ more ≡ p ++ x ∷ more = append_assoc p (x ∷ []) more in
@@ -62,11 +62,11 @@ signs_behind h held p (x ∷ more) cell at =
         let known = held.signs p x c some in
         and_from (is_known h.signs x) (list_all (is_known h.signs) more) (and_from (nat_le 1 x) (nat_le x h.signs) (le-leb 1 x known.0) (le-leb x h.signs known.1)) rest
 
-pub string_signs : (h : Held ℕ) → IsHeld h → (q : List ℕ) (cell : ℕ) → cell_of h.families q ≡ Some cell → list_all (is_known h.signs) q ≡ true
+pub string_signs : (h : ValuedFamilies ℕ) → AreValuedFamilies h → (q : List ℕ) (cell : ℕ) → cell_of h.families q ≡ Some cell → list_all (is_known h.signs) q ≡ true
 string_signs h held q cell at = signs_behind h held [] q cell at
 
 -- and it has signs
-pub string_some : (h : Held ℕ) (q : List ℕ) (cell : ℕ) → cell_of h.families q ≡ Some cell → 1 ≤ length q
+pub string_some : (h : ValuedFamilies ℕ) (q : List ℕ) (cell : ℕ) → cell_of h.families q ≡ Some cell → 1 ≤ length q
 string_some h [] cell at = absurd (let no : None ≡ Some cell = at in cc)
 string_some h (x ∷ q) cell at = omega arith
 
@@ -121,7 +121,7 @@ values_known n q s (x ∷ xs) =
       | Some v ↦ All-cons (λ (e : (List ℕ × ℕ) × ℕ). All (λ s. s ≤ n) e.0.0) ((q, x.1), v) (entries_of as_value q xs) (signs_high n q s.signs) more
     ]
 
-pub are_kept : (cells : Held ℕ) (records : List Record) → IsTrie cells records → AreKept (maps_of cells records)
+pub are_kept : (cells : ValuedFamilies ℕ) (records : List Record) → IsTrie cells records → AreKept (maps_of cells records)
 are_kept cells records is = record {
   signs = is.signs;
   patterns = record {
@@ -143,7 +143,7 @@ are_kept cells records is = record {
         record { some = string_some cells q cell.0 cell.1; few = (is.heads q head at).short; signs = string_signs cells is.held q cell.0 cell.1 }
 
 -- the values of a string are entries of patterns
-pub string_entries : (cells : Held ℕ) (records : List Record) → IsTrie cells records → (q : List ℕ) (head : ℕ) → find order q cells.values ≡ Some head → list_all is_entry (entries_of as_value q (list_of records head)) ≡ true
+pub string_entries : (cells : ValuedFamilies ℕ) (records : List Record) → IsTrie cells records → (q : List ℕ) (head : ℕ) → find order q cells.values ≡ Some head → list_all is_entry (entries_of as_value q (list_of records head)) ≡ true
 string_entries cells records is q head at =
     let h = is.heads q head at in
     let cell = is.held.celled q head at in

@@ -8,8 +8,8 @@ use Rattle.std.specs.FinMap.Entries.{find, put, is_sorted, below_all}
 use Rattle.std.specs.List.{list_any}
 use Rattle.pg_types.specs.Placement.{Family, Families, family_at, cell_of, without_sign, without_family}
 use Rattle.pg_types.proofs.BoolFacts.{first_half, second_half, is_true, holds}
-use Rattle.pg_cells.specs.Held.{Held}
-use Rattle.pg_cells.specs.IsHeld.{IsHeld}
+use Rattle.pg_cells.specs.ValuedFamilies.{ValuedFamilies}
+use Rattle.pg_cells.specs.AreValuedFamilies.{AreValuedFamilies}
 use Rattle.pg_cells.proofs.StringMaps.{order, equal_or_not, same_maps, find_below, head_below, tail_sorted, find_put_same, find_put_other, find_without_same, find_without_other}
 use Rattle.pg_cells.proofs.StringCells.{parts_cell, parts_none}
 use Rattle.pg_trie.specs.Pruned.{kept_one, kept_by}
@@ -109,7 +109,7 @@ all_kept t xs all = same_filter t (λ _. true) xs all ∙ whole xs
     whole (x ∷ xs) = ap (λ l. x ∷ l) (whole xs)
 
 -- where each string with a cell passes, the families stay
-pub kept_all : (t : List ℕ → Bool) (h : Held ℕ) → IsHeld h → ((q : List ℕ) (cell : ℕ) → cell_of h.families q ≡ Some cell → t q ≡ true) → kept_by t h.families ≡ h.families
+pub kept_all : (t : List ℕ → Bool) (h : ValuedFamilies ℕ) → AreValuedFamilies h → ((q : List ℕ) (cell : ℕ) → cell_of h.families q ≡ Some cell → t q ≡ true) → kept_by t h.families ≡ h.families
 kept_all t h held all =
     same_maps (kept_by t h.families) h.families (sorted_kept t h.families held.sorted) held.sorted (λ p. kept_at t h.families p held.sorted ∙ by p (family_at h.families p) refl)
   where

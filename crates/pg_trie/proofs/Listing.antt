@@ -8,8 +8,8 @@ use Rattle.std.specs.List.{list_all, All}
 use Rattle.std.specs.FinMap.Entries.{find}
 use Rattle.pg_types.specs.Placement.{cell_of}
 use Rattle.pg_types.proofs.BoolFacts.{and_first, and_second}
-use Rattle.pg_cells.specs.Held.{Held}
-use Rattle.pg_cells.specs.IsHeld.{IsHeld}
+use Rattle.pg_cells.specs.ValuedFamilies.{ValuedFamilies}
+use Rattle.pg_cells.specs.AreValuedFamilies.{AreValuedFamilies}
 use Rattle.pg_cells.specs.Members.{IsNext, goes_on}
 use Rattle.pg_cells.specs.Walks.{EndsBefore}
 use Rattle.pg_cells.proofs.LinkLaws.{cell_goes}
@@ -18,7 +18,7 @@ use Rattle.pg_trie.specs.Strings.{AreShort, IsString, StandsFrom, PutsBelow, Are
 use Rattle.pg_trie.proofs.Kept.{is_known, string_signs}
 
 -- where a string's front has no cell, it has none
-pub no_cell : (h : Held ℕ) → IsHeld h → (w : List ℕ) (i : ℕ) → i < length w → cell_of h.families (take i w ++ get_or w i 0 ∷ []) ≡ None → cell_of h.families w ≡ None
+pub no_cell : (h : ValuedFamilies ℕ) → AreValuedFamilies h → (w : List ℕ) (i : ℕ) → i < length w → cell_of h.families (take i w ++ get_or w i 0 ∷ []) ≡ None → cell_of h.families w ≡ None
 no_cell h held w i lt none =
     ap (cell_of h.families) (sym (take-append-drop (i + 1) w) ∙ ap (λ l. l ++ drop (i + 1) w) (take_more w i 0 lt))
     ∙ held.closed (take i w) (get_or w i 0) (drop (i + 1) w) none
@@ -30,7 +30,7 @@ known_all n (x ∷ q) h =
     All-cons (λ s. (1 ≤ s) × (s ≤ n)) x q (leb-true 1 x (and_first (nat_le 1 x) (nat_le x n) here), leb-true x n (and_second (nat_le 1 x) (nat_le x n) here)) (known_all n q (and_second (is_known n x) (list_all (is_known n) q) h))
 
 -- a string with a cell
-pub is_string : (h : Held ℕ) → IsHeld h → AreShort h → (q : List ℕ) (cell : ℕ) → cell_of h.families q ≡ Some cell → IsString h q
+pub is_string : (h : ValuedFamilies ℕ) → AreValuedFamilies h → AreShort h → (q : List ℕ) (cell : ℕ) → cell_of h.families q ≡ Some cell → IsString h q
 is_string h held short q cell at = record {
   celled = (cell, at);
   known = known_all h.signs q (string_signs h held q cell at);
@@ -38,7 +38,7 @@ is_string h held short q cell at = record {
 }
 
 -- a longer string of one more sign leaves room
-pub has_room : (h : Held ℕ) → IsHeld h → AreShort h → (q : List ℕ) (s cell : ℕ) → cell_of h.families (q ++ s ∷ []) ≡ Some cell → length q + 1 ≤ 32
+pub has_room : (h : ValuedFamilies ℕ) → AreValuedFamilies h → AreShort h → (q : List ℕ) (s cell : ℕ) → cell_of h.families (q ++ s ∷ []) ≡ Some cell → length q + 1 ≤ 32
 has_room h held short q s cell at = let few = (is_string h held short (q ++ s ∷ []) cell at).few in omega (arith, length_push q s)
 
 module _ {X : Type 0} where
@@ -80,7 +80,7 @@ pub bound_is : (s most : ℕ) → s ≢ 0 → cond (nat_eq s 0) most s ≡ s
 bound_is s most up = ap (λ b. cond b most s) (ne_eqb s 0 up)
 
 -- no string was put
-pub puts_start : (h : Held ℕ) (p : List ℕ) (m : ℕ) (items : List (List ℕ × ℕ)) → ((s cell : ℕ) → s < m → cell_of h.families (p ++ s ∷ []) ≡ Some cell → ⊥) → PutsBelow h p m items items
+pub puts_start : (h : ValuedFamilies ℕ) (p : List ℕ) (m : ℕ) (items : List (List ℕ × ℕ)) → ((s cell : ℕ) → s < m → cell_of h.families (p ++ s ∷ []) ≡ Some cell → ⊥) → PutsBelow h p m items items
 puts_start h p m items none = record {
   keeps = λ j k at. at;
   longer = omega arith;
@@ -89,7 +89,7 @@ puts_start h p m items none = record {
 }
 
 -- where no string goes on, there is nothing to put
-pub puts_nothing : (h : Held ℕ) → IsHeld h → (p : List ℕ) (m : ℕ) (items : List (List ℕ × ℕ)) → ((x : ℕ) → EndsBefore h.values (p ++ x ∷ [])) → PutsBelow h p m items items
+pub puts_nothing : (h : ValuedFamilies ℕ) → AreValuedFamilies h → (p : List ℕ) (m : ℕ) (items : List (List ℕ × ℕ)) → ((x : ℕ) → EndsBefore h.values (p ++ x ∷ [])) → PutsBelow h p m items items
 puts_nothing h held p m items ends = puts_start h p m items (λ s cell lt at.
     let v = held.valued (p ++ s ∷ []) cell at in
     let none : find order (p ++ s ∷ []) h.values ≡ None = ap (λ q. find order q h.values) (sym (append-nil (p ++ s ∷ []))) ∙ ends s [] in
@@ -97,13 +97,13 @@ puts_nothing h held p m items ends = puts_start h p m items (λ s cell lt at.
     (cc))
 
 -- no sign stands before the first one of a family
-pub puts_first : (h : Held ℕ) → IsHeld h → (p : List ℕ) (first : ℕ) (items : List (List ℕ × ℕ)) → IsNext (goes_on h.values p) 0 first → PutsBelow h p (cond (nat_eq first 0) (h.signs + 1) first) items items
+pub puts_first : (h : ValuedFamilies ℕ) → AreValuedFamilies h → (p : List ℕ) (first : ℕ) (items : List (List ℕ × ℕ)) → IsNext (goes_on h.values p) 0 first → PutsBelow h p (cond (nat_eq first 0) (h.signs + 1) first) items items
 puts_first h held p first items is = puts_start h p (cond (nat_eq first 0) (h.signs + 1) first) items (λ s cell lt at.
     let low = held.signs p s cell at in
     past first s (h.signs + 1) lt (is.least s low.0 (cell_goes h held p s cell at)))
 
 -- nor between a sign and the next one
-pub puts_next : (h : Held ℕ) → IsHeld h → (p : List ℕ) (s next : ℕ) (old new : List (List ℕ × ℕ)) → IsNext (goes_on h.values p) s next → PutsBelow h p (s + 1) old new → PutsBelow h p (cond (nat_eq next 0) (h.signs + 1) next) old new
+pub puts_next : (h : ValuedFamilies ℕ) → AreValuedFamilies h → (p : List ℕ) (s next : ℕ) (old new : List (List ℕ × ℕ)) → IsNext (goes_on h.values p) s next → PutsBelow h p (s + 1) old new → PutsBelow h p (cond (nat_eq next 0) (h.signs + 1) next) old new
 puts_next h held p s next old new is puts = record {
   keeps = puts.keeps;
   longer = puts.longer;
@@ -115,7 +115,7 @@ puts_next h held p s next old new is puts = record {
 }
 
 -- the string with the sign m was put
-pub puts_one : (h : Held ℕ) (p : List ℕ) (m : ℕ) (old mid new : List (List ℕ × ℕ)) → PutsBelow h p m old mid → IsString h (p ++ m ∷ []) → new ≡ mid ++ (p ++ m ∷ [], 0) ∷ [] → PutsBelow h p (m + 1) old new
+pub puts_one : (h : ValuedFamilies ℕ) (p : List ℕ) (m : ℕ) (old mid new : List (List ℕ × ℕ)) → PutsBelow h p m old mid → IsString h (p ++ m ∷ []) → new ≡ mid ++ (p ++ m ∷ [], 0) ∷ [] → PutsBelow h p (m + 1) old new
 puts_one h p m old mid new puts string is = subst (λ l. PutsBelow h p (m + 1) old l) (sym is) (record {
   keeps = λ j k at. get_longer mid ((p ++ m ∷ [], 0) ∷ []) j k (puts.keeps j k at);
   longer = omega (arith, puts.longer, length_push mid (p ++ m ∷ [], 0));
@@ -133,7 +133,7 @@ puts_one h p m old mid new puts string is = subst (λ l. PutsBelow h p (m + 1) o
     less_or_same s m lt = elim (cases_lt s m) [ inl l ↦ inl l | inr g ↦ inr (omega arith) ]
 
 -- the strings of one sign
-pub strings_start : (h : Held ℕ) → IsHeld h → (items : List (List ℕ × ℕ)) → PutsBelow h [] (h.signs + 1) [] items → AreStringsTo h items 0
+pub strings_start : (h : ValuedFamilies ℕ) → AreValuedFamilies h → (items : List (List ℕ × ℕ)) → PutsBelow h [] (h.signs + 1) [] items → AreStringsTo h items 0
 strings_start h held items puts = record {
   sound = λ j k at. elim (puts.sound j k at) [ inl e ↦ absurd (let n : None ≡ Some k = e in cc) | inr s ↦ s ];
   below = λ j k lt at s cell there. absurd (omega arith);
@@ -141,7 +141,7 @@ strings_start h held items puts = record {
 }
 
 -- the strings behind the next one
-pub strings_step : (h : Held ℕ) → IsHeld h → (i : ℕ) (old new : List (List ℕ × ℕ)) (k : List ℕ × ℕ) → AreStringsTo h old i → slice_get old i ≡ Some k → PutsBelow h k.0 (h.signs + 1) old new → AreStringsTo h new (i + 1)
+pub strings_step : (h : ValuedFamilies ℕ) → AreValuedFamilies h → (i : ℕ) (old new : List (List ℕ × ℕ)) (k : List ℕ × ℕ) → AreStringsTo h old i → slice_get old i ≡ Some k → PutsBelow h k.0 (h.signs + 1) old new → AreStringsTo h new (i + 1)
 strings_step h held i old new k strings at puts = record {
   sound = λ j y there. elim (puts.sound j y there) [ inl before ↦ strings.sound j y before | inr s ↦ s ];
   below = λ j y lt there s cell celled. below j y lt there s cell celled (get_there old j (omega (arith, slice_get_within old i k at)));
@@ -165,7 +165,7 @@ strings_step h held i old new k strings at puts = record {
         ]
 
 -- each string with a cell stands in the list
-pub every_string : (h : Held ℕ) → IsHeld h → (items : List (List ℕ × ℕ)) → AreStrings h items → (q : List ℕ) (cell : ℕ) → cell_of h.families q ≡ Some cell → StandsFrom items 0 q
+pub every_string : (h : ValuedFamilies ℕ) → AreValuedFamilies h → (items : List (List ℕ × ℕ)) → AreStrings h items → (q : List ℕ) (cell : ℕ) → cell_of h.families q ≡ Some cell → StandsFrom items 0 q
 every_string h held items strings [] cell at = absurd (let no : None ≡ Some cell = at in cc)
 every_string h held items strings (x ∷ q) cell at = from_root (cell_of h.families (x ∷ [])) refl
   where

@@ -4,8 +4,8 @@ use Rattle.std.proofs.lemmas.Bool.{cases_lt, cases_eq, cases_Bool, eq-eqb, ne_eq
 use Rattle.std.proofs.lemmas.List.{append-nil, length_push, same_from_push}
 use Rattle.std.specs.FinMap.Entries.{find, is_sorted}
 use Rattle.pg_types.specs.Placement.{cell_of, without_sign}
-use Rattle.pg_cells.specs.Held.{Held, without_key}
-use Rattle.pg_cells.specs.IsHeld.{IsHeld}
+use Rattle.pg_cells.specs.ValuedFamilies.{ValuedFamilies, without_key}
+use Rattle.pg_cells.specs.AreValuedFamilies.{AreValuedFamilies}
 use Rattle.pg_cells.specs.Members.{IsNextSign, goes_on}
 use Rattle.pg_cells.proofs.LinkLaws.{goes_cell, cell_goes}
 use Rattle.pg_cells.proofs.Walking.{ends_before}
@@ -14,7 +14,7 @@ use Rattle.pg_trie.specs.Pruned.{IsDropped, IsNeeded, Drops, IsKeep, PrunesSome,
 use Rattle.pg_trie.proofs.KeptFamilies.{kept_all, kept_less, kept_same}
 
 -- a string without a cell has no value
-pub no_value_there : (h : Held ℕ) → IsHeld h → (q : List ℕ) → cell_of h.families q ≡ None → find order q h.values ≡ None
+pub no_value_there : (h : ValuedFamilies ℕ) → AreValuedFamilies h → (q : List ℕ) → cell_of h.families q ≡ None → find order q h.values ≡ None
 no_value_there h held q none = by (find order q h.values) refl
   where
     by : (o : Option ℕ) → find order q h.values ≡ o → find order q h.values ≡ None
@@ -31,14 +31,14 @@ pub none_some : {X : Type 0} (o : Option X) (v : X) → o ≡ None → o ≡ Som
 none_some o v e d = let no : None ≡ Some v = sym e ∙ d in cc
 
 -- a value that was not there does not come
-pub none_stays : (old new : Held ℕ) → ((r : List ℕ) (v : ℕ) → find order r new.values ≡ Some v → find order r old.values ≡ Some v) → (r : List ℕ) → find order r old.values ≡ None → find order r new.values ≡ None
+pub none_stays : (old new : ValuedFamilies ℕ) → ((r : List ℕ) (v : ℕ) → find order r new.values ≡ Some v → find order r old.values ≡ Some v) → (r : List ℕ) → find order r old.values ≡ None → find order r new.values ≡ None
 none_stays old new less r none = by (find order r new.values) refl
   where
     by : (o : Option ℕ) → find order r new.values ≡ o → find order r new.values ≡ None
     by None e = e
     by (Some v) e = absurd (none_some (find order r old.values) v none (less r v e))
 
-pub some_start : (keep : List ℕ → Bool) (old : Held ℕ) → IsHeld old → PrunesSome keep old old
+pub some_start : (keep : List ℕ → Bool) (old : ValuedFamilies ℕ) → AreValuedFamilies old → PrunesSome keep old old
 some_start keep old held = record {
   held = held;
   signs = refl;
@@ -47,28 +47,28 @@ some_start keep old held = record {
 }
 
 -- what a string that is dropped leaves
-dropped_none : (mid new : Held ℕ) (k : List ℕ) → IsDropped mid new k → (q : List ℕ) → q ≡ k → find order q new.values ≡ None
+dropped_none : (mid new : ValuedFamilies ℕ) (k : List ℕ) → IsDropped mid new k → (q : List ℕ) → q ≡ k → find order q new.values ≡ None
 dropped_none mid new k d q e = ap (find order q) d.values ∙ ap (λ x. find order x (without_key k mid.values)) e ∙ find_without_same k mid.values
 
-dropped_stays : (mid new : Held ℕ) (k : List ℕ) → IsDropped mid new k → (q : List ℕ) → q ≢ k → find order q new.values ≡ find order q mid.values
+dropped_stays : (mid new : ValuedFamilies ℕ) (k : List ℕ) → IsDropped mid new k → (q : List ℕ) → q ≢ k → find order q new.values ≡ find order q mid.values
 dropped_stays mid new k d q n = ap (find order q) d.values ∙ find_without_other q k mid.values n
 
-pub drops_less : (mid new : Held ℕ) (k : List ℕ) → Drops mid new k → (r : List ℕ) (v : ℕ) → find order r new.values ≡ Some v → find order r mid.values ≡ Some v
+pub drops_less : (mid new : ValuedFamilies ℕ) (k : List ℕ) → Drops mid new k → (r : List ℕ) (v : ℕ) → find order r new.values ≡ Some v → find order r mid.values ≡ Some v
 drops_less mid new k d r v e = elim d.either [
-  | inl same ↦ sym (ap (λ (h : Held ℕ). find order r h.values) same.0) ∙ e
+  | inl same ↦ sym (ap (λ (h : ValuedFamilies ℕ). find order r h.values) same.0) ∙ e
   | inr drop ↦ elim (equal_or_not r k) [
     | inl h ↦ absurd (none_some (find order r new.values) v (dropped_none mid new k drop r h.0) e)
     | inr h ↦ sym (dropped_stays mid new k drop r h.0) ∙ e
   ]
 ]
 
-pub drops_other : (mid new : Held ℕ) (k : List ℕ) → Drops mid new k → (r : List ℕ) → r ≢ k → find order r new.values ≡ find order r mid.values
+pub drops_other : (mid new : ValuedFamilies ℕ) (k : List ℕ) → Drops mid new k → (r : List ℕ) → r ≢ k → find order r new.values ≡ find order r mid.values
 drops_other mid new k d r other = elim d.either [
-  | inl same ↦ ap (λ (h : Held ℕ). find order r h.values) same.0
+  | inl same ↦ ap (λ (h : ValuedFamilies ℕ). find order r h.values) same.0
   | inr drop ↦ dropped_stays mid new k drop r other
 ]
 
-module _ (keep : List ℕ → Bool) (start mid new : Held ℕ) (k : List ℕ) (held : IsHeld start) (is_keep : IsKeep keep start) (p : PrunesSome keep start mid) (gone : (x : ℕ) (more : List ℕ) → keep (k ++ x ∷ more) ≡ false → find order (k ++ x ∷ more) mid.values ≡ None) where
+module _ (keep : List ℕ → Bool) (start mid new : ValuedFamilies ℕ) (k : List ℕ) (held : AreValuedFamilies start) (is_keep : IsKeep keep start) (p : PrunesSome keep start mid) (gone : (x : ℕ) (more : List ℕ) → keep (k ++ x ∷ more) ≡ false → find order (k ++ x ∷ more) mid.values ≡ None) where
   -- the value of a string was there from the start
   was_there : (q : List ℕ) (v : ℕ) → find order q mid.values ≡ Some v → find order q start.values ≡ Some v
   was_there q v now = elim (p.either q) [ inl same ↦ sym same ∙ now | inr none ↦ absurd (none_some (find order q mid.values) v none.0 now) ]
@@ -98,7 +98,7 @@ module _ (keep : List ℕ → Bool) (start mid new : Held ℕ) (k : List ℕ) (h
           absurd (none_some (find order (k ++ x ∷ []) mid.values) v none (same ∙ is))
       by x v is (inr none) = none.1
 
-  dropped_some : IsHeld new → new.signs ≡ mid.signs → IsDropped mid new k → PrunesSome keep start new
+  dropped_some : AreValuedFamilies new → new.signs ≡ mid.signs → IsDropped mid new k → PrunesSome keep start new
   dropped_some new_held signs d = record {
     held = new_held;
     signs = signs ∙ p.signs;
@@ -123,7 +123,7 @@ module _ (keep : List ℕ → Bool) (start mid new : Held ℕ) (k : List ℕ) (h
 
   pub step_gone : Drops mid new k → keep k ≡ false → find order k new.values ≡ None
   step_gone d not_kept = elim d.either [
-    | inl same ↦ ap (λ (h : Held ℕ). find order k h.values) same.0 ∙ needed_gone same.1 not_kept
+    | inl same ↦ ap (λ (h : ValuedFamilies ℕ). find order k h.values) same.0 ∙ needed_gone same.1 not_kept
     | inr drop ↦ dropped_none mid new k drop k refl
   ]
 
@@ -135,7 +135,7 @@ pub not_below : (q : List ℕ) → IsBelow q q → ⊥
 not_below q b = omega (arith, ap length b.2, length-append q (b.0 ∷ b.1))
 
 -- no string goes on by a sign that the family lacks
-absent_gone : (h : Held ℕ) → IsHeld h → (q : List ℕ) (x : ℕ) (more : List ℕ) → goes_on h.values q x ≡ false → find order (q ++ x ∷ more) h.values ≡ None
+absent_gone : (h : ValuedFamilies ℕ) → AreValuedFamilies h → (q : List ℕ) (x : ℕ) (more : List ℕ) → goes_on h.values q x ≡ false → find order (q ++ x ∷ more) h.values ≡ None
 absent_gone h held q x more off =
     ap (λ r. find order r h.values) (sym (append_assoc q (x ∷ []) more)) ∙ ends_before h held q x (none (cell_of h.families (q ++ x ∷ [])) refl) more
   where
@@ -144,7 +144,7 @@ absent_gone h held q x more off =
     none (Some cell) e = absurd (let wrong : false ≡ true = sym off ∙ cell_goes h held q x cell e in cc)
 
 -- nothing is done yet
-pub to_start : (h : Held ℕ) → IsHeld h → (q : List ℕ) (s : ℕ) → IsNextSign h.values q 0 s → PrunesTo h h q s
+pub to_start : (h : ValuedFamilies ℕ) → AreValuedFamilies h → (q : List ℕ) (s : ℕ) → IsNextSign h.values q 0 s → PrunesTo h h q s
 to_start h held q s next = record {
   held = held;
   signs = refl;
@@ -165,7 +165,7 @@ to_start h held q s next = record {
     late x l (inl z) = let up = l.0 in omega arith
     late x l (inr lt) = let le = l.1 in omega arith
 
-module _ (old now mid new : Held ℕ) (q : List ℕ) (s next : ℕ) (to : PrunesTo old now q s) (below : PrunesBelow now mid (q ++ s ∷ [])) (drop : Drops mid new (q ++ s ∷ [])) (is_next : IsNextSign now.values q s next) where
+module _ (old now mid new : ValuedFamilies ℕ) (q : List ℕ) (s next : ℕ) (to : PrunesTo old now q s) (below : PrunesBelow now mid (q ++ s ∷ [])) (drop : Drops mid new (q ++ s ∷ [])) (is_next : IsNextSign now.values q s next) where
   all_less : (r : List ℕ) (v : ℕ) → find order r new.values ≡ Some v → find order r now.values ≡ Some v
   all_less r v e = below.less r v (drops_less mid new (q ++ s ∷ []) drop r v e)
 
@@ -173,7 +173,7 @@ module _ (old now mid new : Held ℕ) (q : List ℕ) (s next : ℕ) (to : Prunes
   pub step_elsewhere : (r : List ℕ) → (IsBelow (q ++ s ∷ []) r → ⊥) → r ≢ q ++ s ∷ [] → (find order r new.values ≡ find order r now.values) × (cell_of new.families r ≡ cell_of now.families r)
   step_elsewhere r off other = let b = below.elsewhere r off in (drops_other mid new (q ++ s ∷ []) drop r other ∙ b.0, drop.cells r other ∙ b.1)
 
-  step_gone_at : (keep : List ℕ → Bool) (start : Held ℕ) → IsKeep keep start → IsHeld start → PrunesSome keep start now → (more : List ℕ) → keep (q ++ s ∷ more) ≡ false → find order (q ++ s ∷ more) new.values ≡ None
+  step_gone_at : (keep : List ℕ → Bool) (start : ValuedFamilies ℕ) → IsKeep keep start → AreValuedFamilies start → PrunesSome keep start now → (more : List ℕ) → keep (q ++ s ∷ more) ≡ false → find order (q ++ s ∷ more) new.values ≡ None
   step_gone_at keep start is_keep held0 p [] not_kept =
       step_gone keep start mid new (q ++ s ∷ []) held0 is_keep (below.some keep start is_keep held0 p) (λ x more off. below.gone keep start is_keep held0 p x more (inl refl) off) drop not_kept
   step_gone_at keep start is_keep held0 p (y ∷ ys) not_kept =
@@ -221,7 +221,7 @@ module _ (old now mid new : Held ℕ) (q : List ℕ) (s next : ℕ) (to : Prunes
       ∙ f.1
 
 -- the root: below each sign in turn
-pub root_start : (h : Held ℕ) → IsHeld h → PrunesTo h h [] 1
+pub root_start : (h : ValuedFamilies ℕ) → AreValuedFamilies h → PrunesTo h h [] 1
 root_start h held = record {
   held = held;
   signs = refl;
@@ -244,7 +244,7 @@ root_start h held = record {
         late up (inl z) = omega arith
         late up (inr lt) = omega arith
 
-pub root_step : (old now new : Held ℕ) (s : ℕ) → 0 < s → PrunesTo old now [] s → PrunesBelow now new (s ∷ []) → PrunesTo old new [] (s + 1)
+pub root_step : (old now new : ValuedFamilies ℕ) (s : ℕ) → 0 < s → PrunesTo old now [] s → PrunesBelow now new (s ∷ []) → PrunesTo old new [] (s + 1)
 root_step old now new s up to below = record {
   held = below.held;
   signs = below.signs ∙ to.signs;
@@ -257,7 +257,7 @@ root_step old now new s up to below = record {
   gone = λ keep start is_keep held0 p x more early not_kept. by keep start is_keep held0 p x more not_kept (cases_eq x s) early;
 }
   where
-    by : (keep : List ℕ → Bool) (start : Held ℕ) → IsKeep keep start → IsHeld start → PrunesSome keep start old → (x : ℕ) (more : List ℕ) → keep (x ∷ more) ≡ false → (x ≡ s) ⊎ (x ≢ s) → (s + 1 ≡ 0) ⊎ (x < s + 1) → find order (x ∷ more) new.values ≡ None
+    by : (keep : List ℕ → Bool) (start : ValuedFamilies ℕ) → IsKeep keep start → AreValuedFamilies start → PrunesSome keep start old → (x : ℕ) (more : List ℕ) → keep (x ∷ more) ≡ false → (x ≡ s) ⊎ (x ≢ s) → (s + 1 ≡ 0) ⊎ (x < s + 1) → find order (x ∷ more) new.values ≡ None
     by keep start is_keep held0 p x more not_kept e (inl z) = absurd (omega arith)
     by keep start is_keep held0 p x more not_kept (inr other) (inr lt) = none_stays now new below.less (x ∷ more) (to.gone keep start is_keep held0 p x more (inr (omega arith)) not_kept)
     by keep start is_keep held0 p x [] not_kept (inl e) (inr lt) = absurd (not_both (keep (x ∷ [])) (is_keep.single (x ∷ []) (omega arith)) not_kept)
@@ -265,7 +265,7 @@ root_step old now new s up to below = record {
         ap (λ z. find order (z ∷ y ∷ ys) new.values) e
         ∙ below.gone keep start is_keep held0 (to.some keep start is_keep held0 p) y ys (inl refl) (ap (λ z. keep (z ∷ y ∷ ys)) (sym e) ∙ not_kept)
 
-pub pruned : (keep : List ℕ → Bool) (old new : Held ℕ) (s : ℕ) → IsHeld old → IsKeep keep old → PrunesTo old new [] s → old.signs < s → Prunes keep old new
+pub pruned : (keep : List ℕ → Bool) (old new : ValuedFamilies ℕ) (s : ℕ) → AreValuedFamilies old → IsKeep keep old → PrunesTo old new [] s → old.signs < s → Prunes keep old new
 pruned keep old new s held is_keep to late = record {
   held = p.held;
   signs = p.signs;

@@ -8,8 +8,8 @@ use Rattle.pg_outputs.specs.declared.records.Record.{Record}
 use Rattle.pg_outputs.specs.Lists.{list_of, Grows, Lacks}
 use Rattle.pg_outputs.proofs.ListLaws.{list_of-new}
 use Rattle.pg_outputs.proofs.RecordLaws.{there_or_new}
-use Rattle.pg_cells.specs.Held.{Held}
-use Rattle.pg_cells.specs.IsHeld.{IsHeld}
+use Rattle.pg_cells.specs.ValuedFamilies.{ValuedFamilies}
+use Rattle.pg_cells.specs.AreValuedFamilies.{AreValuedFamilies}
 use Rattle.pg_cells.proofs.StringMaps.{order, same_string, equal_or_not, find_put_same, find_put_other}
 use Rattle.pg_trie.specs.declared.mark.TheConstants.{HOPELESS}
 use Rattle.pg_trie.specs.Renewed.{values_in, AreNeeded, IsFreshHead, AreFreshTo, RenewsTo, Renews}
@@ -58,7 +58,7 @@ pub needed_none : (old : List Record) (list : List (ℕ × ℕ)) → AreNeeded o
 needed_none old list h low high = absurd (omega arith)
 
 -- no head is told yet
-pub fresh_start : (cells : Held ℕ) (records : List Record) (fresh : List Record) (heads : List ℕ) → length fresh ≡ 0 → length heads ≡ length records + 1 → AreFreshTo cells records 0 fresh heads
+pub fresh_start : (cells : ValuedFamilies ℕ) (records : List Record) (fresh : List Record) (heads : List ℕ) → length fresh ≡ 0 → length heads ≡ length records + 1 → AreFreshTo cells records 0 fresh heads
 fresh_start cells records fresh heads none size = record {
   size = size;
   lists = λ q cell u at lt there. absurd (omega arith);
@@ -66,7 +66,7 @@ fresh_start cells records fresh heads none size = record {
 }
 
 -- a cell that no string has
-pub fresh_skip : (cells : Held ℕ) (records : List Record) (cell : ℕ) (fresh : List Record) (heads : List ℕ) → AreFreshTo cells records cell fresh heads → ((q : List ℕ) → cell_of cells.families q ≡ Some cell → ⊥) → AreFreshTo cells records (cell + 1) fresh heads
+pub fresh_skip : (cells : ValuedFamilies ℕ) (records : List Record) (cell : ℕ) (fresh : List Record) (heads : List ℕ) → AreFreshTo cells records cell fresh heads → ((q : List ℕ) → cell_of cells.families q ≡ Some cell → ⊥) → AreFreshTo cells records (cell + 1) fresh heads
 fresh_skip cells records cell fresh heads f none = record {
   size = f.size;
   lists = λ q c u at lt there. elim (cases_eq c cell) [
@@ -77,7 +77,7 @@ fresh_skip cells records cell fresh heads f none = record {
 }
 
 -- the new head of the string that has the cell
-pub fresh_step : (cells : Held ℕ) (records : List Record) → IsHeld cells → (cell : ℕ) (old new : List Record) (heads after : List ℕ) (q : List ℕ) (u head : ℕ)
+pub fresh_step : (cells : ValuedFamilies ℕ) (records : List Record) → AreValuedFamilies cells → (cell : ℕ) (old new : List Record) (heads after : List ℕ) (q : List ℕ) (u head : ℕ)
     → AreFreshTo cells records cell old heads → cell_of cells.families q ≡ Some cell → find order q cells.values ≡ Some u → u ≤ length records → Grows old new → head ≤ length new → list_of new head ≡ values_in (list_of records u)
     → AreNeeded old new (values_in (list_of records u)) → after ≡ set heads u head → AreFreshTo cells records (cell + 1) new after
 fresh_step cells records held cell old new heads after q u head f at has within grows inside list needed is = subst (AreFreshTo cells records (cell + 1) new) (sym is) (record {
@@ -111,10 +111,10 @@ fresh_step cells records held cell old new heads after q u head f at has within 
         ]
 
 -- strings get their heads, cell by cell
-pub renew_start : (old : Held ℕ) (heads : List ℕ) → IsHeld old → RenewsTo old 0 heads old
+pub renew_start : (old : ValuedFamilies ℕ) (heads : List ℕ) → AreValuedFamilies old → RenewsTo old 0 heads old
 renew_start old heads held = record { held = held; signs = refl; families = refl; given = λ q cell u at there. there ∙ ap (λ b. Some (cond b (get_or heads u 0) u)) (sym (le-ltb cell 0 (omega arith))) }
 
-pub renew_skip : (old mid : Held ℕ) (cell : ℕ) (heads : List ℕ) → RenewsTo old cell heads mid → ((q : List ℕ) → cell_of mid.families q ≡ Some cell → ⊥) → RenewsTo old (cell + 1) heads mid
+pub renew_skip : (old mid : ValuedFamilies ℕ) (cell : ℕ) (heads : List ℕ) → RenewsTo old cell heads mid → ((q : List ℕ) → cell_of mid.families q ≡ Some cell → ⊥) → RenewsTo old (cell + 1) heads mid
 renew_skip old mid cell heads r none = record {
   held = r.held;
   signs = r.signs;
@@ -125,16 +125,16 @@ renew_skip old mid cell heads r none = record {
   ];
 }
 
-pub renew_step : (old mid new : Held ℕ) (cell : ℕ) (heads : List ℕ) (k : List ℕ) (head : ℕ) → IsHeld old → RenewsTo old cell heads mid → cell_of mid.families k ≡ Some cell → find order k mid.values ≡ Some head → IsHeld new → new ≡ record mid { values = put order k (get_or heads head 0) mid.values } → RenewsTo old (cell + 1) heads new
+pub renew_step : (old mid new : ValuedFamilies ℕ) (cell : ℕ) (heads : List ℕ) (k : List ℕ) (head : ℕ) → AreValuedFamilies old → RenewsTo old cell heads mid → cell_of mid.families k ≡ Some cell → find order k mid.values ≡ Some head → AreValuedFamilies new → new ≡ record mid { values = put order k (get_or heads head 0) mid.values } → RenewsTo old (cell + 1) heads new
 renew_step old mid new cell heads k head old_held r at has held is = record {
   held = held;
-  signs = ap (λ (h : Held ℕ). h.signs) is ∙ r.signs;
-  families = ap (λ (h : Held ℕ). h.families) is ∙ r.families;
+  signs = ap (λ (h : ValuedFamilies ℕ). h.signs) is ∙ r.signs;
+  families = ap (λ (h : ValuedFamilies ℕ). h.families) is ∙ r.families;
   given = λ q c u there value. by q c u there value (equal_or_not q k);
 }
   where
     values : new.values ≡ put order k (get_or heads head 0) mid.values
-    values = ap (λ (h : Held ℕ). h.values) is
+    values = ap (λ (h : ValuedFamilies ℕ). h.values) is
 
     k_old : cell_of old.families k ≡ Some cell
     k_old = ap (λ fs. cell_of fs k) (sym r.families) ∙ at
@@ -153,14 +153,14 @@ renew_step old mid new cell heads k head old_held r at has held is = record {
         ap (find order q) values ∙ find_put_other q k (get_or heads head 0) mid.values h.0 ∙ r.given q c u there value ∙ ap (λ b. Some (cond b (get_or heads u 0) u)) (same_test c cell other)
 
 -- a string whose cell is not reached has its old head
-pub old_head : (old mid : Held ℕ) (cell : ℕ) (heads : List ℕ) (q : List ℕ) (head : ℕ) → IsHeld old → RenewsTo old cell heads mid → cell_of mid.families q ≡ Some cell → find order q mid.values ≡ Some head → find order q old.values ≡ Some head
+pub old_head : (old mid : ValuedFamilies ℕ) (cell : ℕ) (heads : List ℕ) (q : List ℕ) (head : ℕ) → AreValuedFamilies old → RenewsTo old cell heads mid → cell_of mid.families q ≡ Some cell → find order q mid.values ≡ Some head → find order q old.values ≡ Some head
 old_head old mid cell heads q head held r at has =
     let at_old : cell_of old.families q ≡ Some cell = ap (λ fs. cell_of fs q) (sym r.families) ∙ at in
     let u = held.valued q cell at_old in
     let same : find order q mid.values ≡ Some u.0 = r.given q cell u.0 at_old u.1 ∙ ap (λ b. Some (cond b (get_or heads u.0 0) u.0)) (le-ltb cell cell (omega arith)) in
     u.1 ∙ sym same ∙ has
 
-pub renewed : (old new : Held ℕ) (n : ℕ) (heads : List ℕ) → IsHeld old → RenewsTo old n heads new → ((q : List ℕ) (cell : ℕ) → cell_of old.families q ≡ Some cell → cell < n) → Renews old heads new
+pub renewed : (old new : ValuedFamilies ℕ) (n : ℕ) (heads : List ℕ) → AreValuedFamilies old → RenewsTo old n heads new → ((q : List ℕ) (cell : ℕ) → cell_of old.families q ≡ Some cell → cell < n) → Renews old heads new
 renewed old new n heads held r all = record {
   held = r.held;
   signs = r.signs;

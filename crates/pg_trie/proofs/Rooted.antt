@@ -7,8 +7,8 @@ use Rattle.pg_types.specs.Placement.{root}
 use Rattle.pg_outputs.specs.declared.records.Record.{Record}
 use Rattle.pg_outputs.specs.Lists.{list_of}
 use Rattle.pg_outputs.proofs.ListLaws.{list_of-zero}
-use Rattle.pg_cells.specs.Held.{Held}
-use Rattle.pg_cells.specs.IsHeld.{IsHeld}
+use Rattle.pg_cells.specs.ValuedFamilies.{ValuedFamilies}
+use Rattle.pg_cells.specs.AreValuedFamilies.{AreValuedFamilies}
 use Rattle.pg_cells.specs.Root.{root_held}
 use Rattle.pg_cells.proofs.StringMaps.{order, equal_or_not}
 use Rattle.pg_trie.specs.IsTrie.{IsTrie}
@@ -35,12 +35,12 @@ unfolding entries
 root_entries pick f [] none = refl
 root_entries pick f (x ∷ xs) none = ap (λ l. entries_of pick (x ∷ []) l ++ entries pick f (singles xs)) none ∙ root_entries pick f xs none
 
-pub root_trie : (n : ℕ) (cells : Held ℕ) (records : List Record) → n ≤ SIGNS_MAX → cells ≡ root_held n 0 → IsHeld cells → IsTrie cells records
+pub root_trie : (n : ℕ) (cells : ValuedFamilies ℕ) (records : List Record) → n ≤ SIGNS_MAX → cells ≡ root_held n 0 → AreValuedFamilies cells → IsTrie cells records
 root_trie n cells records few is held = record {
-  signs = omega (arith, ap (λ (h : Held ℕ). h.signs) is);
+  signs = omega (arith, ap (λ (h : ValuedFamilies ℕ). h.signs) is);
   held = held;
   heads = λ q head at.
-      let found = root_found q head (range_with_len 1 n) (sym (ap (λ (h : Held ℕ). find order q h.values) is) ∙ at) in
+      let found = root_found q head (range_with_len 1 n) (sym (ap (λ (h : ValuedFamilies ℕ). find order q h.values) is) ∙ at) in
       let list : list_of records head ≡ [] = ap (list_of records) found.0 ∙ list_of-zero records in
       record {
         inside = omega (arith, found.0);
@@ -50,9 +50,9 @@ root_trie n cells records few is held = record {
       };
 }
 
-pub root_view : (n : ℕ) (cells : Held ℕ) (records : List Record) → cells ≡ root_held n 0 → records ≡ []
+pub root_view : (n : ℕ) (cells : ValuedFamilies ℕ) (records : List Record) → cells ≡ root_held n 0 → records ≡ []
     → maps_of cells records ≡ record { signs = n; families = root n; patterns = []; hopeless = []; records = [] }
 root_view n cells records is none =
-    let patterns_are : (maps_of cells records).patterns ≡ [] = ap (λ (h : Held ℕ). entries as_value (list_of records) h.values) is ∙ root_entries as_value (list_of records) (range_with_len 1 n) (list_of-zero records) in
-    let marks_are : (maps_of cells records).hopeless ≡ [] = ap (λ (h : Held ℕ). entries as_mark (list_of records) h.values) is ∙ root_entries as_mark (list_of records) (range_with_len 1 n) (list_of-zero records) in
+    let patterns_are : (maps_of cells records).patterns ≡ [] = ap (λ (h : ValuedFamilies ℕ). entries as_value (list_of records) h.values) is ∙ root_entries as_value (list_of records) (range_with_len 1 n) (list_of-zero records) in
+    let marks_are : (maps_of cells records).hopeless ≡ [] = ap (λ (h : ValuedFamilies ℕ). entries as_mark (list_of records) h.values) is ∙ root_entries as_mark (list_of records) (range_with_len 1 n) (list_of-zero records) in
     λ i. record { signs = (is i).signs; families = (is i).families; patterns = patterns_are i; hopeless = marks_are i; records = none i }

@@ -15,7 +15,7 @@ use Rattle.pg_types.specs.Tails.{outputs_of, suffixes, same_pair, tails}
 use Rattle.pg_outputs.specs.declared.records.Record.{Record}
 use Rattle.pg_outputs.specs.Lists.{list_of, lists, OneHeadEach}
 use Rattle.pg_outputs.proofs.ListLaws.{list_of-zero, list_of-append, list_of-new, length-lists}
-use Rattle.pg_cells.specs.Held.{Held}
+use Rattle.pg_cells.specs.ValuedFamilies.{ValuedFamilies}
 use Rattle.pg_cells.proofs.StringMaps.{order, equal_or_not, find_below, head_below, tail_sorted}
 use Rattle.pg_trie.specs.declared.mark.TheConstants.{HOPELESS}
 use Rattle.pg_trie.specs.IsTrie.{IsTrie}
@@ -223,7 +223,7 @@ end_head records (y ∷ ys) l (suc i) le e =
     end_head records ys l t.next t.inside rest
 
 -- as many records as tails
-pub tails_is : (cells : Held ℕ) (records : List Record) → IsTrie cells records → (cells' : Held ℕ) (fresh : List Record) → HasFresh cells records cells' fresh → OneHeadEach fresh
+pub tails_is : (cells : ValuedFamilies ℕ) (records : List Record) → IsTrie cells records → (cells' : ValuedFamilies ℕ) (fresh : List Record) → HasFresh cells records cells' fresh → OneHeadEach fresh
     → ((h : ℕ) → 0 < h → h ≤ length fresh → (q : List ℕ) × (old : ℕ) × (find order q cells.values ≡ Some old) × IsEnd (list_of fresh h) (values_in (list_of records old)))
     → length fresh ≡ tails (maps_of cells records).patterns
 tails_is cells records is cells' fresh new one needed =

@@ -6,8 +6,8 @@ use Rattle.std.specs.FinMap.{find}
 use Rattle.pg_types.specs.declared.limits.TheConstants.{PATTERN_SIGNS_MAX, SIGNS_MAX}
 use Rattle.pg_outputs.specs.declared.records.Record.{Record}
 use Rattle.pg_outputs.specs.Lists.{list_of}
-use Rattle.pg_cells.specs.Held.{Held}
-use Rattle.pg_cells.specs.IsHeld.{IsHeld}
+use Rattle.pg_cells.specs.ValuedFamilies.{ValuedFamilies}
+use Rattle.pg_cells.specs.AreValuedFamilies.{AreValuedFamilies}
 use Rattle.pg_trie.specs.Lists.{Rises, DotsUpTo}
 
 -- the head of a string: it has a list, which rises, and its dots are in the string
@@ -17,7 +17,7 @@ pub record IsHead (records : List Record) (q : List ℕ) (head : ℕ) : Type 0 w
   pub rises : Rises 0 (list_of records head)
   pub dots : DotsUpTo (length q) (list_of records head)
 
-pub record IsTrie (cells : Held ℕ) (records : List Record) : Type 0 where
+pub record IsTrie (cells : ValuedFamilies ℕ) (records : List Record) : Type 0 where
   pub signs : cells.signs ≤ SIGNS_MAX
-  pub held : IsHeld cells
+  pub held : AreValuedFamilies cells
   pub heads : (q : List ℕ) (head : ℕ) → find (slice_cmp nat_cmp) q cells.values ≡ Some head → IsHead records q head

@@ -8,7 +8,7 @@ use Rattle.pg_patterns.specs.DottedSigns.{dotted_cmp}
 use Rattle.pg_patterns.specs.Values.{IsPatternMap, SignsUpTo}
 use Rattle.pg_outputs.specs.declared.records.Record.{Record}
 use Rattle.pg_outputs.specs.Lists.{list_of}
-use Rattle.pg_cells.specs.Held.{Held}
+use Rattle.pg_cells.specs.ValuedFamilies.{ValuedFamilies}
 use Rattle.pg_trie.specs.declared.mark.TheConstants.{HOPELESS}
 
 -- the greatest sign; the families of the strings; the values and the hopeless marks by their places; and the records of the lists
@@ -43,7 +43,7 @@ module _ {X : Type 0} (pick : ℕ → Option X) where
   entries f values = flat_map (λ e. entries_of e.0 (f e.1)) values
 
 -- cells whose values are heads of lists, as maps
-abbrev pub maps_of : Held ℕ → List Record → Maps
+abbrev pub maps_of : ValuedFamilies ℕ → List Record → Maps
 maps_of cells records = record {
   signs = cells.signs;
   families = cells.families;

@@ -6,8 +6,8 @@ use Rattle.std.specs.FinMap.{find}
 use Rattle.pg_types.specs.Placement.{cell_of}
 use Rattle.pg_outputs.specs.declared.records.Record.{Record}
 use Rattle.pg_outputs.specs.Lists.{list_of}
-use Rattle.pg_cells.specs.Held.{Held}
-use Rattle.pg_cells.specs.IsHeld.{IsHeld}
+use Rattle.pg_cells.specs.ValuedFamilies.{ValuedFamilies}
+use Rattle.pg_cells.specs.AreValuedFamilies.{AreValuedFamilies}
 use Rattle.pg_trie.specs.declared.mark.TheConstants.{HOPELESS}
 
 -- the list without its marks
@@ -29,25 +29,25 @@ AreNeeded old new list = (h : ℕ) → length old < h → h ≤ length new → I
 
 -- beside each head of a string whose cell is below n stands the head of its values among the new records, and there are no
 -- others
-pub record AreFreshTo (cells : Held ℕ) (records : List Record) (n : ℕ) (fresh : List Record) (heads : List ℕ) : Type 0 where
+pub record AreFreshTo (cells : ValuedFamilies ℕ) (records : List Record) (n : ℕ) (fresh : List Record) (heads : List ℕ) : Type 0 where
   pub size : length heads ≡ length records + 1
   pub lists : (q : List ℕ) (cell u : ℕ) → cell_of cells.families q ≡ Some cell → cell < n → find (slice_cmp nat_cmp) q cells.values ≡ Some u → IsFreshHead records u fresh (get_or heads u 0)
   pub needed : (h : ℕ) → 0 < h → h ≤ length fresh → (q : List ℕ) × (old : ℕ) × (find (slice_cmp nat_cmp) q cells.values ≡ Some old) × IsEnd (list_of fresh h) (values_in (list_of records old))
 
 -- all strings' heads
-abbrev pub AreFresh : Held ℕ → List Record → List Record → List ℕ → Type 0
+abbrev pub AreFresh : ValuedFamilies ℕ → List Record → List Record → List ℕ → Type 0
 AreFresh cells records fresh heads = (n : ℕ) × AreFreshTo cells records n fresh heads × ((q : List ℕ) (cell : ℕ) → cell_of cells.families q ≡ Some cell → cell < n)
 
 -- the strings whose cells are below n have the heads that stand beside their old ones, and the others their old heads
-pub record RenewsTo (old : Held ℕ) (n : ℕ) (heads : List ℕ) (new : Held ℕ) : Type 0 where
-  pub held : IsHeld new
+pub record RenewsTo (old : ValuedFamilies ℕ) (n : ℕ) (heads : List ℕ) (new : ValuedFamilies ℕ) : Type 0 where
+  pub held : AreValuedFamilies new
   pub signs : new.signs ≡ old.signs
   pub families : new.families ≡ old.families
   pub given : (q : List ℕ) (cell u : ℕ) → cell_of old.families q ≡ Some cell → find (slice_cmp nat_cmp) q old.values ≡ Some u → find (slice_cmp nat_cmp) q new.values ≡ Some (if nat_lt cell n then get_or heads u 0 else u)
 
 -- each string has the head that stands beside its old one
-pub record Renews (old : Held ℕ) (heads : List ℕ) (new : Held ℕ) : Type 0 where
-  pub held : IsHeld new
+pub record Renews (old : ValuedFamilies ℕ) (heads : List ℕ) (new : ValuedFamilies ℕ) : Type 0 where
+  pub held : AreValuedFamilies new
   pub signs : new.signs ≡ old.signs
   pub families : new.families ≡ old.families
   pub given : (q : List ℕ) (u : ℕ) → find (slice_cmp nat_cmp) q old.values ≡ Some u → find (slice_cmp nat_cmp) q new.values ≡ Some (get_or heads u 0)

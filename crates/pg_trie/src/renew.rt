@@ -4,7 +4,7 @@ ghost use Rattle.std.specs.FinMap.{find};
 ghost use Rattle.std.specs.Cmp.Lexicographic.{slice_cmp};
 ghost use Rattle.std.specs.Ordering.{nat_cmp};
 ghost use Rattle.pg_outputs.specs.Lists.{list_of, Grows};
-ghost use Rattle.pg_cells.specs.IsHeld.{IsHeld};
+ghost use Rattle.pg_cells.specs.AreValuedFamilies.{AreValuedFamilies};
 ghost use Rattle.pg_trie.specs.IsTrie.{IsTrie};
 ghost use Rattle.pg_trie.specs.Renewed.{values_in, AreNeeded, AreFreshTo, AreFresh, Renews};
 
@@ -85,7 +85,7 @@ pub fn fresh_heads(
 
 /// Gives each string its new head.
 pub fn renew(cells: &mut Cells<TwoWords, FEW_SIGNS>, heads: &[u64])
-    requires held { IsHeld cells.old }
+    requires held { AreValuedFamilies cells.old }
     requires heads { (q : List ℕ) (u : ℕ) → find (slice_cmp nat_cmp) q cells.old.values ≡ Some u →
         u < length heads.now }
     ensures { Renews cells.old heads.now cells.new }

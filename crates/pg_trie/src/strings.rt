@@ -5,7 +5,7 @@ ghost use Rattle.std.specs.Cmp.Lexicographic.{slice_cmp};
 ghost use Rattle.std.specs.Ordering.{nat_cmp};
 ghost use Rattle.pg_types.specs.declared.limits.TheConstants.{PATTERN_SIGNS_MAX, SIGNS_MAX};
 ghost use Rattle.pg_types.specs.Placement.{cell_of, base_of};
-ghost use Rattle.pg_cells.specs.IsHeld.{IsHeld};
+ghost use Rattle.pg_cells.specs.AreValuedFamilies.{AreValuedFamilies};
 ghost use Rattle.pg_cells.specs.Members.{IsNextSign};
 ghost use Rattle.pg_trie.specs.Strings.{AreShort, IsString, PutsBelow, AreStringsTo, AreStrings};
 
@@ -62,7 +62,7 @@ fn push_family(
     requires base { base_of cells.now.families prefix.now ≡ Some base }
     requires first { IsNextSign cells.now.values prefix.now 0 first }
     requires short { AreShort cells.now }
-    requires held { IsHeld cells.now }
+    requires held { AreValuedFamilies cells.now }
     ensures { OnOk result (PutsBelow cells.now prefix.now (cells.now.signs + 1) strings.old.items strings.new.items) }
 {
     let mut s = first;

@@ -85,7 +85,7 @@ lowest_up false k = omega arith
 
 -- the base at which a family is placed is the least one, from the lowest on, that no family has and where the cells of its signs
 -- are unused
-pub least_base_is : (few n : ℕ) (fs : Families) (signs : List ℕ) → have_signs fs ≡ true → IsLeast (fits_at fs signs) (lowest_base few n fs (length signs)) (least_base few n fs signs)
+pub least_base_is : (few n : ℕ) (fs : Families) (signs : List ℕ) → have_signs fs ≡ true → IsLeast (fits_at fs signs) (lowest_base few n (length signs) (top fs)) (least_base few n fs signs)
 least_base_is few n fs signs some =
     let up = lowest_up (nat_le (length signs) few) (top fs - max 255 n) in
-    first_from_is (fits_at fs signs) (top fs) (lowest_base few n fs (length signs)) (past_top fs signs (lowest_base few n fs (length signs) + top fs) some (omega arith))
+    first_from_is (fits_at fs signs) (top fs) (lowest_base few n (length signs) (top fs)) (past_top fs signs (lowest_base few n (length signs) (top fs) + top fs) some (omega arith))

@@ -58,9 +58,10 @@ is_base fs b = list_any (λ e. nat_eq b e.1.base) fs
 abbrev pub fits_at : Families → List ℕ → ℕ → Bool
 fits_at fs signs b = not (is_base fs b) && list_all (λ s. not (is_used fs (b + s))) signs
 
--- the lowest base that is tried for so many signs, in a table of n signs, where up to few signs are placed from base 1 on
-abbrev pub lowest_base : ℕ → ℕ → Families → ℕ → ℕ
-lowest_base few n fs count = if nat_le count few then 1 else max 1 (top fs - max far_below n)
+-- the lowest base that is tried for so many signs, in a table of n signs, where t is the top and up to few signs are placed
+-- from base 1 on
+abbrev pub lowest_base : ℕ → ℕ → ℕ → ℕ → ℕ
+lowest_base few n count t = if nat_le count few then 1 else max 1 (t - max far_below n)
 
 -- the first number from b on that passes the test, of so many more
 abbrev pub first_from : (ℕ → Bool) → ℕ → ℕ → ℕ
@@ -75,7 +76,7 @@ pub record IsLeast (test : ℕ → Bool) (low b : ℕ) : Type 0 where
 
 -- the least base at which the signs may stand. One that is past the top always serves
 abbrev pub least_base : ℕ → ℕ → Families → List ℕ → ℕ
-least_base few n fs signs = first_from (fits_at fs signs) (top fs) (lowest_base few n fs (length signs))
+least_base few n fs signs = first_from (fits_at fs signs) (top fs) (lowest_base few n (length signs) (top fs))
 
 -- the families with one more, placed at the least base
 abbrev pub placed : ℕ → ℕ → Families → List ℕ → List ℕ → Families

@@ -1,7 +1,7 @@
 use Rattle.std.proofs.Common.{◌+◌, [], ◌∷◌, ◌++◌, take, get_or, ap, sym, subst, ◌∙◌}
 use Rattle.std.proofs.lemmas.Result.{err_from_is_err_and}
 use Rattle.pg_types.specs.Placement.{cell_of}
-use Rattle.pg_cells.specs.Held.{Held}
+use Rattle.pg_cells.specs.ValuedFamilies.{ValuedFamilies}
 use Rattle.pg_cells.specs.Walks.{EndsBefore, Steps}
 use Rattle.pg_cells.proofs.Walking.{within_way, way_sign, way_more, enter_more, front_more, more_added, step_values, step_signs, still_none, not_reached}
 use Rattle.pg_cells.proofs.walks.enter.Goals as goal
@@ -42,4 +42,4 @@ pub returns-in_err-cell-clause-part : goal.returns-in_err-cell-clause-part
 returns-in_err-cell-clause-part g c =
     let err = err_from_is_err_and c.from_residual.result c.from_residual.ensures.1 in
     let lt = within_way c.args.signs.now c.loop-s.s-index c.loop-s-test.true in
-    rw (err.1) (c.loop-s.s-index + 1, lt, ap (λ (h : Held g.row.V.Denot). h.families) c.in_err-cell.ensures.err ∙ c.loop-s.invariant.front)
+    rw (err.1) (c.loop-s.s-index + 1, lt, ap (λ (h : ValuedFamilies g.row.V.Denot). h.families) c.in_err-cell.ensures.err ∙ c.loop-s.invariant.front)

@@ -1,6 +1,6 @@
 use Rattle.std.proofs.Common.{◌≡◌, ◌+◌, take, drop, Some}
 use Rattle.pg_types.specs.Placement.{cell_of, enter_by, enter_after}
-use Rattle.pg_cells.specs.IsHeld.{IsHeld}
+use Rattle.pg_cells.specs.AreValuedFamilies.{AreValuedFamilies}
 use Rattle.pg_cells.specs.Walks.{AddsBlanks}
 use Rattle.pg_cells.proofs.walks.enter.Given as goal
 
@@ -10,6 +10,6 @@ invariant-loop-s g l = record {
   families : enter_after g.row.FEW l.fn.cells.signs l.cells.families (take (l.s-index + 1) l.signs) (drop (l.s-index + 1) l.signs) ≡ enter_by g.row.FEW l.fn.cells.signs l.fn.cells.families l.signs;
   front : l.cells.families ≡ enter_by g.row.FEW l.fn.cells.signs l.fn.cells.families (take (l.s-index + 1) l.signs);
   blanks : AddsBlanks l.signs l.blank l.fn.cells.values l.cells.values;
-  held : IsHeld l.cells;
+  held : AreValuedFamilies l.cells;
   signs : l.cells.signs ≡ l.fn.cells.signs;
 }

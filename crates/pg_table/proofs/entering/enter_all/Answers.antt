@@ -1,15 +1,15 @@
 use Rattle.std.proofs.Common.{◌<◌, ◌≤◌, ℕ, [], length, get_or, All, sym, subst, arith}
 use Rattle.std.proofs.lemmas.Option.{slice_get-get_or}
-use Rattle.pg_cells.specs.Held.{Held}
-use Rattle.pg_cells.specs.IsHeld.{IsHeld}
+use Rattle.pg_cells.specs.ValuedFamilies.{ValuedFamilies}
+use Rattle.pg_cells.specs.AreValuedFamilies.{AreValuedFamilies}
 use Rattle.pg_table.proofs.Groups.{Entry}
 use Rattle.pg_table.proofs.EnteredStrings.{EnteredTo, entered_none, entered_string, entered_whole, signs_within}
 use Rattle.pg_table.proofs.entering.enter_all.Goals as goal
 
 pub strings-init : goal.strings-init
 strings-init c =
-    subst (λ (h : Held ℕ). EnteredTo c.args.signs c.args.patterns.now 0 h c.new-outputs.result) (sym c.in_ok-cells.ensures.held)
-    (entered_none c.args.signs c.args.patterns.now c.new-outputs.result c.new-outputs.ensures.empty c.new-outputs.ensures.one_head (subst (λ (h : Held ℕ). IsHeld h) c.in_ok-cells.ensures.held c.in_ok-cells.ensures.kept))
+    subst (λ (h : ValuedFamilies ℕ). EnteredTo c.args.signs c.args.patterns.now 0 h c.new-outputs.result) (sym c.in_ok-cells.ensures.held)
+    (entered_none c.args.signs c.args.patterns.now c.new-outputs.result c.new-outputs.ensures.empty c.new-outputs.ensures.one_head (subst (λ (h : ValuedFamilies ℕ). AreValuedFamilies h) c.in_ok-cells.ensures.held c.in_ok-cells.ensures.kept))
 
 -- some entry
 abbrev none : Entry

@@ -1,7 +1,7 @@
 use Rattle.std.proofs.Common.{ℕ, List, refl, ap, ◌∙◌, arith}
 use Rattle.pg_table.specs.Lookups.{list_in}
 use Rattle.pg_select.specs.Positions.{values_of}
-use Rattle.pg_table.specs.Raising.{by_list, by_value}
+use Rattle.pg_table.specs.Raising.{by_record_list, by_value}
 use Rattle.pg_table.proofs.Levels.{level_step, level_end}
 use Rattle.pg_table.proofs.Walks.{list_more, empty_list}
 use Rattle.pg_table.proofs.walk.take_list.Goals as goal
@@ -15,15 +15,15 @@ loop-value-preserved c =
     let rest : List (ℕ × ℕ) = list_in c.args.view.now c.in-Some.next in
     record {
       inside = omega (arith, c.in-Some.ensures.back, c.loop-value.invariant.inside);
-      values = level_step (by_list c.args.start c.args.len (list_in c.args.view.now c.loop-value.at)) (by_value c.args.start c.args.len x) (by_list c.args.start c.args.len rest) (by_list c.args.start c.args.len (list_in c.args.view.now c.args.head))
+      values = level_step (by_record_list c.args.start c.args.len (list_in c.args.view.now c.loop-value.at)) (by_value c.args.start c.args.len x) (by_record_list c.args.start c.args.len rest) (by_record_list c.args.start c.args.len (list_in c.args.view.now c.args.head))
           (values_of c.args.out.now) (values_of c.loop-value.out) (values_of c.raise.new.out)
-          (λ p. ap (λ (l : List (ℕ × ℕ)). by_list c.args.start c.args.len l p) c.in-Some.ensures.list ∙ list_more c.args.start c.args.len x rest p) c.loop-value.invariant.values c.raise.ensures.values;
+          (λ p. ap (λ (l : List (ℕ × ℕ)). by_record_list c.args.start c.args.len l p) c.in-Some.ensures.list ∙ list_more c.args.start c.args.len x rest p) c.loop-value.invariant.values c.raise.ensures.values;
       uncovered = c.raise.ensures.uncovered;
     }
 
 pub returns : goal.returns
 returns c = record {
-  values = level_end (by_list c.args.start c.args.len (list_in c.args.view.now c.loop-value.at)) (by_list c.args.start c.args.len (list_in c.args.view.now c.args.head)) (values_of c.args.out.now) (values_of c.loop-value.out)
-      (λ p. ap (λ (l : List (ℕ × ℕ)). by_list c.args.start c.args.len l p) c.in_default.ensures.list ∙ empty_list c.args.start c.args.len p) c.loop-value.invariant.values;
+  values = level_end (by_record_list c.args.start c.args.len (list_in c.args.view.now c.loop-value.at)) (by_record_list c.args.start c.args.len (list_in c.args.view.now c.args.head)) (values_of c.args.out.now) (values_of c.loop-value.out)
+      (λ p. ap (λ (l : List (ℕ × ℕ)). by_record_list c.args.start c.args.len l p) c.in_default.ensures.list ∙ empty_list c.args.start c.args.len p) c.loop-value.invariant.values;
   uncovered = c.loop-value.invariant.uncovered;
 }

@@ -2,14 +2,14 @@ use Rattle.std.proofs.Common.{◌≤◌}
 use Rattle.pg_table.specs.Forms.{head_of}
 use Rattle.pg_table.specs.Lookups.{list_in}
 use Rattle.pg_select.specs.Positions.{values_of}
-use Rattle.pg_table.specs.Raising.{IsUncovered, by_list}
+use Rattle.pg_table.specs.Raising.{IsUncovered, by_record_list}
 use Rattle.pg_table.proofs.Levels.{Level}
 use Rattle.pg_table.proofs.walk.take_list.Given as goal
 
 abbrev pub invariant-loop-value : goal.invariant-loop-value
 invariant-loop-value l = record {
   inside : l.at ≤ (head_of l.view).records;
-  values : Level (by_list l.start l.len (list_in l.view l.at)) (by_list l.start l.len (list_in l.view l.head)) (values_of l.fn.out) (values_of l.out);
+  values : Level (by_record_list l.start l.len (list_in l.view l.at)) (by_record_list l.start l.len (list_in l.view l.head)) (values_of l.fn.out) (values_of l.out);
   uncovered : IsUncovered l.out;
 }
 

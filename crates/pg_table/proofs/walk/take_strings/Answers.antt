@@ -2,9 +2,9 @@ use Rattle.std.proofs.Common.{◌≡◌, ◌≢◌, ℕ, ◌+◌, ◌-◌, ◌<�
 use Rattle.pg_types.specs.declared.limits.TheConstants.{PATTERN_SIGNS_MAX}
 use Rattle.pg_table.specs.declared.cell.Cell.{Cell}
 use Rattle.pg_table.specs.Forms.{cell_at}
-use Rattle.pg_table.specs.Lookups.{has_sign, lookup, lookup_from, list_in}
+use Rattle.pg_table.specs.Lookups.{cell_has_sign, lookup, lookup_from, list_in}
 use Rattle.pg_select.specs.Positions.{values_of, Raises}
-use Rattle.pg_table.specs.Raising.{by_list, by_strings}
+use Rattle.pg_table.specs.Raising.{by_record_list, by_strings}
 use Rattle.pg_table.proofs.FormLaws.{form_told}
 use Rattle.pg_table.proofs.Levels.{Level, level_step, level_end}
 use Rattle.pg_table.proofs.Walks.{goes_on, no_sign, no_child, list_here, list_below, strings_none, strings_more}
@@ -39,8 +39,8 @@ returns-in_default-clause-values c =
 -- the list of the string that ends here is taken in
 taken : (b w : List ℕ) (start stop base : ℕ) (cell : Cell) (before now new : ℕ → ℕ) → start ≤ stop → stop < length w → stop < start + PATTERN_SIGNS_MAX
     → ((s : ℕ) (more : List ℕ) → lookup b (take (stop - start) (drop start w) ++ s ∷ more) ≡ lookup_from b base (s ∷ more))
-    → has_sign b base (get_or w stop 0) ≡ true → cell ≡ cell_at b (base + get_or w stop 0)
-    → Level (by_strings b w start (stop - start + 1)) (by_strings b w start 1) before now → Raises (by_list start (stop + 1 - start) (list_in b cell.head)) now new
+    → cell_has_sign b base (get_or w stop 0) ≡ true → cell ≡ cell_at b (base + get_or w stop 0)
+    → Level (by_strings b w start (stop - start + 1)) (by_strings b w start 1) before now → Raises (by_record_list start (stop + 1 - start) (list_in b cell.head)) now new
     → Level (by_strings b w start (stop + 1 - start + 1)) (by_strings b w start 1) before new
 taken b w start stop base cell before now new low inside few leads has is level raises =
     let s : ℕ = get_or w stop 0 in
@@ -49,8 +49,8 @@ taken b w start stop base cell before now new low inside few leads has is level 
     let goes = goes_on w start stop n low (omega arith) (omega arith) in
     let list : lookup b (take n (drop start w)) ≡ list_in b cell.head =
     ap (lookup b) goes.whole ∙ leads s goes.more ∙ ap (λ l. lookup_from b base (s ∷ l)) (goes.size refl) ∙ list_here b base s has ∙ ap (λ (x : Cell). list_in b x.head) (sym is) in
-    level_step (by_strings b w start (stop - start + 1)) (by_list start n (list_in b cell.head)) (by_strings b w start (n + 1)) (by_strings b w start 1) before now new
-    (λ p. ap (λ k. by_strings b w start k p) same ∙ strings_more b w p start n (omega arith) (omega arith) ∙ ap (λ (l : List (ℕ × ℕ)). max (by_list start n l p) (by_strings b w start (n + 1) p)) list)
+    level_step (by_strings b w start (stop - start + 1)) (by_record_list start n (list_in b cell.head)) (by_strings b w start (n + 1)) (by_strings b w start 1) before now new
+    (λ p. ap (λ k. by_strings b w start k p) same ∙ strings_more b w p start n (omega arith) (omega arith) ∙ ap (λ (l : List (ℕ × ℕ)). max (by_record_list start n l p) (by_strings b w start (n + 1) p)) list)
     level raises
 
 -- where the cell has no family below it, no longer string has a list

@@ -1,12 +1,12 @@
 use Rattle.std.proofs.Common.{◌≡◌, [], ◌∷◌, map, ap, sym, subst}
 use Rattle.std.specs.List.{range_with_len}
 use Rattle.pg_types.specs.Placement.{root}
-use Rattle.pg_cells.specs.Held.{Trie, Held}
-use Rattle.pg_cells.specs.IsHeld.{IsHeld}
+use Rattle.pg_cells.specs.ValuedFamilies.{Trie, ValuedFamilies}
+use Rattle.pg_cells.specs.AreValuedFamilies.{AreValuedFamilies}
 use Rattle.pg_cells.specs.Layouts.{AreKept}
 use Rattle.pg_cells.specs.OneTrie.{Kept, settled, held}
 use Rattle.pg_cells.specs.Root.{root_held, IsRootTo}
-use Rattle.pg_cells.proofs.HeldLaws.{is_held}
+use Rattle.pg_cells.proofs.ValuedFamilyLaws.{is_held}
 use Rattle.pg_cells.proofs.RootSteps.{planted_none, planted_extended}
 use Rattle.pg_cells.proofs.RootTrie.{root_trie}
 use Rattle.pg_cells.proofs.families.Placed.new.Goals as goal
@@ -35,13 +35,13 @@ invariant_of-result-2 g c =
 pub returns-clause-held : goal.returns-clause-held
 returns-clause-held g c =
     let trie = root_trie c.args.blank c.args.signs c.take_root.new.store c.set_base.new.self c.requires.0 c.take_root.ensures.root_to c.set_base.ensures in
-    let all : (d : Kept c.args.signs c.set_base.new.self) → ◌≡◌ {A = Held g.row.V.Denot} (record { signs = c.args.signs; families = d.0.families; values = d.0.values }) (root_held c.args.signs c.args.blank) =
+    let all : (d : Kept c.args.signs c.set_base.new.self) → ◌≡◌ {A = ValuedFamilies g.row.V.Denot} (record { signs = c.args.signs; families = d.0.families; values = d.0.values }) (root_held c.args.signs c.args.blank) =
     λ d. ap (λ (t : Trie g.row.V.Denot). record { signs = c.args.signs; families = t.families; values = t.values }) (settled g.row.V.coded c.args.signs c.set_base.new.self d _ trie) in
     search all
 
 pub returns-clause-kept : goal.returns-clause-kept
 returns-clause-kept g c =
     let trie = root_trie c.args.blank c.args.signs c.take_root.new.store c.set_base.new.self c.requires.0 c.take_root.ensures.root_to c.set_base.ensures in
-    let all : (d : Kept c.args.signs c.set_base.new.self) → IsHeld (record { signs = c.args.signs; families = d.0.families; values = d.0.values }) =
+    let all : (d : Kept c.args.signs c.set_base.new.self) → AreValuedFamilies (record { signs = c.args.signs; families = d.0.families; values = d.0.values }) =
     λ d. is_held c.args.signs c.set_base.new.self d.0 (held g.row.V.coded c.args.signs c.set_base.new.self d _ trie) c.len-length.ensures.values in
     search all

@@ -1,7 +1,7 @@
 use Rattle.std.proofs.Common.{◌≡◌, [], ◌∷◌, ◌++◌, Some, None, ap, sym, subst, ◌∙◌, rules, MatchBool}
 use Rattle.pg_types.specs.Placement.{cell_of, base_of, without_sign}
 use Rattle.pg_cells.specs.declared.member.Member.{Member}
-use Rattle.pg_cells.specs.Held.{Held, without_key}
+use Rattle.pg_cells.specs.ValuedFamilies.{ValuedFamilies, without_key}
 use Rattle.pg_cells.specs.Links.{unlinked}
 use Rattle.pg_cells.specs.Members.{IsAlone, HasOther}
 use Rattle.pg_cells.proofs.PlacedFamily.{not_longer}
@@ -12,16 +12,16 @@ use Rattle.pg_cells.proofs.linked.Cells.remove.Goals as goal
 pub sign_before-before-requires : goal.sign_before-before-requires
 sign_before-before-requires g c =
     let h = c.self.inside.placed in
-    let at : cell_of h.families c.requires.parent.0 ≡ Some c.args.parent = subst (λ (k : Held g.row.V.Denot). cell_of k.families c.requires.parent.0 ≡ Some c.args.parent) (sym c.self.view_is) c.requires.parent.2.0 in
-    let there : cell_of h.families (c.requires.parent.0 ++ c.args.s ∷ []) ≡ Some c.requires.parent.1 = subst (λ (k : Held g.row.V.Denot). cell_of k.families (c.requires.parent.0 ++ c.args.s ∷ []) ≡ Some c.requires.parent.1) (sym c.self.view_is) c.requires.parent.2.1 in
+    let at : cell_of h.families c.requires.parent.0 ≡ Some c.args.parent = subst (λ (k : ValuedFamilies g.row.V.Denot). cell_of k.families c.requires.parent.0 ≡ Some c.args.parent) (sym c.self.view_is) c.requires.parent.2.0 in
+    let there : cell_of h.families (c.requires.parent.0 ++ c.args.s ∷ []) ≡ Some c.requires.parent.1 = subst (λ (k : ValuedFamilies g.row.V.Denot). cell_of k.families (c.requires.parent.0 ++ c.args.s ∷ []) ≡ Some c.requires.parent.1) (sym c.self.view_is) c.requires.parent.2.1 in
     (search rules, (c.self.invariant, ((c.requires.parent.0, (at, c.child-base.ensures.base c.requires.parent.0 at)), c.self.invariant.held.signs c.requires.parent.0 c.args.s c.requires.parent.1 there)))
 
 pub remove-requires : goal.remove-requires
 remove-requires g c =
     let h = c.self.inside.placed in
-    let at : cell_of h.families c.requires.parent.0 ≡ Some c.args.parent = subst (λ (k : Held g.row.V.Denot). cell_of k.families c.requires.parent.0 ≡ Some c.args.parent) (sym c.self.view_is) c.requires.parent.2.0 in
-    let there : cell_of h.families (c.requires.parent.0 ++ c.args.s ∷ []) ≡ Some c.requires.parent.1 = subst (λ (k : Held g.row.V.Denot). cell_of k.families (c.requires.parent.0 ++ c.args.s ∷ []) ≡ Some c.requires.parent.1) (sym c.self.view_is) c.requires.parent.2.1 in
-    let childless : base_of h.families (c.requires.parent.0 ++ c.args.s ∷ []) ≡ None = subst (λ (k : Held g.row.V.Denot). base_of k.families (c.requires.parent.0 ++ c.args.s ∷ []) ≡ None) (sym c.self.view_is) c.requires.parent.2.2 in
+    let at : cell_of h.families c.requires.parent.0 ≡ Some c.args.parent = subst (λ (k : ValuedFamilies g.row.V.Denot). cell_of k.families c.requires.parent.0 ≡ Some c.args.parent) (sym c.self.view_is) c.requires.parent.2.0 in
+    let there : cell_of h.families (c.requires.parent.0 ++ c.args.s ∷ []) ≡ Some c.requires.parent.1 = subst (λ (k : ValuedFamilies g.row.V.Denot). cell_of k.families (c.requires.parent.0 ++ c.args.s ∷ []) ≡ Some c.requires.parent.1) (sym c.self.view_is) c.requires.parent.2.1 in
+    let childless : base_of h.families (c.requires.parent.0 ++ c.args.s ∷ []) ≡ None = subst (λ (k : ValuedFamilies g.row.V.Denot). base_of k.families (c.requires.parent.0 ++ c.args.s ∷ []) ≡ None) (sym c.self.view_is) c.requires.parent.2.2 in
     let up = (c.self.invariant.held.signs c.requires.parent.0 c.args.s c.requires.parent.1 there).0 in (
       search rules,
       (
@@ -34,43 +34,43 @@ remove-requires g c =
 pub link-requires : goal.link-requires
 link-requires g c =
     let h = c.self.inside.placed in
-    let at : cell_of h.families c.requires.parent.0 ≡ Some c.args.parent = subst (λ (k : Held g.row.V.Denot). cell_of k.families c.requires.parent.0 ≡ Some c.args.parent) (sym c.self.view_is) c.requires.parent.2.0 in
-    let there : cell_of h.families (c.requires.parent.0 ++ c.args.s ∷ []) ≡ Some c.requires.parent.1 = subst (λ (k : Held g.row.V.Denot). cell_of k.families (c.requires.parent.0 ++ c.args.s ∷ []) ≡ Some c.requires.parent.1) (sym c.self.view_is) c.requires.parent.2.1 in
+    let at : cell_of h.families c.requires.parent.0 ≡ Some c.args.parent = subst (λ (k : ValuedFamilies g.row.V.Denot). cell_of k.families c.requires.parent.0 ≡ Some c.args.parent) (sym c.self.view_is) c.requires.parent.2.0 in
+    let there : cell_of h.families (c.requires.parent.0 ++ c.args.s ∷ []) ≡ Some c.requires.parent.1 = subst (λ (k : ValuedFamilies g.row.V.Denot). cell_of k.families (c.requires.parent.0 ++ c.args.s ∷ []) ≡ Some c.requires.parent.1) (sym c.self.view_is) c.requires.parent.2.1 in
     let up = (c.self.invariant.held.signs c.requires.parent.0 c.args.s c.requires.parent.1 there).0 in
     let before = c.sign_before-before.ensures c.requires.parent.0 at in
     let next = c.sign_after-after.ensures c.requires.parent.0 at in
-    let values = ap (λ (k : Held (Member g.row.V.Denot)). k.values) (c.remove.ensures.held c.requires.parent.0 at) in
+    let values = ap (λ (k : ValuedFamilies (Member g.row.V.Denot)). k.values) (c.remove.ensures.held c.requires.parent.0 at) in
     (search rules, (c.remove.ensures.kept, (c.requires.parent.0, ((c.remove.ensures.cells c.requires.parent.0 at c.requires.parent.0 (λ z. not_longer c.requires.parent.0 c.args.s (sym z)) ∙ at), remove_behind h c.remove.new.self c.remove.new.self c.self.invariant c.requires.parent.0 c.args.parent at c.args.s up c.sign_before-before.result before c.sign_after-after.result next values))))
 
 pub invariant_of-self : goal.invariant_of-self
 invariant_of-self g c =
     let h = c.self.inside.placed in
-    let at : cell_of h.families c.requires.parent.0 ≡ Some c.args.parent = subst (λ (k : Held g.row.V.Denot). cell_of k.families c.requires.parent.0 ≡ Some c.args.parent) (sym c.self.view_is) c.requires.parent.2.0 in
-    let there : cell_of h.families (c.requires.parent.0 ++ c.args.s ∷ []) ≡ Some c.requires.parent.1 = subst (λ (k : Held g.row.V.Denot). cell_of k.families (c.requires.parent.0 ++ c.args.s ∷ []) ≡ Some c.requires.parent.1) (sym c.self.view_is) c.requires.parent.2.1 in
+    let at : cell_of h.families c.requires.parent.0 ≡ Some c.args.parent = subst (λ (k : ValuedFamilies g.row.V.Denot). cell_of k.families c.requires.parent.0 ≡ Some c.args.parent) (sym c.self.view_is) c.requires.parent.2.0 in
+    let there : cell_of h.families (c.requires.parent.0 ++ c.args.s ∷ []) ≡ Some c.requires.parent.1 = subst (λ (k : ValuedFamilies g.row.V.Denot). cell_of k.families (c.requires.parent.0 ++ c.args.s ∷ []) ≡ Some c.requires.parent.1) (sym c.self.view_is) c.requires.parent.2.1 in
     let up = (c.self.invariant.held.signs c.requires.parent.0 c.args.s c.requires.parent.1 there).0 in
     let before = c.sign_before-before.ensures c.requires.parent.0 at in
     let next = c.sign_after-after.ensures c.requires.parent.0 at in
-    let values = ap (λ (k : Held (Member g.row.V.Denot)). k.values) (c.remove.ensures.held c.requires.parent.0 at) in
+    let values = ap (λ (k : ValuedFamilies (Member g.row.V.Denot)). k.values) (c.remove.ensures.held c.requires.parent.0 at) in
     links_removed h c.remove.new.self c.link.new.cells c.self.invariant c.requires.parent.0 c.args.parent at c.args.s up c.sign_before-before.result before c.sign_after-after.result next values c.link.ensures.kept (c.link.ensures.linked c.requires.parent.0 (c.remove.ensures.cells c.requires.parent.0 at c.requires.parent.0 (λ z. not_longer c.requires.parent.0 c.args.s (sym z)) ∙ at))
 
 pub returns-clause-held : goal.returns-clause-held
 returns-clause-held g c q e =
     let h = c.self.inside.placed in
-    let at : cell_of h.families q ≡ Some c.args.parent = subst (λ (k : Held g.row.V.Denot). cell_of k.families q ≡ Some c.args.parent) (sym c.self.view_is) e in
-    let same : c.requires.parent.0 ≡ q = c.self.invariant.held.apart c.requires.parent.0 q c.args.parent (subst (λ (k : Held g.row.V.Denot). cell_of k.families c.requires.parent.0 ≡ Some c.args.parent) (sym c.self.view_is) c.requires.parent.2.0) at in
-    let there : cell_of h.families (q ++ c.args.s ∷ []) ≡ Some c.requires.parent.1 = subst (λ r. cell_of h.families (r ++ c.args.s ∷ []) ≡ Some c.requires.parent.1) same (subst (λ (k : Held g.row.V.Denot). cell_of k.families (c.requires.parent.0 ++ c.args.s ∷ []) ≡ Some c.requires.parent.1) (sym c.self.view_is) c.requires.parent.2.1) in
+    let at : cell_of h.families q ≡ Some c.args.parent = subst (λ (k : ValuedFamilies g.row.V.Denot). cell_of k.families q ≡ Some c.args.parent) (sym c.self.view_is) e in
+    let same : c.requires.parent.0 ≡ q = c.self.invariant.held.apart c.requires.parent.0 q c.args.parent (subst (λ (k : ValuedFamilies g.row.V.Denot). cell_of k.families c.requires.parent.0 ≡ Some c.args.parent) (sym c.self.view_is) c.requires.parent.2.0) at in
+    let there : cell_of h.families (q ++ c.args.s ∷ []) ≡ Some c.requires.parent.1 = subst (λ r. cell_of h.families (r ++ c.args.s ∷ []) ≡ Some c.requires.parent.1) same (subst (λ (k : ValuedFamilies g.row.V.Denot). cell_of k.families (c.requires.parent.0 ++ c.args.s ∷ []) ≡ Some c.requires.parent.1) (sym c.self.view_is) c.requires.parent.2.1) in
     let up = (c.self.invariant.held.signs q c.args.s c.requires.parent.1 there).0 in
     let before = c.sign_before-before.ensures q at in
     let next = c.sign_after-after.ensures q at in
-    let values = ap (λ (k : Held (Member g.row.V.Denot)). k.values) (c.remove.ensures.held q at) in
+    let values = ap (λ (k : ValuedFamilies (Member g.row.V.Denot)). k.values) (c.remove.ensures.held q at) in
     let held = c.remove.ensures.held q at in
     let linked = c.link.ensures.linked q (c.remove.ensures.cells q at q (λ z. not_longer q c.args.s (sym z)) ∙ at) in
-    let signs : c.link.new.cells.signs ≡ h.signs = ap (λ (k : Held (Member g.row.V.Denot)). k.signs) linked ∙ ap (λ (k : Held (Member g.row.V.Denot)). k.signs) held in
-    let families : c.link.new.cells.families ≡ without_sign h.families q c.args.s = ap (λ (k : Held (Member g.row.V.Denot)). k.families) linked ∙ ap (λ (k : Held (Member g.row.V.Denot)). k.families) held in
+    let signs : c.link.new.cells.signs ≡ h.signs = ap (λ (k : ValuedFamilies (Member g.row.V.Denot)). k.signs) linked ∙ ap (λ (k : ValuedFamilies (Member g.row.V.Denot)). k.signs) held in
+    let families : c.link.new.cells.families ≡ without_sign h.families q c.args.s = ap (λ (k : ValuedFamilies (Member g.row.V.Denot)). k.families) linked ∙ ap (λ (k : ValuedFamilies (Member g.row.V.Denot)). k.families) held in
     let plain_values : plain c.link.new.cells.values ≡ without_key (q ++ c.args.s ∷ []) (plain h.values) = values_removed h c.remove.new.self c.link.new.cells c.self.invariant q c.args.parent at c.args.s up c.sign_before-before.result before c.sign_after-after.result next values c.remove.ensures.kept.ordered linked in
-    let seen : ◌≡◌ {A = Held g.row.V.Denot} (unlinked c.link.new.cells) (record (unlinked h) { families = without_sign h.families q c.args.s; values = without_key (q ++ c.args.s ∷ []) (plain h.values) }) =
+    let seen : ◌≡◌ {A = ValuedFamilies g.row.V.Denot} (unlinked c.link.new.cells) (record (unlinked h) { families = without_sign h.families q c.args.s; values = without_key (q ++ c.args.s ∷ []) (plain h.values) }) =
     λ i. record { signs = signs i; families = families i; values = plain_values i } in
-    seen ∙ ap (λ (k : Held g.row.V.Denot). record k { families = without_sign k.families q c.args.s; values = without_key (q ++ c.args.s ∷ []) k.values }) c.self.view_is
+    seen ∙ ap (λ (k : ValuedFamilies g.row.V.Denot). record k { families = without_sign k.families q c.args.s; values = without_key (q ++ c.args.s ∷ []) k.values }) c.self.view_is
 
 pub returns-clause-kept : goal.returns-clause-kept
 returns-clause-kept g c = held_unlinked c.link.new.cells c.link.ensures.kept

@@ -1,8 +1,8 @@
 use Rattle.std.proofs.Common.{subst}
-use Rattle.pg_cells.specs.Held.{Held}
-use Rattle.pg_cells.specs.IsHeld.{IsHeld}
+use Rattle.pg_cells.specs.ValuedFamilies.{ValuedFamilies}
+use Rattle.pg_cells.specs.AreValuedFamilies.{AreValuedFamilies}
 use Rattle.pg_cells.proofs.Unlinked.{held_unlinked}
 use Rattle.pg_cells.proofs.linked.Cells.signs.Goals as goal
 
 pub returns-clause-held : goal.returns-clause-held
-returns-clause-held g c = subst (λ (h : Held g.row.V.Denot). IsHeld h) c.self.view_is (held_unlinked c.self.inside.placed c.self.invariant.held)
+returns-clause-held g c = subst (λ (h : ValuedFamilies g.row.V.Denot). AreValuedFamilies h) c.self.view_is (held_unlinked c.self.inside.placed c.self.invariant.held)

@@ -2,7 +2,7 @@ use Rattle.std.proofs.Common.{◌≡◌, ℕ, Some, ap, sym, subst, ◌∙◌, a
 use Rattle.std.proofs.lemmas.Bool.{le-ltb, lt-ltb}
 use Rattle.std.proofs.lemmas.Result.{err_from_is_err_and}
 use Rattle.pg_types.specs.Placement.{enter}
-use Rattle.pg_cells.specs.Held.{Held}
+use Rattle.pg_cells.specs.ValuedFamilies.{ValuedFamilies}
 use Rattle.pg_cells.specs.Walks.{AddsBlanks}
 use Rattle.std.specs.FinMap.{put}
 use Rattle.pg_cells.proofs.StringMaps.{order}
@@ -63,10 +63,10 @@ standing c =
     (records_stay c.enter.new.cells c.self.inside.outputs c.raised.new.outputs same.trie c.raised.ensures.grows)
 
 signs_kept : (c : goal.After-set_value) → c.set_value.new.self.signs ≡ c.self.inside.cells.signs
-signs_kept c = ap (λ (h : Held ℕ). h.signs) (c.set_value.ensures.held c.args.signs.now c.in_ok-cell.ensures.cell) ∙ c.enter.ensures.signs
+signs_kept c = ap (λ (h : ValuedFamilies ℕ). h.signs) (c.set_value.ensures.held c.args.signs.now c.in_ok-cell.ensures.cell) ∙ c.enter.ensures.signs
 
 families_kept : (c : goal.After-set_value) → c.set_value.new.self.families ≡ enter c.self.inside.cells.signs c.self.inside.cells.families c.args.signs.now
-families_kept c = ap (λ (h : Held ℕ). h.families) (c.set_value.ensures.held c.args.signs.now c.in_ok-cell.ensures.cell) ∙ c.in_ok-cell.ensures.families
+families_kept c = ap (λ (h : ValuedFamilies ℕ). h.families) (c.set_value.ensures.held c.args.signs.now c.in_ok-cell.ensures.cell) ∙ c.in_ok-cell.ensures.families
 
 pub invariant_of-self-2 : goal.invariant_of-self-2
 invariant_of-self-2 c = (entering c).trie

@@ -7,9 +7,9 @@ use Rattle.std.specs.Cmp.Lexicographic.{slice_cmp}
 use Rattle.std.specs.FinMap.{find}
 use Rattle.std.specs.FinMap.Entries.{is_sorted}
 use Rattle.pg_types.specs.Placement.{Family, family_at, cell_of, base_of}
-use Rattle.pg_cells.specs.Held.{Held}
+use Rattle.pg_cells.specs.ValuedFamilies.{ValuedFamilies}
 
-pub record IsHeld {V : Type 0} (h : Held V) : Type 0 where
+pub record AreValuedFamilies {V : Type 0} (h : ValuedFamilies V) : Type 0 where
   -- the families and the values stand in the order of their strings
   pub sorted : T (is_sorted (slice_cmp nat_cmp) h.families)
   pub ordered : T (is_sorted (slice_cmp nat_cmp) h.values)

@@ -7,7 +7,7 @@ use Rattle.std.specs.Coded.{Coded, code_by, coded×, coded_ℕ, coded_list}
 use Rattle.pg_types.specs.Placement.{Family, Families}
 
 -- the number of signs of the table; the families; and the values in the order of the strings
-pub record Held (V : Type 0) : Type 0 where
+pub record ValuedFamilies (V : Type 0) : Type 0 where
   pub signs : ℕ
   pub families : Families
   pub values : List (List ℕ × V)
@@ -21,8 +21,8 @@ families_code = coded_list (coded× (coded_list coded_ℕ) family_code)
 abbrev pub values_code : {V : Type 0} → Coded V → Coded (List (List ℕ × V))
 values_code code = coded_list (coded× (coded_list coded_ℕ) code)
 
-abbrev pub held_code : {V : Type 0} → Coded V → Coded (Held V)
-held_code {V} code =
+abbrev pub valued_families_code : {V : Type 0} → Coded V → Coded (ValuedFamilies V)
+valued_families_code {V} code =
     code_by (ℕ × (Families × List (List ℕ × V))) (coded× coded_ℕ (coded× families_code (values_code code)))
     (λ h. (h.signs, (h.families, h.values)))
     (λ p. record { signs = p.0; families = p.1.0; values = p.1.1 })

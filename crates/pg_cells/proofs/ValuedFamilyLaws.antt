@@ -8,8 +8,8 @@ use Rattle.std.specs.Option.{option_map, is_some}
 use Rattle.std.specs.FinMap.{find}
 use Rattle.pg_types.specs.Placement.{Family, family_at, cell_of, base_of}
 use Rattle.pg_cells.specs.Lists.{Row, sign_at}
-use Rattle.pg_cells.specs.Held.{Trie}
-use Rattle.pg_cells.specs.IsHeld.{IsHeld}
+use Rattle.pg_cells.specs.ValuedFamilies.{Trie}
+use Rattle.pg_cells.specs.AreValuedFamilies.{AreValuedFamilies}
 use Rattle.pg_cells.specs.Layouts.{IsTrie, value_in}
 use Rattle.pg_cells.specs.OneTrie.{HasLast, last_of}
 use Rattle.pg_cells.proofs.LinkedLists.{taken_within}
@@ -88,7 +88,7 @@ module _ {V : Type 0} (n : ℕ) (r : Row V) (t : Trie V) (trie : IsTrie n r t) (
       shown true cell = refl
       shown false cell = refl
 
-  pub is_held : IsHeld (record { signs = n; families = t.families; values = t.values })
+  pub is_held : AreValuedFamilies (record { signs = n; families = t.families; values = t.values })
   is_held = record {
     sorted = trie.sorted;
     ordered = trie.ordered;
