@@ -3,7 +3,7 @@ ghost use Rattle.std.specs.Prelude.{◌≡◌, ◌≢◌, ℕ, ◌+◌, ◌-◌,
 ghost use Rattle.std.specs.Option.{option_copied, option_map};
 ghost use Rattle.std.specs.FinMap as fin;
 ghost use Rattle.pg_outside.specs.Content.{file_at, KeepsHeld, IsFile, IsFileCut, WasWritten, WasPartWritten};
-ghost use Rattle.pg_outside.specs.Faults.{next_count, RoseFor, NoneFell, SameCounts, SameOthers};
+ghost use Rattle.pg_outside.specs.Faults.{next_count, RoseFor, RoseByOneAtMost, NoneFell, SameCounts, SameOthers};
 
 use super::missing::note_name;
 use super::outside::{Failed, Files, ReadError};
@@ -109,6 +109,8 @@ impl MemoryFiles {
         ensures calls { calls_of self.new ≡ next_count (calls_of self.old) }
         ensures reads { self.old.reads_failed ≤ self.new.reads_failed }
         ensures writes { self.old.writes_failed ≤ self.new.writes_failed }
+        ensures reads_by_one { self.new.reads_failed ≤ self.old.reads_failed + 1 }
+        ensures writes_by_one { self.new.writes_failed ≤ self.old.writes_failed + 1 }
         ensures reads_rose { OnSome result (self.new.reads_failed ≡ next_count self.old.reads_failed) }
         ensures writes_rose { OnSome result (self.new.writes_failed ≡ next_count self.old.writes_failed) }
         ensures reads_same { IfNone result (self.new.reads_failed ≡ self.old.reads_failed) }
@@ -171,6 +173,10 @@ impl Files for MemoryFiles {
             → SameOthers (reads_failed_of self.old) (reads_failed_of self.new) name.now }
         ensures memory_reads { IsErrOf result ReadError.Memory → SameReads self.old self.new }
         ensures unlisted_writes { IsUnlisted self.old → SameWrites self.old self.new }
+
+        // No count rises by more than one.
+        ensures reads_by_one { RoseByOneAtMost (reads_failed_of self.old) (reads_failed_of self.new) }
+        ensures writes_by_one { RoseByOneAtMost (writes_failed_of self.old) (writes_failed_of self.new) }
     {
         match self.next_plan() {
             Some(_) => Err(ReadError::Failed),
@@ -216,6 +222,10 @@ impl Files for MemoryFiles {
         ensures failed_writes { OnErr result (WritesRose self.old self.new) }
         ensures ok_writes { OnOk result (SameWrites self.old self.new) }
         ensures unlisted_reads { IsUnlisted self.old → SameReads self.old self.new }
+
+        // No count rises by more than one.
+        ensures reads_by_one { RoseByOneAtMost (reads_failed_of self.old) (reads_failed_of self.new) }
+        ensures writes_by_one { RoseByOneAtMost (writes_failed_of self.old) (writes_failed_of self.new) }
     {
         match self.next_plan() {
             Some(plan) => {

@@ -72,6 +72,7 @@ impl MemorySink {
         ensures held { self.new.held ≡ self.old.held }
         ensures later { sink_faults self.old ≤ sink_faults self.new }
         ensures faults { sink_faults self.new ≡ next_count (sink_faults self.old) }
+        ensures by_one { sink_faults self.new ≤ sink_faults self.old + 1 }
         ensures plans { self.new.plans ≡ self.old.plans }
     {
         self.failed = self.failed.saturating_add(1);
@@ -104,9 +105,10 @@ impl Sink for MemorySink {
         ensures keeps_none { next_listed_put self.old ≡ Some None → SameBytes self.old self.new }
         ensures keeps { PutsFront self.old self.new bytes.now }
 
-        // Every other put succeeds and raises no count.
+        // Every other put succeeds and raises no count, and no put raises it by more than one.
         ensures succeeds { next_listed_put self.old ≡ None → IsWithin self.old bytes.now → IsOk result }
         ensures ok_faults { OnOk result (sink_faults self.new ≡ sink_faults self.old) }
+        ensures by_one { sink_faults self.new ≤ sink_faults self.old + 1 }
     {
         let plan = self.plans.next();
         if !self.held.has_room(bytes) {

@@ -1,6 +1,6 @@
 //! The names of the reads that found no file.
 ghost use Rattle.std.specs.Prelude.{◌≡◌, ◌+◌, OnOk, OnErr};
-ghost use Rattle.pg_outside.specs.Faults.{NoneFell, SameOthers};
+ghost use Rattle.pg_outside.specs.Faults.{NoneFell, RoseByOneAtMost, SameOthers};
 ghost use Rattle.pg_outside.specs.MissingNames.{times_in};
 
 use std::alloc::{AllocError, Global};
@@ -14,6 +14,7 @@ pub(crate) fn note_name(
     ensures counted { OnOk result (times_in names.new.items name.now ≡ times_in names.old.items name.now + 1) }
     ensures others { OnOk result (SameOthers (times_in names.old.items) (times_in names.new.items) name.now) }
     ensures later { NoneFell (times_in names.old.items) (times_in names.new.items) }
+    ensures by_one { RoseByOneAtMost (times_in names.old.items) (times_in names.new.items) }
     ensures err { OnErr result (names.new.items ≡ names.old.items) }
 {
     let name = String::from_str(alloc, name)?;

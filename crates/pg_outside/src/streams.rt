@@ -40,6 +40,8 @@ pub(crate) fn read_within<R: Read>(
     ensures cut { IsErrOf result ReadError.TooLong → length into.new.items ≡ limit + 1 }
     ensures whole { OnOk result (IsWhole (R.remaining from.old) into.new.items) }
     ensures front { IsErrOf result ReadError.TooLong → IsFront (R.remaining from.old) limit into.new.items }
+    ensures taken { IsErrOf result ReadError.TooLong
+        → Consumes (R.remaining from.old) (R.remaining from.new) into.new.items }
     ensures failed { IsErrOf result ReadError.Failed
         → Consumes (R.remaining from.old) (R.remaining from.new) into.new.items }
 {
