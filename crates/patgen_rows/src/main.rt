@@ -18,7 +18,7 @@ use std::process::ExitCode;
 use std::rt::{Env, Files};
 use std::{env, fs, io};
 use table::Table;
-use trial::try_rows;
+use trial::Trial;
 
 /// Reads a table and does its rows: whether it is one and all goes as wanted.
 fn try_table<R: Files + AllocGlobal + Print>(rt: &R, name: &str) -> io::Result<bool> {
@@ -31,7 +31,13 @@ fn try_table<R: Files + AllocGlobal + Print>(rt: &R, name: &str) -> io::Result<b
             return Ok(false);
         }
     };
-    let tally = try_rows(rt, alloc, &table)?;
+    let trial = Trial {
+        rt,
+        alloc,
+        name,
+        table: &table,
+    };
+    let tally = trial.try_rows()?;
     let rows = table.rows.len();
     println!(rt;
         "{name}: {rows} rows, {} calls, {} wrong",
