@@ -9,7 +9,7 @@ use Rattle.pg_cells.specs.declared.fit.Slot.{Slot}
 use Rattle.pg_cells.specs.Lists.{Row, sign_at, child_at, base_at}
 use Rattle.pg_cells.specs.Store.{IsTop}
 use Rattle.pg_cells.specs.Fit.{signs_of, slot_of, fits_row}
-use Rattle.pg_cells.specs.Moves.{Gives, Drops, Outside}
+use Rattle.pg_cells.specs.Moves.{GivesUp, Drops, Outside}
 use Rattle.pg_cells.specs.ValuedFamilies.{Trie}
 use Rattle.pg_cells.specs.Layouts.{IsTrie}
 use Rattle.pg_cells.proofs.StringMaps.{order, find_without_same, find_without_other, sorted_without, equal_or_not}
@@ -20,7 +20,7 @@ use Rattle.pg_cells.proofs.Slots.{slot_or_none, has_slot, outside_or}
 use Rattle.pg_cells.proofs.Owned.{Owned}
 
 module _ {V : Type 0} (n : ℕ) (r gave dropped : Row V) (t : Trie V) (trie : IsTrie n r t) (p : List ℕ) (was : ℕ) (slots : List (Slot V)) (own : Owned n r t p was slots)
-    (gives : Gives r gave was slots) (drops : Drops gave dropped was) where
+    (gives : GivesUp r gave was slots) (drops : Drops gave dropped was) where
   -- the other families
   abbrev pub rest : Families
   rest = without_family t.families p

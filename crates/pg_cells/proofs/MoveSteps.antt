@@ -5,7 +5,7 @@ use Rattle.pg_cells.specs.declared.fit.Slot.{Slot}
 use Rattle.pg_cells.specs.Lists.{Row, sign_at, child_at}
 use Rattle.pg_cells.specs.Fit.{slot_of}
 use Rattle.pg_cells.specs.Writes.{Elsewhere, Takes, Frees}
-use Rattle.pg_cells.specs.Moves.{Others, Gives, Puts}
+use Rattle.pg_cells.specs.Moves.{Others, GivesUp, Puts}
 use Rattle.pg_cells.proofs.Slots.{slot_push, outside_push}
 
 module _ {V : Type 0} where
@@ -21,7 +21,7 @@ module _ {V : Type 0} where
   others_none : (r : Row V) (base : ℕ) → Others r r base []
   others_none r base = record { signs = λ i out. refl; children = λ i out. refl; values = λ i out. refl; bases = λ b. refl; size = refl }
 
-  pub gives_none : (r : Row V) (base : ℕ) → Gives r r base []
+  pub gives_none : (r : Row V) (base : ℕ) → GivesUp r r base []
   gives_none r base = record { others = others_none r base; free = λ x s e. cc; count = omega arith }
 
   pub puts_none : (r : Row V) (base : ℕ) → Puts r r base []
@@ -33,7 +33,7 @@ module _ {V : Type 0} where
       let same : x ≡ y.sign = omega arith in
       let there : slot_of xs y.sign ≡ Some s = ap (slot_of xs) (sym same) ∙ at in cc
 
-  pub gives_more : (old mid new : Row V) (base : ℕ) (xs : List (Slot V)) (y : Slot V) → slot_of xs y.sign ≡ None → Gives old mid base xs → Frees mid new (base + y.sign) → Gives old new base (xs ++ y ∷ [])
+  pub gives_more : (old mid new : Row V) (base : ℕ) (xs : List (Slot V)) (y : Slot V) → slot_of xs y.sign ≡ None → GivesUp old mid base xs → Frees mid new (base + y.sign) → GivesUp old new base (xs ++ y ∷ [])
   gives_more old mid new base xs y none g f = record {
     others = others_more old mid new base xs y none g.others f.elsewhere;
     free = λ x s at. elim (slot_push xs y x s at) [

@@ -8,7 +8,7 @@ use Rattle.pg_cells.specs.Lists.{Row, sign_at, base_at, IsFree}
 use Rattle.pg_cells.specs.Fit.{signs_of, slot_of, fits_row}
 use Rattle.pg_cells.specs.Store.{IsTop}
 use Rattle.pg_cells.specs.Writes.{Takes, SetsBase}
-use Rattle.pg_cells.specs.Moves.{Gives, Drops, Puts, Outside, CanPlace}
+use Rattle.pg_cells.specs.Moves.{GivesUp, Drops, Puts, Outside, CanPlace}
 use Rattle.pg_cells.proofs.Slots.{has_slot, slot_has, outside_or, outside_here}
 
 pub all_true : (test : ℕ → Bool) (xs : List ℕ) → ((y : ℕ) → list_any (nat_eq y) xs ≡ true → test y ≡ true) → list_all test xs ≡ true
@@ -25,7 +25,7 @@ all_has test (x ∷ xs) y h e =
     ]
 
 module _ {V : Type 0} (n : ℕ) (old gave dropped : Row V) (was : ℕ) (slots : List (Slot V)) (slot : Slot V) (parent : ℕ)
-    (can : CanPlace n old was slots slot parent) (gives : Gives old gave was slots) (drops : Drops gave dropped was) where
+    (can : CanPlace n old was slots slot parent) (gives : GivesUp old gave was slots) (drops : Drops gave dropped was) where
   pub dropped_sign : (i : ℕ) → sign_at dropped i ≡ sign_at gave i
   dropped_sign i = elim drops [ inl h ↦ ap (λ (r : Row V). sign_at r i) h.1 | inr h ↦ h.1.signs i ]
 

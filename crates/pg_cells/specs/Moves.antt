@@ -26,7 +26,7 @@ module _ {V : Type 0} where
     pub size : length new.signs ≡ length old.signs
 
   -- the cells of the slots are given up
-  pub record Gives (old new : Row V) (base : ℕ) (slots : List (Slot V)) : Type 0 where
+  pub record GivesUp (old new : Row V) (base : ℕ) (slots : List (Slot V)) : Type 0 where
     pub others : Others old new base slots
     pub free : (x : ℕ) (slot : Slot V) → slot_of slots x ≡ Some slot → sign_at new (base + x) ≡ 0
     pub count : taken_in new + length slots ≡ taken_in old
@@ -79,7 +79,7 @@ module _ {V : Type 0} where
     pub settled : Row V
     pub took : Row V
     pub flagged : Row V
-    pub gives : Gives old gave was slots
+    pub gives : GivesUp old gave was slots
     pub drops : Drops gave dropped was
     pub top : ℕ
     pub is_top : IsTop dropped.signs top

@@ -4,7 +4,7 @@ ghost use Rattle.pg_cells.specs.declared.fit.Slot.{Slot as SlotOf};
 ghost use Rattle.pg_cells.specs.Lists.{sign_at, IsFree};
 ghost use Rattle.pg_cells.specs.Fit.{slot_of};
 ghost use Rattle.pg_cells.specs.Members.{ArePassing};
-ghost use Rattle.pg_cells.specs.Moves.{AreDistinct, Gives, Puts, Collected, Collects};
+ghost use Rattle.pg_cells.specs.Moves.{AreDistinct, GivesUp, Puts, Collected, Collects};
 
 use crate::fit::Slot;
 use crate::store::Store;
@@ -17,7 +17,7 @@ pub fn give_up<V: Copy>(store: &mut Store<V>, base: usize, slots: &[Slot<V>])
     requires base { base < 2 ^ 32 }
     requires taken { (x : ℕ) (slot : SlotOf V) → slot_of slots.now x ≡ Some slot →
         (0 < x) × (sign_at store.old (base + x) ≢ 0) }
-    ensures { Gives store.old store.new base slots.now }
+    ensures { GivesUp store.old store.new base slots.now }
 {
     for slot in slots {
         store.free(base + slot.sign as usize);

@@ -10,7 +10,7 @@ use Rattle.pg_patterns.specs.Values.{is_entry, value_at}
 use Rattle.pg_select.specs.Windows.{Patterns}
 use Rattle.pg_prune.specs.Places.{Place}
 use Rattle.pg_prune.specs.Standing.{stands}
-use Rattle.pg_prune.specs.Holders.{count_at, tally, greatest_value_from, greatest_value, with_one, less_one}
+use Rattle.pg_prune.specs.Holders.{count_at, holder_counts, greatest_value_from, greatest_value, with_one, less_one}
 
 -- where two functions agree on numbers, so do the lists that they make
 map_same : (f g : ℕ → ℕ) (a n : ℕ) → ((u : ℕ) → a ≤ u → f u ≡ g u) → map f (range_with_len a n) ≡ map g (range_with_len a n)
@@ -47,11 +47,11 @@ plus_one n true is = refl
 plus_one n false is = absurd (cc)
 
 module _ (before : Patterns) (e : (List ℕ × ℕ) × ℕ) (behind : Patterns) (x : Place) where
-  pub tally_away : stands e x ≡ false → tally (before ++ e ∷ behind) x ≡ tally (before ++ behind) x
+  pub tally_away : stands e x ≡ false → holder_counts (before ++ e ∷ behind) x ≡ holder_counts (before ++ behind) x
   tally_away away = map_same (count_at (before ++ e ∷ behind) x) (count_at (before ++ behind) x) 1 9 (λ u low.
       one_more before e behind x u ∙ plus_none (count_at (before ++ behind) x u) (stands e x && nat_eq e.1 u) (ap (λ b. b && nat_eq e.1 u) away))
 
-  pub tally_there : 1 ≤ e.1 → e.1 ≤ 9 → stands e x ≡ true → tally (before ++ e ∷ behind) x ≡ with_one (tally (before ++ behind) x) e.1
+  pub tally_there : 1 ≤ e.1 → e.1 ≤ 9 → stands e x ≡ true → holder_counts (before ++ e ∷ behind) x ≡ with_one (holder_counts (before ++ behind) x) e.1
   tally_there low high there =
       let at : 1 + (e.1 - 1) ≡ e.1 = omega arith in
       map_more (count_at (before ++ e ∷ behind) x) (count_at (before ++ behind) x) 1 (e.1 - 1) 9 (omega arith)
@@ -111,13 +111,13 @@ either true = inl refl
 either false = inr refl
 
 -- the value of a place is the greatest that some entry gives
-pub greatest_value_is : (Q : Patterns) (x : Place) → list_all is_entry Q ≡ true → greatest_value (tally Q x) ≡ value_at Q x.signs x.position
+pub greatest_value_is : (Q : Patterns) (x : Place) → list_all is_entry Q ≡ true → greatest_value (holder_counts Q x) ≡ value_at Q x.signs x.position
 greatest_value_is [] x sound = refl
 greatest_value_is (e ∷ Q) x sound =
     let low = entry_low e (and_first _ _ sound) in
     let high = entry_high e (and_first _ _ sound) in
     let others = greatest_value_is Q x (and_second _ _ sound) in
     elim (either (stands e x)) [
-      | inl there ↦ ap greatest_value (tally_there [] e Q x low high there) ∙ greatest_value_with (tally Q x) e.1 low (omega arith) ∙ ap (max e.1) others ∙ ap (λ b. max (cond b e.1 0) (value_at Q x.signs x.position)) (sym there)
+      | inl there ↦ ap greatest_value (tally_there [] e Q x low high there) ∙ greatest_value_with (holder_counts Q x) e.1 low (omega arith) ∙ ap (max e.1) others ∙ ap (λ b. max (cond b e.1 0) (value_at Q x.signs x.position)) (sym there)
       | inr away ↦ ap greatest_value (tally_away [] e Q x away) ∙ others ∙ (let at : value_at Q x.signs x.position ≡ max 0 (value_at Q x.signs x.position) = omega arith in at) ∙ ap (λ b. max (cond b e.1 0) (value_at Q x.signs x.position)) (sym away)
     ]

@@ -12,7 +12,7 @@ use Rattle.pg_select.specs.Windows.{Patterns}
 use Rattle.pg_prune.specs.Places.{Place}
 use Rattle.pg_prune.specs.Prunes.{break_alike_at}
 use Rattle.pg_prune.specs.Standing.{stands, numbers_of}
-use Rattle.pg_prune.specs.Holders.{count_at, tally, greatest_value, with_one, less_one, stays_alike}
+use Rattle.pg_prune.specs.Holders.{count_at, holder_counts, greatest_value, with_one, less_one, stays_alike}
 use Rattle.pg_prune.specs.Turns.{Turn, with_entry, without_entry, IsOf}
 use Rattle.pg_prune.proofs.PrunedLaws.{sound_without}
 use Rattle.pg_prune.proofs.Tallies.{tally_away, tally_there, less_with, greatest_value_is, entry_low, entry_high}
@@ -28,7 +28,7 @@ low_in h m low a (suc n) zero = low a
 low_in h m low a (suc n) (suc i) = low_in h m low (a + 1) n i
 
 -- no number of holders is greater than that of the entries
-pub held_low : (Q : Patterns) (x : Place) (i : ℕ) → get_or (tally Q x) i 0 ≤ length Q
+pub held_low : (Q : Patterns) (x : Place) (i : ℕ) → get_or (holder_counts Q x) i 0 ≤ length Q
 held_low Q x i = low_in (count_at Q x) (length Q) (λ u. count_by-le-length (λ e. stands e x && nat_eq e.1 u) Q) 1 9 i
 
 module _ (t : Turn) (numbers : List ℕ) (value : ℕ) (of : IsOf t numbers value) where
@@ -41,39 +41,39 @@ module _ (t : Turn) (numbers : List ℕ) (value : ℕ) (of : IsOf t numbers valu
   pub value_high : value ≤ 9
   value_high = let gives : value ≡ t.entry.1 = of.gives in let high = entry_high t.entry sound_alone in omega arith
 
-  pub away_same : (x : Place) → stands t.entry x ≡ false → tally (with_entry t) x ≡ tally (without_entry t) x
+  pub away_same : (x : Place) → stands t.entry x ≡ false → holder_counts (with_entry t) x ≡ holder_counts (without_entry t) x
   away_same x away = tally_away t.before t.entry t.behind x away
 
-  pub there_more : (x : Place) → stands t.entry x ≡ true → tally (with_entry t) x ≡ with_one (tally (without_entry t) x) value
+  pub there_more : (x : Place) → stands t.entry x ≡ true → holder_counts (with_entry t) x ≡ with_one (holder_counts (without_entry t) x) value
   there_more x there =
-      tally_there t.before t.entry t.behind x (entry_low t.entry sound_alone) (entry_high t.entry sound_alone) there ∙ ap (with_one (tally (without_entry t) x)) (sym of.gives)
+      tally_there t.before t.entry t.behind x (entry_low t.entry sound_alone) (entry_high t.entry sound_alone) there ∙ ap (with_one (holder_counts (without_entry t) x)) (sym of.gives)
 
-  pub there_less : (x : Place) → stands t.entry x ≡ true → less_one (tally (with_entry t) x) value ≡ tally (without_entry t) x
-  there_less x there = ap (λ c. less_one c value) (there_more x there) ∙ less_with (tally (without_entry t) x) value (let high = value_high in omega arith)
+  pub there_less : (x : Place) → stands t.entry x ≡ true → less_one (holder_counts (with_entry t) x) value ≡ holder_counts (without_entry t) x
+  there_less x there = ap (λ c. less_one c value) (there_more x there) ∙ less_with (holder_counts (without_entry t) x) value (let high = value_high in omega arith)
 
-  pub there_some : (x : Place) → stands t.entry x ≡ true → 0 < get_or (tally (with_entry t) x) (value - 1) 0
+  pub there_some : (x : Place) → stands t.entry x ≡ true → 0 < get_or (holder_counts (with_entry t) x) (value - 1) 0
   there_some x there =
       let high = value_high in
-      let n = get_or (tally (without_entry t) x) (value - 1) 0 in
-      let more : get_or (tally (with_entry t) x) (value - 1) 0 ≡ n + 1 = ap (λ c. get_or c (value - 1) 0) (there_more x there) ∙ get_or-set_same (tally (without_entry t) x) (value - 1) (n + 1) 0 (omega arith) in
+      let n = get_or (holder_counts (without_entry t) x) (value - 1) 0 in
+      let more : get_or (holder_counts (with_entry t) x) (value - 1) 0 ≡ n + 1 = ap (λ c. get_or c (value - 1) 0) (there_more x there) ∙ get_or-set_same (holder_counts (without_entry t) x) (value - 1) (n + 1) 0 (omega arith) in
       omega arith
 
-  top_with_is : (x : Place) → greatest_value (tally (with_entry t) x) ≡ value_at (with_entry t) x.signs x.position
+  top_with_is : (x : Place) → greatest_value (holder_counts (with_entry t) x) ≡ value_at (with_entry t) x.signs x.position
   top_with_is x = greatest_value_is (with_entry t) x of.sound
 
-  top_without_is : (x : Place) → greatest_value (tally (without_entry t) x) ≡ value_at (without_entry t) x.signs x.position
+  top_without_is : (x : Place) → greatest_value (holder_counts (without_entry t) x) ≡ value_at (without_entry t) x.signs x.position
   top_without_is x = greatest_value_is (without_entry t) x (sound_without t.before t.entry t.behind of.sound)
 
-  alike_as : (x : Place) (c : List ℕ) → c ≡ tally (without_entry t) x → break_alike_at (with_entry t) (without_entry t) x ≡ nat_eq (greatest_value (tally (with_entry t) x) % 2) (greatest_value c % 2)
+  alike_as : (x : Place) (c : List ℕ) → c ≡ holder_counts (without_entry t) x → break_alike_at (with_entry t) (without_entry t) x ≡ nat_eq (greatest_value (holder_counts (with_entry t) x) % 2) (greatest_value c % 2)
   alike_as x c is =
       ap (λ v. nat_eq (v % 2) (value_at (without_entry t) x.signs x.position % 2)) (sym (top_with_is x))
-      ∙ ap (λ v. nat_eq (greatest_value (tally (with_entry t) x) % 2) (v % 2)) (sym (top_without_is x) ∙ ap greatest_value (sym is))
+      ∙ ap (λ v. nat_eq (greatest_value (holder_counts (with_entry t) x) % 2) (v % 2)) (sym (top_without_is x) ∙ ap greatest_value (sym is))
 
-  pub there_alike : (x : Place) → stands t.entry x ≡ true → break_alike_at (with_entry t) (without_entry t) x ≡ stays_alike value (tally (with_entry t) x)
-  there_alike x there = alike_as x (less_one (tally (with_entry t) x) value) (there_less x there)
+  pub there_alike : (x : Place) → stands t.entry x ≡ true → break_alike_at (with_entry t) (without_entry t) x ≡ stays_alike value (holder_counts (with_entry t) x)
+  there_alike x there = alike_as x (less_one (holder_counts (with_entry t) x) value) (there_less x there)
 
   pub away_alike : (x : Place) → stands t.entry x ≡ false → break_alike_at (with_entry t) (without_entry t) x ≡ true
-  away_alike x away = alike_as x (tally (with_entry t) x) (away_same x away) ∙ eq-eqb (greatest_value (tally (with_entry t) x) % 2) _ refl
+  away_alike x away = alike_as x (holder_counts (with_entry t) x) (away_same x away) ∙ eq-eqb (greatest_value (holder_counts (with_entry t) x) % 2) _ refl
 
 -- a search is in the middle: in front all break alike
 pub record Looked (places : List Place) (alike : Place → Bool) (test : Place → Bool) (left : List ℕ) : Type 0 where

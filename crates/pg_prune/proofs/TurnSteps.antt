@@ -5,7 +5,7 @@ use Rattle.std.proofs.lemmas.List.{nil_from_length}
 use Rattle.pg_prune.specs.Places.{Place}
 use Rattle.pg_prune.specs.Prunes.{break_alike_at, first_difference}
 use Rattle.pg_prune.specs.Standing.{stands}
-use Rattle.pg_prune.specs.Holders.{tally}
+use Rattle.pg_prune.specs.Holders.{holder_counts}
 use Rattle.pg_prune.specs.Turns.{Turn, with_entry, without_entry, IsHeld, IsAwaited}
 use Rattle.pg_prune.proofs.Walks.{Walked, Step, walk_begins, walk_steps, walk_ends}
 use Rattle.pg_prune.proofs.TurnLaws.{away_same, away_alike, Looked, LookStep, look_begins, look_steps, look_ends}
@@ -19,37 +19,37 @@ none_left numbers i behind = nil_from_length (drop i numbers) (let many = length
 module _ (t : Turn) (numbers : List ℕ) (value : ℕ) (start : List (List ℕ)) where
   -- the entry is taken off
   abbrev pub Off : List (List ℕ) → List ℕ → Type 0
-  Off held left = Walked t.places (tally (with_entry t)) (tally (without_entry t)) (stands t.entry) held left
+  Off held left = Walked t.places (holder_counts (with_entry t)) (holder_counts (without_entry t)) (stands t.entry) held left
 
   pub off_begins : IsHeld t start numbers value → Off start numbers
-  off_begins h = walk_begins t.places (tally (with_entry t)) (tally (without_entry t)) (stands t.entry) start numbers h.tallied h.entry.stands
+  off_begins h = walk_begins t.places (holder_counts (with_entry t)) (holder_counts (without_entry t)) (stands t.entry) start numbers h.tallied h.entry.stands
 
   pub off_steps : IsHeld t start numbers value → (held : List (List ℕ)) (i : ℕ) → i < length numbers → Off held (drop i numbers)
-      → Step t.places (tally (with_entry t)) (tally (without_entry t)) (stands t.entry) held (get_or numbers i 0) (drop (i + 1) numbers)
+      → Step t.places (holder_counts (with_entry t)) (holder_counts (without_entry t)) (stands t.entry) held (get_or numbers i 0) (drop (i + 1) numbers)
   off_steps h held i inside w =
-      walk_steps t.places (tally (with_entry t)) (tally (without_entry t)) (stands t.entry) (away_same t numbers value h.entry) held (get_or numbers i 0) (drop (i + 1) numbers)
+      walk_steps t.places (holder_counts (with_entry t)) (holder_counts (without_entry t)) (stands t.entry) (away_same t numbers value h.entry) held (get_or numbers i 0) (drop (i + 1) numbers)
       (subst (λ left. Off held left) (left_at numbers i inside) w)
 
-  pub off_ends : IsHeld t start numbers value → (held : List (List ℕ)) (i : ℕ) → length numbers ≤ i → Off held (drop i numbers) → held ≡ map (tally (without_entry t)) t.places
+  pub off_ends : IsHeld t start numbers value → (held : List (List ℕ)) (i : ℕ) → length numbers ≤ i → Off held (drop i numbers) → held ≡ map (holder_counts (without_entry t)) t.places
   off_ends h held i behind w =
-      walk_ends t.places (tally (with_entry t)) (tally (without_entry t)) (stands t.entry) (away_same t numbers value h.entry) held (subst (λ left. Off held left) (none_left numbers i behind) w)
+      walk_ends t.places (holder_counts (with_entry t)) (holder_counts (without_entry t)) (stands t.entry) (away_same t numbers value h.entry) held (subst (λ left. Off held left) (none_left numbers i behind) w)
 
   -- it is added
   abbrev pub On : List (List ℕ) → List ℕ → Type 0
-  On held left = Walked t.places (tally (without_entry t)) (tally (with_entry t)) (stands t.entry) held left
+  On held left = Walked t.places (holder_counts (without_entry t)) (holder_counts (with_entry t)) (stands t.entry) held left
 
   pub on_begins : IsAwaited t start numbers value → On start numbers
-  on_begins h = walk_begins t.places (tally (without_entry t)) (tally (with_entry t)) (stands t.entry) start numbers h.tallied h.entry.stands
+  on_begins h = walk_begins t.places (holder_counts (without_entry t)) (holder_counts (with_entry t)) (stands t.entry) start numbers h.tallied h.entry.stands
 
   pub on_steps : IsAwaited t start numbers value → (held : List (List ℕ)) (i : ℕ) → i < length numbers → On held (drop i numbers)
-      → Step t.places (tally (without_entry t)) (tally (with_entry t)) (stands t.entry) held (get_or numbers i 0) (drop (i + 1) numbers)
+      → Step t.places (holder_counts (without_entry t)) (holder_counts (with_entry t)) (stands t.entry) held (get_or numbers i 0) (drop (i + 1) numbers)
   on_steps h held i inside w =
-      walk_steps t.places (tally (without_entry t)) (tally (with_entry t)) (stands t.entry) (λ x away. sym (away_same t numbers value h.entry x away)) held (get_or numbers i 0) (drop (i + 1) numbers)
+      walk_steps t.places (holder_counts (without_entry t)) (holder_counts (with_entry t)) (stands t.entry) (λ x away. sym (away_same t numbers value h.entry x away)) held (get_or numbers i 0) (drop (i + 1) numbers)
       (subst (λ left. On held left) (left_at numbers i inside) w)
 
-  pub on_ends : IsAwaited t start numbers value → (held : List (List ℕ)) (i : ℕ) → length numbers ≤ i → On held (drop i numbers) → held ≡ map (tally (with_entry t)) t.places
+  pub on_ends : IsAwaited t start numbers value → (held : List (List ℕ)) (i : ℕ) → length numbers ≤ i → On held (drop i numbers) → held ≡ map (holder_counts (with_entry t)) t.places
   on_ends h held i behind w =
-      walk_ends t.places (tally (without_entry t)) (tally (with_entry t)) (stands t.entry) (λ x away. sym (away_same t numbers value h.entry x away)) held (subst (λ left. On held left) (none_left numbers i behind) w)
+      walk_ends t.places (holder_counts (without_entry t)) (holder_counts (with_entry t)) (stands t.entry) (λ x away. sym (away_same t numbers value h.entry x away)) held (subst (λ left. On held left) (none_left numbers i behind) w)
 
   -- it is looked at
   abbrev pub Looks : List ℕ → Type 0
@@ -75,5 +75,5 @@ get_or-mapped f (y ∷ ys) (suc k) x inside at d = get_or-mapped f ys k x (omega
 
 -- the holders at a place of the entry
 pub held_at : (t : Turn) (numbers : List ℕ) (value : ℕ) (start : List (List ℕ)) → IsHeld t start numbers value → (k : ℕ) (x : Place) → k < length t.places → ((d : Place) → get_or t.places k d ≡ x)
-    → (d : List ℕ) → get_or start k d ≡ tally (with_entry t) x
-held_at t numbers value start h k x inside at d = ap (λ s. get_or s k d) h.tallied ∙ get_or-mapped (tally (with_entry t)) t.places k x inside at d
+    → (d : List ℕ) → get_or start k d ≡ holder_counts (with_entry t) x
+held_at t numbers value start h k x inside at d = ap (λ s. get_or s k d) h.tallied ∙ get_or-mapped (holder_counts (with_entry t)) t.places k x inside at d

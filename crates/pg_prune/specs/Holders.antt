@@ -9,8 +9,8 @@ abbrev pub count_at : Patterns → Place → ℕ → ℕ
 count_at Q x v = count_by (λ e. stands e x && nat_eq e.1 v) Q
 
 -- these numbers for the values 1 to 9
-abbrev pub tally : Patterns → Place → List ℕ
-tally Q x = map (count_at Q x) (1 ∷ 2 ∷ 3 ∷ 4 ∷ 5 ∷ 6 ∷ 7 ∷ 8 ∷ 9 ∷ [])
+abbrev pub holder_counts : Patterns → Place → List ℕ
+holder_counts Q x = map (count_at Q x) (1 ∷ 2 ∷ 3 ∷ 4 ∷ 5 ∷ 6 ∷ 7 ∷ 8 ∷ 9 ∷ [])
 
 -- the greatest value that some entry gives, where the first number is that of the value v + 1; v0 where none is
 abbrev pub greatest_value_from : ℕ → ℕ → List ℕ → ℕ

@@ -5,7 +5,7 @@ use Rattle.pg_patterns.specs.Values.{is_entry}
 use Rattle.pg_select.specs.Windows.{Patterns}
 use Rattle.pg_prune.specs.Places.{Place}
 use Rattle.pg_prune.specs.Standing.{standing}
-use Rattle.pg_prune.specs.Holders.{tally}
+use Rattle.pg_prune.specs.Holders.{holder_counts}
 
 -- an entry between others
 pub record Turn : Type 0 where
@@ -23,7 +23,7 @@ without_entry t = t.before ++ t.behind
 
 -- these numbers of holders are those of the map at each place
 abbrev pub IsTallied : List Place → Patterns → List (List ℕ) → Type 0
-IsTallied places Q holders = holders ≡ map (tally Q) places
+IsTallied places Q holders = holders ≡ map (holder_counts Q) places
 
 -- these are the numbers of the places at which the entry stands, and its value
 pub record IsOf (t : Turn) (numbers : List ℕ) (value : ℕ) : Type 0 where

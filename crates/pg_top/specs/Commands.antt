@@ -60,21 +60,21 @@ asked_by (Prune dict patterns output translate report) = ToPrune (record {
 asked_by (Sweep words) = ToSweep (sweep_of words)
 
 -- the numbers of `sweep` are within their limits
-pub record IsSweepWithin (w : SweepWords) : Type 0 where
+pub record KeepsSweepLimits (w : SweepWords) : Type 0 where
   pub folds : (2 ≤ w.folds) × (w.folds ≤ 10)
   pub bad : (1 ≤ w.bad) × (w.bad ≤ 1000)
   pub missed : (1 ≤ w.missed) × (w.missed ≤ 1000)
   pub params : (1 ≤ length w.params.now) × (length w.params.now ≤ 16)
 
 -- the numbers of `sample` and `sweep` are within their limits
-abbrev pub IsWithin : Command → Type 0
-IsWithin (Generate names) = Unit {0}
-IsWithin (Audit names) = Unit {0}
-IsWithin (Sample seed count) = (seed < 2 ^ 31) × (count ≤ 100000)
-IsWithin (Pack patterns translate table) = Unit {0}
-IsWithin (Totals dict translate table) = Unit {0}
-IsWithin (Prune dict patterns output translate report) = Unit {0}
-IsWithin (Sweep words) = IsSweepWithin words
+abbrev pub KeepsLimits : Command → Type 0
+KeepsLimits (Generate names) = Unit {0}
+KeepsLimits (Audit names) = Unit {0}
+KeepsLimits (Sample seed count) = (seed < 2 ^ 31) × (count ≤ 100000)
+KeepsLimits (Pack patterns translate table) = Unit {0}
+KeepsLimits (Totals dict translate table) = Unit {0}
+KeepsLimits (Prune dict patterns output translate report) = Unit {0}
+KeepsLimits (Sweep words) = KeepsSweepLimits words
 
 -- what the words of a call ask for, none where they are no command
 abbrev pub asked : List (String Global) → Option Request

@@ -6,7 +6,7 @@ ghost use Rattle.pg_outside.specs.Faults.{NoneFell};
 ghost use Rattle.pg_patterns.specs.Values.{SignsUpTo};
 ghost use Rattle.pg_translate.specs.Alphabets.{letters_of};
 ghost use Rattle.pg_top.specs.Calls.{outcome_of, writes_of};
-ghost use Rattle.pg_top.specs.Commands.{sweep_of, IsSweepWithin};
+ghost use Rattle.pg_top.specs.Commands.{sweep_of, KeepsSweepLimits};
 ghost use Rattle.pg_top.specs.Outcomes.{Ends};
 ghost use Rattle.pg_top.specs.Requests.{ToSweep};
 ghost use Rattle.pg_top.specs.Stops.{StopsCommand, StopsReading};
@@ -66,7 +66,7 @@ fn read_sweep<'a, F: Files>(
     words: &SweepWords<'a>,
     files: &mut F,
 ) -> Result<SweepInputs, Stop<'a>>
-    requires { IsSweepWithin words.now }
+    requires { KeepsSweepLimits words.now }
     ensures held { KeepsHeld (F.shown files.old).held (F.shown files.new).held }
     ensures writes { NoneFell (F.shown files.old).write_faults (F.shown files.new).write_faults }
     ensures ok { IfOk result (λ inputs. IfSome (F.shown files.new).held (λ files.
@@ -102,7 +102,7 @@ fn make_sweep<'a>(
     words: &SweepWords<'a>,
     inputs: &SweepInputs,
 ) -> Result<Outputs<'a>, AllocError>
-    requires within { IsSweepWithin words.now }
+    requires within { KeepsSweepLimits words.now }
     requires signs { HasSigns inputs.now }
     requires count { (1 ≤ length inputs.now.sets.items) × (length inputs.now.sets.items ≤ 16) }
     ensures made { IfOk result (λ made.
@@ -138,7 +138,7 @@ pub fn sweep_files<'a, F: Files>(
     words: &SweepWords<'a>,
     files: &mut F,
 ) -> Result<Outputs<'a>, Stop<'a>>
-    requires { IsSweepWithin words.now }
+    requires { KeepsSweepLimits words.now }
     ensures held { KeepsHeld (F.shown files.old).held (F.shown files.new).held }
     ensures writes { NoneFell (F.shown files.old).write_faults (F.shown files.new).write_faults }
     ensures ok { IfOk result (λ made. IfSome (F.shown files.new).held (λ files.

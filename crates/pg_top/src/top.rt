@@ -4,7 +4,7 @@ ghost use Rattle.pg_outside.specs.Content.{KeepsHeld, file_at};
 ghost use Rattle.pg_outside.specs.Faults.{NoneFell};
 ghost use Rattle.pg_top.specs.Answers.{MayAnswer, IsAnswered, IsSampled, IsUntouched, IsComplete, IsCall};
 ghost use Rattle.pg_top.specs.Calls.{has_files, outcome_of, reads_of, writes_of};
-ghost use Rattle.pg_top.specs.Commands.{texts_of, sweep_of, asked_by, IsSweepWithin, IsWithin, asked};
+ghost use Rattle.pg_top.specs.Commands.{texts_of, sweep_of, asked_by, KeepsSweepLimits, KeepsLimits, asked};
 ghost use Rattle.pg_top.specs.Faults.{SomeRose, IsFault};
 ghost use Rattle.pg_top.specs.Moments.{Puts};
 ghost use Rattle.pg_top.specs.Outcomes.{Ends};
@@ -151,7 +151,7 @@ fn sweep<F: Files, O: Sink>(
     files: &mut F,
     out: &mut O,
 ) -> Status
-    requires { IsSweepWithin words.now }
+    requires { KeepsSweepLimits words.now }
     ensures { IsCall (Some (ToSweep (sweep_of words.now))) result
         (F.shown files.old, O.shown out.old) (F.shown files.new, O.shown out.new) }
 {
@@ -168,7 +168,7 @@ fn perform<F: Files, O: Sink>(
     files: &mut F,
     out: &mut O,
 ) -> Status
-    requires { IsWithin command.now }
+    requires { KeepsLimits command.now }
     ensures call { IsCall (Some (asked_by command.now)) result
         (F.shown files.old, O.shown out.old) (F.shown files.new, O.shown out.new) }
     ensures sampled { IsSampled (Some (asked_by command.now)) result

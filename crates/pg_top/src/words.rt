@@ -3,7 +3,7 @@ ghost use Rattle.std.specs.Prelude.{◌≡◌, ◌≤◌, ◌<◌, ◌++◌, ◌
 ghost use Rattle.std.specs.List.{list_all};
 ghost use Rattle.std.specs.Option.{option_map, option_and_then};
 ghost use Rattle.pg_top.specs.Requests.{is_name as is_name_word, if_asked, input_names, output_names, differs_from, outputs_differ, are_taken as are_taken_names, with_option as with_option_of, with_options as with_options_of, six_names, names_in, to_generate, to_audit, sample_in, pack_in, totals_in, is_prune_taken as is_prune_taken_names, prune_in, is_sweep_taken, sweep_in, request_of};
-ghost use Rattle.pg_top.specs.Commands.{name_now, texts_of, asked_by, IsWithin, words_of};
+ghost use Rattle.pg_top.specs.Commands.{name_now, texts_of, asked_by, KeepsLimits, words_of};
 
 use crate::commands::{Command, Names, SweepWords};
 use crate::numbers::{number, number_within};
@@ -201,7 +201,7 @@ fn names(words: &[String]) -> Option<Names<'_>>
 
 /// What the words behind `generate` ask for.
 fn generate(words: &[String]) -> Option<Command<'_>>
-    ensures within { IfSome result IsWithin }
+    ensures within { IfSome result KeepsLimits }
     ensures value { option_map asked_by result ≡ option_and_then to_generate (names_in (words_of words.now)) }
 {
     let names = names(words)?;
@@ -214,7 +214,7 @@ fn generate(words: &[String]) -> Option<Command<'_>>
 
 /// What the words behind `audit` ask for.
 fn audit(words: &[String]) -> Option<Command<'_>>
-    ensures within { IfSome result IsWithin }
+    ensures within { IfSome result KeepsLimits }
     ensures value { option_map asked_by result ≡ option_and_then to_audit (names_in (words_of words.now)) }
 {
     let names = names(words)?;
@@ -228,7 +228,7 @@ fn audit(words: &[String]) -> Option<Command<'_>>
 /// What the words behind `sample` ask for.
 fn sample(words: &[String]) -> Option<Command<'_>>
     ensures value { option_map asked_by result ≡ sample_in (words_of words.now) }
-    ensures within { IfSome result IsWithin }
+    ensures within { IfSome result KeepsLimits }
 {
     if words.len() != 2 {
         return None;
@@ -241,7 +241,7 @@ fn sample(words: &[String]) -> Option<Command<'_>>
 /// What the words behind `pack` ask for.
 fn pack(words: &[String]) -> Option<Command<'_>>
     ensures value { option_map asked_by result ≡ pack_in (words_of words.now) }
-    ensures within { IfSome result IsWithin }
+    ensures within { IfSome result KeepsLimits }
 {
     if words.len() != 3 {
         return None;
@@ -268,7 +268,7 @@ fn pack(words: &[String]) -> Option<Command<'_>>
 /// What the words behind `totals` ask for.
 fn totals(words: &[String]) -> Option<Command<'_>>
     ensures value { option_map asked_by result ≡ totals_in (words_of words.now) }
-    ensures within { IfSome result IsWithin }
+    ensures within { IfSome result KeepsLimits }
 {
     if words.len() != 3 {
         return None;
@@ -314,7 +314,7 @@ fn is_prune_taken(dict: &str, patterns: &str, output: &str, translate: &str, rep
 /// What the words behind `prune` ask for.
 fn prune(words: &[String]) -> Option<Command<'_>>
     ensures value { option_map asked_by result ≡ prune_in (words_of words.now) }
-    ensures within { IfSome result IsWithin }
+    ensures within { IfSome result KeepsLimits }
 {
     if words.len() != 5 {
         return None;
@@ -397,7 +397,7 @@ fn behind_seven(words: &[String]) -> &[String]
 /// What the words behind `sweep` ask for.
 fn sweep(words: &[String]) -> Option<Command<'_>>
     ensures value { option_map asked_by result ≡ sweep_in (words_of words.now) }
-    ensures within { IfSome result IsWithin }
+    ensures within { IfSome result KeepsLimits }
 {
     if words.len() < 7 {
         return None;
@@ -432,7 +432,7 @@ fn sweep(words: &[String]) -> Option<Command<'_>>
 /// `sweep DICT PATTERNS OUT TRANSLATE K BAD MISSED` with the names of 1 to 16 parameter files. It takes no memory.
 pub fn command(words: &[String]) -> Option<Command<'_>>
     ensures value { option_map asked_by result ≡ request_of (words_of words.now) }
-    ensures within { IfSome result IsWithin }
+    ensures within { IfSome result KeepsLimits }
 {
     if words.is_empty() {
         return None;

@@ -15,7 +15,7 @@ use Rattle.pg_cells.specs.AreValuedFamilies.{AreValuedFamilies}
 use Rattle.pg_cells.specs.Walks.{AddsBlanks}
 use Rattle.pg_cells.proofs.StringMaps.{order, equal_or_not, find_put_same, find_put_other}
 use Rattle.pg_trie.specs.declared.mark.TheConstants.{HOPELESS}
-use Rattle.pg_trie.specs.IsTrie.{IsTrie, IsHead}
+use Rattle.pg_trie.specs.IsTrie.{IsTrie, IsListHead}
 use Rattle.pg_trie.specs.Lists.{entered, Rises, DotsUpTo}
 use Rattle.pg_trie.specs.Maps.{Maps, maps_of, as_value, as_mark, entries}
 use Rattle.pg_trie.proofs.Found.{found_in, found_at, find-entries, sorted-entries, same_by_dots, other_place}
@@ -89,7 +89,7 @@ same_when cells records cells' records' is is' same same_marks = record {
 pub blanks_stay : (cells cells' : ValuedFamilies ℕ) (records : List Record) (w : List ℕ) → IsTrie cells records → AreValuedFamilies cells' → cells'.signs ≡ cells.signs → length w ≤ PATTERN_SIGNS_MAX → AddsBlanks w 0 cells.values cells'.values → SameMaps cells records cells' records
 blanks_stay cells cells' records w is held signs short adds = same_when cells records cells' records is trie (same as_value) (same as_mark)
   where
-    blank : (k : ℕ) → IsHead records (take k w) 0
+    blank : (k : ℕ) → IsListHead records (take k w) 0
     blank k = record {
       inside = omega arith;
       short = omega (arith, length-take k w);
@@ -97,13 +97,13 @@ blanks_stay cells cells' records w is held signs short adds = same_when cells re
       dots = subst (DotsUpTo (length (take k w))) (sym (list_of-zero records)) tt;
     }
 
-    heads : (q : List ℕ) (head : ℕ) → find order q cells'.values ≡ Some head → IsHead records q head
+    heads : (q : List ℕ) (head : ℕ) → find order q cells'.values ≡ Some head → IsListHead records q head
     heads q head at = by (find order q cells.values) refl
       where
-        by : (o : Option ℕ) → find order q cells.values ≡ o → IsHead records q head
+        by : (o : Option ℕ) → find order q cells.values ≡ o → IsListHead records q head
         by None none =
             let b = adds.blanks q head none at in
-            subst (λ h. IsHead records q h) (sym b.0) (subst (λ p. IsHead records p 0) (sym b.2) (blank b.1))
+            subst (λ h. IsListHead records q h) (sym b.0) (subst (λ p. IsListHead records p 0) (sym b.2) (blank b.1))
         by (Some u) some =
             let there : Some u ≡ Some head = sym (adds.keeps q u some) ∙ at in
             is.heads q head (some ∙ there)
@@ -125,7 +125,7 @@ blanks_stay cells cells' records w is held signs short adds = same_when cells re
 pub records_stay : (cells : ValuedFamilies ℕ) (records records' : List Record) → IsTrie cells records → Grows records records' → SameMaps cells records cells records'
 records_stay cells records records' is grows = same_when cells records cells records' is trie (same as_value) (same as_mark)
   where
-    heads : (q : List ℕ) (head : ℕ) → find order q cells.values ≡ Some head → IsHead records' q head
+    heads : (q : List ℕ) (head : ℕ) → find order q cells.values ≡ Some head → IsListHead records' q head
     heads q head at =
         let h = is.heads q head at in
         let list = sym (grows.same head h.inside) in
@@ -162,10 +162,10 @@ enters cells cells' records q head new x is held put_is at inside list low high 
     values : cells'.values ≡ put order q new cells.values
     values = ap (λ (h : ValuedFamilies ℕ). h.values) put_is
 
-    here : IsHead records q head
+    here : IsListHead records q head
     here = is.heads q head at
 
-    new_head : IsHead records q new
+    new_head : IsListHead records q new
     new_head = record {
       inside = inside;
       short = here.short;
@@ -173,12 +173,12 @@ enters cells cells' records q head new x is held put_is at inside list low high 
       dots = subst (DotsUpTo (length q)) (sym list) (dots-entered x (length q) dot (list_of records head) here.dots);
     }
 
-    heads : (p : List ℕ) (h : ℕ) → find order p cells'.values ≡ Some h → IsHead records p h
+    heads : (p : List ℕ) (h : ℕ) → find order p cells'.values ≡ Some h → IsListHead records p h
     heads p h there = elim (equal_or_not p q) [
       | inl e ↦
           let found : Some new ≡ Some h = sym (find_put_same q new cells.values) ∙ sym (ap (λ y. find order y (put order q new cells.values)) e.0) ∙ sym (ap (find order p) values) ∙ there in
           let same : new ≡ h = cc in
-          subst (λ y. IsHead records p y) same (subst (λ y. IsHead records y new) (sym e.0) new_head)
+          subst (λ y. IsListHead records p y) same (subst (λ y. IsListHead records y new) (sym e.0) new_head)
       | inr n ↦ is.heads p h (sym (find_put_other p q new cells.values n.0) ∙ sym (ap (find order p) values) ∙ there)
     ]
 

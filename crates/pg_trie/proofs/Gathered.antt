@@ -14,7 +14,7 @@ use Rattle.pg_outputs.specs.Lists.{list_of}
 use Rattle.pg_cells.specs.ValuedFamilies.{ValuedFamilies}
 use Rattle.pg_cells.proofs.StringMaps.{order, equal_or_not}
 use Rattle.pg_trie.specs.declared.mark.TheConstants.{HOPELESS}
-use Rattle.pg_trie.specs.IsTrie.{IsTrie, IsHead}
+use Rattle.pg_trie.specs.IsTrie.{IsTrie, IsListHead}
 use Rattle.pg_trie.specs.Lists.{rank, Rises}
 use Rattle.pg_trie.specs.Maps.{maps_of, entries_of, with_entry, as_value}
 use Rattle.pg_trie.specs.Strings.{AreStrings}
@@ -85,7 +85,7 @@ pub gathers_more : (cells : ValuedFamilies ℕ) (records : List Record) → IsTr
     → Gathers (maps_of cells records).patterns strings i es → Gathers (maps_of cells records).patterns strings (i + 1) new
 gathers_more cells records is strings i es new k head at value more g = subst (λ l. Gathers (maps_of cells records).patterns strings (i + 1) l) (sym more) (record { sound = sound; under = λ j. under j.0 j.1; reached = reached })
   where
-    here : IsHead records k.0 head
+    here : IsListHead records k.0 head
     here = is.heads k.0 head value
 
     sound : list_all is_entry (es ++ entries_of as_value k.0 (list_of records head)) ≡ true

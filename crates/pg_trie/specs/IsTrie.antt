@@ -11,7 +11,7 @@ use Rattle.pg_cells.specs.AreValuedFamilies.{AreValuedFamilies}
 use Rattle.pg_trie.specs.Lists.{Rises, DotsUpTo}
 
 -- the head of a string: it has a list, which rises, and its dots are in the string
-pub record IsHead (records : List Record) (q : List ℕ) (head : ℕ) : Type 0 where
+pub record IsListHead (records : List Record) (q : List ℕ) (head : ℕ) : Type 0 where
   pub inside : head ≤ length records
   pub short : length q ≤ PATTERN_SIGNS_MAX
   pub rises : Rises 0 (list_of records head)
@@ -20,4 +20,4 @@ pub record IsHead (records : List Record) (q : List ℕ) (head : ℕ) : Type 0 w
 pub record IsTrie (cells : ValuedFamilies ℕ) (records : List Record) : Type 0 where
   pub signs : cells.signs ≤ SIGNS_MAX
   pub held : AreValuedFamilies cells
-  pub heads : (q : List ℕ) (head : ℕ) → find (slice_cmp nat_cmp) q cells.values ≡ Some head → IsHead records q head
+  pub heads : (q : List ℕ) (head : ℕ) → find (slice_cmp nat_cmp) q cells.values ≡ Some head → IsListHead records q head

@@ -1,5 +1,5 @@
 use Rattle.std.proofs.Common.{◌+◌, take, sym, subst, ◌∙◌, arith}
-use Rattle.pg_cells.specs.Moves.{Gives}
+use Rattle.pg_cells.specs.Moves.{GivesUp}
 use Rattle.pg_cells.proofs.Slots.{slot_here, outside_here}
 use Rattle.pg_cells.proofs.MoveSteps.{gives_more}
 use Rattle.pg_cells.proofs.moves.give_up.Goals as goal
@@ -18,5 +18,5 @@ free-requires-clause-taken g c z =
 pub loop-slot-preserved : goal.loop-slot-preserved
 loop-slot-preserved g c =
     let here = slot_here c.args.slots.now c.loop-slot.slot-index c.slot-item.result c.slot-item.is c.loop-slot-test.true c.requires.distinct in
-    subst (Gives c.args.store.now c.free.new.self c.args.base) (sym here.2)
+    subst (GivesUp c.args.store.now c.free.new.self c.args.base) (sym here.2)
     (gives_more c.args.store.now c.loop-slot.store c.free.new.self c.args.base (take c.loop-slot.slot-index c.args.slots.now) c.slot-item.result here.0 c.loop-slot.invariant c.free.ensures)

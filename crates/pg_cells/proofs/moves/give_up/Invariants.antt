@@ -1,6 +1,6 @@
 use Rattle.std.proofs.Common.{take}
-use Rattle.pg_cells.specs.Moves.{Gives}
+use Rattle.pg_cells.specs.Moves.{GivesUp}
 use Rattle.pg_cells.proofs.moves.give_up.Given as goal
 
 abbrev pub invariant-loop-slot : goal.invariant-loop-slot
-invariant-loop-slot g l = Gives l.initial.store l.store l.base (take l.slot-index l.slots)
+invariant-loop-slot g l = GivesUp l.initial.store l.store l.base (take l.slot-index l.slots)

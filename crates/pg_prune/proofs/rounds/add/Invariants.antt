@@ -1,10 +1,10 @@
 use Rattle.std.proofs.Common.{drop}
 use Rattle.pg_prune.specs.Standing.{stands}
-use Rattle.pg_prune.specs.Holders.{tally}
+use Rattle.pg_prune.specs.Holders.{holder_counts}
 use Rattle.pg_prune.specs.Turns.{Turn, with_entry, without_entry, IsAwaited}
 use Rattle.pg_prune.proofs.Walks.{Walked}
 use Rattle.pg_prune.proofs.rounds.add.Given as goal
 
 abbrev pub invariant-places : goal.invariant-places
 invariant-places l = (turn : Turn) → IsAwaited turn l.initial.holders l.places l.value
-    → Walked turn.places (tally (without_entry turn)) (tally (with_entry turn)) (stands turn.entry) l.holders (drop l.place-index l.places)
+    → Walked turn.places (holder_counts (without_entry turn)) (holder_counts (with_entry turn)) (stands turn.entry) l.holders (drop l.place-index l.places)

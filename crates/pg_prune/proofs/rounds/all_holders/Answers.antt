@@ -2,7 +2,7 @@ use Rattle.std.proofs.Common.{◌≡◌, ◌<◌, ◌-◌, ◌^◌, ◌∙◌, �
 use Rattle.std.proofs.Math.Seq.{take-append_seam}
 use Rattle.std.specs.Prelude.{replicate}
 use Rattle.pg_select.specs.Windows.{Patterns}
-use Rattle.pg_prune.specs.Holders.{tally}
+use Rattle.pg_prune.specs.Holders.{holder_counts}
 use Rattle.pg_prune.specs.Turns.{IsTallied}
 use Rattle.pg_prune.proofs.HolderSteps.{none_tallied, replicate_more, turn_after, turn_awaited, with_next}
 use Rattle.pg_prune.proofs.rounds.all_holders.Goals as goal
@@ -39,4 +39,4 @@ entries-preserved c = λ places g.
     let all : length c.as_mut_slice.result.now ≡ length c.entries.holders.items = ap length c.as_mut_slice.ensures.value in
     let size : c.entries.holders.len ≡ length new = omega (arith, c.entries.holders.ok.0) in
     let whole : take c.entries.holders.len (new ++ drop (length new) c.entries.holders.items) ≡ new = ap (λ n. take n (new ++ drop (length new) c.entries.holders.items)) size ∙ take-append_seam new (drop (length new) c.entries.holders.items) in
-    whole ∙ added ∙ ap (λ (Q : Patterns). map (tally Q) places) (sym (with_next places P c.entries.i inside))
+    whole ∙ added ∙ ap (λ (Q : Patterns). map (holder_counts Q) places) (sym (with_next places P c.entries.i inside))

@@ -1,6 +1,6 @@
 use Rattle.std.proofs.Common.{◌≡◌, ◌<◌, ◌-◌, ◌∙◌, true, false, length, get_or, Some, ap, sym, subst, arith}
 use Rattle.std.proofs.lemmas.List.{length-map}
-use Rattle.pg_prune.specs.Holders.{tally, stays_alike}
+use Rattle.pg_prune.specs.Holders.{holder_counts, stays_alike}
 use Rattle.pg_prune.specs.Prunes.{break_alike_at}
 use Rattle.pg_prune.specs.Turns.{with_entry, without_entry}
 use Rattle.pg_prune.proofs.TurnLaws.{there_alike, there_some, value_low, value_high}
@@ -11,7 +11,7 @@ pub bounds-holders-place : goal.bounds-holders-place
 bounds-holders-place c =
     let t = c.requires.0 in
     let within = (looks_step t c.args.places.now c.args.value c.args.holders.now c.requires.1 c.places.place-index c.places-test.true (c.places.invariant t c.requires.1)).within in
-    let many : length c.args.holders.now ≡ length t.places = ap length c.requires.1.tallied ∙ length-map t.places (tally (with_entry t)) in
+    let many : length c.args.holders.now ≡ length t.places = ap length c.requires.1.tallied ∙ length-map t.places (holder_counts (with_entry t)) in
     omega arith
 
 pub offset_bounds-holders-place : goal.offset_bounds-holders-place
