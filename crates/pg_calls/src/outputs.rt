@@ -5,13 +5,17 @@ use std::test::Fail;
 #[test]
 fn one_head_for_equal_records(rt: HostRuntime) -> Result<(), Fail> {
     let mut outputs = Outputs::new(rt.alloc());
-    assert_eq!(rt; outputs.cons(1, 2, 0)?, 1);
-    assert_eq!(rt; outputs.cons(2, 0, 1)?, 2);
-    assert_eq!(rt; outputs.cons(1, 2, 0)?, 1);
-    assert_eq!(rt; outputs.len(), 2);
-    assert_eq!(rt; outputs.first(2), Some((2, 0, 1)));
-    assert_eq!(rt; outputs.first(0), None);
-    assert_eq!(rt; outputs.find(1, 2, 0), Some(1));
-    assert_eq!(rt; outputs.find(1, 2, 1), None);
+    for (value, dot, next, head) in [(1, 2, 0, 1), (2, 0, 1, 2), (1, 2, 0, 1)] {
+        assert!(rt; next <= outputs.len());
+        assert_eq!(rt; outputs.cons(value, dot, next)?, head);
+    }
+    for (head, record) in [(2, Some((2, 0, 1))), (0, None)] {
+        assert!(rt; head <= outputs.len());
+        assert_eq!(rt; outputs.first(head), record);
+    }
+    assert_eq!(rt;
+        (outputs.len(), outputs.find(1, 2, 0), outputs.find(1, 2, 1)),
+        (2, Some(1), None)
+    );
     Ok(())
 }
