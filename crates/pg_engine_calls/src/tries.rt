@@ -2,7 +2,7 @@
 ghost use Rattle.std.specs.Prelude.{◌≡◌, IfOk, OnOk};
 
 use pg_trie::{HOPELESS, PatternTrie};
-use pg_types::{LEVEL_MAX, PATTERN_SIGNS_MAX, Sign};
+use pg_types::{PATTERN_SIGNS_MAX, Sign};
 use std::alloc::Global;
 use std::test::Fail;
 
