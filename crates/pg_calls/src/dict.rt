@@ -81,6 +81,21 @@ fn one_slice_of_all_signs(rt: HostRuntime) -> Result<(), Fail> {
     Ok(())
 }
 
+/// The words of a fold, or the others.
+fn words_of_part(
+    alloc: Global,
+    dictionary: &Dictionary,
+    folds: u8,
+    fold: u8,
+    inside: bool,
+) -> Result<Vec<(Weight, usize, Option<usize>)>, Fail> {
+    if fold >= folds {
+        return Err(Fail::new("a fold of so many"));
+    }
+    let part = dictionary.part(alloc, folds, fold, inside)?;
+    Ok(words_of(alloc, &part)?)
+}
+
 #[test]
 fn words_of_a_fold_and_the_others(rt: HostRuntime) -> Result<(), Fail> {
     let dictionary = dictionary_of(rt.alloc(), b"3ab-c\n7abc\nab\n1abca\n")?;
@@ -90,9 +105,8 @@ fn words_of_a_fold_and_the_others(rt: HostRuntime) -> Result<(), Fail> {
         (9, 8, true, &[]),
     ];
     for (folds, fold, inside, words) in parts {
-        assert!(rt; fold < folds);
-        let part = dictionary.part(rt.alloc(), folds, fold, inside)?;
-        assert_eq!(rt; words_of(rt.alloc(), &part)?.as_slice(), words);
+        let found = words_of_part(rt.alloc(), &dictionary, folds, fold, inside)?;
+        assert_eq!(rt; found.as_slice(), words);
     }
     Ok(())
 }
