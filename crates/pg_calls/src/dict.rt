@@ -1,8 +1,8 @@
 //! What a dictionary gives of small files, and of the longest.
 use pg_dict::Dictionary;
 use pg_translate::Table;
-use pg_types::ReadingError;
-use std::alloc::Global;
+use pg_types::{ReadingError, Weight};
+use std::alloc::{AllocError, Global};
 use std::test::Fail;
 
 /// The dictionary of a file under the letters a, b and c.
@@ -23,24 +23,46 @@ fn refusal_of(alloc: Global, bytes: &[u8]) -> Result<(u16, u32, u32), Fail> {
     }
 }
 
+/// The weight of each word, how many signs it has, and where its first hyphen is.
+fn words_of(
+    alloc: Global,
+    dictionary: &Dictionary,
+) -> Result<Vec<(Weight, usize, Option<usize>)>, AllocError> {
+    let mut words = Vec::new(alloc);
+    for i in 0..dictionary.len() {
+        let word = dictionary.word(i);
+        let hyphen = word.hyphens().iter().position(|hyphen| *hyphen);
+        words.push((word.weight(), word.signs().len(), hyphen))?;
+    }
+    Ok(words)
+}
+
 #[test]
 fn words_as_they_were_read(rt: HostRuntime) -> Result<(), Fail> {
-    let weights = [3, 3, 1];
     let dictionary = dictionary_of(rt.alloc(), b"3ab-c\nab-a\n1abc\n")?;
-    assert_eq!(rt; dictionary.len(), weights.len());
-    for i in 0..weights.len() {
-        assert_eq!(rt; dictionary.word(i).weight(), weights[i]);
-    }
+    assert_eq!(rt;
+        words_of(rt.alloc(), &dictionary)?.as_slice(),
+        [(3, 5, Some(3)), (3, 5, Some(3)), (1, 5, None)].as_slice()
+    );
+    Ok(())
+}
+
+#[test]
+fn positions_of_a_word(rt: HostRuntime) -> Result<(), Fail> {
     let dictionary = dictionary_of(rt.alloc(), b"a-2b*c.a")?;
     assert_eq!(rt; dictionary.len(), 1);
     let word = dictionary.word(0);
-    assert_eq!(rt; word.signs(), [1, 2, 3, 4, 2, 1].as_slice());
     assert_eq!(rt;
-        word.hyphens(),
-        [false, false, true, true, false, false].as_slice()
+        (word.signs(), word.weights()),
+        ([1, 2, 3, 4, 2, 1].as_slice(), [1, 1, 2, 1, 1, 1].as_slice())
     );
-    assert_eq!(rt; word.weights(), [1, 1, 2, 1, 1, 1].as_slice());
-    assert_eq!(rt; word.cares(), [true; 6].as_slice());
+    assert_eq!(rt;
+        (word.hyphens(), word.cares()),
+        (
+            [false, false, true, true, false, false].as_slice(),
+            [true; 6].as_slice()
+        )
+    );
     Ok(())
 }
 
@@ -59,31 +81,33 @@ fn one_slice_of_all_signs(rt: HostRuntime) -> Result<(), Fail> {
     Ok(())
 }
 
+/// The words of a fold, or the others.
+fn words_of_part(
+    alloc: Global,
+    dictionary: &Dictionary,
+    folds: u8,
+    fold: u8,
+    inside: bool,
+) -> Result<Vec<(Weight, usize, Option<usize>)>, Fail> {
+    if fold >= folds {
+        return Err(Fail::new("a fold of so many"));
+    }
+    let part = dictionary.part(alloc, folds, fold, inside)?;
+    Ok(words_of(alloc, &part)?)
+}
+
 #[test]
 fn words_of_a_fold_and_the_others(rt: HostRuntime) -> Result<(), Fail> {
     let dictionary = dictionary_of(rt.alloc(), b"3ab-c\n7abc\nab\n1abca\n")?;
-    let inside = dictionary.part(rt.alloc(), 2, 1, true)?;
-    assert_eq!(rt; inside.len(), 2);
-    assert_eq!(rt;
-        (inside.word(0).weight(), inside.word(0).signs().len()),
-        (7, 5)
-    );
-    assert_eq!(rt;
-        (inside.word(1).weight(), inside.word(1).signs().len()),
-        (1, 6)
-    );
-    let outside = dictionary.part(rt.alloc(), 2, 1, false)?;
-    assert_eq!(rt; outside.len(), 2);
-    assert_eq!(rt; outside.word(0).weight(), 3);
-    assert_eq!(rt;
-        outside.word(0).hyphens(),
-        [false, false, false, true, false].as_slice()
-    );
-    assert_eq!(rt;
-        (outside.word(1).weight(), outside.word(1).signs().len()),
-        (7, 4)
-    );
-    assert_eq!(rt; dictionary.part(rt.alloc(), 9, 8, true)?.len(), 0);
+    let parts: [(u8, u8, bool, &[(Weight, usize, Option<usize>)]); 3] = [
+        (2, 1, true, &[(7, 5, None), (1, 6, None)]),
+        (2, 1, false, &[(3, 5, Some(3)), (7, 4, None)]),
+        (9, 8, true, &[]),
+    ];
+    for (folds, fold, inside, words) in parts {
+        let found = words_of_part(rt.alloc(), &dictionary, folds, fold, inside)?;
+        assert_eq!(rt; found.as_slice(), words);
+    }
     Ok(())
 }
 

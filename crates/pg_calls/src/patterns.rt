@@ -35,8 +35,7 @@ fn starting_patterns(rt: HostRuntime) -> Result<(), Fail> {
     let table = Table::default_letters(rt.alloc())?;
     let text = set.text(rt.alloc(), &table)?;
     assert_eq!(rt; text.as_slice(), b".a1\na2b\nb1c\n".as_slice());
-    assert_eq!(rt; set.len(), 3);
-    assert_eq!(rt; set.largest(), 2);
+    assert_eq!(rt; (set.len(), set.largest()), (3, 2));
     let entry = set.entry(1);
     assert_eq!(rt;
         (entry.signs, entry.dot, entry.value),

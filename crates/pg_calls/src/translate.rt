@@ -5,13 +5,19 @@ use std::alloc::{AllocError, Global};
 use std::test::Fail;
 
 #[test]
-fn parts_of_the_default_table(rt: HostRuntime) -> Result<(), Fail> {
+fn letters_of_the_default_table(rt: HostRuntime) -> Result<(), Fail> {
     let table = Table::default_letters(rt.alloc())?;
-    assert_eq!(rt; table.letters(), 26);
-    assert_eq!(rt; (table.left(), table.right()), (2, 3));
-    assert_eq!(rt; table.spelling(EDGE), b".".as_slice());
-    assert_eq!(rt; table.spelling(2), b"a".as_slice());
-    assert_eq!(rt; table.spelling(27), b"z".as_slice());
+    assert_eq!(rt; (table.letters(), table.left(), table.right()), (26, 2, 3));
+    for (sign, letter) in [(EDGE, "."), (2, "a"), (27, "z")] {
+        assert!(rt; 1 <= sign && sign <= table.letters() + 1);
+        assert_eq!(rt; table.spelling(sign), letter.as_bytes());
+    }
+    Ok(())
+}
+
+#[test]
+fn marks_of_the_default_table(rt: HostRuntime) -> Result<(), Fail> {
+    let table = Table::default_letters(rt.alloc())?;
     for (mark, byte) in [
         (Mark::Error, b'.'),
         (Mark::Missed, b'-'),
@@ -20,6 +26,12 @@ fn parts_of_the_default_table(rt: HostRuntime) -> Result<(), Fail> {
     ] {
         assert_eq!(rt; table.mark_byte(mark), byte);
     }
+    Ok(())
+}
+
+#[test]
+fn reach_of_the_default_table(rt: HostRuntime) -> Result<(), Fail> {
+    let table = Table::default_letters(rt.alloc())?;
     for (signs, ends) in [
         (2, None),
         (6, None),
@@ -35,19 +47,29 @@ fn parts_of_the_default_table(rt: HostRuntime) -> Result<(), Fail> {
 #[test]
 fn items_of_dictionary_lines(rt: HostRuntime) -> Result<(), Fail> {
     let table = Table::default_letters(rt.alloc())?;
-    let item = |rest| table.item(Place::Dictionary, rest);
-    assert_eq!(rt; item(b"ab"), Item::Letter(2, b"b"));
-    assert_eq!(rt; item(b"Z"), Item::Letter(27, b""));
-    assert_eq!(rt; item(b"90"), Item::Digit(9, b"0"));
-    assert_eq!(rt; item(b"{0012}c"), Item::Weight(12, b"c"));
-    assert_eq!(rt; item(b"{9999}"), Item::Weight(9999, b""));
-    assert_eq!(rt; item(b".a"), Item::Mark(Mark::Error, b"a"));
-    assert_eq!(rt; item(b"?a"), Item::Mark(Mark::DontCare, b"a"));
-    for bad in ["{0}c", "{12c", "{12345}c", "\u{e4}", "\r"] {
-        assert_eq!(rt; item(bad.as_bytes()), Item::Bad, "at {bad}");
-    }
-    for end in ["", " a", "\ta"] {
-        assert_eq!(rt; item(end.as_bytes()), Item::End, "at {end}");
+    let items = [
+        ("ab", Item::Letter(2, b"b".as_slice())),
+        ("Z", Item::Letter(27, b"")),
+        ("90", Item::Digit(9, b"0")),
+        ("{0012}c", Item::Weight(12, b"c")),
+        ("{9999}", Item::Weight(9999, b"")),
+        (".a", Item::Mark(Mark::Error, b"a")),
+        ("?a", Item::Mark(Mark::DontCare, b"a")),
+        ("{0}c", Item::Bad),
+        ("{12c", Item::Bad),
+        ("{12345}c", Item::Bad),
+        ("\u{e4}", Item::Bad),
+        ("\r", Item::Bad),
+        ("", Item::End),
+        (" a", Item::End),
+        ("\ta", Item::End),
+    ];
+    for (rest, item) in items {
+        assert_eq!(rt;
+            table.item(Place::Dictionary, rest.as_bytes()),
+            item,
+            "at {rest}"
+        );
     }
     Ok(())
 }
@@ -55,32 +77,38 @@ fn items_of_dictionary_lines(rt: HostRuntime) -> Result<(), Fail> {
 #[test]
 fn items_of_pattern_lines(rt: HostRuntime) -> Result<(), Fail> {
     let table = Table::default_letters(rt.alloc())?;
-    let item = |rest| table.item(Place::Patterns, rest);
-    assert_eq!(rt; item(b"a1"), Item::Letter(2, b"1"));
-    assert_eq!(rt; item(b"1a"), Item::Digit(1, b"a"));
-    assert_eq!(rt; item(b".a"), Item::Edge(b"a"));
-    assert_eq!(rt; item(b"-a"), Item::Bad);
-    assert_eq!(rt; item(b"{1}"), Item::Bad);
-    assert_eq!(rt; item(b"\t"), Item::End);
+    let items = [
+        ("a1", Item::Letter(2, b"1".as_slice())),
+        ("1a", Item::Digit(1, b"a")),
+        (".a", Item::Edge(b"a")),
+        ("-a", Item::Bad),
+        ("{1}", Item::Bad),
+        ("\t", Item::End),
+    ];
+    for (rest, item) in items {
+        assert_eq!(rt;
+            table.item(Place::Patterns, rest.as_bytes()),
+            item,
+            "at {rest}"
+        );
+    }
     Ok(())
 }
 
 #[test]
 fn a_letter_outside_ascii(rt: HostRuntime) -> Result<(), Fail> {
-    let text = b" 1 1\n a\n b\n \xc3\xa4 \\\"a\n";
-    let table = Table::read(rt.alloc(), text).map_err(|_| "refused")?;
-    assert_eq!(rt; table.letters(), 3);
+    let table = Table::read(rt.alloc(), b" 1 1\n a\n b\n \xc3\xa4 \\\"a\n")?;
+    assert!(rt; table.letters() == 3);
     assert_eq!(rt; (table.left(), table.right()), (1, 1));
     assert_eq!(rt; table.spelling(4), b"\xc3\xa4".as_slice());
-    assert_eq!(rt;
-        table.item(Place::Dictionary, b"\\\"a-"),
-        Item::Letter(4, b"-")
-    );
-    assert_eq!(rt;
-        table.item(Place::Dictionary, b"\xc3\xa4b"),
-        Item::Letter(4, b"b")
-    );
-    assert_eq!(rt; table.item(Place::Dictionary, b"\xc3\xa5"), Item::Bad);
+    let items = [
+        (b"\\\"a-".as_slice(), Item::Letter(4, b"-".as_slice())),
+        (b"\xc3\xa4b", Item::Letter(4, b"b")),
+        (b"\xc3\xa5", Item::Bad),
+    ];
+    for (rest, item) in items {
+        assert_eq!(rt; table.item(Place::Dictionary, rest), item);
+    }
     Ok(())
 }
 

@@ -4,6 +4,7 @@ ghost use Rattle.pg_types.specs.Counts.{sums_of};
 
 use pg_count::CountTrie;
 use pg_types::{Cursor, Sign, Weight};
+use std::process::Abort;
 use std::test::Fail;
 
 /// Adds a weight of at most 9 to a window.
@@ -43,6 +44,15 @@ fn count(counts: &mut CountTrie, seen: &[(Sign, Sign, bool, Weight)]) -> Result<
     Ok(())
 }
 
+/// Compares the windows that are counted, in their order, with these: each has sums, and at the end the cursor stays.
+fn compare(rt: &impl Abort, counts: &CountTrie, windows: &[([Sign; 2], Option<(u64, u64)>)]) {
+    let mut at = Cursor::start();
+    for (window, sums) in windows {
+        assert_eq!(rt; counts.next(&mut at), *sums);
+        assert_eq!(rt; at.signs(), window.as_slice());
+    }
+}
+
 #[test]
 fn counts_in_order_of_signs(rt: HostRuntime) -> Result<(), Fail> {
     let mut counts = CountTrie::new(rt.alloc(), 4)?;
@@ -51,13 +61,15 @@ fn counts_in_order_of_signs(rt: HostRuntime) -> Result<(), Fail> {
         &mut counts,
         &[(3, 2, true, 3), (2, 3, false, 2), (3, 2, false, 1)],
     )?;
-    let mut at = Cursor::start();
-    assert_eq!(rt; counts.next(&mut at), Some((0, 2)));
-    assert_eq!(rt; at.signs(), [2, 3].as_slice());
-    assert_eq!(rt; counts.next(&mut at), Some((3, 1)));
-    assert_eq!(rt; at.signs(), [3, 2].as_slice());
-    assert_eq!(rt; counts.next(&mut at), None);
-    assert_eq!(rt; at.signs(), [3, 2].as_slice());
+    compare(
+        &rt,
+        &counts,
+        &[
+            ([2, 3], Some((0, 2))),
+            ([3, 2], Some((3, 1))),
+            ([3, 2], None),
+        ],
+    );
     assert_eq!(rt; counts.window_len(), 2);
     Ok(())
 }
@@ -66,9 +78,6 @@ fn counts_in_order_of_signs(rt: HostRuntime) -> Result<(), Fail> {
 fn weight_zero_counts(rt: HostRuntime) -> Result<(), Fail> {
     let mut counts = CountTrie::new(rt.alloc(), 4)?;
     count(&mut counts, &[(4, 1, false, 0)])?;
-    let mut at = Cursor::start();
-    assert_eq!(rt; counts.next(&mut at), Some((0, 0)));
-    assert_eq!(rt; at.signs(), [4, 1].as_slice());
-    assert_eq!(rt; counts.next(&mut at), None);
+    compare(&rt, &counts, &[([4, 1], Some((0, 0))), ([4, 1], None)]);
     Ok(())
 }

@@ -1,41 +1,21 @@
 //! A word, by patterns and a mark that meet in it. The signs are the edge 1, a 2, b 3 and c 4.
-ghost use Rattle.std.specs.Prelude.{◌≡◌, ◌≤◌, ◌<◌, length, All, IfOk, OnOk};
-ghost use Rattle.pg_types.specs.declared.limits.TheConstants.{LEVEL_MAX, PATTERN_SIGNS_MAX};
-
+use crate::tries::trie_of;
 use pg_dict::WordRef;
 use pg_hyph::hyphenate;
 use pg_select::WordState;
-use pg_trie::{HOPELESS, PatternTrie};
+use pg_trie::HOPELESS;
 use pg_types::Sign;
-use std::alloc::{AllocError, Global};
 use std::test::Fail;
 
-/// Raises the value at the dot of a string.
-fn raise(trie: &mut PatternTrie, signs: &[Sign], dot: u8, value: u8) -> Result<(), AllocError>
-    requires known { trie.old.signs ≡ 4 }
-    requires some { 0 < length signs.now }
-    requires few { length signs.now ≤ PATTERN_SIGNS_MAX }
-    requires signs { All (λ s. (1 ≤ s) × (s ≤ 4)) signs.now }
-    requires dot { dot ≤ length signs.now }
-    requires value { (1 ≤ value) × (value ≤ LEVEL_MAX) }
-    ensures { OnOk result (trie.new.signs ≡ 4) }
-{
-    trie.enter(signs, dot, value)
-}
-
-/// The trie of the patterns `a1b`, `b2`, `.a2`, `a3bc` and `ca.5`, with a mark before `c`.
-fn trie(alloc: Global) -> Result<PatternTrie, AllocError>
-    ensures { IfOk result (λ t. t.signs ≡ 4) }
-{
-    let mut trie = PatternTrie::new(alloc, 4)?;
-    raise(&mut trie, &[2, 3], 1, 1)?;
-    raise(&mut trie, &[3], 1, 2)?;
-    raise(&mut trie, &[1, 2], 2, 2)?;
-    raise(&mut trie, &[2, 3, 4], 1, 3)?;
-    raise(&mut trie, &[4, 2, 1], 3, 5)?;
-    trie.enter(&[4], 0, HOPELESS)?;
-    Ok(trie)
-}
+/// The patterns `a1b`, `b2`, `.a2`, `a3bc` and `ca.5`, and a mark before `c`.
+const ENTRIES: [(&[Sign], u8, u8); 6] = [
+    (&[2, 3], 1, 1),
+    (&[3], 1, 2),
+    (&[1, 2], 2, 2),
+    (&[2, 3, 4], 1, 3),
+    (&[4, 2, 1], 3, 5),
+    (&[4], 0, HOPELESS),
+];
 
 /// The values of the positions 0 to 5, and the covers of 1 to 4.
 fn positions(state: &WordState) -> ([u8; 6], [bool; 4]) {
@@ -58,7 +38,7 @@ fn positions(state: &WordState) -> ([u8; 6], [bool; 4]) {
 
 #[test]
 fn the_word_abca(rt: HostRuntime) -> Result<(), Fail> {
-    let trie = trie(rt.alloc())?;
+    let trie = trie_of(rt.alloc(), &ENTRIES)?;
     let word = WordRef {
         signs: &[1, 2, 3, 4, 2, 1],
         hyphens: &[false; 6],

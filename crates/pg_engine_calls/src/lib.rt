@@ -8,8 +8,12 @@ mod hyph;
 #[cfg(test)]
 mod packed;
 #[cfg(test)]
+mod pass;
+#[cfg(test)]
 mod plain;
 #[cfg(test)]
 mod table;
 #[cfg(test)]
 mod trie;
+#[cfg(test)]
+mod tries;

@@ -82,12 +82,13 @@ fn the_table_of_a_pattern(rt: HostRuntime) -> Result<(), Fail> {
 #[test]
 fn parts_are_lent(rt: HostRuntime) -> Result<(), Fail> {
     let view = TableView::read(&TEXT).ok_or("well formed")?;
-    assert_eq!(rt; view.signs(), 4);
-    assert_eq!(rt; view.cell(2), Some(&TEXT[36..46]));
-    assert_eq!(rt; view.cell(6), None);
-    assert_eq!(rt; view.output_at(1), Some(&TEXT[76..82]));
-    assert_eq!(rt; view.output_at(0), None);
-    assert_eq!(rt; view.output_at(2), None);
+    assert_eq!(rt;
+        (view.signs(), view.cell(2), view.cell(6)),
+        (4, Some(&TEXT[36..46]), None)
+    );
+    for (head, output) in [(0, None), (1, Some(&TEXT[76..82])), (2, None)] {
+        assert_eq!(rt; view.output_at(head), output);
+    }
     Ok(())
 }
 

@@ -1,17 +1,15 @@
 //! Worked tries.
-use pg_trie::{HOPELESS, PatternTrie};
+use crate::tries::trie_of;
+use pg_trie::HOPELESS;
 use pg_types::Layout;
 use std::test::Fail;
 
 #[test]
 fn a_mark_beside_a_value(rt: HostRuntime) -> Result<(), Fail> {
-    let mut trie = PatternTrie::new(rt.alloc(), 4)?;
-    trie.enter(&[2, 3], 1, 1)?;
-    trie.enter(&[2, 3], 1, HOPELESS)?;
+    let mut trie = trie_of(rt.alloc(), &[(&[2, 3], 1, 1), (&[2, 3], 1, HOPELESS)])?;
     trie.delete_hopeless()?;
     let patterns = trie.copy(rt.alloc())?;
-    assert_eq!(rt; patterns.len(), 1);
-    assert_eq!(rt; patterns.largest(), 1);
+    assert_eq!(rt; (patterns.len(), patterns.largest()), (1, 1));
     let layout = Layout {
         taken: 5,
         top: 5,
@@ -23,10 +21,10 @@ fn a_mark_beside_a_value(rt: HostRuntime) -> Result<(), Fail> {
 
 #[test]
 fn tails_are_shared(rt: HostRuntime) -> Result<(), Fail> {
-    let mut trie = PatternTrie::new(rt.alloc(), 4)?;
-    trie.enter(&[2, 3], 0, 1)?;
-    trie.enter(&[2, 3], 1, 2)?;
-    trie.enter(&[4, 3], 1, 2)?;
+    let mut trie = trie_of(
+        rt.alloc(),
+        &[(&[2, 3], 0, 1), (&[2, 3], 1, 2), (&[4, 3], 1, 2)],
+    )?;
     trie.delete_hopeless()?;
     let layout = Layout {
         taken: 6,
@@ -34,7 +32,6 @@ fn tails_are_shared(rt: HostRuntime) -> Result<(), Fail> {
         tails: 2,
     };
     assert_eq!(rt; trie.layout(), layout);
-    assert_eq!(rt; trie.step(None, 2), Some(2));
-    assert_eq!(rt; trie.outputs().len(), 2);
+    assert_eq!(rt; (trie.step(None, 2), trie.outputs().len()), (Some(2), 2));
     Ok(())
 }

@@ -43,8 +43,10 @@ fn small_steps(rt: HostRuntime) -> Result<(), Fail> {
         assert_eq!(rt; (cells.taken(), cells.top()), (taken, top));
     }
     assert_eq!(rt; base_of(&cells, &[2]), 6);
-    assert_eq!(rt; cell_of(&cells, &[2, 1]), Some(7));
-    assert_eq!(rt; cell_of(&cells, &[2, 3]), Some(9));
+    assert_eq!(rt;
+        (cell_of(&cells, &[2, 1]), cell_of(&cells, &[2, 3])),
+        (Some(7), Some(9))
+    );
     take_back(&mut cells)?;
     assert_eq!(rt; (cells.taken(), cells.top()), (5, 9));
     Ok(())

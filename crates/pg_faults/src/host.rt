@@ -18,10 +18,21 @@ fn write_after_reading<R: rt::Files + AllocGlobal>(
     files.write(name, b"a1b\n")
 }
 
+/// How a read of a file goes, and what it gives.
+fn read<R: rt::Files + AllocGlobal>(
+    rt: &R,
+    name: &str,
+    limit: u32,
+) -> (Result<(), ReadError>, Vec<u8>) {
+    let mut into = Vec::new(rt.alloc());
+    let result = HostFiles::new(rt.alloc(), rt).read(rt.alloc(), name, limit as usize, &mut into);
+    (result, into)
+}
+
 #[test]
 fn reads_of_real_files(rt: HostRuntime) -> Result<(), Fail> {
     enter_names(&rt, "reads_of_real_files")?;
-    let table: [(&str, usize, Result<(), ReadError>, &[u8]); 6] = [
+    let table: [(&str, u32, Result<(), ReadError>, &[u8]); 6] = [
         ("D", 5, Ok(()), b"a-b\n"),
         ("D", 4, Ok(()), b"a-b\n"),
         ("soft", 4, Ok(()), b"a-b\n"),
@@ -30,8 +41,7 @@ fn reads_of_real_files(rt: HostRuntime) -> Result<(), Fail> {
         ("folder", 5, Err(ReadError::Failed), b""),
     ];
     for (name, limit, wanted, bytes) in table {
-        let mut into = Vec::new(rt.alloc());
-        let result = HostFiles::new(rt.alloc(), &rt).read(rt.alloc(), name, limit, &mut into);
+        let (result, into) = read(&rt, name, limit);
         assert_eq!(rt; (result, into.as_slice()), (wanted, bytes), "{name}");
     }
     leave_folder(&rt, "reads_of_real_files")?;

@@ -31,9 +31,13 @@ fn puts_go_on_to_the_end(rt: HostRuntime) -> Result<(), Fail> {
 fn a_writer_as_a_sink(rt: HostRuntime) -> Result<(), Fail> {
     enter_folder(&rt, "a_writer_as_a_sink")?;
     let mut sink = HostSink::new(fs::create(&rt, "S")?);
-    sink.put(b"done: ")?;
-    sink.put(b"1\n")?;
-    assert!(rt; holds(&rt, "S", b"done: 1\n"));
+    for (bytes, held) in [
+        (b"done: ".as_slice(), b"done: ".as_slice()),
+        (b"1\n", b"done: 1\n"),
+    ] {
+        sink.put(bytes)?;
+        assert!(rt; holds(&rt, "S", held));
+    }
     assert_eq!(rt; HostSink::new(fs::open(&rt, "S")?).put(b"2\n"), Err(Failed));
     leave_folder(&rt, "a_writer_as_a_sink")?;
     Ok(())
