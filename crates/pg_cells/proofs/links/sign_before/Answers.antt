@@ -1,4 +1,4 @@
-use Rattle.std.proofs.Common.{◌≡◌, ◌<◌, ◌≤◌, ◌⊎◌, ℕ, Bool, true, false, cond, nat_eq, None, Some, inl, inr, refl, sym, subst, ◌∙◌, arith}
+use Rattle.std.proofs.Common.{◌≡◌, cond, nat_eq, None, Some, inl, inr, refl, subst, arith}
 use Rattle.pg_types.specs.Placement.{base_of}
 use Rattle.pg_cells.specs.Members.{goes_on}
 use Rattle.pg_cells.proofs.LinkLaws.{none_between, none_down, below_most}
