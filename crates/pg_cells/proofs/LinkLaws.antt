@@ -1,5 +1,5 @@
 -- Laws of the links: what a base tells of the signs below a string, and how a sign is linked in and out.
-use Rattle.std.proofs.Common.{◌≡◌, ◌≢◌, ℕ, ◌+◌, ◌-◌, ◌<◌, ◌≤◌, ◌⊎◌, inl, inr, Bool, true, false, cond, nat_eq, List, [], ◌∷◌, ◌++◌, Option, None, Some, length, get_or, add-one, refl, sym, ◌∙◌, ap, subst, arith}
+use Rattle.std.proofs.Common.{◌≡◌, ◌≢◌, ℕ, ◌+◌, ◌<◌, ◌≤◌, ◌⊎◌, inl, inr, Bool, true, false, cond, nat_eq, List, [], ◌∷◌, ◌++◌, Option, None, Some, length, get_or, add-one, refl, sym, ◌∙◌, ap, subst, arith}
 use Rattle.std.proofs.lemmas.Bool.{cases_eq, cases_lt, ne_eqb, both_ways, false≢true}
 use Rattle.std.proofs.lemmas.List.{append-nil, same_from_push, length_push, get_or_append_left, get_or_push}
 use Rattle.std.specs.Option.{is_some}
@@ -253,14 +253,14 @@ none_between test b next s is late z lt there = elim (cases_lt b z) [
     no up le (inl e) = omega arith
     no up le (inr e) = omega arith
 
--- where the numbers above a bound and below s fail, and the bound fails too, so do those above the number before it
-pub down_to : (test : ℕ → Bool) (bound s : ℕ) → ((z : ℕ) → bound < z → z < s → test z ≡ false) → test bound ≡ false → (z : ℕ) → bound - 1 < z → z < s → test z ≡ false
-down_to test bound s free fails z late lt = elim (cases_eq z bound) [
-  | inl e ↦ ap test e ∙ fails
-  | inr other ↦ free z (omega arith) lt
+-- where the numbers above a bound and below s fail, and those above another one up to the bound, so do all above that one
+pub none_down : (test : ℕ → Bool) (bound low s : ℕ) → ((z : ℕ) → bound < z → z < s → test z ≡ false) → ((z : ℕ) → low < z → z ≤ bound → test z ≡ false) → (z : ℕ) → low < z → z < s → test z ≡ false
+none_down test bound low s free fails z late lt = elim (cases_lt bound z) [
+  | inl above ↦ free z above lt
+  | inr le ↦ fails z late le
 ]
 
--- the bound, where it passes, is the number before s
+-- such a bound is not below the number before s
 pub below_most : (test : ℕ → Bool) (bound s : ℕ) → ((z : ℕ) → bound < z → z < s → test z ≡ false) → (z : ℕ) → z < s → test z ≡ true → z ≤ bound
 below_most test bound s free z lt is = elim (cases_lt bound z) [
   | inr le ↦ le

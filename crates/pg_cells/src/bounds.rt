@@ -29,6 +29,9 @@ pub fn bound_of(lows: &[u32], freed: usize, dropped: usize, sign: u16) -> usize
 pub fn lower(lows: &mut Vec<u32>, freed: usize, dropped: usize)
     ensures { (s b : ℕ) → b < slice_index lows.new.items s → IsBelow lows.old.items freed dropped s b }
 {
+    if freed == usize::MAX && dropped == usize::MAX {
+        return;
+    }
     for sign in 0..lows.len() {
         let low = lows[sign] as usize;
         lows[sign] = low.min(dropped).min(freed.saturating_sub(sign)) as u32;

@@ -51,6 +51,38 @@ fn has_sign<V: Copy, const FEW: usize>(cells: &Placed<Member<V>, FEW>, base: usi
     cells.find(base, s).is_some()
 }
 
+/// How many signs are looked at, one by one, for each link that is followed. A sign's cell lies beside that of the sign below
+/// it, and the cell of a link may lie far off.
+const SIGNS_PER_LINK: Sign = 8;
+
+// The greatest sign above `low` and up to `high` in the family with the base, or `low` where there is none. The base is 0 where
+// there is no family.
+fn sign_down<V: Copy, const FEW: usize>(
+    cells: &Placed<Member<V>, FEW>,
+    base: usize,
+    low: Sign,
+    high: Sign,
+) -> Sign
+    requires held { AreValuedFamilies cells.now }
+    requires base { (q : List ℕ) × (base_of cells.now.families q ≡ (if base == 0 then None else Some base)) }
+    requires low { low ≤ high }
+    requires high { high ≤ cells.now.signs }
+    ensures within { (low ≤ result) × (result ≤ high) }
+    ensures there { (q : List ℕ) → base_of cells.now.families q ≡ (if base == 0 then None else Some base) →
+        low < result → goes_on cells.now.values q result ≡ true }
+    ensures most { (q : List ℕ) → base_of cells.now.families q ≡ (if base == 0 then None else Some base) →
+        (z : ℕ) → result < z → z ≤ high → goes_on cells.now.values q z ≡ false }
+{
+    let mut sign = high;
+    'down: while low < sign {
+        if has_sign(cells, base, sign) {
+            return sign;
+        }
+        sign -= 1;
+    }
+    sign
+}
+
 /// The greatest sign below `s` in the family below the parent's string, which has the base; 0 where there is none. It is sought
 /// along the signs from the first one on and, side by side, sign by sign down from `s`.
 pub fn sign_before<V: Copy, const FEW: usize>(
@@ -69,12 +101,13 @@ pub fn sign_before<V: Copy, const FEW: usize>(
     let mut next = sign_after(cells, parent, base, 0);
     let mut below = s - 1;
     while next != 0 && next < s {
-        if has_sign(cells, base, below) {
+        let low = below.saturating_sub(SIGNS_PER_LINK);
+        below = sign_down(cells, base, low, below);
+        if low < below {
             return below;
         }
         before = next;
         next = sign_after(cells, parent, base, before);
-        below -= 1;
     }
     before
 }

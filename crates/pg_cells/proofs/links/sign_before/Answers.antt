@@ -1,7 +1,7 @@
-use Rattle.std.proofs.Common.{◌≡◌, cond, nat_eq, None, Some, inl, inr, refl, sym, subst, ◌∙◌, arith}
+use Rattle.std.proofs.Common.{◌≡◌, cond, nat_eq, None, Some, inl, inr, refl, subst, arith}
 use Rattle.pg_types.specs.Placement.{base_of}
 use Rattle.pg_cells.specs.Members.{goes_on}
-use Rattle.pg_cells.proofs.LinkLaws.{none_between, down_to, below_most}
+use Rattle.pg_cells.proofs.LinkLaws.{none_between, none_down, below_most}
 use Rattle.pg_cells.proofs.links.sign_before.Goals as goal
 
 pub loop-next-init : goal.loop-next-init
@@ -15,6 +15,8 @@ loop-next-init g c = let up = c.requires.sign.0 in record {
 pub loop-next-preserved : goal.loop-next-preserved
 loop-next-preserved g c =
     let under = c.loop-next.invariant.under in
+    let within = c.sign_down-below.ensures.within in
+    let to = within.1 in
     record {
       less = omega arith;
       under = omega arith;
@@ -23,7 +25,7 @@ loop-next-preserved g c =
           let fs = c.args.cells.now.families in
           let same : c.requires.parent.0 ≡ q = c.requires.links.held.apart c.requires.parent.0 q c.args.parent c.requires.parent.1.0 e in
           let told = subst (λ p. base_of fs p ≡ cond (nat_eq c.args.base 0) None (Some c.args.base)) same c.requires.parent.1.1 in
-          down_to (goes_on c.args.cells.now.values q) c.loop-next.below c.args.s (c.loop-next.invariant.free q e) (sym (c.has_sign.ensures q told) ∙ c.if-has_sign.false);
+          none_down (goes_on c.args.cells.now.values q) c.loop-next.below c.sign_down-below.result c.args.s (c.loop-next.invariant.free q e) (c.sign_down-below.ensures.most q told);
     }
 
 pub loop-next-smaller : goal.loop-next-smaller
@@ -32,23 +34,26 @@ loop-next-smaller g c =
     let less = h.0 in
     omega arith
 
-pub returns-then-has_sign : goal.returns-then-has_sign
-returns-then-has_sign g c q e =
+pub returns-then-low-below : goal.returns-then-low-below
+returns-then-low-below g c q e =
     let fs = c.args.cells.now.families in
     let same : c.requires.parent.0 ≡ q = c.requires.links.held.apart c.requires.parent.0 q c.args.parent c.requires.parent.1.0 e in
     let told = subst (λ p. base_of fs p ≡ cond (nat_eq c.args.base 0) None (Some c.args.base)) same c.requires.parent.1.1 in
+    let under = c.loop-next.invariant.under in
+    let within = c.sign_down-below.ensures.within in
+    let to = within.1 in
     record {
-      less = c.loop-next.invariant.under;
-      there = inr (sym (c.has_sign.ensures q told) ∙ c.if-has_sign.true);
-      most = below_most (goes_on c.args.cells.now.values q) c.loop-next.below c.args.s (c.loop-next.invariant.free q e);
+      less = omega arith;
+      there = inr (c.sign_down-below.ensures.there q told c.if-low-below.true);
+      most = below_most (goes_on c.args.cells.now.values q) c.sign_down-below.result c.args.s (none_down (goes_on c.args.cells.now.values q) c.loop-next.below c.sign_down-below.result c.args.s (c.loop-next.invariant.free q e) (c.sign_down-below.ensures.most q told));
     }
-
-pub returns-else-next-s : goal.returns-else-next-s
-returns-else-next-s g c q e =
-    let h = c.loop-next.invariant.next q e in
-    record { less = c.loop-next.invariant.less; there = h.1; most = none_between (goes_on c.args.cells.now.values q) c.loop-next.before c.loop-next.next c.args.s h.0 (inr c.if-next-s.false) }
 
 pub returns-after-loop-next : goal.returns-after-loop-next
 returns-after-loop-next g c q e =
     let h = c.loop-next.invariant.next q e in
     record { less = c.loop-next.invariant.less; there = h.1; most = none_between (goes_on c.args.cells.now.values q) c.loop-next.before c.loop-next.next c.args.s h.0 (inl c.loop-next-test.false) }
+
+pub returns-else-next-s : goal.returns-else-next-s
+returns-else-next-s g c q e =
+    let h = c.loop-next.invariant.next q e in
+    record { less = c.loop-next.invariant.less; there = h.1; most = none_between (goes_on c.args.cells.now.values q) c.loop-next.before c.loop-next.next c.args.s h.0 (inr c.if-next-s.false) }
