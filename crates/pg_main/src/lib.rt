@@ -1,6 +1,9 @@
 //! What a program does that runs one command: it takes the words, works on the files of the system, and gives the status.
 #![tactic(auto)]
 
+ghost use Rattle.std.specs.Prelude.{◌≤◌};
+ghost use Rattle.std.specs.Process.{exit_status};
+
 use pg_outside::{HostFiles, HostSink};
 use pg_top::{exit_code, run};
 use std::env;
@@ -19,7 +22,9 @@ const NO_WORDS: u8 = 6;
 /// The status is that of the answer: 0 where all went well, 1 for a file that is not the wanted one, 2 where the words are
 /// no command, 3 for a refused file, 4 for a file that could not be read or written, and 5 where memory was wanted. It is 6
 /// where the system does not give the words.
-pub fn run_words<R: Files + Env + AllocGlobal, W: Write + Drop>(rt: &R, out: W) -> ExitCode {
+pub fn run_words<R: Files + Env + AllocGlobal, W: Write + Drop>(rt: &R, out: W) -> ExitCode
+    ensures { exit_status result ≤ 6 }
+{
     let alloc = rt.alloc();
     let arguments = match env::args(rt) {
         Ok(arguments) => arguments,

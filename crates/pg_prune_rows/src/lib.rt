@@ -1,11 +1,9 @@
-//! Worked prunes, and prunes beside a slow one.
+//! Prunes beside a slow prune, on drawn cases. Worked prunes are rows of patgen_rows.
 #![tactic(auto)]
 
 #[cfg(test)]
 mod compared;
 #[cfg(test)]
 mod drawn;
-#[cfg(test)]
-mod prunes;
 #[cfg(test)]
 mod slow;

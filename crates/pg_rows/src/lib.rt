@@ -1,4 +1,5 @@
-//! Worked runs of the driver, with their records, totals and texts.
+//! Runs of the driver: how many passes they begin, beside a run that skips no pass, and over both engines. Worked runs are
+//! rows of patgen_rows.
 #![tactic(auto)]
 
 #[cfg(test)]
@@ -11,7 +12,5 @@ mod plain;
 mod runs;
 #[cfg(test)]
 mod sample;
-#[cfg(test)]
-mod texts;
 #[cfg(test)]
 mod unskipped;

@@ -2,6 +2,7 @@
 ghost use Rattle.std.specs.Prelude.{◌<◌, ◌≤◌};
 
 use std::alloc::{AllocError, Global};
+use std::test::Fail;
 
 /// The letters that a syllable begins with.
 const CONSONANTS: [u8; 12] = *b"bdfgklmnprst";
@@ -62,4 +63,14 @@ pub(crate) fn drawn_words(alloc: Global) -> Result<Vec<u8>, AllocError> {
         draw.push_word(&mut text)?;
     }
     Ok(text)
+}
+
+/// The first word that is drawn from the seed 1.
+#[test]
+fn one_word(rt: HostRuntime) -> Result<(), Fail> {
+    let mut text = Vec::new(rt.alloc());
+    let mut draw = Draw { state: 1 };
+    draw.push_word(&mut text)?;
+    assert_eq!(rt; text.as_slice(), b"so-ni-gi-din\n".as_slice());
+    Ok(())
 }

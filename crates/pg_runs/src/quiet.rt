@@ -1,8 +1,5 @@
 //! Calls over files and a sink that never fail.
-use crate::calls::{
-    Inputs, TWO_WORDS, TWO_WORDS_LIST, TWO_WORDS_PATTERNS, TWO_WORDS_PRINTED, TWO_WORDS_REPORT,
-    words,
-};
+use crate::calls::{Inputs, TWO_WORDS, call, files, words};
 use crate::quiet_calls::run_quietly;
 use pg_outside::{QuietFiles, QuietSink};
 use pg_top::Status;
@@ -19,22 +16,25 @@ fn quiet_files(alloc: Global, inputs: &Inputs<'_>) -> Result<QuietFiles, AllocEr
     Ok(files)
 }
 
-/// `generate` and then `audit` of what it wrote.
+/// `generate`, which writes and prints what it does over files in memory, and then `audit` of what it wrote.
 #[test]
 fn files_that_never_fail(rt: HostRuntime) -> Result<(), Fail> {
     let alloc = rt.alloc();
+    let line = "generate D P O T A R --pattmp M";
+    let mut wanted = files(alloc, &TWO_WORDS)?;
+    let (status, printed) = call(alloc, line, &mut wanted)?;
+    assert_eq!(rt; status, Status::Done);
     let mut held = quiet_files(alloc, &TWO_WORDS)?;
     let mut out = QuietSink::new(alloc, 200)?;
-    let generate = words(alloc, "generate D P O T A R --pattmp M")?;
     assert_eq!(rt;
-        run_quietly(alloc, &generate, &mut held, &mut out),
+        run_quietly(alloc, &words(alloc, line)?, &mut held, &mut out),
         Status::Done
     );
-    assert_eq!(rt; out.bytes().ok_or("not told")?, TWO_WORDS_PRINTED);
+    assert_eq!(rt; out.bytes().ok_or("not told")?, printed.as_slice());
     assert!(rt; held.told());
-    assert_eq!(rt; held.bytes("O").ok_or("no file")?, TWO_WORDS_PATTERNS);
-    assert_eq!(rt; held.bytes("M").ok_or("no file")?, TWO_WORDS_LIST);
-    assert_eq!(rt; held.bytes("R").ok_or("no file")?, TWO_WORDS_REPORT);
+    for name in ["O", "M", "R"] {
+        assert_eq!(rt; held.bytes(name), wanted.bytes(name), "{name}");
+    }
     let audit = words(alloc, "audit D P O T A R --pattmp M")?;
     let mut out = QuietSink::new(alloc, 200)?;
     assert_eq!(rt;

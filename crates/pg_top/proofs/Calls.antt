@@ -5,7 +5,7 @@ use Rattle.std.proofs.lemmas.Option.{get_or_from_slice_get, slice_get_within, sl
 use Rattle.std.specs.Option.{option_map}
 use Rattle.pg_outside.specs.Content.{FileMap, FilesShown, SinkShown, KeepsHeld, file_at}
 use Rattle.pg_outside.specs.Faults.{NoneFell, Rose}
-use Rattle.pg_top.specs.Answers.{MayAnswer, DoesAll, IsAnswered, IsAnswerOf, IsCall}
+use Rattle.pg_top.specs.Answers.{MayAnswer, DoesAll, IsAnswered, IsSampled, IsAnswerOf, IsCall}
 use Rattle.pg_top.specs.Calls.{outcome, outcome_of, finished, reads_of, writes_of}
 use Rattle.pg_top.specs.Faults.{FilesRose, IsUnread, StopsWriting, DoesPart}
 use Rattle.pg_top.specs.Moments.{Moment, OfFiles, Puts, PutsPart, PutRose, PutOrRose}
@@ -265,3 +265,9 @@ sample_call seed count s o0 o1 answer (inr h) = answered_call (ToSample seed cou
     told : (held : Option FileMap) → IfSome held (λ files. outcome_of (file_at files) (ToSample seed count) ≡ Ends Done [] (sample_lines seed count))
     told None = tt
     told (Some files) = refl
+
+-- its lines are put where it is done
+pub sampled : (seed count : ℕ) (s0 s1 : FilesShown) (o0 o1 : SinkShown) (answer : Status) → PutsLines (sample_lines seed count) answer o0 o1 → IsSampled (Some (ToSample seed count)) answer (s0, o0) (s1, o1)
+sampled seed count s0 s1 o0 o1 answer (inl h) = subst (λ (status : Status). IsSampled (Some (ToSample seed count)) status (s0, o0) (s1, o1)) (sym h.0) tt
+sampled seed count s0 s1 o0 o1 answer (inr (inl h)) = subst (λ (status : Status). IsSampled (Some (ToSample seed count)) status (s0, o0) (s1, o1)) (sym h.0) h.1
+sampled seed count s0 s1 o0 o1 answer (inr (inr h)) = subst (λ (status : Status). IsSampled (Some (ToSample seed count)) status (s0, o0) (s1, o1)) (sym h.0) tt

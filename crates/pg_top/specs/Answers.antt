@@ -7,6 +7,7 @@ use Rattle.pg_top.specs.Moments.{Moment, OfFiles, KeepsFiles, Puts}
 use Rattle.pg_top.specs.Outcomes.{Outcome, Unknown, Ends}
 use Rattle.pg_top.specs.PrintedLines.{usage_line}
 use Rattle.pg_top.specs.Requests.{Request, ToGenerate, ToAudit, ToSample, ToPack, ToTotals, ToPrune, ToSweep}
+use Rattle.pg_top.specs.SampleTexts.{sample_lines}
 use Rattle.pg_top.specs.Writings.{after_all}
 use Rattle.pg_top.specs.declared.answers.Status.{Status}
 use Rattle.pg_top.specs.declared.answers.Status.TheVariants.{Done, Yes, No, Usage, Refused, Fault, Memory}
@@ -45,6 +46,11 @@ IsAnswered asked Fault old new = Unit {0}
 IsAnswered asked Memory old new = Unit {0}
 IsAnswered asked status old new =
     OfFiles old new (λ before after. DoesAll old new status before after (outcome (file_at before) asked))
+
+-- the lines of a `sample` that is done were put. This is so of files that tell nothing too
+abbrev pub IsSampled : Option Request → Status → Moment → Moment → Type 0
+IsSampled (Some (ToSample seed count)) Done old new = Puts old.1 new.1 (sample_lines seed count)
+IsSampled asked status old new = Unit {0}
 
 -- nothing was written and nothing put
 pub record IsUntouched (old new : Moment) : Type 0 where

@@ -104,8 +104,10 @@ is_printed line =
 abbrev pub printed_part : List ℕ → List ℕ
 printed_part report = flat_map (λ line. line ++ 10 ∷ []) (filter is_printed (lines report))
 
--- what is printed: these lines, and the Done line
+-- what is printed of a selection: these lines, and the Done line
+abbrev pub selection_lines : Inputs → List ℕ
+selection_lines i = printed_part (selected_report i) ++ done_line (selected_text i) (selected_account i).totals
+
+-- what is printed
 abbrev pub sample_lines : ℕ → ℕ → List ℕ
-sample_lines seed count =
-    let i = sample_inputs seed count in
-    printed_part (selected_report i) ++ done_line (selected_text i) (selected_account i).totals
+sample_lines seed count = selection_lines (sample_inputs seed count)

@@ -1,5 +1,5 @@
 //! The answers of a call.
-ghost use Rattle.std.specs.Prelude.{◌≡◌};
+ghost use Rattle.std.specs.Prelude.{◌≡◌, ◌≤◌};
 ghost use Rattle.pg_top.specs.Statuses.{code_of};
 
 /// How a call ended.
@@ -23,7 +23,8 @@ pub enum Status {
 
 /// The exit code of an answer: 0 for `Done` and `Yes`, and 1 to 5 for `No`, `Usage`, `Refused`, `Fault` and `Memory`.
 pub fn exit_code(status: &Status) -> u8
-    ensures { result ≡ code_of status.now }
+    ensures value { result ≡ code_of status.now }
+    ensures most { result ≤ 5 }
 {
     match status {
         Status::Done | Status::Yes => 0,

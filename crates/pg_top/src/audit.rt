@@ -2,14 +2,16 @@
 ghost use Rattle.std.specs.Prelude.{◌≡◌, ◌++◌, ◌+◌, ◌-◌, ◌^◌, ◌<◌, length, slice_get, IfOk, IfErr, IfSome, OnOk, Some};
 ghost use Rattle.std.specs.Option.{option_map};
 ghost use Rattle.pg_audit.specs.Differences.{first_false};
+ghost use Rattle.pg_driver.specs.Told.{account_of};
 ghost use Rattle.pg_outside.specs.Content.{KeepsHeld, file_at};
 ghost use Rattle.pg_outside.specs.Faults.{NoneFell};
+ghost use Rattle.pg_patterns.specs.Values.{SignsUpTo};
 ghost use Rattle.pg_top.specs.Auditing.{denies, given_file, given_files};
 ghost use Rattle.pg_top.specs.Calls.{outcome_of, reads_of};
 ghost use Rattle.pg_top.specs.Commands.{name_now, texts_of};
 ghost use Rattle.pg_top.specs.Readings.{first_end};
 ghost use Rattle.pg_top.specs.Requests.{ToAudit, if_asked};
-ghost use Rattle.pg_top.specs.Selection.{signs_of, HasSigns, selected};
+ghost use Rattle.pg_top.specs.Selection.{signs_of, HasSigns, selected, selected_account};
 ghost use Rattle.pg_top.specs.Stops.{StopsFront, StopsAt, StopsReading};
 ghost use Rattle.pg_top.specs.Verdicts.{wanted_file, wanted_files, end_of, outcome_by, IsFrontOf, PutsVerdict};
 
@@ -21,6 +23,7 @@ use crate::puts::answer;
 use crate::reading::{Inputs, read_inputs};
 use crate::selection::select;
 use pg_audit::compare;
+use pg_driver::Run;
 use pg_outside::{Files, ReadError, Sink};
 use pg_plain::PlainEngine;
 use pg_select::Engine;
@@ -79,6 +82,40 @@ fn push_pattmp<'a, E: Engine>(
     Ok(())
 }
 
+/// Builds the texts that the given files should be, in their order, after the run over an engine.
+fn wanted_after<'a, E: Engine>(
+    alloc: Global,
+    names: &Names<'a>,
+    inputs: &Inputs,
+    engine: &E,
+    run: &Run,
+) -> Result<Vec<Wanted<'a>>, AllocError>
+    requires signs { HasSigns inputs.now }
+    requires greatest { (E.meaning engine.now).signs ≡ signs_of inputs.now }
+    requires patterns { (E.meaning engine.now).patterns ≡ selected inputs.now }
+    requires selected { run.now.patterns ≡ selected inputs.now }
+    requires pattern_signs { SignsUpTo (signs_of inputs.now) run.now.patterns }
+    requires account { account_of run.now ≡ selected_account inputs.now }
+    ensures { IfOk result (λ wanted.
+        wanted_files wanted.items ≡ given_files (λ _. inputs.now) (texts_of names.now)) }
+{
+    let patterns = run.patterns().text(alloc, &inputs.table)?;
+    let report = report_text(alloc, inputs.start.largest(), &inputs.params, run)?;
+    let mut wanted = Vec::new(alloc);
+    wanted.push(Wanted {
+        given: Given::Patterns,
+        name: names.output,
+        text: patterns,
+    })?;
+    push_pattmp(alloc, &mut wanted, names.pattmp, engine, inputs)?;
+    wanted.push(Wanted {
+        given: Given::Report,
+        name: names.report,
+        text: report,
+    })?;
+    Ok(wanted)
+}
+
 /// Does the run of the inputs over the plain engine, and builds the texts that the given files should be, in their
 /// order.
 fn make_wanted<'a>(
@@ -92,21 +129,7 @@ fn make_wanted<'a>(
 {
     let mut engine = PlainEngine::new(alloc, inputs.table.letters() + 1, &inputs.start)?;
     let run = select(alloc, &mut engine, inputs)?;
-    let patterns = run.patterns().text(alloc, &inputs.table)?;
-    let report = report_text(alloc, inputs.start.largest(), &inputs.params, &run)?;
-    let mut wanted = Vec::new(alloc);
-    wanted.push(Wanted {
-        given: Given::Patterns,
-        name: names.output,
-        text: patterns,
-    })?;
-    push_pattmp(alloc, &mut wanted, names.pattmp, &engine, inputs)?;
-    wanted.push(Wanted {
-        given: Given::Report,
-        name: names.report,
-        text: report,
-    })?;
-    Ok(wanted)
+    wanted_after(alloc, names, inputs, &engine, &run)
 }
 
 /// Reads a given file, or of one that is longer than this size by more than `MORE` bytes the first, one more than

@@ -3,8 +3,10 @@ ghost use Rattle.std.specs.Prelude.{◌≡◌, ◌+◌, ◌≤◌, ◌<◌, ◌^
 ghost use Rattle.pg_translate.specs.Alphabets.{letters_of};
 ghost use Rattle.pg_translate.specs.Tables.{default_alphabet};
 ghost use Rattle.pg_dict.specs.Word.{SignsAtMost};
-ghost use Rattle.pg_top.specs.SampleTexts.{is_printed as is_printed_line, printed_part, sample_inputs, sample_lines as lines_of, sample_parameters};
-ghost use Rattle.pg_top.specs.Selection.{HasSigns};
+ghost use Rattle.pg_driver.specs.Told.{account_of};
+ghost use Rattle.pg_patterns.specs.Values.{SignsUpTo};
+ghost use Rattle.pg_top.specs.SampleTexts.{is_printed as is_printed_line, printed_part, sample_inputs, sample_lines as lines_of, sample_parameters, selection_lines};
+ghost use Rattle.pg_top.specs.Selection.{signs_of, HasSigns, selected, selected_account};
 ghost use Rattle.pg_top.specs.Stops.{PutsLines};
 
 use crate::answers::Status;
@@ -14,6 +16,7 @@ use crate::reading::Inputs;
 use crate::sample::sample_text;
 use crate::selection::select;
 use pg_dict::Dictionary;
+use pg_driver::Run;
 use pg_outside::Sink;
 use pg_packed::PackedEngine;
 use pg_patterns::PatternSet;
@@ -107,6 +110,33 @@ fn push_printed(lines: &mut Vec<u8>, report: &[u8]) -> Result<(), AllocError>
     Ok(())
 }
 
+/// The printed lines, after the run.
+fn lines_after(alloc: Global, inputs: &Inputs, run: &Run) -> Result<Vec<u8>, AllocError>
+    requires signs { HasSigns inputs.now }
+    requires selected { run.now.patterns ≡ selected inputs.now }
+    requires pattern_signs { SignsUpTo (signs_of inputs.now) run.now.patterns }
+    requires account { account_of run.now ≡ selected_account inputs.now }
+    ensures { IfOk result (λ lines. lines.items ≡ selection_lines inputs.now) }
+{
+    let patterns = run.patterns().text(alloc, &inputs.table)?;
+    let report = report_text(alloc, inputs.start.largest(), &inputs.params, run)?;
+    let done = done_line(alloc, &patterns, &run.totals())?;
+    let mut lines = Vec::new(alloc);
+    push_printed(&mut lines, &report)?;
+    lines.extend_from_slice(&done)?;
+    Ok(lines)
+}
+
+/// Does the run of the inputs over the packed engine, and builds the printed lines.
+fn run_lines(alloc: Global, inputs: &Inputs) -> Result<Vec<u8>, AllocError>
+    requires { HasSigns inputs.now }
+    ensures { IfOk result (λ lines. lines.items ≡ selection_lines inputs.now) }
+{
+    let mut engine = PackedEngine::new(alloc, inputs.table.letters() + 1, &inputs.start)?;
+    let run = select(alloc, &mut engine, inputs)?;
+    lines_after(alloc, inputs, &run)
+}
+
 /// The printed lines.
 fn sample_lines(alloc: Global, seed: u32, count: u32) -> Result<Vec<u8>, AllocError>
     requires seed { seed < 2 ^ 31 }
@@ -114,15 +144,7 @@ fn sample_lines(alloc: Global, seed: u32, count: u32) -> Result<Vec<u8>, AllocEr
     ensures { IfOk result (λ lines. lines.items ≡ lines_of seed count) }
 {
     let inputs = make_inputs(alloc, seed, count)?;
-    let mut engine = PackedEngine::new(alloc, inputs.table.letters() + 1, &inputs.start)?;
-    let run = select(alloc, &mut engine, &inputs)?;
-    let patterns = run.patterns().text(alloc, &inputs.table)?;
-    let report = report_text(alloc, inputs.start.largest(), &inputs.params, &run)?;
-    let done = done_line(alloc, &patterns, &run.totals())?;
-    let mut lines = Vec::new(alloc);
-    push_printed(&mut lines, &report)?;
-    lines.extend_from_slice(&done)?;
-    Ok(lines)
+    run_lines(alloc, &inputs)
 }
 
 /// Does the selection and prints what it tells. It reads and writes no file, and refuses nothing.

@@ -2,7 +2,7 @@
 ghost use Rattle.std.specs.Prelude.{◌≡◌, ◌⊎◌, IfOk, IfErr, IfSome, None, Some, false};
 ghost use Rattle.pg_outside.specs.Content.{KeepsHeld, file_at};
 ghost use Rattle.pg_outside.specs.Faults.{NoneFell};
-ghost use Rattle.pg_top.specs.Answers.{MayAnswer, IsAnswered, IsUntouched, IsComplete, IsCall};
+ghost use Rattle.pg_top.specs.Answers.{MayAnswer, IsAnswered, IsSampled, IsUntouched, IsComplete, IsCall};
 ghost use Rattle.pg_top.specs.Calls.{has_files, outcome_of, reads_of, writes_of};
 ghost use Rattle.pg_top.specs.Commands.{texts_of, sweep_of, asked_by, IsSweepWithin, IsWithin, asked};
 ghost use Rattle.pg_top.specs.Faults.{SomeRose, IsFault};
@@ -171,6 +171,8 @@ fn perform<F: Files, O: Sink>(
     requires { IsWithin command.now }
     ensures call { IsCall (Some (asked_by command.now)) result
         (F.shown files.old, O.shown out.old) (F.shown files.new, O.shown out.new) }
+    ensures sampled { IsSampled (Some (asked_by command.now)) result
+        (F.shown files.old, O.shown out.old) (F.shown files.new, O.shown out.new) }
     ensures same { has_files (Some (asked_by command.now)) ≡ false → files.new ≡ files.old }
 {
     match command {
@@ -210,6 +212,8 @@ fn perform<F: Files, O: Sink>(
 /// Does what the words ask for.
 fn call<F: Files, O: Sink>(alloc: Global, words: &[String], files: &mut F, out: &mut O) -> Status
     ensures call { IsCall (asked words.now) result
+        (F.shown files.old, O.shown out.old) (F.shown files.new, O.shown out.new) }
+    ensures sampled { IsSampled (asked words.now) result
         (F.shown files.old, O.shown out.old) (F.shown files.new, O.shown out.new) }
     ensures same { has_files (asked words.now) ≡ false → files.new ≡ files.old }
 {
@@ -253,6 +257,8 @@ pub fn run<F: Files, O: Sink>(alloc: Global, words: &[String], files: &mut F, ou
     ensures usage { result ≡ Status.Usage → Puts (O.shown out.old) (O.shown out.new) usage_line }
     ensures same { has_files (asked words.now) ≡ false → files.new ≡ files.old }
     ensures answered { IsAnswered (asked words.now) result
+        (F.shown files.old, O.shown out.old) (F.shown files.new, O.shown out.new) }
+    ensures sampled { IsSampled (asked words.now) result
         (F.shown files.old, O.shown out.old) (F.shown files.new, O.shown out.new) }
     ensures memory { result ≡ Status.Memory →
         IsUntouched (F.shown files.old, O.shown out.old) (F.shown files.new, O.shown out.new) }

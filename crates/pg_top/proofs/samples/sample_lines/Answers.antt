@@ -1,20 +1,8 @@
-use Rattle.std.proofs.Common.{◌≡◌, ◌∙◌, ◌++◌, List, ℕ, ap}
-use Rattle.pg_driver.specs.Told.{account_of}
-use Rattle.pg_driver.specs.Accounts.{Account}
-use Rattle.pg_top.specs.PrintedLines.{done_line}
-use Rattle.pg_top.specs.SampleTexts.{printed_part}
-use Rattle.pg_top.specs.Selection.{selected_text, selected_report, selected_account}
+use Rattle.std.proofs.Common.{◌≡◌, List, ℕ, subst}
+use Rattle.std.specs.Prelude.{IfOk}
+use Rattle.pg_top.specs.SampleTexts.{selection_lines}
 use Rattle.pg_top.specs.declared.reading.Inputs.{Inputs}
-use Rattle.pg_top.proofs.Selections.{text_selected, report_selected}
 use Rattle.pg_top.proofs.samples.sample_lines.Goals as goal
 
 pub returns : goal.returns
-returns c =
-    let i = c.in_ok-inputs.inputs in
-    let text : c.in_ok-patterns.patterns.items ≡ selected_text i = c.in_ok-patterns.ensures.text ∙ text_selected i c.patterns.result.now (c.patterns.ensures ∙ c.in_ok-run.ensures.patterns) in
-    let report : c.in_ok-report.report.items ≡ selected_report i = c.in_ok-report.ensures ∙ report_selected i c.largest.result (account_of c.in_ok-run.run') c.largest.ensures.value c.in_ok-run.ensures.account in
-    let totals = c.totals.ensures.value ∙ ap (λ (a : Account). a.totals) c.in_ok-run.ensures.account in
-    let done : c.in_ok-done.done.items ≡ done_line (selected_text i) (selected_account i).totals = c.in_ok-done.ensures ∙ (λ k. done_line ((c.deref.ensures.value ∙ text) k) (totals k)) in
-    let printed : c.push_printed.new.lines.items ≡ printed_part (selected_report i) = c.in_ok-push_printed.ensures ∙ ap (λ (xs : List ℕ). xs ++ printed_part c.deref-2.result.now) c.new-lines.ensures.items ∙ ap printed_part (c.deref-2.ensures.value ∙ report) in
-    c.in_ok-extend_from_slice.ensures.items ∙ (λ k. printed k ++ (c.deref-3.ensures.value ∙ done) k)
-    ∙ ap (λ (i : Inputs). printed_part (selected_report i) ++ done_line (selected_text i) (selected_account i).totals) c.in_ok-inputs.ensures.inputs
+returns c = subst (λ (i : Inputs). IfOk c.run_lines.result (λ lines. lines.items ≡ selection_lines i)) c.in_ok-inputs.ensures.inputs c.run_lines.ensures

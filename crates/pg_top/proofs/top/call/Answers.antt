@@ -1,5 +1,5 @@
 use Rattle.std.proofs.Common.{◌≡◌, false, subst}
-use Rattle.pg_top.specs.Answers.{IsCall}
+use Rattle.pg_top.specs.Answers.{IsCall, IsSampled}
 use Rattle.pg_top.specs.Calls.{has_files}
 use Rattle.pg_top.proofs.Calls.{usage_call}
 use Rattle.pg_top.proofs.top.call.Goals as goal
@@ -18,3 +18,12 @@ returns-in-Some-clause-call g c =
 pub returns-in-Some-clause-same : goal.returns-in-Some-clause-same
 returns-in-Some-clause-same g c =
     subst (λ asked. has_files asked ≡ false → c.perform.new.files ≡ c.args.files.now) c.in-Some.ensures.value c.perform.ensures.same
+
+pub returns-in-Some-clause-sampled : goal.returns-in-Some-clause-sampled
+returns-in-Some-clause-sampled g c =
+    subst (λ asked. IsSampled asked c.perform.result (g.F.Files.shown c.args.files.now, g.O.Sink.shown c.args.out.now) (g.F.Files.shown c.perform.new.files, g.O.Sink.shown c.perform.new.out)) c.in-Some.ensures.value c.perform.ensures.sampled
+
+pub returns-in-None-clause-sampled : goal.returns-in-None-clause-sampled
+returns-in-None-clause-sampled g c =
+    let s = g.F.Files.shown c.args.files.now in
+    subst (λ asked. IsSampled asked c.answer.result (s, g.O.Sink.shown c.args.out.now) (s, g.O.Sink.shown c.answer.new.out)) c.in-None.ensures.value tt

@@ -1,0 +1,172 @@
+//! The contents of a table: the bytes of files and of printed lines, piece by piece.
+use crate::problem::Problem;
+use crate::row::NamedContent;
+use std::alloc::{AllocError, Global};
+
+/// A content of a table.
+#[derive(Clone, Copy)]
+pub(crate) struct ContentId(usize);
+
+/// All contents of a table, those with a name and those of one file or answer alone.
+#[derive(Drop)]
+pub(crate) struct Contents {
+    alloc: Global,
+    texts: Vec<Vec<u8>>,
+    named: Vec<NamedContent>,
+}
+
+impl Contents {
+    /// No content.
+    pub fn new(alloc: Global) -> Contents {
+        Contents {
+            alloc,
+            texts: Vec::new(alloc),
+            named: Vec::new(alloc),
+        }
+    }
+
+    /// A new content, which is empty. Pieces are appended to it until the next one begins.
+    pub fn begin(&mut self) -> Result<ContentId, AllocError> {
+        let place = self.texts.len();
+        self.texts.push(Vec::new(self.alloc))?;
+        Ok(ContentId(place))
+    }
+
+    /// Gives a content a name.
+    pub fn name(&mut self, name: &str, content: ContentId) -> Result<(), Problem> {
+        if self.find(name).is_some() {
+            return Err(Problem::NameTwice);
+        }
+        self.named
+            .push(NamedContent::new(self.alloc, name, content)?)?;
+        Ok(())
+    }
+
+    /// The content of this name.
+    fn find(&self, name: &str) -> Option<ContentId> {
+        let named = self.named.iter().find(|named| named.is_named(name))?;
+        Some(named.content)
+    }
+
+    /// The bytes of a content.
+    pub fn bytes(&self, content: ContentId) -> &[u8] {
+        self.texts
+            .get(content.0)
+            .map_or(&[], |text| text.as_slice())
+    }
+
+    /// Appends the piece of a line to the last content.
+    pub fn push_piece(&mut self, line: &str) -> Result<(), Problem> {
+        let (times, simple) = cut_times(line);
+        let piece = self.simple_piece(simple)?;
+        let Some(text) = self.texts.last_mut() else {
+            return Err(Problem::PieceAlone);
+        };
+        for _ in 0..times {
+            text.extend_from_slice(&piece)?;
+        }
+        Ok(())
+    }
+
+    /// The bytes of a piece that stands once.
+    fn simple_piece(&self, piece: &str) -> Result<Vec<u8>, Problem> {
+        let mut bytes = Vec::new(self.alloc);
+        match piece.split_once(' ').unwrap_or((piece, "")) {
+            (">", text) => {
+                push_unescaped(&mut bytes, text)?;
+                bytes.push(b'\n')?;
+            }
+            ("+", text) => push_unescaped(&mut bytes, text)?,
+            ("=", name) => {
+                let content = self.find(name).ok_or(Problem::NoContent)?;
+                bytes.extend_from_slice(self.bytes(content))?;
+            }
+            ("bytes", numbers) => push_numbers(&mut bytes, numbers)?,
+            ("letters", count) => push_letters(
+                &mut bytes,
+                count.parse().map_err(|_| Problem::BadNumber)?,
+            )?,
+            _ => return Err(Problem::NoPiece),
+        }
+        Ok(bytes)
+    }
+}
+
+/// How often a piece stands, and the piece: `3 times > a` is the line a three times.
+fn cut_times(line: &str) -> (usize, &str) {
+    if let Some((count, simple)) = line.split_once(" times ")
+        && let Ok(times) = count.parse()
+    {
+        return (times, simple);
+    }
+    (1, line)
+}
+
+/// Appends the bytes that are written as numbers.
+fn push_numbers(bytes: &mut Vec<u8>, numbers: &str) -> Result<(), Problem> {
+    for number in numbers.split(' ') {
+        bytes.push(number.parse().map_err(|_| Problem::BadNumber)?)?;
+    }
+    Ok(())
+}
+
+/// Appends so many lines of a translate file. Their letters are spelled aaa, aab and so on.
+fn push_letters(bytes: &mut Vec<u8>, count: usize) -> Result<(), AllocError> {
+    for i in 0..count {
+        let first = b'a' + (i / 676 % 26) as u8;
+        let second = b'a' + (i / 26 % 26) as u8;
+        let third = b'a' + (i % 26) as u8;
+        bytes.extend_from_slice(&[b' ', first, second, third, b'\n'])?;
+    }
+    Ok(())
+}
+
+/// How far an escape was read.
+#[derive(Clone, Copy)]
+enum Escape {
+    None,
+    Begun,
+    Hexadecimal,
+    FirstDigit(u8),
+}
+
+impl Escape {
+    /// Reads the next byte, and appends what it ends.
+    fn next(self, byte: u8, bytes: &mut Vec<u8>) -> Result<Escape, Problem> {
+        let plain = match (self, byte) {
+            (Escape::None, b'\\') => return Ok(Escape::Begun),
+            (Escape::None, _) => byte,
+            (Escape::Begun, b'x') => return Ok(Escape::Hexadecimal),
+            (Escape::Begun, b'r') => b'\r',
+            (Escape::Begun, b't') => b'\t',
+            (Escape::Begun, b's') => b' ',
+            (Escape::Begun, b'\\') => b'\\',
+            (Escape::Begun, _) => return Err(Problem::BadEscape),
+            (Escape::Hexadecimal, _) => return Ok(Escape::FirstDigit(digit(byte)?)),
+            (Escape::FirstDigit(first), _) => first << 4 | digit(byte)?,
+        };
+        bytes.push(plain)?;
+        Ok(Escape::None)
+    }
+}
+
+/// The value of a hexadecimal digit.
+fn digit(byte: u8) -> Result<u8, Problem> {
+    match byte {
+        b'0'..=b'9' => Ok(byte - b'0'),
+        b'a'..=b'f' => Ok(byte - b'a' + 10),
+        _ => Err(Problem::BadEscape),
+    }
+}
+
+/// Appends the bytes of a text, in which a backslash begins an escape.
+fn push_unescaped(bytes: &mut Vec<u8>, text: &str) -> Result<(), Problem> {
+    let mut escape = Escape::None;
+    for byte in text.bytes() {
+        escape = escape.next(byte, bytes)?;
+    }
+    match escape {
+        Escape::None => Ok(()),
+        _ => Err(Problem::BadEscape),
+    }
+}

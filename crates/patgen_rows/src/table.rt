@@ -1,0 +1,342 @@
+//! Reading a table.
+use crate::contents::{ContentId, Contents};
+use crate::problem::{Problem, TableError};
+use crate::row::{Before, Call, Fault, NamedContent, Printed, Row, Wants};
+use pg_top::Status;
+use std::alloc::{AllocError, Global};
+
+/// A table: its contents, the files of all its rows, and the rows.
+#[derive(Drop)]
+pub(crate) struct Table {
+    pub contents: Contents,
+    pub files: Vec<NamedContent>,
+    pub rows: Vec<Row>,
+}
+
+impl Table {
+    /// Reads a table. The file FORMAT says what its lines mean.
+    pub fn read(alloc: Global, text: &str) -> Result<Table, TableError> {
+        let mut reader = Reader::new(alloc);
+        let mut line = 0_usize;
+        for content in text.lines() {
+            line = line.saturating_add(1);
+            if let Err(problem) = reader.read_line(line, content) {
+                return Err(TableError { line, problem });
+            }
+        }
+        match reader.end_row() {
+            Ok(()) => Ok(reader.table),
+            Err(problem) => Err(TableError { line, problem }),
+        }
+    }
+}
+
+/// A table of which some lines were read.
+#[derive(Drop)]
+struct Reader {
+    alloc: Global,
+    table: Table,
+    /// Whether the line above is one of a content.
+    is_in_content: bool,
+}
+
+/// Whether a line is a piece of a content.
+fn is_piece(line: &str) -> bool {
+    line.starts_with(['>', '+', '='])
+        || line.starts_with(|c: char| c.is_ascii_digit())
+        || line.starts_with("bytes ")
+        || line.starts_with("letters ")
+}
+
+impl Reader {
+    /// No line so far.
+    fn new(alloc: Global) -> Reader {
+        let table = Table {
+            contents: Contents::new(alloc),
+            files: Vec::new(alloc),
+            rows: Vec::new(alloc),
+        };
+        Reader {
+            alloc,
+            table,
+            is_in_content: false,
+        }
+    }
+
+    /// Reads the line of this number.
+    fn read_line(&mut self, number: usize, line: &str) -> Result<(), Problem> {
+        if line.is_empty() || line.starts_with('#') {
+            return Ok(());
+        }
+        if is_piece(line) {
+            return self.read_piece(line);
+        }
+        self.is_in_content = false;
+        let (key, rest) = line.split_once(':').ok_or(Problem::NoWord)?;
+        let rest = rest.strip_prefix(' ').unwrap_or(rest);
+        match key.split_once(' ') {
+            None => self.read_word(number, key, rest),
+            Some((word, name)) => self.read_named(word, name, rest),
+        }
+    }
+
+    /// Reads a piece of a content.
+    fn read_piece(&mut self, piece: &str) -> Result<(), Problem> {
+        if !self.is_in_content {
+            return Err(Problem::PieceAlone);
+        }
+        self.table.contents.push_piece(piece)
+    }
+
+    /// Begins a content, whose first piece may stand on the same line.
+    fn read_content(&mut self, rest: &str) -> Result<ContentId, Problem> {
+        let content = self.table.contents.begin()?;
+        self.is_in_content = true;
+        if !rest.is_empty() {
+            self.table.contents.push_piece(rest)?;
+        }
+        Ok(content)
+    }
+
+    /// Reads a line that begins with one word.
+    fn read_word(&mut self, number: usize, word: &str, rest: &str) -> Result<(), Problem> {
+        match word {
+            "row" => self.begin_row(rest)?,
+            "call" => self.begin_call(number, Before::Given, rest)?,
+            "then" => self.begin_call(number, Before::Left, rest)?,
+            "also" => self.repeat_call(number, rest)?,
+            "prints" => self.read_printed("", rest)?,
+            "status" => self.wants()?.status = Some(status_of(rest)?),
+            "calls" => {
+                let count = number_of(rest)?;
+                self.counted_wants()?.calls = Some(count);
+            }
+            "puts" => self.wants()?.puts = Some(number_of(rest)?),
+            "any" => self.read_any(rest)?,
+            "changes" => self.read_changes(rest)?,
+            _ => return Err(Problem::NoWord),
+        }
+        Ok(())
+    }
+
+    /// Reads a line that begins with a word and a name or second word.
+    fn read_named(&mut self, word: &str, name: &str, rest: &str) -> Result<(), Problem> {
+        match (word, name) {
+            ("content", _) => {
+                let content = self.read_content(rest)?;
+                self.table.contents.name(name, content)?;
+            }
+            ("file", _) => self.read_file(name, rest)?,
+            ("after", _) => {
+                let content = self.read_content(rest)?;
+                let named = NamedContent::new(self.alloc, name, content)?;
+                self.wants()?.after.push(named)?;
+            }
+            ("prints", _) => self.read_printed(name, rest)?,
+            ("fails", "call") => {
+                let fault = fault_of(rest)?;
+                self.counted_wants()?.failing_call = Some(fault);
+            }
+            ("fails", "put") => self.wants()?.failing_put = Some(fault_of(rest)?),
+            _ => return Err(Problem::NoWord),
+        }
+        Ok(())
+    }
+
+    /// Reads a file that the calls are given: those of one row, or above the first row those of all.
+    fn read_file(&mut self, name: &str, rest: &str) -> Result<(), Problem> {
+        let content = self.read_content(rest)?;
+        let named = NamedContent::new(self.alloc, name, content)?;
+        match self.table.rows.last_mut() {
+            None => self.table.files.push(named)?,
+            Some(row) if row.calls.is_empty() => row.files.push(named)?,
+            Some(_) => return Err(Problem::LateFile),
+        }
+        Ok(())
+    }
+
+    /// Reads the name of the file of which each change is tried.
+    fn read_changes(&mut self, name: &str) -> Result<(), Problem> {
+        let own_name = String::from_str(self.alloc, name)?;
+        let row = self.table.rows.last_mut().ok_or(Problem::NoRow)?;
+        if !row.calls.is_empty() {
+            return Err(Problem::LateFile);
+        }
+        if !is_given(&self.table.files, name) && !is_given(&row.files, name) {
+            return Err(Problem::NoFile);
+        }
+        row.changed = Some(own_name);
+        Ok(())
+    }
+
+    /// Reads something that is wanted of what is printed.
+    fn read_printed(&mut self, how: &str, rest: &str) -> Result<(), Problem> {
+        let printed = match how {
+            "" => Printed::Whole(self.read_content(rest)?),
+            "beginning" => Printed::Beginning(self.read_content(rest)?),
+            "ending" => Printed::Ending(self.read_content(rest)?),
+            "at line" => Printed::AtLine(self.read_content(rest)?),
+            "again" if rest.is_empty() => Printed::Again,
+            "anything" if rest.is_empty() => Printed::Anything,
+            _ => return Err(Problem::NoWord),
+        };
+        self.wants()?.printed.push(printed)?;
+        Ok(())
+    }
+
+    /// Reads the names of the files that may hold anything.
+    fn read_any(&mut self, names: &str) -> Result<(), Problem> {
+        let alloc = self.alloc;
+        let wants = self.wants()?;
+        for name in names.split(' ') {
+            wants.any.push(String::from_str(alloc, name)?)?;
+        }
+        Ok(())
+    }
+
+    /// Begins a row.
+    fn begin_row(&mut self, title: &str) -> Result<(), Problem> {
+        self.end_row()?;
+        let alloc = self.alloc;
+        self.table.rows.push(Row {
+            title: String::from_str(alloc, title)?,
+            files: Vec::new(alloc),
+            changed: None,
+            calls: Vec::new(alloc),
+        })?;
+        Ok(())
+    }
+
+    /// Ends a row, if there is one: it has a call.
+    fn end_row(&mut self) -> Result<(), Problem> {
+        match self.table.rows.last() {
+            Some(row) if row.calls.is_empty() => Err(Problem::EmptyRow),
+            Some(_) => self.end_call(),
+            None => Ok(()),
+        }
+    }
+
+    /// Ends a call, if there is one in this row: something is wanted of its status and of what is printed.
+    fn end_call(&mut self) -> Result<(), Problem> {
+        let Some(call) = self.row()?.calls.last() else {
+            return Ok(());
+        };
+        if call.wants.status.is_none() {
+            return Err(Problem::NoStatus);
+        }
+        if call.wants.printed.is_empty() {
+            return Err(Problem::NoPrints);
+        }
+        Ok(())
+    }
+
+    /// Begins a call of which nothing is wanted yet.
+    fn begin_call(&mut self, line: usize, before: Before, words: &str) -> Result<(), Problem> {
+        self.end_call()?;
+        if before == Before::Left {
+            self.call()?;
+        }
+        let wants = Wants::new(self.alloc);
+        self.push_call(line, before, words, wants)
+    }
+
+    /// Begins a call of which the same is wanted as of the one above.
+    fn repeat_call(&mut self, line: usize, words: &str) -> Result<(), Problem> {
+        self.end_call()?;
+        let above = self.row()?.calls.last().ok_or(Problem::NoCall)?;
+        let before = above.before;
+        let wants = above.wants.clone()?;
+        self.push_call(line, before, words, wants)
+    }
+
+    fn push_call(
+        &mut self,
+        line: usize,
+        before: Before,
+        words: &str,
+        wants: Wants,
+    ) -> Result<(), Problem> {
+        let words = words_of(self.alloc, words)?;
+        self.row()?.calls.push(Call {
+            line,
+            before,
+            words,
+            wants,
+        })?;
+        Ok(())
+    }
+
+    /// The last row.
+    fn row(&mut self) -> Result<&mut Row, Problem> {
+        self.table.rows.last_mut().ok_or(Problem::NoRow)
+    }
+
+    /// The last call.
+    fn call(&mut self) -> Result<&mut Call, Problem> {
+        self.row()?.calls.last_mut().ok_or(Problem::NoCall)
+    }
+
+    /// What is wanted of the last call.
+    fn wants(&mut self) -> Result<&mut Wants, Problem> {
+        Ok(&mut self.call()?.wants)
+    }
+
+    /// The same, of a call whose calls on the files are counted.
+    fn counted_wants(&mut self) -> Result<&mut Wants, Problem> {
+        let call = self.call()?;
+        if call.before == Before::Left {
+            return Err(Problem::LateCount);
+        }
+        Ok(&mut call.wants)
+    }
+}
+
+/// Whether one of these files has this name.
+fn is_given(files: &[NamedContent], name: &str) -> bool {
+    files.iter().any(|file| file.is_named(name))
+}
+
+/// The words of a line, which a blank parts. Two quotes are an empty word.
+fn words_of(alloc: Global, line: &str) -> Result<Vec<String>, AllocError> {
+    let mut words = Vec::new(alloc);
+    if line.is_empty() {
+        return Ok(words);
+    }
+    for word in line.split(' ') {
+        let word = if word == "''" { "" } else { word };
+        words.push(String::from_str(alloc, word)?)?;
+    }
+    Ok(words)
+}
+
+fn number_of(text: &str) -> Result<u64, Problem> {
+    text.parse().map_err(|_| Problem::BadNumber)
+}
+
+/// A fault: its number, and how many bytes it keeps, if it keeps some.
+fn fault_of(text: &str) -> Result<Fault, Problem> {
+    let Some((number, keep)) = text.split_once(" keeps ") else {
+        let number = number_of(text)?;
+        return Ok(Fault { number, keep: None });
+    };
+    let number = number_of(number)?;
+    let keep = keep.parse().map_err(|_| Problem::BadNumber)?;
+    Ok(Fault {
+        number,
+        keep: Some(keep),
+    })
+}
+
+/// The status of this name.
+fn status_of(name: &str) -> Result<Status, Problem> {
+    match name {
+        "Done" => Ok(Status::Done),
+        "Yes" => Ok(Status::Yes),
+        "No" => Ok(Status::No),
+        "Usage" => Ok(Status::Usage),
+        "Refused" => Ok(Status::Refused),
+        "Fault" => Ok(Status::Fault),
+        "Memory" => Ok(Status::Memory),
+        _ => Err(Problem::BadStatus),
+    }
+}

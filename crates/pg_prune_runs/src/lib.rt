@@ -1,5 +1,0 @@
-//! Prunes through whole calls of the program.
-#![tactic(auto)]
-
-#[cfg(test)]
-mod prunes;

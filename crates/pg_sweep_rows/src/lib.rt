@@ -1,5 +1,0 @@
-//! Worked sweeps over the packed engine.
-#![tactic(auto)]
-
-#[cfg(test)]
-mod sweeps;

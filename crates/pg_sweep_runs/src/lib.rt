@@ -1,5 +1,0 @@
-//! Sweeps through whole calls of the program.
-#![tactic(auto)]
-
-#[cfg(test)]
-mod sweeps;

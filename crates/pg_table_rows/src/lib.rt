@@ -1,5 +1,0 @@
-//! Packed tables through whole calls of the program.
-#![tactic(auto)]
-
-#[cfg(test)]
-mod tables;
