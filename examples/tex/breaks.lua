@@ -35,9 +35,12 @@ local function padded(text, width)
 end
 
 local words, differences = 0, 0
+local list = io.open(os.getenv("LIST"))
 local rows = io.open(os.getenv("TABLE"), "w")
 callback.register("ligaturing", false)
-for line in io.lines(os.getenv("LIST")) do
+
+-- Writes the row of a line.
+local function write(line)
     local word = listed(line)
     local found = set((word:gsub("-", "")))
     words = words + 1
@@ -48,5 +51,19 @@ for line in io.lines(os.getenv("LIST")) do
     end
     rows:write(padded(found, 28), padded(line, 28), verdict, "\n")
 end
-rows:write(words, " words, ", differences, " broken in another way than the list says\n")
-rows:close()
+
+-- Writes the next rows, and the last line behind the last row. It sets \count255 to 1 if it is to be called again, and else to 0, since
+-- LuaTeX has no room for many thousand words in one call.
+function next_rows()
+    for _ = 1, 500 do
+        local line = list:read()
+        if not line then
+            rows:write(words, " words, ", differences, " broken in another way than the list says\n")
+            rows:close()
+            tex.count[255] = 0
+            return
+        end
+        write(line)
+    end
+    tex.count[255] = 1
+end
