@@ -93,7 +93,7 @@ module _ {V : Type 0} (r : Row V) (sign : ℕ) (signs : List ℕ) where
   pub least_from : (low bound base : ℕ) → 0 < low → ((b : ℕ) → 0 < b → b < bound → NoneFree r sign b) → IsLeast (fits_row r (sign ∷ signs)) (max low bound) base → IsLeast (fits_row r (sign ∷ signs)) low base
   least_from low bound base up none least = record {
     from = (let from = least.from in omega arith);
-    passes = least.passes;
+    meets = least.meets;
     first = λ k le lt. elim (cases_lt k (max low bound)) [
       | inl below ↦ not_free k (none k (omega arith) (omega arith))
       | inr above ↦ least.first k above lt

@@ -182,7 +182,7 @@ module _ {V : Type 0} (n : ℕ) (r gave dropped : Row V) (t : Trie V) (trie : Is
       sym (first_is (fits_at (without_family t.families p) (with_one_sign s (signs_of slots))) (top (without_family t.families p)) (lowest_base few n (length (with_one_sign s (signs_of slots))) (top (without_family t.families p))) base
       (subst (λ k. k ≤ base) low least.from)
       (let some = at_least_one (nat_le (length (with_one_sign s (signs_of slots))) few) (top (without_family t.families p)) in omega arith)
-      (sym (fit_same s base) ∙ least.passes)
+      (sym (fit_same s base) ∙ least.meets)
       (λ k l lt. sym (fit_same s k) ∙ least.first k (subst (λ j. j ≤ k) (sym low) l) lt))
     where
       no_sign : (b : Bool) → list_any (nat_eq s) (signs_of slots) ≡ b → list_any (nat_eq s) (signs_of slots) ≡ false

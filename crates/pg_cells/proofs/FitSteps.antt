@@ -96,7 +96,7 @@ module _ {V : Type 0} (r : Row V) (signs : List ℕ) where
       pub sought_least : (at : ℕ) → IsSought low room at → fits_row r signs (at - first) ≡ true → IsLeast (fits_row r signs) low (at - first)
       sought_least at sought passes = record {
         from = let from : low + first ≤ at = sought.from in omega arith;
-        passes = passes;
+        meets = passes;
         first = λ k l lt. sought.first_fit k l (omega arith);
       }
 

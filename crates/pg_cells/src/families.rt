@@ -116,7 +116,7 @@ impl<V: Copy, const FEW: usize> Placed<V, FEW> {
     }
 
     /// The value of the string that has the cell, or `None` where no string has it.
-    pub fn value_at(&self, cell: usize) -> Option<V>
+    pub fn value_if_taken(&self, cell: usize) -> Option<V>
         ensures some { IfSome result (λ v. (q : List ℕ) × (cell_of self.now.families q ≡ Some cell)
             × (find (slice_cmp nat_cmp) q self.now.values ≡ Some v)) }
         ensures none { result ≡ None → (q : List ℕ) → cell_of self.now.families q ≡ Some cell → ⊥ }

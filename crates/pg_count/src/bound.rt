@@ -22,7 +22,7 @@ pub fn rest_of(bound: &[Sign], s: Sign) -> &[Sign]
 }
 
 /// Whether the sign alone is above the bound.
-pub fn passes(bound: &[Sign], s: Sign) -> bool
+pub fn is_past(bound: &[Sign], s: Sign) -> bool
     ensures { result ≡ is_past bound.now s }
 {
     bound.first().is_none_or(|first| *first < s)

@@ -6,7 +6,7 @@ ghost use Rattle.pg_cells.specs.Members.{IsNextSign};
 ghost use Rattle.pg_count.specs.Bounds.{first_sign};
 ghost use Rattle.pg_count.specs.Least.{NoneAt, NoneAbove, LeastAt, LeastAbove};
 
-use crate::bound::{first_of, passes, rest_of};
+use crate::bound::{first_of, is_past, rest_of};
 use crate::tallied::Tallied;
 use pg_types::Sign;
 
@@ -126,7 +126,7 @@ fn last_at(
         MatchOption result (NoneAt cells.now.values p bound.now 1 s)
         (λ sums. LeastAt cells.now.values p bound.now s path.new sums) }
 {
-    if !passes(bound, s) {
+    if !is_past(bound, s) {
         return None;
     }
     let sums = cells.sums(cell)?;

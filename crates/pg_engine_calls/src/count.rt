@@ -8,7 +8,7 @@ use std::process::Abort;
 use std::test::Fail;
 
 /// Adds a weight of at most 9 to a window.
-fn see(
+fn count_window(
     counts: &mut CountTrie,
     first: Sign,
     second: Sign,
@@ -39,7 +39,7 @@ fn count(counts: &mut CountTrie, seen: &[(Sign, Sign, bool, Weight)]) -> Result<
 {
     counts.begin(2);
     for window in seen {
-        see(counts, window.0, window.1, window.2, window.3)?;
+        count_window(counts, window.0, window.1, window.2, window.3)?;
     }
     Ok(())
 }

@@ -5,7 +5,7 @@ use Rattle.pg_dict.specs.Word.{Word}
 use Rattle.pg_select.specs.CountedPositions.{Minima}
 use Rattle.pg_select.specs.Windows.{Patterns}
 use Rattle.pg_prune.specs.declared.pruned.Need.{Need}
-use Rattle.pg_prune.specs.Places.{Place, places}
+use Rattle.pg_prune.specs.Places.{WordPlace, places}
 use Rattle.pg_prune.specs.Prunes.{rounds, needs, pruned, found_by, Found, Rounds}
 use Rattle.pg_prune.specs.Picks.{picked, RoundStart}
 use Rattle.pg_prune.specs.Picks.{entry_of}
@@ -28,7 +28,7 @@ module _ (m : Minima) (ws : List Word) (P : Patterns) where
   rounds_patterns kept count done = ap (λ (r : Rounds). r.patterns) (sym done)
 
 -- the same entries with their numbers in another list
-pub with_kept : (places : List Place) (P : Patterns) (stands holders : List (List ℕ)) (kept kept' : List ℕ) → kept' ≡ kept → RoundStart places P stands holders kept → RoundStart places P stands holders kept'
+pub with_kept : (places : List WordPlace) (P : Patterns) (stands holders : List (List ℕ)) (kept kept' : List ℕ) → kept' ≡ kept → RoundStart places P stands holders kept → RoundStart places P stands holders kept'
 with_kept places P stands holders kept kept' is r = subst (λ ks. RoundStart places P stands holders ks) (sym is) r
 
 pub picked_few : (P : Patterns) (kept : List ℕ) (Q : Patterns) → length Q ≤ length P → picked P kept ≡ Q → length kept ≤ length P

@@ -8,7 +8,7 @@ use Rattle.std.proofs.lemmas.Bool.{and_from}
 use Rattle.pg_types.proofs.BoolFacts.{and_first, and_second}
 use Rattle.pg_patterns.specs.Values.{is_entry}
 use Rattle.pg_select.specs.Windows.{Patterns}
-use Rattle.pg_prune.specs.Places.{Place}
+use Rattle.pg_prune.specs.Places.{WordPlace}
 use Rattle.pg_prune.specs.Standing.{standing}
 use Rattle.pg_prune.specs.Turns.{Turn, with_entry, IsAwaited, IsTallied}
 use Rattle.pg_prune.specs.Picks.{IsGround}
@@ -16,7 +16,7 @@ use Rattle.pg_prune.proofs.RoundSteps.{standing_at}
 use Rattle.pg_prune.specs.Picks.{entry_of}
 
 -- where no entry is, no place has a holder
-pub none_tallied : (places : List Place) → IsTallied places [] (replicate (length places) (replicate 9 0))
+pub none_tallied : (places : List WordPlace) → IsTallied places [] (replicate (length places) (replicate 9 0))
 none_tallied [] = refl
 none_tallied (x ∷ xs) = ap (λ t. replicate 9 0 ∷ t) (none_tallied xs)
 
@@ -33,13 +33,13 @@ sound_take (suc n) [] sound = refl
 sound_take (suc n) (e ∷ P) sound = and_from _ _ (and_first _ _ sound) (sound_take n P (and_second _ _ sound))
 
 -- the turn of the i-th entry, where those before it were added
-abbrev pub turn_after : List Place → Patterns → ℕ → Turn
+abbrev pub turn_after : List WordPlace → Patterns → ℕ → Turn
 turn_after places P i = record { places = places; before = take i P; entry = entry_of P i; behind = [] }
 
-pub with_next : (places : List Place) (P : Patterns) (i : ℕ) → i < length P → take (i + 1) P ≡ with_entry (turn_after places P i)
+pub with_next : (places : List WordPlace) (P : Patterns) (i : ℕ) → i < length P → take (i + 1) P ≡ with_entry (turn_after places P i)
 with_next places P i inside = take_more P i (([], 0), 0) inside
 
-pub turn_awaited : {V : Type 0} (items : V → List ℕ) (places : List Place) (P : Patterns) (vs : List V) (count : ℕ) (holders : List (List ℕ)) (i : ℕ) (v : V) (numbers : List ℕ) (x : (List ℕ × ℕ) × ℕ) → IsGround places P (map items vs) count
+pub turn_awaited : {V : Type 0} (items : V → List ℕ) (places : List WordPlace) (P : Patterns) (vs : List V) (count : ℕ) (holders : List (List ℕ)) (i : ℕ) (v : V) (numbers : List ℕ) (x : (List ℕ × ℕ) × ℕ) → IsGround places P (map items vs) count
     → list_all is_entry P ≡ true → IsTallied places (take i P) holders → i < length P → i < 2 ^ 64 - 1 → v ≡ get_or vs i v → numbers ≡ items v → slice_get P i ≡ Some x → IsAwaited (turn_after places P i) holders numbers x.1
 turn_awaited items places P vs count holders i v numbers x g sound tallied inside room is own entry =
     let many : length vs ≡ length P = sym (length-map vs items) ∙ ap length g.all ∙ length-map P (standing places) in

@@ -7,28 +7,28 @@ use Rattle.pg_types.proofs.BoolFacts.{and_first, and_second}
 use Rattle.pg_patterns.specs.Values.{value_at}
 use Rattle.pg_select.specs.Windows.{Patterns}
 use Rattle.pg_prune.specs.declared.pruned.Need.{Need}
-use Rattle.pg_prune.specs.Places.{Place}
+use Rattle.pg_prune.specs.Places.{WordPlace}
 use Rattle.pg_prune.specs.Prunes.{break_alike_at, break_alike, need_at, need_list, needs_from, first_difference}
 use Rattle.pg_prune.proofs.RoundLaws.{by_test, regrouped, NoneGoes}
 use Rattle.pg_prune.proofs.Told.{IsBehind}
 
 -- a map breaks alike with itself
-pub alike_self : (xs : List Place) (P : Patterns) → break_alike xs P P ≡ true
+pub alike_self : (xs : List WordPlace) (P : Patterns) → break_alike xs P P ≡ true
 alike_self [] P = refl
 alike_self (x ∷ xs) P = and_from _ _ (eq-eqb (value_at P x.signs x.position % 2) _ refl) (alike_self xs P)
 
 -- and two maps that break alike with a third
-pub alike_over : (xs : List Place) (P Q R : Patterns) → break_alike xs P Q ≡ true → break_alike xs Q R ≡ true → break_alike xs P R ≡ true
+pub alike_over : (xs : List WordPlace) (P Q R : Patterns) → break_alike xs P Q ≡ true → break_alike xs Q R ≡ true → break_alike xs P R ≡ true
 alike_over [] P Q R first second = refl
 alike_over (x ∷ xs) P Q R first second =
     and_from _ _ (eq-eqb _ _ (eqb-true _ _ (and_first _ _ first) ∙ eqb-true _ _ (and_first _ _ second))) (alike_over xs P Q R (and_second _ _ first) (and_second _ _ second))
 
-none_step : (x : Place) (b r : Bool) (o : Option Place) → cond (not b) (Some x) o ≡ None → (o ≡ None → r ≡ true) → (b && r) ≡ true
+none_step : (x : WordPlace) (b r : Bool) (o : Option WordPlace) → cond (not b) (Some x) o ≡ None → (o ≡ None → r ≡ true) → (b && r) ≡ true
 none_step x true r o none others = others none
 none_step x false r o none others = absurd (cc)
 
 -- where no place is found, all are alike
-pub alike_where_none : (P Q : Patterns) (xs : List Place) → first_difference xs P Q ≡ None → break_alike xs P Q ≡ true
+pub alike_where_none : (P Q : Patterns) (xs : List WordPlace) → first_difference xs P Q ≡ None → break_alike xs P Q ≡ true
 alike_where_none P Q [] none = refl
 alike_where_none P Q (x ∷ xs) none = none_step x (break_alike_at P Q x) (break_alike xs P Q) (first_difference xs P Q) none (alike_where_none P Q xs)
 
@@ -36,20 +36,20 @@ alike_where_none P Q (x ∷ xs) none = none_step x (break_alike_at P Q x) (break
 abbrev IsLow : Need → Type 0
 IsLow n = 1 ≤ n.position
 
-need_behind : (p : Place → Bool) (xs : List Place) → All IsBehind xs → All IsLow (need_list (find p xs))
+need_behind : (p : WordPlace → Bool) (xs : List WordPlace) → All IsBehind xs → All IsLow (need_list (find p xs))
 need_behind p [] all = All-nil IsLow
 need_behind p (x ∷ xs) all =
-    by_test (λ (o : Option Place). All IsLow (need_list o)) (p x) (Some x) (find p xs)
+    by_test (λ (o : Option WordPlace). All IsLow (need_list o)) (p x) (Some x) (find p xs)
     (λ _. All-cons IsLow (need_at x) [] (All-head IsBehind x xs all) (All-nil IsLow)) (λ _. need_behind p xs (All-tail IsBehind x xs all))
 
-module _ (places : List Place) where
+module _ (places : List WordPlace) where
   pub needs_behind : (before rest : Patterns) → All IsBehind places → All IsLow (needs_from places before rest)
   needs_behind before [] all = All-nil IsLow
   needs_behind before (e ∷ rest) all =
       All-append IsLow (need_list (first_difference places (before ++ e ∷ rest) (before ++ rest))) (needs_from places (before ++ e ∷ []) rest)
       (need_behind (λ x. not (break_alike_at (before ++ e ∷ rest) (before ++ rest) x)) places all) (needs_behind (before ++ e ∷ []) rest all)
 
-  one_need : (o : Option Place) (more : List Need) (n : ℕ) → (o ≡ None → ⊥) → length more ≡ n → length (need_list o ++ more) ≡ suc n
+  one_need : (o : Option WordPlace) (more : List Need) (n : ℕ) → (o ≡ None → ⊥) → length more ≡ n → length (need_list o ++ more) ≡ suc n
   one_need None more n some many = absurd (some refl)
   one_need (Some x) more n some many = ap suc many
 

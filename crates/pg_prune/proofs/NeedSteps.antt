@@ -6,7 +6,7 @@ use Rattle.std.proofs.lemmas.List.{append-nil, map-append, take_more, get_or-map
 use Rattle.std.proofs.lemmas.List.Elements.{All-take, All-drop}
 use Rattle.pg_select.specs.Windows.{Patterns}
 use Rattle.pg_prune.specs.declared.pruned.Need.{Need}
-use Rattle.pg_prune.specs.Places.{Place}
+use Rattle.pg_prune.specs.Places.{WordPlace}
 use Rattle.pg_prune.specs.Prunes.{need_at, need_list, needs_from, needs, first_difference}
 use Rattle.pg_prune.specs.Turns.{with_entry, without_entry, IsHeld, IsTallied, IsFound}
 use Rattle.pg_prune.specs.Picks.{picked, RoundStart}
@@ -14,7 +14,7 @@ use Rattle.pg_prune.proofs.TurnSteps.{left_at, none_left}
 use Rattle.pg_prune.proofs.RoundSteps.{turn_of, turn_from}
 use Rattle.pg_prune.specs.Picks.{entry_of}
 
-module _ (places : List Place) (P : Patterns) (kept : List ℕ) where
+module _ (places : List WordPlace) (P : Patterns) (kept : List ℕ) where
   -- these are the needs of the first i entries
   abbrev pub NeedsSoFar : List Need → ℕ → Type 0
   NeedsSoFar found i = found ++ needs_from places (picked P (take i kept)) (picked P (drop i kept)) ≡ needs places (picked P kept)
@@ -52,7 +52,7 @@ module _ (places : List Place) (P : Patterns) (kept : List ℕ) where
       (subst (λ (Q : Patterns). IsTallied places Q holders) whole s.tallied) is own entry
 
 -- a place that was found gives its need
-pub need_found : (places : List Place) (found : Option Place) (k : ℕ) (d : Need) → IsFound places found k → need_list found ≡ get_or (map need_at places) k d ∷ []
+pub need_found : (places : List WordPlace) (found : Option WordPlace) (k : ℕ) (d : Need) → IsFound places found k → need_list found ≡ get_or (map need_at places) k d ∷ []
 need_found places found k d f =
-    let at : Place = record { word = 0; signs = []; position = 0 } in
+    let at : WordPlace = record { word = 0; signs = []; position = 0 } in
     ap need_list (f.place at) ∙ ap (λ n. n ∷ []) (sym (get_or-map need_at places k at d f.within))

@@ -4,7 +4,7 @@ use Rattle.std.specs.Prelude.{nat_eq}
 use Rattle.std.proofs.lemmas.List.{append-nil}
 use Rattle.std.proofs.lemmas.Bool.{eq-eqb, eqb-true}
 use Rattle.pg_select.specs.Windows.{Patterns}
-use Rattle.pg_prune.specs.Places.{Place}
+use Rattle.pg_prune.specs.Places.{WordPlace}
 use Rattle.pg_prune.specs.Prunes.{break_alike, round_from, round, rounds_from, Rounds}
 
 -- a fact of either of two values, as the test says
@@ -17,7 +17,7 @@ pub regrouped : {A : Type 0} (kept : List A) (e : A) (rest : List A) → (kept +
 regrouped kept e rest = append_assoc kept (e ∷ []) rest
 
 -- a fact that stays where an entry is taken out without a change of breaks holds after a round, and after all rounds
-module _ (places : List Place) (P : Patterns) (Good : Patterns → Type 0) (step : (before : Patterns) (e : (List ℕ × ℕ) × ℕ) (rest : Patterns) → break_alike places P (before ++ rest) ≡ true → Good (before ++ e ∷ rest) → Good (before ++ rest)) where
+module _ (places : List WordPlace) (P : Patterns) (Good : Patterns → Type 0) (step : (before : Patterns) (e : (List ℕ × ℕ) × ℕ) (rest : Patterns) → break_alike places P (before ++ rest) ≡ true → Good (before ++ e ∷ rest) → Good (before ++ rest)) where
   pub round_keeps : (kept rest : Patterns) → Good (kept ++ rest) → Good (round_from places P kept rest)
   round_keeps kept [] good = subst Good (append-nil kept) good
   round_keeps kept (e ∷ rest) good =
@@ -33,7 +33,7 @@ module _ (places : List Place) (P : Patterns) (Good : Patterns → Type 0) (step
       (λ goes. good)
       (λ stays. rounds_keep (count + 1) most (round places P Q) (round_keeps [] Q good))
 
-module _ (places : List Place) (P : Patterns) where
+module _ (places : List WordPlace) (P : Patterns) where
   -- a round leaves no more entries than there were
   pub round_length : (kept rest : Patterns) → length (round_from places P kept rest) ≤ length kept + length rest
   round_length kept [] = omega arith

@@ -10,7 +10,7 @@ use Rattle.std.proofs.lemmas.Bool.{and_from, eq-eqb, eqb-true}
 use Rattle.pg_types.proofs.BoolFacts.{and_first, and_second}
 use Rattle.pg_patterns.specs.Values.{is_entry}
 use Rattle.pg_select.specs.Windows.{Patterns}
-use Rattle.pg_prune.specs.Places.{Place}
+use Rattle.pg_prune.specs.Places.{WordPlace}
 use Rattle.pg_prune.specs.Prunes.{break_alike, round_from, round}
 use Rattle.pg_prune.specs.Standing.{standing, all_standing}
 use Rattle.pg_prune.specs.Turns.{Turn, with_entry, without_entry, IsHeld, IsTallied}
@@ -31,22 +31,22 @@ picked_sound P (k ∷ ks) sound within =
     and_from _ _ (sound_at P k (All-head (λ i. i < length P) k ks within) sound) (picked_sound P ks sound (All-tail (λ i. i < length P) k ks within))
 
 -- the places of the entry with a number
-pub standing_at : (places : List Place) (P : Patterns) (k : ℕ) → k < length P → get_or (all_standing places P) k [] ≡ standing places (entry_of P k)
+pub standing_at : (places : List WordPlace) (P : Patterns) (k : ℕ) → k < length P → get_or (all_standing places P) k [] ≡ standing places (entry_of P k)
 standing_at places [] k inside = absurd (omega arith)
 standing_at places (e ∷ P) zero inside = refl
 standing_at places (e ∷ P) (suc k) inside = standing_at places P k (omega arith)
 
 -- maps break alike the other way round too
-pub alike_back : (xs : List Place) (P Q : Patterns) → break_alike xs P Q ≡ true → break_alike xs Q P ≡ true
+pub alike_back : (xs : List WordPlace) (P Q : Patterns) → break_alike xs P Q ≡ true → break_alike xs Q P ≡ true
 alike_back [] P Q alike = refl
 alike_back (x ∷ xs) P Q alike = and_from _ _ (eq-eqb _ _ (sym (eqb-true _ _ (and_first _ _ alike)))) (alike_back xs P Q (and_second _ _ alike))
 
 -- the turn of the entry with the number k, where those before it with the numbers `stay` stay
-abbrev pub turn_of : List Place → Patterns → List ℕ → ℕ → List ℕ → Turn
+abbrev pub turn_of : List WordPlace → Patterns → List ℕ → ℕ → List ℕ → Turn
 turn_of places P stay k left = record { places = places; before = picked P stay; entry = entry_of P k; behind = picked P left }
 
 -- what an entry's turn has: its places, its value, and the holders of the map
-module _ {V : Type 0} (items : V → List ℕ) (places : List Place) (P : Patterns) (vs : List V) where
+module _ {V : Type 0} (items : V → List ℕ) (places : List WordPlace) (P : Patterns) (vs : List V) where
   pub turn_from : (holders : List (List ℕ)) (stay : List ℕ) (k : ℕ) (left : List ℕ) (v : V) (numbers : List ℕ) (x : (List ℕ × ℕ) × ℕ) → map items vs ≡ all_standing places P → list_all is_entry P ≡ true
       → All (λ i. i < length P) stay → All (λ i. i < length P) (k ∷ left) → IsTallied places (picked P stay ++ picked P (k ∷ left)) holders
       → v ≡ get_or vs k v → numbers ≡ items v → slice_get P k ≡ Some x → IsHeld (turn_of places P stay k left) holders numbers x.1
@@ -63,17 +63,17 @@ module _ {V : Type 0} (items : V → List ℕ) (places : List Place) (P : Patter
       }
 
 -- a round in its middle
-pub record Rounding (places : List Place) (P : Patterns) (kept : List ℕ) (holders : List (List ℕ)) (stay left : List ℕ) : Type 0 where
+pub record Rounding (places : List WordPlace) (P : Patterns) (kept : List ℕ) (holders : List (List ℕ)) (stay left : List ℕ) : Type 0 where
   pub within : All (λ i. i < length P) stay
   pub rest : All (λ i. i < length P) left
   pub tallied : IsTallied places (picked P stay ++ picked P left) holders
   pub alike : break_alike places P (picked P stay ++ picked P left) ≡ true
   pub so_far : round_from places P (picked P stay) (picked P left) ≡ round places P (picked P kept)
 
-continues_with : (places : List Place) (P kept : Patterns) (e : (List ℕ × ℕ) × ℕ) (left : Patterns) → break_alike places P (kept ++ left) ≡ true → round_from places P kept (e ∷ left) ≡ round_from places P kept left
+continues_with : (places : List WordPlace) (P kept : Patterns) (e : (List ℕ × ℕ) × ℕ) (left : Patterns) → break_alike places P (kept ++ left) ≡ true → round_from places P kept (e ∷ left) ≡ round_from places P kept left
 continues_with places P kept e left goes = ap (λ b. cond b (round_from places P kept left) (round_from places P (kept ++ e ∷ []) left)) goes
 
-stays_on : (places : List Place) (P kept : Patterns) (e : (List ℕ × ℕ) × ℕ) (left : Patterns) → break_alike places P (kept ++ left) ≡ false → round_from places P kept (e ∷ left) ≡ round_from places P (kept ++ e ∷ []) left
+stays_on : (places : List WordPlace) (P kept : Patterns) (e : (List ℕ × ℕ) × ℕ) (left : Patterns) → break_alike places P (kept ++ left) ≡ false → round_from places P kept (e ∷ left) ≡ round_from places P (kept ++ e ∷ []) left
 stays_on places P kept e left stays = ap (λ b. cond b (round_from places P kept left) (round_from places P (kept ++ e ∷ []) left)) stays
 
 is_alike : (b : Bool) → false ≡ not b → b ≡ true
@@ -88,7 +88,7 @@ unlike : (b c : Bool) → (b ≡ true → c ≡ true) → c ≡ false → b ≡ 
 unlike true c both e = absurd (cc (both refl))
 unlike false c both e = refl
 
-module _ (places : List Place) (P : Patterns) (stands : List (List ℕ)) (kept : List ℕ) where
+module _ (places : List WordPlace) (P : Patterns) (stands : List (List ℕ)) (kept : List ℕ) where
   pub rounding_begins : (holders : List (List ℕ)) → RoundStart places P stands holders kept → Rounding places P kept holders [] kept
   unfolding round
   rounding_begins holders s = record { within = All-nil (λ i. i < length P); rest = s.within; tallied = s.tallied; alike = s.alike; so_far = refl }
@@ -133,7 +133,7 @@ module _ (places : List Place) (P : Patterns) (stands : List (List ℕ)) (kept :
     done = r.so_far;
   }
 
-module _ {V : Type 0} (items : V → List ℕ) (places : List Place) (P : Patterns) (vs : List V) (kept : List ℕ) where
+module _ {V : Type 0} (items : V → List ℕ) (places : List WordPlace) (P : Patterns) (vs : List V) (kept : List ℕ) where
   pub rounding_at : (holders : List (List ℕ)) (stay : List ℕ) (i : ℕ) → i < length kept → Rounding places P kept holders stay (drop i kept) → Rounding places P kept holders stay (get_or kept i 0 ∷ drop (i + 1) kept)
   rounding_at holders stay i inside r = subst (λ left. Rounding places P kept holders stay left) (left_at kept i inside) r
 

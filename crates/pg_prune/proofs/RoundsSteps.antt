@@ -7,7 +7,7 @@ use Rattle.std.proofs.lemmas.List.FromFn.{length-range_with_len}
 use Rattle.std.proofs.lemmas.Bool.{eq-eqb, eqb-true}
 use Rattle.pg_types.proofs.BoolFacts.{no_test}
 use Rattle.pg_select.specs.Windows.{Patterns}
-use Rattle.pg_prune.specs.Places.{Place}
+use Rattle.pg_prune.specs.Places.{WordPlace}
 use Rattle.pg_prune.specs.Prunes.{break_alike, round, rounds_from, rounds, Rounds}
 use Rattle.pg_prune.specs.Turns.{IsTallied}
 use Rattle.pg_prune.specs.Picks.{picked, RoundStart, RoundDone, RoundsStart}
@@ -17,13 +17,13 @@ use Rattle.pg_prune.specs.Picks.{entry_of}
 use Rattle.pg_prune.proofs.Picking.{picked_all, range_below}
 
 -- so many rounds are made, and the entries with the numbers `kept` are left
-pub record RoundsSoFar (places : List Place) (P : Patterns) (stands : List (List ℕ)) (holders : List (List ℕ)) (kept : List ℕ) (count : ℕ) : Type 0 where
+pub record RoundsSoFar (places : List WordPlace) (P : Patterns) (stands : List (List ℕ)) (holders : List (List ℕ)) (kept : List ℕ) (count : ℕ) : Type 0 where
   pub ready : RoundStart places P stands holders kept
   pub most : ℕ
   pub few : length kept ≤ most
   pub so_far : rounds places P ≡ rounds_from places P count most (picked P kept)
 
-module _ (places : List Place) (P : Patterns) (stands : List (List ℕ)) where
+module _ (places : List WordPlace) (P : Patterns) (stands : List (List ℕ)) where
   pub rounds_begin : (holders : List (List ℕ)) → RoundsStart places P stands holders → RoundsSoFar places P stands holders (range_with_len 0 (length P)) 0
   unfolding rounds
   rounds_begin holders s = record {

@@ -11,7 +11,7 @@ use Rattle.pg_dict.specs.Word.{Word}
 use Rattle.pg_patterns.specs.Values.{value_at}
 use Rattle.pg_select.specs.CountedPositions.{Minima}
 use Rattle.pg_select.specs.Windows.{Patterns}
-use Rattle.pg_prune.specs.Places.{Place, places_in, places_from, places}
+use Rattle.pg_prune.specs.Places.{WordPlace, places_in, places_from, places}
 use Rattle.pg_prune.specs.Prunes.{break_alike_at, break_alike}
 use Rattle.pg_prune.specs.Promises.{BreakAlike}
 use Rattle.pg_prune.proofs.RoundLaws.{by_test}
@@ -54,7 +54,7 @@ module _ (P Q : Patterns) where
     told_breaks ws all = from_told 1 ws all
 
 -- every place is behind the first letter
-abbrev pub IsBehind : Place → Type 0
+abbrev pub IsBehind : WordPlace → Type 0
 IsBehind x = 1 ≤ x.position
 
 behind_from : (number : ℕ) (w : Word) (first count : ℕ) → 1 ≤ first → All IsBehind (map (λ p. record { word = number; signs = w.signs; position = p }) (range_with_len first count))

@@ -12,7 +12,7 @@ use Rattle.pg_dict.specs.Word.{Word}
 use Rattle.pg_patterns.specs.Values.{stands_at, applies}
 use Rattle.pg_select.specs.CountedPositions.{Minima}
 use Rattle.pg_select.proofs.Reaches.{Reaches, reach_is}
-use Rattle.pg_prune.specs.Places.{Place, places_in, places_from, places}
+use Rattle.pg_prune.specs.Places.{WordPlace, places_in, places_from, places}
 use Rattle.pg_prune.specs.Standing.{numbers_of, stands, standing}
 use Rattle.pg_prune.specs.declared.trail.Start.{Start}
 use Rattle.pg_prune.specs.Trails.{width_of, width, start_at, starts_in, starts_from, all_starts, begins_at, starts_of, place_in, place_of}
@@ -20,7 +20,7 @@ use Rattle.pg_prune.proofs.TrailLists.{range_parts, nothing_in, given_shifted}
 use Rattle.pg_prune.proofs.TrailStarts.{signs_at}
 
 -- a place of a word
-abbrev pub place_at : ℕ → List ℕ → ℕ → Place
+abbrev pub place_at : ℕ → List ℕ → ℕ → WordPlace
 place_at number signs p = record { word = number; signs = signs; position = p }
 
 -- what is given where a test passes
@@ -114,7 +114,7 @@ module _ (u : List ℕ) (v d : ℕ) (w : List ℕ) (first last b : ℕ) where
       ∙ ap (λ n. filter_map g (range_with_len n (last + 1 - first))) place)
 
 -- the numbers in two lists, one behind the other
-numbers-append : (test : Place → Bool) (at : ℕ) (xs ys : List Place) → numbers_of test at (xs ++ ys) ≡ numbers_of test at xs ++ numbers_of test (at + length xs) ys
+numbers-append : (test : WordPlace → Bool) (at : ℕ) (xs ys : List WordPlace) → numbers_of test at (xs ++ ys) ≡ numbers_of test at xs ++ numbers_of test (at + length xs) ys
 numbers-append test at [] ys = let place : at ≡ at + 0 = omega arith in ap (λ n. numbers_of test n ys) place
 numbers-append test at (x ∷ xs) ys =
     let place : at + 1 + length xs ≡ at + suc (length xs) = omega arith in

@@ -9,7 +9,7 @@ use Rattle.std.proofs.lemmas.Bool.{and_from, eq-eqb}
 use Rattle.pg_types.proofs.BoolFacts.{and_first, and_second}
 use Rattle.pg_patterns.specs.Values.{is_entry, value_at}
 use Rattle.pg_select.specs.Windows.{Patterns}
-use Rattle.pg_prune.specs.Places.{Place}
+use Rattle.pg_prune.specs.Places.{WordPlace}
 use Rattle.pg_prune.specs.Prunes.{break_alike_at}
 use Rattle.pg_prune.specs.Standing.{stands, numbers_of}
 use Rattle.pg_prune.specs.Holders.{count_at, holder_counts, greatest_value, with_one, less_one, stays_alike}
@@ -28,7 +28,7 @@ low_in h m low a (suc n) zero = low a
 low_in h m low a (suc n) (suc i) = low_in h m low (a + 1) n i
 
 -- no number of holders is greater than that of the entries
-pub held_low : (Q : Patterns) (x : Place) (i : ℕ) → get_or (holder_counts Q x) i 0 ≤ length Q
+pub held_low : (Q : Patterns) (x : WordPlace) (i : ℕ) → get_or (holder_counts Q x) i 0 ≤ length Q
 held_low Q x i = low_in (count_at Q x) (length Q) (λ u. count_by-le-length (λ e. stands e x && nat_eq e.1 u) Q) 1 9 i
 
 module _ (t : Turn) (numbers : List ℕ) (value : ℕ) (of : IsOf t numbers value) where
@@ -41,75 +41,75 @@ module _ (t : Turn) (numbers : List ℕ) (value : ℕ) (of : IsOf t numbers valu
   pub value_high : value ≤ 9
   value_high = let gives : value ≡ t.entry.1 = of.gives in let high = entry_high t.entry sound_alone in omega arith
 
-  pub away_same : (x : Place) → stands t.entry x ≡ false → holder_counts (with_entry t) x ≡ holder_counts (without_entry t) x
+  pub away_same : (x : WordPlace) → stands t.entry x ≡ false → holder_counts (with_entry t) x ≡ holder_counts (without_entry t) x
   away_same x away = tally_away t.before t.entry t.behind x away
 
-  pub there_more : (x : Place) → stands t.entry x ≡ true → holder_counts (with_entry t) x ≡ with_one (holder_counts (without_entry t) x) value
+  pub there_more : (x : WordPlace) → stands t.entry x ≡ true → holder_counts (with_entry t) x ≡ with_one (holder_counts (without_entry t) x) value
   there_more x there =
       tally_there t.before t.entry t.behind x (entry_low t.entry sound_alone) (entry_high t.entry sound_alone) there ∙ ap (with_one (holder_counts (without_entry t) x)) (sym of.gives)
 
-  pub there_less : (x : Place) → stands t.entry x ≡ true → less_one (holder_counts (with_entry t) x) value ≡ holder_counts (without_entry t) x
+  pub there_less : (x : WordPlace) → stands t.entry x ≡ true → less_one (holder_counts (with_entry t) x) value ≡ holder_counts (without_entry t) x
   there_less x there = ap (λ c. less_one c value) (there_more x there) ∙ less_with (holder_counts (without_entry t) x) value (let high = value_high in omega arith)
 
-  pub there_some : (x : Place) → stands t.entry x ≡ true → 0 < get_or (holder_counts (with_entry t) x) (value - 1) 0
+  pub there_some : (x : WordPlace) → stands t.entry x ≡ true → 0 < get_or (holder_counts (with_entry t) x) (value - 1) 0
   there_some x there =
       let high = value_high in
       let n = get_or (holder_counts (without_entry t) x) (value - 1) 0 in
       let more : get_or (holder_counts (with_entry t) x) (value - 1) 0 ≡ n + 1 = ap (λ c. get_or c (value - 1) 0) (there_more x there) ∙ get_or-set_same (holder_counts (without_entry t) x) (value - 1) (n + 1) 0 (omega arith) in
       omega arith
 
-  top_with_is : (x : Place) → greatest_value (holder_counts (with_entry t) x) ≡ value_at (with_entry t) x.signs x.position
+  top_with_is : (x : WordPlace) → greatest_value (holder_counts (with_entry t) x) ≡ value_at (with_entry t) x.signs x.position
   top_with_is x = greatest_value_is (with_entry t) x of.sound
 
-  top_without_is : (x : Place) → greatest_value (holder_counts (without_entry t) x) ≡ value_at (without_entry t) x.signs x.position
+  top_without_is : (x : WordPlace) → greatest_value (holder_counts (without_entry t) x) ≡ value_at (without_entry t) x.signs x.position
   top_without_is x = greatest_value_is (without_entry t) x (sound_without t.before t.entry t.behind of.sound)
 
-  alike_as : (x : Place) (c : List ℕ) → c ≡ holder_counts (without_entry t) x → break_alike_at (with_entry t) (without_entry t) x ≡ nat_eq (greatest_value (holder_counts (with_entry t) x) % 2) (greatest_value c % 2)
+  alike_as : (x : WordPlace) (c : List ℕ) → c ≡ holder_counts (without_entry t) x → break_alike_at (with_entry t) (without_entry t) x ≡ nat_eq (greatest_value (holder_counts (with_entry t) x) % 2) (greatest_value c % 2)
   alike_as x c is =
       ap (λ v. nat_eq (v % 2) (value_at (without_entry t) x.signs x.position % 2)) (sym (top_with_is x))
       ∙ ap (λ v. nat_eq (greatest_value (holder_counts (with_entry t) x) % 2) (v % 2)) (sym (top_without_is x) ∙ ap greatest_value (sym is))
 
-  pub there_alike : (x : Place) → stands t.entry x ≡ true → break_alike_at (with_entry t) (without_entry t) x ≡ stays_alike value (holder_counts (with_entry t) x)
+  pub there_alike : (x : WordPlace) → stands t.entry x ≡ true → break_alike_at (with_entry t) (without_entry t) x ≡ stays_alike value (holder_counts (with_entry t) x)
   there_alike x there = alike_as x (less_one (holder_counts (with_entry t) x) value) (there_less x there)
 
-  pub away_alike : (x : Place) → stands t.entry x ≡ false → break_alike_at (with_entry t) (without_entry t) x ≡ true
+  pub away_alike : (x : WordPlace) → stands t.entry x ≡ false → break_alike_at (with_entry t) (without_entry t) x ≡ true
   away_alike x away = alike_as x (holder_counts (with_entry t) x) (away_same x away) ∙ eq-eqb (greatest_value (holder_counts (with_entry t) x) % 2) _ refl
 
 -- a search is in the middle: in front all break alike
-pub record Looked (places : List Place) (alike : Place → Bool) (test : Place → Bool) (left : List ℕ) : Type 0 where
-  pub front : List Place
-  pub back : List Place
+pub record Looked (places : List WordPlace) (alike : WordPlace → Bool) (test : WordPlace → Bool) (left : List ℕ) : Type 0 where
+  pub front : List WordPlace
+  pub back : List WordPlace
   pub is : places ≡ front ++ back
   pub fine : list_all alike front ≡ true
   pub left_is : left ≡ numbers_of test (length front) back
 
 -- what is at the next number, and the search behind it
-pub record LookStep (places : List Place) (alike : Place → Bool) (test : Place → Bool) (k : ℕ) (ks : List ℕ) : Type 0 where
-  pub place : Place
+pub record LookStep (places : List WordPlace) (alike : WordPlace → Bool) (test : WordPlace → Bool) (k : ℕ) (ks : List ℕ) : Type 0 where
+  pub place : WordPlace
   pub there : test place ≡ true
   pub within : k < length places
-  pub at : (d : Place) → get_or places k d ≡ place
+  pub at : (d : WordPlace) → get_or places k d ≡ place
   pub next : alike place ≡ true → Looked places alike test ks
   pub found : alike place ≡ false → find (λ x. not (alike x)) places ≡ Some place
 
-find_behind : (alike : Place → Bool) (front : List Place) (x : Place) (more : List Place) → list_all alike front ≡ true → alike x ≡ false → find (λ x. not (alike x)) (front ++ x ∷ more) ≡ Some x
+find_behind : (alike : WordPlace → Bool) (front : List WordPlace) (x : WordPlace) (more : List WordPlace) → list_all alike front ≡ true → alike x ≡ false → find (λ x. not (alike x)) (front ++ x ∷ more) ≡ Some x
 find_behind alike [] x more fine differs = ap (λ b. cond (not b) (Some x) (find (λ x. not (alike x)) more)) differs
 find_behind alike (y ∷ front) x more fine differs =
     ap (λ b. cond (not b) (Some y) (find (λ x. not (alike x)) (front ++ x ∷ more))) (and_first _ _ fine) ∙ find_behind alike front x more (and_second _ _ fine) differs
 
-pub find_nothing : (alike : Place → Bool) (xs : List Place) → list_all alike xs ≡ true → find (λ x. not (alike x)) xs ≡ None
+pub find_nothing : (alike : WordPlace → Bool) (xs : List WordPlace) → list_all alike xs ≡ true → find (λ x. not (alike x)) xs ≡ None
 find_nothing alike [] fine = refl
 find_nothing alike (x ∷ xs) fine = ap (λ b. cond (not b) (Some x) (find (λ x. not (alike x)) xs)) (and_first _ _ fine) ∙ find_nothing alike xs (and_second _ _ fine)
 
-away_fine : (alike test : Place → Bool) → ((x : Place) → test x ≡ false → alike x ≡ true) → (gap : List Place) → list_all (λ y. not (test y)) gap ≡ true → list_all alike gap ≡ true
+away_fine : (alike test : WordPlace → Bool) → ((x : WordPlace) → test x ≡ false → alike x ≡ true) → (gap : List WordPlace) → list_all (λ y. not (test y)) gap ≡ true → list_all alike gap ≡ true
 away_fine alike test away [] fails = refl
 away_fine alike test away (y ∷ ys) fails = and_from _ _ (away y (is_false (test y) (and_first _ _ fails))) (away_fine alike test away ys (and_second _ _ fails))
 
-module _ (places : List Place) (alike : Place → Bool) (test : Place → Bool) where
+module _ (places : List WordPlace) (alike : WordPlace → Bool) (test : WordPlace → Bool) where
   pub look_begins : (left : List ℕ) → left ≡ numbers_of test 0 places → Looked places alike test left
   look_begins left is = record { front = []; back = places; is = refl; fine = refl; left_is = is }
 
-  module _ (away : (x : Place) → test x ≡ false → alike x ≡ true) where
+  module _ (away : (x : WordPlace) → test x ≡ false → alike x ≡ true) where
     pub look_steps : (k : ℕ) (ks : List ℕ) → Looked places alike test (k ∷ ks) → LookStep places alike test k ks
     look_steps k ks w =
         let n = next_of test (length w.front) w.back k ks (sym w.left_is) in
@@ -120,7 +120,7 @@ module _ (places : List Place) (alike : Place → Bool) (test : Place → Bool) 
         record {
           place = n.place;
           there = n.there;
-          within = subst (λ (h : List Place). k < length h) (sym whole) (let many = length-append front (n.place ∷ n.more) in omega (arith, many));
+          within = subst (λ (h : List WordPlace). k < length h) (sym whole) (let many = length-append front (n.place ∷ n.more) in omega (arith, many));
           at = λ d. ap (λ h. get_or h k d) whole ∙ ap (λ j. get_or (front ++ n.place ∷ n.more) j d) k_is ∙ get_or-append_seam front n.place n.more d;
           next = λ same. record {
             front = front ++ n.place ∷ [];

@@ -2,7 +2,7 @@
 use Rattle.std.proofs.Common.{◌≡◌, ℕ, zero, suc, ◌+◌, ◌<◌, ◌≤◌, List, [], ◌∷◌, map, length, get_or, drop, None, sym, subst, ap, ◌∙◌, arith, length-drop}
 use Rattle.std.proofs.Math.Seq.{drop-cons}
 use Rattle.std.proofs.lemmas.List.{nil_from_length}
-use Rattle.pg_prune.specs.Places.{Place}
+use Rattle.pg_prune.specs.Places.{WordPlace}
 use Rattle.pg_prune.specs.Prunes.{break_alike_at, first_difference}
 use Rattle.pg_prune.specs.Standing.{stands}
 use Rattle.pg_prune.specs.Holders.{holder_counts}
@@ -68,12 +68,12 @@ module _ (t : Turn) (numbers : List ℕ) (value : ℕ) (start : List (List ℕ))
   looks_end h i behind w =
       look_ends t.places (break_alike_at (with_entry t) (without_entry t)) (stands t.entry) (away_alike t numbers value h.entry) (subst (λ left. Looks left) (none_left numbers i behind) w)
 
-get_or-mapped : {A : Type 0} (f : Place → A) (xs : List Place) (k : ℕ) (x : Place) → k < length xs → ((d : Place) → get_or xs k d ≡ x) → (d : A) → get_or (map f xs) k d ≡ f x
+get_or-mapped : {A : Type 0} (f : WordPlace → A) (xs : List WordPlace) (k : ℕ) (x : WordPlace) → k < length xs → ((d : WordPlace) → get_or xs k d ≡ x) → (d : A) → get_or (map f xs) k d ≡ f x
 get_or-mapped f [] k x inside at d = absurd (omega arith)
 get_or-mapped f (y ∷ ys) zero x inside at d = ap f (at y)
 get_or-mapped f (y ∷ ys) (suc k) x inside at d = get_or-mapped f ys k x (omega arith) at d
 
 -- the holders at a place of the entry
-pub held_at : (t : Turn) (numbers : List ℕ) (value : ℕ) (start : List (List ℕ)) → IsHeld t start numbers value → (k : ℕ) (x : Place) → k < length t.places → ((d : Place) → get_or t.places k d ≡ x)
+pub held_at : (t : Turn) (numbers : List ℕ) (value : ℕ) (start : List (List ℕ)) → IsHeld t start numbers value → (k : ℕ) (x : WordPlace) → k < length t.places → ((d : WordPlace) → get_or t.places k d ≡ x)
     → (d : List ℕ) → get_or start k d ≡ holder_counts (with_entry t) x
 held_at t numbers value start h k x inside at d = ap (λ s. get_or s k d) h.tallied ∙ get_or-mapped (holder_counts (with_entry t)) t.places k x inside at d

@@ -6,21 +6,21 @@ use Rattle.std.specs.List.{list_all}
 use Rattle.std.proofs.lemmas.List.{length-map, map-append}
 use Rattle.std.proofs.lemmas.Bool.{and_from}
 use Rattle.pg_types.proofs.BoolFacts.{and_first, and_second}
-use Rattle.pg_prune.specs.Places.{Place}
+use Rattle.pg_prune.specs.Places.{WordPlace}
 use Rattle.pg_prune.specs.Standing.{numbers_of}
 
 -- the first number: places before it fail, its own passes, and the numbers that follow are those of the places behind it
-pub record Next (test : Place → Bool) (n : ℕ) (ys : List Place) (k : ℕ) (ks : List ℕ) : Type 0 where
-  pub gap : List Place
-  pub place : Place
-  pub more : List Place
+pub record Next (test : WordPlace → Bool) (n : ℕ) (ys : List WordPlace) (k : ℕ) (ks : List ℕ) : Type 0 where
+  pub gap : List WordPlace
+  pub place : WordPlace
+  pub more : List WordPlace
   pub is : ys ≡ gap ++ place ∷ more
   pub fails : list_all (λ y. not (test y)) gap ≡ true
   pub there : test place ≡ true
   pub at : k ≡ n + length gap
   pub rest : ks ≡ numbers_of test (k + 1) more
 
-next_in : (test : Place → Bool) (n : ℕ) (y : Place) (ys : List Place) (k : ℕ) (ks : List ℕ) (b : Bool) → test y ≡ b
+next_in : (test : WordPlace → Bool) (n : ℕ) (y : WordPlace) (ys : List WordPlace) (k : ℕ) (ks : List ℕ) (b : Bool) → test y ≡ b
     → cond b (n ∷ numbers_of test (n + 1) ys) (numbers_of test (n + 1) ys) ≡ k ∷ ks → (numbers_of test (n + 1) ys ≡ k ∷ ks → Next test (n + 1) ys k ks) → Next test n (y ∷ ys) k ks
 next_in test n y ys k ks true there is others =
     let first : n ≡ k = cc in
@@ -31,17 +31,17 @@ next_in test n y ys k ks false away is others =
     let fails : not (test y) ≡ true = ap not away in
     record { gap = y ∷ r.gap; place = r.place; more = r.more; is = ap (λ t. y ∷ t) r.is; fails = and_from _ _ fails r.fails; there = r.there; at = (let at : k ≡ n + 1 + length r.gap = r.at in omega arith); rest = r.rest }
 
-pub next_of : (test : Place → Bool) (n : ℕ) (ys : List Place) (k : ℕ) (ks : List ℕ) → numbers_of test n ys ≡ k ∷ ks → Next test n ys k ks
+pub next_of : (test : WordPlace → Bool) (n : ℕ) (ys : List WordPlace) (k : ℕ) (ks : List ℕ) → numbers_of test n ys ≡ k ∷ ks → Next test n ys k ks
 next_of test n [] k ks is = absurd (cc)
 next_of test n (y ∷ ys) k ks is = next_in test n y ys k ks (test y) refl is (next_of test (n + 1) ys k ks)
 
-none_in : (test : Place → Bool) (n : ℕ) (y : Place) (ys : List Place) (b : Bool) → test y ≡ b
+none_in : (test : WordPlace → Bool) (n : ℕ) (y : WordPlace) (ys : List WordPlace) (b : Bool) → test y ≡ b
     → cond b (n ∷ numbers_of test (n + 1) ys) (numbers_of test (n + 1) ys) ≡ [] → (numbers_of test (n + 1) ys ≡ [] → list_all (λ y. not (test y)) ys ≡ true) → list_all (λ y. not (test y)) (y ∷ ys) ≡ true
 none_in test n y ys true there is others = absurd (cc)
 none_in test n y ys false away is others = let fails : not (test y) ≡ true = ap not away in and_from _ _ fails (others is)
 
 -- where there is no number, all fail
-pub none_of : (test : Place → Bool) (n : ℕ) (ys : List Place) → numbers_of test n ys ≡ [] → list_all (λ y. not (test y)) ys ≡ true
+pub none_of : (test : WordPlace → Bool) (n : ℕ) (ys : List WordPlace) → numbers_of test n ys ≡ [] → list_all (λ y. not (test y)) ys ≡ true
 none_of test n [] is = refl
 none_of test n (y ∷ ys) is = none_in test n y ys (test y) refl is (none_of test (n + 1) ys)
 
@@ -50,33 +50,33 @@ is_false true e = cc
 is_false false e = refl
 
 -- places that fail have the same in both lists
-pub same_in_gap : {A : Type 0} (test : Place → Bool) (f g : Place → A) → ((x : Place) → test x ≡ false → f x ≡ g x) → (gap : List Place) → list_all (λ y. not (test y)) gap ≡ true → map f gap ≡ map g gap
+pub same_in_gap : {A : Type 0} (test : WordPlace → Bool) (f g : WordPlace → A) → ((x : WordPlace) → test x ≡ false → f x ≡ g x) → (gap : List WordPlace) → list_all (λ y. not (test y)) gap ≡ true → map f gap ≡ map g gap
 same_in_gap test f g same [] fails = refl
 same_in_gap test f g same (y ∷ ys) fails =
     ap (λ h. h ∷ map f ys) (same y (is_false (test y) (and_first _ _ fails))) ∙ ap (λ t. g y ∷ t) (same_in_gap test f g same ys (and_second _ _ fails))
 
 -- the walk is in the middle: of the places in front g was written, and behind f still stands
-pub record Walked {A : Type 0} (places : List Place) (f g : Place → A) (test : Place → Bool) (held : List A) (left : List ℕ) : Type 0 where
-  pub front : List Place
-  pub back : List Place
+pub record Walked {A : Type 0} (places : List WordPlace) (f g : WordPlace → A) (test : WordPlace → Bool) (held : List A) (left : List ℕ) : Type 0 where
+  pub front : List WordPlace
+  pub back : List WordPlace
   pub is : places ≡ front ++ back
   pub held_is : held ≡ map g front ++ map f back
   pub left_is : left ≡ numbers_of test (length front) back
 
 -- what is at the next number, and the walk behind it
-pub record Step {A : Type 0} (places : List Place) (f g : Place → A) (test : Place → Bool) (held : List A) (k : ℕ) (ks : List ℕ) : Type 0 where
-  pub place : Place
+pub record Step {A : Type 0} (places : List WordPlace) (f g : WordPlace → A) (test : WordPlace → Bool) (held : List A) (k : ℕ) (ks : List ℕ) : Type 0 where
+  pub place : WordPlace
   pub there : test place ≡ true
   pub within : k < length held
   pub at : (d : A) → get_or held k d ≡ f place
-  pub at_place : (d : Place) → get_or places k d ≡ place
+  pub at_place : (d : WordPlace) → get_or places k d ≡ place
   pub next : (new : A) → new ≡ g place → Walked places f g test (set held k new) ks
 
-module _ {A : Type 0} (places : List Place) (f g : Place → A) (test : Place → Bool) where
+module _ {A : Type 0} (places : List WordPlace) (f g : WordPlace → A) (test : WordPlace → Bool) where
   pub walk_begins : (held : List A) (left : List ℕ) → held ≡ map f places → left ≡ numbers_of test 0 places → Walked places f g test held left
   walk_begins held left is numbers = record { front = []; back = places; is = refl; held_is = is; left_is = numbers }
 
-  module _ (same : (x : Place) → test x ≡ false → f x ≡ g x) where
+  module _ (same : (x : WordPlace) → test x ≡ false → f x ≡ g x) where
     pub walk_steps : (held : List A) (k : ℕ) (ks : List ℕ) → Walked places f g test held (k ∷ ks) → Step places f g test held k ks
     walk_steps held k ks w =
         let n = next_of test (length w.front) w.back k ks (sym w.left_is) in

@@ -1,15 +1,15 @@
 -- How many entries give each value to a place.
 use Rattle.std.specs.Prelude.{ℕ, ◌+◌, ◌-◌, ◌%◌, Bool, ◌&&◌, nat_eq, nat_lt, if◌then◌else◌, List, [], ◌∷◌, map, count_by, slice_index, slice_set}
 use Rattle.pg_select.specs.Windows.{Patterns}
-use Rattle.pg_prune.specs.Places.{Place}
+use Rattle.pg_prune.specs.Places.{WordPlace}
 use Rattle.pg_prune.specs.Standing.{stands}
 
 -- how many entries of a map stand at a place and have this value
-abbrev pub count_at : Patterns → Place → ℕ → ℕ
+abbrev pub count_at : Patterns → WordPlace → ℕ → ℕ
 count_at Q x v = count_by (λ e. stands e x && nat_eq e.1 v) Q
 
 -- these numbers for the values 1 to 9
-abbrev pub holder_counts : Patterns → Place → List ℕ
+abbrev pub holder_counts : Patterns → WordPlace → List ℕ
 holder_counts Q x = map (count_at Q x) (1 ∷ 2 ∷ 3 ∷ 4 ∷ 5 ∷ 6 ∷ 7 ∷ 8 ∷ 9 ∷ [])
 
 -- the greatest value that some entry gives, where the first number is that of the value v + 1; v0 where none is

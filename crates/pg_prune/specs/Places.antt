@@ -5,20 +5,20 @@ use Rattle.pg_dict.specs.Word.{Word}
 use Rattle.pg_select.specs.CountedPositions.{Minima}
 
 -- a place: a position of a word, which has a number
-pub record Place : Type 0 where
+pub record WordPlace : Type 0 where
   pub word : ℕ
   pub signs : List ℕ
   pub position : ℕ
 
 -- the places of a word with this number: its positions in reach
-abbrev pub places_in : Minima → ℕ → Word → List Place
+abbrev pub places_in : Minima → ℕ → Word → List WordPlace
 places_in m number w = map (λ p. record { word = number; signs = w.signs; position = p }) (positions m.left m.right (length w.signs))
 
 -- the places of words, the first of which has this number
-abbrev pub places_from : Minima → ℕ → List Word → List Place
+abbrev pub places_from : Minima → ℕ → List Word → List WordPlace
 places_from m number [] = []
 places_from m number (w ∷ ws) = places_in m number w ++ places_from m (number + 1) ws
 
 -- the places of all words, which are numbered from 1
-unfoldable pub places : Minima → List Word → List Place
+unfoldable pub places : Minima → List Word → List WordPlace
 places m words = places_from m 1 words

@@ -7,25 +7,25 @@ use Rattle.pg_patterns.specs.Values.{value_at}
 use Rattle.pg_select.specs.CountedPositions.{Minima}
 use Rattle.pg_select.specs.Windows.{Patterns}
 use Rattle.pg_prune.specs.declared.pruned.Need.{Need}
-use Rattle.pg_prune.specs.Places.{Place, places}
+use Rattle.pg_prune.specs.Places.{WordPlace, places}
 
 -- two maps break alike at a place: the value there is odd in both, or in neither
-abbrev pub break_alike_at : Patterns → Patterns → Place → Bool
+abbrev pub break_alike_at : Patterns → Patterns → WordPlace → Bool
 break_alike_at P Q x = nat_eq (value_at P x.signs x.position % 2) (value_at Q x.signs x.position % 2)
 
 -- two maps break alike at all places
-abbrev pub break_alike : List Place → Patterns → Patterns → Bool
+abbrev pub break_alike : List WordPlace → Patterns → Patterns → Bool
 break_alike places P Q = list_all (break_alike_at P Q) places
 
 -- a round from its middle: of the map, `kept` are the entries that were looked at and stay, and then come those to be looked at. An
 -- entry is taken out where the map without it breaks alike with the first map P
-abbrev pub round_from : List Place → Patterns → Patterns → Patterns → Patterns
+abbrev pub round_from : List WordPlace → Patterns → Patterns → Patterns → Patterns
 round_from places P kept [] = kept
 round_from places P kept (e ∷ rest) =
     if break_alike places P (kept ++ rest) then round_from places P kept rest else round_from places P (kept ++ e ∷ []) rest
 
 -- a round through all entries of the map Q
-unfoldable pub round : List Place → Patterns → Patterns → Patterns
+unfoldable pub round : List WordPlace → Patterns → Patterns → Patterns
 round places P Q = round_from places P [] Q
 
 -- what rounds leave, and how many they are
@@ -35,38 +35,38 @@ pub record Rounds : Type 0 where
 
 -- rounds on from the map Q, until one takes out nothing, which is counted too. So many entries at most are in Q, and a round takes out
 -- nothing of a map that has none
-abbrev pub rounds_from : List Place → Patterns → ℕ → ℕ → Patterns → Rounds
+abbrev pub rounds_from : List WordPlace → Patterns → ℕ → ℕ → Patterns → Rounds
 rounds_from places P count zero Q = record { patterns = Q; count = count + 1 }
 rounds_from places P count (suc most) Q =
     if nat_eq (length (round places P Q)) (length Q) then record { patterns = Q; count = count + 1 }
     else rounds_from places P (count + 1) most (round places P Q)
 
 -- all rounds, the first of which starts with P
-unfoldable pub rounds : List Place → Patterns → Rounds
+unfoldable pub rounds : List WordPlace → Patterns → Rounds
 rounds places P = rounds_from places P 0 (length P) P
 
 -- the number of the word and the position of a place
-abbrev pub need_at : Place → Need
+abbrev pub need_at : WordPlace → Need
 need_at x = record { word = x.word; position = x.position }
 
 -- the first place at which two maps do not break alike, where there is one
-abbrev pub first_difference : List Place → Patterns → Patterns → Option Place
+abbrev pub first_difference : List WordPlace → Patterns → Patterns → Option WordPlace
 first_difference places P Q = find (λ x. not (break_alike_at P Q x)) places
 
 -- a need as a list
-abbrev pub need_list : Option Place → List Need
+abbrev pub need_list : Option WordPlace → List Need
 need_list None = []
 need_list (Some x) = need_at x ∷ []
 
 -- the needs of the entries from `rest` on, behind the entries `before`: of each the first place at which the map without it does not break
 -- alike with the map
-abbrev pub needs_from : List Place → Patterns → Patterns → List Need
+abbrev pub needs_from : List WordPlace → Patterns → Patterns → List Need
 needs_from places before [] = []
 needs_from places before (e ∷ rest) =
     need_list (first_difference places (before ++ e ∷ rest) (before ++ rest)) ++ needs_from places (before ++ e ∷ []) rest
 
 -- the needs of all entries of a map
-unfoldable pub needs : List Place → Patterns → List Need
+unfoldable pub needs : List WordPlace → Patterns → List Need
 needs places Q = needs_from places [] Q
 
 -- what pruning comes to: the patterns that stay, the need of each, the number of rounds, and how many entries were taken out
@@ -77,7 +77,7 @@ pub record Found : Type 0 where
   pub removed : ℕ
 
 -- what the rounds come to, where so many entries were there at first
-abbrev pub found_by : List Place → ℕ → Rounds → Found
+abbrev pub found_by : List WordPlace → ℕ → Rounds → Found
 found_by places first r = record { patterns = r.patterns; needs = needs places r.patterns; rounds = r.count; removed = first - length r.patterns }
 
 -- patterns pruned by the words of a dictionary

@@ -2,21 +2,21 @@
 use Rattle.std.specs.Prelude.{ℕ, ◌+◌, Bool, if◌then◌else◌, List, [], ◌∷◌, map}
 use Rattle.pg_patterns.specs.Values.{applies}
 use Rattle.pg_select.specs.Windows.{Patterns}
-use Rattle.pg_prune.specs.Places.{Place}
+use Rattle.pg_prune.specs.Places.{WordPlace}
 
 -- the numbers of the elements that pass a test, where the first has this number
-abbrev pub numbers_of : (Place → Bool) → ℕ → List Place → List ℕ
+abbrev pub numbers_of : (WordPlace → Bool) → ℕ → List WordPlace → List ℕ
 numbers_of test number [] = []
 numbers_of test number (x ∷ xs) = if test x then number ∷ numbers_of test (number + 1) xs else numbers_of test (number + 1) xs
 
 -- whether an entry stands at a place
-abbrev pub stands : (List ℕ × ℕ) × ℕ → Place → Bool
+abbrev pub stands : (List ℕ × ℕ) × ℕ → WordPlace → Bool
 stands e x = applies x.signs x.position e.0
 
 -- the numbers of the places at which an entry stands, counted from 0
-abbrev pub standing : List Place → (List ℕ × ℕ) × ℕ → List ℕ
+abbrev pub standing : List WordPlace → (List ℕ × ℕ) × ℕ → List ℕ
 standing places e = numbers_of (stands e) 0 places
 
 -- those of each entry of a map
-abbrev pub all_standing : List Place → Patterns → List (List ℕ)
+abbrev pub all_standing : List WordPlace → Patterns → List (List ℕ)
 all_standing places P = map (standing places) P

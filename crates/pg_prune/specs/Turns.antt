@@ -3,13 +3,13 @@ use Rattle.std.specs.Prelude.{◌≡◌, ℕ, ◌<◌, true, List, ◌∷◌, �
 use Rattle.std.specs.List.{list_all}
 use Rattle.pg_patterns.specs.Values.{is_entry}
 use Rattle.pg_select.specs.Windows.{Patterns}
-use Rattle.pg_prune.specs.Places.{Place}
+use Rattle.pg_prune.specs.Places.{WordPlace}
 use Rattle.pg_prune.specs.Standing.{standing}
 use Rattle.pg_prune.specs.Holders.{holder_counts}
 
 -- an entry between others
 pub record Turn : Type 0 where
-  pub places : List Place
+  pub places : List WordPlace
   pub before : Patterns
   pub entry : (List ℕ × ℕ) × ℕ
   pub behind : Patterns
@@ -22,7 +22,7 @@ abbrev pub without_entry : Turn → Patterns
 without_entry t = t.before ++ t.behind
 
 -- these numbers of holders are those of the map at each place
-abbrev pub IsTallied : List Place → Patterns → List (List ℕ) → Type 0
+abbrev pub IsTallied : List WordPlace → Patterns → List (List ℕ) → Type 0
 IsTallied places Q holders = holders ≡ map (holder_counts Q) places
 
 -- these are the numbers of the places at which the entry stands, and its value
@@ -43,6 +43,6 @@ pub record IsAwaited (t : Turn) (holders : List (List ℕ)) (numbers : List ℕ)
   pub room : length (without_entry t) < 2 ^ 64 - 1
 
 -- the place with this number is found
-pub record IsFound (places : List Place) (found : Option Place) (number : ℕ) : Type 0 where
+pub record IsFound (places : List WordPlace) (found : Option WordPlace) (number : ℕ) : Type 0 where
   pub within : number < length places
-  pub place : (d : Place) → found ≡ Some (slice_index_or places number d)
+  pub place : (d : WordPlace) → found ≡ Some (slice_index_or places number d)

@@ -1,6 +1,6 @@
 //! The rounds.
 ghost use Rattle.std.specs.Prelude.{◌≡◌, ◌<◌, ◌≤◌, not, [], ◌∷◌, List, length, map, if◌then◌else◌, IfOk, None, MatchOption};
-ghost use Rattle.pg_prune.specs.Places.{Place};
+ghost use Rattle.pg_prune.specs.Places.{WordPlace};
 ghost use Rattle.pg_prune.specs.Prunes.{break_alike, first_difference, need_at, needs as needs_of};
 ghost use Rattle.pg_prune.specs.Standing.{all_standing};
 ghost use Rattle.pg_prune.specs.Picks.{picked, IsGround, RoundStart, RoundDone, RoundsStart};
@@ -57,8 +57,8 @@ pub(crate) fn all_holders(
     standing: &[Vec<usize>],
     count: usize,
 ) -> Result<Vec<Holders>, AllocError>
-    requires { (places : List Place) × IsGround places patterns.now (map (λ l. l.items) standing.now) count }
-    ensures { (places : List Place) → IsGround places patterns.now (map (λ l. l.items) standing.now) count
+    requires { (places : List WordPlace) × IsGround places patterns.now (map (λ l. l.items) standing.now) count }
+    ensures { (places : List WordPlace) → IsGround places patterns.now (map (λ l. l.items) standing.now) count
         → IfOk result (λ holders. IsTallied places patterns.now holders.items) }
 {
     let mut holders = Vec::new(alloc);
@@ -95,9 +95,9 @@ pub(crate) fn round(
     holders: &mut [Holders],
     kept: &[usize],
 ) -> Result<Vec<usize>, AllocError>
-    requires { (places : List Place)
+    requires { (places : List WordPlace)
         × RoundStart places patterns.now (map (λ l. l.items) standing.now) holders.old kept.now }
-    ensures { (places : List Place)
+    ensures { (places : List WordPlace)
         → RoundStart places patterns.now (map (λ l. l.items) standing.now) holders.old kept.now
         → IfOk result (λ stay. RoundDone places patterns.now (map (λ l. l.items) standing.now) holders.new kept.now stay.items) }
 {
@@ -136,9 +136,9 @@ pub(crate) fn all_rounds(
     standing: &[Vec<usize>],
     holders: &mut [Holders],
 ) -> Result<Finished, AllocError>
-    requires { (places : List Place)
+    requires { (places : List WordPlace)
         × RoundsStart places patterns.now (map (λ l. l.items) standing.now) holders.old }
-    ensures { (places : List Place)
+    ensures { (places : List WordPlace)
         → RoundsStart places patterns.now (map (λ l. l.items) standing.now) holders.old
         → IfOk result (RoundsDone places patterns.now (map (λ l. l.items) standing.now) holders.new) }
 {
@@ -163,9 +163,9 @@ pub(crate) fn needs(
     holders: &[Holders],
     kept: &[usize],
 ) -> Result<Vec<Need>, AllocError>
-    requires { (all : List Place) × (places.now ≡ map need_at all)
+    requires { (all : List WordPlace) × (places.now ≡ map need_at all)
         × RoundStart all patterns.now (map (λ l. l.items) standing.now) holders.now kept.now }
-    ensures { (all : List Place) → (places.now ≡ map need_at all)
+    ensures { (all : List WordPlace) → (places.now ≡ map need_at all)
         → RoundStart all patterns.now (map (λ l. l.items) standing.now) holders.now kept.now
         → IfOk result (λ needs. needs.items ≡ needs_of all (picked patterns.now kept.now)) }
 {

@@ -15,7 +15,7 @@ use Rattle.pg_top.specs.Readings.{first_end}
 use Rattle.pg_top.specs.Requests.{Request, ToGenerate, ToAudit, ToSample, ToPack, ToTotals, ToPrune, ToSweep}
 use Rattle.pg_top.specs.SampleTexts.{sample_lines}
 use Rattle.pg_top.specs.Stops.{StopsReading, StopsCommand, PutsAnswer, PutsLines, PutsStop, Finishes}
-use Rattle.pg_top.specs.Writings.{written_names, after_all, StandsAt, WroteAll, StoppedAt}
+use Rattle.pg_top.specs.Writings.{written_names, after_all, IsPartWritten, WroteAll, StoppedAt}
 use Rattle.pg_top.specs.declared.answers.Status.{Status}
 use Rattle.pg_top.specs.declared.answers.Status.TheVariants.{Done, Yes, No, Usage, Refused, Fault, Memory}
 use Rattle.pg_top.specs.declared.inputs.Stop.{Stop}
@@ -130,7 +130,7 @@ module _ (request : Request) (wanted : Status) (writing : Writing) (lines : List
       name : List ℕ
       name = stopped.write.0
 
-      by_cases : (h0 h1 h2 : Option FileMap) → KeepsHeld h0 h1 → IfSome h1 Comes → IfSome h2 (λ after. MatchOption h1 ⊥ (λ before. StandsAt before after writing stopped.write.0)) → IfSome h2 (λ after. MatchOption h0 ⊥ (λ before. StopsWriting stopped.write.0 before after (outcome_of (file_at before) request)))
+      by_cases : (h0 h1 h2 : Option FileMap) → KeepsHeld h0 h1 → IfSome h1 Comes → IfSome h2 (λ after. MatchOption h1 ⊥ (λ before. IsPartWritten before after writing stopped.write.0)) → IfSome h2 (λ after. MatchOption h0 ⊥ (λ before. StopsWriting stopped.write.0 before after (outcome_of (file_at before) request)))
       by_cases h0 h1 None keeps told part = tt
       by_cases h0 None (Some after) keeps told part = absurd part
       by_cases h0 (Some before) (Some after) keeps told part =

@@ -8,14 +8,14 @@ use Rattle.std.specs.Option.{option_map}
 use Rattle.pg_outside.specs.Content.{FileMap, FilesShown, WasWritten, WasPartWritten}
 use Rattle.pg_outside.specs.Faults.{Rose, NoneFell}
 use Rattle.pg_top.specs.Outcomes.{Writing}
-use Rattle.pg_top.specs.Writings.{after_all, StandsAt, named_text, writing_of, WroteAll, StoppedAt}
+use Rattle.pg_top.specs.Writings.{after_all, IsPartWritten, named_text, writing_of, WroteAll, StoppedAt}
 use Rattle.pg_top.specs.declared.writes.Output.{Output}
 use Rattle.pg_top.proofs.Faults.{rose_since}
 
 -- from the files after some of the writes, the rest of them goes where all go from the start
 pub record Continues (before mid : FileMap) (ws rest : Writing) : Type 0 where
   pub all : after_all mid rest ≡ after_all before ws
-  pub stands : (after : FileMap) (name : List ℕ) → StandsAt mid after rest name → StandsAt before after ws name
+  pub stands : (after : FileMap) (name : List ℕ) → IsPartWritten mid after rest name → IsPartWritten before after ws name
 
 abbrev pub OfHeld : Option FileMap → Option FileMap → (FileMap → FileMap → Type 0) → Type 0
 OfHeld old new P = IfSome new (λ after. MatchOption old ⊥ (λ before. P before after))
@@ -31,11 +31,11 @@ one_more h0 None (Some after) ws rest w so wrote = absurd wrote
 one_more None (Some mid) (Some after) ws rest w so wrote = absurd so
 one_more (Some before) (Some mid) (Some after) ws rest w so wrote = record {
   all = ap (λ files. after_all files rest) wrote ∙ so.all;
-  stands = λ last name h. so.stands last name (inr (subst (λ files. StandsAt files last rest name) wrote h));
+  stands = λ last name h. so.stands last name (inr (subst (λ files. IsPartWritten files last rest name) wrote h));
 }
 
 -- a write that failed
-pub failed_at : (h0 h1 h2 : Option FileMap) (ws rest : Writing) (w : List ℕ × List ℕ) → OfHeld h0 h1 (λ before mid. Continues before mid ws (w ∷ rest)) → WasPartWritten h1 h2 w.0 w.1 → OfHeld h0 h2 (λ before after. StandsAt before after ws w.0)
+pub failed_at : (h0 h1 h2 : Option FileMap) (ws rest : Writing) (w : List ℕ × List ℕ) → OfHeld h0 h1 (λ before mid. Continues before mid ws (w ∷ rest)) → WasPartWritten h1 h2 w.0 w.1 → OfHeld h0 h2 (λ before after. IsPartWritten before after ws w.0)
 failed_at h0 h1 None ws rest w so part = tt
 failed_at h0 None (Some after) ws rest w so part = absurd part
 failed_at None (Some mid) (Some after) ws rest w so part = absurd so

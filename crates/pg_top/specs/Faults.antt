@@ -8,7 +8,7 @@ use Rattle.pg_top.specs.Outcomes.{Outcome, Unknown, Ends}
 use Rattle.pg_top.specs.PrintedLines.{usage_line, reading_line, writing_line}
 use Rattle.pg_top.specs.Readings.{Reading, first_end}
 use Rattle.pg_top.specs.Requests.{Request}
-use Rattle.pg_top.specs.Writings.{after_all, StandsAt}
+use Rattle.pg_top.specs.Writings.{after_all, IsPartWritten}
 
 -- the faults of files rose: the read faults of a name that the command reads, or the write faults of one that it writes
 abbrev pub FilesRose : Request → Moment → Moment → Type 0
@@ -40,7 +40,7 @@ pub record IsReadFault (request : Request) (old new : Moment) : Type 0 where
 -- the outcome's writes stopped at a name
 abbrev pub StopsWriting : List ℕ → FileMap → FileMap → Outcome → Type 0
 StopsWriting name before after Unknown = ⊥
-StopsWriting name before after (Ends status writing lines) = StandsAt before after writing name
+StopsWriting name before after (Ends status writing lines) = IsPartWritten before after writing name
 
 -- a file could not be written: the writes before it are whole, and nothing is written behind it
 pub record IsWriteFault (request : Request) (old new : Moment) : Type 0 where

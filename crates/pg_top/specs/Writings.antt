@@ -17,10 +17,10 @@ after_all files (w ∷ ws) = after_all (fin.insert files w.0 w.1) ws
 
 -- writing stopped at this name: the writes before it are whole, its file is as it was or a prefix of its text, and no
 -- other is written
-abbrev pub StandsAt : FileMap → FileMap → Writing → List ℕ → Type 0
-StandsAt before after [] name = ⊥
-StandsAt before after (w ∷ ws) name =
-    ((w.0 ≡ name) × HasPart before after w.0 w.1) ⊎ StandsAt (fin.insert before w.0 w.1) after ws name
+abbrev pub IsPartWritten : FileMap → FileMap → Writing → List ℕ → Type 0
+IsPartWritten before after [] name = ⊥
+IsPartWritten before after (w ∷ ws) name =
+    ((w.0 ≡ name) × HasPart before after w.0 w.1) ⊎ IsPartWritten (fin.insert before w.0 w.1) after ws name
 
 -- a file that is to be written as its name and its text
 abbrev pub named_text : Output → List ℕ × List ℕ
@@ -38,4 +38,4 @@ pub record StoppedAt (old new : FilesShown) (ws : Writing) (place : ℕ) : Type 
   pub write : List ℕ × List ℕ
   pub there : slice_get ws place ≡ Some write
   pub rose : Rose (old.write_faults write.0) (new.write_faults write.0)
-  pub part : IfSome new.held (λ after. MatchOption old.held ⊥ (λ before. StandsAt before after ws write.0))
+  pub part : IfSome new.held (λ after. MatchOption old.held ⊥ (λ before. IsPartWritten before after ws write.0))

@@ -55,7 +55,7 @@ fn renew_cell(
     requires heads { AreFreshTo cells.now outputs.now cell fresh.old heads.old }
     ensures { OnOk result (AreFreshTo cells.now outputs.now (cell + 1) fresh.new heads.new) }
 {
-    let Some(head) = cells.value_at(cell) else {
+    let Some(head) = cells.value_if_taken(cell) else {
         return Ok(());
     };
     let old_head = head.number();
@@ -92,7 +92,7 @@ pub fn renew(cells: &mut Cells<TwoWords, FEW_SIGNS>, heads: &[u64])
 {
     let top = cells.top();
     for cell in 0..top + 1 {
-        if let Some(head) = cells.value_at(cell) {
+        if let Some(head) = cells.value_if_taken(cell) {
             cells.set_value(cell, TwoWords::new(heads[head.number() as usize]));
         }
     }

@@ -59,11 +59,11 @@ past_top fs signs b some past =
     and_from (not (is_base fs b)) (list_all (λ s. not (is_used fs (b + s))) signs) (ap not (no_base fs b some (λ i e. let le = used_le_top fs i e in omega arith))) (none_used fs signs b past)
 
 first_from_is : (test : ℕ → Bool) (more from : ℕ) → test (from + more) ≡ true → IsLeast test from (first_from test more from)
-first_from_is test zero from last = record { from = omega arith; passes = (let same : from ≡ from + 0 = omega arith in ap test same ∙ last); first = λ k le lt. absurd (omega arith) }
+first_from_is test zero from last = record { from = omega arith; meets = (let same : from ≡ from + 0 = omega arith in ap test same ∙ last); first = λ k le lt. absurd (omega arith) }
 first_from_is test (suc more) from last = elim (cases_Bool (test from)) [
   | inl passed ↦ subst (λ t. IsLeast test from (elim t as (λ _. ℕ) [ true ↦ from | false ↦ first_from test more (from + 1) ])) (sym passed) (record {
     from = omega arith;
-    passes = passed;
+    meets = passed;
     first = λ k le lt. absurd (omega arith);
   })
   | inr failed ↦
@@ -71,7 +71,7 @@ first_from_is test (suc more) from last = elim (cases_Bool (test from)) [
       let rest = first_from_is test more (from + 1) (ap test same ∙ last) in
       subst (λ t. IsLeast test from (elim t as (λ _. ℕ) [ true ↦ from | false ↦ first_from test more (from + 1) ])) (sym failed) (record {
         from = omega (arith, rest.from);
-        passes = rest.passes;
+        meets = rest.meets;
         first = λ k le lt. elim (cases_eq k from) [
           | inl e ↦ ap test e ∙ failed
           | inr other ↦ rest.first k (omega arith) lt

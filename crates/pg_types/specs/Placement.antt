@@ -63,15 +63,15 @@ fits_at fs signs b = not (is_base fs b) && list_all (λ s. not (is_used fs (b + 
 abbrev pub lowest_base : ℕ → ℕ → ℕ → ℕ → ℕ
 lowest_base few n count t = if nat_le count few then 1 else max 1 (t - max far_below n)
 
--- the first number from b on that passes the test, of so many more
+-- the first number from b on that meets the test, of so many more
 abbrev pub first_from : (ℕ → Bool) → ℕ → ℕ → ℕ
 first_from test zero b = b
 first_from test (suc more) b = elim (test b) [ true ↦ b | false ↦ first_from test more (b + 1) ]
 
--- b is the least number from low on that passes the test
+-- b is the least number from low on that meets the test
 pub record IsLeast (test : ℕ → Bool) (low b : ℕ) : Type 0 where
   pub from : low ≤ b
-  pub passes : test b ≡ true
+  pub meets : test b ≡ true
   pub first : (k : ℕ) → low ≤ k → k < b → test k ≡ false
 
 -- the least base at which the signs may stand. One that is past the top always serves

@@ -13,11 +13,11 @@ pub least_base-base-requires-clause-room : goal.least_base-base-requires-clause-
 least_base-base-requires-clause-room g c = room_fits c.args.signs c.args.store.now c.give_up.new.store c.drop_base.new.store c.args.was c.args.slots.now c.args.slot c.args.parent c.requires.can c.give_up.ensures c.drop_base.ensures c.top-top.result c.top-top.ensures c.max.result c.max.ensures
 
 pub put-requires-clause-free : goal.put-requires-clause-free
-put-requires-clause-free g c = rw (c.least_base-base.ensures.same) (can_put c.args.signs c.args.store.now c.give_up.new.store c.drop_base.new.store c.args.was c.args.slots.now c.args.slot c.args.parent c.requires.can c.give_up.ensures c.drop_base.ensures c.top-top.result c.top-top.ensures c.max.result c.max.ensures c.least_base-base.result c.least_base-base.ensures.room c.least_base-base.ensures.least.passes)
+put-requires-clause-free g c = rw (c.least_base-base.ensures.same) (can_put c.args.signs c.args.store.now c.give_up.new.store c.drop_base.new.store c.args.was c.args.slots.now c.args.slot c.args.parent c.requires.can c.give_up.ensures c.drop_base.ensures c.top-top.result c.top-top.ensures c.max.result c.max.ensures c.least_base-base.result c.least_base-base.ensures.room c.least_base-base.ensures.least.meets)
 
 pub take-requires-clause-free : goal.take-requires-clause-free
-take-requires-clause-free g c = can_take c.args.signs c.args.store.now c.give_up.new.store c.drop_base.new.store c.args.was c.args.slots.now c.args.slot c.args.parent c.requires.can c.give_up.ensures c.drop_base.ensures c.top-top.result c.top-top.ensures c.max.result c.max.ensures c.least_base-base.result c.least_base-base.ensures.room c.least_base-base.ensures.least.passes c.put.new.store (subst (λ r. Puts r c.put.new.store c.least_base-base.result c.args.slots.now) c.least_base-base.ensures.same c.put.ensures)
+take-requires-clause-free g c = can_take c.args.signs c.args.store.now c.give_up.new.store c.drop_base.new.store c.args.was c.args.slots.now c.args.slot c.args.parent c.requires.can c.give_up.ensures c.drop_base.ensures c.top-top.result c.top-top.ensures c.max.result c.max.ensures c.least_base-base.result c.least_base-base.ensures.room c.least_base-base.ensures.least.meets c.put.new.store (subst (λ r. Puts r c.put.new.store c.least_base-base.result c.args.slots.now) c.least_base-base.ensures.same c.put.ensures)
 
 pub set_child-requires-clause-taken : goal.set_child-requires-clause-taken
 set_child-requires-clause-taken g c =
-    parent_stays c.args.signs c.args.store.now c.give_up.new.store c.drop_base.new.store c.args.was c.args.slots.now c.args.slot c.args.parent c.requires.can c.give_up.ensures c.drop_base.ensures c.top-top.result c.top-top.ensures c.max.result c.max.ensures c.least_base-base.result c.least_base-base.ensures.room c.least_base-base.ensures.least.passes c.put.new.store (subst (λ r. Puts r c.put.new.store c.least_base-base.result c.args.slots.now) c.least_base-base.ensures.same c.put.ensures) c.take.new.self c.set_base.new.self c.take.ensures c.set_base.ensures
+    parent_stays c.args.signs c.args.store.now c.give_up.new.store c.drop_base.new.store c.args.was c.args.slots.now c.args.slot c.args.parent c.requires.can c.give_up.ensures c.drop_base.ensures c.top-top.result c.top-top.ensures c.max.result c.max.ensures c.least_base-base.result c.least_base-base.ensures.room c.least_base-base.ensures.least.meets c.put.new.store (subst (λ r. Puts r c.put.new.store c.least_base-base.result c.args.slots.now) c.least_base-base.ensures.same c.put.ensures) c.take.new.self c.set_base.new.self c.take.ensures c.set_base.ensures

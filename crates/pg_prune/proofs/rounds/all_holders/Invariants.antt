@@ -1,6 +1,6 @@
 use Rattle.std.proofs.Common.{◌≡◌, List, map, take}
 use Rattle.std.specs.Prelude.{replicate}
-use Rattle.pg_prune.specs.Places.{Place}
+use Rattle.pg_prune.specs.Places.{WordPlace}
 use Rattle.pg_prune.specs.Picks.{IsGround}
 use Rattle.pg_prune.specs.Turns.{IsTallied}
 use Rattle.pg_prune.proofs.rounds.all_holders.Given as goal
@@ -9,5 +9,5 @@ abbrev pub invariant-places : goal.invariant-places
 invariant-places l = l.holders.items ≡ replicate l.counter (replicate 9 0)
 
 abbrev pub invariant-entries : goal.invariant-entries
-invariant-entries l = (places : List Place) → IsGround places l.patterns (map (λ s. s.items) l.standing) l.count
+invariant-entries l = (places : List WordPlace) → IsGround places l.patterns (map (λ s. s.items) l.standing) l.count
     → IsTallied places (take l.i l.patterns) l.holders.items

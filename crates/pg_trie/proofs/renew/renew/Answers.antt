@@ -22,7 +22,7 @@ offset_bounds-heads-number c =
     omega (arith, c.number.ensures, lt)
 
 pub loop-cell-preserved : goal.loop-cell-preserved
-loop-cell-preserved c = elim c.match-value_at.branch [
+loop-cell-preserved c = elim c.match-value_if_taken.branch [
   | in-Some w ↦
       let s = w.in-Some.ensures.some in
       rw w.cells-is

@@ -4,7 +4,7 @@ use Rattle.pg_types.specs.Placement.{cell_of}
 use Rattle.pg_cells.specs.ValuedFamilies.{ValuedFamilies}
 use Rattle.pg_cells.proofs.StringMaps.{order}
 use Rattle.pg_cells.proofs.StringCells.{cell_taken, string_there, value_is}
-use Rattle.pg_cells.proofs.families.Placed.value_at.Goals as goal
+use Rattle.pg_cells.proofs.families.Placed.value_if_taken.Goals as goal
 
 pub returns-then-sign-eq0-clause-none : goal.returns-then-sign-eq0-clause-none
 returns-then-sign-eq0-clause-none g c none q e =
