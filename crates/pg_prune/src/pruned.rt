@@ -29,7 +29,12 @@ impl Model for Pruned {
 
     ghost view = { λ p. record { patterns = p.patterns; needs = p.needs.items; rounds = p.rounds; removed = p.removed } };
 
-    ghost invariant = { λ p. HasNeeds (record { patterns = p.patterns; needs = p.needs.items; rounds = p.rounds; removed = p.removed }) };
+    ghost invariant = { λ p. HasNeeds (record {
+      patterns = p.patterns;
+      needs = p.needs.items;
+      rounds = p.rounds;
+      removed = p.removed;
+    }) };
 }
 
 impl Pruned {

@@ -99,7 +99,8 @@ pub(crate) fn round(
         × RoundStart places patterns.now (map (λ l. l.items) standing.now) holders.old kept.now }
     ensures { (places : List WordPlace)
         → RoundStart places patterns.now (map (λ l. l.items) standing.now) holders.old kept.now
-        → IfOk result (λ stay. RoundDone places patterns.now (map (λ l. l.items) standing.now) holders.new kept.now stay.items) }
+        → IfOk result (λ stay.
+        RoundDone places patterns.now (map (λ l. l.items) standing.now) holders.new kept.now stay.items) }
 {
     let mut stay = Vec::new(alloc);
     'entries: for i in kept {
