@@ -1,10 +1,11 @@
 -- The row after a family gave up its cells and its base is that of the other families.
-use Rattle.std.proofs.Common.{◌≡◌, ◌≢◌, ℕ, ◌+◌, ◌-◌, ◌≤◌, max, inl, inr, Bool, true, false, not, cond, ◌&&◌, T, nat_eq, nat_le, List, ◌∷◌, length, None, Some, slice_get, refl, sym, ◌∙◌, ap, subst, arith}
+use Rattle.std.proofs.Common.{◌≡◌, ◌≢◌, ℕ, ◌+◌, ◌≤◌, max, inl, inr, Bool, true, false, not, ◌&&◌, T, nat_eq, List, ◌∷◌, length, None, Some, slice_get, refl, sym, ◌∙◌, ap, subst, arith}
 use Rattle.std.proofs.lemmas.Bool.{cases_Bool, cases_eq, eq-eqb, ne_eqb, both_ways, false≢true}
 use Rattle.std.proofs.lemmas.List.{length-map}
 use Rattle.std.specs.List.{list_any, list_all}
 use Rattle.std.specs.FinMap.{is_sorted}
 use Rattle.pg_types.specs.Placement.{Family, Families, family_at, without_family, is_used, is_base, fits_at, lowest_base, least_base, with_one_sign, top, IsLeast}
+use Rattle.pg_types.proofs.LeastBase.{lowest_positive}
 use Rattle.pg_cells.specs.declared.fit.Slot.{Slot}
 use Rattle.pg_cells.specs.Lists.{Row, sign_at, child_at, base_at}
 use Rattle.pg_cells.specs.Store.{IsTop}
@@ -181,14 +182,10 @@ module _ {V : Type 0} (n : ℕ) (r gave dropped : Row V) (t : Trie V) (trie : Is
       let low : lowest_base few n (length slots + 1) top_now ≡ lowest_base few n (length (with_one_sign s (signs_of slots))) (top (without_family t.families p)) = λ i. lowest_base few n (count i) (same i) in
       sym (first_is (fits_at (without_family t.families p) (with_one_sign s (signs_of slots))) (top (without_family t.families p)) (lowest_base few n (length (with_one_sign s (signs_of slots))) (top (without_family t.families p))) base
       (subst (λ k. k ≤ base) low least.from)
-      (let some = at_least_one (nat_le (length (with_one_sign s (signs_of slots))) few) (top (without_family t.families p)) in omega arith)
+      (let some = lowest_positive few n (length (with_one_sign s (signs_of slots))) (top (without_family t.families p)) in omega arith)
       (sym (fit_same s base) ∙ least.meets)
       (λ k l lt. sym (fit_same s k) ∙ least.first k (subst (λ j. j ≤ k) (sym low) l) lt))
     where
       no_sign : (b : Bool) → list_any (nat_eq s) (signs_of slots) ≡ b → list_any (nat_eq s) (signs_of slots) ≡ false
       no_sign true e = absurd (let found = has_slot slots s e in let x = sym lacks ∙ found.1 in cc)
       no_sign false e = e
-
-      at_least_one : (b : Bool) (k : ℕ) → 1 ≤ cond b 1 (max 1 (k - max 255 n))
-      at_least_one true k = omega arith
-      at_least_one false k = omega arith

@@ -1,10 +1,11 @@
 -- The trie after a family, or none, was settled with one sign more.
-use Rattle.std.proofs.Common.{◌≡◌, ◌≢◌, ℕ, ◌+◌, ◌-◌, ◌<◌, ◌≤◌, max, inl, inr, Bool, true, false, not, cond, nat_eq, nat_le, List, [], ◌∷◌, ◌++◌, length, Some, slice_get, refl, sym, ◌∙◌, ap, arith}
+use Rattle.std.proofs.Common.{◌≡◌, ◌≢◌, ℕ, ◌+◌, ◌<◌, ◌≤◌, max, inl, inr, Bool, true, false, not, nat_eq, List, [], ◌∷◌, ◌++◌, length, Some, slice_get, refl, sym, ◌∙◌, ap, arith}
 use Rattle.std.proofs.lemmas.Bool.{cases_eq, eq-eqb, ne_eqb, eqb-true, both_ways, false≢true, or_left, or_right, or_cases, and_parts, not-true}
 use Rattle.std.proofs.lemmas.List.{length-map}
 use Rattle.std.specs.List.{list_any, list_all}
 use Rattle.std.specs.FinMap.{put}
 use Rattle.pg_types.specs.Placement.{Family, Families, family_at, without_family, least_base, with_one_sign, cell_of}
+use Rattle.pg_types.proofs.LeastBase.{lowest_positive}
 use Rattle.pg_cells.specs.declared.fit.Slot.{Slot}
 use Rattle.pg_cells.specs.Lists.{Row, sign_at, child_at, base_at}
 use Rattle.pg_cells.specs.Fit.{signs_of, slot_of}
@@ -152,11 +153,7 @@ module _ {V : Type 0} (few n : ℕ) (r new : Row V) (t : Trie V) (trie : IsTrie 
       ]
 
   positive_base : 0 < base
-  positive_base = let from = moved.least.from in let low = at_least_one (nat_le (length slots + 1) few) moved.top in omega arith
-    where
-      at_least_one : (b : Bool) (k : ℕ) → 1 ≤ cond b 1 (max 1 (k - max 255 n))
-      at_least_one true k = omega arith
-      at_least_one false k = omega arith
+  positive_base = let from = moved.least.from in let low = lowest_positive few n (length slots + 1) moved.top in omega arith
 
   here : family_at families p ≡ Some family
   here = find_put_same p family (without_family t.families p)

@@ -18,7 +18,7 @@ use std::alloc::{AllocError, Global};
 use std::marker::Model;
 
 /// Families of cells, each cell with a value. A family of up to `FEW` signs is placed from base 1 on, a greater one near the
-/// greatest cell.
+/// greatest cell. With `FEW` 0 each family is placed at the greatest cell.
 #[derive(Drop)]
 pub struct Cells<V: Copy, const FEW: usize> {
     placed: Placed<Member<V>, FEW>,

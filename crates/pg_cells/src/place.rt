@@ -1,6 +1,6 @@
 //! A family is put at the least base that fits.
 ghost use Rattle.std.specs.Prelude.{◌≡◌, ◌≢◌, ℕ, ◌+◌, ◌<◌, ◌≤◌, ◌^◌, max, true, ◌∷◌, length};
-ghost use Rattle.pg_types.specs.Placement.{IsLeast, lowest_base};
+ghost use Rattle.pg_types.specs.Placement.{IsLeast, far_from_top, lowest_base};
 ghost use Rattle.pg_cells.specs.Fit.{fits_row, signs_of};
 ghost use Rattle.pg_cells.specs.Moves.{Drops, Moved, CanPlace};
 
@@ -9,8 +9,20 @@ use crate::moves::{give_up, put};
 use crate::store::Store;
 use pg_types::SIGNS_MAX;
 
-/// A family of more than a few signs is placed from so far below the top on, or as far as there are signs.
+/// Where a few signs are placed from base 1 on, a family of more is placed from so far below the top on, or as far as there are
+/// signs. Else each family is placed at the top.
 const FAR_BELOW: usize = 255;
+
+// How far below the top a family is sought a base.
+fn far_from_top(few: usize, signs: u16) -> usize
+    ensures { result ≡ far_from_top few signs }
+{
+    if few == 0 {
+        0
+    } else {
+        FAR_BELOW.max(signs as usize)
+    }
+}
 
 // The lowest base that is tried.
 fn lowest_base(few: usize, signs: u16, count: usize, top: usize) -> usize
@@ -20,7 +32,7 @@ fn lowest_base(few: usize, signs: u16, count: usize, top: usize) -> usize
     if count <= few {
         1
     } else {
-        top.saturating_sub(FAR_BELOW.max(signs as usize)).max(1)
+        top.saturating_sub(far_from_top(few, signs)).max(1)
     }
 }
 

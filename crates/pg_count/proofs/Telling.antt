@@ -5,12 +5,15 @@ use Rattle.std.proofs.lemmas.List.{get_or-set_same, get_or_append_left, length-s
 use Rattle.std.proofs.lemmas.Option.{slice_get_past, slice_get_within, slice_get-get_or}
 use Rattle.std.specs.List.{slice_get, range_with_len}
 use Rattle.std.specs.FinMap.{find, put}
+use Rattle.pg_types.specs.Placement.{cell_of}
 use Rattle.pg_cells.specs.ValuedFamilies.{ValuedFamilies}
 use Rattle.pg_cells.specs.AreValuedFamilies.{AreValuedFamilies}
+use Rattle.pg_cells.specs.Revalued.{Revalues}
 use Rattle.pg_cells.specs.Root.{root_held}
 use Rattle.pg_cells.specs.Walks.{AddsBlanks}
 use Rattle.pg_cells.proofs.StringMaps.{order, equal_or_not, find_put_same, find_put_other}
 use Rattle.pg_count.specs.declared.tally.TheConstants.{NOT_COUNTED}
+use Rattle.pg_count.specs.Counting.{counts_in}
 use Rattle.pg_count.specs.Tallied.{told, AreTold}
 use Rattle.pg_count.proofs.Mapped.{mapped, found_mapped, none_mapped, unmapped, unmapped_none, sorted_mapped, root_mapped, valued_families_mapped, put_from, root_blank}
 
@@ -30,20 +33,40 @@ is_tally h tallies q k was at told_at =
     let both : Some (slice_get tallies k) ≡ Some (Some was) = sym (found_mapped (slice_get tallies) q k h.values at) ∙ told_at in
     slice_get_within tallies k was (cc)
 
+-- where no string has the number of a tally, and there are no tallies
+module _ (h : ValuedFamilies ℕ) (tallies : Sums) (none : tallies ≡ []) where
+  pub cleared_kept : AreValuedFamilies h → ((q : List ℕ) (k : ℕ) → find order q h.values ≡ Some k → k ≡ NOT_COUNTED) → AreTold h tallies
+  cleared_kept held blank = record {
+    held = held;
+    few = (let size = ap length none in omega arith);
+    numbers = λ q k e. inl (blank q k e);
+    apart = λ q p k e d lt. absurd (omega (arith, ap length none));
+  }
+
+  pub none_counted : counts_in (told h tallies).values ≡ []
+  none_counted = ap (λ ts. counts_in (told h ts).values) none ∙ by h.values
+    where
+      by : (es : List (List ℕ × ℕ)) → counts_in (mapped (slice_get []) es) ≡ []
+      by [] = refl
+      by (e ∷ es) = by es
+
 -- the root alone
-module _ (n : ℕ) (h : ValuedFamilies ℕ) (tallies : Sums) (root : h ≡ root_held n NOT_COUNTED) (none : tallies ≡ []) where
-  pub root_told : told h tallies ≡ root_held n None
-  root_told =
+module _ (n : ℕ) (h : ValuedFamilies ℕ) (root : h ≡ root_held n NOT_COUNTED) where
+  pub root_told : (tallies : Sums) → tallies ≡ [] → told h tallies ≡ root_held n None
+  root_told tallies none =
       ap (λ t. told h t) none ∙ ap (λ k. told k []) root
       ∙ ap (λ es. record { signs = n; families = (root_held n NOT_COUNTED).families; values = es }) (root_mapped (slice_get []) NOT_COUNTED (range_with_len 1 n))
 
-  pub root_kept : AreValuedFamilies h → AreTold h tallies
-  root_kept held = record {
-    held = held;
-    few = (let size = ap length none in omega arith);
-    numbers = λ q k e. inl (root_blank q NOT_COUNTED k (range_with_len 1 n) (ap (λ (g : ValuedFamilies ℕ). find order q g.values) (sym root) ∙ e));
-    apart = λ q p k e d lt. absurd (let size = ap length none in omega arith);
-  }
+  pub root_uncounted : (q : List ℕ) (k : ℕ) → find order q h.values ≡ Some k → k ≡ NOT_COUNTED
+  root_uncounted q k e = root_blank q NOT_COUNTED k (range_with_len 1 n) (ap (λ (g : ValuedFamilies ℕ). find order q g.values) (sym root) ∙ e)
+
+-- each string has the number of what is not counted
+pub all_uncounted : (old new : ValuedFamilies ℕ) → AreValuedFamilies old → Revalues (λ _. NOT_COUNTED) old new → (q : List ℕ) (k : ℕ) → find order q new.values ≡ Some k → k ≡ NOT_COUNTED
+all_uncounted old new held r q k e =
+    let cell = r.held.celled q k e in
+    let was = held.valued q cell.0 (ap (λ fs. cell_of fs q) (sym r.families) ∙ cell.1) in
+    let both : Some NOT_COUNTED ≡ Some k = sym (r.given q was.0 was.1) ∙ e in
+    cc
 
 -- a string was entered
 module _ (w : List ℕ) (old new : ValuedFamilies ℕ) (tallies : Sums) (are : AreTold old tallies) (adds : AddsBlanks w NOT_COUNTED old.values new.values) where

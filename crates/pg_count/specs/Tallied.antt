@@ -20,3 +20,9 @@ pub record AreTold (cells : ValuedFamilies ℕ) (tallies : List (ℕ × ℕ)) : 
   pub numbers : (q : List ℕ) (k : ℕ) → find (slice_cmp nat_cmp) q cells.values ≡ Some k → (k ≡ NOT_COUNTED) ⊎ (k < length tallies)
   -- and no two strings have one tally
   pub apart : (q p : List ℕ) (k : ℕ) → find (slice_cmp nat_cmp) q cells.values ≡ Some k → find (slice_cmp nat_cmp) p cells.values ≡ Some k → k < length tallies → q ≡ p
+
+-- the new cells have no number of a tally
+pub record Uncounts (old new : ValuedFamilies ℕ) : Type 0 where
+  pub held : AreValuedFamilies new
+  pub signs : new.signs ≡ old.signs
+  pub none : (q : List ℕ) (k : ℕ) → find (slice_cmp nat_cmp) q new.values ≡ Some k → k ≡ NOT_COUNTED

@@ -45,11 +45,13 @@ impl CountTrie {
     }
 
     /// Begins a pass with windows of so many signs: no window is counted. It takes no memory.
+    ///
+    /// Passes of one length count many of the same windows, so their cells may stay from pass to pass.
     pub fn begin(&mut self, len: u8)
         requires { (1 ≤ len) × (len ≤ LENGTH_MAX) }
         ensures { self.new ≡ record self.old { len = len; counts = [] } }
     {
-        self.cells.reset();
+        self.cells.clear(len == self.len);
         self.len = len;
     }
 

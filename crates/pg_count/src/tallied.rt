@@ -8,7 +8,11 @@ ghost use Rattle.pg_types.specs.Placement.{cell_of, base_of};
 ghost use Rattle.pg_cells.specs.AreValuedFamilies.{AreValuedFamilies};
 ghost use Rattle.pg_cells.specs.Members.{IsNextSign};
 ghost use Rattle.pg_cells.specs.Root.{root_held};
+ghost use Rattle.pg_cells.specs.Revalued.{Revalues};
 ghost use Rattle.pg_cells.specs.Walks.{IsAt, EndsBefore, AddsBlanks};
+ghost use Rattle.pg_count.specs.Counting.{counts_in};
+ghost use Rattle.pg_count.specs.Tallied.{Uncounts};
+ghost use Rattle.pg_count.specs.declared.tally.TheConstants.{NOT_COUNTED};
 
 use crate::tally::{NOT_COUNTED, push_tally, set_tally, tally_at};
 use pg_cells::Cells;
@@ -16,8 +20,11 @@ use pg_types::Sign;
 use std::alloc::{AllocError, Global};
 use std::marker::Model;
 
-/// Of the windows' families each is placed near the top, since their layout is told to no one.
+/// Each family of the windows is placed at the top, since their layout is told to no one.
 const FEW_SIGNS: usize = 0;
+
+/// The cells of a pass stay for the next one where they are at most so many times its counted strings.
+const CELLS_PER_TALLY: usize = 4;
 
 /// Cells of strings, each with its sums where it is counted. The cell of a string has the number of its tally, and the tallies
 /// stand in a list of their own, since most cells are of strings that are not counted.
@@ -54,12 +61,15 @@ impl Tallied {
         Ok(Tallied { cells, tallies })
     }
 
-    /// Each sign alone has a cell, and no string is counted. It takes no memory.
-    pub fn reset(&mut self)
-        ensures held { self.new ≡ root_held self.old.signs None }
+    /// No string is counted. Where the next strings are `alike`, as long as the last ones, most of them may be the same. Then
+    /// each string keeps its cell, if a good part of the strings was counted. Else each sign alone has one. It takes no memory.
+    pub fn clear(&mut self, alike: bool)
+        ensures signs { self.new.signs ≡ self.old.signs }
+        ensures none { counts_in self.new.values ≡ [] }
         ensures kept { AreValuedFamilies self.new }
     {
-        self.cells.reset(NOT_COUNTED);
+        let keeps = alike && self.cells.taken() <= CELLS_PER_TALLY * self.tallies.len();
+        uncount(&mut self.cells, keeps);
         self.tallies.clear();
     }
 
@@ -169,4 +179,29 @@ impl Tallied {
         self.cells.set_value(cell, number);
         Ok(())
     }
+}
+
+// Takes the numbers of tallies out of the cells. Each string keeps its cell.
+fn uncount_each(cells: &mut Cells<u32, FEW_SIGNS>)
+    requires held { AreValuedFamilies cells.old }
+    ensures { Revalues (λ _. NOT_COUNTED) cells.old cells.new }
+{
+    let top = cells.top();
+    for cell in 0..top + 1 {
+        if let Some(_number) = cells.value_if_taken(cell) {
+            cells.set_value(cell, NOT_COUNTED);
+        }
+    }
+}
+
+// Takes the numbers of tallies out of the cells. Each string keeps its cell, or each sign alone has one.
+fn uncount(cells: &mut Cells<u32, FEW_SIGNS>, keeps: bool)
+    requires held { AreValuedFamilies cells.old }
+    ensures { Uncounts cells.old cells.new }
+{
+    if keeps {
+        uncount_each(cells);
+        return;
+    }
+    cells.reset(NOT_COUNTED);
 }

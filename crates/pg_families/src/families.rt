@@ -177,10 +177,10 @@ impl Families {
     // The lowest base that is tried for so many signs.
     fn lowest_base(&self, count: usize, used: &[usize]) -> usize {
         let top = used.last().copied().unwrap_or(0);
-        if count <= self.few {
-            1
-        } else {
-            top.saturating_sub(usize::from(self.signs).max(255)).max(1)
+        match self.few {
+            0 => top.max(1),
+            few if count <= few => 1,
+            _ => top.saturating_sub(usize::from(self.signs).max(255)).max(1),
         }
     }
 

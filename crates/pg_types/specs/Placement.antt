@@ -58,10 +58,14 @@ is_base fs b = list_any (λ e. nat_eq b e.1.base) fs
 abbrev pub fits_at : Families → List ℕ → ℕ → Bool
 fits_at fs signs b = not (is_base fs b) && list_all (λ s. not (is_used fs (b + s))) signs
 
--- the lowest base that is tried for so many signs, in a table of n signs, where t is the top and up to few signs are placed
--- from base 1 on
+-- how far below the top a family is sought a base, in a table of n signs where up to few signs are placed from base 1 on. Where
+-- none is, each family is placed at the top
+abbrev pub far_from_top : ℕ → ℕ → ℕ
+far_from_top few n = if nat_eq few 0 then 0 else max far_below n
+
+-- the lowest base that is tried for so many signs, where t is the top
 abbrev pub lowest_base : ℕ → ℕ → ℕ → ℕ → ℕ
-lowest_base few n count t = if nat_le count few then 1 else max 1 (t - max far_below n)
+lowest_base few n count t = if nat_le count few then 1 else max 1 (t - far_from_top few n)
 
 -- the first number from b on that meets the test, of so many more
 abbrev pub first_from : (ℕ → Bool) → ℕ → ℕ → ℕ

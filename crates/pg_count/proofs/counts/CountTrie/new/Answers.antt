@@ -1,9 +1,14 @@
-use Rattle.std.proofs.Common.{arith}
-use Rattle.pg_count.proofs.Beginning.{begun, begun_kept}
+use Rattle.std.proofs.Common.{ℕ, Option, ap, arith}
+use Rattle.pg_cells.specs.ValuedFamilies.{ValuedFamilies}
+use Rattle.pg_count.proofs.Beginning.{begun, begun_kept, root_none}
 use Rattle.pg_count.proofs.counts.CountTrie.new.Goals as goal
 
 pub invariant_of-result : goal.invariant_of-result
-invariant_of-result c = begun_kept c.in_ok-cells.cells c.args.signs 1 c.in_ok-cells.ensures.held c.in_ok-cells.ensures.kept (omega arith) (omega arith)
+invariant_of-result c =
+    let root = c.in_ok-cells.ensures.held in
+    begun_kept c.in_ok-cells.cells c.args.signs 1 (ap (λ (h : ValuedFamilies (Option (ℕ × ℕ))). h.signs) root) (root_none c.in_ok-cells.cells c.args.signs root) c.in_ok-cells.ensures.kept (omega arith) (omega arith)
 
 pub returns : goal.returns
-returns c = begun c.in_ok-cells.cells c.args.signs 1 c.in_ok-cells.ensures.held
+returns c =
+    let root = c.in_ok-cells.ensures.held in
+    begun c.in_ok-cells.cells c.args.signs 1 (ap (λ (h : ValuedFamilies (Option (ℕ × ℕ))). h.signs) root) (root_none c.in_ok-cells.cells c.args.signs root)
