@@ -130,8 +130,8 @@ module _ {V : Type 0} (few n : ℕ) (r : Row V) (t : Trie V) (trie : IsTrie n r 
       | inr none ↦ none
     ]
 
-    pub can_settle : (slot : Slot V) → slot.sign ≡ s → slot.child ≡ 0 → length r.bases ≡ length r.signs → ((i : ℕ) → sign_at r i ≢ 0 → i + (n + 2) ≤ length r.signs) → CanPlace n r was slots slot parent
-    can_settle slot is no_child even room =
+    pub can_settle : (slot : Slot V) → slot.sign ≡ s → slot.child ≡ 0 → (0 < was → sign_at r (was + s) ≢ 0) → length r.bases ≡ length r.signs → ((i : ℕ) → sign_at r i ≢ 0 → i + (n + 2) ≤ length r.signs) → CanPlace n r was slots slot parent
+    can_settle slot is no_child no_join even room =
         let cell = cell_parts t.families p parent parent_is in
         let stands = sign_stands n r (family_at t.families) trie.layout cell.front cell.family cell.last cell.at cell.has in
         let front_other : cell.front ≢ p = λ e. not_longer cell.front cell.last (sym cell.whole ∙ sym e) in
@@ -153,6 +153,10 @@ module _ {V : Type 0} (few n : ℕ) (r : Row V) (t : Trie V) (trie : IsTrie n r 
           ];
           room = λ i up. let h = room i up in omega arith;
           rooted = rooted;
+          stands = λ x k e. (own.stand x k e).2;
+          owns = owns;
+          joins_not = λ up z. no_join up (ap (λ x. sign_at r (was + x)) (sym is) ∙ z);
+          based = λ i up. let o = trie.layout.owned i up in (o.1.base, trie.layout.flag o.0 o.1 o.2, o.3);
         }
       where
         base_within : (q : List ℕ) (g : Family) → family_at t.families q ≡ Some g → g.base < length r.signs
@@ -166,6 +170,15 @@ module _ {V : Type 0} (few n : ℕ) (r : Row V) (t : Trie V) (trie : IsTrie n r 
           | inl z ↦ let h = room parent (cell_taken n r t trie p parent parent_is) in omega arith
           | inr up ↦ let above = own.above x k e (omega arith) in let within = base_within (p ++ x ∷ []) above.0 above.1 in let same = above.2 in omega arith
         ]
+
+        owns : (x : ℕ) → 0 < was → 0 < x → sign_at r (was + x) ≡ x → (k : Slot V) × (slot_of slots x ≡ Some k)
+        owns x up positive here =
+            let o = trie.layout.owned (was + x) (λ z. omega arith) in
+            let base : o.1.base ≡ was = let at = o.3 in omega arith in
+            elim (equal_or_not o.0 p) [
+              | inl same ↦ own.has o.1 x (ap (family_at t.families) (sym same.0) ∙ o.2) positive (ap (λ b. sign_at r (b + x)) base ∙ here)
+              | inr other ↦ absurd (own.other_base o.0 o.1 other.0 o.2 up base)
+            ]
 
         rooted : (b : ℕ) → base_at r b ≡ true → b ≢ was → 0 < b → (y : ℕ) × (0 < y) × (sign_at r (b + y) ≢ 0) × (Outside was slots (b + y))
         rooted b e other up =
@@ -279,7 +292,7 @@ module _ {V : Type 0} (few n : ℕ) (old r : Row V) (t : Trie V) (before : IsTri
 
     pub settles_can : (slot : Slot V) → slot.sign ≡ s → slot.child ≡ 0 → length r.bases ≡ length r.signs → ((i : ℕ) → sign_at old i ≢ 0 → i + (n + 2) ≤ length r.signs) → CanPlace n r base slots slot parent
     settles_can slot is no_child even room =
-        can_settle few n r t grown p parent parent_is s low high lacks base slots owned slot is no_child even (λ i up. room i (λ z. up (more.signs i ∙ z)))
+        can_settle few n r t grown p parent parent_is s low high lacks base slots owned slot is no_child no_join even (λ i up. room i (λ z. up (more.signs i ∙ z)))
 
     -- the step of the placement, where the sign does not join
     pub settles_step : with_sign few n t.families p s ≡ put order p (record { base = least_base few n (without_family t.families p) (with_one_sign s (signs_of slots)); signs = with_one_sign s (signs_of slots) }) (without_family t.families p)

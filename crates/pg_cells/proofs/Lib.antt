@@ -3,6 +3,7 @@ mod RootLinks
 mod SteppedLinks
 pub mod AddTrie
 pub mod BaseCells
+pub mod BlockedLaws
 pub mod BoundLaws
 pub mod CellWrites
 pub mod CellsStay

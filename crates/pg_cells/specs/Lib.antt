@@ -1,3 +1,4 @@
+pub mod Blocked
 pub mod Bounds
 pub mod Fit
 pub mod ValuedFamilies

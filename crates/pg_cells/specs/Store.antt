@@ -4,6 +4,7 @@ use Rattle.std.specs.Coded.{Coded, code_by, coded×, coded_ℕ, coded_bool, code
 use Rattle.pg_cells.specs.declared.cell.Cell.{Cell}
 use Rattle.pg_cells.specs.Lists.{Row, lists, row_of, sign_at, child_at, base_at}
 use Rattle.pg_cells.specs.Linked.{AreLinked}
+use Rattle.pg_cells.specs.Blocked.{AreBlocked}
 use Rattle.pg_cells.specs.Bounds.{AreBounds}
 
 abbrev pub row_code : {V : Type 0} → Coded V → Coded (Row V)
@@ -37,9 +38,10 @@ module _ {V : Type 0} where
     pub greatest : IsTop (row_of cells).signs top
     pub count : taken ≡ taken_in (row_of cells)
 
-  pub record IsStore (cells : List (Cell V)) (top taken : ℕ) (lows : List ℕ) (freed dropped : ℕ) : Type 0 where
+  pub record IsStore (cells : List (Cell V)) (top taken : ℕ) (lows : List ℕ) (freed dropped placed sought : ℕ) : Type 0 where
     pub kept : IsKept cells top taken
     pub bounds : AreBounds (row_of cells) lows freed dropped
+    pub blocked : AreBlocked (row_of cells) placed sought
 
   -- the new row is the old one with free cells at its end
   pub record Extends (old new : Row V) : Type 0 where

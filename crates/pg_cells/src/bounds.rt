@@ -1,5 +1,5 @@
 //! Bounds by sign below which no base is free.
-ghost use Rattle.std.specs.Prelude.{◌≡◌, ◌≢◌, ℕ, ◌+◌, ◌<◌, ◌≤◌, ◌^◌, false, length, slice_index, IfOk};
+ghost use Rattle.std.specs.Prelude.{◌≡◌, ◌≢◌, ℕ, ◌+◌, ◌<◌, ◌≤◌, ◌^◌, false, length, slice_index, IfOk, if◌then◌else◌};
 ghost use Rattle.pg_cells.specs.Bounds.{IsBelow};
 
 use std::alloc::{AllocError, Global};
@@ -55,4 +55,11 @@ pub fn least_dropped(dropped: usize, base: usize, is_base: bool) -> usize
     ensures base { is_base ≡ false → result ≤ base }
 {
     if is_base { dropped } else { dropped.min(base) }
+}
+
+/// The base of the family that was placed last, or 0 where a base is given up now.
+pub fn still_placed(placed: usize, is_base: bool) -> usize
+    ensures { result ≡ (if is_base then placed else 0) }
+{
+    if is_base { placed } else { 0 }
 }

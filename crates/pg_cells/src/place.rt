@@ -1,5 +1,5 @@
 //! A family is put at the least base that fits.
-ghost use Rattle.std.specs.Prelude.{◌≡◌, ◌≢◌, ℕ, ◌+◌, ◌<◌, ◌≤◌, ◌^◌, max, true, ◌∷◌, length};
+ghost use Rattle.std.specs.Prelude.{◌≡◌, ◌≢◌, ℕ, ◌+◌, ◌<◌, ◌≤◌, ◌^◌, max, true, false, ◌∷◌, length};
 ghost use Rattle.pg_types.specs.Placement.{IsLeast, far_from_top, lowest_base};
 ghost use Rattle.pg_cells.specs.Fit.{fits_row, signs_of};
 ghost use Rattle.pg_cells.specs.Moves.{Drops, Moved, CanPlace};
@@ -46,17 +46,29 @@ fn drop_base<V: Copy>(store: &mut Store<V>, base: usize)
     }
 }
 
+// Up to where the bases from `low` on were tried for a family that moves from the base `was`, for which it was sought from another
+// base on.
+fn tried_up_to(was: usize, sought: usize, low: usize) -> usize
+    requires { was < 2 ^ 32 }
+    ensures { low < result → (0 < was) × (sought ≤ low) × (result ≡ was + 1) }
+{
+    if 0 < was && sought <= low { was + 1 } else { 0 }
+}
+
 // The least base from `low` on at which the sign and those of the slots may stand; at `room` they may. It is sought from the
-// bound of the sign on. A search for one sign from its bound on raises the bound.
+// bound of the sign on, and from `tried` on, below which they may not. A search for one sign from its bound on raises the bound.
 fn least_base<V: Copy>(
     store: &mut Store<V>,
     slots: &[Slot<V>],
     sign: u16,
     low: usize,
     room: usize,
+    tried: usize,
 ) -> usize
     requires positive { 0 < sign }
     requires low { (0 < low) × (low ≤ room) }
+    requires tried { (k : ℕ) → low ≤ k → k < tried →
+        fits_row store.old (sign ∷ signs_of slots.now) k ≡ false }
     requires within { room + sign < length store.old.signs }
     requires room { fits_row store.old (sign ∷ signs_of slots.now) room ≡ true }
     ensures least { IsLeast (fits_row store.old (sign ∷ signs_of slots.now)) low result }
@@ -64,7 +76,8 @@ fn least_base<V: Copy>(
     ensures same { store.new ≡ store.old }
 {
     let bound = store.bound(sign);
-    let base = store.find_base(slots, sign, low.max(bound), room);
+    let from = low.max(tried);
+    let base = store.find_base(slots, sign, from.max(bound), room);
     if 0 < slots.len() || bound.max(1) < low {
         return base;
     }
@@ -88,14 +101,17 @@ pub fn place_family<V: Copy>(
     ensures { Moved few signs store.old store.new was result slots.now slot parent }
 {
     let _cells = store.len();
+    let sought = store.sought_from(was);
     give_up(store, was, slots);
     drop_base(store, was);
     let top = store.top();
     let low = lowest_base(few, signs, slots.len() + 1, top);
-    let base = least_base(store, slots, slot.sign, low, top.max(1));
+    let tried = tried_up_to(was, sought, low);
+    let base = least_base(store, slots, slot.sign, low, top.max(1), tried);
     put(store, base, slots);
     store.take(base + slot.sign as usize, slot);
     store.set_base(base, true);
+    store.set_sought(base, low);
     store.set_child(parent, base);
     base
 }

@@ -3,12 +3,13 @@ ghost use Rattle.std.specs.Prelude.{◌≡◌, ◌≢◌, ℕ, ◌+◌, ◌-◌,
 ghost use Rattle.pg_types.specs.Placement.{IsLeast};
 ghost use Rattle.pg_cells.specs.Lists.{lists, row_of, sign_at, child_at, base_at, IsFree};
 ghost use Rattle.pg_cells.specs.Linked.{AreLinked};
+ghost use Rattle.pg_cells.specs.Blocked.{AreBlocked};
 ghost use Rattle.pg_cells.specs.Bounds.{NoneFree};
 ghost use Rattle.pg_cells.specs.Fit.{fits_row, signs_of};
 ghost use Rattle.pg_cells.specs.Store.{one_free, taken_in, IsTop, Extends};
 ghost use Rattle.pg_cells.specs.Writes.{Takes, Frees, SetsChild, SetsValue, SetsBase};
 
-use crate::bounds::{bound_of, least_dropped, lower, no_bounds, set_low};
+use crate::bounds::{bound_of, least_dropped, lower, no_bounds, set_low, still_placed};
 use crate::cell::{Cell, child_of, set_base, set_child, set_value, sign_of, value_of};
 use crate::chain::{free_cell, push_cell, take_cell};
 use crate::fit::{Slot, find_base, sign_or_free};
@@ -19,6 +20,9 @@ use std::marker::Model;
 ///
 /// `lows` has a bound for each sign. No base below it is free with the cell of the sign, but for what was given up since the
 /// bounds were lowered: `freed` is the least such cell, and `dropped` the least such base.
+///
+/// `placed` is the base of the family that was placed last, and `sought` the base from which on it was sought. `placed` is 0
+/// where a cell or a base was given up since.
 #[derive(Drop)]
 pub struct Store<V: Copy> {
     cells: Vec<Cell<V>>,
@@ -27,6 +31,8 @@ pub struct Store<V: Copy> {
     lows: Vec<u32>,
     freed: usize,
     dropped: usize,
+    placed: usize,
+    sought: usize,
 }
 
 impl<V: Copy> Model for Store<V> {
@@ -39,7 +45,7 @@ impl<V: Copy> Model for Store<V> {
 
     ghost view = { λ s. row_of s.cells.items };
 
-    ghost invariant = { λ s. IsStore s.cells.items s.top s.taken s.lows.items s.freed s.dropped };
+    ghost invariant = { λ s. IsStore s.cells.items s.top s.taken s.lows.items s.freed s.dropped s.placed s.sought };
 }
 
 impl<V: Copy> Store<V> {
@@ -63,6 +69,8 @@ impl<V: Copy> Store<V> {
             lows,
             freed: 0,
             dropped: 0,
+            placed: 0,
+            sought: 0,
         })
     }
 
@@ -141,6 +149,7 @@ impl<V: Copy> Store<V> {
     {
         set_base(self.cells.as_mut_slice(), cell, is_base);
         self.dropped = least_dropped(self.dropped, cell, is_base);
+        self.placed = still_placed(self.placed, is_base);
     }
 
     /// Takes a free cell.
@@ -172,6 +181,7 @@ impl<V: Copy> Store<V> {
         self.top = taken_up_to(self.cells.as_slice(), self.top);
         self.taken -= 1;
         self.freed = self.freed.min(cell);
+        self.placed = 0;
     }
 
     /// Adds free cells until there are `count`. Refused: the cells that were there are as before.
@@ -209,6 +219,26 @@ impl<V: Copy> Store<V> {
         set_low(&mut self.lows, sign, base);
         self.freed = usize::MAX;
         self.dropped = usize::MAX;
+    }
+
+    /// A base from which on no base below can take the family that stands at `base`.
+    pub fn sought_from(&self, base: usize) -> usize
+        ensures { AreBlocked self.now base result }
+    {
+        if base == self.placed {
+            self.sought
+        } else {
+            base
+        }
+    }
+
+    /// Keeps from which base on a family was sought that was placed now.
+    pub fn set_sought(&mut self, base: usize, low: usize)
+        requires { AreBlocked self.old base low }
+        ensures { self.new ≡ self.old }
+    {
+        self.placed = base;
+        self.sought = low;
     }
 
     /// The least base from `low` on at which the sign and those of the slots may stand; at `room` they may.

@@ -1,5 +1,6 @@
 use Rattle.std.proofs.Common.{◌≤◌, subst, arith}
 use Rattle.pg_cells.specs.Moves.{Puts}
+use Rattle.pg_cells.proofs.BlockedLaws.{blocked_fits, blocked_after}
 use Rattle.pg_cells.proofs.PlacedRoom.{room_within, room_fits, can_put, can_take, parent_stays}
 use Rattle.pg_cells.proofs.place.place_family.Goals as goal
 
@@ -20,4 +21,17 @@ take-requires-clause-free g c = can_take c.args.signs c.args.store.now c.give_up
 
 pub set_child-requires-clause-taken : goal.set_child-requires-clause-taken
 set_child-requires-clause-taken g c =
-    parent_stays c.args.signs c.args.store.now c.give_up.new.store c.drop_base.new.store c.args.was c.args.slots.now c.args.slot c.args.parent c.requires.can c.give_up.ensures c.drop_base.ensures c.top-top.result c.top-top.ensures c.max.result c.max.ensures c.least_base-base.result c.least_base-base.ensures.room c.least_base-base.ensures.least.meets c.put.new.store (subst (λ r. Puts r c.put.new.store c.least_base-base.result c.args.slots.now) c.least_base-base.ensures.same c.put.ensures) c.take.new.self c.set_base.new.self c.take.ensures c.set_base.ensures
+    rw (c.set_sought.ensures) (parent_stays c.args.signs c.args.store.now c.give_up.new.store c.drop_base.new.store c.args.was c.args.slots.now c.args.slot c.args.parent c.requires.can c.give_up.ensures c.drop_base.ensures c.top-top.result c.top-top.ensures c.max.result c.max.ensures c.least_base-base.result c.least_base-base.ensures.room c.least_base-base.ensures.least.meets c.put.new.store (subst (λ r. Puts r c.put.new.store c.least_base-base.result c.args.slots.now) c.least_base-base.ensures.same c.put.ensures) c.take.new.self c.set_base.new.self c.take.ensures c.set_base.ensures)
+
+pub least_base-base-requires-clause-tried : goal.least_base-base-requires-clause-tried
+least_base-base-requires-clause-tried g c k low lt =
+    let tried = c.tried_up_to-tried.ensures (omega arith) in
+    blocked_fits c.args.signs c.args.store.now c.give_up.new.store c.drop_base.new.store c.args.was c.args.slots.now c.args.slot c.args.parent c.requires.can c.give_up.ensures c.drop_base.ensures
+    c.sought_from-sought.result tried.0 c.sought_from-sought.ensures k (let up = tried.1 in omega arith) (let is = tried.2 in omega arith)
+
+pub set_sought-requires : goal.set_sought-requires
+set_sought-requires g c =
+    blocked_after c.args.signs c.args.store.now c.give_up.new.store c.drop_base.new.store c.args.was c.args.slots.now c.args.slot c.args.parent c.requires.can c.give_up.ensures c.drop_base.ensures
+    c.top-top.result c.top-top.ensures c.least_base-base.result c.lowest_base-low.result (let le = c.least_base-base.ensures.room in let is = c.max.ensures in omega arith)
+    (let from = c.least_base-base.ensures.least.from in let up = c.lowest_base-low.ensures.positive in omega arith) c.least_base-base.ensures.least
+    c.put.new.store c.take.new.self c.set_base.new.self (subst (λ r. Puts r c.put.new.store c.least_base-base.result c.args.slots.now) c.least_base-base.ensures.same c.put.ensures) c.take.ensures c.set_base.ensures

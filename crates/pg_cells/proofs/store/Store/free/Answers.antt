@@ -4,6 +4,7 @@ use Rattle.pg_cells.specs.Lists.{row_of, sign_at, with_free}
 use Rattle.pg_cells.proofs.LinkedLists.{taken_within}
 use Rattle.pg_cells.specs.Writes.{Frees}
 use Rattle.pg_cells.proofs.RowWrites.{row_frees}
+use Rattle.pg_cells.proofs.BlockedLaws.{blocked_none}
 use Rattle.pg_cells.proofs.BoundLaws.{bounds_free}
 use Rattle.pg_cells.proofs.StoreSteps.{given_back, kept_freed, some_taken}
 use Rattle.pg_cells.proofs.store.Store.free.Goals as goal
@@ -27,6 +28,7 @@ invariant_of-self g c =
       bounds = bounds_free (row_of c.self.inside.cells.items) (row_of c.free_cell.new.cells) c.self.inside.lows.items c.self.inside.freed c.self.inside.dropped c.self.invariant.bounds c.args.cell _ (omega arith) (omega arith)
           (subst (λ r. Frees (row_of c.self.inside.cells.items) r c.args.cell) (sym (c.free_cell.ensures.row ∙ ap (λ cells. with_free (row_of cells) c.args.cell) c.as_mut_slice.ensures.value))
           (row_frees c.self.inside.cells.items c.args.cell taken));
+      blocked = blocked_none (row_of c.free_cell.new.cells) 0 c.self.inside.sought (omega arith);
     })
 
 pub overflow_sub-self : goal.overflow_sub-self

@@ -18,4 +18,5 @@ invariant_of-self g c = record {
       bounds_raise (row_of c.self.inside.cells.items) c.self.inside.lows.items c.lower.new.lows.items c.set_low.new.lows.items c.self.inside.freed c.self.inside.dropped c.args.sign c.args.base _ _
       c.self.invariant.bounds c.lower.ensures c.set_low.ensures.here c.set_low.ensures.there
       (λ b up lt. subst (λ r. NoneFree r c.args.sign b) (sym c.self.view_is) (c.requires.none b up lt));
+  blocked = c.self.invariant.blocked;
 }

@@ -1,8 +1,10 @@
 use Rattle.std.proofs.Common.{◌≡◌, refl, ap, sym, subst, ◌∙◌, ◌<◌, length, arith}
 use Rattle.pg_cells.specs.Lists.{lists, with_base}
 use Rattle.pg_cells.specs.Lists.{Lists, Row, row_of}
+use Rattle.pg_cells.specs.Blocked.{AreBlocked}
 use Rattle.pg_cells.specs.Writes.{SetsBase}
 use Rattle.pg_cells.proofs.RowWrites.{row_base}
+use Rattle.pg_cells.proofs.BlockedLaws.{blocked_base}
 use Rattle.pg_cells.proofs.BoundLaws.{bounds_base}
 use Rattle.pg_cells.proofs.StoreSteps.{given_back, kept_write}
 use Rattle.pg_cells.proofs.store.Store.set_base.Goals as goal
@@ -18,4 +20,9 @@ invariant_of-self g c =
           (subst (λ r. SetsBase (row_of c.self.inside.cells.items) r c.args.cell c.args.is_base)
           (sym (ap (λ (ls : Lists g.row.V.Denot). ls.row) c.set_base.ensures ∙ ap (λ cells. with_base (row_of cells) c.args.cell c.args.is_base) c.as_mut_slice.ensures.value))
           (row_base c.self.inside.cells.items c.args.cell c.args.is_base (subst (λ (r : Row g.row.V.Denot). c.args.cell < length r.signs) (sym c.self.view_is) c.requires)));
+      blocked = subst (λ placed. AreBlocked (row_of c.set_base.new.cells) placed c.self.inside.sought) (sym c.still_placed-self-inside.ensures)
+          (blocked_base (row_of c.self.inside.cells.items) (row_of c.set_base.new.cells) c.self.inside.placed c.self.inside.sought c.self.invariant.blocked c.args.cell c.args.is_base
+          (subst (λ r. SetsBase (row_of c.self.inside.cells.items) r c.args.cell c.args.is_base)
+          (sym (ap (λ (ls : Lists g.row.V.Denot). ls.row) c.set_base.ensures ∙ ap (λ cells. with_base (row_of cells) c.args.cell c.args.is_base) c.as_mut_slice.ensures.value))
+          (row_base c.self.inside.cells.items c.args.cell c.args.is_base (subst (λ (r : Row g.row.V.Denot). c.args.cell < length r.signs) (sym c.self.view_is) c.requires))));
     })

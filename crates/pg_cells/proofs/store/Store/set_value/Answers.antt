@@ -2,6 +2,7 @@ use Rattle.std.proofs.Common.{◌≡◌, refl, sym, ap, subst, ◌∙◌, length
 use Rattle.pg_cells.specs.Lists.{Lists, lists, row_of, sign_at, with_value}
 use Rattle.pg_cells.specs.Writes.{SetsValue}
 use Rattle.pg_cells.proofs.RowWrites.{row_value}
+use Rattle.pg_cells.proofs.BlockedLaws.{blocked_value}
 use Rattle.pg_cells.proofs.BoundLaws.{bounds_value}
 use Rattle.pg_cells.proofs.StoreSteps.{given_back, kept_write}
 use Rattle.pg_cells.proofs.store.Store.set_value.Goals as goal
@@ -14,6 +15,10 @@ invariant_of-self g c =
     (record {
       kept = kept_write c.self.inside.cells.items c.set_value.new.cells _ _ c.self.invariant.kept same _ refl (c.set_value.ensures ∙ ap (λ cells. record (lists cells) { row = with_value (lists cells).row c.args.cell c.args.value }) c.as_mut_slice.ensures.value);
       bounds = bounds_value (row_of c.self.inside.cells.items) (row_of c.set_value.new.cells) c.self.inside.lows.items c.self.inside.freed c.self.inside.dropped c.self.invariant.bounds c.args.cell c.args.value
+          (subst (λ r. SetsValue (row_of c.self.inside.cells.items) r c.args.cell c.args.value)
+          (sym (ap (λ (ls : Lists g.row.V.Denot). ls.row) c.set_value.ensures ∙ ap (λ cells. with_value (row_of cells) c.args.cell c.args.value) c.as_mut_slice.ensures.value))
+          (row_value c.self.inside.cells.items c.args.cell c.args.value (λ z. c.requires (subst (λ r. sign_at r c.args.cell ≡ 0) c.self.view_is z))));
+      blocked = blocked_value (row_of c.self.inside.cells.items) (row_of c.set_value.new.cells) c.self.inside.placed c.self.inside.sought c.self.invariant.blocked c.args.cell c.args.value
           (subst (λ r. SetsValue (row_of c.self.inside.cells.items) r c.args.cell c.args.value)
           (sym (ap (λ (ls : Lists g.row.V.Denot). ls.row) c.set_value.ensures ∙ ap (λ cells. with_value (row_of cells) c.args.cell c.args.value) c.as_mut_slice.ensures.value))
           (row_value c.self.inside.cells.items c.args.cell c.args.value (λ z. c.requires (subst (λ r. sign_at r c.args.cell ≡ 0) c.self.view_is z))));

@@ -4,6 +4,7 @@ use Rattle.pg_cells.specs.Lists.{row_of, IsFree, with_taken}
 use Rattle.pg_cells.proofs.LinkedLists.{free_within}
 use Rattle.pg_cells.specs.Writes.{Takes}
 use Rattle.pg_cells.proofs.RowWrites.{row_takes}
+use Rattle.pg_cells.proofs.BlockedLaws.{blocked_take, free_sign}
 use Rattle.pg_cells.proofs.BoundLaws.{bounds_take}
 use Rattle.pg_cells.proofs.StoreSteps.{given_back, taken_le, kept_taken}
 use Rattle.pg_cells.proofs.store.Store.take.Goals as goal
@@ -28,6 +29,10 @@ invariant_of-self g c =
       kept = kept_taken c.self.inside.cells.items c.take_cell.new.cells _ _ c.self.invariant.kept same c.args.cell c.args.slot.sign c.args.slot.value c.args.slot.child _ within free c.requires.sign
           (c.take_cell.ensures.row ∙ ap (λ cells. with_taken (row_of cells) c.args.cell c.args.slot.sign c.args.slot.value c.args.slot.child) value) c.take_cell.ensures.linked max;
       bounds = bounds_take (row_of c.self.inside.cells.items) (row_of c.take_cell.new.cells) c.self.inside.lows.items c.self.inside.freed c.self.inside.dropped c.self.invariant.bounds c.args.cell c.args.slot.sign c.args.slot.child c.args.slot.value c.requires.sign
+          (subst (λ r. Takes (row_of c.self.inside.cells.items) r c.args.cell c.args.slot.sign c.args.slot.value c.args.slot.child)
+          (sym (c.take_cell.ensures.row ∙ ap (λ cells. with_taken (row_of cells) c.args.cell c.args.slot.sign c.args.slot.value c.args.slot.child) value))
+          (row_takes c.self.inside.cells.items c.args.cell c.args.slot.sign c.args.slot.value c.args.slot.child free c.requires.sign));
+      blocked = blocked_take (row_of c.self.inside.cells.items) (row_of c.take_cell.new.cells) c.self.inside.placed c.self.inside.sought c.self.invariant.blocked c.args.cell c.args.slot.sign c.args.slot.child c.args.slot.value (free_sign (row_of c.self.inside.cells.items) c.args.cell free)
           (subst (λ r. Takes (row_of c.self.inside.cells.items) r c.args.cell c.args.slot.sign c.args.slot.value c.args.slot.child)
           (sym (c.take_cell.ensures.row ∙ ap (λ cells. with_taken (row_of cells) c.args.cell c.args.slot.sign c.args.slot.value c.args.slot.child) value))
           (row_takes c.self.inside.cells.items c.args.cell c.args.slot.sign c.args.slot.value c.args.slot.child free c.requires.sign));
