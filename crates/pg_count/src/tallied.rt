@@ -8,13 +8,11 @@ ghost use Rattle.pg_types.specs.Placement.{cell_of, base_of};
 ghost use Rattle.pg_cells.specs.AreValuedFamilies.{AreValuedFamilies};
 ghost use Rattle.pg_cells.specs.Members.{IsNextSign};
 ghost use Rattle.pg_cells.specs.Root.{root_held};
-ghost use Rattle.pg_cells.specs.Revalued.{Revalues};
 ghost use Rattle.pg_cells.specs.Walks.{IsAt, EndsBefore, AddsBlanks};
 ghost use Rattle.pg_count.specs.Counting.{counts_in};
-ghost use Rattle.pg_count.specs.Tallied.{Uncounts};
-ghost use Rattle.pg_count.specs.declared.tally.TheConstants.{NOT_COUNTED};
+ghost use Rattle.pg_count.specs.declared.tally.TheConstants.{NUMBERS_END};
 
-use crate::tally::{NOT_COUNTED, push_tally, set_tally, tally_at};
+use crate::tally::{NOT_COUNTED, NUMBERS_END, push_tally, set_tally, tally_at};
 use pg_cells::Cells;
 use pg_types::Sign;
 use std::alloc::{AllocError, Global};
@@ -26,12 +24,19 @@ const FEW_SIGNS: usize = 0;
 /// The cells of a pass stay for the next one where they are at most so many times its counted strings.
 const CELLS_PER_TALLY: usize = 4;
 
+/// The cells stay only where the numbers of the next pass begin here or before, so that half of all numbers are left for it.
+const LATEST_FIRST: u32 = NUMBERS_END / 2;
+
 /// Cells of strings, each with its sums where it is counted. The cell of a string has the number of its tally, and the tallies
 /// stand in a list of their own, since most cells are of strings that are not counted.
+///
+/// The tally at index i has the number `first` + i. A number below `first` is of an earlier pass, and says that the string is
+/// not counted: so a pass begins without a walk over the cells.
 #[derive(Drop)]
 pub struct Tallied {
     cells: Cells<u32, FEW_SIGNS>,
     tallies: Vec<(u64, u64)>,
+    first: u32,
 }
 
 impl Model for Tallied {
@@ -44,9 +49,9 @@ impl Model for Tallied {
 
     ghost coded = { valued_families_code (coded_option (coded× coded_ℕ coded_ℕ)) };
 
-    ghost view = { λ t. told t.cells t.tallies.items };
+    ghost view = { λ t. told t.cells t.first t.tallies.items };
 
-    ghost invariant = { λ t. AreTold t.cells t.tallies.items };
+    ghost invariant = { λ t. AreTold t.cells t.first t.tallies.items };
 }
 
 impl Tallied {
@@ -58,7 +63,11 @@ impl Tallied {
     {
         let cells = Cells::new(alloc, signs, NOT_COUNTED)?;
         let tallies = Vec::new(alloc);
-        Ok(Tallied { cells, tallies })
+        Ok(Tallied {
+            cells,
+            tallies,
+            first: 1,
+        })
     }
 
     /// No string is counted. Where the next strings are `alike`, as long as the last ones, most of them may be the same. Then
@@ -68,8 +77,11 @@ impl Tallied {
         ensures none { counts_in self.new.values ≡ [] }
         ensures kept { AreValuedFamilies self.new }
     {
-        let keeps = alike && self.cells.taken() <= CELLS_PER_TALLY * self.tallies.len();
-        uncount(&mut self.cells, keeps);
+        let next = self.first + self.tallies.len() as u32;
+        let keeps = alike
+            && next <= LATEST_FIRST
+            && self.cells.taken() <= CELLS_PER_TALLY * self.tallies.len();
+        self.first = first_after(&mut self.cells, next, keeps);
         self.tallies.clear();
     }
 
@@ -137,7 +149,7 @@ impl Tallied {
         ensures { (q : List ℕ) → cell_of self.now.families q ≡ Some cell → find (slice_cmp nat_cmp) q self.now.values
             ≡ Some result }
     {
-        tally_at(self.tallies.as_slice(), self.cells.value(cell))
+        tally_at(self.tallies.as_slice(), self.first, self.cells.value(cell))
     }
 
     /// Gives each prefix of the string a cell, and answers the cell of the string. What is counted stays.
@@ -164,7 +176,7 @@ impl Tallied {
         ensures kept { AreValuedFamilies self.new }
     {
         let number = self.cells.value(cell);
-        set_tally(&mut self.tallies, number, sums);
+        set_tally(&mut self.tallies, self.first, number, sums);
     }
 
     /// Counts a string, with the sums. Refused: it is not counted.
@@ -175,33 +187,28 @@ impl Tallied {
         ensures kept { AreValuedFamilies self.new }
         ensures err { OnErr result (self.new ≡ self.old) }
     {
-        let number = push_tally(&mut self.tallies, sums)?;
+        let number = push_tally(&mut self.tallies, self.first, sums)?;
         self.cells.set_value(cell, number);
         Ok(())
     }
 }
 
-// Takes the numbers of tallies out of the cells. Each string keeps its cell.
-fn uncount_each(cells: &mut Cells<u32, FEW_SIGNS>)
+// The number of the first tally of the next pass, past each number in the cells. It is `next`, and each string keeps its cell; or
+// the numbers begin again from 1, and each sign alone has a cell.
+fn first_after(cells: &mut Cells<u32, FEW_SIGNS>, next: u32, keeps: bool) -> u32
     requires held { AreValuedFamilies cells.old }
-    ensures { Revalues (λ _. NOT_COUNTED) cells.old cells.new }
-{
-    let top = cells.top();
-    for cell in 0..top + 1 {
-        if let Some(_number) = cells.value_if_taken(cell) {
-            cells.set_value(cell, NOT_COUNTED);
-        }
-    }
-}
-
-// Takes the numbers of tallies out of the cells. Each string keeps its cell, or each sign alone has one.
-fn uncount(cells: &mut Cells<u32, FEW_SIGNS>, keeps: bool)
-    requires held { AreValuedFamilies cells.old }
-    ensures { Uncounts cells.old cells.new }
+    requires positive { 1 ≤ next }
+    requires few { next ≤ NUMBERS_END }
+    requires past { (q : List ℕ) (k : ℕ) → find (slice_cmp nat_cmp) q cells.old.values ≡ Some k → k < next }
+    ensures held { AreValuedFamilies cells.new }
+    ensures signs { cells.new.signs ≡ cells.old.signs }
+    ensures positive { 1 ≤ result }
+    ensures few { result ≤ NUMBERS_END }
+    ensures past { (q : List ℕ) (k : ℕ) → find (slice_cmp nat_cmp) q cells.new.values ≡ Some k → k < result }
 {
     if keeps {
-        uncount_each(cells);
-        return;
+        return next;
     }
     cells.reset(NOT_COUNTED);
+    1
 }

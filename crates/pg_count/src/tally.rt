@@ -1,12 +1,16 @@
 //! The sums of good and bad weights of a string, as one tally of a list.
-ghost use Rattle.std.specs.Prelude.{◌≡◌, ◌<◌, ◌≤◌, ◌++◌, [], ◌∷◌, length, slice_get, set, IfOk, OnOk, OnErr};
+ghost use Rattle.std.specs.Prelude.{◌≡◌, ◌+◌, ◌-◌, ◌<◌, ◌≤◌, ◌++◌, [], ◌∷◌, length, set, IfOk, OnOk, OnErr};
 ghost use Rattle.pg_types.specs.Counts.{AreSmall, with_weight};
+ghost use Rattle.pg_count.specs.Tallied.{tally_of};
 
 use pg_types::Weight;
 use std::alloc::AllocError;
 
-/// In a cell it says that the string is not counted: no tally has this number.
-pub const NOT_COUNTED: u32 = u32::MAX;
+/// In a cell it says that the string was never counted: tallies are numbered from 1 on.
+pub const NOT_COUNTED: u32 = 0;
+
+/// The number of each tally is below this one.
+pub const NUMBERS_END: u32 = u32::MAX;
 
 /// The sums with one weight more, in the good or the bad one.
 pub fn add_weight(sums: (u64, u64), good: bool, weight: Weight) -> (u64, u64)
@@ -21,33 +25,43 @@ pub fn add_weight(sums: (u64, u64), good: bool, weight: Weight) -> (u64, u64)
     }
 }
 
-/// The tally with a number, or `None` where no tally has it.
-pub fn tally_at(tallies: &[(u64, u64)], number: u32) -> Option<(u64, u64)>
-    ensures { result ≡ slice_get tallies.now number }
+/// The tally with a number, where they are numbered from `first` on, or `None` where no tally has it.
+pub fn tally_at(tallies: &[(u64, u64)], first: u32, number: u32) -> Option<(u64, u64)>
+    ensures { result ≡ tally_of first tallies.now number }
 {
-    tallies.get(number as usize).copied()
+    if number < first {
+        return None;
+    }
+    tallies.get((number - first) as usize).copied()
 }
 
-/// Sets the tally with a number.
-pub fn set_tally(tallies: &mut Vec<(u64, u64)>, number: u32, sums: (u64, u64))
-    requires { number < length tallies.old.items }
-    ensures { tallies.new.items ≡ set tallies.old.items number sums }
+/// Sets the tally with a number, where they are numbered from `first` on.
+pub fn set_tally(tallies: &mut Vec<(u64, u64)>, first: u32, number: u32, sums: (u64, u64))
+    requires from { first ≤ number }
+    requires there { number < first + length tallies.old.items }
+    ensures { tallies.new.items ≡ set tallies.old.items (number - first) sums }
 {
-    tallies[number as usize] = sums;
+    tallies[(number - first) as usize] = sums;
 }
 
-/// Adds a tally and gives its number, as long as a number fits its cell. Refused: the tallies are as before.
-pub fn push_tally(tallies: &mut Vec<(u64, u64)>, sums: (u64, u64)) -> Result<u32, AllocError>
-    requires { length tallies.old.items ≤ NOT_COUNTED }
-    ensures number { IfOk result (λ number. number ≡ length tallies.old.items) }
+/// Adds a tally and gives its number, where they are numbered from `first` on, as long as a number is left.
+///
+/// Refused: the tallies are as before.
+pub fn push_tally(
+    tallies: &mut Vec<(u64, u64)>,
+    first: u32,
+    sums: (u64, u64),
+) -> Result<u32, AllocError>
+    requires { first + length tallies.old.items ≤ NUMBERS_END }
+    ensures number { IfOk result (λ number. number ≡ first + length tallies.old.items) }
     ensures items { OnOk result (tallies.new.items ≡ tallies.old.items ++ sums ∷ []) }
-    ensures few { length tallies.new.items ≤ NOT_COUNTED }
+    ensures few { first + length tallies.new.items ≤ NUMBERS_END }
     ensures err { OnErr result (tallies.new.items ≡ tallies.old.items) }
 {
-    let number = tallies.len();
-    if number >= NOT_COUNTED as usize {
+    let number = first + tallies.len() as u32;
+    if number == NUMBERS_END {
         return Err(AllocError);
     }
     tallies.push(sums)?;
-    Ok(number as u32)
+    Ok(number)
 }

@@ -1,9 +1,9 @@
 use Rattle.std.proofs.Common.{◌≡◌, ℕ, [], ◌∷◌, ◌++◌, Option, Some, sym, subst}
-use Rattle.std.specs.List.{slice_get}
 use Rattle.pg_types.specs.Placement.{cell_of}
 use Rattle.pg_cells.specs.ValuedFamilies.{ValuedFamilies}
 use Rattle.pg_cells.specs.Members.{IsNextSign, goes_on}
 use Rattle.pg_cells.proofs.GivenMembers.{next_alike}
+use Rattle.pg_count.specs.Tallied.{tally_of}
 use Rattle.pg_count.proofs.Mapped.{mapped, goes_mapped}
 use Rattle.pg_count.proofs.tallied.Tallied.next_sign.Goals as goal
 
@@ -12,4 +12,4 @@ returns c p s e =
     let es = c.self.inside.cells.values in
     let at = subst (λ (h : ValuedFamilies (Option (ℕ × ℕ))). cell_of h.families (p ++ s ∷ []) ≡ Some c.args.cell) (sym c.self.view_is) e in
     subst (λ (h : ValuedFamilies (Option (ℕ × ℕ))). IsNextSign h.values p s c.next_sign.result) c.self.view_is
-    (next_alike (goes_on es p) (goes_on (mapped (slice_get c.self.inside.tallies.items) es) p) s c.next_sign.result (λ z up. goes_mapped (slice_get c.self.inside.tallies.items) es p z) (c.next_sign.ensures p s at))
+    (next_alike (goes_on es p) (goes_on (mapped (tally_of c.self.inside.first c.self.inside.tallies.items) es) p) s c.next_sign.result (λ z up. goes_mapped (tally_of c.self.inside.first c.self.inside.tallies.items) es p z) (c.next_sign.ensures p s at))

@@ -1,9 +1,9 @@
 use Rattle.std.proofs.Common.{◌≡◌, ℕ, Option, Some, ap, sym, subst, ◌∙◌}
-use Rattle.std.specs.List.{slice_get}
 use Rattle.std.specs.FinMap.{find}
 use Rattle.pg_types.specs.Placement.{cell_of}
 use Rattle.pg_cells.specs.ValuedFamilies.{ValuedFamilies}
 use Rattle.pg_cells.proofs.StringMaps.{order}
+use Rattle.pg_count.specs.Tallied.{tally_of}
 use Rattle.pg_count.proofs.Mapped.{found_mapped}
 use Rattle.pg_count.proofs.tallied.Tallied.sums.Goals as goal
 
@@ -11,5 +11,5 @@ pub returns : goal.returns
 returns c q e =
     let at = subst (λ (h : ValuedFamilies (Option (ℕ × ℕ))). cell_of h.families q ≡ Some c.args.cell) (sym c.self.view_is) e in
     subst (λ (h : ValuedFamilies (Option (ℕ × ℕ))). find order q h.values ≡ Some c.tally_at.result) c.self.view_is
-    (found_mapped (slice_get c.self.inside.tallies.items) q c.value.result c.self.inside.cells.values (c.value.ensures q at)
-    ∙ ap Some (ap (λ l. slice_get l c.value.result) (sym c.as_slice.ensures.value) ∙ sym c.tally_at.ensures))
+    (found_mapped (tally_of c.self.inside.first c.self.inside.tallies.items) q c.value.result c.self.inside.cells.values (c.value.ensures q at)
+    ∙ ap Some (ap (λ l. tally_of c.self.inside.first l c.value.result) (sym c.as_slice.ensures.value) ∙ sym c.tally_at.ensures))
