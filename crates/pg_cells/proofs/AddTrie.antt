@@ -155,7 +155,7 @@ module _ {V : Type 0} (few n : ℕ) (r : Row V) (t : Trie V) (trie : IsTrie n r 
           rooted = rooted;
           stands = λ x k e. (own.stand x k e).2;
           owns = owns;
-          joins_not = λ up z. no_join up (ap (λ x. sign_at r (was + x)) (sym is) ∙ z);
+          sign_taken = λ up z. no_join up (ap (λ x. sign_at r (was + x)) (sym is) ∙ z);
           based = λ i up. let o = trie.layout.owned i up in (o.1.base, trie.layout.flag o.0 o.1 o.2, o.3);
         }
       where

@@ -94,7 +94,7 @@ module _ {V : Type 0} (n : ℕ) (old gave dropped : Row V) (was : ℕ) (slots : 
     | inr ge ↦
         let same : k ≡ was = omega arith in
         let kept : sign_at dropped (was + slot.sign) ≡ sign_at old (was + slot.sign) = outside_sign n old gave dropped was slots slot parent can gives drops (was + slot.sign) (outside_here was slots slot.sign can.new) in
-        ap (fits_row dropped (slot.sign ∷ signs_of slots)) same ∙ taken_misfit dropped (slot.sign ∷ signs_of slots) (omega arith) slot.sign refl was (λ z. can.joins_not up (sym kept ∙ z))
+        ap (fits_row dropped (slot.sign ∷ signs_of slots)) same ∙ taken_misfit dropped (slot.sign ∷ signs_of slots) (omega arith) slot.sign refl was (λ z. can.sign_taken up (sym kept ∙ z))
     | inl below ↦ elim (are k low below) [
       | inl base ↦ and_left (not (base_at dropped k)) (list_all (λ s. nat_eq (sign_at dropped (k + s)) 0) (slot.sign ∷ signs_of slots)) (ap not (base_stays k (omega arith) ∙ base))
       | inr h ↦

@@ -31,7 +31,6 @@ pub mod RemovedFamily
 pub mod RemovedSign
 pub mod RemovedValues
 pub mod Removing
-pub mod Revaluing
 pub mod RootSteps
 pub mod RootTrie
 pub mod RowWrites

@@ -10,7 +10,6 @@ pub mod Lists
 pub mod Members
 pub mod Moves
 pub mod OneTrie
-pub mod Revalued
 pub mod Root
 pub mod Store
 pub mod Walks

@@ -74,7 +74,7 @@ module _ {V : Type 0} where
     -- each slot's sign stands there, and no other; the new sign's cell is taken; and each taken cell belongs to a base
     pub stands : (x : ℕ) (k : Slot V) → slot_of slots x ≡ Some k → sign_at r (was + x) ≡ x
     pub owns : (x : ℕ) → 0 < was → 0 < x → sign_at r (was + x) ≡ x → (k : Slot V) × (slot_of slots x ≡ Some k)
-    pub joins_not : 0 < was → sign_at r (was + slot.sign) ≢ 0
+    pub sign_taken : 0 < was → sign_at r (was + slot.sign) ≢ 0
     pub based : (i : ℕ) → sign_at r i ≢ 0 → (b : ℕ) × (base_at r b ≡ true) × (i ≡ b + sign_at r i)
 
   -- a family gave up its cells and its base, and was put with one sign more at the least base

@@ -9,11 +9,11 @@ use crate::moves::{give_up, put};
 use crate::store::Store;
 use pg_types::SIGNS_MAX;
 
-/// Where a few signs are placed from base 1 on, a family of more is placed from so far below the top on, or as far as there are
+/// Where few signs are placed from base 1 on, a family of more is placed from so far below the top on, or as far as there are
 /// signs. Else each family is placed at the top.
 const FAR_BELOW: usize = 255;
 
-// How far below the top a family is sought a base.
+// How far below the top the search for a base begins.
 fn far_from_top(few: usize, signs: u16) -> usize
     ensures { result ≡ far_from_top few signs }
 {
@@ -46,8 +46,8 @@ fn drop_base<V: Copy>(store: &mut Store<V>, base: usize)
     }
 }
 
-// Up to where the bases from `low` on were tried for a family that moves from the base `was`, for which it was sought from another
-// base on.
+// The base up to which those from `low` on were tried before, for a family that moves from the base `was`, which was found by a
+// search from `sought` on.
 fn tried_up_to(was: usize, sought: usize, low: usize) -> usize
     requires { was < 2 ^ 32 }
     ensures { low < result → (0 < was) × (sought ≤ low) × (result ≡ was + 1) }

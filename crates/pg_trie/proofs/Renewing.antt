@@ -1,8 +1,8 @@
--- New records, string by string.
-use Rattle.std.proofs.Common.{◌≡◌, ◌≢◌, ℕ, ◌+◌, ◌<◌, ◌≤◌, ◌⊎◌, true, false, cond, nat_lt, List, [], ◌∷◌, ◌++◌, length, get_or, set, slice_get, Some, inl, inr, sym, ◌∙◌, ap, subst, arith, get_or-set_other, get_or-set_same, length-set}
-use Rattle.std.proofs.lemmas.Bool.{cases_lt, cases_eq}
+-- New records and new heads, string by string.
+use Rattle.std.proofs.Common.{◌≡◌, ◌≢◌, ℕ, ◌+◌, ◌<◌, ◌≤◌, ◌⊎◌, true, false, cond, nat_lt, List, [], ◌∷◌, ◌++◌, length, get_or, set, slice_get, Some, inl, inr, refl, sym, ◌∙◌, ap, subst, arith, get_or-set_other, get_or-set_same, length-set}
+use Rattle.std.proofs.lemmas.Bool.{cases_lt, cases_eq, lt-ltb, le-ltb}
 use Rattle.std.proofs.lemmas.List.{length_push}
-use Rattle.std.specs.FinMap.Entries.{find}
+use Rattle.std.specs.FinMap.Entries.{find, put}
 use Rattle.pg_types.specs.Placement.{cell_of}
 use Rattle.pg_outputs.specs.declared.records.Record.{Record}
 use Rattle.pg_outputs.specs.Lists.{list_of, Grows, Lacks}
@@ -10,15 +10,22 @@ use Rattle.pg_outputs.proofs.ListLaws.{list_of-new}
 use Rattle.pg_outputs.proofs.RecordLaws.{there_or_new}
 use Rattle.pg_cells.specs.ValuedFamilies.{ValuedFamilies}
 use Rattle.pg_cells.specs.AreValuedFamilies.{AreValuedFamilies}
-use Rattle.pg_cells.proofs.StringMaps.{order}
+use Rattle.pg_cells.proofs.StringMaps.{order, same_string, equal_or_not, find_put_same, find_put_other}
 use Rattle.pg_trie.specs.declared.mark.TheConstants.{HOPELESS}
-use Rattle.pg_trie.specs.Renewed.{values_in, AreNeeded, IsFreshHead, AreFreshTo}
+use Rattle.pg_trie.specs.Renewed.{values_in, AreNeeded, IsFreshHead, AreFreshTo, RenewsTo, Renews}
 
 pub value_kept : (v d : ℕ) (rest : List (ℕ × ℕ)) → nat_lt v HOPELESS ≡ true → values_in ((v, d) ∷ rest) ≡ (v, d) ∷ values_in rest
 value_kept v d rest e = ap (λ b. cond b ((v, d) ∷ values_in rest) (values_in rest)) e
 
 pub mark_left : (v d : ℕ) (rest : List (ℕ × ℕ)) → nat_lt v HOPELESS ≡ false → values_in ((v, d) ∷ rest) ≡ values_in rest
 mark_left v d rest e = ap (λ b. cond b ((v, d) ∷ values_in rest) (values_in rest)) e
+
+-- a number other than n is below n where it is below the next
+same_test : (c n : ℕ) → c ≢ n → nat_lt c n ≡ nat_lt c (n + 1)
+same_test c n other = elim (cases_lt c n) [
+  | inl lt ↦ lt-ltb c n lt ∙ sym (lt-ltb c (n + 1) (omega arith))
+  | inr le ↦ le-ltb c n le ∙ sym (le-ltb c (n + 1) (omega arith))
+]
 
 -- one more record: it is there, or its head alone is new
 cons_list : (old new : List Record) (r : Record) → ((i : ℕ) → slice_get old i ≡ Some r → new ≡ old) → (Lacks old r → new ≡ old ++ r ∷ []) → (h : ℕ) → length old < h → h ≤ length new → list_of new h ≡ (r.value, r.dot) ∷ list_of old r.next
@@ -102,3 +109,63 @@ fresh_step cells records held cell old new heads after q u head f at has within 
               absurd (let is : v ≡ u = cc in n is)
           | inr other ↦ omega arith
         ]
+
+-- strings get their heads, cell by cell
+pub renew_start : (old : ValuedFamilies ℕ) (heads : List ℕ) → AreValuedFamilies old → RenewsTo old 0 heads old
+renew_start old heads held = record { held = held; signs = refl; families = refl; given = λ q cell u at there. there ∙ ap (λ b. Some (cond b (get_or heads u 0) u)) (sym (le-ltb cell 0 (omega arith))) }
+
+pub renew_skip : (old mid : ValuedFamilies ℕ) (cell : ℕ) (heads : List ℕ) → RenewsTo old cell heads mid → ((q : List ℕ) → cell_of mid.families q ≡ Some cell → ⊥) → RenewsTo old (cell + 1) heads mid
+renew_skip old mid cell heads r none = record {
+  held = r.held;
+  signs = r.signs;
+  families = r.families;
+  given = λ q c u at there. elim (cases_eq c cell) [
+    | inl e ↦ absurd (none q (ap (λ fs. cell_of fs q) r.families ∙ at ∙ ap Some e))
+    | inr other ↦ r.given q c u at there ∙ ap (λ b. Some (cond b (get_or heads u 0) u)) (same_test c cell other)
+  ];
+}
+
+pub renew_step : (old mid new : ValuedFamilies ℕ) (cell : ℕ) (heads : List ℕ) (k : List ℕ) (head : ℕ) → AreValuedFamilies old → RenewsTo old cell heads mid → cell_of mid.families k ≡ Some cell → find order k mid.values ≡ Some head → AreValuedFamilies new → new ≡ record mid { values = put order k (get_or heads head 0) mid.values } → RenewsTo old (cell + 1) heads new
+renew_step old mid new cell heads k head old_held r at has held is = record {
+  held = held;
+  signs = ap (λ (h : ValuedFamilies ℕ). h.signs) is ∙ r.signs;
+  families = ap (λ (h : ValuedFamilies ℕ). h.families) is ∙ r.families;
+  given = λ q c u there value. by q c u there value (equal_or_not q k);
+}
+  where
+    values : new.values ≡ put order k (get_or heads head 0) mid.values
+    values = ap (λ (h : ValuedFamilies ℕ). h.values) is
+
+    k_old : cell_of old.families k ≡ Some cell
+    k_old = ap (λ fs. cell_of fs k) (sym r.families) ∙ at
+
+    by : (q : List ℕ) (c u : ℕ) → cell_of old.families q ≡ Some c → find order q old.values ≡ Some u → ((q ≡ k) × (same_string q k ≡ true)) ⊎ ((q ≢ k) × (same_string q k ≡ false)) → find order q new.values ≡ Some (cond (nat_lt c (cell + 1)) (get_or heads u 0) u)
+    by q c u there value (inl h) =
+        let cells : Some c ≡ Some cell = sym there ∙ ap (cell_of old.families) h.0 ∙ k_old in
+        let c_is : c ≡ cell = cc in
+        let before : find order q mid.values ≡ Some u = r.given q c u there value ∙ ap (λ b. Some (cond b (get_or heads u 0) u)) (le-ltb c cell (omega arith)) in
+        let both : Some head ≡ Some u = sym has ∙ ap (λ p. find order p mid.values) (sym h.0) ∙ before in
+        let same : head ≡ u = cc in
+        ap (find order q) values ∙ ap (λ p. find order p (put order k (get_or heads head 0) mid.values)) h.0 ∙ find_put_same k (get_or heads head 0) mid.values
+        ∙ ap (λ x. Some (get_or heads x 0)) same ∙ ap (λ b. Some (cond b (get_or heads u 0) u)) (sym (lt-ltb c (cell + 1) (omega arith)))
+    by q c u there value (inr h) =
+        let other : c ≢ cell = λ e. h.0 (old_held.apart q k cell (there ∙ ap Some e) k_old) in
+        ap (find order q) values ∙ find_put_other q k (get_or heads head 0) mid.values h.0 ∙ r.given q c u there value ∙ ap (λ b. Some (cond b (get_or heads u 0) u)) (same_test c cell other)
+
+-- a string whose cell is not reached has its old head
+pub old_head : (old mid : ValuedFamilies ℕ) (cell : ℕ) (heads : List ℕ) (q : List ℕ) (head : ℕ) → AreValuedFamilies old → RenewsTo old cell heads mid → cell_of mid.families q ≡ Some cell → find order q mid.values ≡ Some head → find order q old.values ≡ Some head
+old_head old mid cell heads q head held r at has =
+    let at_old : cell_of old.families q ≡ Some cell = ap (λ fs. cell_of fs q) (sym r.families) ∙ at in
+    let u = held.valued q cell at_old in
+    let same : find order q mid.values ≡ Some u.0 = r.given q cell u.0 at_old u.1 ∙ ap (λ b. Some (cond b (get_or heads u.0 0) u.0)) (le-ltb cell cell (omega arith)) in
+    u.1 ∙ sym same ∙ has
+
+pub renewed : (old new : ValuedFamilies ℕ) (n : ℕ) (heads : List ℕ) → AreValuedFamilies old → RenewsTo old n heads new → ((q : List ℕ) (cell : ℕ) → cell_of old.families q ≡ Some cell → cell < n) → Renews old heads new
+renewed old new n heads held r all = record {
+  held = r.held;
+  signs = r.signs;
+  families = r.families;
+  given = λ q u there.
+      let cell = held.celled q u there in
+      r.given q cell.0 u cell.1 there ∙ ap (λ b. Some (cond b (get_or heads u 0) u)) (lt-ltb cell.0 n (all q cell.0 cell.1));
+}

@@ -1,5 +1,5 @@
 -- New records of the lists without their hopeless marks, and what the cells make of them.
-use Rattle.std.specs.Prelude.{◌≡◌, ℕ, ◌+◌, ◌<◌, ◌≤◌, nat_lt, List, ◌++◌, filter, length, get_or, Some}
+use Rattle.std.specs.Prelude.{◌≡◌, ℕ, ◌+◌, ◌<◌, ◌≤◌, nat_lt, if◌then◌else◌, List, ◌++◌, filter, length, get_or, Some}
 use Rattle.std.specs.Ordering.{nat_cmp}
 use Rattle.std.specs.Cmp.Lexicographic.{slice_cmp}
 use Rattle.std.specs.FinMap.{find}
@@ -7,7 +7,7 @@ use Rattle.pg_types.specs.Placement.{cell_of}
 use Rattle.pg_outputs.specs.declared.records.Record.{Record}
 use Rattle.pg_outputs.specs.Lists.{list_of}
 use Rattle.pg_cells.specs.ValuedFamilies.{ValuedFamilies}
-use Rattle.pg_cells.specs.Revalued.{Revalues}
+use Rattle.pg_cells.specs.AreValuedFamilies.{AreValuedFamilies}
 use Rattle.pg_trie.specs.declared.mark.TheConstants.{HOPELESS}
 
 -- the list without its marks
@@ -38,6 +38,16 @@ pub record AreFreshTo (cells : ValuedFamilies ℕ) (records : List Record) (n : 
 abbrev pub AreFresh : ValuedFamilies ℕ → List Record → List Record → List ℕ → Type 0
 AreFresh cells records fresh heads = (n : ℕ) × AreFreshTo cells records n fresh heads × ((q : List ℕ) (cell : ℕ) → cell_of cells.families q ≡ Some cell → cell < n)
 
+-- the strings whose cells are below n have the heads that stand beside their old ones, and the others their old heads
+pub record RenewsTo (old : ValuedFamilies ℕ) (n : ℕ) (heads : List ℕ) (new : ValuedFamilies ℕ) : Type 0 where
+  pub held : AreValuedFamilies new
+  pub signs : new.signs ≡ old.signs
+  pub families : new.families ≡ old.families
+  pub given : (q : List ℕ) (cell u : ℕ) → cell_of old.families q ≡ Some cell → find (slice_cmp nat_cmp) q old.values ≡ Some u → find (slice_cmp nat_cmp) q new.values ≡ Some (if nat_lt cell n then get_or heads u 0 else u)
+
 -- each string has the head that stands beside its old one
-abbrev pub Renews : ValuedFamilies ℕ → List ℕ → ValuedFamilies ℕ → Type 0
-Renews old heads new = Revalues (λ u. get_or heads u 0) old new
+pub record Renews (old : ValuedFamilies ℕ) (heads : List ℕ) (new : ValuedFamilies ℕ) : Type 0 where
+  pub held : AreValuedFamilies new
+  pub signs : new.signs ≡ old.signs
+  pub families : new.families ≡ old.families
+  pub given : (q : List ℕ) (u : ℕ) → find (slice_cmp nat_cmp) q old.values ≡ Some u → find (slice_cmp nat_cmp) q new.values ≡ Some (get_or heads u 0)

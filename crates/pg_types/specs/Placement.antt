@@ -58,8 +58,8 @@ is_base fs b = list_any (λ e. nat_eq b e.1.base) fs
 abbrev pub fits_at : Families → List ℕ → ℕ → Bool
 fits_at fs signs b = not (is_base fs b) && list_all (λ s. not (is_used fs (b + s))) signs
 
--- how far below the top a family is sought a base, in a table of n signs where up to few signs are placed from base 1 on. Where
--- none is, each family is placed at the top
+-- how far below the top the search for a base begins, in a table of n signs where up to few signs are placed from base 1 on.
+-- Where no sign is, it begins at the top
 abbrev pub far_from_top : ℕ → ℕ → ℕ
 far_from_top few n = if nat_eq few 0 then 0 else max far_below n
 
