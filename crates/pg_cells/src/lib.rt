@@ -1,4 +1,5 @@
-//! The families of a trie in one row of cells, each at the least base at which it fits; free cells are linked in rising order.
+//! The families of a trie in one row of cells, each at the least base that its placement allows; free cells are linked in rising
+//! order.
 #![tactic(auto)]
 
 mod bounds;

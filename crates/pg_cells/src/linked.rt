@@ -17,8 +17,9 @@ use pg_types::{SIGNS_MAX, Sign};
 use std::alloc::{AllocError, Global};
 use std::marker::Model;
 
-/// Families of cells, each cell with a value. A family of up to `FEW` signs is placed from base 1 on, a greater one near the
-/// greatest cell. With `FEW` 0 each family is placed at the greatest cell.
+/// Families of cells, each cell with a value. The base of a family of up to `FEW` signs is sought from 1 on. For a greater one the
+/// search begins some way below the greatest taken cell. With `FEW` 4 this is the rule for patterns. With `FEW` 0 the base is
+/// always the greatest taken cell, so nothing is sought.
 #[derive(Drop)]
 pub struct Cells<V: Copy, const FEW: usize> {
     placed: Placed<Member<V>, FEW>,
@@ -131,9 +132,10 @@ impl<V: Copy, const FEW: usize> Cells<V, FEW> {
 
     /// Adds the sign to the family below the parent's string, with the value, and gives its cell.
     ///
-    /// A new family is put at the least base that fits; a sign joins a family in place where its cell is free; else the
-    /// family gives up its cells and is put anew. A cell in it that was told before may then be another's. The parent and each
-    /// other string outside of the family keep their cells.
+    /// A new family is put at the least base that fits, from the lowest one on that is tried for its number of signs. A sign
+    /// joins a family in place where its cell is free. Else the family gives up its cells and is put anew by the same rule. The
+    /// number of a cell of this family that was got before may then be that of another string's cell. The parent and each other
+    /// string outside of the family keep their cells.
     pub fn add(&mut self, parent: usize, s: Sign, v: V) -> Result<usize, AllocError>
         requires parent { (q : List ℕ) × ((cell_of self.old.families q ≡ Some parent)
             × (cell_of self.old.families (q ++ s ∷ []) ≡ None)) }

@@ -71,7 +71,8 @@ fn step_or_add<V: Copy, const FEW: usize>(
 
 /// Gives each prefix of the string a cell, a new one with the value `blank`, and answers the cell of the string.
 ///
-/// Refused: a shorter prefix is entered in its place. The string had no value.
+/// Refused, as memory is short: a shorter prefix of the string is entered, and the rest is not. A string that has its cell already
+/// is never refused.
 pub fn enter<V: Copy, const FEW: usize>(
     cells: &mut Cells<V, FEW>,
     signs: &[Sign],

@@ -14,8 +14,8 @@ use std::marker::Model;
 
 /// The windows that are counted in a pass, each with its sums of good and bad weights.
 ///
-/// A window's signs lead from cell to cell, and the last cell has the number of its sums. The memory of the cells and of the sums
-/// stays for later passes.
+/// A window's signs lead from cell to cell. The last cell has a number, by which the window's two sums are found in a list. The
+/// memory of the cells and of the sums stays for later passes.
 #[derive(Drop)]
 pub struct CountTrie {
     cells: Tallied,

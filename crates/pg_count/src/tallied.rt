@@ -31,7 +31,7 @@ const LATEST_FIRST: u32 = NUMBERS_END / 2;
 /// stand in a list of their own, since most cells are of strings that are not counted.
 ///
 /// The tally at index i has the number `first` + i. A number below `first` is of an earlier pass, and says that the string is
-/// not counted: so a pass begins without a walk over the cells.
+/// not counted. So a pass that keeps the cells begins without a walk over them.
 #[derive(Drop)]
 pub struct Tallied {
     cells: Cells<u32, FEW_SIGNS>,
@@ -70,8 +70,9 @@ impl Tallied {
         })
     }
 
-    /// No string is counted. Where the next strings are `alike`, as long as the last ones, most of them may be the same. Then
-    /// each string keeps its cell, if a good part of the strings was counted. Else each sign alone has one. It takes no memory.
+    /// No string is counted. `alike` says that the next strings are as long as the last ones, so that many may be the same. Then
+    /// the cells stay, if at least a quarter of them are of counted strings and enough numbers are left. Else each sign alone has
+    /// a cell. It takes no memory.
     pub fn clear(&mut self, alike: bool)
         ensures signs { self.new.signs ≡ self.old.signs }
         ensures none { counts_in self.new.values ≡ [] }

@@ -19,11 +19,11 @@ pub record Maps : Type 0 where
   pub hopeless : List ((List ℕ × ℕ) × Unit {0})
   pub records : List Record
 
--- what a value of a list is in the map of values: itself, and a mark is nothing
+-- what an entry of a list adds to the map of values: its value, or nothing where it is the hopeless mark
 abbrev pub as_value : ℕ → Option ℕ
 as_value v = if nat_lt v HOPELESS then Some v else None
 
--- what it is in the map of hopeless marks
+-- what it adds to the map of hopeless marks
 abbrev pub as_mark : ℕ → Option (Unit {0})
 as_mark v = if nat_lt v HOPELESS then None else Some (tt {0})
 

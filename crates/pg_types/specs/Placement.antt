@@ -1,5 +1,5 @@
--- Where the families of a trie lie in one row of cells. A family has a prefix, a base and a set of signs, and its sign s has
--- the cell base + s. A placement is the list of the families in the order of their prefixes.
+-- Where the families of a trie lie in one row of cells. The signs that follow one prefix are a family. It has a base, and its
+-- sign s has the cell base + s. A placement is the list of the families in the order of their prefixes.
 use Rattle.std.specs.Prelude.{◌≡◌, ℕ, suc, zero, ◌+◌, ◌-◌, ◌<◌, ◌≤◌, max, Bool, true, false, if◌then◌else◌, not, ◌&&◌, ◌||◌, nat_eq, nat_lt, nat_le, List, [], ◌∷◌, ◌++◌, length, map, filter, fold, Option, Some, None}
 use Rattle.std.specs.List.{flat_map, list_any, list_all, range_with_len, starts_with}
 use Rattle.std.specs.Ordering.{nat_cmp, eq_by_cmp}
@@ -20,7 +20,8 @@ Families = List (List ℕ × Family)
 abbrev pub few_signs : ℕ
 few_signs = 4
 
--- a greater one is placed from so far below the top on, or as far as there are signs
+-- for a family of more signs the search begins this many cells below the greatest used one; in a table of more signs than this,
+-- as many cells below as there are signs
 abbrev pub far_below : ℕ
 far_below = 255
 
@@ -58,16 +59,16 @@ is_base fs b = list_any (λ e. nat_eq b e.1.base) fs
 abbrev pub fits_at : Families → List ℕ → ℕ → Bool
 fits_at fs signs b = not (is_base fs b) && list_all (λ s. not (is_used fs (b + s))) signs
 
--- how far below the top the search for a base begins, in a table of n signs where up to few signs are placed from base 1 on.
--- Where no sign is, it begins at the top
+-- how far below the greatest used cell the search begins for a family of more than few signs, in a table of n signs. Where few is
+-- 0, which is the placement of no patterns, it begins at that cell
 abbrev pub far_from_top : ℕ → ℕ → ℕ
 far_from_top few n = if nat_eq few 0 then 0 else max far_below n
 
--- the lowest base that is tried for so many signs, where t is the top
+-- the lowest base that is tried for so many signs, where t is the greatest used cell and up to few signs are placed from base 1 on
 abbrev pub lowest_base : ℕ → ℕ → ℕ → ℕ → ℕ
 lowest_base few n count t = if nat_le count few then 1 else max 1 (t - far_from_top few n)
 
--- the first number from b on that meets the test, of so many more
+-- the first of b, b + 1 and so on that meets the test; after so many that do not, the next one, untested
 abbrev pub first_from : (ℕ → Bool) → ℕ → ℕ → ℕ
 first_from test zero b = b
 first_from test (suc more) b = elim (test b) [ true ↦ b | false ↦ first_from test more (b + 1) ]
@@ -78,7 +79,7 @@ pub record IsLeast (test : ℕ → Bool) (low b : ℕ) : Type 0 where
   pub meets : test b ≡ true
   pub first : (k : ℕ) → low ≤ k → k < b → test k ≡ false
 
--- the least base at which the signs may stand. One that is past the top always serves
+-- the least base at which the signs may stand. The greatest used cell always serves, since the family then lies past all others
 abbrev pub least_base : ℕ → ℕ → Families → List ℕ → ℕ
 least_base few n fs signs = first_from (fits_at fs signs) (top fs) (lowest_base few n (length signs) (top fs))
 
@@ -159,7 +160,7 @@ enter n fs q = enter_by few_signs n fs q
 abbrev pub entered_families : ℕ → List (List ℕ) → Families
 entered_families n strings = fold (enter n) (root n) strings
 
--- whether a string keeps its cell at a level's end: it has one sign, or it is a prefix of a string that stays
+-- whether a string keeps its cell at a level's end: it has one sign, or it is a prefix of one of the strings of the patterns
 abbrev pub keeps_cell : List (List ℕ) → List ℕ → Bool
 keeps_cell strings q = nat_le (length q) 1 || list_any (λ t. starts_with nat_eq t q) strings
 
