@@ -23,8 +23,8 @@ use std::alloc::{AllocError, Global};
 use std::marker::Model;
 
 /// Families of cells, each cell with a value. The base of a family of up to `FEW` signs is sought from 1 on. For a greater one the
-/// search begins some way below the greatest taken cell. With `FEW` 4 this is the rule for patterns. With `FEW` 0 the base is
-/// always the greatest taken cell, so nothing is sought.
+/// search begins some way below the greatest taken cell. With `FEW` 4 this is the rule for patterns. With `FEW` 0 each search
+/// begins a little below that cell, and is short.
 #[derive(Drop)]
 pub struct Placed<V: Copy, const FEW: usize> {
     signs: u16,

@@ -10,15 +10,18 @@ use crate::store::Store;
 use pg_types::SIGNS_MAX;
 
 /// Where few signs are placed from base 1 on, a family of more is placed from so far below the top on, or as far as there are
-/// signs. Else each family is placed at the top.
+/// signs.
 const FAR_BELOW: usize = 255;
+
+/// Else each family is placed from so far below the top on. The search is short then, and most holes are filled all the same.
+const NEAR_BELOW: usize = 32;
 
 // How far below the top the search for a base begins.
 fn far_from_top(few: usize, signs: u16) -> usize
     ensures { result ≡ far_from_top few signs }
 {
     if few == 0 {
-        0
+        NEAR_BELOW
     } else {
         FAR_BELOW.max(signs as usize)
     }

@@ -103,6 +103,9 @@ impl CountTrie {
             × (at.new ≡ at.old)) (λ sums. above at.old self.now.counts
             ≡ (at.new, sums) ∷ above at.new self.now.counts) }
     {
+        if self.cells.has_none() {
+            return None;
+        }
         let mut room = [0; LENGTH_MAX as usize];
         let path = &mut room[..usize::from(self.len)];
         match least(&self.cells, 0, EDGE, at.signs(), path) {

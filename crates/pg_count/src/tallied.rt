@@ -1,5 +1,5 @@
 //! The cells of strings of which some are counted.
-ghost use Rattle.std.specs.Prelude.{◌≡◌, ◌<◌, ◌≤◌, ◌==◌, ℕ, List, [], ◌∷◌, ◌++◌, length, All, Some, None, IfOk, OnOk, OnErr, if◌then◌else◌};
+ghost use Rattle.std.specs.Prelude.{◌≡◌, ◌<◌, ◌≤◌, ◌==◌, true, ℕ, List, [], ◌∷◌, ◌++◌, length, All, Some, None, IfOk, OnOk, OnErr, if◌then◌else◌};
 ghost use Rattle.std.specs.FinMap.{find, put};
 ghost use Rattle.std.specs.Cmp.Lexicographic.{slice_cmp};
 ghost use Rattle.std.specs.Ordering.{nat_cmp};
@@ -18,7 +18,7 @@ use pg_types::Sign;
 use std::alloc::{AllocError, Global};
 use std::marker::Model;
 
-/// Each family of the windows is placed at the top, since their layout is told to no one.
+/// Each family of the windows is placed near the top, since their layout is told to no one.
 const FEW_SIGNS: usize = 0;
 
 /// The cells of a pass stay for the next one where they are at most so many times its counted strings.
@@ -71,8 +71,8 @@ impl Tallied {
     }
 
     /// No string is counted. `alike` says that the next strings are as long as the last ones, so that many may be the same. Then
-    /// the cells stay, if at least a quarter of them are of counted strings and enough numbers are left. Else each sign alone has
-    /// a cell. It takes no memory.
+    /// the cells stay, if at least a quarter of them are of counted strings and enough numbers are left. They stay too where none
+    /// is counted: such a pass tells nothing of the next one. Else each sign alone has a cell. It takes no memory.
     pub fn clear(&mut self, alike: bool)
         ensures signs { self.new.signs ≡ self.old.signs }
         ensures none { counts_in self.new.values ≡ [] }
@@ -81,9 +81,16 @@ impl Tallied {
         let next = self.first + self.tallies.len() as u32;
         let keeps = alike
             && next <= LATEST_FIRST
-            && self.cells.taken() <= CELLS_PER_TALLY * self.tallies.len();
+            && (self.has_none() || self.cells.taken() <= CELLS_PER_TALLY * self.tallies.len());
         self.first = first_after(&mut self.cells, next, keeps);
         self.tallies.clear();
+    }
+
+    /// Whether there is no tally, so that no string is counted.
+    pub fn has_none(&self) -> bool
+        ensures { result ≡ true → counts_in self.now.values ≡ [] }
+    {
+        self.tallies.is_empty()
     }
 
     /// The number of signs of the table.

@@ -1,5 +1,5 @@
 //! A pass over the open positions of its level: the counting of its windows, and the closing of dots after its choices.
-ghost use Rattle.std.specs.Prelude.{◌≡◌, ◌<◌, not, if◌then◌else◌, length, map, All, OnOk, OnErr};
+ghost use Rattle.std.specs.Prelude.{◌≡◌, ◌<◌, not, false, if◌then◌else◌, length, map, All, OnOk, OnErr};
 ghost use Rattle.std.specs.List.{flat_map};
 ghost use Rattle.pg_types.specs.Counts.{SignsWithin};
 ghost use Rattle.pg_types.specs.Parameters.{IsLevel};
@@ -27,13 +27,12 @@ pub fn is_good(level: u8, hyphen: bool) -> bool
     hyphen == (level % 2 == 1)
 }
 
-/// Counts the window at position `p` of a word, where the dot of the pass is not closed and the window fits in the word.
+/// Counts the window at position `p` of a word, where it fits in the word.
 fn count_at<E: Engine>(
     engine: &mut E,
     pass: Pass,
     w: &WordRef<'_>,
     p: usize,
-    closed: DotSet,
 ) -> Result<(), AllocError>
     requires ranges { IsPass pass }
     requires pass { (E.meaning engine.old).pass ≡ pass }
@@ -43,10 +42,10 @@ fn count_at<E: Engine>(
     requires room { HasRoom (E.meaning engine.old).counts 1 }
     ensures ok { OnOk result (E.meaning engine.new
         ≡ counting (E.meaning engine.old)
-        (counted_in pass.level pass.len pass.dot (lent_word w.now) p (has_dot closed pass.dot))) }
+        (counted_in pass.level pass.len pass.dot (lent_word w.now) p false)) }
     ensures err { OnErr result (E.meaning engine.new ≡ E.meaning engine.old) }
 {
-    if fits(pass, w.signs.len(), p) && !closed.contains(pass.dot) {
+    if fits(pass, w.signs.len(), p) {
         let from = p - usize::from(pass.dot);
         let window = &w.signs[from..from + usize::from(pass.len)];
         engine.count(window, is_good(pass.level, w.hyphens[p]), w.weights[p])?;
@@ -71,9 +70,12 @@ fn count_position<E: Engine>(
     ensures took { OnOk result (TookRoom (E.meaning engine.old).counts (E.meaning engine.new).counts 1) }
     ensures err { OnErr result (E.meaning engine.new ≡ E.meaning engine.old) }
 {
+    if position.closed.contains(pass.dot) {
+        return Ok(());
+    }
     let w = dictionary.word(position.word as usize);
     let p = usize::from(position.at);
-    count_at(engine, pass, &w, p, position.closed)?;
+    count_at(engine, pass, &w, p)?;
     Ok(())
 }
 
@@ -101,8 +103,8 @@ pub fn count_open<E: Engine>(
     Ok(())
 }
 
-/// The closed dots of position `p` of a word after the choices of a pass: where its window was counted, every dot if the window
-/// was chosen, and the dot of the pass too if it is hopeless.
+/// The closed dots of position `p` of a word after the choices of a pass whose dot was not closed there: if its window was counted,
+/// every dot where the window was chosen, and the dot of the pass too where it is hopeless.
 fn close_at<E: Engine>(
     engine: &E,
     params: &LevelParams,
@@ -117,10 +119,11 @@ fn close_at<E: Engine>(
     requires word { IsWord (lent_word w.now) }
     requires signs { SignsWithin (E.meaning engine.now).signs w.now.signs.now }
     requires within { p < length w.now.signs.now }
+    requires open { has_dot closed pass.dot ≡ false }
     requires room { HasRoom (E.meaning engine.now).counts 0 }
     ensures { result ≡ closed_dots_after params.now (pass) (E.meaning engine.now).counts (lent_word w.now) p closed }
 {
-    if !fits(pass, w.signs.len(), p) || closed.contains(pass.dot) {
+    if !fits(pass, w.signs.len(), p) {
         return closed;
     }
     let from = p - usize::from(pass.dot);
@@ -150,6 +153,9 @@ fn close_position<E: Engine>(
     requires room { HasRoom (E.meaning engine.now).counts 0 }
     ensures { result ≡ position_after params.now (pass) (E.meaning engine.now).counts dictionary.now position }
 {
+    if position.closed.contains(pass.dot) {
+        return position;
+    }
     let w = dictionary.word(position.word as usize);
     let p = usize::from(position.at);
     OpenPosition {

@@ -178,7 +178,7 @@ impl Families {
     fn lowest_base(&self, count: usize, used: &[usize]) -> usize {
         let top = used.last().copied().unwrap_or(0);
         match self.few {
-            0 => top.max(1),
+            0 => top.saturating_sub(32).max(1),
             few if count <= few => 1,
             _ => top.saturating_sub(usize::from(self.signs).max(255)).max(1),
         }

@@ -94,9 +94,9 @@ fn few_signs_from_base_1(rt: HostRuntime) -> Result<(), Fail> {
     Ok(())
 }
 
-/// Every family is placed at the top.
+/// Every family is placed near the top.
 #[test]
-fn every_family_at_the_top(rt: HostRuntime) -> Result<(), Fail> {
+fn every_family_near_the_top(rt: HostRuntime) -> Result<(), Fail> {
     run::<0>(&rt, rt.alloc(), 40, 600)?;
     run::<0>(&rt, rt.alloc(), 4, 300)?;
     run::<0>(&rt, rt.alloc(), SIGNS_MAX, 100)?;

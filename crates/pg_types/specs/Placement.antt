@@ -25,6 +25,10 @@ few_signs = 4
 abbrev pub far_below : ℕ
 far_below = 255
 
+-- where no family is placed from base 1 on, each search begins this many cells below the greatest used one
+abbrev pub near_below : ℕ
+near_below = 32
+
 -- the family with the prefix
 abbrev pub family_at : Families → List ℕ → Option Family
 family_at fs p = find (slice_cmp nat_cmp) p fs
@@ -59,10 +63,10 @@ is_base fs b = list_any (λ e. nat_eq b e.1.base) fs
 abbrev pub fits_at : Families → List ℕ → ℕ → Bool
 fits_at fs signs b = not (is_base fs b) && list_all (λ s. not (is_used fs (b + s))) signs
 
--- how far below the greatest used cell the search begins for a family of more than few signs, in a table of n signs. Where few is
--- 0, which is the placement of no patterns, it begins at that cell
+-- how far below the greatest used cell the search begins for a family of more than few signs, in a table of n signs. No patterns
+-- are placed with few 0, so it is near there
 abbrev pub far_from_top : ℕ → ℕ → ℕ
-far_from_top few n = if nat_eq few 0 then 0 else max far_below n
+far_from_top few n = if nat_eq few 0 then near_below else max far_below n
 
 -- the lowest base that is tried for so many signs, where t is the greatest used cell and up to few signs are placed from base 1 on
 abbrev pub lowest_base : ℕ → ℕ → ℕ → ℕ → ℕ

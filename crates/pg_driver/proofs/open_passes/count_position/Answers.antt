@@ -1,7 +1,6 @@
-use Rattle.std.proofs.Common.{◌<◌, length, arith}
+use Rattle.std.proofs.Common.{◌<◌, length, false, arith}
 use Rattle.pg_dict.specs.Lent.{lent_word}
 use Rattle.pg_driver.proofs.WordSteps.{signs_within}
-use Rattle.pg_driver.specs.DotSets.{has_dot}
 use Rattle.pg_driver.proofs.OpenSteps.{took_entry}
 use Rattle.pg_driver.proofs.open_passes.count_position.Goals as goal
 
@@ -16,4 +15,4 @@ count_at-requires-clause-within g c =
 pub returns-clause-took : goal.returns-clause-took
 returns-clause-took g c =
     let within : c.args.position.at < length (lent_word c.word-w.result).signs = c.requires.placed.within (lent_word c.word-w.result) c.word-w.ensures.lent in
-    took_entry (g.E.Engine.meaning c.args.engine.now) _ c.args.pass.level c.args.pass.len c.args.pass.dot (lent_word c.word-w.result) c.from-p.result 1 (has_dot c.args.position.closed c.args.pass.dot) c.requires.ranges.len_low c.word-w.ensures.word (omega (arith, c.from-p.ensures)) c.requires.room c.in_ok-count_at.ensures.ok
+    took_entry (g.E.Engine.meaning c.args.engine.now) _ c.args.pass.level c.args.pass.len c.args.pass.dot (lent_word c.word-w.result) c.from-p.result 1 false c.requires.ranges.len_low c.word-w.ensures.word (omega (arith, c.from-p.ensures)) c.requires.room c.in_ok-count_at.ensures.ok
