@@ -25,3 +25,4 @@ pub mod AbovePositions
 pub mod WordLevels
 pub mod ReadySteps
 mod DotRows
+pub mod GivenUp

@@ -16,7 +16,7 @@ use Rattle.pg_driver.specs.declared.open_positions.OpenLevel.{OpenLevel}
 use Rattle.pg_driver.specs.declared.word_level.WordLevel.{WordLevel}
 use Rattle.pg_driver.specs.declared.above_positions.Kept.{Kept}
 use Rattle.pg_driver.specs.Accounts.{totals_by}
-use Rattle.pg_driver.specs.OpenLevels.{InLevel, position_after}
+use Rattle.pg_driver.specs.OpenLevels.{InLevel, IsGivenUp, position_after}
 use Rattle.pg_driver.specs.OpenPositions.{IsPlaced}
 use Rattle.pg_driver.specs.Sound.{IsSmall}
 use Rattle.pg_driver.specs.Traces.{Known, Source}
@@ -58,6 +58,11 @@ TellsTotals source P c = (totals_in c ≡ totals_by source P) × IsSmall (totals
 abbrev pub ArePlaced : List Word → Counting → Type 0
 ArePlaced words (Open o) = All (IsPlaced words) o.positions.items
 ArePlaced words (EachWord e) = All (IsPlaced words) e.above.items × (length e.above.items ≤ FILE_MAX)
+
+-- the windows of the open positions that a pass counts are hopeless
+abbrev pub AreGivenUp : LevelParams → Pass → Counts → List Word → Counting → Type 0
+AreGivenUp params pass counts words (Open o) = All (IsGivenUp params pass counts words) o.positions.items
+AreGivenUp params pass counts words (EachWord e) = Unit {0}
 
 -- the totals before and after a pass whose chosen windows have these sums
 abbrev pub Carries : Bool → Totals → Totals → ℕ → ℕ → Type 0

@@ -7,7 +7,7 @@ ghost use Rattle.pg_select.specs.LawsSteps.{IsBelow};
 ghost use Rattle.pg_select.specs.CountedPositions.{counted_positions, minima_of};
 ghost use Rattle.pg_driver.specs.Accounts.{totals_by};
 ghost use Rattle.pg_driver.specs.Counting.{counting, HasRoom};
-ghost use Rattle.pg_driver.specs.LevelCounting.{ArePlaced, CanGoOn, GoesOnAfter, IsCounted, IsOverOpen, IsReady, totals_in};
+ghost use Rattle.pg_driver.specs.LevelCounting.{AreGivenUp, ArePlaced, CanGoOn, GoesOnAfter, IsCounted, IsOverOpen, IsReady, totals_in};
 ghost use Rattle.pg_driver.specs.Sound.{IsSmall};
 ghost use Rattle.pg_driver.specs.States.{IsPass};
 ghost use Rattle.pg_driver.specs.Told.{known_of, over};
@@ -115,12 +115,22 @@ impl Counting {
         requires signs { SignsAtMost (E.meaning engine.now).signs dictionary.now }
         requires room { HasRoom (E.meaning engine.now).counts 0 }
         requires placed { ArePlaced dictionary.now self.old }
+        requires given_up { choices.hopeless ≡ choices.candidates →
+            AreGivenUp params.now pass (E.meaning engine.now).counts dictionary.now self.old }
         requires totals { CanGoOn params.now pass (E.meaning engine.now).counts dictionary.now choices self.old }
         ensures { GoesOnAfter params.now pass (E.meaning engine.now).counts dictionary.now choices self.old self.new }
     {
         match self {
             Counting::Open(open) => {
-                close_dots(engine, dictionary, params, pass, &mut open.positions);
+                let all_given_up = choices.hopeless == choices.candidates;
+                close_dots(
+                    engine,
+                    dictionary,
+                    params,
+                    pass,
+                    all_given_up,
+                    &mut open.positions,
+                );
                 open.totals = totals_after(open.totals, pass.level, choices.good, choices.bad);
             }
             Counting::EachWord(words) => {

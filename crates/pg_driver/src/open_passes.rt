@@ -1,5 +1,5 @@
 //! A pass over the open positions of its level: the counting of its windows, and the closing of dots after its choices.
-ghost use Rattle.std.specs.Prelude.{◌≡◌, ◌<◌, not, false, if◌then◌else◌, length, map, All, OnOk, OnErr};
+ghost use Rattle.std.specs.Prelude.{◌≡◌, ◌<◌, not, false, true, if◌then◌else◌, length, map, All, OnOk, OnErr};
 ghost use Rattle.std.specs.List.{flat_map};
 ghost use Rattle.pg_types.specs.Counts.{SignsWithin};
 ghost use Rattle.pg_types.specs.Parameters.{IsLevel};
@@ -8,8 +8,9 @@ ghost use Rattle.pg_dict.specs.Lent.{lent_word};
 ghost use Rattle.pg_select.specs.Statuses.{is_odd};
 ghost use Rattle.pg_driver.specs.Counting.{counting, HasRoom, TookRoom};
 ghost use Rattle.pg_driver.specs.States.{IsPass};
-ghost use Rattle.pg_driver.specs.DotSets.{has_dot};
-ghost use Rattle.pg_driver.specs.OpenLevels.{closed_dots_after, position_after};
+ghost use Rattle.pg_driver.specs.DotSets.{has_dot, with_dot};
+ghost use Rattle.pg_driver.specs.OpenLevels.{IsGivenUp, closed_dots_after, position_after};
+ghost use Rattle.pg_select.specs.Windows.{fits as fits_in};
 ghost use Rattle.pg_driver.specs.OpenPositions.{counted_in, counted_of, IsPlaced};
 
 use crate::dot_set::DotSet;
@@ -104,7 +105,8 @@ pub fn count_open<E: Engine>(
 }
 
 /// The closed dots of position `p` of a word after the choices of a pass whose dot was not closed there: if its window was counted,
-/// every dot where the window was chosen, and the dot of the pass too where it is hopeless.
+/// every dot where the window was chosen, and the dot of the pass too where it is hopeless. Where all were given up, the window is
+/// not looked up.
 fn close_at<E: Engine>(
     engine: &E,
     params: &LevelParams,
@@ -112,6 +114,7 @@ fn close_at<E: Engine>(
     w: &WordRef<'_>,
     p: usize,
     closed: DotSet,
+    all_given_up: bool,
 ) -> DotSet
     requires ranges { IsPass pass }
     requires pass { (E.meaning engine.now).pass ≡ pass }
@@ -119,12 +122,18 @@ fn close_at<E: Engine>(
     requires word { IsWord (lent_word w.now) }
     requires signs { SignsWithin (E.meaning engine.now).signs w.now.signs.now }
     requires within { p < length w.now.signs.now }
-    requires open { has_dot closed pass.dot ≡ false }
+    requires free { has_dot closed pass.dot ≡ false }
+    requires given_up { all_given_up ≡ true → fits_in w.now.signs.now p pass.len pass.dot ≡ true →
+        closed_dots_after params.now (pass) (E.meaning engine.now).counts (lent_word w.now) p closed
+        ≡ with_dot closed pass.dot }
     requires room { HasRoom (E.meaning engine.now).counts 0 }
     ensures { result ≡ closed_dots_after params.now (pass) (E.meaning engine.now).counts (lent_word w.now) p closed }
 {
     if !fits(pass, w.signs.len(), p) {
         return closed;
+    }
+    if all_given_up {
+        return closed.with(pass.dot);
     }
     let from = p - usize::from(pass.dot);
     let Some((good, bad)) = engine.sums(&w.signs[from..from + usize::from(pass.len)]) else {
@@ -144,12 +153,15 @@ fn close_position<E: Engine>(
     params: &LevelParams,
     pass: Pass,
     position: OpenPosition,
+    all_given_up: bool,
 ) -> OpenPosition
     requires ranges { IsPass pass }
     requires pass { (E.meaning engine.now).pass ≡ pass }
     requires level { IsLevel params.now }
     requires signs { SignsAtMost (E.meaning engine.now).signs dictionary.now }
     requires placed { IsPlaced dictionary.now position }
+    requires given_up { all_given_up ≡ true →
+        IsGivenUp params.now (pass) (E.meaning engine.now).counts dictionary.now position }
     requires room { HasRoom (E.meaning engine.now).counts 0 }
     ensures { result ≡ position_after params.now (pass) (E.meaning engine.now).counts dictionary.now position }
 {
@@ -159,17 +171,19 @@ fn close_position<E: Engine>(
     let w = dictionary.word(position.word as usize);
     let p = usize::from(position.at);
     OpenPosition {
-        closed: close_at(engine, params, pass, &w, p, position.closed),
+        closed: close_at(engine, params, pass, &w, p, position.closed, all_given_up),
         ..position
     }
 }
 
-/// Closes the dots of the open positions after the choices of a pass. It takes no memory.
+/// Closes the dots of the open positions after the choices of a pass. Where all candidates were given up, no window is looked up.
+/// It takes no memory.
 pub fn close_dots<E: Engine>(
     engine: &E,
     dictionary: &Dictionary,
     params: &LevelParams,
     pass: Pass,
+    all_given_up: bool,
     open_positions: &mut [OpenPosition],
 )
     requires ranges { IsPass pass }
@@ -177,11 +191,13 @@ pub fn close_dots<E: Engine>(
     requires level { IsLevel params.now }
     requires signs { SignsAtMost (E.meaning engine.now).signs dictionary.now }
     requires placed { All (IsPlaced dictionary.now) open_positions.old }
+    requires given_up { all_given_up ≡ true →
+        All (IsGivenUp params.now (pass) (E.meaning engine.now).counts dictionary.now) open_positions.old }
     requires room { HasRoom (E.meaning engine.now).counts 0 }
     ensures { open_positions.new
         ≡ map (position_after params.now (pass) (E.meaning engine.now).counts dictionary.now) open_positions.old }
 {
     'positions: for position in open_positions.iter_mut() {
-        *position = close_position(engine, dictionary, params, pass, *position);
+        *position = close_position(engine, dictionary, params, pass, *position, all_given_up);
     }
 }
