@@ -14,7 +14,7 @@ use Rattle.pg_types.specs.declared.parameters.LevelParams.{LevelParams}
 use Rattle.pg_types.specs.Placement.{Families, enter}
 use Rattle.pg_patterns.specs.DottedSigns.{dotted_cmp}
 use Rattle.pg_patterns.specs.Values.{raise}
-use Rattle.pg_types.specs.Counts.{Counts, above, is_counted}
+use Rattle.pg_types.specs.Counts.{Counts, IsNextAbove, above, is_counted}
 use Rattle.pg_select.specs.Meanings.{Meaning}
 use Rattle.pg_select.specs.declared.pass.Pass.{Pass}
 use Rattle.pg_select.specs.CountedPositions.{Candidate}
@@ -46,6 +46,16 @@ counted_above u (x ∷ xs) e rest is =
       | true ↦ λ same. let first : x ≡ e = cc in found_first e x xs first
       | false ↦ λ same. found_later (eq_by_cmp cmp e.0 x.0) x.1 (find cmp e.0 xs) (counted_above u xs e rest same)
     ] is
+
+-- the candidates that are left where one is found ahead, with these sums, or none
+abbrev pub pending : Counts → List ℕ → Option (ℕ × ℕ) → Counts
+pending counts ahead None = []
+pending counts ahead (Some sums) = (ahead, sums) ∷ above ahead counts
+
+-- they are those above the one before
+pub pending_next : (counts : Counts) (at ahead : List ℕ) (found : Option (ℕ × ℕ)) → IsNextAbove counts at ahead found → above at counts ≡ pending counts ahead found
+pending_next counts at ahead None is = is.0
+pending_next counts at ahead (Some sums) is = is
 
 -- no counted window is empty, so all are above the empty one
 pub above_all : (counts : Counts) → list_all is_filled counts ≡ true → above [] counts ≡ counts

@@ -64,7 +64,8 @@ fn choose_at<E: Engine>(
     Ok(())
 }
 
-/// Chooses each candidate of a pass, makes it hopeless or leaves it, in the order of signs.
+/// Chooses each candidate of a pass, makes it hopeless or leaves it, in the order of signs. The next one is found before the choice
+/// of the one before it is made, so that both can wait for memory side by side.
 pub fn choose_all<E: Engine>(engine: &mut E, params: &LevelParams) -> Result<Choices, AllocError>
     requires level { IsLevel params.now }
     requires room { HasRoom (E.meaning engine.old).counts 0 }
@@ -77,6 +78,7 @@ pub fn choose_all<E: Engine>(engine: &mut E, params: &LevelParams) -> Result<Cho
     ensures signs { (E.meaning engine.new).signs ≡ (E.meaning engine.old).signs }
 {
     let mut at = Cursor::start();
+    let mut ahead = Cursor::start();
     let mut choices = Choices {
         candidates: 0,
         chosen: 0,
@@ -84,7 +86,10 @@ pub fn choose_all<E: Engine>(engine: &mut E, params: &LevelParams) -> Result<Cho
         good: 0,
         bad: 0,
     };
-    'candidates: while let Some((good, bad)) = engine.next_candidate(&mut at) {
+    let mut found = engine.next_candidate(&mut ahead);
+    'candidates: while let Some((good, bad)) = found {
+        at.set(ahead.signs());
+        found = engine.next_candidate(&mut ahead);
         choose_at(engine, params, &at, good, bad, &mut choices)?;
     }
     Ok(choices)
