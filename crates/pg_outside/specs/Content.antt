@@ -8,16 +8,20 @@ use Rattle.std.specs.FinMap as map
 abbrev pub FileMap : Type 0
 FileMap = map.FinMap (slice_cmp nat_cmp) (List ℕ)
 
--- what files show at a moment: what they hold, told or not, and the counts of the faults of reading and writing a name
+-- what files show at a moment: what they hold, told or not, the counts of the faults of reading and writing a name, and
+-- how many calls there were; this stands still at the last value of u64
 pub record FilesShown : Type 0 where
   pub held : Option FileMap
   pub read_faults : List ℕ → ℕ
   pub write_faults : List ℕ → ℕ
+  pub calls : ℕ
 
--- what a sink shows at a moment: what was put, told or not, and the count of its faults
+-- what a sink shows at a moment: what was put, told or not, the count of its faults, and how many puts there were, which
+-- stands still at the last value of u64
 pub record SinkShown : Type 0 where
   pub text : Option (List ℕ)
   pub faults : ℕ
+  pub puts : ℕ
 
 -- the file of this name, if there is one
 abbrev pub file_at : FileMap → List ℕ → Option (List ℕ)

@@ -5,3 +5,7 @@ use Rattle.pg_outside.specs.declared.host_files.HostFiles.{HostFiles}
 -- the faults, which are those of every name
 abbrev pub file_faults : {R File Dir : Type 0} → HostFiles R File Dir → ℕ
 file_faults files = files.failed
+
+-- how many reads and writes there were
+abbrev pub file_calls : {R File Dir : Type 0} → HostFiles R File Dir → ℕ
+file_calls files = files.calls

@@ -9,3 +9,7 @@ writer_of sink = sink.writer
 -- the faults
 abbrev pub writer_faults : {W : Type 0} → HostSink W → ℕ
 writer_faults sink = sink.failed
+
+-- how many puts there were
+abbrev pub writer_puts : {W : Type 0} → HostSink W → ℕ
+writer_puts sink = sink.puts

@@ -36,6 +36,10 @@ LacksFile quiet name = file_at (quiet_files_of quiet) name ≡ None
 abbrev pub StaysTelling : QuietFiles → QuietFiles → Type 0
 StaysTelling old new = is_telling new ≡ is_telling old
 
+-- how many reads and writes there were
+abbrev pub quiet_calls_of : QuietFiles → ℕ
+quiet_calls_of quiet = quiet.calls
+
 -- what it shows: its counts of faults are 0
 abbrev pub quiet_shown : QuietFiles → FilesShown
-quiet_shown quiet = record { held = told_files quiet; read_faults = λ _. 0; write_faults = λ _. 0 }
+quiet_shown quiet = record { held = told_files quiet; read_faults = λ _. 0; write_faults = λ _. 0; calls = quiet_calls_of quiet }

@@ -21,6 +21,10 @@ abbrev pub EndsPast : QuietSink → QuietSink → List ℕ → Type 0
 EndsPast old new bytes = IfSome (told_text old) (λ text.
     quiet_sink_room old < length text + length bytes → told_text new ≡ None)
 
+-- how many puts there were
+abbrev pub quiet_puts_of : QuietSink → ℕ
+quiet_puts_of sink = sink.puts
+
 -- what it shows: its count of faults is 0
 abbrev pub quiet_sink_shown : QuietSink → SinkShown
-quiet_sink_shown sink = record { text = told_text sink; faults = 0 }
+quiet_sink_shown sink = record { text = told_text sink; faults = 0; puts = quiet_puts_of sink }

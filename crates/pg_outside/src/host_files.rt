@@ -45,33 +45,38 @@ pub struct HostFiles<R: rt::Files + Drop> {
     /// The regular files that were read.
     read_nodes: Vec<FileNode>,
     failed: u64,
+    calls: u64,
 }
 
 impl<R: rt::Files + Drop> HostFiles<R> {
-    ghost use Rattle.pg_outside.specs.HostFiles.{file_faults};
+    ghost use Rattle.pg_outside.specs.HostFiles.{file_faults, file_calls};
 
     /// The files of this system, with no read and no fault so far.
     pub fn new(alloc: Global, system: R) -> HostFiles<R>
-        ensures { file_faults result ≡ 0 }
+        ensures faults { file_faults result ≡ 0 }
+        ensures calls { file_calls result ≡ 0 }
     {
         HostFiles {
             alloc,
             system,
             read_nodes: Vec::new(alloc),
             failed: 0,
+            calls: 0,
         }
     }
 
     fn count_fault(&mut self)
         ensures later { file_faults self.old ≤ file_faults self.new }
         ensures rose { file_faults self.new ≡ next_count (file_faults self.old) }
+        ensures calls { file_calls self.new ≡ file_calls self.old }
     {
         self.failed = self.failed.saturating_add(1);
     }
 
     /// Keeps which regular file was read.
     fn keep_node(&mut self, metadata: &Metadata) -> Result<(), AllocError>
-        ensures { file_faults self.new ≡ file_faults self.old }
+        ensures faults { file_faults self.new ≡ file_faults self.old }
+        ensures calls { file_calls self.new ≡ file_calls self.old }
     {
         if metadata.is_file() {
             self.read_nodes.push(FileNode::of(metadata))?;
@@ -91,6 +96,7 @@ impl<R: rt::Files + Drop> HostFiles<R> {
         ensures fits { OnOk result (length into.new.items ≤ limit) }
         ensures cut { IsErrOf result ReadError.TooLong → length into.new.items ≡ limit + 1 }
         ensures faults { file_faults self.new ≡ file_faults self.old }
+        ensures calls { file_calls self.new ≡ file_calls self.old }
     {
         let mut file = fs::open(&self.system, name)?;
         let metadata = file.metadata()?;
@@ -151,7 +157,7 @@ impl<R: rt::Files + Drop> HostFiles<R> {
 }
 
 impl<R: rt::Files + Drop> Files for HostFiles<R> {
-    ghost use Rattle.pg_outside.specs.HostFiles.{file_faults};
+    ghost use Rattle.pg_outside.specs.HostFiles.{file_faults, file_calls};
     ghost use Rattle.pg_outside.specs.Content.{KeepsHeld, IsFile, IsFileCut, WasWritten, WasPartWritten};
     ghost use Rattle.pg_outside.specs.Faults.{Rose};
 
@@ -159,6 +165,7 @@ impl<R: rt::Files + Drop> Files for HostFiles<R> {
       held = None;
       read_faults = λ _. file_faults files;
       write_faults = λ _. file_faults files;
+      calls = file_calls files;
     } };
 
     fn read(
@@ -180,6 +187,7 @@ impl<R: rt::Files + Drop> Files for HostFiles<R> {
         ensures file { OnOk result (IsFile None name.now into.new.items) }
         ensures cut_file { IsErrOf result ReadError.TooLong → IsFileCut None name.now limit into.new.items }
         ensures failed { IsErrOf result ReadError.Failed → Rose (file_faults self.old) (file_faults self.new) }
+        ensures calls { file_calls self.new ≡ next_count (file_calls self.old) }
 
         // A read that fails is one fault, and no other read is one.
         ensures one_fault { IsErrOf result ReadError.Failed → file_faults self.new ≡ next_count (file_faults self.old) }
@@ -187,6 +195,7 @@ impl<R: rt::Files + Drop> Files for HostFiles<R> {
         ensures long_faults { IsErrOf result ReadError.TooLong → file_faults self.new ≡ file_faults self.old }
         ensures memory_faults { IsErrOf result ReadError.Memory → file_faults self.new ≡ file_faults self.old }
     {
+        self.calls = self.calls.saturating_add(1);
         let result = self.read_named(name, limit, into);
         if let Err(ReadError::Failed) = result {
             self.count_fault();
@@ -201,11 +210,13 @@ impl<R: rt::Files + Drop> Files for HostFiles<R> {
         ensures reads { List ℕ → file_faults self.old ≤ file_faults self.new }
         ensures writes { List ℕ → file_faults self.old ≤ file_faults self.new }
         ensures failed { OnErr result (Rose (file_faults self.old) (file_faults self.new)) }
+        ensures calls { file_calls self.new ≡ next_count (file_calls self.old) }
 
         // A write that fails is one fault, and no other write is one.
         ensures one_fault { OnErr result (file_faults self.new ≡ next_count (file_faults self.old)) }
         ensures ok_faults { OnOk result (file_faults self.new ≡ file_faults self.old) }
     {
+        self.calls = self.calls.saturating_add(1);
         let result = self.write_named(name, bytes);
         if result.is_err() {
             self.count_fault();

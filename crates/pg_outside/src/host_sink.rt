@@ -15,23 +15,33 @@ use std::io::Write;
 pub struct HostSink<W: Write + Drop> {
     writer: W,
     failed: u64,
+    puts: u64,
 }
 
 impl<W: Write + Drop> HostSink<W> {
-    ghost use Rattle.pg_outside.specs.HostSink.{writer_faults, writer_of};
+    ghost use Rattle.pg_outside.specs.HostSink.{writer_faults, writer_puts, writer_of};
 
     /// A sink over this writer, with no fault so far.
     pub fn new(writer: W) -> HostSink<W>
-        ensures { writer_faults result ≡ 0 }
+        ensures faults { writer_faults result ≡ 0 }
+        ensures puts { writer_puts result ≡ 0 }
     {
-        HostSink { writer, failed: 0 }
+        HostSink {
+            writer,
+            failed: 0,
+            puts: 0,
+        }
     }
 }
 
 impl<W: Write + Drop> Sink for HostSink<W> {
-    ghost use Rattle.pg_outside.specs.HostSink.{writer_faults, writer_of};
+    ghost use Rattle.pg_outside.specs.HostSink.{writer_faults, writer_puts, writer_of};
 
-    ghost shown = { λ sink. record { text = None; faults = writer_faults sink } };
+    ghost shown = { λ sink. record {
+      text = None;
+      faults = writer_faults sink;
+      puts = writer_puts sink;
+    } };
 
     fn put(&mut self, bytes: &[u8]) -> Result<(), Failed>
         // As for all sinks.
@@ -39,6 +49,7 @@ impl<W: Write + Drop> Sink for HostSink<W> {
         ensures part { OnErr result (WasPartPut None None bytes.now) }
         ensures later { writer_faults self.old ≤ writer_faults self.new }
         ensures failed { OnErr result (Rose (writer_faults self.old) (writer_faults self.new)) }
+        ensures puts { writer_puts self.new ≡ next_count (writer_puts self.old) }
 
         // A put that fails is one fault, and no other put is one.
         ensures one_fault { OnErr result (writer_faults self.new ≡ next_count (writer_faults self.old)) }
@@ -50,6 +61,7 @@ impl<W: Write + Drop> Sink for HostSink<W> {
         ensures part_written { OnErr result
             (AppendsPart (W.contents (writer_of self.old)) (W.contents (writer_of self.new)) bytes.now) }
     {
+        self.puts = self.puts.saturating_add(1);
         let result = write_bytes(&mut self.writer, bytes);
         if result.is_err() {
             self.failed = self.failed.saturating_add(1);

@@ -132,6 +132,7 @@ impl Files for MemoryFiles {
       held = Some (files_of memory);
       read_faults = reads_failed_of memory;
       write_faults = writes_failed_of memory;
+      calls = calls_of memory;
     } };
 
     fn read(

@@ -83,7 +83,11 @@ impl MemorySink {
 impl Sink for MemorySink {
     ghost use Rattle.pg_outside.specs.MemorySink.{sink_bytes, sink_room, sink_faults, puts_of, listed_puts, next_listed_put, IsWithin, IsPast, SameBytes, PutsFront};
 
-    ghost shown = { λ sink. record { text = Some (sink_bytes sink); faults = sink_faults sink } };
+    ghost shown = { λ sink. record {
+      text = Some (sink_bytes sink);
+      faults = sink_faults sink;
+      puts = puts_of sink;
+    } };
 
     fn put(&mut self, bytes: &[u8]) -> Result<(), Failed>
         // As for all sinks.

@@ -1,7 +1,7 @@
 //! The two traits through which a command reads, writes and prints.
 ghost use Rattle.std.specs.Prelude.{◌≡◌, ℕ, ◌+◌, ◌-◌, ◌^◌, ◌<◌, ◌≤◌, List, [], length, Option, OnOk, OnErr, IfSome, IsErrOf};
 ghost use Rattle.pg_outside.specs.Content.{FilesShown, SinkShown, KeepsHeld, IsFile, IsFileCut, WasWritten, WasPartWritten, WasPut, WasPartPut};
-ghost use Rattle.pg_outside.specs.Faults.{Rose, RoseFor, NoneFell};
+ghost use Rattle.pg_outside.specs.Faults.{next_count, Rose, RoseFor, NoneFell};
 
 use std::alloc::{AllocError, Global};
 use std::io;
@@ -56,7 +56,7 @@ impl From<io::Error> for Failed {
 ///
 /// An object shows, as `shown`, what it holds, where it tells this, and the counts of the faults of
 /// reading and of writing each name. No count ever falls. A count rose where it is greater than
-/// before, or has reached 2^64 - 1.
+/// before, or has reached 2^64 - 1. It also shows how many calls there were.
 pub trait Files {
     ghost shown: { Self → FilesShown };
 
@@ -82,6 +82,9 @@ pub trait Files {
         ensures reads { NoneFell (shown self.old).read_faults (shown self.new).read_faults }
         ensures writes { NoneFell (shown self.old).write_faults (shown self.new).write_faults }
 
+        // The call is counted.
+        ensures calls { (shown self.new).calls ≡ next_count (shown self.old).calls }
+
         // The lengths hold whether the files are told or not.
         ensures fits { OnOk result (length into.new.items ≤ limit) }
         ensures cut { IsErrOf result ReadError.TooLong → length into.new.items ≡ limit + 1 }
@@ -103,7 +106,8 @@ pub trait Files {
         ensures part { OnErr result (WasPartWritten (shown self.old).held (shown self.new).held name.now bytes.now) }
         ensures reads { NoneFell (shown self.old).read_faults (shown self.new).read_faults }
         ensures writes { NoneFell (shown self.old).write_faults (shown self.new).write_faults }
-        ensures failed { OnErr result (RoseFor (shown self.old).write_faults (shown self.new).write_faults name.now) };
+        ensures failed { OnErr result (RoseFor (shown self.old).write_faults (shown self.new).write_faults name.now) }
+        ensures calls { (shown self.new).calls ≡ next_count (shown self.old).calls };
 }
 
 /// Where lines are printed.
@@ -121,5 +125,6 @@ pub trait Sink {
         ensures whole { OnOk result (WasPut (shown self.old).text (shown self.new).text bytes.now) }
         ensures part { OnErr result (WasPartPut (shown self.old).text (shown self.new).text bytes.now) }
         ensures later { (shown self.old).faults ≤ (shown self.new).faults }
-        ensures failed { OnErr result (Rose (shown self.old).faults (shown self.new).faults) };
+        ensures failed { OnErr result (Rose (shown self.old).faults (shown self.new).faults) }
+        ensures puts { (shown self.new).puts ≡ next_count (shown self.old).puts };
 }

@@ -3,7 +3,7 @@ ghost use Rattle.std.specs.Prelude.{◌≡◌, ◌^◌, ◌-◌, ◌+◌, ◌<�
 ghost use Rattle.std.specs.Option.{option_copied};
 ghost use Rattle.std.specs.FinMap as fin;
 ghost use Rattle.pg_outside.specs.Content.{file_at, KeepsHeld, IsFile, IsFileCut, WasWritten, WasPartWritten};
-ghost use Rattle.pg_outside.specs.Faults.{RoseFor, NoneFell, SameCounts};
+ghost use Rattle.pg_outside.specs.Faults.{next_count, RoseFor, NoneFell, SameCounts};
 
 use super::outside::{Failed, Files, ReadError};
 use super::stored::{StoredFile, bytes_of, read_bytes, store};
@@ -18,6 +18,7 @@ pub struct QuietFiles {
     alloc: Global,
     files: Vec<StoredFile>,
     is_told: bool,
+    calls: u64,
 }
 
 impl QuietFiles {
@@ -32,6 +33,7 @@ impl QuietFiles {
             alloc,
             files: Vec::new(alloc),
             is_told: true,
+            calls: 0,
         }
     }
 
@@ -73,7 +75,7 @@ impl QuietFiles {
 }
 
 impl Files for QuietFiles {
-    ghost use Rattle.pg_outside.specs.QuietFiles.{quiet_files_of, quiet_room_of, is_telling, told_files, quiet_shown, StoresFile, LacksFile, StaysTelling};
+    ghost use Rattle.pg_outside.specs.QuietFiles.{quiet_files_of, quiet_room_of, quiet_calls_of, is_telling, told_files, quiet_shown, StoresFile, LacksFile, StaysTelling};
 
     ghost shown = { quiet_shown };
 
@@ -91,6 +93,7 @@ impl Files for QuietFiles {
         ensures held { KeepsHeld (told_files self.old) (told_files self.new) }
         ensures reads { NoneFell (quiet_shown self.old).read_faults (quiet_shown self.new).read_faults }
         ensures writes { NoneFell (quiet_shown self.old).write_faults (quiet_shown self.new).write_faults }
+        ensures calls { quiet_calls_of self.new ≡ next_count (quiet_calls_of self.old) }
         ensures fits { OnOk result (length into.new.items ≤ limit) }
         ensures cut { IsErrOf result ReadError.TooLong → length into.new.items ≡ limit + 1 }
         ensures file { OnOk result (IsFile (told_files self.new) name.now into.new.items) }
@@ -110,6 +113,7 @@ impl Files for QuietFiles {
         ensures files { quiet_files_of self.new ≡ quiet_files_of self.old }
         ensures rooms { SameCounts (quiet_room_of self.old) (quiet_room_of self.new) }
     {
+        self.calls = self.calls.saturating_add(1);
         match bytes_of(&self.files, name) {
             Some(bytes) => read_bytes(bytes, limit, into),
             None => {
@@ -127,6 +131,7 @@ impl Files for QuietFiles {
         ensures writes { NoneFell (quiet_shown self.old).write_faults (quiet_shown self.new).write_faults }
         ensures failed { OnErr result
             (RoseFor (quiet_shown self.old).write_faults (quiet_shown self.new).write_faults name.now) }
+        ensures calls { quiet_calls_of self.new ≡ next_count (quiet_calls_of self.old) }
 
         // Every write succeeds, and one to a name that is there stays told within its room.
         ensures succeeds { IsOk result }
@@ -134,6 +139,7 @@ impl Files for QuietFiles {
             → StaysTelling self.old self.new }
         ensures rooms { NoneFell (quiet_room_of self.old) (quiet_room_of self.new) }
     {
+        self.calls = self.calls.saturating_add(1);
         if store(self.alloc, &mut self.files, name, bytes, 0).is_err() {
             self.is_told = false;
         }

@@ -2,7 +2,7 @@
 ghost use Rattle.std.specs.Prelude.{◌≡◌, ◌≤◌, [], Some, None, OnOk, OnErr, IfOk, IsOk, Option};
 ghost use Rattle.std.specs.Option.{option_copied};
 ghost use Rattle.pg_outside.specs.Content.{WasPut, WasPartPut};
-ghost use Rattle.pg_outside.specs.Faults.{Rose};
+ghost use Rattle.pg_outside.specs.Faults.{Rose, next_count};
 
 use super::bounded_bytes::BoundedBytes;
 use super::outside::{Failed, Sink};
@@ -14,6 +14,7 @@ use std::alloc::{AllocError, Global};
 pub struct QuietSink {
     held: BoundedBytes,
     is_told: bool,
+    puts: u64,
 }
 
 impl QuietSink {
@@ -30,6 +31,7 @@ impl QuietSink {
         Ok(QuietSink {
             held: BoundedBytes::new(alloc, room)?,
             is_told: true,
+            puts: 0,
         })
     }
 
@@ -45,7 +47,7 @@ impl QuietSink {
 }
 
 impl Sink for QuietSink {
-    ghost use Rattle.pg_outside.specs.QuietSink.{told_text, quiet_sink_room, quiet_sink_shown, PutsWithin, EndsPast};
+    ghost use Rattle.pg_outside.specs.QuietSink.{told_text, quiet_sink_room, quiet_puts_of, quiet_sink_shown, PutsWithin, EndsPast};
 
     ghost shown = { quiet_sink_shown };
 
@@ -55,6 +57,7 @@ impl Sink for QuietSink {
         ensures part { OnErr result (WasPartPut (told_text self.old) (told_text self.new) bytes.now) }
         ensures later { (quiet_sink_shown self.old).faults ≤ (quiet_sink_shown self.new).faults }
         ensures failed { OnErr result (Rose (quiet_sink_shown self.old).faults (quiet_sink_shown self.new).faults) }
+        ensures puts { quiet_puts_of self.new ≡ next_count (quiet_puts_of self.old) }
 
         // Every put succeeds. Within the room the sink stays telling, and past it it tells nothing
         // from then on.
@@ -64,6 +67,7 @@ impl Sink for QuietSink {
         ensures untold { told_text self.old ≡ None → told_text self.new ≡ None }
         ensures room { quiet_sink_room self.new ≡ quiet_sink_room self.old }
     {
+        self.puts = self.puts.saturating_add(1);
         if self.is_told && self.held.has_room(bytes) {
             self.held.append(bytes);
         } else {

@@ -4,6 +4,9 @@ pub mod Selections
 pub mod Faults
 pub mod Writings
 pub mod Orders
+pub mod CountedCalls
+pub mod CountedPuts
+pub mod CountedEnds
 pub mod UnderTable
 pub mod InputOrder
 pub mod PackedOrder

@@ -18,6 +18,8 @@ pub mod Moments
 pub mod Faults
 pub mod Answers
 pub mod Stops
+pub mod Counted
+pub mod WholeCalls
 pub mod Sources
 pub mod PruneInputs
 pub mod SweepInputs

@@ -26,5 +26,5 @@ pub mod writes;
 pub use answers::{Status, exit_code};
 pub use commands::{Command, Names, SweepWords};
 pub use sample::sample_text;
-pub use top::run;
+pub use top::{run, run_watched};
 pub use words::command;

@@ -18,6 +18,7 @@ use pg_driver::Run;
 use pg_packed::PackedEngine;
 use pg_select::Engine;
 use pg_texts::{cells_text, pattmp_text, report_text};
+use pg_watch::{Watch, Watched};
 use std::alloc::{AllocError, Global};
 
 /// What a command writes and prints.
@@ -139,18 +140,21 @@ fn make_files<'a, E: Engine>(
     Ok(Outputs { files, lines })
 }
 
-/// Does the run of the inputs over the packed engine, and builds all that `generate` writes and prints.
-pub fn make_outputs<'a>(
+/// Does the run of the inputs over the packed engine, and builds all that `generate` writes and prints. The observer is
+/// told of the passes.
+pub fn make_outputs<'a, W: Watch>(
     alloc: Global,
     names: &Names<'a>,
     inputs: &Inputs,
+    watch: &mut W,
 ) -> Result<Outputs<'a>, AllocError>
     requires { HasSigns inputs.now }
     ensures files { IfOk result (λ made.
         writing_of made.files.items ≡ selected_files (texts_of names.now) inputs.now) }
     ensures lines { IfOk result (λ made. made.lines.items ≡ selected_lines inputs.now) }
 {
-    let mut engine = PackedEngine::new(alloc, inputs.table.letters() + 1, &inputs.start)?;
+    let engine = PackedEngine::new(alloc, inputs.table.letters() + 1, &inputs.start)?;
+    let mut engine = Watched::new(engine, watch);
     let run = select(alloc, &mut engine, inputs)?;
     make_files(alloc, names, inputs, &engine, &run)
 }

@@ -1,6 +1,7 @@
 //! Lines that are put into a sink.
 ghost use Rattle.std.specs.Prelude.{◌≡◌, ◌≤◌, ◌++◌, ◌∷◌, [], OnOk, OnErr};
-ghost use Rattle.pg_outside.specs.Faults.{Rose};
+ghost use Rattle.pg_outside.specs.Faults.{Rose, next_count};
+ghost use Rattle.pg_top.specs.Counted.{PutsFault, PutsCounted};
 ghost use Rattle.pg_top.specs.Moments.{Puts, PutsPart, PutOrRose};
 ghost use Rattle.pg_top.specs.Stops.{PutsAnswer, PutsStop};
 
@@ -13,6 +14,7 @@ use std::alloc::{AllocError, Global};
 /// Puts the line of an answer as the last step of a call, and gives the answer: this one, or a fault.
 pub fn answer<O: Sink>(out: &mut O, line: &[u8], status: Status) -> Status
     ensures put { PutsAnswer line.now status result (O.shown out.old) (O.shown out.new) }
+    ensures counted { (O.shown out.new).puts ≡ next_count (O.shown out.old).puts }
 {
     match out.put(line) {
         Ok(()) => status,
@@ -26,6 +28,7 @@ fn put_parts<O: Sink>(out: &mut O, front: &[u8], name: &str) -> Result<(), Faile
     ensures part { OnErr result (PutsPart (O.shown out.old) (O.shown out.new) (front.now ++ name.now ++ 10 ∷ [])) }
     ensures later { (O.shown out.old).faults ≤ (O.shown out.new).faults }
     ensures failed { OnErr result (Rose (O.shown out.old).faults (O.shown out.new).faults) }
+    ensures counted { PutsFault (O.shown out.old) (O.shown out.new) }
 {
     out.put(front)?;
     out.put(name.as_bytes())?;
@@ -37,6 +40,7 @@ fn put_parts<O: Sink>(out: &mut O, front: &[u8], name: &str) -> Result<(), Faile
 pub fn put_fault<O: Sink>(out: &mut O, front: &[u8], name: &str) -> Status
     ensures status { result ≡ Status.Fault }
     ensures line { PutOrRose (O.shown out.old) (O.shown out.new) (front.now ++ name.now ++ 10 ∷ []) }
+    ensures counted { PutsFault (O.shown out.old) (O.shown out.new) }
 {
     let _ = put_parts(out, front, name);
     Status::Fault
@@ -45,6 +49,7 @@ pub fn put_fault<O: Sink>(out: &mut O, front: &[u8], name: &str) -> Status
 /// Puts the line that says why a command stopped, if there is one, and gives its answer.
 pub fn put_stop<O: Sink>(alloc: Global, out: &mut O, stop: &Stop<'_>) -> Status
     ensures put { PutsStop stop.now result (O.shown out.old) (O.shown out.new) }
+    ensures counted { PutsCounted result (O.shown out.old) (O.shown out.new) }
 {
     match stop {
         Stop::Refused(input, refusal) => match refused_line(alloc, *input, refusal) {

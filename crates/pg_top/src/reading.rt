@@ -1,10 +1,10 @@
 //! The readers of the input files.
-ghost use Rattle.std.specs.Prelude.{◌≡◌, ◌+◌, ◌-◌, ◌<◌, ◌^◌, [], take, IfOk, IfErr, IfSome, OnOk, Some, Ok, Err};
+ghost use Rattle.std.specs.Prelude.{◌≡◌, ◌+◌, ◌-◌, ◌<◌, ◌^◌, [], length, take, IfOk, IfErr, IfSome, OnOk, Some, Ok, Err};
 ghost use Rattle.std.specs.Option.{option_map};
 ghost use Rattle.pg_types.specs.Parameters.{parameters};
 ghost use Rattle.pg_types.specs.Reading.{Gives};
 ghost use Rattle.pg_outside.specs.Content.{KeepsHeld, file_at};
-ghost use Rattle.pg_outside.specs.Faults.{NoneFell};
+ghost use Rattle.pg_outside.specs.Faults.{NoneFell, next_count};
 ghost use Rattle.pg_translate.specs.Alphabets.{letters_of};
 ghost use Rattle.pg_translate.specs.Tables.{table as table_of_file};
 ghost use Rattle.pg_dict.specs.Word.{SignsAtMost};
@@ -12,6 +12,7 @@ ghost use Rattle.pg_dict.specs.Words.{words};
 ghost use Rattle.pg_patterns.specs.Starts.{start};
 ghost use Rattle.pg_patterns.specs.Values.{SignsUpTo};
 ghost use Rattle.pg_top.specs.Commands.{texts_of};
+ghost use Rattle.pg_top.specs.Counted.{MakesCalls, StopsCounted};
 ghost use Rattle.pg_top.specs.Readings.{read_as, input_file};
 ghost use Rattle.pg_top.specs.Selecting.{inputs_of, HasInputs};
 ghost use Rattle.pg_top.specs.Selection.{HasSigns};
@@ -50,6 +51,7 @@ pub fn read_front<'a, F: Files>(
     ensures held { KeepsHeld (F.shown files.old).held (F.shown files.new).held }
     ensures reads { NoneFell (F.shown files.old).read_faults (F.shown files.new).read_faults }
     ensures writes { NoneFell (F.shown files.old).write_faults (F.shown files.new).write_faults }
+    ensures calls { (F.shown files.new).calls ≡ next_count (F.shown files.old).calls }
     ensures front { IfOk result (λ bytes.
         IfSome (F.shown files.new).held (λ files.
         option_map (take (limit + 1)) (file_at files name.now) ≡ Some bytes.items)) }
@@ -83,6 +85,7 @@ pub fn read_table<'a, F: Files>(
     ensures held { KeepsHeld (F.shown files.old).held (F.shown files.new).held }
     ensures reads { NoneFell (F.shown files.old).read_faults (F.shown files.new).read_faults }
     ensures writes { NoneFell (F.shown files.old).write_faults (F.shown files.new).write_faults }
+    ensures calls { (F.shown files.new).calls ≡ next_count (F.shown files.old).calls }
     ensures ok { IfOk result (λ table.
         IfSome (F.shown files.new).held (λ files.
         read_as table_of_file (file_at files) name.now ≡ Some (Ok table))) }
@@ -106,6 +109,7 @@ pub fn read_parameters<'a, F: Files>(
     ensures held { KeepsHeld (F.shown files.old).held (F.shown files.new).held }
     ensures reads { NoneFell (F.shown files.old).read_faults (F.shown files.new).read_faults }
     ensures writes { NoneFell (F.shown files.old).write_faults (F.shown files.new).write_faults }
+    ensures calls { (F.shown files.new).calls ≡ next_count (F.shown files.old).calls }
     ensures ok { IfOk result (λ params.
         IfSome (F.shown files.new).held (λ files. read_as parameters (file_at files) name.now ≡ Some (Ok params))) }
     ensures stopped { IfErr result
@@ -128,6 +132,7 @@ pub fn read_start<'a, F: Files>(
     ensures held { KeepsHeld (F.shown files.old).held (F.shown files.new).held }
     ensures reads { NoneFell (F.shown files.old).read_faults (F.shown files.new).read_faults }
     ensures writes { NoneFell (F.shown files.old).write_faults (F.shown files.new).write_faults }
+    ensures calls { (F.shown files.new).calls ≡ next_count (F.shown files.old).calls }
     ensures ok { IfOk result (λ patterns.
         IfSome (F.shown files.new).held (λ files.
         read_as (start table.now) (file_at files) name.now ≡ Some (Ok patterns))) }
@@ -152,6 +157,7 @@ pub fn read_dictionary<'a, F: Files>(
     ensures held { KeepsHeld (F.shown files.old).held (F.shown files.new).held }
     ensures reads { NoneFell (F.shown files.old).read_faults (F.shown files.new).read_faults }
     ensures writes { NoneFell (F.shown files.old).write_faults (F.shown files.new).write_faults }
+    ensures calls { (F.shown files.new).calls ≡ next_count (F.shown files.old).calls }
     ensures ok { IfOk result (λ dictionary.
         IfSome (F.shown files.new).held (λ files.
         read_as (words table.now) (file_at files) name.now ≡ Some (Ok dictionary))) }
@@ -181,6 +187,10 @@ pub fn read_inputs<'a, F: Files>(
     ensures signs { IfOk result HasSigns }
     ensures stopped { IfErr result
         (StopsReading (inputs_of (texts_of names.now)) (F.shown files.old) (F.shown files.new)) }
+    ensures counted { IfOk result (λ _.
+        MakesCalls (F.shown files.old) (F.shown files.new) (length (inputs_of (texts_of names.now)))) }
+    ensures stopped_counted { IfErr result
+        (StopsCounted (inputs_of (texts_of names.now)) (F.shown files.old) (F.shown files.new)) }
 {
     let table = read_table(alloc, names.translate, files)?;
     let params = read_parameters(alloc, Input::Parameters, names.params, files)?;

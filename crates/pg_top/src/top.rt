@@ -1,10 +1,11 @@
 //! The one call of the program.
-ghost use Rattle.std.specs.Prelude.{◌≡◌, ◌⊎◌, IfOk, IfErr, IfSome, None, Some, false};
+ghost use Rattle.std.specs.Prelude.{◌≡◌, ◌⊎◌, IfOk, IfErr, IfSome, None, Some, false, length};
 ghost use Rattle.pg_outside.specs.Content.{KeepsHeld, file_at};
 ghost use Rattle.pg_outside.specs.Faults.{NoneFell};
 ghost use Rattle.pg_top.specs.Answers.{MayAnswer, IsAnswered, IsSampled, IsUntouched, IsComplete, IsCall};
 ghost use Rattle.pg_top.specs.Calls.{has_files, outcome_of, reads_of, writes_of};
 ghost use Rattle.pg_top.specs.Commands.{texts_of, sweep_of, asked_by, KeepsSweepLimits, KeepsLimits, asked};
+ghost use Rattle.pg_top.specs.Counted.{MakesCalls, StopsCounted, FinishCounted, IsCounted, IsCountedCall};
 ghost use Rattle.pg_top.specs.Faults.{SomeRose, IsFault};
 ghost use Rattle.pg_top.specs.Moments.{Puts};
 ghost use Rattle.pg_top.specs.Outcomes.{Ends};
@@ -12,6 +13,7 @@ ghost use Rattle.pg_top.specs.PrintedLines.{usage_line};
 ghost use Rattle.pg_top.specs.PruneInputs.{prune_of};
 ghost use Rattle.pg_top.specs.Requests.{ToGenerate, ToAudit, ToPack, ToTotals, ToPrune, ToSweep};
 ghost use Rattle.pg_top.specs.Stops.{StopsReading, Finishes};
+ghost use Rattle.pg_top.specs.WholeCalls.{IsRun};
 ghost use Rattle.pg_top.specs.Writings.{written_names, writing_of};
 
 use crate::answers::Status;
@@ -30,13 +32,15 @@ use crate::totals::total_files;
 use crate::words::command;
 use crate::writes::{output_at, write_all};
 use pg_outside::{Files, Sink};
+use pg_watch::{Quiet, Watch};
 use std::alloc::Global;
 
 /// Reads what `generate` reads, and builds all that it writes and prints.
-fn prepare<'a, F: Files>(
+fn prepare<'a, F: Files, W: Watch>(
     alloc: Global,
     names: &Names<'a>,
     files: &mut F,
+    watch: &mut W,
 ) -> Result<Outputs<'a>, Stop<'a>>
     ensures held { KeepsHeld (F.shown files.old).held (F.shown files.new).held }
     ensures reads { NoneFell (F.shown files.old).read_faults (F.shown files.new).read_faults }
@@ -48,15 +52,21 @@ fn prepare<'a, F: Files>(
         written_names (writing_of made.files.items) ≡ writes_of (ToGenerate (texts_of names.now))) }
     ensures stopped { IfErr result
         (StopsReading (reads_of (ToGenerate (texts_of names.now))) (F.shown files.old) (F.shown files.new)) }
+    ensures counted { IfOk result (λ _. MakesCalls (F.shown files.old) (F.shown files.new)
+        (length (reads_of (ToGenerate (texts_of names.now))))) }
+    ensures stopped_counted { IfErr result
+        (StopsCounted (reads_of (ToGenerate (texts_of names.now))) (F.shown files.old) (F.shown files.new)) }
 {
     let inputs = read_inputs(alloc, names, files)?;
-    let outputs = make_outputs(alloc, names, &inputs)?;
+    let outputs = make_outputs(alloc, names, &inputs, watch)?;
     Ok(outputs)
 }
 
 /// Writes the files and then puts the lines.
 fn finish<F: Files, O: Sink>(files: &mut F, out: &mut O, outputs: &Outputs<'_>) -> Status
-    ensures { Finishes (writing_of outputs.now.files.items) outputs.now.lines.items result
+    ensures finishes { Finishes (writing_of outputs.now.files.items) outputs.now.lines.items result
+        (F.shown files.old, O.shown out.old) (F.shown files.new, O.shown out.new) }
+    ensures counted { FinishCounted (length outputs.now.files.items) result
         (F.shown files.old, O.shown out.old) (F.shown files.new, O.shown out.new) }
 {
     match write_all(files, &outputs.files) {
@@ -66,16 +76,19 @@ fn finish<F: Files, O: Sink>(files: &mut F, out: &mut O, outputs: &Outputs<'_>) 
 }
 
 /// Selects patterns, writes them, and prints how good they are.
-fn generate<F: Files, O: Sink>(
+fn generate<F: Files, O: Sink, W: Watch>(
     alloc: Global,
     names: &Names<'_>,
     files: &mut F,
     out: &mut O,
+    watch: &mut W,
 ) -> Status
-    ensures { IsCall (Some (ToGenerate (texts_of names.now))) result
+    ensures call { IsCall (Some (ToGenerate (texts_of names.now))) result
+        (F.shown files.old, O.shown out.old) (F.shown files.new, O.shown out.new) }
+    ensures counted { IsCounted (ToGenerate (texts_of names.now)) result
         (F.shown files.old, O.shown out.old) (F.shown files.new, O.shown out.new) }
 {
-    match prepare(alloc, names, files) {
+    match prepare(alloc, names, files, watch) {
         Ok(outputs) => finish(files, out, &outputs),
         Err(stop) => put_stop(alloc, out, &stop),
     }
@@ -162,21 +175,24 @@ fn sweep<F: Files, O: Sink>(
 }
 
 /// Does what a command asks for.
-fn perform<F: Files, O: Sink>(
+fn perform<F: Files, O: Sink, W: Watch>(
     alloc: Global,
     command: &Command<'_>,
     files: &mut F,
     out: &mut O,
+    watch: &mut W,
 ) -> Status
     requires { KeepsLimits command.now }
     ensures call { IsCall (Some (asked_by command.now)) result
         (F.shown files.old, O.shown out.old) (F.shown files.new, O.shown out.new) }
     ensures sampled { IsSampled (Some (asked_by command.now)) result
         (F.shown files.old, O.shown out.old) (F.shown files.new, O.shown out.new) }
+    ensures counted { IsCountedCall (Some (asked_by command.now)) result
+        (F.shown files.old, O.shown out.old) (F.shown files.new, O.shown out.new) }
     ensures same { has_files (Some (asked_by command.now)) ≡ false → files.new ≡ files.old }
 {
     match command {
-        Command::Generate(names) => generate(alloc, names, files, out),
+        Command::Generate(names) => generate(alloc, names, files, out, watch),
         Command::Audit(names) => audit(alloc, names, files, out),
         Command::Sample(seed, count) => sample(alloc, *seed, *count, out),
         Command::Pack {
@@ -210,16 +226,24 @@ fn perform<F: Files, O: Sink>(
 }
 
 /// Does what the words ask for.
-fn call<F: Files, O: Sink>(alloc: Global, words: &[String], files: &mut F, out: &mut O) -> Status
+fn call<F: Files, O: Sink, W: Watch>(
+    alloc: Global,
+    words: &[String],
+    files: &mut F,
+    out: &mut O,
+    watch: &mut W,
+) -> Status
     ensures call { IsCall (asked words.now) result
         (F.shown files.old, O.shown out.old) (F.shown files.new, O.shown out.new) }
     ensures sampled { IsSampled (asked words.now) result
+        (F.shown files.old, O.shown out.old) (F.shown files.new, O.shown out.new) }
+    ensures counted { IsCountedCall (asked words.now) result
         (F.shown files.old, O.shown out.old) (F.shown files.new, O.shown out.new) }
     ensures same { has_files (asked words.now) ≡ false → files.new ≡ files.old }
 {
     match command(words) {
         None => answer(out, USAGE, Status::Usage),
-        Some(command) => perform(alloc, &command, files, out),
+        Some(command) => perform(alloc, &command, files, out, watch),
     }
 }
 
@@ -253,23 +277,22 @@ fn call<F: Files, O: Sink>(alloc: Global, words: &[String], files: &mut F, out: 
 /// After all answers but `Done` and `Fault` the files are as they were. Where the words are no command, and for
 /// `sample`, `files` is not called.
 pub fn run<F: Files, O: Sink>(alloc: Global, words: &[String], files: &mut F, out: &mut O) -> Status
-    ensures answers { MayAnswer (asked words.now) result }
-    ensures usage { result ≡ Status.Usage → Puts (O.shown out.old) (O.shown out.new) usage_line }
-    ensures same { has_files (asked words.now) ≡ false → files.new ≡ files.old }
-    ensures answered { IsAnswered (asked words.now) result
-        (F.shown files.old, O.shown out.old) (F.shown files.new, O.shown out.new) }
-    ensures sampled { IsSampled (asked words.now) result
-        (F.shown files.old, O.shown out.old) (F.shown files.new, O.shown out.new) }
-    ensures memory { result ≡ Status.Memory →
-        IsUntouched (F.shown files.old, O.shown out.old) (F.shown files.new, O.shown out.new) }
-    ensures fault { result ≡ Status.Fault →
-        SomeRose (asked words.now) (F.shown files.old, O.shown out.old) (F.shown files.new, O.shown out.new) }
-    ensures faulted { result ≡ Status.Fault →
-        IsFault (asked words.now) (F.shown files.old, O.shown out.old) (F.shown files.new, O.shown out.new) }
-    ensures complete { SomeRose (asked words.now)
-        (F.shown files.old, O.shown out.old) (F.shown files.new, O.shown out.new)
-        ⊎ IsComplete (asked words.now) result
+    ensures { IsRun (asked words.now) result files.old files.new
         (F.shown files.old, O.shown out.old) (F.shown files.new, O.shown out.new) }
 {
-    call(alloc, words, files, out)
+    run_watched(alloc, words, files, out, &mut Quiet)
+}
+
+/// Does what `run` does, and tells the observer how far it is.
+pub fn run_watched<F: Files, O: Sink, W: Watch>(
+    alloc: Global,
+    words: &[String],
+    files: &mut F,
+    out: &mut O,
+    watch: &mut W,
+) -> Status
+    ensures { IsRun (asked words.now) result files.old files.new
+        (F.shown files.old, O.shown out.old) (F.shown files.new, O.shown out.new) }
+{
+    call(alloc, words, files, out, watch)
 }

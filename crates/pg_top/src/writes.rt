@@ -1,6 +1,7 @@
 //! Files that are written one after the other.
-ghost use Rattle.std.specs.Prelude.{◌≡◌, ◌<◌, OnOk, IfErr, length, slice_get, Some};
+ghost use Rattle.std.specs.Prelude.{◌≡◌, ◌+◌, ◌<◌, OnOk, IfErr, length, slice_get, Some};
 ghost use Rattle.pg_outside.specs.Faults.{NoneFell};
+ghost use Rattle.pg_top.specs.Counted.{MakesCalls};
 ghost use Rattle.pg_top.specs.Writings.{writing_of, WroteAll, StoppedAt};
 
 use pg_outside::{Failed, Files};
@@ -28,6 +29,8 @@ pub fn write_all<F: Files>(files: &mut F, outputs: &[Output<'_>]) -> Result<(), 
     ensures stopped { IfErr result (StoppedAt (F.shown files.old) (F.shown files.new) (writing_of outputs.now)) }
     ensures reads { NoneFell (F.shown files.old).read_faults (F.shown files.new).read_faults }
     ensures writes { NoneFell (F.shown files.old).write_faults (F.shown files.new).write_faults }
+    ensures counted { OnOk result (MakesCalls (F.shown files.old) (F.shown files.new) (length outputs.now)) }
+    ensures stopped_counted { IfErr result (λ place. MakesCalls (F.shown files.old) (F.shown files.new) (place + 1)) }
 {
     let count = outputs.len();
     'writes: for i in 0..count {

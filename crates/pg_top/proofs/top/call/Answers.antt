@@ -1,6 +1,7 @@
 use Rattle.std.proofs.Common.{◌≡◌, false, subst}
 use Rattle.pg_top.specs.Answers.{IsCall, IsSampled}
 use Rattle.pg_top.specs.Calls.{has_files}
+use Rattle.pg_top.specs.Counted.{IsCountedCall}
 use Rattle.pg_top.proofs.Calls.{usage_call}
 use Rattle.pg_top.proofs.top.call.Goals as goal
 
@@ -27,3 +28,12 @@ pub returns-in-None-clause-sampled : goal.returns-in-None-clause-sampled
 returns-in-None-clause-sampled g c =
     let s = g.F.Files.shown c.args.files.now in
     subst (λ asked. IsSampled asked c.answer.result (s, g.O.Sink.shown c.args.out.now) (s, g.O.Sink.shown c.answer.new.out)) c.in-None.ensures.value tt
+
+pub returns-in-Some-clause-counted : goal.returns-in-Some-clause-counted
+returns-in-Some-clause-counted g c =
+    subst (λ asked. IsCountedCall asked c.perform.result (g.F.Files.shown c.args.files.now, g.O.Sink.shown c.args.out.now) (g.F.Files.shown c.perform.new.files, g.O.Sink.shown c.perform.new.out)) c.in-Some.ensures.value c.perform.ensures.counted
+
+pub returns-in-None-clause-counted : goal.returns-in-None-clause-counted
+returns-in-None-clause-counted g c =
+    let s = g.F.Files.shown c.args.files.now in
+    subst (λ asked. IsCountedCall asked c.answer.result (s, g.O.Sink.shown c.args.out.now) (s, g.O.Sink.shown c.answer.new.out)) c.in-None.ensures.value tt

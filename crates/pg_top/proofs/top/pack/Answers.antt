@@ -7,7 +7,7 @@ pub returns-in-Ok : goal.returns-in-Ok
 returns-in-Ok g c =
     finished_call (ToPack c.args.patterns.now c.args.translate.now c.args.table.now) (writing_of c.in-Ok.outputs.files.items) c.in-Ok.outputs.lines.items
     (g.F.Files.shown c.args.files.now) (g.F.Files.shown c.pack_files.new.files) (g.F.Files.shown c.finish.new.files) (g.O.Sink.shown c.args.out.now) (g.O.Sink.shown c.finish.new.out) c.finish.result
-    tt c.in-Ok.ensures.named c.in-Ok.ensures.held c.in-Ok.ensures.writes c.in-Ok.ensures.ok c.finish.ensures
+    tt c.in-Ok.ensures.named c.in-Ok.ensures.held c.in-Ok.ensures.writes c.in-Ok.ensures.ok c.finish.ensures.finishes
 
 pub returns-in-Err : goal.returns-in-Err
 returns-in-Err g c =

@@ -1,0 +1,28 @@
+-- The words that a program is given.
+use Rattle.std.specs.Prelude.{◌≡◌, ℕ, List, drop, String}
+use Rattle.std.specs.IoError.{error_kind}
+use Rattle.std.specs.Vec.Iter.{into_iter_items}
+use Rattle.std.specs.declared.alloc.Global.{Global}
+use Rattle.std.specs.declared.io.Error.{Error}
+use Rattle.std.specs.declared.io.ErrorKind.TheVariants.{OutOfMemory}
+use Rattle.std.specs.declared.vec.IntoIter.{IntoIter}
+use Rattle.pg_main.specs.declared.NoWords.{NoWords}
+use Rattle.pg_main.specs.declared.NoWords.TheVariants.{Memory, Unreadable}
+
+-- the status where there are no words: 5 where they found no memory, 6 where the system gave none
+abbrev pub code_of_none : NoWords → ℕ
+code_of_none Memory = 5
+code_of_none Unreadable = 6
+
+-- the arguments: the program's name, and then the words
+abbrev pub Arguments : Type 0
+Arguments = IntoIter (String Global) Global
+
+-- all arguments after the first, in their order
+abbrev pub words_in : Arguments → List (String Global)
+words_in arguments = drop 1 (into_iter_items arguments)
+
+-- why the system's error left no words
+pub record IsReasonOf (error : Error) (reason : NoWords) : Type 0 where
+  pub memory : error_kind error ≡ OutOfMemory → reason ≡ Memory
+  pub other : (error_kind error ≡ OutOfMemory → ⊥) → reason ≡ Unreadable

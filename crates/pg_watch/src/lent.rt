@@ -1,0 +1,74 @@
+//! An engine that is watched.
+ghost use Rattle.std.specs.Prelude.{◌≡◌};
+
+use crate::watch::Watch;
+use pg_dict::WordRef;
+use pg_patterns::PatternSet;
+use pg_select::{Engine, WordState};
+use pg_types::{Cursor, Layout, Sign, Weight};
+use std::alloc::{AllocError, Global};
+
+/// A borrowed engine with a borrowed observer.
+pub struct Lent<'a, E, W> {
+    inner: &'a mut E,
+    watch: &'a mut W,
+}
+
+impl<'a, E, W> Lent<'a, E, W> {
+    /// The engine, watched by this observer.
+    pub fn new(inner: &'a mut E, watch: &'a mut W) -> Lent<'a, E, W>
+        ensures value { result.inner.now ≡ inner.old }
+        ensures same { result.inner.ghost_name ≡ inner.entry.ghost_name }
+    {
+        Lent { inner, watch }
+    }
+}
+
+impl<'a, E: Engine, W: Watch> Engine for Lent<'a, E, W> {
+    ghost meaning = { λ watched. E.meaning watched.inner.now };
+
+    fn kept(&self) {
+        self.inner.kept();
+    }
+
+    fn begin_pass(&mut self, level: u8, len: u8, dot: u8) {
+        self.watch.pass(level, len, dot);
+        self.inner.begin_pass(level, len, dot);
+    }
+
+    fn hyphenate(&self, w: WordRef<'_>, out: &mut WordState) {
+        self.inner.hyphenate(w, out);
+    }
+
+    fn count(&mut self, window: &[Sign], good: bool, weight: Weight) -> Result<(), AllocError> {
+        self.inner.count(window, good, weight)
+    }
+
+    fn sums(&self, window: &[Sign]) -> Option<(u64, u64)> {
+        self.inner.sums(window)
+    }
+
+    fn next_candidate(&self, at: &mut Cursor) -> Option<(u64, u64)> {
+        self.inner.next_candidate(at)
+    }
+
+    fn choose(&mut self, at: &Cursor) -> Result<(), AllocError> {
+        self.inner.choose(at)
+    }
+
+    fn give_up(&mut self, at: &Cursor) -> Result<(), AllocError> {
+        self.inner.give_up(at)
+    }
+
+    fn end_level(&mut self) -> Result<(), AllocError> {
+        self.inner.end_level()
+    }
+
+    fn copy_patterns(&self, alloc: Global) -> Result<PatternSet, AllocError> {
+        self.inner.copy_patterns(alloc)
+    }
+
+    fn layout(&self) -> Option<Layout> {
+        self.inner.layout()
+    }
+}

@@ -1,0 +1,74 @@
+//! An engine that is watched.
+ghost use Rattle.std.specs.Prelude.{◌≡◌};
+
+use crate::watch::Watch;
+use pg_dict::WordRef;
+use pg_patterns::PatternSet;
+use pg_select::{Engine, WordState};
+use pg_types::{Cursor, Layout, Sign, Weight};
+use std::alloc::{AllocError, Global};
+
+/// An engine and an observer of its own.
+#[derive(Drop)]
+pub struct Owned<E, W> {
+    inner: E,
+    watch: W,
+}
+
+impl<E, W> Owned<E, W> {
+    /// The engine, watched by this observer.
+    pub fn new(inner: E, watch: W) -> Owned<E, W>
+        ensures { result.inner ≡ inner }
+    {
+        Owned { inner, watch }
+    }
+}
+
+impl<E: Engine, W: Watch> Engine for Owned<E, W> {
+    ghost meaning = { λ watched. E.meaning watched.inner };
+
+    fn kept(&self) {
+        self.inner.kept();
+    }
+
+    fn begin_pass(&mut self, level: u8, len: u8, dot: u8) {
+        self.watch.pass(level, len, dot);
+        self.inner.begin_pass(level, len, dot);
+    }
+
+    fn hyphenate(&self, w: WordRef<'_>, out: &mut WordState) {
+        self.inner.hyphenate(w, out);
+    }
+
+    fn count(&mut self, window: &[Sign], good: bool, weight: Weight) -> Result<(), AllocError> {
+        self.inner.count(window, good, weight)
+    }
+
+    fn sums(&self, window: &[Sign]) -> Option<(u64, u64)> {
+        self.inner.sums(window)
+    }
+
+    fn next_candidate(&self, at: &mut Cursor) -> Option<(u64, u64)> {
+        self.inner.next_candidate(at)
+    }
+
+    fn choose(&mut self, at: &Cursor) -> Result<(), AllocError> {
+        self.inner.choose(at)
+    }
+
+    fn give_up(&mut self, at: &Cursor) -> Result<(), AllocError> {
+        self.inner.give_up(at)
+    }
+
+    fn end_level(&mut self) -> Result<(), AllocError> {
+        self.inner.end_level()
+    }
+
+    fn copy_patterns(&self, alloc: Global) -> Result<PatternSet, AllocError> {
+        self.inner.copy_patterns(alloc)
+    }
+
+    fn layout(&self) -> Option<Layout> {
+        self.inner.layout()
+    }
+}
