@@ -6,5 +6,6 @@ pub mod Limits
 pub mod Parameters
 pub mod ItemSteps
 pub mod Counts
+pub mod Numbered
 pub mod Placement
 pub mod Tails
