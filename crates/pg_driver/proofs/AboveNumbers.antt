@@ -1,9 +1,8 @@
 -- The numbers of the windows at the positions whose value is above the level.
-use Rattle.std.proofs.Common.{◌≡◌, ℕ, ◌+◌, ◌≤◌, ◌<◌, Bool, true, false, cond, not, ◌&&◌, ◌||◌, nat_eq, nat_lt, ◌≢◌, List, [], ◌∷◌, ◌++◌, length, fold, append-nil, slice_get, get_or, is_some, Option, Some, None, refl, sym, ap, subst, ◌∙◌, arith}
+use Rattle.std.proofs.Common.{◌≡◌, ℕ, ◌+◌, ◌≤◌, ◌<◌, Bool, true, false, cond, not, ◌&&◌, nat_eq, nat_lt, ◌≢◌, List, [], ◌∷◌, ◌++◌, length, fold, append-nil, slice_get, get_or, is_some, Option, Some, None, refl, sym, ap, subst, ◌∙◌, arith}
 use Rattle.std.specs.List.{flat_map, slice_index_or, sum_by}
 use Rattle.std.proofs.lemmas.List.Sums.{sum_by-cons}
-use Rattle.std.specs.Option.{option_map, option_map_or, MatchOption}
-use Rattle.std.specs.FinMap.Entries.{find}
+use Rattle.std.specs.Option.{option_map, option_map_or}
 use Rattle.std.proofs.lemmas.Bool.{and_from, and_parts, ne_eqb}
 use Rattle.std.proofs.lemmas.Option.{slice_get_past}
 use Rattle.pg_types.specs.declared.limits.TheConstants.{FILE_MAX}
@@ -24,7 +23,7 @@ use Rattle.pg_select.specs.Statuses.{position_weight, status, status_at}
 use Rattle.pg_select.specs.Windows.{Hopeless, Patterns, covered, fits, window}
 use Rattle.pg_patterns.specs.Values.{value_at}
 use Rattle.pg_select.proofs.LawsRaised.{counted_uncovered}
-use Rattle.pg_select.proofs.LawsTally.{cmp, is_counted_window}
+use Rattle.pg_select.proofs.LawsTally.{is_counted_window}
 use Rattle.pg_driver.specs.declared.above_positions.Kept.{Kept}
 use Rattle.pg_driver.specs.declared.open_positions.OpenPosition.{OpenPosition}
 use Rattle.pg_driver.specs.declared.pass_windows.Place.{Place}

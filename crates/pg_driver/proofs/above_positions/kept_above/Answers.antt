@@ -1,4 +1,4 @@
-use Rattle.std.proofs.Common.{◌<◌, List, get_or, length, drop, sym, ap, ◌∙◌, arith}
+use Rattle.std.proofs.Common.{◌<◌, List, get_or, length, sym, ap, ◌∙◌, arith}
 use Rattle.std.proofs.lemmas.List.{drop_all}
 use Rattle.std.proofs.lemmas.Option.{slice_get-get_or}
 use Rattle.pg_driver.specs.declared.open_positions.OpenPosition.{OpenPosition}
