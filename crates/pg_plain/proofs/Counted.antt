@@ -57,7 +57,7 @@ module _ (tallies : List (ℕ × ℕ)) where
   above_seen u [] = refl
   above_seen u (e ∷ es) =
       elim (is_lt (slice_cmp nat_cmp u e.0)) as (λ b. cond b ((e.0, tally_at tallies e.1) ∷ above u (mapped (tally_at tallies) es)) (above u (mapped (tally_at tallies) es))
-          ≡ mapped (tally_at tallies) (cond b (e ∷ filter (λ x. is_lt (slice_cmp nat_cmp u x.0)) es) (filter (λ x. is_lt (slice_cmp nat_cmp u x.0)) es))) [
+      ≡ mapped (tally_at tallies) (cond b (e ∷ filter (λ x. is_lt (slice_cmp nat_cmp u x.0)) es) (filter (λ x. is_lt (slice_cmp nat_cmp u x.0)) es))) [
         | true ↦ ap (λ l. (e.0, tally_at tallies e.1) ∷ l) (above_seen u es)
         | false ↦ above_seen u es
       ]

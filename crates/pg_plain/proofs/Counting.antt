@@ -2,7 +2,7 @@
 use Rattle.std.proofs.Common.{◌≡◌, ◌≢◌, ℕ, ◌+◌, ◌<◌, ◌≤◌, Bool, true, false, cond, T, List, [], ◌∷◌, ◌++◌, map, length, get_or, set, unwrap_or, Option, None, Some, is_some, refl, sym, ◌∙◌, ap, subst, arith, length-append}
 use Rattle.std.proofs.Math.Seq.{get_or-append_seam}
 use Rattle.std.proofs.lemmas.List.{get_or-set_same, get_or-set_other, get_or_append_left, length-set, length-map}
-use Rattle.std.specs.Option.{option_map}
+use Rattle.std.proofs.lemmas.Option.{slice_get-get_or}
 use Rattle.std.specs.List.{slice_get}
 use Rattle.std.specs.FinMap.Entries.{find, put, is_sorted, length-put}
 use Rattle.std.specs.Cmp.Lexicographic.{nat_list_cmp_total}
@@ -14,6 +14,13 @@ use Rattle.pg_types.proofs.StringEntries.{order, mapped, found_mapped, none_mapp
 use Rattle.pg_plain.specs.Counted.{Counted, AreCounted, counted_of, counted_more, tally_at}
 use Rattle.pg_plain.specs.declared.counts.TheConstants.{NUMBERS_MAX}
 
+-- sums that were read
+pub tally_read : (tallies : List (ℕ × ℕ)) (n : ℕ) (sums : ℕ × ℕ) → n < length tallies → sums ≡ get_or tallies n sums → sums ≡ tally_at tallies n
+tally_read tallies n sums lt read =
+    let both : Some (get_or tallies n sums) ≡ Some (get_or tallies n (0, 0)) = sym (slice_get-get_or tallies n sums lt) ∙ slice_get-get_or tallies n (0, 0) lt in
+    let same : get_or tallies n sums ≡ get_or tallies n (0, 0) = cc in
+    read ∙ same
+
 -- where nothing is counted
 pub none_seen : (numbers : Numbers) (tallies : List (ℕ × ℕ)) → numbers ≡ [] → counted_of numbers tallies ≡ record { counts = []; windows = [] }
 none_seen numbers tallies none = ap (λ M. counted_of M tallies) none ∙ ap (λ ws. record { counts = []; windows = ws }) by_number_none
@@ -21,7 +28,7 @@ none_seen numbers tallies none = ap (λ M. counted_of M tallies) none ∙ ap (λ
 pub none_are : (numbers : Numbers) (tallies : List (ℕ × ℕ)) → numbers ≡ [] → tallies ≡ [] → AreCounted numbers tallies
 none_are numbers tallies none empty = subst (λ M. AreCounted M tallies) (sym none) (subst (AreCounted []) (sym empty) (record {
   sorted = tt;
-  numbers = numbers_none;
+  numbered = numbers_none;
   size = refl;
   few = omega arith;
 }))
@@ -34,7 +41,7 @@ module _ (numbers : Numbers) (tallies : List (ℕ × ℕ)) (are : AreCounted num
   size_windows = sym are.size ∙ sym (length_by_number numbers)
 
   pub within : (u : List ℕ) (n : ℕ) → find order u numbers ≡ Some n → n < length tallies
-  within u n at = let lt = are.numbers.below u n at in let s = are.size in omega arith
+  within u n at = let lt = are.numbered.below u n at in let s = are.size in omega arith
 
   -- the sums of a window that has a number
   pub sums_there : (u : List ℕ) (n : ℕ) → find order u numbers ≡ Some n → counted_sums (counted_of numbers tallies).counts u ≡ Some (tally_at tallies n)
@@ -45,10 +52,10 @@ module _ (numbers : Numbers) (tallies : List (ℕ × ℕ)) (are : AreCounted num
 
   -- and by the number
   pub sums_by_number : (n : ℕ) (u : List ℕ) → HasNumber (by_number numbers) u n → counted_sums (counted_of numbers tallies).counts u ≡ Some (tally_at tallies n)
-  sums_by_number n u at = sums_there u n (numbered_found numbers are.sorted are.numbers u n at)
+  sums_by_number n u at = sums_there u n (numbered_found numbers are.sorted are.numbered u n at)
 
   pub has_number : (u : List ℕ) (n : ℕ) → find order u numbers ≡ Some n → HasNumber (by_number numbers) u n
-  has_number u n at = number_of numbers are.sorted are.numbers u n at
+  has_number u n at = number_of numbers are.sorted are.numbered u n at
 
   pub are_numbered : AreNumbered (by_number numbers) (counted_of numbers tallies).counts
   are_numbered = record {
@@ -56,8 +63,8 @@ module _ (numbers : Numbers) (tallies : List (ℕ × ℕ)) (are : AreCounted num
     counted = λ u n at. ap is_some (sums_by_number n u at);
     numbered = λ u is. by u (find order u numbers) refl is;
     once = λ u n m at to. (
-        let a = numbered_found numbers are.sorted are.numbers u n at in
-        let b = numbered_found numbers are.sorted are.numbers u m to in
+        let a = numbered_found numbers are.sorted are.numbered u n at in
+        let b = numbered_found numbers are.sorted are.numbered u m to in
         let both : Some n ≡ Some m = sym a ∙ b in
         cc);
   }
@@ -68,7 +75,7 @@ module _ (numbers : Numbers) (tallies : List (ℕ × ℕ)) (are : AreCounted num
 
   -- the numbers in the order of the windows
   pub are_in_order : AreInOrder (by_number numbers) (counted_of numbers tallies).counts (map (λ e. e.1) numbers)
-  are_in_order = in_order numbers are.sorted are.numbers ∙ by numbers
+  are_in_order = in_order numbers are.sorted are.numbered ∙ by numbers
     where
       by : (es : Numbers) → map (λ e. Some e.0) es ≡ map (λ e. Some e.0) (mapped (tally_at tallies) es)
       by [] = refl
@@ -90,7 +97,7 @@ module _ (numbers : Numbers) (tallies : List (ℕ × ℕ)) (are : AreCounted num
         by : (p : List ℕ) → p ≢ u → (o : Option ℕ) → find order p numbers ≡ o → find order p (mapped (tally_at more) numbers) ≡ find order p (mapped (tally_at tallies) numbers)
         by p other None e = none_mapped (tally_at more) p numbers e ∙ sym (none_mapped (tally_at tallies) p numbers e)
         by p other (Some m) e =
-            let apart : m ≢ n = λ z. other (are.numbers.apart p u n (e ∙ ap Some z) at) in
+            let apart : m ≢ n = λ z. other (are.numbered.apart p u n (e ∙ ap Some z) at) in
             found_mapped (tally_at more) p m numbers e
             ∙ ap Some (ap (λ ts. tally_at ts m) is ∙ get_or-set_other tallies n m sums (0, 0) apart)
             ∙ sym (found_mapped (tally_at tallies) p m numbers e)
@@ -104,7 +111,7 @@ module _ (numbers : Numbers) (tallies : List (ℕ × ℕ)) (are : AreCounted num
     pub set_are : AreCounted numbers more
     set_are = record {
       sorted = are.sorted;
-      numbers = are.numbers;
+      numbered = are.numbered;
       size = are.size ∙ sym (ap length is ∙ length-set tallies n sums);
       few = (let few = are.few in let s = ap length is ∙ length-set tallies n sums in omega arith);
     }
@@ -153,7 +160,7 @@ module _ (numbers : Numbers) (tallies : List (ℕ × ℕ)) (are : AreCounted num
         ap (λ counts. record { counts = counts; windows = by_number after })
         (put_counts ∙ ap (λ o. put order u (with_weight (unwrap_or o (0, 0)) good weight) (mapped (tally_at tallies) numbers)) (sym (sums_none u none)))
         ∙ ap (λ ws. record { counts = with_count (mapped (tally_at tallies) numbers) u good weight; windows = ws })
-        (ap by_number after_is ∙ by_number_put numbers are.sorted are.numbers u none put_sorted
+        (ap by_number after_is ∙ by_number_put numbers are.sorted are.numbered u none put_sorted
         ∙ ap (λ b. cond b (by_number numbers) (by_number numbers ++ u ∷ [])) (sym (ap is_some (sums_none u none))))
 
     size_more : length more ≡ length tallies + 1
@@ -162,7 +169,7 @@ module _ (numbers : Numbers) (tallies : List (ℕ × ℕ)) (are : AreCounted num
     pub new_are : length more ≤ NUMBERS_MAX → AreCounted after more
     new_are few = record {
       sorted = after_sorted;
-      numbers = subst AreNumbers (sym after_is) (numbers_put numbers are.sorted are.numbers u none);
+      numbered = subst AreNumbers (sym after_is) (numbers_put numbers are.sorted are.numbered u none);
       size =
           ap length after_is ∙ length-put order nat_list_cmp_total u (length numbers) numbers are.sorted
           ∙ ap (λ o. cond (is_some o) (length numbers) (length numbers + 1)) none ∙ ap (λ k. k + 1) are.size ∙ sym size_more;
@@ -170,7 +177,7 @@ module _ (numbers : Numbers) (tallies : List (ℕ × ℕ)) (are : AreCounted num
     }
 
     pub new_number : length more ≤ NUMBERS_MAX → HasNumber (by_number after) u (length tallies)
-    new_number few = let new = new_are few in number_of after new.sorted new.numbers u (length tallies) found_new
+    new_number few = let new = new_are few in number_of after new.sorted new.numbered u (length tallies) found_new
 
 -- a window that is counted has a number
 pub absent_none : (numbers : Numbers) (tallies : List (ℕ × ℕ)) (u : List ℕ) → find order u numbers ≡ None → is_counted (counted_of numbers tallies).counts u ≡ true → ⊥

@@ -28,7 +28,7 @@ counted_of numbers tallies = record { counts = map (λ e. (e.0, tally_at tallies
 -- what is always true of them
 pub record AreCounted (numbers : Numbers) (tallies : List (ℕ × ℕ)) : Type 0 where
   pub sorted : T (is_sorted (slice_cmp nat_cmp) numbers)
-  pub numbers : AreNumbers numbers
+  pub numbered : AreNumbers numbers
   -- each number has its sums
   pub size : length numbers ≡ length tallies
   -- and each number fits
