@@ -7,5 +7,6 @@ pub mod Parameters
 pub mod ItemSteps
 pub mod Counts
 pub mod Numbered
+pub mod Numbers
 pub mod Placement
 pub mod Tails
