@@ -1,5 +1,5 @@
 -- What reads and writes by name make of the files that are told.
-use Rattle.std.proofs.Common.{◌≡◌, ◌≢◌, ◌⊎◌, inl, inr, ⊎_elim, ℕ, ◌+◌, List, [], ◌∷◌, map, length, take, Bool, true, false, cond, nat_eq, ◌&&◌, Option, Some, None, MatchOption, IfSome, Decides, refl, sym, ap, subst, ◌∙◌, arith}
+use Rattle.std.proofs.Common.{◌≡◌, ◌≢◌, ◌⊎◌, inl, inr, ⊎_elim, ℕ, ◌+◌, List, [], ◌∷◌, map, Bool, true, false, cond, nat_eq, ◌&&◌, Option, Some, None, IfSome, Decides, refl, sym, ap, subst, ◌∙◌, arith}
 use Rattle.std.specs.Option.{option_map}
 use Rattle.std.specs.Str.{bytes_eq}
 use Rattle.std.specs.Ordering.{nat_cmp}

@@ -1,10 +1,10 @@
 -- What a write by name does to a disk, from what the calls say of the name that it leads to.
-use Rattle.std.proofs.Common.{◌≡◌, ◌≢◌, ◌⊎◌, inl, inr, ⊎_elim, ℕ, List, Bool, true, false, Option, Some, None, IfSome, refl, sym, ap, subst, ◌∙◌}
+use Rattle.std.proofs.Common.{◌≡◌, inl, inr, ⊎_elim, ℕ, List, true, false, Option, Some, None, IfSome, refl, sym, ap, subst, ◌∙◌}
 use Rattle.std.specs.FinMap as fin
-use Rattle.pg_outside.specs.Disk.{Node, Disk, Told, AreOne, Keeps, Now, FileSet, LeadsTo, LeadsToNone, IsOpened, IsStat, Wrote, Disturbed, id_at, node_at, node_of}
-use Rattle.pg_outside.specs.DiskWrites.{IsIn, IsPlain, IsDevice, IsProtected, AtWrite, IsWrittenAndKept, AfterWrite, AfterFailure, IsSeen, StandsFor, WasKept, mode_of, mode_at}
+use Rattle.pg_outside.specs.Disk.{Node, Disk, Told, AreOne, Keeps, Now, LeadsTo, LeadsToNone, IsOpened, IsStat, Wrote, Disturbed, id_at, node_at, node_of}
+use Rattle.pg_outside.specs.DiskWrites.{IsIn, IsPlain, IsDevice, IsProtected, AtWrite, AfterWrite, AfterFailure, IsSeen, StandsFor, mode_of, mode_at}
 use Rattle.pg_outside.specs.Moments.{Runs, WhereDirect, AtMoment, IsBeside, IsWritten, IsAsBefore, IsSame, HasRest}
-use Rattle.pg_outside.specs.declared.disk.system.Entry.TheVariants.{Missing, Link, File}
+use Rattle.pg_outside.specs.declared.disk.system.Entry.TheVariants.{Missing, File}
 use Rattle.pg_outside.specs.declared.disk.system.FileId.{FileId}
 use Rattle.pg_outside.specs.declared.disk.system.Seen.{Seen}
 use Rattle.pg_outside.proofs.Runs.{known_start, keeps_then, keeps_now, now_both, now_weaker, no_step}

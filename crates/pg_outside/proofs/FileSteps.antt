@@ -1,5 +1,5 @@
 -- What writes to one file make of a disk.
-use Rattle.std.proofs.Common.{◌≡◌, ◌≢◌, ℕ, List, [], ◌++◌, true, Option, Some, None, IfSome, refl, sym, ap, subst, ◌∙◌, append_assoc, append-nil}
+use Rattle.std.proofs.Common.{◌≡◌, ℕ, List, [], ◌++◌, true, Option, Some, None, IfSome, refl, sym, ap, ◌∙◌, append_assoc, append-nil}
 use Rattle.pg_outside.specs.Disk.{Node, Disk, FileSet, Wrote, Disturbed, Stored, GotMode}
 use Rattle.pg_outside.specs.Moments.{HasMode, Filled}
 use Rattle.pg_outside.specs.declared.disk.system.FileId.{FileId}

@@ -1,6 +1,6 @@
 -- The calls of a replacement, one after another.
-use Rattle.std.proofs.Common.{◌≡◌, ◌≢◌, ◌⊎◌, inl, inr, ⊎_elim, ℕ, List, [], false, Option, Some, None, Result, Ok, Err, OnOk, OnErr, refl, sym, ap, subst, ◌∙◌}
-use Rattle.pg_outside.specs.Disk.{Disk, Links, Told, Keeps, Steps, Made, Disturbed, Renamed, RemovedName, Refused, Node, Beside, Now, IsStat, KnowsNewNames}
+use Rattle.std.proofs.Common.{◌≡◌, ◌≢◌, inl, inr, ⊎_elim, ℕ, List, false, Option, Result, Ok, Err, OnOk, OnErr, refl, sym, ap, subst, ◌∙◌}
+use Rattle.pg_outside.specs.Disk.{Disk, Links, Told, Keeps, Steps, Made, Disturbed, Renamed, RemovedName, Refused, Now, IsStat, KnowsNewNames}
 use Rattle.pg_outside.specs.NewNames.{IsNewName}
 use Rattle.pg_outside.specs.declared.disk.system.Seen.{Seen}
 use Rattle.pg_outside.specs.Moments.{Runs, Filled, Placed, PlacedAs, InPlacing, WhereDirect, AtMoment, IsWritten, IsBeside, IsSame, HasRest, IsAsBefore}

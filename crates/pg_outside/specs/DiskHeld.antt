@@ -1,5 +1,5 @@
 -- What files over a system of files show.
-use Rattle.std.specs.Prelude.{◌≡◌, ℕ, List, [], map, Bool, cond, nat_eq, ◌&&◌, Option, Some, None}
+use Rattle.std.specs.Prelude.{ℕ, List, [], map, Bool, cond, nat_eq, ◌&&◌, Option, Some, None}
 use Rattle.std.specs.FinMap as fin
 use Rattle.pg_outside.specs.Content.{FileMap}
 use Rattle.pg_outside.specs.Disk.{Node, Disk, Told}

@@ -1,6 +1,6 @@
 -- The moments of a call: the disks between any two calls on the system.
-use Rattle.std.specs.Prelude.{◌≡◌, ℕ, ◌+◌, List, [], ◌∷◌, ◌++◌, Bool, true, false, Option, Some, None, MatchOption, IfSome, ◌⊎◌}
-use Rattle.pg_outside.specs.Disk.{Node, Disk, Told, FileSet, Renamed, AreOne, id_at, node_at, Wrote, Disturbed}
+use Rattle.std.specs.Prelude.{◌≡◌, ℕ, ◌+◌, List, [], ◌∷◌, ◌++◌, true, false, Option, Some, None, MatchOption, IfSome, ◌⊎◌}
+use Rattle.pg_outside.specs.Disk.{Node, Disk, Told, FileSet, Renamed, AreOne, id_at, node_at, Disturbed}
 use Rattle.pg_outside.specs.NewNames.{IsNewName}
 use Rattle.pg_outside.specs.declared.disk.system.FileId.{FileId}
 

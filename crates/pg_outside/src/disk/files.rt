@@ -233,12 +233,7 @@ impl<S: System + Drop> DiskFiles<S> {
     }
 
     /// Writes the file of this name, which was opened.
-    fn write_old(
-        &mut self,
-        mut file: S::File,
-        name: &str,
-        bytes: &[u8],
-    ) -> Result<(), WriteError>
+    fn write_old(&mut self, mut file: S::File, name: &str, bytes: &[u8]) -> Result<(), WriteError>
         requires room { vec_len self.old.kept < vec_capacity self.old.kept }
         requires opened { Now (S.told self.old.system) (IsOpened name.now (S.id file)) }
         ensures ok { OnOk result (Runs (S.told self.old.system) (S.told self.new.system)

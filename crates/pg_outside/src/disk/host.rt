@@ -7,11 +7,10 @@ use crate::outside::Failed;
 use crate::streams::{read_some, write_some};
 use std::alloc::{AllocError, Global};
 use std::fs::{File, Metadata, OpenFile, OpenOptions, Permissions};
-use std::io;
 use std::io::ErrorKind;
 use std::os::unix::fs::{MetadataExt, PermissionsExt};
 use std::path::PathBuf;
-use std::{fs, rt};
+use std::{fs, io, rt};
 
 /// Real files. They tell no content, and count the calls that failed.
 #[derive(Drop)]
@@ -147,7 +146,10 @@ impl<R: rt::Files + Drop> System for HostSystem<R> {
     }
 
     fn make(&mut self, name: &str) -> Result<Option<R::File>, CallFailed> {
-        let made = opened(File::create_new(&self.system, name), ErrorKind::AlreadyExists);
+        let made = opened(
+            File::create_new(&self.system, name),
+            ErrorKind::AlreadyExists,
+        );
         if matches!(made, Ok(None)) {
             self.count_failure();
         }

@@ -1,7 +1,4 @@
-use Rattle.std.proofs.Common.{◌≡◌, ap, sym, subst, Option, ℕ}
 use Rattle.std.proofs.lemmas.Result.{on_err_weaker, on_ok_weaker}
-use Rattle.pg_outside.specs.Disk.{Disturbed}
-use Rattle.pg_outside.specs.Moments.{Runs, HasMode}
 use Rattle.pg_outside.proofs.Runs.{one_step, runs_weaker}
 use Rattle.pg_outside.proofs.FileSteps.{got_mode, got_mode_disturbed}
 use Rattle.pg_outside.proofs.disk.new_file.keep_mode.Goals as goal

@@ -1,4 +1,3 @@
-use Rattle.std.proofs.Common.{sym}
 use Rattle.pg_outside.proofs.Replacing.{places}
 use Rattle.pg_outside.proofs.disk.new_file.place.Goals as goal
 

@@ -1,4 +1,4 @@
-use Rattle.pg_outside.proofs.Replacing.{IsOwn, replaces, gave_up}
+use Rattle.pg_outside.proofs.Replacing.{replaces, gave_up}
 use Rattle.pg_outside.proofs.disk.new_file.replace.Goals as goal
 
 pub returns-in-Ok-clause-ok : goal.returns-in-Ok-clause-ok
