@@ -44,7 +44,7 @@ impl Contents {
     }
 
     /// The content of this name.
-    fn find(&self, name: &str) -> Option<ContentId> {
+    pub fn find(&self, name: &str) -> Option<ContentId> {
         let named = self.named.iter().find(|named| named.is_named(name))?;
         Some(named.content)
     }

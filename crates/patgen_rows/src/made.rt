@@ -30,14 +30,16 @@ impl Spellings {
 
 /// Numbers that are drawn from a seed, as `sample` draws them.
 #[derive(Drop)]
-struct Draws(u64);
+struct Draws {
+    state: u32,
+}
 
 impl Draws {
     /// The next number, below `most`.
     fn draw(&mut self, most: u32) -> u32 {
-        let product = self.0.wrapping_mul(1_103_515_245).wrapping_add(12_345);
-        self.0 = product % (1 << 31);
-        ((self.0 / 65_536) as u32).checked_rem(most).unwrap_or(0)
+        let next = (1_103_515_245 * u64::from(self.state) + 12_345) % 2_147_483_648;
+        self.state = next as u32;
+        (self.state / 65_536).checked_rem(most).unwrap_or(0)
     }
 }
 
@@ -58,7 +60,7 @@ fn numbers_of<const N: usize>(line: &str) -> Result<[u32; N], Problem> {
 /// `sample SEED COUNT`: the dictionary of `sample`.
 pub(crate) fn push_sample(alloc: Global, bytes: &mut Vec<u8>, line: &str) -> Result<(), Problem> {
     let [seed, count] = numbers_of::<2>(line)?;
-    if seed >= 1 << 31 || count > 100_000 {
+    if seed >= 2_147_483_648 || count > 100_000 {
         return Err(Problem::BadNumber);
     }
     bytes.extend_from_slice(&sample_text(alloc, seed, count)?)?;
@@ -81,7 +83,7 @@ pub(crate) fn push_letters(bytes: &mut Vec<u8>, line: &str) -> Result<(), Proble
 pub(crate) fn push_words(bytes: &mut Vec<u8>, line: &str) -> Result<(), Problem> {
     let [seed, count, letters, len, alphabet] = numbers_of::<5>(line)?;
     let spellings = Spellings { len, alphabet };
-    let mut draws = Draws(u64::from(seed));
+    let mut draws = Draws { state: seed };
     for _ in 0..count {
         push_word(bytes, &mut draws, letters, spellings)?;
     }

@@ -90,8 +90,11 @@ impl Reader {
         self.table.contents.push_piece(piece)
     }
 
-    /// Begins a content, whose first piece may stand on the same line.
+    /// Begins a content, whose first piece may stand on the same line. A name there is the content of this name itself.
     fn read_content(&mut self, rest: &str) -> Result<ContentId, Problem> {
+        if let Some(name) = rest.strip_prefix("= ") {
+            return self.table.contents.find(name).ok_or(Problem::NoContent);
+        }
         let content = self.table.contents.begin()?;
         self.is_in_content = true;
         if !rest.is_empty() {
