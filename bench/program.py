@@ -14,11 +14,9 @@ def program():
     given = os.environ.get("PATGEN")
     if given:
         return os.path.abspath(given)
-    subprocess.run([os.path.join(HERE, "patgen")], stdin=subprocess.DEVNULL, stdout=subprocess.DEVNULL, check=False)
-    built = os.path.join(HERE, "crates", "patgen", "out", "patgen")
-    if not os.access(built, os.X_OK):
+    if subprocess.run([os.path.join(HERE, "patgen"), "--build"], stdin=subprocess.DEVNULL, check=False).returncode:
         sys.exit("bench: the program isn't built")
-    return built
+    return os.path.join(HERE, "out", "patgen")
 
 
 def put_files(folder, files):
