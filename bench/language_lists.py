@@ -1,5 +1,6 @@
 """The word lists that bench/languages tries: where each is, which packages have it, and how its words are read."""
 
+import collections
 import gzip
 import os
 import re
@@ -289,10 +290,10 @@ class Patterns:
 
 
 def kept_words(words, patterns, tag):
-    """The words in small letters, each once, whose letters the patterns know and that take part; and how many are not kept for
-    which reason."""
+    """The words in small letters, each once, whose letters the patterns know and that take part; how many are not kept for which
+    reason; and in how many of them the patterns lack which letter."""
     known, least = set(patterns.letters), sum(patterns.minima)
-    kept, left_out = {}, {"letters": 0, "long": 0, "short": 0, "twice": 0}
+    kept, left_out, lacking = {}, {"letters": 0, "long": 0, "short": 0, "twice": 0}, collections.Counter()
     for word in words:
         if not word:
             continue
@@ -301,6 +302,7 @@ def kept_words(words, patterns, tag):
             word = unicodedata.normalize("NFC", word)
         if not known.issuperset(word):
             left_out["letters"] += 1
+            lacking.update(letter for letter in set(word) - known if unicodedata.category(letter)[0] in "LM")
         elif len(word) > LONGEST:
             left_out["long"] += 1
         elif len(word) < least:
@@ -309,7 +311,7 @@ def kept_words(words, patterns, tag):
             left_out["twice"] += 1
         else:
             kept[word] = None
-    return list(kept), left_out
+    return list(kept), left_out, dict(lacking.most_common(5))
 
 
 def kept_marked(words, patterns):
@@ -317,5 +319,5 @@ def kept_marked(words, patterns):
     spelled = {}
     for word in words:
         spelled.setdefault(word.lower().replace("-", ""), word.lower())
-    kept, left_out = kept_words(spelled, patterns, "")
-    return [spelled[word] for word in kept if word in spelled], left_out
+    kept, left_out, lacking = kept_words(spelled, patterns, "")
+    return [spelled[word] for word in kept if word in spelled], left_out, lacking

@@ -2,9 +2,11 @@
 
 import os
 import re
+import unicodedata
 
 WIDTH, LEFT, TOP, HEIGHT, GAP = 720, 70, 50, 170, 70  # of the picture, in its units
 LEAST = 0.5  # seconds of patgen below which a ratio says little
+OFTEN = 100  # words from which on a letter is named
 FOUND, MISSED, ERROR, CHOSEN = "#4477aa", "#dddddd", "#cc6677", "#999933"
 
 
@@ -83,6 +85,21 @@ def hand_rows(rows):
         size = number(made["words"]) + (f" of {number(made['whole'])}" if made["words"] < made["whole"] else "")
         yield (f"| {words.name} | {made['letters']} | {size} | {number(made['hyphens'])} | {share(results)} | "
                f"{totals(results.get('five'))} | {totals(results.get('eight'))} | {equality(results)} | {winner(results)} |")
+
+
+def alone(letter):
+    """A letter as it can stand alone: a combining mark gets a circle to stand on."""
+    return "\u25cc" + letter if unicodedata.category(letter)[0] == "M" else letter
+
+
+def lacking_rows(rows):
+    """The table of letters that the words have and the patterns lack, each in so many words."""
+    yield "| Language | Letters that its patterns lack, and in how many words of the list |"
+    yield "|---|---|"
+    for words, results in rows:
+        often = [f"{alone(letter)} in {number(count)}" for letter, count in results["words"]["lacking"].items() if count >= OFTEN]
+        if often:
+            yield f"| {words.name} | {', '.join(often)} |"
 
 
 def cost(found):
@@ -175,7 +192,7 @@ def write_page(root, rows, hand, versions, shown):
     path = os.path.join(root, "docs", "LANGUAGES.md")
     with open(path, encoding="utf-8") as file:
         page = file.read()
-    tables = {"The languages": language_rows(rows), "Lists that are marked by hand": hand_rows(hand), "What it cost": cost_rows(rows + hand),
+    tables = {"The languages": language_rows(rows), "Lists that are marked by hand": hand_rows(hand), "Letters that patterns lack": lacking_rows(rows), "What it cost": cost_rows(rows + hand),
               "The packages": package_rows(versions)}
     page = with_tables(page, tables)
     with open(path, "w", encoding="utf-8") as file:

@@ -95,9 +95,9 @@ class Runs:
         marked."""
         patterns, path = Patterns(self.packages, self.words.tag), self.packages.find(self.words.path)
         if self.words.by_hand:
-            kept, left_out = kept_marked(self.words.read(path), patterns)
+            kept, left_out, lacking = kept_marked(self.words.read(path), patterns)
         else:
-            kept, left_out = kept_words(plain_words(path), patterns, self.words.tag)
+            kept, left_out, lacking = kept_words(plain_words(path), patterns, self.words.tag)
         most, mark = self.words.most or self.options.most, patterns.missed_mark()
         chosen = kept[:: -(-len(kept) // most)] if most else kept
         marked = [word.replace("-", mark) if self.words.by_hand else mark.join(patterns.pieces(word)) for word in chosen]
@@ -105,7 +105,7 @@ class Runs:
         put_files(self.folder, {"translate": patterns.translate().encode(), "published": text_of_lines(patterns.lines),
                                 "whole": text_of_lines(whole), "words": text_of_lines(marked), "none": b""})
         return {"letters": len(patterns.letters), "minima": patterns.minima, "lines": len(patterns.lines), "entries": patterns.entries(),
-                "whole": len(kept), "left_out": left_out, "words": len(marked), "hyphens": sum(word.count(mark) for word in marked)}
+                "whole": len(kept), "left_out": left_out, "lacking": lacking, "words": len(marked), "hyphens": sum(word.count(mark) for word in marked)}
 
     def count_published(self):
         """What the published patterns find of the hyphens. It is all of them where they were marked by these patterns."""
@@ -140,14 +140,14 @@ class Runs:
         for at in range(2, len(numbers), 5):
             answers += [" ".join(numbers[at:at + 2]), " ".join(numbers[at + 2:at + 5])]
         put_files(self.folder, {"answers": "".join(line + "\n" for line in [*answers, "n"]).encode()})
-        command = "ulimit -f 1000000; exec patgen words none theirs translate <answers >log 2>&1"
+        command = "ulimit -f 1000000; exec patgen words none theirs translate <answers >log 2>errors"
         status, _, seconds, memory = measured(["sh", "-c", command], self.folder, self.options.patience)
         cost = {"seconds": round(seconds, 2), "memory": memory}
         if status == 0:
             return {**cost, "patterns file": self.digest("theirs")}
         if status is None:
             return {**cost, "stopped": f"it was ended after {self.options.patience} s"}
-        return {**cost, "stopped": last_words(self.read("log"))}
+        return {**cost, "stopped": in_one_line(self.read("errors")) or f"status {status}"}
 
     def sweep(self):
         """Which of the parameter files is best on words that are left out."""
@@ -184,7 +184,6 @@ def levels_of(report):
     return [list(map(int, numbers)) for numbers in found]
 
 
-def last_words(log):
-    """The last lines of what patgen printed, without the blanks that it fills a line with."""
-    rows = [re.sub(r"\s+", " ", row).strip() for row in log[-4000:].split("\n")]
-    return " ".join([row for row in rows if row][-2:])
+def in_one_line(text):
+    """A text with one blank in place of each run of blanks and line ends."""
+    return " ".join(text.split())
