@@ -1,5 +1,5 @@
 -- The calls and puts of a command at each of its ends.
-use Rattle.std.proofs.Common.{◌≡◌, ℕ, ◌+◌, ◌<◌, List, length, Some, IfSome, inl, inr, sym, subst, ap, ◌∙◌, refl}
+use Rattle.std.proofs.Common.{◌≡◌, ℕ, ◌+◌, List, length, Some, IfSome, inl, inr, sym, subst, ap, ◌∙◌, refl}
 use Rattle.std.specs.Option.{option_map}
 use Rattle.std.specs.Prelude.{slice_get}
 use Rattle.std.proofs.lemmas.Option.{slice_get_within, slice_get-map}
@@ -7,7 +7,6 @@ use Rattle.pg_outside.specs.Content.{FilesShown, SinkShown, file_at}
 use Rattle.pg_outside.specs.Faults.{NoneFell, Rose, next_count}
 use Rattle.pg_top.specs.Calls.{reads_of, writes_of, outcome_of}
 use Rattle.pg_top.specs.Counted.{MakesCalls, MakesPuts, PutsFault, PutsCounted, LinesCounted, EndsAt, IsUnwrittenAt, FinishCounted, IsEndedCounted, IsCounted}
-use Rattle.pg_top.specs.Moments.{Moment}
 use Rattle.pg_top.specs.Outcomes.{Writing, refuses}
 use Rattle.pg_top.specs.Requests.{Request, ToSample}
 use Rattle.pg_top.specs.Stops.{StopsCommand, PutsAnswer, PutsLines}
@@ -40,11 +39,16 @@ counted_stop request s0 s1 o0 o1 (stop.Refused input refusal) Fault stops puts =
 counted_stop request s0 s1 o0 o1 (stop.Refused input refusal) Memory stops puts = (inr (stops.place, stops.read), puts)
 counted_stop request s0 s1 o0 o1 (stop.Unread name) Fault stops puts =
     let why = stops.why in
-    inl (stops.place, stops.read, record {
-      reading = why.0;
-      there = why.1;
-      rose = subst (λ at. Rose (s0.read_faults at) (s1.read_faults at)) (sym why.2) why.3;
-    }, puts)
+    inl (
+      stops.place,
+      stops.read,
+      record {
+        reading = why.0;
+        there = why.1;
+        rose = subst (λ at. Rose (s0.read_faults at) (s1.read_faults at)) (sym why.2) why.3;
+      },
+      puts,
+    )
 counted_stop request s0 s1 o0 o1 (stop.Unread name) Memory stops puts = (inr (stops.place, stops.read), puts)
 counted_stop request s0 s1 o0 o1 stop.Memory Memory stops puts = (inr (stops.place, stops.read), puts)
 counted_stop request s0 s1 o0 o1 why answer stops puts = absurd puts
@@ -54,11 +58,17 @@ written_counted : (request : Request) (s0 s1 s2 : FilesShown) (o0 o1 : SinkShown
 written_counted request s0 s1 s2 o0 o1 Done fell read finish = (calls_on (length (reads_of request)) (length (writes_of request)) s0 s1 s2 read finish.0, finish.1)
 written_counted request s0 s1 s2 o0 o1 Fault fell read (inl f) =
     let unwritten : IsUnwrittenAt (writes_of request) f.0 s1 s2 = f.2 in
-    inr (inl (f.0, f.1, record {
-      name = unwritten.name;
-      there = unwritten.there;
-      rose = rose_since (s0.write_faults unwritten.name) (s1.write_faults unwritten.name) (s2.write_faults unwritten.name) (fell unwritten.name) unwritten.rose;
-    }, calls_on (length (reads_of request)) (f.0 + 1) s0 s1 s2 read f.3, f.4))
+    inr (inl (
+      f.0,
+      f.1,
+      record {
+        name = unwritten.name;
+        there = unwritten.there;
+        rose = rose_since (s0.write_faults unwritten.name) (s1.write_faults unwritten.name) (s2.write_faults unwritten.name) (fell unwritten.name) unwritten.rose;
+      },
+      calls_on (length (reads_of request)) (f.0 + 1) s0 s1 s2 read f.3,
+      f.4,
+    ))
 written_counted request s0 s1 s2 o0 o1 Fault fell read (inr f) = inr (inr (inr (calls_on (length (reads_of request)) (length (writes_of request)) s0 s1 s2 read f.0, f.1)))
 written_counted request s0 s1 s2 o0 o1 Yes fell read finish = absurd finish
 written_counted request s0 s1 s2 o0 o1 No fell read finish = absurd finish

@@ -117,11 +117,12 @@ module _ (n : FileNames) (i : Inputs) where
   why_given place s2 s3 (Unread name) h why =
       let there = sym (slice_get-map (given_file (λ _. i)) (given_names n) place) ∙ why.1 in
       let g : Given × List ℕ = get_given (slice_get (given_names n) place) why.0 there in
-      let at : slice_get (given_names n) place ≡ Some g = given_at (slice_get (given_names n) place) why.0 there in
-      (given_file (λ files. inputs_in files n) g,
-      slice_get-map (given_file (λ files. inputs_in files n)) (given_names n) place ∙ ap (option_map (given_file (λ files. inputs_in files n))) at,
-      given_name (slice_get (given_names n) place) why.0 there ∙ why.2,
-      why.3)
+      let at : slice_get (given_names n) place ≡ Some g = given_at (slice_get (given_names n) place) why.0 there in (
+        given_file (λ files. inputs_in files n) g,
+        slice_get-map (given_file (λ files. inputs_in files n)) (given_names n) place ∙ ap (option_map (given_file (λ files. inputs_in files n))) at,
+        given_name (slice_get (given_names n) place) why.0 there ∙ why.2,
+        why.3,
+      )
     where
       get_given : (o : Option (Given × List ℕ)) (r : Reading) → option_map (given_file (λ _. i)) o ≡ Some r → Given × List ℕ
       get_given None r is = absurd (cc)
@@ -161,10 +162,11 @@ module _ (n : FileNames) (i : Inputs) where
       let front : IfSome s3.held (λ files. AreAccepted (file_at files) (inputs_of n)) = mapped s3.held (λ files. HasInputs (file_at files) n i) (λ files. AreAccepted (file_at files) (inputs_of n)) inputs_there later in
       let place : ℕ = found.0 in
       let read : ReadsUpTo (given_files (λ _. i) n) place s2 s3 = subst (λ (reads : List Reading). ReadsUpTo reads place s2 s3) wanted found.1 in
-      let end : IfSome s3.held (λ files. first_end (file_at files) (take (place + 1) (given_files (λ _. i) n)) ≡ Some (Ends No [] line.items)) = subst (λ (reads : List Reading). IfSome s3.held (λ files. first_end (file_at files) (take (place + 1) reads) ≡ Some (Ends No [] line.items))) wanted found.2 in
-      (4 + place,
-      read_after (inputs_of n) (given_files (λ files. inputs_in files n) n) place s0 s2 s3 calls front (read_given place s2 s3 later read),
-      end_after (inputs_of n) (given_files (λ files. inputs_in files n) n) place s3.held (Ends No [] line.items) front (end_given place s3.held (Ends No [] line.items) later end))
+      let end : IfSome s3.held (λ files. first_end (file_at files) (take (place + 1) (given_files (λ _. i) n)) ≡ Some (Ends No [] line.items)) = subst (λ (reads : List Reading). IfSome s3.held (λ files. first_end (file_at files) (take (place + 1) reads) ≡ Some (Ends No [] line.items))) wanted found.2 in (
+        4 + place,
+        read_after (inputs_of n) (given_files (λ files. inputs_in files n) n) place s0 s2 s3 calls front (read_given place s2 s3 later read),
+        end_after (inputs_of n) (given_files (λ files. inputs_in files n) n) place s3.held (Ends No [] line.items) front (end_given place s3.held (Ends No [] line.items) later end),
+      )
 
 -- the answer of a verdict
 pub verdict_call : (n : FileNames) (verdict : Verdict) (s0 s1 : FilesShown) (o0 o1 : SinkShown) (answer : Status) → KeepsHeld s0.held s1.held → IfSome s1.held (λ files. outcome_of (file_at files) (ToAudit n) ≡ outcome_by verdict) → PutsVerdict verdict answer o0 o1 → IsCall (Some (ToAudit n)) answer (s0, o0) (s1, o1)

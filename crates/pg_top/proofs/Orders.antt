@@ -3,7 +3,7 @@ use Rattle.std.proofs.Common.{◌≡◌, ℕ, ◌+◌, ◌-◌, ◌<◌, List, [
 use Rattle.std.specs.Option.{option_map, option_map_or, option_or}
 use Rattle.std.proofs.Math.Seq.{take-append_seam, take-append-add, get_or-append_seam}
 use Rattle.std.proofs.lemmas.List.{take-append-drop, take-append-le, get_or_append_left, get_or-append-add}
-use Rattle.std.proofs.lemmas.Option.{slice_get_read, slice_get_within, get_or_from_slice_get}
+use Rattle.std.proofs.lemmas.Option.{slice_get_read, get_or_from_slice_get}
 use Rattle.pg_outside.specs.Content.{FileMap, FilesShown, KeepsHeld, file_at}
 use Rattle.pg_outside.specs.Faults.{NoneFell}
 use Rattle.pg_top.specs.Counted.{MakesCalls, ReadsUpTo}
@@ -123,9 +123,13 @@ stopped_after front rest s0 s1 s2 stop fell calls accepted stops = record {
   where
     why_after : (stop : Stop) (place : ℕ) → place < length rest → StopsWith rest place s1 s2 stop → StopsWith (front ++ rest) (length front + place) s0 s2 stop
     why_after (Refused input refusal) place within why = end_after front rest place s2.held (refuses input refusal) accepted why
-    why_after (Unread name) place within why =
-        (why.0, slice_get_read (front ++ rest) (length (front ++ rest)) (length front + place) why.0 refl (omega (arith, length-append front rest))
-        (sym (get_or-append-add front rest place why.0 ∙ get_or_from_slice_get rest place why.0 why.0 why.1)), why.2, rose_since (s0.read_faults name.now) (s1.read_faults name.now) (s2.read_faults name.now) (fell name.now) why.3)
+    why_after (Unread name) place within why = (
+      why.0,
+      slice_get_read (front ++ rest) (length (front ++ rest)) (length front + place) why.0 refl (omega (arith, length-append front rest))
+          (sym (get_or-append-add front rest place why.0 ∙ get_or_from_slice_get rest place why.0 why.0 why.1)),
+      why.2,
+      rose_since (s0.read_faults name.now) (s1.read_faults name.now) (s2.read_faults name.now) (fell name.now) why.3,
+    )
     why_after Memory place within why = tt
 
 -- a stop at a file of the front is a stop of all
@@ -160,9 +164,13 @@ stopped_in_front front rest s0 s1 stop stops = record {
     why_in_front (Refused input refusal) place within why =
         mapped s1.held (λ files. first_end (file_at files) (take (place + 1) front) ≡ Some (refuses input refusal)) (λ files. first_end (file_at files) (take (place + 1) (front ++ rest)) ≡ Some (refuses input refusal))
         (λ files is. ap (first_end (file_at files)) (take-append-le (place + 1) front rest (omega arith)) ∙ is) why
-    why_in_front (Unread name) place within why =
-        (why.0, slice_get_read (front ++ rest) (length (front ++ rest)) place why.0 refl (omega (arith, length-append front rest))
-        (sym (get_or_append_left front rest why.0 place within ∙ get_or_from_slice_get front place why.0 why.0 why.1)), why.2, why.3)
+    why_in_front (Unread name) place within why = (
+      why.0,
+      slice_get_read (front ++ rest) (length (front ++ rest)) place why.0 refl (omega (arith, length-append front rest))
+          (sym (get_or_append_left front rest why.0 place within ∙ get_or_from_slice_get front place why.0 why.0 why.1)),
+      why.2,
+      why.3,
+    )
     why_in_front Memory place within why = tt
 
 -- where no file ends the call, none of the front does

@@ -1,5 +1,5 @@
 -- What is promised of a command that is done, at its ends.
-use Rattle.std.proofs.Common.{◌≡◌, ℕ, List, [], Option, None, Some, IfSome, MatchOption, inl, inr, sym, subst, ◌∙◌}
+use Rattle.std.proofs.Common.{◌≡◌, ℕ, List, Option, None, Some, IfSome, MatchOption, inl, inr, sym, subst}
 use Rattle.pg_outside.specs.Content.{FileMap, FilesShown, SinkShown, KeepsHeld}
 use Rattle.pg_table.specs.Laws.{HasEntries}
 use Rattle.pg_table.proofs.PackedValues.{values_are_packed, totals_are_packed}

@@ -1,6 +1,5 @@
 -- All that is said of a call of the program.
-use Rattle.std.specs.Prelude.{◌≡◌, ℕ, List, Option, false}
-use Rattle.pg_outside.specs.Content.{FilesShown, SinkShown}
+use Rattle.std.specs.Prelude.{◌≡◌, Option, false}
 use Rattle.pg_top.specs.Answers.{IsCall, IsSampled}
 use Rattle.pg_top.specs.Calls.{has_files}
 use Rattle.pg_top.specs.Counted.{IsCountedCall}

@@ -1,4 +1,3 @@
-use Rattle.pg_top.specs.PrintedLines.{refused_line}
 use Rattle.pg_top.proofs.CountedPuts.{refused_put}
 use Rattle.pg_top.proofs.puts.put_stop.Goals as goal
 

@@ -1,4 +1,4 @@
-use Rattle.std.proofs.Common.{◌+◌, ◌++◌, ◌∷◌, [], List, take, length, IfSome, ◌∙◌, rules, sym, ap, subst, length-append}
+use Rattle.std.proofs.Common.{◌+◌, ◌∷◌, [], List, take, length, IfSome, ◌∙◌, rules, sym, ap, subst, length-append}
 use Rattle.pg_types.specs.Parameters.{Parameters}
 use Rattle.pg_outside.specs.Content.{FilesShown, file_at}
 use Rattle.pg_top.specs.Commands.{words_of}
