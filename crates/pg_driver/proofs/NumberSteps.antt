@@ -30,7 +30,6 @@ use Rattle.pg_driver.specs.declared.open_positions.OpenPosition.{OpenPosition}
 use Rattle.pg_driver.specs.OpenLevels.{dots_after, closed_dots_after, position_after}
 use Rattle.pg_driver.specs.OpenPositions.{IsPlaced, with_closed}
 use Rattle.pg_driver.specs.PassWindows.{counts_at, is_open, ClosesAs, IsNumbered, HaveNumbers, AreFates, IsPlace, ArePlaces, IsPart}
-use Rattle.pg_driver.specs.Choosing.{candidate_of}
 use Rattle.pg_select.specs.CountedPositions.{CountedPosition}
 use Rattle.pg_select.specs.Meanings.{Meaning, with_position}
 use Rattle.pg_driver.specs.Counting.{counting, windows_after}
@@ -114,30 +113,13 @@ are_signs n [] h = refl
 are_signs n (s ∷ q) h =
     and_from _ _ (le-leb 1 s (All-head (λ s. (1 ≤ s) × (s ≤ n)) s q h).0) (are_signs n q (All-tail (λ s. (1 ≤ s) × (s ≤ n)) s q h))
 
--- what one turn of the choice does: the candidate that the cursor stands at, with its sums, is the first of those that are left
-pub record Turn (ws : Windows) (counts : Counts) (more : List ℕ) (rest : Counts) (at : List ℕ) (good bad : ℕ) : Type 0 where
-  pub left : Counts
-  pub is : map candidate_of rest ≡ record { window = at; good = good; bad = bad } ∷ map candidate_of left
-  pub sums : counted_sums counts at ≡ Some (good, bad)
-  pub next : map (slice_get ws) more ≡ map (λ e. Some e.0) left
-  pub part : IsPart left counts
-
-pub turn : (ws : Windows) (counts : Counts) (n : ℕ) (more : List ℕ) (rest : Counts) (at : List ℕ) (good bad : ℕ) → Ahead ws counts n more rest → HasNumber ws at n → counted_sums counts at ≡ Some (good, bad) → Turn ws counts more rest at good bad
-turn ws counts n more rest at good bad a number sums =
-    let both : Some a.entry.0 ≡ Some at = sym a.number ∙ number in
-    let same : a.entry.0 ≡ at = cc in
-    let told : Some a.entry.1 ≡ Some (good, bad) = sym a.sums ∙ ap (counted_sums counts) same ∙ sums in
-    let value : a.entry.1 ≡ (good, bad) = cc in
-    record {
-      left = a.left;
-      is =
-          ap (λ (es : Counts). map candidate_of es) a.is
-          ∙ ap (λ (u : List ℕ). record { window = u; good = a.entry.1.0; bad = a.entry.1.1 } ∷ map candidate_of a.left) same
-          ∙ ap (λ (s : ℕ × ℕ). record { window = at; good = s.0; bad = s.1 } ∷ map candidate_of a.left) value;
-      sums = sums;
-      next = a.next;
-      part = a.part;
-    }
+-- the window of a number and its sums are the only ones
+pub only_one : (ws : Windows) (counts : Counts) (n : ℕ) (u : List ℕ) (s : ℕ × ℕ) (v : List ℕ) (t : ℕ × ℕ) → HasNumber ws u n → counted_sums counts u ≡ Some s → HasNumber ws v n → counted_sums counts v ≡ Some t → t ≡ s
+only_one ws counts n u s v t first sums second others =
+    let both : Some v ≡ Some u = sym second ∙ first in
+    let same : v ≡ u = cc in
+    let told : Some t ≡ Some s = sym others ∙ ap (counted_sums counts) same ∙ sums in
+    cc
 
 -- elements before the seam of a list with one more, and the one at it
 pub get_left : {A : Type 0} (xs ys : List A) (k : ℕ) (x : A) → slice_get xs k ≡ Some x → slice_get (xs ++ ys) k ≡ Some x

@@ -7,6 +7,7 @@ use Rattle.pg_dict.specs.Word.{Word}
 use Rattle.pg_select.specs.declared.pass.Pass.{Pass}
 use Rattle.pg_select.specs.declared.choice.Choice.{Choice}
 use Rattle.pg_select.specs.Choices.{choice}
+use Rattle.pg_select.specs.Meanings.{Meaning}
 use Rattle.pg_select.specs.Windows.{Hopeless, Patterns, window, fits, covered}
 use Rattle.pg_driver.specs.declared.pass_windows.Place.{Place}
 use Rattle.pg_driver.specs.declared.pass_windows.TheConstants.{NOT_COUNTED}
@@ -89,3 +90,8 @@ pub record ClosesAs (after : OpenPosition → OpenPosition) (dot : ℕ) (fates :
   pub closes : (k : ℕ) (e : OpenPosition) (n : ℕ)
       → slice_get (filter (is_open dot) entries) k ≡ Some e → slice_get ns k ≡ Some n
       → with_closed e (dots_after e.closed dot (slice_get fates n)) ≡ after e
+
+-- the window has the number and these sums
+pub record IsCandidate (m : Meaning) (n : ℕ) (u : List ℕ) (s : ℕ × ℕ) : Type 0 where
+  pub number : HasNumber m.windows u n
+  pub sums : counted_sums m.counts u ≡ Some s
