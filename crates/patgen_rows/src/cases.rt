@@ -7,7 +7,7 @@ use pg_outside::{Files, MemoryFiles, MemorySink, ReadError, Sink};
 use pg_top::{Status, run};
 use std::alloc::{AllocError, Global};
 
-/// How many bytes the sink of a call has room for.
+/// How many bytes the sink of a call and each of its files have room for.
 const ROOM: usize = 4096;
 
 /// A file, and what it has to hold, if that is known.
@@ -50,25 +50,27 @@ impl<'a> Case<'a> {
             files: MemoryFiles::new(alloc),
             holds: Vec::new(alloc),
         };
-        case.add_all(&table.files)?;
-        case.add_all(&row.files)?;
+        case.add_all(&table.files, &row.missing)?;
+        case.add_all(&row.files, &[])?;
         if let Some(change) = change {
             case.add(change.name, &change.bytes)?;
         }
         Ok(case)
     }
 
-    /// Adds files.
-    fn add_all(&mut self, files: &'a [NamedContent]) -> Result<(), AllocError> {
+    /// Adds files, but for those that are missing.
+    fn add_all(&mut self, files: &'a [NamedContent], missing: &[String]) -> Result<(), AllocError> {
         for file in files {
-            self.add(file.name.as_str(), self.contents.bytes(file.content))?;
+            if !missing.iter().any(|name| file.is_named(name.as_str())) {
+                self.add(file.name.as_str(), self.contents.bytes(file.content))?;
+            }
         }
         Ok(())
     }
 
     /// Adds a file.
     fn add(&mut self, name: &'a str, bytes: &'a [u8]) -> Result<(), AllocError> {
-        self.files.add(name, bytes, 0)?;
+        self.files.add(name, bytes, ROOM)?;
         self.hold(name, Some(bytes))
     }
 

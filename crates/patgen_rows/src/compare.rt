@@ -37,6 +37,8 @@ pub(crate) fn differences(
         )?;
     }
     compare_files(&mut text, case)?;
+    compare_pairs(&mut text, wants, case)?;
+    compare_end(&mut text, wants, case, &outcome.printed)?;
     compare_counts(&mut text, wants, outcome)?;
     Ok(text)
 }
@@ -120,6 +122,31 @@ fn compare_file(text: &mut String, case: &Case<'_>, held: &Held<'_>) -> Result<(
         None => writeln!(text, "  there is no file {name}"),
         Some(came) => push_difference(text, came == wanted, name, wanted, came),
     }
+}
+
+/// Each two files that have to hold the same.
+fn compare_pairs(text: &mut String, wants: &Wants, case: &Case<'_>) -> Result<(), AllocError> {
+    for pair in wants.same.iter() {
+        let wanted = case.files.bytes(pair.other.as_str()).unwrap_or(b"no file");
+        let came = case.files.bytes(pair.one.as_str()).unwrap_or(b"none");
+        push_difference(text, came == wanted, pair.one.as_str(), wanted, came)?;
+    }
+    Ok(())
+}
+
+/// The file that has to end with what was printed, which is not empty.
+fn compare_end(
+    text: &mut String,
+    wants: &Wants,
+    case: &Case<'_>,
+    came: &[u8],
+) -> Result<(), AllocError> {
+    let Some(name) = &wants.ended else {
+        return Ok(());
+    };
+    let file = case.files.bytes(name.as_str()).unwrap_or(b"");
+    let is_end = !came.is_empty() && file.ends_with(came);
+    push_difference(text, is_end, "printed the end", file, came)
 }
 
 fn compare_counts(text: &mut String, wants: &Wants, outcome: &Outcome) -> Result<(), AllocError> {

@@ -1,4 +1,5 @@
 //! The contents of a table: the bytes of files and of printed lines, piece by piece.
+use crate::made::{push_cells, push_letters, push_sample, push_words};
 use crate::problem::Problem;
 use crate::row::NamedContent;
 use std::alloc::{AllocError, Global};
@@ -43,7 +44,7 @@ impl Contents {
     }
 
     /// The content of this name.
-    fn find(&self, name: &str) -> Option<ContentId> {
+    pub fn find(&self, name: &str) -> Option<ContentId> {
         let named = self.named.iter().find(|named| named.is_named(name))?;
         Some(named.content)
     }
@@ -82,10 +83,10 @@ impl Contents {
                 bytes.extend_from_slice(self.bytes(content))?;
             }
             ("bytes", numbers) => push_numbers(&mut bytes, numbers)?,
-            ("letters", count) => push_letters(
-                &mut bytes,
-                count.parse().map_err(|_| Problem::BadNumber)?,
-            )?,
+            ("sample", numbers) => push_sample(self.alloc, &mut bytes, numbers)?,
+            ("letters", numbers) => push_letters(&mut bytes, numbers)?,
+            ("words", numbers) => push_words(&mut bytes, numbers)?,
+            ("cells", numbers) => push_cells(&mut bytes, numbers)?,
             _ => return Err(Problem::NoPiece),
         }
         Ok(bytes)
@@ -106,17 +107,6 @@ fn cut_times(line: &str) -> (usize, &str) {
 fn push_numbers(bytes: &mut Vec<u8>, numbers: &str) -> Result<(), Problem> {
     for number in numbers.split(' ') {
         bytes.push(number.parse().map_err(|_| Problem::BadNumber)?)?;
-    }
-    Ok(())
-}
-
-/// Appends so many lines of a translate file. Their letters are spelled aaa, aab and so on.
-fn push_letters(bytes: &mut Vec<u8>, count: usize) -> Result<(), AllocError> {
-    for i in 0..count {
-        let first = b'a' + (i / 676 % 26) as u8;
-        let second = b'a' + (i / 26 % 26) as u8;
-        let third = b'a' + (i % 26) as u8;
-        bytes.extend_from_slice(&[b' ', first, second, third, b'\n'])?;
     }
     Ok(())
 }

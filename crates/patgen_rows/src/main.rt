@@ -9,6 +9,7 @@ mod cases;
 mod changes;
 mod compare;
 mod contents;
+mod made;
 mod problem;
 mod row;
 mod table;

@@ -23,6 +23,13 @@ impl NamedContent {
     }
 }
 
+/// The names of two files.
+#[derive(Clone, Drop)]
+pub(crate) struct Pair {
+    pub one: String,
+    pub other: String,
+}
+
 /// A call on files or a put that fails: its number, counted from 1, and how many bytes it keeps.
 #[derive(Clone, Copy)]
 pub(crate) struct Fault {
@@ -56,6 +63,10 @@ pub(crate) struct Wants {
     pub after: Vec<NamedContent>,
     /// The files that may hold anything after the call.
     pub any: Vec<String>,
+    /// Files that hold the same after the call.
+    pub same: Vec<Pair>,
+    /// The file that ends with what is printed, if one is to.
+    pub ended: Option<String>,
     pub failing_call: Option<Fault>,
     pub failing_put: Option<Fault>,
     /// How many calls on the files and how many puts are made, those that fail too.
@@ -71,6 +82,8 @@ impl Wants {
             printed: Vec::new(alloc),
             after: Vec::new(alloc),
             any: Vec::new(alloc),
+            same: Vec::new(alloc),
+            ended: None,
             failing_call: None,
             failing_put: None,
             calls: None,
@@ -103,6 +116,8 @@ pub(crate) struct Call {
 pub(crate) struct Row {
     pub title: String,
     pub files: Vec<NamedContent>,
+    /// The names of the files of the table that are not there.
+    pub missing: Vec<String>,
     /// The name of the file of which each change is tried, if there is one.
     pub changed: Option<String>,
     pub calls: Vec<Call>,

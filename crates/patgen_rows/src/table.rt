@@ -1,7 +1,7 @@
 //! Reading a table.
 use crate::contents::{ContentId, Contents};
 use crate::problem::{Problem, TableError};
-use crate::row::{Before, Call, Fault, NamedContent, Printed, Row, Wants};
+use crate::row::{Before, Call, Fault, NamedContent, Pair, Printed, Row, Wants};
 use pg_top::Status;
 use std::alloc::{AllocError, Global};
 
@@ -40,12 +40,14 @@ struct Reader {
     is_in_content: bool,
 }
 
+/// The words with which a piece of a content begins that is made from numbers.
+const MADE: [&str; 5] = ["bytes ", "sample ", "letters ", "words ", "cells "];
+
 /// Whether a line is a piece of a content.
 fn is_piece(line: &str) -> bool {
     line.starts_with(['>', '+', '='])
         || line.starts_with(|c: char| c.is_ascii_digit())
-        || line.starts_with("bytes ")
-        || line.starts_with("letters ")
+        || MADE.iter().any(|word| line.starts_with(*word))
 }
 
 impl Reader {
@@ -88,8 +90,11 @@ impl Reader {
         self.table.contents.push_piece(piece)
     }
 
-    /// Begins a content, whose first piece may stand on the same line.
+    /// Begins a content, whose first piece may stand on the same line. A name there is the content of this name itself.
     fn read_content(&mut self, rest: &str) -> Result<ContentId, Problem> {
+        if let Some(name) = rest.strip_prefix("= ") {
+            return self.table.contents.find(name).ok_or(Problem::NoContent);
+        }
         let content = self.table.contents.begin()?;
         self.is_in_content = true;
         if !rest.is_empty() {
@@ -114,6 +119,8 @@ impl Reader {
             "puts" => self.wants()?.puts = Some(number_of(rest)?),
             "any" => self.read_any(rest)?,
             "changes" => self.read_changes(rest)?,
+            "missing" => self.read_missing(rest)?,
+            "same" => self.read_same(rest)?,
             _ => return Err(Problem::NoWord),
         }
         Ok(())
@@ -169,6 +176,32 @@ impl Reader {
         Ok(())
     }
 
+    /// Reads the name of a file of the table that a row is without.
+    fn read_missing(&mut self, name: &str) -> Result<(), Problem> {
+        let name = String::from_str(self.alloc, name)?;
+        let row = self.table.rows.last_mut().ok_or(Problem::NoRow)?;
+        if !row.calls.is_empty() {
+            return Err(Problem::LateFile);
+        }
+        if !is_given(&self.table.files, name.as_str()) {
+            return Err(Problem::NoFile);
+        }
+        row.missing.push(name)?;
+        Ok(())
+    }
+
+    /// Reads the names of two files that hold the same.
+    fn read_same(&mut self, names: &str) -> Result<(), Problem> {
+        let alloc = self.alloc;
+        let (one, other) = names.split_once(' ').ok_or(Problem::NoFile)?;
+        let pair = Pair {
+            one: String::from_str(alloc, one)?,
+            other: String::from_str(alloc, other)?,
+        };
+        self.wants()?.same.push(pair)?;
+        Ok(())
+    }
+
     /// Reads something that is wanted of what is printed.
     fn read_printed(&mut self, how: &str, rest: &str) -> Result<(), Problem> {
         let printed = match how {
@@ -176,6 +209,10 @@ impl Reader {
             "beginning" => Printed::Beginning(self.read_content(rest)?),
             "ending" => Printed::Ending(self.read_content(rest)?),
             "at line" => Printed::AtLine(self.read_content(rest)?),
+            "end of" => {
+                self.wants()?.ended = Some(String::from_str(self.alloc, rest)?);
+                return Ok(());
+            }
             "again" if rest.is_empty() => Printed::Again,
             "anything" if rest.is_empty() => Printed::Anything,
             _ => return Err(Problem::NoWord),
@@ -201,6 +238,7 @@ impl Reader {
         self.table.rows.push(Row {
             title: String::from_str(alloc, title)?,
             files: Vec::new(alloc),
+            missing: Vec::new(alloc),
             changed: None,
             calls: Vec::new(alloc),
         })?;
@@ -224,7 +262,7 @@ impl Reader {
         if call.wants.status.is_none() {
             return Err(Problem::NoStatus);
         }
-        if call.wants.printed.is_empty() {
+        if call.wants.printed.is_empty() && call.wants.ended.is_none() {
             return Err(Problem::NoPrints);
         }
         Ok(())

@@ -1,4 +1,4 @@
-//! What a dictionary gives of small files, and of the longest.
+//! What a dictionary gives of small files.
 use pg_dict::Dictionary;
 use pg_translate::Table;
 use pg_types::{ReadingError, Weight};
@@ -68,14 +68,15 @@ fn positions_of_a_word(rt: HostRuntime) -> Result<(), Fail> {
 
 #[test]
 fn one_slice_of_all_signs(rt: HostRuntime) -> Result<(), Fail> {
-    let dictionary = dictionary_of(rt.alloc(), b"ab-c\nab?a\n")?;
+    let dictionary = dictionary_of(rt.alloc(), b"ab-c\nab-a\n")?;
     assert_eq!(rt;
         dictionary.all_signs(),
         [1, 2, 3, 4, 1, 1, 2, 3, 2, 1].as_slice()
     );
-    assert_eq!(rt; dictionary.len(), 2);
+    let dictionary = dictionary_of(rt.alloc(), b"ab?a\n")?;
+    assert_eq!(rt; dictionary.len(), 1);
     assert_eq!(rt;
-        dictionary.word(1).cares(),
+        dictionary.word(0).cares(),
         [true, true, true, false, true].as_slice()
     );
     Ok(())
@@ -128,23 +129,5 @@ fn refused_dictionaries(rt: HostRuntime) -> Result<(), Fail> {
     for (file, number, line, column) in files {
         assert_eq!(rt; refusal_of(rt.alloc(), file)?, (number, line, column));
     }
-    Ok(())
-}
-
-#[test]
-fn lines_of_a_million_items(rt: HostRuntime) -> Result<(), Fail> {
-    for item in [b'9', b'-'] {
-        let line = vec![in rt.alloc(); item; 1_000_000]?;
-        assert_eq!(rt; dictionary_of(rt.alloc(), &line)?.len(), 0);
-    }
-    Ok(())
-}
-
-#[test]
-fn the_longest_file(rt: HostRuntime) -> Result<(), Fail> {
-    let mut file = vec![in rt.alloc(); b'\n'; 67_108_864]?;
-    assert_eq!(rt; dictionary_of(rt.alloc(), &file)?.len(), 0);
-    file.push(b'\n')?;
-    assert_eq!(rt; refusal_of(rt.alloc(), &file)?, (403, 0, 0));
     Ok(())
 }

@@ -78,8 +78,13 @@ fn written(alloc: Global, file: &[u8]) -> Result<Vec<u8>, ReadingError> {
     Ok(set.text(alloc, &table)?)
 }
 
+/// The longest pattern, with a digit at each of its dots.
+const LONGEST: &[u8] = b"1a1a1a1a1a1a1a1a1a1a1a1a1a1a1a1a1a1a1a1a1a1a1a1a1a1a1a1a1a1a1a1a1";
+
 #[test]
 fn files_and_their_texts(rt: HostRuntime) -> Result<(), Fail> {
+    let table = Table::default_letters(rt.alloc())?;
+    assert_eq!(rt; PatternSet::read(rt.alloc(), &table, LONGEST)?.len(), 33);
     let cases = [
         (
             b"b1c\na2b\na1b\n.a1\n".as_slice(),

@@ -1,7 +1,7 @@
 //! Tables of letters, and the items of lines under them.
 use pg_translate::{Item, Place, Table};
-use pg_types::{EDGE, FILE_MAX, Mark, ReadingError, Refusal};
-use std::alloc::{AllocError, Global};
+use pg_types::{EDGE, Mark, ReadingError, Refusal};
+use std::alloc::Global;
 use std::test::Fail;
 
 #[test]
@@ -140,31 +140,4 @@ fn refused_tables(rt: HostRuntime) {
             "at {text}"
         );
     }
-}
-
-/// A translate file with so many letters, each spelled by three letters of ASCII.
-fn letters_text(alloc: Global, letters: u32) -> Result<Vec<u8>, AllocError> {
-    let mut text = b" 1 1\n".to_vec(alloc)?;
-    for n in 0..letters {
-        let (high, middle, low) = ((n / 676 % 26) as u8, (n / 26 % 26) as u8, (n % 26) as u8);
-        text.extend_from_slice(&[b' ', b'a' + high, b'a' + middle, b'a' + low, b'\n'])?;
-    }
-    Ok(text)
-}
-
-#[test]
-fn two_thousand_letters(rt: HostRuntime) -> Result<(), Fail> {
-    let text = letters_text(rt.alloc(), 2000)?;
-    let table = Table::read(rt.alloc(), text.as_slice()).map_err(|_| "refused")?;
-    assert_eq!(rt; table.letters(), 2000);
-    let text = letters_text(rt.alloc(), 2001)?;
-    assert_eq!(rt; refusal(rt.alloc(), text.as_slice()), Some((106, 2002, 1)));
-    Ok(())
-}
-
-#[test]
-fn a_file_past_its_limit(rt: HostRuntime) -> Result<(), Fail> {
-    let text = vec![in rt.alloc(); b'\n'; FILE_MAX + 1]?;
-    assert_eq!(rt; refusal(rt.alloc(), text.as_slice()), Some((101, 0, 0)));
-    Ok(())
 }

@@ -9,17 +9,15 @@ use Rattle.pg_cells.specs.Members.{IsNextSign, goes_on}
 use Rattle.pg_cells.proofs.LinkLaws.{goes_has}
 use Rattle.pg_cells.proofs.Walking.{ends_before}
 use Rattle.pg_count.specs.Bounds.{first_sign}
+use Rattle.pg_count.specs.Counting.{Tally}
 use Rattle.pg_count.specs.Least.{NoneAt}
 use Rattle.pg_count.proofs.Searching.{none_before, none_ends}
-
-abbrev Sums : Type 0
-Sums = Option (ℕ × ℕ)
 
 pub first_up : (bound : List ℕ) → 1 ≤ first_sign bound
 first_up [] = omega arith
 first_up (s ∷ q) = omega arith
 
-module _ (h : ValuedFamilies Sums) (held : AreValuedFamilies h) (p bound : List ℕ) (k : ℕ) where
+module _ (h : ValuedFamilies (Option Tally)) (held : AreValuedFamilies h) (p bound : List ℕ) (k : ℕ) where
   -- a sign that the family lacks does not serve
   absent_none : (x : ℕ) → goes_on h.values p x ≡ false → NoneAt h.values p bound k x
   absent_none x off = none_ends h.values p bound k x (ends_before h held p x (none (cell_of h.families (p ++ x ∷ [])) refl))

@@ -2,9 +2,11 @@ pub mod Above
 pub mod Adding
 pub mod Beginning
 pub mod Bounding
+pub mod Chaining
 pub mod Counted
+pub mod Looking
 pub mod Mapped
 pub mod Nexting
 pub mod Searching
 pub mod Telling
-mod Chaining
+pub mod Walking

@@ -17,7 +17,8 @@ use Rattle.pg_cells.specs.AreValuedFamilies.{AreValuedFamilies}
 use Rattle.pg_cells.specs.Walks.{EndsBefore}
 use Rattle.pg_cells.proofs.StringMaps.{order}
 use Rattle.pg_count.specs.Bounds.{first_sign, rest_after, is_past}
-use Rattle.pg_count.specs.Counting.{Tallies, sums_at}
+use Rattle.std.specs.Option.{option_map}
+use Rattle.pg_count.specs.Counting.{Tally, Tallies, sums_at, sums_seen}
 use Rattle.pg_count.specs.Least.{NoneAt, NoneAbove, LeastAbove, LeastAt}
 use Rattle.pg_count.proofs.Bounding.{nat_equal, below_first, rest_decides, past_is}
 use Rattle.pg_types.proofs.BoolFacts.{less_is}
@@ -26,26 +27,31 @@ use Rattle.pg_types.proofs.BoolFacts.{less_is}
 goes_on : (p : List ℕ) (s : ℕ) (q : List ℕ) → p ++ s ∷ q ≡ (p ++ s ∷ []) ++ q
 goes_on p s q = sym (append_assoc p (s ∷ []) q)
 
--- what is counted has a value
-value_of : (ts : Tallies) (q : List ℕ) (n : ℕ × ℕ) → sums_at ts q ≡ Some n → find order q ts ≡ Some (Some n)
+-- what is counted has a tally
+value_of : (ts : Tallies) (q : List ℕ) (n : ℕ × ℕ) → sums_at ts q ≡ Some n → (t : Tally) × (find order q ts ≡ Some (Some t))
 value_of ts q n there = by (find order q ts) refl
   where
-    by : (o : Option (Option (ℕ × ℕ))) → find order q ts ≡ o → find order q ts ≡ Some (Some n)
-    by None is = absurd (let wrong : None ≡ Some n = sym (ap (λ o. unwrap_or o None) is) ∙ there in cc)
-    by (Some tally) is = is ∙ ap Some (sym (ap (λ o. unwrap_or o None) is) ∙ there)
+    told : (o : Option (Option Tally)) → find order q ts ≡ o → option_map sums_seen (unwrap_or o None) ≡ Some n
+    told o is = sym (ap (λ o. option_map sums_seen (unwrap_or o None)) is) ∙ there
+
+    by : (o : Option (Option Tally)) → find order q ts ≡ o → (t : Tally) × (find order q ts ≡ Some (Some t))
+    by None is = absurd (let wrong : None ≡ Some n = told None is in cc)
+    by (Some None) is = absurd (let wrong : None ≡ Some n = told (Some None) is in cc)
+    by (Some (Some t)) is = (t, is)
 
 -- and each of its signs is one of the table
-pub counted_sign : (h : ValuedFamilies (Option (ℕ × ℕ))) → AreValuedFamilies h → (p : List ℕ) (s : ℕ) (q : List ℕ) (n : ℕ × ℕ) → sums_at h.values (p ++ s ∷ q) ≡ Some n → (1 ≤ s) × (s ≤ h.signs)
+pub counted_sign : (h : ValuedFamilies (Option Tally)) → AreValuedFamilies h → (p : List ℕ) (s : ℕ) (q : List ℕ) (n : ℕ × ℕ) → sums_at h.values (p ++ s ∷ q) ≡ Some n → (1 ≤ s) × (s ≤ h.signs)
 counted_sign h held p s q n there = by (cell_of h.families (p ++ s ∷ [])) refl
   where
     by : (o : Option ℕ) → cell_of h.families (p ++ s ∷ []) ≡ o → (1 ≤ s) × (s ≤ h.signs)
     by None is =
-        let cell = held.celled (p ++ s ∷ q) (Some n) (value_of h.values (p ++ s ∷ q) n there) in
+        let value = value_of h.values (p ++ s ∷ q) n there in
+        let cell = held.celled (p ++ s ∷ q) (Some value.0) value.1 in
         absurd (let wrong : None ≡ Some cell.0 = sym (held.closed p s q is) ∙ sym (ap (cell_of h.families) (goes_on p s q)) ∙ cell.1 in cc)
     by (Some cell) is = held.signs p s cell is
 
 -- no sign before the first of the bound serves
-pub none_before : (h : ValuedFamilies (Option (ℕ × ℕ))) → AreValuedFamilies h → (p bound : List ℕ) (k s : ℕ) → s < first_sign bound → NoneAt h.values p bound k s
+pub none_before : (h : ValuedFamilies (Option Tally)) → AreValuedFamilies h → (p bound : List ℕ) (k s : ℕ) → s < first_sign bound → NoneAt h.values p bound k s
 none_before h held p bound k s lt = λ q n size there over.
     let sign = counted_sign h held p s q n there in
     let less = below_first bound s q sign.0 lt in
@@ -53,14 +59,15 @@ none_before h held p bound k s lt = λ q n size there over.
     cc
 
 -- nor one past the table's
-pub none_past : (h : ValuedFamilies (Option (ℕ × ℕ))) → AreValuedFamilies h → (p bound : List ℕ) (k s : ℕ) → h.signs < s → NoneAt h.values p bound k s
+pub none_past : (h : ValuedFamilies (Option Tally)) → AreValuedFamilies h → (p bound : List ℕ) (k s : ℕ) → h.signs < s → NoneAt h.values p bound k s
 none_past h held p bound k s lt = λ q n size there over. let sign = counted_sign h held p s q n there in omega arith
 
 -- nor one below which no string has a value
 pub none_ends : (ts : Tallies) (p bound : List ℕ) (k s : ℕ) → EndsBefore ts (p ++ s ∷ []) → NoneAt ts p bound k s
 none_ends ts p bound k s ends = λ q n size there over.
     let none : find order (p ++ s ∷ q) ts ≡ None = ap (λ x. find order x ts) (goes_on p s q) ∙ ends q in
-    let wrong : None ≡ Some (Some n) = sym none ∙ value_of ts (p ++ s ∷ q) n there in
+    let value = value_of ts (p ++ s ∷ q) n there in
+    let wrong : None ≡ Some (Some value.0) = sym none ∙ value.1 in
     cc
 
 -- nor one without a family below it, where more signs are left
@@ -72,7 +79,8 @@ none_childless ts p bound k s more ends = by
     by (x ∷ q) n size there over =
         let way : p ++ s ∷ x ∷ q ≡ ((p ++ s ∷ []) ++ x ∷ []) ++ q = goes_on p s (x ∷ q) ∙ goes_on (p ++ s ∷ []) x q in
         let none : find order (p ++ s ∷ x ∷ q) ts ≡ None = ap (λ y. find order y ts) way ∙ ends x q in
-        let wrong : None ≡ Some (Some n) = sym none ∙ value_of ts (p ++ s ∷ x ∷ q) n there in
+        let value = value_of ts (p ++ s ∷ x ∷ q) n there in
+        let wrong : None ≡ Some (Some value.0) = sym none ∙ value.1 in
         cc
 
 -- nor one behind which none is above the rest of the bound
@@ -125,17 +133,17 @@ none_passes ts p bound s fails = λ q n size there over.
 -- nor where its string is not counted
 pub none_counted : (ts : Tallies) (p bound : List ℕ) (s : ℕ) → find order (p ++ s ∷ []) ts ≡ Some None → NoneAt ts p bound 1 s
 none_counted ts p bound s at = λ q n size there over.
-    let none : sums_at ts (p ++ s ∷ q) ≡ None = ap (λ x. sums_at ts (p ++ s ∷ x)) (empty q s size) ∙ ap (λ o. unwrap_or o None) at in
+    let none : sums_at ts (p ++ s ∷ q) ≡ None = ap (λ x. sums_at ts (p ++ s ∷ x)) (empty q s size) ∙ ap (λ o. option_map sums_seen (unwrap_or o None)) at in
     let wrong : None ≡ Some n = sym none ∙ there in
     cc
 
 -- the last sign, where it serves
-pub least_last : (ts : Tallies) (p bound : List ℕ) (s : ℕ) (sums : ℕ × ℕ) → 1 ≤ s → is_past bound s ≡ true → find order (p ++ s ∷ []) ts ≡ Some (Some sums) → LeastAt ts p bound s (s ∷ []) sums
-least_last ts p bound s sums sign over there = record {
+pub least_last : (ts : Tallies) (p bound : List ℕ) (s : ℕ) (number : ℕ) (sums : ℕ × ℕ) → 1 ≤ s → is_past bound s ≡ true → find order (p ++ s ∷ []) ts ≡ Some (Some (number, sums)) → LeastAt ts p bound s (s ∷ []) sums
+least_last ts p bound s number sums sign over there = record {
   tail = [];
   starts = refl;
   least = record {
-    found = ap (λ o. unwrap_or o None) there;
+    found = ap (λ o. option_map sums_seen (unwrap_or o None)) there;
     over = less_is (order bound (s ∷ [])) (past_is bound s ∙ over);
     are_signs = signs;
     least = λ q n size at up less.

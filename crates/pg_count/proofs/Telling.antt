@@ -1,5 +1,5 @@
 -- What the numbers of tallies tell after each step.
-use Rattle.std.proofs.Common.{◌≡◌, ◌≢◌, ℕ, ◌+◌, ◌-◌, ◌<◌, ◌≤◌, ◌⊎◌, inl, inr, Bool, true, false, cond, nat_lt, List, [], ◌∷◌, ◌++◌, length, get_or, set, Option, None, Some, suc, zero, refl, sym, ◌∙◌, ap, arith, length-append}
+use Rattle.std.proofs.Common.{◌≡◌, ◌≢◌, ℕ, ◌+◌, ◌-◌, ◌<◌, ◌≤◌, ◌⊎◌, inl, inr, Bool, true, false, cond, nat_lt, List, [], ◌∷◌, ◌++◌, length, get_or, set, Option, None, Some, suc, zero, refl, sym, ◌∙◌, ap, subst, arith, length-append}
 use Rattle.std.proofs.Math.Seq.{get_or-append_seam}
 use Rattle.std.proofs.lemmas.Bool.Decides.{nat_tests}
 use Rattle.std.proofs.lemmas.List.{get_or-set_same, get_or_append_left, length-set}
@@ -12,7 +12,11 @@ use Rattle.pg_cells.specs.Root.{root_held}
 use Rattle.pg_cells.specs.Walks.{AddsBlanks}
 use Rattle.pg_cells.proofs.StringMaps.{order, equal_or_not, find_put_same, find_put_other}
 use Rattle.pg_count.specs.declared.tally.TheConstants.{NOT_COUNTED, NUMBERS_END}
-use Rattle.pg_count.specs.Counting.{counts_in}
+use Rattle.std.specs.Option.{option_map, is_some}
+use Rattle.std.specs.FinMap.Entries.{length-put}
+use Rattle.std.specs.Cmp.Lexicographic.{nat_list_cmp_total}
+use Rattle.pg_count.specs.Counting.{Tally, seen_in, sums_seen, number_seen, counts_in, numbers_in}
+use Rattle.pg_count.proofs.Counted.{seen_there, seen_put, seen_again, seen_blanks, sorted_seen}
 use Rattle.pg_count.specs.Tallied.{tally_of, told, AreTold}
 use Rattle.pg_count.proofs.Mapped.{mapped, found_mapped, none_mapped, unmapped, unmapped_none, sorted_mapped, root_mapped, valued_families_mapped, put_from, root_blank}
 
@@ -33,35 +37,62 @@ older_or_not first k = by (nat_lt k first) refl
 -- an earlier number is that of no tally
 older_none : (first : ℕ) (tallies : Sums) (k : ℕ) → k < first → tally_of first tallies k ≡ None
 older_none first tallies k lt = elim (older_or_not first k) [
-  | inl old ↦ ap (λ b. cond b None (slice_get tallies (k - first))) old.1
+  | inl old ↦ ap (λ b. cond b None (option_map (λ sums. (k - first, sums)) (slice_get tallies (k - first)))) old.1
   | inr new ↦ absurd (let le = new.0 in omega arith)
 ]
 
 -- another is that of the tally at its place
-tally_is : (first : ℕ) (tallies : Sums) (k : ℕ) → first ≤ k → tally_of first tallies k ≡ slice_get tallies (k - first)
+tally_is : (first : ℕ) (tallies : Sums) (k : ℕ) → first ≤ k → tally_of first tallies k ≡ option_map (λ sums. (k - first, sums)) (slice_get tallies (k - first))
 tally_is first tallies k le = elim (older_or_not first k) [
   | inl old ↦ absurd (let lt = old.0 in omega arith)
-  | inr new ↦ ap (λ b. cond b None (slice_get tallies (k - first))) new.1
+  | inr new ↦ ap (λ b. cond b None (option_map (λ sums. (k - first, sums)) (slice_get tallies (k - first)))) new.1
 ]
 
 -- where two lists have one tally at a number's place, the number is that of the same tally in both
 same_tally : (first : ℕ) (ts us : Sums) (k : ℕ) → (first ≤ k → slice_get ts (k - first) ≡ slice_get us (k - first)) → tally_of first ts k ≡ tally_of first us k
 same_tally first ts us k same = elim (older_or_not first k) [
   | inl old ↦ older_none first ts k old.0 ∙ sym (older_none first us k old.0)
-  | inr new ↦ tally_is first ts k new.0 ∙ same new.0 ∙ sym (tally_is first us k new.0)
+  | inr new ↦ tally_is first ts k new.0 ∙ ap (option_map (λ sums. (k - first, sums))) (same new.0) ∙ sym (tally_is first us k new.0)
 ]
 
--- what is counted has a number of this pass
-pub is_tally : (h : ValuedFamilies ℕ) (first : ℕ) (tallies : Sums) (q : List ℕ) (k : ℕ) (was : ℕ × ℕ) → find order q h.values ≡ Some k → find order q (told h first tallies).values ≡ Some (Some was) → first ≤ k
-is_tally h first tallies q k was at told_at =
-    let both : Some (tally_of first tallies k) ≡ Some (Some was) = sym (found_mapped (tally_of first tallies) q k h.values at) ∙ told_at in
-    elim (older_or_not first k) [
-      | inl old ↦ absurd (let none = older_none first tallies k old.0 in cc)
-      | inr new ↦ new.0
-    ]
+-- what a tally tells of its number
+pub tally_parts : (first : ℕ) (tallies : Sums) (k n : ℕ) (sums : ℕ × ℕ) → tally_of first tallies k ≡ Some (n, sums) → (first ≤ k) × (k - first ≡ n) × (slice_get tallies n ≡ Some sums)
+tally_parts first tallies k n sums is = elim (older_or_not first k) [
+  | inl old ↦ absurd (let no : None ≡ Some (n, sums) = sym (older_none first tallies k old.0) ∙ is in cc)
+  | inr new ↦ by new.0 (slice_get tallies (k - first)) refl
+]
+  where
+    by : first ≤ k → (o : Option (ℕ × ℕ)) → slice_get tallies (k - first) ≡ o → (first ≤ k) × (k - first ≡ n) × (slice_get tallies n ≡ Some sums)
+    by le None e = absurd (let no : None ≡ Some (n, sums) = sym (tally_is first tallies k le ∙ ap (option_map (λ x. (k - first, x))) e) ∙ is in cc)
+    by le (Some x) e =
+        let both : Some (k - first, x) ≡ Some (n, sums) = sym (tally_is first tallies k le ∙ ap (option_map (λ x. (k - first, x))) e) ∙ is in
+        let pair : (k - first, x) ≡ (n, sums) = cc in
+        let number : k - first ≡ n = ap (λ (p : ℕ × (ℕ × ℕ)). p.0) pair in
+        let same : x ≡ sums = ap (λ (p : ℕ × (ℕ × ℕ)). p.1) pair in
+        (le, number, ap (slice_get tallies) (sym number) ∙ e ∙ ap Some same)
+
+-- the number in the cell of a string that is counted
+pub in_cell : (h : ValuedFamilies ℕ) (first : ℕ) (tallies : Sums) (q : List ℕ) (n : ℕ) (sums : ℕ × ℕ) → find order q (told h first tallies).values ≡ Some (Some (n, sums)) → (k : ℕ) × (find order q h.values ≡ Some k) × (first ≤ k) × (k - first ≡ n) × (slice_get tallies n ≡ Some sums)
+in_cell h first tallies q n sums at =
+    let x = unmapped (tally_of first tallies) q (Some (n, sums)) h.values at in
+    let t = tally_parts first tallies x.0 n sums (sym x.2) in
+    (x.0, x.1, t.0, t.1, t.2)
 
 -- where there are no tallies, and no string has a number that is yet to come
 module _ (h : ValuedFamilies ℕ) (first : ℕ) (tallies : Sums) (none : tallies ≡ []) where
+  none_in : {Y : Type 0} (see : Tally → Y) → seen_in see (told h first tallies).values ≡ []
+  none_in see = ap (λ ts. seen_in see (told h first ts).values) none ∙ by h.values
+    where
+      none_of : (k : ℕ) → tally_of first [] k ≡ None
+      none_of k = elim (older_or_not first k) [ inl old ↦ older_none first [] k old.0 | inr new ↦ tally_is first [] k new.0 ]
+
+      by : (es : List (List ℕ × ℕ)) → seen_in see (mapped (tally_of first []) es) ≡ []
+      by [] = refl
+      by (e ∷ es) = ap (λ o. seen_in see ((e.0, o) ∷ mapped (tally_of first []) es)) (none_of e.1) ∙ by es
+
+  pub none_counted : counts_in (told h first tallies).values ≡ []
+  none_counted = none_in sums_seen
+
   pub cleared_kept : AreValuedFamilies h → 1 ≤ first → first ≤ NUMBERS_END → ((q : List ℕ) (k : ℕ) → find order q h.values ≡ Some k → k < first) → AreTold h first tallies
   cleared_kept held positive few past = record {
     held = held;
@@ -69,17 +100,8 @@ module _ (h : ValuedFamilies ℕ) (first : ℕ) (tallies : Sums) (none : tallies
     few = (let size = ap length none in omega arith);
     numbers = λ q k e. (let lt = past q k e in omega arith);
     apart = λ q p k e d le. absurd (let lt = past q k e in omega arith);
+    size = ap length (none_in number_seen) ∙ sym (ap length none);
   }
-
-  pub none_counted : counts_in (told h first tallies).values ≡ []
-  none_counted = ap (λ ts. counts_in (told h first ts).values) none ∙ by h.values
-    where
-      none_of : (k : ℕ) → tally_of first [] k ≡ None
-      none_of k = elim (older_or_not first k) [ inl old ↦ older_none first [] k old.0 | inr new ↦ tally_is first [] k new.0 ]
-
-      by : (es : List (List ℕ × ℕ)) → counts_in (mapped (tally_of first []) es) ≡ []
-      by [] = refl
-      by (e ∷ es) = ap (λ o. counts_in ((e.0, o) ∷ mapped (tally_of first []) es)) (none_of e.1) ∙ by es
 
 -- the root alone
 module _ (n : ℕ) (h : ValuedFamilies ℕ) (root : h ≡ root_held n NOT_COUNTED) where
@@ -125,6 +147,7 @@ module _ (w : List ℕ) (old new : ValuedFamilies ℕ) (first : ℕ) (tallies : 
     few = are.few;
     numbers = λ q k e. elim (was_there q k e) [ inl z ↦ (let positive = are.positive in omega arith) | inr d ↦ are.numbers q k d ];
     apart = λ q p k e d le. are.apart q p k (counted_there q k e le) (counted_there p k d le) le;
+    size = ap length (seen_blanks number_seen w (told old first tallies).values (told new first tallies).values (held_told old first tallies are.held).ordered (held_told new first tallies held).ordered entered_told) ∙ are.size;
   }
 
 -- another element stays
@@ -143,14 +166,22 @@ module _ (h : ValuedFamilies ℕ) (first : ℕ) (tallies : Sums) (are : AreTold 
   size_set : length after ≡ length tallies
   size_set = length-set tallies (k - first) sums
 
-  set_here : tally_of first after k ≡ Some sums
+  within : k - first < length tallies
+  within = let l = are.numbers q k at in omega arith
+
+  tally_was : find order q (told h first tallies).values ≡ Some (Some (k - first, get_or tallies (k - first) sums))
+  tally_was =
+      found_mapped (tally_of first tallies) q k h.values at
+      ∙ ap Some (tally_is first tallies k le ∙ ap (option_map (λ x. (k - first, x))) (slice_get-get_or tallies (k - first) sums within))
+
+  set_here : tally_of first after k ≡ Some (k - first, sums)
   set_here =
       let lt : k - first < length tallies = (let l = are.numbers q k at in omega arith) in
-      tally_is first after k le ∙ slice_get-get_or after (k - first) sums (let e = size_set in omega arith)
-      ∙ ap Some (get_or-set_same tallies (k - first) sums sums lt)
+      tally_is first after k le
+      ∙ ap (option_map (λ x. (k - first, x))) (slice_get-get_or after (k - first) sums (let e = size_set in omega arith) ∙ ap Some (get_or-set_same tallies (k - first) sums sums lt))
 
-  pub set_told : told h first after ≡ record (told h first tallies) { values = put order q (Some sums) (told h first tallies).values }
-  set_told = ap (λ es. record (told h first tallies) { values = es }) (put_from q (Some sums) (told h first tallies).values (told h first after).values (sorted_mapped (tally_of first tallies) h.values are.held.ordered) (sorted_mapped (tally_of first after) h.values are.held.ordered)
+  pub set_told : told h first after ≡ record (told h first tallies) { values = put order q (Some (k - first, sums)) (told h first tallies).values }
+  set_told = ap (λ es. record (told h first tallies) { values = es }) (put_from q (Some (k - first, sums)) (told h first tallies).values (told h first after).values (sorted_mapped (tally_of first tallies) h.values are.held.ordered) (sorted_mapped (tally_of first after) h.values are.held.ordered)
       (found_mapped (tally_of first after) q k h.values at ∙ ap Some set_here) (λ p n. by p n (find order p h.values) refl))
     where
       by : (p : List ℕ) → p ≢ q → (o : Option ℕ) → find order p h.values ≡ o → find order p (told h first after).values ≡ find order p (told h first tallies).values
@@ -168,21 +199,42 @@ module _ (h : ValuedFamilies ℕ) (first : ℕ) (tallies : Sums) (are : AreTold 
     few = (let few = are.few in let size = size_set in omega arith);
     numbers = λ p m e. (let lt = are.numbers p m e in let size = size_set in omega arith);
     apart = are.apart;
+    size =
+        ap (λ (g : ValuedFamilies (Option Tally)). length (numbers_in g.values)) set_told
+        ∙ ap length (seen_again number_seen (told h first tallies).values q (k - first, get_or tallies (k - first) sums) (k - first, sums) (held_told h first tallies are.held).ordered tally_was refl)
+        ∙ are.size ∙ sym size_set;
   }
+
+-- the same by the tally's own number
+module _ (h : ValuedFamilies ℕ) (first : ℕ) (tallies : Sums) (are : AreTold h first tallies) (q : List ℕ) (n : ℕ) (was sums : ℕ × ℕ) (at : find order q (told h first tallies).values ≡ Some (Some (n, was))) where
+  pub numbered_are : AreTold h first (set tallies n sums)
+  numbered_are =
+      let cell = in_cell h first tallies q n was at in
+      subst (λ i. AreTold h first (set tallies i sums)) cell.3 (set_are h first tallies are q cell.0 cell.1 cell.2 sums)
+
+  pub numbered_told : told h first (set tallies n sums) ≡ record (told h first tallies) { values = put order q (Some (n, sums)) (told h first tallies).values }
+  numbered_told =
+      let cell = in_cell h first tallies q n was at in
+      subst (λ i. told h first (set tallies i sums) ≡ record (told h first tallies) { values = put order q (Some (i, sums)) (told h first tallies).values }) cell.3
+      (set_told h first tallies are q cell.0 cell.1 cell.2 sums)
 
 -- the string q gets a tally of its own
 module _ (h new : ValuedFamilies ℕ) (first : ℕ) (tallies more : Sums) (are : AreTold h first tallies) (q : List ℕ) (sums : ℕ × ℕ) (pushed : more ≡ tallies ++ sums ∷ []) (few : first + length more ≤ NUMBERS_END)
-    (is : new ≡ record h { values = put order q (first + length tallies) h.values }) (held : AreValuedFamilies new) where
+    (is : new ≡ record h { values = put order q (first + length tallies) h.values }) (held : AreValuedFamilies new) (blank : find order q (told h first tallies).values ≡ Some None) where
   size : length more ≡ length tallies + 1
   size = ap length pushed ∙ length-append tallies (sums ∷ [])
 
   place : (first + length tallies) - first ≡ length tallies
   place = omega arith
 
-  here : tally_of first more (first + length tallies) ≡ Some sums
+  there : slice_get more (length tallies) ≡ Some sums
+  there =
+      slice_get-get_or more (length tallies) sums (let s = size in omega arith) ∙ ap (λ l. Some (get_or l (length tallies) sums)) pushed ∙ ap Some (get_or-append_seam tallies sums [] sums)
+
+  here : tally_of first more (first + length tallies) ≡ Some (length tallies, sums)
   here =
-      tally_is first more (first + length tallies) (omega arith) ∙ ap (slice_get more) place
-      ∙ slice_get-get_or more (length tallies) sums (let s = size in omega arith) ∙ ap (λ l. Some (get_or l (length tallies) sums)) pushed ∙ ap Some (get_or-append_seam tallies sums [] sums)
+      tally_is first more (first + length tallies) (omega arith) ∙ ap (λ n. option_map (λ x. (n, x)) (slice_get more n)) place
+      ∙ ap (option_map (λ x. (length tallies, x))) there
 
   kept_there : (m : ℕ) → m < first + length tallies → tally_of first more m ≡ tally_of first tallies m
   kept_there m lt = same_tally first more tallies m (λ from.
@@ -199,10 +251,10 @@ module _ (h new : ValuedFamilies ℕ) (first : ℕ) (tallies more : Sums) (are :
   new_there : (p : List ℕ) → p ≢ q → find order p new.values ≡ find order p h.values
   new_there p n = ap (find order p) values ∙ find_put_other p q (first + length tallies) h.values n
 
-  pub count_told : told new first more ≡ record (told h first tallies) { values = put order q (Some sums) (told h first tallies).values }
+  pub count_told : told new first more ≡ record (told h first tallies) { values = put order q (Some (length tallies, sums)) (told h first tallies).values }
   count_told =
       ap (λ (g : ValuedFamilies ℕ). record { signs = g.signs; families = g.families; values = mapped (tally_of first more) new.values }) is
-      ∙ ap (λ es. record (told h first tallies) { values = es }) (put_from q (Some sums) (told h first tallies).values (told new first more).values (sorted_mapped (tally_of first tallies) h.values are.held.ordered) (sorted_mapped (tally_of first more) new.values held.ordered)
+      ∙ ap (λ es. record (told h first tallies) { values = es }) (put_from q (Some (length tallies, sums)) (told h first tallies).values (told new first more).values (sorted_mapped (tally_of first tallies) h.values are.held.ordered) (sorted_mapped (tally_of first more) new.values held.ordered)
       (found_mapped (tally_of first more) q (first + length tallies) new.values new_here ∙ ap Some here) (λ p n. by p n (find order p h.values) refl))
     where
       by : (p : List ℕ) → p ≢ q → (o : Option ℕ) → find order p h.values ≡ o → find order p (told new first more).values ≡ find order p (told h first tallies).values
@@ -235,4 +287,10 @@ module _ (h new : ValuedFamilies ℕ) (first : ℕ) (tallies more : Sums) (are :
         | inr also ↦ are.apart p r m was also le
       ]
     ];
+    size =
+        ap (λ (g : ValuedFamilies (Option Tally)). length (numbers_in g.values)) count_told
+        ∙ ap length (seen_put number_seen (told h first tallies).values q (length tallies, sums) (held_told h first tallies are.held).ordered)
+        ∙ length-put order nat_list_cmp_total q (length tallies) (numbers_in (told h first tallies).values) (sorted_seen number_seen (told h first tallies).values (held_told h first tallies are.held).ordered)
+        ∙ ap (λ o. cond (is_some o) (length (numbers_in (told h first tallies).values)) (length (numbers_in (told h first tallies).values) + 1)) (seen_there number_seen (told h first tallies).values (held_told h first tallies are.held).ordered q None blank)
+        ∙ ap (λ k. k + 1) are.size ∙ sym size;
   }

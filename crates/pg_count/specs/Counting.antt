@@ -1,5 +1,5 @@
 -- What a count trie is seen as, and how that stands in its cells.
-use Rattle.std.specs.Prelude.{◌≡◌, ℕ, ◌≤◌, true, T, List, length, unwrap_or, Option, None}
+use Rattle.std.specs.Prelude.{◌≡◌, ℕ, ◌≤◌, Bool, true, T, List, length, unwrap_or, Option, None}
 use Rattle.std.specs.List.{filter_map}
 use Rattle.std.specs.Option.{option_map}
 use Rattle.std.specs.Ordering.{nat_cmp}
@@ -8,13 +8,17 @@ use Rattle.std.specs.FinMap.Entries.{find, is_sorted}
 use Rattle.pg_types.specs.declared.limits.TheConstants.{LENGTH_MAX}
 use Rattle.pg_cells.specs.ValuedFamilies.{ValuedFamilies}
 use Rattle.pg_cells.specs.AreValuedFamilies.{AreValuedFamilies}
-use Rattle.pg_types.specs.Counts.{Counts, SignsWithin, is_counted}
+use Rattle.pg_types.specs.Counts.{Counts, SignsWithin, is_counted, with_count}
+use Rattle.pg_types.specs.Numbered.{Windows, with_window}
+use Rattle.pg_types.specs.Numbers.{Numbers, AreNumbers, by_number}
 
--- the number of signs of the table; how many signs a window has; and the counts of the windows
+-- the number of signs of the table; how many signs a window has; the counts of the windows; and the windows in the order of their
+-- numbers
 pub record Counting : Type 0 where
   pub signs : ℕ
   pub len : ℕ
   pub counts : Counts
+  pub windows : Windows
 
 -- what is always true of it
 pub record IsCounting (c : Counting) : Type 0 where
@@ -26,23 +30,50 @@ pub record IsCounting (c : Counting) : Type 0 where
   pub windows : (u : List ℕ) → is_counted c.counts u ≡ true → length u ≡ c.len
   pub signs : (u : List ℕ) → is_counted c.counts u ≡ true → SignsWithin c.signs u
 
--- the strings that have a cell, each with its sums where it is counted
+-- a window was counted: its sums have the weight, and it is among the windows
+abbrev pub counted_more : Counting → List ℕ → Bool → ℕ → Counting
+counted_more c u good weight = record c { counts = with_count c.counts u good weight; windows = with_window c.windows c.counts u }
+
+-- the number of a string, and its sums
+abbrev pub Tally : Type 0
+Tally = ℕ × (ℕ × ℕ)
+
+-- the strings that have a cell, each with its tally where it is counted
 abbrev pub Tallies : Type 0
-Tallies = List (List ℕ × Option (ℕ × ℕ))
+Tallies = List (List ℕ × Option Tally)
+
+-- the tally of a string that is counted
+abbrev pub tally_in : Tallies → List ℕ → Option Tally
+tally_in tallies q = unwrap_or (find (slice_cmp nat_cmp) q tallies) None
+
+-- the strings that are counted, with what is seen of their tallies
+abbrev pub seen_in : {Y : Type 0} → (Tally → Y) → Tallies → List (List ℕ × Y)
+seen_in see tallies = filter_map (λ e. option_map (λ t. (e.0, see t)) e.1) tallies
+
+abbrev pub sums_seen : Tally → ℕ × ℕ
+sums_seen t = t.1
+
+abbrev pub number_seen : Tally → ℕ
+number_seen t = t.0
 
 -- the sums of a string that is counted
 abbrev pub sums_at : Tallies → List ℕ → Option (ℕ × ℕ)
-sums_at tallies q = unwrap_or (find (slice_cmp nat_cmp) q tallies) None
+sums_at tallies q = option_map sums_seen (tally_in tallies q)
 
 -- the strings that are counted, with their sums
 abbrev pub counts_in : Tallies → Counts
-counts_in tallies = filter_map (λ e. option_map (λ sums. (e.0, sums)) e.1) tallies
+counts_in tallies = seen_in sums_seen tallies
+
+-- the same with their numbers
+abbrev pub numbers_in : Tallies → Numbers
+numbers_in tallies = seen_in number_seen tallies
 
 -- a count trie by its cells
-abbrev pub counting_of : ValuedFamilies (Option (ℕ × ℕ)) → ℕ → Counting
-counting_of cells len = record { signs = cells.signs; len = len; counts = counts_in cells.values }
+abbrev pub counting_of : ValuedFamilies (Option Tally) → ℕ → Counting
+counting_of cells len = record { signs = cells.signs; len = len; counts = counts_in cells.values; windows = by_number (numbers_in cells.values) }
 
 -- what is always true of the cells
-pub record AreCounting (cells : ValuedFamilies (Option (ℕ × ℕ))) (len : ℕ) : Type 0 where
+pub record AreCounting (cells : ValuedFamilies (Option Tally)) (len : ℕ) : Type 0 where
   pub held : AreValuedFamilies cells
   pub counting : IsCounting (counting_of cells len)
+  pub numbers : AreNumbers (numbers_in cells.values)

@@ -2,3 +2,4 @@ pub mod Bounds
 pub mod Counting
 pub mod Least
 pub mod Tallied
+pub mod Under

@@ -1,13 +1,15 @@
 //! The windows that are counted in a pass.
-ghost use Rattle.std.specs.Prelude.{◌≡◌, ◌≤◌, true, [], ◌∷◌, length, IfOk, OnOk, OnErr, IsOk, MatchOption};
+ghost use Rattle.std.specs.Prelude.{◌≡◌, ℕ, ◌≤◌, ◌<◌, true, List, [], ◌∷◌, ◌++◌, length, Some, IfOk, OnOk, OnErr, IsOk, MatchOption};
 ghost use Rattle.pg_types.specs.declared.limits.TheConstants.{LENGTH_MAX, SIGNS_MAX, WEIGHT_MAX};
-ghost use Rattle.pg_types.specs.Counts.{AreSmall, SignsWithin, counted_sums, sums_of, with_weight, with_count, is_counted, above};
-ghost use Rattle.pg_count.specs.Counting.{IsCounting};
+ghost use Rattle.pg_types.specs.Counts.{AreSmall, SignsWithin, counted_sums, sums_of, with_weight, is_counted, above};
+ghost use Rattle.pg_types.specs.Numbered.{AreInOrder, AreNumbered, HasNumber};
+ghost use Rattle.pg_count.specs.Counting.{IsCounting, counted_more};
 
 use crate::least::least;
 use crate::sums::sums_in;
 use crate::tallied::Tallied;
 use crate::tally::add_weight;
+use crate::walk::walk;
 use pg_types::{Cursor, EDGE, LENGTH_MAX, Sign, Weight};
 use std::alloc::{AllocError, Global};
 use std::marker::Model;
@@ -38,7 +40,7 @@ impl CountTrie {
     /// No window is counted, and a window has one sign.
     pub fn new(alloc: Global, signs: u16) -> Result<CountTrie, AllocError>
         requires { (1 ≤ signs) × (signs ≤ SIGNS_MAX) }
-        ensures { IfOk result (λ counts. counts ≡ record { signs = signs; len = 1; counts = [] }) }
+        ensures { IfOk result (λ counts. counts ≡ record { signs = signs; len = 1; counts = []; windows = [] }) }
     {
         let cells = Tallied::new(alloc, signs)?;
         Ok(CountTrie { cells, len: 1 })
@@ -49,7 +51,7 @@ impl CountTrie {
     /// Passes of one length count many of the same windows, so their cells may stay from pass to pass.
     pub fn begin(&mut self, len: u8)
         requires { (1 ≤ len) × (len ≤ LENGTH_MAX) }
-        ensures { self.new ≡ record self.old { len = len; counts = [] } }
+        ensures { self.new ≡ record self.old { len = len; counts = []; windows = [] } }
     {
         self.cells.clear(len == self.len);
         self.len = len;
@@ -59,6 +61,7 @@ impl CountTrie {
     pub fn window_len(&self) -> u8
         ensures len { result ≡ self.now.len }
         ensures kept { IsCounting self.now }
+        ensures numbered { AreNumbered self.now.windows self.now.counts }
     {
         self.len
     }
@@ -69,20 +72,40 @@ impl CountTrie {
         requires signs { SignsWithin self.old.signs window.now }
         requires weight { weight ≤ WEIGHT_MAX }
         requires small { AreSmall (with_weight (sums_of self.old.counts window.now) good weight) }
-        ensures ok { OnOk result (self.new
-            ≡ record self.old { counts = with_count self.old.counts window.now good weight }) }
+        ensures ok { OnOk result (self.new ≡ counted_more self.old window.now good weight) }
+        ensures there { is_counted self.old.counts window.now ≡ true → IsOk result }
+        ensures err { OnErr result (self.new ≡ self.old) }
+    {
+        self.add_numbered(window, good, weight)?;
+        Ok(())
+    }
+
+    /// Adds as `add` does, and gives the window's number: its place, from 0, among the windows of the pass in the order in which
+    /// they were first counted.
+    pub fn add_numbered(
+        &mut self,
+        window: &[Sign],
+        good: bool,
+        weight: Weight,
+    ) -> Result<u32, AllocError>
+        requires len { length window.now ≡ self.old.len }
+        requires signs { SignsWithin self.old.signs window.now }
+        requires weight { weight ≤ WEIGHT_MAX }
+        requires small { AreSmall (with_weight (sums_of self.old.counts window.now) good weight) }
+        ensures ok { OnOk result (self.new ≡ counted_more self.old window.now good weight) }
+        ensures number { IfOk result (λ number. HasNumber self.new.windows window.now number) }
         ensures there { is_counted self.old.counts window.now ≡ true → IsOk result }
         ensures err { OnErr result (self.new ≡ self.old) }
     {
         let cell = self.cells.enter(window)?;
-        match self.cells.sums(cell) {
-            Some(sums) => {
-                self.cells.set_sums(cell, add_weight(sums, good, weight));
-                Ok(())
+        match self.cells.tally(cell) {
+            Some((number, sums)) => {
+                self.cells.set_sums(number, add_weight(sums, good, weight));
+                Ok(number)
             }
             None => {
-                self.cells.count(cell, add_weight((0, 0), good, weight))?;
-                Ok(())
+                let number = self.cells.count(cell, add_weight((0, 0), good, weight))?;
+                Ok(number)
             }
         }
     }
@@ -94,6 +117,26 @@ impl CountTrie {
         ensures { result ≡ counted_sums self.now.counts window.now }
     {
         sums_in(&self.cells, window)
+    }
+
+    /// The good and the bad sum of the window with the number. It takes no memory.
+    pub fn sums_of(&self, number: u32) -> (u64, u64)
+        requires { number < length self.now.windows }
+        ensures { (u : List ℕ) → HasNumber self.now.windows u number → counted_sums self.now.counts u ≡ Some result }
+    {
+        self.cells.sums(number)
+    }
+
+    /// Appends the numbers of the counted windows in the order of signs, by one walk along the signs of the families. Refused:
+    /// some of them may have been appended.
+    pub fn order(&self, out: &mut Vec<u32>) -> Result<(), AllocError>
+        ensures { OnOk result ((ns : List ℕ) × (out.new.items ≡ out.old.items ++ ns)
+            × AreInOrder self.now.windows self.now.counts ns) }
+    {
+        if !self.cells.has_none() {
+            walk(&self.cells, 0, EDGE, self.len, out)?;
+        }
+        Ok(())
     }
 
     /// Moves the cursor to the least counted window that is greater, and gives its good and bad sums; none exactly where there is

@@ -129,7 +129,7 @@ fn last_at(
     if !is_past(bound, s) {
         return None;
     }
-    let sums = cells.sums(cell)?;
+    let (_, sums) = cells.tally(cell)?;
     path[0] = s;
     Some(sums)
 }

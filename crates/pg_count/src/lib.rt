@@ -7,5 +7,6 @@ mod least;
 mod sums;
 mod tallied;
 mod tally;
+mod walk;
 
 pub use counts::CountTrie;

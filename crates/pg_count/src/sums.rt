@@ -16,5 +16,6 @@ pub fn sums_in(cells: &Tallied, signs: &[Sign]) -> Option<(u64, u64)>
     for s in signs {
         at = Some(cells.step(at, *s)?);
     }
-    cells.sums(at?)
+    let (_, sums) = cells.tally(at?)?;
+    Some(sums)
 }

@@ -1,5 +1,5 @@
 //! The cells of strings of which some are counted.
-ghost use Rattle.std.specs.Prelude.{◌≡◌, ◌<◌, ◌≤◌, ◌==◌, true, ℕ, List, [], ◌∷◌, ◌++◌, length, All, Some, None, IfOk, OnOk, OnErr, if◌then◌else◌};
+ghost use Rattle.std.specs.Prelude.{◌≡◌, ◌<◌, ◌≤◌, ◌==◌, true, ℕ, List, [], ◌∷◌, ◌++◌, length, All, IsTrue, ◌↔◌, Some, None, IfOk, OnOk, OnErr, if◌then◌else◌};
 ghost use Rattle.std.specs.FinMap.{find, put};
 ghost use Rattle.std.specs.Cmp.Lexicographic.{slice_cmp};
 ghost use Rattle.std.specs.Ordering.{nat_cmp};
@@ -9,10 +9,10 @@ ghost use Rattle.pg_cells.specs.AreValuedFamilies.{AreValuedFamilies};
 ghost use Rattle.pg_cells.specs.Members.{IsNextSign};
 ghost use Rattle.pg_cells.specs.Root.{root_held};
 ghost use Rattle.pg_cells.specs.Walks.{IsAt, EndsBefore, AddsBlanks};
-ghost use Rattle.pg_count.specs.Counting.{counts_in};
+ghost use Rattle.pg_count.specs.Counting.{counts_in, numbers_in};
 ghost use Rattle.pg_count.specs.declared.tally.TheConstants.{NUMBERS_END};
 
-use crate::tally::{NOT_COUNTED, NUMBERS_END, push_tally, set_tally, tally_at};
+use crate::tally::{NOT_COUNTED, NUMBERS_END, push_tally, set_tally, sums_at, tally_at};
 use pg_cells::Cells;
 use pg_types::Sign;
 use std::alloc::{AllocError, Global};
@@ -44,10 +44,11 @@ impl Model for Tallied {
     ghost use Rattle.std.specs.Coded.{coded_option, coded×, coded_ℕ};
     ghost use Rattle.pg_cells.specs.ValuedFamilies.{ValuedFamilies, valued_families_code};
     ghost use Rattle.pg_count.specs.Tallied.{told, AreTold};
+    ghost use Rattle.pg_count.specs.Counting.{Tally};
 
-    ghost Value = { ValuedFamilies (Option (ℕ × ℕ)) };
+    ghost Value = { ValuedFamilies (Option Tally) };
 
-    ghost coded = { valued_families_code (coded_option (coded× coded_ℕ coded_ℕ)) };
+    ghost coded = { valued_families_code (coded_option (coded× coded_ℕ (coded× coded_ℕ coded_ℕ))) };
 
     ghost view = { λ t. told t.cells t.first t.tallies.items };
 
@@ -86,9 +87,9 @@ impl Tallied {
         self.tallies.clear();
     }
 
-    /// Whether there is no tally, so that no string is counted.
+    /// Whether no string is counted.
     pub fn has_none(&self) -> bool
-        ensures { result ≡ true → counts_in self.now.values ≡ [] }
+        ensures { IsTrue result ↔ counts_in self.now.values ≡ [] }
     {
         self.tallies.is_empty()
     }
@@ -151,13 +152,23 @@ impl Tallied {
         pg_cells::step(&self.cells, at, s)
     }
 
-    /// The good and the bad sum of the cell's string, or `None` where it is not counted.
-    pub fn sums(&self, cell: usize) -> Option<(u64, u64)>
+    /// The number and the sums of the cell's string, or `None` where it is not counted.
+    pub fn tally(&self, cell: usize) -> Option<(u32, (u64, u64))>
         requires { (q : List ℕ) × (cell_of self.now.families q ≡ Some cell) }
         ensures { (q : List ℕ) → cell_of self.now.families q ≡ Some cell → find (slice_cmp nat_cmp) q self.now.values
             ≡ Some result }
     {
         tally_at(self.tallies.as_slice(), self.first, self.cells.value(cell))
+    }
+
+    /// The good and the bad sum of the string with the number.
+    pub fn sums(&self, number: u32) -> (u64, u64)
+        requires { (q : List ℕ) × (was : ℕ × ℕ) × (find (slice_cmp nat_cmp) q self.now.values
+            ≡ Some (Some (number, was))) }
+        ensures { (q : List ℕ) (was : ℕ × ℕ) → find (slice_cmp nat_cmp) q self.now.values ≡ Some (Some (number, was)) →
+            result ≡ was }
+    {
+        sums_at(self.tallies.as_slice(), number)
     }
 
     /// Gives each prefix of the string a cell, and answers the cell of the string. What is counted stays.
@@ -175,29 +186,34 @@ impl Tallied {
         pg_cells::enter(&mut self.cells, signs, NOT_COUNTED)
     }
 
-    /// Sets the sums of a string that is counted.
-    pub fn set_sums(&mut self, cell: usize, sums: (u64, u64))
-        requires { (q : List ℕ) × (was : ℕ × ℕ) × ((cell_of self.old.families q ≡ Some cell)
-            × (find (slice_cmp nat_cmp) q self.old.values ≡ Some (Some was))) }
-        ensures held { (q : List ℕ) → cell_of self.old.families q ≡ Some cell →
-            self.new ≡ record self.old { values = put (slice_cmp nat_cmp) q (Some sums) self.old.values } }
+    /// Sets the sums of the string with the number.
+    pub fn set_sums(&mut self, number: u32, sums: (u64, u64))
+        requires { (q : List ℕ) × (was : ℕ × ℕ) × (find (slice_cmp nat_cmp) q self.old.values
+            ≡ Some (Some (number, was))) }
+        ensures held { (q : List ℕ) (was : ℕ × ℕ) → find (slice_cmp nat_cmp) q self.old.values ≡ Some (Some (number, was)) →
+            self.new ≡ record self.old { values = put (slice_cmp nat_cmp) q (Some (number, sums)) self.old.values } }
         ensures kept { AreValuedFamilies self.new }
     {
-        let number = self.cells.value(cell);
-        set_tally(&mut self.tallies, self.first, number, sums);
+        set_tally(&mut self.tallies, number, sums);
     }
 
-    /// Counts a string, with the sums. Refused: it is not counted.
-    pub fn count(&mut self, cell: usize, sums: (u64, u64)) -> Result<(), AllocError>
-        requires { (q : List ℕ) × (cell_of self.old.families q ≡ Some cell) }
+    /// Counts a string that is not counted, with the sums, and gives its number, which is the next one. Refused: it is not counted.
+    pub fn count(&mut self, cell: usize, sums: (u64, u64)) -> Result<u32, AllocError>
+        requires { (q : List ℕ) × ((cell_of self.old.families q ≡ Some cell)
+            × (find (slice_cmp nat_cmp) q self.old.values ≡ Some None)) }
+        ensures number { IfOk result (λ number. number ≡ length (numbers_in self.old.values)) }
         ensures held { (q : List ℕ) → cell_of self.old.families q ≡ Some cell → OnOk result (self.new
-            ≡ record self.old { values = put (slice_cmp nat_cmp) q (Some sums) self.old.values }) }
+            ≡ record self.old {
+              values = put (slice_cmp nat_cmp) q
+                  (Some (length (numbers_in self.old.values), sums)) self.old.values;
+            }) }
         ensures kept { AreValuedFamilies self.new }
         ensures err { OnErr result (self.new ≡ self.old) }
     {
-        let number = push_tally(&mut self.tallies, self.first, sums)?;
-        self.cells.set_value(cell, number);
-        Ok(())
+        let number = self.tallies.len() as u32;
+        let in_cell = push_tally(&mut self.tallies, self.first, sums)?;
+        self.cells.set_value(cell, in_cell);
+        Ok(number)
     }
 }
 

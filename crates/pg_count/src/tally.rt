@@ -1,5 +1,5 @@
 //! The sums of good and bad weights of a string, as one tally of a list.
-ghost use Rattle.std.specs.Prelude.{◌≡◌, ◌+◌, ◌-◌, ◌<◌, ◌≤◌, ◌++◌, [], ◌∷◌, length, set, IfOk, OnOk, OnErr};
+ghost use Rattle.std.specs.Prelude.{◌≡◌, ◌+◌, ◌<◌, ◌≤◌, ◌++◌, [], ◌∷◌, length, set, slice_get, Some, IfOk, OnOk, OnErr};
 ghost use Rattle.pg_types.specs.Counts.{AreSmall, with_weight};
 ghost use Rattle.pg_count.specs.Tallied.{tally_of};
 
@@ -25,23 +25,32 @@ pub fn add_weight(sums: (u64, u64), good: bool, weight: Weight) -> (u64, u64)
     }
 }
 
-/// The tally with a number, where they are numbered from `first` on, or `None` where no tally has it.
-pub fn tally_at(tallies: &[(u64, u64)], first: u32, number: u32) -> Option<(u64, u64)>
-    ensures { result ≡ tally_of first tallies.now number }
+/// The tally with the number of a cell, where they are numbered from `first` on, or `None` where no tally has it. Before its sums
+/// stands its own number, from 0 on.
+pub fn tally_at(tallies: &[(u64, u64)], first: u32, in_cell: u32) -> Option<(u32, (u64, u64))>
+    ensures { result ≡ tally_of first tallies.now in_cell }
 {
-    if number < first {
+    if in_cell < first {
         return None;
     }
-    tallies.get((number - first) as usize).copied()
+    let number = in_cell - first;
+    tallies.get(number as usize).map(|sums| (number, *sums))
 }
 
-/// Sets the tally with a number, where they are numbered from `first` on.
-pub fn set_tally(tallies: &mut Vec<(u64, u64)>, first: u32, number: u32, sums: (u64, u64))
-    requires from { first ≤ number }
-    requires there { number < first + length tallies.old.items }
-    ensures { tallies.new.items ≡ set tallies.old.items (number - first) sums }
+/// The sums of the tally with the number.
+pub fn sums_at(tallies: &[(u64, u64)], number: u32) -> (u64, u64)
+    requires { number < length tallies.now }
+    ensures { slice_get tallies.now number ≡ Some result }
 {
-    tallies[(number - first) as usize] = sums;
+    tallies[number as usize]
+}
+
+/// Sets the sums of the tally with the number.
+pub fn set_tally(tallies: &mut Vec<(u64, u64)>, number: u32, sums: (u64, u64))
+    requires { number < length tallies.old.items }
+    ensures { tallies.new.items ≡ set tallies.old.items number sums }
+{
+    tallies[number as usize] = sums;
 }
 
 /// Adds a tally and gives its number, where they are numbered from `first` on, as long as a number is left.

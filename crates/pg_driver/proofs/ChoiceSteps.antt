@@ -1,12 +1,11 @@
 -- A step of the choice among the candidates.
 use Rattle.std.proofs.Common.{◌≡◌, ℕ, ◌+◌, ◌≤◌, Bool, true, false, cond, not, List, [], ◌∷◌, ◌++◌, length, map, fold, is_some, Option, Some, None, refl, sym, ap, ◌∙◌, arith}
-use Rattle.std.specs.Ordering.{is_lt, is_eq, eq_by_cmp}
+use Rattle.std.specs.Ordering.{is_eq, eq_by_cmp}
 use Rattle.std.specs.Option.{option_map}
-use Rattle.std.specs.List.{sum_by, list_all}
+use Rattle.std.specs.List.{sum_by}
 use Rattle.std.specs.Cmp.Lexicographic.{nat_list_cmp_total}
 use Rattle.std.specs.Cmp.{tied_itself}
 use Rattle.std.specs.FinMap.Entries.{find, put}
-use Rattle.std.proofs.lemmas.Bool.{and_parts}
 use Rattle.std.proofs.lemmas.List.{length-append}
 use Rattle.std.proofs.lemmas.List.Elements.{filter-append}
 use Rattle.std.proofs.lemmas.List.Sums.{fold-append, sum_by-append, sum_by-cons}
@@ -14,13 +13,13 @@ use Rattle.pg_types.specs.declared.parameters.LevelParams.{LevelParams}
 use Rattle.pg_types.specs.Placement.{Families, enter}
 use Rattle.pg_patterns.specs.DottedSigns.{dotted_cmp}
 use Rattle.pg_patterns.specs.Values.{raise}
-use Rattle.pg_types.specs.Counts.{Counts, IsNextAbove, above, is_counted}
+use Rattle.pg_types.specs.Counts.{Counts, is_counted}
 use Rattle.pg_select.specs.Meanings.{Meaning}
 use Rattle.pg_select.specs.declared.pass.Pass.{Pass}
 use Rattle.pg_select.specs.CountedPositions.{Candidate}
 use Rattle.pg_select.specs.Windows.{Hopeless as HopelessPlaces}
 use Rattle.pg_driver.specs.declared.choices.Choices.{Choices}
-use Rattle.pg_driver.specs.Counting.{is_filled, weight_in}
+use Rattle.pg_driver.specs.Counting.{weight_in}
 use Rattle.pg_driver.specs.Choosing.{candidate_of, with_candidates, HasChosen}
 use Rattle.pg_driver.specs.States.{State, state_of, state_after}
 use Rattle.pg_driver.specs.Traces.{choice_of, chosen_of, hopeless_of, entered_of, is_chosen, is_hopeless, is_left}
@@ -37,32 +36,6 @@ found_first e x xs same =
 found_later : (b : Bool) (v : ℕ × ℕ) (o : Option (ℕ × ℕ)) → is_some o ≡ true → is_some (cond b (Some v) o) ≡ true
 found_later true v o is = refl
 found_later false v o is = is
-
--- the least window above another is counted
-pub counted_above : (u : List ℕ) (counts : Counts) (e : Entry) (rest : Counts) → above u counts ≡ e ∷ rest → is_counted counts e.0 ≡ true
-counted_above u [] e rest is = cc
-counted_above u (x ∷ xs) e rest is =
-    elim (is_lt (cmp u x.0)) as (λ (b : Bool). cond b (x ∷ above u xs) (above u xs) ≡ e ∷ rest → is_counted (x ∷ xs) e.0 ≡ true) [
-      | true ↦ λ same. let first : x ≡ e = cc in found_first e x xs first
-      | false ↦ λ same. found_later (eq_by_cmp cmp e.0 x.0) x.1 (find cmp e.0 xs) (counted_above u xs e rest same)
-    ] is
-
--- the candidates that are left where one is found ahead, with these sums, or none
-abbrev pub pending : Counts → List ℕ → Option (ℕ × ℕ) → Counts
-pending counts ahead None = []
-pending counts ahead (Some sums) = (ahead, sums) ∷ above ahead counts
-
--- they are those above the one before
-pub pending_next : (counts : Counts) (at ahead : List ℕ) (found : Option (ℕ × ℕ)) → IsNextAbove counts at ahead found → above at counts ≡ pending counts ahead found
-pending_next counts at ahead None is = is.0
-pending_next counts at ahead (Some sums) is = is
-
--- no counted window is empty, so all are above the empty one
-pub above_all : (counts : Counts) → list_all is_filled counts ≡ true → above [] counts ≡ counts
-above_all [] filled = refl
-above_all (x ∷ xs) filled =
-    let parts = and_parts (is_filled x) (list_all is_filled xs) filled in
-    ap (λ b. cond b (x ∷ above [] xs) (above [] xs)) parts.0 ∙ ap (λ ys. x ∷ ys) (above_all xs parts.1)
 
 -- the sums of the candidates are within those of the counts
 pub good_within : (counts : Counts) → sum_by (λ (c : Candidate). c.good) (map candidate_of counts) ≤ weight_in counts

@@ -23,6 +23,7 @@ pub mod CarriedTotals
 pub mod OpenTraces
 pub mod AbovePositions
 pub mod WordLevels
+pub mod AboveNumbers
 pub mod ReadySteps
 mod DotRows
-pub mod GivenUp
+pub mod NumberSteps

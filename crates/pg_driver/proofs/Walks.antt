@@ -1,29 +1,39 @@
 -- A step of the walk over the words of a pass.
-use Rattle.std.proofs.Common.{◌≡◌, ℕ, ◌+◌, ◌-◌, ◌<◌, ◌≤◌, List, ◌∷◌, ◌++◌, length, fold, sym, ap, subst, ◌∙◌, arith}
+use Rattle.std.proofs.Common.{◌≡◌, ℕ, ◌+◌, ◌-◌, ◌<◌, ◌≤◌, List, [], ◌∷◌, ◌++◌, length, fold, refl, sym, ap, subst, ◌∙◌, arith}
 use Rattle.std.specs.List.{flat_map, range_with_len}
 use Rattle.std.proofs.lemmas.List.Sums.{fold-append}
 use Rattle.pg_dict.specs.Word.{Word, IsWord}
 use Rattle.pg_types.specs.Counts.{Counts}
+use Rattle.pg_types.specs.Numbered.{Windows, with_window}
 use Rattle.pg_select.specs.Meanings.{Meaning, with_position}
 use Rattle.pg_select.specs.Positions.{Positions}
 use Rattle.pg_select.specs.CountedPositions.{Minima, CountedPosition, counted_positions_at, counted_positions_in, counted_positions}
-use Rattle.pg_driver.specs.Counting.{counting, IsRead, HasRoom, TookRoom}
+use Rattle.pg_driver.specs.Counting.{counting, windows_after, IsRead, HasRoom, TookRoom}
 use Rattle.pg_driver.proofs.Rooms.{room_left, took_position, took_more}
 use Rattle.pg_select.proofs.Reaches.{range_step}
 
--- all but the counts are kept
+-- all but the counts and the windows are kept
 abbrev pub KeepsButCounts : Meaning → Meaning → Type 0
-KeepsButCounts old new = new ≡ record old { counts = new.counts }
+KeepsButCounts old new = new ≡ record old { counts = new.counts; windows = new.windows }
+
+windows_append : (ws : Windows) (counts : Counts) (a b : List CountedPosition) → windows_after ws counts (a ++ b) ≡ windows_after (windows_after ws counts a) (fold with_position counts a) b
+windows_append ws counts [] b = refl
+windows_append ws counts (s ∷ a) b = windows_append (with_window ws counts s.window) (with_position counts s) a b
 
 -- some counted positions, and then others
 pub counting_append : (m : Meaning) (a b : List CountedPosition) → counting m (a ++ b) ≡ counting (counting m a) b
-counting_append m a b = ap (λ (c : Counts). record m { counts = c }) (fold-append with_position m.counts a b)
+counting_append m a b =
+    ap (λ (c : Counts). record m { counts = c; windows = windows_after m.windows m.counts (a ++ b) }) (fold-append with_position m.counts a b)
+    ∙ ap (λ (ws : Windows). record m { counts = fold with_position (fold with_position m.counts a) b; windows = ws }) (windows_append m.windows m.counts a b)
 
--- counting keeps all but the counts
+-- counting keeps all but the counts and the windows
 pub kept_on : (m0 m n : Meaning) (seen : List CountedPosition) → KeepsButCounts m0 m → n ≡ counting m seen → KeepsButCounts m0 n
 kept_on m0 m n seen kept is =
     let counts : n.counts ≡ fold with_position m.counts seen = ap (λ (x : Meaning). x.counts) is in
-    is ∙ ap (λ (x : Meaning). record x { counts = fold with_position m.counts seen }) kept ∙ ap (λ (c : Counts). record m0 { counts = c }) (sym counts)
+    let windows : n.windows ≡ windows_after m.windows m.counts seen = ap (λ (x : Meaning). x.windows) is in
+    is ∙ ap (λ (x : Meaning). record x { counts = fold with_position m.counts seen; windows = windows_after m.windows m.counts seen }) kept
+    ∙ ap (λ (c : Counts). record m0 { counts = c; windows = windows_after m.windows m.counts seen }) (sym counts)
+    ∙ ap (λ (ws : Windows). record m0 { counts = n.counts; windows = ws }) (sym windows)
 
 -- what was found of a word holds while windows are counted
 pub read_on : (m0 m : Meaning) (w : Word) (found : Positions) → KeepsButCounts m0 m → IsRead m0 w found → IsRead m w found

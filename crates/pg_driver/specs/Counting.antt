@@ -1,5 +1,5 @@
 -- What the walk over the words makes of an engine.
-use Rattle.std.specs.Prelude.{◌≡◌, ℕ, ◌+◌, ◌*◌, ◌≤◌, Bool, true, T, List, [], length, fold, sum_by}
+use Rattle.std.specs.Prelude.{◌≡◌, ℕ, ◌+◌, ◌*◌, ◌≤◌, Bool, true, T, List, [], ◌∷◌, length, fold, sum_by}
 use Rattle.std.specs.List.{list_all}
 use Rattle.std.specs.Ordering.{nat_cmp, is_lt}
 use Rattle.std.specs.Cmp.Lexicographic.{slice_cmp}
@@ -7,13 +7,19 @@ use Rattle.std.specs.FinMap.Entries.{is_sorted}
 use Rattle.pg_types.specs.declared.limits.TheConstants.{WEIGHT_MAX, FILE_MAX}
 use Rattle.pg_dict.specs.Word.{Word, IsWord}
 use Rattle.pg_types.specs.Counts.{Counts, SignsWithin}
+use Rattle.pg_types.specs.Numbered.{Windows, with_window}
 use Rattle.pg_select.specs.Meanings.{Meaning, SetsValues, SetsCovers, with_position}
 use Rattle.pg_select.specs.Positions.{Positions}
 use Rattle.pg_select.specs.CountedPositions.{CountedPosition}
 
+-- the windows in the order in which they were first counted, after more positions are counted
+abbrev pub windows_after : Windows → Counts → List CountedPosition → Windows
+windows_after windows counts [] = windows
+windows_after windows counts (s ∷ seen) = windows_after (with_window windows counts s.window) (with_position counts s) seen
+
 -- what an engine means after more positions are counted
 abbrev pub counting : Meaning → List CountedPosition → Meaning
-counting m seen = record m { counts = fold with_position m.counts seen }
+counting m seen = record m { counts = fold with_position m.counts seen; windows = windows_after m.windows m.counts seen }
 
 -- what an engine found of the positions of a word
 pub record IsRead (m : Meaning) (w : Word) (at : Positions) : Type 0 where

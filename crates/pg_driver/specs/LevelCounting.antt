@@ -4,6 +4,7 @@ use Rattle.pg_types.specs.declared.limits.TheConstants.{FILE_MAX}
 use Rattle.pg_types.specs.declared.marks.Totals.{Totals}
 use Rattle.pg_types.specs.declared.parameters.LevelParams.{LevelParams}
 use Rattle.pg_types.specs.Counts.{Counts}
+use Rattle.pg_types.specs.Numbered.{Windows}
 use Rattle.pg_dict.specs.Word.{Word, IsWord, letter_count}
 use Rattle.pg_select.specs.declared.pass.Pass.{Pass}
 use Rattle.pg_select.specs.LawsSteps.{FindsMore, PreventsMore}
@@ -16,8 +17,9 @@ use Rattle.pg_driver.specs.declared.open_positions.OpenLevel.{OpenLevel}
 use Rattle.pg_driver.specs.declared.word_level.WordLevel.{WordLevel}
 use Rattle.pg_driver.specs.declared.above_positions.Kept.{Kept}
 use Rattle.pg_driver.specs.Accounts.{totals_by}
-use Rattle.pg_driver.specs.OpenLevels.{InLevel, IsGivenUp, position_after}
+use Rattle.pg_driver.specs.OpenLevels.{InLevel, position_after}
 use Rattle.pg_driver.specs.OpenPositions.{IsPlaced}
+use Rattle.pg_driver.specs.PassWindows.{HaveNumbers, counts_at, is_counted_at}
 use Rattle.pg_driver.specs.Sound.{IsSmall}
 use Rattle.pg_driver.specs.Traces.{Known, Source}
 use Rattle.pg_driver.specs.WordLevels.{IsWordsAt, kept_by}
@@ -59,10 +61,10 @@ abbrev pub ArePlaced : List Word → Counting → Type 0
 ArePlaced words (Open o) = All (IsPlaced words) o.positions.items
 ArePlaced words (EachWord e) = All (IsPlaced words) e.above.items × (length e.above.items ≤ FILE_MAX)
 
--- the windows of the open positions that a pass counts are hopeless
-abbrev pub AreGivenUp : LevelParams → Pass → Counts → List Word → Counting → Type 0
-AreGivenUp params pass counts words (Open o) = All (IsGivenUp params pass counts words) o.positions.items
-AreGivenUp params pass counts words (EachWord e) = Unit {0}
+-- each position that is kept has the number of its window, where the pass counts that
+abbrev pub AreNumberedIn : Pass → Counts → List Word → Windows → Counting → List ℕ → Type 0
+AreNumberedIn pass counts words ws (Open o) ns = HaveNumbers pass (counts_at pass) words ws o.positions.items ns
+AreNumberedIn pass counts words ws (EachWord e) ns = HaveNumbers pass (is_counted_at pass counts) words ws e.above.items ns
 
 -- the totals before and after a pass whose chosen windows have these sums
 abbrev pub Carries : Bool → Totals → Totals → ℕ → ℕ → Type 0

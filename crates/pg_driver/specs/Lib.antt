@@ -10,6 +10,7 @@ pub mod Choosing
 pub mod DotSets
 pub mod OpenPositions
 pub mod OpenLevels
+pub mod PassWindows
 pub mod WordLevels
 pub mod LevelCounting
 pub mod Levels

@@ -1,5 +1,5 @@
 -- The open positions from a level's start through its passes and lengths, as the code changes them.
-use Rattle.std.specs.Prelude.{◌≡◌, ℕ, ◌+◌, Bool, true, false, not, ◌&&◌, if◌then◌else◌, List, [], ◌∷◌, ◌++◌, length, map, filter, slice_get, Option, None, Some}
+use Rattle.std.specs.Prelude.{ℕ, ◌+◌, Bool, not, ◌&&◌, if◌then◌else◌, List, [], ◌∷◌, ◌++◌, length, map, filter, slice_get, Option, None, Some}
 use Rattle.std.specs.List.{flat_map}
 use Rattle.std.specs.Option.{option_map, option_map_or}
 use Rattle.std.specs.Ordering.{nat_cmp}
@@ -67,8 +67,3 @@ closed_dots_after level pass counts w p dots =
 
 abbrev pub position_after : LevelParams → Pass → Counts → List Word → OpenPosition → OpenPosition
 position_after level pass counts words e = with_closed e (option_map_or (λ w. closed_dots_after level pass counts w e.at e.closed) (slice_get words e.word) e.closed)
-
--- the position's window is hopeless, where the pass counts it
-abbrev pub IsGivenUp : LevelParams → Pass → Counts → List Word → OpenPosition → Type 0
-IsGivenUp level pass counts words e = (w : Word) → slice_get words e.word ≡ Some w → fits w.signs e.at pass.len pass.dot ≡ true
-    → has_dot e.closed pass.dot ≡ false → closed_dots_after level pass counts w e.at e.closed ≡ with_dot e.closed pass.dot

@@ -3,11 +3,17 @@ ghost use Rattle.std.specs.Prelude.{◌≡◌, ◌≤◌, ◌<◌, ◌+◌, ◌^
 ghost use Rattle.pg_types.specs.declared.limits.TheConstants.{FILE_MAX};
 ghost use Rattle.pg_types.specs.Parameters.{IsLevel};
 ghost use Rattle.pg_types.specs.Counts.{is_counted};
+ghost use Rattle.pg_types.specs.Numbered.{AreInOrder};
+ghost use Rattle.pg_select.specs.Choices.{choice};
+ghost use Rattle.pg_driver.specs.States.{IsPass};
+ghost use Rattle.pg_driver.specs.PassWindows.{AreFates, ArePlaces};
 ghost use Rattle.pg_driver.specs.Counting.{HasRoom};
 ghost use Rattle.pg_types.specs.Limits.{sums_limit};
 ghost use Rattle.pg_driver.specs.Choosing.{with_candidates, no_choices, candidate_of, HasChosen};
 
-use pg_select::{Choice, Engine, decide};
+use crate::pass_windows::{Place, go_to};
+use pg_dict::Dictionary;
+use pg_select::{Choice, Engine, Pass};
 use pg_types::{Cursor, LevelParams};
 use std::alloc::AllocError;
 
@@ -33,8 +39,10 @@ fn choose_at<E: Engine>(
     at: &Cursor,
     good: u64,
     bad: u64,
+    fate: Choice,
     choices: &mut Choices,
 ) -> Result<(), AllocError>
+    requires fate { fate ≡ choice params.now good bad }
     requires level { IsLevel params.now }
     requires counted { is_counted (E.meaning engine.old).counts at.now ≡ true }
     requires sums { (choices.old.good + good < sums_limit) × (choices.old.bad + bad < sums_limit) }
@@ -48,7 +56,7 @@ fn choose_at<E: Engine>(
     ensures signs { (E.meaning engine.new).signs ≡ (E.meaning engine.old).signs }
 {
     choices.candidates += 1;
-    match decide(good, bad, params) {
+    match fate {
         Choice::Chosen => {
             engine.choose(at)?;
             choices.chosen += 1;
@@ -64,11 +72,23 @@ fn choose_at<E: Engine>(
     Ok(())
 }
 
-/// Chooses each candidate of a pass, makes it hopeless or leaves it, in the order of signs. The next one is found before the choice
-/// of the one before it is made, so that both can wait for memory side by side.
-pub fn choose_all<E: Engine>(engine: &mut E, params: &LevelParams) -> Result<Choices, AllocError>
+/// Chooses each candidate of a pass, makes it hopeless or leaves it, in the order of signs, as was decided by number. The signs of a
+/// window are read where it was first counted.
+pub fn choose_all<E: Engine>(
+    engine: &mut E,
+    dictionary: &Dictionary,
+    params: &LevelParams,
+    pass: Pass,
+    places: &[Place],
+    fates: &[Choice],
+    order: &[u32],
+) -> Result<Choices, AllocError>
+    requires ranges { IsPass pass }
     requires level { IsLevel params.now }
     requires room { HasRoom (E.meaning engine.old).counts 0 }
+    requires places { ArePlaces pass dictionary.now (E.meaning engine.old).windows places.now }
+    requires fates { AreFates params.now (E.meaning engine.old).counts (E.meaning engine.old).windows fates.now }
+    requires order { AreInOrder (E.meaning engine.old).windows (E.meaning engine.old).counts order.now }
     ensures ok { OnOk result (HasChosen params.now (map candidate_of (E.meaning engine.old).counts)
         (E.meaning engine.old) (E.meaning engine.new)) }
     ensures choices { IfOk result (λ choices. choices
@@ -78,7 +98,6 @@ pub fn choose_all<E: Engine>(engine: &mut E, params: &LevelParams) -> Result<Cho
     ensures signs { (E.meaning engine.new).signs ≡ (E.meaning engine.old).signs }
 {
     let mut at = Cursor::start();
-    let mut ahead = Cursor::start();
     let mut choices = Choices {
         candidates: 0,
         chosen: 0,
@@ -86,11 +105,13 @@ pub fn choose_all<E: Engine>(engine: &mut E, params: &LevelParams) -> Result<Cho
         good: 0,
         bad: 0,
     };
-    let mut found = engine.next_candidate(&mut ahead);
-    'candidates: while let Some((good, bad)) = found {
-        at.set(ahead.signs());
-        found = engine.next_candidate(&mut ahead);
-        choose_at(engine, params, &at, good, bad, &mut choices)?;
+    'candidates: for number in order {
+        let n = *number;
+        let (good, bad) = engine.sums_of(n);
+        let place = places[n as usize];
+        let fate = fates[n as usize];
+        go_to(engine, dictionary, pass, n, place, &mut at);
+        choose_at(engine, params, &at, good, bad, fate, &mut choices)?;
     }
     Ok(choices)
 }

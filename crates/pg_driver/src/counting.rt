@@ -1,13 +1,14 @@
 //! The ways to count the windows of a level.
-ghost use Rattle.std.specs.Prelude.{◌≡◌, ◌≤◌, ◌<◌, ◌+◌, [], ℕ, IfOk, OnOk};
+ghost use Rattle.std.specs.Prelude.{◌≡◌, ◌≤◌, ◌<◌, ◌+◌, [], ℕ, length, IfOk, OnOk};
 ghost use Rattle.pg_types.specs.declared.limits.TheConstants.{LENGTH_MAX};
-ghost use Rattle.pg_types.specs.Parameters.{IsLevel};
 ghost use Rattle.pg_dict.specs.Word.{SignsAtMost};
 ghost use Rattle.pg_select.specs.LawsSteps.{IsBelow};
 ghost use Rattle.pg_select.specs.CountedPositions.{counted_positions, minima_of};
 ghost use Rattle.pg_driver.specs.Accounts.{totals_by};
 ghost use Rattle.pg_driver.specs.Counting.{counting, HasRoom};
-ghost use Rattle.pg_driver.specs.LevelCounting.{AreGivenUp, ArePlaced, CanGoOn, GoesOnAfter, IsCounted, IsOverOpen, IsReady, totals_in};
+ghost use Rattle.pg_driver.specs.declared.pass_windows.TheConstants.{NOT_COUNTED};
+ghost use Rattle.pg_driver.specs.LevelCounting.{AreNumberedIn, ArePlaced, CanGoOn, GoesOnAfter, IsCounted, IsOverOpen, IsReady, totals_in};
+ghost use Rattle.pg_driver.specs.PassWindows.{AreFates, ArePlaces};
 ghost use Rattle.pg_driver.specs.Sound.{IsSmall};
 ghost use Rattle.pg_driver.specs.States.{IsPass};
 ghost use Rattle.pg_driver.specs.Told.{known_of, over};
@@ -18,6 +19,7 @@ use crate::carried_totals::totals_after;
 use crate::choices::Choices;
 use crate::open_passes::{close_dots, count_open};
 use crate::open_positions::{OpenLevel, next_length, open_level};
+use crate::pass_windows::PassWindows;
 use crate::word_level::WordLevel;
 use pg_dict::Dictionary;
 use pg_select::{Engine, Pass};
@@ -63,17 +65,20 @@ impl Counting {
         Ok(Counting::Open(opened))
     }
 
-    /// Counts the windows of a pass that has begun, and gives the totals before it.
+    /// Counts the windows of a pass that has begun, and gives the totals before it. Each position that is kept has the number of its
+    /// window, and each window the place where it was first counted.
     pub fn count<E: Engine>(
         &mut self,
         engine: &mut E,
         dictionary: &Dictionary,
         table: &Table,
         pass: Pass,
+        windows: &mut PassWindows,
     ) -> Result<Totals, AllocError>
         requires ranges { IsPass pass }
         requires pass { (E.meaning engine.old).pass ≡ pass }
         requires fresh { (E.meaning engine.old).counts ≡ [] }
+        requires none { (E.meaning engine.old).windows ≡ [] }
         requires signs { SignsAtMost (E.meaning engine.old).signs dictionary.now }
         requires ready { IsReady (over table.now dictionary.now) pass.level pass.len
             (known_of (E.meaning engine.old)) self.old }
@@ -88,19 +93,31 @@ impl Counting {
         ensures ready { OnOk result (IsReady (over table.now dictionary.now) pass.level pass.len
             (known_of (E.meaning engine.old)) self.new) }
         ensures counted { OnOk result (IsCounted self.new) }
+        ensures numbers { OnOk result (AreNumberedIn pass (E.meaning engine.new).counts dictionary.now
+            (E.meaning engine.new).windows self.new windows.new.numbers.items) }
+        ensures places { OnOk result (ArePlaces pass dictionary.now (E.meaning engine.new).windows
+            windows.new.places.items) }
         ensures signs { (E.meaning engine.new).signs ≡ (E.meaning engine.old).signs }
     {
+        windows.clear();
         match self {
             Counting::Open(open) => {
-                count_open(engine, dictionary, pass, &open.positions)?;
+                count_open(
+                    engine,
+                    dictionary,
+                    pass,
+                    &open.positions,
+                    &mut windows.places,
+                    &mut windows.numbers,
+                )?;
                 Ok(open.totals)
             }
-            Counting::EachWord(level) => level.count(engine, dictionary, table, pass),
+            Counting::EachWord(level) => level.count(engine, dictionary, table, pass, windows),
         }
     }
 
     /// Takes in what was chosen in a pass: the open positions have dots closed, and the totals are carried on. A position whose value
-    /// is above the level stays as it is, so that it is left out of what was chosen. It takes no memory.
+    /// is above the level stays as it is, so that it is left out of what was chosen. No window is looked up. It takes no memory.
     pub fn after_choices<E: Engine>(
         &mut self,
         engine: &E,
@@ -108,33 +125,37 @@ impl Counting {
         params: &LevelParams,
         pass: Pass,
         choices: Choices,
+        windows: &PassWindows,
     )
         requires ranges { IsPass pass }
-        requires pass { (E.meaning engine.now).pass ≡ pass }
-        requires level { IsLevel params.now }
-        requires signs { SignsAtMost (E.meaning engine.now).signs dictionary.now }
-        requires room { HasRoom (E.meaning engine.now).counts 0 }
         requires placed { ArePlaced dictionary.now self.old }
-        requires given_up { choices.hopeless ≡ choices.candidates →
-            AreGivenUp params.now pass (E.meaning engine.now).counts dictionary.now self.old }
+        requires fates { AreFates params.now (E.meaning engine.now).counts (E.meaning engine.now).windows
+            windows.now.fates.items }
+        requires few { length windows.now.fates.items ≤ NOT_COUNTED }
+        requires numbers { AreNumberedIn pass (E.meaning engine.now).counts dictionary.now
+            (E.meaning engine.now).windows self.old windows.now.numbers.items }
         requires totals { CanGoOn params.now pass (E.meaning engine.now).counts dictionary.now choices self.old }
         ensures { GoesOnAfter params.now pass (E.meaning engine.now).counts dictionary.now choices self.old self.new }
     {
+        engine.kept();
         match self {
             Counting::Open(open) => {
-                let all_given_up = choices.hopeless == choices.candidates;
                 close_dots(
-                    engine,
-                    dictionary,
-                    params,
-                    pass,
-                    all_given_up,
+                    pass.dot,
+                    &windows.fates,
+                    &windows.numbers,
                     &mut open.positions,
                 );
                 open.totals = totals_after(open.totals, pass.level, choices.good, choices.bad);
             }
             Counting::EachWord(words) => {
-                let kept = kept_above(engine, dictionary, params, pass, &words.above);
+                let kept = kept_above(
+                    dictionary,
+                    pass,
+                    &windows.fates,
+                    &windows.numbers,
+                    &words.above,
+                );
                 let good = choices.good - kept.good;
                 let bad = choices.bad - kept.bad;
                 words.totals = totals_after(words.totals, pass.level, good, bad);

@@ -17,6 +17,7 @@ use crate::choices::choose_all;
 use crate::closed::Closed;
 use crate::counting::Counting;
 use crate::dots::dot_at;
+use crate::pass_windows::PassWindows;
 use crate::records::{PassRecord, Records};
 use pg_dict::Dictionary;
 use pg_select::{Engine, Pass};
@@ -24,7 +25,7 @@ use pg_translate::Table;
 use pg_types::{LevelParams, Totals};
 use std::alloc::{AllocError, Global};
 
-/// Does a pass: counts its windows, and then chooses among its candidates.
+/// Does a pass: counts its windows, decides what becomes of each, and then chooses among its candidates.
 fn run_pass<E: Engine>(
     engine: &mut E,
     dictionary: &Dictionary,
@@ -32,6 +33,7 @@ fn run_pass<E: Engine>(
     params: &LevelParams,
     pass: Pass,
     counting: &mut Counting,
+    windows: &mut PassWindows,
 ) -> Result<PassRecord, AllocError>
     requires ranges { IsPass pass }
     requires level { IsLevel params.now }
@@ -49,9 +51,19 @@ fn run_pass<E: Engine>(
     ensures signs { (E.meaning engine.new).signs ≡ (E.meaning engine.old).signs }
 {
     engine.begin_pass(pass.level, pass.len, pass.dot);
-    let before = counting.count(engine, dictionary, table, pass)?;
-    let choices = choose_all(engine, params)?;
-    counting.after_choices(engine, dictionary, params, pass, choices);
+    let before = counting.count(engine, dictionary, table, pass, windows)?;
+    engine.kept();
+    windows.decide(engine, params)?;
+    let choices = choose_all(
+        engine,
+        dictionary,
+        params,
+        pass,
+        &windows.places,
+        &windows.fates,
+        &windows.order,
+    )?;
+    counting.after_choices(engine, dictionary, params, pass, choices, windows);
     Ok(PassRecord {
         level: pass.level,
         len: pass.len,
@@ -75,6 +87,7 @@ fn run_or_skip<E: Engine>(
     pass: Pass,
     closed: &mut Closed,
     counting: &mut Counting,
+    windows: &mut PassWindows,
     records: &mut Records,
 ) -> Result<(), AllocError>
     requires ranges { IsPass pass }
@@ -102,7 +115,7 @@ fn run_or_skip<E: Engine>(
         closed.set(pass.dot, true);
         return Ok(());
     }
-    let record = run_pass(engine, dictionary, table, params, pass, counting)?;
+    let record = run_pass(engine, dictionary, table, params, pass, counting, windows)?;
     closed.set(pass.dot, record.left_none());
     records.add_pass(record)?;
     Ok(())
@@ -118,6 +131,7 @@ fn run_length<E: Engine>(
     len: u8,
     closed: &mut Closed,
     counting: &mut Counting,
+    windows: &mut PassWindows,
     records: &mut Records,
 ) -> Result<(), AllocError>
     requires level { IsLevel params.now }
@@ -151,7 +165,7 @@ fn run_length<E: Engine>(
             dot: dot_at(len, k),
         };
         run_or_skip(
-            engine, dictionary, table, params, pass, closed, counting, records,
+            engine, dictionary, table, params, pass, closed, counting, windows, records,
         )?;
     }
     Ok(())
@@ -165,6 +179,7 @@ fn run_lengths<E: Engine>(
     params: &LevelParams,
     number: u8,
     counting: &mut Counting,
+    windows: &mut PassWindows,
     records: &mut Records,
 ) -> Result<(), AllocError>
     requires level { IsLevel params.now }
@@ -202,6 +217,7 @@ fn run_lengths<E: Engine>(
             len,
             &mut closed,
             counting,
+            windows,
             records,
         )?;
         closed.next_length();
@@ -211,7 +227,7 @@ fn run_lengths<E: Engine>(
 }
 
 /// Does a level: its passes, and what stands at its end. Gives the totals at its end. `greatest` is the greatest value of the
-/// starting patterns.
+/// starting patterns. What `windows` holds does not matter.
 pub fn run_level<E: Engine>(
     alloc: Global,
     engine: &mut E,
@@ -220,6 +236,7 @@ pub fn run_level<E: Engine>(
     params: &LevelParams,
     number: u8,
     greatest: u8,
+    windows: &mut PassWindows,
     records: &mut Records,
 ) -> Result<Totals, AllocError>
     requires level { IsLevel params.now }
@@ -251,6 +268,7 @@ pub fn run_level<E: Engine>(
         params,
         number,
         &mut counting,
+        windows,
         records,
     )?;
     engine.end_level()?;

@@ -9,6 +9,7 @@ ghost use Rattle.pg_types.specs.Limits.{begun_before_run, level_passes};
 ghost use Rattle.pg_driver.specs.Told.{TellsCells, account_from, account_of, begun_from, cells_from, families_from, over, patterns_from, run_from};
 
 use crate::level::run_level;
+use crate::pass_windows::PassWindows;
 use crate::records::Records;
 use crate::run::Run;
 use crate::sums::totals;
@@ -48,6 +49,7 @@ fn run_levels<E: Engine>(
     // The last level is at most 9, and so is the number of levels.
     let _last = params.finish();
     let count = params.count();
+    let mut windows = PassWindows::new(alloc);
     let mut last = None;
     'levels: for i in 0..count {
         let number = start + i as u8;
@@ -59,6 +61,7 @@ fn run_levels<E: Engine>(
             params.level(i),
             number,
             greatest,
+            &mut windows,
             records,
         )?;
         last = Some(after);

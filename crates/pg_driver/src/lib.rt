@@ -13,6 +13,7 @@ mod levels;
 mod marks;
 mod open_passes;
 mod open_positions;
+mod pass_windows;
 mod records;
 mod run;
 mod sums;

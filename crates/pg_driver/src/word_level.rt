@@ -4,12 +4,14 @@ ghost use Rattle.pg_dict.specs.Word.{SignsAtMost};
 ghost use Rattle.pg_select.specs.CountedPositions.{counted_positions, minima_of};
 ghost use Rattle.pg_driver.specs.Accounts.{totals_by};
 ghost use Rattle.pg_driver.specs.Counting.{counting, HasRoom};
+ghost use Rattle.pg_driver.specs.PassWindows.{ArePlaces, HaveNumbers, is_counted_at};
 ghost use Rattle.pg_driver.specs.Sound.{IsSmall};
 ghost use Rattle.pg_driver.specs.States.{IsPass};
 ghost use Rattle.pg_driver.specs.Told.{known_of, over};
 ghost use Rattle.pg_driver.specs.WordLevels.{IsWordsAt};
 
 use crate::open_positions::OpenPosition;
+use crate::pass_windows::PassWindows;
 use crate::words::count_words;
 use pg_dict::Dictionary;
 use pg_select::marks::no_totals;
@@ -43,17 +45,21 @@ impl WordLevel {
         }
     }
 
-    /// Counts the windows of a pass that has begun, and gives the totals before it. Each word is hyphenated once.
+    /// Counts the windows of a pass that has begun, and gives the totals before it. Each word is hyphenated once. Each position that is
+    /// listed has the number of its window, where that is counted.
     pub fn count<E: Engine>(
         &mut self,
         engine: &mut E,
         dictionary: &Dictionary,
         table: &Table,
         pass: Pass,
+        windows: &mut PassWindows,
     ) -> Result<Totals, AllocError>
         requires ranges { IsPass pass }
         requires pass { (E.meaning engine.old).pass ≡ pass }
         requires fresh { (E.meaning engine.old).counts ≡ [] }
+        requires places { ArePlaces pass dictionary.now (E.meaning engine.old).windows windows.old.places.items }
+        requires numbers { windows.old.numbers.items ≡ [] }
         requires signs { SignsAtMost (E.meaning engine.old).signs dictionary.now }
         requires ready { IsWordsAt (over table.now dictionary.now) pass.level (known_of (E.meaning engine.old))
             self.old }
@@ -68,10 +74,23 @@ impl WordLevel {
         ensures ready { OnOk result (IsWordsAt (over table.now dictionary.now) pass.level
             (known_of (E.meaning engine.old)) self.new) }
         ensures counted { OnOk result (self.new.is_counted ≡ true) }
+        ensures numbers { OnOk result (HaveNumbers pass (is_counted_at pass (E.meaning engine.new).counts)
+            dictionary.now (E.meaning engine.new).windows self.new.above.items windows.new.numbers.items) }
+        ensures places { OnOk result (ArePlaces pass dictionary.now (E.meaning engine.new).windows
+            windows.new.places.items) }
         ensures signs { (E.meaning engine.new).signs ≡ (E.meaning engine.old).signs }
     {
         let lists = !self.is_counted;
-        let before = count_words(engine, dictionary, table, pass, lists, &mut self.above)?;
+        let before = count_words(
+            engine,
+            dictionary,
+            table,
+            pass,
+            lists,
+            &mut self.above,
+            windows,
+        )?;
+        engine.kept();
         self.is_counted = true;
         self.totals = before;
         Ok(before)

@@ -1,22 +1,26 @@
 //! The walk over the words in a pass that hyphenates each of them.
-ghost use Rattle.std.specs.Prelude.{◌≡◌, ◌≤◌, ◌<◌, ◌+◌, ◌*◌, ◌++◌, ◌&&◌, [], not, false, if◌then◌else◌, None, length, slice_index, slice_index_or, IfOk, OnOk, OnErr};
+ghost use Rattle.std.specs.Prelude.{◌≡◌, ◌≤◌, ◌<◌, ◌+◌, ◌*◌, ◌++◌, ◌&&◌, [], not, false, if◌then◌else◌, None, Some, List, length, slice_get, slice_index, slice_index_or, IfOk, OnOk, OnErr};
 ghost use Rattle.pg_types.specs.Counts.{SignsWithin};
 ghost use Rattle.pg_types.specs.declared.limits.TheConstants.{WORD_LETTERS_MAX};
-ghost use Rattle.pg_dict.specs.Word.{IsWord, SignsAtMost, letter_count};
+ghost use Rattle.pg_dict.specs.Word.{IsWord, SignsAtMost, Word, letter_count};
 ghost use Rattle.pg_dict.specs.Lent.{lent_word};
-ghost use Rattle.pg_select.specs.CountedPositions.{counted_positions_at, counted_positions, counted_positions_in, counts_as as counts_as_of, minima_of};
+ghost use Rattle.pg_select.specs.CountedPositions.{counted_at, counted_positions_at, counted_positions, counted_positions_in, counts_as as counts_as_of, minima_of};
+ghost use Rattle.pg_select.specs.LawsAbove.{counts_above};
 ghost use Rattle.pg_select.specs.Statuses.{status_at, position_weight};
 ghost use Rattle.pg_select.specs.Sums.{marks_in, totals as totals_of_words, with_mark, with_marks, HasRoomFor, TookRoomFor};
-ghost use Rattle.pg_select.specs.Windows.{fits as fits_in};
+ghost use Rattle.pg_select.specs.Windows.{fits as fits_in, window as window_of_word};
 ghost use Rattle.pg_driver.specs.Counting.{counting, HasRoom, TookRoom, IsRead};
-ghost use Rattle.pg_driver.specs.OpenLevels.{listed_in, listed_from};
+ghost use Rattle.pg_driver.specs.declared.open_positions.OpenPosition.{OpenPosition};
+ghost use Rattle.pg_driver.specs.OpenLevels.{listed_in, listed_from, open_as};
+ghost use Rattle.pg_driver.specs.PassWindows.{ArePlaces, GetsNumber, HaveNumbers, uncovered_at};
 ghost use Rattle.pg_driver.specs.Sound.{IsSmall};
 ghost use Rattle.pg_driver.specs.States.{IsPass};
 ghost use Rattle.pg_driver.specs.WordLevels.{listing};
 
-use crate::above_positions::list_above;
+use crate::above_positions::{is_above, list_above};
 use crate::marks::{counts_as, fits};
 use crate::open_positions::OpenPosition;
+use crate::pass_windows::{NOT_COUNTED, PassWindows, Place, note_place};
 use pg_dict::{Dictionary, WordRef};
 use pg_select::marks::{add_mark, mark_at, no_totals, positions};
 use pg_select::{Engine, Pass, WordState};
@@ -40,7 +44,8 @@ fn counted(pass: Pass, w: &WordRef<'_>, found: &WordState, p: usize, mark: Mark)
     }
 }
 
-/// Counts the window at position `p` of a word, which has this status, where it counts in the pass.
+/// Counts the window at position `p` of a word, which has this status, where it counts in the pass, and gives its number; that of none
+/// where it does not count.
 fn count_at<E: Engine>(
     engine: &mut E,
     pass: Pass,
@@ -48,7 +53,7 @@ fn count_at<E: Engine>(
     found: &WordState,
     p: usize,
     mark: Mark,
-) -> Result<(), AllocError>
+) -> Result<u32, AllocError>
     requires ranges { IsPass pass }
     requires pass { (E.meaning engine.old).pass ≡ pass }
     requires read { IsRead (E.meaning engine.old) (lent_word w.now) found.now }
@@ -59,24 +64,31 @@ fn count_at<E: Engine>(
         ≡ counting (E.meaning engine.old)
         (counted_positions_at (E.meaning engine.old).pass (E.meaning engine.old).patterns
         (E.meaning engine.old).hopeless (lent_word w.now) p)) }
+    ensures number { IfOk result (λ n. GetsNumber
+        (counted_at pass (E.meaning engine.old).patterns (E.meaning engine.old).hopeless (lent_word w.now) p)
+        (E.meaning engine.new).windows (window_of_word w.now.signs.now p pass.len pass.dot) n) }
     ensures err { OnErr result (E.meaning engine.new ≡ E.meaning engine.old) }
 {
-    if let Some(good) = counted(pass, w, found, p, mark) {
-        let from = p - usize::from(pass.dot);
-        let window = &w.signs[from..from + usize::from(pass.len)];
-        engine.count(window, good, w.weights[p])?;
-    }
-    Ok(())
+    let Some(good) = counted(pass, w, found, p, mark) else {
+        return Ok(NOT_COUNTED);
+    };
+    let from = p - usize::from(pass.dot);
+    let window = &w.signs[from..from + usize::from(pass.len)];
+    let number = engine.count_numbered(window, good, w.weights[p])?;
+    Ok(number)
 }
 
-/// Counts position `p` of a word, and adds it to the totals.
+/// Counts position `p` of a word, and adds it to the totals. Where its window is counted for the first time, its place is noted. Where
+/// its value is above the level and it counts by its status, the number of its window is noted.
 fn count_position<E: Engine>(
     engine: &mut E,
     pass: Pass,
+    word: u32,
     w: &WordRef<'_>,
     found: &WordState,
     p: usize,
     sums: &mut Totals,
+    windows: &mut PassWindows,
 ) -> Result<(), AllocError>
     requires ranges { IsPass pass }
     requires pass { (E.meaning engine.old).pass ≡ pass }
@@ -91,15 +103,33 @@ fn count_position<E: Engine>(
     ensures sums { OnOk result (sums.new
         ≡ with_mark sums.old (status_at (E.meaning engine.old).patterns (lent_word w.now) p)
         (position_weight (lent_word w.now) p)) }
-    ensures err { OnErr result (E.meaning engine.new ≡ E.meaning engine.old) }
+    ensures numbers { OnOk result ((words : List Word) (entries : List OpenPosition)
+        → slice_get words word ≡ Some (lent_word w.now)
+        → HaveNumbers pass (uncovered_at pass (E.meaning engine.old).patterns (E.meaning engine.old).hopeless) words
+        (E.meaning engine.old).windows entries windows.old.numbers.items
+        → HaveNumbers pass (uncovered_at pass (E.meaning engine.old).patterns (E.meaning engine.old).hopeless) words
+        (E.meaning engine.new).windows
+        (entries ++ open_as word p (counts_above pass.level (E.meaning engine.old).patterns (lent_word w.now) p))
+        windows.new.numbers.items) }
+    ensures places { OnOk result ((words : List Word) → slice_get words word ≡ Some (lent_word w.now)
+        → ArePlaces pass words (E.meaning engine.old).windows windows.old.places.items
+        → ArePlaces pass words (E.meaning engine.new).windows windows.new.places.items) }
+    ensures signs { (E.meaning engine.new).signs ≡ (E.meaning engine.old).signs }
 {
     let mark = mark_at(w, found, p);
     *sums = add_mark(*sums, mark, w.weights[p]);
-    count_at(engine, pass, w, found, p, mark)
+    let number = count_at(engine, pass, w, found, p, mark)?;
+    engine.kept();
+    let place = Place { word, at: p as u8 };
+    note_place(&mut windows.places, number, place)?;
+    if is_above(pass.level, found, p, mark) {
+        windows.numbers.push(number)?;
+    }
+    Ok(())
 }
 
-/// Counts the positions of a word, and adds them to the totals. Where `lists` says so, those that count and have a value above the
-/// level are listed. What `found` holds does not matter.
+/// Counts the positions of a word, and adds them to the totals. Those that count and have a value above the level have the numbers of
+/// their windows noted, and where `lists` says so they are listed. What `found` holds does not matter.
 fn count_word<E: Engine>(
     engine: &mut E,
     table: &Table,
@@ -110,6 +140,7 @@ fn count_word<E: Engine>(
     sums: &mut Totals,
     lists: bool,
     above: &mut Vec<OpenPosition>,
+    windows: &mut PassWindows,
 ) -> Result<(), AllocError>
     requires ranges { IsPass pass }
     requires pass { (E.meaning engine.old).pass ≡ pass }
@@ -125,6 +156,17 @@ fn count_word<E: Engine>(
         ≡ with_marks sums.old (marks_in (minima_of table.now) (E.meaning engine.old).patterns (lent_word w.now))) }
     ensures above { OnOk result (above.new.items ≡ above.old.items ++ listed_in (minima_of table.now)
         (listing lists pass.level (E.meaning engine.old).patterns) word (lent_word w.now)) }
+    ensures numbers { OnOk result ((words : List Word) (entries : List OpenPosition)
+        → slice_get words word ≡ Some (lent_word w.now)
+        → HaveNumbers pass (uncovered_at pass (E.meaning engine.old).patterns (E.meaning engine.old).hopeless) words
+        (E.meaning engine.old).windows entries windows.old.numbers.items
+        → HaveNumbers pass (uncovered_at pass (E.meaning engine.old).patterns (E.meaning engine.old).hopeless) words
+        (E.meaning engine.new).windows (entries ++ listed_in (minima_of table.now)
+        (counts_above pass.level (E.meaning engine.old).patterns) word (lent_word w.now))
+        windows.new.numbers.items) }
+    ensures places { OnOk result ((words : List Word) → slice_get words word ≡ Some (lent_word w.now)
+        → ArePlaces pass words (E.meaning engine.old).windows windows.old.places.items
+        → ArePlaces pass words (E.meaning engine.new).windows windows.new.places.items) }
     ensures took { OnOk result (TookRoom (E.meaning engine.old).counts (E.meaning engine.new).counts
         (letter_count (lent_word w.now))) }
     ensures took_for { OnOk result (TookRoomFor sums.old sums.new (letter_count (lent_word w.now))) }
@@ -135,7 +177,7 @@ fn count_word<E: Engine>(
     };
     engine.hyphenate(*w, found);
     'positions: for p in first..end {
-        count_position(engine, pass, w, found, p, sums)?;
+        count_position(engine, pass, word, w, found, p, sums, windows)?;
     }
     if lists {
         list_above(table, pass.level, word, w, found, above)?;
@@ -144,7 +186,8 @@ fn count_word<E: Engine>(
 }
 
 /// Counts the windows of a pass that has begun, and gives the totals. Each word is hyphenated once. Where `lists` says so, the
-/// positions that count and have a value above the level are listed; else this takes no memory but for what is counted.
+/// positions that count and have a value above the level are listed. Each of these has the number of its window noted, and each window
+/// the place where it was first counted.
 pub fn count_words<E: Engine>(
     engine: &mut E,
     dictionary: &Dictionary,
@@ -152,10 +195,13 @@ pub fn count_words<E: Engine>(
     pass: Pass,
     lists: bool,
     above: &mut Vec<OpenPosition>,
+    windows: &mut PassWindows,
 ) -> Result<Totals, AllocError>
     requires ranges { IsPass pass }
     requires pass { (E.meaning engine.old).pass ≡ pass }
     requires fresh { (E.meaning engine.old).counts ≡ [] }
+    requires places { ArePlaces pass dictionary.now (E.meaning engine.old).windows windows.old.places.items }
+    requires numbers { windows.old.numbers.items ≡ [] }
     requires signs { SignsAtMost (E.meaning engine.old).signs dictionary.now }
     ensures ok { OnOk result (E.meaning engine.new
         ≡ counting (E.meaning engine.old)
@@ -166,6 +212,12 @@ pub fn count_words<E: Engine>(
     ensures small { IfOk result IsSmall }
     ensures above { OnOk result (above.new.items ≡ above.old.items ++ listed_from (minima_of table.now)
         (listing lists pass.level (E.meaning engine.old).patterns) 0 dictionary.now) }
+    ensures numbers { OnOk result (HaveNumbers pass
+        (uncovered_at pass (E.meaning engine.old).patterns (E.meaning engine.old).hopeless) dictionary.now
+        (E.meaning engine.new).windows (listed_from (minima_of table.now)
+        (counts_above pass.level (E.meaning engine.old).patterns) 0 dictionary.now) windows.new.numbers.items) }
+    ensures places { OnOk result (ArePlaces pass dictionary.now (E.meaning engine.new).windows
+        windows.new.places.items) }
     ensures room { OnOk result (HasRoom (E.meaning engine.new).counts 0) }
     ensures signs { (E.meaning engine.new).signs ≡ (E.meaning engine.old).signs }
 {
@@ -182,6 +234,7 @@ pub fn count_words<E: Engine>(
             &mut sums,
             lists,
             above,
+            windows,
         )?;
     }
     Ok(sums)

@@ -9,24 +9,24 @@ use std::test::Fail;
 fn a_pass_over_a_start(rt: HostRuntime) -> Result<(), Fail> {
     let mut engine = PackedEngine::new(rt.alloc(), 4, &start(rt.alloc())?)?;
     let layout = Layout {
-        taken: 6,
-        top: 6,
-        tails: 2,
+        taken: 7,
+        top: 7,
+        tails: 3,
     };
     assert_eq!(rt; engine.layout(), Some(layout));
     engine.begin_pass(1, 2, 1);
-    assert_eq!(rt; values(&engine), ([1, 2, 0], false));
+    assert_eq!(rt; values(&engine), ([0, 2, 0], false));
     count(&mut engine)?;
     assert_eq!(rt; sums(&engine), (Some((1, 0)), None));
     let (at, least) = first_candidate(&engine);
     assert_eq!(rt; least, Some((0, 1)));
     assert_eq!(rt; at.signs(), [2, 3].as_slice());
     choose_and_give_up(&mut engine)?;
-    assert_eq!(rt; values(&engine), ([1, 2, 1], true));
+    assert_eq!(rt; values(&engine), ([0, 2, 1], true));
     engine.end_level()?;
     let layout = Layout {
-        taken: 7,
-        top: 7,
+        taken: 8,
+        top: 10,
         tails: 3,
     };
     assert_eq!(rt; engine.layout(), Some(layout));

@@ -10,7 +10,7 @@ use pg_types::Cursor;
 use std::alloc::{AllocError, Global};
 use std::test::Fail;
 
-/// The patterns `1a2b` and `c2b`.
+/// The patterns `.a1`, `a2b` and `b1c`.
 pub fn start(alloc: Global) -> Result<PatternSet, Fail>
     ensures { IfOk result (SignsUpTo 4) }
 {
@@ -18,10 +18,10 @@ pub fn start(alloc: Global) -> Result<PatternSet, Fail>
     if table.letters() != 3 {
         return Err(Fail::new("the letters are a, b and c"));
     }
-    Ok(PatternSet::read(alloc, &table, b"1a2b\nc2b\n")?)
+    Ok(PatternSet::read(alloc, &table, b"b1c\na2b\na1b\n.a1\n")?)
 }
 
-/// The values of the positions 1 to 3 of the word `aba`, and whether the window at position 3 is covered.
+/// The values of the positions 1 to 3 of the word `ab-a`, and whether the window at position 3 is covered.
 pub fn values<E: Engine>(e: &E) -> ([u8; 3], bool)
     requires { (E.meaning e.now).signs ≡ 4 }
 {

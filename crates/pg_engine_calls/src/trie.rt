@@ -8,8 +8,20 @@ use std::test::Fail;
 fn a_mark_beside_a_value(rt: HostRuntime) -> Result<(), Fail> {
     let mut trie = trie_of(rt.alloc(), &[(&[2, 3], 1, 1), (&[2, 3], 1, HOPELESS)])?;
     trie.delete_hopeless()?;
+    // The value is the one record that is left, so no mark is.
+    if trie.outputs().len() != 1 {
+        return Err(Fail::new("one record"));
+    }
+    assert_eq!(rt; trie.outputs().first(1), Some((1, 1, 0)));
     let patterns = trie.copy(rt.alloc())?;
-    assert_eq!(rt; (patterns.len(), patterns.largest()), (1, 1));
+    if patterns.len() != 1 {
+        return Err(Fail::new("one entry"));
+    }
+    let entry = patterns.entry(0);
+    assert_eq!(rt;
+        (entry.signs, entry.dot, entry.value),
+        ([2, 3].as_slice(), 1, 1)
+    );
     let layout = Layout {
         taken: 5,
         top: 5,

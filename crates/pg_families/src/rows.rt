@@ -8,8 +8,9 @@ use std::test::Fail;
 #[test]
 fn one_sign(rt: HostRuntime) -> Result<(), Fail> {
     let mut cells = Cells::<u32, 4>::new(rt.alloc(), 1, 7)?;
-    change_at(&mut cells, &[1], 1, 8)?;
-    change_at(&mut cells, &[1, 1], 1, 9)?;
+    assert_eq!(rt; change_at(&mut cells, &[1], 1, 8)?, Some(2));
+    assert_eq!(rt; base_of(&cells, &[1]), 1);
+    assert_eq!(rt; change_at(&mut cells, &[1, 1], 1, 9)?, Some(3));
     for (string, cell, base, value) in [
         ([1].as_slice(), 1, 1, 7),
         (&[1, 1], 2, 2, 8),

@@ -34,27 +34,26 @@ pub fn base_of<const FEW: usize>(cells: &Cells<u32, FEW>, prefix: &[Sign]) -> us
     }
 }
 
-/// Adds the sign with the value below the string of a cell, or removes it where it is there and no family is below it.
+/// Adds the sign with the value below the string of a cell, and gives its cell, or removes it where it is there and no family is
+/// below it.
 fn change<const FEW: usize>(
     cells: &mut Cells<u32, FEW>,
     parent: usize,
     s: Sign,
     value: u32,
-) -> Result<(), Fail>
+) -> Result<Option<usize>, Fail>
     requires parent { (q : List ℕ) × (cell_of cells.old.families q ≡ Some parent) }
     requires sign { (1 ≤ s) × (s ≤ cells.old.signs) }
 {
     match step(cells, Some(parent), s) {
-        None => {
-            cells.add(parent, s, value)?;
-        }
+        None => Ok(Some(cells.add(parent, s, value)?)),
         Some(cell) => {
             if cells.child(cell) == 0 {
                 cells.remove(parent, s);
             }
+            Ok(None)
         }
     }
-    Ok(())
 }
 
 /// The same below a string.
@@ -63,7 +62,7 @@ pub fn change_at<const FEW: usize>(
     string: &[Sign],
     s: Sign,
     value: u32,
-) -> Result<(), Fail> {
+) -> Result<Option<usize>, Fail> {
     let Some(cell) = cell_of(cells, string) else {
         return Err(Fail::new("the string has a cell"));
     };

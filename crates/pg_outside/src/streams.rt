@@ -1,17 +1,14 @@
-//! Reading from a reader up to a limit, and writing all bytes to a writer.
-ghost use Rattle.std.specs.Prelude.{◌≡◌, ℕ, ◌+◌, ◌-◌, ◌^◌, ◌<◌, ◌≤◌, [], length, take, OnOk, OnErr, IfOk, IsErrOf};
+//! Reading from a reader and writing to a writer, where a call that a signal interrupts goes on.
+ghost use Rattle.std.specs.Prelude.{◌≡◌, ◌<◌, length, take, OnOk, OnErr, IfOk};
 ghost use Rattle.std.specs.Io.{ReadsAtMost, WritesAtMost};
 ghost use Rattle.std.specs.Io.KnownBytes.{Appends, Consumes, IsAtEnd, Keeps};
-ghost use Rattle.pg_outside.specs.Streams.{IsWhole, IsFront, AppendsPart};
+ghost use Rattle.pg_outside.specs.Streams.{AppendsPart};
 
-use super::outside::{Failed, ReadError};
+use super::outside::Failed;
 use std::io::{ErrorKind, Read, Write};
 
-/// How many bytes one read asks for at most.
-const PIECE: usize = 65536;
-
 /// Reads some bytes. A read that a signal interrupts is made again.
-fn read_some<R: Read>(from: &mut R, buffer: &mut [u8]) -> Result<usize, Failed>
+pub(crate) fn read_some<R: Read>(from: &mut R, buffer: &mut [u8]) -> Result<usize, Failed>
     ensures bound { ReadsAtMost result buffer.new }
     ensures ok { IfOk result (λ count.
         Consumes (R.remaining from.old) (R.remaining from.new) (take count buffer.new)) }
@@ -28,37 +25,8 @@ fn read_some<R: Read>(from: &mut R, buffer: &mut [u8]) -> Result<usize, Failed>
     Err(Failed)
 }
 
-/// Reads at most `limit` bytes to the end, in pieces, and takes at most `limit + 1` of them.
-pub(crate) fn read_within<R: Read>(
-    from: &mut R,
-    limit: usize,
-    into: &mut Vec<u8>,
-) -> Result<(), ReadError>
-    requires empty { into.old.items ≡ [] }
-    requires limit { limit < 2 ^ 64 - 1 }
-    ensures fits { OnOk result (length into.new.items ≤ limit) }
-    ensures cut { IsErrOf result ReadError.TooLong → length into.new.items ≡ limit + 1 }
-    ensures whole { OnOk result (IsWhole (R.remaining from.old) into.new.items) }
-    ensures front { IsErrOf result ReadError.TooLong → IsFront (R.remaining from.old) limit into.new.items }
-    ensures taken { IsErrOf result ReadError.TooLong
-        → Consumes (R.remaining from.old) (R.remaining from.new) into.new.items }
-    ensures failed { IsErrOf result ReadError.Failed
-        → Consumes (R.remaining from.old) (R.remaining from.new) into.new.items }
-{
-    let mut piece = [0u8; PIECE];
-    while into.len() <= limit {
-        let most = (limit - into.len()).saturating_add(1).min(PIECE);
-        match read_some(from, &mut piece[..most]) {
-            Ok(0) => return Ok(()),
-            Ok(count) => into.extend_from_slice(&piece[..count])?,
-            Err(Failed) => return Err(ReadError::Failed),
-        }
-    }
-    Err(ReadError::TooLong)
-}
-
 /// Writes some of the bytes. A write that a signal interrupts is made again.
-fn write_some<W: Write>(to: &mut W, bytes: &[u8]) -> Result<usize, Failed>
+pub(crate) fn write_some<W: Write>(to: &mut W, bytes: &[u8]) -> Result<usize, Failed>
     ensures bound { WritesAtMost result bytes.now }
     ensures ok { IfOk result (λ count. Appends (W.contents to.old) (W.contents to.new) (take count bytes.now)) }
     ensures err { OnErr result (Keeps (W.contents to.old) (W.contents to.new)) }

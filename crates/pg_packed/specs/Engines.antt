@@ -10,6 +10,7 @@ meaning_of e = record {
   patterns = e.trie.patterns;
   hopeless = e.trie.hopeless;
   counts = e.counts.counts;
+  windows = e.counts.windows;
   pass = record { level = e.level; len = e.counts.len; dot = e.dot };
   families = Some e.trie.families;
   begun = e.begun;

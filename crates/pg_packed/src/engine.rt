@@ -84,8 +84,25 @@ impl Engine for PackedEngine {
         self.counts.add(window, good, weight)
     }
 
+    fn count_numbered(
+        &mut self,
+        window: &[Sign],
+        good: bool,
+        weight: Weight,
+    ) -> Result<u32, AllocError> {
+        self.counts.add_numbered(window, good, weight)
+    }
+
     fn sums(&self, window: &[Sign]) -> Option<(u64, u64)> {
         self.counts.sums(window)
+    }
+
+    fn sums_of(&self, number: u32) -> (u64, u64) {
+        self.counts.sums_of(number)
+    }
+
+    fn order(&self, out: &mut Vec<u32>) -> Result<(), AllocError> {
+        self.counts.order(out)
     }
 
     fn next_candidate(&self, at: &mut Cursor) -> Option<(u64, u64)> {

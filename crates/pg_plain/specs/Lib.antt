@@ -1,3 +1,4 @@
+pub mod Counted
 pub mod Strings
 pub mod Greatest
 pub mod Walks

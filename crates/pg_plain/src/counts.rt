@@ -1,55 +1,184 @@
-//! The windows that are counted in a pass, in the order of signs, each with its sums of good and bad weights.
-ghost use Rattle.std.specs.Prelude.{◌≡◌, ℕ, Bool, true, List, OnOk, OnErr, IsOk};
-ghost use Rattle.std.specs.Bool.{OnTrue, OnFalse};
+//! The windows that are counted in a pass, in the order of signs, each with its number and its sums of good and bad weights.
 ghost use Rattle.std.specs.List.{list_all};
-ghost use Rattle.pg_types.specs.Counts.{AreSmall, IsNextAbove, sums_of, with_weight, with_count, is_counted};
+ghost use Rattle.std.specs.Prelude.{◌≡◌, ℕ, Bool, ◌≤◌, ◌<◌, ◌++◌, true, List, [], ◌∷◌, T, length, map, set, Some, IfOk, OnOk, OnErr, IsOk};
+ghost use Rattle.std.specs.Cmp.Lexicographic.{slice_cmp};
+ghost use Rattle.std.specs.FinMap.Entries.{put, find, is_sorted};
+ghost use Rattle.std.specs.Ordering.{nat_cmp};
+ghost use Rattle.pg_types.specs.Counts.{AreSmall, IsNextAbove, counted_sums, sums_of, with_weight, is_counted};
+ghost use Rattle.pg_types.specs.Numbered.{AreInOrder, AreNumbered, HasNumber};
+ghost use Rattle.pg_plain.specs.Counted.{counted_more, tally_at};
 
 use pg_types::Cursor;
-use std::alloc::AllocError;
+use std::alloc::{AllocError, Global};
 use std::collections::BTreeMap;
+use std::marker::Model;
 use std::ops::Bound;
 
-/// Adds `weight` to the good or the bad sum of a window. A window that is counted already takes no memory.
-pub fn add(
-    counts: &mut BTreeMap<Cursor, (u64, u64)>,
-    window: Cursor,
-    good: bool,
-    weight: u64,
-) -> Result<(), AllocError>
-    requires { AreSmall (with_weight (sums_of counts.old.entries window) good weight) }
-    ensures ok { OnOk result (counts.new.entries ≡ with_count counts.old.entries window good weight) }
-    ensures there { is_counted counts.old.entries window ≡ true → IsOk result }
-    ensures err { OnErr result (counts.new.entries ≡ counts.old.entries) }
-    ensures windows { (good : List ℕ → Bool) → good window ≡ true → list_all (λ e. good e.0) counts.old.entries
-        ≡ true → list_all (λ e. good e.0) counts.new.entries ≡ true }
-{
-    if add_there(counts, &window, good, weight) {
-        return Ok(());
-    }
-    counts.insert(window, added((0, 0), good, weight))?;
-    Ok(())
+/// At most so many windows have numbers.
+pub const NUMBERS_MAX: u32 = u32::MAX;
+
+/// The windows that are counted in a pass. A map leads from a window to its number, and the sums stand by number.
+#[derive(Drop)]
+pub struct CountedWindows {
+    numbers: BTreeMap<Cursor, u32>,
+    tallies: Vec<(u64, u64)>,
 }
 
-/// Adds to the sums of a window that is counted; false where it is not.
-fn add_there(
-    counts: &mut BTreeMap<Cursor, (u64, u64)>,
-    window: &Cursor,
-    good: bool,
-    weight: u64,
-) -> bool
-    requires { AreSmall (with_weight (sums_of counts.old.entries window.now) good weight) }
-    ensures told { result ≡ is_counted counts.old.entries window.now }
-    ensures there { OnTrue result (counts.new.entries ≡ with_count counts.old.entries window.now good weight) }
-    ensures absent { OnFalse result (counts.new.entries ≡ counts.old.entries) }
-{
-    match counts.get_mut(window) {
-        None => false,
-        Some(sums) => {
-            let more = added(*sums, good, weight);
-            *sums = more;
-            true
+impl Model for CountedWindows {
+    ghost use Rattle.pg_plain.specs.Counted.{Counted};
+
+    ghost Value = { Counted };
+
+    ghost use Rattle.pg_plain.specs.Counted.{counted_of, AreCounted};
+
+    ghost view = { λ t. counted_of t.numbers.entries t.tallies.items };
+
+    ghost invariant = { λ t. AreCounted t.numbers.entries t.tallies.items };
+}
+
+impl CountedWindows {
+    /// No window is counted.
+    pub fn new(alloc: Global) -> CountedWindows
+        ensures { result ≡ record { counts = []; windows = [] } }
+    {
+        CountedWindows {
+            numbers: BTreeMap::new(alloc),
+            tallies: Vec::new(alloc),
         }
     }
+
+    /// No window is counted any more.
+    pub fn clear(&mut self)
+        ensures { self.new ≡ record { counts = []; windows = [] } }
+    {
+        self.numbers.clear();
+        self.tallies.clear();
+    }
+
+    /// How many windows are counted.
+    pub fn len(&self) -> usize
+        ensures len { result ≡ length self.now.windows }
+        ensures ordered { T (is_sorted (slice_cmp nat_cmp) self.now.counts) }
+        ensures numbered { AreNumbered self.now.windows self.now.counts }
+    {
+        self.tallies.len()
+    }
+
+    /// Adds `weight` to the good or the bad sum of a window, and gives its number. A window that is counted already takes
+    /// no memory.
+    pub fn count(&mut self, window: Cursor, good: bool, weight: u64) -> Result<u32, AllocError>
+        requires { AreSmall (with_weight (sums_of self.old.counts window) good weight) }
+        ensures ok { OnOk result (self.new ≡ counted_more self.old window good weight) }
+        ensures number { IfOk result (λ number. HasNumber self.new.windows window number) }
+        ensures there { is_counted self.old.counts window ≡ true → IsOk result }
+        ensures err { OnErr result (self.new ≡ self.old) }
+        ensures windows { (good : List ℕ → Bool) → good window ≡ true → list_all (λ e. good e.0) self.old.counts
+            ≡ true → list_all (λ e. good e.0) self.new.counts ≡ true }
+    {
+        match self.numbers.get(&window).copied() {
+            Some(number) => {
+                add_to(&mut self.tallies, number, good, weight);
+                Ok(number)
+            }
+            None => {
+                let sums = added((0, 0), good, weight);
+                let number = number_new(&mut self.numbers, &mut self.tallies, window, sums)?;
+                Ok(number)
+            }
+        }
+    }
+
+    /// The sums of a window; none exactly where it is not counted.
+    pub fn sums(&self, window: &Cursor) -> Option<(u64, u64)>
+        ensures { result ≡ counted_sums self.now.counts window.now }
+    {
+        let number = self.numbers.get(window).copied()?;
+        Some(self.tallies[number as usize])
+    }
+
+    /// The sums of the window with the number.
+    pub fn sums_of(&self, number: u32) -> (u64, u64)
+        requires { number < length self.now.windows }
+        ensures { (u : List ℕ) → HasNumber self.now.windows u number → counted_sums self.now.counts u ≡ Some result }
+    {
+        self.tallies[number as usize]
+    }
+
+    /// Appends the numbers of the windows in the order of signs. Refused: some of them may have been appended.
+    pub fn order(&self, out: &mut Vec<u32>) -> Result<(), AllocError>
+        ensures { OnOk result ((ns : List ℕ) × (out.new.items ≡ out.old.items ++ ns)
+            × AreInOrder self.now.windows self.now.counts ns) }
+    {
+        push_all(&self.numbers, out)?;
+        Ok(())
+    }
+
+    /// Moves the cursor to the least window that is greater, and gives its sums; none where there is no such window. It
+    /// takes no memory.
+    pub fn next_behind(&self, at: &mut Cursor) -> Option<(u64, u64)>
+        ensures { IsNextAbove self.now.counts at.old at.new result }
+    {
+        let mut behind = self
+            .numbers
+            .range((Bound::Excluded(&*at), Bound::Unbounded));
+        let (window, number) = behind.next()?;
+        let sums = self.tallies[*number as usize];
+        at.set(window.signs());
+        Some(sums)
+    }
+}
+
+/// Adds to the sums by a number.
+fn add_to(tallies: &mut Vec<(u64, u64)>, number: u32, good: bool, weight: u64)
+    requires there { number < length tallies.old.items }
+    requires small { AreSmall (with_weight (tally_at tallies.old.items number) good weight) }
+    ensures { tallies.new.items
+        ≡ set tallies.old.items number (with_weight (tally_at tallies.old.items number) good weight) }
+{
+    let sums = tallies[number as usize];
+    tallies[number as usize] = added(sums, good, weight);
+}
+
+/// Gives a window that is not counted the next number, with its sums, and tells that number.
+///
+/// Refused: the map and the list are as before.
+fn number_new(
+    numbers: &mut BTreeMap<Cursor, u32>,
+    tallies: &mut Vec<(u64, u64)>,
+    window: Cursor,
+    sums: (u64, u64),
+) -> Result<u32, AllocError>
+    requires { length tallies.old.items ≤ NUMBERS_MAX }
+    ensures number { IfOk result (λ number. number ≡ length tallies.old.items) }
+    ensures numbers { OnOk result (numbers.new.entries
+        ≡ put (slice_cmp nat_cmp) window (length tallies.old.items) numbers.old.entries) }
+    ensures tallies { OnOk result (tallies.new.items ≡ tallies.old.items ++ sums ∷ []) }
+    ensures few { length tallies.new.items ≤ NUMBERS_MAX }
+    ensures err_numbers { OnErr result (numbers.new.entries ≡ numbers.old.entries) }
+    ensures err_tallies { OnErr result (tallies.new.items ≡ tallies.old.items) }
+{
+    let number = tallies.len() as u32;
+    if number == NUMBERS_MAX {
+        return Err(AllocError);
+    }
+    tallies.push(sums)?;
+    match numbers.insert(window, number) {
+        Ok(_) => Ok(number),
+        Err(_) => {
+            let _sums = tallies.pop();
+            Err(AllocError)
+        }
+    }
+}
+
+/// Appends the numbers in the order of the windows.
+fn push_all(numbers: &BTreeMap<Cursor, u32>, out: &mut Vec<u32>) -> Result<(), AllocError>
+    ensures { OnOk result (out.new.items ≡ out.old.items ++ map (λ e. e.1) numbers.now.entries) }
+{
+    for number in numbers.values() {
+        out.push(*number)?;
+    }
+    Ok(())
 }
 
 /// Sums with one weight more.
@@ -62,16 +191,4 @@ fn added(sums: (u64, u64), good: bool, weight: u64) -> (u64, u64)
     } else {
         (sums.0, sums.1 + weight)
     }
-}
-
-/// Moves the cursor to the least window that is greater, and gives its sums; none where there is no such window. It
-/// takes no memory.
-pub fn next_behind(counts: &BTreeMap<Cursor, (u64, u64)>, at: &mut Cursor) -> Option<(u64, u64)>
-    ensures { IsNextAbove counts.now.entries at.old at.new result }
-{
-    let mut behind = counts.range((Bound::Excluded(&*at), Bound::Unbounded));
-    let (window, sums) = behind.next()?;
-    let sums = *sums;
-    at.set(window.signs());
-    Some(sums)
 }

@@ -5,7 +5,7 @@ ghost use Rattle.pg_types.specs.declared.limits.TheConstants.{LEVEL_MAX, LENGTH_
 ghost use Rattle.pg_patterns.specs.Values.{is_entry};
 ghost use Rattle.pg_plain.specs.Strings.{is_string, has_signs_up_to};
 
-use crate::counts::{add, next_behind};
+use crate::counts::CountedWindows;
 use crate::places::{map_of, put_in, raise_in, set_of};
 use crate::walk::walk;
 use pg_dict::WordRef;
@@ -25,15 +25,15 @@ pub struct PlainEngine {
     signs: u16,
     patterns: BTreeMap<DottedSigns, u8>,
     hopeless: BTreeMap<DottedSigns, ()>,
-    counts: BTreeMap<Cursor, (u64, u64)>,
+    counts: CountedWindows,
     pass: Pass,
     begun: u64,
     ghost entries: { list_all is_entry patterns.entries ≡ true },
     ghost strings: { list_all (λ e. is_string e.0) hopeless.entries ≡ true },
     ghost known: { list_all (λ e. has_signs_up_to signs e.0.0) patterns.entries ≡ true },
     ghost hopeless_known: { list_all (λ e. has_signs_up_to signs e.0.0) hopeless.entries ≡ true },
-    ghost counts_known: { list_all (λ e. has_signs_up_to signs e.0) counts.entries ≡ true },
-    ghost windows: { list_all (λ e. nat_eq (length e.0) pass.len) counts.entries ≡ true },
+    ghost counts_known: { list_all (λ e. has_signs_up_to signs e.0) counts.counts ≡ true },
+    ghost windows: { list_all (λ e. nat_eq (length e.0) pass.len) counts.counts ≡ true },
     ghost level: { (1 ≤ pass.level) × (pass.level ≤ LEVEL_MAX) },
     ghost len: { (1 ≤ pass.len) × (pass.len ≤ LENGTH_MAX) },
     ghost dot: { pass.dot ≤ pass.len },
@@ -56,7 +56,7 @@ impl PlainEngine {
             signs,
             patterns,
             hopeless: BTreeMap::new(alloc),
-            counts: BTreeMap::new(alloc),
+            counts: CountedWindows::new(alloc),
             pass: Pass {
                 level: 1,
                 len: 1,
@@ -91,20 +91,37 @@ impl Engine for PlainEngine {
     }
 
     fn count(&mut self, window: &[Sign], good: bool, weight: Weight) -> Result<(), AllocError> {
+        self.count_numbered(window, good, weight)?;
+        Ok(())
+    }
+
+    fn count_numbered(
+        &mut self,
+        window: &[Sign],
+        good: bool,
+        weight: Weight,
+    ) -> Result<u32, AllocError> {
         let mut at = Cursor::start();
         at.set(window);
-        add(&mut self.counts, at, good, u64::from(weight))?;
-        Ok(())
+        self.counts.count(at, good, u64::from(weight))
     }
 
     fn sums(&self, window: &[Sign]) -> Option<(u64, u64)> {
         let mut at = Cursor::start();
         at.set(window);
-        self.counts.get(&at).copied()
+        self.counts.sums(&at)
+    }
+
+    fn sums_of(&self, number: u32) -> (u64, u64) {
+        self.counts.sums_of(number)
+    }
+
+    fn order(&self, out: &mut Vec<u32>) -> Result<(), AllocError> {
+        self.counts.order(out)
     }
 
     fn next_candidate(&self, at: &mut Cursor) -> Option<(u64, u64)> {
-        next_behind(&self.counts, at)
+        self.counts.next_behind(at)
     }
 
     fn choose(&mut self, at: &Cursor) -> Result<(), AllocError> {

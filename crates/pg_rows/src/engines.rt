@@ -29,11 +29,11 @@ fn levels_alone(alloc: Global, levels: &[LevelRecord]) -> Result<Vec<LevelRecord
     Ok(alone)
 }
 
-/// The run of 300 words over both engines: the same patterns, records, totals and number of passes begun.
+/// The run of 2,000 words over both engines: the same patterns, records, totals and number of passes begun.
 #[test]
 fn the_same_run_from_both_engines(rt: HostRuntime) -> Result<(), Fail> {
     let alloc = rt.alloc();
-    let words = drawn_words(alloc)?;
+    let words = drawn_words(alloc, 2_000)?;
     let parameters = b"1 2 1 3 1 2 20 2 4 2 1 8";
     let plain = run_of(alloc, b"", words.as_slice(), parameters, b"")?;
     let packed = packed_run_of(alloc, b"", words.as_slice(), parameters, b"")?;

@@ -1,9 +1,9 @@
-//! Runs of the driver: how many passes they begin, beside a run that skips no pass, and over both engines. Worked runs are
-//! rows of patgen_rows.
+//! Runs of the driver beside a run that skips no pass, and over both engines, and what a pass counts. Worked runs are rows of
+//! patgen_rows.
 #![tactic(auto)]
 
 #[cfg(test)]
-mod begun;
+mod counts;
 #[cfg(test)]
 mod engines;
 #[cfg(test)]

@@ -223,7 +223,7 @@ fn count_word<E: Engine>(
 }
 
 /// Counts the windows of all words.
-fn count_words<E: Engine>(
+pub(crate) fn count_words<E: Engine>(
     engine: &mut E,
     dictionary: &Dictionary,
     table: &Table,

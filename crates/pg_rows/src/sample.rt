@@ -55,11 +55,11 @@ impl Draw {
     }
 }
 
-/// A list of 300 words that are drawn from the seed 7.
-pub(crate) fn drawn_words(alloc: Global) -> Result<Vec<u8>, AllocError> {
+/// A list of so many words that are drawn from the seed 7.
+pub(crate) fn drawn_words(alloc: Global, count: u32) -> Result<Vec<u8>, AllocError> {
     let mut draw = Draw { state: 7 };
     let mut text = Vec::new(alloc);
-    for _ in 0..300 {
+    for _ in 0..count {
         draw.push_word(&mut text)?;
     }
     Ok(text)

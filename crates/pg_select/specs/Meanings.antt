@@ -6,6 +6,7 @@ use Rattle.std.specs.Cmp.Lexicographic.{slice_cmp}
 use Rattle.std.specs.FinMap.Entries.{put, is_sorted}
 use Rattle.pg_types.specs.declared.marks.Layout.{Layout}
 use Rattle.pg_types.specs.Counts.{Counts, SignsWithin, with_count, is_counted}
+use Rattle.pg_types.specs.Numbered.{Windows, AreNumbered, with_window}
 use Rattle.pg_types.specs.Placement.{Families, taken, top, enter, kept}
 use Rattle.pg_types.specs.Tails.{tails}
 use Rattle.pg_patterns.specs.DottedSigns.{dotted_cmp}
@@ -15,13 +16,15 @@ use Rattle.pg_select.specs.Windows.{Patterns, Hopeless}
 use Rattle.pg_select.specs.declared.pass.Pass.{Pass}
 use Rattle.pg_select.specs.CountedPositions.{CountedPosition}
 
--- the greatest sign; the patterns and the hopeless places; the windows that are counted in the pass; the pass; the families of the
+-- the greatest sign; the patterns and the hopeless places; the windows that are counted in the pass, and the same
+-- in the order in which they were first counted; the pass; the families of the
 -- strings, where they are told; how many passes were begun; and whether nothing was chosen or given up since a level ended
 pub record Meaning : Type 0 where
   pub signs : ℕ
   pub patterns : Patterns
   pub hopeless : Hopeless
   pub counts : Counts
+  pub windows : Windows
   pub pass : Pass
   pub families : Option Families
   pub begun : ℕ
@@ -35,6 +38,7 @@ pub record IsKept (m : Meaning) : Type 0 where
   pub counts_order : T (is_sorted (slice_cmp nat_cmp) m.counts)
   pub pattern_signs : SignsUpTo m.signs m.patterns
   pub hopeless_signs : All (λ e. SignsWithin m.signs e.0.0) m.hopeless
+  pub numbered : AreNumbered m.windows m.counts
   pub counted_signs : (u : List ℕ) → is_counted m.counts u ≡ true → SignsWithin m.signs u
 
 -- an engine that was just made: it has these patterns and tells these families; nothing is hopeless or counted, no pass was begun, and
@@ -45,6 +49,7 @@ new_engine signs P families = record {
   patterns = P;
   hopeless = [];
   counts = [];
+  windows = [];
   pass = record { level = 1; len = 1; dot = 0 };
   families = families;
   begun = 0;
@@ -57,11 +62,11 @@ with_position counts s = with_count counts s.window s.good s.weight
 
 -- a pass has begun: nothing is counted in it
 abbrev pub after_begin_pass : Meaning → ℕ → ℕ → ℕ → Meaning
-after_begin_pass m level len dot = record m { pass = record { level = level; len = len; dot = dot }; counts = []; begun = m.begun + 1 }
+after_begin_pass m level len dot = record m { pass = record { level = level; len = len; dot = dot }; counts = []; windows = []; begun = m.begun + 1 }
 
 -- a position was counted
 abbrev pub after_count : Meaning → List ℕ → Bool → ℕ → Meaning
-after_count m u good weight = record m { counts = with_position m.counts (record { window = u; good = good; weight = weight }) }
+after_count m u good weight = record m { counts = with_position m.counts (record { window = u; good = good; weight = weight }); windows = with_window m.windows m.counts u }
 
 -- the families after a string is entered, where they are told
 abbrev pub families_with : Meaning → List ℕ → Option Families

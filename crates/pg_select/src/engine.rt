@@ -1,8 +1,9 @@
 //! The contract of an engine, which holds patterns and counts windows.
-ghost use Rattle.std.specs.Prelude.{◌≡◌, ◌≤◌, ◌<◌, ◌+◌, true, length, IfOk, OnOk, OnErr, IsOk};
+ghost use Rattle.std.specs.Prelude.{◌≡◌, ℕ, ◌≤◌, ◌<◌, ◌+◌, ◌++◌, true, List, length, Some, IfOk, OnOk, OnErr, IsOk};
 ghost use Rattle.pg_types.specs.declared.limits.TheConstants.{LEVEL_MAX, LENGTH_MAX, WEIGHT_MAX, WORD_LETTERS_MAX};
 ghost use Rattle.pg_types.specs.Limits.{begun_before_pass};
 ghost use Rattle.pg_types.specs.Counts.{AreSmall, IsNextAbove, SignsWithin, counted_sums, sums_of, with_weight, is_counted};
+ghost use Rattle.pg_types.specs.Numbered.{AreInOrder, HasNumber};
 ghost use Rattle.pg_select.specs.Meanings.{Meaning, IsKept, KeepsButFamilies, SetsValues, SetsCovers, IsLayout, after_begin_pass, after_count, after_choose, after_give_up, after_end_level};
 
 use crate::word_state::WordState;
@@ -51,11 +52,35 @@ pub trait Engine {
         ensures there { is_counted (meaning self.old).counts window.now ≡ true → IsOk result }
         ensures err { OnErr result (meaning self.new ≡ meaning self.old) };
 
+    /// Counts as `count` does, and gives the window's number: its place, from 0, among the windows of the pass in the
+    /// order in which they were first counted.
+    fn count_numbered(&mut self, window: &[Sign], good: bool, weight: Weight) -> Result<u32, AllocError>
+        requires len { length window.now ≡ (meaning self.old).pass.len }
+        requires signs { SignsWithin (meaning self.old).signs window.now }
+        requires weight { weight ≤ WEIGHT_MAX }
+        requires small { AreSmall (with_weight (sums_of (meaning self.old).counts window.now) good weight) }
+        ensures ok { OnOk result (meaning self.new ≡ after_count (meaning self.old) window.now good weight) }
+        ensures number { IfOk result (λ number. HasNumber (meaning self.new).windows window.now number) }
+        ensures there { is_counted (meaning self.old).counts window.now ≡ true → IsOk result }
+        ensures err { OnErr result (meaning self.new ≡ meaning self.old) };
+
     /// The good and the bad sum of a window; none exactly where it is not counted. It takes no memory.
     fn sums(&self, window: &[Sign]) -> Option<(u64, u64)>
         requires len { length window.now ≡ (meaning self.now).pass.len }
         requires signs { SignsWithin (meaning self.now).signs window.now }
         ensures { result ≡ counted_sums (meaning self.now).counts window.now };
+
+    /// The good and the bad sum of the window with the number. It takes no memory.
+    fn sums_of(&self, number: u32) -> (u64, u64)
+        requires { number < length (meaning self.now).windows }
+        ensures { (u : List ℕ) → HasNumber (meaning self.now).windows u number
+            → counted_sums (meaning self.now).counts u ≡ Some result };
+
+    /// Appends the numbers of the counted windows in the order of signs, by one walk. Refused: some of them may have been
+    /// appended.
+    fn order(&self, out: &mut Vec<u32>) -> Result<(), AllocError>
+        ensures { OnOk result ((ns : List ℕ) × (out.new.items ≡ out.old.items ++ ns)
+            × AreInOrder (meaning self.now).windows (meaning self.now).counts ns) };
 
     /// Moves the cursor to the least counted window that is greater, and gives its good and bad sums; none exactly
     /// where there is no such window, and the cursor stays. It takes no memory.

@@ -6,5 +6,7 @@ pub mod Limits
 pub mod Parameters
 pub mod ItemSteps
 pub mod Counts
+pub mod Numbered
+pub mod Numbers
 pub mod Placement
 pub mod Tails

@@ -44,8 +44,25 @@ impl<'a, E: Engine, W: Watch> Engine for Lent<'a, E, W> {
         self.inner.count(window, good, weight)
     }
 
+    fn count_numbered(
+        &mut self,
+        window: &[Sign],
+        good: bool,
+        weight: Weight,
+    ) -> Result<u32, AllocError> {
+        self.inner.count_numbered(window, good, weight)
+    }
+
     fn sums(&self, window: &[Sign]) -> Option<(u64, u64)> {
         self.inner.sums(window)
+    }
+
+    fn sums_of(&self, number: u32) -> (u64, u64) {
+        self.inner.sums_of(number)
+    }
+
+    fn order(&self, out: &mut Vec<u32>) -> Result<(), AllocError> {
+        self.inner.order(out)
     }
 
     fn next_candidate(&self, at: &mut Cursor) -> Option<(u64, u64)> {

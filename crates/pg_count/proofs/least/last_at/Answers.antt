@@ -9,5 +9,5 @@ returns-then-not-is_past c = λ p at. none_passes c.args.cells.now.values p c.ar
 pub returns : goal.returns
 returns c = λ p at.
     subst (λ path. LeastAt c.args.cells.now.values p c.args.bound.now c.args.s path c.in_ok-sums.sums) (sym (one_is c.args.path.now c.args.s c.requires.one))
-    (least_last c.args.cells.now.values p c.args.bound.now c.args.s c.in_ok-sums.sums c.requires.sign (sym c.is_past.ensures ∙ c.if-not-is_past.false)
+    (least_last c.args.cells.now.values p c.args.bound.now c.args.s _ c.in_ok-sums.sums c.requires.sign (sym c.is_past.ensures ∙ c.if-not-is_past.false)
     (c.in_ok-sums.ensures (p ++ c.args.s ∷ []) at))

@@ -1,13 +1,10 @@
-use Rattle.std.proofs.Common.{map, sym, ap, subst, ◌∙◌, arith}
+use Rattle.std.proofs.Common.{sym, ap, subst, ◌∙◌, arith}
 use Rattle.pg_select.specs.Meanings.{Meaning}
-use Rattle.pg_types.specs.Counts.{Counts}
 use Rattle.pg_driver.specs.Accounts.{totals_by}
-use Rattle.pg_driver.specs.Choosing.{candidate_of, no_choices, with_candidates}
 use Rattle.pg_driver.specs.LevelCounting.{IsReady}
 use Rattle.pg_driver.specs.States.{State}
 use Rattle.pg_driver.specs.Told.{known_of, over}
 use Rattle.pg_driver.specs.Traces.{Known}
-use Rattle.pg_driver.proofs.GivenUp.{given_up}
 use Rattle.pg_driver.proofs.PassSteps.{counted_as, counts_kept, did_pass, numbers_are, pass_state}
 use Rattle.pg_driver.proofs.ReadySteps.{are_of, can_go_on, counted_after, placed, ready_after}
 use Rattle.pg_driver.proofs.level.run_pass.Goals as goal
@@ -32,22 +29,6 @@ after_choices-requires-clause-totals g c =
     let numbers = numbers_are c.args.table.now words params pass m m2 c.in_ok-choices.choices counted c.in_ok-choices.ensures.choices in
     let source = over c.args.table.now words in
     can_go_on source params (known_of m) pass c.in_ok-choices.choices n.counts c.count.new.self (are_of source params (known_of m) pass c.in_ok-choices.choices numbers) c.in_ok-before.ensures.counted (counts_kept c.args.table.now words params pass m m2 n counted c.in_ok-choices.ensures.ok) ready
-
-pub after_choices-requires-clause-given_up : goal.after_choices-requires-clause-given_up
-after_choices-requires-clause-given_up g c =
-    let m = g.E.Engine.meaning c.args.engine.now in
-    let m2 = g.E.Engine.meaning c.count.new.engine in
-    let n = g.E.Engine.meaning c.choose_all.new.engine in
-    let words = c.args.dictionary.now in
-    let params = c.args.params.now in
-    let pass = c.args.pass in
-    let source = over c.args.table.now words in
-    let ready : IsReady source pass.level pass.len (known_of m) c.count.new.self =
-    subst (λ (k : Known). IsReady source pass.level pass.len k c.count.new.self) (ap known_of c.begin_pass.ensures) c.in_ok-before.ensures.ready in
-    let counted = counted_as c.args.table.now words pass m _ _ c.begin_pass.ensures c.in_ok-before.ensures.ok in
-    let same = ap (λ (x : Meaning). x.counts) c.in_ok-choices.ensures.ok.kept in
-    let numbers = c.in_ok-choices.ensures.choices ∙ ap (λ (counts : Counts). with_candidates params no_choices (map candidate_of counts)) (sym same) in
-    given_up source params (known_of m) pass c.in_ok-choices.choices n.counts c.count.new.self c.requires.ranges.len_high c.requires.ranges.within numbers (counts_kept c.args.table.now words params pass m m2 n counted c.in_ok-choices.ensures.ok) ready
 
 pub returns-clause-done : goal.returns-clause-done
 returns-clause-done g c =

@@ -1,5 +1,7 @@
+use Rattle.std.proofs.Common.{◌<◌, length, get_or, ◌∙◌, arith}
+use Rattle.std.proofs.lemmas.Option.{slice_get-get_or}
 use Rattle.pg_driver.specs.declared.open_positions.OpenPosition.{OpenPosition}
-use Rattle.pg_driver.specs.OpenLevels.{position_after}
+use Rattle.pg_driver.proofs.NumberSteps.{entry_here}
 use Rattle.pg_driver.proofs.OpenSteps.{changed_step}
 use Rattle.pg_driver.proofs.open_passes.close_dots.Goals as goal
 
@@ -8,5 +10,11 @@ no_position = record { word = 0; at = 0; closed = record { bits = 0 } }
 
 pub positions-preserved : goal.positions-preserved
 unfolding no_position
-positions-preserved g c =
-    changed_step (position_after c.args.params.now c.args.pass (g.E.Engine.meaning c.args.engine.now).counts c.args.dictionary.now) c.args.open_positions.now c.positions.open_positions c.positions.position-index c.close_position.result no_position c.positions-test.true c.positions.invariant c.close_position.ensures
+positions-preserved c = λ after closes.
+    let k = c.positions.k in
+    let here = get_or c.positions.open_positions k no_position in
+    let so_far = c.positions.invariant after closes in
+    let at = entry_here after c.args.open_positions.now c.positions.open_positions k no_position c.positions-test.true so_far in
+    let within : k < length c.args.numbers.now = omega (arith, c.requires.size, c.positions-test.true) in
+    let by_fate = closes k here (get_or c.args.numbers.now k 0) at (slice_get-get_or c.args.numbers.now k 0 within) in
+    changed_step after c.args.open_positions.now c.positions.open_positions k _ no_position c.positions-test.true so_far (c.close_position.ensures ∙ by_fate)

@@ -1,11 +1,14 @@
-use Rattle.std.proofs.Common.{◌≡◌, ◌≤◌, ◌<◌, ◌+◌, ◌-◌, ◌++◌, Bool, List, length, sym, ap, ◌∙◌, append-nil, arith}
+use Rattle.std.proofs.Common.{◌≡◌, ℕ, ◌≤◌, ◌<◌, ◌+◌, ◌-◌, ◌++◌, Bool, List, length, refl, sym, ap, subst, ◌∙◌, append-nil, append_assoc, arith}
 use Rattle.pg_dict.specs.Lent.{lent_word}
 use Rattle.pg_dict.specs.Word.{letter_count}
 use Rattle.pg_select.specs.Meanings.{Meaning}
 use Rattle.pg_select.specs.declared.pass.Pass.{Pass}
 use Rattle.pg_select.specs.CountedPositions.{counted_positions_at, minima_of}
 use Rattle.pg_driver.specs.declared.open_positions.OpenPosition.{OpenPosition}
-use Rattle.pg_driver.specs.OpenLevels.{listed_in}
+use Rattle.pg_driver.specs.OpenLevels.{listed_in, open_as}
+use Rattle.pg_driver.specs.PassWindows.{HaveNumbers, uncovered_at}
+use Rattle.pg_driver.proofs.OpenSteps.{position_added}
+use Rattle.pg_select.specs.LawsAbove.{counts_above}
 use Rattle.pg_driver.specs.WordLevels.{listing}
 use Rattle.pg_driver.proofs.WordLevels.{none_listed_in}
 use Rattle.pg_select.specs.Statuses.{status_at, position_weight}
@@ -34,7 +37,10 @@ positions-preserved g c =
     let m0 = g.E.Engine.meaning c.args.engine.now in
     let m = g.E.Engine.meaning c.positions.engine in
     let w = lent_word c.args.w.now in
+    let n = g.E.Engine.meaning c.count_position.new.engine in
+    let pass = c.args.pass in
     let kept = c.positions.invariant.kept in
+    let f : ℕ → List OpenPosition = λ q. open_as c.args.word q (counts_above c.args.pass.level m0.patterns w q) in
     let within : c.positions.p < length w.signs = omega (arith, c.positions-test.true, c.in-Some.ensures.within) in
     let long : 1 ≤ m.pass.len =
     let e : m.pass.len ≡ c.args.pass.len = ap (λ (m : Meaning). m.pass.len) kept ∙ ap (λ (pass : Pass). pass.len) c.requires.pass in
@@ -53,6 +59,15 @@ positions-preserved g c =
       took = rw on (room_on m0 m _ w c.positions.p (c.positions.p - c.in-Some.first) (letter_count w) long c.requires.word within c.requires.room (omega arith) c.positions.invariant.took c.in_ok-count_position.ensures.ok);
       sums = marks_step c.positions.sums _ _ m0.patterns w c.positions.p c.in-Some.end c.positions-test.true sums c.positions.invariant.sums;
       took_for = omega (arith, c.positions.invariant.took_for);
+      listed = c.positions.invariant.listed ++ f c.positions.p;
+      upto = position_added f c.positions.invariant.listed (c.positions.invariant.listed ++ f c.positions.p) (listed_in (minima_of c.args.table.now) (counts_above c.args.pass.level m0.patterns) c.args.word w) c.positions.p c.in-Some.end c.positions-test.true refl c.positions.invariant.upto;
+      numbers = λ words entries at before.
+          let now : HaveNumbers pass (uncovered_at pass m.patterns m.hopeless) words m.windows (entries ++ c.positions.invariant.listed) c.positions.windows.numbers.items =
+          subst (λ (x : Meaning). HaveNumbers pass (uncovered_at pass x.patterns x.hopeless) words m.windows (entries ++ c.positions.invariant.listed) c.positions.windows.numbers.items) (sym kept) (c.positions.invariant.numbers words entries at before) in
+          let then = c.in_ok-count_position.ensures.numbers words (entries ++ c.positions.invariant.listed) at now in
+          subst (λ (es : List OpenPosition). HaveNumbers pass (uncovered_at pass m0.patterns m0.hopeless) words n.windows es c.count_position.new.windows.numbers.items) (append_assoc entries c.positions.invariant.listed (f c.positions.p))
+          (subst (λ (x : Meaning). HaveNumbers pass (uncovered_at pass x.patterns x.hopeless) words n.windows ((entries ++ c.positions.invariant.listed) ++ open_as c.args.word c.positions.p (counts_above pass.level x.patterns w c.positions.p)) c.count_position.new.windows.numbers.items) kept then);
+      places = λ words at before. c.in_ok-count_position.ensures.places words at (c.positions.invariant.places words at before);
     }
 
 pub returns-in_ok-list_above-clause-above : goal.returns-in_ok-list_above-clause-above

@@ -1,4 +1,4 @@
-use Rattle.std.proofs.Common.{◌+◌, ◌++◌, ℕ, List, drop, ap, subst, sym, ◌∙◌, arith}
+use Rattle.std.proofs.Common.{◌+◌, ◌++◌, ℕ, List, drop, refl, ap, subst, sym, ◌∙◌, arith}
 use Rattle.std.specs.List.{flat_map, sum_by}
 use Rattle.pg_dict.specs.Lent.{lent_word}
 use Rattle.pg_dict.specs.Word.{Word, letter_count}
@@ -9,6 +9,9 @@ use Rattle.pg_select.specs.Sums.{marks_in, with_marks}
 use Rattle.pg_driver.specs.Counting.{counting}
 use Rattle.pg_select.proofs.MarkSteps.{marks_word}
 use Rattle.pg_driver.specs.OpenLevels.{listed_in}
+use Rattle.pg_select.specs.LawsAbove.{counts_above}
+use Rattle.pg_driver.specs.declared.open_positions.OpenPosition.{OpenPosition}
+use Rattle.pg_driver.specs.PassWindows.{HaveNumbers, uncovered_at}
 use Rattle.pg_driver.specs.WordLevels.{listing}
 use Rattle.pg_driver.proofs.OpenSteps.{few_words, word_added}
 use Rattle.pg_driver.proofs.Rooms.{room_left, room_less}
@@ -35,12 +38,15 @@ pub words-preserved : goal.words-preserved
 words-preserved g c =
     let m0 = g.E.Engine.meaning c.args.engine.now in
     let m = g.E.Engine.meaning c.words.engine in
+    let n = g.E.Engine.meaning c.count_word.new.engine in
+    let pass = c.args.pass in
     let minima = minima_of c.args.table.now in
     let w = lent_word c.word.result in
     let rest = drop (c.words.i + 1) c.args.dictionary.now in
     let kept = c.words.invariant.kept in
     let place = drop_place c.args.dictionary.now c.words.i w c.word.ensures.lent in
     let letters = letters_left c.args.dictionary.now c.words.i w c.word.ensures.lent in
+    let here : List OpenPosition = listed_in minima (counts_above pass.level m0.patterns) c.words.i w in
     let sums = c.in_ok-count_word.ensures.sums ∙ ap (λ (x : Meaning). with_marks c.words.sums (marks_in minima x.patterns w)) kept in
     record {
       kept = kept_on m0 m _ (counted_positions_in minima m.pass m.patterns m.hopeless w) kept c.in_ok-count_word.ensures.ok;
@@ -51,4 +57,12 @@ words-preserved g c =
           word_added minima (listing c.args.lists c.args.pass.level m0.patterns) c.words.above.items c.count_word.new.above.items _ c.args.dictionary.now c.words.i w c.word.ensures.lent
           (c.in_ok-count_word.ensures.above ∙ ap (λ (x : Meaning). c.words.above.items ++ listed_in minima (listing c.args.lists c.args.pass.level x.patterns) c.words.i w) kept) c.words.invariant.above;
       room_for = omega (arith, letters, c.words.invariant.room_for, c.in_ok-count_word.ensures.took_for);
+      listed = c.words.invariant.listed ++ here;
+      upto = word_added minima (counts_above pass.level m0.patterns) c.words.invariant.listed (c.words.invariant.listed ++ here) _ c.args.dictionary.now c.words.i w c.word.ensures.lent refl c.words.invariant.upto;
+      numbers =
+          let now : HaveNumbers pass (uncovered_at pass m.patterns m.hopeless) c.args.dictionary.now m.windows c.words.invariant.listed c.words.windows.numbers.items =
+          subst (λ (x : Meaning). HaveNumbers pass (uncovered_at pass x.patterns x.hopeless) c.args.dictionary.now m.windows c.words.invariant.listed c.words.windows.numbers.items) (sym kept) c.words.invariant.numbers in
+          subst (λ (x : Meaning). HaveNumbers pass (uncovered_at pass x.patterns x.hopeless) c.args.dictionary.now n.windows (c.words.invariant.listed ++ listed_in minima (counts_above pass.level x.patterns) c.words.i w) c.count_word.new.windows.numbers.items) kept
+          (c.in_ok-count_word.ensures.numbers c.args.dictionary.now c.words.invariant.listed c.word.ensures.lent now);
+      places = c.in_ok-count_word.ensures.places c.args.dictionary.now c.word.ensures.lent c.words.invariant.places;
     }

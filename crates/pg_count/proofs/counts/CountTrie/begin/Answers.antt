@@ -9,4 +9,4 @@ invariant_of-self c = begun_kept c.clear.new.self c.self.inside.cells.signs c.ar
 pub returns : goal.returns
 returns c =
     begun c.clear.new.self c.self.inside.cells.signs c.args.len c.clear.ensures.signs c.clear.ensures.none
-    ∙ ap (λ (d : Counting). record { signs = d.signs; len = c.args.len; counts = [] }) c.self.view_is
+    ∙ ap (λ (d : Counting). record { signs = d.signs; len = c.args.len; counts = []; windows = [] }) c.self.view_is

@@ -1,27 +1,34 @@
-use Rattle.std.proofs.Common.{◌≡◌, ℕ, Option, Some, ap, sym, subst, ◌∙◌}
-use Rattle.std.specs.FinMap.{put}
+use Rattle.std.proofs.Common.{◌≡◌, Option, Some, None, ap, sym, subst, length, ◌∙◌}
+use Rattle.std.specs.FinMap.{find, put}
 use Rattle.pg_types.specs.Placement.{cell_of}
 use Rattle.pg_cells.specs.ValuedFamilies.{ValuedFamilies}
 use Rattle.pg_cells.proofs.StringMaps.{order}
+use Rattle.pg_count.specs.Counting.{Tally, numbers_in}
+use Rattle.pg_count.specs.Tallied.{told}
 use Rattle.pg_count.proofs.Telling.{held_told, count_told, count_are}
 use Rattle.pg_count.proofs.tallied.Tallied.count.Goals as goal
 
-pub returns-in_err-number-clause-kept : goal.returns-in_err-number-clause-kept
-returns-in_err-number-clause-kept c = held_told c.self.inside.cells c.self.inside.first c.push_tally.new.tallies.items c.self.invariant.held
+pub returns-in_err-in_cell-clause-kept : goal.returns-in_err-in_cell-clause-kept
+returns-in_err-in_cell-clause-kept c = held_told c.self.inside.cells c.self.inside.first c.push_tally.new.tallies.items c.self.invariant.held
 
 pub invariant_of-self-2 : goal.invariant_of-self-2
 invariant_of-self-2 c =
     let q = c.requires.0 in
-    let at = subst (λ (h : ValuedFamilies (Option (ℕ × ℕ))). cell_of h.families q ≡ Some c.args.cell) (sym c.self.view_is) c.requires.1 in
-    count_are c.self.inside.cells c.set_value.new.self c.self.inside.first c.self.inside.tallies.items c.push_tally.new.tallies.items c.self.invariant q c.args.sums c.in_ok-number.ensures.items c.in_ok-number.ensures.few
-    (c.set_value.ensures.held q at ∙ ap (λ n. record c.self.inside.cells { values = put order q n c.self.inside.cells.values }) c.in_ok-number.ensures.number) c.set_value.ensures.kept
+    let at = subst (λ (h : ValuedFamilies (Option Tally)). cell_of h.families q ≡ Some c.args.cell) (sym c.self.view_is) c.requires.1.0 in
+    let blank = subst (λ (h : ValuedFamilies (Option Tally)). find order q h.values ≡ Some None) (sym c.self.view_is) c.requires.1.1 in
+    count_are c.self.inside.cells c.set_value.new.self c.self.inside.first c.self.inside.tallies.items c.push_tally.new.tallies.items c.self.invariant q c.args.sums c.in_ok-in_cell.ensures.items c.in_ok-in_cell.ensures.few
+    (c.set_value.ensures.held q at ∙ ap (λ n. record c.self.inside.cells { values = put order q n c.self.inside.cells.values }) c.in_ok-in_cell.ensures.number) c.set_value.ensures.kept blank
 
 pub returns-clause-held : goal.returns-clause-held
 returns-clause-held c q e =
-    let at = subst (λ (h : ValuedFamilies (Option (ℕ × ℕ))). cell_of h.families q ≡ Some c.args.cell) (sym c.self.view_is) e in
-    count_told c.self.inside.cells c.set_value.new.self c.self.inside.first c.self.inside.tallies.items c.push_tally.new.tallies.items c.self.invariant q c.args.sums c.in_ok-number.ensures.items c.in_ok-number.ensures.few
-    (c.set_value.ensures.held q at ∙ ap (λ n. record c.self.inside.cells { values = put order q n c.self.inside.cells.values }) c.in_ok-number.ensures.number) c.set_value.ensures.kept
-    ∙ ap (λ (h : ValuedFamilies (Option (ℕ × ℕ))). record h { values = put order q (Some c.args.sums) h.values }) c.self.view_is
+    let at = subst (λ (h : ValuedFamilies (Option Tally)). cell_of h.families q ≡ Some c.args.cell) (sym c.self.view_is) e in
+    let was = subst (λ (h : ValuedFamilies (Option Tally)). cell_of h.families c.requires.0 ≡ Some c.args.cell) (sym c.self.view_is) c.requires.1.0 in
+    let same = c.self.invariant.held.apart c.requires.0 q c.args.cell was at in
+    let blank = subst (λ (h : ValuedFamilies (Option Tally)). find order q h.values ≡ Some None) (sym c.self.view_is) (ap (λ x. find order x c.args.self.now.values) (sym same) ∙ c.requires.1.1) in
+    count_told c.self.inside.cells c.set_value.new.self c.self.inside.first c.self.inside.tallies.items c.push_tally.new.tallies.items c.self.invariant q c.args.sums c.in_ok-in_cell.ensures.items c.in_ok-in_cell.ensures.few
+    (c.set_value.ensures.held q at ∙ ap (λ n. record c.self.inside.cells { values = put order q n c.self.inside.cells.values }) c.in_ok-in_cell.ensures.number) c.set_value.ensures.kept blank
+    ∙ ap (λ n. record (told c.self.inside.cells c.self.inside.first c.self.inside.tallies.items) { values = put order q (Some (n, c.args.sums)) (told c.self.inside.cells c.self.inside.first c.self.inside.tallies.items).values }) (sym c.self.invariant.size)
+    ∙ ap (λ (h : ValuedFamilies (Option Tally)). record h { values = put order q (Some (length (numbers_in h.values), c.args.sums)) h.values }) c.self.view_is
 
 pub returns-clause-kept : goal.returns-clause-kept
 returns-clause-kept c = held_told c.set_value.new.self c.self.inside.first c.push_tally.new.tallies.items c.set_value.ensures.kept

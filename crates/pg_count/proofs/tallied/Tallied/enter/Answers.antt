@@ -1,6 +1,7 @@
-use Rattle.std.proofs.Common.{◌≡◌, ℕ, Option, None, subst}
+use Rattle.std.proofs.Common.{◌≡◌, Option, None, subst}
 use Rattle.std.proofs.lemmas.Result.{on_err_weaker}
 use Rattle.std.specs.FinMap.{find}
+use Rattle.pg_count.specs.Counting.{Tally}
 use Rattle.pg_cells.specs.ValuedFamilies.{ValuedFamilies}
 use Rattle.pg_cells.specs.Walks.{AddsBlanks}
 use Rattle.pg_cells.proofs.StringMaps.{order}
@@ -14,7 +15,7 @@ invariant_of-self c = entered_are c.args.signs.now c.self.inside.cells c.enter.n
 
 pub returns-clause-blanks : goal.returns-clause-blanks
 returns-clause-blanks c =
-    subst (λ (h : ValuedFamilies (Option (ℕ × ℕ))). AddsBlanks c.args.signs.now None h.values (told c.enter.new.cells c.self.inside.first c.self.inside.tallies.items).values) c.self.view_is
+    subst (λ (h : ValuedFamilies (Option Tally)). AddsBlanks c.args.signs.now None h.values (told c.enter.new.cells c.self.inside.first c.self.inside.tallies.items).values) c.self.view_is
     (entered_told c.args.signs.now c.self.inside.cells c.enter.new.cells c.self.inside.first c.self.inside.tallies.items c.self.invariant c.enter.ensures.blanks)
 
 pub returns-clause-held : goal.returns-clause-held
@@ -23,6 +24,6 @@ returns-clause-held c = held_told c.enter.new.cells c.self.inside.first c.self.i
 pub returns-clause-err : goal.returns-clause-err
 returns-clause-err c =
     on_err_weaker c.enter.result
-    (λ none. subst (λ (h : ValuedFamilies (Option (ℕ × ℕ))). find order c.args.signs.now h.values ≡ None) c.self.view_is
+    (λ none. subst (λ (h : ValuedFamilies (Option Tally)). find order c.args.signs.now h.values ≡ None) c.self.view_is
     (none_mapped (tally_of c.self.inside.first c.self.inside.tallies.items) c.args.signs.now c.self.inside.cells.values none))
     c.enter.ensures.err

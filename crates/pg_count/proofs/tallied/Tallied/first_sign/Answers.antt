@@ -1,5 +1,6 @@
-use Rattle.std.proofs.Common.{◌≡◌, ℕ, Option, Some, sym, subst}
+use Rattle.std.proofs.Common.{◌≡◌, Option, Some, sym, subst}
 use Rattle.pg_types.specs.Placement.{cell_of}
+use Rattle.pg_count.specs.Counting.{Tally}
 use Rattle.pg_cells.specs.ValuedFamilies.{ValuedFamilies}
 use Rattle.pg_cells.specs.Members.{IsNextSign, goes_on}
 use Rattle.pg_cells.proofs.GivenMembers.{next_alike}
@@ -10,6 +11,6 @@ use Rattle.pg_count.proofs.tallied.Tallied.first_sign.Goals as goal
 pub returns : goal.returns
 returns c q e =
     let es = c.self.inside.cells.values in
-    let at = subst (λ (h : ValuedFamilies (Option (ℕ × ℕ))). cell_of h.families q ≡ Some c.args.cell) (sym c.self.view_is) e in
-    subst (λ (h : ValuedFamilies (Option (ℕ × ℕ))). IsNextSign h.values q 0 c.first_sign.result) c.self.view_is
+    let at = subst (λ (h : ValuedFamilies (Option Tally)). cell_of h.families q ≡ Some c.args.cell) (sym c.self.view_is) e in
+    subst (λ (h : ValuedFamilies (Option Tally)). IsNextSign h.values q 0 c.first_sign.result) c.self.view_is
     (next_alike (goes_on es q) (goes_on (mapped (tally_of c.self.inside.first c.self.inside.tallies.items) es) q) 0 c.first_sign.result (λ z up. goes_mapped (tally_of c.self.inside.first c.self.inside.tallies.items) es q z) (c.first_sign.ensures q at))

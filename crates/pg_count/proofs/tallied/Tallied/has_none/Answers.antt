@@ -1,12 +1,21 @@
-use Rattle.std.proofs.Common.{◌≡◌, ℕ, [], Option, arith, subst}
+use Rattle.std.proofs.Common.{◌≡◌, [], Option, length, ap, sym, ◌∙◌, subst, arith}
 use Rattle.std.proofs.lemmas.List.{nil_from_length}
 use Rattle.pg_cells.specs.ValuedFamilies.{ValuedFamilies}
-use Rattle.pg_count.specs.Counting.{counts_in}
+use Rattle.pg_count.specs.Counting.{counts_in, Tally, sums_seen, number_seen}
+use Rattle.pg_count.specs.Tallied.{told}
+use Rattle.pg_count.proofs.Counted.{none_seen}
 use Rattle.pg_count.proofs.Telling.{none_counted}
 use Rattle.pg_count.proofs.tallied.Tallied.has_none.Goals as goal
 
 pub returns : goal.returns
-returns c e =
+returns c =
     let items = c.self.inside.tallies.items in
-    subst (λ (h : ValuedFamilies (Option (ℕ × ℕ))). counts_in h.values ≡ []) c.self.view_is
-    (none_counted c.self.inside.cells c.self.inside.first items (nil_from_length items (grind arith)))
+    let cells = told c.self.inside.cells c.self.inside.first items in (
+      λ e.
+          subst (λ (h : ValuedFamilies (Option Tally)). counts_in h.values ≡ []) c.self.view_is
+          (none_counted c.self.inside.cells c.self.inside.first items (nil_from_length items (grind arith))),
+      λ none.
+          let here : counts_in cells.values ≡ [] = subst (λ (h : ValuedFamilies (Option Tally)). counts_in h.values ≡ []) (sym c.self.view_is) none in
+          let zero : length items ≡ 0 = sym c.self.invariant.size ∙ ap length (none_seen sums_seen number_seen cells.values here) in
+          grind arith,
+    )

@@ -1,5 +1,6 @@
-use Rattle.std.proofs.Common.{◌≡◌, ℕ, [], ◌∷◌, ◌++◌, Option, None, sym, subst}
+use Rattle.std.proofs.Common.{◌≡◌, [], ◌∷◌, ◌++◌, Option, None, sym, subst}
 use Rattle.std.specs.FinMap.{find}
+use Rattle.pg_count.specs.Counting.{Tally}
 use Rattle.pg_cells.specs.ValuedFamilies.{ValuedFamilies}
 use Rattle.pg_cells.specs.Walks.{IsAt}
 use Rattle.pg_cells.proofs.StringMaps.{order}
@@ -9,6 +10,6 @@ use Rattle.pg_count.proofs.tallied.Tallied.step.Goals as goal
 
 pub returns-clause-none : goal.returns-clause-none
 returns-clause-none c q e none more =
-    let at = subst (λ (h : ValuedFamilies (Option (ℕ × ℕ))). IsAt h.families c.args.at q) (sym c.self.view_is) e in
-    subst (λ (h : ValuedFamilies (Option (ℕ × ℕ))). find order ((q ++ c.args.s ∷ []) ++ more) h.values ≡ None) c.self.view_is
+    let at = subst (λ (h : ValuedFamilies (Option Tally)). IsAt h.families c.args.at q) (sym c.self.view_is) e in
+    subst (λ (h : ValuedFamilies (Option Tally)). find order ((q ++ c.args.s ∷ []) ++ more) h.values ≡ None) c.self.view_is
     (none_mapped (tally_of c.self.inside.first c.self.inside.tallies.items) ((q ++ c.args.s ∷ []) ++ more) c.self.inside.cells.values (c.step.ensures.none q at none more))

@@ -1,8 +1,33 @@
-use Rattle.std.proofs.Common.{true, refl}
+use Rattle.std.proofs.Common.{◌≡◌, true, List, fold, refl, sym, ap, subst, ◌∙◌, []}
+use Rattle.pg_types.specs.Counts.{Counts}
+use Rattle.pg_select.specs.CountedPositions.{counted_positions, minima_of}
+use Rattle.pg_select.specs.Meanings.{Meaning, with_position}
+use Rattle.pg_driver.specs.declared.open_positions.OpenPosition.{OpenPosition}
+use Rattle.pg_driver.specs.declared.word_level.WordLevel.{WordLevel}
+use Rattle.pg_driver.specs.PassWindows.{HaveNumbers, is_counted_at}
 use Rattle.pg_driver.specs.Told.{known_of, over}
+use Rattle.pg_driver.specs.WordLevels.{IsWordsAt}
+use Rattle.pg_driver.proofs.AboveNumbers.{numbered_as_counted}
 use Rattle.pg_driver.proofs.WordLevels.{words_counted}
 use Rattle.pg_driver.proofs.word_level.WordLevel.count.Goals as goal
 
 pub returns-clause-ready : goal.returns-clause-ready
 returns-clause-ready g c =
     words_counted (over c.args.table.now c.args.dictionary.now) c.args.pass.level (known_of (g.E.Engine.meaning c.args.engine.now)) c.args.self.now (record { is_counted = true; above = c.count_words.new.above; totals = c.in_ok-before.before }) c.requires.ready refl c.in_ok-before.ensures.above c.in_ok-before.ensures.totals
+
+pub returns-clause-numbers : goal.returns-clause-numbers
+returns-clause-numbers g c =
+    let m = g.E.Engine.meaning c.args.engine.now in
+    let n = g.E.Engine.meaning c.count_words.new.engine in
+    let words = c.args.dictionary.now in
+    let pass = c.args.pass in
+    let minima = minima_of c.args.table.now in
+    let after : WordLevel = record { is_counted = true; above = c.count_words.new.above; totals = c.in_ok-before.before } in
+    let ready : IsWordsAt (over c.args.table.now words) pass.level (known_of m) after =
+    words_counted (over c.args.table.now words) pass.level (known_of m) c.args.self.now after c.requires.ready refl c.in_ok-before.ensures.above c.in_ok-before.ensures.totals in
+    let counts : n.counts ≡ fold with_position [] (counted_positions minima words pass m.patterns m.hopeless) =
+    ap (λ (x : Meaning). x.counts) c.in_ok-before.ensures.ok
+    ∙ ap (λ (cs : Counts). fold with_position cs (counted_positions minima words m.pass m.patterns m.hopeless)) c.requires.fresh
+    ∙ ap (λ p. fold with_position [] (counted_positions minima words p m.patterns m.hopeless)) c.requires.pass in
+    subst (λ (es : List OpenPosition). HaveNumbers pass (is_counted_at pass n.counts) words n.windows es c.count_words.new.windows.numbers.items) (sym ready.above)
+    (numbered_as_counted minima words pass m.patterns m.hopeless n.counts n.windows _ _ c.kept.ensures.numbered counts c.in_ok-before.ensures.numbers)

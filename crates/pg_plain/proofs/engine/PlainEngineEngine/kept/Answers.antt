@@ -9,8 +9,9 @@ pub returns : goal.returns
 returns c = record {
   patterns = record { sorted = sorted_from dotted_cmp c.args.self.now.patterns.entries c.len-patterns.ensures.ordered; sound = c.args.self.now.entries };
   hopeless_order = sorted_from dotted_cmp c.args.self.now.hopeless.entries c.len-hopeless.ensures.ordered;
-  counts_order = sorted_from (slice_cmp nat_cmp) c.args.self.now.counts.entries c.len-counts.ensures.ordered;
+  counts_order = c.len-counts.ensures.ordered;
+  numbered = c.len-counts.ensures.numbered;
   pattern_signs = patterns_up_to c.args.self.now.signs c.args.self.now.patterns.entries c.args.self.now.known;
   hopeless_signs = places_within c.args.self.now.signs c.args.self.now.hopeless.entries c.args.self.now.hopeless_known;
-  counted_signs = counted_within c.args.self.now.signs c.args.self.now.counts.entries c.args.self.now.counts_known;
+  counted_signs = counted_within c.args.self.now.signs c.args.self.now.counts.counts c.args.self.now.counts_known;
 }

@@ -1,0 +1,202 @@
+"""The tables of docs/LANGUAGES.md and its picture, from the results that bench/languages keeps."""
+
+import os
+import re
+import unicodedata
+
+WIDTH, LEFT, TOP, HEIGHT, GAP = 720, 70, 50, 170, 70  # of the picture, in its units
+LEAST = 0.5  # seconds of patgen below which a ratio says little
+OFTEN = 100  # words from which on a letter is named
+FOUND, MISSED, ERROR, CHOSEN = "#4477aa", "#dddddd", "#cc6677", "#999933"
+
+
+def number(value):
+    return f"{value:,}"
+
+
+def totals(found):
+    """Patterns, found, errors and missed of a run, or why there are none."""
+    if not found:
+        return ""
+    if "stopped" in found:
+        return found["stopped"]
+    return f"{number(found['patterns'])}: {number(found['good'])}, {number(found['bad'])}, {number(found['missed'])}"
+
+
+def equality(results):
+    """Whether both pattern files are patgen's, or what stopped it."""
+    said = [equal_in(results, name) for name in ("five", "eight")]
+    return said[0] if said[0] == said[1] else f"five: {said[0]}; eight: {said[1]}"
+
+
+def equal_in(results, name):
+    """Whether the pattern file of one set is patgen's, or what stopped it; nothing where one of them is not there yet."""
+    ours, theirs = results.get(name), results.get(f"patgen {name}")
+    if not ours or not theirs or "stopped" in ours:
+        return ""
+    if "stopped" in theirs:
+        return f"patgen stops: `{theirs['stopped']}`"
+    return "yes" if ours["patterns file"] == theirs["patterns file"] else "**no**"
+
+
+def winner(results):
+    """The winner of the sweep, and what each file costs."""
+    sweep = results.get("sweep")
+    if not sweep or "stopped" in sweep:
+        return sweep["stopped"] if sweep else ""
+    costs = ", ".join(number(sweep["costs"][name]) for name in ("five", "eight", "three"))
+    return f"{sweep['winner']} ({costs})"
+
+
+def not_needed(results):
+    """How many of the published entries the whole list does not need."""
+    prune = results.get("prune")
+    if not prune or "stopped" in prune:
+        return prune["stopped"] if prune else ""
+    all_of = prune["removed"] + prune["kept"]
+    return f"{number(prune['removed'])} of {number(all_of)} ({100 * prune['removed'] / all_of:.0f} %)"
+
+
+def language_rows(rows):
+    """The table of the languages."""
+    yield ("| Language | Letters | Words, of all | Hyphens | Five levels | Eight levels | Equal to patgen's | Published entries not needed | Winner of the sweep |")
+    yield "|---|---|---|---|---|---|---|---|---|"
+    for words, results in rows:
+        made = results["words"]
+        yield (f"| {words.name} | {made['letters']} | {number(made['words'])} of {number(made['whole'])} | {number(made['hyphens'])} | "
+               f"{totals(results.get('five'))} | {totals(results.get('eight'))} | {equality(results)} | {not_needed(results)} | {winner(results)} |")
+
+
+def share(results):
+    """What the published patterns make of hyphens that are marked by hand, in percent of them."""
+    found = results.get("published")
+    if not found or "stopped" in found:
+        return found["stopped"] if found else ""
+    all_of = max(1, found["good"] + found["missed"])
+    return f"{100 * found['good'] / all_of:.1f} % found, {100 * found['bad'] / all_of:.1f} % errors"
+
+
+def hand_rows(rows):
+    """The table of the lists that are marked by hand."""
+    yield "| List | Letters | Words | Hyphens | Published patterns | Five levels | Eight levels | Equal to patgen's | Winner of the sweep |"
+    yield "|---|---|---|---|---|---|---|---|---|"
+    for words, results in rows:
+        made = results["words"]
+        size = number(made["words"]) + (f" of {number(made['whole'])}" if made["words"] < made["whole"] else "")
+        yield (f"| {words.name} | {made['letters']} | {size} | {number(made['hyphens'])} | {share(results)} | "
+               f"{totals(results.get('five'))} | {totals(results.get('eight'))} | {equality(results)} | {winner(results)} |")
+
+
+def alone(letter):
+    """A letter as it can stand alone: a combining mark gets a circle to stand on."""
+    return "\u25cc" + letter if unicodedata.category(letter)[0] == "M" else letter
+
+
+def lacking_rows(rows):
+    """The table of letters that the words have and the patterns lack, each in so many words."""
+    yield "| Language | Letters that its patterns lack, and in how many words of the list |"
+    yield "|---|---|"
+    for words, results in rows:
+        often = [f"{alone(letter)} in {number(count)}" for letter, count in results["words"]["lacking"].items() if count >= OFTEN]
+        if often:
+            yield f"| {words.name} | {', '.join(often)} |"
+
+
+def cost(found):
+    return f"{found['seconds']:.2f} s, {found['memory']:.0f} MB"
+
+
+def run_costs(results, name):
+    """What the runs of one set cost: generate, patgen, their ratio, and the audit."""
+    ours, theirs = results.get(name), results.get(f"patgen {name}")
+    if not ours or not theirs or "stopped" in ours:
+        return ["", "", "", ""]
+    is_ended = "stopped" not in theirs
+    ratio = f"{ours['generate']['seconds'] / theirs['seconds']:.2f}" if is_ended and theirs["seconds"] >= LEAST else ""
+    audit = f"{ours['audit']['seconds']:.1f} s, {ours['audit']['answer']}"
+    return [cost(ours["generate"]), cost(theirs) + ("" if is_ended else ", stopped"), ratio, audit]
+
+
+def cost_rows(rows):
+    """The table of seconds and memory."""
+    yield "| List | Five: generate | patgen | Ratio | audit | Eight: generate | patgen | Ratio | audit | prune | sweep |"
+    yield "|---|---|---|---|---|---|---|---|---|---|---|"
+    for words, results in rows:
+        cells = run_costs(results, "five") + run_costs(results, "eight")
+        for name in ("prune", "sweep"):
+            found = results.get(name, {})
+            cells.append(cost(found) if "seconds" in found else "")
+        yield f"| {words.name} | {' | '.join(cells)} |"
+
+
+def package_rows(versions):
+    """The table of the packages and their versions."""
+    yield "| Version | Packages |"
+    yield "|---|---|"
+    for version in sorted(set(versions.values())):
+        yield f"| {version} | {', '.join(sorted(name for name, its in versions.items() if its == version))} |"
+
+
+def with_tables(page, tables):
+    """A page whose table behind each heading is another one."""
+    for heading, rows in tables.items():
+        before, title, after = page.partition(f"\n## {heading}\n")
+        if not title:
+            raise ValueError(f"the page has no heading {heading}")
+        table = "\n".join(rows)
+        page = before + title + re.sub(r"(?m)^\|.*(?:\n\|.*)*", lambda _, new=table: new, after, count=1)
+    return page
+
+
+def bar(left, top, width, height, colour):
+    return f'<rect x="{left:.1f}" y="{top:.1f}" width="{width:.1f}" height="{height:.1f}" fill="{colour}"/>'
+
+
+def text(left, top, content, anchor="middle"):
+    return f'<text x="{left:.1f}" y="{top:.1f}" text-anchor="{anchor}">{content}</text>'
+
+
+def picture(title, levels):
+    """What each level gains and costs: above the hyphens that are found and missed and the errors after each level, below the
+    patterns that it chose."""
+    hyphens = levels[0][1] + levels[0][3]
+    most = max(hyphens, *(good + bad + missed for _, good, bad, missed in levels))
+    most_chosen = max(chosen for chosen, *_ in levels)
+    step = (WIDTH - LEFT - 20) / len(levels)
+    below = TOP + HEIGHT + GAP
+    drawn = [text(WIDTH / 2, 20, title)]
+    for at, colour, name in ((0, FOUND, "found"), (1, MISSED, "missed"), (2, ERROR, "errors")):
+        drawn += [bar(LEFT + 110 * at, 30, 10, 10, colour), text(LEFT + 15 + 110 * at, 40, name, "start")]
+    for at, (chosen, good, bad, missed) in enumerate(levels):
+        left, floor = LEFT + at * step + 6, TOP + HEIGHT
+        for count, colour in ((good, FOUND), (missed, MISSED), (bad, ERROR)):
+            height = count * HEIGHT / most
+            floor -= height
+            drawn.append(bar(left, floor, step - 12, height, colour))
+        middle = left + step / 2 - 6
+        drawn.append(text(middle, TOP + HEIGHT + 16, f"{100 * good / hyphens:.1f} %"))
+        drawn.append(text(middle, TOP + HEIGHT + 32, f"{number(bad)} errors"))
+        height = chosen * HEIGHT / most_chosen
+        drawn.append(bar(left, below + HEIGHT - height, step - 12, height, CHOSEN))
+        drawn.append(text(middle, below + HEIGHT - height - 4, number(chosen)))
+        drawn.append(text(middle, below + HEIGHT + 16, f"level {at + 1}"))
+    drawn.append(text(LEFT - 8, TOP + HEIGHT / 2, "hyphens", "end"))
+    drawn.append(text(LEFT - 8, below + HEIGHT / 2, "patterns", "end"))
+    head = (f'<svg xmlns="http://www.w3.org/2000/svg" width="{WIDTH}" height="{below + HEIGHT + 30}" font-family="sans-serif" font-size="12">'
+            f'\n<rect width="100%" height="100%" fill="white"/>')
+    return "\n".join([head, *drawn, "</svg>", ""])
+
+
+def write_page(root, rows, hand, versions, shown):
+    """Writes the tables into the page, and the picture of the levels of one list."""
+    path = os.path.join(root, "docs", "LANGUAGES.md")
+    with open(path, encoding="utf-8") as file:
+        page = file.read()
+    tables = {"The languages": language_rows(rows), "Lists that are marked by hand": hand_rows(hand), "Letters that patterns lack": lacking_rows(rows), "What it cost": cost_rows(rows + hand),
+              "The packages": package_rows(versions)}
+    page = with_tables(page, tables)
+    with open(path, "w", encoding="utf-8") as file:
+        file.write(page)
+    words, results = shown
+    with open(os.path.join(root, "docs", "levels.svg"), "w", encoding="utf-8") as file:
+        file.write(picture(f"{words.name}, {number(results['words']['words'])} words, the eight levels", results["eight"]["levels"]))

@@ -1,0 +1,64 @@
+use Rattle.std.proofs.Common.{◌≡◌, ◌≢◌, ℕ, ◌<◌, List, [], ◌∷◌, ◌++◌, Some, ap, sym, subst, ◌∙◌, arith, length-append}
+use Rattle.std.proofs.lemmas.List.{append_assoc, append-nil}
+use Rattle.pg_types.specs.Placement.{base_of}
+use Rattle.pg_cells.specs.Members.{IsNextSign}
+use Rattle.pg_cells.proofs.LinkLaws.{goes_cell}
+use Rattle.pg_count.specs.Counting.{numbers_in}
+use Rattle.pg_count.specs.Under.{is_passed, numbers_where, numbers_under}
+use Rattle.pg_count.proofs.Walking.{passed_first, passed_next, passed_end, under_none}
+use Rattle.pg_count.proofs.walk.+walk.Goals as goal
+
+pub walk-loop-s-init : goal.walk-loop-s-init
+walk-loop-s-init t c =
+    let next = λ (p : List ℕ) (at : base_of c.args.cells.now.families p ≡ Some c.args.base). subst (λ q. IsNextSign c.args.cells.now.values q 0 c.args.first) (c.requires.held.bases c.requires.base.0 p c.args.base c.requires.base.1.0 at) c.requires.base.1.1 in
+    record {
+      small = omega arith;
+      there = λ p at up. ((next p at).found up).1;
+      passed = λ p at long.
+          sym (append-nil c.args.out.now.items)
+          ∙ ap (λ l. c.args.out.now.items ++ l) (sym (passed_first c.args.cells.now c.requires.held p c.args.more long c.requires.some c.args.first (next p at)));
+    }
+
+pub walk-find-requires : goal.walk-find-requires
+walk-find-requires t c =
+    let p = c.requires.base.0 in
+    let goes = c.loop-s.invariant.there p c.requires.base.1.0 (omega arith) in
+    let cell = goes_cell c.args.cells.now c.requires.held p c.loop-s.s goes in
+    record { base = (p, c.requires.base.1.0); sign = c.requires.held.signs p c.loop-s.s cell.0 cell.1 }
+
+pub walk-walk_at-requires : goal.walk-walk_at-requires
+walk-walk_at-requires t c =
+    let some = c.requires.some in (
+      omega arith,
+      (c.requires.held, (c.requires.base.0 ++ c.loop-s.s ∷ [], sym (c.in-Some.ensures.cell c.requires.base.0 c.requires.base.1.0))),
+    )
+
+pub walk-next_sign-s-requires : goal.walk-next_sign-s-requires
+walk-next_sign-s-requires t c = (c.requires.base.0 ++ c.loop-s.s ∷ [], sym (c.in-Some.ensures.cell c.requires.base.0 c.requires.base.1.0))
+
+pub walk-loop-s-preserved : goal.walk-loop-s-preserved
+walk-loop-s-preserved t c =
+    let next = λ (p : List ℕ) (at : base_of c.args.cells.now.families p ≡ Some c.args.base). c.next_sign-s.ensures p c.loop-s.s (sym (c.in-Some.ensures.cell p at)) in
+    let other : c.loop-s.s ≢ 0 = omega arith in
+    let some = c.requires.some in
+    record {
+      small = c.next_sign-s.type_inv;
+      there = λ p at up. ((next p at).found up).1;
+      passed = λ p at long.
+          c.in_ok-walk_at.ensures (p ++ c.loop-s.s ∷ []) (sym (c.in-Some.ensures.cell p at))
+          (λ u n found. (let size = long u n found in let more = length-append p (c.loop-s.s ∷ []) in omega arith))
+          ∙ ap (λ l. l ++ numbers_under (p ++ c.loop-s.s ∷ []) c.args.cells.now.values) (c.loop-s.invariant.passed p at long)
+          ∙ append_assoc c.args.out.now.items (numbers_where (is_passed p c.loop-s.s) (numbers_in c.args.cells.now.values)) (numbers_under (p ++ c.loop-s.s ∷ []) c.args.cells.now.values)
+          ∙ ap (λ l. c.args.out.now.items ++ l) (sym (passed_next c.args.cells.now c.requires.held p c.args.more long c.requires.some c.loop-s.s c.next_sign-s.result other (next p at)));
+    }
+
+pub walk-returns : goal.walk-returns
+walk-returns t c = λ p at long.
+    let end : c.loop-s.s ≡ 0 = omega arith in
+    c.loop-s.invariant.passed p at long ∙ ap (λ l. c.args.out.now.items ++ l) (passed_end c.args.cells.now c.requires.held p c.args.more long c.requires.some c.loop-s.s end)
+
+pub walk_at-returns-then-below-eq0 : goal.walk_at-returns-then-below-eq0
+walk_at-returns-then-below-eq0 t c = λ q at long.
+    let some : 0 < c.args.more = omega arith in
+    sym (append-nil c.args.out.now.items)
+    ∙ ap (λ l. c.args.out.now.items ++ l) (sym (under_none c.args.cells.now c.requires.held q c.args.more long some (λ x. c.child-below.ensures.none q at c.if-below-eq0.true x)))

@@ -1,0 +1,69 @@
+//! The walk over the counted strings, in the order of signs.
+ghost use Rattle.std.specs.Prelude.{◌≡◌, ◌+◌, ◌<◌, ℕ, List, [], ◌++◌, length, Some, OnOk};
+ghost use Rattle.pg_types.specs.Placement.{base_of, cell_of};
+ghost use Rattle.pg_cells.specs.AreValuedFamilies.{AreValuedFamilies};
+ghost use Rattle.pg_cells.specs.Members.{IsNextSign};
+ghost use Rattle.pg_count.specs.Under.{AreLong, numbers_under};
+
+use crate::tallied::Tallied;
+use pg_types::Sign;
+use std::alloc::AllocError;
+
+/// Appends the numbers of the counted strings that begin with the string of the family with the base and the first sign, and have
+/// so many more signs, in the order of signs. It goes along the signs of the families.
+#[cycle(walk)]
+pub fn walk(
+    cells: &Tallied,
+    base: usize,
+    first: Sign,
+    more: u8,
+    out: &mut Vec<u32>,
+) -> Result<(), AllocError>
+    requires held { AreValuedFamilies cells.now }
+    requires base { (p : List ℕ) × ((base_of cells.now.families p ≡ Some base)
+        × IsNextSign cells.now.values p 0 first) }
+    requires some { 0 < more }
+    ensures { (p : List ℕ) → base_of cells.now.families p ≡ Some base → AreLong cells.now.values (length p + more) →
+        OnOk result (out.new.items ≡ out.old.items ++ numbers_under p cells.now.values) }
+{
+    let mut s = first;
+    while s != 0 {
+        let Some(cell) = cells.find(base, s) else {
+            return Ok(());
+        };
+        walk_at(cells, cell, more - 1, out)?;
+        s = cells.next_sign(cell);
+    }
+    Ok(())
+}
+
+// The same for the string that has the cell.
+#[cycle(walk)]
+fn walk_at(cells: &Tallied, cell: usize, more: u8, out: &mut Vec<u32>) -> Result<(), AllocError>
+    requires held { AreValuedFamilies cells.now }
+    requires cell { (q : List ℕ) × (cell_of cells.now.families q ≡ Some cell) }
+    ensures { (q : List ℕ) → cell_of cells.now.families q ≡ Some cell → AreLong cells.now.values (length q + more) →
+        OnOk result (out.new.items ≡ out.old.items ++ numbers_under q cells.now.values) }
+{
+    if more == 0 {
+        return last_at(cells, cell, out);
+    }
+    let below = cells.child(cell);
+    if below == 0 {
+        return Ok(());
+    }
+    walk(cells, below, cells.first_sign(cell), more, out)
+}
+
+// The same where no sign follows.
+fn last_at(cells: &Tallied, cell: usize, out: &mut Vec<u32>) -> Result<(), AllocError>
+    requires cell { (q : List ℕ) × (cell_of cells.now.families q ≡ Some cell) }
+    requires held { AreValuedFamilies cells.now }
+    ensures { (q : List ℕ) → cell_of cells.now.families q ≡ Some cell → AreLong cells.now.values (length q) →
+        OnOk result (out.new.items ≡ out.old.items ++ numbers_under q cells.now.values) }
+{
+    if let Some((number, _)) = cells.tally(cell) {
+        out.push(number)?;
+    }
+    Ok(())
+}

@@ -1,0 +1,255 @@
+-- The numbers of the windows at the positions whose value is above the level.
+use Rattle.std.proofs.Common.{◌≡◌, ℕ, ◌+◌, ◌≤◌, ◌<◌, Bool, true, false, cond, not, ◌&&◌, nat_eq, nat_lt, ◌≢◌, List, [], ◌∷◌, ◌++◌, length, fold, append-nil, slice_get, get_or, is_some, Option, Some, None, refl, sym, ap, subst, ◌∙◌, arith}
+use Rattle.std.specs.List.{flat_map, slice_index_or, sum_by}
+use Rattle.std.proofs.lemmas.List.Sums.{sum_by-cons}
+use Rattle.std.specs.Option.{option_map, option_map_or}
+use Rattle.std.proofs.lemmas.Bool.{and_from, and_parts, ne_eqb}
+use Rattle.std.proofs.lemmas.Option.{slice_get_past}
+use Rattle.pg_types.specs.declared.limits.TheConstants.{FILE_MAX}
+use Rattle.pg_types.specs.declared.parameters.LevelParams.{LevelParams}
+use Rattle.pg_types.specs.Counts.{Counts, counted_sums, is_counted}
+use Rattle.pg_types.specs.Numbered.{Windows, HasNumber, AreNumbered, with_window}
+use Rattle.pg_dict.specs.Word.{Word}
+use Rattle.pg_select.specs.declared.choice.Choice.{Choice}
+use Rattle.pg_select.specs.declared.pass.Pass.{Pass}
+use Rattle.pg_select.specs.Choices.{choice}
+use Rattle.pg_select.specs.CountedPositions.{Minima, CountedPosition, good_of, bad_of, counted_at, counted_positions, counted_positions_at, counts_as}
+use Rattle.pg_select.specs.LawsAbove.{counts_above}
+use Rattle.pg_select.specs.LawsClosedDots.{is_good}
+use Rattle.pg_select.specs.Meanings.{Meaning, with_position}
+use Rattle.pg_select.specs.Positions.{Positions}
+use Rattle.pg_types.specs.declared.marks.Mark.{Mark}
+use Rattle.pg_select.specs.Statuses.{position_weight, status, status_at}
+use Rattle.pg_select.specs.Windows.{Hopeless, Patterns, covered, fits, window}
+use Rattle.pg_patterns.specs.Values.{value_at}
+use Rattle.pg_select.proofs.LawsRaised.{counted_uncovered}
+use Rattle.pg_select.proofs.LawsTally.{is_counted_window}
+use Rattle.pg_driver.specs.declared.above_positions.Kept.{Kept}
+use Rattle.pg_driver.specs.declared.open_positions.OpenPosition.{OpenPosition}
+use Rattle.pg_driver.specs.declared.pass_windows.Place.{Place}
+use Rattle.pg_driver.specs.declared.pass_windows.TheConstants.{NOT_COUNTED}
+use Rattle.pg_driver.specs.Counting.{IsRead, counting, windows_after}
+use Rattle.pg_driver.specs.DotSets.{no_dots}
+use Rattle.pg_driver.specs.OpenLevels.{open_as}
+use Rattle.pg_driver.specs.OpenPositions.{counted_in}
+use Rattle.pg_driver.specs.PassWindows.{AreFates, ArePlaces, GetsNumber, HaveNumbers, IsNumbered, is_counted_at, uncovered_at}
+use Rattle.pg_driver.specs.Traces.{is_chosen}
+use Rattle.pg_driver.specs.WordLevels.{bad_kept, good_kept, kept_by, was_chosen, window_of, with_kept}
+use Rattle.pg_driver.proofs.NumberSteps.{fate_there, have_more, place_more, still_have}
+use Rattle.pg_driver.proofs.OpenLevels.{found_is}
+
+-- what a position adds to the windows, where it counts
+pub window_counted : (ws : Windows) (counts : Counts) (pass : Pass) (P : Patterns) (H : Hopeless) (w : Word) (p : ℕ) (good : Bool) → counted_at pass P H w p ≡ Some good → windows_after ws counts (counted_positions_at pass P H w p) ≡ with_window ws counts (window w.signs p pass.len pass.dot)
+window_counted ws counts pass P H w p good is =
+    ap (λ (o : Option Bool). windows_after ws counts (option_map_or (λ (g : Bool). record { window = window w.signs p pass.len pass.dot; good = g; weight = position_weight w p } ∷ []) o [])) is
+
+-- whether a position counts, by what was found of its word
+pub counted_found : (m : Meaning) (pass : Pass) (w : Word) (found : Positions) (p : ℕ) (mark : Mark) → m.pass ≡ pass → IsRead m w found → p < length w.signs → mark ≡ status_at m.patterns w p
+    → cond (fits w.signs p pass.len pass.dot && not (get_or found.covers p false)) (counts_as pass.level mark) None ≡ counted_at pass m.patterns m.hopeless w p
+counted_found m pass w found p mark at read within status =
+    ap (λ (x : Pass). cond (fits w.signs p x.len x.dot && not (get_or found.covers p false)) (counts_as x.level mark) None) (sym at)
+    ∙ by (fits w.signs p m.pass.len m.pass.dot) refl
+    ∙ ap (λ (x : Pass). counted_at x m.patterns m.hopeless w p) at
+  where
+    by : (f : Bool) → fits w.signs p m.pass.len m.pass.dot ≡ f
+        → cond (f && not (get_or found.covers p false)) (counts_as m.pass.level mark) None ≡ cond (f && not (covered m.pass.level m.patterns m.hopeless (window w.signs p m.pass.len m.pass.dot) m.pass.dot)) (counts_as m.pass.level (status_at m.patterns w p)) None
+    by false fit = refl
+    by true fit = λ i. cond (not (read.covers p within fit i)) (counts_as m.pass.level (status i)) None
+
+-- a position of a level that counts by its status has its number
+pub numbered_by : (pass : Pass) (P : Patterns) (H : Hopeless) (words : List Word) (ws : Windows) (w : Word) (word p n : ℕ) → slice_get words word ≡ Some w → is_some (counts_as pass.level (status_at P w p)) ≡ true
+    → GetsNumber (counted_at pass P H w p) ws (window w.signs p pass.len pass.dot) n → IsNumbered pass (uncovered_at pass P H) words ws (record { word = word; at = p; closed = no_dots }) n
+numbered_by pass P H words ws w word p n at counts gets = record {
+  counted = λ v to is. (
+      let both : Some v ≡ Some w = sym to ∙ at in
+      let same : v ≡ w = cc in
+      subst (λ (x : Word). HasNumber ws (window x.signs p pass.len pass.dot) n) (sym same)
+      (by_true (counts_as pass.level (status_at P w p)) _ (ap (λ (x : Word). test x) (sym same) ∙ is) counts gets));
+  uncounted = λ v to is. (
+      let both : Some v ≡ Some w = sym to ∙ at in
+      let same : v ≡ w = cc in
+      by_false (counts_as pass.level (status_at P w p)) _ (ap (λ (x : Word). test x) (sym same) ∙ is) gets);
+}
+  where
+    test : Word → Bool
+    test x = fits x.signs p pass.len pass.dot && not (covered pass.level P H (window x.signs p pass.len pass.dot) pass.dot)
+
+    by_true : (o : Option Bool) (b : Bool) → b ≡ true → is_some o ≡ true → GetsNumber (cond b o None) ws (window w.signs p pass.len pass.dot) n → HasNumber ws (window w.signs p pass.len pass.dot) n
+    by_true None b is some gets = absurd (let wrong : false ≡ true = some in cc)
+    by_true (Some good) true is some gets = gets
+    by_true (Some good) false is some gets = absurd (let wrong : false ≡ true = is in cc)
+
+    by_false : (o : Option Bool) (b : Bool) → b ≡ false → GetsNumber (cond b o None) ws (window w.signs p pass.len pass.dot) n → n ≡ NOT_COUNTED
+    by_false o true is gets = absurd (let wrong : true ≡ false = is in cc)
+    by_false o false is gets = gets
+
+-- a position that counts above the level counts by its status
+above_counts : (level value : ℕ) (o : Option Bool) → is_some (cond (nat_lt level value) o None) ≡ true → is_some o ≡ true
+above_counts level value o is = by (nat_lt level value) is
+  where
+    by : (b : Bool) → is_some (cond b o None) ≡ true → is_some o ≡ true
+    by true some = some
+    by false some = absurd (let wrong : false ≡ true = some in cc)
+
+-- the test by what was found of the word
+pub above_found : (m : Meaning) (w : Word) (found : Positions) (level p : ℕ) (mark : Mark) → IsRead m w found → p < length w.signs → mark ≡ status (slice_index_or w.hyphens p false) (slice_index_or w.cares p true) (get_or found.values p 0)
+    → is_some (cond (nat_lt level (get_or found.values p 0)) (counts_as level mark) None) ≡ is_some (counts_above level m.patterns w p)
+above_found m w found level p mark read within is =
+    let value : get_or found.values p 0 ≡ value_at m.patterns w.signs p = read.values p within in
+    let same : mark ≡ status_at m.patterns w p = is ∙ ap (status (slice_index_or w.hyphens p false) (slice_index_or w.cares p true)) value in
+    λ i. is_some (cond (nat_lt level (value i)) (counts_as level (same i)) None)
+
+-- the places after a position
+pub place_noted : (pass : Pass) (P : Patterns) (H : Hopeless) (words : List Word) (m n : Meaning) (places more : List Place) (w : Word) (word p number : ℕ)
+    → n ≡ counting m (counted_positions_at pass P H w p) → AreNumbered n.windows n.counts → length m.counts ≤ FILE_MAX → slice_get words word ≡ Some w → GetsNumber (counted_at pass P H w p) n.windows (window w.signs p pass.len pass.dot) number
+    → more ≡ cond (nat_eq number (length places)) (places ++ record { word = word; at = p } ∷ []) places → ArePlaces pass words m.windows places → ArePlaces pass words n.windows more
+place_noted pass P H words m n places more w word p number is numbered few at gets noted are = by (counted_at pass P H w p) refl gets
+  where
+    seen : Option Bool → List CountedPosition
+    seen o = option_map_or (λ (good : Bool). record { window = window w.signs p pass.len pass.dot; good = good; weight = position_weight w p } ∷ []) o []
+
+    fit : (f x : Bool) (o : Option Bool) (good : Bool) → cond (f && x) o None ≡ Some good → f ≡ true
+    fit true x o good some = refl
+    fit false x o good some = absurd (let clash : None ≡ Some good = some in cc)
+
+    by : (o : Option Bool) → counted_at pass P H w p ≡ o → GetsNumber o n.windows (window w.signs p pass.len pass.dot) number → ArePlaces pass words n.windows more
+    by None none gets =
+        let same : n ≡ m = is ∙ ap (λ (o : Option Bool). counting m (seen o)) none in
+        let windows : n.windows ≡ m.windows = ap (λ (x : Meaning). x.windows) same in
+        let counts : n.counts ≡ m.counts = ap (λ (x : Meaning). x.counts) same in
+        let other : number ≢ length places = (let size = are.size in let all = numbered.size in omega (arith, gets, ap (λ (cs : Counts). length cs) counts, ap (λ (ws : Windows). length ws) windows)) in
+        let kept : more ≡ places = noted ∙ ap (λ (b : Bool). cond b (places ++ record { word = word; at = p } ∷ []) places) (ne_eqb number (length places) other) in
+        subst (λ (ws : Windows). ArePlaces pass words ws more) (sym windows) (subst (ArePlaces pass words m.windows) (sym kept) are)
+    by (Some good) some gets =
+        place_more pass words m.windows n.windows m.counts n.counts places more (record { word = word; at = p }) w number are numbered at
+        (fit (fits w.signs p pass.len pass.dot) (not (covered pass.level P H (window w.signs p pass.len pass.dot) pass.dot)) (counts_as pass.level (status_at P w p)) good some)
+        (ap (λ (x : Meaning). x.windows) is ∙ window_counted m.windows m.counts pass P H w p good some)
+        gets noted
+
+-- the numbers after a position
+pub number_noted : (pass : Pass) (P : Patterns) (H : Hopeless) (words : List Word) (m n : Meaning) (seen : List CountedPosition) (entries : List OpenPosition) (ns more : List ℕ) (w : Word) (word p number : ℕ)
+    → n ≡ counting m seen → slice_get words word ≡ Some w → GetsNumber (counted_at pass P H w p) n.windows (window w.signs p pass.len pass.dot) number
+    → more ≡ cond (is_some (counts_above pass.level P w p)) (ns ++ number ∷ []) ns
+    → HaveNumbers pass (uncovered_at pass P H) words m.windows entries ns
+    → HaveNumbers pass (uncovered_at pass P H) words n.windows (entries ++ open_as word p (counts_above pass.level P w p)) more
+number_noted pass P H words m n seen entries ns more w word p number is at gets noted have =
+    subst (HaveNumbers pass (uncovered_at pass P H) words n.windows (entries ++ open_as word p (counts_above pass.level P w p))) (sym noted)
+    (by (counts_above pass.level P w p) (above_counts pass.level (value_at P w.signs p) (counts_as pass.level (status_at P w p))))
+  where
+    by : (o : Option Bool) → (is_some o ≡ true → is_some (counts_as pass.level (status_at P w p)) ≡ true) → HaveNumbers pass (uncovered_at pass P H) words n.windows (entries ++ open_as word p o) (cond (is_some o) (ns ++ number ∷ []) ns)
+    by None counts = subst (λ (es : List OpenPosition). HaveNumbers pass (uncovered_at pass P H) words n.windows es ns) (sym (append-nil entries)) (still_have pass (uncovered_at pass P H) words m n seen entries ns is have)
+    by (Some good) counts =
+        have_more pass (uncovered_at pass P H) words n.windows entries ns (record { word = word; at = p; closed = no_dots }) number
+        (still_have pass (uncovered_at pass P H) words m n seen entries ns is have)
+        (numbered_by pass P H words n.windows w word p number at (counts refl) gets)
+
+-- once a pass is counted, what is not covered is what is counted
+covered_not_counted : (m : Minima) (words : List Word) (pass : Pass) (P : Patterns) (H : Hopeless) (counts : Counts) (u : List ℕ) → counts ≡ fold with_position [] (counted_positions m words pass P H) → covered pass.level P H u pass.dot ≡ true → is_counted counts u ≡ false
+covered_not_counted m words pass P H counts u are is =
+    ap (λ (cs : Counts). is_counted cs u) are
+    ∙ ap is_some (found_is (counted_positions m words pass P H) u)
+    ∙ by (is_counted_window (counted_positions m words pass P H) u) (λ counted. sym is ∙ (counted_uncovered m words pass P H u counted).1)
+  where
+    by : (b : Bool) → (b ≡ true → true ≡ false) → is_some {T = ℕ × ℕ} (cond b (Some (good_of (counted_positions m words pass P H) u, bad_of (counted_positions m words pass P H) u)) None) ≡ false
+    by true wrong = absurd (let clash : true ≡ false = wrong refl in cc)
+    by false wrong = refl
+
+module _ (pass : Pass) (P : Patterns) (H : Hopeless) (words : List Word) (counts : Counts) (ws : Windows) (are : AreNumbered ws counts) (uncounted : (u : List ℕ) → covered pass.level P H u pass.dot ≡ true → is_counted counts u ≡ false) (e : OpenPosition) (n : ℕ) (is : IsNumbered pass (uncovered_at pass P H) words ws e n) where
+  window_at : Word → List ℕ
+  window_at w = window w.signs e.at pass.len pass.dot
+
+  is_uncovered : (w : Word) (f c : Bool) → (f && is_counted counts (window w.signs e.at pass.len pass.dot)) ≡ true → (c ≡ true → is_counted counts (window w.signs e.at pass.len pass.dot) ≡ false) → (f && not c) ≡ true
+  is_uncovered w false c have lack = absurd (let wrong : false ≡ true = have in cc)
+  is_uncovered w true true have lack = absurd (let wrong : false ≡ true = sym (lack refl) ∙ have in cc)
+  is_uncovered w true false have lack = refl
+
+  not_counted : (w : Word) → slice_get words e.word ≡ Some w → is_counted_at pass counts w e ≡ false → (b : Bool) → uncovered_at pass P H w e ≡ b → n ≡ NOT_COUNTED
+  not_counted w at lack false free = is.uncounted w at free
+  not_counted w at lack true free = absurd (
+      let counted : is_counted counts (window w.signs e.at pass.len pass.dot) ≡ true = are.counted (window w.signs e.at pass.len pass.dot) n (is.counted w at free) in
+      let parts = and_parts (fits w.signs e.at pass.len pass.dot) (not (covered pass.level P H (window w.signs e.at pass.len pass.dot) pass.dot)) free in
+      let wrong : false ≡ true = sym lack ∙ and_from (fits w.signs e.at pass.len pass.dot) (is_counted counts (window w.signs e.at pass.len pass.dot)) parts.0 counted in
+      cc)
+
+  as_counted : IsNumbered pass (is_counted_at pass counts) words ws e n
+  as_counted = record {
+    counted = λ w at have. is.counted w at (is_uncovered w (fits w.signs e.at pass.len pass.dot) (covered pass.level P H (window w.signs e.at pass.len pass.dot) pass.dot) have (uncounted (window w.signs e.at pass.len pass.dot)));
+    uncounted = λ w at lack. not_counted w at lack (uncovered_at pass P H w e) refl;
+  }
+
+pub numbered_as_counted : (m : Minima) (words : List Word) (pass : Pass) (P : Patterns) (H : Hopeless) (counts : Counts) (ws : Windows) (entries : List OpenPosition) (ns : List ℕ) → AreNumbered ws counts → counts ≡ fold with_position [] (counted_positions m words pass P H)
+    → HaveNumbers pass (uncovered_at pass P H) words ws entries ns → HaveNumbers pass (is_counted_at pass counts) words ws entries ns
+numbered_as_counted m words pass P H counts ws entries ns are counted have = record {
+  size = have.size;
+  each = λ k e n at to. as_counted pass P H words counts ws are (λ u hidden. covered_not_counted m words pass P H counts u counted hidden) e n (have.each k e n at to);
+}
+
+-- a listed position was chosen where its number says so
+pub chosen_by_number : (params : LevelParams) (counts : Counts) (ws : Windows) (fates : List Choice) → AreNumbered ws counts → AreFates params counts ws fates → length fates ≤ NOT_COUNTED
+    → (pass : Pass) (words : List Word) (e : OpenPosition) (n : ℕ) (w : Word) → slice_get words e.word ≡ Some w → IsNumbered pass (is_counted_at pass counts) words ws e n
+    → option_map_or is_chosen (slice_get fates n) false ≡ (fits w.signs e.at pass.len pass.dot && was_chosen params counts (window w.signs e.at pass.len pass.dot))
+chosen_by_number params counts ws fates are decided few pass words e n w at is = by (is_counted_at pass counts w e) refl
+  where
+    u : List ℕ
+    u = window w.signs e.at pass.len pass.dot
+
+    by_choice : (o : Option (ℕ × ℕ)) → option_map_or is_chosen (option_map (λ (sums : ℕ × ℕ). choice params sums.0 sums.1) o) false ≡ option_map_or (λ (sums : ℕ × ℕ). is_chosen (choice params sums.0 sums.1)) o false
+    by_choice None = refl
+    by_choice (Some sums) = refl
+
+    none : (o : Option (ℕ × ℕ)) (f : Bool) → (f && is_some o) ≡ false → false ≡ (f && option_map_or (λ (sums : ℕ × ℕ). is_chosen (choice params sums.0 sums.1)) o false)
+    none o false is = refl
+    none None true is = refl
+    none (Some sums) true is = absurd (let wrong : true ≡ false = is in cc)
+
+    by : (b : Bool) → is_counted_at pass counts w e ≡ b → option_map_or is_chosen (slice_get fates n) false ≡ (fits w.signs e.at pass.len pass.dot && was_chosen params counts (window w.signs e.at pass.len pass.dot))
+    by true have =
+        let parts = and_parts (fits w.signs e.at pass.len pass.dot) (is_counted counts (window w.signs e.at pass.len pass.dot)) have in
+        ap (λ (o : Option Choice). option_map_or is_chosen o false) (sym (fate_there params counts ws fates are decided (window w.signs e.at pass.len pass.dot) n (is.counted w at have)))
+        ∙ by_choice (counted_sums counts (window w.signs e.at pass.len pass.dot))
+        ∙ ap (λ (f : Bool). f && was_chosen params counts (window w.signs e.at pass.len pass.dot)) (sym parts.0)
+    by false lack =
+        let past : slice_get fates n ≡ None = slice_get_past fates n (let e = is.uncounted w at lack in omega arith) in
+        ap (λ (o : Option Choice). option_map_or is_chosen o false) past
+        ∙ none (counted_sums counts (window w.signs e.at pass.len pass.dot)) (fits w.signs e.at pass.len pass.dot) lack
+
+-- the weights with those of a position more
+module _ (params : LevelParams) (pass : Pass) (counts : Counts) (words : List Word) where
+  module _ (e : OpenPosition) (w : Word) (at : slice_get words e.word ≡ Some w) where
+    abbrev here : CountedPosition
+    here = record { window = window w.signs e.at pass.len pass.dot; good = is_good pass.level w e.at; weight = position_weight w e.at }
+
+    one : (weigh : CountedPosition → ℕ) → sum_by weigh (flat_map (window_of pass words) (e ∷ [])) ≡ cond (fits w.signs e.at pass.len pass.dot) (weigh here) 0
+    one weigh =
+        ap (λ (o : Option Word). sum_by weigh (option_map_or (λ (u : Word). counted_in pass.level pass.len pass.dot u e.at false) o [] ++ [])) at
+        ∙ by (fits w.signs e.at pass.len pass.dot)
+      where
+        by : (f : Bool) → sum_by weigh (option_map_or (λ (good : Bool). record { window = window w.signs e.at pass.len pass.dot; good = good; weight = position_weight w e.at } ∷ []) (cond (f && true) (Some (is_good pass.level w e.at)) None) [] ++ []) ≡ cond f (weigh here) 0
+        by true = omega (arith, sum_by-cons weigh here [])
+        by false = refl
+
+    tests : (f c g : Bool) (n : ℕ) → cond f (cond (g && c) n 0) 0 ≡ cond ((f && c) && g) n 0
+    tests false c g n = refl
+    tests true true true n = refl
+    tests true true false n = refl
+    tests true false true n = refl
+    tests true false false n = refl
+
+    pub kept_more : (kept result : Kept) (chosen good : Bool) (weight : ℕ) → chosen ≡ (fits w.signs e.at pass.len pass.dot && was_chosen params counts (window w.signs e.at pass.len pass.dot)) → good ≡ is_good pass.level w e.at → weight ≡ position_weight w e.at
+        → result.good ≡ kept.good + cond (chosen && good) weight 0 → result.bad ≡ kept.bad + cond (chosen && not good) weight 0
+        → result ≡ with_kept kept (kept_by params pass counts words (e ∷ []))
+    kept_more kept result chosen good weight is good_is weight_is good_more bad_more =
+        let f : Bool = fits w.signs e.at pass.len pass.dot in
+        let c : Bool = was_chosen params counts (window w.signs e.at pass.len pass.dot) in
+        let goods : result.good ≡ kept.good + sum_by (good_kept params counts) (flat_map (window_of pass words) (e ∷ [])) =
+        good_more ∙ ap (λ (n : ℕ). kept.good + n) ((λ i. cond (is i && good_is i) (weight_is i) 0) ∙ sym (tests f c (is_good pass.level w e.at) (position_weight w e.at)) ∙ sym (one (good_kept params counts))) in
+        let bads : result.bad ≡ kept.bad + sum_by (bad_kept params counts) (flat_map (window_of pass words) (e ∷ [])) =
+        bad_more ∙ ap (λ (n : ℕ). kept.bad + n) ((λ i. cond (is i && not (good_is i)) (weight_is i) 0) ∙ sym (tests f c (not (is_good pass.level w e.at)) (position_weight w e.at)) ∙ sym (one (bad_kept params counts))) in
+        λ i. record { good = goods i; bad = bads i }
+
+  -- with those of none
+  pub kept_none : (kept : Kept) → kept ≡ with_kept kept (kept_by params pass counts words [])
+  kept_none kept =
+      let good : kept.good ≡ kept.good + 0 = omega arith in
+      let bad : kept.bad ≡ kept.bad + 0 = omega arith in
+      λ i. record { good = good i; bad = bad i }

@@ -1,0 +1,287 @@
+-- Steps of a pass by the numbers of its windows.
+use Rattle.std.proofs.Common.{◌≡◌, ◌≢◌, ℕ, zero, suc, ◌+◌, ◌≤◌, ◌<◌, Bool, true, false, cond, nat_eq, ◌&&◌, T, List, [], ◌∷◌, ◌++◌, length, map, take, drop, get_or, slice_get, is_some, Option, Some, None, inl, inr, refl, sym, ap, subst, ◌∙◌, arith, length-append}
+use Rattle.std.specs.List.{All, list_all}
+use Rattle.std.specs.Option.{option_map, option_map_or}
+use Rattle.std.specs.Ordering.{is_eq, eq_by_cmp, ordering_reverse}
+use Rattle.std.specs.declared.cmp.Ordering.TheVariants.{Less, Greater}
+use Rattle.std.specs.Cmp.{tied_itself}
+use Rattle.std.specs.Cmp.Lexicographic.{nat_list_cmp_total}
+use Rattle.std.specs.FinMap.Entries.{find, is_sorted, below_all}
+use Rattle.std.proofs.lemmas.Bool.{and_from, le-leb, cases_Bool, cases_eq, cases_lt, eq-eqb, ne_eqb}
+use Rattle.std.proofs.lemmas.List.Elements.{All-head, All-tail}
+use Rattle.std.proofs.lemmas.Option.{get_or_from_slice_get, slice_get_cases, slice_get_past, slice_get_within}
+use Rattle.pg_types.proofs.BoolFacts.{first_half, second_half}
+use Rattle.pg_types.proofs.EntryLists.{below_get}
+use Rattle.pg_types.specs.declared.parameters.LevelParams.{LevelParams}
+use Rattle.pg_types.specs.Signs.{is_sign}
+use Rattle.pg_types.specs.Counts.{Counts, SignsWithin, counted_sums, is_counted}
+use Rattle.pg_types.specs.Numbered.{Windows, HasNumber, AreNumbered, with_window}
+use Rattle.pg_dict.specs.Word.{Word}
+use Rattle.pg_select.specs.declared.choice.Choice.{Choice}
+use Rattle.pg_select.specs.declared.pass.Pass.{Pass}
+use Rattle.pg_select.specs.Choices.{choice}
+use Rattle.pg_select.specs.Statuses.{position_weight}
+use Rattle.pg_select.specs.LawsClosedDots.{is_good}
+use Rattle.pg_select.specs.Windows.{window, fits}
+use Rattle.pg_driver.specs.declared.pass_windows.Place.{Place}
+use Rattle.pg_driver.specs.declared.pass_windows.TheConstants.{NOT_COUNTED}
+use Rattle.pg_driver.specs.declared.open_positions.OpenPosition.{OpenPosition}
+use Rattle.pg_driver.specs.OpenLevels.{dots_after, closed_dots_after, position_after}
+use Rattle.pg_driver.specs.OpenPositions.{IsPlaced, with_closed}
+use Rattle.pg_driver.specs.PassWindows.{counts_at, ClosesAs, IsNumbered, HaveNumbers, AreFates, IsPlace, ArePlaces, IsPart}
+use Rattle.pg_driver.specs.Choosing.{candidate_of}
+use Rattle.pg_select.specs.CountedPositions.{CountedPosition}
+use Rattle.pg_select.specs.Meanings.{Meaning, with_position}
+use Rattle.pg_driver.specs.Counting.{counting, windows_after}
+use Rattle.pg_driver.specs.OpenPositions.{counted_in}
+use Rattle.pg_driver.proofs.Puts.{cmp}
+
+-- the word of a placed position
+pub word_there : {X : Type 0} (xs : List X) (i : ℕ) → i < length xs → (x : X) × (slice_get xs i ≡ Some x)
+word_there xs i lt = elim (slice_get_cases xs i).1 [
+  | inl here ↦ (here.0, here.2)
+  | inr past ↦ absurd (let le = past.0 in omega arith)
+]
+
+-- what becomes of a window that has a number
+module _ (params : LevelParams) (counts : Counts) (ws : Windows) (fates : List Choice) (are : AreNumbered ws counts) (decided : AreFates params counts ws fates) where
+  pub fate_there : (u : List ℕ) (n : ℕ) → HasNumber ws u n → option_map (λ sums. choice params sums.0 sums.1) (counted_sums counts u) ≡ slice_get fates n
+  fate_there u n at = by (counted_sums counts u) refl
+    where
+      by : (o : Option (ℕ × ℕ)) → counted_sums counts u ≡ o → option_map (λ sums. choice params sums.0 sums.1) (counted_sums counts u) ≡ slice_get fates n
+      by None is = absurd (let wrong : false ≡ true = sym (ap is_some is) ∙ are.counted u n at in cc)
+      by (Some sums) is = ap (option_map (λ sums. choice params sums.0 sums.1)) is ∙ sym (decided.each u n sums at is)
+
+  -- a position closes by the number of its window
+  pub closed_by_number : (pass : Pass) (words : List Word) (e : OpenPosition) (n : ℕ) → length fates ≤ NOT_COUNTED → IsPlaced words e → IsNumbered pass (counts_at pass) words ws e n
+      → with_closed e (dots_after e.closed pass.dot (slice_get fates n)) ≡ position_after params pass counts words e
+  closed_by_number pass words e n few placed numbered =
+      let w = word_there words e.word placed.word in
+      ap (with_closed e) (by w.0 w.1 (counts_at pass w.0 e) refl)
+      ∙ sym (ap (λ o. with_closed e (option_map_or (λ w. closed_dots_after params pass counts w e.at e.closed) o e.closed)) w.1)
+    where
+      by : (w : Word) → slice_get words e.word ≡ Some w → (b : Bool) → counts_at pass w e ≡ b
+          → dots_after e.closed pass.dot (slice_get fates n) ≡ cond b (dots_after e.closed pass.dot (option_map (λ sums. choice params sums.0 sums.1) (counted_sums counts (window w.signs e.at pass.len pass.dot)))) e.closed
+      by w at true is = ap (dots_after e.closed pass.dot) (sym (fate_there (window w.signs e.at pass.len pass.dot) n (numbered.counted w at is)))
+      by w at false is =
+          let none : slice_get fates n ≡ None = slice_get_past fates n (let e = numbered.uncounted w at is in omega arith) in
+          ap (dots_after e.closed pass.dot) none
+
+-- a fate more
+pub fate_more : (params : LevelParams) (counts : Counts) (ws : Windows) (fates : List Choice) (fate : Choice)
+    → ((u : List ℕ) (n : ℕ) (sums : ℕ × ℕ) → n < length fates → HasNumber ws u n → counted_sums counts u ≡ Some sums → slice_get fates n ≡ Some (choice params sums.0 sums.1))
+    → ((u : List ℕ) (sums : ℕ × ℕ) → HasNumber ws u (length fates) → counted_sums counts u ≡ Some sums → fate ≡ choice params sums.0 sums.1)
+    → (u : List ℕ) (n : ℕ) (sums : ℕ × ℕ) → n < length fates + 1 → HasNumber ws u n → counted_sums counts u ≡ Some sums → slice_get (fates ++ fate ∷ []) n ≡ Some (choice params sums.0 sums.1)
+fate_more params counts ws fates fate before here u n sums lt at is = elim (cases_eq n (length fates)) [
+  | inl e ↦ seam fates fate n e ∙ ap Some (here u sums (subst (HasNumber ws u) e at) is)
+  | inr other ↦ left fates (fate ∷ []) n (choice params sums.0 sums.1) (before u n sums (omega arith) at is)
+]
+  where
+    left : (xs ys : List Choice) (k : ℕ) (x : Choice) → slice_get xs k ≡ Some x → slice_get (xs ++ ys) k ≡ Some x
+    left [] ys k x e = absurd (let no : None ≡ Some x = e in cc)
+    left (y ∷ xs) ys zero x e = e
+    left (y ∷ xs) ys (suc k) x e = left xs ys k x e
+
+    seam : (xs : List Choice) (x : Choice) (k : ℕ) → k ≡ length xs → slice_get (xs ++ x ∷ []) k ≡ Some x
+    seam [] x zero e = refl
+    seam [] x (suc k) e = absurd (omega arith)
+    seam (y ∷ xs) x zero e = absurd (omega arith)
+    seam (y ∷ xs) x (suc k) e = seam xs x k (omega arith)
+
+-- an entry is found at its window
+find_at : (es : Counts) (k : ℕ) (e : List ℕ × (ℕ × ℕ)) → T (is_sorted cmp es) → slice_get es k ≡ Some e → find cmp e.0 es ≡ Some e.1
+find_at [] k e h at = absurd (let no : None ≡ Some e = at in cc)
+find_at (x ∷ xs) zero e h at =
+    let same : x ≡ e = cc in
+    ap (λ (y : List ℕ × (ℕ × ℕ)). cond (eq_by_cmp cmp e.0 y.0) (Some y.1) (find cmp e.0 xs)) same
+    ∙ ap (λ b. cond b (Some e.1) (find cmp e.0 xs)) (ap is_eq (tied_itself nat_list_cmp_total e.0))
+find_at (x ∷ xs) (suc k) e h at =
+    let less : cmp x.0 e.0 ≡ Less = below_get cmp nat_list_cmp_total x.0 e.0 e.1 xs k (first_half (below_all cmp x.0 xs) (is_sorted cmp xs) h) at in
+    let more : cmp e.0 x.0 ≡ Greater = nat_list_cmp_total.antisymm e.0 x.0 ∙ ap ordering_reverse less in
+    ap (λ o. cond (is_eq o) (Some x.1) (find cmp e.0 xs)) more
+    ∙ find_at xs k e (second_half (below_all cmp x.0 xs) (is_sorted cmp xs) h) at
+
+pub part_whole : (counts : Counts) → T (is_sorted cmp counts) → IsPart counts counts
+part_whole counts h k e at = find_at counts k e h at
+
+-- the candidate of the next number
+pub record Ahead (ws : Windows) (counts : Counts) (n : ℕ) (more : List ℕ) (rest : Counts) : Type 0 where
+  pub entry : List ℕ × (ℕ × ℕ)
+  pub left : Counts
+  pub is : rest ≡ entry ∷ left
+  pub number : HasNumber ws entry.0 n
+  pub sums : counted_sums counts entry.0 ≡ Some entry.1
+  pub next : map (slice_get ws) more ≡ map (λ e. Some e.0) left
+  pub part : IsPart left counts
+
+pub ahead : (ws : Windows) (counts : Counts) (n : ℕ) (more : List ℕ) (rest : Counts) → map (slice_get ws) (n ∷ more) ≡ map (λ e. Some e.0) rest → IsPart rest counts → Ahead ws counts n more rest
+ahead ws counts n more [] is part = absurd (let no : slice_get ws n ∷ map (slice_get ws) more ≡ [] = is in cc)
+ahead ws counts n more (e ∷ rest) is part =
+    let all : slice_get ws n ∷ map (slice_get ws) more ≡ Some e.0 ∷ map (λ e. Some e.0) rest = is in
+    record {
+      entry = e;
+      left = rest;
+      is = refl;
+      number = (let h : slice_get ws n ≡ Some e.0 = cc in h);
+      sums = part 0 e refl;
+      next = (let t : map (slice_get ws) more ≡ map (λ e. Some e.0) rest = cc in t);
+      part = λ k x at. part (suc k) x at;
+    }
+
+-- the signs of a window of a table
+pub are_signs : (n : ℕ) (q : List ℕ) → SignsWithin n q → list_all is_sign q ≡ true
+are_signs n [] h = refl
+are_signs n (s ∷ q) h =
+    and_from _ _ (le-leb 1 s (All-head (λ s. (1 ≤ s) × (s ≤ n)) s q h).0) (are_signs n q (All-tail (λ s. (1 ≤ s) × (s ≤ n)) s q h))
+
+-- what one turn of the choice does: the candidate that the cursor stands at, with its sums, is the first of those that are left
+pub record Turn (ws : Windows) (counts : Counts) (more : List ℕ) (rest : Counts) (at : List ℕ) (good bad : ℕ) : Type 0 where
+  pub left : Counts
+  pub is : map candidate_of rest ≡ record { window = at; good = good; bad = bad } ∷ map candidate_of left
+  pub sums : counted_sums counts at ≡ Some (good, bad)
+  pub next : map (slice_get ws) more ≡ map (λ e. Some e.0) left
+  pub part : IsPart left counts
+
+pub turn : (ws : Windows) (counts : Counts) (n : ℕ) (more : List ℕ) (rest : Counts) (at : List ℕ) (good bad : ℕ) → Ahead ws counts n more rest → HasNumber ws at n → counted_sums counts at ≡ Some (good, bad) → Turn ws counts more rest at good bad
+turn ws counts n more rest at good bad a number sums =
+    let both : Some a.entry.0 ≡ Some at = sym a.number ∙ number in
+    let same : a.entry.0 ≡ at = cc in
+    let told : Some a.entry.1 ≡ Some (good, bad) = sym a.sums ∙ ap (counted_sums counts) same ∙ sums in
+    let value : a.entry.1 ≡ (good, bad) = cc in
+    record {
+      left = a.left;
+      is =
+          ap (λ (es : Counts). map candidate_of es) a.is
+          ∙ ap (λ (u : List ℕ). record { window = u; good = a.entry.1.0; bad = a.entry.1.1 } ∷ map candidate_of a.left) same
+          ∙ ap (λ (s : ℕ × ℕ). record { window = at; good = s.0; bad = s.1 } ∷ map candidate_of a.left) value;
+      sums = sums;
+      next = a.next;
+      part = a.part;
+    }
+
+-- an entry that is not closed yet
+pub entry_here : {X : Type 0} (f : X → X) (old cur : List X) (k : ℕ) (d : X) → k < length old → cur ≡ map f (take k old) ++ drop k old → slice_get old k ≡ Some (get_or cur k d)
+entry_here {X} f old cur k d within is = by old k within ∙ sym (ap (λ (xs : List X). Some (get_or xs k d)) is)
+  where
+    by : (old : List X) (k : ℕ) → k < length old → slice_get old k ≡ Some (get_or (map f (take k old) ++ drop k old) k d)
+    by [] k within = absurd (omega arith)
+    by (x ∷ xs) zero within = refl
+    by (x ∷ xs) (suc k) within = by xs k (omega arith)
+
+-- elements before the seam of a list with one more, and the one at it
+pub get_left : {A : Type 0} (xs ys : List A) (k : ℕ) (x : A) → slice_get xs k ≡ Some x → slice_get (xs ++ ys) k ≡ Some x
+get_left [] ys k x e = absurd (let no : None ≡ Some x = e in cc)
+get_left (y ∷ xs) ys zero x e = e
+get_left (y ∷ xs) ys (suc k) x e = get_left xs ys k x e
+
+pub get_seam : {A : Type 0} (xs : List A) (x : A) (k : ℕ) → k ≡ length xs → slice_get (xs ++ x ∷ []) k ≡ Some x
+get_seam [] x zero e = refl
+get_seam [] x (suc k) e = absurd (omega arith)
+get_seam (y ∷ xs) x zero e = absurd (omega arith)
+get_seam (y ∷ xs) x (suc k) e = get_seam xs x k (omega arith)
+
+pub get_back : {A : Type 0} (xs : List A) (y : A) (k : ℕ) (x : A) → k < length xs → slice_get (xs ++ y ∷ []) k ≡ Some x → slice_get xs k ≡ Some x
+get_back [] y k x lt e = absurd (omega arith)
+get_back (z ∷ xs) y zero x lt e = e
+get_back (z ∷ xs) y (suc k) x lt e = get_back xs y k x (omega arith) e
+
+pub get_last : {A : Type 0} (xs : List A) (y : A) (k : ℕ) (x : A) → slice_get (xs ++ y ∷ []) k ≡ Some x → (k < length xs → ⊥) → (x ≡ y) × (k ≡ length xs)
+get_last xs y k x e late =
+    let within : k < length (xs ++ y ∷ []) = slice_get_within (xs ++ y ∷ []) k x e in
+    let at : k ≡ length xs = elim (cases_eq k (length xs)) [ inl is ↦ is | inr other ↦ absurd (late (omega (arith, length-append xs (y ∷ [])))) ] in
+    let both : Some x ≡ Some y = sym e ∙ get_seam xs y k at in
+    let same : x ≡ y = cc in
+    (same, at)
+
+-- a window keeps its number while more are counted
+window_stays : (ws : Windows) (counts : Counts) (u v : List ℕ) (n : ℕ) → HasNumber ws v n → HasNumber (with_window ws counts u) v n
+window_stays ws counts u v n at = elim (is_counted counts u) as (λ (b : Bool). HasNumber (cond b ws (ws ++ u ∷ [])) v n) [ true ↦ at | false ↦ get_left ws (u ∷ []) n v at ]
+
+pub number_stays : (ws : Windows) (counts : Counts) (seen : List CountedPosition) (v : List ℕ) (n : ℕ) → HasNumber ws v n → HasNumber (windows_after ws counts seen) v n
+number_stays ws counts [] v n at = at
+number_stays ws counts (s ∷ seen) v n at = number_stays (with_window ws counts s.window) (with_position counts s) seen v n (window_stays ws counts s.window v n at)
+
+pub still_numbered : (pass : Pass) (test : Word → OpenPosition → Bool) (words : List Word) (m n : Meaning) (seen : List CountedPosition) (e : OpenPosition) (k : ℕ) → n ≡ counting m seen → IsNumbered pass test words m.windows e k → IsNumbered pass test words n.windows e k
+still_numbered pass test words m n seen e k is numbered =
+    let grown : n.windows ≡ windows_after m.windows m.counts seen = ap (λ (x : Meaning). x.windows) is in
+    record {
+      counted = λ w at counts.
+          subst (λ (ws : Windows). HasNumber ws (window w.signs e.at pass.len pass.dot) k) (sym grown)
+          (number_stays m.windows m.counts seen (window w.signs e.at pass.len pass.dot) k (numbered.counted w at counts));
+      uncounted = numbered.uncounted;
+    }
+
+-- what one position adds to the windows
+pub window_in : (ws : Windows) (counts : Counts) (level len dot : ℕ) (w : Word) (p : ℕ) → fits w.signs p len dot ≡ true → windows_after ws counts (counted_in level len dot w p false) ≡ with_window ws counts (window w.signs p len dot)
+window_in ws counts level len dot w p fit = by (fits w.signs p len dot) fit
+  where
+    by : (b : Bool) → b ≡ true → windows_after ws counts (option_map_or (λ good. record { window = window w.signs p len dot; good = good; weight = position_weight w p } ∷ []) (cond (b && true) (Some (is_good level w p)) None) []) ≡ with_window ws counts (window w.signs p len dot)
+    by true e = refl
+    by false e = absurd (let wrong : false ≡ true = e in cc)
+
+-- a place more, where the window is new
+pub place_more : (pass : Pass) (words : List Word) (ws after : Windows) (counts now : Counts) (places more : List Place) (place : Place) (w : Word) (n : ℕ)
+    → ArePlaces pass words ws places → AreNumbered after now → slice_get words place.word ≡ Some w → fits w.signs place.at pass.len pass.dot ≡ true
+    → after ≡ with_window ws counts (window w.signs place.at pass.len pass.dot) → HasNumber after (window w.signs place.at pass.len pass.dot) n
+    → more ≡ cond (nat_eq n (length places)) (places ++ place ∷ []) places → ArePlaces pass words after more
+place_more pass words ws after counts now places more place w n are numbered there fit grown at is = elim (cases_Bool (is_counted counts (window w.signs place.at pass.len pass.dot))) [ inl old ↦ was old | inr new ↦ came new ]
+  where
+    was : is_counted counts (window w.signs place.at pass.len pass.dot) ≡ true → ArePlaces pass words after more
+    was old =
+        let same : after ≡ ws = grown ∙ ap (λ b. cond b ws (ws ++ (window w.signs place.at pass.len pass.dot) ∷ [])) old in
+        let lt : n < length ws = slice_get_within ws n (window w.signs place.at pass.len pass.dot) (subst (λ (x : Windows). HasNumber x (window w.signs place.at pass.len pass.dot) n) same at) in
+        let other : n ≢ length places = (let size = are.size in omega arith) in
+        let kept : more ≡ places = is ∙ ap (λ b. cond b (places ++ place ∷ []) places) (ne_eqb n (length places) other) in
+        subst (λ (x : Windows). ArePlaces pass words x more) (sym same) (subst (ArePlaces pass words ws) (sym kept) are)
+
+    came : is_counted counts (window w.signs place.at pass.len pass.dot) ≡ false → ArePlaces pass words after more
+    came new =
+        let longer : after ≡ ws ++ (window w.signs place.at pass.len pass.dot) ∷ [] = grown ∙ ap (λ b. cond b ws (ws ++ (window w.signs place.at pass.len pass.dot) ∷ [])) new in
+        let last : HasNumber after (window w.signs place.at pass.len pass.dot) (length ws) = subst (λ (x : Windows). HasNumber x (window w.signs place.at pass.len pass.dot) (length ws)) (sym longer) (get_seam ws (window w.signs place.at pass.len pass.dot) (length ws) refl) in
+        let next : n ≡ length places = (let size = are.size in let once = numbered.once (window w.signs place.at pass.len pass.dot) n (length ws) at last in omega arith) in
+        let added : more ≡ places ++ place ∷ [] = is ∙ ap (λ b. cond b (places ++ place ∷ []) places) (eq-eqb n (length places) next) in
+        subst (ArePlaces pass words after) (sym added) (record {
+          size = (let size = are.size in omega (arith, length-append places (place ∷ []), ap length longer, length-append ws ((window w.signs place.at pass.len pass.dot) ∷ [])));
+          each = λ k q e. elim (cases_lt k (length places)) [
+            | inl lt ↦
+                let old = are.each k q (get_back places place k q lt e) in
+                record {
+                  word = old.word;
+                  there = old.there;
+                  fit = old.fit;
+                  number = subst (λ (x : Windows). HasNumber x (window old.word.signs q.at pass.len pass.dot) k) (sym longer) (get_left ws ((window w.signs place.at pass.len pass.dot) ∷ []) k (window old.word.signs q.at pass.len pass.dot) old.number);
+                }
+            | inr le ↦
+                let here = get_last places place k q e (λ lt. omega arith) in
+                let number : HasNumber after (window w.signs place.at pass.len pass.dot) k = (let p = here.1 in let size = are.size in subst (HasNumber after (window w.signs place.at pass.len pass.dot)) (let z : length ws ≡ k = omega arith in z) last) in
+                subst (λ (p : Place). IsPlace pass words after k p) (sym here.0) (record { word = w; there = there; fit = fit; number = number })
+          ];
+        })
+
+-- positions close by the numbers of their windows
+pub closes_by_number : (params : LevelParams) (counts : Counts) (ws : Windows) (fates : List Choice) (pass : Pass) (words : List Word) (entries : List OpenPosition) (ns : List ℕ) → AreNumbered ws counts → AreFates params counts ws fates → length fates ≤ NOT_COUNTED → All (IsPlaced words) entries
+    → HaveNumbers pass (counts_at pass) words ws entries ns → ClosesAs (position_after params pass counts words) pass.dot fates entries ns
+closes_by_number params counts ws fates pass words entries ns are decided few placed have = λ k e n at to.
+    closed_by_number params counts ws fates are decided pass words e n few
+    (subst (IsPlaced words) (get_or_from_slice_get entries k e e at) (placed k e (slice_get_within entries k e at)))
+    (have.each k e n at to)
+
+-- positions keep their numbers while more is counted
+pub still_have : (pass : Pass) (test : Word → OpenPosition → Bool) (words : List Word) (m n : Meaning) (seen : List CountedPosition) (entries : List OpenPosition) (ns : List ℕ) → n ≡ counting m seen → HaveNumbers pass test words m.windows entries ns → HaveNumbers pass test words n.windows entries ns
+still_have pass test words m n seen entries ns is have = record {
+  size = have.size;
+  each = λ k e x at to. still_numbered pass test words m n seen e x is (have.each k e x at to);
+}
+
+-- a position more
+pub have_more : (pass : Pass) (test : Word → OpenPosition → Bool) (words : List Word) (ws : Windows) (entries : List OpenPosition) (ns : List ℕ) (e : OpenPosition) (n : ℕ) → HaveNumbers pass test words ws entries ns → IsNumbered pass test words ws e n → HaveNumbers pass test words ws (entries ++ e ∷ []) (ns ++ n ∷ [])
+have_more pass test words ws entries ns e n have numbered = record {
+  size = (let size = have.size in omega (arith, length-append entries (e ∷ []), length-append ns (n ∷ [])));
+  each = λ k x y at to. elim (cases_lt k (length ns)) [
+    | inl lt ↦ have.each k x y (get_back entries e k x (let size = have.size in omega arith) at) (get_back ns n k y lt to)
+    | inr le ↦
+        let entry = get_last entries e k x at (λ lt. (let size = have.size in omega arith)) in
+        let number = get_last ns n k y to (λ lt. omega arith) in
+        subst (λ (z : OpenPosition). IsNumbered pass test words ws z y) (sym entry.0) (subst (IsNumbered pass test words ws e) (sym number.0) numbered)
+  ];
+}

@@ -1,0 +1,153 @@
+//! The windows of a pass by their numbers: where each was first counted, what becomes of it, and which positions it stands at.
+ghost use Rattle.std.specs.Prelude.{◌≡◌, ◌==◌, ◌<◌, ◌≤◌, ◌++◌, ◌∷◌, [], ℕ, List, if◌then◌else◌, length, Some, OnOk};
+ghost use Rattle.pg_types.specs.Counts.{counted_sums};
+ghost use Rattle.pg_types.specs.Numbered.{HasNumber};
+ghost use Rattle.pg_types.specs.Parameters.{IsLevel};
+ghost use Rattle.pg_select.specs.Choices.{choice};
+ghost use Rattle.pg_driver.specs.declared.pass_windows.TheConstants.{NOT_COUNTED};
+ghost use Rattle.pg_driver.specs.Counting.{HasRoom};
+ghost use Rattle.pg_driver.specs.States.{IsPass};
+ghost use Rattle.pg_driver.specs.PassWindows.{AreFates, IsPlace};
+
+use pg_dict::Dictionary;
+use pg_select::{Choice, Engine, Pass, decide};
+use pg_types::{Cursor, LevelParams};
+use std::alloc::{AllocError, Global};
+
+/// In place of a number it says that a position was not counted.
+pub const NOT_COUNTED: u32 = u32::MAX;
+
+/// A position of a word at which a window was first counted.
+#[derive(Clone, Copy)]
+pub struct Place {
+    /// The number of the word in the dictionary, from 0.
+    pub word: u32,
+    /// The position in the word.
+    pub at: u8,
+}
+
+/// What a pass keeps of its windows. The memory stays from pass to pass.
+#[derive(Drop)]
+pub struct PassWindows {
+    /// Where each window was first counted, by its number.
+    pub places: Vec<Place>,
+    /// The number of the window of each position that is kept, in the order of these positions.
+    pub numbers: Vec<u32>,
+    /// The numbers in the order of signs.
+    pub order: Vec<u32>,
+    /// What becomes of each window, by its number.
+    pub fates: Vec<Choice>,
+}
+
+impl PassWindows {
+    ghost use Rattle.std.specs.Prelude.{◌≡◌, ◌≤◌, [], length, OnOk};
+    ghost use Rattle.pg_types.specs.Numbered.{AreInOrder};
+    ghost use Rattle.pg_types.specs.Parameters.{IsLevel};
+    ghost use Rattle.pg_driver.specs.declared.pass_windows.TheConstants.{NOT_COUNTED};
+    ghost use Rattle.pg_driver.specs.Counting.{HasRoom};
+    ghost use Rattle.pg_driver.specs.PassWindows.{AreFates};
+
+    /// No window. It takes no memory.
+    pub fn new(alloc: Global) -> PassWindows {
+        PassWindows {
+            places: Vec::new(alloc),
+            numbers: Vec::new(alloc),
+            order: Vec::new(alloc),
+            fates: Vec::new(alloc),
+        }
+    }
+
+    /// Forgets the windows of the pass before.
+    pub fn clear(&mut self)
+        ensures places { self.new.places.items ≡ [] }
+        ensures numbers { self.new.numbers.items ≡ [] }
+    {
+        self.places.clear();
+        self.numbers.clear();
+    }
+
+    /// Puts the windows that were counted in order, and decides once what becomes of each.
+    pub fn decide<E: Engine>(&mut self, engine: &E, params: &LevelParams) -> Result<(), AllocError>
+        requires level { IsLevel params.now }
+        requires room { HasRoom (E.meaning engine.now).counts 0 }
+        requires places { length self.old.places.items ≡ length (E.meaning engine.now).windows }
+        ensures order { OnOk result (AreInOrder (E.meaning engine.now).windows (E.meaning engine.now).counts
+            self.new.order.items) }
+        ensures fates { OnOk result (AreFates params.now (E.meaning engine.now).counts (E.meaning engine.now).windows
+            self.new.fates.items) }
+        ensures few { OnOk result (length self.new.fates.items ≤ NOT_COUNTED) }
+        ensures places { self.new.places.items ≡ self.old.places.items }
+        ensures numbers { self.new.numbers.items ≡ self.old.numbers.items }
+    {
+        self.order.clear();
+        self.fates.clear();
+        engine.kept();
+        engine.order(&mut self.order)?;
+        decide_all(engine, params, self.places.len(), &mut self.fates)
+    }
+}
+
+/// Notes the place of a window where its number is the next one.
+pub fn note_place(places: &mut Vec<Place>, number: u32, place: Place) -> Result<(), AllocError>
+    ensures { OnOk result (places.new.items
+        ≡ (if number == length places.old.items then places.old.items ++ place ∷ [] else places.old.items)) }
+{
+    if number as usize == places.len() {
+        places.push(place)?;
+    }
+    Ok(())
+}
+
+/// Decides what becomes of each window, by number.
+fn decide_all<E: Engine>(
+    engine: &E,
+    params: &LevelParams,
+    windows: usize,
+    fates: &mut Vec<Choice>,
+) -> Result<(), AllocError>
+    requires level { IsLevel params.now }
+    requires room { HasRoom (E.meaning engine.now).counts 0 }
+    requires windows { windows ≡ length (E.meaning engine.now).windows }
+    requires few { windows ≤ NOT_COUNTED }
+    requires none { fates.old.items ≡ [] }
+    ensures { OnOk result (AreFates params.now (E.meaning engine.now).counts (E.meaning engine.now).windows
+        fates.new.items) }
+{
+    engine.kept();
+    'numbers: for number in 0..windows {
+        let fate = decide_one(engine, params, number as u32);
+        fates.push(fate)?;
+    }
+    Ok(())
+}
+
+/// Decides what becomes of a window.
+fn decide_one<E: Engine>(engine: &E, params: &LevelParams, number: u32) -> Choice
+    requires level { IsLevel params.now }
+    requires room { HasRoom (E.meaning engine.now).counts 0 }
+    requires number { number < length (E.meaning engine.now).windows }
+    ensures { (u : List ℕ) (sums : ℕ × ℕ) → HasNumber (E.meaning engine.now).windows u number →
+        counted_sums (E.meaning engine.now).counts u ≡ Some sums → result ≡ choice params.now sums.0 sums.1 }
+{
+    let (good, bad) = engine.sums_of(number);
+    decide(good, bad, params)
+}
+
+/// Moves the cursor to the window at a place.
+pub fn go_to<E: Engine>(
+    engine: &E,
+    dictionary: &Dictionary,
+    pass: Pass,
+    number: u32,
+    place: Place,
+    at: &mut Cursor,
+)
+    requires ranges { IsPass pass }
+    requires place { IsPlace pass dictionary.now (E.meaning engine.now).windows number place }
+    ensures { HasNumber (E.meaning engine.now).windows at.new number }
+{
+    engine.kept();
+    let w = dictionary.word(place.word as usize);
+    let from = usize::from(place.at) - usize::from(pass.dot);
+    at.set(&w.signs[from..from + usize::from(pass.len)]);
+}

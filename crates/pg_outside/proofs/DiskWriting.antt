@@ -1,0 +1,249 @@
+-- What a write by name does to a disk, from what the calls say of the name that it leads to.
+use Rattle.std.proofs.Common.{◌≡◌, inl, inr, ⊎_elim, ℕ, List, true, false, Option, Some, None, IfSome, refl, sym, ap, subst, ◌∙◌}
+use Rattle.std.specs.FinMap as fin
+use Rattle.pg_outside.specs.Disk.{Node, Disk, Told, AreOne, Keeps, Now, LeadsTo, LeadsToNone, IsOpened, IsStat, Wrote, Disturbed, id_at, node_at, node_of}
+use Rattle.pg_outside.specs.DiskWrites.{IsIn, IsPlain, IsDevice, IsProtected, AtWrite, AfterWrite, AfterFailure, IsSeen, StandsFor, mode_of, mode_at}
+use Rattle.pg_outside.specs.Moments.{Runs, WhereDirect, AtMoment, IsBeside, IsWritten, IsAsBefore, IsSame, HasRest}
+use Rattle.pg_outside.specs.declared.disk.system.Entry.TheVariants.{Missing, File}
+use Rattle.pg_outside.specs.declared.disk.system.FileId.{FileId}
+use Rattle.pg_outside.specs.declared.disk.system.Seen.{Seen}
+use Rattle.pg_outside.proofs.Runs.{known_start, keeps_then, keeps_now, now_both, now_weaker, no_step}
+use Rattle.pg_outside.proofs.BesideSteps.{one_node, one_still, whole_of_one}
+
+id_one : (d : Disk) (p q : List ℕ) → AreOne d p q → id_at d p ≡ id_at d q
+id_one d p q one = ap (λ (r : List ℕ). fin.get d.names r) one
+
+leads_one : (n : FileId) (d : Disk) (p q : List ℕ) → AreOne d p q → LeadsTo p n d → LeadsTo q n d
+leads_one n d p q one leads = sym (id_one d p q one) ∙ leads
+
+plain_one : (d : Disk) (p q : List ℕ) → AreOne d p q → IsPlain p d → IsPlain q d
+plain_one d p q one plain = subst (λ (o : Option Node). IfSome o (λ node. node.is_regular ≡ true)) (one_node d p q one) plain
+
+beside_one : (own p q : List ℕ) (first : Disk) → AreOne first p q → IsBeside own p first → IsBeside own q first
+beside_one own p q first one is = record {
+  real = is.real;
+  direct = is.direct;
+  one = is.one ∙ one;
+  is_new = is.is_new;
+  apart = λ same. is.apart (same ∙ sym one);
+  unnamed = is.unnamed;
+}
+
+moment_one : (p q bytes : List ℕ) (m : Option ℕ) (first disk : Disk) → AreOne first p q → AtMoment p bytes m first disk → AtMoment q bytes m first disk
+moment_one p q bytes m first disk one at = record {
+  links = at.links;
+  own = at.own;
+  beside = beside_one at.own p q first one at.beside;
+  names = λ other apart. ⊎_elim (λ same. inl same) (λ new. inr (new.0 ∙ one, new.1)) (at.names other apart);
+}
+
+written_one : (p q bytes : List ℕ) (m : Option ℕ) (n : FileId) (first last : Disk) → AreOne first p q → IsWritten p bytes m n first last → IsWritten q bytes m n first last
+written_one p q bytes m n first last one w = record {
+  links = w.links;
+  refused = w.refused;
+  leads = leads_one n last p q (one_still first last p q w.links one) w.leads;
+  whole = whole_of_one bytes m last q p (sym (one_still first last p q w.links one)) w.whole;
+  others = λ other apart. w.others other (λ same. apart (same ∙ one));
+}
+
+protected_one : (kept : List FileId) (n : FileId) (d : Disk) (p q : List ℕ) → AreOne d p q → IsProtected p kept n d → IsProtected q kept n d
+protected_one kept n d p q one is = record { leads = leads_one n d p q one is.leads; plain = plain_one d p q one is.plain; is_kept = is.is_kept }
+
+device_one : (n : FileId) (d : Disk) (p q : List ℕ) → AreOne d p q → IsDevice p n d → IsDevice q n d
+device_one n d p q one is = record { leads = leads_one n d p q one is.leads; node = is.node; there = is.there; kind = is.kind }
+
+mode_one : (d : Disk) (p q : List ℕ) → AreOne d p q → mode_at p d ≡ mode_at q d
+mode_one d p q one = ap mode_of (one_node d p q one)
+
+-- by another name for the same
+pub at_one : (p q bytes : List ℕ) (kept : List FileId) (first disk : Disk) → AreOne first p q → AtWrite p bytes kept first disk → AtWrite q bytes kept first disk
+at_one p q bytes kept first disk one at = record {
+  allowed = λ n is. at.allowed n (protected_one kept n first q p (sym one) is);
+  plain = λ plain. subst (λ (m : Option ℕ). AtMoment q bytes m first disk) (mode_one first p q one) (moment_one p q bytes (mode_at p first) first disk one (at.plain (plain_one first q p (sym one) plain)));
+  device = λ n is. at.device n (device_one n first q p (sym one) is);
+}
+
+pub after_one : (p q bytes : List ℕ) (before kept : List FileId) (first last : Disk) → AreOne first p q → AfterWrite p bytes before kept first last → AfterWrite q bytes before kept first last
+after_one p q bytes before kept first last one after = record {
+  links = after.links;
+  allowed = λ n is. after.allowed n (protected_one before n first q p (sym one) is);
+  plain = λ plain.
+      let w = after.plain (plain_one first q p (sym one) plain) in
+      record {
+        id = w.id;
+        is_kept = w.is_kept;
+        written = subst (λ (m : Option ℕ). IsWritten q bytes m w.id first last) (mode_one first p q one) (written_one p q bytes (mode_at p first) w.id first last one w.written);
+      };
+  device = λ n is. after.device n (device_one n first q p (sym one) is);
+}
+
+as_before_one : (p q : List ℕ) (first last : Disk) → AreOne first p q → IsAsBefore p first last → IsAsBefore q first last
+as_before_one p q first last one as_before = ⊎_elim (λ (same : IsSame first last). inl same)
+    (λ (rest : HasRest p first last). inr (record { links = rest.links; own = rest.own; beside = beside_one rest.own p q first one rest.beside; others = rest.others; refused = rest.refused }))
+    as_before
+
+pub failure_one : (p q : List ℕ) (first last : Disk) → AreOne first p q → AfterFailure p first last → AfterFailure q first last
+failure_one p q first last one after = record {
+  links = after.links;
+  plain = λ plain. as_before_one p q first last one (after.plain (plain_one first q p (sym one) plain));
+  device = λ n is. after.device n (device_one n first q p (sym one) is);
+}
+
+some_same : (m n : FileId) → Some m ≡ Some n → m ≡ n
+some_same m n e = cc
+
+none_some : (n : FileId) → None ≡ Some n → ⊥
+none_some n e = cc
+
+true_false : true ≡ false → ⊥
+true_false e = cc
+
+-- the name leads to no file, or to a regular one that may be written
+pub record MayReplace (name : List ℕ) (kept : List FileId) (mode : Option ℕ) (d : Disk) : Type 0 where
+  pub mode_is : mode_at name d ≡ mode
+  pub plain : IsPlain name d
+  pub free : (n : FileId) → LeadsTo name n d → IsIn n kept → ⊥
+
+device_plain : (name : List ℕ) (n : FileId) (d : Disk) → IsDevice name n d → IsPlain name d → ⊥
+device_plain name n d is plain =
+    let regular : is.node.is_regular ≡ true = subst (λ (o : Option Node). IfSome o (λ node. node.is_regular ≡ true)) (ap (λ (k : Option FileId). node_of k d.files) is.leads ∙ is.there) plain in
+    true_false (sym regular ∙ is.kind)
+
+pub may_none : (name : List ℕ) (kept : List FileId) (d : Disk) → LeadsToNone name d → MayReplace name kept None d
+may_none name kept d none =
+    let no_node : node_at d name ≡ None = ap (λ (k : Option FileId). node_of k d.files) none in
+    record {
+      mode_is = ap mode_of no_node;
+      plain = subst (λ (o : Option Node). IfSome o (λ node. node.is_regular ≡ true)) (sym no_node) tt;
+      free = λ n leads is. none_some n (sym none ∙ leads);
+    }
+
+seen_node : (name : List ℕ) (seen : Seen) (d : Disk) (s : IsSeen name seen d) → node_at d name ≡ Some s.node
+seen_node name seen d s = ap (λ (k : Option FileId). node_of k d.files) s.leads ∙ s.there
+
+pub may_seen : (name : List ℕ) (kept : List FileId) (seen : Seen) (d : Disk) → IsSeen name seen d → seen.is_regular ≡ true → (IsIn seen.id kept → ⊥) → MayReplace name kept (Some seen.mode) d
+may_seen name kept seen d s regular apart = record {
+  mode_is = ap mode_of (seen_node name seen d s) ∙ ap (λ (m : ℕ). Some m) s.mode;
+  plain = subst (λ (o : Option Node). IfSome o (λ node. node.is_regular ≡ true)) (sym (seen_node name seen d s)) (s.kind ∙ regular);
+  free = λ n leads is. apart (subst (λ (k : FileId). IsIn k kept) (some_same n seen.id (sym leads ∙ s.leads)) is);
+}
+
+pub at_may : (name bytes : List ℕ) (kept : List FileId) (mode : Option ℕ) (d disk : Disk) → MayReplace name kept mode d → AtMoment name bytes mode d disk → AtWrite name bytes kept d disk
+at_may name bytes kept mode d disk may at = record {
+  allowed = λ n is. may.free n is.leads is.is_kept;
+  plain = λ plain. subst (λ (m : Option ℕ). AtMoment name bytes m d disk) (sym may.mode_is) at;
+  device = λ n is. absurd (device_plain name n d is may.plain);
+}
+
+pub after_may : (name bytes : List ℕ) (before kept : List FileId) (mode : Option ℕ) (n : FileId) (d last : Disk) → MayReplace name before mode d → IsIn n kept → IsWritten name bytes mode n d last → AfterWrite name bytes before kept d last
+after_may name bytes before kept mode n d last may is_kept written = record {
+  links = written.links;
+  allowed = λ m is. may.free m is.leads is.is_kept;
+  plain = λ plain. record { id = n; is_kept = is_kept; written = subst (λ (m : Option ℕ). IsWritten name bytes m n d last) (sym may.mode_is) written };
+  device = λ m is. absurd (device_plain name m d is may.plain);
+}
+
+pub failed_may : (name : List ℕ) (kept : List FileId) (mode : Option ℕ) (d last : Disk) → MayReplace name kept mode d → IsAsBefore name d last → AfterFailure name d last
+failed_may name kept mode d last may as_before = record {
+  links = ⊎_elim (λ (same : IsSame d last). same.links) (λ (rest : HasRest name d last). rest.links) as_before;
+  plain = λ plain. as_before;
+  device = λ m is. absurd (device_plain name m d is may.plain);
+}
+
+-- the name leads to no regular file
+seen_device : (name : List ℕ) (seen : Seen) (d : Disk) → IsSeen name seen d → seen.is_regular ≡ false → IsPlain name d → ⊥
+seen_device name seen d s device plain =
+    true_false (sym (subst (λ (o : Option Node). IfSome o (λ node. node.is_regular ≡ true)) (seen_node name seen d s) plain) ∙ s.kind ∙ device)
+
+-- the name stands for one that is no link, of which this is known
+pub record Leads (real name : List ℕ) (kept : List FileId) (mode : Option ℕ) (d : Disk) : Type 0 where
+  pub direct : d.links.is_link real ≡ false
+  pub one : AreOne d real name
+  pub may : MayReplace real kept mode d
+
+pub leads_none : (real name : List ℕ) (kept : List FileId) (a b : Option Told) → Keeps a b → Now b (StandsFor real Missing name) → Now b (Leads real name kept None)
+leads_none real name kept a b ab stands = now_weaker _ _ b stands (λ d s. record { direct = s.entry.0; one = s.one; may = may_none real kept d s.entry.1 })
+
+seen_one : (p q : List ℕ) (seen : Seen) (d : Disk) → AreOne d p q → IsSeen p seen d → IsSeen q seen d
+seen_one p q seen d one s = record { leads = leads_one seen.id d p q one s.leads; node = s.node; there = s.there; kind = s.kind; mode = s.mode }
+
+pub leads_seen : (real name : List ℕ) (kept : List FileId) (id : FileId) (seen : Seen) (a b : Option Told) → Now a (IsSeen name seen) → Keeps a b → Now b (StandsFor real (File id) name) → seen.is_regular ≡ true → (IsIn seen.id kept → ⊥) → Now b (Leads real name kept (Some seen.mode))
+leads_seen real name kept id seen a b is ab stands regular free =
+    now_weaker _ _ b (now_both _ _ b (keeps_now _ a b is ab) stands) (λ d s. record {
+      direct = s.1.entry.0;
+      one = s.1.one;
+      may = may_seen real kept seen d (seen_one name real seen d (sym s.1.one) s.0) regular free;
+    })
+
+-- a new file takes the place of what the name leads to
+pub replaces_found : (real name bytes : List ℕ) (kept after : List FileId) (mode : Option ℕ) (n : FileId) (a b c : Option Told) → Keeps a b → Now b (Leads real name kept mode) → IsIn n after
+    → Runs b c (WhereDirect real (AtMoment real bytes mode)) (WhereDirect real (IsWritten real bytes mode n)) → Runs a c (AtWrite name bytes kept) (AfterWrite name bytes kept after)
+replaces_found real name bytes kept after mode n a b c ab leads is_in bc =
+    keeps_then _ _ a b c ab (known_start _ _ _ _ (Leads real name kept mode) b c leads bc
+    (λ x y f p. at_one real name bytes kept x y f.one (at_may real bytes kept mode x y f.may (p f.direct)))
+    (λ x y f p. after_one real name bytes kept after x y f.one (after_may real bytes kept after mode n x y f.may is_in (p f.direct))))
+
+pub replace_found_fails : (real name bytes : List ℕ) (kept : List FileId) (mode : Option ℕ) (a b c : Option Told) → Keeps a b → Now b (Leads real name kept mode)
+    → Runs b c (WhereDirect real (AtMoment real bytes mode)) (WhereDirect real (IsAsBefore real)) → Runs a c (AtWrite name bytes kept) (AfterFailure name)
+replace_found_fails real name bytes kept mode a b c ab leads bc =
+    keeps_then _ _ a b c ab (known_start _ _ _ _ (Leads real name kept mode) b c leads bc
+    (λ x y f p. at_one real name bytes kept x y f.one (at_may real bytes kept mode x y f.may (p f.direct)))
+    (λ x y f p. failure_one real name x y f.one (failed_may real kept mode x y f.may (p f.direct))))
+
+-- what was opened is what the system says of it
+pub opened_seen : (name : List ℕ) (id : FileId) (seen : Seen) (a b : Option Told) → Now a (IsOpened name id) → Keeps a b → Now b (IsStat id seen) → Now b (IsSeen name seen)
+opened_seen name id seen a b opened ab stat =
+    now_weaker _ _ b (now_both _ _ b (keeps_now _ a b opened ab) stat) (λ d s. record {
+      leads = s.0.leads ∙ ap (λ (k : FileId). Some k) (sym s.1.is);
+      node = s.1.node;
+      there = subst (λ (k : FileId). d.files k ≡ Some s.1.node) (sym s.1.is) s.1.there;
+      kind = s.1.kind;
+      mode = s.1.mode;
+    })
+
+-- a device is written in place
+same_device : (R : FileId → Disk → Disk → Type 0) (name : List ℕ) (n m : FileId) (x y : Disk) → LeadsTo name n x → LeadsTo name m x → R n x y → R m x y
+same_device R name n m x y leads other p = subst (λ (k : FileId). R k x y) (some_same n m (sym leads ∙ other)) p
+
+at_device : (name bytes : List ℕ) (kept : List FileId) (seen : Seen) (x y : Disk) → seen.is_regular ≡ false → Disturbed seen.id x y → IsSeen name seen x → AtWrite name bytes kept x y
+at_device name bytes kept seen x y device p s = record {
+  allowed = λ n is. seen_device name seen x s device is.plain;
+  plain = λ plain. absurd (seen_device name seen x s device plain);
+  device = λ n is. same_device Disturbed name seen.id n x y s.leads is.leads p;
+}
+
+failed_device : (name : List ℕ) (seen : Seen) (x y : Disk) → seen.is_regular ≡ false → Disturbed seen.id x y → IsSeen name seen x → AfterFailure name x y
+failed_device name seen x y device p s = record {
+  links = let w = p s.node s.there in w.1.links;
+  plain = λ plain. absurd (seen_device name seen x s device plain);
+  device = λ n is. same_device Disturbed name seen.id n x y s.leads is.leads p;
+}
+
+after_device : (name bytes : List ℕ) (kept after : List FileId) (seen : Seen) (x y : Disk) → seen.is_regular ≡ false → Wrote seen.id bytes x y → IsSeen name seen x → AfterWrite name bytes kept after x y
+after_device name bytes kept after seen x y device p s = record {
+  links = let w = p s.node s.there in w.1.links;
+  allowed = λ n is. seen_device name seen x s device is.plain;
+  plain = λ plain. absurd (seen_device name seen x s device plain);
+  device = λ n is. same_device (λ k. Wrote k bytes) name seen.id n x y s.leads is.leads p;
+}
+
+pub writes_device : (name bytes : List ℕ) (kept after : List FileId) (seen : Seen) (n : FileId) (a b c : Option Told) → Now a (IsOpened name n) → Keeps a b → Now b (IsStat n seen) → seen.is_regular ≡ false
+    → Runs b c (Disturbed n) (Wrote n bytes) → Runs a c (AtWrite name bytes kept) (AfterWrite name bytes kept after)
+writes_device name bytes kept after seen n a b c opened ab stat device bc =
+    keeps_then _ _ a b c ab (known_start _ _ _ _ (λ d. IsSeen name seen d × IsStat n seen d) b c (now_both _ _ b (opened_seen name n seen a b opened ab stat) stat) bc
+    (λ x y f p. at_device name bytes kept seen x y device (subst (λ (k : FileId). Disturbed k x y) (sym f.1.is) p) f.0)
+    (λ x y f p. after_device name bytes kept after seen x y device (subst (λ (k : FileId). Wrote k bytes x y) (sym f.1.is) p) f.0))
+
+pub write_device_fails : (name bytes : List ℕ) (kept : List FileId) (seen : Seen) (n : FileId) (a b c : Option Told) → Now a (IsOpened name n) → Keeps a b → Now b (IsStat n seen) → seen.is_regular ≡ false
+    → Runs b c (Disturbed n) (Disturbed n) → Runs a c (AtWrite name bytes kept) (AfterFailure name)
+write_device_fails name bytes kept seen n a b c opened ab stat device bc =
+    keeps_then _ _ a b c ab (known_start _ _ _ _ (λ d. IsSeen name seen d × IsStat n seen d) b c (now_both _ _ b (opened_seen name n seen a b opened ab stat) stat) bc
+    (λ x y f p. at_device name bytes kept seen x y device (subst (λ (k : FileId). Disturbed k x y) (sym f.1.is) p) f.0)
+    (λ x y f p. failed_device name seen x y device (subst (λ (k : FileId). Disturbed k x y) (sym f.1.is) p) f.0))
+
+-- nothing was done
+same_disk : (n : FileId) (x : Disk) → Disturbed n x x
+same_disk n x = λ node is. (node, record { links = refl; names = refl; refused = refl; file = is; others = λ other apart. refl })
+
+pub nothing_failed : (name bytes : List ℕ) (kept : List FileId) (a b : Option Told) → Keeps a b → Runs a b (AtWrite name bytes kept) (AfterFailure name)
+nothing_failed name bytes kept a b ab = no_step _ _ a b ab (λ x. record { links = refl; plain = λ plain. inl (record { links = refl; refused = refl; names = λ other. refl }); device = λ n is. same_disk n x })

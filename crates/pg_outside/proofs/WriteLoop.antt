@@ -1,0 +1,79 @@
+-- What a loop of writes has done so far.
+use Rattle.std.proofs.Common.{◌≡◌, ℕ, ◌+◌, List, ◌++◌, take, drop, Option, subst, ◌∙◌, arith}
+use Rattle.std.proofs.Math.Seq.{take-add}
+use Rattle.std.proofs.lemmas.Grind.{common_steps}
+use Rattle.pg_outside.specs.Disk.{Disk, Told, Steps, Wrote, Disturbed, Stored}
+use Rattle.pg_outside.specs.Moments.{Runs, HasMode, Filled}
+use Rattle.pg_outside.proofs.Runs.{runs_on, one_step, runs_weaker}
+use Rattle.pg_outside.proofs.FileSteps.{disturbed_on, wrote_disturbed, wrote_on, mode_disturbed, stored_disturbed, filled_on}
+use Rattle.pg_outside.specs.declared.disk.system.FileId.{FileId}
+
+-- the bytes that were written so far, and those that are left
+pub record HasWritten (before now : Option Told) (file same : FileId) (bytes rest : List ℕ) : Type 0 where
+  pub same_file : same ≡ file
+  pub done : ℕ
+  pub left : rest ≡ drop done bytes
+  pub runs : Runs before now (Disturbed file) (Wrote file (take done bytes))
+
+-- a call that writes behind what was written
+pub writes_on : (n : FileId) (xs ys : List ℕ) (a b c : Option Told) → Runs a b (Disturbed n) (Wrote n xs) → Steps b c (Wrote n ys) → Runs a c (Disturbed n) (Wrote n (xs ++ ys))
+writes_on n xs ys a b c ab bc =
+    runs_on _ _ _ _ _ _ a b c ab (one_step (Wrote n ys) b c bc)
+    (λ x y p. p)
+    (λ x y z q p. disturbed_on n x y z (wrote_disturbed n xs x y q) (wrote_disturbed n ys y z p))
+    (λ x y z q p. wrote_on n xs ys x y z q p)
+
+-- a call that fails after what was written
+pub fails_on : (n : FileId) (xs : List ℕ) (a b c : Option Told) → Runs a b (Disturbed n) (Wrote n xs) → Steps b c (Disturbed n) → Runs a c (Disturbed n) (Disturbed n)
+fails_on n xs a b c ab bc =
+    runs_on _ _ _ _ _ _ a b c ab (one_step (Disturbed n) b c bc)
+    (λ x y p. p)
+    (λ x y z q p. disturbed_on n x y z (wrote_disturbed n xs x y q) p)
+    (λ x y z q p. disturbed_on n x y z (wrote_disturbed n xs x y q) p)
+
+pub written_step : (before now after : Option Told) (file same next : FileId) (bytes rest left : List ℕ) (count : ℕ) → HasWritten before now file same bytes rest → next ≡ same → Steps now after (Wrote same (take count rest)) → left ≡ drop count rest → HasWritten before after file next bytes left
+written_step before now after file same next bytes rest left count so_far is steps rests = record {
+  same_file = is ∙ so_far.same_file;
+  done = so_far.done + count;
+  left = let l = so_far.left in grind (arith, common_steps);
+  runs = rw (take-add so_far.done count bytes, ← so_far.left) (writes_on file (take so_far.done bytes) (take count rest) before now after so_far.runs (subst (λ (n : FileId). Steps now after (Wrote n (take count rest))) so_far.same_file steps));
+}
+
+pub written_then_failed : (before now after : Option Told) (file same : FileId) (bytes rest : List ℕ) → HasWritten before now file same bytes rest → Steps now after (Disturbed same) → Runs before after (Disturbed file) (Disturbed file)
+written_then_failed before now after file same bytes rest so_far steps =
+    fails_on file (take so_far.done bytes) before now after so_far.runs (subst (λ (n : FileId). Steps now after (Disturbed n)) so_far.same_file steps)
+
+pub written_part : (before now : Option Told) (file same : FileId) (bytes rest : List ℕ) → HasWritten before now file same bytes rest → Runs before now (Disturbed file) (Disturbed file)
+written_part before now file same bytes rest so_far =
+    runs_weaker _ _ _ _ before now so_far.runs (λ x y p. p) (λ x y q. wrote_disturbed file (take so_far.done bytes) x y q)
+
+-- the bytes behind the permissions
+pub mode_then_bytes : (n m : FileId) (mode : Option ℕ) (bytes : List ℕ) (a b c : Option Told) → Runs a b (Disturbed n) (HasMode n mode) → m ≡ n → Runs b c (Disturbed m) (Wrote m bytes) → Runs a c (Disturbed n) (λ x z. (y : Disk) × HasMode n mode x y × Wrote n bytes y z)
+mode_then_bytes n m mode bytes a b c ab is bc =
+    runs_on _ _ _ _ _ _ a b c ab (subst (λ (k : FileId). Runs b c (Disturbed k) (Wrote k bytes)) is bc)
+    (λ x y p. p)
+    (λ x y z q p. disturbed_on n x y z (mode_disturbed n mode x y q) p)
+    (λ x y z q w. (y, q, w))
+
+-- a call fails behind the permissions
+pub mode_then_failed : (n m : FileId) (mode : Option ℕ) (a b c : Option Told) → Runs a b (Disturbed n) (HasMode n mode) → m ≡ n → Runs b c (Disturbed m) (Disturbed m) → Runs a c (Disturbed n) (Disturbed n)
+mode_then_failed n m mode a b c ab is bc =
+    runs_on _ _ _ _ _ _ a b c ab (subst (λ (k : FileId). Runs b c (Disturbed k) (Disturbed k)) is bc)
+    (λ x y p. p)
+    (λ x y z q p. disturbed_on n x y z (mode_disturbed n mode x y q) p)
+    (λ x y z q p. disturbed_on n x y z (mode_disturbed n mode x y q) p)
+
+-- permissions, bytes, and the device has them
+pub fills : (n m k : FileId) (mode : Option ℕ) (bytes : List ℕ) (a b c d : Option Told) → Runs a b (Disturbed n) (HasMode n mode) → m ≡ n → Runs b c (Disturbed m) (Wrote m bytes) → k ≡ m → Steps c d (Stored k) → Runs a d (Disturbed n) (Filled n mode bytes)
+fills n m k mode bytes a b c d ab is bc same cd =
+    runs_on _ _ _ _ _ _ a c d (mode_then_bytes n m mode bytes a b c ab is bc) (one_step (Stored n) c d (subst (λ (j : FileId). Steps c d (Stored j)) (same ∙ is) cd))
+    (λ x y p. p)
+    (λ x y z q p. disturbed_on n x y z (disturbed_on n x q.0 y (mode_disturbed n mode x q.0 q.1) (wrote_disturbed n bytes q.0 y q.2)) (stored_disturbed n y z p))
+    (λ x y z q p. filled_on n mode bytes x q.0 y z q.1 q.2 p)
+
+pub fill_fails : (n m k : FileId) (mode : Option ℕ) (bytes : List ℕ) (a b c d : Option Told) → Runs a b (Disturbed n) (HasMode n mode) → m ≡ n → Runs b c (Disturbed m) (Wrote m bytes) → k ≡ m → Steps c d (Disturbed k) → Runs a d (Disturbed n) (Disturbed n)
+fill_fails n m k mode bytes a b c d ab is bc same cd =
+    runs_on _ _ _ _ _ _ a c d (mode_then_bytes n m mode bytes a b c ab is bc) (one_step (Disturbed n) c d (subst (λ (j : FileId). Steps c d (Disturbed j)) (same ∙ is) cd))
+    (λ x y p. p)
+    (λ x y z q p. disturbed_on n x y z (disturbed_on n x q.0 y (mode_disturbed n mode x q.0 q.1) (wrote_disturbed n bytes q.0 y q.2)) p)
+    (λ x y z q p. disturbed_on n x y z (disturbed_on n x q.0 y (mode_disturbed n mode x q.0 q.1) (wrote_disturbed n bytes q.0 y q.2)) p)

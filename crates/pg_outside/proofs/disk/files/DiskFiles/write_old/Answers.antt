@@ -1,0 +1,11 @@
+use Rattle.pg_outside.proofs.Results.{on_err}
+use Rattle.pg_outside.proofs.DiskWriting.{writes_device, write_device_fails}
+use Rattle.pg_outside.proofs.disk.files.DiskFiles.write_old.Goals as goal
+
+pub returns-in_err-write_all-clause-err : goal.returns-in_err-write_all-clause-err
+returns-in_err-write_all-clause-err g c =
+    on_err c.from_residual-in_err-write_all.result (write_device_fails _ _ _ _ _ _ _ _ c.requires.opened c.stat.ensures.same c.in_ok-seen.ensures.seen c.if-not-seen.true c.in_err-write_all.ensures.err)
+
+pub returns-then-not-seen-clause-ok : goal.returns-then-not-seen-clause-ok
+returns-then-not-seen-clause-ok g c =
+    writes_device _ _ _ _ _ _ _ _ _ c.requires.opened c.stat.ensures.same c.in_ok-seen.ensures.seen c.if-not-seen.true c.in_ok-write_all.ensures.ok

@@ -1,0 +1,14 @@
+//! Real files: which file a name leads to, what is read and replaced, and what the disk holds at every moment.
+
+mod error;
+mod files;
+mod host;
+mod links;
+mod new_file;
+mod read;
+mod system;
+
+pub use error::WriteError;
+pub use files::DiskFiles;
+pub use host::HostSystem;
+pub use system::{CallFailed, Entry, FileId, Seen, System};

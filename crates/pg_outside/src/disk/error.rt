@@ -1,0 +1,43 @@
+//! Why a file was not written.
+ghost use Rattle.std.specs.Prelude.{◌≡◌};
+
+use super::system::CallFailed;
+use std::alloc::AllocError;
+use thiserror::Error;
+
+/// Why a file was not written.
+#[derive(Clone, Copy, Debug, PartialEq, Eq, Error)]
+pub enum WriteError {
+    /// A call of the system failed.
+    #[error("a call of the system failed")]
+    Failed,
+    /// The name leads to a regular file that was read or written before.
+    #[error("the file was read or written before")]
+    Kept,
+    /// The name is a link, and could not be followed to the file that it leads to.
+    #[error("the link could not be followed")]
+    Unfollowed,
+    /// There was not enough memory.
+    #[error("out of memory")]
+    Memory,
+}
+
+impl From<CallFailed> for WriteError {
+    ghost use Rattle.pg_outside.specs.declared.disk.error.WriteError.TheVariants.{Failed};
+
+    ghost from_gives = { λ _ error. error ≡ Failed };
+
+    fn from(_error: CallFailed) -> WriteError {
+        WriteError::Failed
+    }
+}
+
+impl From<AllocError> for WriteError {
+    ghost use Rattle.pg_outside.specs.declared.disk.error.WriteError.TheVariants.{Memory};
+
+    ghost from_gives = { λ _ error. error ≡ Memory };
+
+    fn from(_error: AllocError) -> WriteError {
+        WriteError::Memory
+    }
+}

@@ -1,0 +1,189 @@
+//! The adapter over real files: each call is one call of the operating system, and it decides nothing.
+ghost use Rattle.std.specs.Prelude.{◌≡◌, ◌≤◌, None, OnErr};
+ghost use Rattle.pg_outside.specs.Faults.{Rose, next_count};
+
+use super::system::{CallFailed, Entry, FileId, Seen, System};
+use crate::outside::Failed;
+use crate::streams::{read_some, write_some};
+use std::alloc::{AllocError, Global};
+use std::fs::{File, Metadata, OpenFile, OpenOptions, Permissions};
+use std::io::ErrorKind;
+use std::os::unix::fs::{MetadataExt, PermissionsExt};
+use std::path::PathBuf;
+use std::{fs, io, rt};
+
+/// Real files. They tell no content, and count the calls that failed.
+#[derive(Drop)]
+pub struct HostSystem<R: rt::Files + Drop> {
+    system: R,
+    failures: u64,
+}
+
+fn id_of(metadata: &Metadata) -> FileId {
+    FileId {
+        device: metadata.dev(),
+        inode: metadata.ino(),
+    }
+}
+
+/// What a name is, by what the system says of it.
+fn entry_of(metadata: io::Result<Metadata>) -> Result<Entry, CallFailed> {
+    match metadata {
+        Ok(metadata) if metadata.is_symlink() => Ok(Entry::Link),
+        Ok(metadata) => Ok(Entry::File(id_of(&metadata))),
+        Err(error) if error.kind() == ErrorKind::NotFound => Ok(Entry::Missing),
+        Err(_) => Err(CallFailed),
+    }
+}
+
+/// A file that was opened or made, or none where the system gave this reason.
+fn opened<F: Drop>(file: io::Result<F>, none: ErrorKind) -> Result<Option<F>, CallFailed> {
+    match file {
+        Ok(file) => Ok(Some(file)),
+        Err(error) if error.kind() == none => Ok(None),
+        Err(_) => Err(CallFailed),
+    }
+}
+
+/// The text of a link, which has to be text.
+fn text_of(alloc: Global, path: io::Result<PathBuf>) -> Result<String, CallFailed> {
+    match String::from_str(alloc, path?.to_str().ok_or(CallFailed)?) {
+        Ok(text) => Ok(text),
+        Err(AllocError) => Err(CallFailed),
+    }
+}
+
+fn seen_of(metadata: io::Result<Metadata>) -> Result<Seen, CallFailed> {
+    let metadata = metadata?;
+    Ok(Seen {
+        id: id_of(&metadata),
+        is_regular: metadata.is_file(),
+        mode: metadata.mode(),
+    })
+}
+
+fn done(outcome: io::Result<()>) -> Result<(), CallFailed> {
+    Ok(outcome?)
+}
+
+impl<R: rt::Files + Drop> HostSystem<R> {
+    /// The files of this system, with no call so far.
+    pub fn new(system: R) -> HostSystem<R> {
+        HostSystem {
+            system,
+            failures: 0,
+        }
+    }
+
+    /// Counts a call where it failed.
+    fn count<T>(&mut self, outcome: Result<T, CallFailed>) -> Result<T, CallFailed>
+        ensures same { result ≡ outcome }
+        ensures later { self.old.failures ≤ self.new.failures }
+        ensures failed { OnErr result (Rose self.old.failures self.new.failures) }
+    {
+        if outcome.is_err() {
+            self.count_failure();
+        }
+        outcome
+    }
+
+    fn count_failure(&mut self)
+        ensures later { self.old.failures ≤ self.new.failures }
+        ensures rose { self.new.failures ≡ next_count self.old.failures }
+    {
+        self.failures = self.failures.saturating_add(1);
+    }
+}
+
+impl<R: rt::Files + Drop> System for HostSystem<R> {
+    type File = R::File;
+
+    ghost told = { λ _. None };
+
+    ghost failures = { λ system. system.failures };
+
+    ghost id = { λ _. record { device = 0; inode = 0 } };
+
+    ghost at = { λ _. 0 };
+
+    ghost plain = { λ _. tt };
+
+    ghost new_names = { λ _. tt };
+
+    fn look(&mut self, name: &str) -> Result<Entry, CallFailed> {
+        let entry = entry_of(fs::symlink_metadata(&self.system, name));
+        self.count(entry)
+    }
+
+    fn read_link(&mut self, alloc: Global, name: &str) -> Result<String, CallFailed> {
+        let text = text_of(alloc, self.system.read_link(alloc, name));
+        self.count(text)
+    }
+
+    fn open(&mut self, name: &str) -> Result<R::File, CallFailed> {
+        match fs::open(&self.system, name) {
+            Ok(file) => Ok(file),
+            Err(_) => self.count(Err(CallFailed)),
+        }
+    }
+
+    fn open_to_write(&mut self, name: &str) -> Result<Option<R::File>, CallFailed> {
+        let file = OpenOptions::new().write(true).open(&self.system, name);
+        let outcome = opened(file, ErrorKind::NotFound);
+        self.count(outcome)
+    }
+
+    fn stat(&mut self, file: &R::File) -> Result<Seen, CallFailed> {
+        let seen = seen_of(file.metadata());
+        self.count(seen)
+    }
+
+    fn read_some(&mut self, file: &mut R::File, buffer: &mut [u8]) -> Result<usize, CallFailed> {
+        match read_some(file, buffer) {
+            Ok(count) => Ok(count),
+            Err(Failed) => self.count(Err(CallFailed)),
+        }
+    }
+
+    fn make(&mut self, name: &str) -> Result<Option<R::File>, CallFailed> {
+        let made = opened(
+            File::create_new(&self.system, name),
+            ErrorKind::AlreadyExists,
+        );
+        if matches!(made, Ok(None)) {
+            self.count_failure();
+        }
+        self.count(made)
+    }
+
+    fn set_mode(&mut self, file: &mut R::File, mode: u32) -> Result<(), CallFailed> {
+        let outcome = done(file.set_permissions(Permissions::from_mode(mode)));
+        self.count(outcome)
+    }
+
+    fn write_some(&mut self, file: &mut R::File, bytes: &[u8]) -> Result<usize, CallFailed> {
+        match write_some(file, bytes) {
+            Ok(0) => {
+                self.count_failure();
+                Ok(0)
+            }
+            Ok(count) => Ok(count),
+            Err(Failed) => self.count(Err(CallFailed)),
+        }
+    }
+
+    fn sync(&mut self, file: &mut R::File) -> Result<(), CallFailed> {
+        let outcome = done(file.sync_all());
+        self.count(outcome)
+    }
+
+    fn rename(&mut self, from: &str, to: &str) -> Result<(), CallFailed> {
+        let outcome = done(fs::rename(&self.system, from, to));
+        self.count(outcome)
+    }
+
+    fn remove(&mut self, name: &str) -> Result<(), CallFailed> {
+        let outcome = done(fs::remove_file(&self.system, name));
+        self.count(outcome)
+    }
+}

@@ -1,0 +1,71 @@
+//! The folder of a name, and what a name stands for once its links are followed.
+ghost use Rattle.std.specs.Prelude.{◌≡◌, ◌≤◌, IfOk, IsErrOf, string_bytes};
+ghost use Rattle.pg_outside.specs.Faults.{Rose};
+ghost use Rattle.pg_outside.specs.Disk.{Keeps, Now};
+ghost use Rattle.pg_outside.specs.NewNames.{IsFolderOf, IsJoined};
+ghost use Rattle.pg_outside.specs.DiskWrites.{IsLink, StandsFor};
+
+use super::error::WriteError;
+use super::system::{Entry, System};
+use std::alloc::{AllocError, Global};
+
+/// How many links are followed, one after the other.
+const LINKS: u32 = 40;
+
+/// The folder of a name with its last slash, and nothing where the name has no slash.
+pub(crate) fn folder_of(name: &str) -> &str
+    ensures { IsFolderOf result.now name.now }
+{
+    match name.rfind('/') {
+        Some(slash) => &name[..slash + 1],
+        None => "",
+    }
+}
+
+/// The name that the text of a link says.
+fn joined(alloc: Global, link: &str, text: &str) -> Result<String, AllocError>
+    ensures { IfOk result (λ joined. IsJoined link.now text.now (string_bytes joined)) }
+{
+    let folder = folder_of(link);
+    if text.starts_with('/') {
+        return String::from_str(alloc, text);
+    }
+    format!(in alloc; "{folder}{text}")
+}
+
+/// A name, and what it is.
+#[derive(Drop)]
+pub(crate) struct Found {
+    pub name: String,
+    pub entry: Entry,
+}
+
+/// Follows the links of a name, up to what is none.
+///
+/// # Errors
+/// `Unfollowed` where the name is the first of more links than are followed.
+pub(crate) fn find<S: System>(
+    alloc: Global,
+    system: &mut S,
+    name: &str,
+) -> Result<Found, WriteError>
+    ensures same { Keeps (S.told system.old) (S.told system.new) }
+    ensures found { IfOk result (λ found. Now (S.told system.new)
+        (StandsFor (string_bytes found.name) found.entry name.now)) }
+    ensures later { S.failures system.old ≤ S.failures system.new }
+    ensures failed { IsErrOf result WriteError.Failed → Rose (S.failures system.old) (S.failures system.new) }
+    ensures unfollowed { IsErrOf result WriteError.Unfollowed → Now (S.told system.new) (IsLink name.now) }
+    ensures not_kept { IsErrOf result WriteError.Kept → ⊥ }
+{
+    let mut real = String::from_str(alloc, name)?;
+    for _ in 0..LINKS {
+        match system.look(real.as_str())? {
+            Entry::Link => {
+                let text = system.read_link(alloc, real.as_str())?;
+                real = joined(alloc, real.as_str(), text.as_str())?;
+            }
+            entry => return Ok(Found { name: real, entry }),
+        }
+    }
+    Err(WriteError::Unfollowed)
+}

@@ -1,0 +1,175 @@
+//! A new file takes the place of an old one as a whole, or not at all.
+ghost use Rattle.std.specs.Prelude.{◌≡◌, ◌≢◌, ◌≤◌, OnOk, OnErr, IfOk, IsErrOf, string_bytes};
+ghost use Rattle.pg_outside.specs.Faults.{Rose};
+ghost use Rattle.pg_outside.specs.Disk.{Keeps, Steps, Made, Wrote, Disturbed};
+ghost use Rattle.pg_outside.specs.Moments.{Runs, HasMode, Filled, PlacedAs, InPlacing, WhereDirect, AtMoment, IsWritten, IsAsBefore};
+ghost use Rattle.pg_outside.specs.NewNames.{IsNewName};
+
+use super::error::WriteError;
+use super::links::folder_of;
+use super::system::{CallFailed, FileId, System};
+use std::alloc::Global;
+
+/// What the name of a new file begins with.
+const NEW_NAME: &str = "patgen-new-";
+
+/// How many names are tried for a new file.
+const NEW_NAMES: u32 = 1000;
+
+/// A new file, and the name under which it was made.
+#[derive(Drop)]
+struct NewFile<F: Drop> {
+    file: F,
+    own: String,
+}
+
+/// Makes a file in the folder of `name`, under a name of its own that no file has.
+fn make_beside<S: System>(
+    alloc: Global,
+    system: &mut S,
+    name: &str,
+) -> Result<NewFile<S::File>, WriteError>
+    ensures ok { IfOk result (λ made. Steps (S.told system.old) (S.told system.new)
+        (Made (string_bytes made.own) (S.id made.file))) }
+    ensures err { OnErr result (Keeps (S.told system.old) (S.told system.new)) }
+    ensures own { IfOk result (λ made. IsNewName (string_bytes made.own) name.now) }
+    ensures apart { IfOk result (λ made. string_bytes made.own ≢ name.now) }
+    ensures later { S.failures system.old ≤ S.failures system.new }
+    ensures failed { IsErrOf result WriteError.Failed → Rose (S.failures system.old) (S.failures system.new) }
+    ensures not_kept { IsErrOf result WriteError.Kept → ⊥ }
+    ensures not_unfollowed { IsErrOf result WriteError.Unfollowed → ⊥ }
+{
+    let folder = folder_of(name);
+    for number in 0..NEW_NAMES {
+        let own = format!(in alloc; "{folder}{NEW_NAME}{number}")?;
+        if own.as_str() == name {
+            continue;
+        }
+        if let Some(file) = system.make(own.as_str())? {
+            return Ok(NewFile { file, own });
+        }
+    }
+    Err(WriteError::Failed)
+}
+
+/// Writes all bytes, in as many calls as it takes.
+pub(crate) fn write_all<S: System>(
+    system: &mut S,
+    file: &mut S::File,
+    bytes: &[u8],
+) -> Result<(), CallFailed>
+    ensures file { S.id file.new ≡ S.id file.old }
+    ensures ok { OnOk result (Runs (S.told system.old) (S.told system.new)
+        (Disturbed (S.id file.old)) (Wrote (S.id file.old) bytes.now)) }
+    ensures err { OnErr result (Runs (S.told system.old) (S.told system.new)
+        (Disturbed (S.id file.old)) (Disturbed (S.id file.old))) }
+    ensures later { S.failures system.old ≤ S.failures system.new }
+    ensures failed { OnErr result (Rose (S.failures system.old) (S.failures system.new)) }
+{
+    let mut rest = bytes;
+    while !rest.is_empty() {
+        let count = system.write_some(file, rest)?;
+        if count == 0 {
+            return Err(CallFailed);
+        }
+        rest = &rest[count..];
+    }
+    Ok(())
+}
+
+/// Gives the file these permissions, where they are given.
+fn keep_mode<S: System>(
+    system: &mut S,
+    file: &mut S::File,
+    mode: Option<u32>,
+) -> Result<(), CallFailed>
+    ensures file { S.id file.new ≡ S.id file.old }
+    ensures ok { OnOk result (Runs (S.told system.old) (S.told system.new)
+        (Disturbed (S.id file.old)) (HasMode (S.id file.old) mode)) }
+    ensures err { OnErr result (Runs (S.told system.old) (S.told system.new)
+        (Disturbed (S.id file.old)) (Disturbed (S.id file.old))) }
+    ensures later { S.failures system.old ≤ S.failures system.new }
+    ensures failed { OnErr result (Rose (S.failures system.old) (S.failures system.new)) }
+{
+    match mode {
+        Some(mode) => system.set_mode(file, mode),
+        None => Ok(()),
+    }
+}
+
+/// Gives the file these permissions, where they are given, and these bytes, and waits until the
+/// device has it.
+fn fill<S: System>(
+    system: &mut S,
+    file: &mut S::File,
+    mode: Option<u32>,
+    bytes: &[u8],
+) -> Result<(), CallFailed>
+    ensures file { S.id file.new ≡ S.id file.old }
+    ensures ok { OnOk result (Runs (S.told system.old) (S.told system.new)
+        (Disturbed (S.id file.old)) (Filled (S.id file.old) mode bytes.now)) }
+    ensures err { OnErr result (Runs (S.told system.old) (S.told system.new)
+        (Disturbed (S.id file.old)) (Disturbed (S.id file.old))) }
+    ensures later { S.failures system.old ≤ S.failures system.new }
+    ensures failed { OnErr result (Rose (S.failures system.old) (S.failures system.new)) }
+{
+    keep_mode(system, file, mode)?;
+    write_all(system, file, bytes)?;
+    system.sync(file)
+}
+
+/// Fills the file, and lets it take the name once the device has it. It gives which file it is.
+fn place<S: System>(
+    system: &mut S,
+    new: &mut NewFile<S::File>,
+    name: &str,
+    mode: Option<u32>,
+    bytes: &[u8],
+) -> Result<FileId, CallFailed>
+    ensures own { string_bytes new.new.own ≡ string_bytes new.old.own }
+    ensures ok { IfOk result (λ id. Runs (S.told system.old) (S.told system.new)
+        (InPlacing (string_bytes new.old.own) name.now (S.id new.old.file) mode bytes.now)
+        (PlacedAs (string_bytes new.old.own) name.now (S.id new.old.file) mode bytes.now id)) }
+    ensures err { OnErr result (Runs (S.told system.old) (S.told system.new)
+        (Disturbed (S.id new.old.file)) (Disturbed (S.id new.old.file))) }
+    ensures later { S.failures system.old ≤ S.failures system.new }
+    ensures failed { OnErr result (Rose (S.failures system.old) (S.failures system.new)) }
+{
+    fill(system, &mut new.file, mode, bytes)?;
+    let seen = system.stat(&new.file)?;
+    system.rename(new.own.as_str(), name)?;
+    Ok(seen.id)
+}
+
+/// Lets a new file with these bytes take this name, which is no link, with these permissions where
+/// they are given. It gives which file it is.
+///
+/// # Errors
+/// Where a call failed; each name then leads to what it led to, and the new file is removed.
+pub(crate) fn replace<S: System>(
+    alloc: Global,
+    system: &mut S,
+    name: &str,
+    mode: Option<u32>,
+    bytes: &[u8],
+) -> Result<FileId, WriteError>
+    ensures ok { IfOk result (λ id. Runs (S.told system.old) (S.told system.new)
+        (WhereDirect name.now (AtMoment name.now bytes.now mode))
+        (WhereDirect name.now (IsWritten name.now bytes.now mode id))) }
+    ensures err { OnErr result (Runs (S.told system.old) (S.told system.new)
+        (WhereDirect name.now (AtMoment name.now bytes.now mode))
+        (WhereDirect name.now (IsAsBefore name.now))) }
+    ensures later { S.failures system.old ≤ S.failures system.new }
+    ensures failed { IsErrOf result WriteError.Failed → Rose (S.failures system.old) (S.failures system.new) }
+    ensures not_kept { IsErrOf result WriteError.Kept → ⊥ }
+    ensures not_unfollowed { IsErrOf result WriteError.Unfollowed → ⊥ }
+{
+    let mut new = make_beside(alloc, system, name)?;
+    match place(system, &mut new, name, mode, bytes) {
+        Ok(id) => Ok(id),
+        Err(CallFailed) => {
+            let _ = system.remove(new.own.as_str());
+            Err(WriteError::Failed)
+        }
+    }
+}

@@ -1,0 +1,42 @@
+//! A file is read to its end, up to a limit.
+ghost use Rattle.std.specs.Prelude.{◌≡◌, ◌+◌, ◌-◌, ◌^◌, ◌<◌, ◌≤◌, [], length, OnOk, IfOk, IsErrOf};
+ghost use Rattle.pg_outside.specs.Faults.{Rose};
+ghost use Rattle.pg_outside.specs.Disk.{Keeps, Now};
+ghost use Rattle.pg_outside.specs.DiskReads.{IsAllOf, IsFrontOf};
+
+use super::system::System;
+use crate::outside::ReadError;
+
+/// How many bytes one read asks for at most.
+const PIECE: usize = 65536;
+
+/// Reads the file to its end, in pieces, and takes at most `limit + 1` bytes.
+pub(crate) fn read_within<S: System>(
+    system: &mut S,
+    file: &mut S::File,
+    limit: usize,
+    into: &mut Vec<u8>,
+) -> Result<(), ReadError>
+    requires empty { into.old.items ≡ [] }
+    requires limit { limit < 2 ^ 64 - 1 }
+    requires start { S.at file.old ≡ 0 }
+    ensures same { Keeps (S.told system.old) (S.told system.new) }
+    ensures fits { OnOk result (length into.new.items ≤ limit) }
+    ensures cut { IsErrOf result ReadError.TooLong → length into.new.items ≡ limit + 1 }
+    ensures all { OnOk result (Now (S.told system.new) (IsAllOf (S.id file.old) into.new.items)) }
+    ensures front { IsErrOf result ReadError.TooLong
+        → Now (S.told system.new) (IsFrontOf (S.id file.old) limit into.new.items) }
+    ensures later { S.failures system.old ≤ S.failures system.new }
+    ensures failed { IsErrOf result ReadError.Failed → Rose (S.failures system.old) (S.failures system.new) }
+{
+    let mut piece = [0u8; PIECE];
+    while into.len() <= limit {
+        let most = (limit - into.len()).saturating_add(1).min(PIECE);
+        match system.read_some(file, &mut piece[..most]) {
+            Ok(0) => return Ok(()),
+            Ok(count) => into.extend_from_slice(&piece[..count])?,
+            Err(_) => return Err(ReadError::Failed),
+        }
+    }
+    Err(ReadError::TooLong)
+}

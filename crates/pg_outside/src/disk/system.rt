@@ -1,0 +1,168 @@
+//! A system of files, whose every call is one call of the operating system.
+ghost use Rattle.std.specs.Prelude.{◌≡◌, ℕ, ◌+◌, ◌-◌, ◌^◌, ◌<◌, ◌≤◌, List, take, length, Option, Some, None, MatchOption, OnOk, OnErr, IfOk, IfNone, string_bytes};
+ghost use Rattle.pg_outside.specs.declared.disk.system.FileId.{FileId};
+ghost use Rattle.pg_outside.specs.Faults.{Rose};
+ghost use Rattle.pg_outside.specs.Disk.{Told, Keeps, Steps, Now, Made, Wrote, Disturbed, Stored, GotMode, Renamed, RemovedName, Refused, IsEntry, IsFollowedBy, IsOpened, LeadsToNone, IsStat, HasPiece, KnowsPlain, KnowsNewNames};
+
+use std::alloc::Global;
+use std::io;
+use thiserror::Error;
+
+/// A call of the system failed.
+#[derive(Clone, Copy, Debug, PartialEq, Eq, Error)]
+#[error("a call of the system failed")]
+pub struct CallFailed;
+
+impl From<io::Error> for CallFailed {
+    fn from(_error: io::Error) -> CallFailed {
+        CallFailed
+    }
+}
+
+/// Which file this is, whatever its name.
+#[derive(Clone, Copy, PartialEq, Eq)]
+pub struct FileId {
+    pub device: u64,
+    pub inode: u64,
+}
+
+/// What a name is, before a link is followed.
+#[derive(Clone, Copy)]
+pub enum Entry {
+    Missing,
+    Link,
+    File(FileId),
+}
+
+/// What the system says of an opened file.
+#[derive(Clone, Copy)]
+pub struct Seen {
+    pub id: FileId,
+    pub is_regular: bool,
+    /// Its permissions.
+    pub mode: u32,
+}
+
+/// A system of files, which may tell the disk and what it held after each call before.
+///
+/// Each call is one call of the operating system. Where the disk is told, a call that may change it
+/// puts the disk before it to the past. Any other leaves the disk and its past as they are.
+pub trait System {
+    type File: Drop;
+
+    ghost told: { Self → Option Told };
+
+    /// How many calls failed. It stands still at the last value of u64.
+    ghost failures: { Self → ℕ };
+
+    /// The file that was opened.
+    ghost id: { Self.File → FileId };
+
+    /// How many of the file's bytes were read since it was opened.
+    ghost at: { Self.File → ℕ };
+
+    /// What the name is. A link at its end is not followed.
+    fn look(&mut self, name: &str) -> Result<Entry, CallFailed>
+        ensures same { Keeps (told self.old) (told self.new) }
+        ensures entry { IfOk result (λ entry. Now (told self.new) (IsEntry name.now entry)) }
+        ensures later { failures self.old ≤ failures self.new }
+        ensures failed { OnErr result (Rose (failures self.old) (failures self.new)) };
+
+    /// The text of a link. It is a name, seen from the folder of the link.
+    fn read_link(&mut self, alloc: Global, name: &str) -> Result<String, CallFailed>
+        ensures same { Keeps (told self.old) (told self.new) }
+        ensures text { IfOk result (λ text. Now (told self.new) (IsFollowedBy name.now (string_bytes text))) }
+        ensures later { failures self.old ≤ failures self.new }
+        ensures failed { OnErr result (Rose (failures self.old) (failures self.new)) };
+
+    /// Opens the file that the name leads to at its start, to be read.
+    fn open(&mut self, name: &str) -> Result<Self::File, CallFailed>
+        ensures same { Keeps (told self.old) (told self.new) }
+        ensures opened { IfOk result (λ file. Now (told self.new) (IsOpened name.now (id file))) }
+        ensures start { IfOk result (λ file. at file ≡ 0) }
+        ensures later { failures self.old ≤ failures self.new }
+        ensures failed { OnErr result (Rose (failures self.old) (failures self.new)) };
+
+    /// Opens the file that the name leads to, to be written behind its bytes. `None` comes where it
+    /// leads to none.
+    fn open_to_write(&mut self, name: &str) -> Result<Option<Self::File>, CallFailed>
+        ensures same { Keeps (told self.old) (told self.new) }
+        ensures opened { IfOk result (λ opened. MatchOption opened (Now (told self.new) (LeadsToNone name.now))
+            (λ file. Now (told self.new) (IsOpened name.now (id file)))) }
+        ensures later { failures self.old ≤ failures self.new }
+        ensures failed { OnErr result (Rose (failures self.old) (failures self.new)) };
+
+    /// Which file this is, and of what kind.
+    fn stat(&mut self, file: &Self::File) -> Result<Seen, CallFailed>
+        ensures same { Keeps (told self.old) (told self.new) }
+        ensures seen { IfOk result (λ seen. Now (told self.new) (IsStat (id file.now) seen)) }
+        ensures later { failures self.old ≤ failures self.new }
+        ensures failed { OnErr result (Rose (failures self.old) (failures self.new)) };
+
+    /// Reads some of the next bytes, and none only at the end.
+    fn read_some(&mut self, file: &mut Self::File, buffer: &mut [u8]) -> Result<usize, CallFailed>
+        ensures same { Keeps (told self.old) (told self.new) }
+        ensures file { id file.new ≡ id file.old }
+        ensures bound { IfOk result (λ count. count ≤ length buffer.old) }
+        ensures bytes { IfOk result (λ count. Now (told self.new)
+            (HasPiece (id file.old) (at file.old) (at file.new) count (length buffer.old) buffer.new)) }
+        ensures later { failures self.old ≤ failures self.new }
+        ensures failed { OnErr result (Rose (failures self.old) (failures self.new)) };
+
+    /// Makes a regular file under a name that is none. `None` comes where the name is taken, which
+    /// is a call that failed.
+    fn make(&mut self, name: &str) -> Result<Option<Self::File>, CallFailed>
+        ensures ok { IfOk result (λ made. MatchOption made (Keeps (told self.old) (told self.new))
+            (λ file. Steps (told self.old) (told self.new) (Made name.now (id file)))) }
+        ensures err { OnErr result (Keeps (told self.old) (told self.new)) }
+        ensures later { failures self.old ≤ failures self.new }
+        ensures taken { IfOk result (λ made. IfNone made (Rose (failures self.old) (failures self.new))) }
+        ensures failed { OnErr result (Rose (failures self.old) (failures self.new)) };
+
+    /// Gives the file these permissions.
+    fn set_mode(&mut self, file: &mut Self::File, mode: u32) -> Result<(), CallFailed>
+        ensures file { id file.new ≡ id file.old }
+        ensures ok { OnOk result (Steps (told self.old) (told self.new) (GotMode (id file.old) mode)) }
+        ensures err { OnErr result (Steps (told self.old) (told self.new) (Disturbed (id file.old))) }
+        ensures later { failures self.old ≤ failures self.new }
+        ensures failed { OnErr result (Rose (failures self.old) (failures self.new)) };
+
+    /// Appends some of the bytes. A call that takes none of them failed.
+    fn write_some(&mut self, file: &mut Self::File, bytes: &[u8]) -> Result<usize, CallFailed>
+        ensures file { id file.new ≡ id file.old }
+        ensures bound { IfOk result (λ count. count ≤ length bytes.now) }
+        ensures ok { IfOk result (λ count.
+            Steps (told self.old) (told self.new) (Wrote (id file.old) (take count bytes.now))) }
+        ensures err { OnErr result (Steps (told self.old) (told self.new) (Disturbed (id file.old))) }
+        ensures later { failures self.old ≤ failures self.new }
+        ensures none { IfOk result (λ count. count ≡ 0 → Rose (failures self.old) (failures self.new)) }
+        ensures failed { OnErr result (Rose (failures self.old) (failures self.new)) };
+
+    /// Waits until the device has the file.
+    fn sync(&mut self, file: &mut Self::File) -> Result<(), CallFailed>
+        ensures file { id file.new ≡ id file.old }
+        ensures ok { OnOk result (Steps (told self.old) (told self.new) (Stored (id file.old))) }
+        ensures err { OnErr result (Steps (told self.old) (told self.new) (Disturbed (id file.old))) }
+        ensures later { failures self.old ≤ failures self.new }
+        ensures failed { OnErr result (Rose (failures self.old) (failures self.new)) };
+
+    /// Gives what is named `from` the name `to`, which ends what had it.
+    fn rename(&mut self, from: &str, to: &str) -> Result<(), CallFailed>
+        ensures ok { OnOk result (Steps (told self.old) (told self.new) (Renamed from.now to.now)) }
+        ensures err { OnErr result (Keeps (told self.old) (told self.new)) }
+        ensures later { failures self.old ≤ failures self.new }
+        ensures failed { OnErr result (Rose (failures self.old) (failures self.new)) };
+
+    /// Takes the name away.
+    fn remove(&mut self, name: &str) -> Result<(), CallFailed>
+        ensures ok { OnOk result (Steps (told self.old) (told self.new) (RemovedName name.now)) }
+        ensures err { OnErr result (Steps (told self.old) (told self.new) Refused) }
+        ensures later { failures self.old ≤ failures self.new }
+        ensures failed { OnErr result (Rose (failures self.old) (failures self.new)) };
+
+    /// A disk that is told to be plain is so.
+    ghost plain: { (system : Self) → Now (told system) KnowsPlain };
+
+    /// In a folder, a new file's own name stands for no other name.
+    ghost new_names: { (system : Self) → Now (told system) KnowsNewNames };
+}
