@@ -77,18 +77,6 @@ impl Outputs {
         Ok(head_at(&self.records, index))
     }
 
-    /// The head of the list with (`value`, `dot`) before the list `next`, or `None` where no such record is there.
-    pub fn find(&self, value: u8, dot: u8, next: u64) -> Option<u64>
-        ensures found { MatchOption result (Lacks self.now (record { value = value; dot = dot; next = next }))
-            (λ h. IsRecordOf self.now h (record { value = value; dot = dot; next = next })) }
-        ensures list { IfSome result (λ h. list_of self.now h ≡ (value, dot) ∷ list_of self.now next) }
-        ensures one_head { OneHeadEach self.now }
-        ensures shared { AreShared self.now }
-    {
-        let index = self.records.get_index_of(&Record { value, dot, next })?;
-        Some(head_at(&self.records, index))
-    }
-
     /// The first value and dot of a list, with the head of its rest. `None` is the empty list, head 0.
     pub fn first(&self, head: u64) -> Option<(u8, u8, u64)>
         requires { head ≤ length self.now }
