@@ -4,10 +4,12 @@ import os
 import re
 import unicodedata
 
-WIDTH, LEFT, TOP, HEIGHT, GAP = 720, 70, 50, 170, 70  # of the picture, in its units
+import pictures
+
+WIDTH, LEFT, TOP, HEIGHT, GAP = 800, 80, 55, 170, 70  # of the picture
+CHOSEN = "#3a6ea5"  # the colour of patterns
 LEAST = 0.5  # seconds of patgen below which a ratio says little
 OFTEN = 100  # words from which on a letter is named
-FOUND, MISSED, ERROR, CHOSEN = "#4477aa", "#dddddd", "#cc6677", "#999933"
 
 
 def number(value):
@@ -148,43 +150,29 @@ def with_tables(page, tables):
     return page
 
 
-def bar(left, top, width, height, colour):
-    return f'<rect x="{left:.1f}" y="{top:.1f}" width="{width:.1f}" height="{height:.1f}" fill="{colour}"/>'
-
-
-def text(left, top, content, anchor="middle"):
-    return f'<text x="{left:.1f}" y="{top:.1f}" text-anchor="{anchor}">{content}</text>'
-
-
 def picture(title, levels):
     """What each level gains and costs: above the hyphens that are found and missed and the errors after each level, below the
     patterns that it chose."""
     hyphens = levels[0][1] + levels[0][3]
-    most = max(hyphens, *(good + bad + missed for _, good, bad, missed in levels))
+    most = max(good + bad + missed for _, good, bad, missed in levels)
     most_chosen = max(chosen for chosen, *_ in levels)
     step = (WIDTH - LEFT - 20) / len(levels)
     below = TOP + HEIGHT + GAP
-    drawn = [text(WIDTH / 2, 20, title)]
-    for at, colour, name in ((0, FOUND, "found"), (1, MISSED, "missed"), (2, ERROR, "errors")):
-        drawn += [bar(LEFT + 110 * at, 30, 10, 10, colour), text(LEFT + 15 + 110 * at, 40, name, "start")]
-    for at, (chosen, good, bad, missed) in enumerate(levels):
-        left, floor = LEFT + at * step + 6, TOP + HEIGHT
-        for count, colour in ((good, FOUND), (missed, MISSED), (bad, ERROR)):
+    parts = [pictures.text(LEFT, 20, title), *pictures.legend(LEFT, 42)]
+    parts += [pictures.text(LEFT - 8, top + HEIGHT / 2, name, "end") for top, name in ((TOP, "hyphens"), (below, "patterns"))]
+    for at, (chosen, *counts) in enumerate(levels):
+        left, middle, floor = LEFT + at * step + 6, LEFT + (at + 0.5) * step, TOP + HEIGHT
+        for name, count in (("good", counts[0]), ("missed", counts[2]), ("bad", counts[1])):
             height = count * HEIGHT / most
             floor -= height
-            drawn.append(bar(left, floor, step - 12, height, colour))
-        middle = left + step / 2 - 6
-        drawn.append(text(middle, TOP + HEIGHT + 16, f"{100 * good / hyphens:.1f} %"))
-        drawn.append(text(middle, TOP + HEIGHT + 32, f"{number(bad)} errors"))
+            parts.append(pictures.box(left, floor, step - 12, height, pictures.COLOURS[name]))
         height = chosen * HEIGHT / most_chosen
-        drawn.append(bar(left, below + HEIGHT - height, step - 12, height, CHOSEN))
-        drawn.append(text(middle, below + HEIGHT - height - 4, number(chosen)))
-        drawn.append(text(middle, below + HEIGHT + 16, f"level {at + 1}"))
-    drawn.append(text(LEFT - 8, TOP + HEIGHT / 2, "hyphens", "end"))
-    drawn.append(text(LEFT - 8, below + HEIGHT / 2, "patterns", "end"))
-    head = (f'<svg xmlns="http://www.w3.org/2000/svg" width="{WIDTH}" height="{below + HEIGHT + 30}" font-family="sans-serif" font-size="12">'
-            f'\n<rect width="100%" height="100%" fill="white"/>')
-    return "\n".join([head, *drawn, "</svg>", ""])
+        parts += [pictures.text(middle, TOP + HEIGHT + 16, f"{100 * counts[0] / hyphens:.1f} % good", "middle", 11),
+                  pictures.text(middle, TOP + HEIGHT + 31, f"{100 * counts[1] / hyphens:.1f} % bad", "middle", 11),
+                  pictures.box(left, below + HEIGHT - height, step - 12, height, CHOSEN),
+                  pictures.text(middle, below + HEIGHT - height - 4, number(chosen), "middle"),
+                  pictures.text(middle, below + HEIGHT + 16, f"level {at + 1}", "middle")]
+    return pictures.picture(WIDTH, below + HEIGHT + 30, parts)
 
 
 def write_page(root, rows, hand, versions, shown):

@@ -15,6 +15,8 @@ use Rattle.pg_patterns.specs.DottedSigns.{dotted_cmp}
 use Rattle.pg_patterns.specs.Values.{raise}
 use Rattle.pg_types.specs.Counts.{Counts, is_counted}
 use Rattle.pg_select.specs.Meanings.{Meaning}
+use Rattle.pg_select.specs.declared.choice.Choice.{Choice}
+use Rattle.pg_select.specs.declared.choice.Choice.TheVariants.{Left}
 use Rattle.pg_select.specs.declared.pass.Pass.{Pass}
 use Rattle.pg_select.specs.CountedPositions.{Candidate}
 use Rattle.pg_select.specs.Windows.{Hopeless as HopelessPlaces}
@@ -118,3 +120,12 @@ pub state_step : (m0 m n : Meaning) (params : LevelParams) (c : Candidate) (cs :
 state_step m0 m n params c cs whole kept has left =
     let here : state_of n ≡ state_with m0.signs params m0.pass (state_of m) (c ∷ []) = has.state ∙ ap (λ (x : Meaning). state_with x.signs params x.pass (state_of m) (c ∷ [])) kept in
     ap (λ (s : State). state_with m0.signs params m0.pass s cs) here ∙ sym (state_append m0.signs params m0.pass (state_of m) (c ∷ []) cs) ∙ left
+
+-- the numbers with a candidate that is left
+pub left_alone : (params : LevelParams) (n : Choices) (c : Candidate) → choice_of params c ≡ Left → record n { candidates = n.candidates + 1 } ≡ with_candidates params n (c ∷ [])
+left_alone params n c is =
+    same_numbers (n.candidates + 1) n.chosen n.hopeless n.good n.bad (n.candidates + 1) (n.chosen + 0) (n.hopeless + 0) (n.good + 0) (n.bad + 0) refl (omega arith) (omega arith) (omega arith) (omega arith)
+    ∙ ap by (sym is)
+  where
+    by : Choice → Choices
+    by o = numbers (n.candidates + 1) (n.chosen + length (cond (is_chosen o) (c ∷ []) [])) (n.hopeless + length (cond (is_hopeless o) (c ∷ []) [])) (n.good + sum_by (λ (x : Candidate). x.good) (cond (is_chosen o) (c ∷ []) [])) (n.bad + sum_by (λ (x : Candidate). x.bad) (cond (is_chosen o) (c ∷ []) []))

@@ -1,10 +1,10 @@
 //! An engine that tells an observer where a pass begins.
 #![tactic(auto)]
 
+mod lent;
 mod owned;
 mod watch;
 mod watched;
-mod lent;
 
 pub use lent::Lent;
 pub use owned::Owned;
