@@ -29,7 +29,8 @@ def start(main):
         status = 2
     except (Trouble, OSError) as trouble:
         status = 2
-        print(f"{os.path.basename(sys.argv[0])}: {trouble}", file=sys.stderr)
+        why = f"{trouble.filename or 'a file'}: {trouble.strerror}" if isinstance(trouble, OSError) else trouble
+        print(f"{os.path.basename(sys.argv[0])}: {why}", file=sys.stderr)
     sys.exit(status)
 
 
