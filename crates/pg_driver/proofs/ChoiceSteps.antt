@@ -1,11 +1,8 @@
 -- A step of the choice among the candidates.
-use Rattle.std.proofs.Common.{◌≡◌, ℕ, ◌+◌, ◌≤◌, Bool, true, false, cond, not, List, [], ◌∷◌, ◌++◌, length, map, fold, is_some, Option, Some, None, refl, sym, ap, ◌∙◌, arith}
-use Rattle.std.specs.Ordering.{is_eq, eq_by_cmp}
+use Rattle.std.proofs.Common.{◌≡◌, ℕ, ◌+◌, ◌≤◌, Bool, true, false, cond, not, List, [], ◌∷◌, ◌++◌, length, map, fold, Option, Some, None, refl, sym, ap, ◌∙◌, arith}
 use Rattle.std.specs.Option.{option_map}
 use Rattle.std.specs.List.{sum_by}
-use Rattle.std.specs.Cmp.Lexicographic.{nat_list_cmp_total}
-use Rattle.std.specs.Cmp.{tied_itself}
-use Rattle.std.specs.FinMap.Entries.{find, put}
+use Rattle.std.specs.FinMap.Entries.{put}
 use Rattle.std.proofs.lemmas.List.{length-append}
 use Rattle.std.proofs.lemmas.List.Elements.{filter-append}
 use Rattle.std.proofs.lemmas.List.Sums.{fold-append, sum_by-append, sum_by-cons}
@@ -13,7 +10,7 @@ use Rattle.pg_types.specs.declared.parameters.LevelParams.{LevelParams}
 use Rattle.pg_types.specs.Placement.{Families, enter}
 use Rattle.pg_patterns.specs.DottedSigns.{dotted_cmp}
 use Rattle.pg_patterns.specs.Values.{raise}
-use Rattle.pg_types.specs.Counts.{Counts, is_counted}
+use Rattle.pg_types.specs.Counts.{Counts}
 use Rattle.pg_select.specs.Meanings.{Meaning}
 use Rattle.pg_select.specs.declared.choice.Choice.{Choice}
 use Rattle.pg_select.specs.declared.choice.Choice.TheVariants.{Left}
@@ -25,19 +22,9 @@ use Rattle.pg_driver.specs.Counting.{weight_in}
 use Rattle.pg_driver.specs.Choosing.{candidate_of, with_candidates, HasChosen}
 use Rattle.pg_driver.specs.States.{State, state_of, state_after}
 use Rattle.pg_driver.specs.Traces.{choice_of, chosen_of, hopeless_of, entered_of, is_chosen, is_hopeless, is_left}
-use Rattle.pg_driver.proofs.Puts.{cmp}
 
 abbrev Entry : Type 0
 Entry = List ℕ × (ℕ × ℕ)
-
-found_first : (e x : Entry) (xs : Counts) → x ≡ e → is_counted (x ∷ xs) e.0 ≡ true
-found_first e x xs same =
-    let tie : eq_by_cmp cmp e.0 x.0 ≡ true = ap (λ (y : Entry). eq_by_cmp cmp e.0 y.0) same ∙ ap is_eq (tied_itself nat_list_cmp_total e.0) in
-    ap (λ b. is_some (cond b (Some x.1) (find cmp e.0 xs))) tie
-
-found_later : (b : Bool) (v : ℕ × ℕ) (o : Option (ℕ × ℕ)) → is_some o ≡ true → is_some (cond b (Some v) o) ≡ true
-found_later true v o is = refl
-found_later false v o is = is
 
 -- the sums of the candidates are within those of the counts
 pub good_within : (counts : Counts) → sum_by (λ (c : Candidate). c.good) (map candidate_of counts) ≤ weight_in counts
