@@ -58,7 +58,7 @@ function next_rows()
     for _ = 1, 500 do
         local line = list:read()
         if not line then
-            rows:write(words, " words, ", differences, " broken in another way than the list says\n")
+            rows:write(words, " words, ", differences, " broken in another way than the hyphenated list says\n")
             rows:close()
             tex.count[255] = 0
             return

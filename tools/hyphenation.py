@@ -124,6 +124,11 @@ def letter_line(line):
     return pieces[: pieces.index(b"")] if b"" in pieces else pieces
 
 
+def number(value):
+    """A weight, as a digit or in braces."""
+    return b"%d" % value if value < 10 else b"{%d}" % value
+
+
 class Word:
     """A word of a dictionary: its signs without the edges, and by the number of letters before them its marks and weights. A line
     without letters is one without signs, and counts as false."""
@@ -154,12 +159,18 @@ class Word:
 
     def alone(self):
         """The word as a line that means the same behind any other line."""
-        return b"{%d}" % self.weight + self.line
+        return number(self.weight) + self.line
 
     def plain(self, table):
         """The word as a line of a dictionary, with hyphens and doubtful places, but without weights."""
-        mark = lambda at: table.missed if at in self.hyphens(table) else table.unsure if at in self.at(table, table.unsure) else b""
-        return b"".join(table.first(sign) + mark(at) for at, sign in enumerate(self.signs, 1))
+        return self.line_with(table, self.hyphens(table), {})
+
+    def line_with(self, table, hyphens, weights):
+        """The word as a line of a dictionary, with these hyphens and weights of places, and with its doubtful places."""
+        unsure = self.at(table, table.unsure)
+        mark = lambda at: table.missed if at in hyphens else table.unsure if at in unsure else b""
+        weight = lambda at: number(weights[at]) if at in weights else b""
+        return b"".join(table.first(sign) + mark(at) + weight(at) for at, sign in enumerate(self.signs, 1))
 
     def takes_part(self, table):
         """Whether the word is long enough for the minima."""
