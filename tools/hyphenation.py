@@ -29,7 +29,8 @@ def start(main):
         status = 2
     except (Trouble, OSError) as trouble:
         status = 2
-        print(f"{os.path.basename(sys.argv[0])}: {trouble}", file=sys.stderr)
+        why = f"{trouble.filename or 'a file'}: {trouble.strerror}" if isinstance(trouble, OSError) else trouble
+        print(f"{os.path.basename(sys.argv[0])}: {why}", file=sys.stderr)
     sys.exit(status)
 
 
@@ -87,7 +88,9 @@ class Table:
     def __init__(self, data):
         lines = lines_of(data)
         head = (lines[0] if lines else b"").ljust(8)
-        self.left, self.right = (int(head[at : at + 2].strip() or usual) for at, usual in ((0, 2), (2, 3)))
+        if not re.fullmatch(b"[0-9 ]{4}", head[:4]):
+            raise Trouble(f"the translate file begins with {head[:4].decode(errors='replace')!r}, where its two minima have to be")
+        self.left, self.right = (int(head[at : at + 2].replace(b" ", b"") or usual) for at, usual in ((0, 2), (2, 3)))
         self.error, self.missed, self.found, self.unsure = (
             head[at : at + 1] if head[at : at + 1] != b" " else usual for at, usual in zip(range(4, 8), (b".", b"-", b"*", b"?"))
         )

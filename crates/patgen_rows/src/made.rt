@@ -16,13 +16,12 @@ struct Spellings {
 impl Spellings {
     /// Appends the spelling of the letter with this number.
     fn push(self, bytes: &mut Vec<u8>, number: u32) -> Result<(), AllocError> {
-        for place in 0..self.len {
-            let mut rest = number;
-            for _ in place.saturating_add(1)..self.len {
-                rest = rest.checked_div(self.alphabet).unwrap_or(0);
-            }
-            let digit = rest.checked_rem(self.alphabet).unwrap_or(0);
+        let mut unit = self.alphabet.saturating_pow(self.len.saturating_sub(1));
+        for _ in 0..self.len {
+            let digits = number.checked_div(unit).unwrap_or(0);
+            let digit = digits.checked_rem(self.alphabet).unwrap_or(0);
             bytes.push(ALPHABET[digit as usize % 52])?;
+            unit = unit.checked_div(self.alphabet).unwrap_or(0);
         }
         Ok(())
     }

@@ -31,9 +31,5 @@ fn one_head_for_equal_records(rt: HostRuntime) -> Result<(), Fail> {
         (outputs.first(2), outputs.first(0)),
         (Some((2, 0, 1)), None)
     );
-    assert_eq!(rt;
-        (outputs.find(1, 2, 0), outputs.find(1, 2, 1)),
-        (Some(1), None)
-    );
     Ok(())
 }

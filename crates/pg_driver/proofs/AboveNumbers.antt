@@ -43,19 +43,6 @@ pub window_counted : (ws : Windows) (counts : Counts) (pass : Pass) (P : Pattern
 window_counted ws counts pass P H w p good is =
     ap (λ (o : Option Bool). windows_after ws counts (option_map_or (λ (g : Bool). record { window = window w.signs p pass.len pass.dot; good = g; weight = position_weight w p } ∷ []) o [])) is
 
--- whether a position counts, by what was found of its word
-pub counted_found : (m : Meaning) (pass : Pass) (w : Word) (found : Positions) (p : ℕ) (mark : Mark) → m.pass ≡ pass → IsRead m w found → p < length w.signs → mark ≡ status_at m.patterns w p
-    → cond (fits w.signs p pass.len pass.dot && not (get_or found.covers p false)) (counts_as pass.level mark) None ≡ counted_at pass m.patterns m.hopeless w p
-counted_found m pass w found p mark at read within status =
-    ap (λ (x : Pass). cond (fits w.signs p x.len x.dot && not (get_or found.covers p false)) (counts_as x.level mark) None) (sym at)
-    ∙ by (fits w.signs p m.pass.len m.pass.dot) refl
-    ∙ ap (λ (x : Pass). counted_at x m.patterns m.hopeless w p) at
-  where
-    by : (f : Bool) → fits w.signs p m.pass.len m.pass.dot ≡ f
-        → cond (f && not (get_or found.covers p false)) (counts_as m.pass.level mark) None ≡ cond (f && not (covered m.pass.level m.patterns m.hopeless (window w.signs p m.pass.len m.pass.dot) m.pass.dot)) (counts_as m.pass.level (status_at m.patterns w p)) None
-    by false fit = refl
-    by true fit = λ i. cond (not (read.covers p within fit i)) (counts_as m.pass.level (status i)) None
-
 -- a position of a level that counts by its status has its number
 pub numbered_by : (pass : Pass) (P : Patterns) (H : Hopeless) (words : List Word) (ws : Windows) (w : Word) (word p n : ℕ) → slice_get words word ≡ Some w → is_some (counts_as pass.level (status_at P w p)) ≡ true
     → GetsNumber (counted_at pass P H w p) ws (window w.signs p pass.len pass.dot) n → IsNumbered pass (uncovered_at pass P H) words ws (record { word = word; at = p; closed = no_dots }) n
@@ -155,9 +142,6 @@ covered_not_counted m words pass P H counts u are is =
     by false wrong = refl
 
 module _ (pass : Pass) (P : Patterns) (H : Hopeless) (words : List Word) (counts : Counts) (ws : Windows) (are : AreNumbered ws counts) (uncounted : (u : List ℕ) → covered pass.level P H u pass.dot ≡ true → is_counted counts u ≡ false) (e : OpenPosition) (n : ℕ) (is : IsNumbered pass (uncovered_at pass P H) words ws e n) where
-  window_at : Word → List ℕ
-  window_at w = window w.signs e.at pass.len pass.dot
-
   is_uncovered : (w : Word) (f c : Bool) → (f && is_counted counts (window w.signs e.at pass.len pass.dot)) ≡ true → (c ≡ true → is_counted counts (window w.signs e.at pass.len pass.dot) ≡ false) → (f && not c) ≡ true
   is_uncovered w false c have lack = absurd (let wrong : false ≡ true = have in cc)
   is_uncovered w true true have lack = absurd (let wrong : false ≡ true = sym (lack refl) ∙ have in cc)

@@ -1,11 +1,8 @@
 -- A step of the choice among the candidates.
-use Rattle.std.proofs.Common.{◌≡◌, ℕ, ◌+◌, ◌≤◌, Bool, true, false, cond, not, List, [], ◌∷◌, ◌++◌, length, map, fold, is_some, Option, Some, None, refl, sym, ap, ◌∙◌, arith}
-use Rattle.std.specs.Ordering.{is_eq, eq_by_cmp}
+use Rattle.std.proofs.Common.{◌≡◌, ℕ, ◌+◌, ◌≤◌, Bool, true, false, cond, not, List, [], ◌∷◌, ◌++◌, length, map, fold, Option, Some, None, refl, sym, ap, ◌∙◌, arith}
 use Rattle.std.specs.Option.{option_map}
 use Rattle.std.specs.List.{sum_by}
-use Rattle.std.specs.Cmp.Lexicographic.{nat_list_cmp_total}
-use Rattle.std.specs.Cmp.{tied_itself}
-use Rattle.std.specs.FinMap.Entries.{find, put}
+use Rattle.std.specs.FinMap.Entries.{put}
 use Rattle.std.proofs.lemmas.List.{length-append}
 use Rattle.std.proofs.lemmas.List.Elements.{filter-append}
 use Rattle.std.proofs.lemmas.List.Sums.{fold-append, sum_by-append, sum_by-cons}
@@ -13,8 +10,10 @@ use Rattle.pg_types.specs.declared.parameters.LevelParams.{LevelParams}
 use Rattle.pg_types.specs.Placement.{Families, enter}
 use Rattle.pg_patterns.specs.DottedSigns.{dotted_cmp}
 use Rattle.pg_patterns.specs.Values.{raise}
-use Rattle.pg_types.specs.Counts.{Counts, is_counted}
+use Rattle.pg_types.specs.Counts.{Counts}
 use Rattle.pg_select.specs.Meanings.{Meaning}
+use Rattle.pg_select.specs.declared.choice.Choice.{Choice}
+use Rattle.pg_select.specs.declared.choice.Choice.TheVariants.{Left}
 use Rattle.pg_select.specs.declared.pass.Pass.{Pass}
 use Rattle.pg_select.specs.CountedPositions.{Candidate}
 use Rattle.pg_select.specs.Windows.{Hopeless as HopelessPlaces}
@@ -23,19 +22,9 @@ use Rattle.pg_driver.specs.Counting.{weight_in}
 use Rattle.pg_driver.specs.Choosing.{candidate_of, with_candidates, HasChosen}
 use Rattle.pg_driver.specs.States.{State, state_of, state_after}
 use Rattle.pg_driver.specs.Traces.{choice_of, chosen_of, hopeless_of, entered_of, is_chosen, is_hopeless, is_left}
-use Rattle.pg_driver.proofs.Puts.{cmp}
 
 abbrev Entry : Type 0
 Entry = List ℕ × (ℕ × ℕ)
-
-found_first : (e x : Entry) (xs : Counts) → x ≡ e → is_counted (x ∷ xs) e.0 ≡ true
-found_first e x xs same =
-    let tie : eq_by_cmp cmp e.0 x.0 ≡ true = ap (λ (y : Entry). eq_by_cmp cmp e.0 y.0) same ∙ ap is_eq (tied_itself nat_list_cmp_total e.0) in
-    ap (λ b. is_some (cond b (Some x.1) (find cmp e.0 xs))) tie
-
-found_later : (b : Bool) (v : ℕ × ℕ) (o : Option (ℕ × ℕ)) → is_some o ≡ true → is_some (cond b (Some v) o) ≡ true
-found_later true v o is = refl
-found_later false v o is = is
 
 -- the sums of the candidates are within those of the counts
 pub good_within : (counts : Counts) → sum_by (λ (c : Candidate). c.good) (map candidate_of counts) ≤ weight_in counts
@@ -118,3 +107,12 @@ pub state_step : (m0 m n : Meaning) (params : LevelParams) (c : Candidate) (cs :
 state_step m0 m n params c cs whole kept has left =
     let here : state_of n ≡ state_with m0.signs params m0.pass (state_of m) (c ∷ []) = has.state ∙ ap (λ (x : Meaning). state_with x.signs params x.pass (state_of m) (c ∷ [])) kept in
     ap (λ (s : State). state_with m0.signs params m0.pass s cs) here ∙ sym (state_append m0.signs params m0.pass (state_of m) (c ∷ []) cs) ∙ left
+
+-- the numbers with a candidate that is left
+pub left_alone : (params : LevelParams) (n : Choices) (c : Candidate) → choice_of params c ≡ Left → record n { candidates = n.candidates + 1 } ≡ with_candidates params n (c ∷ [])
+left_alone params n c is =
+    same_numbers (n.candidates + 1) n.chosen n.hopeless n.good n.bad (n.candidates + 1) (n.chosen + 0) (n.hopeless + 0) (n.good + 0) (n.bad + 0) refl (omega arith) (omega arith) (omega arith) (omega arith)
+    ∙ ap by (sym is)
+  where
+    by : Choice → Choices
+    by o = numbers (n.candidates + 1) (n.chosen + length (cond (is_chosen o) (c ∷ []) [])) (n.hopeless + length (cond (is_hopeless o) (c ∷ []) [])) (n.good + sum_by (λ (x : Candidate). x.good) (cond (is_chosen o) (c ∷ []) [])) (n.bad + sum_by (λ (x : Candidate). x.bad) (cond (is_chosen o) (c ∷ []) []))

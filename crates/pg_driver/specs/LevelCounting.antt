@@ -1,5 +1,5 @@
 -- How the windows of a level are counted: what its way to count knows before a pass, and what it makes of the choices after it.
-use Rattle.std.specs.Prelude.{◌≡◌, ℕ, ◌-◌, ◌≤◌, ◌<◌, Bool, true, List, length, map, sum_by, All, MatchBool}
+use Rattle.std.specs.Prelude.{◌≡◌, ℕ, ◌-◌, ◌≤◌, ◌<◌, Bool, true, List, filter, length, map, sum_by, All, MatchBool}
 use Rattle.pg_types.specs.declared.limits.TheConstants.{FILE_MAX}
 use Rattle.pg_types.specs.declared.marks.Totals.{Totals}
 use Rattle.pg_types.specs.declared.parameters.LevelParams.{LevelParams}
@@ -19,7 +19,7 @@ use Rattle.pg_driver.specs.declared.above_positions.Kept.{Kept}
 use Rattle.pg_driver.specs.Accounts.{totals_by}
 use Rattle.pg_driver.specs.OpenLevels.{InLevel, position_after}
 use Rattle.pg_driver.specs.OpenPositions.{IsPlaced}
-use Rattle.pg_driver.specs.PassWindows.{HaveNumbers, counts_at, is_counted_at}
+use Rattle.pg_driver.specs.PassWindows.{HaveNumbers, counts_at, is_counted_at, is_open}
 use Rattle.pg_driver.specs.Sound.{IsSmall}
 use Rattle.pg_driver.specs.Traces.{Known, Source}
 use Rattle.pg_driver.specs.WordLevels.{IsWordsAt, kept_by}
@@ -61,9 +61,11 @@ abbrev pub ArePlaced : List Word → Counting → Type 0
 ArePlaced words (Open o) = All (IsPlaced words) o.positions.items
 ArePlaced words (EachWord e) = All (IsPlaced words) e.above.items × (length e.above.items ≤ FILE_MAX)
 
--- each position that is kept has the number of its window, where the pass counts that
+-- each position that is kept has the number of its window, where the pass counts that; an open one has a number where the dot of the
+-- pass is open
 abbrev pub AreNumberedIn : Pass → Counts → List Word → Windows → Counting → List ℕ → Type 0
-AreNumberedIn pass counts words ws (Open o) ns = HaveNumbers pass (counts_at pass) words ws o.positions.items ns
+AreNumberedIn pass counts words ws (Open o) ns =
+    HaveNumbers pass (counts_at pass) words ws (filter (is_open pass.dot) o.positions.items) ns
 AreNumberedIn pass counts words ws (EachWord e) ns = HaveNumbers pass (is_counted_at pass counts) words ws e.above.items ns
 
 -- the totals before and after a pass whose chosen windows have these sums

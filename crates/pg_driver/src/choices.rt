@@ -1,12 +1,12 @@
 //! The choice among the candidates of a pass.
-ghost use Rattle.std.specs.Prelude.{◌≡◌, ◌≤◌, ◌<◌, ◌+◌, ◌^◌, ◌∷◌, [], true, map, IfOk, OnOk};
+ghost use Rattle.std.specs.Prelude.{◌≡◌, ◌≤◌, ◌<◌, ◌+◌, ◌^◌, ◌∷◌, [], ℕ, List, true, map, IfOk, OnOk};
 ghost use Rattle.pg_types.specs.declared.limits.TheConstants.{FILE_MAX};
 ghost use Rattle.pg_types.specs.Parameters.{IsLevel};
 ghost use Rattle.pg_types.specs.Counts.{is_counted};
 ghost use Rattle.pg_types.specs.Numbered.{AreInOrder};
 ghost use Rattle.pg_select.specs.Choices.{choice};
 ghost use Rattle.pg_driver.specs.States.{IsPass};
-ghost use Rattle.pg_driver.specs.PassWindows.{AreFates, ArePlaces};
+ghost use Rattle.pg_driver.specs.PassWindows.{AreFates, ArePlaces, IsCandidate, IsPlace};
 ghost use Rattle.pg_driver.specs.Counting.{HasRoom};
 ghost use Rattle.pg_types.specs.Limits.{sums_limit};
 ghost use Rattle.pg_driver.specs.Choosing.{with_candidates, no_choices, candidate_of, HasChosen};
@@ -72,6 +72,46 @@ fn choose_at<E: Engine>(
     Ok(())
 }
 
+/// Chooses the candidate with the number, makes it hopeless or leaves it. Where it is left, neither its signs nor its sums are read.
+/// What the cursor holds does not matter.
+fn choose_one<E: Engine>(
+    engine: &mut E,
+    dictionary: &Dictionary,
+    params: &LevelParams,
+    pass: Pass,
+    number: u32,
+    place: Place,
+    fate: Choice,
+    at: &mut Cursor,
+    choices: &mut Choices,
+) -> Result<(), AllocError>
+    requires ranges { IsPass pass }
+    requires level { IsLevel params.now }
+    requires place { IsPlace pass dictionary.now (E.meaning engine.old).windows number place }
+    requires fate { (u : List ℕ) (sums : ℕ × ℕ) → IsCandidate (E.meaning engine.old) number u sums
+        → fate ≡ choice params.now sums.0 sums.1 }
+    requires sums { (u : List ℕ) (sums : ℕ × ℕ) → IsCandidate (E.meaning engine.old) number u sums
+        → (choices.old.good + sums.0 < sums_limit) × (choices.old.bad + sums.1 < sums_limit) }
+    requires few { choices.old.candidates < FILE_MAX }
+    requires sound { choices.old.chosen + choices.old.hopeless ≤ choices.old.candidates }
+    ensures ok { (u : List ℕ) (sums : ℕ × ℕ) → IsCandidate (E.meaning engine.old) number u sums
+        → OnOk result (HasChosen params.now (record { window = u; good = sums.0; bad = sums.1 } ∷ [])
+        (E.meaning engine.old) (E.meaning engine.new)) }
+    ensures choices { (u : List ℕ) (sums : ℕ × ℕ) → IsCandidate (E.meaning engine.old) number u sums
+        → OnOk result (choices.new ≡ with_candidates params.now choices.old
+        (record { window = u; good = sums.0; bad = sums.1 } ∷ [])) }
+    ensures sound { OnOk result (choices.new.chosen + choices.new.hopeless ≤ choices.new.candidates) }
+    ensures signs { (E.meaning engine.new).signs ≡ (E.meaning engine.old).signs }
+{
+    if let Choice::Left = fate {
+        choices.candidates += 1;
+        return Ok(());
+    }
+    let (good, bad) = engine.sums_of(number);
+    go_to(engine, dictionary, pass, number, place, at);
+    choose_at(engine, params, at, good, bad, fate, choices)
+}
+
 /// Chooses each candidate of a pass, makes it hopeless or leaves it, in the order of signs, as was decided by number. The signs of a
 /// window are read where it was first counted.
 pub fn choose_all<E: Engine>(
@@ -107,11 +147,19 @@ pub fn choose_all<E: Engine>(
     };
     'candidates: for number in order {
         let n = *number;
-        let (good, bad) = engine.sums_of(n);
         let place = places[n as usize];
         let fate = fates[n as usize];
-        go_to(engine, dictionary, pass, n, place, &mut at);
-        choose_at(engine, params, &at, good, bad, fate, &mut choices)?;
+        choose_one(
+            engine,
+            dictionary,
+            params,
+            pass,
+            n,
+            place,
+            fate,
+            &mut at,
+            &mut choices,
+        )?;
     }
     Ok(choices)
 }

@@ -1,5 +1,5 @@
 //! A pass over the open positions of its level: the counting of its windows, and the closing of dots after its choices.
-ghost use Rattle.std.specs.Prelude.{◌≡◌, ◌≤◌, ◌<◌, not, false, true, if◌then◌else◌, [], length, map, slice_get, All, IfOk, OnOk, OnErr, MatchOption};
+ghost use Rattle.std.specs.Prelude.{◌≡◌, ◌≤◌, ◌<◌, not, false, true, if◌then◌else◌, [], ◌∷◌, ◌++◌, List, filter, length, map, slice_get, All, IfOk, OnOk, OnErr, MatchOption};
 ghost use Rattle.std.specs.List.{flat_map};
 ghost use Rattle.pg_types.specs.declared.limits.TheConstants.{LENGTH_MAX};
 ghost use Rattle.pg_types.specs.Counts.{SignsWithin};
@@ -10,10 +10,11 @@ ghost use Rattle.pg_select.specs.Statuses.{is_odd};
 ghost use Rattle.pg_select.specs.Windows.{window, fits as fits_in};
 ghost use Rattle.pg_driver.specs.Counting.{counting, HasRoom, TookRoom};
 ghost use Rattle.pg_driver.specs.States.{IsPass};
+ghost use Rattle.pg_driver.specs.DotSets.{has_dot};
 ghost use Rattle.pg_driver.specs.OpenLevels.{dots_after};
 ghost use Rattle.pg_driver.specs.declared.open_positions.OpenPosition.{OpenPosition};
 ghost use Rattle.pg_driver.specs.OpenPositions.{counted_in, counted_of, with_closed, IsPlaced};
-ghost use Rattle.pg_driver.specs.PassWindows.{ArePlaces, ClosesAs, HaveNumbers, IsNumbered, counts_at};
+ghost use Rattle.pg_driver.specs.PassWindows.{ArePlaces, ClosesAs, HaveNumbers, IsNumbered, counts_at, is_open};
 
 use crate::dot_set::DotSet;
 use crate::marks::fits;
@@ -64,8 +65,8 @@ fn count_at<E: Engine>(
     Ok(None)
 }
 
-/// Counts the window at an open position, where the dot of the pass is not closed and the window fits in the word, and gives its
-/// number. Where it is counted for the first time, its place is noted.
+/// Counts the window at a position at which the dot of the pass is open, where it fits in the word, and gives its number. Where it is
+/// counted for the first time, its place is noted.
 fn count_position<E: Engine>(
     engine: &mut E,
     dictionary: &Dictionary,
@@ -77,19 +78,18 @@ fn count_position<E: Engine>(
     requires pass { (E.meaning engine.old).pass ≡ pass }
     requires signs { SignsAtMost (E.meaning engine.old).signs dictionary.now }
     requires placed { IsPlaced dictionary.now position }
+    requires open { has_dot position.closed pass.dot ≡ false }
     requires room { HasRoom (E.meaning engine.old).counts 1 }
     requires places { ArePlaces pass dictionary.now (E.meaning engine.old).windows places.old.items }
     ensures ok { OnOk result (E.meaning engine.new
         ≡ counting (E.meaning engine.old) (counted_of pass.level pass.len pass.dot dictionary.now position)) }
     ensures took { OnOk result (TookRoom (E.meaning engine.old).counts (E.meaning engine.new).counts 1) }
-    ensures number { IfOk result (λ n. IsNumbered pass (counts_at pass) dictionary.now (E.meaning engine.new).windows position n) }
-    ensures places { OnOk result (ArePlaces pass dictionary.now (E.meaning engine.new).windows places.new.items) }
+    ensures number { IfOk result (λ n. IsNumbered pass (counts_at pass) dictionary.now
+        (E.meaning engine.new).windows position n) }
+    ensures places { OnOk result (ArePlaces pass dictionary.now (E.meaning engine.new).windows
+        places.new.items) }
     ensures signs { (E.meaning engine.new).signs ≡ (E.meaning engine.old).signs }
 {
-    if position.closed.contains(pass.dot) {
-        let _words = dictionary.len();
-        return Ok(NOT_COUNTED);
-    }
     let w = dictionary.word(position.word as usize);
     let p = usize::from(position.at);
     match count_at(engine, pass, &w, p)? {
@@ -106,8 +106,43 @@ fn count_position<E: Engine>(
     }
 }
 
-/// Counts the windows of a pass that has begun at the open positions. Each position gets the number of its window, and each
-/// window the place where it was first counted.
+/// Counts the window at an open position, where the dot of the pass is open, and notes its number.
+fn count_where_open<E: Engine>(
+    engine: &mut E,
+    dictionary: &Dictionary,
+    pass: Pass,
+    position: OpenPosition,
+    places: &mut Vec<Place>,
+    numbers: &mut Vec<u32>,
+) -> Result<(), AllocError>
+    requires ranges { IsPass pass }
+    requires pass { (E.meaning engine.old).pass ≡ pass }
+    requires signs { SignsAtMost (E.meaning engine.old).signs dictionary.now }
+    requires placed { IsPlaced dictionary.now position }
+    requires room { HasRoom (E.meaning engine.old).counts 1 }
+    requires places { ArePlaces pass dictionary.now (E.meaning engine.old).windows places.old.items }
+    ensures ok { OnOk result (E.meaning engine.new
+        ≡ counting (E.meaning engine.old) (counted_of pass.level pass.len pass.dot dictionary.now position)) }
+    ensures took { OnOk result (TookRoom (E.meaning engine.old).counts (E.meaning engine.new).counts 1) }
+    ensures numbers { OnOk result ((entries : List OpenPosition)
+        → HaveNumbers pass (counts_at pass) dictionary.now (E.meaning engine.old).windows entries numbers.old.items
+        → HaveNumbers pass (counts_at pass) dictionary.now (E.meaning engine.new).windows
+        (entries ++ filter (is_open pass.dot) (position ∷ [])) numbers.new.items) }
+    ensures places { OnOk result (ArePlaces pass dictionary.now (E.meaning engine.new).windows
+        places.new.items) }
+    ensures signs { (E.meaning engine.new).signs ≡ (E.meaning engine.old).signs }
+{
+    if position.closed.contains(pass.dot) {
+        let _words = dictionary.len();
+        return Ok(());
+    }
+    let number = count_position(engine, dictionary, pass, position, places)?;
+    numbers.push(number)?;
+    Ok(())
+}
+
+/// Counts the windows of a pass that has begun at the open positions. Each position at which its dot is open gets the number of its
+/// window, and each window the place where it was first counted.
 pub fn count_open<E: Engine>(
     engine: &mut E,
     dictionary: &Dictionary,
@@ -127,14 +162,14 @@ pub fn count_open<E: Engine>(
         ≡ counting (E.meaning engine.old)
         (flat_map (counted_of pass.level pass.len pass.dot dictionary.now) open_positions.now)) }
     ensures room { OnOk result (HasRoom (E.meaning engine.new).counts 0) }
-    ensures numbers { OnOk result (HaveNumbers pass (counts_at pass) dictionary.now (E.meaning engine.new).windows open_positions.now
-        numbers.new.items) }
-    ensures places { OnOk result (ArePlaces pass dictionary.now (E.meaning engine.new).windows places.new.items) }
+    ensures numbers { OnOk result (HaveNumbers pass (counts_at pass) dictionary.now (E.meaning engine.new).windows
+        (filter (is_open pass.dot) open_positions.now) numbers.new.items) }
+    ensures places { OnOk result (ArePlaces pass dictionary.now (E.meaning engine.new).windows
+        places.new.items) }
     ensures signs { (E.meaning engine.new).signs ≡ (E.meaning engine.old).signs }
 {
     'positions: for position in open_positions {
-        let number = count_position(engine, dictionary, pass, *position, places)?;
-        numbers.push(number)?;
+        count_where_open(engine, dictionary, pass, *position, places, numbers)?;
     }
     Ok(())
 }
@@ -163,15 +198,22 @@ fn close_position(dot: u8, fates: &[Choice], number: u32, position: OpenPosition
     }
 }
 
-/// Closes dots after the choices of a pass, by the numbers of the positions' windows. It takes no memory.
+/// Closes dots after the choices of a pass, by the numbers of the windows of the positions at which its dot is open. It takes no
+/// memory.
 pub fn close_dots(dot: u8, fates: &[Choice], numbers: &[u32], open_positions: &mut [OpenPosition])
     requires dot { dot ≤ LENGTH_MAX }
-    requires size { length numbers.now ≡ length open_positions.old }
+    requires size { length numbers.now ≡ length (filter (is_open dot) open_positions.old) }
     ensures { (after : OpenPosition → OpenPosition)
         → ClosesAs after dot fates.now open_positions.old numbers.now
         → open_positions.new ≡ map after open_positions.old }
 {
+    let mut next = 0;
     'positions: for k in 0..open_positions.len() {
-        open_positions[k] = close_position(dot, fates, numbers[k], open_positions[k]);
+        let position = open_positions[k];
+        if position.closed.contains(dot) {
+            continue;
+        }
+        open_positions[k] = close_position(dot, fates, numbers[next], position);
+        next += 1;
     }
 }

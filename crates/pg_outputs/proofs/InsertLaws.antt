@@ -20,17 +20,24 @@ pub record IsPut (old new : List Record) (r : Record) (index : ℕ) : Type 0 whe
   pub added : Lacks old r → (index ≡ length old) × (new ≡ old ++ r ∷ [])
   pub grows : Grows old new
 
--- what is found stays as it is
-put_there : (old : List Record) (r : Record) → AreShared old → IsThere old r → IsPut old old r (position_or_len (is_same r) old)
-put_there old r shared h = record {
+-- what stands at an index stays as it is
+kept_at : (old : List Record) (r : Record) (index : ℕ) → AreShared old → slice_get old index ≡ Some r → IsPut old old r index
+kept_at old r index shared at = record {
   shared = shared;
-  list = list_of-at old (position_or_len (is_same r) old) r h.at (shared.back _ r h.at);
-  there = λ i at. (shared.apart _ i r h.at at, refl);
-  at = h.at;
+  list = list_of-at old index r at (shared.back index r at);
+  there = λ i found. (shared.apart index i r at found, refl);
+  at = at;
   adds = inl refl;
-  added = λ lacks. absurd (lacks _ h.at);
+  added = λ lacks. absurd (lacks index at);
   grows = grows_none old;
 }
+
+pub again : (old now : List Record) (r : Record) (index : ℕ) → old ≡ now → AreShared old → slice_get old index ≡ Some r → IsPut now now r index
+again old now r index seen shared at = subst (λ l. IsPut l l r index) seen (kept_at old r index shared at)
+
+-- what is found
+put_there : (old : List Record) (r : Record) → AreShared old → IsThere old r → IsPut old old r (position_or_len (is_same r) old)
+put_there old r shared h = kept_at old r (position_or_len (is_same r) old) shared h.at
 
 -- what is new goes last
 put_last : (old : List Record) (r : Record) → AreShared old → r.next ≤ length old → Lacks old r → IsPut old (old ++ r ∷ []) r (length old)

@@ -1,9 +1,7 @@
 -- Laws of the records: where `insert` finds a record or puts it, and that the records stay shared.
-use Rattle.std.proofs.Common.{◌≡◌, ℕ, ◌≤◌, Bool, true, false, List, [], ◌∷◌, ◌++◌, length, slice_get, Some, suc, zero, refl, sym, ◌∙◌, ap, arith, inl, inr, ◌⊎◌, one-add, position, get_or}
+use Rattle.std.proofs.Common.{◌≡◌, ℕ, ◌≤◌, Bool, true, false, List, [], ◌∷◌, ◌++◌, length, slice_get, Some, suc, zero, refl, sym, ◌∙◌, ap, arith, inl, inr, ◌⊎◌, one-add}
 use Rattle.std.proofs.lemmas.Bool.{false≢true}
 use Rattle.std.proofs.lemmas.Bool.Decides.{nat_tests}
-use Rattle.std.proofs.lemmas.Option.{slice_get-get_or}
-use Rattle.std.proofs.lemmas.List.Quantifiers.{position-Some}
 use Rattle.std.specs.List.{list_any, position_or_len}
 use Rattle.pg_outputs.specs.declared.records.Record.{Record}
 use Rattle.pg_outputs.specs.Lists.{Lacks}
@@ -86,9 +84,3 @@ shared_push rs r shared lacks back = record { apart = apart; back = leads_back }
       | inl p ↦ shared.back i y p
       | inr p ↦ omega (arith, p.0, ap (λ (z : Record). z.next) p.1)
     ]
-
--- what `position` finds is the record
-pub found_at : (rs : List Record) (r : Record) (i : ℕ) → position (is_same r) rs ≡ Some i → slice_get rs i ≡ Some r
-found_at rs r i e =
-    let found = position-Some (is_same r) rs i r e in
-    slice_get-get_or rs i r found.0 ∙ ap Some (sym (same_from_test r (get_or rs i r) found.1))

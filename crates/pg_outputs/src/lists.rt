@@ -1,5 +1,5 @@
 //! The lists, kept as records that they share.
-ghost use Rattle.std.specs.Prelude.{◌≡◌, ℕ, ◌+◌, ◌-◌, ◌<◌, ◌≤◌, ◌↔◌, ◌≢◌, ◌⊎◌, List, [], ◌∷◌, ◌++◌, length, slice_get, Some, None, Ok, IsNone, IfSome, IfOk, OnOk, OnErr, MatchOption};
+ghost use Rattle.std.specs.Prelude.{◌≡◌, ℕ, true, ◌+◌, ◌-◌, ◌<◌, ◌≤◌, ◌↔◌, ◌≢◌, ◌⊎◌, List, [], ◌∷◌, ◌++◌, length, slice_get, Some, None, Ok, IsNone, IfSome, IfOk, OnOk, OnErr, MatchOption};
 ghost use Rattle.indexmap.specs.IndexSet.{index_set_len};
 ghost use Rattle.pg_outputs.specs.Lists.{list_of, Grows, OneHeadEach, IsRecordOf, Lacks};
 ghost use Rattle.pg_outputs.specs.Records.{AreShared};
@@ -9,10 +9,17 @@ use indexmap::IndexSet;
 use std::alloc::{AllocError, Global};
 use std::marker::Model;
 
+/// The latest record is known for so many dots.
+const DOTS: usize = 16;
+
 /// Lists of (value, dot) that share their ends. Head 0 is the empty list, and head `h` is the record at index `h - 1`.
+///
+/// Most lists that are made in a pass are equal to one that was just made. So the index of the record that was given last is kept
+/// for each dot, and such a list is found without hashing.
 #[derive(Drop)]
 pub struct Outputs {
     records: IndexSet<Record>,
+    latest: [usize; DOTS],
 }
 
 impl Model for Outputs {
@@ -35,6 +42,7 @@ impl Outputs {
     {
         Outputs {
             records: IndexSet::new(alloc),
+            latest: [0; DOTS],
         }
     }
 
@@ -58,20 +66,15 @@ impl Outputs {
         ensures shared { AreShared self.new }
         ensures err { OnErr result (self.new ≡ self.old) }
     {
-        let (index, _) = self.records.insert_full(Record { value, dot, next })?;
+        let record = Record { value, dot, next };
+        let place = usize::from(dot) % DOTS;
+        let latest = self.latest[place];
+        if has_at(&self.records, latest, &record) {
+            return Ok(head_at(&self.records, latest));
+        }
+        let (index, _) = self.records.insert_full(record)?;
+        self.latest[place] = index;
         Ok(head_at(&self.records, index))
-    }
-
-    /// The head of the list with (`value`, `dot`) before the list `next`, or `None` where no such record is there.
-    pub fn find(&self, value: u8, dot: u8, next: u64) -> Option<u64>
-        ensures found { MatchOption result (Lacks self.now (record { value = value; dot = dot; next = next }))
-            (λ h. IsRecordOf self.now h (record { value = value; dot = dot; next = next })) }
-        ensures list { IfSome result (λ h. list_of self.now h ≡ (value, dot) ∷ list_of self.now next) }
-        ensures one_head { OneHeadEach self.now }
-        ensures shared { AreShared self.now }
-    {
-        let index = self.records.get_index_of(&Record { value, dot, next })?;
-        Some(head_at(&self.records, index))
     }
 
     /// The first value and dot of a list, with the head of its rest. `None` is the empty list, head 0.
@@ -106,4 +109,15 @@ fn head_at(records: &IndexSet<Record>, index: usize) -> u64
 {
     let _count = records.len();
     index as u64 + 1
+}
+
+// Whether the record stands at the index.
+fn has_at(records: &IndexSet<Record>, index: usize, record: &Record) -> bool
+    ensures at { result ≡ true → slice_get records.now.keys index ≡ Some record.now }
+    ensures inside { result ≡ true → index < index_set_len records.now }
+{
+    match records.get_index(index) {
+        Some(found) => *found == *record,
+        None => false,
+    }
 }

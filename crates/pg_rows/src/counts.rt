@@ -31,49 +31,68 @@ const TWO_WORDS: &[(u32, &[u8])] = &[(1, b"ab-c\n"), (1, b"ab-a\n")];
 /// A word with a hyphen, twice, and a longer one without.
 const THREE_WORDS: &[(u32, &[u8])] = &[(2, b"a-b\n"), (1, b"cab\n")];
 
-/// A pass of this level, length and dot.
-const fn pass(level: u8, len: u8, dot: u8) -> Pass {
-    Pass { level, len, dot }
-}
-
 /// The edge is the sign 1, a 2, b 3 and c 4.
 const ROWS: [Row; 6] = [
     Row {
         lines: TWO_WORDS,
         start: b"",
-        pass: pass(1, 2, 1),
+        pass: Pass {
+            level: 1,
+            len: 2,
+            dot: 1,
+        },
         windows: "[2, 3] 0 2\n[3, 2] 1 0\n[3, 4] 1 0\n",
     },
     Row {
         lines: TWO_WORDS,
         start: b"",
-        pass: pass(1, 2, 0),
+        pass: Pass {
+            level: 1,
+            len: 2,
+            dot: 0,
+        },
         windows: "[2, 1] 1 0\n[3, 2] 0 1\n[3, 4] 0 1\n[4, 1] 1 0\n",
     },
     Row {
         lines: TWO_WORDS,
         start: b"",
-        pass: pass(1, 2, 2),
+        pass: Pass {
+            level: 1,
+            len: 2,
+            dot: 2,
+        },
         windows: "[1, 2] 0 2\n[2, 3] 2 0\n",
     },
     // At the second level errors are good, and found hyphens are bad.
     Row {
         lines: THREE_WORDS,
         start: b"a1b\n",
-        pass: pass(2, 3, 1),
+        pass: Pass {
+            level: 2,
+            len: 3,
+            dot: 1,
+        },
         windows: "[2, 3, 1] 1 2\n",
     },
     Row {
         lines: THREE_WORDS,
         start: b"a1b\n",
-        pass: pass(2, 3, 2),
+        pass: Pass {
+            level: 2,
+            len: 3,
+            dot: 2,
+        },
         windows: "[1, 2, 3] 0 2\n[4, 2, 3] 1 0\n",
     },
     // A sum whose product with a weight of 1,000,000 needs more than 32 bits.
     Row {
         lines: &[(477, b"9ab-c\n"), (1, b"2ab-c\n")],
         start: b"",
-        pass: pass(1, 1, 0),
+        pass: Pass {
+            level: 1,
+            len: 1,
+            dot: 0,
+        },
         windows: "[3] 0 4295\n[4] 4295 0\n",
     },
 ];

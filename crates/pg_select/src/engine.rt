@@ -54,7 +54,12 @@ pub trait Engine {
 
     /// Counts as `count` does, and gives the window's number: its place, from 0, among the windows of the pass in the
     /// order in which they were first counted.
-    fn count_numbered(&mut self, window: &[Sign], good: bool, weight: Weight) -> Result<u32, AllocError>
+    fn count_numbered(
+        &mut self,
+        window: &[Sign],
+        good: bool,
+        weight: Weight,
+    ) -> Result<u32, AllocError>
         requires len { length window.now ≡ (meaning self.old).pass.len }
         requires signs { SignsWithin (meaning self.old).signs window.now }
         requires weight { weight ≤ WEIGHT_MAX }

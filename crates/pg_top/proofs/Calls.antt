@@ -1,5 +1,5 @@
 -- What is said of the answer of a command at each of its ends.
-use Rattle.std.proofs.Common.{◌≡◌, ℕ, List, [], Option, None, Some, IfSome, MatchOption, inl, inr, refl, sym, ap, ◌∙◌, subst}
+use Rattle.std.proofs.Common.{◌≡◌, ℕ, ◌+◌, List, [], take, Option, None, Some, IfSome, MatchOption, inl, inr, refl, sym, ap, ◌∙◌, subst}
 use Rattle.std.specs.Prelude.{slice_get, unwrap_or}
 use Rattle.std.proofs.lemmas.Option.{get_or_from_slice_get, slice_get_within, slice_get-map}
 use Rattle.std.specs.Option.{option_map}
@@ -7,6 +7,7 @@ use Rattle.pg_outside.specs.Content.{FileMap, FilesShown, SinkShown, KeepsHeld, 
 use Rattle.pg_outside.specs.Faults.{NoneFell, Rose}
 use Rattle.pg_top.specs.Answers.{MayAnswer, DoesAll, IsAnswered, IsSampled, IsAnswerOf, IsCall}
 use Rattle.pg_top.specs.Calls.{outcome, outcome_of, finished, reads_of, writes_of}
+use Rattle.pg_top.specs.Counted.{EndsAt}
 use Rattle.pg_top.specs.Faults.{FilesRose, IsUnread, StopsWriting, DoesPart}
 use Rattle.pg_top.specs.Moments.{Moment, OfFiles, Puts, PutsPart, PutRose, PutOrRose}
 use Rattle.pg_top.specs.Outcomes.{Ends, Writing, refuses}
@@ -14,14 +15,14 @@ use Rattle.pg_top.specs.PrintedLines.{usage_line, refused_line, reading_line, wr
 use Rattle.pg_top.specs.Readings.{first_end}
 use Rattle.pg_top.specs.Requests.{Request, ToGenerate, ToAudit, ToSample, ToPack, ToTotals, ToPrune, ToSweep}
 use Rattle.pg_top.specs.SampleTexts.{sample_lines}
-use Rattle.pg_top.specs.Stops.{StopsReading, StopsCommand, PutsAnswer, PutsLines, PutsStop, Finishes}
+use Rattle.pg_top.specs.Stops.{StopsWith, StopsReading, StopsCommandWith, StopsCommand, PutsAnswer, PutsLines, PutsStop, Finishes}
 use Rattle.pg_top.specs.Writings.{written_names, after_all, IsPartWritten, WroteAll, StoppedAt}
 use Rattle.pg_top.specs.declared.answers.Status.{Status}
 use Rattle.pg_top.specs.declared.answers.Status.TheVariants.{Done, Yes, No, Usage, Refused, Fault, Memory}
 use Rattle.pg_top.specs.declared.inputs.Stop.{Stop}
 use Rattle.pg_top.specs.declared.inputs.Stop.TheVariants as stop
 use Rattle.pg_top.proofs.Faults.{rose_since}
-use Rattle.pg_top.proofs.Orders.{mapped}
+use Rattle.pg_top.proofs.Orders.{mapped, end_of_all}
 
 -- the answers that are those of an outcome
 abbrev pub IsEnd : Status → Type 0
@@ -171,16 +172,27 @@ unread_call request name s0 s1 o0 o1 keeps unread line =
 -- a command stopped before it wrote
 pub stopped_command : (request : Request) (s0 s1 : FilesShown) (o0 o1 : SinkShown) (why : Stop) (answer : Status) → MayAnswer (Some request) Refused → KeepsHeld s0.held s1.held → StopsCommand request s0 s1 why → PutsStop why answer o0 o1 → IsCall (Some request) answer (s0, o0) (s1, o1)
 stopped_command request s0 s1 o0 o1 (stop.Refused input refusal) answer may keeps stops (inl h) = memory_call request s0 s1 o0 o1 answer keeps h.0 h.1
-stopped_command request s0 s1 o0 o1 (stop.Refused input refusal) answer may keeps stops (inr h) = answered_call request Refused (refused_line input refusal) s0 s1 o0 o1 answer tt may keeps stops h
-stopped_command request s0 s1 o0 o1 (stop.Unread name) answer may keeps stops puts = subst (λ (status : Status). IsCall (Some request) status (s0, o0) (s1, o1)) (sym puts.0) (unread_call request name.now s0 s1 o0 o1 keeps stops puts.1)
+stopped_command request s0 s1 o0 o1 (stop.Refused input refusal) answer may keeps stops (inr h) =
+    answered_call request Refused (refused_line input refusal) s0 s1 o0 o1 answer tt may keeps
+    (mapped s1.held (λ files. (outcome_of (file_at files) request ≡ refuses input refusal) × EndsAt request stops.place (file_at files)) (λ files. outcome_of (file_at files) request ≡ refuses input refusal) (λ files k. k.0) stops.why) h
+stopped_command request s0 s1 o0 o1 (stop.Unread name) answer may keeps stops puts =
+    let why = stops.why in
+    let unread : IsUnread (reads_of request) name.now s0 s1 = record { place = stops.place; reading = why.0; there = why.1; named = why.2; rose = why.3; before_it = stops.read.before_it } in
+    subst (λ (status : Status). IsCall (Some request) status (s0, o0) (s1, o1)) (sym puts.0) (unread_call request name.now s0 s1 o0 o1 keeps unread puts.1)
 stopped_command request s0 s1 o0 o1 stop.Memory answer may keeps stops puts = memory_call request s0 s1 o0 o1 answer keeps puts.0 puts.1
 
 -- it stopped while it read
 pub stops_reading : (request : Request) (s0 s1 : FilesShown) (why : Stop) → StopsReading (reads_of request) s0 s1 why → StopsCommand request s0 s1 why
-stops_reading request s0 s1 (stop.Refused input refusal) stops =
-    mapped s1.held (λ files. first_end (file_at files) (reads_of request) ≡ Some (refuses input refusal)) (λ files. outcome_of (file_at files) request ≡ refuses input refusal) (λ files is. ap (λ end. unwrap_or end (finished (file_at files) request)) is) stops
-stops_reading request s0 s1 (stop.Unread name) stops = stops
-stops_reading request s0 s1 stop.Memory stops = tt
+stops_reading request s0 s1 why stops = record { place = stops.place; read = stops.read; why = why_command why stops.place stops.why }
+  where
+    why_command : (why : Stop) (place : ℕ) → StopsWith (reads_of request) place s0 s1 why → StopsCommandWith request place s0 s1 why
+    why_command (stop.Refused input refusal) place stops =
+        mapped s1.held (λ files. first_end (file_at files) (take (place + 1) (reads_of request)) ≡ Some (refuses input refusal)) (λ files. (outcome_of (file_at files) request ≡ refuses input refusal) × EndsAt request place (file_at files))
+        (λ files is.
+        let end : outcome_of (file_at files) request ≡ refuses input refusal = ap (λ end. unwrap_or end (finished (file_at files) request)) (end_of_all (file_at files) (place + 1) (reads_of request) (refuses input refusal) is) in
+        (end, inl (is ∙ ap Some (sym end)))) stops
+    why_command (stop.Unread name) place stops = stops
+    why_command stop.Memory place stops = tt
 
 pub stopped_call : (request : Request) (s0 s1 : FilesShown) (o0 o1 : SinkShown) (why : Stop) (answer : Status) → MayAnswer (Some request) Refused → KeepsHeld s0.held s1.held → StopsReading (reads_of request) s0 s1 why → PutsStop why answer o0 o1 → IsCall (Some request) answer (s0, o0) (s1, o1)
 stopped_call request s0 s1 o0 o1 why answer may keeps stops puts = stopped_command request s0 s1 o0 o1 why answer may keeps (stops_reading request s0 s1 why stops) puts

@@ -1,5 +1,5 @@
 -- The inputs of `generate`: what is read of each, and a stop at each.
-use Rattle.std.proofs.Common.{◌≡◌, ℕ, List, [], ◌∷◌, Option, None, Some, Ok, IfSome, ap, ◌∙◌}
+use Rattle.std.proofs.Common.{◌≡◌, ℕ, List, [], ◌∷◌, Option, Some, Ok, IfSome, ap, ◌∙◌, arith}
 use Rattle.std.specs.Prelude.{unwrap_or}
 use Rattle.pg_types.specs.Parameters.{Parameters, parameters}
 use Rattle.pg_outside.specs.Content.{FileMap, FilesShown, KeepsHeld, file_at}
@@ -18,9 +18,8 @@ use Rattle.pg_top.specs.declared.inputs.Input.TheVariants as input
 use Rattle.pg_top.specs.declared.reading.Inputs.{Inputs}
 use Rattle.pg_top.specs.declared.inputs.Stop.{Stop}
 use Rattle.pg_top.specs.declared.inputs.Stop.TheVariants.{Memory}
-use Rattle.pg_top.specs.Counted.{MakesCalls, StopsCounted}
-use Rattle.pg_top.proofs.CountedCalls.{counted_behind, read_behind}
-use Rattle.pg_top.proofs.Orders.{AreAccepted, accepted_all, mapped, both, held_later, stopped_behind}
+use Rattle.pg_top.specs.Counted.{MakesCalls}
+use Rattle.pg_top.proofs.Orders.{AreAccepted, accepted_all, mapped, both, held_later, stopped_behind, wanted_after}
 use Rattle.pg_top.proofs.UnderTable.{accepted, means, HasTable as HasTableNamed, is_table, table_accepted, accepted_under, means_under, stopped_first, stopped_under}
 
 -- the inputs
@@ -97,61 +96,30 @@ all_read n t p S ws h3 h4 keeps three more =
     (both h4 (HasThree n t p S) (λ files. read_as (words t) (file_at files) n.dict ≡ Some (Ok ws)) (held_later h3 h4 (HasThree n t p S) keeps three) more)
 
 -- a stop at the first input, at the second, at the third and at the last
-pub stopped_1 : (n : FileNames) (s0 s1 : FilesShown) (stop : Stop) → StopsAt (translate_input n) s0 s1 stop → StopsReading (inputs_of n) s0 s1 stop
-stopped_1 n s0 s1 stop stops = stopped_first (translate_input n) (parameters_input n ∷ patterns_input n ∷ dictionary_input n ∷ []) s0 s1 stop stops
+pub stopped_1 : (n : FileNames) (s0 s1 : FilesShown) (stop : Stop) → MakesCalls s0 s1 1 → StopsAt (translate_input n) s0 s1 stop → StopsReading (inputs_of n) s0 s1 stop
+stopped_1 n s0 s1 stop calls stops = stopped_first (translate_input n) (parameters_input n ∷ patterns_input n ∷ dictionary_input n ∷ []) s0 s1 stop calls stops
 
-pub stopped_2 : (n : FileNames) (t : Alphabet) (s0 s1 s2 : FilesShown) (stop : Stop) → NoneFell s0.read_faults s1.read_faults → KeepsHeld s1.held s2.held → IfSome s1.held (HasTable n t) → StopsAt (parameters_input n) s1 s2 stop → StopsReading (inputs_of n) s0 s2 stop
-stopped_2 n t s0 s1 s2 stop fell keeps one stops =
-    stopped_behind (translate_input n ∷ []) (parameters_input n) (patterns_input n ∷ dictionary_input n ∷ []) s0 s1 s2 stop fell
+pub stopped_2 : (n : FileNames) (t : Alphabet) (s0 s1 s2 : FilesShown) (stop : Stop) → NoneFell s0.read_faults s1.read_faults → MakesCalls s0 s2 2 → KeepsHeld s1.held s2.held → IfSome s1.held (HasTable n t) → StopsAt (parameters_input n) s1 s2 stop → StopsReading (inputs_of n) s0 s2 stop
+stopped_2 n t s0 s1 s2 stop fell calls keeps one stops =
+    stopped_behind (translate_input n ∷ []) (parameters_input n) (patterns_input n ∷ dictionary_input n ∷ []) s0 s1 s2 stop fell calls
     (mapped s2.held (HasTable n t) (λ files. AreAccepted (file_at files) (translate_input n ∷ [])) (λ files h. (table_accepted n.translate t files h, tt)) (held_later s1.held s2.held (HasTable n t) keeps one)) stops
 
-pub stopped_3 : (n : FileNames) (t : Alphabet) (p : Parameters) (s0 s2 s3 : FilesShown) (stop : Stop) → NoneFell s0.read_faults s2.read_faults → KeepsHeld s2.held s3.held → IfSome s2.held (HasTwo n t p) → StopsAt (input_file input.Patterns n.patterns (λ _. start t)) s2 s3 stop → StopsReading (inputs_of n) s0 s3 stop
-stopped_3 n t p s0 s2 s3 stop fell keeps two stops =
+pub stopped_3 : (n : FileNames) (t : Alphabet) (p : Parameters) (s0 s2 s3 : FilesShown) (stop : Stop) → NoneFell s0.read_faults s2.read_faults → MakesCalls s0 s3 3 → KeepsHeld s2.held s3.held → IfSome s2.held (HasTwo n t p) → StopsAt (input_file input.Patterns n.patterns (λ _. start t)) s2 s3 stop → StopsReading (inputs_of n) s0 s3 stop
+stopped_3 n t p s0 s2 s3 stop fell calls keeps two stops =
     let later : IfSome s3.held (HasTwo n t p) = held_later s2.held s3.held (HasTwo n t p) keeps two in
-    stopped_behind (translate_input n ∷ parameters_input n ∷ []) (patterns_input n) (dictionary_input n ∷ []) s0 s2 s3 stop fell
+    stopped_behind (translate_input n ∷ parameters_input n ∷ []) (patterns_input n) (dictionary_input n ∷ []) s0 s2 s3 stop fell calls
     (mapped s3.held (HasTwo n t p) (λ files. AreAccepted (file_at files) (translate_input n ∷ parameters_input n ∷ [])) (two_accepted n t p) later)
     (stopped_under n.translate t start input.Patterns n.patterns s2 s3 stop (mapped s3.held (HasTwo n t p) (HasTable n t) (λ files h. h.0) later) stops)
 
-pub stopped_4 : (n : FileNames) (t : Alphabet) (p : Parameters) (S : List ((List ℕ × ℕ) × ℕ)) (s0 s3 s4 : FilesShown) (stop : Stop) → NoneFell s0.read_faults s3.read_faults → KeepsHeld s3.held s4.held → IfSome s3.held (HasThree n t p S) → StopsAt (input_file input.Dictionary n.dict (λ _. words t)) s3 s4 stop → StopsReading (inputs_of n) s0 s4 stop
-stopped_4 n t p S s0 s3 s4 stop fell keeps three stops =
+pub stopped_4 : (n : FileNames) (t : Alphabet) (p : Parameters) (S : List ((List ℕ × ℕ) × ℕ)) (s0 s3 s4 : FilesShown) (stop : Stop) → NoneFell s0.read_faults s3.read_faults → MakesCalls s0 s4 4 → KeepsHeld s3.held s4.held → IfSome s3.held (HasThree n t p S) → StopsAt (input_file input.Dictionary n.dict (λ _. words t)) s3 s4 stop → StopsReading (inputs_of n) s0 s4 stop
+stopped_4 n t p S s0 s3 s4 stop fell calls keeps three stops =
     let later : IfSome s4.held (HasThree n t p S) = held_later s3.held s4.held (HasThree n t p S) keeps three in
-    stopped_behind (translate_input n ∷ parameters_input n ∷ patterns_input n ∷ []) (dictionary_input n) [] s0 s3 s4 stop fell
-    (mapped s4.held (HasThree n t p S) (λ files. AreAccepted (file_at files) (translate_input n ∷ parameters_input n ∷ patterns_input n ∷ [])) (three_accepted n t p S) later)
-    (stopped_under n.translate t words input.Dictionary n.dict s3 s4 stop (mapped s4.held (HasThree n t p S) (HasTable n t) (λ files h. h.0.0) later) stops)
-
--- a stop at each, where the files before it were read once each, and then it
-pub counted_1 : (n : FileNames) (s0 s1 : FilesShown) (stop : Stop) → MakesCalls s0 s1 1 → StopsAt (translate_input n) s0 s1 stop → StopsCounted (inputs_of n) s0 s1 stop
-counted_1 n s0 s1 stop calls stops = counted_behind [] (translate_input n) (parameters_input n ∷ patterns_input n ∷ dictionary_input n ∷ []) s0 s0 s1 stop calls (nothing_said s1.held) stops
-  where
-    nothing_said : (held : Option FileMap) → IfSome held (λ files. AreAccepted (file_at files) [])
-    nothing_said None = tt
-    nothing_said (Some files) = tt
-
-pub counted_2 : (n : FileNames) (t : Alphabet) (s0 s1 s2 : FilesShown) (stop : Stop) → MakesCalls s0 s2 2 → KeepsHeld s1.held s2.held → IfSome s1.held (HasTable n t) → StopsAt (parameters_input n) s1 s2 stop → StopsCounted (inputs_of n) s0 s2 stop
-counted_2 n t s0 s1 s2 stop calls keeps one stops =
-    counted_behind (translate_input n ∷ []) (parameters_input n) (patterns_input n ∷ dictionary_input n ∷ []) s0 s1 s2 stop calls
-    (mapped s2.held (HasTable n t) (λ files. AreAccepted (file_at files) (translate_input n ∷ [])) (λ files h. (table_accepted n.translate t files h, tt)) (held_later s1.held s2.held (HasTable n t) keeps one)) stops
-
-pub counted_3 : (n : FileNames) (t : Alphabet) (p : Parameters) (s0 s2 s3 : FilesShown) (stop : Stop) → MakesCalls s0 s3 3 → KeepsHeld s2.held s3.held → IfSome s2.held (HasTwo n t p) → StopsAt (input_file input.Patterns n.patterns (λ _. start t)) s2 s3 stop → StopsCounted (inputs_of n) s0 s3 stop
-counted_3 n t p s0 s2 s3 stop calls keeps two stops =
-    let later : IfSome s3.held (HasTwo n t p) = held_later s2.held s3.held (HasTwo n t p) keeps two in
-    counted_behind (translate_input n ∷ parameters_input n ∷ []) (patterns_input n) (dictionary_input n ∷ []) s0 s2 s3 stop calls
-    (mapped s3.held (HasTwo n t p) (λ files. AreAccepted (file_at files) (translate_input n ∷ parameters_input n ∷ [])) (two_accepted n t p) later)
-    (stopped_under n.translate t start input.Patterns n.patterns s2 s3 stop (mapped s3.held (HasTwo n t p) (HasTable n t) (λ files h. h.0) later) stops)
-
-pub counted_4 : (n : FileNames) (t : Alphabet) (p : Parameters) (S : List ((List ℕ × ℕ) × ℕ)) (s0 s3 s4 : FilesShown) (stop : Stop) → MakesCalls s0 s4 4 → KeepsHeld s3.held s4.held → IfSome s3.held (HasThree n t p S) → StopsAt (input_file input.Dictionary n.dict (λ _. words t)) s3 s4 stop → StopsCounted (inputs_of n) s0 s4 stop
-counted_4 n t p S s0 s3 s4 stop calls keeps three stops =
-    let later : IfSome s4.held (HasThree n t p S) = held_later s3.held s4.held (HasThree n t p S) keeps three in
-    counted_behind (translate_input n ∷ parameters_input n ∷ patterns_input n ∷ []) (dictionary_input n) [] s0 s3 s4 stop calls
+    stopped_behind (translate_input n ∷ parameters_input n ∷ patterns_input n ∷ []) (dictionary_input n) [] s0 s3 s4 stop fell calls
     (mapped s4.held (HasThree n t p S) (λ files. AreAccepted (file_at files) (translate_input n ∷ parameters_input n ∷ patterns_input n ∷ [])) (three_accepted n t p S) later)
     (stopped_under n.translate t words input.Dictionary n.dict s3 s4 stop (mapped s4.held (HasThree n t p S) (HasTable n t) (λ files h. h.0.0) later) stops)
 
 -- all were read, and then memory was wanted
-pub counted_memory : (n : FileNames) (i : Inputs) (s0 s1 : FilesShown) → MakesCalls s0 s1 4 → IfSome s1.held (λ files. HasInputs (file_at files) n i) → StopsCounted (inputs_of n) s0 s1 Memory
-counted_memory n i s0 s1 calls read = record {
-  place = 3;
-  reads_so_far = read_behind (translate_input n ∷ parameters_input n ∷ patterns_input n ∷ []) (dictionary_input n) [] s0 s1 calls
-      (mapped s1.held (λ files. HasInputs (file_at files) n i) (λ files. AreAccepted (file_at files) (translate_input n ∷ parameters_input n ∷ patterns_input n ∷ []))
-      (λ files h. three_accepted n i.table i.params i.start files ((h.table, h.params), h.start)) read);
-  last = tt;
-}
+pub inputs_wanted : (n : FileNames) (i : Inputs) (s0 s1 : FilesShown) → MakesCalls s0 s1 4 → IfSome s1.held (λ files. HasInputs (file_at files) n i) → StopsReading (inputs_of n) s0 s1 Memory
+inputs_wanted n i s0 s1 calls read =
+    wanted_after (inputs_of n) s0 s1 (omega arith) calls
+    (mapped s1.held (λ files. HasInputs (file_at files) n i) (λ files. AreAccepted (file_at files) (inputs_of n)) (λ files h. inputs_accepted n i.table i.params i.start i.dictionary files h) read)

@@ -19,6 +19,7 @@ pub mod SweepTexts
 pub mod SweepParts
 pub mod WrittenNames
 pub mod Calls
+pub mod Promised
 pub mod DigitValues
 pub mod SampleWords
 pub mod SampleReads

@@ -1,5 +1,5 @@
 -- What `pack` and `totals` read, and what they come to.
-use Rattle.std.proofs.Common.{◌≡◌, ℕ, ◌+◌, Bool, true, false, not, List, [], ◌∷◌, length, Option, Some, Result, Ok, Err, IfSome, nat_lt, nat_eq, cond, refl, sym, ap, ◌∙◌}
+use Rattle.std.proofs.Common.{◌≡◌, ℕ, ◌+◌, inr, Bool, true, false, not, List, [], ◌∷◌, length, Option, Some, Result, Ok, Err, IfSome, nat_lt, nat_eq, cond, refl, sym, ap, ◌∙◌, subst, arith}
 use Rattle.std.specs.Prelude.{unwrap_or}
 use Rattle.std.proofs.lemmas.Bool.{eqb-true}
 use Rattle.pg_types.specs.declared.refusals.Kind.TheVariants.{TableTooLong, BadTable, OtherTable}
@@ -15,18 +15,20 @@ use Rattle.pg_select.specs.Windows.{Patterns}
 use Rattle.pg_table.specs.declared.limits.TheConstants.{TABLE_MAX}
 use Rattle.pg_table.specs.Forms.{head_of, is_well_formed}
 use Rattle.pg_top.specs.Calls.{outcome_of, finished}
-use Rattle.pg_top.specs.Outcomes.{Ends, refuses}
-use Rattle.pg_top.specs.PackedTables.{file_under, packed_table, table_refused, packing_reads, packed, totals_reads, totals_lines}
+use Rattle.pg_top.specs.Counted.{MakesCalls, EndsAt}
+use Rattle.pg_top.specs.Outcomes.{Ends, Writing, refuses}
+use Rattle.pg_top.specs.PackedTables.{file_under, packed_table, table_refused, packing_reads, packed, packed_text, totals_reads, totals_lines}
+use Rattle.pg_top.specs.Promises.{GivesValues, PackKeeps}
 use Rattle.pg_top.specs.Readings.{Reading, read_as, input_file}
 use Rattle.pg_top.specs.Requests.{ToPack, ToTotals}
 use Rattle.pg_top.specs.Sources.{HasSource, IsTotalled}
-use Rattle.pg_top.specs.Stops.{StopsAt, StopsReading, StopsCommand, StopsMaking}
+use Rattle.pg_top.specs.Stops.{StopsAt, StopsReading, StopsCommandWith, StopsCommand, StopsMaking}
 use Rattle.pg_top.specs.declared.answers.Status.TheVariants.{Done}
 use Rattle.pg_top.specs.declared.inputs.Input.TheVariants as input
 use Rattle.pg_top.specs.declared.inputs.Stop.{Stop}
 use Rattle.pg_top.specs.declared.inputs.Stop.TheVariants.{Refused, Unread, Memory}
 use Rattle.pg_top.specs.declared.packing.Source.{Source}
-use Rattle.pg_top.proofs.Orders.{AreAccepted, accepted_all, mapped, both, held_later, stopped_behind}
+use Rattle.pg_top.proofs.Orders.{AreAccepted, accepted_all, mapped, both, held_later, stopped_behind, reads_all}
 use Rattle.pg_top.proofs.UnderTable.{HasTable, is_table, table_accepted, accepted_under, means_under, stopped_under}
 
 -- both files of `pack` are read, one after the other
@@ -36,22 +38,41 @@ source_read patterns translate t P h1 h2 keeps one more =
     mapped h2 (λ files. HasTable translate t files × (read_as (start t) (file_at files) patterns ≡ Some (Ok P))) (λ files. HasSource (file_at files) patterns translate (record { table = t; patterns = P })) (λ files h. record { table = h.0; patterns = h.1 })
     (both h2 (HasTable translate t) (λ files. read_as (start t) (file_at files) patterns ≡ Some (Ok P)) (held_later h1 h2 (HasTable translate t) keeps one) more)
 
+-- and are accepted
+pack_accepted : (patterns translate : List ℕ) (s : Source) (files : FileMap) → HasSource (file_at files) patterns translate s → AreAccepted (file_at files) (packing_reads patterns translate)
+pack_accepted patterns translate s files h = (table_accepted translate s.table files h.table, (accepted_under translate s.table start input.Patterns patterns s.patterns files h.table h.patterns, tt))
+
 -- then it comes to the table of the patterns
 pub pack_outcome : (patterns translate name : List ℕ) (s : Source) (files : FileMap) → HasSource (file_at files) patterns translate s → outcome_of (file_at files) (ToPack patterns translate name) ≡ packed name s.table s.patterns
 pack_outcome patterns translate name s files h =
-    let t : Alphabet = s.table in
-    let accepted : AreAccepted (file_at files) (packing_reads patterns translate) = (table_accepted translate t files h.table, (accepted_under translate t start input.Patterns patterns s.patterns files h.table h.patterns, tt)) in
-    let is_t = is_table translate t files h.table in
-    let is_P = means_under translate t start [] patterns s.patterns files h.table h.patterns in
-    ap (λ end. unwrap_or end (finished (file_at files) (ToPack patterns translate name))) (accepted_all (file_at files) (packing_reads patterns translate) accepted)
+    let is_t = is_table translate s.table files h.table in
+    let is_P = means_under translate s.table start [] patterns s.patterns files h.table h.patterns in
+    ap (λ end. unwrap_or end (finished (file_at files) (ToPack patterns translate name))) (accepted_all (file_at files) (packing_reads patterns translate) (pack_accepted patterns translate s files h))
     ∙ (λ k. packed name (is_t k) (is_P k))
 
+-- what it promises
+pub pack_keeps : (patterns translate name : List ℕ) (s : Source) (writing : Writing) (lines : List ℕ) (files : FileMap) → packed name s.table s.patterns ≡ Ends Done writing lines → writing ≡ (name, packed_text s.table s.patterns) ∷ [] → GivesValues (packed_text s.table s.patterns) s.patterns → HasSource (file_at files) patterns translate s → PackKeeps (file_at files) patterns translate name
+pack_keeps patterns translate name s writing lines files made table gives h = record {
+  bytes = packed_text s.table s.patterns;
+  lines = lines;
+  comes = pack_outcome patterns translate name s files h ∙ made ∙ ap (λ (w : Writing). Ends Done w lines) table;
+  gives = subst (λ (P : Patterns). GivesValues (packed_text s.table s.patterns) P) (sym (means_under translate s.table start [] patterns s.patterns files h.table h.patterns)) gives;
+}
+
 -- a stop at making the table
-pub stopped_making : (patterns translate name : List ℕ) (s : Source) (s0 s1 : FilesShown) (why : Stop) → IfSome s1.held (λ files. HasSource (file_at files) patterns translate s) → StopsMaking (packed name s.table s.patterns) why → StopsCommand (ToPack patterns translate name) s0 s1 why
-stopped_making patterns translate name s s0 s1 (Refused at refusal) h is =
-    mapped s1.held (λ files. HasSource (file_at files) patterns translate s) (λ files. outcome_of (file_at files) (ToPack patterns translate name) ≡ refuses at refusal) (λ files k. pack_outcome patterns translate name s files k ∙ is) h
-stopped_making patterns translate name s s0 s1 (Unread at) h is = absurd is
-stopped_making patterns translate name s s0 s1 Memory h is = tt
+pub stopped_making : (patterns translate name : List ℕ) (s : Source) (s0 s1 : FilesShown) (why : Stop) → MakesCalls s0 s1 2 → IfSome s1.held (λ files. HasSource (file_at files) patterns translate s) → StopsMaking (packed name s.table s.patterns) why → StopsCommand (ToPack patterns translate name) s0 s1 why
+stopped_making patterns translate name s s0 s1 why calls h making = record {
+  place = 1;
+  read = reads_all (packing_reads patterns translate) s0 s1 (omega arith) calls (mapped s1.held (λ files. HasSource (file_at files) patterns translate s) (λ files. AreAccepted (file_at files) (packing_reads patterns translate)) (pack_accepted patterns translate s) h);
+  why = why_made why making;
+}
+  where
+    why_made : (why : Stop) → StopsMaking (packed name s.table s.patterns) why → StopsCommandWith (ToPack patterns translate name) 1 s0 s1 why
+    why_made (Refused at refusal) is =
+        mapped s1.held (λ files. HasSource (file_at files) patterns translate s) (λ files. (outcome_of (file_at files) (ToPack patterns translate name) ≡ refuses at refusal) × EndsAt (ToPack patterns translate name) 1 (file_at files))
+        (λ files k. (pack_outcome patterns translate name s files k ∙ is, inr (refl, accepted_all (file_at files) (packing_reads patterns translate) (pack_accepted patterns translate s files k)))) h
+    why_made (Unread at) is = absurd is
+    why_made Memory is = tt
 
 -- what is known once two files of `totals` are read
 abbrev pub HasWords : List ℕ → List ℕ → Alphabet → List Word → FileMap → Type 0
@@ -78,11 +99,11 @@ totals_told dict translate name t ws lines h2 h3 keeps two more =
     (both h3 (HasWords dict translate t ws) (λ files. IsTotalled t ws (file_at files) name lines) (held_later h2 h3 (HasWords dict translate t ws) keeps two) more)
 
 -- a stop at the packed table
-pub stopped_table : (dict translate name : List ℕ) (t : Alphabet) (ws : List Word) (s0 s2 s3 : FilesShown) (why : Stop) → NoneFell s0.read_faults s2.read_faults → KeepsHeld s2.held s3.held → IfSome s2.held (HasWords dict translate t ws) → StopsAt (input_file input.Table name (λ _. packed_table t)) s2 s3 why → StopsReading (totals_reads dict translate name) s0 s3 why
-stopped_table dict translate name t ws s0 s2 s3 why fell keeps two stops =
+pub stopped_table : (dict translate name : List ℕ) (t : Alphabet) (ws : List Word) (s0 s2 s3 : FilesShown) (why : Stop) → NoneFell s0.read_faults s2.read_faults → MakesCalls s0 s3 3 → KeepsHeld s2.held s3.held → IfSome s2.held (HasWords dict translate t ws) → StopsAt (input_file input.Table name (λ _. packed_table t)) s2 s3 why → StopsReading (totals_reads dict translate name) s0 s3 why
+stopped_table dict translate name t ws s0 s2 s3 why fell calls keeps two stops =
     let later : IfSome s3.held (HasWords dict translate t ws) = held_later s2.held s3.held (HasWords dict translate t ws) keeps two in
     let front : List Reading = input_file input.Translate translate (λ _. table) ∷ file_under translate input.Dictionary dict words ∷ [] in
-    stopped_behind front (file_under translate input.Table name packed_table) [] s0 s2 s3 why fell
+    stopped_behind front (file_under translate input.Table name packed_table) [] s0 s2 s3 why fell calls
     (mapped s3.held (HasWords dict translate t ws) (λ files. AreAccepted (file_at files) front) (λ files h. (table_accepted translate t files h.0, (accepted_under translate t words input.Dictionary dict ws files h.0 h.1, tt))) later)
     (stopped_under translate t packed_table input.Table name s2 s3 why (mapped s3.held (HasWords dict translate t ws) (HasTable translate t) (λ files h. h.0) later) stops)
 

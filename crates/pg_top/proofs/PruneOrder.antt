@@ -1,5 +1,5 @@
 -- What `prune` reads, and what it comes to.
-use Rattle.std.proofs.Common.{◌≡◌, ℕ, List, [], ◌∷◌, Option, Some, Ok, IfSome, ap, ◌∙◌}
+use Rattle.std.proofs.Common.{◌≡◌, List, [], ◌∷◌, Option, Some, Ok, IfSome, ap, ◌∙◌}
 use Rattle.std.specs.Prelude.{unwrap_or}
 use Rattle.pg_outside.specs.Content.{FileMap, FilesShown, KeepsHeld, file_at}
 use Rattle.pg_outside.specs.Faults.{NoneFell}
@@ -10,11 +10,18 @@ use Rattle.pg_dict.specs.Words.{words}
 use Rattle.pg_patterns.specs.Starts.{start}
 use Rattle.pg_select.specs.Windows.{Patterns}
 use Rattle.pg_top.specs.Calls.{outcome_of, finished}
+use Rattle.pg_top.specs.Counted.{MakesCalls}
 use Rattle.pg_top.specs.PackedTables.{file_under}
 use Rattle.pg_top.specs.PruneInputs.{HasPrune}
-use Rattle.pg_top.specs.Pruning.{prune_reads, pruned_by}
+use Rattle.pg_prune.specs.Prunes.{pruned}
+use Rattle.pg_prune.specs.Reports.{prune_report}
+use Rattle.pg_prune.proofs.PrunedLaws.{pruned_alike, pruned_least}
+use Rattle.pg_select.specs.CountedPositions.{minima_of}
+use Rattle.pg_top.specs.Promises.{words_under, patterns_under, PruneKeeps}
+use Rattle.pg_top.specs.Pruning.{prune_reads, pruned_by, line_of_pruned}
 use Rattle.pg_top.specs.Readings.{Reading, read_as, input_file}
 use Rattle.pg_top.specs.Requests.{PruneRequest, ToPrune}
+use Rattle.pg_top.specs.Selecting.{table_named}
 use Rattle.pg_top.specs.Stops.{StopsAt, StopsReading}
 use Rattle.pg_top.specs.declared.inputs.Input.TheVariants as input
 use Rattle.pg_top.specs.declared.inputs.Stop.{Stop}
@@ -33,13 +40,13 @@ module _ (p : PruneRequest) where
   dictionary_file = file_under p.translate input.Dictionary p.dict words
 
   -- a stop at the translate file
-  pub stopped_table : (s0 s1 : FilesShown) (stop : Stop) → StopsAt translate_file s0 s1 stop → StopsReading (prune_reads p) s0 s1 stop
-  stopped_table s0 s1 stop stops = stopped_first translate_file (patterns_file ∷ dictionary_file ∷ []) s0 s1 stop stops
+  pub stopped_table : (s0 s1 : FilesShown) (stop : Stop) → MakesCalls s0 s1 1 → StopsAt translate_file s0 s1 stop → StopsReading (prune_reads p) s0 s1 stop
+  stopped_table s0 s1 stop calls stops = stopped_first translate_file (patterns_file ∷ dictionary_file ∷ []) s0 s1 stop calls stops
 
   module _ (t : Alphabet) where
     -- a stop at the patterns
-    pub stopped_patterns : (s0 s1 s2 : FilesShown) (stop : Stop) → NoneFell s0.read_faults s1.read_faults → KeepsHeld s1.held s2.held → IfSome s1.held (HasTable p.translate t) → StopsAt (input_file input.Patterns p.patterns (λ _. start t)) s1 s2 stop → StopsReading (prune_reads p) s0 s2 stop
-    stopped_patterns s0 s1 s2 stop fell keeps one stops = stopped_second p.translate t start input.Patterns p.patterns (dictionary_file ∷ []) s0 s1 s2 stop fell keeps one stops
+    pub stopped_patterns : (s0 s1 s2 : FilesShown) (stop : Stop) → NoneFell s0.read_faults s1.read_faults → MakesCalls s0 s2 2 → KeepsHeld s1.held s2.held → IfSome s1.held (HasTable p.translate t) → StopsAt (input_file input.Patterns p.patterns (λ _. start t)) s1 s2 stop → StopsReading (prune_reads p) s0 s2 stop
+    stopped_patterns s0 s1 s2 stop fell calls keeps one stops = stopped_second p.translate t start input.Patterns p.patterns (dictionary_file ∷ []) s0 s1 s2 stop fell calls keeps one stops
 
     module _ (P : Patterns) where
       -- what is known once the patterns are read
@@ -53,10 +60,10 @@ module _ (p : PruneRequest) where
       patterns_read h1 h2 keeps one more = both h2 (HasTable p.translate t) (λ files. read_as (start t) (file_at files) p.patterns ≡ Some (Ok P)) (held_later h1 h2 (HasTable p.translate t) keeps one) more
 
       -- a stop at the dictionary
-      pub stopped_words : (s0 s2 s3 : FilesShown) (stop : Stop) → NoneFell s0.read_faults s2.read_faults → KeepsHeld s2.held s3.held → IfSome s2.held HasPatterns → StopsAt (input_file input.Dictionary p.dict (λ _. words t)) s2 s3 stop → StopsReading (prune_reads p) s0 s3 stop
-      stopped_words s0 s2 s3 stop fell keeps two stops =
+      pub stopped_words : (s0 s2 s3 : FilesShown) (stop : Stop) → NoneFell s0.read_faults s2.read_faults → MakesCalls s0 s3 3 → KeepsHeld s2.held s3.held → IfSome s2.held HasPatterns → StopsAt (input_file input.Dictionary p.dict (λ _. words t)) s2 s3 stop → StopsReading (prune_reads p) s0 s3 stop
+      stopped_words s0 s2 s3 stop fell calls keeps two stops =
           let later : IfSome s3.held HasPatterns = held_later s2.held s3.held HasPatterns keeps two in
-          stopped_behind (translate_file ∷ patterns_file ∷ []) dictionary_file [] s0 s2 s3 stop fell
+          stopped_behind (translate_file ∷ patterns_file ∷ []) dictionary_file [] s0 s2 s3 stop fell calls
           (mapped s3.held HasPatterns (λ files. AreAccepted (file_at files) (translate_file ∷ patterns_file ∷ [])) patterns_accepted later)
           (stopped_under p.translate t words input.Dictionary p.dict s2 s3 stop (mapped s3.held HasPatterns (HasTable p.translate t) (λ files h. h.0) later) stops)
 
@@ -68,16 +75,35 @@ module _ (p : PruneRequest) where
           (λ files h. record { table = h.0.0; patterns = h.0.1; words = h.1 })
           (both h3 HasPatterns (λ files. read_as (words t) (file_at files) p.dict ≡ Some (Ok ws)) (held_later h2 h3 HasPatterns keeps two) more)
 
+-- they are accepted
+pub prune_accepted : (p : PruneRequest) (i : PruneInputs) (files : FileMap) → HasPrune (file_at files) p i → AreAccepted (file_at files) (prune_reads p)
+prune_accepted p i files h =
+    let front : AreAccepted (file_at files) (translate_file p ∷ patterns_file p ∷ []) = patterns_accepted p i.table i.patterns files (h.table, h.patterns) in
+    (front.0, (front.1.0, (accepted_under p.translate i.table words input.Dictionary p.dict i.dictionary files h.table h.words, tt)))
+
 -- then it comes to what pruning writes and prints
 pub prune_outcome : (p : PruneRequest) (i : PruneInputs) (files : FileMap) → HasPrune (file_at files) p i → outcome_of (file_at files) (ToPrune p) ≡ pruned_by p i.table i.dictionary i.patterns
 prune_outcome p i files h =
     let t : Alphabet = i.table in
     let P : Patterns = i.patterns in
     let ws : List Word = i.dictionary in
-    let front : AreAccepted (file_at files) (translate_file p ∷ patterns_file p ∷ []) = patterns_accepted p t P files (h.table, h.patterns) in
-    let accepted : AreAccepted (file_at files) (prune_reads p) = (front.0, (front.1.0, (accepted_under p.translate t words input.Dictionary p.dict ws files h.table h.words, tt))) in
     let is_t = is_table p.translate t files h.table in
     let is_P = means_under p.translate t start [] p.patterns P files h.table h.patterns in
     let is_ws = means_under p.translate t words [] p.dict ws files h.table h.words in
-    ap (λ end. unwrap_or end (finished (file_at files) (ToPrune p))) (accepted_all (file_at files) (prune_reads p) accepted)
+    ap (λ end. unwrap_or end (finished (file_at files) (ToPrune p))) (accepted_all (file_at files) (prune_reads p) (prune_accepted p i files h))
     ∙ (λ k. pruned_by p (is_t k) (is_ws k) (is_P k))
+
+-- what it promises
+pub prune_keeps : (p : PruneRequest) (i : PruneInputs) (files : FileMap) → HasPrune (file_at files) p i → PruneKeeps (file_at files) p
+prune_keeps p i files h =
+    let m = minima_of (table_named p.translate (file_at files)) in
+    let ws : List Word = words_under (file_at files) p.translate p.dict in
+    let P : Patterns = patterns_under (file_at files) p.translate p.patterns in
+    record {
+      kept = (pruned m ws P).patterns;
+      report = prune_report (table_named p.translate (file_at files)) (pruned m ws P);
+      lines = line_of_pruned (pruned m ws P);
+      comes = ap (λ end. unwrap_or end (finished (file_at files) (ToPrune p))) (accepted_all (file_at files) (prune_reads p) (prune_accepted p i files h));
+      alike = pruned_alike m ws P;
+      least = pruned_least m ws P;
+    }

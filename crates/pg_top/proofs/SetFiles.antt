@@ -7,6 +7,7 @@ use Rattle.pg_types.specs.Parameters.{Parameters, parameters}
 use Rattle.pg_outside.specs.Content.{FileMap, FilesShown, KeepsHeld, file_at}
 use Rattle.pg_outside.specs.Faults.{NoneFell}
 use Rattle.pg_top.specs.Commands.{words_of}
+use Rattle.pg_top.specs.Counted.{MakesCalls}
 use Rattle.pg_top.specs.Readings.{Held, Reading, read_as}
 use Rattle.pg_top.specs.Stops.{StopsAt, StopsReading}
 use Rattle.pg_top.specs.Sweeping.{accepted_set, set_file, set_files, set_named, HasSets}
@@ -43,6 +44,11 @@ sets_and files names sets name set h more =
     ∙ (λ k. h k ++ more k ∷ [])
     ∙ sym (map-append accepted_set sets (set ∷ []))
 
+-- there is a file for each name
+pub sets_length : (number : ℕ) (names : List (List ℕ)) → length (set_files number names) ≡ length names
+sets_length number [] = refl
+sets_length number (name ∷ names) = let rest = sets_length (number + 1) names in omega arith
+
 -- the names in front of a name, and behind it
 module _ (names : List (String Global)) (i : ℕ) (name : String Global) (is : name ≡ get_or names i name) (within : i < length names) where
   names_more : words_of (take (i + 1) names) ≡ words_of (take i names) ++ string_bytes name ∷ []
@@ -64,14 +70,15 @@ module _ (names : List (String Global)) (i : ℕ) (name : String Global) (is : n
       (both h2 (λ files. HasSets (file_at files) (words_of (take i names)) sets) (λ files. read_as parameters (file_at files) (string_bytes name) ≡ Some (Ok set)) (held_later h1 h2 (λ files. HasSets (file_at files) (words_of (take i names)) sets) keeps before) more)
 
   -- a stop at a file is a stop of all
-  pub stopped_set : (s0 s1 s2 : FilesShown) (sets : List Parameters) (stop : Stop) → NoneFell s0.read_faults s1.read_faults → KeepsHeld s1.held s2.held → IfSome s1.held (λ files. HasSets (file_at files) (words_of (take i names)) sets) → StopsAt (set_file (i + 1) (string_bytes name)) s1 s2 stop
+  pub stopped_set : (s0 s1 s2 : FilesShown) (sets : List Parameters) (stop : Stop) → NoneFell s0.read_faults s1.read_faults → MakesCalls s0 s2 (i + 1) → KeepsHeld s1.held s2.held → IfSome s1.held (λ files. HasSets (file_at files) (words_of (take i names)) sets) → StopsAt (set_file (i + 1) (string_bytes name)) s1 s2 stop
       → StopsReading (set_files 1 (words_of names)) s0 s2 stop
-  stopped_set s0 s1 s2 sets stop fell keeps before stops =
+  stopped_set s0 s1 s2 sets stop fell calls keeps before stops =
       let front : List (List ℕ) = words_of (take i names) in
       let counted : length front ≡ i = length-map (take i names) string_bytes ∙ length-take-le i names (omega arith) in
+      let so_far : i + 1 ≡ length (set_files 1 front) + 1 = ap (λ n. n + 1) (sym counted ∙ sym (sets_length 1 front)) in
       let split = ap (set_files 1) names_split ∙ files_split 1 front (string_bytes name) (words_of (drop (i + 1) names)) (i + 1) (omega arith) in
       subst (λ (reads : List Reading). StopsReading reads s0 s2 stop) (sym split)
-      (stopped_behind (set_files 1 front) (set_file (i + 1) (string_bytes name)) (set_files ((i + 1) + 1) (words_of (drop (i + 1) names))) s0 s1 s2 stop fell
+      (stopped_behind (set_files 1 front) (set_file (i + 1) (string_bytes name)) (set_files ((i + 1) + 1) (words_of (drop (i + 1) names))) s0 s1 s2 stop fell (subst (λ n. MakesCalls s0 s2 n) so_far calls)
       (mapped s2.held (λ files. HasSets (file_at files) front sets) (λ files. AreAccepted (file_at files) (set_files 1 front)) (λ files h. sets_accepted (file_at files) 1 front sets h) (held_later s1.held s2.held (λ files. HasSets (file_at files) front sets) keeps before))
       stops)
     where

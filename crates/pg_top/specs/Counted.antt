@@ -1,16 +1,15 @@
 -- How many calls a command makes on files and on the sink.
 use Rattle.std.specs.Prelude.{◌≡◌, ℕ, zero, suc, ◌+◌, ◌<◌, ◌≤◌, List, length, take, slice_get, Option, None, Some, IfSome, ◌⊎◌}
 use Rattle.pg_outside.specs.Content.{FilesShown, SinkShown, file_at}
-use Rattle.pg_outside.specs.Faults.{next_count}
-use Rattle.pg_top.specs.Calls.{reads_of, writes_of}
+use Rattle.pg_outside.specs.Faults.{next_count, Rose}
+use Rattle.pg_top.specs.Calls.{outcome_of, reads_of, writes_of}
 use Rattle.pg_top.specs.Moments.{Moment}
-use Rattle.pg_top.specs.Outcomes.{refuses}
-use Rattle.pg_top.specs.Readings.{Reading, first_end}
-use Rattle.pg_top.specs.Requests.{Request, ToGenerate}
+use Rattle.pg_top.specs.Readings.{Held, Reading, first_end}
+use Rattle.pg_top.specs.Requests.{Request}
 use Rattle.pg_top.specs.declared.answers.Status.{Status}
 use Rattle.pg_top.specs.declared.answers.Status.TheVariants as status
 use Rattle.pg_top.specs.declared.inputs.Stop.{Stop}
-use Rattle.pg_top.specs.declared.inputs.Stop.TheVariants.{Refused, Unread, Memory}
+use Rattle.pg_top.specs.declared.inputs.Stop.TheVariants.{Refused, Unread}
 
 -- a count after so many calls more
 abbrev pub after_calls : ℕ → ℕ → ℕ
@@ -35,54 +34,89 @@ pub record ReadsUpTo (reads : List Reading) (place : ℕ) (old new : FilesShown)
   pub calls : MakesCalls old new (place + 1)
   pub before_it : IfSome new.held (λ files. first_end (file_at files) (take place reads) ≡ None)
 
--- the file at a place is the one that stopped reading: the one that is refused, or the one that could not be read
-abbrev pub IsLastRead : List Reading → ℕ → FilesShown → Stop → Type 0
-IsLastRead reads place new (Refused input refusal) = IfSome new.held (λ files.
-    first_end (file_at files) (take (place + 1) reads) ≡ Some (refuses input refusal))
-IsLastRead reads place new (Unread name) =
-    (reading : Reading) × (slice_get reads place ≡ Some reading) × (reading.name ≡ name.now)
-IsLastRead reads place new Memory = Unit {0}
+-- the file at a place of the order could not be read
+pub record IsUnreadAt (reads : List Reading) (place : ℕ) (old new : FilesShown) : Type 0 where
+  pub reading : Reading
+  pub there : slice_get reads place ≡ Some reading
+  pub rose : Rose (old.read_faults reading.name) (new.read_faults reading.name)
 
--- reading stopped at a place of the order
-pub record StopsCounted (reads : List Reading) (old new : FilesShown) (stop : Stop) : Type 0 where
-  pub place : ℕ
-  pub reads_so_far : ReadsUpTo reads place old new
-  pub last : IsLastRead reads place new stop
+-- the file at a place of the order could not be written
+pub record IsUnwrittenAt (names : List (List ℕ)) (place : ℕ) (old new : FilesShown) : Type 0 where
+  pub name : List ℕ
+  pub there : slice_get names place ≡ Some name
+  pub rose : Rose (old.write_faults name) (new.write_faults name)
 
--- the puts of a command that stopped before it wrote
-abbrev pub PutsCounted : Status → SinkShown → SinkShown → Type 0
-PutsCounted status.Refused old new = MakesPuts old new 1
-PutsCounted status.Fault old new = PutsFault old new
-PutsCounted status.Memory old new = MakesPuts old new 0
-PutsCounted answer old new = ⊥
+-- the file at a place of the order is the one that ends the call; or all were read up to this place, and none ends it
+abbrev pub EndsAt : Request → ℕ → Held → Type 0
+EndsAt request place files =
+    (first_end files (take (place + 1) (reads_of request)) ≡ Some (outcome_of files request))
+    ⊎ ((place + 1 ≡ length (reads_of request)) × (first_end files (reads_of request) ≡ None))
 
--- so many files are to be written: each was written once and the lines were put at once, or one could not be written
-abbrev pub FinishCounted : ℕ → Status → Moment → Moment → Type 0
-FinishCounted writes status.Done old new = MakesCalls old.0 new.0 writes × MakesPuts old.1 new.1 1
-FinishCounted writes status.Fault old new =
-    ((place : ℕ) × (place < writes) × MakesCalls old.0 new.0 (place + 1) × PutsFault old.1 new.1)
-    ⊎ (MakesCalls old.0 new.0 writes × MakesPuts old.1 new.1 1)
-FinishCounted writes answer old new = ⊥
+-- the puts of a command that stopped before it wrote: a refusal is one line, and the line of a fault has three parts
+abbrev pub PutsCounted : Stop → Status → SinkShown → SinkShown → Type 0
+PutsCounted stop status.Memory old new = MakesPuts old new 0
+PutsCounted (Refused input refusal) status.Refused old new = MakesPuts old new 1
+PutsCounted (Refused input refusal) status.Fault old new = MakesPuts old new 1
+PutsCounted (Unread name) status.Fault old new = PutsFault old new
+PutsCounted stop answer old new = ⊥
 
--- how many calls each answer has made on files, and how many puts: each file is read once up to the one that stops the
--- command and written once up to one that cannot be, and all lines but those of a fault are put at once
-abbrev pub IsCounted : Request → Status → Moment → Moment → Type 0
-IsCounted request status.Refused old new =
-    (place : ℕ) × ReadsUpTo (reads_of request) place old.0 new.0 × MakesPuts old.1 new.1 1
-IsCounted request status.No old new =
-    (place : ℕ) × ReadsUpTo (reads_of request) place old.0 new.0 × MakesPuts old.1 new.1 1
-IsCounted request status.Memory old new =
-    (place : ℕ) × ReadsUpTo (reads_of request) place old.0 new.0 × MakesPuts old.1 new.1 0
-IsCounted request status.Fault old new =
-    ((place : ℕ) × ReadsUpTo (reads_of request) place old.0 new.0 × PutsFault old.1 new.1)
-    ⊎ (((place : ℕ) × (place < length (writes_of request))
-    × MakesCalls old.0 new.0 (length (reads_of request) + (place + 1)) × PutsFault old.1 new.1)
-    ⊎ (MakesCalls old.0 new.0 (length (reads_of request) + length (writes_of request)) × MakesPuts old.1 new.1 1))
-IsCounted request status.Usage old new = ⊥
-IsCounted request answer old new =
+-- the puts of a command that reads and writes nothing: its lines are put at once, and nothing where memory is wanted
+abbrev pub LinesCounted : Status → SinkShown → SinkShown → Type 0
+LinesCounted status.Memory old new = MakesPuts old new 0
+LinesCounted answer old new = MakesPuts old new 1
+
+-- files of these names are to be written: each was written once and the lines were put at once, or one could not be
+-- written, and none behind it was
+abbrev pub FinishCounted : List (List ℕ) → Status → Moment → Moment → Type 0
+FinishCounted names status.Done old new = MakesCalls old.0 new.0 (length names) × MakesPuts old.1 new.1 1
+FinishCounted names status.Fault old new =
+    ((place : ℕ) × (place < length names) × IsUnwrittenAt names place old.0 new.0
+    × MakesCalls old.0 new.0 (place + 1) × PutsFault old.1 new.1)
+    ⊎ (MakesCalls old.0 new.0 (length names) × MakesPuts old.1 new.1 1)
+FinishCounted names answer old new = ⊥
+
+-- a file ended the call, and its line was put at once
+abbrev pub IsEndedCounted : Request → Moment → Moment → Type 0
+IsEndedCounted request old new =
+    (place : ℕ) × ReadsUpTo (reads_of request) place old.0 new.0
+    × IfSome new.0.held (λ files. EndsAt request place (file_at files)) × MakesPuts old.1 new.1 1
+
+-- a file could not be read, and the line of its fault was put
+abbrev pub IsUnreadCounted : Request → Moment → Moment → Type 0
+IsUnreadCounted request old new =
+    (place : ℕ) × ReadsUpTo (reads_of request) place old.0 new.0
+    × IsUnreadAt (reads_of request) place old.0 new.0 × PutsFault old.1 new.1
+
+-- all files were read, and those before one that could not be written were written; the line of its fault was put
+abbrev pub IsUnwrittenCounted : Request → Moment → Moment → Type 0
+IsUnwrittenCounted request old new =
+    (place : ℕ) × (place < length (writes_of request)) × IsUnwrittenAt (writes_of request) place old.0 new.0
+    × MakesCalls old.0 new.0 (length (reads_of request) + (place + 1)) × PutsFault old.1 new.1
+
+-- each file was read once and each written once, and the lines were put at once
+abbrev pub IsWholeCounted : Request → Moment → Moment → Type 0
+IsWholeCounted request old new =
     MakesCalls old.0 new.0 (length (reads_of request) + length (writes_of request)) × MakesPuts old.1 new.1 1
 
--- this is so of a call that asks for `generate`; of the others nothing is said yet
+-- memory was wanted, before the first read or behind the last of some, and nothing was put
+abbrev pub IsWantCounted : Request → Moment → Moment → Type 0
+IsWantCounted request old new =
+    (MakesCalls old.0 new.0 0 ⊎ ((place : ℕ) × ReadsUpTo (reads_of request) place old.0 new.0))
+    × MakesPuts old.1 new.1 0
+
+-- how many calls each answer has made on files, and how many puts
+abbrev pub IsCounted : Request → Status → Moment → Moment → Type 0
+IsCounted request status.Done old new = IsWholeCounted request old new
+IsCounted request status.Yes old new = IsWholeCounted request old new
+IsCounted request status.No old new = IsEndedCounted request old new
+IsCounted request status.Refused old new = IsEndedCounted request old new
+IsCounted request status.Memory old new = IsWantCounted request old new
+IsCounted request status.Fault old new =
+    IsUnreadCounted request old new ⊎ (IsUnwrittenCounted request old new
+    ⊎ (IsEndedCounted request old new ⊎ IsWholeCounted request old new))
+IsCounted request status.Usage old new = ⊥
+
+-- the same of a call: words that are no command call no file, and their line is put at once
 abbrev pub IsCountedCall : Option Request → Status → Moment → Moment → Type 0
-IsCountedCall (Some (ToGenerate n)) answer old new = IsCounted (ToGenerate n) answer old new
-IsCountedCall asked answer old new = Unit {0}
+IsCountedCall None answer old new = MakesCalls old.0 new.0 0 × MakesPuts old.1 new.1 1
+IsCountedCall (Some request) answer old new = IsCounted request answer old new

@@ -19,6 +19,7 @@ pub mod Faults
 pub mod Answers
 pub mod Stops
 pub mod Counted
+pub mod Promises
 pub mod WholeCalls
 pub mod Sources
 pub mod PruneInputs

@@ -1,5 +1,5 @@
 -- What `prune` is given and has read.
-use Rattle.std.specs.Prelude.{◌≡◌, ℕ, ◌+◌, Some, Ok}
+use Rattle.std.specs.Prelude.{◌≡◌, ◌+◌, Some, Ok}
 use Rattle.pg_translate.specs.Alphabets.{letters_of}
 use Rattle.pg_translate.specs.Tables.{table}
 use Rattle.pg_dict.specs.Words.{words}

@@ -1,12 +1,12 @@
 -- Why a command stops before it writes, and what is put then.
-use Rattle.std.specs.Prelude.{◌≡◌, ℕ, List, [], Some, IfSome, ◌⊎◌}
+use Rattle.std.specs.Prelude.{◌≡◌, ℕ, ◌+◌, List, [], take, Some, IfSome, slice_get, ◌⊎◌}
 use Rattle.std.specs.Option.{option_map}
 use Rattle.pg_types.specs.declared.refusals.ReadingError.{ReadingError}
 use Rattle.pg_types.specs.declared.refusals.ReadingError.TheVariants as reader
 use Rattle.pg_outside.specs.Content.{FilesShown, SinkShown, file_at}
 use Rattle.pg_outside.specs.Faults.{Rose}
 use Rattle.pg_top.specs.Calls.{outcome_of, reads_of}
-use Rattle.pg_top.specs.Faults.{IsUnread}
+use Rattle.pg_top.specs.Counted.{ReadsUpTo, EndsAt}
 use Rattle.pg_top.specs.Moments.{Moment, Puts, PutsPart, PutRose, PutOrRose}
 use Rattle.pg_top.specs.Outcomes.{Outcome, Writing, refuses}
 use Rattle.pg_top.specs.PrintedLines.{refused_line, reading_line, writing_line}
@@ -26,19 +26,36 @@ StopsAt r old new (Refused input refusal) = IfSome new.held (λ files.
 StopsAt r old new (Unread name) = (name.now ≡ r.name) × Rose (old.read_faults name.now) (new.read_faults name.now)
 StopsAt r old new Memory = Unit {0}
 
--- why reading files stopped: the first that ends the call is refused, or one could not be read, or memory was wanted
-abbrev pub StopsReading : List Reading → FilesShown → FilesShown → Stop → Type 0
-StopsReading reads old new (Refused input refusal) =
-    IfSome new.held (λ files. first_end (file_at files) reads ≡ Some (refuses input refusal))
-StopsReading reads old new (Unread name) = IsUnread reads name.now old new
-StopsReading reads old new Memory = Unit {0}
+-- why reading files stopped at a place of the order: the file there is refused, it could not be read, or memory was wanted
+abbrev pub StopsWith : List Reading → ℕ → FilesShown → FilesShown → Stop → Type 0
+StopsWith reads place old new (Refused input refusal) = IfSome new.held (λ files.
+    first_end (file_at files) (take (place + 1) reads) ≡ Some (refuses input refusal))
+StopsWith reads place old new (Unread name) =
+    (reading : Reading) × (slice_get reads place ≡ Some reading) × (reading.name ≡ name.now)
+    × Rose (old.read_faults name.now) (new.read_faults name.now)
+StopsWith reads place old new Memory = Unit {0}
 
--- why a command stopped before it wrote: it is refused, or a file could not be read, or memory was wanted
-abbrev pub StopsCommand : Request → FilesShown → FilesShown → Stop → Type 0
-StopsCommand request old new (Refused input refusal) =
-    IfSome new.held (λ files. outcome_of (file_at files) request ≡ refuses input refusal)
-StopsCommand request old new (Unread name) = IsUnread (reads_of request) name.now old new
-StopsCommand request old new Memory = Unit {0}
+-- reading files stopped: those up to a place were read once each, and so it stopped there
+pub record StopsReading (reads : List Reading) (old new : FilesShown) (stop : Stop) : Type 0 where
+  pub place : ℕ
+  pub read : ReadsUpTo reads place old new
+  pub why : StopsWith reads place old new stop
+
+-- why a command stopped once it had read up to a place: it is refused, by the file there or by all of them, the file
+-- there could not be read, or memory was wanted
+abbrev pub StopsCommandWith : Request → ℕ → FilesShown → FilesShown → Stop → Type 0
+StopsCommandWith request place old new (Refused input refusal) = IfSome new.held (λ files.
+    (outcome_of (file_at files) request ≡ refuses input refusal) × EndsAt request place (file_at files))
+StopsCommandWith request place old new (Unread name) =
+    (reading : Reading) × (slice_get (reads_of request) place ≡ Some reading) × (reading.name ≡ name.now)
+    × Rose (old.read_faults name.now) (new.read_faults name.now)
+StopsCommandWith request place old new Memory = Unit {0}
+
+-- a command stopped before it wrote: the files up to a place were read once each, and so it stopped
+pub record StopsCommand (request : Request) (old new : FilesShown) (stop : Stop) : Type 0 where
+  pub place : ℕ
+  pub read : ReadsUpTo (reads_of request) place old new
+  pub why : StopsCommandWith request place old new stop
 
 -- why making what a command comes to stopped: it is refused, or memory was wanted
 abbrev pub StopsMaking : Outcome → Stop → Type 0

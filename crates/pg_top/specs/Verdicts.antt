@@ -1,12 +1,13 @@
 -- Given files as they are compared, and what that gives.
-use Rattle.std.specs.Prelude.{◌≡◌, ℕ, ◌+◌, ◌<◌, List, [], map, length, take, Option, None, Some, MatchOption, unwrap_or, ◌⊎◌}
+use Rattle.std.specs.Prelude.{◌≡◌, ℕ, ◌+◌, ◌<◌, List, [], map, length, take, Option, None, Some, IfSome, MatchOption, unwrap_or, ◌⊎◌}
 use Rattle.std.specs.Option.{option_map}
 use Rattle.pg_audit.specs.Differences.{first_false}
-use Rattle.pg_outside.specs.Content.{SinkShown}
+use Rattle.pg_outside.specs.Content.{FilesShown, SinkShown, file_at}
 use Rattle.pg_top.specs.Auditing.{denies}
+use Rattle.pg_top.specs.Counted.{MakesCalls, ReadsUpTo}
 use Rattle.pg_top.specs.Outcomes.{Outcome, Ends}
 use Rattle.pg_top.specs.PrintedLines.{yes_line}
-use Rattle.pg_top.specs.Readings.{Reading}
+use Rattle.pg_top.specs.Readings.{Reading, first_end}
 use Rattle.pg_top.specs.Stops.{PutsAnswer}
 use Rattle.pg_top.specs.declared.answers.Status.{Status}
 use Rattle.pg_top.specs.declared.answers.Status.TheVariants.{Yes, No}
@@ -32,6 +33,13 @@ end_of (False line) = Some (Ends No [] line.items)
 -- the outcome by what was found
 abbrev pub outcome_by : Verdict → Outcome
 outcome_by verdict = unwrap_or (end_of verdict) (Ends Yes [] yes_line)
+
+-- how far files were read where this was found: all of them, or those up to the one with the false line
+abbrev pub ReadsToFind : List Reading → Verdict → FilesShown → FilesShown → Type 0
+ReadsToFind reads Equal old new = MakesCalls old new (length reads)
+ReadsToFind reads (False line) old new =
+    (place : ℕ) × ReadsUpTo reads place old new
+    × IfSome new.held (λ files. first_end (file_at files) (take (place + 1) reads) ≡ Some (Ends No [] line.items))
 
 -- these bytes are the file, or of one that is longer than this size by more than so many the first, one more than these
 abbrev pub IsFrontOf : Option (List ℕ) → ℕ → ℕ → List ℕ → Type 0

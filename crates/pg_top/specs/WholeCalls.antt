@@ -1,10 +1,10 @@
 -- All that is said of a call of the program.
-use Rattle.std.specs.Prelude.{◌≡◌, ℕ, List, Option, false}
-use Rattle.pg_outside.specs.Content.{FilesShown, SinkShown}
+use Rattle.std.specs.Prelude.{◌≡◌, Option, false}
 use Rattle.pg_top.specs.Answers.{IsCall, IsSampled}
 use Rattle.pg_top.specs.Calls.{has_files}
 use Rattle.pg_top.specs.Counted.{IsCountedCall}
 use Rattle.pg_top.specs.Moments.{Moment}
+use Rattle.pg_top.specs.Promises.{IsPromised}
 use Rattle.pg_top.specs.Requests.{Request}
 use Rattle.pg_top.specs.declared.answers.Status.{Status}
 
@@ -14,4 +14,5 @@ pub record IsRun {F : Type 0} (asked : Option Request) (status : Status) (before
   pub call : IsCall asked status old new
   pub sampled : IsSampled asked status old new
   pub counted : IsCountedCall asked status old new
+  pub promised : IsPromised asked status old new
   pub same : has_files asked ≡ false → after ≡ before

@@ -4,7 +4,7 @@ ghost use Rattle.std.specs.Option.{option_map};
 ghost use Rattle.pg_audit.specs.Differences.{first_false};
 ghost use Rattle.pg_driver.specs.Told.{account_of};
 ghost use Rattle.pg_outside.specs.Content.{KeepsHeld, file_at};
-ghost use Rattle.pg_outside.specs.Faults.{NoneFell};
+ghost use Rattle.pg_outside.specs.Faults.{NoneFell, next_count};
 ghost use Rattle.pg_patterns.specs.Values.{SignsUpTo};
 ghost use Rattle.pg_top.specs.Auditing.{denies, given_file, given_files};
 ghost use Rattle.pg_top.specs.Calls.{outcome_of, reads_of};
@@ -13,7 +13,7 @@ ghost use Rattle.pg_top.specs.Readings.{first_end};
 ghost use Rattle.pg_top.specs.Requests.{ToAudit, if_asked};
 ghost use Rattle.pg_top.specs.Selection.{signs_of, HasSigns, selected, selected_account};
 ghost use Rattle.pg_top.specs.Stops.{StopsFront, StopsAt, StopsReading};
-ghost use Rattle.pg_top.specs.Verdicts.{wanted_file, wanted_files, end_of, outcome_by, IsFrontOf, PutsVerdict};
+ghost use Rattle.pg_top.specs.Verdicts.{wanted_file, wanted_files, end_of, outcome_by, ReadsToFind, IsFrontOf, PutsVerdict};
 
 use crate::answers::Status;
 use crate::commands::Names;
@@ -143,6 +143,7 @@ fn read_given<'a, F: Files>(
     requires { size + MORE < 2 ^ 64 - 1 }
     ensures held { KeepsHeld (F.shown files.old).held (F.shown files.new).held }
     ensures reads { NoneFell (F.shown files.old).read_faults (F.shown files.new).read_faults }
+    ensures calls { (F.shown files.new).calls ≡ next_count (F.shown files.old).calls }
     ensures front { IfOk result (λ bytes.
         IfSome (F.shown files.new).held (λ files. IsFrontOf (file_at files name.now) size MORE bytes.items)) }
     ensures stopped { IfErr result (StopsFront name.now (F.shown files.old) (F.shown files.new)) }
@@ -174,6 +175,7 @@ fn compare_file<'a, F: Files>(
 ) -> Result<Verdict, Stop<'a>>
     ensures held { KeepsHeld (F.shown files.old).held (F.shown files.new).held }
     ensures reads { NoneFell (F.shown files.old).read_faults (F.shown files.new).read_faults }
+    ensures calls { (F.shown files.new).calls ≡ next_count (F.shown files.old).calls }
     ensures ok { IfOk result (λ verdict. IfSome (F.shown files.new).held (λ files.
         option_map ((wanted_file wanted.now).ends (file_at files)) (file_at files wanted.now.name.now)
         ≡ Some (end_of verdict))) }
@@ -202,6 +204,8 @@ fn compare_all<'a, F: Files>(
     ensures held { KeepsHeld (F.shown files.old).held (F.shown files.new).held }
     ensures ok { IfOk result (λ verdict. IfSome (F.shown files.new).held (λ files.
         first_end (file_at files) (wanted_files wanted.now) ≡ end_of verdict)) }
+    ensures counted { IfOk result (λ verdict.
+        ReadsToFind (wanted_files wanted.now) verdict (F.shown files.old) (F.shown files.new)) }
     ensures stopped { IfErr result (StopsReading (wanted_files wanted.now) (F.shown files.old) (F.shown files.new)) }
 {
     let count = wanted.len();
@@ -224,6 +228,8 @@ pub fn audit_files<'a, F: Files>(
     ensures held { KeepsHeld (F.shown files.old).held (F.shown files.new).held }
     ensures ok { IfOk result (λ verdict. IfSome (F.shown files.new).held (λ files.
         outcome_of (file_at files) (ToAudit (texts_of names.now)) ≡ outcome_by verdict)) }
+    ensures counted { IfOk result (λ verdict.
+        ReadsToFind (reads_of (ToAudit (texts_of names.now))) verdict (F.shown files.old) (F.shown files.new)) }
     ensures stopped { IfErr result
         (StopsReading (reads_of (ToAudit (texts_of names.now))) (F.shown files.old) (F.shown files.new)) }
 {
@@ -235,7 +241,8 @@ pub fn audit_files<'a, F: Files>(
 
 /// Puts the line of a verdict, and gives its answer.
 pub fn put_verdict<O: Sink>(out: &mut O, verdict: &Verdict) -> Status
-    ensures { PutsVerdict verdict.now result (O.shown out.old) (O.shown out.new) }
+    ensures put { PutsVerdict verdict.now result (O.shown out.old) (O.shown out.new) }
+    ensures counted { (O.shown out.new).puts ≡ next_count (O.shown out.old).puts }
 {
     match verdict {
         Verdict::Equal => answer(out, YES, Status::Yes),

@@ -1,15 +1,17 @@
 //! `pack`: patterns as a packed table.
-ghost use Rattle.std.specs.Prelude.{◌≡◌, ◌+◌, ◌∷◌, [], IfOk, IfErr, IfSome, Some};
+ghost use Rattle.std.specs.Prelude.{◌≡◌, ◌+◌, ◌∷◌, [], length, IfOk, IfErr, IfSome, Some};
 ghost use Rattle.pg_outside.specs.Content.{KeepsHeld, file_at};
 ghost use Rattle.pg_outside.specs.Faults.{NoneFell};
 ghost use Rattle.pg_patterns.specs.Values.{SignsUpTo};
 ghost use Rattle.pg_translate.specs.Alphabets.{letters_of};
-ghost use Rattle.pg_top.specs.Calls.{outcome_of, writes_of};
+ghost use Rattle.pg_top.specs.Calls.{outcome_of, reads_of, writes_of};
+ghost use Rattle.pg_top.specs.Counted.{MakesCalls};
 ghost use Rattle.pg_top.specs.Outcomes.{Ends};
 ghost use Rattle.pg_top.specs.declared.answers.Status.TheVariants.{Done};
 ghost use Rattle.pg_patterns.specs.Texts.{pattern_text};
-ghost use Rattle.pg_top.specs.PackedTables.{packed, packing_reads};
+ghost use Rattle.pg_top.specs.PackedTables.{packed, packed_text, packing_reads};
 ghost use Rattle.pg_top.specs.PrintedLines.{packed_line as packed_line_of};
+ghost use Rattle.pg_top.specs.Promises.{GivesValues, PackKeeps};
 ghost use Rattle.pg_top.specs.Requests.{ToPack};
 ghost use Rattle.pg_top.specs.Sources.{HasSource, stop_of_table};
 ghost use Rattle.pg_top.specs.Stops.{StopsCommand, StopsMaking, StopsReading};
@@ -50,6 +52,7 @@ fn read_source<'a, F: Files>(
     ensures known { IfOk result (λ source. SignsUpTo (letters_of source.table + 1) source.patterns) }
     ensures stopped { IfErr result
         (StopsReading (packing_reads patterns.now translate.now) (F.shown files.old) (F.shown files.new)) }
+    ensures counted { IfOk result (λ _. MakesCalls (F.shown files.old) (F.shown files.new) 2) }
 {
     let table = read_table(alloc, translate, files)?;
     let read = read_start(alloc, &table, patterns, files)?;
@@ -101,8 +104,13 @@ fn make_table<'a>(alloc: Global, name: &'a str, source: &Source) -> Result<Outpu
     ensures made { IfOk result (λ made. packed name.now source.now.table source.now.patterns
         ≡ Ends Done (writing_of made.files.items) made.lines.items) }
     ensures named { IfOk result (λ made. written_names (writing_of made.files.items) ≡ name.now ∷ []) }
+    ensures table { IfOk result (λ made.
+        writing_of made.files.items ≡ (name.now, packed_text source.now.table source.now.patterns) ∷ []) }
+    ensures gives { IfOk result (λ _.
+        GivesValues (packed_text source.now.table source.now.patterns) source.now.patterns) }
     ensures stopped { IfErr result (StopsMaking (packed name.now source.now.table source.now.patterns)) }
 {
+    let _kept = source.patterns.len();
     match table_text(alloc, source.table.letters() + 1, &source.patterns) {
         Ok(text) => {
             let outputs = write_table(alloc, name, text, source)?;
@@ -127,6 +135,10 @@ pub fn pack_files<'a, F: Files>(
         ≡ Ends Done (writing_of made.files.items) made.lines.items)) }
     ensures named { IfOk result (λ made. written_names (writing_of made.files.items)
         ≡ writes_of (ToPack patterns.now translate.now table.now)) }
+    ensures kept { IfOk result (λ _. IfSome (F.shown files.new).held (λ files.
+        PackKeeps (file_at files) patterns.now translate.now table.now)) }
+    ensures counted { IfOk result (λ _. MakesCalls (F.shown files.old) (F.shown files.new)
+        (length (reads_of (ToPack patterns.now translate.now table.now)))) }
     ensures stopped { IfErr result (StopsCommand (ToPack patterns.now translate.now table.now)
         (F.shown files.old) (F.shown files.new)) }
 {

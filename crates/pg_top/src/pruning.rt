@@ -1,10 +1,12 @@
 //! `prune`: the patterns that a dictionary needs.
-ghost use Rattle.std.specs.Prelude.{◌≡◌, ◌+◌, ◌∷◌, [], IfOk, IfErr, IfSome};
+ghost use Rattle.std.specs.Prelude.{◌≡◌, length, ◌+◌, ◌∷◌, [], IfOk, IfErr, IfSome};
 ghost use Rattle.pg_outside.specs.Content.{KeepsHeld, file_at};
 ghost use Rattle.pg_outside.specs.Faults.{NoneFell};
 ghost use Rattle.pg_patterns.specs.Values.{SignsUpTo};
 ghost use Rattle.pg_translate.specs.Alphabets.{letters_of};
-ghost use Rattle.pg_top.specs.Calls.{outcome_of, writes_of};
+ghost use Rattle.pg_top.specs.Calls.{outcome_of, reads_of, writes_of};
+ghost use Rattle.pg_top.specs.Counted.{MakesCalls};
+ghost use Rattle.pg_top.specs.Promises.{PruneKeeps};
 ghost use Rattle.pg_top.specs.Outcomes.{Ends};
 ghost use Rattle.pg_top.specs.PruneInputs.{prune_of, HasPrune, HasKnownSigns};
 ghost use Rattle.pg_top.specs.Pruning.{prune_reads, pruned_files, line_of_pruned, pruned_by};
@@ -64,6 +66,7 @@ fn read_prune<'a, F: Files>(
     ensures known { IfOk result HasKnownSigns }
     ensures stopped { IfErr result
         (StopsReading (prune_reads (prune_of names.now)) (F.shown files.old) (F.shown files.new)) }
+    ensures counted { IfOk result (λ _. MakesCalls (F.shown files.old) (F.shown files.new) 3) }
 {
     let table = read_table(alloc, names.translate, files)?;
     let patterns = read_start(alloc, &table, names.patterns, files)?;
@@ -134,6 +137,10 @@ pub fn prune_files<'a, F: Files>(
         ≡ Ends Done (writing_of made.files.items) made.lines.items)) }
     ensures named { IfOk result (λ made.
         written_names (writing_of made.files.items) ≡ writes_of (ToPrune (prune_of names.now))) }
+    ensures kept { IfOk result (λ _. IfSome (F.shown files.new).held (λ files.
+        PruneKeeps (file_at files) (prune_of names.now))) }
+    ensures counted { IfOk result (λ _. MakesCalls (F.shown files.old) (F.shown files.new)
+        (length (reads_of (ToPrune (prune_of names.now))))) }
     ensures stopped { IfErr result
         (StopsCommand (ToPrune (prune_of names.now)) (F.shown files.old) (F.shown files.new)) }
 {

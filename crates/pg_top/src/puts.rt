@@ -49,7 +49,7 @@ pub fn put_fault<O: Sink>(out: &mut O, front: &[u8], name: &str) -> Status
 /// Puts the line that says why a command stopped, if there is one, and gives its answer.
 pub fn put_stop<O: Sink>(alloc: Global, out: &mut O, stop: &Stop<'_>) -> Status
     ensures put { PutsStop stop.now result (O.shown out.old) (O.shown out.new) }
-    ensures counted { PutsCounted result (O.shown out.old) (O.shown out.new) }
+    ensures counted { PutsCounted stop.now result (O.shown out.old) (O.shown out.new) }
 {
     match stop {
         Stop::Refused(input, refusal) => match refused_line(alloc, *input, refusal) {

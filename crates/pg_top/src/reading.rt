@@ -12,7 +12,7 @@ ghost use Rattle.pg_dict.specs.Words.{words};
 ghost use Rattle.pg_patterns.specs.Starts.{start};
 ghost use Rattle.pg_patterns.specs.Values.{SignsUpTo};
 ghost use Rattle.pg_top.specs.Commands.{texts_of};
-ghost use Rattle.pg_top.specs.Counted.{MakesCalls, StopsCounted};
+ghost use Rattle.pg_top.specs.Counted.{MakesCalls};
 ghost use Rattle.pg_top.specs.Readings.{read_as, input_file};
 ghost use Rattle.pg_top.specs.Selecting.{inputs_of, HasInputs};
 ghost use Rattle.pg_top.specs.Selection.{HasSigns};
@@ -189,8 +189,6 @@ pub fn read_inputs<'a, F: Files>(
         (StopsReading (inputs_of (texts_of names.now)) (F.shown files.old) (F.shown files.new)) }
     ensures counted { IfOk result (λ _.
         MakesCalls (F.shown files.old) (F.shown files.new) (length (inputs_of (texts_of names.now)))) }
-    ensures stopped_counted { IfErr result
-        (StopsCounted (inputs_of (texts_of names.now)) (F.shown files.old) (F.shown files.new)) }
 {
     let table = read_table(alloc, names.translate, files)?;
     let params = read_parameters(alloc, Input::Parameters, names.params, files)?;

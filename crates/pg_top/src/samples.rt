@@ -5,6 +5,7 @@ ghost use Rattle.pg_translate.specs.Tables.{default_alphabet};
 ghost use Rattle.pg_dict.specs.Word.{SignsAtMost};
 ghost use Rattle.pg_driver.specs.Told.{account_of};
 ghost use Rattle.pg_patterns.specs.Values.{SignsUpTo};
+ghost use Rattle.pg_top.specs.Counted.{LinesCounted};
 ghost use Rattle.pg_top.specs.SampleTexts.{is_printed as is_printed_line, printed_part, sample_inputs, sample_lines as lines_of, sample_parameters, selection_lines};
 ghost use Rattle.pg_top.specs.Selection.{signs_of, HasSigns, selected, selected_account};
 ghost use Rattle.pg_top.specs.Stops.{PutsLines};
@@ -151,7 +152,8 @@ fn sample_lines(alloc: Global, seed: u32, count: u32) -> Result<Vec<u8>, AllocEr
 pub fn sample<O: Sink>(alloc: Global, seed: u32, count: u32, out: &mut O) -> Status
     requires seed { seed < 2 ^ 31 }
     requires count { count ≤ 100000 }
-    ensures { PutsLines (lines_of seed count) result (O.shown out.old) (O.shown out.new) }
+    ensures put { PutsLines (lines_of seed count) result (O.shown out.old) (O.shown out.new) }
+    ensures counted { LinesCounted result (O.shown out.old) (O.shown out.new) }
 {
     match sample_lines(alloc, seed, count) {
         Ok(lines) => answer(out, &lines, Status::Done),

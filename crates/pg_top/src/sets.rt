@@ -3,6 +3,7 @@ ghost use Rattle.std.specs.Prelude.{◌≡◌, ◌≤◌, length, take, drop, ma
 ghost use Rattle.pg_outside.specs.Content.{KeepsHeld, file_at};
 ghost use Rattle.pg_outside.specs.Faults.{NoneFell};
 ghost use Rattle.pg_top.specs.Commands.{words_of};
+ghost use Rattle.pg_top.specs.Counted.{MakesCalls};
 ghost use Rattle.pg_top.specs.Stops.{StopsReading};
 ghost use Rattle.pg_top.specs.Sweeping.{set_files, HasSets};
 
@@ -25,6 +26,7 @@ pub fn read_sets<'a, F: Files>(
     ensures ok { IfOk result (λ sets. IfSome (F.shown files.new).held (λ files.
         HasSets (file_at files) (words_of names.now) sets.items)) }
     ensures count { IfOk result (λ sets. length sets.items ≡ length names.now) }
+    ensures counted { IfOk result (λ _. MakesCalls (F.shown files.old) (F.shown files.new) (length names.now)) }
     ensures stopped { IfErr result
         (StopsReading (set_files 1 (words_of names.now)) (F.shown files.old) (F.shown files.new)) }
 {

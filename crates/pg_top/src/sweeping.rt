@@ -5,8 +5,10 @@ ghost use Rattle.pg_outside.specs.Content.{KeepsHeld, file_at};
 ghost use Rattle.pg_outside.specs.Faults.{NoneFell};
 ghost use Rattle.pg_patterns.specs.Values.{SignsUpTo};
 ghost use Rattle.pg_translate.specs.Alphabets.{letters_of};
-ghost use Rattle.pg_top.specs.Calls.{outcome_of, writes_of};
+ghost use Rattle.pg_top.specs.Calls.{outcome_of, reads_of, writes_of};
 ghost use Rattle.pg_top.specs.Commands.{sweep_of, KeepsSweepLimits};
+ghost use Rattle.pg_top.specs.Counted.{MakesCalls};
+ghost use Rattle.pg_top.specs.Promises.{SweepNames};
 ghost use Rattle.pg_top.specs.Outcomes.{Ends};
 ghost use Rattle.pg_top.specs.Requests.{ToSweep};
 ghost use Rattle.pg_top.specs.Stops.{StopsCommand, StopsReading};
@@ -75,6 +77,8 @@ fn read_sweep<'a, F: Files>(
     ensures count { IfOk result (λ inputs. (1 ≤ length inputs.sets.items) × (length inputs.sets.items ≤ 16)) }
     ensures stopped { IfErr result
         (StopsReading (sweep_reads (sweep_of words.now)) (F.shown files.old) (F.shown files.new)) }
+    ensures counted { IfOk result (λ _. MakesCalls (F.shown files.old) (F.shown files.new)
+        (length (sweep_reads (sweep_of words.now)))) }
 {
     let table = read_table(alloc, words.translate, files)?;
     let sets = read_sets(alloc, words.params, files)?;
@@ -146,6 +150,10 @@ pub fn sweep_files<'a, F: Files>(
         ≡ Ends Done (writing_of made.files.items) made.lines.items)) }
     ensures named { IfOk result (λ made. written_names (writing_of made.files.items)
         ≡ writes_of (ToSweep (sweep_of words.now))) }
+    ensures names { IfOk result (λ _. IfSome (F.shown files.new).held (λ files.
+        SweepNames (file_at files) (sweep_of words.now))) }
+    ensures counted { IfOk result (λ _. MakesCalls (F.shown files.old) (F.shown files.new)
+        (length (reads_of (ToSweep (sweep_of words.now))))) }
     ensures stopped { IfErr result
         (StopsCommand (ToSweep (sweep_of words.now)) (F.shown files.old) (F.shown files.new)) }
 {

@@ -1,15 +1,13 @@
 //! The one call of the program.
-ghost use Rattle.std.specs.Prelude.{◌≡◌, ◌⊎◌, IfOk, IfErr, IfSome, None, Some, false, length};
+ghost use Rattle.std.specs.Prelude.{◌≡◌, IfOk, IfErr, IfSome, Some, false, length};
 ghost use Rattle.pg_outside.specs.Content.{KeepsHeld, file_at};
 ghost use Rattle.pg_outside.specs.Faults.{NoneFell};
-ghost use Rattle.pg_top.specs.Answers.{MayAnswer, IsAnswered, IsSampled, IsUntouched, IsComplete, IsCall};
+ghost use Rattle.pg_top.specs.Answers.{IsSampled, IsCall};
 ghost use Rattle.pg_top.specs.Calls.{has_files, outcome_of, reads_of, writes_of};
 ghost use Rattle.pg_top.specs.Commands.{texts_of, sweep_of, asked_by, KeepsSweepLimits, KeepsLimits, asked};
-ghost use Rattle.pg_top.specs.Counted.{MakesCalls, StopsCounted, FinishCounted, IsCounted, IsCountedCall};
-ghost use Rattle.pg_top.specs.Faults.{SomeRose, IsFault};
-ghost use Rattle.pg_top.specs.Moments.{Puts};
+ghost use Rattle.pg_top.specs.Counted.{MakesCalls, FinishCounted, IsCounted, IsCountedCall};
 ghost use Rattle.pg_top.specs.Outcomes.{Ends};
-ghost use Rattle.pg_top.specs.PrintedLines.{usage_line};
+ghost use Rattle.pg_top.specs.Promises.{IsPromised};
 ghost use Rattle.pg_top.specs.PruneInputs.{prune_of};
 ghost use Rattle.pg_top.specs.Requests.{ToGenerate, ToAudit, ToPack, ToTotals, ToPrune, ToSweep};
 ghost use Rattle.pg_top.specs.Stops.{StopsReading, Finishes};
@@ -54,8 +52,6 @@ fn prepare<'a, F: Files, W: Watch>(
         (StopsReading (reads_of (ToGenerate (texts_of names.now))) (F.shown files.old) (F.shown files.new)) }
     ensures counted { IfOk result (λ _. MakesCalls (F.shown files.old) (F.shown files.new)
         (length (reads_of (ToGenerate (texts_of names.now))))) }
-    ensures stopped_counted { IfErr result
-        (StopsCounted (reads_of (ToGenerate (texts_of names.now))) (F.shown files.old) (F.shown files.new)) }
 {
     let inputs = read_inputs(alloc, names, files)?;
     let outputs = make_outputs(alloc, names, &inputs, watch)?;
@@ -66,7 +62,7 @@ fn prepare<'a, F: Files, W: Watch>(
 fn finish<F: Files, O: Sink>(files: &mut F, out: &mut O, outputs: &Outputs<'_>) -> Status
     ensures finishes { Finishes (writing_of outputs.now.files.items) outputs.now.lines.items result
         (F.shown files.old, O.shown out.old) (F.shown files.new, O.shown out.new) }
-    ensures counted { FinishCounted (length outputs.now.files.items) result
+    ensures counted { FinishCounted (written_names (writing_of outputs.now.files.items)) result
         (F.shown files.old, O.shown out.old) (F.shown files.new, O.shown out.new) }
 {
     match write_all(files, &outputs.files) {
@@ -96,7 +92,9 @@ fn generate<F: Files, O: Sink, W: Watch>(
 
 /// Compares given files with those that would be written, and says whether they are equal.
 fn audit<F: Files, O: Sink>(alloc: Global, names: &Names<'_>, files: &mut F, out: &mut O) -> Status
-    ensures { IsCall (Some (ToAudit (texts_of names.now))) result
+    ensures call { IsCall (Some (ToAudit (texts_of names.now))) result
+        (F.shown files.old, O.shown out.old) (F.shown files.new, O.shown out.new) }
+    ensures counted { IsCounted (ToAudit (texts_of names.now)) result
         (F.shown files.old, O.shown out.old) (F.shown files.new, O.shown out.new) }
 {
     match audit_files(alloc, names, files) {
@@ -114,7 +112,11 @@ fn pack<F: Files, O: Sink>(
     files: &mut F,
     out: &mut O,
 ) -> Status
-    ensures { IsCall (Some (ToPack patterns.now translate.now table.now)) result
+    ensures call { IsCall (Some (ToPack patterns.now translate.now table.now)) result
+        (F.shown files.old, O.shown out.old) (F.shown files.new, O.shown out.new) }
+    ensures counted { IsCounted (ToPack patterns.now translate.now table.now) result
+        (F.shown files.old, O.shown out.old) (F.shown files.new, O.shown out.new) }
+    ensures promised { IsPromised (Some (ToPack patterns.now translate.now table.now)) result
         (F.shown files.old, O.shown out.old) (F.shown files.new, O.shown out.new) }
 {
     match pack_files(alloc, patterns, translate, table, files) {
@@ -132,7 +134,9 @@ fn totals<F: Files, O: Sink>(
     files: &mut F,
     out: &mut O,
 ) -> Status
-    ensures { IsCall (Some (ToTotals dict.now translate.now table.now)) result
+    ensures call { IsCall (Some (ToTotals dict.now translate.now table.now)) result
+        (F.shown files.old, O.shown out.old) (F.shown files.new, O.shown out.new) }
+    ensures counted { IsCounted (ToTotals dict.now translate.now table.now) result
         (F.shown files.old, O.shown out.old) (F.shown files.new, O.shown out.new) }
 {
     match total_files(alloc, dict, translate, table, files) {
@@ -148,7 +152,11 @@ fn prune<F: Files, O: Sink>(
     files: &mut F,
     out: &mut O,
 ) -> Status
-    ensures { IsCall (Some (ToPrune (prune_of names.now))) result
+    ensures call { IsCall (Some (ToPrune (prune_of names.now))) result
+        (F.shown files.old, O.shown out.old) (F.shown files.new, O.shown out.new) }
+    ensures counted { IsCounted (ToPrune (prune_of names.now)) result
+        (F.shown files.old, O.shown out.old) (F.shown files.new, O.shown out.new) }
+    ensures promised { IsPromised (Some (ToPrune (prune_of names.now))) result
         (F.shown files.old, O.shown out.old) (F.shown files.new, O.shown out.new) }
 {
     match prune_files(alloc, names, files) {
@@ -165,7 +173,11 @@ fn sweep<F: Files, O: Sink>(
     out: &mut O,
 ) -> Status
     requires { KeepsSweepLimits words.now }
-    ensures { IsCall (Some (ToSweep (sweep_of words.now))) result
+    ensures call { IsCall (Some (ToSweep (sweep_of words.now))) result
+        (F.shown files.old, O.shown out.old) (F.shown files.new, O.shown out.new) }
+    ensures counted { IsCounted (ToSweep (sweep_of words.now)) result
+        (F.shown files.old, O.shown out.old) (F.shown files.new, O.shown out.new) }
+    ensures promised { IsPromised (Some (ToSweep (sweep_of words.now))) result
         (F.shown files.old, O.shown out.old) (F.shown files.new, O.shown out.new) }
 {
     match sweep_files(alloc, words, files) {
@@ -188,6 +200,8 @@ fn perform<F: Files, O: Sink, W: Watch>(
     ensures sampled { IsSampled (Some (asked_by command.now)) result
         (F.shown files.old, O.shown out.old) (F.shown files.new, O.shown out.new) }
     ensures counted { IsCountedCall (Some (asked_by command.now)) result
+        (F.shown files.old, O.shown out.old) (F.shown files.new, O.shown out.new) }
+    ensures promised { IsPromised (Some (asked_by command.now)) result
         (F.shown files.old, O.shown out.old) (F.shown files.new, O.shown out.new) }
     ensures same { has_files (Some (asked_by command.now)) ≡ false → files.new ≡ files.old }
 {
@@ -238,6 +252,8 @@ fn call<F: Files, O: Sink, W: Watch>(
     ensures sampled { IsSampled (asked words.now) result
         (F.shown files.old, O.shown out.old) (F.shown files.new, O.shown out.new) }
     ensures counted { IsCountedCall (asked words.now) result
+        (F.shown files.old, O.shown out.old) (F.shown files.new, O.shown out.new) }
+    ensures promised { IsPromised (asked words.now) result
         (F.shown files.old, O.shown out.old) (F.shown files.new, O.shown out.new) }
     ensures same { has_files (asked words.now) ≡ false → files.new ≡ files.old }
 {

@@ -1,11 +1,13 @@
 //! `totals`: the totals of a dictionary by a packed table.
-ghost use Rattle.std.specs.Prelude.{◌≡◌, ◌+◌, IfOk, IfErr, IfSome, Some, [], ◌∷◌};
+ghost use Rattle.std.specs.Prelude.{◌≡◌, ◌+◌, IfOk, IfErr, IfSome, Some, [], ◌∷◌, length};
 ghost use Rattle.pg_dict.specs.Word.{SignsAtMost};
 ghost use Rattle.pg_driver.specs.Sound.{IsSmall};
 ghost use Rattle.pg_outside.specs.Content.{KeepsHeld, file_at};
+ghost use Rattle.pg_outside.specs.Faults.{next_count};
 ghost use Rattle.pg_texts.specs.ReportTexts.{ending_text};
 ghost use Rattle.pg_translate.specs.Alphabets.{letters_of};
-ghost use Rattle.pg_top.specs.Calls.{outcome_of};
+ghost use Rattle.pg_top.specs.Calls.{outcome_of, reads_of};
+ghost use Rattle.pg_top.specs.Counted.{MakesCalls};
 ghost use Rattle.pg_top.specs.Outcomes.{Ends};
 ghost use Rattle.pg_top.specs.declared.answers.Status.TheVariants.{Done};
 ghost use Rattle.pg_top.specs.PackedTables.{packed_table, table_refused};
@@ -72,6 +74,7 @@ fn total_by<'a, F: Files>(
 ) -> Result<Vec<u8>, Stop<'a>>
     requires { SignsAtMost (letters_of table.now + 1) dictionary.now }
     ensures held { KeepsHeld (F.shown files.old).held (F.shown files.new).held }
+    ensures calls { (F.shown files.new).calls ≡ next_count (F.shown files.old).calls }
     ensures ok { IfOk result (λ lines. IfSome (F.shown files.new).held (λ files.
         IsTotalled table.now dictionary.now (file_at files) name.now lines.items)) }
     ensures stopped { IfErr result
@@ -100,6 +103,8 @@ pub fn total_files<'a, F: Files>(
     ensures ok { IfOk result (λ lines. IfSome (F.shown files.new).held (λ files.
         outcome_of (file_at files) (ToTotals dict.now translate.now table.now)
         ≡ Ends Done [] lines.items)) }
+    ensures counted { IfOk result (λ _. MakesCalls (F.shown files.old) (F.shown files.new)
+        (length (reads_of (ToTotals dict.now translate.now table.now)))) }
     ensures stopped { IfErr result (StopsCommand (ToTotals dict.now translate.now table.now)
         (F.shown files.old) (F.shown files.new)) }
 {

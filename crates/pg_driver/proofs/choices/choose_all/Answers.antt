@@ -1,4 +1,4 @@
-use Rattle.std.proofs.Common.{◌≡◌, ℕ, ◌+◌, ◌<◌, List, [], ◌∷◌, length, map, drop, get_or, slice_get, is_some, Some, refl, sym, ap, subst, ◌∙◌, arith}
+use Rattle.std.proofs.Common.{◌≡◌, ℕ, ◌+◌, ◌<◌, List, [], ◌∷◌, length, map, drop, get_or, slice_get, refl, sym, ap, subst, ◌∙◌, arith}
 use Rattle.std.specs.List.{sum_by}
 use Rattle.std.proofs.lemmas.List.{length-map, drop_more}
 use Rattle.std.proofs.lemmas.List.Sums.{sum_by-cons}
@@ -8,11 +8,11 @@ use Rattle.pg_types.specs.Numbered.{HasNumber}
 use Rattle.pg_select.specs.Meanings.{Meaning}
 use Rattle.pg_select.specs.CountedPositions.{Candidate}
 use Rattle.pg_driver.specs.declared.choices.Choices.{Choices}
-use Rattle.pg_driver.specs.Choosing.{with_candidates, candidate_of}
-use Rattle.pg_driver.specs.PassWindows.{IsPlace}
+use Rattle.pg_driver.specs.Choosing.{HasChosen, with_candidates, candidate_of}
+use Rattle.pg_driver.specs.PassWindows.{IsCandidate, IsPlace}
 use Rattle.pg_driver.specs.States.{state_of}
 use Rattle.pg_driver.proofs.ChoiceSteps.{bad_adds, bad_within, good_adds, good_within, keeps_on, numbers_append, state_step, state_with}
-use Rattle.pg_driver.proofs.NumberSteps.{Ahead, Turn, ahead, turn, part_whole}
+use Rattle.pg_driver.proofs.NumberSteps.{Ahead, ahead, only_one, part_whole}
 use Rattle.pg_driver.proofs.choices.choose_all.Goals as goal
 
 pub candidates-init : goal.candidates-init
@@ -30,20 +30,6 @@ candidates-init g c =
       good = omega (arith, good_within m.counts, c.requires.room.light);
       bad = omega (arith, bad_within m.counts, c.requires.room.light);
     }
-
-pub sums_of-good-requires : goal.sums_of-good-requires
-sums_of-good-requires g c =
-    let m0 = g.E.Engine.meaning c.args.engine.now in
-    let m = g.E.Engine.meaning c.candidates.engine in
-    let k = c.candidates.number-index in
-    let n = get_or c.args.order.now k 0 in
-    let more : List ℕ = drop (k + 1) c.args.order.now in
-    let inv = c.candidates.invariant in
-    let windows : m.windows ≡ m0.windows = ap (λ (x : Meaning). x.windows) inv.kept in
-    let counts : m.counts ≡ m0.counts = ap (λ (x : Meaning). x.counts) inv.kept in
-    let a : Ahead m0.windows m0.counts n more inv.rest = ahead m0.windows m0.counts n more inv.rest (sym (ap (map (slice_get m0.windows)) (drop_more c.args.order.now k 0 c.candidates-test.true)) ∙ inv.ahead) inv.part in
-    let there : n < length m0.windows = slice_get_within m0.windows n a.entry.0 a.number in
-    subst (λ (ws : List (List ℕ)). n < length ws) (sym windows) there
 
 pub bounds-places-n : goal.bounds-places-n
 bounds-places-n g c =
@@ -73,8 +59,8 @@ bounds-fates-n g c =
     let there : n < length m0.windows = slice_get_within m0.windows n a.entry.0 a.number in
     omega (arith, c.requires.fates.size, there)
 
-pub go_to-requires-clause-place : goal.go_to-requires-clause-place
-go_to-requires-clause-place g c =
+pub choose_one-requires-clause-place : goal.choose_one-requires-clause-place
+choose_one-requires-clause-place g c =
     let m0 = g.E.Engine.meaning c.args.engine.now in
     let m = g.E.Engine.meaning c.candidates.engine in
     let k = c.candidates.number-index in
@@ -89,8 +75,8 @@ go_to-requires-clause-place g c =
     subst (λ (ws : List (List ℕ)). IsPlace c.args.pass c.args.dictionary.now ws n (get_or c.args.places.now n (record { word = 0; at = 0 }))) (sym windows)
     (c.requires.places.each n (get_or c.args.places.now n (record { word = 0; at = 0 })) (slice_get-get_or c.args.places.now n (record { word = 0; at = 0 }) within))
 
-pub choose_at-requires-clause-counted : goal.choose_at-requires-clause-counted
-choose_at-requires-clause-counted g c =
+pub choose_one-requires-clause-fate : goal.choose_one-requires-clause-fate
+choose_one-requires-clause-fate g c = λ u sums it.
     let m0 = g.E.Engine.meaning c.args.engine.now in
     let m = g.E.Engine.meaning c.candidates.engine in
     let k = c.candidates.number-index in
@@ -101,16 +87,10 @@ choose_at-requires-clause-counted g c =
     let counts : m.counts ≡ m0.counts = ap (λ (x : Meaning). x.counts) inv.kept in
     let a : Ahead m0.windows m0.counts n more inv.rest = ahead m0.windows m0.counts n more inv.rest (sym (ap (map (slice_get m0.windows)) (drop_more c.args.order.now k 0 c.candidates-test.true)) ∙ inv.ahead) inv.part in
     let there : n < length m0.windows = slice_get_within m0.windows n a.entry.0 a.number in
-    let at = c.go_to.new.at in
-    let good = c.sums_of-good.result.0 in
-    let bad = c.sums_of-good.result.1 in
-    let number : HasNumber m0.windows at n = subst (λ (ws : List (List ℕ)). HasNumber ws at n) windows c.go_to.ensures in
-    let sums : counted_sums m0.counts at ≡ Some (good, bad) = ap (λ (es : Counts). counted_sums es at) (sym counts) ∙ c.sums_of-good.ensures at c.go_to.ensures in
-    let t : Turn m0.windows m0.counts more inv.rest at good bad = turn m0.windows m0.counts n more inv.rest at good bad a number sums in
-    ap is_some (ap (λ (es : Counts). counted_sums es at) counts ∙ t.sums)
+    get_or_from_slice_get c.args.fates.now n _ _ (c.requires.fates.each u n sums (subst (λ (ws : List (List ℕ)). HasNumber ws u n) windows it.number) (ap (λ (es : Counts). counted_sums es u) (sym counts) ∙ it.sums))
 
-pub choose_at-requires-clause-fate : goal.choose_at-requires-clause-fate
-choose_at-requires-clause-fate g c =
+pub choose_one-requires-clause-sums : goal.choose_one-requires-clause-sums
+choose_one-requires-clause-sums g c = λ u sums it.
     let m0 = g.E.Engine.meaning c.args.engine.now in
     let m = g.E.Engine.meaning c.candidates.engine in
     let k = c.candidates.number-index in
@@ -121,38 +101,14 @@ choose_at-requires-clause-fate g c =
     let counts : m.counts ≡ m0.counts = ap (λ (x : Meaning). x.counts) inv.kept in
     let a : Ahead m0.windows m0.counts n more inv.rest = ahead m0.windows m0.counts n more inv.rest (sym (ap (map (slice_get m0.windows)) (drop_more c.args.order.now k 0 c.candidates-test.true)) ∙ inv.ahead) inv.part in
     let there : n < length m0.windows = slice_get_within m0.windows n a.entry.0 a.number in
-    let at = c.go_to.new.at in
-    let good = c.sums_of-good.result.0 in
-    let bad = c.sums_of-good.result.1 in
-    let number : HasNumber m0.windows at n = subst (λ (ws : List (List ℕ)). HasNumber ws at n) windows c.go_to.ensures in
-    let sums : counted_sums m0.counts at ≡ Some (good, bad) = ap (λ (es : Counts). counted_sums es at) (sym counts) ∙ c.sums_of-good.ensures at c.go_to.ensures in
-    let t : Turn m0.windows m0.counts more inv.rest at good bad = turn m0.windows m0.counts n more inv.rest at good bad a number sums in
-    get_or_from_slice_get c.args.fates.now n _ _ (c.requires.fates.each at n (good, bad) number sums)
-
-pub choose_at-requires-clause-sums : goal.choose_at-requires-clause-sums
-choose_at-requires-clause-sums g c =
-    let m0 = g.E.Engine.meaning c.args.engine.now in
-    let m = g.E.Engine.meaning c.candidates.engine in
-    let k = c.candidates.number-index in
-    let n = get_or c.args.order.now k 0 in
-    let more : List ℕ = drop (k + 1) c.args.order.now in
-    let inv = c.candidates.invariant in
-    let windows : m.windows ≡ m0.windows = ap (λ (x : Meaning). x.windows) inv.kept in
-    let counts : m.counts ≡ m0.counts = ap (λ (x : Meaning). x.counts) inv.kept in
-    let a : Ahead m0.windows m0.counts n more inv.rest = ahead m0.windows m0.counts n more inv.rest (sym (ap (map (slice_get m0.windows)) (drop_more c.args.order.now k 0 c.candidates-test.true)) ∙ inv.ahead) inv.part in
-    let there : n < length m0.windows = slice_get_within m0.windows n a.entry.0 a.number in
-    let at = c.go_to.new.at in
-    let good = c.sums_of-good.result.0 in
-    let bad = c.sums_of-good.result.1 in
-    let number : HasNumber m0.windows at n = subst (λ (ws : List (List ℕ)). HasNumber ws at n) windows c.go_to.ensures in
-    let sums : counted_sums m0.counts at ≡ Some (good, bad) = ap (λ (es : Counts). counted_sums es at) (sym counts) ∙ c.sums_of-good.ensures at c.go_to.ensures in
-    let t : Turn m0.windows m0.counts more inv.rest at good bad = turn m0.windows m0.counts n more inv.rest at good bad a number sums in (
-      omega (arith, ap (λ (cs : List Candidate). sum_by (λ c. c.good) cs) t.is, sum_by-cons (λ (c : Candidate). c.good) (record { window = at; good = good; bad = bad }) (map candidate_of t.left), inv.good),
-      omega (arith, ap (λ (cs : List Candidate). sum_by (λ c. c.bad) cs) t.is, sum_by-cons (λ (c : Candidate). c.bad) (record { window = at; good = good; bad = bad }) (map candidate_of t.left), inv.bad),
+    let is : map candidate_of inv.rest ≡ candidate_of a.entry ∷ map candidate_of a.left = ap (λ (es : Counts). map candidate_of es) a.is in
+    let same = only_one m0.windows m0.counts n a.entry.0 a.entry.1 u sums a.number a.sums (subst (λ (ws : List (List ℕ)). HasNumber ws u n) windows it.number) (ap (λ (es : Counts). counted_sums es u) (sym counts) ∙ it.sums) in (
+      omega (arith, ap (λ (s : ℕ × ℕ). s.0) same, ap (λ (cs : List Candidate). sum_by (λ c. c.good) cs) is, sum_by-cons (λ (c : Candidate). c.good) (candidate_of a.entry) (map candidate_of a.left), inv.good),
+      omega (arith, ap (λ (s : ℕ × ℕ). s.1) same, ap (λ (cs : List Candidate). sum_by (λ c. c.bad) cs) is, sum_by-cons (λ (c : Candidate). c.bad) (candidate_of a.entry) (map candidate_of a.left), inv.bad),
     )
 
-pub choose_at-requires-clause-few : goal.choose_at-requires-clause-few
-choose_at-requires-clause-few g c =
+pub choose_one-requires-clause-few : goal.choose_one-requires-clause-few
+choose_one-requires-clause-few g c =
     let m0 = g.E.Engine.meaning c.args.engine.now in
     let m = g.E.Engine.meaning c.candidates.engine in
     let k = c.candidates.number-index in
@@ -163,13 +119,8 @@ choose_at-requires-clause-few g c =
     let counts : m.counts ≡ m0.counts = ap (λ (x : Meaning). x.counts) inv.kept in
     let a : Ahead m0.windows m0.counts n more inv.rest = ahead m0.windows m0.counts n more inv.rest (sym (ap (map (slice_get m0.windows)) (drop_more c.args.order.now k 0 c.candidates-test.true)) ∙ inv.ahead) inv.part in
     let there : n < length m0.windows = slice_get_within m0.windows n a.entry.0 a.number in
-    let at = c.go_to.new.at in
-    let good = c.sums_of-good.result.0 in
-    let bad = c.sums_of-good.result.1 in
-    let number : HasNumber m0.windows at n = subst (λ (ws : List (List ℕ)). HasNumber ws at n) windows c.go_to.ensures in
-    let sums : counted_sums m0.counts at ≡ Some (good, bad) = ap (λ (es : Counts). counted_sums es at) (sym counts) ∙ c.sums_of-good.ensures at c.go_to.ensures in
-    let t : Turn m0.windows m0.counts more inv.rest at good bad = turn m0.windows m0.counts n more inv.rest at good bad a number sums in
-    omega (arith, ap (λ (cs : List Candidate). length cs) t.is, inv.few)
+    let is : map candidate_of inv.rest ≡ candidate_of a.entry ∷ map candidate_of a.left = ap (λ (es : Counts). map candidate_of es) a.is in
+    omega (arith, ap (λ (cs : List Candidate). length cs) is, inv.few)
 
 pub candidates-preserved : goal.candidates-preserved
 candidates-preserved g c =
@@ -183,32 +134,32 @@ candidates-preserved g c =
     let counts : m.counts ≡ m0.counts = ap (λ (x : Meaning). x.counts) inv.kept in
     let a : Ahead m0.windows m0.counts n more inv.rest = ahead m0.windows m0.counts n more inv.rest (sym (ap (map (slice_get m0.windows)) (drop_more c.args.order.now k 0 c.candidates-test.true)) ∙ inv.ahead) inv.part in
     let there : n < length m0.windows = slice_get_within m0.windows n a.entry.0 a.number in
-    let at = c.go_to.new.at in
-    let good = c.sums_of-good.result.0 in
-    let bad = c.sums_of-good.result.1 in
-    let number : HasNumber m0.windows at n = subst (λ (ws : List (List ℕ)). HasNumber ws at n) windows c.go_to.ensures in
-    let sums : counted_sums m0.counts at ≡ Some (good, bad) = ap (λ (es : Counts). counted_sums es at) (sym counts) ∙ c.sums_of-good.ensures at c.go_to.ensures in
-    let t : Turn m0.windows m0.counts more inv.rest at good bad = turn m0.windows m0.counts n more inv.rest at good bad a number sums in
-    let after = g.E.Engine.meaning c.choose_at.new.engine in
+    let is : map candidate_of inv.rest ≡ candidate_of a.entry ∷ map candidate_of a.left = ap (λ (es : Counts). map candidate_of es) a.is in
+    let after = g.E.Engine.meaning c.choose_one.new.engine in
     let params = c.args.params.now in
-    let first : Candidate = record { window = at; good = good; bad = bad } in
-    let rest : List Candidate = map candidate_of t.left in
-    let chosen : c.choose_at.new.choices ≡ with_candidates params c.candidates.choices (first ∷ []) = c.in_ok-choose_at.ensures.choices in
+    let first : Candidate = candidate_of a.entry in
+    let rest : List Candidate = map candidate_of a.left in
+    let it : IsCandidate m n a.entry.0 a.entry.1 = record {
+      number = subst (λ (ws : List (List ℕ)). HasNumber ws a.entry.0 n) (sym windows) a.number;
+      sums = ap (λ (es : Counts). counted_sums es a.entry.0) counts ∙ a.sums;
+    } in
+    let ok : HasChosen params (first ∷ []) m after = c.in_ok-choose_one.ensures.ok a.entry.0 a.entry.1 it in
+    let chosen : c.choose_one.new.choices ≡ with_candidates params c.candidates.choices (first ∷ []) = c.in_ok-choose_one.ensures.choices a.entry.0 a.entry.1 it in
     record {
-      kept = keeps_on m0 m after inv.kept c.in_ok-choose_at.ensures.ok.kept;
-      rest = t.left;
-      ahead = t.next;
-      part = t.part;
+      kept = keeps_on m0 m after inv.kept ok.kept;
+      rest = a.left;
+      ahead = a.next;
+      part = a.part;
       state =
-          state_step m0 m after params first rest _ inv.kept c.in_ok-choose_at.ensures.ok
-          (ap (λ (cs : List Candidate). state_with m0.signs params m0.pass (state_of m) cs) (sym t.is) ∙ inv.state);
+          state_step m0 m after params first rest _ inv.kept ok
+          (ap (λ (cs : List Candidate). state_with m0.signs params m0.pass (state_of m) cs) (sym is) ∙ inv.state);
       choices =
           ap (λ (x : Choices). with_candidates params x rest) chosen
           ∙ sym (numbers_append params c.candidates.choices (first ∷ []) rest)
-          ∙ ap (λ (cs : List Candidate). with_candidates params c.candidates.choices cs) (sym t.is)
+          ∙ ap (λ (cs : List Candidate). with_candidates params c.candidates.choices cs) (sym is)
           ∙ inv.choices;
-      few = omega (arith, ap (λ (x : Choices). x.candidates) chosen, ap (λ (cs : List Candidate). length cs) t.is, inv.few);
-      sound = c.in_ok-choose_at.ensures.sound;
-      good = omega (arith, ap (λ (x : Choices). x.good) chosen, good_adds params c.candidates.choices first, ap (λ (cs : List Candidate). sum_by (λ c. c.good) cs) t.is, sum_by-cons (λ (c : Candidate). c.good) first rest, inv.good);
-      bad = omega (arith, ap (λ (x : Choices). x.bad) chosen, bad_adds params c.candidates.choices first, ap (λ (cs : List Candidate). sum_by (λ c. c.bad) cs) t.is, sum_by-cons (λ (c : Candidate). c.bad) first rest, inv.bad);
+      few = omega (arith, ap (λ (x : Choices). x.candidates) chosen, ap (λ (cs : List Candidate). length cs) is, inv.few);
+      sound = c.in_ok-choose_one.ensures.sound;
+      good = omega (arith, ap (λ (x : Choices). x.good) chosen, good_adds params c.candidates.choices first, ap (λ (cs : List Candidate). sum_by (λ c. c.good) cs) is, sum_by-cons (λ (c : Candidate). c.good) first rest, inv.good);
+      bad = omega (arith, ap (λ (x : Choices). x.bad) chosen, bad_adds params c.candidates.choices first, ap (λ (cs : List Candidate). sum_by (λ c. c.bad) cs) is, sum_by-cons (λ (c : Candidate). c.bad) first rest, inv.bad);
     }

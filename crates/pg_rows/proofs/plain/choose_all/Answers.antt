@@ -1,4 +1,4 @@
-use Rattle.pg_driver.proofs.ChoiceSteps.{counted_above}
+use Rattle.pg_rows.proofs.CountedAbove.{counted_above}
 use Rattle.pg_rows.proofs.plain.choose_all.Goals as goal
 
 pub choose_at-requires-clause-counted : goal.choose_at-requires-clause-counted

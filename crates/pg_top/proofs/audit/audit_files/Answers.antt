@@ -7,7 +7,9 @@ use Rattle.pg_top.specs.Readings.{first_end}
 use Rattle.pg_top.specs.Requests.{FileNames, ToAudit}
 use Rattle.pg_top.specs.Selecting.{inputs_of, inputs_in, HasInputs}
 use Rattle.pg_top.specs.Verdicts.{wanted_files, end_of, outcome_by}
-use Rattle.pg_top.proofs.Judgements.{outcome_audited, stopped_given}
+use Rattle.pg_top.specs.declared.inputs.Stop.TheVariants.{Memory}
+use Rattle.pg_top.proofs.InputOrder.{inputs_wanted}
+use Rattle.pg_top.proofs.Judgements.{outcome_audited, stopped_given, found_given}
 use Rattle.pg_top.proofs.Orders.{mapped, both, held_later, stopped_in_front}
 use Rattle.pg_top.proofs.audit.audit_files.Goals as goal
 
@@ -34,5 +36,19 @@ pub returns-in_err-verdict-clause-stopped : goal.returns-in_err-verdict-clause-s
 returns-in_err-verdict-clause-stopped g c =
     let stops = rw c.deref.ensures.value at c.in_err-verdict.ensures.stopped in
     let h = stopped_given (texts_of c.args.names.now) c.in_ok-inputs.inputs c.in_ok-wanted.wanted.items (g.F.Files.shown c.args.files.now) (g.F.Files.shown c.read_inputs.new.files) (g.F.Files.shown c.compare_all.new.files) c.in_err-verdict.field-0.0
-    c.in_ok-wanted.ensures c.read_inputs.ensures.reads c.compare_all.ensures.held c.in_ok-inputs.ensures.ok stops in
+    c.in_ok-wanted.ensures c.read_inputs.ensures.reads c.in_ok-inputs.ensures.counted c.compare_all.ensures.held c.in_ok-inputs.ensures.ok stops in
     search rules
+
+pub returns-in_err-wanted-clause-stopped : goal.returns-in_err-wanted-clause-stopped
+returns-in_err-wanted-clause-stopped g c =
+    let n : FileNames = texts_of c.args.names.now in
+    let s0 : FilesShown = g.F.Files.shown c.args.files.now in
+    let s2 : FilesShown = g.F.Files.shown c.read_inputs.new.files in
+    let h = stopped_in_front (inputs_of n) (given_files (λ files. inputs_in files n) n) s0 s2 Memory (inputs_wanted n c.in_ok-inputs.inputs s0 s2 c.in_ok-inputs.ensures.counted c.in_ok-inputs.ensures.ok) in
+    search rules
+
+pub returns-clause-counted : goal.returns-clause-counted
+returns-clause-counted g c =
+    let found = rw c.deref.ensures.value at c.in_ok-verdict.ensures.counted in
+    found_given (texts_of c.args.names.now) c.in_ok-inputs.inputs c.in_ok-wanted.wanted.items c.in_ok-verdict.verdict (g.F.Files.shown c.args.files.now) (g.F.Files.shown c.read_inputs.new.files) (g.F.Files.shown c.compare_all.new.files)
+    c.in_ok-wanted.ensures c.in_ok-inputs.ensures.counted c.compare_all.ensures.held c.in_ok-inputs.ensures.ok found

@@ -8,6 +8,8 @@ use Rattle.pg_top.specs.PackedTables.{packed_text}
 use Rattle.pg_top.specs.PrintedLines.{packed_line}
 use Rattle.pg_top.specs.Writings.{written_names}
 use Rattle.pg_top.specs.declared.answers.Status.TheVariants.{Done}
+use Rattle.pg_table.specs.Laws.{HasEntries}
+use Rattle.pg_top.proofs.Promised.{gives_values}
 use Rattle.pg_top.proofs.PackedTexts.{packed_short, stops_making}
 use Rattle.pg_top.proofs.packing.make_table.Goals as goal
 
@@ -31,3 +33,15 @@ returns-in-Err-clause-stopped c =
     let P = c.args.source.now.patterns in
     let long = λ (is : c.in-Err.error ≡ table_error.TooLong). subst (λ n. TABLE_MAX < length (table_text (n + 1) P)) c.letters.ensures.value (c.in-Err.ensures.too_long is) in
     rw c.table_stop.ensures (stops_making c.args.name.now t P c.in-Err.error long)
+
+pub returns-in_ok-outputs-in-Ok-clause-table : goal.returns-in_ok-outputs-in-Ok-clause-table
+returns-in_ok-outputs-in-Ok-clause-table c =
+    let P = c.args.source.now.patterns in
+    let text = c.in-Ok.ensures.text ∙ ap (λ n. table_text (n + 1) P) c.letters.ensures.value in
+    c.in_ok-outputs-in-Ok.ensures.files ∙ ap (λ (b : List ℕ). (c.args.name.now, b) ∷ []) text
+
+pub returns-in_ok-outputs-in-Ok-clause-gives : goal.returns-in_ok-outputs-in-Ok-clause-gives
+returns-in_ok-outputs-in-Ok-clause-gives c =
+    let P = c.args.source.now.patterns in
+    let text = c.in-Ok.ensures.text ∙ ap (λ n. table_text (n + 1) P) c.letters.ensures.value in
+    gives_values (packed_text c.args.source.now.table P) P c.len-kept.ensures.kept (subst (λ (b : List ℕ). HasEntries b P) text c.in-Ok.ensures.values)

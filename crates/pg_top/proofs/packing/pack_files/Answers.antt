@@ -2,13 +2,14 @@ use Rattle.std.proofs.Common.{◌≡◌, ◌∙◌, rules}
 use Rattle.pg_outside.specs.Content.{file_at}
 use Rattle.pg_top.specs.Calls.{outcome_of}
 use Rattle.pg_top.specs.Outcomes.{Ends}
+use Rattle.pg_top.specs.Promises.{PackKeeps}
 use Rattle.pg_top.specs.Requests.{ToPack}
 use Rattle.pg_top.specs.Sources.{HasSource}
 use Rattle.pg_top.specs.Writings.{writing_of}
 use Rattle.pg_top.specs.declared.answers.Status.TheVariants.{Done}
 use Rattle.pg_top.proofs.Calls.{stops_reading}
 use Rattle.pg_top.proofs.Orders.{mapped}
-use Rattle.pg_top.proofs.PackedOrder.{pack_outcome, stopped_making}
+use Rattle.pg_top.proofs.PackedOrder.{pack_outcome, pack_keeps, stopped_making}
 use Rattle.pg_top.proofs.packing.pack_files.Goals as goal
 
 pub returns-clause-ok : goal.returns-clause-ok
@@ -28,5 +29,15 @@ returns-in_err-source-clause-stopped g c =
 
 pub returns-in_err-outputs-clause-stopped : goal.returns-in_err-outputs-clause-stopped
 returns-in_err-outputs-clause-stopped g c =
-    let h = stopped_making c.args.patterns.now c.args.translate.now c.args.table.now c.in_ok-source.source (g.F.Files.shown c.args.files.now) (g.F.Files.shown c.read_source.new.files) c.in_err-outputs.field-0.0 c.in_ok-source.ensures.ok c.in_err-outputs.ensures.stopped in
+    let h = stopped_making c.args.patterns.now c.args.translate.now c.args.table.now c.in_ok-source.source (g.F.Files.shown c.args.files.now) (g.F.Files.shown c.read_source.new.files) c.in_err-outputs.field-0.0 c.in_ok-source.ensures.counted c.in_ok-source.ensures.ok c.in_err-outputs.ensures.stopped in
     search rules
+
+pub returns-clause-kept : goal.returns-clause-kept
+returns-clause-kept g c =
+    let p = c.args.patterns.now in
+    let t = c.args.translate.now in
+    let n = c.args.table.now in
+    let s = c.in_ok-source.source in
+    let made = c.in_ok-outputs.outputs in
+    mapped (g.F.Files.shown c.read_source.new.files).held (λ files. HasSource (file_at files) p t s) (λ files. PackKeeps (file_at files) p t n)
+    (λ files h. pack_keeps p t n s (writing_of made.files.items) made.lines.items files c.in_ok-outputs.ensures.made c.in_ok-outputs.ensures.table c.in_ok-outputs.ensures.gives h) c.in_ok-source.ensures.ok

@@ -1,4 +1,4 @@
-use Rattle.std.proofs.Common.{ℕ, List, [], ◌∷◌, ◌++◌, length, ◌∙◌, ap}
+use Rattle.std.proofs.Common.{List, [], ◌∷◌, ◌++◌, length, ◌∙◌, ap}
 use Rattle.pg_patterns.specs.Texts.{pattern_text}
 use Rattle.pg_top.specs.PrintedLines.{pruned_line}
 use Rattle.pg_top.specs.Writings.{writing_of}

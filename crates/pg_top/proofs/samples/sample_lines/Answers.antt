@@ -1,4 +1,4 @@
-use Rattle.std.proofs.Common.{◌≡◌, List, ℕ, subst}
+use Rattle.std.proofs.Common.{◌≡◌, subst}
 use Rattle.std.specs.Prelude.{IfOk}
 use Rattle.pg_top.specs.SampleTexts.{selection_lines}
 use Rattle.pg_top.specs.declared.reading.Inputs.{Inputs}

@@ -1,8 +1,10 @@
-use Rattle.std.proofs.Common.{◌+◌, ◌++◌, ◌∷◌, [], List, take, length, IfSome, ◌∙◌, rules, sym, ap, subst, length-append}
+use Rattle.std.proofs.Common.{◌+◌, ◌∷◌, [], List, take, length, IfSome, ◌∙◌, rules, sym, ap, subst, length-append}
 use Rattle.pg_types.specs.Parameters.{Parameters}
 use Rattle.pg_outside.specs.Content.{FilesShown, file_at}
 use Rattle.pg_top.specs.Commands.{words_of}
 use Rattle.pg_top.specs.Sweeping.{HasSets}
+use Rattle.pg_top.specs.declared.inputs.Stop.TheVariants.{Memory}
+use Rattle.pg_top.proofs.CountedCalls.{one_more}
 use Rattle.pg_top.proofs.Faults.{none_fell}
 use Rattle.pg_top.proofs.Orders.{kept_on}
 use Rattle.pg_top.proofs.SetFiles.{sets_more, stopped_set}
@@ -23,6 +25,7 @@ sets-preserved g c =
       writes = none_fell s0.write_faults s1.write_faults s2.write_faults c.sets.invariant.writes c.read_parameters.ensures.writes;
       taken = subst (λ (sets : List Parameters). IfSome s2.held (λ files. HasSets (file_at files) (words_of (take (c.sets.i + 1) names)) sets)) (sym items)
           (sets_more names c.sets.i c.index-names-i.result c.index-names-i.is c.sets-test.true s1.held s2.held c.sets.sets.items set c.read_parameters.ensures.held c.sets.invariant.taken more);
+      calls = one_more c.sets.i s0 s1 s2 c.sets.invariant.calls c.read_parameters.ensures.calls;
       count = ap length items ∙ length-append c.sets.sets.items (set ∷ []) ∙ ap (λ n. n + 1) c.sets.invariant.count;
     }
 
@@ -32,5 +35,12 @@ returns-in_err-set-clause-stopped g c =
     let s1 : FilesShown = g.F.Files.shown c.sets.files in
     let s2 : FilesShown = g.F.Files.shown c.read_parameters.new.files in
     let stops = rw c.as_str-name.ensures.value at c.in_err-set.ensures.stopped in
-    let h = stopped_set c.args.names.now c.sets.i c.index-names-i.result c.index-names-i.is c.sets-test.true s0 s1 s2 c.sets.sets.items c.in_err-set.field-0.0 c.sets.invariant.reads c.read_parameters.ensures.held c.sets.invariant.taken stops in
+    let h = stopped_set c.args.names.now c.sets.i c.index-names-i.result c.index-names-i.is c.sets-test.true s0 s1 s2 c.sets.sets.items c.in_err-set.field-0.0 c.sets.invariant.reads (one_more c.sets.i s0 s1 s2 c.sets.invariant.calls c.read_parameters.ensures.calls) c.read_parameters.ensures.held c.sets.invariant.taken stops in
     search rules
+
+pub returns-in-Err-clause-stopped : goal.returns-in-Err-clause-stopped
+returns-in-Err-clause-stopped g c =
+    let s0 : FilesShown = g.F.Files.shown c.args.files.now in
+    let s1 : FilesShown = g.F.Files.shown c.sets.files in
+    let s2 : FilesShown = g.F.Files.shown c.read_parameters.new.files in
+    stopped_set c.args.names.now c.sets.i c.index-names-i.result c.index-names-i.is c.sets-test.true s0 s1 s2 c.sets.sets.items Memory c.sets.invariant.reads (one_more c.sets.i s0 s1 s2 c.sets.invariant.calls c.read_parameters.ensures.calls) c.read_parameters.ensures.held c.sets.invariant.taken tt

@@ -2,6 +2,7 @@ use Rattle.std.proofs.Common.{◌≡◌, length, take, IfSome}
 use Rattle.pg_outside.specs.Content.{KeepsHeld, file_at}
 use Rattle.pg_outside.specs.Faults.{NoneFell}
 use Rattle.pg_top.specs.Commands.{words_of}
+use Rattle.pg_top.specs.Counted.{MakesCalls}
 use Rattle.pg_top.specs.Sweeping.{HasSets}
 use Rattle.pg_top.proofs.sets.read_sets.Given as goal
 
@@ -14,5 +15,6 @@ invariant-sets g l =
       reads : NoneFell s0.read_faults s.read_faults;
       writes : NoneFell s0.write_faults s.write_faults;
       taken : IfSome s.held (λ files. HasSets (file_at files) (words_of (take l.i l.names)) l.sets.items);
+      calls : MakesCalls s0 s l.i;
       count : length l.sets.items ≡ l.i;
     }

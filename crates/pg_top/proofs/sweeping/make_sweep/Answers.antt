@@ -1,4 +1,4 @@
-use Rattle.std.proofs.Common.{◌≡◌, ◌++◌, ◌∷◌, [], List, ◌∙◌, sym, ap}
+use Rattle.std.proofs.Common.{◌++◌, ◌∷◌, [], List, ◌∙◌, sym, ap}
 use Rattle.pg_sweep.specs.Sweeps.{Terms, Prices, rows_of}
 use Rattle.pg_top.specs.Commands.{sweep_of}
 use Rattle.pg_top.specs.Outcomes.{Ends}

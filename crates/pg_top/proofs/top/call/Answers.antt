@@ -1,7 +1,8 @@
-use Rattle.std.proofs.Common.{◌≡◌, false, subst}
+use Rattle.std.proofs.Common.{◌≡◌, false, subst, refl}
 use Rattle.pg_top.specs.Answers.{IsCall, IsSampled}
 use Rattle.pg_top.specs.Calls.{has_files}
 use Rattle.pg_top.specs.Counted.{IsCountedCall}
+use Rattle.pg_top.specs.Promises.{IsPromised}
 use Rattle.pg_top.proofs.Calls.{usage_call}
 use Rattle.pg_top.proofs.top.call.Goals as goal
 
@@ -36,4 +37,13 @@ returns-in-Some-clause-counted g c =
 pub returns-in-None-clause-counted : goal.returns-in-None-clause-counted
 returns-in-None-clause-counted g c =
     let s = g.F.Files.shown c.args.files.now in
-    subst (λ asked. IsCountedCall asked c.answer.result (s, g.O.Sink.shown c.args.out.now) (s, g.O.Sink.shown c.answer.new.out)) c.in-None.ensures.value tt
+    subst (λ asked. IsCountedCall asked c.answer.result (s, g.O.Sink.shown c.args.out.now) (s, g.O.Sink.shown c.answer.new.out)) c.in-None.ensures.value (refl, c.answer.ensures.counted)
+
+pub returns-in-Some-clause-promised : goal.returns-in-Some-clause-promised
+returns-in-Some-clause-promised g c =
+    subst (λ asked. IsPromised asked c.perform.result (g.F.Files.shown c.args.files.now, g.O.Sink.shown c.args.out.now) (g.F.Files.shown c.perform.new.files, g.O.Sink.shown c.perform.new.out)) c.in-Some.ensures.value c.perform.ensures.promised
+
+pub returns-in-None-clause-promised : goal.returns-in-None-clause-promised
+returns-in-None-clause-promised g c =
+    let s = g.F.Files.shown c.args.files.now in
+    subst (λ asked. IsPromised asked c.answer.result (s, g.O.Sink.shown c.args.out.now) (s, g.O.Sink.shown c.answer.new.out)) c.in-None.ensures.value tt

@@ -7,7 +7,7 @@ use Rattle.pg_top.specs.Requests.{ToGenerate}
 use Rattle.pg_top.specs.Selecting.{HasInputs}
 use Rattle.pg_top.specs.Writings.{written_names, writing_of}
 use Rattle.pg_top.specs.declared.answers.Status.TheVariants.{Done}
-use Rattle.pg_top.proofs.InputOrder.{outcome_generated, counted_memory}
+use Rattle.pg_top.proofs.InputOrder.{outcome_generated, inputs_wanted}
 use Rattle.pg_top.proofs.Orders.{mapped}
 use Rattle.pg_top.proofs.WrittenNames.{names_of_files}
 use Rattle.pg_top.proofs.top.prepare.Goals as goal
@@ -24,7 +24,7 @@ pub returns-clause-named : goal.returns-clause-named
 returns-clause-named g c =
     ap written_names c.in_ok-outputs.ensures.files ∙ names_of_files (texts_of c.args.names.now) c.in_ok-inputs.inputs
 
-pub returns-in_err-outputs-clause-stopped_counted : goal.returns-in_err-outputs-clause-stopped_counted
-returns-in_err-outputs-clause-stopped_counted g c =
-    let h = counted_memory (texts_of c.args.names.now) c.in_ok-inputs.inputs (g.F.Files.shown c.args.files.now) (g.F.Files.shown c.read_inputs.new.files) c.in_ok-inputs.ensures.counted c.in_ok-inputs.ensures.ok in
+pub returns-in_err-outputs-clause-stopped : goal.returns-in_err-outputs-clause-stopped
+returns-in_err-outputs-clause-stopped g c =
+    let h = inputs_wanted (texts_of c.args.names.now) c.in_ok-inputs.inputs (g.F.Files.shown c.args.files.now) (g.F.Files.shown c.read_inputs.new.files) c.in_ok-inputs.ensures.counted c.in_ok-inputs.ensures.ok in
     search rules

@@ -1,4 +1,4 @@
-use Rattle.std.proofs.Common.{rules, List, ℕ, map, sym, ap, subst, ◌∙◌}
+use Rattle.std.proofs.Common.{rules, filter, List, ℕ, map, sym, ap, subst, ◌∙◌}
 use Rattle.std.specs.List.{All}
 use Rattle.std.specs.Vec.{with_items}
 use Rattle.std.proofs.lemmas.List.{with_items_is, places}
@@ -10,7 +10,7 @@ use Rattle.pg_driver.specs.declared.open_positions.OpenPosition.{OpenPosition}
 use Rattle.pg_driver.specs.LevelCounting.{AreNumberedIn, ArePlaced, GoesOnAfter}
 use Rattle.pg_driver.specs.OpenLevels.{position_after}
 use Rattle.pg_driver.specs.OpenPositions.{IsPlaced}
-use Rattle.pg_driver.specs.PassWindows.{ClosesAs, HaveNumbers, counts_at}
+use Rattle.pg_driver.specs.PassWindows.{ClosesAs, HaveNumbers, counts_at, is_open}
 use Rattle.pg_driver.proofs.NumberSteps.{closes_by_number}
 use Rattle.pg_driver.proofs.counting.Counting.after_choices.Goals as goal
 
@@ -25,7 +25,7 @@ returns-in-Open g c =
     let ns : List ℕ = c.args.windows.now.numbers.items in
     let f = position_after params pass m.counts words in
     let placed : All (IsPlaced words) o.positions.items = subst (ArePlaced words) c.in-Open.is c.requires.placed in
-    let have : HaveNumbers pass (counts_at pass) words m.windows o.positions.items ns = subst (λ (s : Counting). AreNumberedIn pass m.counts words m.windows s ns) c.in-Open.is c.requires.numbers in
+    let have : HaveNumbers pass (counts_at pass) words m.windows (filter (is_open pass.dot) o.positions.items) ns = subst (λ (s : Counting). AreNumberedIn pass m.counts words m.windows s ns) c.in-Open.is c.requires.numbers in
     let closes : ClosesAs f pass.dot fates o.positions.items ns = closes_by_number params m.counts m.windows fates pass words o.positions.items ns c.kept.ensures.numbered c.requires.fates c.requires.few placed have in
     let there = subst (λ (es : List OpenPosition). ClosesAs f pass.dot c.deref.result.now es c.deref-in-Open.result.now) (sym c.deref_mut.ensures.value)
     (subst (λ (xs : List ℕ). ClosesAs f pass.dot c.deref.result.now o.positions.items xs) (sym c.deref-in-Open.ensures.value)

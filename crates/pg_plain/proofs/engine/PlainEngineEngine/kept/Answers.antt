@@ -1,5 +1,3 @@
-use Rattle.std.proofs.Common.{nat_cmp}
-use Rattle.std.specs.Cmp.Lexicographic.{slice_cmp}
 use Rattle.pg_patterns.specs.DottedSigns.{dotted_cmp}
 use Rattle.pg_types.proofs.EntryLists.{sorted_from}
 use Rattle.pg_plain.proofs.Known.{patterns_up_to, places_within, counted_within}

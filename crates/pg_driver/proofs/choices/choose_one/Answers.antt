@@ -1,0 +1,18 @@
+use Rattle.std.proofs.Common.{sym, ◌∙◌}
+use Rattle.std.proofs.lemmas.Option.{slice_get_within}
+use Rattle.pg_select.specs.Windows.{window}
+use Rattle.pg_driver.proofs.ChoiceSteps.{left_alone}
+use Rattle.pg_driver.proofs.choices.choose_one.Goals as goal
+
+pub returns-in-Left-clause-choices : goal.returns-in-Left-clause-choices
+returns-in-Left-clause-choices g c = λ u sums it.
+    left_alone c.args.params.now c.args.choices.now (record { window = u; good = sums.0; bad = sums.1 }) (sym (c.requires.fate u sums it) ∙ c.in-Left.is)
+
+pub sums_of-good-requires : goal.sums_of-good-requires
+sums_of-good-requires g c =
+    let place = c.requires.place in
+    slice_get_within (g.E.Engine.meaning c.args.engine.now).windows c.args.number (window place.word.signs c.args.place.at c.args.pass.len c.args.pass.dot) place.number
+
+pub choose_at-requires-clause-fate : goal.choose_at-requires-clause-fate
+choose_at-requires-clause-fate g c =
+    c.requires.fate c.go_to.new.at c.sums_of-good.result (record { number = c.go_to.ensures; sums = c.sums_of-good.ensures c.go_to.new.at c.go_to.ensures })

@@ -1,0 +1,80 @@
+-- What is promised of a command that is done, without how it goes about it.
+use Rattle.std.specs.Prelude.{◌≡◌, ℕ, ◌-◌, List, [], ◌∷◌, Option, Some, slice_index}
+use Rattle.pg_outside.specs.Content.{file_at}
+use Rattle.pg_dict.specs.Word.{Word}
+use Rattle.pg_dict.specs.Words.{words}
+use Rattle.pg_patterns.specs.Starts.{start}
+use Rattle.pg_patterns.specs.Texts.{pattern_text}
+use Rattle.pg_patterns.specs.Values.{value_at}
+use Rattle.pg_select.specs.CountedPositions.{Minima, minima_of}
+use Rattle.pg_select.specs.Sums.{totals}
+use Rattle.pg_select.specs.Windows.{Patterns}
+use Rattle.pg_table.specs.Lookups.{table_value, table_totals}
+use Rattle.pg_prune.specs.Promises.{BreakAlike, NoneCanGo}
+use Rattle.pg_sweep.specs.Sweeps.{costs_of}
+use Rattle.pg_sweep.specs.Winners.{IsWinner}
+use Rattle.pg_top.specs.Calls.{outcome_of}
+use Rattle.pg_top.specs.Moments.{Moment, OfFiles}
+use Rattle.pg_top.specs.Outcomes.{Ends}
+use Rattle.pg_top.specs.PackedTables.{meant_under}
+use Rattle.pg_top.specs.PrintedLines.{winner_line}
+use Rattle.pg_top.specs.Readings.{Held}
+use Rattle.pg_top.specs.Requests.{Request, PruneRequest, SweepRequest, ToPack, ToPrune, ToSweep}
+use Rattle.pg_top.specs.Selecting.{table_named}
+use Rattle.pg_top.specs.Sweeping.{terms_in, sets_in, swept_rows}
+use Rattle.pg_top.specs.declared.answers.Status.{Status}
+use Rattle.pg_top.specs.declared.answers.Status.TheVariants.{Done}
+
+-- the patterns and the words of files, under the table of a translate file
+abbrev pub patterns_under : Held → List ℕ → List ℕ → Patterns
+patterns_under files translate name = meant_under translate start [] files name
+
+abbrev pub words_under : Held → List ℕ → List ℕ → List Word
+words_under files translate name = meant_under translate words [] files name
+
+-- the bytes of a packed table give each position of each word the value of the patterns, and each word list their totals
+pub record GivesValues (bytes : List ℕ) (P : Patterns) : Type 0 where
+  pub values : (w : List ℕ) (p : ℕ) → table_value bytes w p ≡ value_at P w p
+  pub totals : (m : Minima) (ws : List Word) → table_totals m ws bytes ≡ totals m ws P
+
+-- `pack` writes bytes that give the values of the patterns
+pub record PackKeeps (files : Held) (patterns translate name : List ℕ) : Type 0 where
+  pub bytes : List ℕ
+  pub lines : List ℕ
+  pub comes : outcome_of files (ToPack patterns translate name) ≡ Ends Done ((name, bytes) ∷ []) lines
+  pub gives : GivesValues bytes (patterns_under files translate patterns)
+
+-- `prune` writes the text of patterns that break alike with those it read, at each position in reach of each word, and of
+-- which none can go alone
+pub record PruneKeeps (files : Held) (p : PruneRequest) : Type 0 where
+  pub kept : Patterns
+  pub report : List ℕ
+  pub lines : List ℕ
+  pub comes : outcome_of files (ToPrune p)
+      ≡ Ends Done ((p.output, pattern_text (table_named p.translate files) kept) ∷ (p.report, report) ∷ []) lines
+  pub alike : BreakAlike (minima_of (table_named p.translate files)) (words_under files p.translate p.dict)
+      (patterns_under files p.translate p.patterns) kept
+  pub least : NoneCanGo (minima_of (table_named p.translate files)) (words_under files p.translate p.dict)
+      (patterns_under files p.translate p.patterns) kept
+
+-- what the sets of a sweep cost
+abbrev pub set_costs : Held → SweepRequest → List ℕ
+set_costs files s = costs_of (swept_rows s (terms_in files s) (sets_in files s))
+
+-- `sweep` names the set that costs least, the first of these
+pub record SweepNames (files : Held) (s : SweepRequest) : Type 0 where
+  pub winner : ℕ
+  pub text : List ℕ
+  pub comes : outcome_of files (ToSweep s)
+      ≡ Ends Done ((s.output, text) ∷ []) (winner_line winner (slice_index (set_costs files s) (winner - 1)))
+  pub wins : IsWinner (set_costs files s) winner
+
+-- where it is done, this was kept
+abbrev pub IsPromised : Option Request → Status → Moment → Moment → Type 0
+IsPromised (Some (ToPack patterns translate name)) status old new =
+    status ≡ Done → OfFiles old new (λ before after. PackKeeps (file_at before) patterns translate name)
+IsPromised (Some (ToPrune p)) status old new =
+    status ≡ Done → OfFiles old new (λ before after. PruneKeeps (file_at before) p)
+IsPromised (Some (ToSweep s)) status old new =
+    status ≡ Done → OfFiles old new (λ before after. SweepNames (file_at before) s)
+IsPromised asked status old new = Unit {0}
