@@ -96,11 +96,11 @@ LONGEST = 48  # letters of a word, by patgen
 
 
 class WordList:
-    """One word list: its key, its name, the tag of the patterns that go with it, the package and path of its file, what reads it where
-    its hyphens are marked by hand, and how many words of it are taken where that is not as for the others."""
+    """One word list: its key, its name, the tag of the patterns that go with it, the package and path of its file, and what reads it
+    where its hyphens are marked by hand."""
 
-    def __init__(self, key, name, tag, package, path, read=None, most=None):
-        self.key, self.name, self.tag, self.package, self.path, self.read, self.most = key, name, tag, package, path, read, most
+    def __init__(self, key, name, tag, package, path, read=None):
+        self.key, self.name, self.tag, self.package, self.path, self.read = key, name, tag, package, path, read
 
     @property
     def by_hand(self):
@@ -128,7 +128,7 @@ def hand_marked():
         found.append(WordList(f"{tag}-exceptions", f"{names[tag]}, exceptions", tag, package, path, exceptions))
     found.append(WordList("tugboat", "English, TUGboat's exceptions", "en-us", "texlive-base", EXCEPTIONS, tex_exceptions))
     found.append(WordList("webster", "English, Webster of 1913", "en-us", "dict-gcide", WEBSTER, webster))
-    found.append(WordList("compounds", "Norwegian, compounds", "nb", "norwegian (source)", NORWEGIAN, compounds, 10**7))
+    found.append(WordList("compounds", "Norwegian, compounds", "nb", "norwegian (source)", NORWEGIAN, compounds))
     return found
 
 

@@ -38,7 +38,7 @@ def equal_in(results, name):
         return ""
     if "stopped" in theirs:
         return f"patgen stops: `{theirs['stopped']}`"
-    return "yes" if ours["patterns file"] == theirs["patterns file"] else "**no**"
+    return "yes" if ours["file"] == theirs["file"] else "**no**"
 
 
 def winner(results):
@@ -114,9 +114,9 @@ def run_costs(results, name):
     if not ours or not theirs or "stopped" in ours:
         return ["", "", "", ""]
     is_ended = "stopped" not in theirs
-    ratio = f"{ours['generate']['seconds'] / theirs['seconds']:.2f}" if is_ended and theirs["seconds"] >= LEAST else ""
-    audit = f"{ours['audit']['seconds']:.1f} s, {ours['audit']['answer']}"
-    return [cost(ours["generate"]), cost(theirs) + ("" if is_ended else ", stopped"), ratio, audit]
+    ratio = f"{ours['seconds'] / theirs['seconds']:.2f}" if is_ended and theirs["seconds"] >= LEAST else ""
+    audit = results.get(f"audit {name}", {})
+    return [cost(ours), cost(theirs) + ("" if is_ended else ", stopped"), ratio, f"{audit['seconds']:.1f} s, {audit['answer']}" if "answer" in audit else ""]
 
 
 def cost_rows(rows):

@@ -38,10 +38,11 @@ class Runs:
     def steps(self):
         """The steps in their order: a name and what it does."""
         yield "words", self.make_files
-        for name, params in (("five", FIVE), ("eight", EIGHT)):
-            yield f"patgen {name}", functools.partial(self.theirs, params)
+        for name in ("five", "eight"):
+            yield f"patgen {name}", functools.partial(self.theirs, name)
             if not self.options.patgen:
-                yield name, functools.partial(self.made, params)
+                yield name, functools.partial(self.made, name)
+                yield f"audit {name}", functools.partial(self.audited, name)
         if not self.options.patgen:
             yield "published", self.count_published
             yield "sweep", self.sweep
@@ -98,7 +99,7 @@ class Runs:
             kept, left_out, lacking = kept_marked(self.words.read(path), patterns)
         else:
             kept, left_out, lacking = kept_words(plain_words(path), patterns, self.words.tag)
-        most, mark = self.words.most or self.options.most, patterns.missed_mark()
+        most, mark = self.options.most, patterns.missed_mark()
         chosen = kept[:: -(-len(kept) // most)] if most else kept
         marked = [word.replace("-", mark) if self.words.by_hand else mark.join(patterns.pieces(word)) for word in chosen]
         whole = [] if self.words.by_hand else kept
@@ -119,23 +120,26 @@ class Runs:
         rounds, removed, kept = map(int, re.match(r"done: (\d+) rounds, (\d+) removed, (\d+) kept", printed).groups())
         return {"rounds": rounds, "removed": removed, "kept": kept, **cost}
 
-    def made(self, params):
-        """Makes patterns, and audits them."""
-        put_files(self.folder, {"params": params.encode()})
-        printed, ours = self.ours("generate", "words", "none", "ours", "translate", "params", "report")
-        answer, cost = self.ours("audit", "words", "none", "ours", "translate", "params", "report")
-        return {**totals_of(printed), "generate": ours, "levels": levels_of(self.read("report")), "patterns file": self.digest("ours"),
-                "audit": {"answer": answer, **cost}}
+    def made(self, name):
+        """Makes patterns by one of the sets."""
+        put_files(self.folder, {name: SETS[name].encode()})
+        printed, cost = self.ours("generate", "words", "none", f"{name}.pat", "translate", name, f"{name}.report")
+        return {**totals_of(printed), **cost, "levels": levels_of(self.read(f"{name}.report")), "file": self.digest(f"{name}.pat")}
+
+    def audited(self, name):
+        """Audits what was made by one of the sets."""
+        answer, cost = self.ours("audit", "words", "none", f"{name}.pat", "translate", name, f"{name}.report")
+        return {"answer": answer, **cost}
 
     def digest(self, name):
         """What stands for the bytes of a file."""
         with open(self.path(name), "rb") as file:
             return hashlib.sha256(file.read()).hexdigest()
 
-    def theirs(self, params):
-        """Runs Debian's patgen: its seconds and memory, and its words where it stopped. At the end of its input it asks for ever,
-        so what it may write is limited."""
-        numbers = params.split()
+    def theirs(self, name):
+        """Runs Debian's patgen by one of the sets: its seconds and memory, and its words where it stopped. At the end of its input it
+        asks for ever, so what it may write is limited."""
+        numbers = SETS[name].split()
         answers = [" ".join(numbers[:2])]
         for at in range(2, len(numbers), 5):
             answers += [" ".join(numbers[at:at + 2]), " ".join(numbers[at + 2:at + 5])]
@@ -144,7 +148,7 @@ class Runs:
         status, _, seconds, memory = measured(["sh", "-c", command], self.folder, self.options.patience)
         cost = {"seconds": round(seconds, 2), "memory": memory}
         if status == 0:
-            return {**cost, "patterns file": self.digest("theirs")}
+            return {**cost, "file": self.digest("theirs")}
         if status is None:
             return {**cost, "stopped": f"it was ended after {self.options.patience} s"}
         return {**cost, "stopped": in_one_line(self.read("errors")) or f"status {status}"}
