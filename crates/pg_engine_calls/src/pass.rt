@@ -1,5 +1,5 @@
 //! A pass over a small start, by an engine of either kind. The signs are the edge 1, a 2, b 3 and c 4.
-ghost use Rattle.std.specs.Prelude.{◌≡◌, [], ◌∷◌, IfOk, OnOk};
+ghost use Rattle.std.specs.Prelude.{◌≡◌, [], ◌∷◌, ◌++◌, IfOk, OnOk};
 ghost use Rattle.pg_patterns.specs.Values.{SignsUpTo};
 
 use pg_dict::WordRef;
@@ -44,7 +44,10 @@ pub fn count<E: Engine>(e: &mut E) -> Result<(), AllocError>
     requires len { (E.meaning e.old).pass.len ≡ 2 }
     requires none { (E.meaning e.old).counts ≡ [] }
     ensures { OnOk result (E.meaning e.new
-        ≡ record (E.meaning e.old) { counts = (2 ∷ 3 ∷ [], (0, 1)) ∷ (3 ∷ 2 ∷ [], (1, 0)) ∷ [] }) }
+        ≡ record (E.meaning e.old) {
+          counts = (2 ∷ 3 ∷ [], (0, 1)) ∷ (3 ∷ 2 ∷ [], (1, 0)) ∷ [];
+          windows = ((E.meaning e.old).windows ++ (3 ∷ 2 ∷ []) ∷ []) ++ (2 ∷ 3 ∷ []) ∷ [];
+        }) }
 {
     e.count(&[3, 2], true, 1)?;
     e.count(&[2, 3], false, 1)
