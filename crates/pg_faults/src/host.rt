@@ -1,5 +1,5 @@
 use super::folders::{enter_names, holds, is_new_file_left, leave_folder, permit};
-use pg_outside::{Failed, Files, HostFiles, ReadError};
+use pg_outside::{Failed, Files, HostFiles, HostSystem, ReadError};
 use std::os::unix::fs::MetadataExt;
 use std::test::Fail;
 use std::{fs, io, rt};
@@ -10,7 +10,7 @@ fn write_after_reading<R: rt::Files + AllocGlobal>(
     read: &str,
     name: &str,
 ) -> Result<(), Failed> {
-    let mut files = HostFiles::new(rt.alloc(), rt);
+    let mut files = HostFiles::new(rt.alloc(), HostSystem::new(rt));
     let mut into = Vec::new(rt.alloc());
     if files.read(rt.alloc(), read, 9, &mut into).is_err() {
         return Ok(());
@@ -25,7 +25,12 @@ fn read<R: rt::Files + AllocGlobal>(
     limit: u32,
 ) -> (Result<(), ReadError>, Vec<u8>) {
     let mut into = Vec::new(rt.alloc());
-    let result = HostFiles::new(rt.alloc(), rt).read(rt.alloc(), name, limit as usize, &mut into);
+    let result = HostFiles::new(rt.alloc(), HostSystem::new(rt)).read(
+        rt.alloc(),
+        name,
+        limit as usize,
+        &mut into,
+    );
     (result, into)
 }
 

@@ -1,8 +1,24 @@
 use super::folders::{enter_folder, holds, is_new_file_left, leave_folder};
 use super::scripted::{Broken, Call, ScriptedSystem};
-use pg_outside::{Failed, Files, HostFiles, ReadError};
+use pg_outside::{Failed, Files, HostFiles, HostSystem, ReadError};
+use std::alloc::Global;
 use std::test::Fail;
 use std::{fs, rt};
+
+/// Reads D over this system.
+fn read_by(
+    alloc: Global,
+    system: impl rt::Files + Drop,
+    into: &mut Vec<u8>,
+) -> Result<(), ReadError> {
+    into.clear();
+    HostFiles::new(alloc, HostSystem::new(system)).read(alloc, "D", 5, into)
+}
+
+/// Writes O over this system.
+fn write_by(alloc: Global, system: impl rt::Files + Drop) -> Result<(), Failed> {
+    HostFiles::new(alloc, HostSystem::new(system)).write("O", b"a1b\n")
+}
 
 /// Reads D over a system whose reads go so.
 fn read_over<R: rt::Files + AllocGlobal>(
@@ -10,13 +26,12 @@ fn read_over<R: rt::Files + AllocGlobal>(
     calls: &[Call],
     into: &mut Vec<u8>,
 ) -> Result<(), ReadError> {
-    into.clear();
     let system = ScriptedSystem {
         system: rt,
         calls,
         broken: Broken::Nothing,
     };
-    HostFiles::new(rt.alloc(), &system).read(rt.alloc(), "D", 5, into)
+    read_by(rt.alloc(), &system, into)
 }
 
 #[test]
@@ -59,7 +74,7 @@ fn written_over<R: rt::Files + AllocGlobal>(
         calls,
         broken,
     };
-    HostFiles::new(rt.alloc(), &system).write("O", b"a1b\n")
+    write_by(rt.alloc(), &system)
 }
 
 #[test]

@@ -246,10 +246,7 @@ impl System for MemoryDisk {
         }
         match self.names.make(name) {
             Ok(Some(number)) => Ok(Some(MemoryFile { number, at: 0 })),
-            Ok(None) => {
-                self.count_failure();
-                Ok(None)
-            }
+            Ok(None) => Ok(None),
             Err(CallFailed) => self.count(Err(CallFailed)),
         }
     }

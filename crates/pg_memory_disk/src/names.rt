@@ -153,7 +153,7 @@ impl Names {
         let Ok(mut name) = String::from_str(self.alloc, name) else {
             return Err(CallFailed);
         };
-        for _ in 0..LINKS {
+        for _ in 0..LINKS + 1 {
             match self.target(name.as_str()) {
                 None => return Ok(None),
                 Some(Target::File(number)) => return Ok(Some(*number)),

@@ -1,12 +1,13 @@
 -- What a new file beside another, that takes its name or is removed, makes of a disk.
-use Rattle.std.proofs.Common.{◌+◌, ◌≡◌, ◌≢◌, ◌⊎◌, inl, inr, ⊎_elim, ℕ, List, ◌++◌, Bool, true, false, Option, Some, None, IfSome, Decides, refl, sym, ap, ◌∙◌}
+use Rattle.std.proofs.Common.{◌≡◌, ◌≢◌, ◌⊎◌, inl, inr, ⊎_elim, ℕ, List, ◌∷◌, ◌++◌, Bool, true, false, Option, Some, None, Decides, refl, sym, ap, ◌∙◌}
+use Rattle.std.specs.Option.{unwrap_or}
 use Rattle.std.specs.FinMap as fin
 use Rattle.std.specs.Str.{bytes_eq}
 use Rattle.std.proofs.lemmas.Bool.{false≢true}
 use Rattle.std.proofs.lemmas.Slice.Eq.{bytes_eq-Decides}
-use Rattle.pg_outside.specs.Disk.{Node, Disk, Links, NameMap, FileSet, Beside, Made, Disturbed, Moved, Gone, Refused, AreOne, KnowsNewNames, id_at, node_at, node_of}
-use Rattle.pg_outside.specs.Moments.{Filled, IsWhole, IsBeside, AtMoment, IsWritten, IsSame, HasRest}
-use Rattle.pg_outside.specs.NewNames.{IsNewName}
+use Rattle.pg_outside.specs.Inside.Disk.{Node, Disk, Links, NameMap, FileSet, Beside, Made, Disturbed, Moved, Gone, Refused, AreOne, KnowsNewNames, id_at, node_at, node_of}
+use Rattle.pg_outside.specs.Inside.Moments.{Filled, IsWhole, IsBeside, SameAt, AtMoment, IsWritten, IsSame, HasRest}
+use Rattle.pg_outside.specs.Inside.NewNames.{IsNewName}
 use Rattle.pg_outside.specs.declared.disk.system.FileId.{FileId}
 
 same_or_not : (a b : List ℕ) → (a ≡ b) ⊎ (a ≢ b)
@@ -45,8 +46,8 @@ beside_again own n x y a b c ab bc = record {
 }
 
 -- every other name leads to what it led to
-beside_same : (own : List ℕ) (n : FileId) (x : Node) (a b : Disk) → Beside own n x a b → (name : List ℕ) → ¬ AreOne a name own → node_at b name ≡ node_at a name
-beside_same own n x a b ab name apart = ap (λ (k : Option FileId). node_of k b.files) (ab.names name apart) ∙ by_id (id_at a name) refl
+beside_same : (own : List ℕ) (n : FileId) (x : Node) (a b : Disk) → Beside own n x a b → (name : List ℕ) → ¬ AreOne a name own → SameAt a b name
+beside_same own n x a b ab name apart = (ab.names name apart, ap (λ (k : Option FileId). node_of k b.files) (ab.names name apart) ∙ by_id (id_at a name) refl)
   where
     by_id : (k : Option FileId) → id_at a name ≡ k → node_of k b.files ≡ node_of k a.files
     by_id None is = refl
@@ -101,7 +102,7 @@ pub record IsReady (own bytes : List ℕ) (mode : Option ℕ) (n : FileId) (a b 
   pub is_regular : node.is_regular ≡ true
   pub has_bytes : node.bytes ≡ bytes
   pub is_stored : node.is_stored ≡ true
-  pub has_mode : IfSome mode (λ m. node.mode ≡ m)
+  pub has_mode : node.mode ≡ unwrap_or mode a.links.new_mode
 
 pub made_then_filled : (own bytes : List ℕ) (mode : Option ℕ) (n : FileId) (a b c : Disk) → Made own n a b → Filled n mode bytes b c → IsReady own bytes mode n a c
 made_then_filled own bytes mode n a b c ab bc =
@@ -113,7 +114,7 @@ made_then_filled own bytes mode n a b c ab bc =
       is_regular = filled.2 ∙ ab.is_regular;
       has_bytes = filled.3 ∙ ap (λ (l : List ℕ). l ++ bytes) ab.empty;
       is_stored = filled.4;
-      has_mode = filled.5;
+      has_mode = filled.5 ∙ ap (λ (m : ℕ). unwrap_or mode m) ab.mode;
     }
 
 is_whole : (own name bytes : List ℕ) (mode : Option ℕ) (n : FileId) (a b c : Disk) → IsReady own bytes mode n a b → Moved own name b c → IsWhole bytes mode c name
@@ -123,20 +124,35 @@ is_whole own name bytes mode n a b c ab bc = record {
   is_regular = ab.is_regular;
   bytes = ab.has_bytes;
   is_stored = ab.is_stored;
-  mode = ab.has_mode;
+  mode = ab.has_mode ∙ ap (λ (l : Links). unwrap_or mode l.new_mode) (sym (bc.links ∙ ab.beside.links));
 }
 
 one_back : (a b : Disk) (p q : List ℕ) → b.links ≡ a.links → AreOne b p q → AreOne a p q
 one_back a b p q links one = one_still b a p q (sym links) one
 
-moved_same : (own name bytes : List ℕ) (mode : Option ℕ) (n : FileId) (a b c : Disk) → IsReady own bytes mode n a b → Moved own name b c → (other : List ℕ) → ¬ AreOne a other name → node_at c other ≡ node_at a other
+one_id : (a : Disk) (p q : List ℕ) → AreOne a p q → id_at a p ≡ id_at a q
+one_id a p q one = ap (λ (r : List ℕ). fin.get a.names r) one
+
+-- a name that stands for one that led to no file, and leads to none
+none_same : (a c : Disk) (other own : List ℕ) → c.links ≡ a.links → AreOne a other own → id_at a own ≡ None → id_at c own ≡ None → SameAt a c other
+none_same a c other own links one before after =
+    let still = one_still a c other own links one in (
+      one_id c other own still ∙ after ∙ sym before ∙ sym (one_id a other own one),
+      one_node c other own still ∙ unnamed_none c own after ∙ sym (unnamed_none a own before) ∙ sym (one_node a other own one),
+    )
+
+-- the same once more
+same_on : (a b c : Disk) (other : List ℕ) → id_at c other ≡ id_at b other → ((m : FileId) → c.files m ≡ b.files m) → SameAt a b other → SameAt a c other
+same_on a b c other id files ab = (
+  id ∙ ab.0,
+  ap (λ (k : Option FileId). node_of k c.files) id ∙ node_of_same (id_at b other) c.files b.files files ∙ ab.1,
+)
+
+moved_same : (own name bytes : List ℕ) (mode : Option ℕ) (n : FileId) (a b c : Disk) → IsReady own bytes mode n a b → Moved own name b c → (other : List ℕ) → ¬ AreOne a other name → SameAt a c other
 moved_same own name bytes mode n a b c ab bc other apart =
     ⊎_elim
-    (λ (one : AreOne a other own). one_node c other own (one_still a c other own (bc.links ∙ ab.beside.links) one)
-    ∙ unnamed_none c own (bc.gone (λ same. apart (one ∙ one_back a b own name ab.beside.links same)))
-    ∙ sym (unnamed_none a own ab.beside.unnamed) ∙ sym (one_node a other own one))
-    (λ not_own. ap (λ (k : Option FileId). node_of k c.files) (bc.names other (λ one. not_own (one_back a b other own ab.beside.links one)) (λ one. apart (one_back a b other name ab.beside.links one)))
-    ∙ node_of_same (id_at b other) c.files b.files bc.files ∙ beside_same own n ab.node a b ab.beside other not_own)
+    (λ (one : AreOne a other own). none_same a c other own (bc.links ∙ ab.beside.links) one ab.beside.unnamed (bc.gone (λ same. apart (one ∙ one_back a b own name ab.beside.links same))))
+    (λ not_own. same_on a b c other (bc.names other (λ one. not_own (one_back a b other own ab.beside.links one)) (λ one. apart (one_back a b other name ab.beside.links one))) bc.files (beside_same own n ab.node a b ab.beside other not_own))
     (same_or_not (a.links.real other) (a.links.real own))
 
 pub is_written : (own name bytes : List ℕ) (mode : Option ℕ) (n : FileId) (a b c : Disk) → IsReady own bytes mode n a b → Moved own name b c → IsWritten name bytes mode n a c
@@ -175,8 +191,8 @@ removed_same own n x a b c ab bc = record {
   links = bc.links ∙ ab.links;
   refused = bc.refused ∙ ab.refused;
   names = λ other. ⊎_elim
-      (λ (one : AreOne a other own). one_node c other own (one_still a c other own (bc.links ∙ ab.links) one) ∙ unnamed_none c own bc.gone ∙ sym (unnamed_none a own ab.unnamed) ∙ sym (one_node a other own one))
-      (λ apart. ap (λ (k : Option FileId). node_of k c.files) (bc.names other (λ one. apart (one_back a b other own ab.links one))) ∙ node_of_same (id_at b other) c.files b.files bc.files ∙ beside_same own n x a b ab other apart)
+      (λ (one : AreOne a other own). none_same a c other own (bc.links ∙ ab.links) one ab.unnamed bc.gone)
+      (λ apart. same_on a b c other (bc.names other (λ one. apart (one_back a b other own ab.links one))) bc.files (beside_same own n x a b ab other apart))
       (same_or_not (a.links.real other) (a.links.real own));
 }
 
@@ -189,13 +205,13 @@ at_same own name bytes mode a c beside same = record {
 }
 
 -- the system refused to remove it
-pub refused_rest : (own name : List ℕ) (n : FileId) (x : Node) (a b c : Disk) → IsBeside own name a → Beside own n x a b → Refused b c → HasRest name a c
+pub refused_rest : (own name : List ℕ) (n : FileId) (x : Node) (a b c : Disk) → IsBeside own name a → Beside own n x a b → Refused own b c → HasRest name a c
 refused_rest own name n x a b c beside ab bc = record {
   links = bc.links ∙ ab.links;
   own = own;
   beside = beside;
-  others = λ other apart. ap (λ (k : Option FileId). node_of k c.files) (same_id b c other bc.links bc.names) ∙ node_of_same (id_at b other) c.files b.files bc.files ∙ beside_same own n x a b ab other apart;
-  refused = bc.refused ∙ ap (λ (k : ℕ). k + 1) ab.refused;
+  others = λ other apart. same_on a b c other (same_id b c other bc.links bc.names) bc.files (beside_same own n x a b ab other apart);
+  refused = bc.refused ∙ ap (λ (l : List (List ℕ)). own ∷ l) ab.refused;
 }
 
 pub at_rest : (name bytes : List ℕ) (mode : Option ℕ) (a c : Disk) → HasRest name a c → AtMoment name bytes mode a c

@@ -1,21 +1,20 @@
 -- What reads and writes by name make of the files that are told.
-use Rattle.std.proofs.Common.{◌≡◌, ◌≢◌, ◌⊎◌, inl, inr, ⊎_elim, ℕ, ◌+◌, List, [], ◌∷◌, map, Bool, true, false, cond, nat_eq, ◌&&◌, Option, Some, None, IfSome, Decides, refl, sym, ap, subst, ◌∙◌, arith}
+use Rattle.std.proofs.Common.{◌≡◌, ◌≢◌, ◌⊎◌, inl, inr, ⊎_elim, ℕ, List, [], ◌∷◌, map, Bool, true, false, cond, ◌&&◌, Option, Some, None, IfSome, Decides, refl, sym, ap, subst, ◌∙◌, arith}
 use Rattle.std.specs.Option.{option_map}
 use Rattle.std.specs.Str.{bytes_eq}
 use Rattle.std.specs.Ordering.{nat_cmp}
 use Rattle.std.specs.Cmp.Lexicographic.{slice_cmp}
 use Rattle.std.specs.FinMap as fin
 use Rattle.std.proofs.lemmas.Bool.{false≢true}
-use Rattle.std.proofs.lemmas.Bool.Decides.{nat_tests}
 use Rattle.std.proofs.lemmas.Cmp.{nat_list_cmp_total}
 use Rattle.std.proofs.lemmas.Grind.{common_steps}
 use Rattle.std.proofs.lemmas.Map.Text.{is_eq-slice_cmp}
 use Rattle.std.proofs.lemmas.Slice.Eq.{bytes_eq-Decides}
 use Rattle.pg_outside.specs.Content.{FileMap, KeepsHeld, IsFile, IsFileCut, IsCut, WasWritten, WasPartWritten, file_at}
-use Rattle.pg_outside.specs.Disk.{Node, Disk, Told, Links, Keeps, Now, HasNoLinks, KnowsPlain, id_at, node_at, node_of}
-use Rattle.pg_outside.specs.Moments.{Runs, IsWritten, IsSame, HasRest}
-use Rattle.pg_outside.specs.DiskWrites.{IsPlain, IsContent, IsContentCut, AfterWrite, AfterFailure, mode_at}
-use Rattle.pg_outside.specs.DiskHeld.{bytes_of, file_map, is_shown, held_of}
+use Rattle.pg_outside.specs.Inside.Disk.{Node, Disk, Told, Links, Keeps, Now, HasNoLinks, KnowsPlain, id_at, node_at, node_of}
+use Rattle.pg_outside.specs.Inside.Moments.{Runs, IsWritten, IsSame, HasRest}
+use Rattle.pg_outside.specs.Inside.DiskWrites.{IsPlain, IsContent, IsContentCut, AfterWrite, AfterFailure, mode_at}
+use Rattle.pg_outside.specs.Inside.DiskHeld.{bytes_of, file_map, has_none, is_shown, held_of}
 use Rattle.pg_outside.specs.declared.disk.system.FileId.{FileId}
 
 find_map : (g : FileId → List ℕ) (es : List (List ℕ × FileId)) (q : List ℕ) → fin.find (slice_cmp nat_cmp) q (map (λ e. (e.0, g e.1)) es) ≡ option_map g (fin.find (slice_cmp nat_cmp) q es)
@@ -75,11 +74,11 @@ written_map : (name bytes : List ℕ) (mode : Option ℕ) (n : FileId) (a b : Di
 written_map name bytes mode n a b no_a no_b w = same_maps (file_map b) (fin.insert (file_map a) name bytes)
     (λ q. held_node b q no_b ∙ ⊎_elim
     (λ (is : q ≡ name). ap (λ (r : List ℕ). option_map (λ node. node.bytes) (node_at b r)) is ∙ ap (λ (o : Option Node). option_map (λ node. node.bytes) o) w.whole.there ∙ ap (λ (l : List ℕ). Some l) w.whole.bytes ∙ sym (inserted (file_map a) name bytes q is))
-    (λ apart. ap (λ (o : Option Node). option_map (λ node. node.bytes) o) (w.others q (λ one. apart (one_real a q name no_a one))) ∙ sym (held_node a q no_a) ∙ sym (not_inserted (file_map a) name bytes q apart))
+    (λ apart. ap (λ (o : Option Node). option_map (λ node. node.bytes) o) (w.others q (λ one. apart (one_real a q name no_a one))).1 ∙ sym (held_node a q no_a) ∙ sym (not_inserted (file_map a) name bytes q apart))
     (apart_or_one q name))
 
 same_map_of : (a b : Disk) → HasNoLinks a → HasNoLinks b → IsSame a b → file_map b ≡ file_map a
-same_map_of a b no_a no_b same = same_maps (file_map b) (file_map a) (λ q. held_node b q no_b ∙ ap (λ (o : Option Node). option_map (λ node. node.bytes) o) (same.names q) ∙ sym (held_node a q no_a))
+same_map_of a b no_a no_b same = same_maps (file_map b) (file_map a) (λ q. held_node b q no_b ∙ ap (λ (o : Option Node). option_map (λ node. node.bytes) o) (same.names q).1 ∙ sym (held_node a q no_a))
 
 shown_plain : (b c : Bool) → (b && c) ≡ true → b ≡ true
 shown_plain true c e = refl
@@ -87,11 +86,11 @@ shown_plain false c e = e
 
 links_plain : (a b : Disk) → b.links ≡ a.links → is_shown b ≡ true → (b.links.is_plain ≡ true) × (a.links.is_plain ≡ true)
 links_plain a b links shown =
-    let plain = shown_plain b.links.is_plain (nat_eq b.refused 0) shown in
+    let plain = shown_plain b.links.is_plain (has_none b.refused) shown in
     (plain, sym (ap (λ (l : Links). l.is_plain) links) ∙ plain)
 
 shown_same : (a b : Disk) → b.links ≡ a.links → b.refused ≡ a.refused → is_shown b ≡ is_shown a
-shown_same a b links refused = ap (λ (l : Links). l.is_plain && nat_eq b.refused 0) links ∙ ap (λ (k : ℕ). a.links.is_plain && nat_eq k 0) refused
+shown_same a b links refused = ap (λ (l : Links). l.is_plain && has_none b.refused) links ∙ ap (λ (names : List (List ℕ)). a.links.is_plain && has_none names) refused
 
 -- where the later is shown
 was_written : (sa sb : Bool) (name bytes : List ℕ) (a b : FileMap) → (sb ≡ true → (sa ≡ true) × (b ≡ fin.insert a name bytes)) → WasWritten (cond sa (Some a) None) (cond sb (Some b) None) name bytes
@@ -104,15 +103,12 @@ was_part sa false name bytes a b is = tt
 was_part true true name bytes a b is = let i = is refl in inl i.1
 was_part false true name bytes a b is = let i = is refl in absurd (false≢true i.0)
 
-not_shown : (d : Disk) (k : ℕ) → d.refused ≡ k + 1 → is_shown d ≡ false
-not_shown d k is = ap (λ (r : ℕ). d.links.is_plain && nat_eq r 0) is ∙ and_false d.links.is_plain (nat_eq (k + 1) 0) (more k)
+not_shown : (d : Disk) (name : List ℕ) (names : List (List ℕ)) → d.refused ≡ name ∷ names → is_shown d ≡ false
+not_shown d name names is = ap (λ (l : List (List ℕ)). d.links.is_plain && has_none l) is ∙ and_false d.links.is_plain
   where
-    more : (k : ℕ) → nat_eq (k + 1) 0 ≡ false
-    more k = grind (arith, nat_tests)
-
-    and_false : (b c : Bool) → c ≡ false → (b && c) ≡ false
-    and_false true c e = e
-    and_false false c e = refl
+    and_false : (b : Bool) → (b && false) ≡ false
+    and_false true = refl
+    and_false false = refl
 
 written_shown : (name bytes : List ℕ) (before kept : List FileId) (a b : Disk) → KnowsPlain a → KnowsPlain b → AfterWrite name bytes before kept a b → is_shown b ≡ true → (is_shown a ≡ true) × (file_map b ≡ fin.insert (file_map a) name bytes)
 written_shown name bytes before kept a b ka kb after shown =
@@ -126,19 +122,19 @@ written_held P name bytes before kept a None ka kb run = tt
 written_held P name bytes before kept None (Some b) ka kb run = absurd run
 written_held P name bytes before kept (Some a) (Some b) ka kb run = was_written (is_shown a.now) (is_shown b.now) name bytes (file_map a.now) (file_map b.now) (written_shown name bytes before kept a.now b.now ka kb run.end)
 
-failed_shown : (name : List ℕ) (a b : Disk) → KnowsPlain a → KnowsPlain b → AfterFailure name a b → is_shown b ≡ true → (is_shown a ≡ true) × (file_map b ≡ file_map a)
-failed_shown name a b ka kb after shown =
+failed_shown : (name bytes : List ℕ) (a b : Disk) → KnowsPlain a → KnowsPlain b → AfterFailure name bytes a b → is_shown b ≡ true → (is_shown a ≡ true) × (file_map b ≡ file_map a)
+failed_shown name bytes a b ka kb after shown =
     let plain = links_plain a b after.links shown in
     let no_a = ka plain.1 in
     ⊎_elim
     (λ (same : IsSame a b). (sym (shown_same a b same.links same.refused) ∙ shown, same_map_of a b no_a (kb plain.0) same))
-    (λ (rest : HasRest name a b). absurd (false≢true (sym (not_shown b a.refused rest.refused) ∙ shown)))
+    (λ (rest : HasRest name a b). absurd (false≢true (sym (not_shown b rest.own a.refused rest.refused) ∙ shown)))
     (after.plain (plain_name a name no_a))
 
-pub failed_held : (P : Disk → Disk → Type 0) (name bytes : List ℕ) (a b : Option Told) → Now a KnowsPlain → Now b KnowsPlain → Runs a b P (AfterFailure name) → WasPartWritten (held_of a) (held_of b) name bytes
+pub failed_held : (P : Disk → Disk → Type 0) (name bytes : List ℕ) (a b : Option Told) → Now a KnowsPlain → Now b KnowsPlain → Runs a b P (AfterFailure name bytes) → WasPartWritten (held_of a) (held_of b) name bytes
 failed_held P name bytes a None ka kb run = tt
 failed_held P name bytes None (Some b) ka kb run = absurd run
-failed_held P name bytes (Some a) (Some b) ka kb run = was_part (is_shown a.now) (is_shown b.now) name bytes (file_map a.now) (file_map b.now) (failed_shown name a.now b.now ka kb run.end)
+failed_held P name bytes (Some a) (Some b) ka kb run = was_part (is_shown a.now) (is_shown b.now) name bytes (file_map a.now) (file_map b.now) (failed_shown name bytes a.now b.now ka kb run.end)
 
 kept_where : (held : Option FileMap) → KeepsHeld held held
 kept_where None = tt
@@ -155,7 +151,7 @@ file_where false m name bytes is = tt
 pub read_held : (name bytes : List ℕ) (a : Option Told) → Now a KnowsPlain → Now a (IsContent name bytes) → IsFile (held_of a) name bytes
 read_held name bytes None ka content = tt
 read_held name bytes (Some a) ka content = file_where (is_shown a.now) (file_map a.now) name bytes (λ shown.
-    held_node a.now name (ka (shown_plain a.now.links.is_plain (nat_eq a.now.refused 0) shown)) ∙ ap (λ (o : Option Node). option_map (λ node. node.bytes) o) content.there ∙ ap (λ (l : List ℕ). Some l) (sym content.all))
+    held_node a.now name (ka (shown_plain a.now.links.is_plain (has_none a.now.refused) shown)) ∙ ap (λ (o : Option Node). option_map (λ node. node.bytes) o) content.there ∙ ap (λ (l : List ℕ). Some l) (sym content.all))
 
 cut_where : (s : Bool) (m : FileMap) (name : List ℕ) (limit : ℕ) (front : List ℕ) → (s ≡ true → IsCut (file_at m name) limit front) → IsFileCut (cond s (Some m) None) name limit front
 cut_where true m name limit front is = is refl
@@ -165,5 +161,5 @@ pub cut_held : (name : List ℕ) (limit : ℕ) (front : List ℕ) (a : Option To
 cut_held name limit front None ka content = tt
 cut_held name limit front (Some a) ka content = cut_where (is_shown a.now) (file_map a.now) name limit front (λ shown.
     subst (λ (o : Option (List ℕ)). IsCut o limit front)
-    (sym (held_node a.now name (ka (shown_plain a.now.links.is_plain (nat_eq a.now.refused 0) shown)) ∙ ap (λ (o : Option Node). option_map (λ node. node.bytes) o) content.there))
+    (sym (held_node a.now name (ka (shown_plain a.now.links.is_plain (has_none a.now.refused) shown)) ∙ ap (λ (o : Option Node). option_map (λ node. node.bytes) o) content.there))
     (content.longer, content.front))

@@ -1,14 +1,14 @@
 -- What a write by name does to a disk, from what the calls say of the name that it leads to.
-use Rattle.std.proofs.Common.{◌≡◌, inl, inr, ⊎_elim, ℕ, List, true, false, Option, Some, None, IfSome, refl, sym, ap, subst, ◌∙◌}
+use Rattle.std.proofs.Common.{◌≡◌, inl, inr, ⊎_elim, ℕ, List, [], ◌∷◌, ◌++◌, true, false, Option, Some, None, IfSome, refl, sym, ap, subst, ◌∙◌}
 use Rattle.std.specs.FinMap as fin
-use Rattle.pg_outside.specs.Disk.{Node, Disk, Told, AreOne, Keeps, Now, LeadsTo, LeadsToNone, IsOpened, IsStat, Wrote, Disturbed, id_at, node_at, node_of}
-use Rattle.pg_outside.specs.DiskWrites.{IsIn, IsPlain, IsDevice, IsProtected, AtWrite, AfterWrite, AfterFailure, IsSeen, StandsFor, mode_of, mode_at}
-use Rattle.pg_outside.specs.Moments.{Runs, WhereDirect, AtMoment, IsBeside, IsWritten, IsAsBefore, IsSame, HasRest}
-use Rattle.pg_outside.specs.declared.disk.system.Entry.TheVariants.{Missing, File}
+use Rattle.pg_outside.specs.Inside.Disk.{Node, Disk, Told, AreOne, Keeps, Now, LeadsTo, LeadsToNone, IsOpened, IsWritable, IsStat, Wrote, WrotePart, id_at, node_at, node_of}
+use Rattle.pg_outside.specs.Inside.DiskWrites.{IsIn, IsPlain, IsDevice, IsProtected, MayWrite, AtWrite, AfterWrite, AfterFailure, IsSeen, IsOld, IsPlaceOf, AllTaken, IsFull, StandsFor, mode_of, mode_at}
+use Rattle.pg_outside.specs.Inside.Moments.{Runs, WhereDirect, AtMoment, IsBeside, IsWritten, IsAsBefore, IsSame, HasRest}
 use Rattle.pg_outside.specs.declared.disk.system.FileId.{FileId}
 use Rattle.pg_outside.specs.declared.disk.system.Seen.{Seen}
 use Rattle.pg_outside.proofs.Runs.{known_start, keeps_then, keeps_now, now_both, now_weaker, no_step}
 use Rattle.pg_outside.proofs.BesideSteps.{one_node, one_still, whole_of_one}
+use Rattle.pg_outside.proofs.FileSteps.{wrote_nothing}
 
 id_one : (d : Disk) (p q : List ℕ) → AreOne d p q → id_at d p ≡ id_at d q
 id_one d p q one = ap (λ (r : List ℕ). fin.get d.names r) one
@@ -55,10 +55,16 @@ device_one n d p q one is = record { leads = leads_one n d p q one is.leads; nod
 mode_one : (d : Disk) (p q : List ℕ) → AreOne d p q → mode_at p d ≡ mode_at q d
 mode_one d p q one = ap mode_of (one_node d p q one)
 
+may_one : (kept : List FileId) (d : Disk) (p q : List ℕ) → AreOne d p q → MayWrite p kept d → MayWrite q kept d
+may_one kept d p q one may = record {
+  writable = subst (λ (o : Option Node). IfSome o (λ node. node.is_writable ≡ true)) (one_node d p q one) may.writable;
+  free = λ n is. may.free n (protected_one kept n d q p (sym one) is);
+}
+
 -- by another name for the same
 pub at_one : (p q bytes : List ℕ) (kept : List FileId) (first disk : Disk) → AreOne first p q → AtWrite p bytes kept first disk → AtWrite q bytes kept first disk
 at_one p q bytes kept first disk one at = record {
-  allowed = λ n is. at.allowed n (protected_one kept n first q p (sym one) is);
+  allowed = may_one kept first p q one at.allowed;
   plain = λ plain. subst (λ (m : Option ℕ). AtMoment q bytes m first disk) (mode_one first p q one) (moment_one p q bytes (mode_at p first) first disk one (at.plain (plain_one first q p (sym one) plain)));
   device = λ n is. at.device n (device_one n first q p (sym one) is);
 }
@@ -66,12 +72,12 @@ at_one p q bytes kept first disk one at = record {
 pub after_one : (p q bytes : List ℕ) (before kept : List FileId) (first last : Disk) → AreOne first p q → AfterWrite p bytes before kept first last → AfterWrite q bytes before kept first last
 after_one p q bytes before kept first last one after = record {
   links = after.links;
-  allowed = λ n is. after.allowed n (protected_one before n first q p (sym one) is);
+  allowed = may_one before first p q one after.allowed;
   plain = λ plain.
       let w = after.plain (plain_one first q p (sym one) plain) in
       record {
         id = w.id;
-        is_kept = w.is_kept;
+        grown = w.grown;
         written = subst (λ (m : Option ℕ). IsWritten q bytes m w.id first last) (mode_one first p q one) (written_one p q bytes (mode_at p first) w.id first last one w.written);
       };
   device = λ n is. after.device n (device_one n first q p (sym one) is);
@@ -82,8 +88,8 @@ as_before_one p q first last one as_before = ⊎_elim (λ (same : IsSame first l
     (λ (rest : HasRest p first last). inr (record { links = rest.links; own = rest.own; beside = beside_one rest.own p q first one rest.beside; others = rest.others; refused = rest.refused }))
     as_before
 
-pub failure_one : (p q : List ℕ) (first last : Disk) → AreOne first p q → AfterFailure p first last → AfterFailure q first last
-failure_one p q first last one after = record {
+pub failure_one : (p q bytes : List ℕ) (first last : Disk) → AreOne first p q → AfterFailure p bytes first last → AfterFailure q bytes first last
+failure_one p q bytes first last one after = record {
   links = after.links;
   plain = λ plain. as_before_one p q first last one (after.plain (plain_one first q p (sym one) plain));
   device = λ n is. after.device n (device_one n first q p (sym one) is);
@@ -102,6 +108,7 @@ true_false e = cc
 pub record MayReplace (name : List ℕ) (kept : List FileId) (mode : Option ℕ) (d : Disk) : Type 0 where
   pub mode_is : mode_at name d ≡ mode
   pub plain : IsPlain name d
+  pub writable : IfSome (node_at d name) (λ node. node.is_writable ≡ true)
   pub free : (n : FileId) → LeadsTo name n d → IsIn n kept → ⊥
 
 device_plain : (name : List ℕ) (n : FileId) (d : Disk) → IsDevice name n d → IsPlain name d → ⊥
@@ -115,36 +122,44 @@ may_none name kept d none =
     record {
       mode_is = ap mode_of no_node;
       plain = subst (λ (o : Option Node). IfSome o (λ node. node.is_regular ≡ true)) (sym no_node) tt;
+      writable = subst (λ (o : Option Node). IfSome o (λ node. node.is_writable ≡ true)) (sym no_node) tt;
       free = λ n leads is. none_some n (sym none ∙ leads);
     }
 
 seen_node : (name : List ℕ) (seen : Seen) (d : Disk) (s : IsSeen name seen d) → node_at d name ≡ Some s.node
 seen_node name seen d s = ap (λ (k : Option FileId). node_of k d.files) s.leads ∙ s.there
 
+seen_writable : (name : List ℕ) (seen : Seen) (d : Disk) (s : IsSeen name seen d) → IfSome (node_at d name) (λ node. node.is_writable ≡ true)
+seen_writable name seen d s = subst (λ (o : Option Node). IfSome o (λ node. node.is_writable ≡ true)) (sym (seen_node name seen d s)) s.writable
+
+may_write : (name : List ℕ) (kept : List FileId) (mode : Option ℕ) (d : Disk) → MayReplace name kept mode d → MayWrite name kept d
+may_write name kept mode d may = record { writable = may.writable; free = λ n is. may.free n is.leads is.is_kept }
+
 pub may_seen : (name : List ℕ) (kept : List FileId) (seen : Seen) (d : Disk) → IsSeen name seen d → seen.is_regular ≡ true → (IsIn seen.id kept → ⊥) → MayReplace name kept (Some seen.mode) d
 may_seen name kept seen d s regular apart = record {
   mode_is = ap mode_of (seen_node name seen d s) ∙ ap (λ (m : ℕ). Some m) s.mode;
   plain = subst (λ (o : Option Node). IfSome o (λ node. node.is_regular ≡ true)) (sym (seen_node name seen d s)) (s.kind ∙ regular);
+  writable = seen_writable name seen d s;
   free = λ n leads is. apart (subst (λ (k : FileId). IsIn k kept) (some_same n seen.id (sym leads ∙ s.leads)) is);
 }
 
 pub at_may : (name bytes : List ℕ) (kept : List FileId) (mode : Option ℕ) (d disk : Disk) → MayReplace name kept mode d → AtMoment name bytes mode d disk → AtWrite name bytes kept d disk
 at_may name bytes kept mode d disk may at = record {
-  allowed = λ n is. may.free n is.leads is.is_kept;
+  allowed = may_write name kept mode d may;
   plain = λ plain. subst (λ (m : Option ℕ). AtMoment name bytes m d disk) (sym may.mode_is) at;
   device = λ n is. absurd (device_plain name n d is may.plain);
 }
 
-pub after_may : (name bytes : List ℕ) (before kept : List FileId) (mode : Option ℕ) (n : FileId) (d last : Disk) → MayReplace name before mode d → IsIn n kept → IsWritten name bytes mode n d last → AfterWrite name bytes before kept d last
-after_may name bytes before kept mode n d last may is_kept written = record {
+pub after_may : (name bytes : List ℕ) (before kept : List FileId) (mode : Option ℕ) (n : FileId) (d last : Disk) → MayReplace name before mode d → kept ≡ before ++ n ∷ [] → IsWritten name bytes mode n d last → AfterWrite name bytes before kept d last
+after_may name bytes before kept mode n d last may grown written = record {
   links = written.links;
-  allowed = λ m is. may.free m is.leads is.is_kept;
-  plain = λ plain. record { id = n; is_kept = is_kept; written = subst (λ (m : Option ℕ). IsWritten name bytes m n d last) (sym may.mode_is) written };
+  allowed = may_write name before mode d may;
+  plain = λ plain. record { id = n; grown = grown; written = subst (λ (m : Option ℕ). IsWritten name bytes m n d last) (sym may.mode_is) written };
   device = λ m is. absurd (device_plain name m d is may.plain);
 }
 
-pub failed_may : (name : List ℕ) (kept : List FileId) (mode : Option ℕ) (d last : Disk) → MayReplace name kept mode d → IsAsBefore name d last → AfterFailure name d last
-failed_may name kept mode d last may as_before = record {
+pub failed_may : (name bytes : List ℕ) (kept : List FileId) (mode : Option ℕ) (d last : Disk) → MayReplace name kept mode d → IsAsBefore name d last → AfterFailure name bytes d last
+failed_may name bytes kept mode d last may as_before = record {
   links = ⊎_elim (λ (same : IsSame d last). same.links) (λ (rest : HasRest name d last). rest.links) as_before;
   plain = λ plain. as_before;
   device = λ m is. absurd (device_plain name m d is may.plain);
@@ -161,89 +176,109 @@ pub record Leads (real name : List ℕ) (kept : List FileId) (mode : Option ℕ)
   pub one : AreOne d real name
   pub may : MayReplace real kept mode d
 
-pub leads_none : (real name : List ℕ) (kept : List FileId) (a b : Option Told) → Keeps a b → Now b (StandsFor real Missing name) → Now b (Leads real name kept None)
-leads_none real name kept a b ab stands = now_weaker _ _ b stands (λ d s. record { direct = s.entry.0; one = s.one; may = may_none real kept d s.entry.1 })
-
 seen_one : (p q : List ℕ) (seen : Seen) (d : Disk) → AreOne d p q → IsSeen p seen d → IsSeen q seen d
-seen_one p q seen d one s = record { leads = leads_one seen.id d p q one s.leads; node = s.node; there = s.there; kind = s.kind; mode = s.mode }
+seen_one p q seen d one s = record { leads = leads_one seen.id d p q one s.leads; node = s.node; there = s.there; kind = s.kind; mode = s.mode; writable = s.writable }
 
-pub leads_seen : (real name : List ℕ) (kept : List FileId) (id : FileId) (seen : Seen) (a b : Option Told) → Now a (IsSeen name seen) → Keeps a b → Now b (StandsFor real (File id) name) → seen.is_regular ≡ true → (IsIn seen.id kept → ⊥) → Now b (Leads real name kept (Some seen.mode))
-leads_seen real name kept id seen a b is ab stands regular free =
+may_old : (real name : List ℕ) (kept : List FileId) (found : Option FileId) (old : Option Seen) (mode : Option ℕ) (d : Disk) → IsOld name old d → StandsFor real found name d → IsPlaceOf found old mode → IfSome old (λ seen. seen.is_regular ≡ true) → IfSome old (λ seen. IsIn seen.id kept → ⊥) → MayReplace real kept mode d
+may_old real name kept None None mode d is s place regular free = subst (λ (m : Option ℕ). MayReplace real kept m d) (sym place) (may_none real kept d s.leads)
+may_old real name kept (Some id) (Some seen) mode d is s place regular free = subst (λ (m : Option ℕ). MayReplace real kept m d) (sym place.1) (may_seen real kept seen d (seen_one name real seen d (sym s.one) is) regular free)
+may_old real name kept None (Some seen) mode d is s place regular free = absurd place
+may_old real name kept (Some id) None mode d is s place regular free = absurd place
+
+pub leads_old : (real name : List ℕ) (kept : List FileId) (found : Option FileId) (old : Option Seen) (mode : Option ℕ) (a b : Option Told) → Now a (IsOld name old) → Keeps a b → Now b (StandsFor real found name) → IsPlaceOf found old mode → IfSome old (λ seen. seen.is_regular ≡ true) → IfSome old (λ seen. IsIn seen.id kept → ⊥) → Now b (Leads real name kept mode)
+leads_old real name kept found old mode a b is ab stands place regular free =
     now_weaker _ _ b (now_both _ _ b (keeps_now _ a b is ab) stands) (λ d s. record {
-      direct = s.1.entry.0;
+      direct = s.1.direct;
       one = s.1.one;
-      may = may_seen real kept seen d (seen_one name real seen d (sym s.1.one) s.0) regular free;
+      may = may_old real name kept found old mode d s.0 s.1 place regular free;
     })
 
+-- where the disk is told, what was found is what was seen
+found_old : (real name : List ℕ) (found : Option FileId) (old : Option Seen) (d : Disk) → IsOld name old d → StandsFor real found name d → ((mode : Option ℕ) → IsPlaceOf found old mode → ⊥) → ⊥
+found_old real name None None d is s none = none None refl
+found_old real name (Some id) (Some seen) d is s none = none (Some seen.mode) (some_same id seen.id (sym s.leads ∙ id_one d real name s.one ∙ is.leads), refl)
+found_old real name None (Some seen) d is s none = none_some seen.id (sym s.leads ∙ id_one d real name s.one ∙ is.leads)
+found_old real name (Some id) None d is s none = none_some id (sym is ∙ sym (id_one d real name s.one) ∙ s.leads)
+
+pub no_other : (real name : List ℕ) (found : Option FileId) (old : Option Seen) (F : Disk → Type 0) (a b : Option Told) → Now a (IsOld name old) → Keeps a b → Now b (StandsFor real found name) → ((mode : Option ℕ) → IsPlaceOf found old mode → ⊥) → Now b F
+no_other real name found old F a b is ab stands none =
+    now_weaker _ _ b (now_both _ _ b (keeps_now _ a b is ab) stands) (λ d s. absurd (found_old real name found old d s.0 s.1 none))
+
+-- each name beside what the name leads to is taken
+pub is_full : (real name : List ℕ) (found : Option FileId) (b c : Option Told) → Now b (StandsFor real found name) → Keeps b c → Now c (AllTaken real) → Now c (IsFull name)
+is_full real name found b c stands bc taken =
+    now_weaker _ _ c (now_both _ _ c (keeps_now _ b c stands bc) taken) (λ d s. record { real = real; direct = s.0.direct; one = s.0.one; all = s.1 })
+
 -- a new file takes the place of what the name leads to
-pub replaces_found : (real name bytes : List ℕ) (kept after : List FileId) (mode : Option ℕ) (n : FileId) (a b c : Option Told) → Keeps a b → Now b (Leads real name kept mode) → IsIn n after
+pub replaces_found : (real name bytes : List ℕ) (kept after : List FileId) (mode : Option ℕ) (n : FileId) (a b c : Option Told) → Keeps a b → Now b (Leads real name kept mode) → after ≡ kept ++ n ∷ []
     → Runs b c (WhereDirect real (AtMoment real bytes mode)) (WhereDirect real (IsWritten real bytes mode n)) → Runs a c (AtWrite name bytes kept) (AfterWrite name bytes kept after)
-replaces_found real name bytes kept after mode n a b c ab leads is_in bc =
+replaces_found real name bytes kept after mode n a b c ab leads grown bc =
     keeps_then _ _ a b c ab (known_start _ _ _ _ (Leads real name kept mode) b c leads bc
     (λ x y f p. at_one real name bytes kept x y f.one (at_may real bytes kept mode x y f.may (p f.direct)))
-    (λ x y f p. after_one real name bytes kept after x y f.one (after_may real bytes kept after mode n x y f.may is_in (p f.direct))))
+    (λ x y f p. after_one real name bytes kept after x y f.one (after_may real bytes kept after mode n x y f.may grown (p f.direct))))
 
 pub replace_found_fails : (real name bytes : List ℕ) (kept : List FileId) (mode : Option ℕ) (a b c : Option Told) → Keeps a b → Now b (Leads real name kept mode)
-    → Runs b c (WhereDirect real (AtMoment real bytes mode)) (WhereDirect real (IsAsBefore real)) → Runs a c (AtWrite name bytes kept) (AfterFailure name)
+    → Runs b c (WhereDirect real (AtMoment real bytes mode)) (WhereDirect real (IsAsBefore real)) → Runs a c (AtWrite name bytes kept) (AfterFailure name bytes)
 replace_found_fails real name bytes kept mode a b c ab leads bc =
     keeps_then _ _ a b c ab (known_start _ _ _ _ (Leads real name kept mode) b c leads bc
     (λ x y f p. at_one real name bytes kept x y f.one (at_may real bytes kept mode x y f.may (p f.direct)))
-    (λ x y f p. failure_one real name x y f.one (failed_may real kept mode x y f.may (p f.direct))))
+    (λ x y f p. failure_one real name bytes x y f.one (failed_may real bytes kept mode x y f.may (p f.direct))))
 
 -- what was opened is what the system says of it
-pub opened_seen : (name : List ℕ) (id : FileId) (seen : Seen) (a b : Option Told) → Now a (IsOpened name id) → Keeps a b → Now b (IsStat id seen) → Now b (IsSeen name seen)
-opened_seen name id seen a b opened ab stat =
-    now_weaker _ _ b (now_both _ _ b (keeps_now _ a b opened ab) stat) (λ d s. record {
-      leads = s.0.leads ∙ ap (λ (k : FileId). Some k) (sym s.1.is);
+pub opened_seen : (name : List ℕ) (id : FileId) (seen : Seen) (a b : Option Told) → Now a (IsOpened name id) → Now a (IsWritable id) → Keeps a b → Now b (IsStat id seen) → Now b (IsSeen name seen)
+opened_seen name id seen a b opened writable ab stat =
+    now_weaker _ _ b (now_both _ _ b (keeps_now _ a b (now_both _ _ a opened writable) ab) stat) (λ d s. record {
+      leads = s.0.0.leads ∙ ap (λ (k : FileId). Some k) (sym s.1.is);
       node = s.1.node;
       there = subst (λ (k : FileId). d.files k ≡ Some s.1.node) (sym s.1.is) s.1.there;
       kind = s.1.kind;
       mode = s.1.mode;
+      writable = s.0.1 s.1.node s.1.there;
     })
 
 -- a device is written in place
 same_device : (R : FileId → Disk → Disk → Type 0) (name : List ℕ) (n m : FileId) (x y : Disk) → LeadsTo name n x → LeadsTo name m x → R n x y → R m x y
 same_device R name n m x y leads other p = subst (λ (k : FileId). R k x y) (some_same n m (sym leads ∙ other)) p
 
-at_device : (name bytes : List ℕ) (kept : List FileId) (seen : Seen) (x y : Disk) → seen.is_regular ≡ false → Disturbed seen.id x y → IsSeen name seen x → AtWrite name bytes kept x y
+may_device : (name : List ℕ) (kept : List FileId) (seen : Seen) (x : Disk) → seen.is_regular ≡ false → IsSeen name seen x → MayWrite name kept x
+may_device name kept seen x device s = record { writable = seen_writable name seen x s; free = λ n is. seen_device name seen x s device is.plain }
+
+at_device : (name bytes : List ℕ) (kept : List FileId) (seen : Seen) (x y : Disk) → seen.is_regular ≡ false → WrotePart seen.id bytes x y → IsSeen name seen x → AtWrite name bytes kept x y
 at_device name bytes kept seen x y device p s = record {
-  allowed = λ n is. seen_device name seen x s device is.plain;
+  allowed = may_device name kept seen x device s;
   plain = λ plain. absurd (seen_device name seen x s device plain);
-  device = λ n is. same_device Disturbed name seen.id n x y s.leads is.leads p;
+  device = λ n is. same_device (λ k. WrotePart k bytes) name seen.id n x y s.leads is.leads p;
 }
 
-failed_device : (name : List ℕ) (seen : Seen) (x y : Disk) → seen.is_regular ≡ false → Disturbed seen.id x y → IsSeen name seen x → AfterFailure name x y
-failed_device name seen x y device p s = record {
+failed_device : (name bytes : List ℕ) (seen : Seen) (x y : Disk) → seen.is_regular ≡ false → WrotePart seen.id bytes x y → IsSeen name seen x → AfterFailure name bytes x y
+failed_device name bytes seen x y device p s = record {
+  links = let w = p.1 s.node s.there in w.1.links;
+  plain = λ plain. absurd (seen_device name seen x s device plain);
+  device = λ n is. same_device (λ k. WrotePart k bytes) name seen.id n x y s.leads is.leads p;
+}
+
+after_device : (name bytes : List ℕ) (kept : List FileId) (seen : Seen) (x y : Disk) → seen.is_regular ≡ false → Wrote seen.id bytes x y → IsSeen name seen x → AfterWrite name bytes kept kept x y
+after_device name bytes kept seen x y device p s = record {
   links = let w = p s.node s.there in w.1.links;
+  allowed = may_device name kept seen x device s;
   plain = λ plain. absurd (seen_device name seen x s device plain);
-  device = λ n is. same_device Disturbed name seen.id n x y s.leads is.leads p;
+  device = λ n is. (same_device (λ k. Wrote k bytes) name seen.id n x y s.leads is.leads p, refl);
 }
 
-after_device : (name bytes : List ℕ) (kept after : List FileId) (seen : Seen) (x y : Disk) → seen.is_regular ≡ false → Wrote seen.id bytes x y → IsSeen name seen x → AfterWrite name bytes kept after x y
-after_device name bytes kept after seen x y device p s = record {
-  links = let w = p s.node s.there in w.1.links;
-  allowed = λ n is. seen_device name seen x s device is.plain;
-  plain = λ plain. absurd (seen_device name seen x s device plain);
-  device = λ n is. same_device (λ k. Wrote k bytes) name seen.id n x y s.leads is.leads p;
-}
+pub writes_device : (name bytes : List ℕ) (kept : List FileId) (seen : Seen) (n : FileId) (a b c : Option Told) → Now a (IsOpened name n) → Now a (IsWritable n) → Keeps a b → Now b (IsStat n seen) → seen.is_regular ≡ false
+    → Runs b c (WrotePart n bytes) (Wrote n bytes) → Runs a c (AtWrite name bytes kept) (AfterWrite name bytes kept kept)
+writes_device name bytes kept seen n a b c opened writable ab stat device bc =
+    keeps_then _ _ a b c ab (known_start _ _ _ _ (λ d. IsSeen name seen d × IsStat n seen d) b c (now_both _ _ b (opened_seen name n seen a b opened writable ab stat) stat) bc
+    (λ x y f p. at_device name bytes kept seen x y device (subst (λ (k : FileId). WrotePart k bytes x y) (sym f.1.is) p) f.0)
+    (λ x y f p. after_device name bytes kept seen x y device (subst (λ (k : FileId). Wrote k bytes x y) (sym f.1.is) p) f.0))
 
-pub writes_device : (name bytes : List ℕ) (kept after : List FileId) (seen : Seen) (n : FileId) (a b c : Option Told) → Now a (IsOpened name n) → Keeps a b → Now b (IsStat n seen) → seen.is_regular ≡ false
-    → Runs b c (Disturbed n) (Wrote n bytes) → Runs a c (AtWrite name bytes kept) (AfterWrite name bytes kept after)
-writes_device name bytes kept after seen n a b c opened ab stat device bc =
-    keeps_then _ _ a b c ab (known_start _ _ _ _ (λ d. IsSeen name seen d × IsStat n seen d) b c (now_both _ _ b (opened_seen name n seen a b opened ab stat) stat) bc
-    (λ x y f p. at_device name bytes kept seen x y device (subst (λ (k : FileId). Disturbed k x y) (sym f.1.is) p) f.0)
-    (λ x y f p. after_device name bytes kept after seen x y device (subst (λ (k : FileId). Wrote k bytes x y) (sym f.1.is) p) f.0))
-
-pub write_device_fails : (name bytes : List ℕ) (kept : List FileId) (seen : Seen) (n : FileId) (a b c : Option Told) → Now a (IsOpened name n) → Keeps a b → Now b (IsStat n seen) → seen.is_regular ≡ false
-    → Runs b c (Disturbed n) (Disturbed n) → Runs a c (AtWrite name bytes kept) (AfterFailure name)
-write_device_fails name bytes kept seen n a b c opened ab stat device bc =
-    keeps_then _ _ a b c ab (known_start _ _ _ _ (λ d. IsSeen name seen d × IsStat n seen d) b c (now_both _ _ b (opened_seen name n seen a b opened ab stat) stat) bc
-    (λ x y f p. at_device name bytes kept seen x y device (subst (λ (k : FileId). Disturbed k x y) (sym f.1.is) p) f.0)
-    (λ x y f p. failed_device name seen x y device (subst (λ (k : FileId). Disturbed k x y) (sym f.1.is) p) f.0))
+pub write_device_fails : (name bytes : List ℕ) (kept : List FileId) (seen : Seen) (n : FileId) (a b c : Option Told) → Now a (IsOpened name n) → Now a (IsWritable n) → Keeps a b → Now b (IsStat n seen) → seen.is_regular ≡ false
+    → Runs b c (WrotePart n bytes) (WrotePart n bytes) → Runs a c (AtWrite name bytes kept) (AfterFailure name bytes)
+write_device_fails name bytes kept seen n a b c opened writable ab stat device bc =
+    keeps_then _ _ a b c ab (known_start _ _ _ _ (λ d. IsSeen name seen d × IsStat n seen d) b c (now_both _ _ b (opened_seen name n seen a b opened writable ab stat) stat) bc
+    (λ x y f p. at_device name bytes kept seen x y device (subst (λ (k : FileId). WrotePart k bytes x y) (sym f.1.is) p) f.0)
+    (λ x y f p. failed_device name bytes seen x y device (subst (λ (k : FileId). WrotePart k bytes x y) (sym f.1.is) p) f.0))
 
 -- nothing was done
-same_disk : (n : FileId) (x : Disk) → Disturbed n x x
-same_disk n x = λ node is. (node, record { links = refl; names = refl; refused = refl; file = is; others = λ other apart. refl })
-
-pub nothing_failed : (name bytes : List ℕ) (kept : List FileId) (a b : Option Told) → Keeps a b → Runs a b (AtWrite name bytes kept) (AfterFailure name)
-nothing_failed name bytes kept a b ab = no_step _ _ a b ab (λ x. record { links = refl; plain = λ plain. inl (record { links = refl; refused = refl; names = λ other. refl }); device = λ n is. same_disk n x })
+pub nothing_failed : (name bytes : List ℕ) (kept : List FileId) (a b : Option Told) → Keeps a b → Runs a b (AtWrite name bytes kept) (AfterFailure name bytes)
+nothing_failed name bytes kept a b ab = no_step _ _ a b ab (λ x. record { links = refl; plain = λ plain. inl (record { links = refl; refused = refl; names = λ other. (refl, refl) }); device = λ n is. (0, wrote_nothing n x) })

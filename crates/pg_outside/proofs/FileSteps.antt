@@ -1,7 +1,7 @@
 -- What writes to one file make of a disk.
-use Rattle.std.proofs.Common.{◌≡◌, ℕ, List, [], ◌++◌, true, Option, Some, None, IfSome, refl, sym, ap, ◌∙◌, append_assoc, append-nil}
-use Rattle.pg_outside.specs.Disk.{Node, Disk, FileSet, Wrote, Disturbed, Stored, GotMode}
-use Rattle.pg_outside.specs.Moments.{HasMode, Filled}
+use Rattle.std.proofs.Common.{◌≡◌, ℕ, List, [], ◌++◌, take, true, Option, Some, None, refl, sym, ap, ◌∙◌, append_assoc, append-nil}
+use Rattle.pg_outside.specs.Inside.Disk.{Node, Disk, FileSet, Wrote, WrotePart, Disturbed, Stored, GotMode}
+use Rattle.pg_outside.specs.Inside.Moments.{HasMode, Filled}
 use Rattle.pg_outside.specs.declared.disk.system.FileId.{FileId}
 
 pub set_again : (n : FileId) (x y : Node) (a b c : Disk) → FileSet n x a b → FileSet n y b c → FileSet n y a c
@@ -22,6 +22,9 @@ disturbed_on n a b c ab bc = λ node is.
 pub wrote_disturbed : (n : FileId) (bytes : List ℕ) (a b : Disk) → Wrote n bytes a b → Disturbed n a b
 wrote_disturbed n bytes a b ab = λ node is. let w = ab node is in (w.0, w.1)
 
+pub part_disturbed : (n : FileId) (bytes : List ℕ) (a b : Disk) → WrotePart n bytes a b → Disturbed n a b
+part_disturbed n bytes a b ab = wrote_disturbed n (take ab.0 bytes) a b ab.1
+
 pub wrote_nothing : (n : FileId) (a : Disk) → Wrote n [] a a
 wrote_nothing n a = λ node is. (node, record { links = refl; names = refl; refused = refl; file = is; others = λ other apart. refl }, refl, refl, append_none node.bytes)
   where
@@ -40,13 +43,13 @@ wrote_on n xs ys a b c ab bc = λ node is.
     )
 
 pub got_mode : (n : FileId) (m : ℕ) (a b : Disk) → GotMode n m a b → HasMode n (Some m) a b
-got_mode n m a b ab = λ node is. (record node { mode = m }, ab node is, refl, refl, refl)
+got_mode n m a b ab = λ node is. ab node is
 
 pub no_mode : (n : FileId) (a : Disk) → HasMode n None a a
-no_mode n a = λ node is. (node, record { links = refl; names = refl; refused = refl; file = is; others = λ other apart. refl }, refl, refl, tt)
+no_mode n a = λ node is. (node, record { links = refl; names = refl; refused = refl; file = is; others = λ other apart. refl }, refl, refl, refl)
 
 pub got_mode_disturbed : (n : FileId) (m : ℕ) (a b : Disk) → GotMode n m a b → Disturbed n a b
-got_mode_disturbed n m a b ab = λ node is. (record node { mode = m }, ab node is)
+got_mode_disturbed n m a b ab = λ node is. let w = ab node is in (w.0, w.1)
 
 pub mode_disturbed : (n : FileId) (mode : Option ℕ) (a b : Disk) → HasMode n mode a b → Disturbed n a b
 mode_disturbed n mode a b ab = λ node is. let w = ab node is in (w.0, w.1)
@@ -67,9 +70,5 @@ filled_on n mode bytes a b c d ab bc cd = λ node is.
       then.2 ∙ first.2,
       then.4 ∙ ap (λ (l : List ℕ). l ++ bytes) first.3,
       refl,
-      kept mode first.0 then.0 then.3 first.4,
+      then.3 ∙ first.4,
     )
-  where
-    kept : (mode : Option ℕ) (x y : Node) → y.mode ≡ x.mode → IfSome mode (λ m. x.mode ≡ m) → IfSome mode (λ m. y.mode ≡ m)
-    kept None x y is had = tt
-    kept (Some m) x y is had = is ∙ had

@@ -1,39 +1,43 @@
 -- What trying one name after the other has come to.
-use Rattle.std.proofs.Common.{◌≡◌, ◌⊎◌, inl, inr, ⊎_elim, ◌+◌, ◌<◌, ◌≤◌, ℕ, zero, suc, List, ◌++◌, codes, sym, ◌∙◌, arith, lit<}
-use Rattle.std.specs.Fmt.{decimal}
-use Rattle.std.proofs.lemmas.Fmt.{decimal_injective}
-use Rattle.std.proofs.lemmas.List.{append_cancel_left}
-use Rattle.pg_outside.specs.Faults.{Rose}
+use Rattle.std.proofs.Common.{◌≡◌, ◌⊎◌, inl, inr, ⊎_elim, ◌+◌, ◌<◌, ◌≤◌, ℕ, List, Option, Some, None, sym, subst, arith}
+use Rattle.std.proofs.lemmas.Bool.{cases_lt}
+use Rattle.pg_outside.specs.Inside.Disk.{Disk, Told, Keeps, Now, IsTaken}
+use Rattle.pg_outside.specs.Inside.DiskWrites.{AllTaken}
+use Rattle.pg_outside.specs.Inside.NewNames.{IsFolderOf, new_name}
+use Rattle.pg_outside.proofs.Runs.{keeps_self, keeps_now, now_weaker, now_always}
 
--- the name that is tried as the so many-th
-abbrev pub name_at : List ℕ → ℕ → List ℕ
-name_at folder counted = folder ++ codes "patgen-new-" ++ decimal counted
+-- the name is taken, or is the one whose place is to be taken
+abbrev pub IsTried : List ℕ → List ℕ → ℕ → Disk → Type 0
+IsTried folder name counted disk = IsTaken (new_name folder counted) disk ⊎ (name ≡ new_name folder counted)
 
--- each name so far was taken, but for one that is the name whose place is to be taken
-pub record HasTried (before now : ℕ) (folder name : List ℕ) (tried : ℕ) : Type 0 where
-  pub first : 0 < tried → Rose before now ⊎ (name ≡ name_at folder 0)
-  pub more : 1 < tried → Rose before now
+-- each name so far was tried
+pub record HasTried (told : Option Told) (folder name : List ℕ) (tried : ℕ) : Type 0 where
+  pub each : (counted : ℕ) → counted < tried → Now told (IsTried folder name counted)
 
-apart : (m n : ℕ) → m < n → m ≡ n → ⊥
-apart m n below e = omega arith
+pub none_tried : (told : Option Told) (folder name : List ℕ) → HasTried told folder name 0
+none_tried told folder name = record { each = λ counted below. absurd (omega arith) }
 
-not_both : (folder name : List ℕ) → name ≡ name_at folder 0 → name_at folder 1 ≡ name → ⊥
-not_both folder name is other = apart 0 1 (lit< tt) (decimal_injective 0 1 (lit< tt) (lit< tt) (append_cancel_left (folder ++ codes "patgen-new-") (decimal 0) (decimal 1) (sym is ∙ sym other)))
+pub below_or_last : (m n : ℕ) → m < n + 1 → (m < n) ⊎ (m ≡ n)
+below_or_last m n below = ⊎_elim (λ (lt : m < n). inl lt) (λ (le : n ≤ m). inr (omega arith)) (cases_lt m n)
 
-pub none_tried : (before now : ℕ) (folder name : List ℕ) → HasTried before now folder name 0
-none_tried before now folder name = record { first = λ more. absurd (omega arith); more = λ more. absurd (omega arith) }
+one_more : (a b : Option Told) (folder name : List ℕ) (tried next : ℕ) → Keeps a b → next ≡ tried + 1 → HasTried a folder name tried → Now b (IsTried folder name tried) → HasTried b folder name next
+one_more a b folder name tried next ab is so_far last = record {
+  each = λ counted below. ⊎_elim
+      (λ (before : counted < tried). keeps_now _ a b (so_far.each counted before) ab)
+      (λ same. subst (λ (k : ℕ). Now b (IsTried folder name k)) (sym same) last)
+      (below_or_last counted tried (subst (λ (k : ℕ). counted < k) is below));
+}
 
-pub skipped : (before now : ℕ) (folder name : List ℕ) (tried next : ℕ) → next ≡ tried + 1 → HasTried before now folder name tried → name_at folder tried ≡ name → HasTried before now folder name next
-skipped before now folder name zero next is so_far same = record { first = λ _. inr (sym same); more = λ more. absurd (omega arith) }
-skipped before now folder name (suc zero) next is so_far same =
-    let rose = ⊎_elim (λ (r : Rose before now). r) (λ e. absurd (not_both folder name e same)) (so_far.first (omega arith)) in
-    record { first = λ _. inl rose; more = λ _. rose }
-skipped before now folder name (suc (suc tried)) next is so_far same =
-    let rose = so_far.more (omega arith) in
-    record { first = λ _. inl rose; more = λ _. rose }
+pub skipped : (a : Option Told) (folder name : List ℕ) (tried next : ℕ) → next ≡ tried + 1 → HasTried a folder name tried → new_name folder tried ≡ name → HasTried a folder name next
+skipped a folder name tried next is so_far same = one_more a a folder name tried next (keeps_self a) is so_far (now_always (IsTried folder name tried) a (λ d. inr (sym same)))
 
-pub taken : (before now : ℕ) (folder name : List ℕ) (next : ℕ) → Rose before now → HasTried before now folder name next
-taken before now folder name next rose = record { first = λ _. inl rose; more = λ _. rose }
+pub taken : (a b : Option Told) (own folder name : List ℕ) (tried next : ℕ) → Keeps a b → next ≡ tried + 1 → own ≡ new_name folder tried → HasTried a folder name tried → Now b (IsTaken own) → HasTried b folder name next
+taken a b own folder name tried next ab is named so_far is_taken = one_more a b folder name tried next ab is so_far
+    (now_weaker _ _ b (subst (λ (n : List ℕ). Now b (IsTaken n)) named is_taken) (λ d t. inl t))
 
-pub rose_on : (a b c : ℕ) → a ≤ b → Rose b c → Rose a c
-rose_on a b c later rose = omega arith
+below_all : (m n : ℕ) → m < 1000 → 1000 ≤ n → m < n
+below_all m n below all = omega arith
+
+pub all_taken : (told : Option Told) (folder name : List ℕ) (tried : ℕ) → IsFolderOf folder name → 1000 ≤ tried → HasTried told folder name tried → Now told (AllTaken name)
+all_taken None folder name tried is all so_far = tt
+all_taken (Some t) folder name tried is all so_far = record { folder = folder; is_folder = is; taken = λ counted below. so_far.each counted (below_all counted tried below all) }

@@ -2,8 +2,8 @@
 use Rattle.std.proofs.Common.{◌≡◌, ℕ, ◌+◌, ◌<◌, ◌≤◌, List, ◌++◌, length, take, drop, Option, Some, sym, ap, subst, ◌∙◌, arith}
 use Rattle.std.proofs.Math.Seq.{take-add}
 use Rattle.std.proofs.lemmas.Grind.{common_steps}
-use Rattle.pg_outside.specs.Disk.{Disk, Node, Told, Keeps, Now, HasPiece}
-use Rattle.pg_outside.specs.DiskReads.{IsAllOf, IsFrontOf}
+use Rattle.pg_outside.specs.Inside.Disk.{Disk, Node, Told, Keeps, Now, HasPiece}
+use Rattle.pg_outside.specs.Inside.DiskReads.{IsAllOf, IsFrontOf}
 use Rattle.pg_outside.proofs.Runs.{keeps_both, keeps_now, now_both, now_weaker}
 use Rattle.pg_outside.specs.declared.disk.system.FileId.{FileId}
 

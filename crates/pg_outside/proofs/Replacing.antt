@@ -1,9 +1,9 @@
 -- The calls of a replacement, one after another.
 use Rattle.std.proofs.Common.{◌≡◌, ◌≢◌, inl, inr, ⊎_elim, ℕ, List, false, Option, Result, Ok, Err, OnOk, OnErr, refl, sym, ap, subst, ◌∙◌}
-use Rattle.pg_outside.specs.Disk.{Disk, Links, Told, Keeps, Steps, Made, Disturbed, Renamed, RemovedName, Refused, Now, IsStat, KnowsNewNames}
-use Rattle.pg_outside.specs.NewNames.{IsNewName}
+use Rattle.pg_outside.specs.Inside.Disk.{Disk, Links, Told, Keeps, Steps, Made, Disturbed, Renamed, RemovedName, Refused, Now, IsStat, KnowsNewNames}
+use Rattle.pg_outside.specs.Inside.NewNames.{IsNewName}
 use Rattle.pg_outside.specs.declared.disk.system.Seen.{Seen}
-use Rattle.pg_outside.specs.Moments.{Runs, Filled, Placed, PlacedAs, InPlacing, WhereDirect, AtMoment, IsWritten, IsBeside, IsSame, HasRest, IsAsBefore}
+use Rattle.pg_outside.specs.Inside.Moments.{Runs, Filled, Placed, PlacedAs, InPlacing, WhereDirect, AtMoment, IsWritten, IsBeside, IsSame, HasRest, IsAsBefore}
 use Rattle.pg_outside.proofs.Runs.{runs_on, one_step, no_step, known_start, known_end, then_keeps}
 use Rattle.pg_outside.proofs.BesideSteps.{HasBeside, is_beside, at_made, at_disturbed, at_placed, is_written, made_then_disturbed, made_then_filled, removed_same, refused_rest, at_same, at_rest}
 use Rattle.pg_outside.specs.declared.disk.system.FileId.{FileId}
@@ -74,19 +74,19 @@ removes own name bytes mode n a b c d is known ab bc cd = where_known _ _ a d kn
     is_same : (x y z : Disk) → HasBeside own n x y → RemovedName own y z → IsSame x z
     is_same x y z q p = removed_same own n q.node x y z q.beside (p (still_direct x y own q.beside.links q.direct))
 
-refuses : (own name bytes : List ℕ) (mode : Option ℕ) (n : FileId) (a b c d : Option Told) → IsOwn own name → Now a KnowsNewNames → Steps a b (Made own n) → Runs b c (Disturbed n) (Disturbed n) → Steps c d Refused → Runs a d (WhereDirect name (AtMoment name bytes mode)) (WhereDirect name (IsAsBefore name))
+refuses : (own name bytes : List ℕ) (mode : Option ℕ) (n : FileId) (a b c d : Option Told) → IsOwn own name → Now a KnowsNewNames → Steps a b (Made own n) → Runs b c (Disturbed n) (Disturbed n) → Steps c d (Refused own) → Runs a d (WhereDirect name (AtMoment name bytes mode)) (WhereDirect name (IsAsBefore name))
 refuses own name bytes mode n a b c d is known ab bc cd = where_known _ _ a d known
-    (runs_on _ _ _ _ (Knowing (WhereDirect name (AtMoment name bytes mode))) (Knowing (WhereDirect name (IsAsBefore name))) a c d (gives_up own name bytes mode n a b c is ab bc) (one_step Refused c d cd)
+    (runs_on _ _ _ _ (Knowing (WhereDirect name (AtMoment name bytes mode))) (Knowing (WhereDirect name (IsAsBefore name))) a c d (gives_up own name bytes mode n a b c is ab bc) (one_step (Refused own) c d cd)
     (λ x y p. p)
     (λ x y z q p k direct. at_rest name bytes mode x z (has_rest x y z q p k direct))
     (λ x y z q p k direct. inr (has_rest x y z q p k direct)))
   where
-    has_rest : (x y z : Disk) → HasBeside own n x y → Refused y z → KnowsNewNames x → x.links.is_link name ≡ false → HasRest name x z
+    has_rest : (x y z : Disk) → HasBeside own n x y → Refused own y z → KnowsNewNames x → x.links.is_link name ≡ false → HasRest name x z
     has_rest x y z q p k direct = refused_rest own name n q.node x y z (rest_beside own name n x y is q k direct) q.beside p
 
-pub gave_up : {T E : Type 0} → (result : Result T E) (own name bytes : List ℕ) (mode : Option ℕ) (n : FileId) (a b c d : Option Told) → IsOwn own name → Now a KnowsNewNames → Steps a b (Made own n) → Runs b c (Disturbed n) (Disturbed n) → OnOk result (Steps c d (RemovedName own)) → OnErr result (Steps c d Refused) → Runs a d (WhereDirect name (AtMoment name bytes mode)) (WhereDirect name (IsAsBefore name))
+pub gave_up : {T E : Type 0} → (result : Result T E) (own name bytes : List ℕ) (mode : Option ℕ) (n : FileId) (a b c d : Option Told) → IsOwn own name → Now a KnowsNewNames → Steps a b (Made own n) → Runs b c (Disturbed n) (Disturbed n) → OnOk result (Steps c d (RemovedName own)) → OnErr result (Steps c d (Refused own)) → Runs a d (WhereDirect name (AtMoment name bytes mode)) (WhereDirect name (IsAsBefore name))
 gave_up (Ok value) own name bytes mode n a b c d is known ab bc ok err = removes own name bytes mode n a b c d is known ab bc ok
 gave_up (Err error) own name bytes mode n a b c d is known ab bc ok err = refuses own name bytes mode n a b c d is known ab bc err
 
 pub nothing_done : (name bytes : List ℕ) (mode : Option ℕ) (a b : Option Told) → Keeps a b → Runs a b (WhereDirect name (AtMoment name bytes mode)) (WhereDirect name (IsAsBefore name))
-nothing_done name bytes mode a b ab = no_step _ _ a b ab (λ x direct. inl (record { links = refl; refused = refl; names = λ other. refl }))
+nothing_done name bytes mode a b ab = no_step _ _ a b ab (λ x direct. inl (record { links = refl; refused = refl; names = λ other. (refl, refl) }))

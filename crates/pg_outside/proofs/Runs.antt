@@ -1,7 +1,7 @@
 -- One call after another.
 use Rattle.std.proofs.Common.{◌≡◌, List, [], ◌∷◌, ◌++◌, Option, Some, None, refl, sym, ap, subst, ◌∙◌, append_assoc}
-use Rattle.pg_outside.specs.Disk.{Disk, Told, Keeps, Steps, Now}
-use Rattle.pg_outside.specs.Moments.{Each, Ran, Runs}
+use Rattle.pg_outside.specs.Inside.Disk.{Disk, Told, Keeps, Steps, Now}
+use Rattle.pg_outside.specs.Inside.Moments.{Each, Ran, Runs}
 
 each_both : (P R : Disk → Type 0) (xs ys : List Disk) → Each P xs → ((disk : Disk) → P disk → R disk) → Each R ys → Each R (xs ++ ys)
 each_both P R [] ys p f r = r
@@ -108,6 +108,10 @@ then_keeps P Q a b (Some c) ab bc = subst (λ (t : Option Told). Runs a t P Q) b
 pub keeps_now : (F : Disk → Type 0) (a b : Option Told) → Now a F → Keeps a b → Now b F
 keeps_now F a None known ab = tt
 keeps_now F a (Some b) known ab = subst (λ (t : Option Told). Now t F) ab known
+
+pub keeps_self : (a : Option Told) → Keeps a a
+keeps_self None = tt
+keeps_self (Some t) = refl
 
 pub keeps_both : (a b c : Option Told) → Keeps a b → Keeps b c → Keeps a c
 keeps_both a b None ab bc = tt

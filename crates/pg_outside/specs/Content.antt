@@ -3,21 +3,22 @@ use Rattle.std.specs.Prelude.{◌≡◌, ℕ, ◌+◌, ◌<◌, List, ◌++◌, 
 use Rattle.std.specs.Cmp.Lexicographic.{slice_cmp}
 use Rattle.std.specs.Ordering.{nat_cmp}
 use Rattle.std.specs.FinMap as map
+use Rattle.pg_outside.specs.FilesCalls.{FilesCall}
 
 -- the files by their names: a finite map from the bytes of a name to the bytes of the file
 abbrev pub FileMap : Type 0
 FileMap = map.FinMap (slice_cmp nat_cmp) (List ℕ)
 
--- what files show at a moment: what they hold, told or not, the counts of the faults of reading and writing a name, and
--- how many calls there were; this stands still at the last value of u64
+-- what files show at a moment: what they hold, told or not, the counts of the faults of reading and
+-- writing a name, and the calls that there were, in their order
 pub record FilesShown : Type 0 where
   pub held : Option FileMap
   pub read_faults : List ℕ → ℕ
   pub write_faults : List ℕ → ℕ
-  pub calls : ℕ
+  pub calls : List FilesCall
 
--- what a sink shows at a moment: what was put, told or not, the count of its faults, and how many puts there were, which
--- stands still at the last value of u64
+-- what a sink shows at a moment: what was put, told or not, the count of its faults, and how many
+-- puts there were, which stands still at the last value of u64
 pub record SinkShown : Type 0 where
   pub text : Option (List ℕ)
   pub faults : ℕ
@@ -33,17 +34,20 @@ KeepsHeld old new = IfSome new (λ files. old ≡ Some files)
 
 -- these are the first bytes, one more than the limit, of a file that has more than the limit
 abbrev pub IsCut : Option (List ℕ) → ℕ → List ℕ → Type 0
-IsCut file limit front = MatchOption file ⊥ (λ bytes. (limit < length bytes) × (front ≡ take (limit + 1) bytes))
+IsCut file limit front = MatchOption file ⊥
+    (λ bytes. (limit < length bytes) × (front ≡ take (limit + 1) bytes))
 
 -- where files are told, the file of this name is these bytes
 abbrev pub IsFile : Option FileMap → List ℕ → List ℕ → Type 0
 IsFile held name bytes = IfSome held (λ files. file_at files name ≡ Some bytes)
 
--- where files are told, the file of this name has more than the limit, and these are its first limit + 1 bytes
+-- where files are told, the file of this name has more than the limit, and these are its first
+-- limit + 1 bytes
 abbrev pub IsFileCut : Option FileMap → List ℕ → ℕ → List ℕ → Type 0
 IsFileCut held name limit front = IfSome held (λ files. IsCut (file_at files name) limit front)
 
--- where files are told after the call, they are those told before it with this file set to these bytes
+-- where files are told after the call, they are those told before it with this file set to these
+-- bytes
 abbrev pub WasWritten : Option FileMap → Option FileMap → List ℕ → List ℕ → Type 0
 WasWritten old new name bytes = IfSome new (λ after. MatchOption old ⊥ (λ before.
     after ≡ map.insert before name bytes))
@@ -53,7 +57,8 @@ abbrev pub HasPart : FileMap → FileMap → List ℕ → List ℕ → Type 0
 HasPart before after name bytes = (after ≡ before)
     ⊎ ((kept : ℕ) × (after ≡ map.insert before name (take kept bytes)))
 
--- where files are told after the call, they were told before it, and this file is as it was or a prefix of these bytes
+-- where files are told after the call, they were told before it, and this file is as it was or a
+-- prefix of these bytes
 abbrev pub WasPartWritten : Option FileMap → Option FileMap → List ℕ → List ℕ → Type 0
 WasPartWritten old new name bytes = IfSome new (λ after. MatchOption old ⊥ (λ before.
     HasPart before after name bytes))
@@ -62,7 +67,8 @@ WasPartWritten old new name bytes = IfSome new (λ after. MatchOption old ⊥ (�
 abbrev pub WasPut : Option (List ℕ) → Option (List ℕ) → List ℕ → Type 0
 WasPut old new text = IfSome new (λ after. MatchOption old ⊥ (λ before. after ≡ before ++ text))
 
--- where the sink's bytes are told after the call, they are those told before it and then a prefix of this text
+-- where the sink's bytes are told after the call, they are those told before it and then a prefix
+-- of this text
 abbrev pub WasPartPut : Option (List ℕ) → Option (List ℕ) → List ℕ → Type 0
 WasPartPut old new text = IfSome new (λ after. MatchOption old ⊥ (λ before.
     (kept : ℕ) × (after ≡ before ++ take kept text)))

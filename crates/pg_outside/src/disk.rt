@@ -1,4 +1,5 @@
-//! Real files: which file a name leads to, what is read and replaced, and what the disk holds at every moment.
+//! Real files: which file a name leads to, what is read and replaced, and what the disk holds at
+//! every moment.
 
 mod error;
 mod files;
@@ -10,5 +11,5 @@ mod system;
 
 pub use error::WriteError;
 pub use files::DiskFiles;
-pub use host::HostSystem;
+pub use host::{HostFiles, HostSystem};
 pub use system::{CallFailed, Entry, FileId, Seen, System};

@@ -3,7 +3,7 @@ ghost use Rattle.std.specs.Prelude.{◌≡◌, ◌≤◌, None, OnOk, OnErr};
 ghost use Rattle.std.specs.Io.KnownBytes.{Appends};
 ghost use Rattle.pg_outside.specs.Content.{WasPut, WasPartPut};
 ghost use Rattle.pg_outside.specs.Faults.{Rose, next_count};
-ghost use Rattle.pg_outside.specs.Streams.{AppendsPart};
+ghost use Rattle.pg_outside.specs.Inside.Streams.{AppendsPart};
 
 use super::outside::{Failed, Sink};
 use super::streams::write_bytes;
@@ -19,10 +19,11 @@ pub struct HostSink<W: Write + Drop> {
 }
 
 impl<W: Write + Drop> HostSink<W> {
-    ghost use Rattle.pg_outside.specs.HostSink.{writer_faults, writer_puts, writer_of};
+    ghost use Rattle.pg_outside.specs.Inside.HostSink.{writer_faults, writer_puts, writer_of};
 
     /// A sink over this writer, with no fault so far.
     pub fn new(writer: W) -> HostSink<W>
+        ensures writer { writer_of result ≡ writer }
         ensures faults { writer_faults result ≡ 0 }
         ensures puts { writer_puts result ≡ 0 }
     {
@@ -35,7 +36,7 @@ impl<W: Write + Drop> HostSink<W> {
 }
 
 impl<W: Write + Drop> Sink for HostSink<W> {
-    ghost use Rattle.pg_outside.specs.HostSink.{writer_faults, writer_puts, writer_of};
+    ghost use Rattle.pg_outside.specs.Inside.HostSink.{writer_faults, writer_puts, writer_of};
 
     ghost shown = { λ sink. record {
       text = None;
@@ -52,14 +53,17 @@ impl<W: Write + Drop> Sink for HostSink<W> {
         ensures puts { writer_puts self.new ≡ next_count (writer_puts self.old) }
 
         // A put that fails is one fault, and no other put is one.
-        ensures one_fault { OnErr result (writer_faults self.new ≡ next_count (writer_faults self.old)) }
+        ensures one_fault { OnErr result
+            (writer_faults self.new ≡ next_count (writer_faults self.old)) }
         ensures ok_faults { OnOk result (writer_faults self.new ≡ writer_faults self.old) }
 
         // The writer gets the bytes, where it says which it holds.
         ensures written { OnOk result
-            (Appends (W.contents (writer_of self.old)) (W.contents (writer_of self.new)) bytes.now) }
+            (Appends (W.contents (writer_of self.old))
+            (W.contents (writer_of self.new)) bytes.now) }
         ensures part_written { OnErr result
-            (AppendsPart (W.contents (writer_of self.old)) (W.contents (writer_of self.new)) bytes.now) }
+            (AppendsPart (W.contents (writer_of self.old))
+            (W.contents (writer_of self.new)) bytes.now) }
     {
         self.puts = self.puts.saturating_add(1);
         let result = write_bytes(&mut self.writer, bytes);

@@ -1,10 +1,12 @@
 //! Files in memory that can fail at a chosen call.
-ghost use Rattle.std.specs.Prelude.{◌≡◌, ◌≢◌, ℕ, ◌+◌, ◌-◌, ◌^◌, ◌<◌, ◌≤◌, ◌⊎◌, List, [], take, length, min, Option, Some, None, OnOk, OnErr, IsOk, IsErr, IsSome, IfSome, IfNone, OnSome, IsErrOf};
+ghost use Rattle.std.specs.Prelude.{◌≡◌, ◌≢◌, ℕ, ◌+◌, ◌-◌, ◌^◌, ◌<◌, ◌≤◌, ◌⊎◌, List, [], ◌∷◌, ◌++◌, take, length, min, Option, Some, None, OnOk, OnErr, IsOk, IsErr, IsSome, IfSome, IfNone, OnSome, IsErrOf};
 ghost use Rattle.std.specs.Option.{option_copied, option_map};
 ghost use Rattle.std.specs.FinMap as fin;
 ghost use Rattle.pg_outside.specs.Content.{file_at, KeepsHeld, IsFile, IsFileCut, WasWritten, WasPartWritten};
 ghost use Rattle.pg_outside.specs.Faults.{next_count, RoseFor, RoseByOneAtMost, NoneFell, SameCounts, SameOthers};
+ghost use Rattle.pg_outside.specs.FilesCalls.{Reads, Writes};
 
+use super::call_log::{Call, CallLog};
 use super::missing::note_name;
 use super::outside::{Failed, Files, ReadError};
 use super::plans::{Plan, Plans};
@@ -24,19 +26,21 @@ pub struct MemoryFiles {
     /// The names of the reads that found no file.
     missing: Vec<String>,
     plans: Plans,
+    log: CallLog,
     /// The faults that count for every name.
     reads_failed: u64,
     writes_failed: u64,
 }
 
 impl MemoryFiles {
-    ghost use Rattle.pg_outside.specs.MemoryFiles.{files_of, room_of, reads_failed_of, writes_failed_of, calls_of, listed_of, next_listed};
+    ghost use Rattle.pg_outside.specs.Inside.MemoryFiles.{files_of, room_of, reads_failed_of, writes_failed_of, calls_of, made_of, listed_of, next_listed};
 
     /// No file, no call so far and none that is to fail.
     pub fn new(alloc: Global) -> MemoryFiles
         ensures files { files_of result ≡ fin.empty }
         ensures listed { listed_of result ≡ fin.empty }
         ensures calls { calls_of result ≡ 0 }
+        ensures made { made_of result ≡ [] }
         ensures reads { (name : List ℕ) → reads_failed_of result name ≡ 0 }
         ensures writes { (name : List ℕ) → writes_failed_of result name ≡ 0 }
     {
@@ -45,6 +49,7 @@ impl MemoryFiles {
             files: Vec::new(alloc),
             missing: Vec::new(alloc),
             plans: Plans::new(alloc),
+            log: CallLog::new(),
             reads_failed: 0,
             writes_failed: 0,
         }
@@ -55,7 +60,8 @@ impl MemoryFiles {
     /// # Errors
     /// Where there is not enough memory; all is then as before.
     pub fn add(&mut self, name: &str, bytes: &[u8], room: usize) -> Result<(), AllocError>
-        ensures ok { OnOk result (files_of self.new ≡ fin.insert (files_of self.old) name.now bytes.now) }
+        ensures ok { OnOk result
+            (files_of self.new ≡ fin.insert (files_of self.old) name.now bytes.now) }
         ensures room { OnOk result (room ≤ room_of self.new name.now) }
         ensures rooms { NoneFell (room_of self.old) (room_of self.new) }
 
@@ -66,6 +72,7 @@ impl MemoryFiles {
         // Calls and counts are as before in both cases.
         ensures listed { listed_of self.new ≡ listed_of self.old }
         ensures calls { calls_of self.new ≡ calls_of self.old }
+        ensures made { made_of self.new ≡ made_of self.old }
         ensures reads { SameCounts (reads_failed_of self.old) (reads_failed_of self.new) }
         ensures writes { SameCounts (writes_failed_of self.old) (writes_failed_of self.new) }
     {
@@ -86,6 +93,7 @@ impl MemoryFiles {
         ensures files { files_of self.new ≡ files_of self.old }
         ensures rooms { SameCounts (room_of self.old) (room_of self.new) }
         ensures calls { calls_of self.new ≡ calls_of self.old }
+        ensures made { made_of self.new ≡ made_of self.old }
         ensures reads { SameCounts (reads_failed_of self.old) (reads_failed_of self.new) }
         ensures writes { SameCounts (writes_failed_of self.old) (writes_failed_of self.new) }
     {
@@ -105,14 +113,17 @@ impl MemoryFiles {
         ensures files { self.new.files ≡ self.old.files }
         ensures alloc { self.new.alloc ≡ self.old.alloc }
         ensures missing { self.new.missing ≡ self.old.missing }
+        ensures made { made_of self.new ≡ made_of self.old }
         ensures listed { listed_of self.new ≡ listed_of self.old }
         ensures calls { calls_of self.new ≡ next_count (calls_of self.old) }
         ensures reads { self.old.reads_failed ≤ self.new.reads_failed }
         ensures writes { self.old.writes_failed ≤ self.new.writes_failed }
         ensures reads_by_one { self.new.reads_failed ≤ self.old.reads_failed + 1 }
         ensures writes_by_one { self.new.writes_failed ≤ self.old.writes_failed + 1 }
-        ensures reads_rose { OnSome result (self.new.reads_failed ≡ next_count self.old.reads_failed) }
-        ensures writes_rose { OnSome result (self.new.writes_failed ≡ next_count self.old.writes_failed) }
+        ensures reads_rose { OnSome result
+            (self.new.reads_failed ≡ next_count self.old.reads_failed) }
+        ensures writes_rose { OnSome result
+            (self.new.writes_failed ≡ next_count self.old.writes_failed) }
         ensures reads_same { IfNone result (self.new.reads_failed ≡ self.old.reads_failed) }
         ensures writes_same { IfNone result (self.new.writes_failed ≡ self.old.writes_failed) }
     {
@@ -126,13 +137,13 @@ impl MemoryFiles {
 }
 
 impl Files for MemoryFiles {
-    ghost use Rattle.pg_outside.specs.MemoryFiles.{files_of, room_of, reads_failed_of, writes_failed_of, calls_of, listed_of, next_listed, IsListed, IsUnlisted, HasFile, SameFiles, SameReads, SameWrites, ReadsRose, WritesRose, KeepsFront, KeepsFrontWithin};
+    ghost use Rattle.pg_outside.specs.Inside.MemoryFiles.{files_of, room_of, reads_failed_of, writes_failed_of, calls_of, made_of, listed_of, next_listed, IsListed, IsUnlisted, HasFile, SameFiles, SameReads, SameWrites, ReadsRose, WritesRose, KeepsFront, KeepsFrontWithin};
 
     ghost shown = { λ memory. record {
       held = Some (files_of memory);
       read_faults = reads_failed_of memory;
       write_faults = writes_failed_of memory;
-      calls = calls_of memory;
+      calls = made_of memory;
     } };
 
     fn read(
@@ -159,6 +170,7 @@ impl Files for MemoryFiles {
 
         // The call is counted, and the calls that are to fail stay listed.
         ensures calls { calls_of self.new ≡ next_count (calls_of self.old) }
+        ensures made { made_of self.new ≡ made_of self.old ++ Reads name.now ∷ [] }
         ensures listed { listed_of self.new ≡ listed_of self.old }
         ensures rooms { SameCounts (room_of self.old) (room_of self.new) }
 
@@ -168,17 +180,22 @@ impl Files for MemoryFiles {
         ensures listed_writes { IsListed self.old → WritesRose self.old self.new }
 
         // Else only a missing name fails, and raises its own read faults alone.
-        ensures found { IsUnlisted self.old → HasFile self.old name.now → IsErrOf result ReadError.Failed → ⊥ }
-        ensures found_reads { IsUnlisted self.old → HasFile self.old name.now → SameReads self.old self.new }
+        ensures found { IsUnlisted self.old → HasFile self.old name.now
+            → IsErrOf result ReadError.Failed → ⊥ }
+        ensures found_reads { IsUnlisted self.old
+            → HasFile self.old name.now → SameReads self.old self.new }
         ensures missing_reads { IsUnlisted self.old
             → SameOthers (reads_failed_of self.old) (reads_failed_of self.new) name.now }
         ensures memory_reads { IsErrOf result ReadError.Memory → SameReads self.old self.new }
         ensures unlisted_writes { IsUnlisted self.old → SameWrites self.old self.new }
 
         // No count rises by more than one.
-        ensures reads_by_one { RoseByOneAtMost (reads_failed_of self.old) (reads_failed_of self.new) }
-        ensures writes_by_one { RoseByOneAtMost (writes_failed_of self.old) (writes_failed_of self.new) }
+        ensures reads_by_one { RoseByOneAtMost (reads_failed_of self.old)
+            (reads_failed_of self.new) }
+        ensures writes_by_one { RoseByOneAtMost (writes_failed_of self.old)
+            (writes_failed_of self.new) }
     {
+        self.log = self.log.and(&Call::Read(name));
         match self.next_plan() {
             Some(_) => Err(ReadError::Failed),
             None => match bytes_of(&self.files, name) {
@@ -196,13 +213,16 @@ impl Files for MemoryFiles {
         ensures whole { OnOk result
             (WasWritten (Some (files_of self.old)) (Some (files_of self.new)) name.now bytes.now) }
         ensures part { OnErr result
-            (WasPartWritten (Some (files_of self.old)) (Some (files_of self.new)) name.now bytes.now) }
+            (WasPartWritten (Some (files_of self.old))
+            (Some (files_of self.new)) name.now bytes.now) }
         ensures reads { NoneFell (reads_failed_of self.old) (reads_failed_of self.new) }
         ensures writes { NoneFell (writes_failed_of self.old) (writes_failed_of self.new) }
-        ensures failed { OnErr result (RoseFor (writes_failed_of self.old) (writes_failed_of self.new) name.now) }
+        ensures failed { OnErr result
+            (RoseFor (writes_failed_of self.old) (writes_failed_of self.new) name.now) }
 
         // The call is counted, and the calls that are to fail stay listed.
         ensures calls { calls_of self.new ≡ next_count (calls_of self.old) }
+        ensures made { made_of self.new ≡ made_of self.old ++ Writes name.now ∷ [] }
         ensures listed { listed_of self.new ≡ listed_of self.old }
         ensures rooms { NoneFell (room_of self.old) (room_of self.new) }
 
@@ -225,9 +245,12 @@ impl Files for MemoryFiles {
         ensures unlisted_reads { IsUnlisted self.old → SameReads self.old self.new }
 
         // No count rises by more than one.
-        ensures reads_by_one { RoseByOneAtMost (reads_failed_of self.old) (reads_failed_of self.new) }
-        ensures writes_by_one { RoseByOneAtMost (writes_failed_of self.old) (writes_failed_of self.new) }
+        ensures reads_by_one { RoseByOneAtMost (reads_failed_of self.old)
+            (reads_failed_of self.new) }
+        ensures writes_by_one { RoseByOneAtMost (writes_failed_of self.old)
+            (writes_failed_of self.new) }
     {
+        self.log = self.log.and(&Call::Write(name));
         match self.next_plan() {
             Some(plan) => {
                 if let Some(keep) = plan.keep {

@@ -20,7 +20,7 @@ pub struct MemorySink {
 }
 
 impl MemorySink {
-    ghost use Rattle.pg_outside.specs.MemorySink.{sink_bytes, sink_room, sink_faults, puts_of, listed_puts, next_listed_put};
+    ghost use Rattle.pg_outside.specs.Inside.MemorySink.{sink_bytes, sink_room, sink_faults, puts_of, listed_puts, next_listed_put};
 
     /// An empty sink that holds at most `room` bytes.
     ///
@@ -47,7 +47,8 @@ impl MemorySink {
     /// # Errors
     /// Where there is not enough memory; all is then as before.
     pub fn fail_at(&mut self, call: u64, keep: Option<usize>) -> Result<(), AllocError>
-        ensures ok { OnOk result (listed_puts self.new ≡ fin.insert (listed_puts self.old) call keep) }
+        ensures ok { OnOk result
+            (listed_puts self.new ≡ fin.insert (listed_puts self.old) call keep) }
         ensures err { OnErr result (listed_puts self.new ≡ listed_puts self.old) }
 
         // All else is as before in both cases.
@@ -81,7 +82,7 @@ impl MemorySink {
 }
 
 impl Sink for MemorySink {
-    ghost use Rattle.pg_outside.specs.MemorySink.{sink_bytes, sink_room, sink_faults, puts_of, listed_puts, next_listed_put, IsWithin, IsPast, SameBytes, PutsFront};
+    ghost use Rattle.pg_outside.specs.Inside.MemorySink.{sink_bytes, sink_room, sink_faults, puts_of, listed_puts, next_listed_put, IsWithin, IsPast, SameBytes, PutsFront};
 
     ghost shown = { λ sink. record {
       text = Some (sink_bytes sink);
@@ -91,8 +92,10 @@ impl Sink for MemorySink {
 
     fn put(&mut self, bytes: &[u8]) -> Result<(), Failed>
         // As for all sinks.
-        ensures whole { OnOk result (WasPut (Some (sink_bytes self.old)) (Some (sink_bytes self.new)) bytes.now) }
-        ensures part { OnErr result (WasPartPut (Some (sink_bytes self.old)) (Some (sink_bytes self.new)) bytes.now) }
+        ensures whole { OnOk result
+            (WasPut (Some (sink_bytes self.old)) (Some (sink_bytes self.new)) bytes.now) }
+        ensures part { OnErr result
+            (WasPartPut (Some (sink_bytes self.old)) (Some (sink_bytes self.new)) bytes.now) }
         ensures later { sink_faults self.old ≤ sink_faults self.new }
         ensures failed { OnErr result (Rose (sink_faults self.old) (sink_faults self.new)) }
 
@@ -110,7 +113,8 @@ impl Sink for MemorySink {
         ensures keeps { PutsFront self.old self.new bytes.now }
 
         // Every other put succeeds and raises no count, and no put raises it by more than one.
-        ensures succeeds { next_listed_put self.old ≡ None → IsWithin self.old bytes.now → IsOk result }
+        ensures succeeds { next_listed_put self.old ≡ None
+            → IsWithin self.old bytes.now → IsOk result }
         ensures ok_faults { OnOk result (sink_faults self.new ≡ sink_faults self.old) }
         ensures by_one { sink_faults self.new ≤ sink_faults self.old + 1 }
     {

@@ -1,7 +1,7 @@
 //! The names of the reads that found no file.
 ghost use Rattle.std.specs.Prelude.{◌≡◌, ◌+◌, OnOk, OnErr};
 ghost use Rattle.pg_outside.specs.Faults.{NoneFell, RoseByOneAtMost, SameOthers};
-ghost use Rattle.pg_outside.specs.MissingNames.{times_in};
+ghost use Rattle.pg_outside.specs.Inside.MissingNames.{times_in};
 
 use std::alloc::{AllocError, Global};
 
@@ -11,8 +11,10 @@ pub(crate) fn note_name(
     names: &mut Vec<String>,
     name: &str,
 ) -> Result<(), AllocError>
-    ensures counted { OnOk result (times_in names.new.items name.now ≡ times_in names.old.items name.now + 1) }
-    ensures others { OnOk result (SameOthers (times_in names.old.items) (times_in names.new.items) name.now) }
+    ensures counted { OnOk result
+        (times_in names.new.items name.now ≡ times_in names.old.items name.now + 1) }
+    ensures others { OnOk result
+        (SameOthers (times_in names.old.items) (times_in names.new.items) name.now) }
     ensures later { NoneFell (times_in names.old.items) (times_in names.new.items) }
     ensures by_one { RoseByOneAtMost (times_in names.old.items) (times_in names.new.items) }
     ensures err { OnErr result (names.new.items ≡ names.old.items) }

@@ -1,7 +1,8 @@
 //! The two traits through which a command reads, writes and prints.
-ghost use Rattle.std.specs.Prelude.{◌≡◌, ℕ, ◌+◌, ◌-◌, ◌^◌, ◌<◌, ◌≤◌, List, [], length, Option, OnOk, OnErr, IfSome, IsErrOf};
+ghost use Rattle.std.specs.Prelude.{◌≡◌, ℕ, ◌+◌, ◌-◌, ◌^◌, ◌<◌, ◌≤◌, List, [], ◌∷◌, ◌++◌, length, Option, OnOk, OnErr, IfSome, IsErrOf};
 ghost use Rattle.pg_outside.specs.Content.{FilesShown, SinkShown, KeepsHeld, IsFile, IsFileCut, WasWritten, WasPartWritten, WasPut, WasPartPut};
 ghost use Rattle.pg_outside.specs.Faults.{next_count, Rose, RoseFor, NoneFell};
+ghost use Rattle.pg_outside.specs.FilesCalls.{Reads, Writes};
 
 use std::alloc::{AllocError, Global};
 use std::io;
@@ -56,7 +57,8 @@ impl From<io::Error> for Failed {
 ///
 /// An object shows, as `shown`, what it holds, where it tells this, and the counts of the faults of
 /// reading and of writing each name. No count ever falls. A count rose where it is greater than
-/// before, or has reached 2^64 - 1. It also shows how many calls there were.
+/// before, or has reached 2^64 - 1. It also shows the calls that there were, each with its name, in
+/// their order.
 pub trait Files {
     ghost shown: { Self → FilesShown };
 
@@ -82,8 +84,8 @@ pub trait Files {
         ensures reads { NoneFell (shown self.old).read_faults (shown self.new).read_faults }
         ensures writes { NoneFell (shown self.old).write_faults (shown self.new).write_faults }
 
-        // The call is counted.
-        ensures calls { (shown self.new).calls ≡ next_count (shown self.old).calls }
+        // The call is one more.
+        ensures calls { (shown self.new).calls ≡ (shown self.old).calls ++ Reads name.now ∷ [] }
 
         // The lengths hold whether the files are told or not.
         ensures fits { OnOk result (length into.new.items ≤ limit) }
@@ -102,18 +104,21 @@ pub trait Files {
     /// # Errors
     /// Where the write faults of `name` rose; the file is then as before or a prefix of `bytes`.
     fn write(&mut self, name: &str, bytes: &[u8]) -> Result<(), Failed>
-        ensures whole { OnOk result (WasWritten (shown self.old).held (shown self.new).held name.now bytes.now) }
-        ensures part { OnErr result (WasPartWritten (shown self.old).held (shown self.new).held name.now bytes.now) }
+        ensures whole { OnOk result
+            (WasWritten (shown self.old).held (shown self.new).held name.now bytes.now) }
+        ensures part { OnErr result
+            (WasPartWritten (shown self.old).held (shown self.new).held name.now bytes.now) }
         ensures reads { NoneFell (shown self.old).read_faults (shown self.new).read_faults }
         ensures writes { NoneFell (shown self.old).write_faults (shown self.new).write_faults }
-        ensures failed { OnErr result (RoseFor (shown self.old).write_faults (shown self.new).write_faults name.now) }
-        ensures calls { (shown self.new).calls ≡ next_count (shown self.old).calls };
+        ensures failed { OnErr result
+            (RoseFor (shown self.old).write_faults (shown self.new).write_faults name.now) }
+        ensures calls { (shown self.new).calls ≡ (shown self.old).calls ++ Writes name.now ∷ [] };
 }
 
 /// Where lines are printed.
 ///
-/// An object shows, as `shown`, what was put, where it tells this, and the count of its faults. The
-/// count never falls.
+/// An object shows, as `shown`, what was put, where it tells this, the count of its faults, and how
+/// many puts there were. No count ever falls.
 pub trait Sink {
     ghost shown: { Self → SinkShown };
 
@@ -123,7 +128,8 @@ pub trait Sink {
     /// Where the faults rose; a prefix of `bytes` was then appended.
     fn put(&mut self, bytes: &[u8]) -> Result<(), Failed>
         ensures whole { OnOk result (WasPut (shown self.old).text (shown self.new).text bytes.now) }
-        ensures part { OnErr result (WasPartPut (shown self.old).text (shown self.new).text bytes.now) }
+        ensures part { OnErr result
+            (WasPartPut (shown self.old).text (shown self.new).text bytes.now) }
         ensures later { (shown self.old).faults ≤ (shown self.new).faults }
         ensures failed { OnErr result (Rose (shown self.old).faults (shown self.new).faults) }
         ensures puts { (shown self.new).puts ≡ next_count (shown self.old).puts };

@@ -23,7 +23,7 @@ pub(crate) struct Plans {
 }
 
 impl Plans {
-    ghost use Rattle.pg_outside.specs.Calls.{listed_calls, planned};
+    ghost use Rattle.pg_outside.specs.Inside.Calls.{listed_calls, planned};
 
     pub fn new(alloc: Global) -> Plans
         ensures listed { result.listed.items ≡ [] }
@@ -38,8 +38,10 @@ impl Plans {
     /// Lets the call of this number fail. Of two plans for one call the later counts.
     pub fn list(&mut self, call: u64, keep: Option<usize>) -> Result<(), AllocError>
         ensures ok { OnOk result
-            (listed_calls self.new.listed.items ≡ fin.insert (listed_calls self.old.listed.items) call keep) }
-        ensures err { OnErr result (listed_calls self.new.listed.items ≡ listed_calls self.old.listed.items) }
+            (listed_calls self.new.listed.items
+            ≡ fin.insert (listed_calls self.old.listed.items) call keep) }
+        ensures err { OnErr result
+            (listed_calls self.new.listed.items ≡ listed_calls self.old.listed.items) }
         ensures calls { self.new.calls ≡ self.old.calls }
     {
         self.listed.insert(0, Plan { call, keep })?;

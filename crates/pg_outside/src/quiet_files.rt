@@ -1,10 +1,12 @@
 //! Files in memory that never fail.
-ghost use Rattle.std.specs.Prelude.{◌≡◌, ◌^◌, ◌-◌, ◌+◌, ◌<◌, ◌≤◌, ℕ, List, [], length, Option, Some, None, Bool, true, false, OnOk, OnErr, IsOk, IsErrOf};
+ghost use Rattle.std.specs.Prelude.{◌≡◌, ◌^◌, ◌-◌, ◌+◌, ◌<◌, ◌≤◌, ℕ, List, [], ◌∷◌, ◌++◌, length, Option, Some, None, Bool, true, false, OnOk, OnErr, IsOk, IsErrOf};
 ghost use Rattle.std.specs.Option.{option_copied};
 ghost use Rattle.std.specs.FinMap as fin;
 ghost use Rattle.pg_outside.specs.Content.{file_at, KeepsHeld, IsFile, IsFileCut, WasWritten, WasPartWritten};
-ghost use Rattle.pg_outside.specs.Faults.{next_count, RoseFor, NoneFell, SameCounts};
+ghost use Rattle.pg_outside.specs.Faults.{RoseFor, NoneFell, SameCounts};
+ghost use Rattle.pg_outside.specs.FilesCalls.{Reads, Writes};
 
+use super::call_log::{Call, CallLog};
 use super::outside::{Failed, Files, ReadError};
 use super::stored::{StoredFile, bytes_of, read_bytes, store};
 use std::alloc::{AllocError, Global};
@@ -18,22 +20,23 @@ pub struct QuietFiles {
     alloc: Global,
     files: Vec<StoredFile>,
     is_told: bool,
-    calls: u64,
+    calls: CallLog,
 }
 
 impl QuietFiles {
-    ghost use Rattle.pg_outside.specs.QuietFiles.{quiet_files_of, quiet_room_of, is_telling, told_file, StaysTelling};
+    ghost use Rattle.pg_outside.specs.Inside.QuietFiles.{quiet_files_of, quiet_room_of, quiet_calls_of, is_telling, told_file, StaysTelling};
 
     /// No file; it tells this.
     pub fn new(alloc: Global) -> QuietFiles
         ensures files { quiet_files_of result ≡ fin.empty }
         ensures told { is_telling result ≡ true }
+        ensures calls { quiet_calls_of result ≡ [] }
     {
         QuietFiles {
             alloc,
             files: Vec::new(alloc),
             is_told: true,
-            calls: 0,
+            calls: CallLog::new(),
         }
     }
 
@@ -42,15 +45,18 @@ impl QuietFiles {
     /// # Errors
     /// Where there is not enough memory; all is then as before.
     pub fn add(&mut self, name: &str, bytes: &[u8], room: usize) -> Result<(), AllocError>
-        ensures ok { OnOk result (quiet_files_of self.new ≡ fin.insert (quiet_files_of self.old) name.now bytes.now) }
+        ensures ok { OnOk result
+            (quiet_files_of self.new ≡ fin.insert (quiet_files_of self.old) name.now bytes.now) }
         ensures room { OnOk result (room ≤ quiet_room_of self.new name.now) }
         ensures rooms { NoneFell (quiet_room_of self.old) (quiet_room_of self.new) }
 
         // Refused, the files and their room are as before.
         ensures err { OnErr result (quiet_files_of self.new ≡ quiet_files_of self.old) }
-        ensures err_rooms { OnErr result (SameCounts (quiet_room_of self.old) (quiet_room_of self.new)) }
+        ensures err_rooms { OnErr result
+            (SameCounts (quiet_room_of self.old) (quiet_room_of self.new)) }
 
         ensures told { StaysTelling self.old self.new }
+        ensures calls { quiet_calls_of self.new ≡ quiet_calls_of self.old }
     {
         store(self.alloc, &mut self.files, name, bytes, room)
     }
@@ -75,7 +81,7 @@ impl QuietFiles {
 }
 
 impl Files for QuietFiles {
-    ghost use Rattle.pg_outside.specs.QuietFiles.{quiet_files_of, quiet_room_of, quiet_calls_of, is_telling, told_files, quiet_shown, StoresFile, LacksFile, StaysTelling};
+    ghost use Rattle.pg_outside.specs.Inside.QuietFiles.{quiet_files_of, quiet_room_of, quiet_calls_of, is_telling, told_files, quiet_shown, StoresFile, LacksFile, StaysTelling};
 
     ghost shown = { quiet_shown };
 
@@ -91,16 +97,19 @@ impl Files for QuietFiles {
 
         // As for all files.
         ensures held { KeepsHeld (told_files self.old) (told_files self.new) }
-        ensures reads { NoneFell (quiet_shown self.old).read_faults (quiet_shown self.new).read_faults }
-        ensures writes { NoneFell (quiet_shown self.old).write_faults (quiet_shown self.new).write_faults }
-        ensures calls { quiet_calls_of self.new ≡ next_count (quiet_calls_of self.old) }
+        ensures reads { NoneFell (quiet_shown self.old).read_faults
+            (quiet_shown self.new).read_faults }
+        ensures writes { NoneFell (quiet_shown self.old).write_faults
+            (quiet_shown self.new).write_faults }
+        ensures calls { quiet_calls_of self.new ≡ quiet_calls_of self.old ++ Reads name.now ∷ [] }
         ensures fits { OnOk result (length into.new.items ≤ limit) }
         ensures cut { IsErrOf result ReadError.TooLong → length into.new.items ≡ limit + 1 }
         ensures file { OnOk result (IsFile (told_files self.new) name.now into.new.items) }
         ensures cut_file { IsErrOf result ReadError.TooLong
             → IsFileCut (told_files self.new) name.now limit into.new.items }
         ensures failed { IsErrOf result ReadError.Failed
-            → RoseFor (quiet_shown self.old).read_faults (quiet_shown self.new).read_faults name.now }
+            → RoseFor (quiet_shown self.old).read_faults
+            (quiet_shown self.new).read_faults name.now }
 
         // A name that is not there is read as no byte, and nothing is told from then on.
         ensures missing { LacksFile self.old name.now → IsOk result }
@@ -113,7 +122,7 @@ impl Files for QuietFiles {
         ensures files { quiet_files_of self.new ≡ quiet_files_of self.old }
         ensures rooms { SameCounts (quiet_room_of self.old) (quiet_room_of self.new) }
     {
-        self.calls = self.calls.saturating_add(1);
+        self.calls = self.calls.and(&Call::Read(name));
         match bytes_of(&self.files, name) {
             Some(bytes) => read_bytes(bytes, limit, into),
             None => {
@@ -125,21 +134,27 @@ impl Files for QuietFiles {
 
     fn write(&mut self, name: &str, bytes: &[u8]) -> Result<(), Failed>
         // As for all files.
-        ensures whole { OnOk result (WasWritten (told_files self.old) (told_files self.new) name.now bytes.now) }
-        ensures part { OnErr result (WasPartWritten (told_files self.old) (told_files self.new) name.now bytes.now) }
-        ensures reads { NoneFell (quiet_shown self.old).read_faults (quiet_shown self.new).read_faults }
-        ensures writes { NoneFell (quiet_shown self.old).write_faults (quiet_shown self.new).write_faults }
+        ensures whole { OnOk result
+            (WasWritten (told_files self.old) (told_files self.new) name.now bytes.now) }
+        ensures part { OnErr result
+            (WasPartWritten (told_files self.old) (told_files self.new) name.now bytes.now) }
+        ensures reads { NoneFell (quiet_shown self.old).read_faults
+            (quiet_shown self.new).read_faults }
+        ensures writes { NoneFell (quiet_shown self.old).write_faults
+            (quiet_shown self.new).write_faults }
         ensures failed { OnErr result
-            (RoseFor (quiet_shown self.old).write_faults (quiet_shown self.new).write_faults name.now) }
-        ensures calls { quiet_calls_of self.new ≡ next_count (quiet_calls_of self.old) }
+            (RoseFor (quiet_shown self.old).write_faults
+            (quiet_shown self.new).write_faults name.now) }
+        ensures calls { quiet_calls_of self.new ≡ quiet_calls_of self.old ++ Writes name.now ∷ [] }
 
         // Every write succeeds, and one to a name that is there stays told within its room.
         ensures succeeds { IsOk result }
-        ensures within { StoresFile self.old name.now → length bytes.now ≤ quiet_room_of self.old name.now
+        ensures within { StoresFile self.old name.now
+            → length bytes.now ≤ quiet_room_of self.old name.now
             → StaysTelling self.old self.new }
         ensures rooms { NoneFell (quiet_room_of self.old) (quiet_room_of self.new) }
     {
-        self.calls = self.calls.saturating_add(1);
+        self.calls = self.calls.and(&Call::Write(name));
         if store(self.alloc, &mut self.files, name, bytes, 0).is_err() {
             self.is_told = false;
         }

@@ -18,7 +18,7 @@ pub struct QuietSink {
 }
 
 impl QuietSink {
-    ghost use Rattle.pg_outside.specs.QuietSink.{told_text, quiet_sink_room};
+    ghost use Rattle.pg_outside.specs.Inside.QuietSink.{told_text, quiet_sink_room};
 
     /// An empty sink with room for `room` bytes, which tells its bytes.
     ///
@@ -47,16 +47,18 @@ impl QuietSink {
 }
 
 impl Sink for QuietSink {
-    ghost use Rattle.pg_outside.specs.QuietSink.{told_text, quiet_sink_room, quiet_puts_of, quiet_sink_shown, PutsWithin, EndsPast};
+    ghost use Rattle.pg_outside.specs.Inside.QuietSink.{told_text, quiet_sink_room, quiet_puts_of, quiet_sink_shown, PutsWithin, EndsPast};
 
     ghost shown = { quiet_sink_shown };
 
     fn put(&mut self, bytes: &[u8]) -> Result<(), Failed>
         // As for all sinks.
         ensures whole { OnOk result (WasPut (told_text self.old) (told_text self.new) bytes.now) }
-        ensures part { OnErr result (WasPartPut (told_text self.old) (told_text self.new) bytes.now) }
+        ensures part { OnErr result
+            (WasPartPut (told_text self.old) (told_text self.new) bytes.now) }
         ensures later { (quiet_sink_shown self.old).faults ≤ (quiet_sink_shown self.new).faults }
-        ensures failed { OnErr result (Rose (quiet_sink_shown self.old).faults (quiet_sink_shown self.new).faults) }
+        ensures failed { OnErr result
+            (Rose (quiet_sink_shown self.old).faults (quiet_sink_shown self.new).faults) }
         ensures puts { quiet_puts_of self.new ≡ next_count (quiet_puts_of self.old) }
 
         // Every put succeeds. Within the room the sink stays telling, and past it it tells nothing

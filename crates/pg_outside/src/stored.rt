@@ -4,7 +4,7 @@ ghost use Rattle.std.specs.Option.{option_copied};
 ghost use Rattle.std.specs.FinMap as fin;
 ghost use Rattle.pg_outside.specs.Content.{file_at, IsCut};
 ghost use Rattle.pg_outside.specs.Faults.{NoneFell, SameCounts};
-ghost use Rattle.pg_outside.specs.StoredFile.{has_name, file_map, room_in, IsPlace, IsMissing};
+ghost use Rattle.pg_outside.specs.Inside.StoredFile.{has_name, file_map, room_in, IsPlace, IsMissing};
 
 use super::outside::ReadError;
 use std::alloc::{AllocError, Global};
@@ -76,11 +76,13 @@ pub(crate) fn store(
     bytes: &[u8],
     room: usize,
 ) -> Result<(), AllocError>
-    ensures ok { OnOk result (file_map files.new.items ≡ fin.insert (file_map files.old.items) name.now bytes.now) }
+    ensures ok { OnOk result
+        (file_map files.new.items ≡ fin.insert (file_map files.old.items) name.now bytes.now) }
     ensures err { OnErr result (file_map files.new.items ≡ file_map files.old.items) }
     ensures room { OnOk result (room ≤ room_in files.new.items name.now) }
     ensures rooms { NoneFell (room_in files.old.items) (room_in files.new.items) }
-    ensures err_rooms { OnErr result (SameCounts (room_in files.old.items) (room_in files.new.items)) }
+    ensures err_rooms { OnErr result
+        (SameCounts (room_in files.old.items) (room_in files.new.items)) }
     ensures succeeds { IsSome (file_at (file_map files.old.items) name.now)
         → max room (length bytes.now) ≤ room_in files.old.items name.now → IsOk result }
 {

@@ -17,6 +17,9 @@ pub enum WriteError {
     /// The name is a link, and could not be followed to the file that it leads to.
     #[error("the link could not be followed")]
     Unfollowed,
+    /// Each name that a new file could have is taken.
+    #[error("there is no name for a new file")]
+    Taken,
     /// There was not enough memory.
     #[error("out of memory")]
     Memory,

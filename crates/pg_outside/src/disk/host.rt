@@ -1,9 +1,10 @@
-//! The adapter over real files: each call is one call of the operating system, and it decides nothing.
+//! The adapter over real files: each call is one call of the operating system, and it decides
+//! nothing.
 ghost use Rattle.std.specs.Prelude.{◌≡◌, ◌≤◌, None, OnErr};
 ghost use Rattle.pg_outside.specs.Faults.{Rose, next_count};
 
+use super::files::DiskFiles;
 use super::system::{CallFailed, Entry, FileId, Seen, System};
-use crate::outside::Failed;
 use crate::streams::{read_some, write_some};
 use std::alloc::{AllocError, Global};
 use std::fs::{File, Metadata, OpenFile, OpenOptions, Permissions};
@@ -12,11 +13,16 @@ use std::os::unix::fs::{MetadataExt, PermissionsExt};
 use std::path::PathBuf;
 use std::{fs, io, rt};
 
-/// Real files. They tell no content, and count the calls that failed.
+/// Real files by their paths. A call that a signal interrupts goes on.
+pub type HostFiles<R> = DiskFiles<HostSystem<R>>;
+
+/// The calls of the system on real files. They tell no content, count the calls that failed, and
+/// keep why the last of these did.
 #[derive(Drop)]
 pub struct HostSystem<R: rt::Files + Drop> {
     system: R,
     failures: u64,
+    reason: Option<io::Error>,
 }
 
 fn id_of(metadata: &Metadata) -> FileId {
@@ -68,10 +74,33 @@ fn done(outcome: io::Result<()>) -> Result<(), CallFailed> {
 
 impl<R: rt::Files + Drop> HostSystem<R> {
     /// The files of this system, with no call so far.
-    pub fn new(system: R) -> HostSystem<R> {
+    pub fn new(system: R) -> HostSystem<R>
+        ensures system { result.system ≡ system }
+        ensures failures { result.failures ≡ 0 }
+        ensures reason { result.reason ≡ None }
+    {
         HostSystem {
             system,
             failures: 0,
+            reason: None,
+        }
+    }
+
+    /// Why the call that failed last did, where one failed and the system said why.
+    pub fn reason(&self) -> Option<io::Error>
+        ensures { result ≡ self.now.reason }
+    {
+        self.reason
+    }
+
+    /// Keeps why a call failed, unless it is this reason, which is an answer.
+    fn keep<T>(&mut self, outcome: &io::Result<T>, answer: Option<ErrorKind>)
+        ensures { self.new.failures ≡ self.old.failures }
+    {
+        if let Err(error) = outcome {
+            if answer != Some(error.kind()) {
+                self.reason = Some(*error);
+            }
         }
     }
 
@@ -111,53 +140,64 @@ impl<R: rt::Files + Drop> System for HostSystem<R> {
     ghost new_names = { λ _. tt };
 
     fn look(&mut self, name: &str) -> Result<Entry, CallFailed> {
-        let entry = entry_of(fs::symlink_metadata(&self.system, name));
+        let metadata = fs::symlink_metadata(&self.system, name);
+        self.keep(&metadata, Some(ErrorKind::NotFound));
+        let entry = entry_of(metadata);
         self.count(entry)
     }
 
     fn read_link(&mut self, alloc: Global, name: &str) -> Result<String, CallFailed> {
-        let text = text_of(alloc, self.system.read_link(alloc, name));
+        let path = self.system.read_link(alloc, name);
+        self.keep(&path, None);
+        let text = text_of(alloc, path);
         self.count(text)
     }
 
     fn open(&mut self, name: &str) -> Result<R::File, CallFailed> {
         match fs::open(&self.system, name) {
             Ok(file) => Ok(file),
-            Err(_) => self.count(Err(CallFailed)),
+            Err(error) => {
+                self.reason = Some(error);
+                self.count(Err(CallFailed))
+            }
         }
     }
 
     fn open_to_write(&mut self, name: &str) -> Result<Option<R::File>, CallFailed> {
         let file = OpenOptions::new().write(true).open(&self.system, name);
+        self.keep(&file, Some(ErrorKind::NotFound));
         let outcome = opened(file, ErrorKind::NotFound);
         self.count(outcome)
     }
 
     fn stat(&mut self, file: &R::File) -> Result<Seen, CallFailed> {
-        let seen = seen_of(file.metadata());
+        let metadata = file.metadata();
+        self.keep(&metadata, None);
+        let seen = seen_of(metadata);
         self.count(seen)
     }
 
     fn read_some(&mut self, file: &mut R::File, buffer: &mut [u8]) -> Result<usize, CallFailed> {
         match read_some(file, buffer) {
             Ok(count) => Ok(count),
-            Err(Failed) => self.count(Err(CallFailed)),
+            Err(error) => {
+                self.reason = Some(error);
+                self.count(Err(CallFailed))
+            }
         }
     }
 
     fn make(&mut self, name: &str) -> Result<Option<R::File>, CallFailed> {
-        let made = opened(
-            File::create_new(&self.system, name),
-            ErrorKind::AlreadyExists,
-        );
-        if matches!(made, Ok(None)) {
-            self.count_failure();
-        }
-        self.count(made)
+        let file = File::create_new(&self.system, name);
+        self.keep(&file, Some(ErrorKind::AlreadyExists));
+        let outcome = opened(file, ErrorKind::AlreadyExists);
+        self.count(outcome)
     }
 
     fn set_mode(&mut self, file: &mut R::File, mode: u32) -> Result<(), CallFailed> {
-        let outcome = done(file.set_permissions(Permissions::from_mode(mode)));
+        let outcome = file.set_permissions(Permissions::from_mode(mode));
+        self.keep(&outcome, None);
+        let outcome = done(outcome);
         self.count(outcome)
     }
 
@@ -168,22 +208,31 @@ impl<R: rt::Files + Drop> System for HostSystem<R> {
                 Ok(0)
             }
             Ok(count) => Ok(count),
-            Err(Failed) => self.count(Err(CallFailed)),
+            Err(error) => {
+                self.reason = Some(error);
+                self.count(Err(CallFailed))
+            }
         }
     }
 
     fn sync(&mut self, file: &mut R::File) -> Result<(), CallFailed> {
-        let outcome = done(file.sync_all());
+        let outcome = file.sync_all();
+        self.keep(&outcome, None);
+        let outcome = done(outcome);
         self.count(outcome)
     }
 
     fn rename(&mut self, from: &str, to: &str) -> Result<(), CallFailed> {
-        let outcome = done(fs::rename(&self.system, from, to));
+        let outcome = fs::rename(&self.system, from, to);
+        self.keep(&outcome, None);
+        let outcome = done(outcome);
         self.count(outcome)
     }
 
     fn remove(&mut self, name: &str) -> Result<(), CallFailed> {
-        let outcome = done(fs::remove_file(&self.system, name));
+        let outcome = fs::remove_file(&self.system, name);
+        self.keep(&outcome, None);
+        let outcome = done(outcome);
         self.count(outcome)
     }
 }

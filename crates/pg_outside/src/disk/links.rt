@@ -1,16 +1,16 @@
 //! The folder of a name, and what a name stands for once its links are followed.
 ghost use Rattle.std.specs.Prelude.{◌≡◌, ◌≤◌, IfOk, IsErrOf, string_bytes};
 ghost use Rattle.pg_outside.specs.Faults.{Rose};
-ghost use Rattle.pg_outside.specs.Disk.{Keeps, Now};
-ghost use Rattle.pg_outside.specs.NewNames.{IsFolderOf, IsJoined};
-ghost use Rattle.pg_outside.specs.DiskWrites.{IsLink, StandsFor};
+ghost use Rattle.pg_outside.specs.Inside.Disk.{Keeps, Now};
+ghost use Rattle.pg_outside.specs.Inside.NewNames.{IsFolderOf, IsJoined};
+ghost use Rattle.pg_outside.specs.Inside.DiskWrites.{IsDeep, StandsFor};
 
 use super::error::WriteError;
-use super::system::{Entry, System};
+use super::system::{Entry, FileId, System};
 use std::alloc::{AllocError, Global};
 
-/// How many links are followed, one after the other.
-const LINKS: u32 = 40;
+/// How many names are looked at: a name, and those that up to 40 links say, one after the other.
+const NAMES: u32 = 41;
 
 /// The folder of a name with its last slash, and nothing where the name has no slash.
 pub(crate) fn folder_of(name: &str) -> &str
@@ -33,17 +33,24 @@ fn joined(alloc: Global, link: &str, text: &str) -> Result<String, AllocError>
     format!(in alloc; "{folder}{text}")
 }
 
-/// A name, and what it is.
+/// A name that is no link, and the file that it leads to, if there is one.
 #[derive(Drop)]
 pub(crate) struct Found {
     pub name: String,
-    pub entry: Entry,
+    pub file: Option<FileId>,
+}
+
+fn make_found(name: String, file: Option<FileId>) -> Found
+    ensures name { string_bytes result.name ≡ string_bytes name }
+    ensures file { result.file ≡ file }
+{
+    Found { name, file }
 }
 
 /// Follows the links of a name, up to what is none.
 ///
 /// # Errors
-/// `Unfollowed` where the name is the first of more links than are followed.
+/// `Unfollowed` where the name begins a row of more links than are followed.
 pub(crate) fn find<S: System>(
     alloc: Global,
     system: &mut S,
@@ -51,20 +58,24 @@ pub(crate) fn find<S: System>(
 ) -> Result<Found, WriteError>
     ensures same { Keeps (S.told system.old) (S.told system.new) }
     ensures found { IfOk result (λ found. Now (S.told system.new)
-        (StandsFor (string_bytes found.name) found.entry name.now)) }
+        (StandsFor (string_bytes found.name) found.file name.now)) }
     ensures later { S.failures system.old ≤ S.failures system.new }
-    ensures failed { IsErrOf result WriteError.Failed → Rose (S.failures system.old) (S.failures system.new) }
-    ensures unfollowed { IsErrOf result WriteError.Unfollowed → Now (S.told system.new) (IsLink name.now) }
+    ensures failed { IsErrOf result WriteError.Failed
+        → Rose (S.failures system.old) (S.failures system.new) }
+    ensures unfollowed { IsErrOf result WriteError.Unfollowed
+        → Now (S.told system.new) (IsDeep name.now) }
     ensures not_kept { IsErrOf result WriteError.Kept → ⊥ }
+    ensures not_taken { IsErrOf result WriteError.Taken → ⊥ }
 {
     let mut real = String::from_str(alloc, name)?;
-    for _ in 0..LINKS {
+    for _ in 0..NAMES {
         match system.look(real.as_str())? {
             Entry::Link => {
                 let text = system.read_link(alloc, real.as_str())?;
                 real = joined(alloc, real.as_str(), text.as_str())?;
             }
-            entry => return Ok(Found { name: real, entry }),
+            Entry::Missing => return Ok(make_found(real, None)),
+            Entry::File(id) => return Ok(make_found(real, Some(id))),
         }
     }
     Err(WriteError::Unfollowed)

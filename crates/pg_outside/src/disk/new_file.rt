@@ -1,9 +1,10 @@
 //! A new file takes the place of an old one as a whole, or not at all.
 ghost use Rattle.std.specs.Prelude.{◌≡◌, ◌≢◌, ◌≤◌, OnOk, OnErr, IfOk, IsErrOf, string_bytes};
 ghost use Rattle.pg_outside.specs.Faults.{Rose};
-ghost use Rattle.pg_outside.specs.Disk.{Keeps, Steps, Made, Wrote, Disturbed};
-ghost use Rattle.pg_outside.specs.Moments.{Runs, HasMode, Filled, PlacedAs, InPlacing, WhereDirect, AtMoment, IsWritten, IsAsBefore};
-ghost use Rattle.pg_outside.specs.NewNames.{IsNewName};
+ghost use Rattle.pg_outside.specs.Inside.Disk.{Keeps, Steps, Now, Made, Wrote, WrotePart, Disturbed};
+ghost use Rattle.pg_outside.specs.Inside.Moments.{Runs, HasMode, Filled, PlacedAs, InPlacing, WhereDirect, AtMoment, IsWritten, IsAsBefore};
+ghost use Rattle.pg_outside.specs.Inside.NewNames.{IsNewName};
+ghost use Rattle.pg_outside.specs.Inside.DiskWrites.{AllTaken};
 
 use super::error::WriteError;
 use super::links::folder_of;
@@ -35,7 +36,9 @@ fn make_beside<S: System>(
     ensures own { IfOk result (λ made. IsNewName (string_bytes made.own) name.now) }
     ensures apart { IfOk result (λ made. string_bytes made.own ≢ name.now) }
     ensures later { S.failures system.old ≤ S.failures system.new }
-    ensures failed { IsErrOf result WriteError.Failed → Rose (S.failures system.old) (S.failures system.new) }
+    ensures failed { IsErrOf result WriteError.Failed
+        → Rose (S.failures system.old) (S.failures system.new) }
+    ensures taken { IsErrOf result WriteError.Taken → Now (S.told system.new) (AllTaken name.now) }
     ensures not_kept { IsErrOf result WriteError.Kept → ⊥ }
     ensures not_unfollowed { IsErrOf result WriteError.Unfollowed → ⊥ }
 {
@@ -49,7 +52,7 @@ fn make_beside<S: System>(
             return Ok(NewFile { file, own });
         }
     }
-    Err(WriteError::Failed)
+    Err(WriteError::Taken)
 }
 
 /// Writes all bytes, in as many calls as it takes.
@@ -60,9 +63,9 @@ pub(crate) fn write_all<S: System>(
 ) -> Result<(), CallFailed>
     ensures file { S.id file.new ≡ S.id file.old }
     ensures ok { OnOk result (Runs (S.told system.old) (S.told system.new)
-        (Disturbed (S.id file.old)) (Wrote (S.id file.old) bytes.now)) }
+        (WrotePart (S.id file.old) bytes.now) (Wrote (S.id file.old) bytes.now)) }
     ensures err { OnErr result (Runs (S.told system.old) (S.told system.new)
-        (Disturbed (S.id file.old)) (Disturbed (S.id file.old))) }
+        (WrotePart (S.id file.old) bytes.now) (WrotePart (S.id file.old) bytes.now)) }
     ensures later { S.failures system.old ≤ S.failures system.new }
     ensures failed { OnErr result (Rose (S.failures system.old) (S.failures system.new)) }
 {
@@ -160,7 +163,11 @@ pub(crate) fn replace<S: System>(
         (WhereDirect name.now (AtMoment name.now bytes.now mode))
         (WhereDirect name.now (IsAsBefore name.now))) }
     ensures later { S.failures system.old ≤ S.failures system.new }
-    ensures failed { IsErrOf result WriteError.Failed → Rose (S.failures system.old) (S.failures system.new) }
+    ensures failed { IsErrOf result WriteError.Failed
+        → Rose (S.failures system.old) (S.failures system.new) }
+    ensures taken { IsErrOf result WriteError.Taken → Now (S.told system.new) (AllTaken name.now) }
+    ensures taken_same { IsErrOf result WriteError.Taken
+        → Keeps (S.told system.old) (S.told system.new) }
     ensures not_kept { IsErrOf result WriteError.Kept → ⊥ }
     ensures not_unfollowed { IsErrOf result WriteError.Unfollowed → ⊥ }
 {

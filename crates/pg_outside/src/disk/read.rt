@@ -1,8 +1,8 @@
 //! A file is read to its end, up to a limit.
 ghost use Rattle.std.specs.Prelude.{◌≡◌, ◌+◌, ◌-◌, ◌^◌, ◌<◌, ◌≤◌, [], length, OnOk, IfOk, IsErrOf};
 ghost use Rattle.pg_outside.specs.Faults.{Rose};
-ghost use Rattle.pg_outside.specs.Disk.{Keeps, Now};
-ghost use Rattle.pg_outside.specs.DiskReads.{IsAllOf, IsFrontOf};
+ghost use Rattle.pg_outside.specs.Inside.Disk.{Keeps, Now};
+ghost use Rattle.pg_outside.specs.Inside.DiskReads.{IsAllOf, IsFrontOf};
 
 use super::system::System;
 use crate::outside::ReadError;
@@ -27,7 +27,8 @@ pub(crate) fn read_within<S: System>(
     ensures front { IsErrOf result ReadError.TooLong
         → Now (S.told system.new) (IsFrontOf (S.id file.old) limit into.new.items) }
     ensures later { S.failures system.old ≤ S.failures system.new }
-    ensures failed { IsErrOf result ReadError.Failed → Rose (S.failures system.old) (S.failures system.new) }
+    ensures failed { IsErrOf result ReadError.Failed
+        → Rose (S.failures system.old) (S.failures system.new) }
 {
     let mut piece = [0u8; PIECE];
     while into.len() <= limit {

@@ -1,8 +1,8 @@
 //! A system of files, whose every call is one call of the operating system.
-ghost use Rattle.std.specs.Prelude.{◌≡◌, ℕ, ◌+◌, ◌-◌, ◌^◌, ◌<◌, ◌≤◌, List, take, length, Option, Some, None, MatchOption, OnOk, OnErr, IfOk, IfNone, string_bytes};
+ghost use Rattle.std.specs.Prelude.{◌≡◌, ℕ, ◌+◌, ◌-◌, ◌^◌, ◌<◌, ◌≤◌, List, take, length, Option, Some, None, MatchOption, OnOk, OnErr, IfOk, IfSome, IfNone, string_bytes};
 ghost use Rattle.pg_outside.specs.declared.disk.system.FileId.{FileId};
 ghost use Rattle.pg_outside.specs.Faults.{Rose};
-ghost use Rattle.pg_outside.specs.Disk.{Told, Keeps, Steps, Now, Made, Wrote, Disturbed, Stored, GotMode, Renamed, RemovedName, Refused, IsEntry, IsFollowedBy, IsOpened, LeadsToNone, IsStat, HasPiece, KnowsPlain, KnowsNewNames};
+ghost use Rattle.pg_outside.specs.Inside.Disk.{Told, Keeps, Steps, Now, Made, Wrote, WrotePart, Disturbed, Stored, GotMode, Renamed, RemovedName, Refused, IsTaken, IsEntry, IsFollowedBy, IsOpened, IsWritable, LeadsToNone, IsStat, HasPiece, KnowsPlain, KnowsNewNames};
 
 use std::alloc::Global;
 use std::io;
@@ -71,7 +71,8 @@ pub trait System {
     /// The text of a link. It is a name, seen from the folder of the link.
     fn read_link(&mut self, alloc: Global, name: &str) -> Result<String, CallFailed>
         ensures same { Keeps (told self.old) (told self.new) }
-        ensures text { IfOk result (λ text. Now (told self.new) (IsFollowedBy name.now (string_bytes text))) }
+        ensures text { IfOk result
+            (λ text. Now (told self.new) (IsFollowedBy name.now (string_bytes text))) }
         ensures later { failures self.old ≤ failures self.new }
         ensures failed { OnErr result (Rose (failures self.old) (failures self.new)) };
 
@@ -84,11 +85,14 @@ pub trait System {
         ensures failed { OnErr result (Rose (failures self.old) (failures self.new)) };
 
     /// Opens the file that the name leads to, to be written behind its bytes. `None` comes where it
-    /// leads to none.
+    /// leads to none. A file that may not be written is not opened.
     fn open_to_write(&mut self, name: &str) -> Result<Option<Self::File>, CallFailed>
         ensures same { Keeps (told self.old) (told self.new) }
-        ensures opened { IfOk result (λ opened. MatchOption opened (Now (told self.new) (LeadsToNone name.now))
+        ensures opened { IfOk result
+            (λ opened. MatchOption opened (Now (told self.new) (LeadsToNone name.now))
             (λ file. Now (told self.new) (IsOpened name.now (id file)))) }
+        ensures writable { IfOk result (λ opened. IfSome opened (λ file.
+            Now (told self.new) (IsWritable (id file)))) }
         ensures later { failures self.old ≤ failures self.new }
         ensures failed { OnErr result (Rose (failures self.old) (failures self.new)) };
 
@@ -105,44 +109,50 @@ pub trait System {
         ensures file { id file.new ≡ id file.old }
         ensures bound { IfOk result (λ count. count ≤ length buffer.old) }
         ensures bytes { IfOk result (λ count. Now (told self.new)
-            (HasPiece (id file.old) (at file.old) (at file.new) count (length buffer.old) buffer.new)) }
+            (HasPiece (id file.old) (at file.old)
+            (at file.new) count (length buffer.old) buffer.new)) }
         ensures later { failures self.old ≤ failures self.new }
         ensures failed { OnErr result (Rose (failures self.old) (failures self.new)) };
 
-    /// Makes a regular file under a name that is none. `None` comes where the name is taken, which
-    /// is a call that failed.
+    /// Makes a regular file under a name that is none. `None` comes where the name is taken.
     fn make(&mut self, name: &str) -> Result<Option<Self::File>, CallFailed>
         ensures ok { IfOk result (λ made. MatchOption made (Keeps (told self.old) (told self.new))
             (λ file. Steps (told self.old) (told self.new) (Made name.now (id file)))) }
         ensures err { OnErr result (Keeps (told self.old) (told self.new)) }
         ensures later { failures self.old ≤ failures self.new }
-        ensures taken { IfOk result (λ made. IfNone made (Rose (failures self.old) (failures self.new))) }
+        ensures taken { IfOk result (λ made. IfNone made (Now (told self.new) (IsTaken name.now))) }
         ensures failed { OnErr result (Rose (failures self.old) (failures self.new)) };
 
     /// Gives the file these permissions.
     fn set_mode(&mut self, file: &mut Self::File, mode: u32) -> Result<(), CallFailed>
         ensures file { id file.new ≡ id file.old }
-        ensures ok { OnOk result (Steps (told self.old) (told self.new) (GotMode (id file.old) mode)) }
-        ensures err { OnErr result (Steps (told self.old) (told self.new) (Disturbed (id file.old))) }
+        ensures ok { OnOk result
+            (Steps (told self.old) (told self.new) (GotMode (id file.old) mode)) }
+        ensures err { OnErr result
+            (Steps (told self.old) (told self.new) (Disturbed (id file.old))) }
         ensures later { failures self.old ≤ failures self.new }
         ensures failed { OnErr result (Rose (failures self.old) (failures self.new)) };
 
-    /// Appends some of the bytes. A call that takes none of them failed.
+    /// Appends some of the bytes. A call that takes none of them failed. One that gives no number
+    /// may have appended a first part.
     fn write_some(&mut self, file: &mut Self::File, bytes: &[u8]) -> Result<usize, CallFailed>
         ensures file { id file.new ≡ id file.old }
         ensures bound { IfOk result (λ count. count ≤ length bytes.now) }
         ensures ok { IfOk result (λ count.
             Steps (told self.old) (told self.new) (Wrote (id file.old) (take count bytes.now))) }
-        ensures err { OnErr result (Steps (told self.old) (told self.new) (Disturbed (id file.old))) }
+        ensures err { OnErr result
+            (Steps (told self.old) (told self.new) (WrotePart (id file.old) bytes.now)) }
         ensures later { failures self.old ≤ failures self.new }
-        ensures none { IfOk result (λ count. count ≡ 0 → Rose (failures self.old) (failures self.new)) }
+        ensures none { IfOk result
+            (λ count. count ≡ 0 → Rose (failures self.old) (failures self.new)) }
         ensures failed { OnErr result (Rose (failures self.old) (failures self.new)) };
 
     /// Waits until the device has the file.
     fn sync(&mut self, file: &mut Self::File) -> Result<(), CallFailed>
         ensures file { id file.new ≡ id file.old }
         ensures ok { OnOk result (Steps (told self.old) (told self.new) (Stored (id file.old))) }
-        ensures err { OnErr result (Steps (told self.old) (told self.new) (Disturbed (id file.old))) }
+        ensures err { OnErr result
+            (Steps (told self.old) (told self.new) (Disturbed (id file.old))) }
         ensures later { failures self.old ≤ failures self.new }
         ensures failed { OnErr result (Rose (failures self.old) (failures self.new)) };
 
@@ -156,7 +166,7 @@ pub trait System {
     /// Takes the name away.
     fn remove(&mut self, name: &str) -> Result<(), CallFailed>
         ensures ok { OnOk result (Steps (told self.old) (told self.new) (RemovedName name.now)) }
-        ensures err { OnErr result (Steps (told self.old) (told self.new) Refused) }
+        ensures err { OnErr result (Steps (told self.old) (told self.new) (Refused name.now)) }
         ensures later { failures self.old ≤ failures self.new }
         ensures failed { OnErr result (Rose (failures self.old) (failures self.new)) };
 

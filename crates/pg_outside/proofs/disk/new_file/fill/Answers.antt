@@ -5,10 +5,10 @@ use Rattle.pg_outside.proofs.disk.new_file.fill.Goals as goal
 
 pub returns-in_err-write_all-clause-err : goal.returns-in_err-write_all-clause-err
 returns-in_err-write_all-clause-err g c =
-    on_err c.from_residual-in_err-write_all.result (mode_then_failed _ _ _ _ _ _ c.in_ok-keep_mode.ensures.ok c.keep_mode.ensures.file c.in_err-write_all.ensures.err)
+    on_err c.from_residual-in_err-write_all.result (mode_then_failed _ _ c.args.mode c.args.bytes.now _ _ _ c.in_ok-keep_mode.ensures.ok c.keep_mode.ensures.file c.in_err-write_all.ensures.err)
 
 pub returns-clause-ok : goal.returns-clause-ok
-returns-clause-ok g c = on_ok_weaker c.sync.result (λ steps. fills _ _ _ _ _ _ _ _ _ c.in_ok-keep_mode.ensures.ok c.keep_mode.ensures.file c.in_ok-write_all.ensures.ok c.write_all.ensures.file steps) c.sync.ensures.ok
+returns-clause-ok g c = on_ok_weaker c.sync.result (λ steps. fills _ _ _ c.args.mode c.args.bytes.now _ _ _ _ c.in_ok-keep_mode.ensures.ok c.keep_mode.ensures.file c.in_ok-write_all.ensures.ok c.write_all.ensures.file steps) c.sync.ensures.ok
 
 pub returns-clause-err : goal.returns-clause-err
-returns-clause-err g c = on_err_weaker c.sync.result (λ steps. fill_fails _ _ _ _ _ _ _ _ _ c.in_ok-keep_mode.ensures.ok c.keep_mode.ensures.file c.in_ok-write_all.ensures.ok c.write_all.ensures.file steps) c.sync.ensures.err
+returns-clause-err g c = on_err_weaker c.sync.result (λ steps. fill_fails _ _ _ c.args.mode c.args.bytes.now _ _ _ _ c.in_ok-keep_mode.ensures.ok c.keep_mode.ensures.file c.in_ok-write_all.ensures.ok c.write_all.ensures.file steps) c.sync.ensures.err

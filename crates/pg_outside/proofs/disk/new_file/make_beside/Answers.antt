@@ -1,17 +1,19 @@
-use Rattle.std.proofs.Common.{◌≡◌, ◌∙◌, refl, sym, string_bytes, rules, arith}
+use Rattle.std.proofs.Common.{◌≡◌, ◌∙◌, None, refl, sym, string_bytes, rules, arith}
 use Rattle.std.proofs.lemmas.Grind.{common_steps}
 use Rattle.std.proofs.lemmas.Slice.Eq.{bytes_eq-Decides}
-use Rattle.pg_outside.proofs.NewNameLoop.{name_at, skipped}
+use Rattle.pg_outside.specs.Inside.NewNames.{new_name}
+use Rattle.pg_outside.proofs.NewNameLoop.{skipped, taken, all_taken}
+use Rattle.pg_outside.proofs.Runs.{keeps_both}
 use Rattle.pg_outside.proofs.disk.new_file.make_beside.Goals as goal
 
 pub loop-number-preserved-then-eq : goal.loop-number-preserved-then-eq
 loop-number-preserved-then-eq g c =
-    let own : string_bytes c.in_ok-own.own ≡ name_at c.folder_of-folder.result.now c.loop-number.number-counter = first_of (search (rules, c.in_ok-own.ensures.ok), grind (arith, common_steps, c.in_ok-own.ensures.ok)) in
+    let own : string_bytes c.in_ok-own.own ≡ new_name c.folder_of-folder.result.now c.loop-number.number-counter = first_of (search (rules, c.in_ok-own.ensures.ok), grind (arith, common_steps, c.in_ok-own.ensures.ok)) in
     let same : string_bytes c.in_ok-own.own ≡ c.args.name.now = grind (arith, common_steps, bytes_eq-Decides) in
     record {
       same = c.loop-number.invariant.same;
       later = c.loop-number.invariant.later;
-      tried = skipped _ _ _ _ c.loop-number.number-counter _ refl c.loop-number.invariant.tried (sym own ∙ same);
+      tried = skipped _ _ _ c.loop-number.number-counter _ refl c.loop-number.invariant.tried (sym own ∙ same);
     }
 
 pub returns-in-Some-clause-own : goal.returns-in-Some-clause-own
@@ -22,5 +24,18 @@ returns-in-Some-clause-own g c = record {
   is = first_of (search (rules, c.in_ok-own.ensures.ok), grind (arith, common_steps, c.in_ok-own.ensures.ok));
 }
 
-pub returns-clause-failed : goal.returns-clause-failed
-returns-clause-failed g c = λ _. c.loop-number.invariant.tried.more (omega arith)
+pub returns-clause-taken : goal.returns-clause-taken
+returns-clause-taken g c = λ _. all_taken _ _ _ _ c.folder_of-folder.ensures (omega arith) c.loop-number.invariant.tried
+
+pub loop-number-preserved : goal.loop-number-preserved
+loop-number-preserved g c =
+    let own : string_bytes c.in_ok-own.own ≡ new_name c.folder_of-folder.result.now c.loop-number.number-counter = first_of (search (rules, c.in_ok-own.ensures.ok), grind (arith, common_steps, c.in_ok-own.ensures.ok)) in
+    let none : c.in_ok-file.field-0 ≡ None = grind (arith, common_steps, c.in_default.is, c.in_default.not-Some) in
+    let same = rw none at c.in_ok-file.ensures.ok in
+    let is_taken = rw none at c.in_ok-file.ensures.taken in
+    let before = c.loop-number.invariant.later in
+    record {
+      same = keeps_both _ _ _ c.loop-number.invariant.same same;
+      later = omega (arith, c.make.ensures.later);
+      tried = taken _ _ _ _ _ c.loop-number.number-counter _ same refl (c.as_str-in-loop-number.ensures.value ∙ own) c.loop-number.invariant.tried is_taken;
+    }

@@ -3,9 +3,10 @@ use Rattle.pg_outside.proofs.disk.new_file.replace.Goals as goal
 
 pub returns-in-Ok-clause-ok : goal.returns-in-Ok-clause-ok
 returns-in-Ok-clause-ok g c =
-    replaces _ _ _ _ _ _ _ _ _ (record { is_new = c.in_ok-new.ensures.own; apart = c.in_ok-new.ensures.apart }) (g.met.S.System.new_names c.args.system.now) c.in_ok-new.ensures.ok c.in-Ok.ensures.ok
+    replaces _ _ c.args.bytes.now c.args.mode _ _ _ _ _ (record { is_new = c.in_ok-new.ensures.own; apart = c.in_ok-new.ensures.apart }) (g.met.S.System.new_names c.args.system.now) c.in_ok-new.ensures.ok c.in-Ok.ensures.ok
 
 pub returns-clause-err : goal.returns-clause-err
 returns-clause-err g c =
     let ok = rw (c.as_str.ensures.value, c.place.ensures.own) at c.remove.ensures.ok in
-    gave_up c.remove.result _ _ _ _ _ _ _ _ _ (record { is_new = c.in_ok-new.ensures.own; apart = c.in_ok-new.ensures.apart }) (g.met.S.System.new_names c.args.system.now) c.in_ok-new.ensures.ok c.in-Err.ensures.err ok c.remove.ensures.err
+    let err = rw (c.as_str.ensures.value, c.place.ensures.own) at c.remove.ensures.err in
+    gave_up c.remove.result _ _ c.args.bytes.now c.args.mode _ _ _ _ _ (record { is_new = c.in_ok-new.ensures.own; apart = c.in_ok-new.ensures.apart }) (g.met.S.System.new_names c.args.system.now) c.in_ok-new.ensures.ok c.in-Err.ensures.err ok err

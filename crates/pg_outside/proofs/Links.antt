@@ -1,0 +1,58 @@
+-- What following one link after the other has come to.
+use Rattle.std.proofs.Common.{◌≡◌, ◌+◌, ◌<◌, ◌≤◌, ⊎_elim, ℕ, suc, List, false, true, Option, Some, None, refl, sym, ap, subst, ◌∙◌, arith, add-one}
+use Rattle.pg_outside.specs.Inside.Disk.{Disk, Told, AreOne, Keeps, Now, IsEntry, IsFollowedBy}
+use Rattle.pg_outside.specs.Inside.DiskWrites.{followed, IsDeep, StandsFor}
+use Rattle.pg_outside.specs.Inside.NewNames.{IsJoined}
+use Rattle.pg_outside.specs.declared.disk.system.Entry.TheVariants.{Missing, Link, File}
+use Rattle.pg_outside.specs.declared.disk.system.FileId.{FileId}
+use Rattle.pg_outside.proofs.NewNameLoop.{below_or_last}
+use Rattle.pg_outside.proofs.Runs.{keeps_now, now_both, now_weaker, now_always}
+
+-- the name was reached by so many links, and stands for what the first stands for
+pub record IsReached (name real : List ℕ) (count : ℕ) (disk : Disk) : Type 0 where
+  pub one : AreOne disk real name
+  pub at : real ≡ followed disk count name
+  pub links : (before : ℕ) → before < count → disk.links.is_link (followed disk before name) ≡ true
+
+pub not_followed : (told : Option Told) (name real : List ℕ) → real ≡ name → Now told (IsReached name real 0)
+not_followed told name real is = subst (λ (n : List ℕ). Now told (IsReached name n 0)) (sym is)
+    (now_always (IsReached name name 0) told (λ d. record { one = refl; at = refl; links = λ before below. absurd (omega arith) }))
+
+reached : (name real text joined : List ℕ) (count : ℕ) (d : Disk) → IsReached name real count d → d.links.is_link real ≡ true → IsFollowedBy real text d → IsJoined real text joined → IsReached name joined (count + 1) d
+reached name real text joined count d so_far link text_of is_joined =
+    let said = text_of joined is_joined in
+    record {
+      one = said.1 ∙ so_far.one;
+      at = said.0 ∙ ap (λ (n : List ℕ). d.links.next n) so_far.at ∙ sym (ap (λ (k : ℕ). followed d k name) (add-one count));
+      links = λ before below. ⊎_elim
+          (λ (earlier : before < count). so_far.links before earlier)
+          (λ (last : before ≡ count). ap (λ (k : ℕ). d.links.is_link (followed d k name)) last ∙ ap (λ (n : List ℕ). d.links.is_link n) (sym so_far.at) ∙ link)
+          (below_or_last before count below);
+    }
+
+-- one more link
+pub reached_on : (name real text joined : List ℕ) (count next : ℕ) (a b c : Option Told) → Now a (IsReached name real count) → Keeps a b → Now b (IsEntry real Link) → Keeps b c → Now c (IsFollowedBy real text) → IsJoined real text joined → next ≡ count + 1 → Now c (IsReached name joined next)
+reached_on name real text joined count next a b c so_far ab link bc text_of is_joined is =
+    subst (λ (k : ℕ). Now c (IsReached name joined k)) (sym is)
+    (now_weaker _ _ c (now_both _ _ c (keeps_now _ b c (now_both _ _ b (keeps_now _ a b so_far ab) link) bc) text_of)
+    (λ d p. reached name real text joined count d p.0.0 p.0.1 p.1 is_joined))
+
+-- the links end at a name of no file
+pub stands_none : (name real found : List ℕ) (file : Option FileId) (count : ℕ) (a b : Option Told) → Now a (IsReached name real count) → Keeps a b → Now b (IsEntry real Missing) → found ≡ real → file ≡ None → Now b (StandsFor found file name)
+stands_none name real found file count a b so_far ab entry same none =
+    subst (λ (n : List ℕ). Now b (StandsFor n file name)) (sym same)
+    (subst (λ (f : Option FileId). Now b (StandsFor real f name)) (sym none)
+    (now_weaker _ _ b (now_both _ _ b (keeps_now _ a b so_far ab) entry) (λ d p. record { direct = p.1.0; leads = p.1.1; one = p.0.one })))
+
+-- the links end at a name of a file
+pub stands_some : (name real found : List ℕ) (id : FileId) (file : Option FileId) (count : ℕ) (a b : Option Told) → Now a (IsReached name real count) → Keeps a b → Now b (IsEntry real (File id)) → found ≡ real → file ≡ Some id → Now b (StandsFor found file name)
+stands_some name real found id file count a b so_far ab entry same some =
+    subst (λ (n : List ℕ). Now b (StandsFor n file name)) (sym same)
+    (subst (λ (f : Option FileId). Now b (StandsFor real f name)) (sym some)
+    (now_weaker _ _ b (now_both _ _ b (keeps_now _ a b so_far ab) entry) (λ d p. record { direct = p.1.0; leads = p.1.1; one = p.0.one })))
+
+below_all : (m n : ℕ) → m < 41 → 41 ≤ n → m < n
+below_all m n below all = omega arith
+
+pub is_deep : (name real : List ℕ) (count : ℕ) (a : Option Told) → 41 ≤ count → Now a (IsReached name real count) → Now a (IsDeep name)
+is_deep name real count a all so_far = now_weaker _ _ a so_far (λ d p before below. p.links before (below_all before count below all))

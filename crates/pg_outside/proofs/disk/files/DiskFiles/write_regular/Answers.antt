@@ -1,0 +1,23 @@
+use Rattle.std.proofs.lemmas.Result.{on_err_weaker, on_ok_weaker}
+use Rattle.pg_outside.specs.Inside.DiskWrites.{IsDeep}
+use Rattle.pg_outside.proofs.DiskWriting.{leads_old, no_other, is_full, replaces_found, replace_found_fails}
+use Rattle.pg_outside.proofs.disk.files.DiskFiles.write_regular.Goals as goal
+
+pub returns-in_err-mode-clause-unfollowed : goal.returns-in_err-mode-clause-unfollowed
+returns-in_err-mode-clause-unfollowed g c =
+    λ _. no_other _ c.args.name.now _ c.args.old (IsDeep c.args.name.now) _ _ c.requires.old c.find.ensures.same c.in_ok-found.ensures.found c.in_err-mode.ensures.other
+
+pub returns-clause-ok : goal.returns-clause-ok
+returns-clause-ok g c =
+    let leads = leads_old _ c.args.name.now c.args.self.now.kept.items _ c.args.old c.in_ok-mode.mode _ _ c.requires.old c.find.ensures.same c.in_ok-found.ensures.found c.in_ok-mode.ensures.mode c.requires.regular c.requires.free in
+    on_ok_weaker c.replace_kept.result (λ run. replaces_found _ _ _ _ _ _ run.0 _ _ _ c.find.ensures.same leads run.1 (rw c.as_str.ensures.value at run.2)) c.replace_kept.ensures.ok
+
+pub returns-clause-err : goal.returns-clause-err
+returns-clause-err g c =
+    let leads = leads_old _ c.args.name.now c.args.self.now.kept.items _ c.args.old c.in_ok-mode.mode _ _ c.requires.old c.find.ensures.same c.in_ok-found.ensures.found c.in_ok-mode.ensures.mode c.requires.regular c.requires.free in
+    on_err_weaker c.replace_kept.result (λ run. replace_found_fails _ _ _ _ _ _ _ _ c.find.ensures.same leads (rw c.as_str.ensures.value at run)) c.replace_kept.ensures.err
+
+pub returns-clause-taken : goal.returns-clause-taken
+returns-clause-taken g c = λ is.
+    let all = c.replace_kept.ensures.taken is in
+    is_full _ c.args.name.now _ _ _ c.in_ok-found.ensures.found (c.replace_kept.ensures.taken_same is) (rw c.as_str.ensures.value at all)

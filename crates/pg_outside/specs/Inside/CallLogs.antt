@@ -1,0 +1,8 @@
+-- A call that is made, as a call on files.
+use Rattle.pg_outside.specs.FilesCalls.{FilesCall, Reads, Writes}
+use Rattle.pg_outside.specs.declared.call_log.Call.{Call}
+use Rattle.pg_outside.specs.declared.call_log.Call.TheVariants as call
+
+abbrev pub called : Call → FilesCall
+called (call.Read name) = Reads name.now
+called (call.Write name) = Writes name.now

@@ -1,0 +1,233 @@
+-- What a disk holds, and what a call may change of it.
+use Rattle.std.specs.Prelude.{◌≡◌, ◌≢◌, ℕ, ◌+◌, ◌<◌, ◌≤◌, List, [], take, drop, length, ◌∷◌, ◌++◌, Bool, true, false, Option, Some, None, MatchOption, IfSome, ◌⊎◌}
+use Rattle.std.specs.Cmp.Lexicographic.{slice_cmp}
+use Rattle.std.specs.Ordering.{nat_cmp}
+use Rattle.std.specs.FinMap as fin
+use Rattle.pg_outside.specs.Inside.NewNames.{IsNewName, IsJoined}
+use Rattle.pg_outside.specs.declared.disk.system.Entry.{Entry}
+use Rattle.pg_outside.specs.declared.disk.system.Entry.TheVariants.{Missing, Link, File}
+use Rattle.pg_outside.specs.declared.disk.system.FileId.{FileId}
+use Rattle.pg_outside.specs.declared.disk.system.Seen.{Seen}
+
+-- a file: its kind, its bytes, its permissions, whether it may be written, and whether the device
+-- has all of it
+pub record Node : Type 0 where
+  pub is_regular : Bool
+  pub bytes : List ℕ
+  pub mode : ℕ
+  pub is_writable : Bool
+  pub is_stored : Bool
+
+-- what a name stands for once each link in it is followed, whether the name is a link itself, the
+-- name that a link says, the permissions of a file that is made, and whether the disk is known to
+-- have no link, no other name for one name, and no file but regular ones
+pub record Links : Type 0 where
+  pub real : List ℕ → List ℕ
+  pub is_link : List ℕ → Bool
+  pub next : List ℕ → List ℕ
+  pub new_mode : ℕ
+  pub is_plain : Bool
+
+-- the real names, each with the file that it leads to
+abbrev pub NameMap : Type 0
+NameMap = fin.FinMap (slice_cmp nat_cmp) FileId
+
+-- a disk: the links, the names, what each file is, and the names that the system refused to remove,
+-- the latest first
+pub record Disk : Type 0 where
+  pub links : Links
+  pub names : NameMap
+  pub files : FileId → Option Node
+  pub refused : List (List ℕ)
+
+-- the disk now, and the disks after the calls before, the latest first
+pub record Told : Type 0 where
+  pub now : Disk
+  pub past : List Disk
+
+-- which file the name leads to
+abbrev pub id_at : Disk → List ℕ → Option FileId
+id_at disk name = fin.get disk.names (disk.links.real name)
+
+-- what this file is, if there is one
+abbrev pub node_of : Option FileId → (FileId → Option Node) → Option Node
+node_of None files = None
+node_of (Some id) files = files id
+
+-- what the file is that the name leads to
+abbrev pub node_at : Disk → List ℕ → Option Node
+node_at disk name = node_of (id_at disk name) disk.files
+
+-- a disk that is told after the call was told before it, and is the same
+abbrev pub Keeps : Option Told → Option Told → Type 0
+Keeps old new = IfSome new (λ after. old ≡ Some after)
+
+-- the names stand for one
+abbrev pub AreOne : Disk → List ℕ → List ℕ → Type 0
+AreOne disk one other = disk.links.real one ≡ disk.links.real other
+
+-- where a disk is told, it is so
+abbrev pub Now : Option Told → (Disk → Type 0) → Type 0
+Now told P = IfSome told (λ t. P t.now)
+
+-- a call that changes the disk in this way: the disk before is kept with the past
+abbrev pub Steps : Option Told → Option Told → (Disk → Disk → Type 0) → Type 0
+Steps old new R = IfSome new (λ after. MatchOption old ⊥ (λ before.
+    (after.past ≡ before.now ∷ before.past) × R before.now after.now))
+
+-- the file of this id is this one, and all else is as before
+pub record FileSet (id : FileId) (node : Node) (old new : Disk) : Type 0 where
+  pub links : new.links ≡ old.links
+  pub names : new.names ≡ old.names
+  pub refused : new.refused ≡ old.refused
+  pub file : new.files id ≡ Some node
+  pub others : (other : FileId) → other ≢ id → new.files other ≡ old.files other
+
+-- a new file of this id stands under its own name, which no file had, and all else is as before
+pub record Beside (own : List ℕ) (id : FileId) (node : Node) (old new : Disk) : Type 0 where
+  pub links : new.links ≡ old.links
+  pub unnamed : id_at old own ≡ None
+  pub fresh : (name : List ℕ) → id_at old name ≢ Some id
+  pub named : id_at new own ≡ Some id
+  pub names : (name : List ℕ) → ¬ AreOne old name own → id_at new name ≡ id_at old name
+  pub file : new.files id ≡ Some node
+  pub others : (other : FileId) → other ≢ id → new.files other ≡ old.files other
+  pub refused : new.refused ≡ old.refused
+
+-- a new file was made, which is regular and empty
+pub record Made (own : List ℕ) (id : FileId) (old new : Disk) : Type 0 where
+  pub node : Node
+  pub is_regular : node.is_regular ≡ true
+  pub empty : node.bytes ≡ []
+  pub mode : node.mode ≡ old.links.new_mode
+  pub direct : old.links.is_link own ≡ false
+  pub beside : Beside own id node old new
+
+-- the file got these bytes behind those that it had
+abbrev pub Wrote : FileId → List ℕ → Disk → Disk → Type 0
+Wrote id bytes old new = (node : Node) → old.files id ≡ Some node
+    → (after : Node) × FileSet id after old new × (after.is_regular ≡ node.is_regular)
+    × (after.mode ≡ node.mode) × (after.bytes ≡ node.bytes ++ bytes)
+
+-- the file got a first part of these bytes behind those that it had
+abbrev pub WrotePart : FileId → List ℕ → Disk → Disk → Type 0
+WrotePart id bytes old new = (count : ℕ) × Wrote id (take count bytes) old new
+
+-- nothing but this file may have changed
+abbrev pub Disturbed : FileId → Disk → Disk → Type 0
+Disturbed id old new = (node : Node) → old.files id ≡ Some node
+    → (after : Node) × FileSet id after old new
+
+-- the device has the file
+abbrev pub Stored : FileId → Disk → Disk → Type 0
+Stored id old new = (node : Node) → old.files id ≡ Some node
+    → FileSet id (record node { is_stored = true }) old new
+
+-- the file has these permissions, by which it may be writable or not
+abbrev pub GotMode : FileId → ℕ → Disk → Disk → Type 0
+GotMode id mode old new = (node : Node) → old.files id ≡ Some node
+    → (after : Node) × FileSet id after old new × (after.is_regular ≡ node.is_regular)
+    × (after.bytes ≡ node.bytes) × (after.mode ≡ mode)
+
+-- the file of the one name now has the other name
+pub record Moved (from to : List ℕ) (old new : Disk) : Type 0 where
+  pub links : new.links ≡ old.links
+  pub moved : id_at new to ≡ id_at old from
+  pub gone : ¬ AreOne old from to → id_at new from ≡ None
+  pub names : (name : List ℕ) → ¬ AreOne old name from
+      → ¬ AreOne old name to → id_at new name ≡ id_at old name
+  pub files : (other : FileId) → new.files other ≡ old.files other
+  pub refused : new.refused ≡ old.refused
+
+-- where no name is a link itself, the file of the one now has the other
+abbrev pub Renamed : List ℕ → List ℕ → Disk → Disk → Type 0
+Renamed from to old new = old.links.is_link from ≡ false
+    → old.links.is_link to ≡ false → Moved from to old new
+
+-- the name is gone
+pub record Gone (own : List ℕ) (old new : Disk) : Type 0 where
+  pub links : new.links ≡ old.links
+  pub gone : id_at new own ≡ None
+  pub names : (name : List ℕ) → ¬ AreOne old name own → id_at new name ≡ id_at old name
+  pub files : (other : FileId) → new.files other ≡ old.files other
+  pub refused : new.refused ≡ old.refused
+
+-- where the name is no link itself, it is gone
+abbrev pub RemovedName : List ℕ → Disk → Disk → Type 0
+RemovedName own old new = old.links.is_link own ≡ false → Gone own old new
+
+-- the system refused to remove this name
+pub record Refused (own : List ℕ) (old new : Disk) : Type 0 where
+  pub links : new.links ≡ old.links
+  pub names : new.names ≡ old.names
+  pub files : (other : FileId) → new.files other ≡ old.files other
+  pub refused : new.refused ≡ own ∷ old.refused
+
+-- the name leads to this file
+abbrev pub LeadsTo : List ℕ → FileId → Disk → Type 0
+LeadsTo name id disk = id_at disk name ≡ Some id
+
+-- the name leads to no file
+abbrev pub LeadsToNone : List ℕ → Disk → Type 0
+LeadsToNone name disk = id_at disk name ≡ None
+
+-- the name is a link or leads to a file, so that no file can be made under it
+abbrev pub IsTaken : List ℕ → Disk → Type 0
+IsTaken name disk = (disk.links.is_link name ≡ true) ⊎ ((id : FileId) × LeadsTo name id disk)
+
+-- this is what the name is, before a link is followed
+abbrev pub IsEntry : List ℕ → Entry → Disk → Type 0
+IsEntry name Missing disk = (disk.links.is_link name ≡ false) × LeadsToNone name disk
+IsEntry name Link disk = disk.links.is_link name ≡ true
+IsEntry name (File id) disk = (disk.links.is_link name ≡ false) × LeadsTo name id disk
+
+-- the text, seen from the folder of the link, is the name that the link says, and stands for what
+-- the link stands for
+abbrev pub IsFollowedBy : List ℕ → List ℕ → Disk → Type 0
+IsFollowedBy link text disk = (joined : List ℕ) → IsJoined link text joined
+    → (joined ≡ disk.links.next link) × AreOne disk joined link
+
+-- the name leads to this file, which is there
+pub record IsOpened (name : List ℕ) (id : FileId) (disk : Disk) : Type 0 where
+  pub leads : LeadsTo name id disk
+  pub node : Node
+  pub there : disk.files id ≡ Some node
+
+-- the file may be written
+abbrev pub IsWritable : FileId → Disk → Type 0
+IsWritable id disk = (node : Node) → disk.files id ≡ Some node → node.is_writable ≡ true
+
+-- this is what the file is
+pub record IsStat (id : FileId) (seen : Seen) (disk : Disk) : Type 0 where
+  pub is : seen.id ≡ id
+  pub node : Node
+  pub there : disk.files id ≡ Some node
+  pub kind : node.is_regular ≡ seen.is_regular
+  pub mode : node.mode ≡ seen.mode
+
+-- the buffer begins with the next bytes of the file, and with none only at its end
+pub record HasPiece (id : FileId) (at next count room : ℕ)
+    (buffer : List ℕ) (disk : Disk) : Type 0 where
+  pub on : next ≡ at + count
+  pub bytes : (node : Node) → disk.files id ≡ Some node
+      → take count buffer ≡ take count (drop at node.bytes)
+  pub within : (node : Node) → disk.files id ≡ Some node → at + count ≤ length node.bytes
+  pub end : (node : Node) → disk.files id ≡ Some node
+      → count ≡ 0 → 0 < room → length node.bytes ≤ at
+
+-- no name is a link, each stands for itself, and each leads to a regular file that is there
+pub record HasNoLinks (disk : Disk) : Type 0 where
+  pub real : (name : List ℕ) → disk.links.real name ≡ name
+  pub direct : (name : List ℕ) → disk.links.is_link name ≡ false
+  pub there : (name : List ℕ) (id : FileId) → id_at disk name ≡ Some id
+      → (node : Node) × (disk.files id ≡ Some node) × (node.is_regular ≡ true)
+
+-- what `is_plain` means
+abbrev pub KnowsPlain : Disk → Type 0
+KnowsPlain disk = disk.links.is_plain ≡ true → HasNoLinks disk
+
+-- a new file's own name beside a name that is no link stands for another than that, unless it is
+-- that name
+abbrev pub KnowsNewNames : Disk → Type 0
+KnowsNewNames disk = (own name : List ℕ) → IsNewName own name → disk.links.is_link name ≡ false
+    → disk.links.is_link own ≡ false → AreOne disk own name → own ≡ name

@@ -1,0 +1,36 @@
+-- What files over a system of files show.
+use Rattle.std.specs.Prelude.{ℕ, List, [], ◌∷◌, map, Bool, true, false, cond, ◌&&◌, Option, Some, None}
+use Rattle.std.specs.FinMap as fin
+use Rattle.pg_outside.specs.Content.{FileMap}
+use Rattle.pg_outside.specs.Inside.Disk.{Node, Disk, Told}
+use Rattle.pg_outside.specs.FilesCalls.{FilesCall}
+use Rattle.pg_outside.specs.declared.disk.files.DiskFiles.{DiskFiles}
+
+abbrev pub bytes_of : Option Node → List ℕ
+bytes_of None = []
+bytes_of (Some node) = node.bytes
+
+-- the bytes of each name
+abbrev pub file_map : Disk → FileMap
+file_map disk = fin.from_entries
+    (map (λ e. (e.0, bytes_of (disk.files e.1))) (fin.entries disk.names))
+
+-- whether there is no name
+abbrev pub has_none : List (List ℕ) → Bool
+has_none [] = true
+has_none (name ∷ names) = false
+
+-- the files are told where the disk is known to be plain, and the system has refused no removal
+abbrev pub is_shown : Disk → Bool
+is_shown disk = disk.links.is_plain && has_none disk.refused
+
+abbrev pub held_of : Option Told → Option FileMap
+held_of None = None
+held_of (Some told) = cond (is_shown told.now) (Some (file_map told.now)) None
+
+abbrev pub disk_faults : {S File : Type 0} → DiskFiles S File → ℕ
+disk_faults files = files.failed
+
+-- the reads and writes that there were, in their order
+abbrev pub disk_calls : {S File : Type 0} → DiskFiles S File → List FilesCall
+disk_calls files = files.calls.made

@@ -1,0 +1,20 @@
+-- What a disk in memory tells.
+use Rattle.std.specs.Prelude.{ℕ, Bool, cond, List, Option, Some, None}
+use Rattle.pg_outside.specs.Inside.Disk.{Told}
+use Rattle.pg_told_disk.specs.Inside.Changes.{told_in, id_of}
+use Rattle.pg_outside.specs.declared.disk.system.FileId.{FileId}
+use Rattle.pg_told_disk.specs.declared.change.Change.{Change}
+use Rattle.pg_told_disk.specs.declared.told_disk.ToldDisk.{ToldDisk}
+use Rattle.pg_told_disk.specs.declared.told_disk.ToldFile.{ToldFile}
+
+abbrev pub told_where : Bool → List Change → Option Told
+told_where is_told log = cond is_told (Some (told_in log)) None
+
+abbrev pub told_by : ToldDisk → Option Told
+told_by disk = told_where disk.is_told disk.log.items
+
+abbrev pub file_id : ToldFile → FileId
+file_id file = id_of file.number
+
+abbrev pub file_at : ToldFile → ℕ
+file_at file = file.at
