@@ -14,8 +14,8 @@ use Rattle.pg_select.specs.declared.choice.Choice.{Choice}
 use Rattle.pg_select.specs.declared.pass.Pass.{Pass}
 use Rattle.pg_select.specs.Choices.{choice}
 use Rattle.pg_select.specs.CountedPositions.{Minima, CountedPosition, good_of, bad_of, counted_at, counted_positions, counted_positions_at, counts_as}
-use Rattle.pg_select.specs.LawsAbove.{counts_above}
-use Rattle.pg_select.specs.LawsClosedDots.{is_good}
+use Rattle.pg_select.specs.Inside.LawsAbove.{counts_above}
+use Rattle.pg_select.specs.Inside.LawsClosedDots.{is_good}
 use Rattle.pg_select.specs.Meanings.{Meaning, with_position}
 use Rattle.pg_select.specs.Positions.{Positions}
 use Rattle.pg_types.specs.declared.marks.Mark.{Mark}
@@ -28,13 +28,13 @@ use Rattle.pg_driver.specs.declared.above_positions.Kept.{Kept}
 use Rattle.pg_driver.specs.declared.open_positions.OpenPosition.{OpenPosition}
 use Rattle.pg_driver.specs.declared.pass_windows.Place.{Place}
 use Rattle.pg_driver.specs.declared.pass_windows.TheConstants.{NOT_COUNTED}
-use Rattle.pg_driver.specs.Counting.{IsRead, counting, windows_after}
-use Rattle.pg_driver.specs.DotSets.{no_dots}
-use Rattle.pg_driver.specs.OpenLevels.{open_as}
-use Rattle.pg_driver.specs.OpenPositions.{counted_in}
-use Rattle.pg_driver.specs.PassWindows.{AreFates, ArePlaces, GetsNumber, HaveNumbers, IsNumbered, is_counted_at, uncovered_at}
+use Rattle.pg_driver.specs.Inside.Counting.{IsRead, counting, windows_after}
+use Rattle.pg_driver.specs.Inside.DotSets.{no_dots}
+use Rattle.pg_driver.specs.Inside.OpenLevels.{open_as}
+use Rattle.pg_driver.specs.Inside.OpenPositions.{counted_in}
+use Rattle.pg_driver.specs.Inside.PassWindows.{AreFates, ArePlaces, GetsNumber, HaveNumbers, IsNumbered, is_counted_at, uncovered_at}
 use Rattle.pg_driver.specs.Traces.{is_chosen}
-use Rattle.pg_driver.specs.WordLevels.{bad_kept, good_kept, kept_by, was_chosen, window_of, with_kept}
+use Rattle.pg_driver.specs.Inside.WordLevels.{bad_kept, good_kept, kept_by, was_chosen, window_of, with_kept}
 use Rattle.pg_driver.proofs.NumberSteps.{fate_there, have_more, place_more, still_have}
 use Rattle.pg_driver.proofs.OpenLevels.{found_is}
 

@@ -10,7 +10,7 @@ use Rattle.pg_select.specs.declared.pass.Pass.{Pass}
 use Rattle.pg_select.specs.CountedPositions.{CountedPosition}
 use Rattle.pg_driver.specs.declared.above_positions.Kept.{Kept}
 use Rattle.pg_driver.specs.declared.open_positions.OpenPosition.{OpenPosition}
-use Rattle.pg_driver.specs.WordLevels.{bad_kept, good_kept, kept_by, window_of, with_kept}
+use Rattle.pg_driver.specs.Inside.WordLevels.{bad_kept, good_kept, kept_by, window_of, with_kept}
 
 module _ (params : LevelParams) (pass : Pass) (counts : Counts) (words : List Word) where
   sum_more : (weigh : CountedPosition → ℕ) (k n whole : ℕ) (e : OpenPosition) (es : List OpenPosition) → n ≡ k + sum_by weigh (flat_map (window_of pass words) (e ∷ [])) → k + sum_by weigh (flat_map (window_of pass words) (e ∷ es)) ≡ whole → n + sum_by weigh (flat_map (window_of pass words) es) ≡ whole

@@ -9,7 +9,7 @@ use Rattle.pg_select.specs.CountedPositions.{Minima}
 use Rattle.pg_select.specs.Sums.{totals}
 use Rattle.pg_select.specs.Windows.{Patterns}
 use Rattle.pg_select.proofs.LawsSums.{totals_small}
-use Rattle.pg_driver.specs.LevelCounting.{Carries}
+use Rattle.pg_driver.specs.Inside.LevelCounting.{Carries}
 use Rattle.pg_driver.specs.Sound.{IsSmall}
 
 same_totals : (a b : Totals) → a.good ≡ b.good → a.bad ≡ b.bad → a.missed ≡ b.missed → a ≡ b

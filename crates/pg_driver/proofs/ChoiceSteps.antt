@@ -18,9 +18,9 @@ use Rattle.pg_select.specs.declared.pass.Pass.{Pass}
 use Rattle.pg_select.specs.CountedPositions.{Candidate}
 use Rattle.pg_select.specs.Windows.{Hopeless as HopelessPlaces}
 use Rattle.pg_driver.specs.declared.choices.Choices.{Choices}
-use Rattle.pg_driver.specs.Counting.{weight_in}
-use Rattle.pg_driver.specs.Choosing.{candidate_of, with_candidates, HasChosen}
-use Rattle.pg_driver.specs.States.{State, state_of, state_after}
+use Rattle.pg_driver.specs.Inside.Counting.{weight_in}
+use Rattle.pg_driver.specs.Inside.Choosing.{candidate_of, with_candidates, HasChosen}
+use Rattle.pg_driver.specs.Inside.States.{State, state_of, state_after}
 use Rattle.pg_driver.specs.Traces.{choice_of, chosen_of, hopeless_of, entered_of, is_chosen, is_hopeless, is_left}
 
 abbrev Entry : Type 0

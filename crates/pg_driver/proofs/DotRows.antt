@@ -1,6 +1,6 @@
 -- Sets of dots, computed.
 use Rattle.std.proofs.Common.{◌≡◌, ℕ, Bool, true, false, List, [], ◌∷◌, map, refl}
-use Rattle.pg_driver.specs.DotSets.{has_dot, no_dots, all_dots, with_dot, longer_dots, is_full}
+use Rattle.pg_driver.specs.Inside.DotSets.{has_dot, no_dots, all_dots, with_dot, longer_dots, is_full}
 
 abbrev dots_of_three : (ℕ → Bool) → List Bool
 dots_of_three has = map has (0 ∷ 1 ∷ 2 ∷ 3 ∷ [])

@@ -15,9 +15,9 @@ use Rattle.pg_driver.specs.declared.records.PassRecord.{PassRecord}
 use Rattle.pg_driver.specs.Accounts.{PassLine, left_none}
 use Rattle.pg_driver.specs.Dots.{dot_at}
 use Rattle.pg_driver.specs.Layouts.{after_passes}
-use Rattle.pg_driver.specs.Levels.{AreClosed, ClosedDots, GoesOn, IsAt, LevelStart, Tells, all_made_by, is_set, layouts_in, point, unset}
+use Rattle.pg_driver.specs.Inside.Levels.{AreClosed, ClosedDots, GoesOn, IsAt, LevelStart, Tells, all_made_by, is_set, layouts_in, point, unset}
 use Rattle.pg_driver.specs.Sound.{Recorded, with_pass}
-use Rattle.pg_driver.specs.States.{DidPass, State, made_by, state_after, state_at_end, state_of}
+use Rattle.pg_driver.specs.Inside.States.{DidPass, State, made_by, state_after, state_at_end, state_of}
 use Rattle.pg_driver.specs.Told.{known_of}
 use Rattle.pg_driver.specs.Traces.{Known, PassTrace, Source, choice_of, is_left, known_after, known_at_end, pass_made, passes_made, passes_of_length}
 use Rattle.pg_driver.proofs.ChoiceSteps.{state_none, state_with}

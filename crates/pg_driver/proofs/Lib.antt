@@ -18,6 +18,11 @@ pub mod DotBits
 pub mod OpenPositions
 pub mod OpenPlaces
 pub mod OpenSteps
+pub mod OpenSigns
+pub mod OpenCounted
+pub mod OpenCloses
+pub mod OpenFirst
+pub mod OpenKnown
 pub mod OpenLevels
 pub mod CarriedTotals
 pub mod OpenTraces

@@ -22,18 +22,18 @@ use Rattle.pg_select.specs.declared.choice.Choice.{Choice}
 use Rattle.pg_select.specs.declared.pass.Pass.{Pass}
 use Rattle.pg_select.specs.Choices.{choice}
 use Rattle.pg_select.specs.Statuses.{position_weight}
-use Rattle.pg_select.specs.LawsClosedDots.{is_good}
+use Rattle.pg_select.specs.Inside.LawsClosedDots.{is_good}
 use Rattle.pg_select.specs.Windows.{window, fits}
 use Rattle.pg_driver.specs.declared.pass_windows.Place.{Place}
 use Rattle.pg_driver.specs.declared.pass_windows.TheConstants.{NOT_COUNTED}
 use Rattle.pg_driver.specs.declared.open_positions.OpenPosition.{OpenPosition}
-use Rattle.pg_driver.specs.OpenLevels.{dots_after, closed_dots_after, position_after}
-use Rattle.pg_driver.specs.OpenPositions.{IsPlaced, with_closed}
-use Rattle.pg_driver.specs.PassWindows.{counts_at, is_open, ClosesAs, IsNumbered, HaveNumbers, AreFates, IsPlace, ArePlaces, IsPart}
+use Rattle.pg_driver.specs.Inside.OpenLevels.{dots_after, closed_dots_after, position_after}
+use Rattle.pg_driver.specs.Inside.OpenPositions.{IsPlaced, with_closed}
+use Rattle.pg_driver.specs.Inside.PassWindows.{counts_at, is_open, ClosesAs, IsNumbered, HaveNumbers, AreFates, IsPlace, ArePlaces, IsPart}
 use Rattle.pg_select.specs.CountedPositions.{CountedPosition}
 use Rattle.pg_select.specs.Meanings.{Meaning, with_position}
-use Rattle.pg_driver.specs.Counting.{counting, windows_after}
-use Rattle.pg_driver.specs.OpenPositions.{counted_in}
+use Rattle.pg_driver.specs.Inside.Counting.{counting, windows_after}
+use Rattle.pg_driver.specs.Inside.OpenPositions.{counted_in}
 use Rattle.pg_driver.proofs.Puts.{cmp}
 
 -- the word of a placed position
@@ -225,7 +225,7 @@ filter_at {X} test (y ∷ xs) (suc k) x at is = by (test y) (filter_at test xs k
     by false there = there
 
 -- the elements of all that pass are among all
-filter_from : {X : Type 0} (test : X → Bool) (P : X → Type 0) (xs : List X) → ((k : ℕ) (x : X) → slice_get xs k ≡ Some x → P x) → (k : ℕ) (x : X) → slice_get (filter test xs) k ≡ Some x → (P x) × (test x ≡ true)
+pub filter_from : {X : Type 0} (test : X → Bool) (P : X → Type 0) (xs : List X) → ((k : ℕ) (x : X) → slice_get xs k ≡ Some x → P x) → (k : ℕ) (x : X) → slice_get (filter test xs) k ≡ Some x → (P x) × (test x ≡ true)
 filter_from test P [] all k x at = absurd (let none : None ≡ Some x = at in cc)
 filter_from {X} test P (y ∷ xs) all k x at = by (test y) refl (λ j there. filter_from test P xs (λ i z here. all (suc i) z here) j x there) k at
   where

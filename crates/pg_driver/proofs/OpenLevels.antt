@@ -15,8 +15,8 @@ use Rattle.pg_select.specs.declared.choice.Choice.{Choice}
 use Rattle.pg_select.specs.declared.choice.Choice.TheVariants.{Hopeless as MadeHopeless, Chosen, Left}
 use Rattle.pg_select.specs.declared.pass.Pass.{Pass}
 use Rattle.pg_select.specs.Choices.{choice}
-use Rattle.pg_select.specs.LawsSteps.{IsBelow, candidate_at, is_candidate, patterns_after_pass, hopeless_after_pass}
-use Rattle.pg_select.specs.LawsClosedDots.{counted_with, longer, Tells, closed_after}
+use Rattle.pg_select.specs.Inside.LawsSteps.{IsBelow, candidate_at, is_candidate, patterns_after_pass, hopeless_after_pass}
+use Rattle.pg_select.specs.Inside.LawsClosedDots.{counted_with, longer, Tells, closed_after}
 use Rattle.pg_select.specs.Meanings.{with_position}
 use Rattle.pg_select.specs.CountedPositions.{Minima, CountedPosition, Candidate, counts_as, good_of, bad_of, counted_positions}
 use Rattle.pg_select.specs.Statuses.{status_at}
@@ -27,9 +27,9 @@ use Rattle.pg_select.proofs.LawsTally.{cmp, is_counted_window, sums_found}
 use Rattle.pg_driver.specs.declared.dot_set.DotSet.{DotSet}
 use Rattle.pg_driver.specs.declared.open_positions.OpenPosition.{OpenPosition}
 use Rattle.pg_driver.specs.Traces.{choice_of, is_chosen, is_hopeless}
-use Rattle.pg_driver.specs.DotSets.{has_dot, no_dots, all_dots, longer_dots, is_full}
-use Rattle.pg_driver.specs.OpenPositions.{numbered_positions, open_with, IsKnown, AreOpen, with_closed, changed}
-use Rattle.pg_driver.specs.OpenLevels.{listed_from, open_as, open_from, InLevel, longer_positions, dots_after, closed_dots_after, position_after}
+use Rattle.pg_driver.specs.Inside.DotSets.{has_dot, no_dots, all_dots, longer_dots, is_full}
+use Rattle.pg_driver.specs.Inside.OpenPositions.{numbered_positions, open_with, IsKnown, AreOpen, with_closed, changed}
+use Rattle.pg_driver.specs.Inside.OpenLevels.{listed_from, open_as, open_from, InLevel, longer_positions, dots_after, closed_dots_after, position_after}
 use Rattle.pg_driver.proofs.DotBits.{bit_with, bit_longer}
 use Rattle.pg_driver.proofs.OpenPositions.{open_go_on}
 

@@ -9,14 +9,14 @@ use Rattle.std.proofs.lemmas.List.Sums.{sum_by-cons}
 use Rattle.std.proofs.lemmas.Option.{slice_get_within}
 use Rattle.pg_translate.specs.Reach.{positions}
 use Rattle.pg_dict.specs.Word.{Word, letter_count}
-use Rattle.pg_select.specs.Laws.{positions_in}
+use Rattle.pg_select.specs.Inside.Laws.{positions_in}
 use Rattle.pg_select.specs.CountedPositions.{Minima}
 use Rattle.pg_select.specs.Windows.{Patterns, Hopeless}
 use Rattle.pg_select.proofs.LawsSums.{positions_within}
 use Rattle.pg_driver.specs.declared.dot_set.DotSet.{DotSet}
 use Rattle.pg_driver.specs.declared.open_positions.OpenPosition.{OpenPosition}
-use Rattle.pg_driver.specs.OpenPositions.{numbered_positions, open_with, AreOpen}
-use Rattle.pg_driver.specs.OpenPositions.{IsPlaced}
+use Rattle.pg_driver.specs.Inside.OpenPositions.{numbered_positions, open_with, AreOpen}
+use Rattle.pg_driver.specs.Inside.OpenPositions.{IsPlaced}
 
 all_flat : {X Y : Type 0} (P : Y → Type 0) (Q : X → Type 0) (f : X → List Y) → ((x : X) → Q x → All P (f x)) → (xs : List X) → All Q xs → All P (flat_map f xs)
 all_flat P Q f each [] all = All-nil P

@@ -13,9 +13,9 @@ use Rattle.pg_select.specs.Windows.{Patterns, Hopeless, window}
 use Rattle.pg_select.proofs.LawsTally.{counted_as}
 use Rattle.pg_driver.specs.declared.dot_set.DotSet.{DotSet}
 use Rattle.pg_driver.specs.declared.open_positions.OpenPosition.{OpenPosition}
-use Rattle.pg_driver.specs.DotSets.{has_dot}
-use Rattle.pg_select.specs.LawsClosedDots.{pass_at, Tells, IsDone}
-use Rattle.pg_driver.specs.OpenPositions.{numbered_positions, open_with, IsKnown, AreOpen, counted_in, counted_of, with_closed, changed}
+use Rattle.pg_driver.specs.Inside.DotSets.{has_dot}
+use Rattle.pg_select.specs.Inside.LawsClosedDots.{pass_at, Tells, IsDone}
+use Rattle.pg_driver.specs.Inside.OpenPositions.{numbered_positions, open_with, IsKnown, AreOpen, counted_in, counted_of, with_closed, changed}
 
 -- parts of parts
 flat_map-flat_map : {X Y Z : Type 0} (g : Y → List Z) (f : X → List Y) (xs : List X) → flat_map g (flat_map f xs) ≡ flat_map (λ (x : X). flat_map g (f x)) xs

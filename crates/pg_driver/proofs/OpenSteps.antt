@@ -12,7 +12,7 @@ use Rattle.pg_select.specs.Meanings.{Meaning, with_position}
 use Rattle.pg_select.specs.CountedPositions.{Minima, CountedPosition}
 use Rattle.pg_select.specs.Statuses.{position_weight}
 use Rattle.pg_select.specs.Windows.{window, fits}
-use Rattle.pg_driver.specs.Counting.{counting, HasRoom, TookRoom}
+use Rattle.pg_driver.specs.Inside.Counting.{counting, HasRoom, TookRoom}
 use Rattle.pg_select.proofs.MarkSteps.{weight_small}
 use Rattle.pg_driver.proofs.Puts.{cmp, weight_found}
 use Rattle.pg_select.proofs.Reaches.{range_step}
@@ -20,9 +20,9 @@ use Rattle.pg_driver.proofs.Rooms.{took_none, took_with, window_filled}
 use Rattle.pg_driver.proofs.Walks.{counted_step}
 use Rattle.pg_driver.proofs.WordSteps.{drop_place}
 use Rattle.pg_driver.specs.declared.open_positions.OpenPosition.{OpenPosition}
-use Rattle.pg_driver.specs.OpenLevels.{listed_in, listed_from}
-use Rattle.pg_select.specs.LawsClosedDots.{is_good}
-use Rattle.pg_driver.specs.OpenPositions.{counted_in}
+use Rattle.pg_driver.specs.Inside.OpenLevels.{listed_in, listed_from}
+use Rattle.pg_select.specs.Inside.LawsClosedDots.{is_good}
+use Rattle.pg_driver.specs.Inside.OpenPositions.{counted_in}
 
 -- one part more
 pub added_step : {X Y : Type 0} (f : X → List Y) (items more whole : List Y) (x : X) (xs : List X) → more ≡ items ++ f x → items ++ flat_map f (x ∷ xs) ≡ whole → more ++ flat_map f xs ≡ whole

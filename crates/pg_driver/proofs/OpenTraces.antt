@@ -9,48 +9,19 @@ use Rattle.pg_types.specs.Counts.{Counts}
 use Rattle.pg_dict.specs.Word.{letter_count}
 use Rattle.pg_patterns.specs.Values.{largest}
 use Rattle.pg_select.specs.declared.pass.Pass.{Pass}
-use Rattle.pg_select.specs.LawsSteps.{IsBelow, IsUpTo}
+use Rattle.pg_select.specs.Inside.LawsSteps.{IsBelow, IsUpTo}
 use Rattle.pg_select.specs.Meanings.{Meaning, after_begin_pass, with_position}
 use Rattle.pg_select.specs.CountedPositions.{counted_positions}
 use Rattle.pg_select.specs.Statuses.{is_odd}
 use Rattle.pg_select.specs.Windows.{Patterns}
 use Rattle.pg_select.proofs.LawsBounds.{next_is_below, up_to_largest, up_to_more, up_to_raised}
 use Rattle.pg_select.proofs.LawsTotals.{totals_after}
-use Rattle.pg_driver.specs.declared.open_positions.OpenPosition.{OpenPosition}
 use Rattle.pg_driver.specs.Accounts.{totals_by}
-use Rattle.pg_driver.specs.Counting.{counting, HasRoom}
 use Rattle.pg_driver.specs.Dots.{order}
-use Rattle.pg_driver.specs.OpenLevels.{InLevel, position_after}
-use Rattle.pg_driver.specs.OpenPositions.{counted_of}
 use Rattle.pg_driver.specs.Traces.{Source, Known, choice_of, is_chosen, chosen_in, known_after, known_at_end, pass_made, passes_made, at_start, level_made, passes_of, patterns_after}
-use Rattle.pg_driver.specs.LevelCounting.{Carries}
-use Rattle.pg_driver.proofs.OpenLevels.{level_after_pass}
-use Rattle.pg_driver.proofs.OpenPlaces.{open_few}
-use Rattle.pg_driver.proofs.OpenPositions.{counted_are_open}
-use Rattle.pg_driver.proofs.Rooms.{room_none}
-
--- a pass that begins has room for the open positions
-pub room_open : (m n : Meaning) (level len dot : ℕ) (source : Source) (entries : List OpenPosition) → 1 ≤ source.minima.left → sum_by letter_count source.words ≤ FILE_MAX → n ≡ after_begin_pass m level len dot
-    → InLevel level len source.minima source.words m.patterns m.hopeless entries → HasRoom n.counts (length entries)
-room_open m n level len dot source entries low few begins is =
-    let some : length entries ≤ sum_by letter_count source.words = open_few level len source.minima source.words m.patterns m.hopeless entries low is.are_open in
-    subst (λ (x : Meaning). HasRoom x.counts (length entries)) (sym begins) (room_none (length entries) (omega arith))
-
--- counting the open positions counts what the pass counts
-pub open_counted : (m n after : Meaning) (level len dot : ℕ) (source : Source) (entries : List OpenPosition) → len ≤ LENGTH_MAX → dot ≤ len → InLevel level len source.minima source.words m.patterns m.hopeless entries → n ≡ after_begin_pass m level len dot
-    → after ≡ counting n (flat_map (counted_of level len dot source.words) entries) → after ≡ counting (after_begin_pass m level len dot) (counted_positions source.minima source.words (record { level = level; len = len; dot = dot }) m.patterns m.hopeless)
-open_counted m n after level len dot source entries short within is begins counts =
-    counts
-    ∙ ap (λ (x : Meaning). counting x (flat_map (counted_of level len dot source.words) entries)) begins
-    ∙ ap (counting (after_begin_pass m level len dot)) (sym (counted_are_open level len dot source.minima source.words m.patterns m.hopeless entries short within is.are_open))
+use Rattle.pg_driver.specs.Inside.LevelCounting.{Carries}
 
 module _ (source : Source) (params : LevelParams) (known : Known) (pass : Pass) where
-  -- the open positions after a pass of the trace
-  pub level_on : (counts : Counts) (entries : List OpenPosition) → pass.dot ≤ LENGTH_MAX → counts ≡ fold with_position [] (counted_positions source.minima source.words pass known.patterns known.hopeless)
-      → InLevel pass.level pass.len source.minima source.words known.patterns known.hopeless entries
-      → InLevel pass.level pass.len source.minima source.words (known_after (pass_made source params known pass)).patterns (known_after (pass_made source params known pass)).hopeless (map (position_after params pass counts source.words) entries)
-  level_on counts entries low counted is = level_after_pass params source.minima source.words pass known.patterns known.hopeless counts entries low counted is
-
   -- the totals after it
   pub totals_on : IsUpTo pass.level known.patterns
       → Carries (is_odd pass.level) (totals_by source known.patterns) (totals_by source (known_after (pass_made source params known pass)).patterns) (sum_by (λ c. c.good) (chosen_in (pass_made source params known pass))) (sum_by (λ c. c.bad) (chosen_in (pass_made source params known pass)))

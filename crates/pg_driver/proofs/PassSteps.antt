@@ -14,9 +14,9 @@ use Rattle.pg_select.specs.CountedPositions.{CountedPosition, Candidate, counted
 use Rattle.pg_driver.specs.declared.choices.Choices.{Choices}
 use Rattle.pg_driver.specs.declared.records.PassRecord.{PassRecord}
 use Rattle.pg_driver.specs.Accounts.{pass_line, totals_by}
-use Rattle.pg_driver.specs.Choosing.{HasChosen, candidate_of, no_choices, with_candidates}
-use Rattle.pg_driver.specs.Counting.{counting}
-use Rattle.pg_driver.specs.States.{DidPass, made_by, state_of, state_after}
+use Rattle.pg_driver.specs.Inside.Choosing.{HasChosen, candidate_of, no_choices, with_candidates}
+use Rattle.pg_driver.specs.Inside.Counting.{counting}
+use Rattle.pg_driver.specs.Inside.States.{DidPass, made_by, state_of, state_after}
 use Rattle.pg_driver.specs.Told.{layout_told, line_of, over}
 use Rattle.pg_driver.specs.Traces.{PassTrace, Source, chosen_of, hopeless_of}
 use Rattle.pg_driver.proofs.ChoiceSteps.{state_with}

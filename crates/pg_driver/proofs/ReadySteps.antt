@@ -1,5 +1,5 @@
 -- A way to count is ready: what that gives for a pass, and how it goes on.
-use Rattle.std.proofs.Common.{◌≡◌, ℕ, ◌+◌, ◌≤◌, List, [], length, fold, sum_by, sym, ap, subst, ◌∙◌, arith}
+use Rattle.std.proofs.Common.{◌≡◌, ℕ, ◌+◌, ◌-◌, ◌≤◌, ◌<◌, nat_le, Bool, not, ◌&&◌, ◌||◌, List, [], length, slice_get, Some, fold, sum_by, sym, ap, subst, ◌∙◌, arith}
 use Rattle.std.specs.List.{All, flat_map}
 use Rattle.pg_types.specs.declared.limits.TheConstants.{LENGTH_MAX, FILE_MAX}
 use Rattle.pg_types.specs.declared.marks.Totals.{Totals}
@@ -7,7 +7,7 @@ use Rattle.pg_types.specs.declared.parameters.LevelParams.{LevelParams}
 use Rattle.pg_types.specs.Counts.{Counts}
 use Rattle.pg_dict.specs.Word.{Word, IsWord, letter_count}
 use Rattle.pg_select.specs.declared.pass.Pass.{Pass}
-use Rattle.pg_select.specs.LawsSteps.{IsBelow}
+use Rattle.pg_select.specs.Inside.LawsSteps.{IsBelow}
 use Rattle.pg_select.specs.Meanings.{Meaning, with_position}
 use Rattle.pg_select.specs.CountedPositions.{Candidate, counted_positions}
 use Rattle.pg_select.specs.Statuses.{is_odd}
@@ -18,61 +18,68 @@ use Rattle.pg_driver.specs.declared.counting.Counting.TheVariants.{Open, EachWor
 use Rattle.pg_driver.specs.declared.open_positions.OpenLevel.{OpenLevel}
 use Rattle.pg_driver.specs.declared.open_positions.OpenPosition.{OpenPosition}
 use Rattle.pg_driver.specs.Accounts.{totals_by}
-use Rattle.pg_driver.specs.Choosing.{no_choices, with_candidates}
-use Rattle.pg_driver.specs.Counting.{HasRoom}
-use Rattle.pg_driver.specs.LevelCounting.{ArePlaced, CanCarry, CanGoOn, Carries, GoesOnAfter, IsAfterPass, IsCounted, IsOpenAt, IsReady, TellsTotals}
-use Rattle.pg_driver.specs.OpenLevels.{InLevel, longer_positions, open_from}
-use Rattle.pg_driver.specs.OpenPositions.{IsPlaced, counted_of}
+use Rattle.pg_driver.specs.Inside.Choosing.{no_choices, with_candidates}
+use Rattle.pg_driver.specs.Inside.Counting.{HasRoom}
+use Rattle.pg_driver.specs.Inside.LevelCounting.{ArePlaced, CanCarry, CanGoOn, Carries, GoesOnAfter, IsAfterPass, IsCounted, IsOpenAt, IsReady, TellsTotals}
+use Rattle.pg_dots.specs.Inside.Dots.{is_closed, places}
+use Rattle.pg_driver.specs.Inside.OpenSigns.{IsThere, is_open_first, open_places, open_signs, sign_count, start_of}
+use Rattle.pg_driver.specs.Inside.OpenPositions.{counted_of}
 use Rattle.pg_driver.specs.Sound.{IsSmall}
 use Rattle.pg_driver.specs.Told.{known_of}
 use Rattle.pg_driver.specs.Traces.{Known, PassTrace, Source, chosen_in, known_after, pass_made}
 use Rattle.pg_driver.proofs.CarriedTotals.{carried_same, carried_small, carried_within, totals_are_small}
 use Rattle.pg_driver.proofs.Numbers.{zero_plus}
-use Rattle.pg_driver.proofs.OpenLevels.{level_begins, level_longer}
-use Rattle.pg_driver.proofs.OpenPlaces.{open_few, open_placed}
-use Rattle.pg_driver.proofs.OpenPositions.{counted_are_open}
-use Rattle.pg_driver.proofs.OpenTraces.{level_on, totals_on}
+use Rattle.pg_driver.proofs.OpenCounted.{counted_there, few_there}
+use Rattle.pg_driver.proofs.OpenKnown.{there_after, there_first, there_longer, there_same}
+use Rattle.pg_driver.proofs.OpenTraces.{totals_on}
 use Rattle.pg_driver.proofs.Rooms.{room_none}
 use Rattle.pg_driver.proofs.WordLevels.{words_after, words_can_move, words_placed}
 
 -- where a level begins
 pub ready_at_start : (source : Source) (level len : ℕ) (m : Meaning) (o : OpenLevel) → m.hopeless ≡ [] → IsBelow level m.patterns → 1 ≤ source.minima.left → All IsWord source.words → sum_by letter_count source.words ≤ FILE_MAX
-    → o.positions.items ≡ open_from source.minima level m.patterns 0 source.words → o.totals ≡ totals_by source m.patterns → IsOpenAt source level len (known_of m) o
-ready_at_start source level len m o none below least words letters are totals = record {
+    → sign_count source.words ≤ places o.dots → ((d n p : ℕ) (w : Word) → slice_get source.words n ≡ Some w → p < length w.signs → is_closed o.dots d (start_of source.words n + p) ≡ not (is_open_first source.minima level m.patterns w p))
+    → o.totals ≡ totals_by source m.patterns → IsOpenAt source level len (known_of m) o
+ready_at_start source level len m o none below least words letters size are totals = record {
   least = least;
   words = words;
   letters = letters;
-  positions =
-      subst (λ (es : List OpenPosition). InLevel level len source.minima source.words m.patterns m.hopeless es) (sym are)
-      (subst (λ (H : Hopeless). InLevel level len source.minima source.words m.patterns H (open_from source.minima level m.patterns 0 source.words)) (sym none) (level_begins level len source.minima source.words m.patterns below));
+  size = size;
+  dots = subst (λ (H : Hopeless). IsThere level len source.minima source.words m.patterns H (is_closed o.dots)) (sym none) (there_first level len source.minima source.words m.patterns (is_closed o.dots) below are);
   totals = totals;
 }
 
 module _ (source : Source) (level len : ℕ) (known : Known) (o : OpenLevel) (ready : IsOpenAt source level len known o) where
-  pub are_placed : All (IsPlaced source.words) o.positions.items
-  are_placed = open_placed level len source.minima source.words known.patterns known.hopeless o.positions.items ready.positions.are_open
-
-  pub has_room : (counts : Counts) → counts ≡ [] → HasRoom counts (length o.positions.items)
-  has_room counts none =
-      let some : length o.positions.items ≤ sum_by letter_count source.words = open_few level len source.minima source.words known.patterns known.hopeless o.positions.items ready.least ready.positions.are_open in
+  pub has_room : (counts : Counts) (dot : ℕ) → counts ≡ [] → len ≤ LENGTH_MAX → dot ≤ len → HasRoom counts (length (open_signs (is_closed o.dots dot) 0 (sign_count source.words)))
+  has_room counts dot none short within =
+      let some : length (open_signs (is_closed o.dots dot) 0 (sign_count source.words)) ≤ sum_by letter_count source.words = few_there level len dot source.minima source.words known.patterns known.hopeless (is_closed o.dots) short within ready.least ready.dots in
       let letters : sum_by letter_count source.words ≤ FILE_MAX = ready.letters in
-      subst (λ (cs : Counts). HasRoom cs (length o.positions.items)) (sym none) (room_none (length o.positions.items) (omega arith))
+      subst (λ (cs : Counts). HasRoom cs (length (open_signs (is_closed o.dots dot) 0 (sign_count source.words)))) (sym none) (room_none (length (open_signs (is_closed o.dots dot) 0 (sign_count source.words))) (omega arith))
 
-  pub counts_all : (dot : ℕ) → len ≤ LENGTH_MAX → dot ≤ len → flat_map (counted_of level len dot source.words) o.positions.items ≡ counted_positions source.minima source.words (record { level = level; len = len; dot = dot }) known.patterns known.hopeless
-  counts_all dot short within = sym (counted_are_open level len dot source.minima source.words known.patterns known.hopeless o.positions.items short within ready.positions.are_open)
+  pub counts_all : (dot : ℕ) → len ≤ LENGTH_MAX → dot ≤ len → flat_map (counted_of level len dot source.words) (open_places (is_closed o.dots dot) source.words) ≡ counted_positions source.minima source.words (record { level = level; len = len; dot = dot }) known.patterns known.hopeless
+  counts_all dot short within = sym (counted_there level len dot source.minima source.words known.patterns known.hopeless (is_closed o.dots) short within ready.dots)
 
   pub is_small : IsSmall o.totals
   is_small = subst IsSmall (sym ready.totals) (totals_are_small source.minima source.words known.patterns ready.least ready.words ready.letters)
 
   -- at the next length
-  pub ready_longer : (p : OpenLevel) → len ≤ LENGTH_MAX → p.positions.items ≡ longer_positions len o.positions.items → p.totals ≡ o.totals → IsOpenAt source level (len + 1) known p
-  ready_longer p upto are totals = record {
+  pub ready_longer : (p : OpenLevel) → places p.dots ≡ places o.dots → ((d j : ℕ) → d ≤ LENGTH_MAX → j < places o.dots → is_closed p.dots d j ≡ (is_closed o.dots d j || (nat_le 1 d && is_closed o.dots (d - 1) j))) → p.totals ≡ o.totals → IsOpenAt source level (len + 1) known p
+  ready_longer p wide are totals = record {
     least = ready.least;
     words = ready.words;
     letters = ready.letters;
-    positions =
-        subst (λ (es : List OpenPosition). InLevel level (len + 1) source.minima source.words known.patterns known.hopeless es) (sym are)
-        (level_longer level len source.minima source.words known.patterns known.hopeless o.positions.items upto ready.positions);
+    size = (let size = ready.size in omega arith);
+    dots = there_longer level len source.minima source.words known.patterns known.hopeless (is_closed o.dots) (is_closed p.dots) (λ d s within low. are d s within (let size = ready.size in omega arith)) ready.dots;
+    totals = totals ∙ ready.totals;
+  }
+
+  -- where the same dots are closed
+  pub ready_same : (p : OpenLevel) → places p.dots ≡ places o.dots → ((d j : ℕ) → j < places o.dots → is_closed p.dots d j ≡ is_closed o.dots d j) → p.totals ≡ o.totals → IsOpenAt source level len known p
+  ready_same p wide are totals = record {
+    least = ready.least;
+    words = ready.words;
+    letters = ready.letters;
+    size = (let size = ready.size in omega arith);
+    dots = there_same level len source.minima source.words known.patterns known.hopeless (is_closed o.dots) (is_closed p.dots) (λ d s within low. are d s (let size = ready.size in omega arith)) ready.dots;
     totals = totals ∙ ready.totals;
   }
 
@@ -91,7 +98,7 @@ counted_after params pass counts words n (EachWord e) (Open p) on counted = absu
 counted_after params pass counts words n (EachWord e) (EachWord f) on counted = on.counted ∙ counted
 
 pub placed : (source : Source) (level len : ℕ) (known : Known) (c : Counting) → IsReady source level len known c → ArePlaced source.words c
-placed source level len known (Open o) ready = are_placed source level len known o ready
+placed source level len known (Open o) ready = ready.size
 placed source level len known (EachWord e) ready = words_placed source level known e ready
 
 -- after a pass
@@ -116,7 +123,7 @@ module _ (source : Source) (params : LevelParams) (known : Known) (pass : Pass) 
         subst (λ (g : ℕ). Carries (is_odd pass.level) o.totals (totals_by source (known_after made).patterns) g n.bad) (sym of.good)
         (subst (λ (b : ℕ). Carries (is_odd pass.level) o.totals (totals_by source (known_after made).patterns) (sum_by (λ (c : Candidate). c.good) (chosen_in made)) b) (sym of.bad)
         (subst (λ (t : Totals). Carries (is_odd pass.level) t (totals_by source (known_after made).patterns) (sum_by (λ (c : Candidate). c.good) (chosen_in made)) (sum_by (λ (c : Candidate). c.bad) (chosen_in made))) (sym ready.totals)
-        (totals_on source params known pass ready.positions.upto)))
+        (totals_on source params known pass ready.dots.upto)))
 
     can_carry : CanCarry (is_odd pass.level) o.totals n.good n.bad
     can_carry =
@@ -134,9 +141,8 @@ module _ (source : Source) (params : LevelParams) (known : Known) (pass : Pass) 
       least = ready.least;
       words = ready.words;
       letters = ready.letters;
-      positions =
-          subst (λ (es : List OpenPosition). InLevel pass.level pass.len source.minima source.words (known_after made).patterns (known_after made).hopeless es) (sym is.positions)
-          (level_on source params known pass counts o.positions.items low counted ready.positions);
+      size = (let size = ready.size in let wide = is.size in omega arith);
+      dots = there_after params source.minima source.words pass known.patterns known.hopeless counts low counted (is_closed o.dots) (is_closed p.dots) is.dots ready.dots;
       totals = carried_same (is_odd pass.level) o.totals p.totals (totals_by source (known_after made).patterns) n.good n.bad is.totals carries;
     }
 

@@ -7,7 +7,7 @@ use Rattle.pg_types.specs.declared.parameters.LevelParams.{LevelParams}
 use Rattle.pg_dict.specs.Word.{Word}
 use Rattle.pg_select.specs.declared.choice.Choice.{Choice}
 use Rattle.pg_select.specs.declared.choice.Choice.TheVariants.{Hopeless, Chosen, Left}
-use Rattle.pg_select.specs.Laws.{IsClosed}
+use Rattle.pg_select.specs.Inside.Laws.{IsClosed}
 use Rattle.pg_select.specs.declared.pass.Pass.{Pass}
 use Rattle.pg_select.specs.CountedPositions.{Minima, Candidate, tally}
 use Rattle.pg_select.specs.Windows.{Hopeless as HopelessPlaces}
@@ -15,7 +15,7 @@ use Rattle.pg_select.proofs.LawsLater.{closed_later}
 use Rattle.pg_select.proofs.LawsLonger.{closed_behind, closed_before}
 use Rattle.pg_select.proofs.LawsClosed.{closed_at_end, later_after_pass}
 use Rattle.pg_driver.specs.Accounts.{is_skippable, left_none}
-use Rattle.pg_driver.specs.Levels.{AreClosed}
+use Rattle.pg_driver.specs.Inside.Levels.{AreClosed}
 use Rattle.pg_driver.specs.Traces.{Known, PassTrace, Source, choice_of, chosen_of, hopeless_of, is_chosen, is_hopeless, is_left, known_after, pass_made}
 use Rattle.pg_driver.proofs.TraceSteps.{skippable_push}
 

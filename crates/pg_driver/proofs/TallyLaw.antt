@@ -11,7 +11,7 @@ use Rattle.pg_types.specs.Counts.{Counts, with_weight, sums_of}
 use Rattle.pg_select.specs.Meanings.{with_position}
 use Rattle.pg_select.specs.CountedPositions.{CountedPosition, same_signs, with_window, good_of, bad_of, tally}
 use Rattle.pg_driver.proofs.Puts.{cmp}
-use Rattle.pg_driver.specs.Choosing.{candidate_of}
+use Rattle.pg_driver.specs.Inside.Choosing.{candidate_of}
 
 abbrev Windows : Type 0
 Windows = List (List ℕ × Unit {0})

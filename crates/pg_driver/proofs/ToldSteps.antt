@@ -13,7 +13,7 @@ use Rattle.pg_driver.specs.declared.records.LevelRecord.{LevelRecord}
 use Rattle.pg_driver.specs.declared.records.PassRecord.{PassRecord}
 use Rattle.pg_driver.specs.Accounts.{account, has_candidate, totals_by}
 use Rattle.pg_driver.specs.Layouts.{cells_account, layout_of}
-use Rattle.pg_driver.specs.Levels.{DidRun, level_layouts, run_layouts}
+use Rattle.pg_driver.specs.Inside.Levels.{DidRun, level_layouts, run_layouts}
 use Rattle.pg_driver.specs.Sound.{Finished, Recorded}
 use Rattle.pg_driver.specs.Told.{TellsCells, account_of, layout_told, level_layout_told}
 use Rattle.pg_select.specs.Windows.{Patterns}

@@ -12,8 +12,8 @@ use Rattle.pg_types.specs.Placement.{Families, taken, top}
 use Rattle.pg_select.specs.declared.pass.Pass.{Pass}
 use Rattle.pg_driver.specs.Accounts.{begun_among, chosen_by, has_candidate, is_skippable, left_none, makes_skippable}
 use Rattle.pg_driver.specs.Layouts.{after_pass, after_passes, pass_layouts, passes_with_families}
-use Rattle.pg_driver.specs.Levels.{layouts_in}
-use Rattle.pg_driver.specs.States.{State, state_after, state_at_end}
+use Rattle.pg_driver.specs.Inside.Levels.{layouts_in}
+use Rattle.pg_driver.specs.Inside.States.{State, state_after, state_at_end}
 use Rattle.pg_driver.specs.Traces.{Known, PassTrace, chosen_in, known_after, known_at_end}
 
 -- what is known at the end of passes and one more

@@ -8,7 +8,7 @@ use Rattle.pg_types.specs.Numbered.{Windows, with_window}
 use Rattle.pg_select.specs.Meanings.{Meaning, with_position}
 use Rattle.pg_select.specs.Positions.{Positions}
 use Rattle.pg_select.specs.CountedPositions.{Minima, CountedPosition, counted_positions_at, counted_positions_in, counted_positions}
-use Rattle.pg_driver.specs.Counting.{counting, windows_after, IsRead, HasRoom, TookRoom}
+use Rattle.pg_driver.specs.Inside.Counting.{counting, windows_after, IsRead, HasRoom, TookRoom}
 use Rattle.pg_driver.proofs.Rooms.{room_left, took_position, took_more}
 use Rattle.pg_select.proofs.Reaches.{range_step}
 

@@ -7,8 +7,8 @@ use Rattle.pg_select.specs.Sums.{totals}
 use Rattle.pg_select.specs.Windows.{Patterns}
 use Rattle.pg_driver.specs.Traces.{Source, PassTrace, LevelTrace, Trace, choice_of, is_left, chosen_in, hopeless_in, patterns_after, final_patterns}
 
--- the line of a pass: the totals before it, how many candidates it has, and how many of them it chose and found hopeless, with the
--- sums of good and of bad of the chosen
+-- the line of a pass: the totals before it, how many candidates it has, and how many of them it
+-- chose and found hopeless, with the sums of good and of bad of the chosen
 pub record PassLine : Type 0 where
   pub pass : Pass
   pub before : Totals
@@ -60,7 +60,12 @@ chosen_by ps = sum_by (λ p. length (chosen_in p)) ps
 
 -- the line of a level
 abbrev pub level_line : Source → LevelTrace → LevelLine
-level_line source l = record { level = l.number; chosen = chosen_by l.passes; after = totals_by source (patterns_after l) }
+level_line source l =
+    record {
+      level = l.number;
+      chosen = chosen_by l.passes;
+      after = totals_by source (patterns_after l);
+    }
 
 -- what is told of a run from S
 abbrev pub account : Source → Patterns → Trace → Account
@@ -74,9 +79,11 @@ account source S run = record {
 abbrev pub left_none : PassTrace → Bool
 left_none p = list_all (λ c. not (is_left (choice_of p.params c))) p.candidates
 
--- a pass that left none makes another skippable, which is longer by a sign and has the same dot or the dot after
+-- a pass that left none makes another skippable, which is longer by a sign and has the same dot or
+-- the dot after
 abbrev pub makes_skippable : Pass → PassTrace → Bool
-makes_skippable q p = left_none p && (p.pass.len + 1 == q.len && (p.pass.dot == q.dot || p.pass.dot + 1 == q.dot))
+makes_skippable q p = left_none p
+    && (p.pass.len + 1 == q.len && (p.pass.dot == q.dot || p.pass.dot + 1 == q.dot))
 
 -- a pass is skippable where one of these passes makes it so
 abbrev pub is_skippable : List PassTrace → Pass → Bool

@@ -36,27 +36,32 @@ final_families signs fs run = fold (after_level signs) fs run
 -- each pass with the families after it
 abbrev pub passes_with_families : ℕ → Families → List PassTrace → List (PassTrace × Families)
 passes_with_families signs fs [] = []
-passes_with_families signs fs (p ∷ ps) = (p, after_pass signs fs p) ∷ passes_with_families signs (after_pass signs fs p) ps
+passes_with_families signs fs (p ∷ ps) =
+    (p, after_pass signs fs p) ∷ passes_with_families signs (after_pass signs fs p) ps
 
 -- each level with the families before it
 abbrev pub levels_with_families : ℕ → Families → Trace → List (LevelTrace × Families)
 levels_with_families signs fs [] = []
-levels_with_families signs fs (l ∷ ls) = (l, fs) ∷ levels_with_families signs (after_level signs fs l) ls
+levels_with_families signs fs (l ∷ ls) =
+    (l, fs) ∷ levels_with_families signs (after_level signs fs l) ls
 
--- the layout of families, where these are the patterns: how many cells are used, the greatest of them, and the tails
+-- the layout of families, where these are the patterns: how many cells are used, the greatest of
+-- them, and the tails
 abbrev pub layout_of : Families → Patterns → Layout
 layout_of fs P = record { taken = taken fs; top = top fs; tails = tails P }
 
--- what is told of the cells along a run: the layout before it, how many cells are used and the greatest after each pass that has a
--- candidate, and the layout after each level
+-- what is told of the cells along a run: the layout before it, how many cells are used and the
+-- greatest after each pass that has a candidate, and the layout after each level
 pub record CellsAccount : Type 0 where
   pub start : Layout
   pub passes : List (Pass × ℕ × ℕ)
   pub levels : List (ℕ × Layout)
 
--- the used cells and the greatest after each pass of a level that has a candidate, where the level begins with these families
+-- the used cells and the greatest after each pass of a level that has a candidate, where the level
+-- begins with these families
 abbrev pub pass_layouts : ℕ → Families → List PassTrace → List (Pass × ℕ × ℕ)
-pass_layouts signs fs ps = map (λ e. (e.0.pass, taken e.1, top e.1)) (filter (λ e. has_candidate e.0) (passes_with_families signs fs ps))
+pass_layouts signs fs ps = map (λ e. (e.0.pass, taken e.1, top e.1))
+    (filter (λ e. has_candidate e.0) (passes_with_families signs fs ps))
 
 -- the layout after a level that begins with these families
 abbrev pub level_layout : ℕ → Families → LevelTrace → ℕ × Layout

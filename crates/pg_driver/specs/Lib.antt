@@ -2,15 +2,6 @@ pub mod Dots
 pub mod Traces
 pub mod Accounts
 pub mod Layouts
-pub mod Counting
 pub mod Sound
 pub mod Told
-pub mod States
-pub mod Choosing
-pub mod DotSets
-pub mod OpenPositions
-pub mod OpenLevels
-pub mod PassWindows
-pub mod WordLevels
-pub mod LevelCounting
-pub mod Levels
+pub mod Inside

@@ -20,8 +20,8 @@ pub record IsSoundPass (r : PassRecord) : Type 0 where
 pub record IsSoundLevel (r : LevelRecord) : Type 0 where
   pub after : IsSmall r.after
 
--- what a run has recorded so far: the records of its passes and levels, how many windows the level that goes on has chosen, and
--- how many passes were begun
+-- what a run has recorded so far: the records of its passes and levels, how many windows the level
+-- that goes on has chosen, and how many passes were begun
 pub record Recorded : Type 0 where
   pub passes : List PassRecord
   pub levels : List LevelRecord
@@ -30,13 +30,24 @@ pub record Recorded : Type 0 where
 
 -- with a pass more, which has a record where it has a candidate
 abbrev pub with_pass : Recorded → PassRecord → Recorded
-with_pass r pass = record r { passes = if nat_lt 0 pass.candidates then r.passes ++ pass ∷ [] else r.passes; chosen = r.chosen + pass.chosen; begun = r.begun + 1 }
+with_pass r pass = record r {
+  passes = if nat_lt 0 pass.candidates then r.passes ++ pass ∷ []
+      else r.passes;
+  chosen = r.chosen + pass.chosen;
+  begun = r.begun + 1;
+}
 
 -- with the end of a level
 abbrev pub with_level : Recorded → ℕ → Totals → Option Layout → Recorded
-with_level r level after layout = record r { levels = r.levels ++ record { level = level; chosen = r.chosen; after = after; layout = layout } ∷ []; chosen = 0 }
+with_level r level after layout =
+    record r {
+      levels = r.levels
+          ++ record { level = level; chosen = r.chosen; after = after; layout = layout } ∷ [];
+      chosen = 0;
+    }
 
--- a run that is done: its patterns, its records, the totals of the patterns, the layout at its start, and how many passes were begun
+-- a run that is done: its patterns, its records, the totals of the patterns, the layout at its
+-- start, and how many passes were begun
 pub record Finished : Type 0 where
   pub patterns : List ((List ℕ × ℕ) × ℕ)
   pub passes : List PassRecord

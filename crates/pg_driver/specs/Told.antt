@@ -29,22 +29,26 @@ known_of m = record { patterns = m.patterns; hopeless = m.hopeless }
 abbrev pub run_from : Alphabet → List Word → Parameters → Meaning → Trace
 run_from t words parameters m = trace (over t words) parameters m.patterns
 
--- its final patterns, what is told of it, how many of its passes are begun, and where families are told, those at its end and what
--- is told of the cells
+-- its final patterns, what is told of it, how many of its passes are begun, and where families are
+-- told, those at its end and what is told of the cells
 abbrev pub patterns_from : Alphabet → List Word → Parameters → Meaning → Patterns
 patterns_from t words parameters m = final_patterns m.patterns (run_from t words parameters m)
 
 abbrev pub account_from : Alphabet → List Word → Parameters → Meaning → Account
-account_from t words parameters m = account (over t words) m.patterns (run_from t words parameters m)
+account_from t words parameters m = account (over t words) m.patterns
+    (run_from t words parameters m)
 
 abbrev pub begun_from : Alphabet → List Word → Parameters → Meaning → ℕ
 begun_from t words parameters m = begun (run_from t words parameters m)
 
 abbrev pub families_from : Alphabet → List Word → Parameters → Meaning → Option Families
-families_from t words parameters m = option_map (λ fs. final_families m.signs fs (run_from t words parameters m)) m.families
+families_from t words parameters m =
+    option_map (λ fs. final_families m.signs fs (run_from t words parameters m)) m.families
 
 abbrev pub cells_from : Alphabet → List Word → Parameters → Meaning → Option CellsAccount
-cells_from t words parameters m = option_map (λ fs. cells_account m.signs fs m.patterns (run_from t words parameters m)) m.families
+cells_from t words parameters m =
+    option_map (λ fs. cells_account m.signs fs m.patterns
+    (run_from t words parameters m)) m.families
 
 -- the line of a record of a pass, and of a record of a level
 abbrev pub line_of : PassRecord → PassLine
@@ -63,17 +67,26 @@ level_line_of r = record { level = r.level; chosen = r.chosen; after = r.after }
 
 -- what a run tells in its records
 abbrev pub account_of : Finished → Account
-account_of r = record { passes = map line_of r.passes; levels = map level_line_of r.levels; totals = r.totals }
+account_of r = record {
+  passes = map line_of r.passes;
+  levels = map level_line_of r.levels;
+  totals = r.totals;
+}
 
--- what a record of a pass tells of the cells, where it has a layout, and what a record of a level tells. Of the tails after a pass
--- nothing is said
+-- what a record of a pass tells of the cells, where it has a layout, and what a record of a level
+-- tells. Of the tails after a pass nothing is said
 abbrev pub layout_told : PassRecord → Option (Pass × ℕ × ℕ)
-layout_told r = option_map (λ l. (record { level = r.level; len = r.len; dot = r.dot }, l.taken, l.top)) r.layout
+layout_told r = option_map
+    (λ l. (record { level = r.level; len = r.len; dot = r.dot }, l.taken, l.top)) r.layout
 
 abbrev pub level_layout_told : LevelRecord → Option (ℕ × Layout)
 level_layout_told r = option_map (λ l. (r.level, l)) r.layout
 
--- the layouts that a run tells are those of the account; and where there is none, the run tells no layout
+-- the layouts that a run tells are those of the account; and where there is none, the run tells no
+-- layout
 abbrev pub TellsCells : Option CellsAccount → Finished → Type 0
-TellsCells (Some a) r = (r.first_layout ≡ Some a.start) × (map layout_told r.passes ≡ map Some a.passes) × (map level_layout_told r.levels ≡ map Some a.levels)
-TellsCells None r = (r.first_layout ≡ None) × All (λ p. p.layout ≡ None) r.passes × All (λ l. l.layout ≡ None) r.levels
+TellsCells (Some a) r = (r.first_layout ≡ Some a.start)
+    × (map layout_told r.passes ≡ map Some a.passes)
+    × (map level_layout_told r.levels ≡ map Some a.levels)
+TellsCells None r = (r.first_layout ≡ None) × All (λ p. p.layout ≡ None) r.passes
+    × All (λ l. l.layout ≡ None) r.levels

@@ -1,5 +1,5 @@
--- The run of a selection as a trace: every pass of every level, with what is known before it and with the windows that it counts.
--- No pass is skipped, and nothing here knows of cells.
+-- The run of a selection as a trace: every pass of every level, with what is known before it and
+-- with the windows that it counts. No pass is skipped, and nothing here knows of cells.
 use Rattle.std.specs.Prelude.{ℕ, ◌+◌, ◌-◌, Bool, true, false, not, List, [], ◌∷◌, map, filter, fold}
 use Rattle.std.specs.List.{flat_map, range_with_len, enumerate_from}
 use Rattle.std.specs.FinMap.Entries.{put}
@@ -26,8 +26,9 @@ pub record Known : Type 0 where
   pub patterns : Patterns
   pub hopeless : HopelessPlaces
 
--- a pass of the run: its level, length and dot, the parameters of its level, what is known before it, and its candidates, which
--- are the windows that it counts, in the order of signs, each with its sums of good and of bad
+-- a pass of the run: its level, length and dot, the parameters of its level, what is known before
+-- it, and its candidates, which are the windows that it counts, in the order of signs, each with
+-- its sums of good and of bad
 pub record PassTrace : Type 0 where
   pub pass : Pass
   pub params : LevelParams
@@ -60,7 +61,8 @@ abbrev pub is_left : Choice → Bool
 is_left Left = true
 is_left other = false
 
--- of candidates, those that are chosen, those that are hopeless, and both of these together, in their order
+-- of candidates, those that are chosen, those that are hopeless, and both of these together, in
+-- their order
 abbrev pub chosen_of : LevelParams → List Candidate → List Candidate
 chosen_of params cs = filter (λ c. is_chosen (choice_of params c)) cs
 
@@ -82,11 +84,14 @@ hopeless_in p = hopeless_of p.params p.candidates
 abbrev pub entered_in : PassTrace → List Candidate
 entered_in p = entered_of p.params p.candidates
 
--- what is known after a pass: each chosen window has the level as its value at the dot, and each hopeless one is hopeless there
+-- what is known after a pass: each chosen window has the level as its value at the dot, and each
+-- hopeless one is hopeless there
 abbrev pub known_after : PassTrace → Known
 known_after p = record {
-  patterns = fold (λ P c. raise P (c.window, p.pass.dot) p.pass.level) p.before.patterns (chosen_in p);
-  hopeless = fold (λ H c. put dotted_cmp (c.window, p.pass.dot) (tt {0}) H) p.before.hopeless (hopeless_in p);
+  patterns = fold (λ P c. raise P (c.window, p.pass.dot) p.pass.level) p.before.patterns
+      (chosen_in p);
+  hopeless = fold (λ H c. put dotted_cmp (c.window, p.pass.dot) (tt {0}) H) p.before.hopeless
+      (hopeless_in p);
 }
 
 -- a pass that is made when this is known
@@ -101,7 +106,9 @@ pass_made source params known pass = record {
 -- passes that are made one after the other: each begins with what is known after the one before it
 abbrev pub passes_made : Source → LevelParams → Known → List Pass → List PassTrace
 passes_made source params known [] = []
-passes_made source params known (pass ∷ passes) = pass_made source params known pass ∷ passes_made source params (known_after (pass_made source params known pass)) passes
+passes_made source params known (pass ∷ passes) =
+    pass_made source params known pass ∷ passes_made source params
+    (known_after (pass_made source params known pass)) passes
 
 -- what is known after passes: what is known after the last of them
 abbrev pub known_at_end : Known → List PassTrace → Known
@@ -109,11 +116,13 @@ known_at_end known passes = fold (λ _ p. known_after p) known passes
 
 -- the passes of a length: each dot in its order
 abbrev pub passes_of_length : ℕ → ℕ → List Pass
-passes_of_length number len = map (λ dot. record { level = number; len = len; dot = dot }) (order len)
+passes_of_length number len = map (λ dot. record { level = number; len = len; dot = dot })
+    (order len)
 
 -- the passes of a level in their order: those of each length
 abbrev pub passes_of : ℕ → LevelParams → List Pass
-passes_of number params = flat_map (passes_of_length number) (range_with_len params.pat_start (params.pat_finish + 1 - params.pat_start))
+passes_of number params = flat_map (passes_of_length number)
+    (range_with_len params.pat_start (params.pat_finish + 1 - params.pat_start))
 
 -- a level begins with these patterns and with nothing hopeless
 abbrev pub at_start : Patterns → Known
@@ -121,7 +130,12 @@ at_start P = record { patterns = P; hopeless = [] }
 
 -- a level that is made when these are the patterns
 abbrev pub level_made : Source → Patterns → ℕ × LevelParams → LevelTrace
-level_made source P level = record { number = level.0; before = P; passes = passes_made source level.1 (at_start P) (passes_of level.0 level.1) }
+level_made source P level =
+    record {
+      number = level.0;
+      before = P;
+      passes = passes_made source level.1 (at_start P) (passes_of level.0 level.1);
+    }
 
 -- the patterns after a level
 abbrev pub patterns_after : LevelTrace → Patterns
@@ -130,7 +144,9 @@ patterns_after l = (known_at_end (at_start l.before) l.passes).patterns
 -- levels that are made one after the other: each begins with the patterns after the one before it
 abbrev pub levels_made : Source → Patterns → List (ℕ × LevelParams) → Trace
 levels_made source P [] = []
-levels_made source P (level ∷ levels) = level_made source P level ∷ levels_made source (patterns_after (level_made source P level)) levels
+levels_made source P (level ∷ levels) =
+    level_made source P level ∷ levels_made source
+    (patterns_after (level_made source P level)) levels
 
 -- the trace of the run from starting patterns: one level for each of the parameters
 abbrev pub trace : Source → Parameters → Patterns → Trace

@@ -1,5 +1,6 @@
-//! The positions that count by their status and have a value above the level. They are counted as others, but no choice of the level
-//! changes their value, so that what is chosen of them stays as it is.
+//! The positions that count by their status and have a value above the level. They are counted as
+//! others, but no choice of the level changes their value, so that what is chosen of them stays as
+//! it is.
 ghost use Rattle.std.specs.Prelude.{◌≡◌, ◌≤◌, ◌<◌, ◌+◌, ◌*◌, ◌^◌, ◌++◌, ◌∷◌, [], nat_lt, false, true, if◌then◌else◌, None, length, slice_get, slice_index, slice_index_or, All, OnOk, is_some};
 ghost use Rattle.std.specs.Option.{option_map_or};
 ghost use Rattle.pg_types.specs.declared.limits.TheConstants.{FILE_MAX, WORD_LETTERS_MAX, WEIGHT_MAX};
@@ -7,18 +8,18 @@ ghost use Rattle.pg_types.specs.declared.parameters.LevelParams.{LevelParams};
 ghost use Rattle.pg_types.specs.Counts.{Counts};
 ghost use Rattle.pg_types.specs.Numbered.{AreNumbered, Windows};
 ghost use Rattle.pg_dict.specs.Word.{IsWord};
-ghost use Rattle.pg_dict.specs.Lent.{lent_word};
+ghost use Rattle.pg_dict.specs.Inside.Lent.{lent_word};
 ghost use Rattle.pg_select.specs.CountedPositions.{counts_as as counts_as_of, minima_of};
-ghost use Rattle.pg_select.specs.LawsAbove.{counts_above};
+ghost use Rattle.pg_select.specs.Inside.LawsAbove.{counts_above};
 ghost use Rattle.pg_select.specs.Positions.{HasValues};
 ghost use Rattle.pg_select.specs.Statuses.{status};
 ghost use Rattle.pg_select.specs.Windows.{Patterns};
 ghost use Rattle.pg_driver.specs.declared.pass_windows.TheConstants.{NOT_COUNTED};
-ghost use Rattle.pg_driver.specs.OpenLevels.{listed_in, open_as};
-ghost use Rattle.pg_driver.specs.OpenPositions.{IsPlaced};
-ghost use Rattle.pg_driver.specs.PassWindows.{AreFates, HaveNumbers, IsNumbered, is_counted_at};
+ghost use Rattle.pg_driver.specs.Inside.OpenLevels.{listed_in, open_as};
+ghost use Rattle.pg_driver.specs.Inside.OpenPositions.{IsPlaced};
+ghost use Rattle.pg_driver.specs.Inside.PassWindows.{AreFates, HaveNumbers, IsNumbered, is_counted_at};
 ghost use Rattle.pg_driver.specs.Traces.{is_chosen};
-ghost use Rattle.pg_driver.specs.WordLevels.{TookKept, kept_by, with_kept};
+ghost use Rattle.pg_driver.specs.Inside.WordLevels.{TookKept, kept_by, with_kept};
 
 use crate::dot_set::DotSet;
 use crate::marks::counts_as;
@@ -31,7 +32,8 @@ use pg_translate::Table;
 use pg_types::Mark;
 use std::alloc::AllocError;
 
-/// The weights of positions that were chosen and stay as they are: of the good ones, and of the bad ones.
+/// The weights of positions that were chosen and stay as they are: of the good ones, and of the bad
+/// ones.
 #[derive(Clone, Copy)]
 pub struct Kept {
     /// The sum of the good weights.
@@ -40,16 +42,19 @@ pub struct Kept {
     pub bad: u64,
 }
 
-/// Whether position `p` of a word, which has this status, counts at a level and the value that was found for it is above the level.
+/// Whether position `p` of a word, which has this status, counts at a level and the value that was
+/// found for it is above the level.
 pub fn is_above(level: u8, found: &WordState, p: usize, mark: Mark) -> bool
     requires { p < WORD_LETTERS_MAX + 2 }
-    ensures { result ≡ is_some (if nat_lt level (slice_index found.now.values p) then counts_as_of level mark
+    ensures { result ≡ is_some
+        (if nat_lt level (slice_index found.now.values p) then counts_as_of level mark
         else None) }
 {
     found.value(p) > level && counts_as(level, mark).is_some()
 }
 
-/// Lists position `p` of a word, where it counts at a level and the value that was found for it is above the level.
+/// Lists position `p` of a word, where it counts at a level and the value that was found for it is
+/// above the level.
 fn list_at(
     level: u8,
     word: u32,
@@ -76,7 +81,8 @@ fn list_at(
     Ok(())
 }
 
-/// Lists the positions of a word in reach that count at a level and have a value above it, by the values that were found.
+/// Lists the positions of a word in reach that count at a level and have a value above it, by the
+/// values that were found.
 pub fn list_above(
     table: &Table,
     level: u8,
@@ -86,8 +92,10 @@ pub fn list_above(
     above: &mut Vec<OpenPosition>,
 ) -> Result<(), AllocError>
     requires { IsWord (lent_word w.now) }
-    ensures { (P : Patterns) → HasValues P w.now.signs.now found.now.values → OnOk result (above.new.items
-        ≡ above.old.items ++ listed_in (minima_of table.now) (counts_above level P) word (lent_word w.now)) }
+    ensures { (P : Patterns) → HasValues P w.now.signs.now found.now.values
+        → OnOk result (above.new.items
+        ≡ above.old.items ++ listed_in (minima_of table.now)
+        (counts_above level P) word (lent_word w.now)) }
 {
     let Some((first, end)) = positions(table, w) else {
         return Ok(());
@@ -142,7 +150,8 @@ fn add_kept(
     }
 }
 
-/// The weights of the listed positions whose windows of a pass were chosen, by the numbers of these windows. It takes no memory.
+/// The weights of the listed positions whose windows of a pass were chosen, by the numbers of these
+/// windows. It takes no memory.
 pub fn kept_above(
     dictionary: &Dictionary,
     pass: Pass,

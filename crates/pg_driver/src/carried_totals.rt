@@ -1,6 +1,6 @@
 //! The totals after a pass, from those before it.
 ghost use Rattle.std.specs.Prelude.{◌≡◌, ◌≤◌, ◌<◌, ◌^◌, MatchBool};
-ghost use Rattle.pg_select.specs.LawsSteps.{FindsMore, PreventsMore};
+ghost use Rattle.pg_select.specs.Inside.LawsSteps.{FindsMore, PreventsMore};
 ghost use Rattle.pg_select.specs.Statuses.{is_odd};
 ghost use Rattle.pg_driver.specs.Sound.{IsSmall};
 ghost use Rattle.pg_types.specs.Limits.{sums_limit};
@@ -9,13 +9,15 @@ use pg_types::Totals;
 
 /// The totals after a pass whose chosen windows have these sums of good and bad weights.
 ///
-/// At a level that finds, the good are found now and missed no more, and the bad are errors. At one that prevents, the good are
-/// errors no more, and the bad are missed and found no more.
+/// At a level that finds, the good are found now and missed no more, and the bad are errors. At one
+/// that prevents, the good are errors no more, and the bad are missed and found no more.
 pub fn totals_after(before: Totals, level: u8, good: u64, bad: u64) -> Totals
     requires small { IsSmall before }
     requires sums { (good < sums_limit) × (bad < sums_limit) }
-    requires within { MatchBool (is_odd level) (good ≤ before.missed) ((bad ≤ before.good) × (good ≤ before.bad)) }
-    ensures { MatchBool (is_odd level) (FindsMore before result good bad) (PreventsMore before result good bad) }
+    requires within { MatchBool (is_odd level) (good ≤ before.missed)
+        ((bad ≤ before.good) × (good ≤ before.bad)) }
+    ensures { MatchBool (is_odd level) (FindsMore before result good bad)
+        (PreventsMore before result good bad) }
 {
     if level % 2 == 1 {
         Totals {

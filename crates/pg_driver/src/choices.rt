@@ -5,11 +5,11 @@ ghost use Rattle.pg_types.specs.Parameters.{IsLevel};
 ghost use Rattle.pg_types.specs.Counts.{is_counted};
 ghost use Rattle.pg_types.specs.Numbered.{AreInOrder};
 ghost use Rattle.pg_select.specs.Choices.{choice};
-ghost use Rattle.pg_driver.specs.States.{IsPass};
-ghost use Rattle.pg_driver.specs.PassWindows.{AreFates, ArePlaces, IsCandidate, IsPlace};
-ghost use Rattle.pg_driver.specs.Counting.{HasRoom};
+ghost use Rattle.pg_driver.specs.Inside.States.{IsPass};
+ghost use Rattle.pg_driver.specs.Inside.PassWindows.{AreFates, ArePlaces, IsCandidate, IsPlace};
+ghost use Rattle.pg_driver.specs.Inside.Counting.{HasRoom};
 ghost use Rattle.pg_types.specs.Limits.{sums_limit};
-ghost use Rattle.pg_driver.specs.Choosing.{with_candidates, no_choices, candidate_of, HasChosen};
+ghost use Rattle.pg_driver.specs.Inside.Choosing.{with_candidates, no_choices, candidate_of, HasChosen};
 
 use crate::pass_windows::{Place, go_to};
 use pg_dict::Dictionary;
@@ -32,7 +32,8 @@ pub struct Choices {
     pub bad: u64,
 }
 
-/// Chooses the candidate at the cursor, which has these sums of weights, makes it hopeless or leaves it.
+/// Chooses the candidate at the cursor, which has these sums of weights, makes it hopeless or
+/// leaves it.
 fn choose_at<E: Engine>(
     engine: &mut E,
     params: &LevelParams,
@@ -48,11 +49,14 @@ fn choose_at<E: Engine>(
     requires sums { (choices.old.good + good < sums_limit) × (choices.old.bad + bad < sums_limit) }
     requires few { choices.old.candidates < FILE_MAX }
     requires sound { choices.old.chosen + choices.old.hopeless ≤ choices.old.candidates }
-    ensures ok { OnOk result (HasChosen params.now (record { window = at.now; good = good; bad = bad } ∷ [])
+    ensures ok { OnOk result
+        (HasChosen params.now (record { window = at.now; good = good; bad = bad } ∷ [])
         (E.meaning engine.old) (E.meaning engine.new)) }
     ensures choices { OnOk result (choices.new
-        ≡ with_candidates params.now choices.old (record { window = at.now; good = good; bad = bad } ∷ [])) }
-    ensures sound { OnOk result (choices.new.chosen + choices.new.hopeless ≤ choices.new.candidates) }
+        ≡ with_candidates params.now choices.old
+        (record { window = at.now; good = good; bad = bad } ∷ [])) }
+    ensures sound { OnOk result
+        (choices.new.chosen + choices.new.hopeless ≤ choices.new.candidates) }
     ensures signs { (E.meaning engine.new).signs ≡ (E.meaning engine.old).signs }
 {
     choices.candidates += 1;
@@ -72,8 +76,8 @@ fn choose_at<E: Engine>(
     Ok(())
 }
 
-/// Chooses the candidate with the number, makes it hopeless or leaves it. Where it is left, neither its signs nor its sums are read.
-/// What the cursor holds does not matter.
+/// Chooses the candidate with the number, makes it hopeless or leaves it. Where it is left, neither
+/// its signs nor its sums are read. What the cursor holds does not matter.
 fn choose_one<E: Engine>(
     engine: &mut E,
     dictionary: &Dictionary,
@@ -95,12 +99,14 @@ fn choose_one<E: Engine>(
     requires few { choices.old.candidates < FILE_MAX }
     requires sound { choices.old.chosen + choices.old.hopeless ≤ choices.old.candidates }
     ensures ok { (u : List ℕ) (sums : ℕ × ℕ) → IsCandidate (E.meaning engine.old) number u sums
-        → OnOk result (HasChosen params.now (record { window = u; good = sums.0; bad = sums.1 } ∷ [])
+        → OnOk result (HasChosen params.now
+        (record { window = u; good = sums.0; bad = sums.1 } ∷ [])
         (E.meaning engine.old) (E.meaning engine.new)) }
     ensures choices { (u : List ℕ) (sums : ℕ × ℕ) → IsCandidate (E.meaning engine.old) number u sums
         → OnOk result (choices.new ≡ with_candidates params.now choices.old
         (record { window = u; good = sums.0; bad = sums.1 } ∷ [])) }
-    ensures sound { OnOk result (choices.new.chosen + choices.new.hopeless ≤ choices.new.candidates) }
+    ensures sound { OnOk result
+        (choices.new.chosen + choices.new.hopeless ≤ choices.new.candidates) }
     ensures signs { (E.meaning engine.new).signs ≡ (E.meaning engine.old).signs }
 {
     if let Choice::Left = fate {
@@ -112,8 +118,8 @@ fn choose_one<E: Engine>(
     choose_at(engine, params, at, good, bad, fate, choices)
 }
 
-/// Chooses each candidate of a pass, makes it hopeless or leaves it, in the order of signs, as was decided by number. The signs of a
-/// window are read where it was first counted.
+/// Chooses each candidate of a pass, makes it hopeless or leaves it, in the order of signs, as was
+/// decided by number. The signs of a window are read where it was first counted.
 pub fn choose_all<E: Engine>(
     engine: &mut E,
     dictionary: &Dictionary,
@@ -127,13 +133,16 @@ pub fn choose_all<E: Engine>(
     requires level { IsLevel params.now }
     requires room { HasRoom (E.meaning engine.old).counts 0 }
     requires places { ArePlaces pass dictionary.now (E.meaning engine.old).windows places.now }
-    requires fates { AreFates params.now (E.meaning engine.old).counts (E.meaning engine.old).windows fates.now }
-    requires order { AreInOrder (E.meaning engine.old).windows (E.meaning engine.old).counts order.now }
+    requires fates { AreFates params.now (E.meaning engine.old).counts
+        (E.meaning engine.old).windows fates.now }
+    requires order { AreInOrder (E.meaning engine.old).windows
+        (E.meaning engine.old).counts order.now }
     ensures ok { OnOk result (HasChosen params.now (map candidate_of (E.meaning engine.old).counts)
         (E.meaning engine.old) (E.meaning engine.new)) }
     ensures choices { IfOk result (λ choices. choices
         ≡ with_candidates params.now no_choices (map candidate_of (E.meaning engine.old).counts)) }
-    ensures sound { IfOk result (λ choices. choices.chosen + choices.hopeless ≤ choices.candidates) }
+    ensures sound { IfOk result
+        (λ choices. choices.chosen + choices.hopeless ≤ choices.candidates) }
     ensures few { IfOk result (λ choices. choices.candidates ≤ FILE_MAX) }
     ensures signs { (E.meaning engine.new).signs ≡ (E.meaning engine.old).signs }
 {

@@ -5,8 +5,8 @@ use std::marker::Model;
 /// The room for the dots of the greatest length, and for the dot behind them.
 const ROOM: usize = LENGTH_MAX as usize + 2;
 
-/// The passes of a length, and of the next, that can be skipped, since a pass of the same level that is shorter by a sign left no
-/// candidate. Each has a flag by its dot.
+/// The passes of a length, and of the next, that can be skipped, since a pass of the same level
+/// that is shorter by a sign left no candidate. Each has a flag by its dot.
 #[derive(Drop)]
 pub struct Closed {
     here: [bool; ROOM],
@@ -14,7 +14,7 @@ pub struct Closed {
 }
 
 impl Model for Closed {
-    ghost use Rattle.pg_driver.specs.Levels.{ClosedDots};
+    ghost use Rattle.pg_driver.specs.Inside.Levels.{ClosedDots};
 
     ghost Value = { ClosedDots };
 
@@ -24,7 +24,7 @@ impl Model for Closed {
 impl Closed {
     ghost use Rattle.std.specs.Prelude.{◌≡◌, ◌≤◌, ◌+◌, ◌==◌, ◌&&◌, ◌||◌, ℕ, false};
     ghost use Rattle.pg_types.specs.declared.limits.TheConstants.{LENGTH_MAX};
-    ghost use Rattle.pg_driver.specs.Levels.{is_set, unset};
+    ghost use Rattle.pg_driver.specs.Inside.Levels.{is_set, unset};
 
     /// No flag is set, as where a level begins.
     pub fn new() -> Closed
@@ -45,8 +45,8 @@ impl Closed {
         self.here[usize::from(dot)]
     }
 
-    /// Notes whether the pass of the present length with this dot left no candidate. Where it left none, the passes that are
-    /// longer by a sign, with the same dot and the next, can be skipped.
+    /// Notes whether the pass of the present length with this dot left no candidate. Where it left
+    /// none, the passes that are longer by a sign, with the same dot and the next, can be skipped.
     pub fn set(&mut self, dot: u8, left_none: bool)
         requires { dot ≤ LENGTH_MAX }
         ensures here { self.new.here ≡ self.old.here }

@@ -1,16 +1,15 @@
 //! The ways to count the windows of a level.
 ghost use Rattle.std.specs.Prelude.{◌≡◌, ◌≤◌, ◌<◌, ◌+◌, [], ℕ, length, IfOk, OnOk};
-ghost use Rattle.pg_types.specs.declared.limits.TheConstants.{LENGTH_MAX};
 ghost use Rattle.pg_dict.specs.Word.{SignsAtMost};
-ghost use Rattle.pg_select.specs.LawsSteps.{IsBelow};
+ghost use Rattle.pg_select.specs.Inside.LawsSteps.{IsBelow};
 ghost use Rattle.pg_select.specs.CountedPositions.{counted_positions, minima_of};
 ghost use Rattle.pg_driver.specs.Accounts.{totals_by};
-ghost use Rattle.pg_driver.specs.Counting.{counting, HasRoom};
+ghost use Rattle.pg_driver.specs.Inside.Counting.{counting, HasRoom};
 ghost use Rattle.pg_driver.specs.declared.pass_windows.TheConstants.{NOT_COUNTED};
-ghost use Rattle.pg_driver.specs.LevelCounting.{AreNumberedIn, ArePlaced, CanGoOn, GoesOnAfter, IsCounted, IsOverOpen, IsReady, totals_in};
-ghost use Rattle.pg_driver.specs.PassWindows.{AreFates, ArePlaces};
+ghost use Rattle.pg_driver.specs.Inside.LevelCounting.{AreNumberedIn, ArePlaced, CanGoOn, GoesOnAfter, IsCounted, IsOverOpen, IsReady, totals_in};
+ghost use Rattle.pg_driver.specs.Inside.PassWindows.{AreFates, ArePlaces};
 ghost use Rattle.pg_driver.specs.Sound.{IsSmall};
-ghost use Rattle.pg_driver.specs.States.{IsPass};
+ghost use Rattle.pg_driver.specs.Inside.States.{IsPass};
 ghost use Rattle.pg_driver.specs.Told.{known_of, over};
 ghost use Rattle.pg_driver.specs.Traces.{Known, Source};
 
@@ -18,7 +17,7 @@ use crate::above_positions::kept_above;
 use crate::carried_totals::totals_after;
 use crate::choices::Choices;
 use crate::open_passes::{close_dots, count_open};
-use crate::open_positions::{OpenLevel, next_length, open_level};
+use crate::open_positions::{OpenLevel, open_level};
 use crate::pass_windows::PassWindows;
 use crate::word_level::WordLevel;
 use pg_dict::Dictionary;
@@ -30,16 +29,16 @@ use std::alloc::{AllocError, Global};
 /// How the windows of a level are counted.
 #[derive(Drop)]
 pub enum Counting {
-    /// At the open positions: no word is hyphenated after the level's start. It is exact where no pattern has a value of the
-    /// level or more then.
+    /// At the open positions: no word is hyphenated after the level's start. It is exact where no
+    /// pattern has a value of the level or more then.
     Open(OpenLevel),
     /// At the positions of each word, which is hyphenated in each pass, and at no other moment.
     EachWord(WordLevel),
 }
 
 impl Counting {
-    /// The way to count of a level that begins: over open positions, unless a starting pattern has a value of the level or more.
-    /// `greatest` is the greatest value of the starting patterns.
+    /// The way to count of a level that begins: over open positions, unless a starting pattern has
+    /// a value of the level or more. `greatest` is the greatest value of the starting patterns.
     pub fn start<E: Engine>(
         alloc: Global,
         engine: &E,
@@ -52,7 +51,8 @@ impl Counting {
         requires hopeless { (E.meaning engine.now).hopeless ≡ [] }
         requires below { greatest < level → IsBelow level (E.meaning engine.now).patterns }
         ensures ready { IfOk result (λ counting. (len : ℕ)
-            → IsReady (over table.now dictionary.now) level len (known_of (E.meaning engine.now)) counting) }
+            → IsReady (over table.now dictionary.now) level len
+            (known_of (E.meaning engine.now)) counting) }
         ensures form { IfOk result (λ counting. greatest < level → IsOverOpen counting) }
     {
         // A minimum is at least 1, so that there are no more positions than letters.
@@ -65,8 +65,9 @@ impl Counting {
         Ok(Counting::Open(opened))
     }
 
-    /// Counts the windows of a pass that has begun, and gives the totals before it. Each position that is kept has the number of its
-    /// window, and each window the place where it was first counted.
+    /// Counts the windows of a pass that has begun, and gives the totals before it. Each position
+    /// that is kept has the number of its window, and each window the place where it was first
+    /// counted.
     pub fn count<E: Engine>(
         &mut self,
         engine: &mut E,
@@ -84,7 +85,8 @@ impl Counting {
             (known_of (E.meaning engine.old)) self.old }
         ensures ok { OnOk result (E.meaning engine.new
             ≡ counting (E.meaning engine.old)
-            (counted_positions (minima_of table.now) dictionary.now pass (E.meaning engine.old).patterns
+            (counted_positions (minima_of table.now) dictionary.now pass
+            (E.meaning engine.old).patterns
             (E.meaning engine.old).hopeless)) }
         ensures totals { IfOk result (λ before. before
             ≡ totals_by (over table.now dictionary.now) (E.meaning engine.old).patterns) }
@@ -93,7 +95,8 @@ impl Counting {
         ensures ready { OnOk result (IsReady (over table.now dictionary.now) pass.level pass.len
             (known_of (E.meaning engine.old)) self.new) }
         ensures counted { OnOk result (IsCounted self.new) }
-        ensures numbers { OnOk result (AreNumberedIn pass (E.meaning engine.new).counts dictionary.now
+        ensures numbers { OnOk result
+            (AreNumberedIn pass (E.meaning engine.new).counts dictionary.now
             (E.meaning engine.new).windows self.new windows.new.numbers.items) }
         ensures places { OnOk result (ArePlaces pass dictionary.now (E.meaning engine.new).windows
             windows.new.places.items) }
@@ -102,11 +105,12 @@ impl Counting {
         windows.clear();
         match self {
             Counting::Open(open) => {
+                open.dots.reach(pass.dot)?;
                 count_open(
                     engine,
                     dictionary,
                     pass,
-                    &open.positions,
+                    &open.dots,
                     &mut windows.places,
                     &mut windows.numbers,
                 )?;
@@ -116,8 +120,9 @@ impl Counting {
         }
     }
 
-    /// Takes in what was chosen in a pass: the open positions have dots closed, and the totals are carried on. A position whose value
-    /// is above the level stays as it is, so that it is left out of what was chosen. No window is looked up. It takes no memory.
+    /// Takes in what was chosen in a pass: the open positions have dots closed, and the totals are
+    /// carried on. A position whose value is above the level stays as it is, so that it is left out
+    /// of what was chosen. No window is looked up. It takes no memory.
     pub fn after_choices<E: Engine>(
         &mut self,
         engine: &E,
@@ -129,22 +134,27 @@ impl Counting {
     )
         requires ranges { IsPass pass }
         requires placed { ArePlaced dictionary.now self.old }
-        requires fates { AreFates params.now (E.meaning engine.now).counts (E.meaning engine.now).windows
+        requires fates { AreFates params.now (E.meaning engine.now).counts
+            (E.meaning engine.now).windows
             windows.now.fates.items }
         requires few { length windows.now.fates.items ≤ NOT_COUNTED }
         requires numbers { AreNumberedIn pass (E.meaning engine.now).counts dictionary.now
             (E.meaning engine.now).windows self.old windows.now.numbers.items }
-        requires totals { CanGoOn params.now pass (E.meaning engine.now).counts dictionary.now choices self.old }
-        ensures { GoesOnAfter params.now pass (E.meaning engine.now).counts dictionary.now choices self.old self.new }
+        requires totals { CanGoOn params.now pass
+            (E.meaning engine.now).counts dictionary.now choices self.old }
+        ensures { GoesOnAfter params.now pass
+            (E.meaning engine.now).counts dictionary.now choices self.old self.new }
     {
         engine.kept();
         match self {
             Counting::Open(open) => {
+                let signs = dictionary.all_signs();
                 close_dots(
                     pass.dot,
                     &windows.fates,
                     &windows.numbers,
-                    &mut open.positions,
+                    signs.len(),
+                    &mut open.dots,
                 );
                 open.totals = totals_after(open.totals, pass.level, choices.good, choices.bad);
             }
@@ -164,15 +174,16 @@ impl Counting {
     }
 
     /// Goes on to the next length.
-    pub fn next_length(&mut self, len: u8)
-        requires { len ≤ LENGTH_MAX }
-        ensures ready { (source : Source) (level : ℕ) (known : Known) → IsReady source level len known self.old
-            → IsReady source level (len + 1) known self.new }
-        ensures counted { IsCounted self.old → IsCounted self.new }
+    pub fn next_length(&mut self) -> Result<(), AllocError>
+        ensures ready { OnOk result ((source : Source) (level len : ℕ) (known : Known)
+            → IsReady source level len known self.old
+            → IsReady source level (len + 1) known self.new) }
+        ensures counted { OnOk result (IsCounted self.old → IsCounted self.new) }
     {
         if let Counting::Open(open) = self {
-            next_length(&mut open.positions, len);
+            open.dots.next_length()?;
         }
+        Ok(())
     }
 
     /// The totals that are carried. No word is hyphenated for them.

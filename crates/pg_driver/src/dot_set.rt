@@ -1,7 +1,7 @@
 //! Sets of dots.
 ghost use Rattle.std.specs.Prelude.{◌≡◌, ◌≤◌, ◌||◌, ◌==◌, ℕ, true, false};
 ghost use Rattle.pg_types.specs.declared.limits.TheConstants.{LENGTH_MAX};
-ghost use Rattle.pg_driver.specs.DotSets.{has_dot, no_dots, all_dots, with_dot, longer_dots, is_full};
+ghost use Rattle.pg_driver.specs.Inside.DotSets.{has_dot, no_dots, all_dots, with_dot, longer_dots, is_full};
 
 /// A set of dots, each 0 to 15.
 #[derive(Clone, Copy)]

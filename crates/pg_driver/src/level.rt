@@ -3,13 +3,13 @@ ghost use Rattle.std.specs.Prelude.{ℕ, ◌≡◌, ◌≤◌, ◌<◌, ◌+◌,
 ghost use Rattle.pg_types.specs.declared.limits.TheConstants.{FILE_MAX, LENGTH_MAX, LEVEL_MAX};
 ghost use Rattle.pg_types.specs.Parameters.{IsLevel};
 ghost use Rattle.pg_dict.specs.Word.{SignsAtMost};
-ghost use Rattle.pg_select.specs.LawsSteps.{IsBelow};
+ghost use Rattle.pg_select.specs.Inside.LawsSteps.{IsBelow};
 ghost use Rattle.pg_driver.specs.Accounts.{totals_by};
-ghost use Rattle.pg_driver.specs.LevelCounting.{IsCounted, IsReady, TellsTotals};
-ghost use Rattle.pg_driver.specs.Levels.{AreRecorded, DidLevel, GoesOn, WillCount, all_made_by, point};
+ghost use Rattle.pg_driver.specs.Inside.LevelCounting.{IsCounted, IsReady, TellsTotals};
+ghost use Rattle.pg_driver.specs.Inside.Levels.{AreRecorded, DidLevel, GoesOn, WillCount, all_made_by, point};
 ghost use Rattle.pg_driver.specs.Sound.{IsSmall, IsSoundPass};
 ghost use Rattle.pg_types.specs.Limits.{begun_before_pass, length_passes, level_passes};
-ghost use Rattle.pg_driver.specs.States.{DidPass, IsPass, made_by, state_of, state_at_end};
+ghost use Rattle.pg_driver.specs.Inside.States.{DidPass, IsPass, made_by, state_of, state_at_end};
 ghost use Rattle.pg_driver.specs.Told.{known_of, over};
 ghost use Rattle.pg_driver.specs.Traces.{level_made, passes_of, passes_of_length};
 
@@ -25,7 +25,8 @@ use pg_translate::Table;
 use pg_types::{LevelParams, Totals};
 use std::alloc::{AllocError, Global};
 
-/// Does a pass: counts its windows, decides what becomes of each, and then chooses among its candidates.
+/// Does a pass: counts its windows, decides what becomes of each, and then chooses among its
+/// candidates.
 fn run_pass<E: Engine>(
     engine: &mut E,
     dictionary: &Dictionary,
@@ -39,9 +40,11 @@ fn run_pass<E: Engine>(
     requires level { IsLevel params.now }
     requires begun { (E.meaning engine.old).begun < begun_before_pass }
     requires signs { SignsAtMost (E.meaning engine.old).signs dictionary.now }
-    requires ready { IsReady (over table.now dictionary.now) pass.level pass.len (known_of (E.meaning engine.old))
+    requires ready { IsReady (over table.now dictionary.now) pass.level pass.len
+        (known_of (E.meaning engine.old))
         counting.old }
-    ensures done { IfOk result (DidPass (over table.now dictionary.now) params.now pass (E.meaning engine.old)
+    ensures done { IfOk result
+        (DidPass (over table.now dictionary.now) params.now pass (E.meaning engine.old)
         (E.meaning engine.new)) }
     ensures sound { IfOk result IsSoundPass }
     ensures few { IfOk result (λ r. r.chosen ≤ FILE_MAX) }
@@ -96,12 +99,15 @@ fn run_or_skip<E: Engine>(
     requires few { records.old.begun < begun_before_pass }
     requires chosen { records.old.chosen + FILE_MAX < begun_before_pass }
     requires signs { SignsAtMost (E.meaning engine.old).signs dictionary.now }
-    requires ready { IsReady (over table.now dictionary.now) pass.level pass.len (known_of (E.meaning engine.old))
+    requires ready { IsReady (over table.now dictionary.now) pass.level pass.len
+        (known_of (E.meaning engine.old))
         counting.old }
     ensures ok { OnOk result (GoesOn (over table.now dictionary.now) pass.level pass.len
         (made_by (over table.now dictionary.now) params.now (E.meaning engine.old) pass ∷ [])
-        (point (E.meaning engine.old) records.old closed.old) (point (E.meaning engine.new) records.new closed.new)) }
-    ensures begun { OnOk result ((E.meaning engine.new).begun + records.old.begun ≡ (E.meaning engine.old).begun
+        (point (E.meaning engine.old) records.old closed.old)
+        (point (E.meaning engine.new) records.new closed.new)) }
+    ensures begun { OnOk result
+        ((E.meaning engine.new).begun + records.old.begun ≡ (E.meaning engine.old).begun
         + records.new.begun) }
     ensures few { OnOk result (records.new.begun ≤ records.old.begun + 1) }
     ensures chosen { OnOk result (records.new.chosen ≤ records.old.chosen + FILE_MAX) }
@@ -141,17 +147,20 @@ fn run_length<E: Engine>(
     requires few { records.old.begun + length_passes < begun_before_pass }
     requires chosen { records.old.chosen + length_passes * FILE_MAX < begun_before_pass }
     requires signs { SignsAtMost (E.meaning engine.old).signs dictionary.now }
-    requires ready { IsReady (over table.now dictionary.now) number len (known_of (E.meaning engine.old))
+    requires ready { IsReady (over table.now dictionary.now) number len
+        (known_of (E.meaning engine.old))
         counting.old }
     requires counts { WillCount closed.old counting.old }
     ensures ok { OnOk result (GoesOn (over table.now dictionary.now) number len
         (all_made_by (over table.now dictionary.now) params.now (E.meaning engine.old)
         (passes_of_length number len)) (point (E.meaning engine.old) records.old closed.old)
         (point (E.meaning engine.new) records.new closed.new)) }
-    ensures begun { OnOk result ((E.meaning engine.new).begun + records.old.begun ≡ (E.meaning engine.old).begun
+    ensures begun { OnOk result
+        ((E.meaning engine.new).begun + records.old.begun ≡ (E.meaning engine.old).begun
         + records.new.begun) }
     ensures few { OnOk result (records.new.begun ≤ records.old.begun + length_passes) }
-    ensures chosen { OnOk result (records.new.chosen ≤ records.old.chosen + length_passes * FILE_MAX) }
+    ensures chosen { OnOk result
+        (records.new.chosen ≤ records.old.chosen + length_passes * FILE_MAX) }
     ensures ready { OnOk result (IsReady (over table.now dictionary.now) number len
         (known_of (E.meaning engine.new)) counting.new) }
     ensures counted { OnOk result (IsCounted counting.new) }
@@ -194,14 +203,17 @@ fn run_lengths<E: Engine>(
         ≡ state_at_end (E.meaning engine.old).signs (state_of (E.meaning engine.old))
         (all_made_by (over table.now dictionary.now) params.now (E.meaning engine.old)
         (passes_of number params.now))) }
-    ensures records { OnOk result (AreRecorded (over table.now dictionary.now) (E.meaning engine.old).signs
+    ensures records { OnOk result
+        (AreRecorded (over table.now dictionary.now) (E.meaning engine.old).signs
         (E.meaning engine.old).families
         (all_made_by (over table.now dictionary.now) params.now (E.meaning engine.old)
         (passes_of number params.now)) records.old records.new) }
-    ensures begun { OnOk result ((E.meaning engine.new).begun + records.old.begun ≡ (E.meaning engine.old).begun
+    ensures begun { OnOk result
+        ((E.meaning engine.new).begun + records.old.begun ≡ (E.meaning engine.old).begun
         + records.new.begun) }
     ensures few { OnOk result (records.new.begun ≤ records.old.begun + level_passes) }
-    ensures ready { OnOk result (TellsTotals (over table.now dictionary.now) (E.meaning engine.new).patterns
+    ensures ready { OnOk result
+        (TellsTotals (over table.now dictionary.now) (E.meaning engine.new).patterns
         counting.new) }
     ensures signs { (E.meaning engine.new).signs ≡ (E.meaning engine.old).signs }
 {
@@ -221,13 +233,13 @@ fn run_lengths<E: Engine>(
             records,
         )?;
         closed.next_length();
-        counting.next_length(len);
+        counting.next_length()?;
     }
     Ok(())
 }
 
-/// Does a level: its passes, and what stands at its end. Gives the totals at its end. `greatest` is the greatest value of the
-/// starting patterns. What `windows` holds does not matter.
+/// Does a level: its passes, and what stands at its end. Gives the totals at its end. `greatest` is
+/// the greatest value of the starting patterns. What `windows` holds does not matter.
 pub fn run_level<E: Engine>(
     alloc: Global,
     engine: &mut E,
@@ -248,13 +260,15 @@ pub fn run_level<E: Engine>(
     requires signs { SignsAtMost (E.meaning engine.old).signs dictionary.now }
     requires below { greatest < number → IsBelow number (E.meaning engine.old).patterns }
     ensures done { OnOk result (DidLevel (over table.now dictionary.now)
-        (level_made (over table.now dictionary.now) (E.meaning engine.old).patterns (number, params.now))
+        (level_made (over table.now dictionary.now)
+        (E.meaning engine.old).patterns (number, params.now))
         (E.meaning engine.old) (E.meaning engine.new) records.old records.new) }
     ensures totals { IfOk result (λ after. after
         ≡ totals_by (over table.now dictionary.now) (E.meaning engine.new).patterns) }
     ensures small { IfOk result IsSmall }
     ensures tidy { OnOk result ((E.meaning engine.new).tidy ≡ true) }
-    ensures begun { OnOk result ((E.meaning engine.new).begun + records.old.begun ≡ (E.meaning engine.old).begun
+    ensures begun { OnOk result
+        ((E.meaning engine.new).begun + records.old.begun ≡ (E.meaning engine.old).begun
         + records.new.begun) }
     ensures few { OnOk result (records.new.begun ≤ records.old.begun + level_passes) }
     ensures chosen { OnOk result (records.new.chosen ≡ 0) }

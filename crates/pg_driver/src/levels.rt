@@ -3,7 +3,7 @@ ghost use Rattle.std.specs.Prelude.{◌≡◌, ◌≤◌, ◌<◌, ◌+◌, ◌*
 ghost use Rattle.pg_types.specs.declared.limits.TheConstants.{LEVEL_MAX};
 ghost use Rattle.pg_dict.specs.Word.{SignsAtMost};
 ghost use Rattle.pg_driver.specs.Accounts.{totals_by};
-ghost use Rattle.pg_driver.specs.Levels.{DidRun};
+ghost use Rattle.pg_driver.specs.Inside.Levels.{DidRun};
 ghost use Rattle.pg_driver.specs.Sound.{IsSmall};
 ghost use Rattle.pg_types.specs.Limits.{begun_before_run, level_passes};
 ghost use Rattle.pg_driver.specs.Told.{TellsCells, account_from, account_of, begun_from, cells_from, families_from, over, patterns_from, run_from};
@@ -40,7 +40,8 @@ fn run_levels<E: Engine>(
         ≡ totals_by (over table.now dictionary.now) (E.meaning engine.new).patterns) }
     ensures small { IfOk result IsSmall }
     ensures tidy { OnOk result ((E.meaning engine.new).tidy ≡ true) }
-    ensures begun { OnOk result ((E.meaning engine.new).begun ≡ (E.meaning engine.old).begun + records.new.begun) }
+    ensures begun { OnOk result
+        ((E.meaning engine.new).begun ≡ (E.meaning engine.old).begun + records.new.begun) }
     ensures few { OnOk result (records.new.begun ≤ LEVEL_MAX * level_passes) }
     ensures signs { (E.meaning engine.new).signs ≡ (E.meaning engine.old).signs }
 {
@@ -73,14 +74,17 @@ fn run_levels<E: Engine>(
     }
 }
 
-/// Does the run of a dictionary from the patterns of an engine: level after level, and in a level a pass for each length and dot,
-/// which counts the windows at the positions that count, and then chooses among the candidates (Liang's thesis of 1983, patgen
-/// 2.4). The final patterns are left in the engine too.
+/// Does the run of a dictionary from the patterns of an engine: level after level, and in a level a
+/// pass for each length and dot, which counts the windows at the positions that count, and then
+/// chooses among the candidates (Liang's thesis of 1983, patgen 2.4). The final patterns are left
+/// in the engine too.
 ///
-/// A pass is skipped where one of the same level that is shorter by a sign, with the same dot or the dot before, left no candidate
-/// or was skipped. It would have no candidate, so the run is the one that does every pass.
+/// A pass is skipped where one of the same level that is shorter by a sign, with the same dot or
+/// the dot before, left no candidate or was skipped. It would have no candidate, so the run is the
+/// one that does every pass.
 ///
-/// The only error is want of memory. The engine's greatest sign is then as before, and nothing is said of the rest of it.
+/// The only error is want of memory. The engine's greatest sign is then as before, and nothing is
+/// said of the rest of it.
 pub fn generate<E: Engine>(
     alloc: Global,
     engine: &mut E,
@@ -96,7 +100,8 @@ pub fn generate<E: Engine>(
         ≡ patterns_from table.now dictionary.now params.now (E.meaning engine.old)) }
     ensures account { IfOk result (λ r. account_of r
         ≡ account_from table.now dictionary.now params.now (E.meaning engine.old)) }
-    ensures cells { IfOk result (TellsCells (cells_from table.now dictionary.now params.now (E.meaning engine.old))) }
+    ensures cells { IfOk result
+        (TellsCells (cells_from table.now dictionary.now params.now (E.meaning engine.old))) }
     ensures begun { IfOk result (λ r. r.begun
         ≡ begun_from table.now dictionary.now params.now (E.meaning engine.old)) }
     ensures kept { IfOk result (λ r. (E.meaning engine.new).patterns ≡ r.patterns) }
@@ -104,7 +109,8 @@ pub fn generate<E: Engine>(
         ≡ families_from table.now dictionary.now params.now (E.meaning engine.old)) }
     ensures hopeless { OnOk result ((E.meaning engine.new).hopeless ≡ []) }
     ensures tidy { OnOk result ((E.meaning engine.new).tidy ≡ true) }
-    ensures counted { IfOk result (λ r. (E.meaning engine.new).begun ≡ (E.meaning engine.old).begun + r.begun) }
+    ensures counted { IfOk result
+        (λ r. (E.meaning engine.new).begun ≡ (E.meaning engine.old).begun + r.begun) }
     ensures few { OnOk result ((E.meaning engine.new).begun ≤ (E.meaning engine.old).begun
         + LEVEL_MAX * level_passes) }
     ensures signs { (E.meaning engine.new).signs ≡ (E.meaning engine.old).signs }

@@ -6,8 +6,8 @@ ghost use Rattle.pg_select.specs.Windows.{fits as fits_in};
 use pg_select::Pass;
 use pg_types::Mark;
 
-/// Whether a position of this status counts at a level as good, or as bad, or not at all. Levels find breaks and prevent them by
-/// turns, beginning with a level that finds.
+/// Whether a position of this status counts at a level as good, or as bad, or not at all. Levels
+/// find breaks and prevent them by turns, beginning with a level that finds.
 pub fn counts_as(level: u8, mark: Mark) -> Option<bool>
     ensures { result ≡ counts_as_of level mark }
 {
@@ -21,7 +21,8 @@ pub fn counts_as(level: u8, mark: Mark) -> Option<bool>
     }
 }
 
-/// Whether the window of a pass with its dot at position `p` of a word of `size` signs lies in the word.
+/// Whether the window of a pass with its dot at position `p` of a word of `size` signs lies in the
+/// word.
 pub fn fits(pass: Pass, size: usize, p: usize) -> bool
     requires { p ≤ size }
     ensures { (w : List ℕ) → length w ≡ size → result ≡ fits_in w p pass.len pass.dot }

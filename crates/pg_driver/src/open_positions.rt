@@ -1,25 +1,27 @@
-//! The open positions of a level: those that count by their status, each with its closed dots. Beside them the totals.
-ghost use Rattle.std.specs.Prelude.{◌≡◌, ◌≤◌, ◌++◌, not, map, filter, sum_by, All, IfOk, OnOk, is_some};
-ghost use Rattle.pg_types.specs.declared.limits.TheConstants.{FILE_MAX, LENGTH_MAX};
+//! The open positions of a level: those that count by their status, with their closed dots. Beside
+//! them the totals.
+ghost use Rattle.std.specs.Prelude.{◌≡◌, ◌≤◌, ◌<◌, ◌+◌, ◌-◌, ◌^◌, ◌==◌, ◌&&◌, ℕ, not, length, slice_get, sum_by, Some, All, IfOk, OnOk, is_some};
+ghost use Rattle.pg_types.specs.declared.limits.TheConstants.{FILE_MAX};
 ghost use Rattle.pg_types.specs.Counts.{SignsWithin};
-ghost use Rattle.pg_dict.specs.Word.{IsWord, SignsAtMost, letter_count};
-ghost use Rattle.pg_dict.specs.Lent.{lent_word};
+ghost use Rattle.pg_dots.specs.Inside.Dots.{is_closed, places as places_in};
+ghost use Rattle.pg_dict.specs.Word.{IsWord, SignsAtMost, Word, letter_count};
+ghost use Rattle.pg_dict.specs.Inside.Lent.{lent_word};
 ghost use Rattle.pg_select.specs.CountedPositions.{counts_as as counts_as_of, minima_of};
 ghost use Rattle.pg_select.specs.Sums.{totals as totals_of_words, marks_in, with_marks, HasRoomFor, TookRoomFor};
-ghost use Rattle.pg_driver.specs.DotSets.{is_full, longer_dots};
-ghost use Rattle.pg_driver.specs.OpenPositions.{with_closed};
-ghost use Rattle.pg_driver.specs.OpenLevels.{open_as, open_in, open_from, longer_positions};
+ghost use Rattle.pg_driver.specs.Inside.OpenSigns.{is_open_first, sign_count, start_of};
 
 use crate::dot_set::DotSet;
 use crate::marks::counts_as;
 use pg_dict::{Dictionary, WordRef};
+use pg_dots::OpenDots;
 use pg_select::marks::{add_mark, mark_at, no_totals, positions};
 use pg_select::{Engine, WordState};
 use pg_translate::Table;
 use pg_types::{Mark, Totals};
 use std::alloc::{AllocError, Global};
 
-/// A position that counts by its status, and the dots of the present length whose windows do not count there. It has eight bytes.
+/// A position that counts by its status, and the dots of the present length whose windows do not
+/// count there. It has eight bytes.
 #[derive(Clone, Copy)]
 pub struct OpenPosition {
     /// The number of its word in the dictionary, from 0.
@@ -33,69 +35,70 @@ pub struct OpenPosition {
 /// The open positions of a level, and the totals, which are carried from pass to pass.
 #[derive(Drop)]
 pub struct OpenLevel {
-    /// The open positions, in the order of words and positions.
-    pub positions: Vec<OpenPosition>,
+    /// Which dots are closed at each sign of the words, which are numbered through. No position has
+    /// more than its bits.
+    pub dots: OpenDots,
     /// The totals.
     pub totals: Totals,
 }
 
-/// Adds position `p` of a word, which has this status, where it counts at a level. No dot of it is closed.
-pub fn open_by_status(
-    level: u8,
-    word: u32,
-    p: u8,
-    mark: Mark,
-    open_positions: &mut Vec<OpenPosition>,
-) -> Result<(), AllocError>
-    ensures { OnOk result (open_positions.new.items
-        ≡ open_positions.old.items ++ open_as word p (counts_as_of level mark)) }
+/// Opens a position where it counts at a level by this status.
+fn open_by_status(level: u8, sign: usize, mark: Mark, dots: &mut OpenDots)
+    requires within { sign < places_in dots.old }
+    requires none { dots.old.reached ≡ 0 }
+    ensures size { places_in dots.new ≡ places_in dots.old }
+    ensures none { dots.new.reached ≡ 0 }
+    ensures closed { (d s : ℕ) → s < places_in dots.old → is_closed dots.new d s
+        ≡ (not (s == sign && is_some (counts_as_of level mark)) && is_closed dots.old d s) }
 {
     if counts_as(level, mark).is_some() {
-        open_positions.push(OpenPosition {
-            word,
-            at: p,
-            closed: DotSet::none(),
-        })?;
+        dots.open(sign);
     }
-    Ok(())
 }
 
-/// Adds the positions of a word: those that count at a level are open, with no dot closed, and all in reach are in the totals. What
-/// `found` holds does not matter.
+/// Opens the positions of a word that count at a level, and adds all in reach to the totals. The
+/// signs of the word begin at `start`. What `found` holds does not matter.
 fn open_word<E: Engine>(
     engine: &E,
     table: &Table,
     level: u8,
-    word: u32,
+    start: usize,
     w: &WordRef<'_>,
     found: &mut WordState,
     opened: &mut OpenLevel,
-) -> Result<(), AllocError>
+)
     requires word { IsWord (lent_word w.now) }
     requires signs { SignsWithin (E.meaning engine.now).signs w.now.signs.now }
     requires room { HasRoomFor opened.old.totals (letter_count (lent_word w.now)) }
-    ensures positions { OnOk result (opened.new.positions.items
-        ≡ opened.old.positions.items ++ open_in (minima_of table.now) level (E.meaning engine.now).patterns word
+    requires within { start + length w.now.signs.now ≤ places_in opened.old.dots }
+    requires few { places_in opened.old.dots < 2 ^ 40 }
+    requires none { opened.old.dots.reached ≡ 0 }
+    ensures size { places_in opened.new.dots ≡ places_in opened.old.dots }
+    ensures none { opened.new.dots.reached ≡ 0 }
+    ensures closed { (d s : ℕ) → s < places_in opened.old.dots → is_closed opened.new.dots d s
+        ≡ (not (is_open_first (minima_of table.now) level
+        (E.meaning engine.now).patterns (lent_word w.now)
+        (s - start)) && is_closed opened.old.dots d s) }
+    ensures totals { opened.new.totals
+        ≡ with_marks opened.old.totals
+        (marks_in (minima_of table.now) (E.meaning engine.now).patterns
         (lent_word w.now)) }
-    ensures totals { OnOk result (opened.new.totals
-        ≡ with_marks opened.old.totals (marks_in (minima_of table.now) (E.meaning engine.now).patterns
-        (lent_word w.now))) }
-    ensures took { OnOk result (TookRoomFor opened.old.totals opened.new.totals (letter_count (lent_word w.now))) }
+    ensures took { TookRoomFor opened.old.totals opened.new.totals
+        (letter_count (lent_word w.now)) }
 {
     let Some((first, end)) = positions(table, w) else {
-        return Ok(());
+        return;
     };
     engine.hyphenate(*w, found);
     'positions: for p in first..end {
         let mark = mark_at(w, found, p);
         opened.totals = add_mark(opened.totals, mark, w.weights[p]);
-        open_by_status(level, word, p as u8, mark, &mut opened.positions)?;
+        open_by_status(level, start + p, mark, &mut opened.dots);
     }
-    Ok(())
 }
 
-/// The positions that count at a level's start, in the order of words and positions, with no dot closed, and the totals. Each word
-/// is hyphenated once.
+/// The positions that count at a level's start are open, and each dot of the others is closed.
+/// Beside them the totals. Each word is hyphenated once.
 pub fn open_level<E: Engine>(
     engine: &E,
     dictionary: &Dictionary,
@@ -104,51 +107,29 @@ pub fn open_level<E: Engine>(
     alloc: Global,
 ) -> Result<OpenLevel, AllocError>
     requires { SignsAtMost (E.meaning engine.now).signs dictionary.now }
-    ensures positions { IfOk result (λ opened. opened.positions.items
-        ≡ open_from (minima_of table.now) level (E.meaning engine.now).patterns 0 dictionary.now) }
+    ensures size { IfOk result (λ opened. sign_count dictionary.now ≤ places_in opened.dots) }
+    ensures closed { IfOk result
+        (λ opened. (d n p : ℕ) (w : Word) → slice_get dictionary.now n ≡ Some w
+        → p < length w.signs → is_closed opened.dots d (start_of dictionary.now n + p)
+        ≡ not (is_open_first (minima_of table.now) level (E.meaning engine.now).patterns w p)) }
     ensures totals { IfOk result (λ opened. opened.totals
         ≡ totals_of_words (minima_of table.now) dictionary.now (E.meaning engine.now).patterns) }
     ensures words { OnOk result (All IsWord dictionary.now) }
     ensures letters { OnOk result (sum_by letter_count dictionary.now ≤ FILE_MAX) }
 {
+    let _words = dictionary.len();
+    let signs = dictionary.all_signs();
+    let dots = OpenDots::closed(alloc, signs.len())?;
     let mut found = WordState::new();
     let mut opened = OpenLevel {
-        positions: Vec::new(alloc),
+        dots,
         totals: no_totals(),
     };
+    let mut start = 0;
     'words: for i in 0..dictionary.len() {
         let w = dictionary.word(i);
-        open_word(engine, table, level, i as u32, &w, &mut found, &mut opened)?;
+        open_word(engine, table, level, start, &w, &mut found, &mut opened);
+        start += w.signs.len();
     }
     Ok(opened)
-}
-
-/// Drops the positions of which every dot of a length is closed.
-fn drop_closed(open_positions: &mut Vec<OpenPosition>, len: u8)
-    requires { len ≤ LENGTH_MAX }
-    ensures { open_positions.new.items ≡ filter (λ e. not (is_full len e.closed)) open_positions.old.items }
-{
-    open_positions.retain(|position| !position.closed.is_full(len));
-}
-
-/// Closes the dots of the next length whose shorter windows are closed.
-fn close_longer(open_positions: &mut [OpenPosition])
-    ensures { open_positions.new ≡ map (λ e. with_closed e (longer_dots e.closed)) open_positions.old }
-{
-    'positions: for position in open_positions.iter_mut() {
-        *position = OpenPosition {
-            closed: position.closed.longer(),
-            ..*position
-        };
-    }
-}
-
-/// Goes on to the next length: drops the positions of which every dot is closed, and closes the dots of the others whose shorter
-/// windows are closed.
-pub fn next_length(open_positions: &mut Vec<OpenPosition>, len: u8)
-    requires { len ≤ LENGTH_MAX }
-    ensures { open_positions.new.items ≡ longer_positions len open_positions.old.items }
-{
-    drop_closed(open_positions, len);
-    close_longer(open_positions);
 }

@@ -1,13 +1,14 @@
-//! The windows of a pass by their numbers: where each was first counted, what becomes of it, and which positions it stands at.
+//! The windows of a pass by their numbers: where each was first counted, what becomes of it, and
+//! which positions it stands at.
 ghost use Rattle.std.specs.Prelude.{◌≡◌, ◌==◌, ◌<◌, ◌≤◌, ◌++◌, ◌∷◌, [], ℕ, List, if◌then◌else◌, length, Some, OnOk};
 ghost use Rattle.pg_types.specs.Counts.{counted_sums};
 ghost use Rattle.pg_types.specs.Numbered.{HasNumber};
 ghost use Rattle.pg_types.specs.Parameters.{IsLevel};
 ghost use Rattle.pg_select.specs.Choices.{choice};
 ghost use Rattle.pg_driver.specs.declared.pass_windows.TheConstants.{NOT_COUNTED};
-ghost use Rattle.pg_driver.specs.Counting.{HasRoom};
-ghost use Rattle.pg_driver.specs.States.{IsPass};
-ghost use Rattle.pg_driver.specs.PassWindows.{AreFates, IsPlace};
+ghost use Rattle.pg_driver.specs.Inside.Counting.{HasRoom};
+ghost use Rattle.pg_driver.specs.Inside.States.{IsPass};
+ghost use Rattle.pg_driver.specs.Inside.PassWindows.{AreFates, IsPlace};
 
 use pg_dict::Dictionary;
 use pg_select::{Choice, Engine, Pass, decide};
@@ -44,8 +45,8 @@ impl PassWindows {
     ghost use Rattle.pg_types.specs.Numbered.{AreInOrder};
     ghost use Rattle.pg_types.specs.Parameters.{IsLevel};
     ghost use Rattle.pg_driver.specs.declared.pass_windows.TheConstants.{NOT_COUNTED};
-    ghost use Rattle.pg_driver.specs.Counting.{HasRoom};
-    ghost use Rattle.pg_driver.specs.PassWindows.{AreFates};
+    ghost use Rattle.pg_driver.specs.Inside.Counting.{HasRoom};
+    ghost use Rattle.pg_driver.specs.Inside.PassWindows.{AreFates};
 
     /// No window. It takes no memory.
     pub fn new(alloc: Global) -> PassWindows {
@@ -71,9 +72,11 @@ impl PassWindows {
         requires level { IsLevel params.now }
         requires room { HasRoom (E.meaning engine.now).counts 0 }
         requires places { length self.old.places.items ≡ length (E.meaning engine.now).windows }
-        ensures order { OnOk result (AreInOrder (E.meaning engine.now).windows (E.meaning engine.now).counts
+        ensures order { OnOk result
+            (AreInOrder (E.meaning engine.now).windows (E.meaning engine.now).counts
             self.new.order.items) }
-        ensures fates { OnOk result (AreFates params.now (E.meaning engine.now).counts (E.meaning engine.now).windows
+        ensures fates { OnOk result
+            (AreFates params.now (E.meaning engine.now).counts (E.meaning engine.now).windows
             self.new.fates.items) }
         ensures few { OnOk result (length self.new.fates.items ≤ NOT_COUNTED) }
         ensures places { self.new.places.items ≡ self.old.places.items }
@@ -90,7 +93,8 @@ impl PassWindows {
 /// Notes the place of a window where its number is the next one.
 pub fn note_place(places: &mut Vec<Place>, number: u32, place: Place) -> Result<(), AllocError>
     ensures { OnOk result (places.new.items
-        ≡ (if number == length places.old.items then places.old.items ++ place ∷ [] else places.old.items)) }
+        ≡ (if number == length places.old.items then places.old.items ++ place ∷ []
+        else places.old.items)) }
 {
     if number as usize == places.len() {
         places.push(place)?;
@@ -110,7 +114,8 @@ fn decide_all<E: Engine>(
     requires windows { windows ≡ length (E.meaning engine.now).windows }
     requires few { windows ≤ NOT_COUNTED }
     requires none { fates.old.items ≡ [] }
-    ensures { OnOk result (AreFates params.now (E.meaning engine.now).counts (E.meaning engine.now).windows
+    ensures { OnOk result
+        (AreFates params.now (E.meaning engine.now).counts (E.meaning engine.now).windows
         fates.new.items) }
 {
     engine.kept();
@@ -127,7 +132,8 @@ fn decide_one<E: Engine>(engine: &E, params: &LevelParams, number: u32) -> Choic
     requires room { HasRoom (E.meaning engine.now).counts 0 }
     requires number { number < length (E.meaning engine.now).windows }
     ensures { (u : List ℕ) (sums : ℕ × ℕ) → HasNumber (E.meaning engine.now).windows u number →
-        counted_sums (E.meaning engine.now).counts u ≡ Some sums → result ≡ choice params.now sums.0 sums.1 }
+        counted_sums (E.meaning engine.now).counts u ≡ Some sums
+        → result ≡ choice params.now sums.0 sums.1 }
 {
     let (good, bad) = engine.sums_of(number);
     decide(good, bad, params)

@@ -69,7 +69,12 @@ impl Model for Records {
 
     ghost Value = { Recorded };
 
-    ghost view = { λ r. record { passes = r.passes.items; levels = r.levels.items; chosen = r.chosen; begun = r.begun } };
+    ghost view = { λ r. record {
+      passes = r.passes.items;
+      levels = r.levels.items;
+      chosen = r.chosen;
+      begun = r.begun;
+    } };
 
     ghost invariant = { λ r. All IsSoundPass r.passes.items × All IsSoundLevel r.levels.items };
 }
@@ -90,7 +95,8 @@ impl Records {
         }
     }
 
-    /// Counts a pass that was begun, and adds its record where it has a candidate. After an error nothing is said of the records.
+    /// Counts a pass that was begun, and adds its record where it has a candidate. After an error
+    /// nothing is said of the records.
     pub fn add_pass(&mut self, pass: PassRecord) -> Result<(), AllocError>
         requires sound { IsSoundPass pass }
         requires room { self.old.chosen + pass.chosen < 2 ^ 64 }
@@ -105,7 +111,8 @@ impl Records {
         Ok(())
     }
 
-    /// Adds the record of the level whose passes were added since the last one. After an error nothing is said of the records.
+    /// Adds the record of the level whose passes were added since the last one. After an error
+    /// nothing is said of the records.
     pub fn end_level(
         &mut self,
         level: u8,

@@ -6,8 +6,8 @@ use std::marker::Model;
 
 /// A run that is done: its final patterns, and what it recorded.
 ///
-/// In each record of a pass the chosen and the hopeless are together at most the candidates. In all totals the sum of good, bad
-/// and missed is below 2^40.
+/// In each record of a pass the chosen and the hopeless are together at most the candidates. In all
+/// totals the sum of good, bad and missed is below 2^40.
 #[derive(Drop)]
 pub struct Run {
     patterns: PatternSet,

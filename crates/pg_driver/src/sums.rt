@@ -1,7 +1,7 @@
 //! The totals of a word list.
 ghost use Rattle.std.specs.Prelude.{◌≡◌, ◌≤◌, ◌+◌, ◌*◌, length};
 ghost use Rattle.pg_dict.specs.Word.{IsWord, SignsAtMost, letter_count};
-ghost use Rattle.pg_dict.specs.Lent.{lent_word};
+ghost use Rattle.pg_dict.specs.Inside.Lent.{lent_word};
 ghost use Rattle.pg_types.specs.Counts.{SignsWithin};
 ghost use Rattle.pg_select.specs.Sums.{totals as totals_of_words, marks_in, with_marks, HasRoomFor, TookRoomFor};
 ghost use Rattle.pg_driver.specs.Sound.{IsSmall};
@@ -13,11 +13,12 @@ use pg_select::{Engine, WordState};
 use pg_translate::Table;
 use pg_types::Totals;
 
-/// The totals of the words of a dictionary by the patterns of an engine: the sums of the weights of the positions in reach that
-/// are found, that are errors and that are missed. It takes no memory.
+/// The totals of the words of a dictionary by the patterns of an engine: the sums of the weights of
+/// the positions in reach that are found, that are errors and that are missed. It takes no memory.
 pub fn totals<E: Engine>(engine: &E, dictionary: &Dictionary, table: &Table) -> Totals
     requires { SignsAtMost (E.meaning engine.now).signs dictionary.now }
-    ensures value { result ≡ totals_of_words (minima_of table.now) dictionary.now (E.meaning engine.now).patterns }
+    ensures value { result
+        ≡ totals_of_words (minima_of table.now) dictionary.now (E.meaning engine.now).patterns }
     ensures small { IsSmall result }
 {
     let mut found = WordState::new();

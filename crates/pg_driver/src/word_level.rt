@@ -3,12 +3,12 @@ ghost use Rattle.std.specs.Prelude.{◌≡◌, [], false, true, IfOk, OnOk};
 ghost use Rattle.pg_dict.specs.Word.{SignsAtMost};
 ghost use Rattle.pg_select.specs.CountedPositions.{counted_positions, minima_of};
 ghost use Rattle.pg_driver.specs.Accounts.{totals_by};
-ghost use Rattle.pg_driver.specs.Counting.{counting, HasRoom};
-ghost use Rattle.pg_driver.specs.PassWindows.{ArePlaces, HaveNumbers, is_counted_at};
+ghost use Rattle.pg_driver.specs.Inside.Counting.{counting, HasRoom};
+ghost use Rattle.pg_driver.specs.Inside.PassWindows.{ArePlaces, HaveNumbers, is_counted_at};
 ghost use Rattle.pg_driver.specs.Sound.{IsSmall};
-ghost use Rattle.pg_driver.specs.States.{IsPass};
+ghost use Rattle.pg_driver.specs.Inside.States.{IsPass};
 ghost use Rattle.pg_driver.specs.Told.{known_of, over};
-ghost use Rattle.pg_driver.specs.WordLevels.{IsWordsAt};
+ghost use Rattle.pg_driver.specs.Inside.WordLevels.{IsWordsAt};
 
 use crate::open_positions::OpenPosition;
 use crate::pass_windows::PassWindows;
@@ -20,13 +20,14 @@ use pg_translate::Table;
 use pg_types::Totals;
 use std::alloc::{AllocError, Global};
 
-/// A level of which each word is hyphenated in each pass. The first pass that is counted lists the positions whose value is above
-/// the level: they stay the same in the level.
+/// A level of which each word is hyphenated in each pass. The first pass that is counted lists the
+/// positions whose value is above the level: they stay the same in the level.
 #[derive(Drop)]
 pub struct WordLevel {
     /// Whether a pass was counted.
     pub is_counted: bool,
-    /// The positions that count and have a value above the level, once a pass was counted. No dot of them is closed.
+    /// The positions that count and have a value above the level, once a pass was counted. No dot
+    /// of them is closed.
     pub above: Vec<OpenPosition>,
     /// The totals, once a pass was counted.
     pub totals: Totals,
@@ -45,8 +46,9 @@ impl WordLevel {
         }
     }
 
-    /// Counts the windows of a pass that has begun, and gives the totals before it. Each word is hyphenated once. Each position that is
-    /// listed has the number of its window, where that is counted.
+    /// Counts the windows of a pass that has begun, and gives the totals before it. Each word is
+    /// hyphenated once. Each position that is listed has the number of its window, where that is
+    /// counted.
     pub fn count<E: Engine>(
         &mut self,
         engine: &mut E,
@@ -58,14 +60,17 @@ impl WordLevel {
         requires ranges { IsPass pass }
         requires pass { (E.meaning engine.old).pass ≡ pass }
         requires fresh { (E.meaning engine.old).counts ≡ [] }
-        requires places { ArePlaces pass dictionary.now (E.meaning engine.old).windows windows.old.places.items }
+        requires places { ArePlaces pass dictionary.now
+            (E.meaning engine.old).windows windows.old.places.items }
         requires numbers { windows.old.numbers.items ≡ [] }
         requires signs { SignsAtMost (E.meaning engine.old).signs dictionary.now }
-        requires ready { IsWordsAt (over table.now dictionary.now) pass.level (known_of (E.meaning engine.old))
+        requires ready { IsWordsAt (over table.now dictionary.now) pass.level
+            (known_of (E.meaning engine.old))
             self.old }
         ensures ok { OnOk result (E.meaning engine.new
             ≡ counting (E.meaning engine.old)
-            (counted_positions (minima_of table.now) dictionary.now pass (E.meaning engine.old).patterns
+            (counted_positions (minima_of table.now) dictionary.now pass
+            (E.meaning engine.old).patterns
             (E.meaning engine.old).hopeless)) }
         ensures totals { IfOk result (λ before. before
             ≡ totals_by (over table.now dictionary.now) (E.meaning engine.old).patterns) }
@@ -74,7 +79,8 @@ impl WordLevel {
         ensures ready { OnOk result (IsWordsAt (over table.now dictionary.now) pass.level
             (known_of (E.meaning engine.old)) self.new) }
         ensures counted { OnOk result (self.new.is_counted ≡ true) }
-        ensures numbers { OnOk result (HaveNumbers pass (is_counted_at pass (E.meaning engine.new).counts)
+        ensures numbers { OnOk result
+            (HaveNumbers pass (is_counted_at pass (E.meaning engine.new).counts)
             dictionary.now (E.meaning engine.new).windows self.new.above.items windows.new.numbers.items) }
         ensures places { OnOk result (ArePlaces pass dictionary.now (E.meaning engine.new).windows
             windows.new.places.items) }

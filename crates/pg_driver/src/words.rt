@@ -3,19 +3,19 @@ ghost use Rattle.std.specs.Prelude.{◌≡◌, ◌≤◌, ◌<◌, ◌+◌, ◌*
 ghost use Rattle.pg_types.specs.Counts.{SignsWithin};
 ghost use Rattle.pg_types.specs.declared.limits.TheConstants.{WORD_LETTERS_MAX};
 ghost use Rattle.pg_dict.specs.Word.{IsWord, SignsAtMost, Word, letter_count};
-ghost use Rattle.pg_dict.specs.Lent.{lent_word};
+ghost use Rattle.pg_dict.specs.Inside.Lent.{lent_word};
 ghost use Rattle.pg_select.specs.CountedPositions.{counted_at, counted_positions_at, counted_positions, counted_positions_in, counts_as as counts_as_of, minima_of};
-ghost use Rattle.pg_select.specs.LawsAbove.{counts_above};
+ghost use Rattle.pg_select.specs.Inside.LawsAbove.{counts_above};
 ghost use Rattle.pg_select.specs.Statuses.{status_at, position_weight};
 ghost use Rattle.pg_select.specs.Sums.{marks_in, totals as totals_of_words, with_mark, with_marks, HasRoomFor, TookRoomFor};
 ghost use Rattle.pg_select.specs.Windows.{fits as fits_in, window as window_of_word};
-ghost use Rattle.pg_driver.specs.Counting.{counting, HasRoom, TookRoom, IsRead};
+ghost use Rattle.pg_driver.specs.Inside.Counting.{counting, HasRoom, TookRoom, IsRead};
 ghost use Rattle.pg_driver.specs.declared.open_positions.OpenPosition.{OpenPosition};
-ghost use Rattle.pg_driver.specs.OpenLevels.{listed_in, listed_from, open_as};
-ghost use Rattle.pg_driver.specs.PassWindows.{ArePlaces, GetsNumber, HaveNumbers, uncovered_at};
+ghost use Rattle.pg_driver.specs.Inside.OpenLevels.{listed_in, listed_from, open_as};
+ghost use Rattle.pg_driver.specs.Inside.PassWindows.{ArePlaces, GetsNumber, HaveNumbers, uncovered_at};
 ghost use Rattle.pg_driver.specs.Sound.{IsSmall};
-ghost use Rattle.pg_driver.specs.States.{IsPass};
-ghost use Rattle.pg_driver.specs.WordLevels.{listing};
+ghost use Rattle.pg_driver.specs.Inside.States.{IsPass};
+ghost use Rattle.pg_driver.specs.Inside.WordLevels.{listing};
 
 use crate::above_positions::{is_above, list_above};
 use crate::marks::{counts_as, fits};
@@ -28,8 +28,8 @@ use pg_translate::Table;
 use pg_types::{Mark, Totals};
 use std::alloc::AllocError;
 
-/// Whether position `p` of a word, which has this status, counts as good or as bad in a pass: its window fits in the word and is
-/// not covered.
+/// Whether position `p` of a word, which has this status, counts as good or as bad in a pass: its
+/// window fits in the word and is not covered.
 fn counted(pass: Pass, w: &WordRef<'_>, found: &WordState, p: usize, mark: Mark) -> Option<bool>
     requires within { p < length w.now.signs.now }
     requires short { length w.now.signs.now ≤ WORD_LETTERS_MAX + 2 }
@@ -44,8 +44,8 @@ fn counted(pass: Pass, w: &WordRef<'_>, found: &WordState, p: usize, mark: Mark)
     }
 }
 
-/// Counts the window at position `p` of a word, which has this status, where it counts in the pass, and gives its number; that of none
-/// where it does not count.
+/// Counts the window at position `p` of a word, which has this status, where it counts in the pass,
+/// and gives its number; that of none where it does not count.
 fn count_at<E: Engine>(
     engine: &mut E,
     pass: Pass,
@@ -65,7 +65,8 @@ fn count_at<E: Engine>(
         (counted_positions_at (E.meaning engine.old).pass (E.meaning engine.old).patterns
         (E.meaning engine.old).hopeless (lent_word w.now) p)) }
     ensures number { IfOk result (λ n. GetsNumber
-        (counted_at pass (E.meaning engine.old).patterns (E.meaning engine.old).hopeless (lent_word w.now) p)
+        (counted_at pass (E.meaning engine.old).patterns
+        (E.meaning engine.old).hopeless (lent_word w.now) p)
         (E.meaning engine.new).windows (window_of_word w.now.signs.now p pass.len pass.dot) n) }
     ensures err { OnErr result (E.meaning engine.new ≡ E.meaning engine.old) }
 {
@@ -78,8 +79,9 @@ fn count_at<E: Engine>(
     Ok(number)
 }
 
-/// Counts position `p` of a word, and adds it to the totals. Where its window is counted for the first time, its place is noted. Where
-/// its value is above the level and it counts by its status, the number of its window is noted.
+/// Counts position `p` of a word, and adds it to the totals. Where its window is counted for the
+/// first time, its place is noted. Where its value is above the level and it counts by its status,
+/// the number of its window is noted.
 fn count_position<E: Engine>(
     engine: &mut E,
     pass: Pass,
@@ -105,13 +107,17 @@ fn count_position<E: Engine>(
         (position_weight (lent_word w.now) p)) }
     ensures numbers { OnOk result ((words : List Word) (entries : List OpenPosition)
         → slice_get words word ≡ Some (lent_word w.now)
-        → HaveNumbers pass (uncovered_at pass (E.meaning engine.old).patterns (E.meaning engine.old).hopeless) words
+        → HaveNumbers pass (uncovered_at pass (E.meaning engine.old).patterns
+        (E.meaning engine.old).hopeless) words
         (E.meaning engine.old).windows entries windows.old.numbers.items
-        → HaveNumbers pass (uncovered_at pass (E.meaning engine.old).patterns (E.meaning engine.old).hopeless) words
+        → HaveNumbers pass (uncovered_at pass (E.meaning engine.old).patterns
+        (E.meaning engine.old).hopeless) words
         (E.meaning engine.new).windows
-        (entries ++ open_as word p (counts_above pass.level (E.meaning engine.old).patterns (lent_word w.now) p))
+        (entries ++ open_as word p
+        (counts_above pass.level (E.meaning engine.old).patterns (lent_word w.now) p))
         windows.new.numbers.items) }
-    ensures places { OnOk result ((words : List Word) → slice_get words word ≡ Some (lent_word w.now)
+    ensures places { OnOk result
+        ((words : List Word) → slice_get words word ≡ Some (lent_word w.now)
         → ArePlaces pass words (E.meaning engine.old).windows windows.old.places.items
         → ArePlaces pass words (E.meaning engine.new).windows windows.new.places.items) }
     ensures signs { (E.meaning engine.new).signs ≡ (E.meaning engine.old).signs }
@@ -128,8 +134,9 @@ fn count_position<E: Engine>(
     Ok(())
 }
 
-/// Counts the positions of a word, and adds them to the totals. Those that count and have a value above the level have the numbers of
-/// their windows noted, and where `lists` says so they are listed. What `found` holds does not matter.
+/// Counts the positions of a word, and adds them to the totals. Those that count and have a value
+/// above the level have the numbers of their windows noted, and where `lists` says so they are
+/// listed. What `found` holds does not matter.
 fn count_word<E: Engine>(
     engine: &mut E,
     table: &Table,
@@ -150,26 +157,33 @@ fn count_word<E: Engine>(
     requires room_for { HasRoomFor sums.old (letter_count (lent_word w.now)) }
     ensures ok { OnOk result (E.meaning engine.new
         ≡ counting (E.meaning engine.old)
-        (counted_positions_in (minima_of table.now) (E.meaning engine.old).pass (E.meaning engine.old).patterns
+        (counted_positions_in (minima_of table.now)
+        (E.meaning engine.old).pass (E.meaning engine.old).patterns
         (E.meaning engine.old).hopeless (lent_word w.now))) }
     ensures sums { OnOk result (sums.new
-        ≡ with_marks sums.old (marks_in (minima_of table.now) (E.meaning engine.old).patterns (lent_word w.now))) }
-    ensures above { OnOk result (above.new.items ≡ above.old.items ++ listed_in (minima_of table.now)
+        ≡ with_marks sums.old
+        (marks_in (minima_of table.now) (E.meaning engine.old).patterns (lent_word w.now))) }
+    ensures above { OnOk result
+        (above.new.items ≡ above.old.items ++ listed_in (minima_of table.now)
         (listing lists pass.level (E.meaning engine.old).patterns) word (lent_word w.now)) }
     ensures numbers { OnOk result ((words : List Word) (entries : List OpenPosition)
         → slice_get words word ≡ Some (lent_word w.now)
-        → HaveNumbers pass (uncovered_at pass (E.meaning engine.old).patterns (E.meaning engine.old).hopeless) words
+        → HaveNumbers pass (uncovered_at pass (E.meaning engine.old).patterns
+        (E.meaning engine.old).hopeless) words
         (E.meaning engine.old).windows entries windows.old.numbers.items
-        → HaveNumbers pass (uncovered_at pass (E.meaning engine.old).patterns (E.meaning engine.old).hopeless) words
+        → HaveNumbers pass (uncovered_at pass (E.meaning engine.old).patterns
+        (E.meaning engine.old).hopeless) words
         (E.meaning engine.new).windows (entries ++ listed_in (minima_of table.now)
         (counts_above pass.level (E.meaning engine.old).patterns) word (lent_word w.now))
         windows.new.numbers.items) }
-    ensures places { OnOk result ((words : List Word) → slice_get words word ≡ Some (lent_word w.now)
+    ensures places { OnOk result
+        ((words : List Word) → slice_get words word ≡ Some (lent_word w.now)
         → ArePlaces pass words (E.meaning engine.old).windows windows.old.places.items
         → ArePlaces pass words (E.meaning engine.new).windows windows.new.places.items) }
     ensures took { OnOk result (TookRoom (E.meaning engine.old).counts (E.meaning engine.new).counts
         (letter_count (lent_word w.now))) }
-    ensures took_for { OnOk result (TookRoomFor sums.old sums.new (letter_count (lent_word w.now))) }
+    ensures took_for { OnOk result
+        (TookRoomFor sums.old sums.new (letter_count (lent_word w.now))) }
     ensures signs { (E.meaning engine.new).signs ≡ (E.meaning engine.old).signs }
 {
     let Some((first, end)) = positions(table, w) else {
@@ -185,9 +199,10 @@ fn count_word<E: Engine>(
     Ok(())
 }
 
-/// Counts the windows of a pass that has begun, and gives the totals. Each word is hyphenated once. Where `lists` says so, the
-/// positions that count and have a value above the level are listed. Each of these has the number of its window noted, and each window
-/// the place where it was first counted.
+/// Counts the windows of a pass that has begun, and gives the totals. Each word is hyphenated once.
+/// Where `lists` says so, the positions that count and have a value above the level are listed.
+/// Each of these has the number of its window noted, and each window the place where it was first
+/// counted.
 pub fn count_words<E: Engine>(
     engine: &mut E,
     dictionary: &Dictionary,
@@ -200,7 +215,8 @@ pub fn count_words<E: Engine>(
     requires ranges { IsPass pass }
     requires pass { (E.meaning engine.old).pass ≡ pass }
     requires fresh { (E.meaning engine.old).counts ≡ [] }
-    requires places { ArePlaces pass dictionary.now (E.meaning engine.old).windows windows.old.places.items }
+    requires places { ArePlaces pass dictionary.now
+        (E.meaning engine.old).windows windows.old.places.items }
     requires numbers { windows.old.numbers.items ≡ [] }
     requires signs { SignsAtMost (E.meaning engine.old).signs dictionary.now }
     ensures ok { OnOk result (E.meaning engine.new
@@ -210,12 +226,15 @@ pub fn count_words<E: Engine>(
     ensures totals { IfOk result (λ sums. sums
         ≡ totals_of_words (minima_of table.now) dictionary.now (E.meaning engine.old).patterns) }
     ensures small { IfOk result IsSmall }
-    ensures above { OnOk result (above.new.items ≡ above.old.items ++ listed_from (minima_of table.now)
+    ensures above { OnOk result
+        (above.new.items ≡ above.old.items ++ listed_from (minima_of table.now)
         (listing lists pass.level (E.meaning engine.old).patterns) 0 dictionary.now) }
     ensures numbers { OnOk result (HaveNumbers pass
-        (uncovered_at pass (E.meaning engine.old).patterns (E.meaning engine.old).hopeless) dictionary.now
+        (uncovered_at pass (E.meaning engine.old).patterns
+        (E.meaning engine.old).hopeless) dictionary.now
         (E.meaning engine.new).windows (listed_from (minima_of table.now)
-        (counts_above pass.level (E.meaning engine.old).patterns) 0 dictionary.now) windows.new.numbers.items) }
+        (counts_above pass.level
+        (E.meaning engine.old).patterns) 0 dictionary.now) windows.new.numbers.items) }
     ensures places { OnOk result (ArePlaces pass dictionary.now (E.meaning engine.new).windows
         windows.new.places.items) }
     ensures room { OnOk result (HasRoom (E.meaning engine.new).counts 0) }

@@ -1,10 +1,10 @@
 use Rattle.std.proofs.Common.{◌<◌, ◌++◌, ℕ, cond, nat_lt, None, Option, Bool, true, false, length, ap, ◌∙◌, arith}
 use Rattle.std.specs.List.{slice_index_or}
-use Rattle.pg_dict.specs.Lent.{lent_word}
+use Rattle.pg_dict.specs.Inside.Lent.{lent_word}
 use Rattle.pg_select.specs.CountedPositions.{counts_as}
-use Rattle.pg_select.specs.LawsAbove.{counts_above}
+use Rattle.pg_select.specs.Inside.LawsAbove.{counts_above}
 use Rattle.pg_select.specs.Statuses.{status}
-use Rattle.pg_driver.specs.OpenLevels.{open_as}
+use Rattle.pg_driver.specs.Inside.OpenLevels.{open_as}
 use Rattle.pg_driver.proofs.OpenSteps.{position_added}
 use Rattle.pg_driver.proofs.above_positions.list_above.Goals as goal
 

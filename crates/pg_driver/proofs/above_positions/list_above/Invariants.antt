@@ -1,11 +1,11 @@
 use Rattle.std.proofs.Common.{◌≡◌, ◌-◌, ◌++◌, ℕ}
 use Rattle.std.specs.List.{flat_map, range_with_len}
-use Rattle.pg_dict.specs.Lent.{lent_word}
+use Rattle.pg_dict.specs.Inside.Lent.{lent_word}
 use Rattle.pg_select.specs.CountedPositions.{minima_of}
-use Rattle.pg_select.specs.LawsAbove.{counts_above}
+use Rattle.pg_select.specs.Inside.LawsAbove.{counts_above}
 use Rattle.pg_select.specs.Positions.{HasValues}
 use Rattle.pg_select.specs.Windows.{Patterns}
-use Rattle.pg_driver.specs.OpenLevels.{listed_in, open_as}
+use Rattle.pg_driver.specs.Inside.OpenLevels.{listed_in, open_as}
 use Rattle.pg_driver.proofs.above_positions.list_above.Given as goal
 
 abbrev pub invariant-positions : goal.invariant-positions

@@ -1,6 +1,6 @@
 use Rattle.std.proofs.Common.{◌≡◌, ℕ, ◌+◌, ◌≤◌, inr, List, [], ◌∷◌, ◌++◌, refl, ap, subst, ◌∙◌, arith}
 use Rattle.pg_select.specs.declared.pass.Pass.{Pass}
-use Rattle.pg_driver.specs.Levels.{GoesOn, all_made_by, point}
+use Rattle.pg_driver.specs.Inside.Levels.{GoesOn, all_made_by, point}
 use Rattle.pg_driver.specs.Told.{known_of, over}
 use Rattle.pg_driver.specs.Traces.{known_at_end, passes_of_length}
 use Rattle.pg_driver.proofs.LevelSteps.{all_from, at_whole, none_from, pass_with, passes_from, passes_step, reaches_on}

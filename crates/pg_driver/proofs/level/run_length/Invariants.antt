@@ -1,6 +1,6 @@
 use Rattle.std.proofs.Common.{◌≡◌, ◌+◌, ◌*◌, ◌^◌, ◌≤◌, ◌++◌, List}
-use Rattle.pg_driver.specs.LevelCounting.{IsCounted, IsReady}
-use Rattle.pg_driver.specs.Levels.{IsAt, LevelStart, WillCount, all_made_by, point}
+use Rattle.pg_driver.specs.Inside.LevelCounting.{IsCounted, IsReady}
+use Rattle.pg_driver.specs.Inside.Levels.{IsAt, LevelStart, WillCount, all_made_by, point}
 use Rattle.pg_driver.specs.Told.{known_of, over}
 use Rattle.pg_driver.specs.Traces.{PassTrace, known_at_end, passes_of_length}
 use Rattle.pg_driver.proofs.LevelSteps.{Reaches, passes_from}

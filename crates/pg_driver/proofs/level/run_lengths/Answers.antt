@@ -1,5 +1,5 @@
 use Rattle.std.proofs.Common.{◌≡◌, ◌+◌, ◌<◌, inl, inr, [], refl, ap, ◌∙◌, arith}
-use Rattle.pg_driver.specs.Levels.{LevelStart, all_made_by}
+use Rattle.pg_driver.specs.Inside.Levels.{LevelStart, all_made_by}
 use Rattle.pg_driver.specs.Told.{known_of, over}
 use Rattle.pg_driver.specs.Traces.{known_at_end, passes_of, passes_of_length}
 use Rattle.pg_driver.proofs.LevelSteps.{at_level_start, at_next, at_whole, lengths_from, lengths_step, no_lengths, reaches_on}
@@ -48,9 +48,9 @@ lengths-preserved g c =
         left = reached.left;
         known = reached.known;
       };
-      ready = c.next_length-in-lengths.ensures.ready source number (known_of n) c.in_ok-run_length.ensures.ready;
-      will = inr (c.next_length-in-lengths.ensures.counted c.in_ok-run_length.ensures.counted);
-      counted = λ _. c.next_length-in-lengths.ensures.counted c.in_ok-run_length.ensures.counted;
+      ready = c.in_ok-next_length.ensures.ready source number len (known_of n) c.in_ok-run_length.ensures.ready;
+      will = inr (c.in_ok-next_length.ensures.counted c.in_ok-run_length.ensures.counted);
+      counted = λ _. c.in_ok-next_length.ensures.counted c.in_ok-run_length.ensures.counted;
       signs = c.in_ok-run_length.ensures.signs ∙ c.lengths.invariant.signs;
       begun = omega (arith, c.in_ok-run_length.ensures.begun, c.lengths.invariant.begun);
       passes = omega (arith, c.in_ok-run_length.ensures.few, c.lengths.invariant.passes);

@@ -1,6 +1,6 @@
 use Rattle.std.proofs.Common.{◌≡◌, ◌+◌, ◌*◌, ◌^◌, ◌≤◌, ◌<◌}
-use Rattle.pg_driver.specs.LevelCounting.{IsCounted, IsReady}
-use Rattle.pg_driver.specs.Levels.{WillCount, all_made_by}
+use Rattle.pg_driver.specs.Inside.LevelCounting.{IsCounted, IsReady}
+use Rattle.pg_driver.specs.Inside.Levels.{WillCount, all_made_by}
 use Rattle.pg_driver.specs.Told.{known_of, over}
 use Rattle.pg_driver.specs.Traces.{known_at_end, passes_of}
 use Rattle.pg_driver.proofs.LevelSteps.{Reaches, lengths_from}

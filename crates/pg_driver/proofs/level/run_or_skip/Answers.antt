@@ -1,6 +1,6 @@
 use Rattle.std.proofs.Common.{◌≡◌, Bool, true, false, ⊎_elim, sym, ◌∙◌}
-use Rattle.pg_driver.specs.LevelCounting.{IsCounted}
-use Rattle.pg_driver.specs.Levels.{is_set, unset}
+use Rattle.pg_driver.specs.Inside.LevelCounting.{IsCounted}
+use Rattle.pg_driver.specs.Inside.Levels.{is_set, unset}
 use Rattle.pg_driver.proofs.SkipFlags.{none_set}
 use Rattle.pg_driver.specs.Told.{over}
 use Rattle.pg_driver.proofs.LevelSteps.{done_on, skipped_on}

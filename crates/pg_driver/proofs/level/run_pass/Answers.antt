@@ -1,8 +1,8 @@
 use Rattle.std.proofs.Common.{sym, ap, subst, ◌∙◌, arith}
 use Rattle.pg_select.specs.Meanings.{Meaning}
 use Rattle.pg_driver.specs.Accounts.{totals_by}
-use Rattle.pg_driver.specs.LevelCounting.{IsReady}
-use Rattle.pg_driver.specs.States.{State}
+use Rattle.pg_driver.specs.Inside.LevelCounting.{IsReady}
+use Rattle.pg_driver.specs.Inside.States.{State}
 use Rattle.pg_driver.specs.Told.{known_of, over}
 use Rattle.pg_driver.specs.Traces.{Known}
 use Rattle.pg_driver.proofs.PassSteps.{counted_as, counts_kept, did_pass, numbers_are, pass_state}

@@ -2,9 +2,9 @@ use Rattle.std.proofs.Common.{◌≡◌, ℕ, ◌+◌, ◌-◌, max, List, [], d
 use Rattle.std.specs.List.{enumerate_from}
 use Rattle.pg_types.specs.declared.parameters.LevelParams.{LevelParams}
 use Rattle.pg_patterns.specs.Values.{largest}
-use Rattle.pg_select.specs.LawsSteps.{IsUpTo}
+use Rattle.pg_select.specs.Inside.LawsSteps.{IsUpTo}
 use Rattle.pg_driver.specs.Sound.{Recorded}
-use Rattle.pg_driver.specs.States.{State}
+use Rattle.pg_driver.specs.Inside.States.{State}
 use Rattle.pg_driver.specs.Told.{over, run_from}
 use Rattle.pg_driver.specs.Traces.{levels_made}
 use Rattle.pg_driver.proofs.OpenTraces.{below_level, up_to_next, up_to_starting}

@@ -1,74 +1,98 @@
-use Rattle.std.proofs.Common.{◌≡◌, ◌<◌, true, false, not, List, Some, filter, length, get_or, slice_get, sym, ap, ◌∙◌, arith}
-use Rattle.std.proofs.lemmas.Option.{slice_get-get_or, slice_get_within}
-use Rattle.pg_driver.specs.declared.open_positions.OpenPosition.{OpenPosition}
-use Rattle.pg_driver.specs.PassWindows.{is_open}
-use Rattle.pg_driver.proofs.NumberSteps.{drop_set, filter_at, next_open, next_within, same_rest, stays_step}
-use Rattle.pg_driver.proofs.OpenSteps.{changed_step}
+use Rattle.std.proofs.Common.{◌≡◌, ◌≢◌, ℕ, ◌+◌, ◌-◌, ◌<◌, ◌≤◌, [], ◌∷◌, List, Bool, true, false, Option, Some, length, drop, get_or, slice_get, inl, inr, refl, sym, ap, subst, ◌∙◌, arith}
+use Rattle.std.proofs.lemmas.Bool.{cases_eq, cases_lt}
+use Rattle.std.proofs.lemmas.List.{drop_more, drop_all}
+use Rattle.std.proofs.lemmas.Option.{slice_get-get_or}
+use Rattle.pg_dots.specs.Inside.Dots.{is_closed, places as places_in}
+use Rattle.pg_select.specs.declared.choice.Choice.{Choice}
+use Rattle.pg_driver.specs.Inside.OpenSigns.{ClosesBy, closed_by, open_signs}
+use Rattle.pg_driver.proofs.OpenSigns.{all_shut, open_first, open_skip, open_there}
 use Rattle.pg_driver.proofs.open_passes.close_dots.Goals as goal
-use Rattle.pg_driver.proofs.open_passes.close_dots.Goals.{Else-contains}
+use Rattle.pg_driver.proofs.open_passes.close_dots.Goals.{After-next_open-sign}
 
-no_position : OpenPosition
-no_position = record { word = 0; at = 0; closed = record { bits = 0 } }
+-- where the next open position stands
+record Ahead (c : After-next_open-sign) : Type 0 where
+  shut : (i : ℕ) → c.numbers.next ≤ i → i < c.next_open-sign.result → is_closed c.args.dots.now c.args.dot i ≡ true
+  low : c.next_open-sign.result < c.args.end
+  wide : c.args.end ≤ places_in c.args.dots.now
+  index : c.numbers.number-index < length (open_signs (is_closed c.args.dots.now c.args.dot) 0 c.args.end)
+  step : open_signs (is_closed c.args.dots.now c.args.dot) c.numbers.next c.args.end ≡ get_or (open_signs (is_closed c.args.dots.now c.args.dot) 0 c.args.end) c.numbers.number-index 0 ∷ drop (c.numbers.number-index + 1) (open_signs (is_closed c.args.dots.now c.args.dot) 0 c.args.end)
 
--- the number of the position is there
-numbered : (c : Else-contains) → c.positions.next < length c.args.numbers.now
-unfolding no_position
-numbered c =
-    let within : c.positions.k < length c.args.open_positions.now = c.positions-test.true in
-    let inside : c.positions.k < length c.positions.open_positions = omega (arith, within, c.positions.auto.open_positions) in
-    let bound = next_within c.args.dot c.args.open_positions.now c.positions.open_positions c.positions.k c.positions.next no_position within inside c.positions.invariant.rest c.positions.invariant.next (ap not (sym c.contains.ensures ∙ c.if-contains.false)) in
-    omega (arith, bound, c.requires.size)
-
-pub bounds-numbers-next : goal.bounds-numbers-next
-bounds-numbers-next c = numbered (goal.at.bounds-numbers-next c).Else-contains
-
-pub offset_bounds-numbers-next : goal.offset_bounds-numbers-next
-offset_bounds-numbers-next c =
-    let there : c.positions.next < length c.args.numbers.now = numbered (goal.at.offset_bounds-numbers-next c).Else-contains in
-    omega arith
-
-pub overflow_add-next : goal.overflow_add-next
-overflow_add-next c =
-    let there : c.positions.next < length c.args.numbers.now = numbered (goal.at.overflow_add-next c).Else-contains in
-    omega arith
-
-pub positions-preserved : goal.positions-preserved
-unfolding no_position
-positions-preserved c =
-    let k = c.positions.k in
+ahead : (c : After-next_open-sign) → Ahead c
+ahead c =
+    let inv = c.numbers.invariant in
     let dot = c.args.dot in
-    let old : List OpenPosition = c.args.open_positions.now in
-    let cur : List OpenPosition = c.positions.open_positions in
-    let here : OpenPosition = get_or cur k no_position in
-    let within : k < length old = c.positions-test.true in
-    let inside : k < length cur = omega (arith, within, c.positions.auto.open_positions) in
-    let same = same_rest cur old k no_position inside within c.positions.invariant.rest in
-    let at : slice_get old k ≡ Some here = slice_get-get_or old k no_position within ∙ ap Some (sym same.0) in
-    let free : is_open dot here ≡ true = ap not (sym c.contains.ensures ∙ c.if-contains.false) in
-    let there : slice_get (filter (is_open dot) old) c.positions.next ≡ Some here = ap (slice_get (filter (is_open dot) old)) c.positions.invariant.next ∙ filter_at (is_open dot) old k here at free in
-    let bound = slice_get_within (filter (is_open dot) old) c.positions.next here there in
-    let numbered : c.positions.next < length c.args.numbers.now = omega (arith, bound, c.requires.size) in
+    let end = c.args.end in
+    let old : ℕ → ℕ → Bool = is_closed c.args.dots.now in
+    let all = open_signs (old dot) 0 end in
+    let k = c.numbers.number-index in
+    let found = c.next_open-sign.ensures in
+    let index : k < length all = omega (arith, c.numbers-test.true, c.requires.numbers) in
+    let step : open_signs (old dot) c.numbers.next end ≡ get_or all k 0 ∷ drop (k + 1) all = inv.left ∙ drop_more all k 0 index in
+    let size = inv.size in
+    let shut = λ (i : ℕ) (from : c.numbers.next ≤ i) (before : i < c.next_open-sign.result). sym (inv.later dot i from (omega (arith, found.within))) ∙ found.passes i from before in
     record {
-      next = omega (arith, c.positions.invariant.next, next_open (is_open dot) old k no_position within true (ap (is_open dot) (sym same.0) ∙ free));
-      rest = drop_set cur k c.close_position.result ∙ same.1;
-      front = λ after closes.
-          changed_step after old cur k c.close_position.result no_position within (c.positions.invariant.front after closes)
-          (c.close_position.ensures ∙ closes.closes c.positions.next here (get_or c.args.numbers.now c.positions.next 0) there (slice_get-get_or c.args.numbers.now c.positions.next 0 numbered));
+      shut = shut;
+      low = open_there (old dot) end c.numbers.next c.next_open-sign.result (get_or all k 0) (drop (k + 1) all) found.after shut step;
+      wide = c.requires.size;
+      index = index;
+      step = step;
     }
 
-pub positions-preserved-then-contains : goal.positions-preserved-then-contains
-unfolding no_position
-positions-preserved-then-contains c =
-    let k = c.positions.k in
+pub close_at-requires-clause-within : goal.close_at-requires-clause-within
+close_at-requires-clause-within c =
+    let a = ahead (goal.at.close_at-requires-clause-within c).After-next_open-sign in
+    omega (arith, a.low, a.wide, c.numbers.invariant.size)
+
+pub numbers-preserved : goal.numbers-preserved
+numbers-preserved c =
+    let a = ahead (goal.at.numbers-preserved c).After-next_open-sign in
+    let inv = c.numbers.invariant in
     let dot = c.args.dot in
-    let old : List OpenPosition = c.args.open_positions.now in
-    let cur : List OpenPosition = c.positions.open_positions in
-    let within : k < length old = c.positions-test.true in
-    let inside : k < length cur = omega (arith, within, c.positions.auto.open_positions) in
-    let same = same_rest cur old k no_position inside within c.positions.invariant.rest in
-    let shut : is_open dot (get_or old k no_position) ≡ false = ap (is_open dot) (sym same.0) ∙ ap not (sym c.contains.ensures ∙ c.if-contains.true) in
+    let end = c.args.end in
+    let old : ℕ → ℕ → Bool = is_closed c.args.dots.now in
+    let all = open_signs (old dot) 0 end in
+    let k = c.numbers.number-index in
+    let next = c.numbers.next in
+    let at = c.next_open-sign.result in
+    let found = c.next_open-sign.ensures in
+    let wide : places_in c.numbers.dots ≡ places_in c.args.dots.now = inv.size in
+    let within : at < places_in c.args.dots.now = omega (arith, a.low, a.wide) in
+    let free : old dot at ≡ false = sym (inv.later dot at found.after within) ∙ found.fails (omega arith) in
+    let both : at ∷ open_signs (old dot) (at + 1) end ≡ get_or all k 0 ∷ drop (k + 1) all = sym (open_first (old dot) end at a.low free) ∙ sym (open_skip (old dot) end next at found.after a.shut) ∙ a.step in
+    let head : at ≡ get_or all k 0 = cc in
+    let tail : open_signs (old dot) (at + 1) end ≡ drop (k + 1) all = cc in
+    let here : slice_get all k ≡ Some at = slice_get-get_or all k 0 a.index ∙ ap Some (sym head) in
     record {
-      next = omega (arith, c.positions.invariant.next, next_open (is_open dot) old k no_position within false shut);
-      rest = same.1;
-      front = λ after closes. c.positions.invariant.front after closes ∙ stays_step after old k no_position within (closes.stays (get_or old k no_position) shut);
+      size = c.close_at.ensures.size ∙ inv.size;
+      reached = c.close_at.ensures.reached ∙ inv.reached;
+      within = omega arith;
+      left = tail;
+      later = λ d s from low. c.close_at.ensures.others d s (omega arith) (λ is. omega arith) ∙ inv.later d s (omega (arith, found.after)) low;
+      front = λ after by d s before. elim (cases_eq s at) [
+        | inl same ↦
+            ap (is_closed c.close_at.new.dots d) same
+            ∙ c.close_at.ensures.here d
+            ∙ (λ i. closed_by (λ e. inv.later e at found.after within i) dot (c.fate_of.ensures i) d)
+            ∙ by.closes k at (get_or c.args.numbers.now k 0) here (slice_get-get_or c.args.numbers.now k 0 c.numbers-test.true) d
+            ∙ ap (after d) (sym same)
+        | inr other ↦
+            c.close_at.ensures.others d s (omega arith) other
+            ∙ elim (cases_lt s next) [
+              | inl earlier ↦ inv.front after by d s earlier
+              | inr from ↦ inv.later d s from (omega arith) ∙ sym (by.stays s (a.shut s from (omega arith)) d)
+            ]
+      ];
     }
+
+pub returns-clause-closed : goal.returns-clause-closed
+returns-clause-closed c = λ after by d s low.
+    let inv = c.numbers.invariant in
+    let dot = c.args.dot in
+    let end = c.args.end in
+    let old : ℕ → ℕ → Bool = is_closed c.args.dots.now in
+    let all = open_signs (old dot) 0 end in
+    let none : open_signs (old dot) c.numbers.next end ≡ [] = inv.left ∙ drop_all c.numbers.number-index all (omega (arith, c.numbers-test.false, c.requires.numbers)) in
+    elim (cases_lt s c.numbers.next) [
+      | inl earlier ↦ inv.front after by d s earlier
+      | inr from ↦ inv.later d s from (omega (arith, c.requires.size)) ∙ sym (by.stays s (all_shut (old dot) end c.numbers.next s none from low) d)
+    ]

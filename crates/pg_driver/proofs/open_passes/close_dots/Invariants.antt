@@ -1,12 +1,18 @@
-use Rattle.std.proofs.Common.{◌≡◌, ◌++◌, filter, length, map, take, drop}
-use Rattle.pg_driver.specs.declared.open_positions.OpenPosition.{OpenPosition}
-use Rattle.pg_driver.specs.PassWindows.{ClosesAs, is_open}
+use Rattle.std.proofs.Common.{◌≡◌, ℕ, ◌≤◌, ◌<◌, Bool, drop}
+use Rattle.pg_dots.specs.Inside.Dots.{is_closed, places as places_in}
+use Rattle.pg_driver.specs.Inside.OpenSigns.{ClosesBy, open_signs}
 use Rattle.pg_driver.proofs.open_passes.close_dots.Given as goal
 
-abbrev pub invariant-positions : goal.invariant-positions
-invariant-positions l = record {
-  next : l.next ≡ length (filter (is_open l.dot) (take l.k l.fn.open_positions));
-  rest : drop l.k l.open_positions ≡ drop l.k l.fn.open_positions;
-  front : (after : OpenPosition → OpenPosition) → ClosesAs after l.dot l.fates l.fn.open_positions l.numbers
-      → l.open_positions ≡ (map after (take l.k l.fn.open_positions) ++ drop l.k l.fn.open_positions);
-}
+abbrev pub invariant-numbers : goal.invariant-numbers
+invariant-numbers l =
+    let old = is_closed l.fn.dots in
+    let now = is_closed l.dots in
+    let all = open_signs (old l.dot) 0 l.end in
+    record {
+      size : places_in l.dots ≡ places_in l.fn.dots;
+      reached : l.dots.reached ≡ l.fn.dots.reached;
+      within : l.next ≤ places_in l.fn.dots;
+      left : open_signs (old l.dot) l.next l.end ≡ drop l.number-index all;
+      later : (d s : ℕ) → l.next ≤ s → s < places_in l.fn.dots → now d s ≡ old d s;
+      front : (after : ℕ → ℕ → Bool) → ClosesBy after l.dot l.fates old all l.numbers → (d s : ℕ) → s < l.next → now d s ≡ after d s;
+    }

@@ -1,4 +1,4 @@
-use Rattle.pg_dict.specs.Lent.{lent_word}
+use Rattle.pg_dict.specs.Inside.Lent.{lent_word}
 use Rattle.pg_select.proofs.MarkSteps.{weight_small}
 use Rattle.pg_driver.proofs.Rooms.{room_small}
 use Rattle.pg_driver.proofs.open_passes.count_at.Goals as goal

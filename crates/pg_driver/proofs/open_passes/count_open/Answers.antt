@@ -1,44 +1,108 @@
-use Rattle.std.proofs.Common.{◌+◌, ◌-◌, [], ◌∷◌, List, filter, get_or, length, take, sym, ap, subst, ◌∙◌, arith}
-use Rattle.std.proofs.lemmas.List.{take_more, take_all}
-use Rattle.std.proofs.lemmas.List.Elements.{filter-append}
-use Rattle.pg_driver.specs.PassWindows.{HaveNumbers, counts_at, is_open}
-use Rattle.pg_driver.proofs.Rooms.{room_left}
-use Rattle.pg_driver.proofs.Walks.{kept_on}
+use Rattle.std.proofs.Common.{◌≡◌, ℕ, ◌+◌, ◌-◌, ◌<◌, ◌≤◌, [], ◌∷◌, ◌++◌, List, Bool, true, false, None, Some, length, map, refl, sym, ap, subst, ◌∙◌, arith}
+use Rattle.std.specs.List.{flat_map}
+use Rattle.std.proofs.lemmas.List.{map-append}
+use Rattle.pg_dots.specs.Inside.Dots.{is_closed, places as places_in}
+use Rattle.pg_driver.specs.Inside.Counting.{counting, HasRoom}
+use Rattle.pg_driver.specs.Inside.PassWindows.{HaveNumbers, IsNumbered, counts_at}
+use Rattle.pg_driver.proofs.Rooms.{room_left, room_less}
+use Rattle.pg_driver.proofs.Walks.{counted_step, kept_on}
+use Rattle.pg_driver.specs.declared.dot_set.DotSet.{DotSet}
 use Rattle.pg_driver.specs.declared.open_positions.OpenPosition.{OpenPosition}
-use Rattle.pg_driver.specs.OpenPositions.{counted_of}
-use Rattle.pg_driver.proofs.OpenSteps.{entry_counted}
+use Rattle.pg_driver.specs.Inside.DotSets.{has_dot}
+use Rattle.pg_driver.specs.Inside.OpenPositions.{counted_of}
+use Rattle.pg_driver.specs.Inside.OpenSigns.{open_places, open_signs, place_from, sign_count}
+use Rattle.pg_driver.proofs.NumberSteps.{have_more, still_have}
+use Rattle.pg_driver.proofs.OpenLevels.{none_in}
+use Rattle.pg_driver.proofs.OpenSigns.{open_first, open_none, open_skip, open_upto, start_zero, upto_all, upto_open, upto_skip}
 use Rattle.pg_driver.proofs.open_passes.count_open.Goals as goal
 
-no_position : OpenPosition
-no_position = record { word = 0; at = 0; closed = record { bits = 0 } }
-
-pub positions-preserved : goal.positions-preserved
-unfolding no_position
-positions-preserved g c =
+pub signs-init : goal.signs-init
+signs-init g c =
     let m0 = g.E.Engine.meaning c.args.engine.now in
-    let m = g.E.Engine.meaning c.positions.engine in
-    let after = g.E.Engine.meaning c.count_where_open.new.engine in
+    let words = c.args.dictionary.now in
     let pass = c.args.pass in
-    let f = counted_of c.args.pass.level c.args.pass.len c.args.pass.dot c.args.dictionary.now in
-    let i = c.positions.position-index in
-    let entries : List OpenPosition = c.args.open_positions.now in
-    let here : OpenPosition = get_or entries i no_position in
-    let ok = c.in_ok-count_where_open.ensures.ok in
-    let front = take_more entries i no_position c.positions-test.true in
+    let closed : ℕ → Bool = is_closed c.args.dots.now pass.dot in
+    let total = sign_count words in
+    let next = c.next_open-next.result in
+    let later = c.next_open-next.ensures in
+    let skipped : open_signs closed 0 total ≡ open_signs closed next total = open_skip closed total 0 next later.after later.passes in
+    let none : [] ≡ open_upto closed next = upto_skip closed 0 next later.after later.passes in
     record {
-      kept = kept_on m0 m after (f here) c.positions.invariant.kept ok;
-      whole = entry_counted f m _ _ entries i no_position c.positions-test.true ok c.positions.invariant.whole;
-      places = c.in_ok-count_where_open.ensures.places;
-      numbers =
-          subst (λ (es : List OpenPosition). HaveNumbers pass (counts_at pass) c.args.dictionary.now after.windows es c.count_where_open.new.numbers.items)
-          (sym (filter-append (is_open pass.dot) (take i entries) (here ∷ [])) ∙ ap (filter (is_open pass.dot)) (sym front))
-          (c.in_ok-count_where_open.ensures.numbers (filter (is_open pass.dot) (take i entries)) c.positions.invariant.numbers);
-      room = room_left m.counts _ (length entries - i) 1 (length entries - (i + 1)) c.positions.invariant.room c.in_ok-count_where_open.ensures.took (omega (arith, c.positions-test.true));
+      kept = refl;
+      whole = ap (λ (xs : List ℕ). counting m0 (flat_map (counted_of pass.level pass.len pass.dot words) (map (place_from 0 words) xs))) (sym skipped);
+      placed = c.requires.places;
+      numbered =
+          subst (λ (xs : List ℕ). HaveNumbers pass (counts_at pass) words m0.windows (map (place_from 0 words) xs) c.args.numbers.now.items) none
+          (subst (HaveNumbers pass (counts_at pass) words m0.windows []) (sym c.requires.none) (record { size = refl; each = λ k e n at to. absurd (let no : None ≡ Some e = at in cc) }));
+      room = subst (λ (xs : List ℕ). HasRoom m0.counts (length xs)) skipped c.requires.room;
+      start = start_zero words;
+      behind = omega arith;
+      inside = later.within;
+      free = later.fails;
+      beyond = λ i from before. later.passes i (omega arith) before;
+    }
+
+pub count_position-requires-clause-open : goal.count_position-requires-clause-open
+count_position-requires-clause-open g c = ap (λ (dots : DotSet). has_dot dots c.args.pass.dot) c.position_at-position.ensures.closed ∙ none_in c.args.pass.dot
+
+pub count_position-requires-clause-room : goal.count_position-requires-clause-room
+count_position-requires-clause-room g c =
+    let words = c.args.dictionary.now in
+    let closed : ℕ → Bool = is_closed c.args.dots.now c.args.pass.dot in
+    let total = sign_count words in
+    let s = c.signs.next in
+    let all = ap (λ (xs : List ℕ). length xs) c.all_signs-signs.ensures in
+    let low : s < total = omega (arith, c.signs-test.true) in
+    let first = open_first closed total s low (c.signs.invariant.free (omega (arith, c.requires.size))) in
+    room_less (g.E.Engine.meaning c.signs.engine).counts (length (open_signs closed s total)) 1 c.signs.invariant.room (omega (arith, ap (λ (xs : List ℕ). length xs) first))
+
+pub signs-preserved : goal.signs-preserved
+signs-preserved g c =
+    let m0 = g.E.Engine.meaning c.args.engine.now in
+    let m = g.E.Engine.meaning c.signs.engine in
+    let after = g.E.Engine.meaning c.count_position.new.engine in
+    let words = c.args.dictionary.now in
+    let pass = c.args.pass in
+    let f = counted_of pass.level pass.len pass.dot words in
+    let place : ℕ → OpenPosition = place_from 0 words in
+    let closed : ℕ → Bool = is_closed c.args.dots.now pass.dot in
+    let total = sign_count words in
+    let inv = c.signs.invariant in
+    let s = c.signs.next in
+    let t = c.next_open-next-in-signs.result in
+    let later = c.next_open-next-in-signs.ensures in
+    let all = ap (λ (xs : List ℕ). length xs) c.all_signs-signs.ensures in
+    let low : s < total = omega (arith, c.signs-test.true) in
+    let free : closed s ≡ false = inv.free (omega (arith, c.requires.size)) in
+    let step : open_signs closed s total ≡ s ∷ open_signs closed t total = open_first closed total s low free ∙ ap (λ (xs : List ℕ). s ∷ xs) (open_skip closed total (s + 1) t later.after later.passes) in
+    let ok : after ≡ counting m (f (place s)) = c.in_ok-number.ensures.ok ∙ ap (λ (e : OpenPosition). counting m (f e)) c.position_at-position.ensures.position in
+    let front : map place (open_upto closed s) ++ place s ∷ [] ≡ map place (open_upto closed t) = sym (ap (map place) (sym (upto_skip closed (s + 1) t later.after later.passes) ∙ upto_open closed s free) ∙ map-append place (open_upto closed s) (s ∷ [])) in
+    let number : IsNumbered pass (counts_at pass) words after.windows (place s) c.in_ok-number.number = subst (λ (e : OpenPosition). IsNumbered pass (counts_at pass) words after.windows e c.in_ok-number.number) c.position_at-position.ensures.position c.in_ok-number.ensures.number in
+    record {
+      kept = kept_on m0 m after (f (place s)) inv.kept ok;
+      whole = counted_step f m after _ (place s) (map place (open_signs closed t total)) ok (ap (λ (xs : List ℕ). counting m (flat_map f (map place xs))) (sym step) ∙ inv.whole);
+      placed = c.in_ok-number.ensures.places;
+      numbered =
+          subst (λ (es : List OpenPosition). HaveNumbers pass (counts_at pass) words after.windows es c.push.new.self.items) front
+          (subst (HaveNumbers pass (counts_at pass) words after.windows (map place (open_upto closed s) ++ place s ∷ [])) (sym c.in_ok-push.ensures.items)
+          (have_more pass (counts_at pass) words after.windows (map place (open_upto closed s)) c.signs.numbers.items (place s) c.in_ok-number.number
+          (still_have pass (counts_at pass) words m after (f (place s)) (map place (open_upto closed s)) c.signs.numbers.items ok inv.numbered) number));
+      room = room_left m.counts after.counts (length (open_signs closed s total)) 1 (length (open_signs closed t total)) inv.room c.in_ok-number.ensures.took (omega (arith, ap (λ (xs : List ℕ). length xs) step));
+      start = c.go_on-at.ensures.start;
+      behind = omega (arith, c.go_on-at.ensures.behind, later.after);
+      inside = later.within;
+      free = later.fails;
+      beyond = λ i from before. later.passes i (omega arith) before;
     }
 
 pub returns-clause-numbers : goal.returns-clause-numbers
 returns-clause-numbers g c =
-    let m = g.E.Engine.meaning c.positions.engine in
+    let m = g.E.Engine.meaning c.signs.engine in
+    let words = c.args.dictionary.now in
     let pass = c.args.pass in
-    subst (λ (es : List OpenPosition). HaveNumbers pass (counts_at pass) c.args.dictionary.now m.windows (filter (is_open pass.dot) es) c.positions.numbers.items)
-    (take_all c.positions.position-index c.args.open_positions.now (omega (arith, c.positions-test.false))) c.positions.invariant.numbers
+    let closed : ℕ → Bool = is_closed c.args.dots.now pass.dot in
+    let total = sign_count words in
+    let all = ap (λ (xs : List ℕ). length xs) c.all_signs-signs.ensures in
+    let past : total ≤ c.signs.next = omega (arith, c.signs-test.false) in
+    subst (λ (xs : List ℕ). HaveNumbers pass (counts_at pass) words m.windows (map (place_from 0 words) xs) c.signs.numbers.items)
+    (sym (upto_skip closed total c.signs.next past c.signs.invariant.beyond) ∙ upto_all closed total) c.signs.invariant.numbered

@@ -1,19 +1,32 @@
-use Rattle.std.proofs.Common.{◌≡◌, ◌-◌, drop, filter, length, take}
+use Rattle.std.proofs.Common.{◌≡◌, ℕ, ◌-◌, ◌≤◌, ◌<◌, true, false, length, map}
 use Rattle.std.specs.List.{flat_map}
+use Rattle.pg_dots.specs.Inside.Dots.{is_closed, places as places_in}
+use Rattle.pg_driver.proofs.OpenSigns.{open_upto}
 use Rattle.pg_driver.proofs.Walks.{KeepsButCounts}
-use Rattle.pg_driver.specs.Counting.{counting, HasRoom}
-use Rattle.pg_driver.specs.OpenPositions.{counted_of}
-use Rattle.pg_driver.specs.PassWindows.{ArePlaces, HaveNumbers, counts_at, is_open}
+use Rattle.pg_driver.specs.Inside.Counting.{counting, HasRoom}
+use Rattle.pg_driver.specs.Inside.OpenPositions.{counted_of}
+use Rattle.pg_driver.specs.Inside.OpenSigns.{open_places, open_signs, place_from, sign_count, start_of}
+use Rattle.pg_driver.specs.Inside.PassWindows.{ArePlaces, HaveNumbers, counts_at}
 use Rattle.pg_driver.proofs.open_passes.count_open.Given as goal
 
-abbrev pub invariant-positions : goal.invariant-positions
-invariant-positions g l =
+abbrev pub invariant-signs : goal.invariant-signs
+invariant-signs g l =
     let m0 = g.E.Engine.meaning l.fn.engine in
     let m = g.E.Engine.meaning l.engine in
+    let words = l.dictionary in
+    let closed = is_closed l.dots l.pass.dot in
     record {
       kept : KeepsButCounts m0 m;
-      whole : counting m (flat_map (counted_of l.pass.level l.pass.len l.pass.dot l.dictionary) (drop l.position-index l.open_positions)) ≡ counting m0 (flat_map (counted_of l.pass.level l.pass.len l.pass.dot l.dictionary) l.open_positions);
-      places : ArePlaces l.pass l.dictionary m.windows l.places.items;
-      numbers : HaveNumbers l.pass (counts_at l.pass) l.dictionary m.windows (filter (is_open l.pass.dot) (take l.position-index l.open_positions)) l.numbers.items;
-      room : HasRoom m.counts (length l.open_positions - l.position-index);
+      whole : counting m (flat_map (counted_of l.pass.level l.pass.len l.pass.dot words) (map (place_from 0 words) (open_signs closed l.next (sign_count words)))) ≡ counting m0 (flat_map (counted_of l.pass.level l.pass.len l.pass.dot words) (open_places closed words));
+      placed : ArePlaces l.pass words m.windows l.places.items;
+      numbered : HaveNumbers l.pass (counts_at l.pass) words m.windows (map (place_from 0 words) (open_upto closed l.next)) l.numbers.items;
+      room : HasRoom m.counts (length (open_signs closed l.next (sign_count words)));
+      start : l.at.start ≡ start_of words l.at.word;
+      behind : l.at.start ≤ l.next;
+      inside : l.next ≤ places_in l.dots;
+      free : l.next < places_in l.dots → closed l.next ≡ false;
+      beyond : (i : ℕ) → sign_count words ≤ i → i < l.next → closed i ≡ true;
     }
+
+abbrev pub decreases-signs : goal.decreases-signs
+decreases-signs g l = l.end - l.next

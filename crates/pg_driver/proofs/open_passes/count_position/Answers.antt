@@ -1,5 +1,5 @@
 use Rattle.std.proofs.Common.{◌≡◌, ◌<◌, ℕ, true, length, false, sym, ap, subst, ◌∙◌, arith}
-use Rattle.pg_dict.specs.Lent.{lent_word}
+use Rattle.pg_dict.specs.Inside.Lent.{lent_word}
 use Rattle.pg_driver.proofs.WordSteps.{signs_within}
 use Rattle.pg_types.specs.Numbered.{HasNumber, with_window}
 use Rattle.pg_select.specs.Meanings.{Meaning}

@@ -1,21 +1,23 @@
-use Rattle.std.proofs.Common.{◌≡◌, ◌≤◌, ◌<◌, ◌+◌, ◌-◌, ◌++◌, ℕ, true, false, length, ap, ◌∙◌, arith}
+use Rattle.std.proofs.Common.{◌≡◌, ◌≤◌, ◌<◌, ◌+◌, ◌-◌, ℕ, true, false, not, ◌&&◌, nat_eq, length, is_some, List, map, refl, sym, ap, ◌∙◌, arith, rules}
 use Rattle.std.specs.List.{slice_index_or}
 use Rattle.pg_types.specs.declared.limits.TheConstants.{WEIGHT_MAX}
 use Rattle.pg_types.specs.declared.marks.Mark.{Mark}
 use Rattle.pg_dict.specs.Word.{letter_count}
-use Rattle.pg_dict.specs.Lent.{lent_word}
-use Rattle.pg_select.specs.CountedPositions.{counts_as}
+use Rattle.pg_dict.specs.Inside.Lent.{lent_word}
+use Rattle.pg_dots.specs.Inside.Dots.{is_closed}
+use Rattle.pg_select.specs.CountedPositions.{counts_as, minima_of}
 use Rattle.pg_select.specs.Statuses.{status, status_at, position_weight}
-use Rattle.pg_select.specs.Sums.{with_mark, sum_of}
-use Rattle.pg_driver.specs.OpenLevels.{open_as, open_by_status}
+use Rattle.pg_select.specs.Sums.{with_mark, with_marks, sum_of}
+use Rattle.pg_patterns.specs.Values.{value_at}
 use Rattle.pg_select.proofs.MarkSteps.{marks_step, mark_took, weight_small}
-use Rattle.pg_driver.proofs.OpenSteps.{position_added}
+use Rattle.pg_driver.proofs.OpenFirst.{opens_first, opens_last, opens_next, opens_none}
 use Rattle.pg_driver.proofs.open_positions.open_word.Goals as goal
 
 pub positions-preserved : goal.positions-preserved
 positions-preserved g c =
     let P = (g.E.Engine.meaning c.args.engine.now).patterns in
     let w = lent_word c.args.w.now in
+    let m = minima_of c.args.table.now in
     let p = c.positions.p in
     let before = c.positions.opened in
     let within : p < length w.signs = omega (arith, c.positions-test.true, c.in-Some.ensures.within) in
@@ -27,11 +29,37 @@ positions-preserved g c =
     let few : p - c.in-Some.first + 1 ≤ letter_count w = omega (arith, c.positions-test.true, c.in-Some.ensures.few, c.positions.auto) in
     let on : p + 1 - c.in-Some.first ≡ p - c.in-Some.first + 1 = omega (arith, c.positions.auto) in
     record {
-      positions =
-          position_added (open_by_status c.args.level P c.args.word w) before.positions.items c.open_by_status.new.open_positions.items _ p c.in-Some.end c.positions-test.true
-          (c.in_ok-open_by_status.ensures ∙ ap (λ (x : Mark). before.positions.items ++ open_as c.args.word p (counts_as c.args.level x)) mark)
-          c.positions.invariant.positions;
+      size = c.open_by_status.ensures.size ∙ c.positions.invariant.size;
+      none = c.open_by_status.ensures.none;
+      dots = λ d s low.
+          let s0 = c.args.start in
+          c.open_by_status.ensures.closed d s (omega (arith, c.positions.invariant.size))
+          ∙ ap (λ b. not (nat_eq s (s0 + p) && is_some (counts_as c.args.level c.mark_at-mark.result)) && b) (c.positions.invariant.dots d s low)
+          ∙ opens_next m c.args.level P w c.in-Some.first c.in-Some.end c.in-Some.ensures.some s0 p s (is_some (counts_as c.args.level c.mark_at-mark.result)) (is_closed c.args.opened.now.dots d s) (omega (arith, c.positions.auto)) c.positions-test.true (ap (λ (x : Mark). is_some (counts_as c.args.level x)) mark);
       sums = marks_step before.totals _ _ P w p c.in-Some.end c.positions-test.true sums c.positions.invariant.sums;
       few = omega arith;
       took_for = omega (arith, c.positions.invariant.took_for);
     }
+
+pub positions-init : goal.positions-init
+positions-init g c =
+    let P = (g.E.Engine.meaning c.args.engine.now).patterns in
+    let w = lent_word c.args.w.now in
+    let m = minima_of c.args.table.now in
+    let none : c.in-Some.first - c.in-Some.first ≡ 0 = omega arith in
+    record {
+      size = refl;
+      none = c.requires.none;
+      dots = λ d s low. opens_first m c.args.level P w c.in-Some.first c.in-Some.end c.in-Some.ensures.some c.args.start s (is_closed c.args.opened.now.dots d s);
+      sums = ap (λ (ps : List ℕ). with_marks c.args.opened.now.totals (map (λ (q : ℕ). (status (slice_index_or w.hyphens q false) (slice_index_or w.cares q true) (value_at P w.signs q), position_weight w q)) ps)) (sym c.in-Some.ensures.some);
+      few = omega arith;
+      took_for = omega arith;
+    }
+
+pub returns-clause-closed : goal.returns-clause-closed
+returns-clause-closed g c = λ d s low.
+    let P = (g.E.Engine.meaning c.args.engine.now).patterns in
+    let w = lent_word c.args.w.now in
+    let m = minima_of c.args.table.now in
+    c.positions.invariant.dots d s low
+    ∙ opens_last m c.args.level P w c.in-Some.first c.in-Some.end c.in-Some.ensures.some c.args.start c.positions.p s (is_closed c.args.opened.now.dots d s) (omega (arith, c.positions.auto)) (omega (arith, c.positions-test.false))

@@ -2,7 +2,7 @@ use Rattle.std.proofs.Common.{◌≡◌, ℕ, ◌+◌, ◌-◌, take, drop, Some
 use Rattle.std.specs.List.{list_all}
 use Rattle.pg_types.specs.Signs.{is_sign}
 use Rattle.pg_dict.specs.Word.{Word}
-use Rattle.pg_dict.specs.Lent.{lent_word}
+use Rattle.pg_dict.specs.Inside.Lent.{lent_word}
 use Rattle.pg_select.specs.Windows.{window}
 use Rattle.pg_driver.proofs.NumberSteps.{are_signs}
 use Rattle.pg_driver.proofs.pass_windows.go_to.Goals as goal

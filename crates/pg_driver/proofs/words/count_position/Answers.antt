@@ -1,9 +1,9 @@
 use Rattle.std.proofs.Common.{◌≡◌, true, is_some, cond, Bool, List, ℕ, ◌++◌, ◌∷◌, [], sym, ap, ◌∙◌, arith}
-use Rattle.pg_dict.specs.Lent.{lent_word}
+use Rattle.pg_dict.specs.Inside.Lent.{lent_word}
 use Rattle.pg_select.specs.CountedPositions.{counted_positions_at}
-use Rattle.pg_select.specs.LawsAbove.{counts_above}
+use Rattle.pg_select.specs.Inside.LawsAbove.{counts_above}
 use Rattle.pg_select.specs.declared.pass.Pass.{Pass}
-use Rattle.pg_driver.specs.Counting.{counting}
+use Rattle.pg_driver.specs.Inside.Counting.{counting}
 use Rattle.pg_driver.proofs.AboveNumbers.{above_found, number_noted, place_noted}
 use Rattle.pg_driver.proofs.words.count_position.Goals as goal
 

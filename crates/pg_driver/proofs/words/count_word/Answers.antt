@@ -1,19 +1,19 @@
 use Rattle.std.proofs.Common.{◌≡◌, ℕ, ◌≤◌, ◌<◌, ◌+◌, ◌-◌, ◌++◌, Bool, List, length, refl, sym, ap, subst, ◌∙◌, append-nil, append_assoc, arith}
-use Rattle.pg_dict.specs.Lent.{lent_word}
+use Rattle.pg_dict.specs.Inside.Lent.{lent_word}
 use Rattle.pg_dict.specs.Word.{letter_count}
 use Rattle.pg_select.specs.Meanings.{Meaning}
 use Rattle.pg_select.specs.declared.pass.Pass.{Pass}
 use Rattle.pg_select.specs.CountedPositions.{counted_positions_at, minima_of}
 use Rattle.pg_driver.specs.declared.open_positions.OpenPosition.{OpenPosition}
-use Rattle.pg_driver.specs.OpenLevels.{listed_in, open_as}
-use Rattle.pg_driver.specs.PassWindows.{HaveNumbers, uncovered_at}
+use Rattle.pg_driver.specs.Inside.OpenLevels.{listed_in, open_as}
+use Rattle.pg_driver.specs.Inside.PassWindows.{HaveNumbers, uncovered_at}
 use Rattle.pg_driver.proofs.OpenSteps.{position_added}
-use Rattle.pg_select.specs.LawsAbove.{counts_above}
-use Rattle.pg_driver.specs.WordLevels.{listing}
+use Rattle.pg_select.specs.Inside.LawsAbove.{counts_above}
+use Rattle.pg_driver.specs.Inside.WordLevels.{listing}
 use Rattle.pg_driver.proofs.WordLevels.{none_listed_in}
 use Rattle.pg_select.specs.Statuses.{status_at, position_weight}
 use Rattle.pg_types.specs.declared.limits.TheConstants.{WEIGHT_MAX}
-use Rattle.pg_driver.specs.Counting.{IsRead}
+use Rattle.pg_driver.specs.Inside.Counting.{IsRead}
 use Rattle.pg_select.specs.Sums.{with_mark, sum_of}
 use Rattle.pg_select.proofs.MarkSteps.{marks_step, mark_took, weight_small}
 use Rattle.pg_driver.proofs.Rooms.{room_left}

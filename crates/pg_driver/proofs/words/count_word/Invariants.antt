@@ -1,14 +1,14 @@
 use Rattle.std.proofs.Common.{◌≡◌, ℕ, ◌≤◌, ◌-◌, ◌++◌, List, slice_get, Some}
 use Rattle.std.specs.List.{flat_map, range_with_len}
 use Rattle.pg_dict.specs.Word.{Word, letter_count}
-use Rattle.pg_dict.specs.Lent.{lent_word}
+use Rattle.pg_dict.specs.Inside.Lent.{lent_word}
 use Rattle.pg_select.specs.CountedPositions.{counted_positions_at, counted_positions_in, minima_of}
-use Rattle.pg_select.specs.LawsAbove.{counts_above}
+use Rattle.pg_select.specs.Inside.LawsAbove.{counts_above}
 use Rattle.pg_driver.specs.declared.open_positions.OpenPosition.{OpenPosition}
-use Rattle.pg_driver.specs.OpenLevels.{listed_in, open_as}
-use Rattle.pg_driver.specs.PassWindows.{ArePlaces, HaveNumbers, uncovered_at}
+use Rattle.pg_driver.specs.Inside.OpenLevels.{listed_in, open_as}
+use Rattle.pg_driver.specs.Inside.PassWindows.{ArePlaces, HaveNumbers, uncovered_at}
 use Rattle.pg_select.specs.Sums.{marks_in, with_marks, TookRoomFor}
-use Rattle.pg_driver.specs.Counting.{counting, TookRoom}
+use Rattle.pg_driver.specs.Inside.Counting.{counting, TookRoom}
 use Rattle.pg_select.proofs.MarkSteps.{marks_from}
 use Rattle.pg_driver.proofs.Walks.{KeepsButCounts}
 use Rattle.pg_driver.proofs.words.count_word.Given as goal

@@ -1,18 +1,18 @@
 use Rattle.std.proofs.Common.{◌+◌, ◌++◌, ℕ, List, drop, refl, ap, subst, sym, ◌∙◌, arith}
 use Rattle.std.specs.List.{flat_map, sum_by}
-use Rattle.pg_dict.specs.Lent.{lent_word}
+use Rattle.pg_dict.specs.Inside.Lent.{lent_word}
 use Rattle.pg_dict.specs.Word.{Word, letter_count}
 use Rattle.pg_types.specs.Counts.{SignsWithin}
 use Rattle.pg_select.specs.Meanings.{Meaning}
 use Rattle.pg_select.specs.CountedPositions.{counted_positions, counted_positions_in, minima_of}
 use Rattle.pg_select.specs.Sums.{marks_in, with_marks}
-use Rattle.pg_driver.specs.Counting.{counting}
+use Rattle.pg_driver.specs.Inside.Counting.{counting}
 use Rattle.pg_select.proofs.MarkSteps.{marks_word}
-use Rattle.pg_driver.specs.OpenLevels.{listed_in}
-use Rattle.pg_select.specs.LawsAbove.{counts_above}
+use Rattle.pg_driver.specs.Inside.OpenLevels.{listed_in}
+use Rattle.pg_select.specs.Inside.LawsAbove.{counts_above}
 use Rattle.pg_driver.specs.declared.open_positions.OpenPosition.{OpenPosition}
-use Rattle.pg_driver.specs.PassWindows.{HaveNumbers, uncovered_at}
-use Rattle.pg_driver.specs.WordLevels.{listing}
+use Rattle.pg_driver.specs.Inside.PassWindows.{HaveNumbers, uncovered_at}
+use Rattle.pg_driver.specs.Inside.WordLevels.{listing}
 use Rattle.pg_driver.proofs.OpenSteps.{few_words, word_added}
 use Rattle.pg_driver.proofs.Rooms.{room_left, room_less}
 use Rattle.pg_driver.proofs.Walks.{kept_on, word_step}

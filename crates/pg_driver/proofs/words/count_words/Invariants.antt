@@ -3,12 +3,12 @@ use Rattle.std.specs.List.{flat_map, sum_by}
 use Rattle.pg_dict.specs.Word.{letter_count}
 use Rattle.pg_select.specs.CountedPositions.{counted_positions, minima_of}
 use Rattle.pg_select.specs.Sums.{marks_in, totals, with_marks, HasRoomFor}
-use Rattle.pg_driver.specs.Counting.{counting, HasRoom}
-use Rattle.pg_driver.specs.OpenLevels.{listed_from}
-use Rattle.pg_select.specs.LawsAbove.{counts_above}
+use Rattle.pg_driver.specs.Inside.Counting.{counting, HasRoom}
+use Rattle.pg_driver.specs.Inside.OpenLevels.{listed_from}
+use Rattle.pg_select.specs.Inside.LawsAbove.{counts_above}
 use Rattle.pg_driver.specs.declared.open_positions.OpenPosition.{OpenPosition}
-use Rattle.pg_driver.specs.PassWindows.{ArePlaces, HaveNumbers, uncovered_at}
-use Rattle.pg_driver.specs.WordLevels.{listing}
+use Rattle.pg_driver.specs.Inside.PassWindows.{ArePlaces, HaveNumbers, uncovered_at}
+use Rattle.pg_driver.specs.Inside.WordLevels.{listing}
 use Rattle.pg_driver.proofs.Walks.{KeepsButCounts}
 use Rattle.pg_driver.proofs.words.count_words.Given as goal
 

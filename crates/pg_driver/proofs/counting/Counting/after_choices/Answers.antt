@@ -1,17 +1,12 @@
-use Rattle.std.proofs.Common.{rules, filter, List, ℕ, map, sym, ap, subst, ◌∙◌}
-use Rattle.std.specs.List.{All}
-use Rattle.std.specs.Vec.{with_items}
-use Rattle.std.proofs.lemmas.List.{with_items_is, places}
+use Rattle.std.proofs.Common.{◌≡◌, ◌≤◌, ◌<◌, ℕ, List, Bool, length, refl, sym, ap, subst, ◌∙◌}
+use Rattle.pg_dots.specs.Inside.Dots.{is_closed, places as places_in}
 use Rattle.pg_select.specs.declared.choice.Choice.{Choice}
 use Rattle.pg_driver.specs.declared.counting.Counting.{Counting}
 use Rattle.pg_driver.specs.declared.counting.Counting.TheVariants.{Open}
 use Rattle.pg_driver.specs.declared.open_positions.OpenLevel.{OpenLevel}
-use Rattle.pg_driver.specs.declared.open_positions.OpenPosition.{OpenPosition}
-use Rattle.pg_driver.specs.LevelCounting.{AreNumberedIn, ArePlaced, GoesOnAfter}
-use Rattle.pg_driver.specs.OpenLevels.{position_after}
-use Rattle.pg_driver.specs.OpenPositions.{IsPlaced}
-use Rattle.pg_driver.specs.PassWindows.{ClosesAs, HaveNumbers, counts_at, is_open}
-use Rattle.pg_driver.proofs.NumberSteps.{closes_by_number}
+use Rattle.pg_driver.specs.Inside.LevelCounting.{AreNumberedIn, AreNumberedOpen, GoesOnAfter}
+use Rattle.pg_driver.specs.Inside.OpenSigns.{ClosesBy, closed_after, open_signs, sign_count}
+use Rattle.pg_driver.proofs.OpenCloses.{closes_signs}
 use Rattle.pg_driver.proofs.counting.Counting.after_choices.Goals as goal
 
 pub returns-in-Open : goal.returns-in-Open
@@ -21,18 +16,20 @@ returns-in-Open g c =
     let words = c.args.dictionary.now in
     let pass = c.args.pass in
     let o = c.in-Open.open in
+    let old : ℕ → ℕ → Bool = is_closed o.dots in
+    let after : ℕ → ℕ → Bool = closed_after params pass m.counts words old in
     let fates : List Choice = c.args.windows.now.fates.items in
     let ns : List ℕ = c.args.windows.now.numbers.items in
-    let f = position_after params pass m.counts words in
-    let placed : All (IsPlaced words) o.positions.items = subst (ArePlaced words) c.in-Open.is c.requires.placed in
-    let have : HaveNumbers pass (counts_at pass) words m.windows (filter (is_open pass.dot) o.positions.items) ns = subst (λ (s : Counting). AreNumberedIn pass m.counts words m.windows s ns) c.in-Open.is c.requires.numbers in
-    let closes : ClosesAs f pass.dot fates o.positions.items ns = closes_by_number params m.counts m.windows fates pass words o.positions.items ns c.kept.ensures.numbered c.requires.fates c.requires.few placed have in
-    let there = subst (λ (es : List OpenPosition). ClosesAs f pass.dot c.deref.result.now es c.deref-in-Open.result.now) (sym c.deref_mut.ensures.value)
-    (subst (λ (xs : List ℕ). ClosesAs f pass.dot c.deref.result.now o.positions.items xs) (sym c.deref-in-Open.ensures.value)
-    (subst (λ (xs : List Choice). ClosesAs f pass.dot xs o.positions.items ns) (sym c.deref.ensures.value) closes)) in
-    let after : OpenLevel = record { positions = with_items o.positions c.close_dots.new.open_positions; totals = c.totals_after-open.result } in
-    subst (λ (s : Counting). GoesOnAfter params pass m.counts words c.args.choices s (Open after)) (sym c.in-Open.is)
+    let have : AreNumberedOpen pass words m.windows o ns = subst (λ (s : Counting). AreNumberedIn pass m.counts words m.windows s ns) c.in-Open.is c.requires.numbers in
+    let closes : ClosesBy after pass.dot fates old (open_signs (old pass.dot) 0 (sign_count words)) ns = closes_signs params m.counts m.windows fates c.kept.ensures.numbered c.requires.fates c.requires.few pass words old ns have.numbers in
+    let end : length c.all_signs-signs.result.now ≡ sign_count words = ap (λ (xs : List ℕ). length xs) c.all_signs-signs.ensures in
+    let there = subst (λ (n : ℕ). ClosesBy after pass.dot c.deref.result.now old (open_signs (old pass.dot) 0 n) c.deref-in-Open.result.now) (sym end)
+    (subst (λ (xs : List ℕ). ClosesBy after pass.dot c.deref.result.now old (open_signs (old pass.dot) 0 (sign_count words)) xs) (sym c.deref-in-Open.ensures.value)
+    (subst (λ (xs : List Choice). ClosesBy after pass.dot xs old (open_signs (old pass.dot) 0 (sign_count words)) ns) (sym c.deref.ensures.value) closes)) in
+    let p : OpenLevel = record { dots = c.close_dots.new.dots; totals = c.totals_after-open.result } in
+    subst (λ (s : Counting). GoesOnAfter params pass m.counts words c.args.choices s (Open p)) (sym c.in-Open.is)
     (record {
-      positions = with_items_is o.positions c.close_dots.new.open_positions (search (rules, places)) ∙ c.close_dots.ensures f there ∙ ap (map f) c.deref_mut.ensures.value;
+      size = c.close_dots.ensures.size;
+      dots = λ d s within low. c.close_dots.ensures.closed after there d s (subst (λ (n : ℕ). s < n) (sym end) low);
       totals = c.totals_after-open.ensures;
     })

@@ -12,7 +12,8 @@ returns-clause-ready g c = λ len.
     (omega (arith, c.left-least.ensures.value, c.left-least.ensures.range))
     c.in_ok-opened.ensures.words
     c.in_ok-opened.ensures.letters
-    c.in_ok-opened.ensures.positions
+    c.in_ok-opened.ensures.size
+    c.in_ok-opened.ensures.closed
     c.in_ok-opened.ensures.totals
 
 pub returns-then-level-greatest-clause-form : goal.returns-then-level-greatest-clause-form

@@ -1,7 +1,7 @@
 use Rattle.std.proofs.Common.{◌≡◌, ◌+◌, ◌-◌, ◌&&◌, Bool, true, false, List, ap, refl, sym, ◌∙◌, ℕ}
 use Rattle.std.specs.List.{list_all, range_with_len}
 use Rattle.pg_select.proofs.Reaches.{range_step}
-use Rattle.pg_driver.specs.DotSets.{has_dot}
+use Rattle.pg_driver.specs.Inside.DotSets.{has_dot}
 use Rattle.pg_driver.proofs.dot_set.DotSet.is_full.Goals as goal
 
 grouped : (a b c : Bool) → ((a && b) && c) ≡ (a && (b && c))

@@ -1,6 +1,6 @@
 use Rattle.std.proofs.Common.{◌≡◌, ◌-◌, ◌&&◌}
 use Rattle.std.specs.List.{list_all, range_with_len}
-use Rattle.pg_driver.specs.DotSets.{has_dot, is_full}
+use Rattle.pg_driver.specs.Inside.DotSets.{has_dot, is_full}
 use Rattle.pg_driver.proofs.dot_set.DotSet.is_full.Given as goal
 
 abbrev pub invariant-dots : goal.invariant-dots

@@ -4,9 +4,9 @@ use Rattle.pg_select.specs.CountedPositions.{counted_positions, minima_of}
 use Rattle.pg_select.specs.Meanings.{Meaning, with_position}
 use Rattle.pg_driver.specs.declared.open_positions.OpenPosition.{OpenPosition}
 use Rattle.pg_driver.specs.declared.word_level.WordLevel.{WordLevel}
-use Rattle.pg_driver.specs.PassWindows.{HaveNumbers, is_counted_at}
+use Rattle.pg_driver.specs.Inside.PassWindows.{HaveNumbers, is_counted_at}
 use Rattle.pg_driver.specs.Told.{known_of, over}
-use Rattle.pg_driver.specs.WordLevels.{IsWordsAt}
+use Rattle.pg_driver.specs.Inside.WordLevels.{IsWordsAt}
 use Rattle.pg_driver.proofs.AboveNumbers.{numbered_as_counted}
 use Rattle.pg_driver.proofs.WordLevels.{words_counted}
 use Rattle.pg_driver.proofs.word_level.WordLevel.count.Goals as goal

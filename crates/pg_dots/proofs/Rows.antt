@@ -1,0 +1,199 @@
+-- The bits of a row after a change of one of its numbers.
+use Rattle.std.proofs.Common.{◌≡◌, ◌≢◌, ℕ, zero, suc, ◌+◌, ◌-◌, ◌*◌, ◌/◌, ◌%◌, ◌^◌, ◌<◌, ◌≤◌, max, nat_le, nat_eq, Bool, true, false, cond, not, ◌&&◌, ◌||◌, List, length, set, take, drop, get_or, inl, inr, refl, sym, ap, ◌∙◌, arith, bit_or, bit_and, w64}
+use Rattle.std.specs.Int.{bit_at, bit_not}
+use Rattle.std.proofs.lemmas.Bool.{eq-eqb, ne_eqb, cases_eq, cases_lt, le-leb, lt-leb}
+use Rattle.std.proofs.lemmas.List.{get_or-set_same, get_or-set_other, get_or-take, get_or-drop}
+use Rattle.std.proofs.lemmas.Nat.Bits.{bit_at_or, bit_at-lt, bit_at_set_same, bit_at_set_other, bit_at_clear_same, bit_at_clear_other, bit_at_ones, bit_at_ones_above}
+use Rattle.std.proofs.Math.Pow.{pow-lt}
+use Rattle.std.proofs.Math.Nat.{mod-eq_of_lt}
+use Rattle.pg_dots.specs.Inside.Bits.{has_bit}
+
+-- whether one of two bits is set
+pub either : (a b : ℕ) → a < 2 → b < 2 → nat_eq (max a b) 1 ≡ (nat_eq a 1 || nat_eq b 1)
+either zero zero x y = refl
+either zero (suc zero) x y = refl
+either (suc zero) zero x y = refl
+either (suc zero) (suc zero) x y = refl
+either (suc (suc a)) b x y = absurd (omega arith)
+either a (suc (suc b)) x y = absurd (omega arith)
+
+pub or_true : (a b : Bool) → a ≡ true → (a || b) ≡ true
+or_true true b is = refl
+or_true false b is = absurd (let wrong : false ≡ true = is in cc)
+
+pub or_false : (a b : Bool) → a ≡ false → (a || b) ≡ b
+or_false false b is = refl
+or_false true b is = absurd (let wrong : true ≡ false = is in cc)
+
+pub and_not_true : (a b : Bool) → a ≡ true → (not a && b) ≡ false
+and_not_true true b is = refl
+and_not_true false b is = absurd (let wrong : false ≡ true = is in cc)
+
+pub and_not_false : (a b : Bool) → a ≡ false → (not a && b) ≡ b
+and_not_false false b is = refl
+and_not_false true b is = absurd (let wrong : true ≡ false = is in cc)
+
+-- a bit of a row after one of its numbers changed: in another number it stays, and in that one it is a bit of the new one
+changed_same : (row : List ℕ) (i j x : ℕ) → i < 64 * length row → j / 64 ≡ i / 64 → has_bit (set row (i / 64) x) j ≡ nat_eq (bit_at x (j % 64)) 1
+unfolding has_bit
+changed_same row i j x within same =
+    let low : i / 64 < length row = omega arith in
+    ap (λ v. nat_eq (bit_at v (j % 64)) 1) (ap (λ k. get_or (set row (i / 64) x) k 0) same ∙ get_or-set_same row (i / 64) x 0 low)
+
+changed_other : (row : List ℕ) (i j x : ℕ) → j / 64 ≢ i / 64 → has_bit (set row (i / 64) x) j ≡ has_bit row j
+unfolding has_bit
+changed_other row i j x other = ap (λ v. nat_eq (bit_at v (j % 64)) 1) (get_or-set_other row (i / 64) (j / 64) x 0 other)
+
+-- a bit more
+pub set_bit : (row : List ℕ) (i j : ℕ) → i < 64 * length row → has_bit (set row (i / 64) (bit_or (get_or row (i / 64) 0) (1 * 2 ^ (i % 64) % 2 ^ 64))) j ≡ (nat_eq j i || has_bit row j)
+unfolding has_bit
+set_bit row i j within = elim (cases_eq (j / 64) (i / 64)) [
+  | inl same ↦ elim (cases_eq (j % 64) (i % 64)) [
+    | inl low ↦ here same low
+    | inr other ↦ near same other
+  ]
+  | inr apart ↦ far apart
+]
+  where
+    small : i % 64 < 64
+    small = omega arith
+
+    here : j / 64 ≡ i / 64 → j % 64 ≡ i % 64 → has_bit (set row (i / 64) (bit_or (get_or row (i / 64) 0) (1 * 2 ^ (i % 64) % 2 ^ 64))) j ≡ (nat_eq j i || has_bit row j)
+    here same low =
+        let is : j ≡ i = omega arith in
+        changed_same row i j (bit_or (get_or row (i / 64) 0) (1 * 2 ^ (i % 64) % 2 ^ 64)) within same
+        ∙ ap (λ k. nat_eq (bit_at (bit_or (get_or row (i / 64) 0) (1 * 2 ^ (i % 64) % 2 ^ 64)) k) 1) low
+        ∙ ap (λ b. nat_eq b 1) (bit_at_set_same w64 (get_or row (i / 64) 0) (i % 64) small)
+        ∙ sym (or_true (nat_eq j i) (has_bit row j) (eq-eqb j i is))
+
+    near : j / 64 ≡ i / 64 → j % 64 ≢ i % 64 → has_bit (set row (i / 64) (bit_or (get_or row (i / 64) 0) (1 * 2 ^ (i % 64) % 2 ^ 64))) j ≡ (nat_eq j i || has_bit row j)
+    near same other =
+        let apart : j ≢ i = λ is. other (ap (λ k. k % 64) is) in
+        changed_same row i j (bit_or (get_or row (i / 64) 0) (1 * 2 ^ (i % 64) % 2 ^ 64)) within same
+        ∙ ap (λ b. nat_eq b 1) (bit_at_set_other w64 (get_or row (i / 64) 0) (i % 64) small (j % 64) other)
+        ∙ ap (λ k. nat_eq (bit_at (get_or row k 0) (j % 64)) 1) (sym same)
+        ∙ sym (or_false (nat_eq j i) (has_bit row j) (ne_eqb j i apart))
+
+    far : j / 64 ≢ i / 64 → has_bit (set row (i / 64) (bit_or (get_or row (i / 64) 0) (1 * 2 ^ (i % 64) % 2 ^ 64))) j ≡ (nat_eq j i || has_bit row j)
+    far other =
+        let apart : j ≢ i = λ is. other (ap (λ k. k / 64) is) in
+        changed_other row i j (bit_or (get_or row (i / 64) 0) (1 * 2 ^ (i % 64) % 2 ^ 64)) other
+        ∙ sym (or_false (nat_eq j i) (has_bit row j) (ne_eqb j i apart))
+
+-- a bit less
+pub clear_bit : (row : List ℕ) (i j : ℕ) → i < 64 * length row → has_bit (set row (i / 64) (bit_and (get_or row (i / 64) 0) (bit_not w64 (1 * 2 ^ (i % 64) % 2 ^ 64)))) j ≡ (not (nat_eq j i) && has_bit row j)
+unfolding has_bit
+clear_bit row i j within = elim (cases_eq (j / 64) (i / 64)) [
+  | inl same ↦ elim (cases_eq (j % 64) (i % 64)) [
+    | inl low ↦ here same low
+    | inr other ↦ near same other
+  ]
+  | inr apart ↦ far apart
+]
+  where
+    small : i % 64 < 64
+    small = omega arith
+
+    place : j % 64 < 64
+    place = omega arith
+
+    here : j / 64 ≡ i / 64 → j % 64 ≡ i % 64 → has_bit (set row (i / 64) (bit_and (get_or row (i / 64) 0) (bit_not w64 (1 * 2 ^ (i % 64) % 2 ^ 64)))) j ≡ (not (nat_eq j i) && has_bit row j)
+    here same low =
+        let is : j ≡ i = omega arith in
+        changed_same row i j (bit_and (get_or row (i / 64) 0) (bit_not w64 (1 * 2 ^ (i % 64) % 2 ^ 64))) within same
+        ∙ ap (λ k. nat_eq (bit_at (bit_and (get_or row (i / 64) 0) (bit_not w64 (1 * 2 ^ (i % 64) % 2 ^ 64))) k) 1) low
+        ∙ ap (λ b. nat_eq b 1) (bit_at_clear_same w64 (get_or row (i / 64) 0) (i % 64) small)
+        ∙ sym (and_not_true (nat_eq j i) (has_bit row j) (eq-eqb j i is))
+
+    near : j / 64 ≡ i / 64 → j % 64 ≢ i % 64 → has_bit (set row (i / 64) (bit_and (get_or row (i / 64) 0) (bit_not w64 (1 * 2 ^ (i % 64) % 2 ^ 64)))) j ≡ (not (nat_eq j i) && has_bit row j)
+    near same other =
+        let apart : j ≢ i = λ is. other (ap (λ k. k % 64) is) in
+        changed_same row i j (bit_and (get_or row (i / 64) 0) (bit_not w64 (1 * 2 ^ (i % 64) % 2 ^ 64))) within same
+        ∙ ap (λ b. nat_eq b 1) (bit_at_clear_other w64 (get_or row (i / 64) 0) (i % 64) small (j % 64) place other)
+        ∙ ap (λ k. nat_eq (bit_at (get_or row k 0) (j % 64)) 1) (sym same)
+        ∙ sym (and_not_false (nat_eq j i) (has_bit row j) (ne_eqb j i apart))
+
+    far : j / 64 ≢ i / 64 → has_bit (set row (i / 64) (bit_and (get_or row (i / 64) 0) (bit_not w64 (1 * 2 ^ (i % 64) % 2 ^ 64)))) j ≡ (not (nat_eq j i) && has_bit row j)
+    far other =
+        let apart : j ≢ i = λ is. other (ap (λ k. k / 64) is) in
+        changed_other row i j (bit_and (get_or row (i / 64) 0) (bit_not w64 (1 * 2 ^ (i % 64) % 2 ^ 64))) other
+        ∙ sym (and_not_false (nat_eq j i) (has_bit row j) (ne_eqb j i apart))
+
+-- a bit of a part of a row
+pub part_bit : (row : List ℕ) (start width i : ℕ) → i < 64 * width → has_bit (take width (drop start row)) i ≡ has_bit row (64 * start + i)
+unfolding has_bit
+part_bit row start width i within =
+    let low : i / 64 < width = omega arith in
+    let number : start + i / 64 ≡ (64 * start + i) / 64 = omega arith in
+    let bit : i % 64 ≡ (64 * start + i) % 64 = omega arith in
+    ap (λ v. nat_eq (bit_at v (i % 64)) 1) (get_or-take width (drop start row) (i / 64) 0 low ∙ get_or-drop start row (i / 64) 0 ∙ ap (λ k. get_or row k 0) number)
+    ∙ ap (λ k. nat_eq (bit_at (get_or row ((64 * start + i) / 64) 0) k) 1) bit
+
+-- the bits of a row of which each number from one on has taken in another one
+pub taken_in : (old new : List ℕ) (width j : ℕ) → get_or new (j / 64) 0 ≡ cond (nat_le (2 * width) (j / 64)) (bit_or (get_or old (j / 64) 0) (get_or old (j / 64 - width) 0)) (get_or old (j / 64) 0)
+    → has_bit new j ≡ (has_bit old j || (nat_le (128 * width) j && has_bit old (j - 64 * width)))
+unfolding has_bit
+taken_in old new width j is = elim (cases_lt (j / 64) (2 * width)) [
+  | inl low ↦ before low
+  | inr high ↦ from high
+]
+  where
+    before : j / 64 < 2 * width → has_bit new j ≡ (has_bit old j || (nat_le (128 * width) j && has_bit old (j - 64 * width)))
+    before low =
+        let test : nat_le (2 * width) (j / 64) ≡ false = lt-leb (2 * width) (j / 64) low in
+        let none : nat_le (128 * width) j ≡ false = lt-leb (128 * width) j (omega arith) in
+        ap (λ v. nat_eq (bit_at v (j % 64)) 1) (is ∙ ap (λ b. cond b (bit_or (get_or old (j / 64) 0) (get_or old (j / 64 - width) 0)) (get_or old (j / 64) 0)) test)
+        ∙ sym (ap (λ b. has_bit old j || (b && has_bit old (j - 64 * width))) none ∙ plain (has_bit old j))
+      where
+        plain : (b : Bool) → (b || false) ≡ b
+        plain true = refl
+        plain false = refl
+
+    from : 2 * width ≤ j / 64 → has_bit new j ≡ (has_bit old j || (nat_le (128 * width) j && has_bit old (j - 64 * width)))
+    from high =
+        let test : nat_le (2 * width) (j / 64) ≡ true = le-leb (2 * width) (j / 64) high in
+        let some : nat_le (128 * width) j ≡ true = le-leb (128 * width) j (omega arith) in
+        let number : j / 64 - width ≡ (j - 64 * width) / 64 = omega arith in
+        let bit : j % 64 ≡ (j - 64 * width) % 64 = omega arith in
+        ap (λ v. nat_eq (bit_at v (j % 64)) 1) (is ∙ ap (λ b. cond b (bit_or (get_or old (j / 64) 0) (get_or old (j / 64 - width) 0)) (get_or old (j / 64) 0)) test)
+        ∙ ap (λ b. nat_eq b 1) (bit_at_or (get_or old (j / 64) 0) (get_or old (j / 64 - width) 0) (j % 64))
+        ∙ either (bit_at (get_or old (j / 64) 0) (j % 64)) (bit_at (get_or old (j / 64 - width) 0) (j % 64)) (bit_at-lt (get_or old (j / 64) 0) (j % 64)) (bit_at-lt (get_or old (j / 64 - width) 0) (j % 64))
+        ∙ ap (λ k. nat_eq (bit_at (get_or old (j / 64) 0) (j % 64)) 1 || nat_eq (bit_at (get_or old k 0) (j % 64)) 1) number
+        ∙ ap (λ k. nat_eq (bit_at (get_or old (j / 64) 0) (j % 64)) 1 || nat_eq (bit_at (get_or old ((j - 64 * width) / 64) 0) k) 1) bit
+        ∙ sym (ap (λ b. has_bit old j || (b && has_bit old (j - 64 * width))) some)
+
+-- a power below the greatest number
+pub one_shifted : (k : ℕ) → k < 64 → 1 * 2 ^ k % 2 ^ 64 ≡ 2 ^ k
+one_shifted k small =
+    let one : 1 * 2 ^ k ≡ 2 ^ k = omega arith in
+    ap (λ n. n % 2 ^ 64) one ∙ mod-eq_of_lt (pow-lt small)
+
+-- a number with its low bits set
+pub low_set : (n k i : ℕ) → k < 64 → i < k → bit_at (bit_or n (1 * 2 ^ k % 2 ^ 64 - 1)) i ≡ 1
+low_set n k i small within =
+    let below : bit_at n i < 2 = bit_at-lt n i in
+    ap (λ x. bit_at (bit_or n (x - 1)) i) (one_shifted k small) ∙ bit_at_or n (2 ^ k - 1) i ∙ ap (max (bit_at n i)) (bit_at_ones k i within) ∙ greatest (bit_at n i) below
+  where
+    greatest : (x : ℕ) → x < 2 → max x 1 ≡ 1
+    greatest x below = omega arith
+
+pub high_kept : (n k i : ℕ) → k < 64 → k ≤ i → bit_at (bit_or n (1 * 2 ^ k % 2 ^ 64 - 1)) i ≡ bit_at n i
+high_kept n k i small above =
+    ap (λ x. bit_at (bit_or n (x - 1)) i) (one_shifted k small) ∙ bit_at_or n (2 ^ k - 1) i ∙ ap (max (bit_at n i)) (bit_at_ones_above k i above) ∙ plain (bit_at n i)
+  where
+    plain : (x : ℕ) → max x 0 ≡ x
+    plain x = omega arith
+
+-- a bit of a number of a row
+pub number_bit : (row : List ℕ) (k i : ℕ) → 64 * k ≤ i → i < 64 * k + 64 → has_bit row i ≡ nat_eq (bit_at (get_or row k 0) (i - 64 * k)) 1
+unfolding has_bit
+number_bit row k i low high =
+    let number : i / 64 ≡ k = omega arith in
+    let bit : i % 64 ≡ i - 64 * k = omega arith in
+    ap (λ n. nat_eq (bit_at (get_or row n 0) (i % 64)) 1) number ∙ ap (λ b. nat_eq (bit_at (get_or row k 0) b) 1) bit
+
+pub bit_set : (row : List ℕ) (k i : ℕ) → 64 * k ≤ i → i < 64 * k + 64 → bit_at (get_or row k 0) (i - 64 * k) ≡ 1 → has_bit row i ≡ true
+bit_set row k i low high is = number_bit row k i low high ∙ ap (λ b. nat_eq b 1) is
+
+pub bit_clear : (row : List ℕ) (k i : ℕ) → 64 * k ≤ i → i < 64 * k + 64 → bit_at (get_or row k 0) (i - 64 * k) ≡ 0 → has_bit row i ≡ false
+bit_clear row k i low high is = number_bit row k i low high ∙ ap (λ b. nat_eq b 1) is

@@ -1,0 +1,16 @@
+-- Which dots are closed at which positions.
+use Rattle.std.specs.Prelude.{ℕ, ◌+◌, ◌*◌, nat_lt, Bool, if◌then◌else◌}
+use Rattle.pg_dots.specs.Inside.Bits.{has_bit}
+use Rattle.pg_dots.specs.declared.open_dots.OpenDots.{OpenDots}
+
+-- how many positions there are bits for
+abbrev pub places : OpenDots → ℕ
+places o = 64 * o.width
+
+-- the row of a dot: that of the dots that are not reached is the first
+abbrev pub row_of : ℕ → ℕ → ℕ
+row_of reached dot = if nat_lt dot reached then dot + 1 else 0
+
+-- a dot is closed at a position
+unfoldable pub is_closed : OpenDots → ℕ → ℕ → Bool
+is_closed o dot i = has_bit o.bits.items (row_of o.reached dot * (64 * o.width) + i)

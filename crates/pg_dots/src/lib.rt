@@ -1,0 +1,7 @@
+//! Which dots are closed at which positions: a bit for each.
+#![tactic(auto)]
+
+mod bits;
+mod open_dots;
+
+pub use open_dots::OpenDots;

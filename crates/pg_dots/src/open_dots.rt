@@ -1,0 +1,167 @@
+//! Which dots are closed at which positions.
+ghost use Rattle.std.specs.Prelude.{◌≡◌, ◌≤◌, ◌<◌, ◌*◌, ◌+◌, ◌-◌, ◌^◌, ◌||◌, ◌&&◌, ◌==◌, ℕ, not, nat_le, length, false, true, take, ◌++◌, IfOk, OnOk, OnErr};
+ghost use Rattle.pg_dots.specs.Inside.Bits.{has_bit};
+ghost use Rattle.pg_types.specs.declared.limits.TheConstants.{LENGTH_MAX};
+
+use crate::bits::{NUMBER_BITS, clear, next_clear, set, take_in_before};
+use pg_types::LENGTH_MAX;
+use std::alloc::{AllocError, Global};
+
+/// How many dots there are: those of the greatest length.
+const DOTS: usize = LENGTH_MAX as usize + 1;
+
+/// Which dots are closed at which positions of the words of a dictionary. The positions are
+/// numbered through all words, from 0, and for each dot there is a row with one bit for each of
+/// them.
+///
+/// A dot that is greater than those reached so far is closed where the position is closed
+/// altogether. All these dots share a row.
+#[derive(Drop)]
+pub struct OpenDots {
+    /// How many numbers a row has.
+    width: usize,
+    /// How many dots have a row of their own, from 0 on.
+    reached: usize,
+    /// The rows, one after the other: first that of the dots that are not reached, then those of
+    /// the dots.
+    bits: Vec<u64>,
+    ghost narrow: { width ≤ 2 ^ 32 },
+    ghost few: { reached ≤ 16 },
+    ghost rows: { length bits.items ≡ (reached + 1) * width },
+}
+
+impl OpenDots {
+    ghost use Rattle.pg_dots.specs.Inside.Bits.{IsNext};
+    ghost use Rattle.pg_dots.specs.Inside.Dots.{is_closed, places};
+
+    /// Each dot is closed at each of `size` positions, and no dot is reached.
+    pub fn closed(alloc: Global, size: usize) -> Result<OpenDots, AllocError>
+        requires { size ≤ 2 ^ 32 }
+        ensures size { IfOk result (λ o. size ≤ places o) }
+        ensures few { IfOk result (λ o. places o ≤ size + 64) }
+        ensures none { IfOk result (λ o. o.reached ≡ 0) }
+        ensures closed { IfOk result (λ o. (dot i : ℕ) → i < places o → is_closed o dot i ≡ true) }
+    {
+        let width = size / NUMBER_BITS + 1;
+        Ok(OpenDots {
+            width,
+            reached: 0,
+            bits: vec![in alloc; u64::MAX; width]?,
+        })
+    }
+
+    /// Opens each dot at a position. No dot is reached.
+    pub fn open(&mut self, i: usize)
+        requires within { i < places self.old }
+        requires none { self.old.reached ≡ 0 }
+        ensures places { places self.new ≡ places self.old }
+        ensures none { self.new.reached ≡ 0 }
+        ensures closed { (dot j : ℕ) → j < places self.old
+            → is_closed self.new dot j ≡ (not (j == i) && is_closed self.old dot j) }
+    {
+        clear(&mut self.bits, i);
+    }
+
+    /// Gives a dot a row of its own, and the lesser ones too.
+    pub fn reach(&mut self, dot: u8) -> Result<(), AllocError>
+        requires { dot ≤ LENGTH_MAX }
+        ensures reached { OnOk result (dot < self.new.reached) }
+        ensures places { places self.new ≡ places self.old }
+        ensures closed { OnOk result ((d j : ℕ) → j < places self.old
+            → is_closed self.new d j ≡ is_closed self.old d j) }
+    {
+        while self.reached <= usize::from(dot) {
+            self.reach_next()?;
+        }
+        Ok(())
+    }
+
+    /// Gives the next dot a row of its own.
+    fn reach_next(&mut self) -> Result<(), AllocError>
+        requires { self.old.reached < 16 }
+        ensures reached { OnOk result (self.new.reached ≡ self.old.reached + 1) }
+        ensures places { places self.new ≡ places self.old }
+        ensures closed { OnOk result ((d j : ℕ) → j < places self.old
+            → is_closed self.new d j ≡ is_closed self.old d j) }
+    {
+        push_first(&mut self.bits, self.width)?;
+        self.reached += 1;
+        Ok(())
+    }
+
+    /// The first position from `from` on at which a dot is open; the end of all positions where
+    /// there is none.
+    pub fn next_open(&self, dot: u8, from: usize) -> usize
+        requires dot { dot < self.now.reached }
+        requires from { from ≤ places self.now }
+        ensures { IsNext (is_closed self.now dot) (places self.now) from result }
+    {
+        let start = (usize::from(dot) + 1) * self.width;
+        next_clear(&self.bits[start..start + self.width], from)
+    }
+
+    /// Closes a dot at a position.
+    pub fn close(&mut self, dot: u8, i: usize)
+        requires dot { dot < self.old.reached }
+        requires within { i < places self.old }
+        ensures places { places self.new ≡ places self.old }
+        ensures reached { self.new.reached ≡ self.old.reached }
+        ensures closed { (d j : ℕ) → j < places self.old
+            → is_closed self.new d j ≡ ((d == dot && j == i) || is_closed self.old d j) }
+    {
+        let row = (usize::from(dot) + 1) * self.width;
+        set(&mut self.bits, row * NUMBER_BITS + i);
+    }
+
+    /// Closes every dot at a position.
+    pub fn close_all(&mut self, i: usize)
+        requires within { i < places self.old }
+        ensures places { places self.new ≡ places self.old }
+        ensures reached { self.new.reached ≡ self.old.reached }
+        ensures closed { (d j : ℕ) → j < places self.old
+            → is_closed self.new d j ≡ (j == i || is_closed self.old d j) }
+    {
+        set_in_rows(&mut self.bits, self.width, self.reached + 1, i);
+    }
+
+    /// Goes on to the next length: a dot is closed where it was, or where the dot before it was.
+    pub fn next_length(&mut self) -> Result<(), AllocError>
+        ensures places { places self.new ≡ places self.old }
+        ensures closed { OnOk result ((d j : ℕ) → d ≤ LENGTH_MAX → j < places self.old
+            → is_closed self.new d j
+            ≡ (is_closed self.old d j || (nat_le 1 d && is_closed self.old (d - 1) j))) }
+    {
+        if self.reached == 0 {
+            return Ok(());
+        }
+        if self.reached < DOTS {
+            self.reach_next()?;
+        }
+        take_in_before(&mut self.bits, self.width);
+        Ok(())
+    }
+}
+
+/// Appends a copy of the first `width` numbers. It takes no more memory than they need.
+fn push_first(bits: &mut Vec<u64>, width: usize) -> Result<(), AllocError>
+    requires { width ≤ length bits.old.items }
+    ensures ok { OnOk result (bits.new.items ≡ bits.old.items ++ take width bits.old.items) }
+    ensures err { OnErr result (bits.new.items ≡ bits.old.items) }
+{
+    bits.reserve_exact(width)?;
+    bits.extend_from_within(0..width)?;
+    Ok(())
+}
+
+/// Sets bit `i` of each of the rows of `width` numbers.
+fn set_in_rows(bits: &mut [u64], width: usize, rows: usize, i: usize)
+    requires rows { length bits.old ≡ rows * width }
+    requires within { i < 64 * width }
+    requires few { 64 * length bits.old < 2 ^ 64 }
+    ensures { (r j : ℕ) → r < rows → j < 64 * width → has_bit bits.new (r * (64 * width) + j)
+        ≡ (j == i || has_bit bits.old (r * (64 * width) + j)) }
+{
+    'rows: for row in 0..rows {
+        set(bits, row * width * NUMBER_BITS + i);
+    }
+}

@@ -1,0 +1,12 @@
+-- What only contracts between layers and proofs need.
+pub mod Counting
+pub mod States
+pub mod Choosing
+pub mod DotSets
+pub mod OpenPositions
+pub mod OpenLevels
+pub mod OpenSigns
+pub mod PassWindows
+pub mod WordLevels
+pub mod LevelCounting
+pub mod Levels

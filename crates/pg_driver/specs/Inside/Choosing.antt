@@ -1,0 +1,42 @@
+-- What the choice among the candidates of a pass makes of an engine, and what it counts.
+use Rattle.std.specs.Prelude.{◌≡◌, ℕ, ◌+◌, List, length, sum_by}
+use Rattle.pg_types.specs.declared.parameters.LevelParams.{LevelParams}
+use Rattle.pg_select.specs.Meanings.{Meaning}
+use Rattle.pg_select.specs.CountedPositions.{Candidate}
+use Rattle.pg_driver.specs.declared.choices.Choices.{Choices}
+use Rattle.pg_driver.specs.Traces.{PassTrace, chosen_of, hopeless_of}
+use Rattle.pg_driver.specs.Inside.States.{state_of, state_after}
+use Rattle.pg_driver.specs.Told.{known_of}
+
+-- the candidate that an entry of the counts is
+abbrev pub candidate_of : List ℕ × (ℕ × ℕ) → Candidate
+candidate_of e = record { window = e.0; good = e.1.0; bad = e.1.1 }
+
+-- no candidate
+abbrev pub no_choices : Choices
+no_choices = record { candidates = 0; chosen = 0; hopeless = 0; good = 0; bad = 0 }
+
+-- the numbers with more candidates
+abbrev pub with_candidates : LevelParams → Choices → List Candidate → Choices
+with_candidates params n cs = record {
+  candidates = n.candidates + length cs;
+  chosen = n.chosen + length (chosen_of params cs);
+  hopeless = n.hopeless + length (hopeless_of params cs);
+  good = n.good + sum_by (λ c. c.good) (chosen_of params cs);
+  bad = n.bad + sum_by (λ c. c.bad) (chosen_of params cs);
+}
+
+-- the pass of an engine that goes on, with these candidates
+abbrev pub pass_with : LevelParams → Meaning → List Candidate → PassTrace
+pass_with params m cs =
+    record { pass = m.pass; params = params; before = known_of m; candidates = cs }
+
+-- of the pass that goes on these candidates were chosen, made hopeless or left
+pub record HasChosen (params : LevelParams) (cs : List Candidate) (old new : Meaning) : Type 0 where
+  pub state : state_of new ≡ state_after old.signs old.families (pass_with params old cs)
+  pub kept : new ≡ record old {
+    patterns = new.patterns;
+    hopeless = new.hopeless;
+    families = new.families;
+    tidy = new.tidy;
+  }

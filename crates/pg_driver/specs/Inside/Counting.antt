@@ -1,0 +1,55 @@
+-- What the walk over the words makes of an engine.
+use Rattle.std.specs.Prelude.{◌≡◌, ℕ, ◌+◌, ◌*◌, ◌≤◌, Bool, true, T, List, [], ◌∷◌, length, fold, sum_by}
+use Rattle.std.specs.List.{list_all}
+use Rattle.std.specs.Ordering.{nat_cmp, is_lt}
+use Rattle.std.specs.Cmp.Lexicographic.{slice_cmp}
+use Rattle.std.specs.FinMap.Entries.{is_sorted}
+use Rattle.pg_types.specs.declared.limits.TheConstants.{WEIGHT_MAX, FILE_MAX}
+use Rattle.pg_dict.specs.Word.{Word, IsWord}
+use Rattle.pg_types.specs.Counts.{Counts, SignsWithin}
+use Rattle.pg_types.specs.Numbered.{Windows, with_window}
+use Rattle.pg_select.specs.Meanings.{Meaning, SetsValues, SetsCovers, with_position}
+use Rattle.pg_select.specs.Positions.{Positions}
+use Rattle.pg_select.specs.CountedPositions.{CountedPosition}
+
+-- the windows in the order in which they were first counted, after more positions are counted
+abbrev pub windows_after : Windows → Counts → List CountedPosition → Windows
+windows_after windows counts [] = windows
+windows_after windows counts (s ∷ seen) =
+    windows_after (with_window windows counts s.window) (with_position counts s) seen
+
+-- what an engine means after more positions are counted
+abbrev pub counting : Meaning → List CountedPosition → Meaning
+counting m seen = record m {
+  counts = fold with_position m.counts seen;
+  windows = windows_after m.windows m.counts seen;
+}
+
+-- what an engine found of the positions of a word
+pub record IsRead (m : Meaning) (w : Word) (at : Positions) : Type 0 where
+  pub word : IsWord w
+  pub signs : SignsWithin m.signs w.signs
+  pub values : SetsValues m w.signs at.values
+  pub covers : SetsCovers m w.signs at.covers
+
+-- whether the window of an entry has a sign
+abbrev pub is_filled : List ℕ × (ℕ × ℕ) → Bool
+is_filled e = is_lt (slice_cmp nat_cmp [] e.0)
+
+-- the sums of all windows together
+abbrev pub weight_in : Counts → ℕ
+weight_in counts = sum_by (λ e. e.1.0 + e.1.1) counts
+
+-- counts have room for so many positions more of the longest dictionary
+pub record HasRoom (counts : Counts) (n : ℕ) : Type 0 where
+  pub sorted : T (is_sorted (slice_cmp nat_cmp) counts)
+  pub filled : list_all is_filled counts ≡ true
+  pub few : length counts + n ≤ FILE_MAX
+  pub light : weight_in counts + WEIGHT_MAX * n ≤ WEIGHT_MAX * FILE_MAX
+
+-- counts have become new ones by at most so many positions
+pub record TookRoom (old new : Counts) (n : ℕ) : Type 0 where
+  pub sorted : T (is_sorted (slice_cmp nat_cmp) new)
+  pub filled : list_all is_filled new ≡ true
+  pub few : length new ≤ length old + n
+  pub light : weight_in new ≤ weight_in old + WEIGHT_MAX * n

@@ -1,0 +1,132 @@
+-- How the windows of a level are counted: what its way to count knows before a pass, and what it
+-- makes of the choices after it.
+use Rattle.std.specs.Prelude.{◌≡◌, ℕ, ◌-◌, ◌≤◌, ◌<◌, Bool, true, List, filter, length, map, sum_by, All, MatchBool}
+use Rattle.pg_types.specs.declared.limits.TheConstants.{FILE_MAX, LENGTH_MAX}
+use Rattle.pg_types.specs.declared.marks.Totals.{Totals}
+use Rattle.pg_types.specs.declared.parameters.LevelParams.{LevelParams}
+use Rattle.pg_types.specs.Counts.{Counts}
+use Rattle.pg_types.specs.Numbered.{Windows}
+use Rattle.pg_dict.specs.Word.{Word, IsWord, letter_count}
+use Rattle.pg_select.specs.declared.pass.Pass.{Pass}
+use Rattle.pg_select.specs.Inside.LawsSteps.{FindsMore, PreventsMore}
+use Rattle.pg_select.specs.Statuses.{is_odd}
+use Rattle.pg_select.specs.Windows.{Patterns}
+use Rattle.pg_driver.specs.declared.choices.Choices.{Choices}
+use Rattle.pg_driver.specs.declared.counting.Counting.{Counting}
+use Rattle.pg_driver.specs.declared.counting.Counting.TheVariants.{Open, EachWord}
+use Rattle.pg_driver.specs.declared.open_positions.OpenLevel.{OpenLevel}
+use Rattle.pg_driver.specs.declared.word_level.WordLevel.{WordLevel}
+use Rattle.pg_driver.specs.declared.above_positions.Kept.{Kept}
+use Rattle.pg_driver.specs.Accounts.{totals_by}
+use Rattle.pg_dots.specs.Inside.Dots.{is_closed, places}
+use Rattle.pg_driver.specs.Inside.OpenSigns.{IsThere, closed_after, open_places, sign_count}
+use Rattle.pg_driver.specs.Inside.OpenPositions.{IsPlaced}
+use Rattle.pg_driver.specs.Inside.PassWindows.{HaveNumbers, counts_at, is_counted_at}
+use Rattle.pg_driver.specs.Sound.{IsSmall}
+use Rattle.pg_driver.specs.Traces.{Known, Source}
+use Rattle.pg_driver.specs.Inside.WordLevels.{IsWordsAt, kept_by}
+use Rattle.pg_types.specs.Limits.{sums_limit}
+
+-- the dots are closed as they are at a length of a level, and the totals are those by the patterns
+pub record IsOpenAt (source : Source) (level len : ℕ) (known : Known) (o : OpenLevel) : Type 0 where
+  pub least : 1 ≤ source.minima.left
+  pub words : All IsWord source.words
+  pub letters : sum_by letter_count source.words ≤ FILE_MAX
+  pub size : sign_count source.words ≤ places o.dots
+  pub dots : IsThere level len source.minima source.words known.patterns known.hopeless
+      (is_closed o.dots)
+  pub totals : o.totals ≡ totals_by source known.patterns
+
+-- a way to count is ready for the passes of a length
+abbrev pub IsReady : Source → ℕ → ℕ → Known → Counting → Type 0
+IsReady source level len known (Open o) = IsOpenAt source level len known o
+IsReady source level len known (EachWord e) = IsWordsAt source level known e
+
+-- windows are counted at open positions, so that no word is hyphenated after the level's start
+abbrev pub IsOverOpen : Counting → Type 0
+IsOverOpen (Open o) = Unit {0}
+IsOverOpen (EachWord e) = ⊥
+
+-- a pass was counted, where each word is hyphenated in each pass
+abbrev pub IsCounted : Counting → Type 0
+IsCounted (Open o) = Unit {0}
+IsCounted (EachWord e) = e.is_counted ≡ true
+
+-- carried totals are those by the patterns, and small
+abbrev pub totals_in : Counting → Totals
+totals_in (Open o) = o.totals
+totals_in (EachWord e) = e.totals
+
+abbrev pub TellsTotals : Source → Patterns → Counting → Type 0
+TellsTotals source P c = (totals_in c ≡ totals_by source P) × IsSmall (totals_in c)
+
+-- there is a bit for each sign of the words; or each position that is listed stands in one of them,
+-- and there are no more than letters in the longest dictionary
+abbrev pub ArePlaced : List Word → Counting → Type 0
+ArePlaced words (Open o) = sign_count words ≤ places o.dots
+ArePlaced words (EachWord e) = All (IsPlaced words) e.above.items
+    × (length e.above.items ≤ FILE_MAX)
+
+-- the dot of the pass is reached, and each position at which it is open has the number of its
+-- window
+pub record AreNumberedOpen (pass : Pass) (words : List Word)
+    (ws : Windows) (o : OpenLevel) (ns : List ℕ)
+    : Type 0 where
+  pub reached : pass.dot < o.dots.reached
+  pub numbers : HaveNumbers pass (counts_at pass) words ws
+      (open_places (is_closed o.dots pass.dot) words) ns
+
+-- each position that is kept has the number of its window, where the pass counts that; an open one
+-- has a number where the dot of the pass is open
+abbrev pub AreNumberedIn : Pass → Counts → List Word → Windows → Counting → List ℕ → Type 0
+AreNumberedIn pass counts words ws (Open o) ns = AreNumberedOpen pass words ws o ns
+AreNumberedIn pass counts words ws (EachWord e) ns =
+    HaveNumbers pass (is_counted_at pass counts) words ws e.above.items ns
+
+-- the totals before and after a pass whose chosen windows have these sums
+abbrev pub Carries : Bool → Totals → Totals → ℕ → ℕ → Type 0
+Carries odd old new good bad = MatchBool odd (FindsMore old new good bad)
+    (PreventsMore old new good bad)
+
+-- the totals before a pass have what its choices take away, and all sums are small
+pub record CanCarry (odd : Bool) (totals : Totals) (good bad : ℕ) : Type 0 where
+  pub small : IsSmall totals
+  pub sums : (good < sums_limit) × (bad < sums_limit)
+  pub within : MatchBool odd (good ≤ totals.missed) ((bad ≤ totals.good) × (good ≤ totals.bad))
+
+-- of the choices of a pass a part stays, and the totals have what the rest takes away
+pub record CanMove (odd : Bool) (totals : Totals) (n : Choices) (stays : Kept) : Type 0 where
+  pub good : stays.good ≤ n.good
+  pub bad : stays.bad ≤ n.bad
+  pub rest : CanCarry odd totals (n.good - stays.good) (n.bad - stays.bad)
+
+abbrev pub CanGoOn : LevelParams → Pass → Counts → List Word → Choices → Counting → Type 0
+CanGoOn params pass counts words n (Open o) = CanCarry (is_odd pass.level) o.totals n.good n.bad
+CanGoOn params pass counts words n (EachWord e) =
+    CanMove (is_odd pass.level) e.totals n (kept_by params pass counts words e.above.items)
+
+-- what the choices of a pass make of open positions: the dots are closed, and the totals are
+-- carried on
+pub record IsAfterPass (params : LevelParams) (pass : Pass)
+    (counts : Counts) (words : List Word) (n : Choices) (old new : OpenLevel) : Type 0 where
+  pub size : places new.dots ≡ places old.dots
+  pub dots : (d s : ℕ) → d ≤ LENGTH_MAX → s < sign_count words
+      → is_closed new.dots d s ≡ closed_after params pass counts words (is_closed old.dots) d s
+  pub totals : Carries (is_odd pass.level) old.totals new.totals n.good n.bad
+
+-- what they make of a level of which each word is hyphenated: the totals are carried on, but the
+-- listed positions stay
+pub record IsAfterWords (odd : Bool) (n : Choices)
+    (stays : Kept) (old new : WordLevel) : Type 0 where
+  pub above : new.above.items ≡ old.above.items
+  pub counted : new.is_counted ≡ old.is_counted
+  pub totals : Carries odd old.totals new.totals (n.good - stays.good) (n.bad - stays.bad)
+
+abbrev pub GoesOnAfter : LevelParams → Pass → Counts
+    → List Word → Choices → Counting → Counting → Type 0
+GoesOnAfter params pass counts words n (Open o) (Open p) =
+    IsAfterPass params pass counts words n o p
+GoesOnAfter params pass counts words n (Open o) (EachWord e) = ⊥
+GoesOnAfter params pass counts words n (EachWord e) (Open p) = ⊥
+GoesOnAfter params pass counts words n (EachWord e) (EachWord f) =
+    IsAfterWords (is_odd pass.level) n (kept_by params pass counts words e.above.items) e f

@@ -1,0 +1,156 @@
+-- How far a level is, and what a level that was done has made of an engine and of the records.
+use Rattle.std.specs.Prelude.{◌≡◌, ℕ, ◌+◌, ◌≤◌, nat_le, Bool, true, false, List, [], ◌∷◌, ◌++◌, length, map, filter, slice_index_or, replicate, Option, None, Some, ◌⊎◌}
+use Rattle.std.specs.List.{list_all, flat_map}
+use Rattle.std.specs.Option.{option_map}
+use Rattle.pg_types.specs.declared.limits.TheConstants.{LENGTH_MAX}
+use Rattle.pg_types.specs.declared.marks.Layout.{Layout}
+use Rattle.pg_types.specs.declared.parameters.LevelParams.{LevelParams}
+use Rattle.pg_types.specs.Placement.{Families}
+use Rattle.pg_select.specs.Meanings.{Meaning}
+use Rattle.pg_select.specs.declared.pass.Pass.{Pass}
+use Rattle.pg_select.specs.Inside.Laws.{IsClosed}
+use Rattle.pg_select.specs.Windows.{Patterns}
+use Rattle.pg_driver.specs.declared.counting.Counting.{Counting}
+use Rattle.pg_driver.specs.Inside.LevelCounting.{IsCounted}
+use Rattle.pg_driver.specs.Traces.{Known, Source, PassTrace, LevelTrace, Trace, patterns_after, final_patterns, known_at_end, passes_made, at_start}
+use Rattle.pg_driver.specs.Accounts.{pass_line, pass_lines, has_candidate, chosen_by, level_line, is_skippable, begun_among, begun}
+use Rattle.pg_driver.specs.Layouts.{pass_layouts, after_level, final_families, levels_with_families, level_layout}
+use Rattle.pg_driver.specs.Sound.{Recorded}
+use Rattle.pg_driver.specs.Inside.States.{State, state_of, state_at_end}
+use Rattle.pg_driver.specs.Told.{known_of, line_of, level_line_of, layout_told, level_layout_told}
+
+-- what passes tell of the cells, those that have a candidate: where no families are told, no layout
+abbrev pub layouts_in : ℕ → Option Families → List PassTrace → List (Option (Pass × ℕ × ℕ))
+layouts_in signs None ps = map (λ _. None) (filter has_candidate ps)
+layouts_in signs (Some fs) ps = map Some (pass_layouts signs fs ps)
+
+-- the records have become new ones by passes of a level
+pub record AreRecorded (source : Source) (signs : ℕ)
+    (families : Option Families) (ps : List PassTrace) (old new : Recorded) : Type 0 where
+  pub lines : map line_of new.passes
+      ≡ map line_of old.passes ++ map (pass_line source) (filter has_candidate ps)
+  pub layouts : map layout_told new.passes
+      ≡ map layout_told old.passes ++ layouts_in signs families ps
+  pub chosen : new.chosen ≡ old.chosen + chosen_by ps
+  pub begun : new.begun ≡ old.begun + length (begun_among ps)
+  pub levels : new.levels ≡ old.levels
+
+-- the flags of a length and of the next, by dot
+pub record ClosedDots : Type 0 where
+  pub here : List Bool
+  pub longer : List Bool
+
+-- no flag is set
+abbrev pub unset : List Bool
+unset = replicate (LENGTH_MAX + 2) false
+
+-- no pass of a length is skipped, or a pass was counted already
+abbrev pub WillCount : ClosedDots → Counting → Type 0
+WillCount flags counting = (flags.here ≡ unset) ⊎ IsCounted counting
+
+-- the flag of a dot
+abbrev pub is_set : List Bool → ℕ → Bool
+is_set flags dot = slice_index_or flags dot false
+
+-- the flags tell at a length which of its passes and of the next length's are skippable after these
+-- passes; no longer one is
+pub record Tells (number len : ℕ) (flags : ClosedDots) (ps : List PassTrace) : Type 0 where
+  pub here : (dot : ℕ) → is_skippable ps (record { level = number; len = len; dot = dot })
+      ≡ is_set flags.here dot
+  pub longer : (dot : ℕ) → is_skippable ps (record { level = number; len = len + 1; dot = dot })
+      ≡ is_set flags.longer dot
+  pub beyond : (n dot : ℕ) → len + 2 ≤ n
+      → is_skippable ps (record { level = number; len = n; dot = dot }) ≡ false
+
+-- each pass of the level that is skippable counts nothing where this is known
+abbrev pub AreClosed : Source → ℕ → List PassTrace → Known → Type 0
+AreClosed source number ps known = (len dot : ℕ)
+    → is_skippable ps (record { level = number; len = len; dot = dot }) ≡ true
+    → IsClosed source.minima source.words
+    (record { level = number; len = len; dot = dot }) known.patterns known.hopeless
+
+-- a point of a level: the engine, the records and the flags
+pub record Point : Type 0 where
+  pub engine : Meaning
+  pub records : Recorded
+  pub flags : ClosedDots
+
+abbrev pub point : Meaning → Recorded → ClosedDots → Point
+point m r flags = record { engine = m; records = r; flags = flags }
+
+-- where a level began: the engine and the records
+pub record LevelStart : Type 0 where
+  pub engine : Meaning
+  pub records : Recorded
+
+-- a point at a length of a level is as far as these passes since its start
+pub record IsAt (source : Source) (number len : ℕ)
+    (start : LevelStart) (ps : List PassTrace) (at : Point) : Type 0 where
+  pub signs : at.engine.signs ≡ start.engine.signs
+  pub state : state_of at.engine ≡ state_at_end start.engine.signs (state_of start.engine) ps
+  pub records : AreRecorded source start.engine.signs start.engine.families ps start.records at.records
+  pub short : list_all (λ p. nat_le p.pass.len len) ps ≡ true
+  pub tells : Tells number len at.flags ps
+  pub closed : AreClosed source number ps (known_of at.engine)
+
+-- from one point of a length to another these passes more are made
+abbrev pub GoesOn : Source → ℕ → ℕ → List PassTrace → Point → Point → Type 0
+GoesOn source number len more old new = (start : LevelStart) (ps : List PassTrace)
+    → IsAt source number len start ps old → IsAt source number len start (ps ++ more) new
+    × (known_of new.engine ≡ known_at_end (known_of old.engine) more)
+
+-- the passes that are made where an engine knows what it does
+abbrev pub all_made_by : Source → LevelParams → Meaning → List Pass → List PassTrace
+all_made_by source params m passes = passes_made source params (known_of m) passes
+
+-- the state after a level that these families were told before: nothing is hopeless
+abbrev pub state_after_level : ℕ → Option Families → LevelTrace → State
+state_after_level signs families l =
+    record {
+      known = at_start (patterns_after l);
+      families = option_map (λ fs. after_level signs fs l) families;
+    }
+
+-- a level was done: the engine has the state after it, and the records are those of its passes and
+-- its own
+pub record DidLevel (source : Source) (l : LevelTrace)
+    (old new : Meaning) (r s : Recorded) : Type 0 where
+  pub state : state_of new ≡ state_after_level old.signs old.families l
+  pub lines : map line_of s.passes
+      ≡ map line_of r.passes ++ map (pass_line source) (filter has_candidate l.passes)
+  pub layouts : map layout_told s.passes
+      ≡ map layout_told r.passes ++ layouts_in old.signs old.families l.passes
+  pub levels : map level_line_of s.levels ≡ map level_line_of r.levels ++ level_line source l ∷ []
+  pub level_layouts : map level_layout_told s.levels
+      ≡ map level_layout_told r.levels ++ option_map
+      (λ fs. level_layout old.signs fs l) old.families ∷ []
+  pub begun : s.begun ≡ r.begun + length (begun_among l.passes)
+
+-- what the passes of a run tell of the cells, and what its levels tell: where no families are told,
+-- no layout
+abbrev pub run_layouts : ℕ → Option Families → Trace → List (Option (Pass × ℕ × ℕ))
+run_layouts signs None run = map (λ _. None) (flat_map (λ l. filter has_candidate l.passes) run)
+run_layouts signs (Some fs) run =
+    map Some (flat_map (λ e. pass_layouts signs e.1 e.0.passes) (levels_with_families signs fs run))
+
+abbrev pub level_layouts : ℕ → Option Families → Trace → List (Option (ℕ × Layout))
+level_layouts signs None run = map (λ _. None) run
+level_layouts signs (Some fs) run =
+    map Some (map (λ e. level_layout signs e.1 e.0) (levels_with_families signs fs run))
+
+-- the state at the end of a run that begins with these patterns and families
+abbrev pub state_after_run : ℕ → Patterns → Option Families → Trace → State
+state_after_run signs S families run =
+    record {
+      known = at_start (final_patterns S run);
+      families = option_map (λ fs. final_families signs fs run) families;
+    }
+
+-- a run was done: the engine has the state at its end, and the records are its own
+pub record DidRun (source : Source) (run : Trace) (old new : Meaning) (r : Recorded) : Type 0 where
+  pub state : state_of new ≡ state_after_run old.signs old.patterns old.families run
+  pub lines : map line_of r.passes ≡ flat_map (pass_lines source) run
+  pub layouts : map layout_told r.passes ≡ run_layouts old.signs old.families run
+  pub levels : map level_line_of r.levels ≡ map (level_line source) run
+  pub level_layouts : map level_layout_told r.levels ≡ level_layouts old.signs old.families run
+  pub begun : r.begun ≡ begun run

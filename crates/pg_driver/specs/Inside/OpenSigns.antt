@@ -1,0 +1,102 @@
+-- The open positions of a level as the signs of all words, numbered through: at which of them a dot
+-- is open, and what is known of that.
+use Rattle.std.specs.Prelude.{◌≡◌, ℕ, zero, suc, ◌+◌, ◌-◌, ◌<◌, ◌≤◌, nat_lt, nat_eq, Bool, true, false, not, ◌&&◌, ◌||◌, if◌then◌else◌, List, [], ◌∷◌, length, map, filter, slice_get, is_some, Option, None, Some}
+use Rattle.std.specs.List.{list_any, range_with_len}
+use Rattle.std.specs.Option.{option_map_or}
+use Rattle.pg_types.specs.declared.limits.TheConstants.{LENGTH_MAX}
+use Rattle.pg_types.specs.declared.parameters.LevelParams.{LevelParams}
+use Rattle.pg_types.specs.Counts.{Counts, counted_sums}
+use Rattle.pg_translate.specs.Reach.{positions}
+use Rattle.pg_dict.specs.Inside.Store.{all_signs}
+use Rattle.pg_dict.specs.Word.{Word}
+use Rattle.pg_select.specs.declared.choice.Choice.{Choice}
+use Rattle.pg_select.specs.declared.choice.Choice.TheVariants.{Hopeless as GivenUp, Chosen, Left}
+use Rattle.pg_select.specs.declared.pass.Pass.{Pass}
+use Rattle.pg_select.specs.Choices.{choice}
+use Rattle.pg_select.specs.CountedPositions.{Minima, counts_as}
+use Rattle.pg_select.specs.Inside.LawsClosedDots.{Tells}
+use Rattle.pg_select.specs.Inside.LawsSteps.{CoversUpTo, IsUpTo}
+use Rattle.pg_select.specs.Statuses.{status_at}
+use Rattle.pg_select.specs.Windows.{Patterns, Hopeless, window, fits}
+use Rattle.pg_driver.specs.declared.open_positions.OpenPosition.{OpenPosition}
+use Rattle.pg_driver.specs.Inside.DotSets.{no_dots}
+
+-- how many signs words have together
+abbrev pub sign_count : List Word → ℕ
+sign_count words = length (all_signs words)
+
+-- where the signs of a word begin among those of all words
+abbrev pub start_of : List Word → ℕ → ℕ
+start_of [] n = 0
+start_of (w ∷ words) zero = 0
+start_of (w ∷ words) (suc n) = length w.signs + start_of words n
+
+-- the position of a sign of words, which are numbered from a number on
+abbrev pub place_from : ℕ → List Word → ℕ → OpenPosition
+place_from n [] s = record { word = n; at = s; closed = no_dots }
+place_from n (w ∷ words) s =
+    if nat_lt s (length w.signs) then record { word = n; at = s; closed = no_dots }
+    else place_from (n + 1) words (s - length w.signs)
+
+-- the signs from one on, up to an end, at which a dot is open
+abbrev pub open_signs : (ℕ → Bool) → ℕ → ℕ → List ℕ
+open_signs closed from end = filter (λ s. not (closed s)) (range_with_len from (end - from))
+
+-- the positions of words at which a dot is open, in order
+abbrev pub open_places : (ℕ → Bool) → List Word → List OpenPosition
+open_places closed words = map (place_from 0 words) (open_signs closed 0 (sign_count words))
+
+-- a position of a word is in reach
+abbrev pub in_reach : Minima → Word → ℕ → Bool
+in_reach m w p = list_any (nat_eq p) (positions m.left m.right (length w.signs))
+
+-- a position is open where a level begins: it is in reach and counts by its status
+abbrev pub is_open_first : Minima → ℕ → Patterns → Word → ℕ → Bool
+is_open_first m level P w p = in_reach m w p && is_some (counts_as level (status_at P w p))
+
+-- what is known of a position at a length: the closed dots tell what counts there; out of reach
+-- every dot is closed
+pub record IsTold (level len : ℕ) (m : Minima) (P : Patterns) (H : Hopeless) (w : Word) (p : ℕ)
+    (closed : ℕ → Bool) : Type 0 where
+  pub inside : in_reach m w p ≡ true → Tells level len P H w p closed
+  pub outside : in_reach m w p ≡ false → (d : ℕ) → d ≤ LENGTH_MAX → closed d ≡ true
+
+-- how far a level is, where these dots are closed at the signs: no string that covers is longer
+-- than the length, no value is above the level, and what is known of each position is so
+pub record IsThere (level len : ℕ) (m : Minima) (words : List Word) (P : Patterns) (H : Hopeless)
+    (closed : ℕ → ℕ → Bool) : Type 0 where
+  pub short : CoversUpTo level len P H
+  pub upto : IsUpTo level P
+  pub known : (n p : ℕ) (w : Word) → slice_get words n ≡ Some w → p < length w.signs
+      → IsTold level len m P H w p (λ d. closed d (start_of words n + p))
+
+-- the closed dots of a position at which a dot was open, by what became of its window at the dot:
+-- none fits there, where there is none, and then no longer one with the dot does
+abbrev pub closed_by : (ℕ → Bool) → ℕ → Option Choice → ℕ → Bool
+closed_by closed dot None d = closed d || nat_eq d dot
+closed_by closed dot (Some Left) d = closed d
+closed_by closed dot (Some Chosen) d = true
+closed_by closed dot (Some GivenUp) d = closed d || nat_eq d dot
+
+-- the closed dots after a pass: of a position of a word, and of a sign of words
+abbrev pub closed_in : LevelParams → Pass → Counts → Word → ℕ → (ℕ → Bool) → ℕ → Bool
+closed_in level pass counts w p closed d =
+    if closed pass.dot then closed d
+    else (if fits w.signs p pass.len pass.dot
+    then option_map_or (λ sums. closed_by closed pass.dot (Some (choice level sums.0 sums.1)) d)
+    (counted_sums counts (window w.signs p pass.len pass.dot)) (closed d)
+    else closed_by closed pass.dot None d)
+
+abbrev pub closed_after : LevelParams → Pass → Counts → List Word → (ℕ → ℕ → Bool) → ℕ → ℕ → Bool
+closed_after level pass counts words closed d s =
+    let e = place_from 0 words s in
+    option_map_or (λ w. closed_in level pass counts w e.at (λ c. closed c s) d)
+    (slice_get words e.word) (closed d s)
+
+-- dots close at signs as the windows say that have these numbers, in the order of the open signs:
+-- where the dot was closed nothing changes
+pub record ClosesBy (after : ℕ → ℕ → Bool) (dot : ℕ) (fates : List Choice) (old : ℕ → ℕ → Bool)
+    (signs ns : List ℕ) : Type 0 where
+  pub stays : (s : ℕ) → old dot s ≡ true → (d : ℕ) → after d s ≡ old d s
+  pub closes : (k s n : ℕ) → slice_get signs k ≡ Some s → slice_get ns k ≡ Some n
+      → (d : ℕ) → closed_by (λ c. old c s) dot (slice_get fates n) d ≡ after d s

@@ -1,0 +1,55 @@
+-- What a run changes in an engine, from pass to pass.
+use Rattle.std.specs.Prelude.{◌≡◌, ℕ, ◌+◌, ◌≤◌, List, Option}
+use Rattle.std.specs.Option.{option_map}
+use Rattle.pg_types.specs.declared.limits.TheConstants.{LENGTH_MAX, LEVEL_MAX}
+use Rattle.pg_types.specs.declared.parameters.LevelParams.{LevelParams}
+use Rattle.pg_types.specs.Placement.{Families, taken, top}
+use Rattle.pg_select.specs.Meanings.{Meaning}
+use Rattle.pg_driver.specs.declared.records.PassRecord.{PassRecord}
+use Rattle.pg_select.specs.declared.pass.Pass.{Pass}
+use Rattle.pg_driver.specs.Traces.{Known, Source, PassTrace, known_after, known_at_end, pass_made}
+use Rattle.pg_driver.specs.Accounts.{pass_line}
+use Rattle.pg_driver.specs.Layouts.{after_pass, after_passes}
+use Rattle.pg_driver.specs.Told.{known_of, line_of, layout_told}
+
+-- what an engine knows, and the families of its strings, where they are told
+pub record State : Type 0 where
+  pub known : Known
+  pub families : Option Families
+
+abbrev pub state_of : Meaning → State
+state_of m = record { known = known_of m; families = m.families }
+
+-- the state after a pass that these families were told before
+abbrev pub state_after : ℕ → Option Families → PassTrace → State
+state_after signs families p =
+    record { known = known_after p; families = option_map (λ fs. after_pass signs fs p) families }
+
+-- the state after passes that begin with a state
+abbrev pub state_at_end : ℕ → State → List PassTrace → State
+state_at_end signs s ps =
+    record {
+      known = known_at_end s.known ps;
+      families = option_map (λ fs. after_passes signs fs ps) s.families;
+    }
+
+-- the numbers of a pass are in their ranges
+pub record IsPass (pass : Pass) : Type 0 where
+  pub level_low : 1 ≤ pass.level
+  pub level_high : pass.level ≤ LEVEL_MAX
+  pub len_low : 1 ≤ pass.len
+  pub len_high : pass.len ≤ LENGTH_MAX
+  pub within : pass.dot ≤ pass.len
+
+-- the pass that is made where an engine knows what it does
+abbrev pub made_by : Source → LevelParams → Meaning → Pass → PassTrace
+made_by source params m pass = pass_made source params (known_of m) pass
+
+-- a pass was done: the engine has the state after it, and the record tells its line and the layout
+-- after it
+pub record DidPass (source : Source) (params : LevelParams)
+    (pass : Pass) (old new : Meaning) (r : PassRecord) : Type 0 where
+  pub state : state_of new ≡ state_after old.signs old.families (made_by source params old pass)
+  pub line : line_of r ≡ pass_line source (made_by source params old pass)
+  pub layout : layout_told r ≡ option_map (λ fs. (pass, taken fs, top fs)) new.families
+  pub begun : new.begun ≡ old.begun + 1

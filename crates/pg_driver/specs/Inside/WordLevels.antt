@@ -1,0 +1,72 @@
+-- A level of which each word is hyphenated in each pass: its positions whose value is above the
+-- level, and the totals.
+use Rattle.std.specs.Prelude.{◌≡◌, ℕ, ◌+◌, ◌*◌, ◌≤◌, Bool, true, false, not, ◌&&◌, if◌then◌else◌, List, [], sum_by, slice_get, Option, None, All}
+use Rattle.std.specs.List.{flat_map}
+use Rattle.std.specs.Option.{option_map_or}
+use Rattle.std.specs.Ordering.{nat_cmp}
+use Rattle.std.specs.Cmp.Lexicographic.{slice_cmp}
+use Rattle.std.specs.FinMap.Entries.{find}
+use Rattle.pg_types.specs.declared.limits.TheConstants.{FILE_MAX, WEIGHT_MAX}
+use Rattle.pg_types.specs.declared.parameters.LevelParams.{LevelParams}
+use Rattle.pg_types.specs.Counts.{Counts}
+use Rattle.pg_dict.specs.Word.{Word, IsWord, letter_count}
+use Rattle.pg_select.specs.declared.pass.Pass.{Pass}
+use Rattle.pg_select.specs.Choices.{choice}
+use Rattle.pg_select.specs.CountedPositions.{CountedPosition}
+use Rattle.pg_select.specs.Inside.LawsAbove.{counts_above}
+use Rattle.pg_select.specs.Windows.{Patterns}
+use Rattle.pg_driver.specs.declared.above_positions.Kept.{Kept}
+use Rattle.pg_driver.specs.declared.open_positions.OpenPosition.{OpenPosition}
+use Rattle.pg_driver.specs.declared.word_level.WordLevel.{WordLevel}
+use Rattle.pg_driver.specs.Accounts.{totals_by}
+use Rattle.pg_driver.specs.Inside.OpenLevels.{listed_from}
+use Rattle.pg_driver.specs.Inside.OpenPositions.{counted_in}
+use Rattle.pg_driver.specs.Traces.{Known, Source, is_chosen}
+
+-- the positions that count and have a value above the level, where they are listed; else none
+abbrev pub listing : Bool → ℕ → Patterns → Word → ℕ → Option Bool
+listing listed level P w p = if listed then counts_above level P w p else None
+
+-- a level of which each word is hyphenated in each pass, where so much is known: once a pass was
+-- counted, the positions above the level are listed, and the totals are those by the patterns
+pub record IsWordsAt (source : Source) (level : ℕ) (known : Known) (e : WordLevel) : Type 0 where
+  pub least : 1 ≤ source.minima.left
+  pub words : All IsWord source.words
+  pub letters : sum_by letter_count source.words ≤ FILE_MAX
+  pub above : e.above.items
+      ≡ listed_from source.minima (listing e.is_counted level known.patterns) 0 source.words
+  pub totals : e.is_counted ≡ true → e.totals ≡ totals_by source known.patterns
+
+-- a window was chosen in a pass that has these sums
+abbrev pub was_chosen : LevelParams → Counts → List ℕ → Bool
+was_chosen params counts u =
+    option_map_or (λ sums. is_chosen (choice params sums.0 sums.1))
+    (find (slice_cmp nat_cmp) u counts) false
+
+-- the weight of a good position, and of a bad one, whose window was chosen
+abbrev pub good_kept : LevelParams → Counts → CountedPosition → ℕ
+good_kept params counts s = if s.good && was_chosen params counts s.window then s.weight else 0
+
+abbrev pub bad_kept : LevelParams → Counts → CountedPosition → ℕ
+bad_kept params counts s = if not s.good && was_chosen params counts s.window then s.weight else 0
+
+-- a listed position with its window of a pass, where that fits
+abbrev pub window_of : Pass → List Word → OpenPosition → List CountedPosition
+window_of pass words e =
+    option_map_or (λ w. counted_in pass.level pass.len pass.dot w e.at false)
+    (slice_get words e.word) []
+
+-- the weights of listed positions whose windows were chosen: of the good ones, and of the bad ones
+abbrev pub kept_by : LevelParams → Pass → Counts → List Word → List OpenPosition → Kept
+kept_by params pass counts words above = record {
+  good = sum_by (good_kept params counts) (flat_map (window_of pass words) above);
+  bad = sum_by (bad_kept params counts) (flat_map (window_of pass words) above);
+}
+
+-- sums with those of one position more
+abbrev pub with_kept : Kept → Kept → Kept
+with_kept k l = record { good = k.good + l.good; bad = k.bad + l.bad }
+
+-- sums have become new ones by so many positions
+abbrev pub TookKept : Kept → Kept → ℕ → Type 0
+TookKept old new n = new.good + new.bad ≤ old.good + old.bad + WEIGHT_MAX * n
