@@ -3,8 +3,8 @@ use Rattle.std.proofs.Common.{◌≡◌, ◌≢◌, ℕ, ◌+◌, true, nat_eq, 
 use Rattle.std.proofs.lemmas.Bool.{eq-eqb, or_left}
 use Rattle.std.specs.List.{list_any}
 use Rattle.pg_types.specs.Placement.{Family}
-use Rattle.pg_cells.specs.Lists.{Row, sign_at, base_at}
-use Rattle.pg_cells.specs.Layouts.{IsLayout}
+use Rattle.pg_cells.specs.Inside.Lists.{Row, sign_at, base_at}
+use Rattle.pg_cells.specs.Inside.Layouts.{IsLayout}
 use Rattle.pg_cells.proofs.LayoutLaws.{sign_stands}
 
 -- a family that is not empty has a sign

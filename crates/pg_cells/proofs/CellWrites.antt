@@ -1,10 +1,21 @@
 -- What a write of one cell's parts leaves of the lists of all cells.
-use Rattle.std.proofs.Common.{◌≡◌, ◌≢◌, ℕ, ◌<◌, Bool, List, map, set, get_or, length, refl, sym, ◌∙◌, ap, cond}
+use Rattle.std.proofs.Common.{◌≡◌, ◌≢◌, ℕ, ◌+◌, ◌*◌, ◌/◌, ◌%◌, ◌<◌, Bool, true, false, List, [], ◌∷◌, map, set, get_or, length, refl, sym, ◌∙◌, ap, cond, nat_eq, arith, zero, suc}
 use Rattle.std.proofs.Math.Seq.{map-set_same}
 use Rattle.std.proofs.lemmas.List.{map-set, get_or-map}
 use Rattle.std.proofs.lemmas.Bool.{ne_eqb}
 use Rattle.pg_cells.specs.declared.cell.Cell.{Cell}
-use Rattle.pg_cells.specs.Lists.{lists, child_seen, sign_at, IsFree, with_befores, with_afters, with_child, with_value, with_base, with_taken, with_free}
+use Rattle.pg_cells.specs.declared.cell.TheConstants.{HALF_COUNT}
+use Rattle.pg_cells.specs.declared.member.Member.{Member}
+use Rattle.pg_cells.specs.Inside.Lists.{lists, lone, bared, child_seen, member_seen, before_seen, pair_of, sign_at, IsFree, with_befores, with_afters, with_child, with_value, with_base, with_taken, with_free}
+
+-- a number is that of its halves
+halves : (x : ℕ) → pair_of (x / HALF_COUNT) (x % HALF_COUNT) ≡ x
+halves x = omega arith
+
+-- a value without its links loses none
+lone_seen : {V : Type 0} (b : Bool) (v : V) (m : Member V) → m.value ≡ v → lone v ≡ lone (cond b (lone v) m).value
+lone_seen true v m e = refl
+lone_seen false v m e = ap lone (sym e)
 
 module _ {V : Type 0} (cells : List (Cell V)) (i : ℕ) (d : Cell V) where
   -- the cell that is there
@@ -18,17 +29,22 @@ module _ {V : Type 0} (cells : List (Cell V)) (i : ℕ) (d : Cell V) where
   sign_is : i < length cells → old.sign ≡ sign_at (lists cells).row i
   sign_is h = sym (get_or-map (λ (c : Cell V). c.sign) cells i d 0 h)
 
-  pub write_before : (x : ℕ) → lists (set cells i (record old { before = x })) ≡ with_befores (lists cells) i x
-  write_before x =
-      let new : Cell V = record old { before = x } in
+  -- the value that is seen of a free cell has no links, whatever stands there
+  free_member : (high low : ℕ) → old.sign ≡ 0 → member_seen (record old { next = high; first = low }) ≡ member_seen old
+  free_member high low e = rw e refl
+
+  pub write_before : (x : ℕ) → i < length cells → IsFree (lists cells).row i → lists (set cells i (record old { next = x / HALF_COUNT; first = x % HALF_COUNT })) ≡ with_befores (lists cells) i x
+  write_before x h free =
+      let new : Cell V = record old { next = x / HALF_COUNT; first = x % HALF_COUNT } in
+      let sign : old.sign ≡ 0 = sym (get_or-map (λ (c : Cell V). c.sign) cells i d 1 h) ∙ free in
       λ t. record {
         row = record {
           signs = kept (λ c. c.sign) new refl t;
           children = kept child_seen new refl t;
-          values = kept (λ c. c.value) new refl t;
+          values = kept member_seen new (free_member (x / HALF_COUNT) (x % HALF_COUNT) sign) t;
           bases = kept (λ c. c.is_base) new refl t;
         };
-        befores = map-set (λ (c : Cell V). c.before) cells i new t;
+        befores = (map-set before_seen cells i new ∙ ap (set (map before_seen cells) i) (halves x)) t;
         afters = kept (λ c. c.link) new refl t;
       }
 
@@ -44,16 +60,20 @@ module _ {V : Type 0} (cells : List (Cell V)) (i : ℕ) (d : Cell V) where
         row = record {
           signs = kept (λ c. c.sign) new refl t;
           children = kept child_seen new (free_child x sign) t;
-          values = kept (λ c. c.value) new refl t;
+          values = kept member_seen new refl t;
           bases = kept (λ c. c.is_base) new refl t;
         };
-        befores = kept (λ c. c.before) new refl t;
+        befores = kept before_seen new refl t;
         afters = map-set (λ (c : Cell V). c.link) cells i new t;
       }
 
   -- the child that is seen of a taken cell is its link
   taken_child : (c : Cell V) → c.sign ≢ 0 → child_seen c ≡ c.link
   taken_child c e = ap (λ b. cond b 0 c.link) (ne_eqb c.sign 0 e)
+
+  -- and the value has its links
+  pub taken_member : (c : Cell V) → c.sign ≢ 0 → member_seen c ≡ record { value = c.value; next = c.next; first = c.first }
+  taken_member c e = ap (λ b. cond b (lone c.value) (record { value = c.value; next = c.next; first = c.first })) (ne_eqb c.sign 0 e)
 
   pub write_child : (x : ℕ) → i < length cells → sign_at (lists cells).row i ≢ 0 → lists (set cells i (record old { link = x })) ≡ record (lists cells) { row = with_child (lists cells).row i x; afters = set (lists cells).afters i x }
   write_child x h taken =
@@ -62,24 +82,25 @@ module _ {V : Type 0} (cells : List (Cell V)) (i : ℕ) (d : Cell V) where
         row = record {
           signs = kept (λ c. c.sign) new refl t;
           children = (map-set child_seen cells i new ∙ ap (set (map child_seen cells) i) (taken_child new (λ e. taken (sym (sign_is h) ∙ e)))) t;
-          values = kept (λ c. c.value) new refl t;
+          values = kept member_seen new refl t;
           bases = kept (λ c. c.is_base) new refl t;
         };
-        befores = kept (λ c. c.before) new refl t;
+        befores = kept before_seen new refl t;
         afters = map-set (λ (c : Cell V). c.link) cells i new t;
       }
 
-  pub write_value : (x : V) → lists (set cells i (record old { value = x })) ≡ record (lists cells) { row = with_value (lists cells).row i x }
-  write_value x =
-      let new : Cell V = record old { value = x } in
+  pub write_value : (x : Member V) → i < length cells → sign_at (lists cells).row i ≢ 0
+      → lists (set cells i (record old { value = x.value; next = x.next; first = x.first })) ≡ record (lists cells) { row = with_value (lists cells).row i x; befores = set (lists cells).befores i (pair_of x.next x.first) }
+  write_value x h taken =
+      let new : Cell V = record old { value = x.value; next = x.next; first = x.first } in
       λ t. record {
         row = record {
           signs = kept (λ c. c.sign) new refl t;
           children = kept child_seen new refl t;
-          values = map-set (λ (c : Cell V). c.value) cells i new t;
+          values = (map-set member_seen cells i new ∙ ap (set (map member_seen cells) i) (taken_member new (λ e. taken (sym (sign_is h) ∙ e)))) t;
           bases = kept (λ c. c.is_base) new refl t;
         };
-        befores = kept (λ c. c.before) new refl t;
+        befores = map-set before_seen cells i new t;
         afters = kept (λ c. c.link) new refl t;
       }
 
@@ -90,37 +111,48 @@ module _ {V : Type 0} (cells : List (Cell V)) (i : ℕ) (d : Cell V) where
         row = record {
           signs = kept (λ c. c.sign) new refl t;
           children = kept child_seen new refl t;
-          values = kept (λ c. c.value) new refl t;
+          values = kept member_seen new refl t;
           bases = map-set (λ (c : Cell V). c.is_base) cells i new t;
         };
-        befores = kept (λ c. c.before) new refl t;
+        befores = kept before_seen new refl t;
         afters = kept (λ c. c.link) new refl t;
       }
 
-  pub write_taken : (sign : ℕ) (value : V) (child : ℕ) → sign ≢ 0 → lists (set cells i (record old { sign = sign; value = value; link = child })) ≡ record (lists cells) { row = with_taken (lists cells).row i sign value child; afters = set (lists cells).afters i child }
+  pub write_taken : (sign : ℕ) (value : Member V) (child : ℕ) → sign ≢ 0
+      → lists (set cells i (record old { sign = sign; value = value.value; next = value.next; first = value.first; link = child }))
+      ≡ record (lists cells) { row = with_taken (lists cells).row i sign value child; befores = set (lists cells).befores i (pair_of value.next value.first); afters = set (lists cells).afters i child }
   write_taken sign value child taken =
-      let new : Cell V = record old { sign = sign; value = value; link = child } in
+      let new : Cell V = record old { sign = sign; value = value.value; next = value.next; first = value.first; link = child } in
       λ t. record {
         row = record {
           signs = map-set (λ (c : Cell V). c.sign) cells i new t;
           children = (map-set child_seen cells i new ∙ ap (set (map child_seen cells) i) (taken_child new taken)) t;
-          values = map-set (λ (c : Cell V). c.value) cells i new t;
+          values = (map-set member_seen cells i new ∙ ap (set (map member_seen cells) i) (taken_member new taken)) t;
           bases = kept (λ c. c.is_base) new refl t;
         };
-        befores = kept (λ c. c.before) new refl t;
+        befores = map-set before_seen cells i new t;
         afters = map-set (λ (c : Cell V). c.link) cells i new t;
       }
 
-  pub write_free : (before after : ℕ) → lists (set cells i (record old { sign = 0; before = before; link = after })) ≡ record { row = with_free (lists cells).row i; befores = set (lists cells).befores i before; afters = set (lists cells).afters i after }
+-- a cell that is given up keeps its value, and that is seen without links
+member_bared : {V : Type 0} (cells : List (Cell V)) (i : ℕ) (d : Cell V) (high low link : ℕ)
+    → map member_seen (set cells i (record (get_or cells i d) { sign = 0; next = high; first = low; link = link })) ≡ bared (map member_seen cells) i
+member_bared [] i d high low link = refl
+member_bared (c ∷ cs) zero d high low link = ap (λ m. m ∷ map member_seen cs) (lone_seen (nat_eq c.sign 0) c.value (record { value = c.value; next = c.next; first = c.first }) refl)
+member_bared (c ∷ cs) (suc i) d high low link = ap (λ ms. member_seen c ∷ ms) (member_bared cs i d high low link)
+
+module _ {V : Type 0} (cells : List (Cell V)) (i : ℕ) (d : Cell V) where
+  pub write_free : (before after : ℕ) → lists (set cells i (record (get_or cells i d) { sign = 0; next = before / HALF_COUNT; first = before % HALF_COUNT; link = after }))
+      ≡ record { row = with_free (lists cells).row i; befores = set (lists cells).befores i before; afters = set (lists cells).afters i after }
   write_free before after =
-      let new : Cell V = record old { sign = 0; before = before; link = after } in
+      let new : Cell V = record (get_or cells i d) { sign = 0; next = before / HALF_COUNT; first = before % HALF_COUNT; link = after } in
       λ t. record {
         row = record {
           signs = map-set (λ (c : Cell V). c.sign) cells i new t;
           children = map-set child_seen cells i new t;
-          values = kept (λ c. c.value) new refl t;
-          bases = kept (λ c. c.is_base) new refl t;
+          values = member_bared cells i d (before / HALF_COUNT) (before % HALF_COUNT) after t;
+          bases = kept cells i d (λ c. c.is_base) new refl t;
         };
-        befores = map-set (λ (c : Cell V). c.before) cells i new t;
+        befores = (map-set before_seen cells i new ∙ ap (set (map before_seen cells) i) (halves before)) t;
         afters = map-set (λ (c : Cell V). c.link) cells i new t;
       }

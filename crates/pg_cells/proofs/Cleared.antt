@@ -7,12 +7,12 @@ use Rattle.std.specs.FinMap.{is_sorted}
 use Rattle.pg_types.specs.Placement.{Family, Families, family_at, without_family, is_used, is_base, fits_at, lowest_base, least_base, with_one_sign, top, IsLeast}
 use Rattle.pg_types.proofs.LeastBase.{lowest_positive}
 use Rattle.pg_cells.specs.declared.fit.Slot.{Slot}
-use Rattle.pg_cells.specs.Lists.{Row, sign_at, child_at, base_at}
-use Rattle.pg_cells.specs.Store.{IsTop}
-use Rattle.pg_cells.specs.Fit.{signs_of, slot_of, fits_row}
-use Rattle.pg_cells.specs.Moves.{GivesUp, Drops, Outside}
+use Rattle.pg_cells.specs.Inside.Lists.{Row, sign_at, child_at, base_at}
+use Rattle.pg_cells.specs.Inside.Store.{IsTop}
+use Rattle.pg_cells.specs.Inside.Fit.{signs_of, slot_of, fits_row}
+use Rattle.pg_cells.specs.Inside.Moves.{GivesUp, Drops, Outside}
 use Rattle.pg_cells.specs.ValuedFamilies.{Trie}
-use Rattle.pg_cells.specs.Layouts.{IsTrie}
+use Rattle.pg_cells.specs.Inside.Layouts.{IsTrie}
 use Rattle.pg_cells.proofs.StringMaps.{order, find_without_same, find_without_other, sorted_without, equal_or_not}
 use Rattle.pg_cells.proofs.PlacementLaws.{used_cell, cell_used, base_had, had_base, top_is, first_is}
 use Rattle.pg_cells.proofs.LayoutLaws.{sign_stands, stands_sign}

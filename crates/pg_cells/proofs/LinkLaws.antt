@@ -6,8 +6,8 @@ use Rattle.std.specs.Option.{is_some}
 use Rattle.std.specs.FinMap.{find}
 use Rattle.pg_types.specs.Placement.{Families, cell_of, base_of}
 use Rattle.pg_cells.specs.ValuedFamilies.{ValuedFamilies}
-use Rattle.pg_cells.specs.AreValuedFamilies.{AreValuedFamilies}
-use Rattle.pg_cells.specs.Members.{IsNext, goes_on, has_sign, number_before}
+use Rattle.pg_cells.specs.Inside.AreValuedFamilies.{AreValuedFamilies}
+use Rattle.pg_cells.specs.Inside.Members.{IsNext, goes_on, has_sign, number_before}
 use Rattle.pg_cells.proofs.StringMaps.{order}
 use Rattle.pg_cells.proofs.StringCells.{cell_parts}
 use Rattle.pg_cells.proofs.Walking.{none_below}

@@ -1,10 +1,11 @@
 -- The list through the free cells, in the lists of the cells' parts, when a cell is taken, given up or added.
-use Rattle.std.proofs.Common.{◌≡◌, ◌≢◌, ℕ, ◌<◌, ◌≤◌, ◌∷◌, ◌++◌, [], List, inl, inr, refl, sym, ◌∙◌, ap, subst, arith, length, get_or, set, map, zero, suc, false, ◌-◌}
+use Rattle.std.proofs.Common.{◌≡◌, ◌≢◌, ℕ, ◌<◌, ◌≤◌, ◌∷◌, ◌++◌, [], List, inl, inr, refl, sym, ◌∙◌, ap, subst, arith, length, get_or, set, map, zero, suc, true, false, Bool, cond, nat_eq, ◌-◌}
 use Rattle.std.proofs.lemmas.Bool.{cases_eq, cases_lt}
 use Rattle.std.proofs.lemmas.List.{get_or-set_same, get_or-set_other, get_or_past, get_or_default, length-set, length-map, map_push, length_push, set_at}
 use Rattle.pg_cells.specs.declared.cell.Cell.{Cell}
-use Rattle.pg_cells.specs.Lists.{Row, Lists, lists, row_of, child_seen, IsFree, sign_at, before_at, after_at, with_befores, with_afters, with_taken, with_free, with_more}
-use Rattle.pg_cells.specs.Linked.{Linked, AreLinked}
+use Rattle.pg_cells.specs.declared.member.Member.{Member}
+use Rattle.pg_cells.specs.Inside.Lists.{Row, Lists, lists, row_of, lone, bared, child_seen, member_seen, before_seen, IsFree, sign_at, before_at, after_at, with_befores, with_afters, with_taken, with_free, with_more}
+use Rattle.pg_cells.specs.Inside.Linked.{Linked, AreLinked}
 use Rattle.pg_cells.proofs.LinkedSteps.{Linked-take, Linked-put}
 
 -- the lists of the links are as long as that of the signs
@@ -14,7 +15,7 @@ pub record AreEven {V : Type 0} (ls : Lists V) : Type 0 where
 
 pub lists_even : {V : Type 0} (cells : List (Cell V)) → AreEven (lists cells)
 lists_even cells = record {
-  befores = length-map cells (λ c. c.before) ∙ sym (length-map cells (λ c. c.sign));
+  befores = length-map cells before_seen ∙ sym (length-map cells (λ c. c.sign));
   afters = length-map cells (λ c. c.link) ∙ sym (length-map cells (λ c. c.sign));
 }
 
@@ -37,17 +38,17 @@ module _ {V : Type 0} where
   pub not_free : (r : Row V) (i : ℕ) → sign_at r i ≢ 0 → IsFree r i → ⊥
   not_free r i taken free = taken (get_or_default r.signs i 0 1 (free_within r i free) ∙ free)
 
-  -- what a cell's taking leaves, where b and a are the free cells before and after it
-  abbrev pub lists_taken : Lists V → ℕ → ℕ → ℕ → ℕ → V → ℕ → Lists V
-  lists_taken ls i b a sign value child = record {
+  -- what a cell's taking leaves, where b and a are the free cells before and after it, and its links have the pair's number
+  abbrev pub lists_taken : Lists V → ℕ → ℕ → ℕ → ℕ → V → ℕ → ℕ → Lists V
+  lists_taken ls i b a sign value child pair = record {
     row = with_taken ls.row i sign value child;
-    befores = set ls.befores a b;
+    befores = set (set ls.befores a b) i pair;
     afters = set (set ls.afters b a) i child;
   }
 
-  pub linked_taken : (ls : Lists V) (i sign : ℕ) (value : V) (child : ℕ) → AreLinked ls → AreEven ls → 0 < i → IsFree ls.row i → sign ≢ 0
-      → AreLinked (lists_taken ls i (before_at ls i) (after_at ls i) sign value child)
-  linked_taken ls i sign value child old even positive free taken =
+  pub linked_taken : (ls : Lists V) (i sign : ℕ) (value : V) (child pair : ℕ) → AreLinked ls → AreEven ls → 0 < i → IsFree ls.row i → sign ≢ 0
+      → AreLinked (lists_taken ls i (before_at ls i) (after_at ls i) sign value child pair)
+  linked_taken ls i sign value child pair old even positive free taken =
       let S : ℕ → ℕ = λ j. get_or ls.row.signs j 1 in
       let B : ℕ → ℕ = λ j. get_or ls.befores j 0 in
       let A : ℕ → ℕ = λ j. get_or ls.afters j 0 in
@@ -62,18 +63,26 @@ module _ {V : Type 0} where
       (λ j n. get_or-set_other ls.row.signs i j sign 1 n)
       (get_or-set_other (set ls.afters (B i) (A i)) i (B i) child 0 (λ z. let h : B i < i = before.0 in omega arith) ∙ get_or-set_same ls.afters (B i) (A i) 0 in_b)
       (λ j n m. get_or-set_other (set ls.afters (B i) (A i)) i j child 0 m ∙ get_or-set_other ls.afters (B i) j (A i) 0 n)
-      (get_or-set_same ls.befores (A i) (B i) 0 in_a)
-      (λ j n. get_or-set_other ls.befores (A i) j (B i) 0 n)
+      (get_or-set_other (set ls.befores (A i) (B i)) i (A i) pair 0 not_i ∙ get_or-set_same ls.befores (A i) (B i) 0 in_a)
+      (λ j n m. get_or-set_other (set ls.befores (A i) (B i)) i j pair 0 m ∙ get_or-set_other ls.befores (A i) j (B i) 0 n)
+    where
+      -- the cell after a free one, or the head, is another
+      not_i : after_at ls i ≢ i
+      not_i z = elim (cases_eq (after_at ls i) 0) [
+        | inl y ↦ omega (arith, positive)
+        | inr up ↦ let h = old.after_ok i free up in omega (arith, h.0)
+      ]
 
+module _ {V : Type 0} where
   -- what a cell's giving up leaves, where b and a are the free cells before and after it
-  abbrev pub lists_freed : Lists V → ℕ → ℕ → ℕ → Lists V
+  abbrev pub lists_freed : Lists (Member V) → ℕ → ℕ → ℕ → Lists (Member V)
   lists_freed ls i b a = record {
     row = with_free ls.row i;
     befores = set (set ls.befores a i) i b;
     afters = set (set ls.afters b i) i a;
   }
 
-  pub linked_freed : (ls : Lists V) (i b : ℕ) → AreLinked ls → AreEven ls → i < length ls.row.signs → sign_at ls.row i ≢ 0 → b < i → IsFree ls.row b
+  pub linked_freed : (ls : Lists (Member V)) (i b : ℕ) → AreLinked ls → AreEven ls → i < length ls.row.signs → sign_at ls.row i ≢ 0 → b < i → IsFree ls.row b
       → ((k : ℕ) → k < i → IsFree ls.row k → k ≤ b) → AreLinked (lists_freed ls i b (after_at ls b))
   linked_freed ls i b old even in_i taken below behind nearest =
       let S : ℕ → ℕ = λ j. get_or ls.row.signs j 1 in
@@ -98,22 +107,24 @@ module _ {V : Type 0} where
       (get_or-set_other (set ls.befores (A b) i) i (A b) b 0 not_a ∙ get_or-set_same ls.befores (A b) i 0 in_a)
       (λ j n m. get_or-set_other (set ls.befores (A b) i) i j b 0 m ∙ get_or-set_other ls.befores (A b) j i 0 n)
 
+module _ {V : Type 0} where
   -- the writes of a cell's taking, one after another
-  pub after_taking : (l0 l1 l2 l3 : Lists V) (i b a sign : ℕ) (value : V) (child : ℕ) → b ≡ before_at l0 i → a ≡ after_at l0 i
-      → l1 ≡ with_afters l0 b a → l2 ≡ with_befores l1 a b → l3 ≡ record l2 { row = with_taken l2.row i sign value child; afters = set l2.afters i child }
-      → AreLinked (lists_taken l0 i (before_at l0 i) (after_at l0 i) sign value child) → AreLinked l3
-  after_taking l0 l1 l2 l3 i b a sign value child eb ea e1 e2 e3 linked =
-      let last : Lists V → Lists V = λ ls. record ls { row = with_taken ls.row i sign value child; afters = set ls.afters i child } in
-      let whole : l3 ≡ lists_taken l0 i (before_at l0 i) (after_at l0 i) sign value child =
-      e3 ∙ ap last e2 ∙ ap (λ ls. last (with_befores ls a b)) e1 ∙ (λ t. lists_taken l0 i (eb t) (ea t) sign value child) in
+  pub after_taking : (l0 l1 l2 l3 : Lists V) (i b a sign : ℕ) (value : V) (child pair : ℕ) → b ≡ before_at l0 i → a ≡ after_at l0 i
+      → l1 ≡ with_afters l0 b a → l2 ≡ with_befores l1 a b → l3 ≡ record { row = with_taken l2.row i sign value child; befores = set l2.befores i pair; afters = set l2.afters i child }
+      → AreLinked (lists_taken l0 i (before_at l0 i) (after_at l0 i) sign value child pair) → AreLinked l3
+  after_taking l0 l1 l2 l3 i b a sign value child pair eb ea e1 e2 e3 linked =
+      let last : Lists V → Lists V = λ ls. record { row = with_taken ls.row i sign value child; befores = set ls.befores i pair; afters = set ls.afters i child } in
+      let whole : l3 ≡ lists_taken l0 i (before_at l0 i) (after_at l0 i) sign value child pair =
+      e3 ∙ ap last e2 ∙ ap (λ ls. last (with_befores ls a b)) e1 ∙ (λ t. lists_taken l0 i (eb t) (ea t) sign value child pair) in
       subst (λ ls. AreLinked ls) (sym whole) linked
 
+module _ {V : Type 0} where
   -- the writes of a cell's giving up, one after another
-  pub after_freeing : (l0 l1 l2 l3 : Lists V) (i b a : ℕ) → a ≡ after_at l0 b
+  pub after_freeing : (l0 l1 l2 l3 : Lists (Member V)) (i b a : ℕ) → a ≡ after_at l0 b
       → l1 ≡ with_afters l0 b i → l2 ≡ with_befores l1 a i → l3 ≡ record { row = with_free l2.row i; befores = set l2.befores i b; afters = set l2.afters i a }
       → AreLinked (lists_freed l0 i b (after_at l0 b)) → AreLinked l3
   after_freeing l0 l1 l2 l3 i b a ea e1 e2 e3 linked =
-      let last : Lists V → Lists V = λ ls. record { row = with_free ls.row i; befores = set ls.befores i b; afters = set ls.afters i a } in
+      let last : Lists (Member V) → Lists (Member V) = λ ls. record { row = with_free ls.row i; befores = set ls.befores i b; afters = set ls.afters i a } in
       let whole : l3 ≡ lists_freed l0 i b (after_at l0 b) =
       e3 ∙ ap last e2 ∙ ap (λ ls. last (with_befores ls a i)) e1 ∙ (λ t. lists_freed l0 i b (ea t)) in
       subst (λ ls. AreLinked ls) (sym whole) linked
@@ -129,28 +140,41 @@ get_or_map_push : {A : Type 0} (f : A → ℕ) (xs : List A) (c : A) (d : ℕ) (
 get_or_map_push f xs c d j e = ap (λ l. get_or l j d) (map_push f xs c ∙ ap (λ y. map f xs ++ y ∷ []) e) ∙ get_or_push_default (map f xs) d j
 
 -- a taken cell at the end changes no link
-pub linked_push : {V : Type 0} (cells new : List (Cell V)) (c : Cell V) → new ≡ cells ++ c ∷ [] → c.sign ≡ 1 → c.before ≡ 0 → c.link ≡ 0 → AreLinked (lists cells) → AreLinked (lists new)
+pub linked_push : {V : Type 0} (cells new : List (Cell V)) (c : Cell V) → new ≡ cells ++ c ∷ [] → c.sign ≡ 1 → before_seen c ≡ 0 → c.link ≡ 0 → AreLinked (lists cells) → AreLinked (lists new)
 linked_push cells new c e sign before link old =
     let S = λ (j : ℕ). get_or_map_push (λ x. x.sign) cells c 1 j sign in
-    let B = λ (j : ℕ). get_or_map_push (λ x. x.before) cells c 0 j before in
+    let B = λ (j : ℕ). get_or_map_push before_seen cells c 0 j before in
     let A = λ (j : ℕ). get_or_map_push (λ x. x.link) cells c 0 j link in
-    let whole : ◌≡◌ {A = (ℕ → ℕ) × (ℕ → ℕ) × (ℕ → ℕ)} ((λ j. get_or (map (λ x. x.sign) cells) j 1), (λ j. get_or (map (λ x. x.before) cells) j 0), (λ j. get_or (map (λ x. x.link) cells) j 0))
-    ((λ j. get_or (map (λ x. x.sign) (cells ++ c ∷ [])) j 1), (λ j. get_or (map (λ x. x.before) (cells ++ c ∷ [])) j 0), (λ j. get_or (map (λ x. x.link) (cells ++ c ∷ [])) j 0)) =
+    let whole : ◌≡◌ {A = (ℕ → ℕ) × (ℕ → ℕ) × (ℕ → ℕ)} ((λ j. get_or (map (λ x. x.sign) cells) j 1), (λ j. get_or (map before_seen cells) j 0), (λ j. get_or (map (λ x. x.link) cells) j 0))
+    ((λ j. get_or (map (λ x. x.sign) (cells ++ c ∷ [])) j 1), (λ j. get_or (map before_seen (cells ++ c ∷ [])) j 0), (λ j. get_or (map (λ x. x.link) (cells ++ c ∷ [])) j 0)) =
     λ t. ((λ j. sym (S j) t), (λ j. sym (B j) t), (λ j. sym (A j) t)) in
     subst (λ l. AreLinked (lists l)) (sym e) (subst (λ (f : (ℕ → ℕ) × (ℕ → ℕ) × (ℕ → ℕ)). Linked f.0 f.1 f.2) whole old)
 
 set_push : {A : Type 0} (xs : List A) (x y : A) (i : ℕ) → length xs ≡ i → set (xs ++ x ∷ []) i y ≡ xs ++ y ∷ []
 set_push xs x y i e = set_at xs x [] y i e
 
+bared_push : {V : Type 0} (ms : List (Member V)) (m : Member V) (i : ℕ) → length ms ≡ i → bared (ms ++ m ∷ []) i ≡ ms ++ lone m.value ∷ []
+bared_push [] m zero e = refl
+bared_push [] m (suc i) e = absurd (omega (arith, e))
+bared_push (x ∷ ms) m zero e = absurd (omega (arith, e))
+bared_push (x ∷ ms) m (suc i) e = ap (λ l. x ∷ l) (bared_push ms m i (omega (arith, e)))
+
+lone_member : {V : Type 0} (c : Cell V) → lone (member_seen c).value ≡ lone c.value
+lone_member c = cases (nat_eq c.sign 0)
+  where
+    cases : (b : Bool) → lone (cond b (lone c.value) (record { value = c.value; next = c.next; first = c.first })).value ≡ lone c.value
+    cases true = refl
+    cases false = refl
+
 -- a taken cell at the end that is given up is a free cell at the end
-pub row_push : {V : Type 0} (cells new : List (Cell V)) (c : Cell V) (r : Row V) → new ≡ cells ++ c ∷ [] → c.sign ≡ 1 → c.link ≡ 0 → c.is_base ≡ false
-    → r ≡ with_free (row_of new) (length new - 1) → r ≡ with_more (row_of cells) c.value
+pub row_push : {V : Type 0} (cells new : List (Cell V)) (c : Cell V) (r : Row (Member V)) → new ≡ cells ++ c ∷ [] → c.sign ≡ 1 → c.link ≡ 0 → c.is_base ≡ false
+    → r ≡ with_free (row_of new) (length new - 1) → r ≡ with_more (row_of cells) (lone c.value)
 row_push {V = V} cells new c r e sign link base freed =
     let n : length (cells ++ c ∷ []) - 1 ≡ length cells = omega (arith, length_push cells c) in
     freed ∙ ap (λ l. with_free (row_of l) (length l - 1)) e ∙ ap (with_free (row_of (cells ++ c ∷ []))) n ∙ (λ t. record {
       signs = (ap (λ l. set l (length cells) 0) (map_push (λ (x : Cell V). x.sign) cells c) ∙ set_push (map (λ x. x.sign) cells) c.sign 0 (length cells) (length-map cells (λ x. x.sign))) t;
       children = (ap (λ l. set l (length cells) 0) (map_push child_seen cells c) ∙ set_push (map child_seen cells) (child_seen c) 0 (length cells) (length-map cells child_seen)) t;
-      values = map_push (λ (x : Cell V). x.value) cells c t;
+      values = (ap (λ l. bared l (length cells)) (map_push member_seen cells c) ∙ bared_push (map member_seen cells) (member_seen c) (length cells) (length-map cells member_seen) ∙ ap (λ m. map member_seen cells ++ m ∷ []) (lone_member c)) t;
       bases = (map_push (λ (x : Cell V). x.is_base) cells c ∙ ap (λ b. map (λ (x : Cell V). x.is_base) cells ++ b ∷ []) base) t;
     })
 

@@ -1,13 +1,13 @@
 -- The list through the free cells stays whole when a free cell is taken out of it, and when a taken one is put into it.
 use Rattle.std.proofs.Common.{◌≡◌, ◌≢◌, ℕ, ◌<◌, ◌≤◌, inl, inr, sym, ◌∙◌, ap, arith}
 use Rattle.std.proofs.lemmas.Bool.{cases_eq, cases_lt}
-use Rattle.pg_cells.specs.Linked.{Linked}
+use Rattle.pg_cells.specs.Inside.Linked.{Linked}
 
 -- the cell i is taken out
 module _ (S B A S' B' A' : ℕ → ℕ) (i : ℕ) (old : Linked S B A) (positive : 0 < i) (free : S i ≡ 0) (taken : S' i ≢ 0)
     (same : (j : ℕ) → j ≢ i → S' j ≡ S j)
     (after_here : A' (B i) ≡ A i) (after_same : (j : ℕ) → j ≢ B i → j ≢ i → A' j ≡ A j)
-    (before_here : B' (A i) ≡ B i) (before_same : (j : ℕ) → j ≢ A i → B' j ≡ B j) where
+    (before_here : B' (A i) ≡ B i) (before_same : (j : ℕ) → j ≢ A i → j ≢ i → B' j ≡ B j) where
   other : (j : ℕ) → S' j ≡ 0 → j ≢ i
   other j e is = taken (ap S' (sym is) ∙ e)
 
@@ -69,7 +69,7 @@ module _ (S B A S' B' A' : ℕ → ℕ) (i : ℕ) (old : Linked S B A) (positive
         let there = after_up (λ z. omega arith) in
         (omega (arith, there.0, before.0), ap S' to ∙ stays (B i) (λ z. omega (arith, before.0)) before.1)
     | inr there ↦
-        let to : B' j ≡ B j = before_same j there in
+        let to : B' j ≡ B j = before_same j there (other j e) in
         let on = old.before_ok j up (was j e) in
         let not_i : B j ≢ i = λ z.
         let h = high j (was j e) (omega (arith, on.0)) in
@@ -91,7 +91,7 @@ module _ (S B A S' B' A' : ℕ → ℕ) (i : ℕ) (old : Linked S B A) (positive
               let h = high k (was k f) (omega arith) in absurd (omega (arith, h.1))
         ]
     | inr there ↦
-        let to : B' j ≡ B j = before_same j there in
+        let to : B' j ≡ B j = before_same j there (other j e) in
         let le = old.before_most j k up (was j e) lt (was k f) in omega arith
   ]
 
@@ -99,7 +99,7 @@ module _ (S B A S' B' A' : ℕ → ℕ) (i : ℕ) (old : Linked S B A) (positive
   last_ok = elim (cases_eq 0 (A i)) [
     | inl here ↦ ap S' (ap B' here ∙ before_here) ∙ stays (B i) (λ z. omega (arith, before.0)) before.1
     | inr there ↦
-        let to : B' 0 ≡ B 0 = before_same 0 there in
+        let to : B' 0 ≡ B 0 = before_same 0 there (λ z. omega arith) in
         let not_i : B 0 ≢ i = λ z.
         let a = after_up (λ y. there (sym y)) in
         let le = old.last_most (A i) a.1 in omega (arith, a.0) in
@@ -117,7 +117,7 @@ module _ (S B A S' B' A' : ℕ → ℕ) (i : ℕ) (old : Linked S B A) (positive
               let h = high k (was k f) (omega arith) in absurd (omega (arith, h.0))
         ]
     | inr there ↦
-        let to : B' 0 ≡ B 0 = before_same 0 there in
+        let to : B' 0 ≡ B 0 = before_same 0 there (λ z. omega arith) in
         let le = old.last_most k (was k f) in omega arith
   ]
 

@@ -5,10 +5,10 @@ use Rattle.std.specs.List.{range_with_len}
 use Rattle.std.specs.FinMap.{find}
 use Rattle.pg_cells.specs.declared.member.Member.{Member}
 use Rattle.pg_cells.specs.ValuedFamilies.{ValuedFamilies}
-use Rattle.pg_cells.specs.AreValuedFamilies.{AreValuedFamilies}
-use Rattle.pg_cells.specs.Links.{AreLinks, unlinked}
-use Rattle.pg_cells.specs.Members.{IsNext, goes_on}
-use Rattle.pg_cells.specs.Root.{root_held}
+use Rattle.pg_cells.specs.Inside.AreValuedFamilies.{AreValuedFamilies}
+use Rattle.pg_cells.specs.Inside.Links.{AreLinks, unlinked}
+use Rattle.pg_cells.specs.Inside.Members.{IsNext, goes_on}
+use Rattle.pg_cells.specs.Inside.Root.{root_held}
 use Rattle.pg_cells.proofs.StringMaps.{order, equal_or_not}
 use Rattle.pg_cells.proofs.PlacedFamily.{not_empty}
 use Rattle.pg_cells.proofs.LinkLaws.{goes_cell}

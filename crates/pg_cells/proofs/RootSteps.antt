@@ -2,18 +2,18 @@
 use Rattle.std.proofs.Common.{◌≡◌, ℕ, ◌+◌, ◌≢◌, ◌<◌, ◌≤◌, true, false, List, [], ◌∷◌, length, get_or, slice_get, suc, zero, inl, inr, refl, sym, ◌∙◌, ap, arith}
 use Rattle.std.proofs.lemmas.Bool.{cases_Bool, cases_eq, cases_lt}
 use Rattle.std.proofs.lemmas.List.{get_or_past, get_or_default}
-use Rattle.pg_cells.specs.Lists.{Row, sign_at, child_at, base_at, IsFree}
-use Rattle.pg_cells.specs.Store.{how_many, Extends, one_free, IsTop}
-use Rattle.pg_cells.specs.Writes.{Takes, Frees, SetsBase}
-use Rattle.pg_cells.specs.Root.{IsRootTo, Clears}
+use Rattle.pg_cells.specs.Inside.Lists.{Row, sign_at, child_at, base_at, IsFree}
+use Rattle.pg_cells.specs.Inside.Store.{how_many, Extends, one_free, IsTop}
+use Rattle.pg_cells.specs.Inside.Writes.{Takes, Frees, SetsBase}
+use Rattle.pg_cells.specs.Inside.Root.{IsRootTo, Clears}
 
 how_many_zero : (xs : List ℕ) → ((i : ℕ) → get_or xs i 0 ≡ 0) → how_many xs ≡ 0
 how_many_zero [] h = refl
 how_many_zero (x ∷ xs) h = let first = h 0 in let rest = how_many_zero xs (λ i. h (suc i)) in omega arith
 
 module _ {V : Type 0} where
-  pub planted_none : (blank : V) → IsRootTo 1 blank (one_free blank)
-  planted_none blank = record {
+  pub planted_none : (other blank : V) → IsRootTo 1 blank (one_free other)
+  planted_none other blank = record {
     stand = λ i p lt. absurd (omega arith);
     free = free;
     zero_free = refl;
@@ -23,15 +23,15 @@ module _ {V : Type 0} where
     count = refl;
   }
     where
-      free : (i : ℕ) → 1 ≤ i → sign_at (one_free blank) i ≡ 0
+      free : (i : ℕ) → 1 ≤ i → sign_at (one_free other) i ≡ 0
       free zero le = refl
       free (suc i) le = refl
 
-      children : (i : ℕ) → child_at (one_free blank) i ≡ 0
+      children : (i : ℕ) → child_at (one_free other) i ≡ 0
       children zero = refl
       children (suc i) = refl
 
-      bases : (i : ℕ) → base_at (one_free blank) i ≡ false
+      bases : (i : ℕ) → base_at (one_free other) i ≡ false
       bases zero = refl
       bases (suc i) = refl
 

@@ -2,8 +2,9 @@
 use Rattle.std.proofs.Common.{◌≡◌, ◌≢◌, ℕ, ◌<◌, Bool, false, List, [], ◌∷◌, length, get_or, set, slice_get, Some, suc, zero, refl, sym, ◌∙◌, ap, arith, cond, nat_eq}
 use Rattle.std.proofs.lemmas.List.{length-set, length-map, get_or-set_same, get_or-set_other, get_or_default}
 use Rattle.pg_cells.specs.declared.cell.Cell.{Cell}
-use Rattle.pg_cells.specs.Lists.{row_of, child_seen, sign_at, child_at, IsFree, with_taken, with_free, with_child, with_value, with_base}
-use Rattle.pg_cells.specs.Writes.{Takes, Frees, SetsChild, SetsValue, SetsBase}
+use Rattle.pg_cells.specs.declared.member.Member.{Member}
+use Rattle.pg_cells.specs.Inside.Lists.{row_of, bared, child_seen, member_seen, sign_at, child_at, IsFree, with_taken, with_free, with_child, with_value, with_base}
+use Rattle.pg_cells.specs.Inside.Writes.{Takes, Frees, SetsChild, SetsValue, SetsBase}
 use Rattle.pg_cells.proofs.LinkedLists.{free_within, taken_within}
 use Rattle.pg_cells.proofs.StoreSteps.{how_many_set}
 
@@ -19,6 +20,13 @@ set_there (x ∷ xs) zero (suc j) y n = refl
 set_there (x ∷ xs) (suc i) zero y n = refl
 set_there (x ∷ xs) (suc i) (suc j) y n = set_there xs i j y (λ e. n (ap suc e))
 
+bared_there : {V : Type 0} (ms : List (Member V)) (i j : ℕ) → j ≢ i → slice_get (bared ms i) j ≡ slice_get ms j
+bared_there [] i j n = refl
+bared_there (m ∷ ms) zero zero n = absurd (n refl)
+bared_there (m ∷ ms) zero (suc j) n = refl
+bared_there (m ∷ ms) (suc i) zero n = refl
+bared_there (m ∷ ms) (suc i) (suc j) n = bared_there ms i j (λ e. n (ap suc e))
+
 -- a free cell has no child
 pub row_bare : {V : Type 0} (cells : List (Cell V)) (i : ℕ) → sign_at (row_of cells) i ≡ 0 → child_at (row_of cells) i ≡ 0
 row_bare [] i e = refl
@@ -30,12 +38,12 @@ module _ {V : Type 0} (cells : List (Cell V)) (i : ℕ) where
   children_even = length-map cells child_seen ∙ sym (length-map cells (λ c. c.sign))
 
   values_even : length (row_of cells).values ≡ length (row_of cells).signs
-  values_even = length-map cells (λ c. c.value) ∙ sym (length-map cells (λ c. c.sign))
+  values_even = length-map cells member_seen ∙ sym (length-map cells (λ c. c.sign))
 
   bases_even : length (row_of cells).bases ≡ length (row_of cells).signs
   bases_even = length-map cells (λ c. c.is_base) ∙ sym (length-map cells (λ c. c.sign))
 
-  pub row_takes : (sign : ℕ) (value : V) (child : ℕ) → IsFree (row_of cells) i → sign ≢ 0 → Takes (row_of cells) (with_taken (row_of cells) i sign value child) i sign value child
+  pub row_takes : (sign : ℕ) (value : Member V) (child : ℕ) → IsFree (row_of cells) i → sign ≢ 0 → Takes (row_of cells) (with_taken (row_of cells) i sign value child) i sign value child
   row_takes sign value child free up =
       let lt : i < length (row_of cells).signs = free_within (row_of cells) i free in
       let was : get_or (row_of cells).signs i 0 ≡ 0 = get_or_default (row_of cells).signs i 0 1 lt ∙ free in
@@ -60,7 +68,7 @@ module _ {V : Type 0} (cells : List (Cell V)) (i : ℕ) where
         elsewhere = record {
           signs = λ j n. get_or-set_other (row_of cells).signs i j 0 0 n;
           children = λ j n. get_or-set_other (row_of cells).children i j 0 0 n;
-          values = λ j n. refl;
+          values = λ j n. bared_there (row_of cells).values i j n;
           bases = λ b. refl;
           size = length-set (row_of cells).signs i 0;
         };
@@ -86,7 +94,7 @@ module _ {V : Type 0} (cells : List (Cell V)) (i : ℕ) where
         count = refl;
       }
 
-  pub row_value : (value : V) → sign_at (row_of cells) i ≢ 0 → SetsValue (row_of cells) (with_value (row_of cells) i value) i value
+  pub row_value : (value : Member V) → sign_at (row_of cells) i ≢ 0 → SetsValue (row_of cells) (with_value (row_of cells) i value) i value
   row_value value up =
       let lt : i < length (row_of cells).signs = taken_within (row_of cells) i up in
       record {

@@ -3,10 +3,11 @@ use Rattle.std.proofs.Common.{◌≡◌, ◌≢◌, ℕ, ◌+◌, ◌-◌, ◌<�
 use Rattle.std.proofs.lemmas.Bool.{cases_eq, cases_lt}
 use Rattle.std.proofs.lemmas.List.{take_at, length-set, length-map, length_push, get_or-set_same, get_or-set_other, get_or_default, get_or_past}
 use Rattle.pg_cells.specs.declared.cell.Cell.{Cell}
-use Rattle.pg_cells.specs.Lists.{Row, Lists, lists, row_of, sign_at, IsFree, with_taken, with_free, with_child, with_more}
-use Rattle.pg_cells.specs.Linked.{Linked, AreLinked}
-use Rattle.pg_cells.proofs.LinkedLists.{taken_within}
-use Rattle.pg_cells.specs.Store.{IsTop, IsKept, Extends, how_many, taken_in}
+use Rattle.pg_cells.specs.declared.member.Member.{Member}
+use Rattle.pg_cells.specs.Inside.Lists.{Row, Lists, lists, row_of, lone, member_seen, sign_at, IsFree, with_taken, with_free, with_child, with_value, with_more}
+use Rattle.pg_cells.specs.Inside.Linked.{Linked, AreLinked}
+use Rattle.pg_cells.proofs.LinkedLists.{taken_within, not_free}
+use Rattle.pg_cells.specs.Inside.Store.{IsTop, IsKept, Extends, how_many, taken_in}
 
 -- what a vector holds after its slice was lent and given back
 pub given_back : {X : Type 0} (xs ys : List X) (n : ℕ) → length xs ≡ n → take n (xs ++ drop (length xs) ys) ≡ xs
@@ -29,6 +30,24 @@ how_many_le (x ∷ xs) = let rest = how_many_le xs in omega arith
 pub taken_le : {V : Type 0} (cells : List (Cell V)) → taken_in (row_of cells) ≤ length cells
 taken_le cells = omega (arith, how_many_le (row_of cells).signs, length-map cells (λ c. c.sign))
 
+-- nor do the other links of a taken cell
+Linked-beside : (S B A B' : ℕ → ℕ) → Linked S B A → ((j : ℕ) → S j ≡ 0 → B' j ≡ B j) → Linked S B' A
+Linked-beside S B A B' old same = record {
+  head = old.head;
+  after_ok = old.after_ok;
+  after_least = old.after_least;
+  before_ok = λ j up e.
+      let to : B' j ≡ B j = same j e in
+      let h = old.before_ok j up e in (omega (arith, h.0), ap S to ∙ h.1);
+  before_most = λ j k up e lt f.
+      let to : B' j ≡ B j = same j e in
+      let le = old.before_most j k up e lt f in omega arith;
+  last_ok = ap S (same 0 old.head) ∙ old.last_ok;
+  last_most = λ j e.
+      let to : B' 0 ≡ B 0 = same 0 old.head in
+      let le = old.last_most j e in omega arith;
+}
+
 -- a link of a taken cell counts for nothing
 Linked-elsewhere : (S B A A' : ℕ → ℕ) → Linked S B A → ((j : ℕ) → S j ≡ 0 → A' j ≡ A j) → Linked S B A'
 Linked-elsewhere S B A A' old same = record {
@@ -46,32 +65,35 @@ Linked-elsewhere S B A A' old same = record {
 }
 
 module _ {V : Type 0} (old new : List (Cell V)) (top taken : ℕ) (kept : IsKept old top taken) (size : length new ≡ length old) where
-  -- a value or a flag is written
-  pub kept_write : (row : Row V) → row.signs ≡ (row_of old).signs → lists new ≡ record (lists old) { row = row } → IsKept new top taken
+  -- a flag is written
+  pub kept_write : (row : Row (Member V)) → row.signs ≡ (row_of old).signs → lists new ≡ record (lists old) { row = row } → IsKept new top taken
   kept_write row signs e = record {
     linked = subst (λ ls. AreLinked ls) (sym e) (subst (λ ss. Linked (λ j. get_or ss j 1) (λ j. get_or (lists old).befores j 0) (λ j. get_or (lists old).afters j 0)) (sym signs) kept.linked);
     small = let h = kept.small in omega arith;
-    greatest = subst (λ ss. IsTop ss top) (sym signs ∙ sym (ap (λ (ls : Lists V). ls.row.signs) e)) kept.greatest;
-    count = kept.count ∙ ap how_many (sym signs ∙ sym (ap (λ (ls : Lists V). ls.row.signs) e));
+    greatest = subst (λ ss. IsTop ss top) (sym signs ∙ sym (ap (λ (ls : Lists (Member V)). ls.row.signs) e)) kept.greatest;
+    count = kept.count ∙ ap how_many (sym signs ∙ sym (ap (λ (ls : Lists (Member V)). ls.row.signs) e));
   }
 
   -- the child of a taken cell is written
   pub kept_child : (i x : ℕ) → sign_at (row_of old) i ≢ 0 → lists new ≡ record (lists old) { row = with_child (lists old).row i x; afters = set (lists old).afters i x } → IsKept new top taken
   kept_child i x taken_i e = record {
-    linked = subst (λ ls. AreLinked ls) (sym e) (Linked-elsewhere _ _ _ _ kept.linked (λ j free. get_or-set_other (lists old).afters i j x 0 (λ z. not_free (subst (λ k. IsFree (row_of old) k) z free))));
+    linked = subst (λ ls. AreLinked ls) (sym e) (Linked-elsewhere _ _ _ _ kept.linked (λ j free. get_or-set_other (lists old).afters i j x 0 (λ z. not_free (row_of old) i taken_i (subst (λ k. IsFree (row_of old) k) z free))));
     small = let h = kept.small in omega arith;
-    greatest = subst (λ ss. IsTop ss top) (sym (ap (λ (ls : Lists V). ls.row.signs) e)) kept.greatest;
-    count = kept.count ∙ ap how_many (sym (ap (λ (ls : Lists V). ls.row.signs) e));
+    greatest = subst (λ ss. IsTop ss top) (sym (ap (λ (ls : Lists (Member V)). ls.row.signs) e)) kept.greatest;
+    count = kept.count ∙ ap how_many (sym (ap (λ (ls : Lists (Member V)). ls.row.signs) e));
   }
-    where
-      not_free : IsFree (row_of old) i → ⊥
-      not_free free = taken_i (elim (cases_lt i (length (row_of old).signs)) [
-        | inl lt ↦ get_or_default (row_of old).signs i 0 1 lt ∙ free
-        | inr le ↦ get_or_past (row_of old).signs i 0 le
-      ])
+
+  -- the value of a taken cell is written
+  pub kept_value : (i x : ℕ) (value : Member V) → sign_at (row_of old) i ≢ 0 → lists new ≡ record (lists old) { row = with_value (lists old).row i value; befores = set (lists old).befores i x } → IsKept new top taken
+  kept_value i x value taken_i e = record {
+    linked = subst (λ ls. AreLinked ls) (sym e) (Linked-beside _ _ _ _ kept.linked (λ j free. get_or-set_other (lists old).befores i j x 0 (λ z. not_free (row_of old) i taken_i (subst (λ k. IsFree (row_of old) k) z free))));
+    small = let h = kept.small in omega arith;
+    greatest = subst (λ ss. IsTop ss top) (sym (ap (λ (ls : Lists (Member V)). ls.row.signs) e)) kept.greatest;
+    count = kept.count ∙ ap how_many (sym (ap (λ (ls : Lists (Member V)). ls.row.signs) e));
+  }
 
   -- a free cell is taken
-  pub kept_taken : (i sign : ℕ) (value : V) (child r : ℕ) → i < length old → IsFree (row_of old) i → sign ≢ 0 → (lists new).row ≡ with_taken (lists old).row i sign value child → AreLinked (lists new) → r ≡ max top i
+  pub kept_taken : (i sign : ℕ) (value : Member V) (child r : ℕ) → i < length old → IsFree (row_of old) i → sign ≢ 0 → (lists new).row ≡ with_taken (lists old).row i sign value child → AreLinked (lists new) → r ≡ max top i
       → IsKept new r (taken + 1)
   kept_taken i sign value child r lt free positive e linked is = record {
     linked = linked;
@@ -81,7 +103,7 @@ module _ {V : Type 0} (old new : List (Cell V)) (top taken : ℕ) (kept : IsKept
   }
     where
       signs : (row_of new).signs ≡ set (row_of old).signs i sign
-      signs = ap (λ (x : Row V). x.signs) e
+      signs = ap (λ (x : Row (Member V)). x.signs) e
 
       in_i : i < length (row_of old).signs
       in_i = omega (arith, length-map old (λ c. c.sign))
@@ -117,7 +139,7 @@ module _ {V : Type 0} (old new : List (Cell V)) (top taken : ℕ) (kept : IsKept
   }
     where
       signs : (row_of new).signs ≡ set (row_of old).signs i 0
-      signs = ap (λ (x : Row V). x.signs) e
+      signs = ap (λ (x : Row (Member V)). x.signs) e
 
       in_i : i < length (row_of old).signs
       in_i = omega (arith, length-map old (λ c. c.sign))
@@ -164,6 +186,7 @@ module _ {V : Type 0} where
     taken = q.taken ∙ p.taken;
   }
 
+module _ {V : Type 0} where
   pub kept_extended : (old new : List (Cell V)) (top taken : ℕ) → IsKept old top taken → AreLinked (lists new) → length new < 2 ^ 32 → Extends (row_of old) (row_of new) → IsKept new top taken
   kept_extended old new top taken kept linked small more = record {
     linked = linked;
@@ -177,11 +200,11 @@ module _ {V : Type 0} where
   }
 
   -- one cell more
-  pub extended_once : (start : Row V) (cells new : List (Cell V)) (value : V) → Extends start (row_of cells) → row_of new ≡ with_more (row_of cells) value → Extends start (row_of new)
+  pub extended_once : (start : Row (Member V)) (cells new : List (Cell V)) (value : V) → Extends start (row_of cells) → row_of new ≡ with_more (row_of cells) (lone value) → Extends start (row_of new)
   extended_once start cells new value more e = subst (Extends start) (sym e)
-      (extends_trans start (row_of cells) (with_more (row_of cells) value) more
-      (extends_more (row_of cells) value (length-map cells (λ c. c.value) ∙ sym (length-map cells (λ c. c.sign)))))
+      (extends_trans start (row_of cells) (with_more (row_of cells) (lone value)) more
+      (extends_more (row_of cells) (lone value) (length-map cells member_seen ∙ sym (length-map cells (λ c. c.sign)))))
 
-  pub longer_once : (cells new : List (Cell V)) (value : V) → row_of new ≡ with_more (row_of cells) value → length new ≡ length cells + 1
+  pub longer_once : (cells new : List (Cell V)) (value : V) → row_of new ≡ with_more (row_of cells) (lone value) → length new ≡ length cells + 1
   longer_once cells new value e =
-      omega (arith, length-map new (λ c. c.sign), length-map cells (λ c. c.sign), length_push (row_of cells).signs 0, ap (λ (r : Row V). length r.signs) e)
+      omega (arith, length-map new (λ c. c.sign), length-map cells (λ c. c.sign), length_push (row_of cells).signs 0, ap (λ (r : Row (Member V)). length r.signs) e)

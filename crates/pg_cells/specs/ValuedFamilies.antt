@@ -1,4 +1,5 @@
--- What the cells are seen as: the families by their placement, and the value of each string that has a cell.
+-- What the cells are seen as: the families by their placement, and the value of each string that
+-- has a cell.
 use Rattle.std.specs.Prelude.{ℕ, List, refl, not}
 use Rattle.std.specs.Ordering.{nat_cmp, eq_by_cmp}
 use Rattle.std.specs.Cmp.Lexicographic.{slice_cmp}
@@ -13,7 +14,8 @@ pub record ValuedFamilies (V : Type 0) : Type 0 where
   pub values : List (List ℕ × V)
 
 abbrev pub family_code : Coded Family
-family_code = code_by (ℕ × List ℕ) (coded× coded_ℕ (coded_list coded_ℕ)) (λ f. (f.base, f.signs)) (λ p. record { base = p.0; signs = p.1 }) (λ _. refl)
+family_code = code_by (ℕ × List ℕ) (coded× coded_ℕ (coded_list coded_ℕ))
+    (λ f. (f.base, f.signs)) (λ p. record { base = p.0; signs = p.1 }) (λ _. refl)
 
 abbrev pub families_code : Coded Families
 families_code = coded_list (coded× (coded_list coded_ℕ) family_code)
@@ -23,7 +25,8 @@ values_code code = coded_list (coded× (coded_list coded_ℕ) code)
 
 abbrev pub valued_families_code : {V : Type 0} → Coded V → Coded (ValuedFamilies V)
 valued_families_code {V} code =
-    code_by (ℕ × (Families × List (List ℕ × V))) (coded× coded_ℕ (coded× families_code (values_code code)))
+    code_by (ℕ × (Families × List (List ℕ × V)))
+    (coded× coded_ℕ (coded× families_code (values_code code)))
     (λ h. (h.signs, (h.families, h.values)))
     (λ p. record { signs = p.0; families = p.1.0; values = p.1.1 })
     (λ _. refl)

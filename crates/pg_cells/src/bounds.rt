@@ -1,6 +1,6 @@
 //! Bounds by sign below which no base is free.
 ghost use Rattle.std.specs.Prelude.{◌≡◌, ◌≢◌, ℕ, ◌+◌, ◌<◌, ◌≤◌, ◌^◌, false, length, slice_index, IfOk, if◌then◌else◌};
-ghost use Rattle.pg_cells.specs.Bounds.{IsBelow};
+ghost use Rattle.pg_cells.specs.Inside.Bounds.{IsBelow};
 
 use std::alloc::{AllocError, Global};
 
@@ -27,7 +27,8 @@ pub fn bound_of(lows: &[u32], freed: usize, dropped: usize, sign: u16) -> usize
 
 /// Lowers each bound as far as the cells and bases ask that were given up.
 pub fn lower(lows: &mut Vec<u32>, freed: usize, dropped: usize)
-    ensures { (s b : ℕ) → b < slice_index lows.new.items s → IsBelow lows.old.items freed dropped s b }
+    ensures { (s b : ℕ) → b < slice_index lows.new.items s
+        → IsBelow lows.old.items freed dropped s b }
 {
     if freed == usize::MAX && dropped == usize::MAX {
         return;
@@ -42,7 +43,8 @@ pub fn lower(lows: &mut Vec<u32>, freed: usize, dropped: usize)
 pub fn set_low(lows: &mut Vec<u32>, sign: u16, low: usize)
     requires { low < 2 ^ 32 }
     ensures here { slice_index lows.new.items sign ≤ low }
-    ensures there { (s : ℕ) → s ≢ sign → slice_index lows.new.items s ≡ slice_index lows.old.items s }
+    ensures there { (s : ℕ) → s ≢ sign → slice_index lows.new.items s
+        ≡ slice_index lows.old.items s }
 {
     if (sign as usize) < lows.len() {
         lows[sign as usize] = low as u32;

@@ -1,13 +1,20 @@
 //! The list through the free cells.
 ghost use Rattle.std.specs.Prelude.{◌≡◌, ◌≢◌, ℕ, ◌+◌, ◌-◌, ◌<◌, ◌≤◌, ◌^◌, length, OnOk, OnErr};
-ghost use Rattle.pg_cells.specs.Lists.{lists, with_taken, with_free, with_more, sign_at, IsFree};
-ghost use Rattle.pg_cells.specs.Linked.{AreLinked};
+ghost use Rattle.pg_cells.specs.Inside.Lists.{lists, with_taken, with_free, with_more, lone, sign_at, IsFree};
+ghost use Rattle.pg_cells.specs.Inside.Linked.{AreLinked};
 
 use crate::cell::{Cell, after_of, before_of, set_after, set_before, set_free, set_taken, sign_of};
+use crate::member::Member;
 use std::alloc::AllocError;
 
 /// Takes a free cell out of the list.
-pub fn take_cell<V: Copy>(cells: &mut [Cell<V>], cell: usize, sign: u16, value: V, child: usize)
+pub fn take_cell<V: Copy>(
+    cells: &mut [Cell<V>],
+    cell: usize,
+    sign: u16,
+    value: Member<V>,
+    child: usize,
+)
     requires linked { AreLinked (lists cells.old) }
     requires small { length cells.old < 2 ^ 32 }
     requires cell { (0 < cell) × (cell < length cells.old) }
@@ -37,7 +44,8 @@ pub fn free_cell<V: Copy>(cells: &mut [Cell<V>], cell: usize)
     put_after(cells, cell, before);
 }
 
-// The last free cell below a cell. It is sought from the cell down and, side by side, along the free cells from the first.
+// The last free cell below a cell. It is sought from the cell down and, side by side, along the
+// free cells from the first.
 fn free_below<V: Copy>(cells: &[Cell<V>], cell: usize) -> usize
     requires linked { AreLinked (lists cells.now) }
     requires cell { (0 < cell) × (cell ≤ length cells.now) }
@@ -78,14 +86,16 @@ fn put_after<V: Copy>(cells: &mut [Cell<V>], cell: usize, before: usize)
 pub fn push_cell<V: Copy>(cells: &mut Vec<Cell<V>>, value: V) -> Result<(), AllocError>
     requires linked { AreLinked (lists cells.old.items) }
     requires small { length cells.old.items + 1 < 2 ^ 32 }
-    ensures row { OnOk result ((lists cells.new.items).row ≡ with_more (lists cells.old.items).row value) }
+    ensures row { OnOk result
+        ((lists cells.new.items).row ≡ with_more (lists cells.old.items).row (lone value)) }
     ensures linked { AreLinked (lists cells.new.items) }
     ensures err { OnErr result (cells.new.items ≡ cells.old.items) }
 {
     cells.push(Cell {
         value,
         link: 0,
-        before: 0,
+        next: 0,
+        first: 0,
         sign: 1,
         is_base: false,
     })?;

@@ -5,14 +5,17 @@ ghost use Rattle.std.specs.Cmp.Lexicographic.{slice_cmp};
 ghost use Rattle.std.specs.Ordering.{nat_cmp};
 ghost use Rattle.pg_types.specs.Placement.{taken, top, cell_of, base_of, joins_at, with_sign, without_sign};
 ghost use Rattle.pg_cells.specs.ValuedFamilies.{ValuedFamilies, without_key};
-ghost use Rattle.pg_cells.specs.AreValuedFamilies.{AreValuedFamilies};
-ghost use Rattle.pg_cells.specs.Lists.{sign_at};
-ghost use Rattle.pg_cells.specs.Members.{ArePassing, IsAlone, HasOther, has_sign};
-ghost use Rattle.pg_cells.specs.OneTrie.{Kept, Kept-prop};
-ghost use Rattle.pg_cells.specs.Root.{root_held};
-ghost use Rattle.pg_cells.specs.Walks.{EndsBefore};
+ghost use Rattle.pg_cells.specs.Inside.AreValuedFamilies.{AreValuedFamilies};
+ghost use Rattle.pg_cells.specs.declared.member.Member.{Member as MemberOf};
+ghost use Rattle.pg_cells.specs.Inside.Lists.{sign_at};
+ghost use Rattle.pg_cells.specs.Inside.Store.{member_code};
+ghost use Rattle.pg_cells.specs.Inside.Members.{ArePassing, IsAlone, HasOther, has_sign};
+ghost use Rattle.pg_cells.specs.Inside.OneTrie.{Kept, Kept-prop};
+ghost use Rattle.pg_cells.specs.Inside.Root.{root_held};
+ghost use Rattle.pg_cells.specs.Inside.Walks.{EndsBefore};
 
 use crate::fit::Slot;
+use crate::member::Member;
 use crate::moves::collect;
 use crate::place::place_family;
 use crate::prune::drop_family;
@@ -22,39 +25,46 @@ use pg_types::{SIGNS_MAX, Sign};
 use std::alloc::{AllocError, Global};
 use std::marker::Model;
 
-/// Families of cells, each cell with a value. The base of a family of up to `FEW` signs is sought from 1 on. For a greater one the
-/// search begins some way below the greatest taken cell. With `FEW` 4 this is the rule for patterns. With `FEW` 0 each search
-/// begins a little below that cell, and is short.
+/// Families of cells, each cell with a value. The base of a family of up to `FEW` signs is sought
+/// from 1 on. For a greater one the search begins some way below the greatest taken cell. With
+/// `FEW` 4 this is the rule for patterns. With `FEW` 0 each search begins a little below that cell,
+/// and is short.
 #[derive(Drop)]
 pub struct Placed<V: Copy, const FEW: usize> {
     signs: u16,
     store: Store<V>,
-    moving: Vec<Slot<V>>,
-    ghost layout: { Kept signs store } by { Kept-prop V.code signs store },
+    moving: Vec<Slot<Member<V>>>,
+    ghost layout: { Kept signs store } by { Kept-prop (member_code V.code) signs store },
 }
 
 impl<V: Copy, const FEW: usize> Model for Placed<V, FEW> {
+    ghost use Rattle.pg_cells.specs.declared.member.Member.{Member};
+    ghost use Rattle.pg_cells.specs.Inside.Store.{member_code};
     ghost use Rattle.pg_cells.specs.ValuedFamilies.{ValuedFamilies, valued_families_code};
-    ghost use Rattle.pg_cells.specs.Layouts.{AreKept};
+    ghost use Rattle.pg_cells.specs.Inside.Layouts.{AreKept};
 
-    ghost Value = { ValuedFamilies V };
+    ghost Value = { ValuedFamilies (Member V) };
 
-    ghost coded = { valued_families_code V.code };
+    ghost coded = { valued_families_code (member_code V.code) };
 
-    ghost view = { λ c. record { signs = c.signs; families = c.layout.0.families; values = c.layout.0.values } };
+    ghost view = { λ c. record {
+      signs = c.signs;
+      families = c.layout.0.families;
+      values = c.layout.0.values;
+    } };
 
     ghost invariant = { λ c. AreKept c.signs c.store c.layout.0 };
 }
 
 impl<V: Copy, const FEW: usize> Placed<V, FEW> {
     /// The root family alone, each value `blank`.
-    pub fn new(alloc: Global, signs: u16, blank: V) -> Result<Placed<V, FEW>, AllocError>
+    pub fn new(alloc: Global, signs: u16, blank: Member<V>) -> Result<Placed<V, FEW>, AllocError>
         requires { (1 ≤ signs) × (signs ≤ SIGNS_MAX) }
         ensures held { IfOk result (λ c. c ≡ root_held signs blank) }
         ensures kept { IfOk result (λ c. AreValuedFamilies c) }
     {
-        let mut store = Store::new(alloc, signs, blank)?;
-        store.grow(signs as usize + 1, blank)?;
+        let mut store = Store::new(alloc, signs, blank.value)?;
+        store.grow(signs as usize + 1, blank.value)?;
         take_root(&mut store, signs, blank);
         store.set_base(0, true);
         let _length = store.len();
@@ -74,8 +84,8 @@ impl<V: Copy, const FEW: usize> Placed<V, FEW> {
         self.signs
     }
 
-    /// The cell of the sign in the family with the base, or `None` where the family lacks the sign. Then no string that
-    /// begins with this one has a value.
+    /// The cell of the sign in the family with the base, or `None` where the family lacks the sign.
+    /// Then no string that begins with this one has a value.
     pub fn find(&self, base: usize, s: Sign) -> Option<usize>
         requires base { (p : List ℕ) × (base_of self.now.families p ≡ Some base) }
         requires sign { (1 ≤ s) × (s ≤ self.now.signs) }
@@ -93,31 +103,35 @@ impl<V: Copy, const FEW: usize> Placed<V, FEW> {
         }
     }
 
-    /// The base of the family below the cell's string, 0 for none. It tells whether a longer string has a value.
+    /// The base of the family below the cell's string, 0 for none. It tells whether a longer string
+    /// has a value.
     pub fn child(&self, cell: usize) -> usize
         requires { (q : List ℕ) × (cell_of self.now.families q ≡ Some cell) }
         ensures base { (q : List ℕ) → cell_of self.now.families q ≡ Some cell →
             base_of self.now.families q ≡ (if result == 0 then None else Some result) }
-        ensures none { (q : List ℕ) → cell_of self.now.families q ≡ Some cell → result ≡ 0 → (x : ℕ) →
+        ensures none { (q : List ℕ) → cell_of self.now.families q ≡ Some cell
+            → result ≡ 0 → (x : ℕ) →
             EndsBefore self.now.values (q ++ x ∷ []) }
         ensures some { (q : List ℕ) → cell_of self.now.families q ≡ Some cell → 0 < result →
-            (x : ℕ) × (v : V) × (find (slice_cmp nat_cmp) (q ++ x ∷ []) self.now.values ≡ Some v) }
+            (x : ℕ) × (v : MemberOf V)
+            × (find (slice_cmp nat_cmp) (q ++ x ∷ []) self.now.values ≡ Some v) }
     {
         let _cells = self.store.len();
         self.store.child(cell)
     }
 
     /// The value of the cell's string.
-    pub fn value(&self, cell: usize) -> V
+    pub fn value(&self, cell: usize) -> Member<V>
         requires { (q : List ℕ) × (cell_of self.now.families q ≡ Some cell) }
-        ensures { (q : List ℕ) → cell_of self.now.families q ≡ Some cell → find (slice_cmp nat_cmp) q self.now.values
+        ensures { (q : List ℕ) → cell_of self.now.families q ≡ Some cell
+            → find (slice_cmp nat_cmp) q self.now.values
             ≡ Some result }
     {
         self.store.value(cell)
     }
 
     /// The value of the string that has the cell, or `None` where no string has it.
-    pub fn value_if_taken(&self, cell: usize) -> Option<V>
+    pub fn value_if_taken(&self, cell: usize) -> Option<Member<V>>
         ensures some { IfSome result (λ v. (q : List ℕ) × (cell_of self.now.families q ≡ Some cell)
             × (find (slice_cmp nat_cmp) q self.now.values ≡ Some v)) }
         ensures none { result ≡ None → (q : List ℕ) → cell_of self.now.families q ≡ Some cell → ⊥ }
@@ -135,25 +149,27 @@ impl<V: Copy, const FEW: usize> Placed<V, FEW> {
         requires parent { (q : List ℕ) × ((cell_of self.now.families q ≡ Some parent)
             × (cell_of self.now.families (q ++ s ∷ []) ≡ None)) }
         requires sign { (1 ≤ s) × (s ≤ self.now.signs) }
-        ensures { (q : List ℕ) → cell_of self.now.families q ≡ Some parent → result ≡ joins_at self.now.families q s }
+        ensures { (q : List ℕ) → cell_of self.now.families q ≡ Some parent
+            → result ≡ joins_at self.now.families q s }
     {
         let base = self.store.child(parent);
         let _cells = self.store.len();
         joins(&self.store, base, s)
     }
 
-    /// Adds the sign to the family below the parent's string, with the value, and gives its cell. The members are the family's
-    /// signs, where the sign does not join it in place.
+    /// Adds the sign to the family below the parent's string, with the value, and gives its cell.
+    /// The members are the family's signs, where the sign does not join it in place.
     ///
-    /// A new family is put at the least base that fits, from the lowest one on that is tried for its number of signs. A sign
-    /// joins a family in place where its cell is free. Else the family gives up its cells and is put anew by the same rule. The
-    /// number of a cell of this family that was got before may then be that of another string's cell. The parent and each other
+    /// A new family is put at the least base that fits, from the lowest one on that is tried for
+    /// its number of signs. A sign joins a family in place where its cell is free. Else the family
+    /// gives up its cells and is put anew by the same rule. The number of a cell of this family
+    /// that was got before may then be that of another string's cell. The parent and each other
     /// string outside of the family keep their cells.
     pub fn add(
         &mut self,
         parent: usize,
         s: Sign,
-        v: V,
+        v: Member<V>,
         members: &[Sign],
     ) -> Result<usize, AllocError>
         requires parent { (q : List ℕ) × ((cell_of self.old.families q ≡ Some parent)
@@ -161,7 +177,8 @@ impl<V: Copy, const FEW: usize> Placed<V, FEW> {
         requires sign { (1 ≤ s) × (s ≤ self.old.signs) }
         requires positive { (k : ℕ) → k < length members.now → 0 < slice_index members.now k }
         requires members { (q : List ℕ) → cell_of self.old.families q ≡ Some parent →
-            joins_at self.old.families q s ≡ false → ArePassing (has_sign self.old.families q) members.now }
+            joins_at self.old.families q s ≡ false
+            → ArePassing (has_sign self.old.families q) members.now }
         ensures held { (q : List ℕ) → cell_of self.old.families q ≡ Some parent →
             OnOk result (self.new ≡ record self.old {
               families = with_sign FEW self.old.signs self.old.families q s;
@@ -175,7 +192,7 @@ impl<V: Copy, const FEW: usize> Placed<V, FEW> {
         ensures kept { OnOk result (AreValuedFamilies self.new) }
         ensures err { OnErr result (self.new ≡ self.old) }
     {
-        self.store.make_room(self.signs as usize + 2, v)?;
+        self.store.make_room(self.signs as usize + 2, v.value)?;
         let slot = Slot {
             value: v,
             child: 0,
@@ -196,11 +213,12 @@ impl<V: Copy, const FEW: usize> Placed<V, FEW> {
         Ok(placed + s as usize)
     }
 
-    /// Takes the sign away from the family below the parent's string, whose one sign it is where it is told to be alone. A family
-    /// without a sign is gone. Every other string keeps its cell.
+    /// Takes the sign away from the family below the parent's string, whose one sign it is where it
+    /// is told to be alone. A family without a sign is gone. Every other string keeps its cell.
     pub fn remove(&mut self, parent: usize, s: Sign, is_alone: bool)
         requires parent { (q : List ℕ) × (cell : ℕ)
-            × ((cell_of self.old.families q ≡ Some parent) × (cell_of self.old.families (q ++ s ∷ []) ≡ Some cell)
+            × ((cell_of self.old.families q ≡ Some parent)
+            × (cell_of self.old.families (q ++ s ∷ []) ≡ Some cell)
             × (base_of self.old.families (q ++ s ∷ []) ≡ None)) }
         requires alone { (q : List ℕ) → cell_of self.old.families q ≡ Some parent →
             MatchBool is_alone (IsAlone self.old.families q s) (HasOther self.old.families q s) }
@@ -209,7 +227,8 @@ impl<V: Copy, const FEW: usize> Placed<V, FEW> {
               families = without_sign self.old.families q s;
               values = without_key (q ++ s ∷ []) self.old.values;
             } }
-        ensures cells { (q : List ℕ) → cell_of self.old.families q ≡ Some parent → (p : List ℕ) → p ≢ q ++ s ∷ [] →
+        ensures cells { (q : List ℕ) → cell_of self.old.families q ≡ Some parent
+            → (p : List ℕ) → p ≢ q ++ s ∷ [] →
             cell_of self.new.families p ≡ cell_of self.old.families p }
         ensures kept { AreValuedFamilies self.new }
     {
@@ -221,7 +240,7 @@ impl<V: Copy, const FEW: usize> Placed<V, FEW> {
     }
 
     /// Gives the cell's string the value.
-    pub fn set_value(&mut self, cell: usize, v: V)
+    pub fn set_value(&mut self, cell: usize, v: Member<V>)
         requires { (q : List ℕ) × (cell_of self.old.families q ≡ Some cell) }
         ensures held { (q : List ℕ) → cell_of self.old.families q ≡ Some cell →
             self.new ≡ record self.old { values = put (slice_cmp nat_cmp) q v self.old.values } }
@@ -232,7 +251,7 @@ impl<V: Copy, const FEW: usize> Placed<V, FEW> {
     }
 
     /// The root family alone, each value `blank`.
-    pub fn reset(&mut self, blank: V)
+    pub fn reset(&mut self, blank: Member<V>)
         ensures held { self.new ≡ root_held self.old.signs blank }
         ensures kept { AreValuedFamilies self.new }
     {

@@ -1,11 +1,12 @@
 //! The search for a base, along the free cells.
 ghost use Rattle.std.specs.Prelude.{◌≡◌, ◌≢◌, ℕ, ◌+◌, ◌<◌, ◌≤◌, ◌^◌, Bool, true, ◌∷◌, length, map};
 ghost use Rattle.pg_types.specs.Placement.{IsLeast};
-ghost use Rattle.pg_cells.specs.Lists.{lists, sign_at, base_at};
-ghost use Rattle.pg_cells.specs.Linked.{AreLinked};
-ghost use Rattle.pg_cells.specs.Fit.{fits_row, signs_of};
+ghost use Rattle.pg_cells.specs.Inside.Lists.{lists, sign_at, base_at};
+ghost use Rattle.pg_cells.specs.Inside.Linked.{AreLinked};
+ghost use Rattle.pg_cells.specs.Inside.Fit.{fits_row, signs_of};
 
 use crate::cell::{Cell, after_of, is_base_of, sign_of};
+use crate::member::Member;
 
 /// What a taken cell holds.
 #[derive(Clone, Copy)]
@@ -37,7 +38,7 @@ fn is_base_within<V: Copy>(cells: &[Cell<V>], cell: usize) -> bool
 }
 
 // Whether the signs of the slots may stand at a base.
-fn fits<V: Copy>(cells: &[Cell<V>], slots: &[Slot<V>], base: usize) -> bool
+fn fits<V: Copy>(cells: &[Cell<V>], slots: &[Slot<Member<V>>], base: usize) -> bool
     requires { base < 2 ^ 33 }
     ensures { result ≡ fits_row (lists cells.now).row (signs_of slots.now) base }
 {
@@ -52,7 +53,8 @@ fn fits<V: Copy>(cells: &[Cell<V>], slots: &[Slot<V>], base: usize) -> bool
     true
 }
 
-// The first free cell from a cell on. It is sought from the cell on and, side by side, along the free cells from the first.
+// The first free cell from a cell on. It is sought from the cell on and, side by side, along the
+// free cells from the first.
 fn free_from<V: Copy>(cells: &[Cell<V>], cell: usize, bound: usize) -> usize
     requires linked { AreLinked (lists cells.now) }
     requires positive { 0 < cell }
@@ -73,10 +75,11 @@ fn free_from<V: Copy>(cells: &[Cell<V>], cell: usize, bound: usize) -> usize
     if free < cell { at } else { free }
 }
 
-/// The least base from `low` on at which the sign and those of the slots may stand; at `room` they may.
+/// The least base from `low` on at which the sign and those of the slots may stand; at `room` they
+/// may.
 pub fn find_base<V: Copy>(
     cells: &[Cell<V>],
-    slots: &[Slot<V>],
+    slots: &[Slot<Member<V>>],
     sign: u16,
     low: usize,
     room: usize,
@@ -87,7 +90,8 @@ pub fn find_base<V: Copy>(
     requires within { room + sign < length cells.now }
     requires small { length cells.now < 2 ^ 32 }
     requires room { fits_row (lists cells.now).row (sign ∷ signs_of slots.now) room ≡ true }
-    ensures least { IsLeast (fits_row (lists cells.now).row (sign ∷ signs_of slots.now)) low result }
+    ensures least { IsLeast
+        (fits_row (lists cells.now).row (sign ∷ signs_of slots.now)) low result }
     ensures room { result ≤ room }
 {
     let first = sign as usize;

@@ -1,5 +1,5 @@
-//! The families of a trie in one row of cells, each at the least base that its placement allows; free cells are linked in rising
-//! order.
+//! The families of a trie in one row of cells, each at the least base that its placement allows;
+//! free cells are linked in rising order.
 #![tactic(auto)]
 
 mod bounds;
@@ -16,8 +16,6 @@ mod prune;
 mod root;
 mod store;
 mod walks;
-mod words;
 
 pub use linked::Cells;
 pub use walks::{enter, step};
-pub use words::TwoWords;

@@ -5,10 +5,10 @@ ghost use Rattle.std.specs.Cmp.Lexicographic.{slice_cmp};
 ghost use Rattle.std.specs.Ordering.{nat_cmp};
 ghost use Rattle.pg_types.specs.Placement.{taken, top, cell_of, base_of, with_sign, without_sign};
 ghost use Rattle.pg_cells.specs.ValuedFamilies.{ValuedFamilies, without_key};
-ghost use Rattle.pg_cells.specs.AreValuedFamilies.{AreValuedFamilies};
-ghost use Rattle.pg_cells.specs.Members.{IsNextSign};
-ghost use Rattle.pg_cells.specs.Root.{root_held};
-ghost use Rattle.pg_cells.specs.Walks.{EndsBefore};
+ghost use Rattle.pg_cells.specs.Inside.AreValuedFamilies.{AreValuedFamilies};
+ghost use Rattle.pg_cells.specs.Inside.Members.{IsNextSign};
+ghost use Rattle.pg_cells.specs.Inside.Root.{root_held};
+ghost use Rattle.pg_cells.specs.Inside.Walks.{EndsBefore};
 
 use crate::families::Placed;
 use crate::links::{is_alone, link, list_moving, sign_after, sign_before};
@@ -17,18 +17,19 @@ use pg_types::{SIGNS_MAX, Sign};
 use std::alloc::{AllocError, Global};
 use std::marker::Model;
 
-/// Families of cells, each cell with a value. The base of a family of up to `FEW` signs is sought from 1 on. For a greater one the
-/// search begins some way below the greatest taken cell. With `FEW` 4 this is the rule for patterns. With `FEW` 0 each search
-/// begins a little below that cell, and is short.
+/// Families of cells, each cell with a value. The base of a family of up to `FEW` signs is sought
+/// from 1 on. For a greater one the search begins some way below the greatest taken cell. With
+/// `FEW` 4 this is the rule for patterns. With `FEW` 0 each search begins a little below that cell,
+/// and is short.
 #[derive(Drop)]
 pub struct Cells<V: Copy, const FEW: usize> {
-    placed: Placed<Member<V>, FEW>,
+    placed: Placed<V, FEW>,
     members: Vec<Sign>,
 }
 
 impl<V: Copy, const FEW: usize> Model for Cells<V, FEW> {
     ghost use Rattle.pg_cells.specs.ValuedFamilies.{ValuedFamilies, valued_families_code};
-    ghost use Rattle.pg_cells.specs.Links.{unlinked, AreLinks};
+    ghost use Rattle.pg_cells.specs.Inside.Links.{unlinked, AreLinks};
 
     ghost Value = { ValuedFamilies V };
 
@@ -61,8 +62,8 @@ impl<V: Copy, const FEW: usize> Cells<V, FEW> {
         self.placed.signs()
     }
 
-    /// The cell of the sign in the family with the base, or `None` where the family lacks the sign. Then no string that
-    /// begins with this one has a value.
+    /// The cell of the sign in the family with the base, or `None` where the family lacks the sign.
+    /// Then no string that begins with this one has a value.
     pub fn find(&self, base: usize, s: Sign) -> Option<usize>
         requires base { (p : List ℕ) × (base_of self.now.families p ≡ Some base) }
         requires sign { (1 ≤ s) × (s ≤ self.now.signs) }
@@ -74,12 +75,14 @@ impl<V: Copy, const FEW: usize> Cells<V, FEW> {
         self.placed.find(base, s)
     }
 
-    /// The base of the family below the cell's string, 0 for none. It tells whether a longer string has a value.
+    /// The base of the family below the cell's string, 0 for none. It tells whether a longer string
+    /// has a value.
     pub fn child(&self, cell: usize) -> usize
         requires { (q : List ℕ) × (cell_of self.now.families q ≡ Some cell) }
         ensures base { (q : List ℕ) → cell_of self.now.families q ≡ Some cell →
             base_of self.now.families q ≡ (if result == 0 then None else Some result) }
-        ensures none { (q : List ℕ) → cell_of self.now.families q ≡ Some cell → result ≡ 0 → (x : ℕ) →
+        ensures none { (q : List ℕ) → cell_of self.now.families q ≡ Some cell
+            → result ≡ 0 → (x : ℕ) →
             EndsBefore self.now.values (q ++ x ∷ []) }
         ensures some { (q : List ℕ) → cell_of self.now.families q ≡ Some cell → 0 < result →
             (x : ℕ) × (v : V) × (find (slice_cmp nat_cmp) (q ++ x ∷ []) self.now.values ≡ Some v) }
@@ -90,7 +93,8 @@ impl<V: Copy, const FEW: usize> Cells<V, FEW> {
     /// The first sign of the family below the cell's string, 0 for none.
     pub fn first_sign(&self, cell: usize) -> Sign
         requires { (q : List ℕ) × (cell_of self.now.families q ≡ Some cell) }
-        ensures { (q : List ℕ) → cell_of self.now.families q ≡ Some cell → IsNextSign self.now.values q 0 result }
+        ensures { (q : List ℕ) → cell_of self.now.families q ≡ Some cell
+            → IsNextSign self.now.values q 0 result }
     {
         self.placed.value(cell).first
     }
@@ -114,7 +118,8 @@ impl<V: Copy, const FEW: usize> Cells<V, FEW> {
     /// The value of the cell's string.
     pub fn value(&self, cell: usize) -> V
         requires { (q : List ℕ) × (cell_of self.now.families q ≡ Some cell) }
-        ensures { (q : List ℕ) → cell_of self.now.families q ≡ Some cell → find (slice_cmp nat_cmp) q self.now.values
+        ensures { (q : List ℕ) → cell_of self.now.families q ≡ Some cell
+            → find (slice_cmp nat_cmp) q self.now.values
             ≡ Some result }
     {
         self.placed.value(cell).value
@@ -132,9 +137,10 @@ impl<V: Copy, const FEW: usize> Cells<V, FEW> {
 
     /// Adds the sign to the family below the parent's string, with the value, and gives its cell.
     ///
-    /// A new family is put at the least base that fits, from the lowest one on that is tried for its number of signs. A sign
-    /// joins a family in place where its cell is free. Else the family gives up its cells and is put anew by the same rule. The
-    /// number of a cell of this family that was got before may then be that of another string's cell. The parent and each other
+    /// A new family is put at the least base that fits, from the lowest one on that is tried for
+    /// its number of signs. A sign joins a family in place where its cell is free. Else the family
+    /// gives up its cells and is put anew by the same rule. The number of a cell of this family
+    /// that was got before may then be that of another string's cell. The parent and each other
     /// string outside of the family keep their cells.
     pub fn add(&mut self, parent: usize, s: Sign, v: V) -> Result<usize, AllocError>
         requires parent { (q : List ℕ) × ((cell_of self.old.families q ≡ Some parent)
@@ -167,18 +173,20 @@ impl<V: Copy, const FEW: usize> Cells<V, FEW> {
         Ok(cell)
     }
 
-    /// Takes the sign away from the family below the parent's string. A family without a sign is gone. Every other string
-    /// keeps its cell.
+    /// Takes the sign away from the family below the parent's string. A family without a sign is
+    /// gone. Every other string keeps its cell.
     pub fn remove(&mut self, parent: usize, s: Sign)
         requires parent { (q : List ℕ) × (cell : ℕ)
-            × ((cell_of self.old.families q ≡ Some parent) × (cell_of self.old.families (q ++ s ∷ []) ≡ Some cell)
+            × ((cell_of self.old.families q ≡ Some parent)
+            × (cell_of self.old.families (q ++ s ∷ []) ≡ Some cell)
             × (base_of self.old.families (q ++ s ∷ []) ≡ None)) }
         ensures held { (q : List ℕ) → cell_of self.old.families q ≡ Some parent →
             self.new ≡ record self.old {
               families = without_sign self.old.families q s;
               values = without_key (q ++ s ∷ []) self.old.values;
             } }
-        ensures cells { (q : List ℕ) → cell_of self.old.families q ≡ Some parent → (p : List ℕ) → p ≢ q ++ s ∷ [] →
+        ensures cells { (q : List ℕ) → cell_of self.old.families q ≡ Some parent
+            → (p : List ℕ) → p ≢ q ++ s ∷ [] →
             cell_of self.new.families p ≡ cell_of self.old.families p }
         ensures kept { AreValuedFamilies self.new }
     {

@@ -1,20 +1,20 @@
-//! The links from sign to sign of a family. A family's signs are linked in rising order: the string that they follow has the
-//! first one, and each has the next.
+//! The links from sign to sign of a family. A family's signs are linked in rising order: the string
+//! that they follow has the first one, and each has the next.
 ghost use Rattle.std.specs.Prelude.{◌≡◌, ◌≢◌, ℕ, ◌<◌, ◌≤◌, ◌⊎◌, ◌==◌, ◌&&◌, nat_eq, true, false, length, List, [], ◌∷◌, ◌++◌, Some, None, OnOk, slice_index, if◌then◌else◌};
 ghost use Rattle.pg_types.specs.Placement.{cell_of, base_of, joins_at};
-ghost use Rattle.pg_cells.specs.AreValuedFamilies.{AreValuedFamilies};
-ghost use Rattle.pg_cells.specs.Members.{IsNextSign, goes_on, has_sign, ArePassing};
-ghost use Rattle.pg_cells.specs.Links.{AreLinks, IsBefore, with_link};
+ghost use Rattle.pg_cells.specs.Inside.AreValuedFamilies.{AreValuedFamilies};
+ghost use Rattle.pg_cells.specs.Inside.Members.{IsNextSign, goes_on, has_sign, ArePassing};
+ghost use Rattle.pg_cells.specs.Inside.Links.{AreLinks, IsBefore, with_link};
 
 use crate::families::Placed;
 use crate::member::Member;
 use pg_types::Sign;
 use std::alloc::AllocError;
 
-/// The sign behind `s` in the family below the parent's string, which has the base; the first one for 0. The answer is 0 where
-/// there is none.
+/// The sign behind `s` in the family below the parent's string, which has the base; the first one
+/// for 0. The answer is 0 where there is none.
 pub fn sign_after<V: Copy, const FEW: usize>(
-    cells: &Placed<Member<V>, FEW>,
+    cells: &Placed<V, FEW>,
     parent: usize,
     base: usize,
     s: Sign,
@@ -23,7 +23,8 @@ pub fn sign_after<V: Copy, const FEW: usize>(
     requires parent { (q : List ℕ) × ((cell_of cells.now.families q ≡ Some parent)
         × (base_of cells.now.families q ≡ (if base == 0 then None else Some base))
         × ((s ≡ 0) ⊎ (goes_on cells.now.values q s ≡ true))) }
-    ensures { (q : List ℕ) → cell_of cells.now.families q ≡ Some parent → IsNextSign cells.now.values q s result }
+    ensures { (q : List ℕ) → cell_of cells.now.families q ≡ Some parent
+        → IsNextSign cells.now.values q s result }
 {
     if s == 0 {
         return cells.value(parent).first;
@@ -38,11 +39,13 @@ pub fn sign_after<V: Copy, const FEW: usize>(
 }
 
 // Whether the family with the base has the sign; the base is 0 where there is no family.
-fn has_sign<V: Copy, const FEW: usize>(cells: &Placed<Member<V>, FEW>, base: usize, s: Sign) -> bool
+fn has_sign<V: Copy, const FEW: usize>(cells: &Placed<V, FEW>, base: usize, s: Sign) -> bool
     requires held { AreValuedFamilies cells.now }
-    requires base { (q : List ℕ) × (base_of cells.now.families q ≡ (if base == 0 then None else Some base)) }
+    requires base { (q : List ℕ)
+        × (base_of cells.now.families q ≡ (if base == 0 then None else Some base)) }
     requires sign { (1 ≤ s) × (s ≤ cells.now.signs) }
-    ensures { (q : List ℕ) → base_of cells.now.families q ≡ (if base == 0 then None else Some base) →
+    ensures { (q : List ℕ) → base_of cells.now.families q
+        ≡ (if base == 0 then None else Some base) →
         result ≡ goes_on cells.now.values q s }
 {
     if base == 0 {
@@ -51,26 +54,29 @@ fn has_sign<V: Copy, const FEW: usize>(cells: &Placed<Member<V>, FEW>, base: usi
     cells.find(base, s).is_some()
 }
 
-/// How many signs are looked at, one by one, for each link that is followed. A sign's cell lies beside that of the sign below
-/// it, and the cell of a link may lie far off.
+/// How many signs are looked at, one by one, for each link that is followed. A sign's cell lies
+/// beside that of the sign below it, and the cell of a link may lie far off.
 const SIGNS_PER_LINK: Sign = 8;
 
-// The greatest sign above `low` and up to `high` in the family with the base, or `low` where there is none. The base is 0 where
-// there is no family.
+// The greatest sign above `low` and up to `high` in the family with the base, or `low` where there
+// is none. The base is 0 where there is no family.
 fn sign_down<V: Copy, const FEW: usize>(
-    cells: &Placed<Member<V>, FEW>,
+    cells: &Placed<V, FEW>,
     base: usize,
     low: Sign,
     high: Sign,
 ) -> Sign
     requires held { AreValuedFamilies cells.now }
-    requires base { (q : List ℕ) × (base_of cells.now.families q ≡ (if base == 0 then None else Some base)) }
+    requires base { (q : List ℕ)
+        × (base_of cells.now.families q ≡ (if base == 0 then None else Some base)) }
     requires low { low ≤ high }
     requires high { high ≤ cells.now.signs }
     ensures within { (low ≤ result) × (result ≤ high) }
-    ensures there { (q : List ℕ) → base_of cells.now.families q ≡ (if base == 0 then None else Some base) →
+    ensures there { (q : List ℕ) → base_of cells.now.families q
+        ≡ (if base == 0 then None else Some base) →
         low < result → goes_on cells.now.values q result ≡ true }
-    ensures most { (q : List ℕ) → base_of cells.now.families q ≡ (if base == 0 then None else Some base) →
+    ensures most { (q : List ℕ) → base_of cells.now.families q
+        ≡ (if base == 0 then None else Some base) →
         (z : ℕ) → result < z → z ≤ high → goes_on cells.now.values q z ≡ false }
 {
     let mut sign = high;
@@ -83,10 +89,11 @@ fn sign_down<V: Copy, const FEW: usize>(
     sign
 }
 
-/// The greatest sign below `s` in the family below the parent's string, which has the base; 0 where there is none. It is sought
-/// along the signs from the first one on and, side by side, sign by sign down from `s`.
+/// The greatest sign below `s` in the family below the parent's string, which has the base; 0 where
+/// there is none. It is sought along the signs from the first one on and, side by side, sign by
+/// sign down from `s`.
 pub fn sign_before<V: Copy, const FEW: usize>(
-    cells: &Placed<Member<V>, FEW>,
+    cells: &Placed<V, FEW>,
     parent: usize,
     base: usize,
     s: Sign,
@@ -95,7 +102,8 @@ pub fn sign_before<V: Copy, const FEW: usize>(
     requires parent { (q : List ℕ) × ((cell_of cells.now.families q ≡ Some parent)
         × (base_of cells.now.families q ≡ (if base == 0 then None else Some base))) }
     requires sign { (1 ≤ s) × (s ≤ cells.now.signs) }
-    ensures { (q : List ℕ) → cell_of cells.now.families q ≡ Some parent → IsBefore cells.now.values q s result }
+    ensures { (q : List ℕ) → cell_of cells.now.families q ≡ Some parent
+        → IsBefore cells.now.values q s result }
 {
     let mut before = 0;
     let mut next = sign_after(cells, parent, base, 0);
@@ -114,7 +122,7 @@ pub fn sign_before<V: Copy, const FEW: usize>(
 
 /// Lists the signs of the family below the parent's string, which has the base, in rising order.
 pub fn list_signs<V: Copy, const FEW: usize>(
-    cells: &Placed<Member<V>, FEW>,
+    cells: &Placed<V, FEW>,
     parent: usize,
     base: usize,
     signs: &mut Vec<Sign>,
@@ -122,7 +130,8 @@ pub fn list_signs<V: Copy, const FEW: usize>(
     requires links { AreLinks cells.now }
     requires parent { (q : List ℕ) × ((cell_of cells.now.families q ≡ Some parent)
         × (base_of cells.now.families q ≡ (if base == 0 then None else Some base))) }
-    ensures positive { OnOk result ((k : ℕ) → k < length signs.new.items → 0 < slice_index signs.new.items k) }
+    ensures positive { OnOk result
+        ((k : ℕ) → k < length signs.new.items → 0 < slice_index signs.new.items k) }
     ensures signs { (q : List ℕ) → cell_of cells.now.families q ≡ Some parent →
         OnOk result (ArePassing (goes_on cells.now.values q) signs.new.items) }
 {
@@ -135,9 +144,10 @@ pub fn list_signs<V: Copy, const FEW: usize>(
     Ok(())
 }
 
-/// Lists the signs of the family below the parent's string, which has the base, where `s` does not join it in place.
+/// Lists the signs of the family below the parent's string, which has the base, where `s` does not
+/// join it in place.
 pub fn list_moving<V: Copy, const FEW: usize>(
-    cells: &Placed<Member<V>, FEW>,
+    cells: &Placed<V, FEW>,
     parent: usize,
     base: usize,
     s: Sign,
@@ -148,7 +158,8 @@ pub fn list_moving<V: Copy, const FEW: usize>(
         × (cell_of cells.now.families (q ++ s ∷ []) ≡ None)
         × (base_of cells.now.families q ≡ (if base == 0 then None else Some base))) }
     requires sign { (1 ≤ s) × (s ≤ cells.now.signs) }
-    ensures positive { OnOk result ((k : ℕ) → k < length signs.new.items → 0 < slice_index signs.new.items k) }
+    ensures positive { OnOk result
+        ((k : ℕ) → k < length signs.new.items → 0 < slice_index signs.new.items k) }
     ensures signs { (q : List ℕ) → cell_of cells.now.families q ≡ Some parent →
         joins_at cells.now.families q s ≡ false →
         OnOk result (ArePassing (has_sign cells.now.families q) signs.new.items) }
@@ -169,12 +180,7 @@ pub fn is_alone(before: Sign, after: Sign) -> bool
 }
 
 /// Links the sign `to` behind `s` in the family below the parent's string, as the first one for 0.
-pub fn link<V: Copy, const FEW: usize>(
-    cells: &mut Placed<Member<V>, FEW>,
-    parent: usize,
-    s: Sign,
-    to: Sign,
-)
+pub fn link<V: Copy, const FEW: usize>(cells: &mut Placed<V, FEW>, parent: usize, s: Sign, to: Sign)
     requires held { AreValuedFamilies cells.old }
     requires parent { (q : List ℕ) × ((cell_of cells.old.families q ≡ Some parent)
         × ((s ≡ 0) ⊎ (goes_on cells.old.values q s ≡ true))) }

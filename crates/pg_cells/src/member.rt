@@ -9,7 +9,8 @@ use pg_types::Sign;
 pub struct Member<V> {
     /// The value.
     pub value: V,
-    /// The next sign of the family that the cell is in, 0 for none. The root's signs have no link, since each has its next.
+    /// The next sign of the family that the cell is in, 0 for none. The root's signs have no link,
+    /// since each has its next.
     pub next: Sign,
     /// The first sign of the family below the string, 0 for none.
     pub first: Sign,

@@ -1,21 +1,23 @@
 //! A family gives up its cells and is put at another base.
 ghost use Rattle.std.specs.Prelude.{◌≡◌, ◌≢◌, ℕ, ◌+◌, ◌<◌, ◌≤◌, ◌^◌, length, take, nat_eq, slice_index, Some, [], OnOk};
 ghost use Rattle.pg_cells.specs.declared.fit.Slot.{Slot as SlotOf};
-ghost use Rattle.pg_cells.specs.Lists.{sign_at, IsFree};
-ghost use Rattle.pg_cells.specs.Fit.{slot_of};
-ghost use Rattle.pg_cells.specs.Members.{ArePassing};
-ghost use Rattle.pg_cells.specs.Moves.{AreDistinct, GivesUp, Puts, Collected, Collects};
+ghost use Rattle.pg_cells.specs.declared.member.Member.{Member as MemberOf};
+ghost use Rattle.pg_cells.specs.Inside.Lists.{sign_at, IsFree};
+ghost use Rattle.pg_cells.specs.Inside.Fit.{slot_of};
+ghost use Rattle.pg_cells.specs.Inside.Members.{ArePassing};
+ghost use Rattle.pg_cells.specs.Inside.Moves.{AreDistinct, GivesUp, Puts, Collected, Collects};
 
 use crate::fit::Slot;
+use crate::member::Member;
 use crate::store::Store;
 use pg_types::Sign;
 use std::alloc::AllocError;
 
 /// Gives up the cells that the slots have at a base.
-pub fn give_up<V: Copy>(store: &mut Store<V>, base: usize, slots: &[Slot<V>])
+pub fn give_up<V: Copy>(store: &mut Store<V>, base: usize, slots: &[Slot<Member<V>>])
     requires distinct { AreDistinct slots.now }
     requires base { base < 2 ^ 32 }
-    requires taken { (x : ℕ) (slot : SlotOf V) → slot_of slots.now x ≡ Some slot →
+    requires taken { (x : ℕ) (slot : SlotOf (MemberOf V)) → slot_of slots.now x ≡ Some slot →
         (0 < x) × (sign_at store.old (base + x) ≢ 0) }
     ensures { GivesUp store.old store.new base slots.now }
 {
@@ -25,10 +27,10 @@ pub fn give_up<V: Copy>(store: &mut Store<V>, base: usize, slots: &[Slot<V>])
 }
 
 /// Puts the slots into their cells at a base.
-pub fn put<V: Copy>(store: &mut Store<V>, base: usize, slots: &[Slot<V>])
+pub fn put<V: Copy>(store: &mut Store<V>, base: usize, slots: &[Slot<Member<V>>])
     requires distinct { AreDistinct slots.now }
     requires base { base < 2 ^ 32 }
-    requires free { (x : ℕ) (slot : SlotOf V) → slot_of slots.now x ≡ Some slot →
+    requires free { (x : ℕ) (slot : SlotOf (MemberOf V)) → slot_of slots.now x ≡ Some slot →
         (0 < x) × (IsFree store.old (base + x)) × (slot.child < length store.old.signs) }
     ensures { Puts store.old store.new base slots.now }
 {
@@ -37,12 +39,13 @@ pub fn put<V: Copy>(store: &mut Store<V>, base: usize, slots: &[Slot<V>])
     }
 }
 
-/// Collects what the cells of the family at a base hold, by rising sign, where the members are its signs.
+/// Collects what the cells of the family at a base hold, by rising sign, where the members are its
+/// signs.
 pub fn collect<V: Copy>(
     store: &Store<V>,
     base: usize,
     members: &[Sign],
-    slots: &mut Vec<Slot<V>>,
+    slots: &mut Vec<Slot<Member<V>>>,
 ) -> Result<(), AllocError>
     requires base { base < 2 ^ 32 }
     requires members { (k : ℕ) → k < length members.now → 0 < slice_index members.now k }
@@ -63,7 +66,7 @@ fn collect_sign<V: Copy>(
     store: &Store<V>,
     base: usize,
     sign: u16,
-    slots: &mut Vec<Slot<V>>,
+    slots: &mut Vec<Slot<Member<V>>>,
 ) -> Result<(), AllocError>
     requires base { base < 2 ^ 32 }
     requires sign { 0 < sign }

@@ -1,19 +1,21 @@
 //! A family is put at the least base that fits.
 ghost use Rattle.std.specs.Prelude.{◌≡◌, ◌≢◌, ℕ, ◌+◌, ◌<◌, ◌≤◌, ◌^◌, max, true, false, ◌∷◌, length};
 ghost use Rattle.pg_types.specs.Placement.{IsLeast, far_from_top, lowest_base};
-ghost use Rattle.pg_cells.specs.Fit.{fits_row, signs_of};
-ghost use Rattle.pg_cells.specs.Moves.{Drops, Moved, CanPlace};
+ghost use Rattle.pg_cells.specs.Inside.Fit.{fits_row, signs_of};
+ghost use Rattle.pg_cells.specs.Inside.Moves.{Drops, Moved, CanPlace};
 
 use crate::fit::Slot;
+use crate::member::Member;
 use crate::moves::{give_up, put};
 use crate::store::Store;
 use pg_types::SIGNS_MAX;
 
-/// Where few signs are placed from base 1 on, a family of more is placed from so far below the top on, or as far as there are
-/// signs.
+/// Where few signs are placed from base 1 on, a family of more is placed from so far below the top
+/// on, or as far as there are signs.
 const FAR_BELOW: usize = 255;
 
-/// Else each family is placed from so far below the top on. The search is short then, and most holes are filled all the same.
+/// Else each family is placed from so far below the top on. The search is short then, and most
+/// holes are filled all the same.
 const NEAR_BELOW: usize = 32;
 
 // How far below the top the search for a base begins.
@@ -49,8 +51,8 @@ fn drop_base<V: Copy>(store: &mut Store<V>, base: usize)
     }
 }
 
-// The base up to which those from `low` on were tried before, for a family that moves from the base `was`, which was found by a
-// search from `sought` on.
+// The base up to which those from `low` on were tried before, for a family that moves from the base
+// `was`, which was found by a search from `sought` on.
 fn tried_up_to(was: usize, sought: usize, low: usize) -> usize
     requires { was < 2 ^ 32 }
     ensures { low < result → (0 < was) × (sought ≤ low) × (result ≡ was + 1) }
@@ -58,11 +60,12 @@ fn tried_up_to(was: usize, sought: usize, low: usize) -> usize
     if 0 < was && sought <= low { was + 1 } else { 0 }
 }
 
-// The least base from `low` on at which the sign and those of the slots may stand; at `room` they may. It is sought from the
-// bound of the sign on, and from `tried` on, below which they may not. A search for one sign from its bound on raises the bound.
+// The least base from `low` on at which the sign and those of the slots may stand; at `room` they
+// may. It is sought from the bound of the sign on, and from `tried` on, below which they may not. A
+// search for one sign from its bound on raises the bound.
 fn least_base<V: Copy>(
     store: &mut Store<V>,
-    slots: &[Slot<V>],
+    slots: &[Slot<Member<V>>],
     sign: u16,
     low: usize,
     room: usize,
@@ -88,11 +91,12 @@ fn least_base<V: Copy>(
     base
 }
 
-/// Gives up the cells of a family, whose slots these are, and puts it with one sign more below its parent. Answers its base.
+/// Gives up the cells of a family, whose slots these are, and puts it with one sign more below its
+/// parent. Answers its base.
 pub fn place_family<V: Copy>(
     store: &mut Store<V>,
-    slots: &[Slot<V>],
-    slot: Slot<V>,
+    slots: &[Slot<Member<V>>],
+    slot: Slot<Member<V>>,
     parent: usize,
     was: usize,
     few: usize,

@@ -1,8 +1,8 @@
 //! A family without a sign is gone.
 ghost use Rattle.std.specs.Prelude.{◌≡◌, ◌≢◌, ℕ, ◌<◌, [], length, MatchBool};
-ghost use Rattle.pg_cells.specs.Lists.{sign_at};
-ghost use Rattle.pg_cells.specs.Layouts.{standing};
-ghost use Rattle.pg_cells.specs.Moves.{Prunes};
+ghost use Rattle.pg_cells.specs.Inside.Lists.{sign_at};
+ghost use Rattle.pg_cells.specs.Inside.Layouts.{standing};
+ghost use Rattle.pg_cells.specs.Inside.Moves.{Prunes};
 
 use crate::store::Store;
 
@@ -10,7 +10,8 @@ use crate::store::Store;
 pub fn drop_family<V: Copy>(store: &mut Store<V>, base: usize, parent: usize, is_empty: bool)
     requires base { base < length store.old.signs }
     requires parent { sign_at store.old parent ≢ 0 }
-    ensures { (n : ℕ) → MatchBool is_empty (standing n store.old base ≡ []) (standing n store.old base ≢ []) →
+    ensures { (n : ℕ) → MatchBool is_empty (standing n store.old base ≡ [])
+        (standing n store.old base ≢ []) →
         Prunes n store.old store.new base parent }
 {
     let _cells = store.len();

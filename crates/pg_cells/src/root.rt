@@ -1,14 +1,16 @@
 //! The root family, whose signs stand in their own cells.
 ghost use Rattle.std.specs.Prelude.{◌≡◌, ◌≢◌, ℕ, ◌+◌, ◌<◌, ◌≤◌, true, length};
-ghost use Rattle.pg_cells.specs.Lists.{sign_at, base_at};
-ghost use Rattle.pg_cells.specs.Root.{IsRootTo, Clears};
+ghost use Rattle.pg_cells.specs.declared.member.Member.{Member as MemberOf};
+ghost use Rattle.pg_cells.specs.Inside.Lists.{sign_at, base_at};
+ghost use Rattle.pg_cells.specs.Inside.Root.{IsRootTo, Clears};
 
 use crate::fit::Slot;
+use crate::member::Member;
 use crate::store::Store;
 use pg_types::SIGNS_MAX;
 
 /// Takes the cells of the root, each with the value.
-pub fn take_root<V: Copy>(store: &mut Store<V>, signs: u16, blank: V)
+pub fn take_root<V: Copy>(store: &mut Store<V>, signs: u16, blank: Member<V>)
     requires empty { IsRootTo 1 blank store.old }
     requires length { signs < length store.old.signs }
     requires signs { signs ≤ SIGNS_MAX }
@@ -27,10 +29,11 @@ pub fn take_root<V: Copy>(store: &mut Store<V>, signs: u16, blank: V)
     }
 }
 
-/// Gives up all cells, where each base has a taken cell behind it. It goes up to the greatest taken cell.
+/// Gives up all cells, where each base has a taken cell behind it. It goes up to the greatest taken
+/// cell.
 pub fn clear<V: Copy>(store: &mut Store<V>)
     requires { (b : ℕ) → base_at store.old b ≡ true → (y : ℕ) × (sign_at store.old (b + y) ≢ 0) }
-    ensures empty { (blank : V) → IsRootTo 1 blank store.new }
+    ensures empty { (blank : MemberOf V) → IsRootTo 1 blank store.new }
     ensures size { length store.new.signs ≡ length store.old.signs }
 {
     let _cells = store.len();

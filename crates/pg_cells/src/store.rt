@@ -1,28 +1,30 @@
 //! The store: one vector of cells, whose free ones are linked in rising order.
 ghost use Rattle.std.specs.Prelude.{◌≡◌, ◌≢◌, ℕ, ◌+◌, ◌-◌, ◌<◌, ◌≤◌, ◌^◌, true, ◌∷◌, length, slice_get, Some, IfOk, OnOk, OnErr};
 ghost use Rattle.pg_types.specs.Placement.{IsLeast};
-ghost use Rattle.pg_cells.specs.Lists.{lists, row_of, sign_at, child_at, base_at, IsFree};
-ghost use Rattle.pg_cells.specs.Linked.{AreLinked};
-ghost use Rattle.pg_cells.specs.Blocked.{AreBlocked};
-ghost use Rattle.pg_cells.specs.Bounds.{NoneFree};
-ghost use Rattle.pg_cells.specs.Fit.{fits_row, signs_of};
-ghost use Rattle.pg_cells.specs.Store.{one_free, taken_in, IsTop, Extends};
-ghost use Rattle.pg_cells.specs.Writes.{Takes, Frees, SetsChild, SetsValue, SetsBase};
+ghost use Rattle.pg_cells.specs.Inside.Lists.{lists, row_of, lone, sign_at, child_at, base_at, IsFree};
+ghost use Rattle.pg_cells.specs.Inside.Linked.{AreLinked};
+ghost use Rattle.pg_cells.specs.Inside.Blocked.{AreBlocked};
+ghost use Rattle.pg_cells.specs.Inside.Bounds.{NoneFree};
+ghost use Rattle.pg_cells.specs.Inside.Fit.{fits_row, signs_of};
+ghost use Rattle.pg_cells.specs.Inside.Store.{one_free, taken_in, IsTop, Extends};
+ghost use Rattle.pg_cells.specs.Inside.Writes.{Takes, Frees, SetsChild, SetsValue, SetsBase};
 
 use crate::bounds::{bound_of, least_dropped, lower, no_bounds, set_low, still_placed};
 use crate::cell::{Cell, child_of, set_base, set_child, set_value, sign_of, value_of};
 use crate::chain::{free_cell, push_cell, take_cell};
 use crate::fit::{Slot, find_base, sign_or_free};
+use crate::member::Member;
 use std::alloc::{AllocError, Global};
 use std::marker::Model;
 
 /// The cells. Cell 0 is never taken.
 ///
-/// `lows` has a bound for each sign. No base below it is free with the cell of the sign, but for what was given up since the
-/// bounds were lowered: `freed` is the least such cell, and `dropped` the least such base.
+/// `lows` has a bound for each sign. No base below it is free with the cell of the sign, but for
+/// what was given up since the bounds were lowered: `freed` is the least such cell, and `dropped`
+/// the least such base.
 ///
-/// `placed` is the base of the family that was placed last, and `sought` the base from which on it was sought. `placed` is 0
-/// where a cell or a base was given up since.
+/// `placed` is the base of the family that was placed last, and `sought` the base from which on it
+/// was sought. `placed` is 0 where a cell or a base was given up since.
 #[derive(Drop)]
 pub struct Store<V: Copy> {
     cells: Vec<Cell<V>>,
@@ -36,28 +38,31 @@ pub struct Store<V: Copy> {
 }
 
 impl<V: Copy> Model for Store<V> {
-    ghost use Rattle.pg_cells.specs.Lists.{Row, row_of};
-    ghost use Rattle.pg_cells.specs.Store.{row_code, IsStore};
+    ghost use Rattle.pg_cells.specs.declared.member.Member.{Member};
+    ghost use Rattle.pg_cells.specs.Inside.Lists.{Row, row_of};
+    ghost use Rattle.pg_cells.specs.Inside.Store.{member_code, row_code, IsStore};
 
-    ghost Value = { Row V };
+    ghost Value = { Row (Member V) };
 
-    ghost coded = { row_code V.code };
+    ghost coded = { row_code (member_code V.code) };
 
     ghost view = { λ s. row_of s.cells.items };
 
-    ghost invariant = { λ s. IsStore s.cells.items s.top s.taken s.lows.items s.freed s.dropped s.placed s.sought };
+    ghost invariant = { λ s.
+        IsStore s.cells.items s.top s.taken s.lows.items s.freed s.dropped s.placed s.sought };
 }
 
 impl<V: Copy> Store<V> {
     /// One free cell, for so many signs.
     pub fn new(alloc: Global, signs: u16, value: V) -> Result<Store<V>, AllocError>
-        ensures { IfOk result (λ s. s ≡ one_free value) }
+        ensures { IfOk result (λ s. s ≡ one_free (lone value)) }
     {
         let mut cells = Vec::new(alloc);
         cells.push(Cell {
             value,
             link: 0,
-            before: 0,
+            next: 0,
+            first: 0,
             sign: 0,
             is_base: false,
         })?;
@@ -90,7 +95,7 @@ impl<V: Copy> Store<V> {
     }
 
     /// The value of a taken cell.
-    pub fn value(&self, cell: usize) -> V
+    pub fn value(&self, cell: usize) -> Member<V>
         requires { sign_at self.now cell ≢ 0 }
         ensures { slice_get self.now.values cell ≡ Some result }
     {
@@ -135,7 +140,7 @@ impl<V: Copy> Store<V> {
     }
 
     /// Sets the value of a taken cell.
-    pub fn set_value(&mut self, cell: usize, value: V)
+    pub fn set_value(&mut self, cell: usize, value: Member<V>)
         requires { sign_at self.old cell ≢ 0 }
         ensures { SetsValue self.old self.new cell value }
     {
@@ -153,7 +158,7 @@ impl<V: Copy> Store<V> {
     }
 
     /// Takes a free cell.
-    pub fn take(&mut self, cell: usize, slot: Slot<V>)
+    pub fn take(&mut self, cell: usize, slot: Slot<Member<V>>)
         requires cell { 0 < cell }
         requires free { IsFree self.old cell }
         requires sign { slot.sign ≢ 0 }
@@ -192,11 +197,13 @@ impl<V: Copy> Store<V> {
         grow_cells(&mut self.cells, count, value)
     }
 
-    /// Makes room past the greatest taken cell: `more` cells. Refused: the cells that were there are as before.
+    /// Makes room past the greatest taken cell: `more` cells. Refused: the cells that were there
+    /// are as before.
     pub fn make_room(&mut self, more: usize, value: V) -> Result<(), AllocError>
         requires { more < 2 ^ 32 }
         ensures extends { Extends self.old self.new }
-        ensures room { OnOk result ((i : ℕ) → sign_at self.old i ≢ 0 → i + more ≤ length self.new.signs) }
+        ensures room { OnOk result
+            ((i : ℕ) → sign_at self.old i ≢ 0 → i + more ≤ length self.new.signs) }
     {
         let count = self.top + more;
         self.grow(count, value)
@@ -241,8 +248,9 @@ impl<V: Copy> Store<V> {
         self.sought = low;
     }
 
-    /// The least base from `low` on at which the sign and those of the slots may stand; at `room` they may.
-    pub fn find_base(&self, slots: &[Slot<V>], sign: u16, low: usize, room: usize) -> usize
+    /// The least base from `low` on at which the sign and those of the slots may stand; at `room`
+    /// they may.
+    pub fn find_base(&self, slots: &[Slot<Member<V>>], sign: u16, low: usize, room: usize) -> usize
         requires positive { 0 < sign }
         requires low { low ≤ room }
         requires within { room + sign < length self.now.signs }

@@ -4,8 +4,8 @@ ghost use Rattle.std.specs.FinMap.{find};
 ghost use Rattle.std.specs.Cmp.Lexicographic.{slice_cmp};
 ghost use Rattle.std.specs.Ordering.{nat_cmp};
 ghost use Rattle.pg_types.specs.Placement.{cell_of, base_of, enter_by};
-ghost use Rattle.pg_cells.specs.AreValuedFamilies.{AreValuedFamilies};
-ghost use Rattle.pg_cells.specs.Walks.{IsAt, EndsBefore, Steps, AddsBlanks};
+ghost use Rattle.pg_cells.specs.Inside.AreValuedFamilies.{AreValuedFamilies};
+ghost use Rattle.pg_cells.specs.Inside.Walks.{IsAt, EndsBefore, Steps, AddsBlanks};
 
 use crate::Cells;
 use pg_types::Sign;
@@ -26,8 +26,8 @@ fn base_below<V: Copy, const FEW: usize>(cells: &Cells<V, FEW>, at: Option<usize
     }
 }
 
-/// Goes from a cell, or from the start for `None`, to the cell of the string with the sign added. `None` tells that no
-/// string that begins with this one has a value.
+/// Goes from a cell, or from the start for `None`, to the cell of the string with the sign added.
+/// `None` tells that no string that begins with this one has a value.
 pub fn step<V: Copy, const FEW: usize>(
     cells: &Cells<V, FEW>,
     at: Option<usize>,
@@ -35,7 +35,8 @@ pub fn step<V: Copy, const FEW: usize>(
 ) -> Option<usize>
     requires at { (q : List ℕ) × (IsAt cells.now.families at q) }
     requires sign { (1 ≤ s) × (s ≤ cells.now.signs) }
-    ensures cell { (q : List ℕ) → IsAt cells.now.families at q → result ≡ cell_of cells.now.families (q ++ s ∷ []) }
+    ensures cell { (q : List ℕ) → IsAt cells.now.families at q
+        → result ≡ cell_of cells.now.families (q ++ s ∷ []) }
     ensures none { (q : List ℕ) → IsAt cells.now.families at q → result ≡ None →
         EndsBefore cells.now.values (q ++ s ∷ []) }
 {
@@ -69,10 +70,11 @@ fn step_or_add<V: Copy, const FEW: usize>(
     cells.add(parent, s, blank)
 }
 
-/// Gives each prefix of the string a cell, a new one with the value `blank`, and answers the cell of the string.
+/// Gives each prefix of the string a cell, a new one with the value `blank`, and answers the cell
+/// of the string.
 ///
-/// Refused, as memory is short: a shorter prefix of the string is entered, and the rest is not. A string that has its cell already
-/// is never refused.
+/// Refused, as memory is short: a shorter prefix of the string is entered, and the rest is not. A
+/// string that has its cell already is never refused.
 pub fn enter<V: Copy, const FEW: usize>(
     cells: &mut Cells<V, FEW>,
     signs: &[Sign],
@@ -81,9 +83,11 @@ pub fn enter<V: Copy, const FEW: usize>(
     requires some { 0 < length signs.now }
     requires signs { All (λ s. (1 ≤ s) × (s ≤ cells.old.signs)) signs.now }
     ensures cell { IfOk result (λ cell. cell_of cells.new.families signs.now ≡ Some cell) }
-    ensures families { OnOk result (cells.new.families ≡ enter_by FEW cells.old.signs cells.old.families signs.now) }
+    ensures families { OnOk result
+        (cells.new.families ≡ enter_by FEW cells.old.signs cells.old.families signs.now) }
     ensures part { OnErr result ((k : ℕ) × (k < length signs.now)
-        × (cells.new.families ≡ enter_by FEW cells.old.signs cells.old.families (take k signs.now))) }
+        × (cells.new.families
+        ≡ enter_by FEW cells.old.signs cells.old.families (take k signs.now))) }
     ensures blanks { AddsBlanks signs.now blank cells.old.values cells.new.values }
     ensures held { AreValuedFamilies cells.new }
     ensures signs { cells.new.signs ≡ cells.old.signs }

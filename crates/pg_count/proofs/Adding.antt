@@ -3,13 +3,13 @@ use Rattle.std.proofs.Common.{◌≡◌, ℕ, Bool, true, false, cond, List, [],
 use Rattle.std.specs.Option.{option_map}
 use Rattle.std.specs.FinMap.Entries.{find, put}
 use Rattle.pg_cells.specs.ValuedFamilies.{ValuedFamilies}
-use Rattle.pg_cells.specs.AreValuedFamilies.{AreValuedFamilies}
-use Rattle.pg_cells.specs.Walks.{AddsBlanks}
+use Rattle.pg_cells.specs.Inside.AreValuedFamilies.{AreValuedFamilies}
+use Rattle.pg_cells.specs.Inside.Walks.{AddsBlanks}
 use Rattle.pg_cells.proofs.StringMaps.{order, sorted_put, find_put_same}
 use Rattle.pg_types.specs.Counts.{SignsWithin, AreSmall, sums_of, with_weight, with_count, is_counted}
 use Rattle.pg_types.specs.Numbered.{Windows, HasNumber, with_window}
-use Rattle.pg_types.specs.Numbers.{AreNumbers, by_number}
-use Rattle.pg_count.specs.Counting.{Counting, IsCounting, AreCounting, Tally, counting_of, counts_in, numbers_in, seen_in, sums_seen, number_seen}
+use Rattle.pg_types.specs.Inside.Numbers.{AreNumbers, by_number}
+use Rattle.pg_count.specs.Inside.Counting.{Counting, IsCounting, AreCounting, Tally, counting_of, counts_in, numbers_in, seen_in, sums_seen, number_seen}
 use Rattle.pg_count.proofs.Counted.{seen_there, seen_put, seen_again, seen_blanks, sorted_seen, sums_told, not_counted, counting_put}
 use Rattle.pg_types.proofs.Numbering.{number_of, by_number_put, numbers_put}
 

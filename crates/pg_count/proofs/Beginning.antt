@@ -3,10 +3,10 @@ use Rattle.std.proofs.Common.{◌≡◌, ℕ, ◌≤◌, [], Option, None, sym, 
 use Rattle.std.specs.List.{range_with_len}
 use Rattle.pg_types.specs.declared.limits.TheConstants.{LENGTH_MAX}
 use Rattle.pg_cells.specs.ValuedFamilies.{ValuedFamilies}
-use Rattle.pg_cells.specs.AreValuedFamilies.{AreValuedFamilies}
-use Rattle.pg_cells.specs.Root.{root_held}
-use Rattle.pg_types.specs.Numbers.{AreNumbers, by_number}
-use Rattle.pg_count.specs.Counting.{Tally, IsCounting, AreCounting, counting_of, counts_in, numbers_in, sums_seen, number_seen}
+use Rattle.pg_cells.specs.Inside.AreValuedFamilies.{AreValuedFamilies}
+use Rattle.pg_cells.specs.Inside.Root.{root_held}
+use Rattle.pg_types.specs.Inside.Numbers.{AreNumbers, by_number}
+use Rattle.pg_count.specs.Inside.Counting.{Tally, IsCounting, AreCounting, counting_of, counts_in, numbers_in, sums_seen, number_seen}
 use Rattle.pg_count.proofs.Counted.{seen_root, none_seen, counting_none}
 use Rattle.pg_types.proofs.Numbering.{by_number_none, numbers_none}
 

@@ -4,13 +4,13 @@ use Rattle.std.proofs.lemmas.Bool.{cases_Bool, cases_eq, cases_lt}
 use Rattle.std.specs.Option.{is_some}
 use Rattle.pg_types.specs.Placement.{cell_of}
 use Rattle.pg_cells.specs.ValuedFamilies.{ValuedFamilies}
-use Rattle.pg_cells.specs.AreValuedFamilies.{AreValuedFamilies}
-use Rattle.pg_cells.specs.Members.{IsNextSign, goes_on}
+use Rattle.pg_cells.specs.Inside.AreValuedFamilies.{AreValuedFamilies}
+use Rattle.pg_cells.specs.Inside.Members.{IsNextSign, goes_on}
 use Rattle.pg_cells.proofs.LinkLaws.{goes_has}
 use Rattle.pg_cells.proofs.Walking.{ends_before}
-use Rattle.pg_count.specs.Bounds.{first_sign}
-use Rattle.pg_count.specs.Counting.{Tally}
-use Rattle.pg_count.specs.Least.{NoneAt}
+use Rattle.pg_count.specs.Inside.Bounds.{first_sign}
+use Rattle.pg_count.specs.Inside.Counting.{Tally}
+use Rattle.pg_count.specs.Inside.Least.{NoneAt}
 use Rattle.pg_count.proofs.Searching.{none_before, none_ends}
 
 pub first_up : (bound : List ℕ) → 1 ≤ first_sign bound

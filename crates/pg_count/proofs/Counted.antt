@@ -3,12 +3,12 @@ use Rattle.std.proofs.Common.{◌≡◌, ℕ, ◌≤◌, inl, inr, true, false, 
 use Rattle.std.specs.Option.{option_map}
 use Rattle.std.specs.Ordering.{is_lt}
 use Rattle.std.specs.FinMap.Entries.{find, put, is_sorted, below_all}
-use Rattle.pg_cells.specs.Walks.{AddsBlanks}
+use Rattle.pg_cells.specs.Inside.Walks.{AddsBlanks}
 use Rattle.pg_cells.proofs.StringMaps.{order, same_string, equal_or_not, same_maps, find_put_same, find_put_other, sorted_put, find_below, head_below, tail_sorted}
 use Rattle.pg_types.specs.Counts.{SignsWithin, is_counted, sums_of}
 use Rattle.pg_types.specs.Numbered.{AreNumbered, HasNumber}
-use Rattle.pg_types.specs.Numbers.{AreNumbers, by_number}
-use Rattle.pg_count.specs.Counting.{Counting, IsCounting, Tally, Tallies, tally_in, seen_in, sums_seen, number_seen, counts_in, numbers_in}
+use Rattle.pg_types.specs.Inside.Numbers.{AreNumbers, by_number}
+use Rattle.pg_count.specs.Inside.Counting.{Counting, IsCounting, Tally, Tallies, tally_in, seen_in, sums_seen, number_seen, counts_in, numbers_in}
 use Rattle.pg_types.proofs.Numbering.{number_of, numbered_found, length_by_number}
 use Rattle.std.proofs.lemmas.List.{length-map}
 use Rattle.pg_types.proofs.BoolFacts.{both_halves, first_half, second_half}

@@ -6,9 +6,9 @@ use Rattle.pg_cells.specs.ValuedFamilies.{ValuedFamilies}
 use Rattle.pg_cells.proofs.StringMaps.{order}
 use Rattle.pg_types.specs.Counts.{counted_sums}
 use Rattle.pg_types.specs.Numbered.{HasNumber, AreInOrder}
-use Rattle.pg_types.specs.Numbers.{by_number}
-use Rattle.pg_count.specs.Counting.{Counting, AreCounting, Tally, counting_of, numbers_in, sums_seen, number_seen}
-use Rattle.pg_count.specs.Under.{AreLong, numbers_under}
+use Rattle.pg_types.specs.Inside.Numbers.{by_number}
+use Rattle.pg_count.specs.Inside.Counting.{Counting, AreCounting, Tally, counting_of, numbers_in, sums_seen, number_seen}
+use Rattle.pg_count.specs.Inside.Under.{AreLong, numbers_under}
 use Rattle.pg_count.proofs.Counted.{sorted_seen, seen_there, seen_strings, tally_there}
 use Rattle.pg_types.proofs.Numbering.{numbered_found, length_by_number, in_order}
 use Rattle.pg_count.proofs.Walking.{under_all}

@@ -3,8 +3,8 @@ use Rattle.std.proofs.Common.{◌≡◌, ℕ, inl, inr, cond, List, [], ◌∷�
 use Rattle.std.specs.Option.{option_map, is_some}
 use Rattle.std.specs.FinMap.{find}
 use Rattle.pg_cells.specs.ValuedFamilies.{ValuedFamilies}
-use Rattle.pg_cells.specs.AreValuedFamilies.{AreValuedFamilies}
-use Rattle.pg_cells.specs.Members.{goes_on}
+use Rattle.pg_cells.specs.Inside.AreValuedFamilies.{AreValuedFamilies}
+use Rattle.pg_cells.specs.Inside.Members.{goes_on}
 use Rattle.pg_types.proofs.StringEntries.{find_mapped}
 pub use Rattle.pg_types.proofs.StringEntries.{mapped, found_mapped, none_mapped, sorted_mapped, unmapped, put_from}
 use Rattle.pg_cells.proofs.StringMaps.{order, equal_or_not}

@@ -5,8 +5,8 @@ use Rattle.std.specs.FinMap.Entries.{find}
 use Rattle.pg_cells.specs.ValuedFamilies.{ValuedFamilies}
 use Rattle.pg_cells.proofs.StringMaps.{order}
 use Rattle.pg_types.specs.Counts.{above}
-use Rattle.pg_count.specs.Counting.{Counting, AreCounting, Tally, counting_of, counts_in, sums_at, sums_seen}
-use Rattle.pg_count.specs.Least.{NoneAbove, LeastAbove}
+use Rattle.pg_count.specs.Inside.Counting.{Counting, AreCounting, Tally, counting_of, counts_in, sums_at, sums_seen}
+use Rattle.pg_count.specs.Inside.Least.{NoneAbove, LeastAbove}
 use Rattle.pg_count.proofs.Above.{above_none, above_least}
 use Rattle.pg_count.proofs.Counted.{find_seen}
 

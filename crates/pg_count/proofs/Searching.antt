@@ -13,13 +13,13 @@ use Rattle.std.specs.FinMap.Entries.{find}
 use Rattle.pg_types.specs.Placement.{cell_of}
 use Rattle.pg_types.specs.Signs.{is_sign}
 use Rattle.pg_cells.specs.ValuedFamilies.{ValuedFamilies}
-use Rattle.pg_cells.specs.AreValuedFamilies.{AreValuedFamilies}
-use Rattle.pg_cells.specs.Walks.{EndsBefore}
+use Rattle.pg_cells.specs.Inside.AreValuedFamilies.{AreValuedFamilies}
+use Rattle.pg_cells.specs.Inside.Walks.{EndsBefore}
 use Rattle.pg_cells.proofs.StringMaps.{order}
-use Rattle.pg_count.specs.Bounds.{first_sign, rest_after, is_past}
+use Rattle.pg_count.specs.Inside.Bounds.{first_sign, rest_after, is_past}
 use Rattle.std.specs.Option.{option_map}
-use Rattle.pg_count.specs.Counting.{Tally, Tallies, sums_at, sums_seen}
-use Rattle.pg_count.specs.Least.{NoneAt, NoneAbove, LeastAbove, LeastAt}
+use Rattle.pg_count.specs.Inside.Counting.{Tally, Tallies, sums_at, sums_seen}
+use Rattle.pg_count.specs.Inside.Least.{NoneAt, NoneAbove, LeastAbove, LeastAt}
 use Rattle.pg_count.proofs.Bounding.{nat_equal, below_first, rest_decides, past_is}
 use Rattle.pg_types.proofs.BoolFacts.{less_is}
 

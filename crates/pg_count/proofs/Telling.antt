@@ -7,17 +7,17 @@ use Rattle.std.proofs.lemmas.Option.{slice_get-get_or}
 use Rattle.std.specs.List.{slice_get, range_with_len}
 use Rattle.std.specs.FinMap.{find, put}
 use Rattle.pg_cells.specs.ValuedFamilies.{ValuedFamilies}
-use Rattle.pg_cells.specs.AreValuedFamilies.{AreValuedFamilies}
-use Rattle.pg_cells.specs.Root.{root_held}
-use Rattle.pg_cells.specs.Walks.{AddsBlanks}
+use Rattle.pg_cells.specs.Inside.AreValuedFamilies.{AreValuedFamilies}
+use Rattle.pg_cells.specs.Inside.Root.{root_held}
+use Rattle.pg_cells.specs.Inside.Walks.{AddsBlanks}
 use Rattle.pg_cells.proofs.StringMaps.{order, equal_or_not, find_put_same, find_put_other}
 use Rattle.pg_count.specs.declared.tally.TheConstants.{NOT_COUNTED, NUMBERS_END}
 use Rattle.std.specs.Option.{option_map, is_some}
 use Rattle.std.specs.FinMap.Entries.{length-put}
 use Rattle.std.specs.Cmp.Lexicographic.{nat_list_cmp_total}
-use Rattle.pg_count.specs.Counting.{Tally, seen_in, sums_seen, number_seen, counts_in, numbers_in}
+use Rattle.pg_count.specs.Inside.Counting.{Tally, seen_in, sums_seen, number_seen, counts_in, numbers_in}
 use Rattle.pg_count.proofs.Counted.{seen_there, seen_put, seen_again, seen_blanks, sorted_seen}
-use Rattle.pg_count.specs.Tallied.{tally_of, told, AreTold}
+use Rattle.pg_count.specs.Inside.Tallied.{tally_of, told, AreTold}
 use Rattle.pg_count.proofs.Mapped.{mapped, found_mapped, none_mapped, unmapped, unmapped_none, sorted_mapped, root_mapped, valued_families_mapped, put_from, root_blank}
 
 abbrev Sums : Type 0

@@ -12,14 +12,14 @@ use Rattle.std.specs.FinMap.Entries.{find, is_sorted, below_all, where_key, find
 use Rattle.pg_types.specs.Placement.{cell_of}
 use Rattle.pg_types.proofs.BoolFacts.{first_half, second_half, less_from, and_first, and_second}
 use Rattle.pg_cells.specs.ValuedFamilies.{ValuedFamilies}
-use Rattle.pg_cells.specs.AreValuedFamilies.{AreValuedFamilies}
-use Rattle.pg_cells.specs.Members.{IsNextSign, goes_on}
-use Rattle.pg_cells.specs.Walks.{EndsBefore}
+use Rattle.pg_cells.specs.Inside.AreValuedFamilies.{AreValuedFamilies}
+use Rattle.pg_cells.specs.Inside.Members.{IsNextSign, goes_on}
+use Rattle.pg_cells.specs.Inside.Walks.{EndsBefore}
 use Rattle.pg_cells.proofs.LinkLaws.{cell_goes}
 use Rattle.pg_cells.proofs.StringMaps.{order, equal_or_not, same_maps, head_below, tail_sorted}
-use Rattle.pg_types.specs.Numbers.{Numbers}
-use Rattle.pg_count.specs.Counting.{Tally, number_seen, numbers_in}
-use Rattle.pg_count.specs.Under.{is_under, is_before, is_passed, numbers_where, numbers_under, AreLong}
+use Rattle.pg_types.specs.Inside.Numbers.{Numbers}
+use Rattle.pg_count.specs.Inside.Counting.{Tally, number_seen, numbers_in}
+use Rattle.pg_count.specs.Inside.Under.{is_under, is_before, is_passed, numbers_where, numbers_under, AreLong}
 use Rattle.pg_count.proofs.Counted.{sorted_seen, seen_there, tally_there}
 
 find_where : (P : List ℕ → Bool) (q : List ℕ) (M : Numbers) → find order q (where_key order P M) ≡ cond (P q) (find order q M) None

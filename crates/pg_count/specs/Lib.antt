@@ -1,5 +1,1 @@
-pub mod Bounds
-pub mod Counting
-pub mod Least
-pub mod Tallied
-pub mod Under
+pub mod Inside

@@ -3,7 +3,7 @@ ghost use Rattle.std.specs.Prelude.{◌≡◌, ℕ, ◌≤◌, ◌<◌, true, Li
 ghost use Rattle.pg_types.specs.declared.limits.TheConstants.{LENGTH_MAX, SIGNS_MAX, WEIGHT_MAX};
 ghost use Rattle.pg_types.specs.Counts.{AreSmall, SignsWithin, counted_sums, sums_of, with_weight, is_counted, above};
 ghost use Rattle.pg_types.specs.Numbered.{AreInOrder, AreNumbered, HasNumber};
-ghost use Rattle.pg_count.specs.Counting.{IsCounting, counted_more};
+ghost use Rattle.pg_count.specs.Inside.Counting.{IsCounting, counted_more};
 
 use crate::least::least;
 use crate::sums::sums_in;
@@ -16,8 +16,8 @@ use std::marker::Model;
 
 /// The windows that are counted in a pass, each with its sums of good and bad weights.
 ///
-/// A window's signs lead from cell to cell. The last cell has a number, by which the window's two sums are found in a list. The
-/// memory of the cells and of the sums stays for later passes.
+/// A window's signs lead from cell to cell. The last cell has a number, by which the window's two
+/// sums are found in a list. The memory of the cells and of the sums stays for later passes.
 #[derive(Drop)]
 pub struct CountTrie {
     cells: Tallied,
@@ -25,11 +25,11 @@ pub struct CountTrie {
 }
 
 impl Model for CountTrie {
-    ghost use Rattle.pg_count.specs.Counting.{Counting};
+    ghost use Rattle.pg_count.specs.Inside.Counting.{Counting};
 
     ghost Value = { Counting };
 
-    ghost use Rattle.pg_count.specs.Counting.{counting_of, AreCounting};
+    ghost use Rattle.pg_count.specs.Inside.Counting.{counting_of, AreCounting};
 
     ghost view = { λ t. counting_of t.cells t.len };
 
@@ -40,7 +40,8 @@ impl CountTrie {
     /// No window is counted, and a window has one sign.
     pub fn new(alloc: Global, signs: u16) -> Result<CountTrie, AllocError>
         requires { (1 ≤ signs) × (signs ≤ SIGNS_MAX) }
-        ensures { IfOk result (λ counts. counts ≡ record { signs = signs; len = 1; counts = []; windows = [] }) }
+        ensures { IfOk result
+            (λ counts. counts ≡ record { signs = signs; len = 1; counts = []; windows = [] }) }
     {
         let cells = Tallied::new(alloc, signs)?;
         Ok(CountTrie { cells, len: 1 })
@@ -48,7 +49,8 @@ impl CountTrie {
 
     /// Begins a pass with windows of so many signs: no window is counted. It takes no memory.
     ///
-    /// Passes of one length count many of the same windows, so their cells may stay from pass to pass.
+    /// Passes of one length count many of the same windows, so their cells may stay from pass to
+    /// pass.
     pub fn begin(&mut self, len: u8)
         requires { (1 ≤ len) × (len ≤ LENGTH_MAX) }
         ensures { self.new ≡ record self.old { len = len; counts = []; windows = [] } }
@@ -66,7 +68,8 @@ impl CountTrie {
         self.len
     }
 
-    /// Adds `weight` to the good or the bad sum of a window. A window that is counted already takes no memory.
+    /// Adds `weight` to the good or the bad sum of a window. A window that is counted already takes
+    /// no memory.
     pub fn add(&mut self, window: &[Sign], good: bool, weight: Weight) -> Result<(), AllocError>
         requires len { length window.now ≡ self.old.len }
         requires signs { SignsWithin self.old.signs window.now }
@@ -80,8 +83,8 @@ impl CountTrie {
         Ok(())
     }
 
-    /// Adds as `add` does, and gives the window's number: its place, from 0, among the windows of the pass in the order in which
-    /// they were first counted.
+    /// Adds as `add` does, and gives the window's number: its place, from 0, among the windows of
+    /// the pass in the order in which they were first counted.
     pub fn add_numbered(
         &mut self,
         window: &[Sign],
@@ -110,7 +113,8 @@ impl CountTrie {
         }
     }
 
-    /// The good and the bad sum of a window; none exactly where it is not counted. It takes no memory.
+    /// The good and the bad sum of a window; none exactly where it is not counted. It takes no
+    /// memory.
     pub fn sums(&self, window: &[Sign]) -> Option<(u64, u64)>
         requires len { length window.now ≡ self.now.len }
         requires signs { SignsWithin self.now.signs window.now }
@@ -122,13 +126,14 @@ impl CountTrie {
     /// The good and the bad sum of the window with the number. It takes no memory.
     pub fn sums_of(&self, number: u32) -> (u64, u64)
         requires { number < length self.now.windows }
-        ensures { (u : List ℕ) → HasNumber self.now.windows u number → counted_sums self.now.counts u ≡ Some result }
+        ensures { (u : List ℕ) → HasNumber self.now.windows u number
+            → counted_sums self.now.counts u ≡ Some result }
     {
         self.cells.sums(number)
     }
 
-    /// Appends the numbers of the counted windows in the order of signs, by one walk along the signs of the families. Refused:
-    /// some of them may have been appended.
+    /// Appends the numbers of the counted windows in the order of signs, by one walk along the
+    /// signs of the families. Refused: some of them may have been appended.
     pub fn order(&self, out: &mut Vec<u32>) -> Result<(), AllocError>
         ensures { OnOk result ((ns : List ℕ) × (out.new.items ≡ out.old.items ++ ns)
             × AreInOrder self.now.windows self.now.counts ns) }
@@ -139,8 +144,8 @@ impl CountTrie {
         Ok(())
     }
 
-    /// Moves the cursor to the least counted window that is greater, and gives its good and bad sums; none exactly where there is
-    /// no such window, and the cursor stays. It takes no memory.
+    /// Moves the cursor to the least counted window that is greater, and gives its good and bad
+    /// sums; none exactly where there is no such window, and the cursor stays. It takes no memory.
     pub fn next(&self, at: &mut Cursor) -> Option<(u64, u64)>
         ensures { MatchOption result ((above at.old self.now.counts ≡ [])
             × (at.new ≡ at.old)) (λ sums. above at.old self.now.counts

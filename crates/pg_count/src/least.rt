@@ -1,10 +1,10 @@
 //! The search for the least counted string above a bound.
 ghost use Rattle.std.specs.Prelude.{◌≡◌, ◌<◌, ◌≤◌, ◌-◌, ℕ, List, [], ◌∷◌, ◌++◌, length, Some, None, MatchOption};
 ghost use Rattle.pg_types.specs.Placement.{base_of, cell_of};
-ghost use Rattle.pg_cells.specs.AreValuedFamilies.{AreValuedFamilies};
-ghost use Rattle.pg_cells.specs.Members.{IsNextSign};
-ghost use Rattle.pg_count.specs.Bounds.{first_sign};
-ghost use Rattle.pg_count.specs.Least.{NoneAt, NoneAbove, LeastAt, LeastAbove};
+ghost use Rattle.pg_cells.specs.Inside.AreValuedFamilies.{AreValuedFamilies};
+ghost use Rattle.pg_cells.specs.Inside.Members.{IsNextSign};
+ghost use Rattle.pg_count.specs.Inside.Bounds.{first_sign};
+ghost use Rattle.pg_count.specs.Inside.Least.{NoneAt, NoneAbove, LeastAt, LeastAbove};
 
 use crate::bound::{first_of, is_past, rest_of};
 use crate::tallied::Tallied;
@@ -14,8 +14,10 @@ use pg_types::Sign;
 fn sign_after(cells: &Tallied, base: usize, s: Sign) -> Sign
     requires held { AreValuedFamilies cells.now }
     requires base { (p : List ℕ) × (cell : ℕ)
-        × ((base_of cells.now.families p ≡ Some base) × (cell_of cells.now.families (p ++ s ∷ []) ≡ Some cell)) }
-    ensures { (p : List ℕ) → base_of cells.now.families p ≡ Some base → IsNextSign cells.now.values p s result }
+        × ((base_of cells.now.families p ≡ Some base)
+        × (cell_of cells.now.families (p ++ s ∷ []) ≡ Some cell)) }
+    ensures { (p : List ℕ) → base_of cells.now.families p ≡ Some base
+        → IsNextSign cells.now.values p s result }
 {
     match cells.find(base, s) {
         Some(cell) => cells.next_sign(cell),
@@ -23,8 +25,8 @@ fn sign_after(cells: &Tallied, base: usize, s: Sign) -> Sign
     }
 }
 
-// The least sign of the family with the base that is not below another, 0 for none. It is that sign itself, where the family has
-// it; else it is sought from the family's first sign on.
+// The least sign of the family with the base that is not below another, 0 for none. It is that sign
+// itself, where the family has it; else it is sought from the family's first sign on.
 fn sign_from(cells: &Tallied, base: usize, first: Sign, from: Sign) -> Sign
     requires held { AreValuedFamilies cells.now }
     requires base { (p : List ℕ) × ((base_of cells.now.families p ≡ Some base)
@@ -46,9 +48,10 @@ fn sign_from(cells: &Tallied, base: usize, first: Sign, from: Sign) -> Sign
     s
 }
 
-/// Finds the least counted string above the bound that goes on, by as many signs as the path has, from the string of the family
-/// with the base and the first sign. The path becomes those signs, and the answer is the string's sums; where there is none,
-/// nothing is said of the path. It goes along the signs of the families, and takes no memory.
+/// Finds the least counted string above the bound that goes on, by as many signs as the path has,
+/// from the string of the family with the base and the first sign. The path becomes those signs,
+/// and the answer is the string's sums; where there is none, nothing is said of the path. It goes
+/// along the signs of the families, and takes no memory.
 #[cycle(least)]
 pub fn least(
     cells: &Tallied,

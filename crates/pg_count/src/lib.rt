@@ -1,4 +1,5 @@
-//! The windows that are counted in a pass, each with its sums of good and bad weights, in packed cells.
+//! The windows that are counted in a pass, each with its sums of good and bad weights, in packed
+//! cells.
 #![tactic(auto)]
 
 mod bound;

@@ -5,11 +5,11 @@ ghost use Rattle.std.specs.Cmp.Lexicographic.{slice_cmp};
 ghost use Rattle.std.specs.Ordering.{nat_cmp};
 ghost use Rattle.pg_types.specs.declared.limits.TheConstants.{SIGNS_MAX};
 ghost use Rattle.pg_types.specs.Placement.{cell_of, base_of};
-ghost use Rattle.pg_cells.specs.AreValuedFamilies.{AreValuedFamilies};
-ghost use Rattle.pg_cells.specs.Members.{IsNextSign};
-ghost use Rattle.pg_cells.specs.Root.{root_held};
-ghost use Rattle.pg_cells.specs.Walks.{IsAt, EndsBefore, AddsBlanks};
-ghost use Rattle.pg_count.specs.Counting.{counts_in, numbers_in};
+ghost use Rattle.pg_cells.specs.Inside.AreValuedFamilies.{AreValuedFamilies};
+ghost use Rattle.pg_cells.specs.Inside.Members.{IsNextSign};
+ghost use Rattle.pg_cells.specs.Inside.Root.{root_held};
+ghost use Rattle.pg_cells.specs.Inside.Walks.{IsAt, EndsBefore, AddsBlanks};
+ghost use Rattle.pg_count.specs.Inside.Counting.{counts_in, numbers_in};
 ghost use Rattle.pg_count.specs.declared.tally.TheConstants.{NUMBERS_END};
 
 use crate::tally::{NOT_COUNTED, NUMBERS_END, push_tally, set_tally, sums_at, tally_at};
@@ -21,17 +21,21 @@ use std::marker::Model;
 /// Each family of the windows is placed near the top, since their layout is told to no one.
 const FEW_SIGNS: usize = 0;
 
-/// The cells of a pass stay for the next one where they are at most so many times its counted strings.
+/// The cells of a pass stay for the next one where they are at most so many times its counted
+/// strings.
 const CELLS_PER_TALLY: usize = 4;
 
-/// The cells stay only where the numbers of the next pass begin here or before, so that half of all numbers are left for it.
+/// The cells stay only where the numbers of the next pass begin here or before, so that half of all
+/// numbers are left for it.
 const LATEST_FIRST: u32 = NUMBERS_END / 2;
 
-/// Cells of strings, each with its sums where it is counted. The cell of a string has the number of its tally, and the tallies
-/// stand in a list of their own, since most cells are of strings that are not counted.
+/// Cells of strings, each with its sums where it is counted. The cell of a string has the number of
+/// its tally, and the tallies stand in a list of their own, since most cells are of strings that
+/// are not counted.
 ///
-/// The tally at index i has the number `first` + i. A number below `first` is of an earlier pass, and says that the string is
-/// not counted. So a pass that keeps the cells begins without a walk over them.
+/// The tally at index i has the number `first` + i. A number below `first` is of an earlier pass,
+/// and says that the string is not counted. So a pass that keeps the cells begins without a walk
+/// over them.
 #[derive(Drop)]
 pub struct Tallied {
     cells: Cells<u32, FEW_SIGNS>,
@@ -43,8 +47,8 @@ impl Model for Tallied {
     ghost use Rattle.std.specs.Prelude.{ℕ, Option};
     ghost use Rattle.std.specs.Coded.{coded_option, coded×, coded_ℕ};
     ghost use Rattle.pg_cells.specs.ValuedFamilies.{ValuedFamilies, valued_families_code};
-    ghost use Rattle.pg_count.specs.Tallied.{told, AreTold};
-    ghost use Rattle.pg_count.specs.Counting.{Tally};
+    ghost use Rattle.pg_count.specs.Inside.Tallied.{told, AreTold};
+    ghost use Rattle.pg_count.specs.Inside.Counting.{Tally};
 
     ghost Value = { ValuedFamilies (Option Tally) };
 
@@ -71,9 +75,10 @@ impl Tallied {
         })
     }
 
-    /// No string is counted. `alike` says that the next strings are as long as the last ones, so that many may be the same. Then
-    /// the cells stay, if at least a quarter of them are of counted strings and enough numbers are left. They stay too where none
-    /// is counted: such a pass tells nothing of the next one. Else each sign alone has a cell. It takes no memory.
+    /// No string is counted. `alike` says that the next strings are as long as the last ones, so
+    /// that many may be the same. Then the cells stay, if at least a quarter of them are of counted
+    /// strings and enough numbers are left. They stay too where none is counted: such a pass tells
+    /// nothing of the next one. Else each sign alone has a cell. It takes no memory.
     pub fn clear(&mut self, alike: bool)
         ensures signs { self.new.signs ≡ self.old.signs }
         ensures none { counts_in self.new.values ≡ [] }
@@ -117,7 +122,8 @@ impl Tallied {
         requires { (q : List ℕ) × (cell_of self.now.families q ≡ Some cell) }
         ensures base { (q : List ℕ) → cell_of self.now.families q ≡ Some cell →
             base_of self.now.families q ≡ (if result == 0 then None else Some result) }
-        ensures none { (q : List ℕ) → cell_of self.now.families q ≡ Some cell → result ≡ 0 → (x : ℕ) →
+        ensures none { (q : List ℕ) → cell_of self.now.families q ≡ Some cell
+            → result ≡ 0 → (x : ℕ) →
             EndsBefore self.now.values (q ++ x ∷ []) }
     {
         self.cells.child(cell)
@@ -126,7 +132,8 @@ impl Tallied {
     /// The first sign of the family below the cell's string, 0 for none.
     pub fn first_sign(&self, cell: usize) -> Sign
         requires { (q : List ℕ) × (cell_of self.now.families q ≡ Some cell) }
-        ensures { (q : List ℕ) → cell_of self.now.families q ≡ Some cell → IsNextSign self.now.values q 0 result }
+        ensures { (q : List ℕ) → cell_of self.now.families q ≡ Some cell
+            → IsNextSign self.now.values q 0 result }
     {
         self.cells.first_sign(cell)
     }
@@ -140,12 +147,13 @@ impl Tallied {
         self.cells.next_sign(cell)
     }
 
-    /// Goes from a cell, or from the start for `None`, to the cell of the string with the sign added. `None` tells that no
-    /// string that begins with this one has a cell.
+    /// Goes from a cell, or from the start for `None`, to the cell of the string with the sign
+    /// added. `None` tells that no string that begins with this one has a cell.
     pub fn step(&self, at: Option<usize>, s: Sign) -> Option<usize>
         requires at { (q : List ℕ) × (IsAt self.now.families at q) }
         requires sign { (1 ≤ s) × (s ≤ self.now.signs) }
-        ensures cell { (q : List ℕ) → IsAt self.now.families at q → result ≡ cell_of self.now.families (q ++ s ∷ []) }
+        ensures cell { (q : List ℕ) → IsAt self.now.families at q
+            → result ≡ cell_of self.now.families (q ++ s ∷ []) }
         ensures none { (q : List ℕ) → IsAt self.now.families at q → result ≡ None →
             EndsBefore self.now.values (q ++ s ∷ []) }
     {
@@ -155,7 +163,8 @@ impl Tallied {
     /// The number and the sums of the cell's string, or `None` where it is not counted.
     pub fn tally(&self, cell: usize) -> Option<(u32, (u64, u64))>
         requires { (q : List ℕ) × (cell_of self.now.families q ≡ Some cell) }
-        ensures { (q : List ℕ) → cell_of self.now.families q ≡ Some cell → find (slice_cmp nat_cmp) q self.now.values
+        ensures { (q : List ℕ) → cell_of self.now.families q ≡ Some cell
+            → find (slice_cmp nat_cmp) q self.now.values
             ≡ Some result }
     {
         tally_at(self.tallies.as_slice(), self.first, self.cells.value(cell))
@@ -165,13 +174,15 @@ impl Tallied {
     pub fn sums(&self, number: u32) -> (u64, u64)
         requires { (q : List ℕ) × (was : ℕ × ℕ) × (find (slice_cmp nat_cmp) q self.now.values
             ≡ Some (Some (number, was))) }
-        ensures { (q : List ℕ) (was : ℕ × ℕ) → find (slice_cmp nat_cmp) q self.now.values ≡ Some (Some (number, was)) →
+        ensures { (q : List ℕ) (was : ℕ × ℕ)
+            → find (slice_cmp nat_cmp) q self.now.values ≡ Some (Some (number, was)) →
             result ≡ was }
     {
         sums_at(self.tallies.as_slice(), number)
     }
 
-    /// Gives each prefix of the string a cell, and answers the cell of the string. What is counted stays.
+    /// Gives each prefix of the string a cell, and answers the cell of the string. What is counted
+    /// stays.
     ///
     /// Refused: a shorter prefix is entered in its place. The string had no cell.
     pub fn enter(&mut self, signs: &[Sign]) -> Result<usize, AllocError>
@@ -190,19 +201,25 @@ impl Tallied {
     pub fn set_sums(&mut self, number: u32, sums: (u64, u64))
         requires { (q : List ℕ) × (was : ℕ × ℕ) × (find (slice_cmp nat_cmp) q self.old.values
             ≡ Some (Some (number, was))) }
-        ensures held { (q : List ℕ) (was : ℕ × ℕ) → find (slice_cmp nat_cmp) q self.old.values ≡ Some (Some (number, was)) →
-            self.new ≡ record self.old { values = put (slice_cmp nat_cmp) q (Some (number, sums)) self.old.values } }
+        ensures held { (q : List ℕ) (was : ℕ × ℕ)
+            → find (slice_cmp nat_cmp) q self.old.values ≡ Some (Some (number, was)) →
+            self.new ≡ record self.old {
+              values =
+                  put (slice_cmp nat_cmp) q (Some (number, sums)) self.old.values;
+            } }
         ensures kept { AreValuedFamilies self.new }
     {
         set_tally(&mut self.tallies, number, sums);
     }
 
-    /// Counts a string that is not counted, with the sums, and gives its number, which is the next one. Refused: it is not counted.
+    /// Counts a string that is not counted, with the sums, and gives its number, which is the next
+    /// one. Refused: it is not counted.
     pub fn count(&mut self, cell: usize, sums: (u64, u64)) -> Result<u32, AllocError>
         requires { (q : List ℕ) × ((cell_of self.old.families q ≡ Some cell)
             × (find (slice_cmp nat_cmp) q self.old.values ≡ Some None)) }
         ensures number { IfOk result (λ number. number ≡ length (numbers_in self.old.values)) }
-        ensures held { (q : List ℕ) → cell_of self.old.families q ≡ Some cell → OnOk result (self.new
+        ensures held { (q : List ℕ) → cell_of self.old.families q ≡ Some cell
+            → OnOk result (self.new
             ≡ record self.old {
               values = put (slice_cmp nat_cmp) q
                   (Some (length (numbers_in self.old.values), sums)) self.old.values;
@@ -217,18 +234,20 @@ impl Tallied {
     }
 }
 
-// The number of the first tally of the next pass, past each number in the cells. It is `next`, and each string keeps its cell; or
-// the numbers begin again from 1, and each sign alone has a cell.
+// The number of the first tally of the next pass, past each number in the cells. It is `next`, and
+// each string keeps its cell; or the numbers begin again from 1, and each sign alone has a cell.
 fn first_after(cells: &mut Cells<u32, FEW_SIGNS>, next: u32, keeps: bool) -> u32
     requires held { AreValuedFamilies cells.old }
     requires positive { 1 ≤ next }
     requires few { next ≤ NUMBERS_END }
-    requires past { (q : List ℕ) (k : ℕ) → find (slice_cmp nat_cmp) q cells.old.values ≡ Some k → k < next }
+    requires past { (q : List ℕ) (k : ℕ) → find (slice_cmp nat_cmp) q cells.old.values ≡ Some k
+        → k < next }
     ensures held { AreValuedFamilies cells.new }
     ensures signs { cells.new.signs ≡ cells.old.signs }
     ensures positive { 1 ≤ result }
     ensures few { result ≤ NUMBERS_END }
-    ensures past { (q : List ℕ) (k : ℕ) → find (slice_cmp nat_cmp) q cells.new.values ≡ Some k → k < result }
+    ensures past { (q : List ℕ) (k : ℕ) → find (slice_cmp nat_cmp) q cells.new.values ≡ Some k
+        → k < result }
 {
     if keeps {
         return next;

@@ -1,7 +1,7 @@
 //! The sums of good and bad weights of a string, as one tally of a list.
 ghost use Rattle.std.specs.Prelude.{◌≡◌, ◌+◌, ◌<◌, ◌≤◌, ◌++◌, [], ◌∷◌, length, set, slice_get, Some, IfOk, OnOk, OnErr};
 ghost use Rattle.pg_types.specs.Counts.{AreSmall, with_weight};
-ghost use Rattle.pg_count.specs.Tallied.{tally_of};
+ghost use Rattle.pg_count.specs.Inside.Tallied.{tally_of};
 
 use pg_types::Weight;
 use std::alloc::AllocError;
@@ -25,8 +25,8 @@ pub fn add_weight(sums: (u64, u64), good: bool, weight: Weight) -> (u64, u64)
     }
 }
 
-/// The tally with the number of a cell, where they are numbered from `first` on, or `None` where no tally has it. Before its sums
-/// stands its own number, from 0 on.
+/// The tally with the number of a cell, where they are numbered from `first` on, or `None` where no
+/// tally has it. Before its sums stands its own number, from 0 on.
 pub fn tally_at(tallies: &[(u64, u64)], first: u32, in_cell: u32) -> Option<(u32, (u64, u64))>
     ensures { result ≡ tally_of first tallies.now in_cell }
 {
@@ -53,7 +53,8 @@ pub fn set_tally(tallies: &mut Vec<(u64, u64)>, number: u32, sums: (u64, u64))
     tallies[number as usize] = sums;
 }
 
-/// Adds a tally and gives its number, where they are numbered from `first` on, as long as a number is left.
+/// Adds a tally and gives its number, where they are numbered from `first` on, as long as a number
+/// is left.
 ///
 /// Refused: the tallies are as before.
 pub fn push_tally(

@@ -11,12 +11,12 @@ use Rattle.pg_outputs.specs.declared.records.Record.{Record}
 use Rattle.pg_outputs.specs.Lists.{list_of, Grows}
 use Rattle.pg_outputs.proofs.ListLaws.{list_of-zero}
 use Rattle.pg_cells.specs.ValuedFamilies.{ValuedFamilies}
-use Rattle.pg_cells.specs.AreValuedFamilies.{AreValuedFamilies}
-use Rattle.pg_cells.specs.Walks.{AddsBlanks}
+use Rattle.pg_cells.specs.Inside.AreValuedFamilies.{AreValuedFamilies}
+use Rattle.pg_cells.specs.Inside.Walks.{AddsBlanks}
 use Rattle.pg_cells.proofs.StringMaps.{order, equal_or_not, find_put_same, find_put_other}
 use Rattle.pg_trie.specs.declared.mark.TheConstants.{HOPELESS}
-use Rattle.pg_trie.specs.IsTrie.{IsTrie, IsListHead}
-use Rattle.pg_trie.specs.Lists.{entered, Rises, DotsUpTo}
+use Rattle.pg_trie.specs.Inside.IsTrie.{IsTrie, IsListHead}
+use Rattle.pg_trie.specs.Inside.Lists.{entered, Rises, DotsUpTo}
 use Rattle.pg_trie.specs.Maps.{Maps, maps_of, as_value, as_mark, entries}
 use Rattle.pg_trie.proofs.Found.{found_in, found_at, find-entries, sorted-entries, same_by_dots, other_place}
 use Rattle.pg_trie.proofs.Rising.{values_rise, marks_rise}

@@ -10,14 +10,14 @@ use Rattle.pg_outputs.specs.declared.records.Record.{Record}
 use Rattle.pg_outputs.specs.Lists.{list_of, OneHeadEach}
 use Rattle.pg_outputs.proofs.ListLaws.{list_of-zero}
 use Rattle.pg_cells.specs.ValuedFamilies.{ValuedFamilies}
-use Rattle.pg_cells.specs.AreValuedFamilies.{AreValuedFamilies}
+use Rattle.pg_cells.specs.Inside.AreValuedFamilies.{AreValuedFamilies}
 use Rattle.pg_cells.proofs.StringMaps.{order}
 use Rattle.pg_trie.specs.declared.mark.TheConstants.{HOPELESS}
-use Rattle.pg_trie.specs.IsTrie.{IsTrie}
-use Rattle.pg_trie.specs.Lists.{rank, Rises, DotsUpTo}
+use Rattle.pg_trie.specs.Inside.IsTrie.{IsTrie}
+use Rattle.pg_trie.specs.Inside.Lists.{rank, Rises, DotsUpTo}
 use Rattle.pg_trie.specs.Maps.{Maps, maps_of, as_value, as_mark}
-use Rattle.pg_trie.specs.Pruned.{kept_by, IsKeep, Prunes}
-use Rattle.pg_trie.specs.Renewed.{values_in, AreFresh, Renews}
+use Rattle.pg_trie.specs.Inside.Pruned.{kept_by, IsKeep, Prunes}
+use Rattle.pg_trie.specs.Inside.Renewed.{values_in, AreFresh, Renews}
 use Rattle.pg_trie.proofs.Found.{found_first, found_in, found_at, find-entries}
 use Rattle.pg_trie.proofs.Rising.{rises_less, as_value_is, as_mark_is}
 use Rattle.pg_trie.proofs.Changes.{sorted_values, sorted_marks}

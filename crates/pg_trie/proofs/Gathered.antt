@@ -14,10 +14,10 @@ use Rattle.pg_outputs.specs.Lists.{list_of}
 use Rattle.pg_cells.specs.ValuedFamilies.{ValuedFamilies}
 use Rattle.pg_cells.proofs.StringMaps.{order, equal_or_not}
 use Rattle.pg_trie.specs.declared.mark.TheConstants.{HOPELESS}
-use Rattle.pg_trie.specs.IsTrie.{IsTrie, IsListHead}
-use Rattle.pg_trie.specs.Lists.{rank, Rises}
+use Rattle.pg_trie.specs.Inside.IsTrie.{IsTrie, IsListHead}
+use Rattle.pg_trie.specs.Inside.Lists.{rank, Rises}
 use Rattle.pg_trie.specs.Maps.{maps_of, entries_of, with_entry, as_value}
-use Rattle.pg_trie.specs.Strings.{AreStrings}
+use Rattle.pg_trie.specs.Inside.Strings.{AreStrings}
 use Rattle.pg_trie.proofs.Found.{found_first, found_in, found_at, find-entries}
 use Rattle.pg_trie.proofs.Rising.{rank_value, as_value_is, no_value}
 use Rattle.pg_trie.proofs.Kept.{are_kept, string_entries}

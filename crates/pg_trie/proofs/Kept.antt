@@ -16,11 +16,11 @@ use Rattle.pg_patterns.proofs.Sound.{entry_told}
 use Rattle.pg_outputs.specs.declared.records.Record.{Record}
 use Rattle.pg_outputs.specs.Lists.{list_of}
 use Rattle.pg_cells.specs.ValuedFamilies.{ValuedFamilies}
-use Rattle.pg_cells.specs.AreValuedFamilies.{AreValuedFamilies}
+use Rattle.pg_cells.specs.Inside.AreValuedFamilies.{AreValuedFamilies}
 use Rattle.pg_cells.proofs.StringMaps.{order, equal_or_not, find_below, head_below, tail_sorted}
 use Rattle.pg_trie.specs.declared.mark.TheConstants.{HOPELESS}
-use Rattle.pg_trie.specs.IsTrie.{IsTrie}
-use Rattle.pg_trie.specs.Lists.{rank, Rises, DotsUpTo}
+use Rattle.pg_trie.specs.Inside.IsTrie.{IsTrie}
+use Rattle.pg_trie.specs.Inside.Lists.{rank, Rises, DotsUpTo}
 use Rattle.pg_trie.specs.Maps.{maps_of, entries_of, entries, with_entry, as_value, as_mark, is_dotted, AreKept}
 use Rattle.pg_trie.proofs.Rising.{as_value_is, as_mark_is}
 use Rattle.pg_trie.proofs.Changes.{sorted_values, sorted_marks}

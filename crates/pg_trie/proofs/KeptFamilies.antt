@@ -9,10 +9,10 @@ use Rattle.std.specs.List.{list_any}
 use Rattle.pg_types.specs.Placement.{Family, Families, family_at, cell_of, without_sign, without_family}
 use Rattle.pg_types.proofs.BoolFacts.{first_half, second_half, is_true, holds}
 use Rattle.pg_cells.specs.ValuedFamilies.{ValuedFamilies}
-use Rattle.pg_cells.specs.AreValuedFamilies.{AreValuedFamilies}
+use Rattle.pg_cells.specs.Inside.AreValuedFamilies.{AreValuedFamilies}
 use Rattle.pg_cells.proofs.StringMaps.{order, equal_or_not, same_maps, find_below, head_below, tail_sorted, find_put_same, find_put_other, find_without_same, find_without_other}
 use Rattle.pg_cells.proofs.StringCells.{parts_cell, parts_none}
-use Rattle.pg_trie.specs.Pruned.{kept_one, kept_by}
+use Rattle.pg_trie.specs.Inside.Pruned.{kept_one, kept_by}
 
 -- a family with those signs, or none
 abbrev pub with_signs : ℕ → List ℕ → Option Family

@@ -9,12 +9,12 @@ use Rattle.std.specs.FinMap.Entries.{find}
 use Rattle.pg_types.specs.Placement.{cell_of}
 use Rattle.pg_types.proofs.BoolFacts.{and_first, and_second}
 use Rattle.pg_cells.specs.ValuedFamilies.{ValuedFamilies}
-use Rattle.pg_cells.specs.AreValuedFamilies.{AreValuedFamilies}
-use Rattle.pg_cells.specs.Members.{IsNext, goes_on}
-use Rattle.pg_cells.specs.Walks.{EndsBefore}
+use Rattle.pg_cells.specs.Inside.AreValuedFamilies.{AreValuedFamilies}
+use Rattle.pg_cells.specs.Inside.Members.{IsNext, goes_on}
+use Rattle.pg_cells.specs.Inside.Walks.{EndsBefore}
 use Rattle.pg_cells.proofs.LinkLaws.{cell_goes}
 use Rattle.pg_cells.proofs.StringMaps.{order}
-use Rattle.pg_trie.specs.Strings.{AreShort, IsString, StandsFrom, PutsBelow, AreStringsTo, AreStrings}
+use Rattle.pg_trie.specs.Inside.Strings.{AreShort, IsString, StandsFrom, PutsBelow, AreStringsTo, AreStrings}
 use Rattle.pg_trie.proofs.Kept.{is_known, string_signs}
 
 -- where a string's front has no cell, it has none

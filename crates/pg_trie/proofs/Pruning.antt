@@ -5,12 +5,12 @@ use Rattle.std.proofs.lemmas.List.{append-nil, length_push, same_from_push}
 use Rattle.std.specs.FinMap.Entries.{find, is_sorted}
 use Rattle.pg_types.specs.Placement.{cell_of, without_sign}
 use Rattle.pg_cells.specs.ValuedFamilies.{ValuedFamilies, without_key}
-use Rattle.pg_cells.specs.AreValuedFamilies.{AreValuedFamilies}
-use Rattle.pg_cells.specs.Members.{IsNextSign, goes_on}
+use Rattle.pg_cells.specs.Inside.AreValuedFamilies.{AreValuedFamilies}
+use Rattle.pg_cells.specs.Inside.Members.{IsNextSign, goes_on}
 use Rattle.pg_cells.proofs.LinkLaws.{goes_cell, cell_goes}
 use Rattle.pg_cells.proofs.Walking.{ends_before}
 use Rattle.pg_cells.proofs.StringMaps.{order, equal_or_not, find_without_same, find_without_other}
-use Rattle.pg_trie.specs.Pruned.{IsDropped, IsNeeded, Drops, IsKeep, PrunesSome, IsBelow, PrunesTo, PrunesBelow, Prunes}
+use Rattle.pg_trie.specs.Inside.Pruned.{IsDropped, IsNeeded, Drops, IsKeep, PrunesSome, IsBelow, PrunesTo, PrunesBelow, Prunes}
 use Rattle.pg_trie.proofs.KeptFamilies.{kept_all, kept_less, kept_same}
 
 -- a string without a cell has no value

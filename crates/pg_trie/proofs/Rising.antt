@@ -2,7 +2,7 @@
 use Rattle.std.proofs.Common.{◌≡◌, ◌≢◌, ℕ, ◌+◌, ◌*◌, ◌<◌, ◌≤◌, Bool, true, false, cond, nat_lt, List, [], ◌∷◌, None, Some, inl, inr, refl, sym, ◌∙◌, ap, subst, arith}
 use Rattle.std.proofs.lemmas.Bool.{ne_eqb, cases_Bool}
 use Rattle.pg_trie.specs.declared.mark.TheConstants.{HOPELESS}
-use Rattle.pg_trie.specs.Lists.{rank, Rises}
+use Rattle.pg_trie.specs.Inside.Lists.{rank, Rises}
 use Rattle.pg_trie.specs.Maps.{as_value, as_mark}
 use Rattle.pg_trie.proofs.Found.{found_first, found_in, picks_rise, PicksRise}
 

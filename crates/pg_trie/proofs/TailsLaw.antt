@@ -18,9 +18,9 @@ use Rattle.pg_outputs.proofs.ListLaws.{list_of-zero, list_of-append, list_of-new
 use Rattle.pg_cells.specs.ValuedFamilies.{ValuedFamilies}
 use Rattle.pg_cells.proofs.StringMaps.{order, equal_or_not, find_below, head_below, tail_sorted}
 use Rattle.pg_trie.specs.declared.mark.TheConstants.{HOPELESS}
-use Rattle.pg_trie.specs.IsTrie.{IsTrie}
+use Rattle.pg_trie.specs.Inside.IsTrie.{IsTrie}
 use Rattle.pg_trie.specs.Maps.{maps_of, entries_of, with_entry, entries, as_value}
-use Rattle.pg_trie.specs.Renewed.{values_in, IsEnd}
+use Rattle.pg_trie.specs.Inside.Renewed.{values_in, IsEnd}
 use Rattle.pg_trie.proofs.Rising.{as_value_is}
 use Rattle.pg_trie.proofs.Listing.{get_there}
 use Rattle.pg_trie.proofs.Renewing.{value_kept, mark_left}

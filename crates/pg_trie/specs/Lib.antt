@@ -1,6 +1,2 @@
-pub mod IsTrie
-pub mod Lists
 pub mod Maps
-pub mod Pruned
-pub mod Renewed
-pub mod Strings
+pub mod Inside

@@ -1,4 +1,5 @@
--- What a pattern trie is seen as: two maps from places, the families of its strings, and the records of its lists.
+-- What a pattern trie is seen as: two maps from places, the families of its strings, and the
+-- records of its lists.
 use Rattle.std.specs.Prelude.{◌≡◌, ℕ, ◌≤◌, nat_lt, nat_le, if◌then◌else◌, Bool, true, ◌&&◌, T, List, [], ◌∷◌, length, Option, None, Some}
 use Rattle.std.specs.List.{flat_map, list_all}
 use Rattle.std.specs.FinMap.Entries.{is_sorted}
@@ -11,7 +12,8 @@ use Rattle.pg_outputs.specs.Lists.{list_of}
 use Rattle.pg_cells.specs.ValuedFamilies.{ValuedFamilies}
 use Rattle.pg_trie.specs.declared.mark.TheConstants.{HOPELESS}
 
--- the greatest sign; the families of the strings; the values and the hopeless marks by their places; and the records of the lists
+-- the greatest sign; the families of the strings; the values and the hopeless marks by their
+-- places; and the records of the lists
 pub record Maps : Type 0 where
   pub signs : ℕ
   pub families : Families
@@ -19,7 +21,8 @@ pub record Maps : Type 0 where
   pub hopeless : List ((List ℕ × ℕ) × Unit {0})
   pub records : List Record
 
--- what an entry of a list adds to the map of values: its value, or nothing where it is the hopeless mark
+-- what an entry of a list adds to the map of values: its value, or nothing where it is the hopeless
+-- mark
 abbrev pub as_value : ℕ → Option ℕ
 as_value v = if nat_lt v HOPELESS then Some v else None
 
@@ -54,9 +57,11 @@ maps_of cells records = record {
 
 -- a place has 1 to 32 signs, each 1 to n, and its dot is at most their number
 abbrev pub is_dotted : ℕ → List ℕ × ℕ → Bool
-is_dotted n k = nat_le 1 (length k.0) && nat_le (length k.0) PATTERN_SIGNS_MAX && list_all (λ s. nat_le 1 s && nat_le s n) k.0 && nat_le k.1 (length k.0)
+is_dotted n k = nat_le 1 (length k.0) && nat_le (length k.0) PATTERN_SIGNS_MAX
+    && list_all (λ s. nat_le 1 s && nat_le s n) k.0 && nat_le k.1 (length k.0)
 
--- what every trie keeps: the values are those of a map of patterns, and each hopeless mark stands once, in order, at a place
+-- what every trie keeps: the values are those of a map of patterns, and each hopeless mark stands
+-- once, in order, at a place
 pub record AreKept (m : Maps) : Type 0 where
   pub signs : m.signs ≤ SIGNS_MAX
   pub patterns : IsPatternMap m.patterns

@@ -4,13 +4,14 @@ ghost use Rattle.std.specs.List.{list_all};
 ghost use Rattle.pg_types.specs.declared.limits.TheConstants.{PATTERN_SIGNS_MAX};
 ghost use Rattle.pg_patterns.specs.Values.{is_entry, map_of_entries};
 ghost use Rattle.pg_outputs.specs.Lists.{list_of};
-ghost use Rattle.pg_trie.specs.IsTrie.{IsTrie};
+ghost use Rattle.pg_trie.specs.Inside.IsTrie.{IsTrie};
 ghost use Rattle.pg_trie.specs.Maps.{maps_of, entries_of, as_value};
-ghost use Rattle.pg_trie.specs.Strings.{AreStrings};
+ghost use Rattle.pg_trie.specs.Inside.Strings.{AreStrings};
 
+use crate::head::Head;
 use crate::mark::{FEW_SIGNS, HOPELESS};
 use crate::strings::{strings, value_of};
-use pg_cells::{Cells, TwoWords};
+use pg_cells::Cells;
 use pg_outputs::Outputs;
 use pg_patterns::DottedSigns;
 use std::alloc::{AllocError, Global};
@@ -40,14 +41,15 @@ fn push_values(
 // The values of the strings, each with its place.
 fn gather(
     alloc: Global,
-    cells: &Cells<TwoWords, FEW_SIGNS>,
+    cells: &Cells<Head, FEW_SIGNS>,
     strings: &[DottedSigns],
     outputs: &Outputs,
 ) -> Result<Vec<(DottedSigns, u8)>, AllocError>
     requires trie { IsTrie cells.now outputs.now }
     requires strings { AreStrings cells.now strings.now }
     ensures sound { IfOk result (λ entries. list_all is_entry entries.items ≡ true) }
-    ensures joined { IfOk result (λ entries. map_of_entries entries.items ≡ (maps_of cells.now outputs.now).patterns) }
+    ensures joined { IfOk result
+        (λ entries. map_of_entries entries.items ≡ (maps_of cells.now outputs.now).patterns) }
 {
     let mut entries = Vec::new(alloc);
     for string in strings {
@@ -60,12 +62,13 @@ fn gather(
 /// The values of all strings, each with its place.
 pub fn entries(
     alloc: Global,
-    cells: &Cells<TwoWords, FEW_SIGNS>,
+    cells: &Cells<Head, FEW_SIGNS>,
     outputs: &Outputs,
 ) -> Result<Vec<(DottedSigns, u8)>, AllocError>
     requires { IsTrie cells.now outputs.now }
     ensures sound { IfOk result (λ entries. list_all is_entry entries.items ≡ true) }
-    ensures joined { IfOk result (λ entries. map_of_entries entries.items ≡ (maps_of cells.now outputs.now).patterns) }
+    ensures joined { IfOk result
+        (λ entries. map_of_entries entries.items ≡ (maps_of cells.now outputs.now).patterns) }
 {
     let strings = strings(alloc, cells)?;
     gather(alloc, cells, &strings, outputs)

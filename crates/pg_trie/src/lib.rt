@@ -1,7 +1,9 @@
-//! The trie of the patterns and hopeless marks, in packed cells whose values are heads of shared lists.
+//! The trie of the patterns and hopeless marks, in packed cells whose values are heads of shared
+//! lists.
 #![tactic(auto)]
 
 mod copy;
+mod head;
 mod mark;
 mod prune;
 mod raise;

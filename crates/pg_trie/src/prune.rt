@@ -2,34 +2,38 @@
 ghost use Rattle.std.specs.Prelude.{◌≡◌, ℕ, ◌+◌, ◌≤◌, Bool, List, [], ◌∷◌, ◌++◌, length, Some};
 ghost use Rattle.pg_types.specs.declared.limits.TheConstants.{PATTERN_SIGNS_MAX, SIGNS_MAX};
 ghost use Rattle.pg_types.specs.Placement.{cell_of};
-ghost use Rattle.pg_cells.specs.AreValuedFamilies.{AreValuedFamilies};
-ghost use Rattle.pg_trie.specs.Pruned.{Drops, IsKeep, Prunes, PrunesBelow};
-ghost use Rattle.pg_trie.specs.Strings.{AreShort};
+ghost use Rattle.pg_cells.specs.Inside.AreValuedFamilies.{AreValuedFamilies};
+ghost use Rattle.pg_trie.specs.Inside.Pruned.{Drops, IsKeep, Prunes, PrunesBelow};
+ghost use Rattle.pg_trie.specs.Inside.Strings.{AreShort};
 
+use crate::head::Head;
 use crate::mark::FEW_SIGNS;
-use pg_cells::{Cells, TwoWords, step};
+use pg_cells::{Cells, step};
 use pg_types::{PATTERN_SIGNS_MAX, Sign};
 
-// Takes the cell of a string of several signs away, where it has no list and no string goes on from it.
-fn remove_blank(cells: &mut Cells<TwoWords, FEW_SIGNS>, parent: usize, cell: usize, s: Sign)
+// Takes the cell of a string of several signs away, where it has no list and no string goes on from
+// it.
+fn remove_blank(cells: &mut Cells<Head, FEW_SIGNS>, parent: usize, cell: usize, s: Sign)
     requires held { AreValuedFamilies cells.old }
     requires cell { (q : List ℕ) × ((cell_of cells.old.families q ≡ Some parent)
         × (cell_of cells.old.families (q ++ s ∷ []) ≡ Some cell)) }
-    ensures { (q : List ℕ) → cell_of cells.old.families q ≡ Some parent → Drops cells.old cells.new (q ++ s ∷ []) }
+    ensures { (q : List ℕ) → cell_of cells.old.families q ≡ Some parent
+        → Drops cells.old cells.new (q ++ s ∷ []) }
 {
     if cells.value(cell).number() == 0 && cells.child(cell) == 0 {
         cells.remove(parent, s);
     }
 }
 
-// Takes the cells of all strings away that go on from the cell's string and have no list, where no string goes on from them that
-// stays. A string below it has at most so many signs more.
-fn prune_below(cells: &mut Cells<TwoWords, FEW_SIGNS>, cell: usize, more: usize)
+// Takes the cells of all strings away that go on from the cell's string and have no list, where no
+// string goes on from them that stays. A string below it has at most so many signs more.
+fn prune_below(cells: &mut Cells<Head, FEW_SIGNS>, cell: usize, more: usize)
     requires held { AreValuedFamilies cells.old }
     requires short { AreShort cells.old }
     requires cell { (q : List ℕ) × ((cell_of cells.old.families q ≡ Some cell)
         × (PATTERN_SIGNS_MAX ≤ length q + more)) }
-    ensures { (q : List ℕ) → cell_of cells.old.families q ≡ Some cell → PrunesBelow cells.old cells.new q }
+    ensures { (q : List ℕ) → cell_of cells.old.families q ≡ Some cell
+        → PrunesBelow cells.old cells.new q }
 {
     let mut s = cells.first_sign(cell);
     while s != 0 {
@@ -43,8 +47,9 @@ fn prune_below(cells: &mut Cells<TwoWords, FEW_SIGNS>, cell: usize, more: usize)
     }
 }
 
-/// Takes the cells of all strings away that have several signs and no list, where no string goes on from them that stays.
-pub fn prune(cells: &mut Cells<TwoWords, FEW_SIGNS>)
+/// Takes the cells of all strings away that have several signs and no list, where no string goes on
+/// from them that stays.
+pub fn prune(cells: &mut Cells<Head, FEW_SIGNS>)
     requires held { AreValuedFamilies cells.old }
     requires short { AreShort cells.old }
     requires signs { cells.old.signs ≤ SIGNS_MAX }

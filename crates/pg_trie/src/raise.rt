@@ -1,13 +1,15 @@
 //! The list of a string with one value or mark more.
 ghost use Rattle.std.specs.Prelude.{◌≡◌, ◌<◌, ◌≤◌, ◌↔◌, length, IfOk, IsTrue};
 ghost use Rattle.pg_outputs.specs.Lists.{list_of, Grows, OneHeadEach};
-ghost use Rattle.pg_trie.specs.Lists.{rank, entered};
+ghost use Rattle.pg_trie.specs.Inside.Lists.{rank, entered};
 
+use crate::head::{Head, in_four_bytes};
 use crate::mark::HOPELESS;
 use pg_outputs::Outputs;
 use std::alloc::AllocError;
 
-// Whether a value at a dot stands before another: by the dot, and at one dot a value before the mark.
+// Whether a value at a dot stands before another: by the dot, and at one dot a value before the
+// mark.
 fn stands_before(value: u8, dot: u8, other: u8, other_dot: u8) -> bool
     ensures { IsTrue result ↔ (rank (value, dot) < rank (other, other_dot)) }
 {
@@ -21,10 +23,11 @@ fn stands_beside(value: u8, dot: u8, other: u8, other_dot: u8) -> bool
     dot == other_dot && (value < HOPELESS) == (other < HOPELESS)
 }
 
-/// The head of the list with `value` at `dot`. Where it has a value there, the greater one counts.
-pub fn raised(outputs: &mut Outputs, head: u64, value: u8, dot: u8) -> Result<u64, AllocError>
+// The head of the list with `value` at `dot`. Where it has a value there, the greater one counts.
+fn raised(outputs: &mut Outputs, head: u64, value: u8, dot: u8) -> Result<u64, AllocError>
     requires { head ≤ length outputs.old }
-    ensures list { IfOk result (λ h. list_of outputs.new h ≡ entered (value, dot) (list_of outputs.old head)) }
+    ensures list { IfOk result
+        (λ h. list_of outputs.new h ≡ entered (value, dot) (list_of outputs.old head)) }
     ensures inside { IfOk result (λ h. h ≤ length outputs.new) }
     ensures grows { Grows outputs.old outputs.new }
 {
@@ -39,4 +42,18 @@ pub fn raised(outputs: &mut Outputs, head: u64, value: u8, dot: u8) -> Result<u6
     }
     let rest = raised(outputs, next, value, dot)?;
     outputs.cons(first, at, rest)
+}
+
+/// The head of the list with `value` at `dot`, for a cell. Where it has a value there, the greater
+/// one counts.
+pub fn raised_head(outputs: &mut Outputs, head: u64, value: u8, dot: u8) -> Result<Head, AllocError>
+    requires { head ≤ length outputs.old }
+    ensures list { IfOk result
+        (λ h. list_of outputs.new h ≡ entered (value, dot) (list_of outputs.old head)) }
+    ensures inside { IfOk result (λ h. h ≤ length outputs.new) }
+    ensures grows { Grows outputs.old outputs.new }
+{
+    let longer = raised(outputs, head, value, dot)?;
+    let number = in_four_bytes(longer)?;
+    Ok(Head::new(number))
 }

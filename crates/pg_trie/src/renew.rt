@@ -4,12 +4,13 @@ ghost use Rattle.std.specs.FinMap.{find};
 ghost use Rattle.std.specs.Cmp.Lexicographic.{slice_cmp};
 ghost use Rattle.std.specs.Ordering.{nat_cmp};
 ghost use Rattle.pg_outputs.specs.Lists.{list_of, Grows};
-ghost use Rattle.pg_cells.specs.AreValuedFamilies.{AreValuedFamilies};
-ghost use Rattle.pg_trie.specs.IsTrie.{IsTrie};
-ghost use Rattle.pg_trie.specs.Renewed.{values_in, AreNeeded, AreFreshTo, AreFresh, Renews};
+ghost use Rattle.pg_cells.specs.Inside.AreValuedFamilies.{AreValuedFamilies};
+ghost use Rattle.pg_trie.specs.Inside.IsTrie.{IsTrie};
+ghost use Rattle.pg_trie.specs.Inside.Renewed.{values_in, AreNeeded, AreFreshTo, AreFresh, Renews};
 
+use crate::head::{Head, in_four_bytes};
 use crate::mark::{FEW_SIGNS, HOPELESS};
-use pg_cells::{Cells, TwoWords};
+use pg_cells::Cells;
 use pg_outputs::Outputs;
 use std::alloc::{AllocError, Global};
 
@@ -19,7 +20,8 @@ fn fresh_head(outputs: &Outputs, head: u64, fresh: &mut Outputs) -> Result<u64, 
     ensures list { IfOk result (λ h. list_of fresh.new h ≡ values_in (list_of outputs.now head)) }
     ensures inside { IfOk result (λ h. h ≤ length fresh.new) }
     ensures grows { Grows fresh.old fresh.new }
-    ensures needed { OnOk result (AreNeeded fresh.old fresh.new (values_in (list_of outputs.now head))) }
+    ensures needed { OnOk result
+        (AreNeeded fresh.old fresh.new (values_in (list_of outputs.now head))) }
 {
     let Some((value, dot, next)) = outputs.first(head) else {
         return Ok(0);
@@ -33,7 +35,7 @@ fn fresh_head(outputs: &Outputs, head: u64, fresh: &mut Outputs) -> Result<u64, 
 }
 
 // The heads of the empty list, one more than so many.
-fn no_heads(alloc: Global, count: u64) -> Result<Vec<u64>, AllocError>
+fn no_heads(alloc: Global, count: u64) -> Result<Vec<u32>, AllocError>
     ensures { IfOk result (λ heads. length heads.items ≡ count + 1) }
 {
     let mut heads = Vec::new(alloc);
@@ -45,11 +47,11 @@ fn no_heads(alloc: Global, count: u64) -> Result<Vec<u64>, AllocError>
 
 // The new head of the string with the cell, beside its old one.
 fn renew_cell(
-    cells: &Cells<TwoWords, FEW_SIGNS>,
+    cells: &Cells<Head, FEW_SIGNS>,
     cell: usize,
     outputs: &Outputs,
     fresh: &mut Outputs,
-    heads: &mut [u64],
+    heads: &mut [u32],
 ) -> Result<(), AllocError>
     requires trie { IsTrie cells.now outputs.now }
     requires heads { AreFreshTo cells.now outputs.now cell fresh.old heads.old }
@@ -59,18 +61,20 @@ fn renew_cell(
         return Ok(());
     };
     let old_head = head.number();
-    let new_head = fresh_head(outputs, old_head, fresh)?;
+    let number = fresh_head(outputs, old_head, fresh)?;
+    let new_head = in_four_bytes(number)?;
     heads[old_head as usize] = new_head;
     Ok(())
 }
 
-/// The new heads of the strings' values by their old heads, among new records. There is no record but those of their ends.
+/// The new heads of the strings' values by their old heads, among new records. There is no record
+/// but those of their ends.
 pub fn fresh_heads(
     alloc: Global,
-    cells: &Cells<TwoWords, FEW_SIGNS>,
+    cells: &Cells<Head, FEW_SIGNS>,
     outputs: &Outputs,
     fresh: &mut Outputs,
-) -> Result<Vec<u64>, AllocError>
+) -> Result<Vec<u32>, AllocError>
     requires trie { IsTrie cells.now outputs.now }
     requires empty { length fresh.old ≡ 0 }
     ensures { IfOk result (λ heads. AreFresh cells.now outputs.now fresh.new heads.items) }
@@ -84,7 +88,7 @@ pub fn fresh_heads(
 }
 
 /// Gives each string its new head.
-pub fn renew(cells: &mut Cells<TwoWords, FEW_SIGNS>, heads: &[u64])
+pub fn renew(cells: &mut Cells<Head, FEW_SIGNS>, heads: &[u32])
     requires held { AreValuedFamilies cells.old }
     requires heads { (q : List ℕ) (u : ℕ) → find (slice_cmp nat_cmp) q cells.old.values ≡ Some u →
         u < length heads.now }
@@ -93,7 +97,7 @@ pub fn renew(cells: &mut Cells<TwoWords, FEW_SIGNS>, heads: &[u64])
     let top = cells.top();
     for cell in 0..top + 1 {
         if let Some(head) = cells.value_if_taken(cell) {
-            cells.set_value(cell, TwoWords::new(heads[head.number() as usize]));
+            cells.set_value(cell, Head::new(heads[head.number() as usize]));
         }
     }
 }

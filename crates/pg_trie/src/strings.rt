@@ -5,18 +5,19 @@ ghost use Rattle.std.specs.Cmp.Lexicographic.{slice_cmp};
 ghost use Rattle.std.specs.Ordering.{nat_cmp};
 ghost use Rattle.pg_types.specs.declared.limits.TheConstants.{PATTERN_SIGNS_MAX, SIGNS_MAX};
 ghost use Rattle.pg_types.specs.Placement.{cell_of, base_of};
-ghost use Rattle.pg_cells.specs.AreValuedFamilies.{AreValuedFamilies};
-ghost use Rattle.pg_cells.specs.Members.{IsNextSign};
-ghost use Rattle.pg_trie.specs.Strings.{AreShort, IsString, PutsBelow, AreStringsTo, AreStrings};
+ghost use Rattle.pg_cells.specs.Inside.AreValuedFamilies.{AreValuedFamilies};
+ghost use Rattle.pg_cells.specs.Inside.Members.{IsNextSign};
+ghost use Rattle.pg_trie.specs.Inside.Strings.{AreShort, IsString, PutsBelow, AreStringsTo, AreStrings};
 
+use crate::head::Head;
 use crate::mark::FEW_SIGNS;
-use pg_cells::{Cells, TwoWords, step};
+use pg_cells::{Cells, step};
 use pg_patterns::DottedSigns;
 use pg_types::{EDGE, PATTERN_SIGNS_MAX, Sign};
 use std::alloc::{AllocError, Global};
 
 /// The cell of a string, or `None` where it has none.
-pub fn find_cell(cells: &Cells<TwoWords, FEW_SIGNS>, signs: &[Sign]) -> Option<usize>
+pub fn find_cell(cells: &Cells<Head, FEW_SIGNS>, signs: &[Sign]) -> Option<usize>
     requires { All (λ s. (1 ≤ s) × (s ≤ cells.now.signs)) signs.now }
     ensures { result ≡ cell_of cells.now.families signs.now }
 {
@@ -29,7 +30,7 @@ pub fn find_cell(cells: &Cells<TwoWords, FEW_SIGNS>, signs: &[Sign]) -> Option<u
 }
 
 /// The value of a string that has a cell.
-pub fn value_of(cells: &Cells<TwoWords, FEW_SIGNS>, signs: &[Sign]) -> u64
+pub fn value_of(cells: &Cells<Head, FEW_SIGNS>, signs: &[Sign]) -> u64
     requires { All (λ s. (1 ≤ s) × (s ≤ cells.now.signs)) signs.now }
     ensures { (v : ℕ) → find (slice_cmp nat_cmp) signs.now cells.now.values ≡ Some v → result ≡ v }
 {
@@ -51,9 +52,10 @@ fn longer(prefix: &[Sign], s: Sign) -> DottedSigns
     DottedSigns::new(&signs[..prefix.len() + 1], 0)
 }
 
-// Puts the strings of the family with the base and the first sign behind the others. It goes along the signs of the family.
+// Puts the strings of the family with the base and the first sign behind the others. It goes along
+// the signs of the family.
 fn push_family(
-    cells: &Cells<TwoWords, FEW_SIGNS>,
+    cells: &Cells<Head, FEW_SIGNS>,
     prefix: &[Sign],
     base: usize,
     first: Sign,
@@ -63,7 +65,8 @@ fn push_family(
     requires first { IsNextSign cells.now.values prefix.now 0 first }
     requires short { AreShort cells.now }
     requires held { AreValuedFamilies cells.now }
-    ensures { OnOk result (PutsBelow cells.now prefix.now (cells.now.signs + 1) strings.old.items strings.new.items) }
+    ensures { OnOk result
+        (PutsBelow cells.now prefix.now (cells.now.signs + 1) strings.old.items strings.new.items) }
 {
     let mut s = first;
     while s != 0 {
@@ -78,12 +81,13 @@ fn push_family(
 
 // Puts the strings with one sign more than that with the number `i` behind the others.
 fn push_below(
-    cells: &Cells<TwoWords, FEW_SIGNS>,
+    cells: &Cells<Head, FEW_SIGNS>,
     strings: &mut Vec<DottedSigns>,
     i: usize,
 ) -> Result<(), AllocError>
     requires inside { i < length strings.old.items }
-    requires sound { (k : List ℕ × ℕ) → slice_get strings.old.items i ≡ Some k → IsString cells.now k.0 }
+    requires sound { (k : List ℕ × ℕ) → slice_get strings.old.items i ≡ Some k
+        → IsString cells.now k.0 }
     requires short { AreShort cells.now }
     requires signs { cells.now.signs ≤ SIGNS_MAX }
     ensures { OnOk result ((k : List ℕ × ℕ) → slice_get strings.old.items i ≡ Some k →
@@ -103,7 +107,7 @@ fn push_below(
 /// The strings that have a cell, each before those with one sign more.
 pub fn strings(
     alloc: Global,
-    cells: &Cells<TwoWords, FEW_SIGNS>,
+    cells: &Cells<Head, FEW_SIGNS>,
 ) -> Result<Vec<DottedSigns>, AllocError>
     requires short { AreShort cells.now }
     requires signs { cells.now.signs ≤ SIGNS_MAX }

@@ -7,17 +7,18 @@ ghost use Rattle.pg_types.specs.Tails.{tails};
 ghost use Rattle.pg_patterns.specs.DottedSigns.{dotted_cmp};
 ghost use Rattle.pg_patterns.specs.Values.{raise};
 ghost use Rattle.pg_outputs.specs.Lists.{list_of, Grows};
-ghost use Rattle.pg_cells.specs.Walks.{IsAt};
+ghost use Rattle.pg_cells.specs.Inside.Walks.{IsAt};
 ghost use Rattle.pg_trie.specs.declared.mark.TheConstants.{HOPELESS};
-ghost use Rattle.pg_trie.specs.Lists.{outputs_at};
+ghost use Rattle.pg_trie.specs.Inside.Lists.{outputs_at};
 ghost use Rattle.pg_trie.specs.Maps.{AreKept};
 
 use crate::copy::entries;
+use crate::head::Head;
 use crate::mark::FEW_SIGNS;
 use crate::prune::prune;
-use crate::raise::raised;
+use crate::raise::raised_head;
 use crate::renew::{fresh_heads, renew};
-use pg_cells::{Cells, TwoWords};
+use pg_cells::Cells;
 use pg_outputs::Outputs;
 use pg_patterns::PatternSet;
 use pg_types::{Layout, Sign};
@@ -26,18 +27,19 @@ use std::marker::Model;
 
 /// Two maps from places: the values of the patterns, and the hopeless marks.
 ///
-/// Each string has a cell, whose value is the head of the string's list: its values and marks by rising dot, a value before
-/// the mark [`HOPELESS`](crate::HOPELESS) of its dot. Equal ends of lists share their records.
+/// Each string has a cell, whose value is the head of the string's list: its values and marks by
+/// rising dot, a value before the mark [`HOPELESS`](crate::HOPELESS) of its dot. Equal ends of
+/// lists share their records.
 #[derive(Drop)]
 pub struct PatternTrie {
     alloc: Global,
-    cells: Cells<TwoWords, FEW_SIGNS>,
+    cells: Cells<Head, FEW_SIGNS>,
     outputs: Outputs,
 }
 
 impl Model for PatternTrie {
     ghost use Rattle.pg_trie.specs.Maps.{Maps, maps_of};
-    ghost use Rattle.pg_trie.specs.IsTrie.{IsTrie};
+    ghost use Rattle.pg_trie.specs.Inside.IsTrie.{IsTrie};
 
     ghost Value = { Maps };
 
@@ -60,14 +62,16 @@ impl PatternTrie {
     {
         Ok(PatternTrie {
             alloc,
-            cells: Cells::new(alloc, signs, TwoWords::new(0))?,
+            cells: Cells::new(alloc, signs, Head::none())?,
             outputs: Outputs::new(alloc),
         })
     }
 
-    /// Raises the value at the dot of a string, or marks it hopeless for the value [`HOPELESS`](crate::HOPELESS).
+    /// Raises the value at the dot of a string, or marks it hopeless for the value
+    /// [`HOPELESS`](crate::HOPELESS).
     ///
-    /// Refused: the maps are as before; some of the string's signs may have cells, and there may be further records.
+    /// Refused: the maps are as before; some of the string's signs may have cells, and there may be
+    /// further records.
     pub fn enter(&mut self, signs: &[Sign], dot: u8, value: u8) -> Result<(), AllocError>
         requires some { 0 < length signs.now }
         requires few { length signs.now ≤ PATTERN_SIGNS_MAX }
@@ -95,20 +99,23 @@ impl PatternTrie {
         ensures grows { Grows self.old.records self.new.records }
         ensures signs { self.new.signs ≡ self.old.signs }
     {
-        let cell = pg_cells::enter(&mut self.cells, signs, TwoWords::new(0))?;
+        let cell = pg_cells::enter(&mut self.cells, signs, Head::none())?;
         let old = self.cells.value(cell).number();
-        let head = raised(&mut self.outputs, old, value, dot)?;
-        self.cells.set_value(cell, TwoWords::new(head));
+        let head = raised_head(&mut self.outputs, old, value, dot)?;
+        self.cells.set_value(cell, head);
         Ok(())
     }
 
-    /// Goes from a cell, or from the start for `None`, to the cell of the string with the sign added. `None` tells that no
-    /// string has a cell there; then no string that begins with this one has a value or a mark. It takes no memory.
+    /// Goes from a cell, or from the start for `None`, to the cell of the string with the sign
+    /// added. `None` tells that no string has a cell there; then no string that begins with this
+    /// one has a value or a mark. It takes no memory.
     pub fn step(&self, at: Option<usize>, s: Sign) -> Option<usize>
         requires at { (q : List ℕ) × (IsAt self.now.families at q) }
         requires sign { (1 ≤ s) × (s ≤ self.now.signs) }
-        ensures cell { (q : List ℕ) → IsAt self.now.families at q → result ≡ cell_of self.now.families (q ++ s ∷ []) }
-        ensures none { (q : List ℕ) → IsAt self.now.families at q → result ≡ None → (more : List ℕ) →
+        ensures cell { (q : List ℕ) → IsAt self.now.families at q
+            → result ≡ cell_of self.now.families (q ++ s ∷ []) }
+        ensures none { (q : List ℕ) → IsAt self.now.families at q
+            → result ≡ None → (more : List ℕ) →
             outputs_at self.now.patterns self.now.hopeless ((q ++ s ∷ []) ++ more) ≡ [] }
     {
         pg_cells::step(&self.cells, at, s)
@@ -132,8 +139,9 @@ impl PatternTrie {
         &self.outputs
     }
 
-    /// Deletes the hopeless marks: a string of several signs that is no prefix of a pattern's loses its cell, and there is no
-    /// record that the values do not need. It takes its memory before it changes anything.
+    /// Deletes the hopeless marks: a string of several signs that is no prefix of a pattern's loses
+    /// its cell, and there is no record that the values do not need. It takes its memory before it
+    /// changes anything.
     pub fn delete_hopeless(&mut self) -> Result<(), AllocError>
         ensures ok { OnOk result (self.new
             ≡ record self.old {
@@ -162,9 +170,9 @@ impl PatternTrie {
         Ok(PatternSet::from_entries(entries))
     }
 
-    /// How many cells are taken, the greatest of them, and as tails how many records the lists have. Entering may leave records
-    /// that no list uses, so the tails are those of the patterns right after [`PatternTrie::delete_hopeless`]. It takes no
-    /// memory.
+    /// How many cells are taken, the greatest of them, and as tails how many records the lists
+    /// have. Entering may leave records that no list uses, so the tails are those of the patterns
+    /// right after [`PatternTrie::delete_hopeless`]. It takes no memory.
     pub fn layout(&self) -> Layout
         ensures { result ≡ record {
           taken = taken self.now.families;

@@ -1,6 +1,6 @@
 use Rattle.std.proofs.Common.{◌≢◌, ◌<◌, ◌≤◌, inl, inr, sym, ◌∙◌, subst, arith}
 use Rattle.std.proofs.lemmas.Bool.{cases_eq}
-use Rattle.pg_cells.specs.Lists.{lists, row_of, sign_at, after_at, IsFree}
+use Rattle.pg_cells.specs.Inside.Lists.{lists, row_of, sign_at, after_at, IsFree}
 use Rattle.pg_cells.proofs.LinkedLists.{not_free}
 use Rattle.pg_cells.proofs.FreeWalks.{last_free}
 use Rattle.pg_cells.proofs.chain.free_below.Goals as goal

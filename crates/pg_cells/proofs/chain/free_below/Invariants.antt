@@ -1,5 +1,5 @@
 use Rattle.std.proofs.Common.{◌≡◌, ℕ, ◌<◌, ◌≤◌}
-use Rattle.pg_cells.specs.Lists.{lists, IsFree, after_at}
+use Rattle.pg_cells.specs.Inside.Lists.{lists, IsFree, after_at}
 use Rattle.pg_cells.proofs.chain.free_below.Given as goal
 
 abbrev pub invariant-loop-free : goal.invariant-loop-free

@@ -1,6 +1,6 @@
 use Rattle.std.proofs.Common.{length, ◌<◌}
 use Rattle.std.proofs.lemmas.List.{length-map}
-use Rattle.pg_cells.specs.Lists.{lists}
+use Rattle.pg_cells.specs.Inside.Lists.{lists}
 use Rattle.pg_cells.proofs.LinkedLists.{linked_freed, after_freeing, lists_even}
 use Rattle.pg_cells.proofs.chain.put_after.Goals as goal
 

@@ -1,7 +1,7 @@
 use Rattle.std.proofs.Common.{◌≡◌, [], ◌∷◌, ◌++◌, Some, None, inl, inr, sym, ◌∙◌}
 use Rattle.std.proofs.lemmas.Bool.{both_ways}
 use Rattle.pg_types.specs.Placement.{cell_of}
-use Rattle.pg_cells.specs.Members.{goes_on}
+use Rattle.pg_cells.specs.Inside.Members.{goes_on}
 use Rattle.pg_cells.proofs.LinkLaws.{some_base, none_goes_on, goes_cell}
 use Rattle.pg_cells.proofs.links.link.Goals as goal
 

@@ -1,4 +1,4 @@
-use Rattle.pg_cells.specs.Members.{goes_on, has_sign}
+use Rattle.pg_cells.specs.Inside.Members.{goes_on, has_sign}
 use Rattle.pg_cells.proofs.GivenMembers.{passing_alike}
 use Rattle.pg_cells.proofs.LinkLaws.{goes_has}
 use Rattle.pg_cells.proofs.links.list_moving.Goals as goal

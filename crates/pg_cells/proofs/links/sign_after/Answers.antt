@@ -1,7 +1,7 @@
 use Rattle.std.proofs.Common.{◌≡◌, ◌++◌, [], ◌∷◌, Some, inl, inr, sym, subst}
 use Rattle.std.proofs.lemmas.Bool.{both_ways}
 use Rattle.pg_types.specs.Placement.{cell_of}
-use Rattle.pg_cells.specs.Members.{goes_on, IsNextSign}
+use Rattle.pg_cells.specs.Inside.Members.{goes_on, IsNextSign}
 use Rattle.pg_cells.proofs.LinkLaws.{some_string, some_base, none_goes_on}
 use Rattle.pg_cells.proofs.links.sign_after.Goals as goal
 

@@ -1,6 +1,6 @@
 use Rattle.std.proofs.Common.{inl, inr, ap, sym, ◌∙◌, arith}
 use Rattle.std.proofs.lemmas.Bool.{cases_eq}
-use Rattle.pg_cells.specs.Members.{goes_on}
+use Rattle.pg_cells.specs.Inside.Members.{goes_on}
 use Rattle.pg_cells.proofs.links.sign_down.Goals as goal
 
 pub down-preserved : goal.down-preserved

@@ -1,7 +1,7 @@
 use Rattle.std.proofs.Common.{◌≡◌, ◌+◌, nat_eq, []}
-use Rattle.pg_cells.specs.Lists.{sign_at}
-use Rattle.pg_cells.specs.Members.{ArePassing, number_before}
-use Rattle.pg_cells.specs.Moves.{Collected}
+use Rattle.pg_cells.specs.Inside.Lists.{sign_at}
+use Rattle.pg_cells.specs.Inside.Members.{ArePassing, number_before}
+use Rattle.pg_cells.specs.Inside.Moves.{Collected}
 use Rattle.pg_cells.proofs.moves.collect.Given as goal
 
 abbrev pub invariant-loop-sign : goal.invariant-loop-sign

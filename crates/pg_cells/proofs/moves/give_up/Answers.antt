@@ -1,5 +1,5 @@
 use Rattle.std.proofs.Common.{◌+◌, take, sym, subst, ◌∙◌, arith}
-use Rattle.pg_cells.specs.Moves.{GivesUp}
+use Rattle.pg_cells.specs.Inside.Moves.{GivesUp}
 use Rattle.pg_cells.proofs.Slots.{slot_here, outside_here}
 use Rattle.pg_cells.proofs.MoveSteps.{gives_more}
 use Rattle.pg_cells.proofs.moves.give_up.Goals as goal

@@ -1,5 +1,5 @@
 use Rattle.std.proofs.Common.{◌+◌, take, sym, subst, arith}
-use Rattle.pg_cells.specs.Moves.{Puts}
+use Rattle.pg_cells.specs.Inside.Moves.{Puts}
 use Rattle.pg_cells.proofs.LinkedLists.{free_kept}
 use Rattle.pg_cells.proofs.Slots.{slot_here, outside_here}
 use Rattle.pg_cells.proofs.MoveSteps.{puts_more}

@@ -1,8 +1,11 @@
 use Rattle.std.proofs.Common.{◌≤◌, subst, arith}
-use Rattle.pg_cells.specs.Moves.{Puts}
+use Rattle.pg_cells.specs.Inside.Moves.{Puts}
 use Rattle.pg_cells.proofs.BlockedLaws.{blocked_fits, blocked_after}
 use Rattle.pg_cells.proofs.PlacedRoom.{room_within, room_fits, can_put, can_take, parent_stays}
 use Rattle.pg_cells.proofs.place.place_family.Goals as goal
+
+pub give_up-requires-clause-taken : goal.give_up-requires-clause-taken
+give_up-requires-clause-taken g c x slot at = let stands = c.requires.can.stand x slot at in (stands.0, stands.2)
 
 pub least_base-base-requires-clause-within : goal.least_base-base-requires-clause-within
 least_base-base-requires-clause-within g c =

@@ -1,5 +1,5 @@
 use Rattle.std.proofs.Common.{◌≡◌, ◌≢◌, [], inl, inr, refl, subst, MatchBool}
-use Rattle.pg_cells.specs.Layouts.{standing}
+use Rattle.pg_cells.specs.Inside.Layouts.{standing}
 use Rattle.pg_cells.proofs.prune.drop_family.Goals as goal
 
 pub returns-then-is_empty : goal.returns-then-is_empty

@@ -1,5 +1,5 @@
 use Rattle.std.proofs.Common.{◌≡◌, ℕ, ◌<◌, ◌≤◌, false, length}
-use Rattle.pg_cells.specs.Lists.{sign_at, base_at}
+use Rattle.pg_cells.specs.Inside.Lists.{sign_at, base_at}
 use Rattle.pg_cells.proofs.root.clear.Given as goal
 
 abbrev pub invariant-loop-cell : goal.invariant-loop-cell

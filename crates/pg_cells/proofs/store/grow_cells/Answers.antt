@@ -1,5 +1,5 @@
 use Rattle.std.proofs.Common.{arith}
-use Rattle.pg_cells.specs.Lists.{row_of}
+use Rattle.pg_cells.specs.Inside.Lists.{row_of}
 use Rattle.pg_cells.proofs.StoreSteps.{extended_once, longer_once}
 use Rattle.pg_cells.proofs.store.grow_cells.Goals as goal
 

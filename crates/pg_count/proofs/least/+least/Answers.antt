@@ -1,8 +1,8 @@
 use Rattle.std.proofs.Common.{◌≡◌, ◌≢◌, ℕ, ◌-◌, ◌<◌, List, [], ◌∷◌, ◌++◌, Some, None, length, take, drop, sym, subst, ◌∙◌, arith, length-take, length-drop}
 use Rattle.pg_types.specs.Placement.{base_of, cell_of}
-use Rattle.pg_cells.specs.Members.{IsNextSign}
+use Rattle.pg_cells.specs.Inside.Members.{IsNextSign}
 use Rattle.pg_cells.proofs.LinkLaws.{goes_cell}
-use Rattle.pg_count.specs.Least.{NoneAbove, LeastAt, LeastAbove}
+use Rattle.pg_count.specs.Inside.Least.{NoneAbove, LeastAt, LeastAbove}
 use Rattle.pg_count.proofs.Chaining.{none_from, none_next}
 use Rattle.pg_count.proofs.Searching.{none_childless, none_behind, least_behind, base_there, path_is}
 use Rattle.pg_count.proofs.least.+least.Goals as goal

@@ -1,8 +1,8 @@
 use Rattle.std.proofs.Common.{◌≡◌, ℕ, ◌+◌, ◌-◌, ◌*◌, ◌<◌, ◌≤◌, ◌⊎◌, cond, nat_eq, true, List, Some, length}
 use Rattle.pg_types.specs.Placement.{base_of}
-use Rattle.pg_cells.specs.Members.{goes_on}
-use Rattle.pg_count.specs.Bounds.{first_sign}
-use Rattle.pg_count.specs.Least.{NoneAt}
+use Rattle.pg_cells.specs.Inside.Members.{goes_on}
+use Rattle.pg_count.specs.Inside.Bounds.{first_sign}
+use Rattle.pg_count.specs.Inside.Least.{NoneAt}
 use Rattle.pg_count.proofs.least.+least.Given as goal
 
 abbrev pub decreases-least : goal.decreases-least

@@ -1,5 +1,5 @@
 use Rattle.std.proofs.Common.{[], ◌∷◌, ◌++◌, sym, ◌∙◌, subst}
-use Rattle.pg_count.specs.Least.{LeastAt}
+use Rattle.pg_count.specs.Inside.Least.{LeastAt}
 use Rattle.pg_count.proofs.Searching.{none_passes, least_last, one_is}
 use Rattle.pg_count.proofs.least.last_at.Goals as goal
 

@@ -1,9 +1,9 @@
 use Rattle.std.proofs.Common.{◌≡◌, ℕ, ◌+◌, ◌<◌, List, [], ◌∷◌, ◌++◌, length, get_or, take, drop, unwrap_or, Option, None, refl, sym, ap, ◌∙◌}
 use Rattle.std.specs.FinMap.Entries.{find}
 use Rattle.std.proofs.lemmas.List.{take_more, take-append-drop}
-use Rattle.pg_cells.specs.Walks.{EndsBefore}
+use Rattle.pg_cells.specs.Inside.Walks.{EndsBefore}
 use Rattle.pg_cells.proofs.StringMaps.{order}
-use Rattle.pg_count.specs.Counting.{Tally, Tallies, tally_in, sums_seen}
+use Rattle.pg_count.specs.Inside.Counting.{Tally, Tallies, tally_in, sums_seen}
 use Rattle.std.specs.Option.{option_map}
 use Rattle.pg_count.proofs.sums.sums_in.Goals as goal
 

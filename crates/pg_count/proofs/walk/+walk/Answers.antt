@@ -1,10 +1,10 @@
 use Rattle.std.proofs.Common.{◌≡◌, ◌≢◌, ℕ, ◌<◌, List, [], ◌∷◌, ◌++◌, Some, ap, sym, subst, ◌∙◌, arith, length-append}
 use Rattle.std.proofs.lemmas.List.{append_assoc, append-nil}
 use Rattle.pg_types.specs.Placement.{base_of}
-use Rattle.pg_cells.specs.Members.{IsNextSign}
+use Rattle.pg_cells.specs.Inside.Members.{IsNextSign}
 use Rattle.pg_cells.proofs.LinkLaws.{goes_cell}
-use Rattle.pg_count.specs.Counting.{numbers_in}
-use Rattle.pg_count.specs.Under.{is_passed, numbers_where, numbers_under}
+use Rattle.pg_count.specs.Inside.Counting.{numbers_in}
+use Rattle.pg_count.specs.Inside.Under.{is_passed, numbers_where, numbers_under}
 use Rattle.pg_count.proofs.Walking.{passed_first, passed_next, passed_end, under_none}
 use Rattle.pg_count.proofs.walk.+walk.Goals as goal
 

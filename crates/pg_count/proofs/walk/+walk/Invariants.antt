@@ -1,8 +1,8 @@
 use Rattle.std.proofs.Common.{◌≡◌, ℕ, ◌+◌, ◌-◌, ◌*◌, ◌<◌, cond, nat_eq, true, List, ◌++◌, Some, length}
 use Rattle.pg_types.specs.Placement.{base_of}
-use Rattle.pg_cells.specs.Members.{goes_on}
-use Rattle.pg_count.specs.Counting.{numbers_in}
-use Rattle.pg_count.specs.Under.{AreLong, is_passed, numbers_where}
+use Rattle.pg_cells.specs.Inside.Members.{goes_on}
+use Rattle.pg_count.specs.Inside.Counting.{numbers_in}
+use Rattle.pg_count.specs.Inside.Under.{AreLong, is_passed, numbers_where}
 use Rattle.pg_count.proofs.walk.+walk.Given as goal
 
 abbrev pub decreases-walk : goal.decreases-walk

@@ -1,4 +1,4 @@
-use Rattle.pg_trie.specs.Renewed.{RenewsTo}
+use Rattle.pg_trie.specs.Inside.Renewed.{RenewsTo}
 use Rattle.pg_trie.proofs.renew.renew.Given as goal
 
 abbrev pub invariant-loop-cell : goal.invariant-loop-cell

@@ -1,6 +1,6 @@
 use Rattle.std.proofs.Common.{ap, set, ◌∙◌, subst, arith}
 use Rattle.pg_outputs.specs.Lists.{list_of}
-use Rattle.pg_trie.specs.Renewed.{values_in, AreNeeded}
+use Rattle.pg_trie.specs.Inside.Renewed.{values_in, AreNeeded}
 use Rattle.pg_trie.proofs.Renewing.{fresh_step}
 use Rattle.pg_trie.proofs.renew.renew_cell.Goals as goal
 
@@ -25,9 +25,9 @@ offset_bounds-heads-old_head c =
 pub returns : goal.returns
 returns c =
     let s = c.in-Some.ensures.some in
-    fresh_step c.args.cells.now c.args.outputs.now c.requires.trie.held c.args.cell c.args.fresh.now c.fresh_head.new.fresh c.args.heads.now _ s.0 c.in-Some.head c.in_ok-new_head.new_head
-    c.requires.heads s.1 s.2 (c.requires.trie.heads s.0 c.in-Some.head s.2).inside c.in_ok-new_head.ensures.grows
-    c.in_ok-new_head.ensures.inside
-    (c.in_ok-new_head.ensures.list ∙ ap (λ h. values_in (list_of c.args.outputs.now h)) c.number-old_head.ensures)
-    (subst (λ h. AreNeeded c.args.fresh.now c.fresh_head.new.fresh (values_in (list_of c.args.outputs.now h))) c.number-old_head.ensures c.in_ok-new_head.ensures.needed)
-    (ap (λ k. set c.args.heads.now k c.in_ok-new_head.new_head) c.number-old_head.ensures)
+    fresh_step c.args.cells.now c.args.outputs.now c.requires.trie.held c.args.cell c.args.fresh.now c.fresh_head.new.fresh c.args.heads.now _ s.0 c.in-Some.head c.in_ok-number.number
+    c.requires.heads s.1 s.2 (c.requires.trie.heads s.0 c.in-Some.head s.2).inside c.in_ok-number.ensures.grows
+    c.in_ok-number.ensures.inside
+    (c.in_ok-number.ensures.list ∙ ap (λ h. values_in (list_of c.args.outputs.now h)) c.number-old_head.ensures)
+    (subst (λ h. AreNeeded c.args.fresh.now c.fresh_head.new.fresh (values_in (list_of c.args.outputs.now h))) c.number-old_head.ensures c.in_ok-number.ensures.needed)
+    (λ t. set c.args.heads.now (c.number-old_head.ensures t) (c.in_ok-new_head.ensures t))

@@ -1,6 +1,6 @@
 use Rattle.std.proofs.Common.{◌≡◌, ℕ, ◌+◌, List, [], ◌∷◌, ◌++◌, Some, slice_get, sym, ap, ◌∙◌, subst}
-use Rattle.pg_cells.specs.Walks.{EndsBefore}
-use Rattle.pg_trie.specs.Strings.{PutsBelow}
+use Rattle.pg_cells.specs.Inside.Walks.{EndsBefore}
+use Rattle.pg_trie.specs.Inside.Strings.{PutsBelow}
 use Rattle.pg_trie.proofs.Listing.{puts_nothing, get_index, on_ok}
 use Rattle.pg_trie.proofs.strings.push_below.Goals as goal
 

@@ -1,7 +1,7 @@
 use Rattle.std.proofs.Common.{◌≡◌, ◌+◌, cond, nat_eq, None, Some, ◌∷◌, ◌++◌, [], sym, subst, ap, ◌∙◌, arith, rules}
 use Rattle.pg_types.specs.Placement.{cell_of}
 use Rattle.pg_cells.proofs.LinkLaws.{goes_cell}
-use Rattle.pg_trie.specs.Strings.{PutsBelow}
+use Rattle.pg_trie.specs.Inside.Strings.{PutsBelow}
 use Rattle.pg_trie.proofs.Listing.{bound_is, puts_first, puts_next, puts_one, is_string}
 use Rattle.pg_trie.proofs.Pruning.{sign_falls}
 use Rattle.pg_trie.proofs.strings.push_family.Goals as goal

@@ -1,6 +1,6 @@
 use Rattle.std.proofs.Common.{◌≡◌, ℕ, ◌+◌, ◌-◌, ◌<◌, cond, nat_eq, true}
-use Rattle.pg_cells.specs.Members.{goes_on}
-use Rattle.pg_trie.specs.Strings.{PutsBelow}
+use Rattle.pg_cells.specs.Inside.Members.{goes_on}
+use Rattle.pg_trie.specs.Inside.Strings.{PutsBelow}
 use Rattle.pg_trie.proofs.strings.push_family.Given as goal
 
 abbrev pub invariant-loop-s : goal.invariant-loop-s

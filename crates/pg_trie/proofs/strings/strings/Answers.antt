@@ -1,6 +1,6 @@
 use Rattle.std.proofs.Common.{◌+◌, ◌<◌, [], length, subst, arith, rules}
 use Rattle.pg_cells.proofs.LinkLaws.{root_first}
-use Rattle.pg_trie.specs.Strings.{PutsBelow}
+use Rattle.pg_trie.specs.Inside.Strings.{PutsBelow}
 use Rattle.pg_trie.proofs.Listing.{strings_start, strings_step, get_there}
 use Rattle.pg_trie.proofs.strings.strings.Goals as goal
 

@@ -1,5 +1,5 @@
 use Rattle.std.proofs.Common.{◌≤◌, length}
-use Rattle.pg_trie.specs.Strings.{AreStringsTo}
+use Rattle.pg_trie.specs.Inside.Strings.{AreStringsTo}
 use Rattle.pg_trie.proofs.strings.strings.Given as goal
 
 abbrev pub invariant-loop-i : goal.invariant-loop-i

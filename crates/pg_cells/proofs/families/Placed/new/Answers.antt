@@ -2,10 +2,13 @@ use Rattle.std.proofs.Common.{◌≡◌, [], ◌∷◌, map, ap, sym, subst}
 use Rattle.std.specs.List.{range_with_len}
 use Rattle.pg_types.specs.Placement.{root}
 use Rattle.pg_cells.specs.ValuedFamilies.{Trie, ValuedFamilies}
-use Rattle.pg_cells.specs.AreValuedFamilies.{AreValuedFamilies}
-use Rattle.pg_cells.specs.Layouts.{AreKept}
-use Rattle.pg_cells.specs.OneTrie.{Kept, settled, held}
-use Rattle.pg_cells.specs.Root.{root_held, IsRootTo}
+use Rattle.pg_cells.specs.Inside.AreValuedFamilies.{AreValuedFamilies}
+use Rattle.pg_cells.specs.Inside.Layouts.{AreKept}
+use Rattle.pg_cells.specs.Inside.OneTrie.{Kept, settled, held}
+use Rattle.pg_cells.specs.Inside.Lists.{lone}
+use Rattle.pg_cells.specs.Inside.Root.{root_held, IsRootTo}
+use Rattle.pg_cells.specs.declared.member.Member.{Member}
+use Rattle.pg_cells.specs.Inside.Store.{member_code}
 use Rattle.pg_cells.proofs.ValuedFamilyLaws.{is_held}
 use Rattle.pg_cells.proofs.RootSteps.{planted_none, planted_extended}
 use Rattle.pg_cells.proofs.RootTrie.{root_trie}
@@ -13,7 +16,7 @@ use Rattle.pg_cells.proofs.families.Placed.new.Goals as goal
 
 pub take_root-requires-clause-empty : goal.take_root-requires-clause-empty
 take_root-requires-clause-empty g c =
-    let start : IsRootTo 1 c.args.blank c.in_ok-store.store = subst (IsRootTo 1 c.args.blank) (sym c.in_ok-store.ensures) (planted_none c.args.blank) in
+    let start : IsRootTo 1 c.args.blank c.in_ok-store.store = subst (IsRootTo 1 c.args.blank) (sym c.in_ok-store.ensures) (planted_none (lone c.args.blank.value) c.args.blank) in
     planted_extended c.args.blank c.in_ok-store.store c.grow.new.self start c.in_ok-grow.ensures.extends
 
 pub invariant_of-result : goal.invariant_of-result
@@ -29,19 +32,19 @@ pub invariant_of-result-2 : goal.invariant_of-result-2
 invariant_of-result-2 g c =
     let trie = root_trie c.args.blank c.args.signs c.take_root.new.store c.set_base.new.self c.requires.0 c.take_root.ensures.root_to c.set_base.ensures in
     let all : (d : Kept c.args.signs c.set_base.new.self) → AreKept c.args.signs c.set_base.new.self d.0 =
-    λ d. record { trie = held g.row.V.coded c.args.signs c.set_base.new.self d _ trie; some = c.requires.0; few = c.requires.1 } in
+    λ d. record { trie = held (member_code g.row.V.coded) c.args.signs c.set_base.new.self d _ trie; some = c.requires.0; few = c.requires.1 } in
     search all
 
 pub returns-clause-held : goal.returns-clause-held
 returns-clause-held g c =
     let trie = root_trie c.args.blank c.args.signs c.take_root.new.store c.set_base.new.self c.requires.0 c.take_root.ensures.root_to c.set_base.ensures in
-    let all : (d : Kept c.args.signs c.set_base.new.self) → ◌≡◌ {A = ValuedFamilies g.row.V.Denot} (record { signs = c.args.signs; families = d.0.families; values = d.0.values }) (root_held c.args.signs c.args.blank) =
-    λ d. ap (λ (t : Trie g.row.V.Denot). record { signs = c.args.signs; families = t.families; values = t.values }) (settled g.row.V.coded c.args.signs c.set_base.new.self d _ trie) in
+    let all : (d : Kept c.args.signs c.set_base.new.self) → ◌≡◌ {A = ValuedFamilies (Member g.row.V.Denot)} (record { signs = c.args.signs; families = d.0.families; values = d.0.values }) (root_held c.args.signs c.args.blank) =
+    λ d. ap (λ (t : Trie (Member g.row.V.Denot)). record { signs = c.args.signs; families = t.families; values = t.values }) (settled (member_code g.row.V.coded) c.args.signs c.set_base.new.self d _ trie) in
     search all
 
 pub returns-clause-kept : goal.returns-clause-kept
 returns-clause-kept g c =
     let trie = root_trie c.args.blank c.args.signs c.take_root.new.store c.set_base.new.self c.requires.0 c.take_root.ensures.root_to c.set_base.ensures in
     let all : (d : Kept c.args.signs c.set_base.new.self) → AreValuedFamilies (record { signs = c.args.signs; families = d.0.families; values = d.0.values }) =
-    λ d. is_held c.args.signs c.set_base.new.self d.0 (held g.row.V.coded c.args.signs c.set_base.new.self d _ trie) c.len-length.ensures.values in
+    λ d. is_held c.args.signs c.set_base.new.self d.0 (held (member_code g.row.V.coded) c.args.signs c.set_base.new.self d _ trie) c.len-length.ensures.values in
     search all

@@ -1,10 +1,11 @@
 use Rattle.std.proofs.Common.{◌∙◌, ap}
 use Rattle.pg_types.specs.Placement.{top}
 use Rattle.pg_cells.specs.ValuedFamilies.{ValuedFamilies}
+use Rattle.pg_cells.specs.declared.member.Member.{Member}
 use Rattle.pg_cells.proofs.LayoutLaws.{top_same}
 use Rattle.pg_cells.proofs.families.Placed.top.Goals as goal
 
 pub returns-clause-top : goal.returns-clause-top
 returns-clause-top g c =
     top_same c.self.inside.signs c.self.inside.store c.self.inside.layout.0.families c.self.invariant.trie.sorted c.self.invariant.trie.layout c.top.result c.top.ensures
-    ∙ ap (λ (h : ValuedFamilies g.row.V.Denot). top h.families) c.self.view_is
+    ∙ ap (λ (h : ValuedFamilies (Member g.row.V.Denot)). top h.families) c.self.view_is

@@ -2,8 +2,8 @@ use Rattle.std.proofs.Common.{◌≡◌, [], ◌∷◌, ◌++◌, Some, None, ap
 use Rattle.pg_types.specs.Placement.{cell_of, base_of, without_sign}
 use Rattle.pg_cells.specs.declared.member.Member.{Member}
 use Rattle.pg_cells.specs.ValuedFamilies.{ValuedFamilies, without_key}
-use Rattle.pg_cells.specs.Links.{unlinked}
-use Rattle.pg_cells.specs.Members.{IsAlone, HasOther}
+use Rattle.pg_cells.specs.Inside.Links.{unlinked}
+use Rattle.pg_cells.specs.Inside.Members.{IsAlone, HasOther}
 use Rattle.pg_cells.proofs.PlacedFamily.{not_longer}
 use Rattle.pg_cells.proofs.SteppedLinks.{remove_behind, links_removed, values_removed, alone_told}
 use Rattle.pg_cells.proofs.Unlinked.{plain, held_unlinked}

@@ -3,7 +3,7 @@ use Rattle.std.specs.FinMap.{put}
 use Rattle.pg_types.specs.Placement.{cell_of}
 use Rattle.pg_cells.specs.declared.member.Member.{Member}
 use Rattle.pg_cells.specs.ValuedFamilies.{ValuedFamilies}
-use Rattle.pg_cells.specs.Links.{unlinked}
+use Rattle.pg_cells.specs.Inside.Links.{unlinked}
 use Rattle.pg_cells.proofs.StringMaps.{order}
 use Rattle.pg_cells.proofs.Relinked.{links_valued}
 use Rattle.pg_cells.proofs.Unlinked.{put_plain, held_unlinked}

@@ -1,6 +1,6 @@
 use Rattle.std.proofs.Common.{◌≡◌, sym, ap, subst, ◌∙◌, true, ◌∷◌}
-use Rattle.pg_cells.specs.Lists.{row_of}
-use Rattle.pg_cells.specs.Fit.{fits_row, signs_of}
+use Rattle.pg_cells.specs.Inside.Lists.{row_of}
+use Rattle.pg_cells.specs.Inside.Fit.{fits_row, signs_of}
 use Rattle.pg_cells.proofs.store.Store.find_base.Goals as goal
 
 pub find_base-requires-clause-room : goal.find_base-requires-clause-room

@@ -1,8 +1,8 @@
 use Rattle.std.proofs.Common.{◌≡◌, ◌≢◌, ◌<◌, ◌≤◌, ℕ, sym, ap, subst, ◌∙◌, length, arith, take, drop, ◌++◌}
 use Rattle.std.proofs.lemmas.List.{length-map}
-use Rattle.pg_cells.specs.Lists.{row_of, sign_at, with_free}
+use Rattle.pg_cells.specs.Inside.Lists.{row_of, sign_at, with_free}
 use Rattle.pg_cells.proofs.LinkedLists.{taken_within}
-use Rattle.pg_cells.specs.Writes.{Frees}
+use Rattle.pg_cells.specs.Inside.Writes.{Frees}
 use Rattle.pg_cells.proofs.RowWrites.{row_frees}
 use Rattle.pg_cells.proofs.BlockedLaws.{blocked_none}
 use Rattle.pg_cells.proofs.BoundLaws.{bounds_free}

@@ -1,4 +1,4 @@
-use Rattle.pg_cells.specs.Lists.{row_of}
+use Rattle.pg_cells.specs.Inside.Lists.{row_of}
 use Rattle.pg_cells.proofs.BlockedLaws.{blocked_grow}
 use Rattle.pg_cells.proofs.BoundLaws.{bounds_grow}
 use Rattle.pg_cells.proofs.StoreSteps.{kept_extended}

@@ -1,9 +1,10 @@
 use Rattle.std.proofs.Common.{◌≡◌, subst, arith}
 use Rattle.std.proofs.lemmas.Result.{on_ok_weaker}
-use Rattle.pg_cells.specs.Lists.{Row, sign_at}
+use Rattle.pg_cells.specs.Inside.Lists.{Row, sign_at}
+use Rattle.pg_cells.specs.declared.member.Member.{Member}
 use Rattle.pg_cells.proofs.store.Store.make_room.Goals as goal
 
 pub returns-clause-room : goal.returns-clause-room
 returns-clause-room g c =
     on_ok_weaker c.grow.result (λ long i up.
-    let le = c.self.invariant.kept.greatest.most i (λ z. up (subst (λ (r : Row g.row.V.Denot). sign_at r i ≡ 0) c.self.view_is z)) in omega arith) c.grow.ensures.length
+    let le = c.self.invariant.kept.greatest.most i (λ z. up (subst (λ (r : Row (Member g.row.V.Denot)). sign_at r i ≡ 0) c.self.view_is z)) in omega arith) c.grow.ensures.length

@@ -1,8 +1,9 @@
-use Rattle.std.proofs.Common.{◌≡◌, refl, ap, sym, subst, ◌∙◌, ◌<◌, length, arith}
-use Rattle.pg_cells.specs.Lists.{lists, with_base}
-use Rattle.pg_cells.specs.Lists.{Lists, Row, row_of}
-use Rattle.pg_cells.specs.Blocked.{AreBlocked}
-use Rattle.pg_cells.specs.Writes.{SetsBase}
+use Rattle.std.proofs.Common.{◌≡◌, refl, ap, sym, subst, ◌∙◌, ◌<◌, length, arith, take, drop, ◌++◌}
+use Rattle.pg_cells.specs.Inside.Lists.{lists, with_base}
+use Rattle.pg_cells.specs.Inside.Lists.{Lists, Row, row_of}
+use Rattle.pg_cells.specs.Inside.Blocked.{AreBlocked}
+use Rattle.pg_cells.specs.Inside.Writes.{SetsBase}
+use Rattle.pg_cells.specs.declared.member.Member.{Member}
 use Rattle.pg_cells.proofs.RowWrites.{row_base}
 use Rattle.pg_cells.proofs.BlockedLaws.{blocked_base}
 use Rattle.pg_cells.proofs.BoundLaws.{bounds_base}
@@ -18,11 +19,19 @@ invariant_of-self g c =
       kept = kept_write c.self.inside.cells.items c.set_base.new.cells _ _ c.self.invariant.kept same _ refl (c.set_base.ensures ∙ ap (λ cells. record (lists cells) { row = with_base (lists cells).row c.args.cell c.args.is_base }) c.as_mut_slice.ensures.value);
       bounds = bounds_base (row_of c.self.inside.cells.items) (row_of c.set_base.new.cells) c.self.inside.lows.items c.self.inside.freed c.self.inside.dropped c.self.invariant.bounds c.args.cell c.least_dropped-self-inside.result c.args.is_base c.least_dropped-self-inside.ensures.least c.least_dropped-self-inside.ensures.base
           (subst (λ r. SetsBase (row_of c.self.inside.cells.items) r c.args.cell c.args.is_base)
-          (sym (ap (λ (ls : Lists g.row.V.Denot). ls.row) c.set_base.ensures ∙ ap (λ cells. with_base (row_of cells) c.args.cell c.args.is_base) c.as_mut_slice.ensures.value))
-          (row_base c.self.inside.cells.items c.args.cell c.args.is_base (subst (λ (r : Row g.row.V.Denot). c.args.cell < length r.signs) (sym c.self.view_is) c.requires)));
+          (sym (ap (λ (ls : Lists (Member g.row.V.Denot)). ls.row) c.set_base.ensures ∙ ap (λ cells. with_base (row_of cells) c.args.cell c.args.is_base) c.as_mut_slice.ensures.value))
+          (row_base c.self.inside.cells.items c.args.cell c.args.is_base (subst (λ (r : Row (Member g.row.V.Denot)). c.args.cell < length r.signs) (sym c.self.view_is) c.requires)));
       blocked = subst (λ placed. AreBlocked (row_of c.set_base.new.cells) placed c.self.inside.sought) (sym c.still_placed-self-inside.ensures)
           (blocked_base (row_of c.self.inside.cells.items) (row_of c.set_base.new.cells) c.self.inside.placed c.self.inside.sought c.self.invariant.blocked c.args.cell c.args.is_base
           (subst (λ r. SetsBase (row_of c.self.inside.cells.items) r c.args.cell c.args.is_base)
-          (sym (ap (λ (ls : Lists g.row.V.Denot). ls.row) c.set_base.ensures ∙ ap (λ cells. with_base (row_of cells) c.args.cell c.args.is_base) c.as_mut_slice.ensures.value))
-          (row_base c.self.inside.cells.items c.args.cell c.args.is_base (subst (λ (r : Row g.row.V.Denot). c.args.cell < length r.signs) (sym c.self.view_is) c.requires))));
+          (sym (ap (λ (ls : Lists (Member g.row.V.Denot)). ls.row) c.set_base.ensures ∙ ap (λ cells. with_base (row_of cells) c.args.cell c.args.is_base) c.as_mut_slice.ensures.value))
+          (row_base c.self.inside.cells.items c.args.cell c.args.is_base (subst (λ (r : Row (Member g.row.V.Denot)). c.args.cell < length r.signs) (sym c.self.view_is) c.requires))));
     })
+
+pub returns : goal.returns
+returns g c =
+    let size : length c.set_base.new.cells ≡ c.self.inside.cells.len = omega arith in
+    let left : row_of (take c.self.inside.cells.len (c.set_base.new.cells ++ drop (length c.set_base.new.cells) c.self.inside.cells.items)) ≡ with_base (row_of c.self.inside.cells.items) c.args.cell c.args.is_base =
+    ap row_of (given_back c.set_base.new.cells c.self.inside.cells.items c.self.inside.cells.len size) ∙ ap (λ (ls : Lists (Member g.row.V.Denot)). ls.row) c.set_base.ensures ∙ ap (λ cells. with_base (row_of cells) c.args.cell c.args.is_base) c.as_mut_slice.ensures.value in
+    subst (λ r. SetsBase r (row_of (take c.self.inside.cells.len (c.set_base.new.cells ++ drop (length c.set_base.new.cells) c.self.inside.cells.items))) c.args.cell c.args.is_base) c.self.view_is
+    (subst (λ r. SetsBase (row_of c.self.inside.cells.items) r c.args.cell c.args.is_base) (sym left) (row_base c.self.inside.cells.items c.args.cell c.args.is_base (subst (λ (r : Row (Member g.row.V.Denot)). c.args.cell < length r.signs) (sym c.self.view_is) c.requires)))

@@ -1,10 +1,11 @@
-use Rattle.std.proofs.Common.{◌≡◌, refl, sym, ap, subst, ◌∙◌, length, arith, take, drop, ◌++◌}
-use Rattle.pg_cells.specs.Lists.{Lists, lists, row_of, sign_at, with_value}
-use Rattle.pg_cells.specs.Writes.{SetsValue}
+use Rattle.std.proofs.Common.{◌≡◌, sym, ap, subst, ◌∙◌, length, arith, set, take, drop, ◌++◌}
+use Rattle.pg_cells.specs.Inside.Lists.{Lists, lists, row_of, pair_of, sign_at, with_value}
+use Rattle.pg_cells.specs.Inside.Writes.{SetsValue}
+use Rattle.pg_cells.specs.declared.member.Member.{Member}
 use Rattle.pg_cells.proofs.RowWrites.{row_value}
 use Rattle.pg_cells.proofs.BlockedLaws.{blocked_value}
 use Rattle.pg_cells.proofs.BoundLaws.{bounds_value}
-use Rattle.pg_cells.proofs.StoreSteps.{given_back, kept_write}
+use Rattle.pg_cells.proofs.StoreSteps.{given_back, kept_value}
 use Rattle.pg_cells.proofs.store.Store.set_value.Goals as goal
 
 pub invariant_of-self : goal.invariant_of-self
@@ -13,14 +14,15 @@ invariant_of-self g c =
     let same : length c.set_value.new.cells ≡ length c.self.inside.cells.items = omega arith in
     rw (given_back c.set_value.new.cells c.self.inside.cells.items c.self.inside.cells.len size)
     (record {
-      kept = kept_write c.self.inside.cells.items c.set_value.new.cells _ _ c.self.invariant.kept same _ refl (c.set_value.ensures ∙ ap (λ cells. record (lists cells) { row = with_value (lists cells).row c.args.cell c.args.value }) c.as_mut_slice.ensures.value);
+      kept = kept_value c.self.inside.cells.items c.set_value.new.cells _ _ c.self.invariant.kept same c.args.cell (pair_of c.args.value.next c.args.value.first) c.args.value (λ z. c.requires (subst (λ r. sign_at r c.args.cell ≡ 0) c.self.view_is z))
+          (c.set_value.ensures ∙ ap (λ cells. record (lists cells) { row = with_value (lists cells).row c.args.cell c.args.value; befores = set (lists cells).befores c.args.cell (pair_of c.args.value.next c.args.value.first) }) c.as_mut_slice.ensures.value);
       bounds = bounds_value (row_of c.self.inside.cells.items) (row_of c.set_value.new.cells) c.self.inside.lows.items c.self.inside.freed c.self.inside.dropped c.self.invariant.bounds c.args.cell c.args.value
           (subst (λ r. SetsValue (row_of c.self.inside.cells.items) r c.args.cell c.args.value)
-          (sym (ap (λ (ls : Lists g.row.V.Denot). ls.row) c.set_value.ensures ∙ ap (λ cells. with_value (row_of cells) c.args.cell c.args.value) c.as_mut_slice.ensures.value))
+          (sym (ap (λ (ls : Lists (Member g.row.V.Denot)). ls.row) c.set_value.ensures ∙ ap (λ cells. with_value (row_of cells) c.args.cell c.args.value) c.as_mut_slice.ensures.value))
           (row_value c.self.inside.cells.items c.args.cell c.args.value (λ z. c.requires (subst (λ r. sign_at r c.args.cell ≡ 0) c.self.view_is z))));
       blocked = blocked_value (row_of c.self.inside.cells.items) (row_of c.set_value.new.cells) c.self.inside.placed c.self.inside.sought c.self.invariant.blocked c.args.cell c.args.value
           (subst (λ r. SetsValue (row_of c.self.inside.cells.items) r c.args.cell c.args.value)
-          (sym (ap (λ (ls : Lists g.row.V.Denot). ls.row) c.set_value.ensures ∙ ap (λ cells. with_value (row_of cells) c.args.cell c.args.value) c.as_mut_slice.ensures.value))
+          (sym (ap (λ (ls : Lists (Member g.row.V.Denot)). ls.row) c.set_value.ensures ∙ ap (λ cells. with_value (row_of cells) c.args.cell c.args.value) c.as_mut_slice.ensures.value))
           (row_value c.self.inside.cells.items c.args.cell c.args.value (λ z. c.requires (subst (λ r. sign_at r c.args.cell ≡ 0) c.self.view_is z))));
     })
 
@@ -28,6 +30,6 @@ pub returns : goal.returns
 returns g c =
     let size : length c.set_value.new.cells ≡ c.self.inside.cells.len = omega arith in
     let left : row_of (take c.self.inside.cells.len (c.set_value.new.cells ++ drop (length c.set_value.new.cells) c.self.inside.cells.items)) ≡ with_value (row_of c.self.inside.cells.items) c.args.cell c.args.value =
-    ap row_of (given_back c.set_value.new.cells c.self.inside.cells.items c.self.inside.cells.len size) ∙ ap (λ (ls : Lists g.row.V.Denot). ls.row) c.set_value.ensures ∙ ap (λ cells. with_value (row_of cells) c.args.cell c.args.value) c.as_mut_slice.ensures.value in
+    ap row_of (given_back c.set_value.new.cells c.self.inside.cells.items c.self.inside.cells.len size) ∙ ap (λ (ls : Lists (Member g.row.V.Denot)). ls.row) c.set_value.ensures ∙ ap (λ cells. with_value (row_of cells) c.args.cell c.args.value) c.as_mut_slice.ensures.value in
     subst (λ r. SetsValue r (row_of (take c.self.inside.cells.len (c.set_value.new.cells ++ drop (length c.set_value.new.cells) c.self.inside.cells.items))) c.args.cell c.args.value) c.self.view_is
     (subst (λ r. SetsValue (row_of c.self.inside.cells.items) r c.args.cell c.args.value) (sym left) (row_value c.self.inside.cells.items c.args.cell c.args.value (λ z. c.requires (subst (λ r. sign_at r c.args.cell ≡ 0) c.self.view_is z))))

@@ -1,8 +1,8 @@
 use Rattle.std.proofs.Common.{◌≡◌, ◌<◌, sym, ap, subst, ◌∙◌, length, arith, take, drop, ◌++◌}
 use Rattle.std.proofs.lemmas.List.{length-map}
-use Rattle.pg_cells.specs.Lists.{row_of, IsFree, with_taken}
+use Rattle.pg_cells.specs.Inside.Lists.{row_of, IsFree, with_taken}
 use Rattle.pg_cells.proofs.LinkedLists.{free_within}
-use Rattle.pg_cells.specs.Writes.{Takes}
+use Rattle.pg_cells.specs.Inside.Writes.{Takes}
 use Rattle.pg_cells.proofs.RowWrites.{row_takes}
 use Rattle.pg_cells.proofs.BlockedLaws.{blocked_take, free_sign}
 use Rattle.pg_cells.proofs.BoundLaws.{bounds_take}

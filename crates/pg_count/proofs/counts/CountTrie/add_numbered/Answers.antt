@@ -1,6 +1,6 @@
 use Rattle.std.proofs.Common.{Some, None, ap, sym, subst, ◌∙◌}
 use Rattle.std.proofs.lemmas.Result.{err_from_is_err_and}
-use Rattle.pg_count.specs.Counting.{AreCounting, counting_of}
+use Rattle.pg_count.specs.Inside.Counting.{AreCounting, counting_of}
 use Rattle.pg_count.proofs.Adding.{Enters, absent, entered, entered_kept, small, blank_there, added, added_kept, added_number, counted_new, new_kept, new_number}
 use Rattle.pg_count.proofs.counts.CountTrie.add_numbered.Goals as goal
 

@@ -1,5 +1,5 @@
 use Rattle.std.proofs.Common.{[], ◌∙◌, ap}
-use Rattle.pg_count.specs.Counting.{Counting}
+use Rattle.pg_count.specs.Inside.Counting.{Counting}
 use Rattle.pg_count.proofs.Beginning.{begun, begun_kept}
 use Rattle.pg_count.proofs.counts.CountTrie.begin.Goals as goal
 

@@ -1,5 +1,5 @@
 use Rattle.std.proofs.Common.{Option, ap, arith}
-use Rattle.pg_count.specs.Counting.{Tally}
+use Rattle.pg_count.specs.Inside.Counting.{Tally}
 use Rattle.pg_cells.specs.ValuedFamilies.{ValuedFamilies}
 use Rattle.pg_count.proofs.Beginning.{begun, begun_kept, root_none}
 use Rattle.pg_count.proofs.counts.CountTrie.new.Goals as goal

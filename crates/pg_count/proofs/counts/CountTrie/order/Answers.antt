@@ -1,8 +1,8 @@
 use Rattle.std.proofs.Common.{◌≡◌, [], Some, map, ap, sym, ◌∙◌}
 use Rattle.std.proofs.lemmas.List.{append-nil}
-use Rattle.pg_count.specs.Counting.{Counting}
+use Rattle.pg_count.specs.Inside.Counting.{Counting}
 use Rattle.pg_cells.proofs.LinkLaws.{root_first}
-use Rattle.pg_count.specs.Under.{numbers_under}
+use Rattle.pg_count.specs.Inside.Under.{numbers_under}
 use Rattle.pg_count.proofs.Looking.{long_windows, ordered_numbers}
 use Rattle.pg_count.proofs.counts.CountTrie.order.Goals as goal
 

@@ -1,7 +1,7 @@
 use Rattle.std.proofs.Common.{sym, ap, ◌∙◌}
 use Rattle.std.specs.FinMap.Entries.{find}
 use Rattle.pg_cells.proofs.StringMaps.{order}
-use Rattle.pg_count.specs.Counting.{Counting, sums_seen}
+use Rattle.pg_count.specs.Inside.Counting.{Counting, sums_seen}
 use Rattle.pg_count.proofs.Counted.{find_seen}
 use Rattle.pg_count.proofs.counts.CountTrie.sums.Goals as goal
 

@@ -1,6 +1,6 @@
 use Rattle.std.proofs.Common.{subst}
 use Rattle.pg_types.specs.Numbered.{AreNumbered}
-use Rattle.pg_count.specs.Counting.{Counting}
+use Rattle.pg_count.specs.Inside.Counting.{Counting}
 use Rattle.pg_count.proofs.Counted.{are_numbered}
 use Rattle.pg_count.proofs.counts.CountTrie.window_len.Goals as goal
 

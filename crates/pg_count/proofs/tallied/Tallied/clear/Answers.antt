@@ -1,5 +1,5 @@
 use Rattle.std.proofs.Common.{Option, ap, ◌∙◌}
-use Rattle.pg_count.specs.Counting.{Tally}
+use Rattle.pg_count.specs.Inside.Counting.{Tally}
 use Rattle.pg_cells.specs.ValuedFamilies.{ValuedFamilies}
 use Rattle.pg_count.proofs.Telling.{held_told, cleared_kept, none_counted}
 use Rattle.pg_count.proofs.tallied.Tallied.clear.Goals as goal

@@ -3,8 +3,8 @@ use Rattle.std.specs.FinMap.{find, put}
 use Rattle.pg_types.specs.Placement.{cell_of}
 use Rattle.pg_cells.specs.ValuedFamilies.{ValuedFamilies}
 use Rattle.pg_cells.proofs.StringMaps.{order}
-use Rattle.pg_count.specs.Counting.{Tally, numbers_in}
-use Rattle.pg_count.specs.Tallied.{told}
+use Rattle.pg_count.specs.Inside.Counting.{Tally, numbers_in}
+use Rattle.pg_count.specs.Inside.Tallied.{told}
 use Rattle.pg_count.proofs.Telling.{held_told, count_told, count_are}
 use Rattle.pg_count.proofs.tallied.Tallied.count.Goals as goal
 

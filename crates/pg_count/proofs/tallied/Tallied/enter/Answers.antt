@@ -1,12 +1,12 @@
 use Rattle.std.proofs.Common.{◌≡◌, Option, None, subst}
 use Rattle.std.proofs.lemmas.Result.{on_err_weaker}
 use Rattle.std.specs.FinMap.{find}
-use Rattle.pg_count.specs.Counting.{Tally}
+use Rattle.pg_count.specs.Inside.Counting.{Tally}
 use Rattle.pg_cells.specs.ValuedFamilies.{ValuedFamilies}
-use Rattle.pg_cells.specs.Walks.{AddsBlanks}
+use Rattle.pg_cells.specs.Inside.Walks.{AddsBlanks}
 use Rattle.pg_cells.proofs.StringMaps.{order}
 use Rattle.pg_count.proofs.Mapped.{none_mapped}
-use Rattle.pg_count.specs.Tallied.{tally_of, told}
+use Rattle.pg_count.specs.Inside.Tallied.{tally_of, told}
 use Rattle.pg_count.proofs.Telling.{held_told, entered_told, entered_are}
 use Rattle.pg_count.proofs.tallied.Tallied.enter.Goals as goal
 

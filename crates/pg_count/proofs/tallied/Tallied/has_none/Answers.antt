@@ -1,8 +1,8 @@
 use Rattle.std.proofs.Common.{◌≡◌, [], Option, length, ap, sym, ◌∙◌, subst, arith}
 use Rattle.std.proofs.lemmas.List.{nil_from_length}
 use Rattle.pg_cells.specs.ValuedFamilies.{ValuedFamilies}
-use Rattle.pg_count.specs.Counting.{counts_in, Tally, sums_seen, number_seen}
-use Rattle.pg_count.specs.Tallied.{told}
+use Rattle.pg_count.specs.Inside.Counting.{counts_in, Tally, sums_seen, number_seen}
+use Rattle.pg_count.specs.Inside.Tallied.{told}
 use Rattle.pg_count.proofs.Counted.{none_seen}
 use Rattle.pg_count.proofs.Telling.{none_counted}
 use Rattle.pg_count.proofs.tallied.Tallied.has_none.Goals as goal

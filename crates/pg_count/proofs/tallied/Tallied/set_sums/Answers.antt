@@ -3,8 +3,8 @@ use Rattle.std.specs.FinMap.{find, put}
 use Rattle.std.proofs.lemmas.Option.{slice_get_within}
 use Rattle.pg_cells.specs.ValuedFamilies.{ValuedFamilies}
 use Rattle.pg_cells.proofs.StringMaps.{order}
-use Rattle.pg_count.specs.Counting.{Tally}
-use Rattle.pg_count.specs.Tallied.{told, AreTold}
+use Rattle.pg_count.specs.Inside.Counting.{Tally}
+use Rattle.pg_count.specs.Inside.Tallied.{told, AreTold}
 use Rattle.pg_count.proofs.Telling.{held_told, in_cell, numbered_are, numbered_told}
 use Rattle.pg_count.proofs.tallied.Tallied.set_sums.Goals as goal
 

@@ -3,8 +3,8 @@ use Rattle.std.specs.FinMap.{find}
 use Rattle.pg_types.specs.Placement.{cell_of}
 use Rattle.pg_cells.specs.ValuedFamilies.{ValuedFamilies}
 use Rattle.pg_cells.proofs.StringMaps.{order}
-use Rattle.pg_count.specs.Counting.{Tally}
-use Rattle.pg_count.specs.Tallied.{tally_of}
+use Rattle.pg_count.specs.Inside.Counting.{Tally}
+use Rattle.pg_count.specs.Inside.Tallied.{tally_of}
 use Rattle.pg_count.proofs.Mapped.{found_mapped}
 use Rattle.pg_count.proofs.tallied.Tallied.tally.Goals as goal
 

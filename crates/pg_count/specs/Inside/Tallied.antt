@@ -5,17 +5,24 @@ use Rattle.std.specs.Ordering.{nat_cmp}
 use Rattle.std.specs.Cmp.Lexicographic.{slice_cmp}
 use Rattle.std.specs.FinMap.Entries.{find}
 use Rattle.pg_cells.specs.ValuedFamilies.{ValuedFamilies}
-use Rattle.pg_cells.specs.AreValuedFamilies.{AreValuedFamilies}
-use Rattle.pg_count.specs.Counting.{Tally, numbers_in}
+use Rattle.pg_cells.specs.Inside.AreValuedFamilies.{AreValuedFamilies}
+use Rattle.pg_count.specs.Inside.Counting.{Tally, numbers_in}
 use Rattle.pg_count.specs.declared.tally.TheConstants.{NUMBERS_END}
 
--- the tally with the number of a cell, where they are numbered from the first one on; an earlier number is that of none
+-- the tally with the number of a cell, where they are numbered from the first one on; an earlier
+-- number is that of none
 abbrev pub tally_of : ℕ → List (ℕ × ℕ) → ℕ → Option Tally
-tally_of first tallies k = if nat_lt k first then None else option_map (λ sums. (k - first, sums)) (slice_get tallies (k - first))
+tally_of first tallies k = if nat_lt k first then None
+    else option_map (λ sums. (k - first, sums)) (slice_get tallies (k - first))
 
 -- each string has the tally with the number that its cell has, or none where no tally has it
 abbrev pub told : ValuedFamilies ℕ → ℕ → List (ℕ × ℕ) → ValuedFamilies (Option Tally)
-told cells first tallies = record { signs = cells.signs; families = cells.families; values = map (λ e. (e.0, tally_of first tallies e.1)) cells.values }
+told cells first tallies =
+    record {
+      signs = cells.signs;
+      families = cells.families;
+      values = map (λ e. (e.0, tally_of first tallies e.1)) cells.values;
+    }
 
 -- what is always true of the numbers
 pub record AreTold (cells : ValuedFamilies ℕ) (first : ℕ) (tallies : List (ℕ × ℕ)) : Type 0 where
@@ -25,8 +32,10 @@ pub record AreTold (cells : ValuedFamilies ℕ) (first : ℕ) (tallies : List (�
   -- each number fits its cell
   pub few : first + length tallies ≤ NUMBERS_END
   -- no string has a number that is yet to come
-  pub numbers : (q : List ℕ) (k : ℕ) → find (slice_cmp nat_cmp) q cells.values ≡ Some k → k < first + length tallies
+  pub numbers : (q : List ℕ) (k : ℕ) → find (slice_cmp nat_cmp) q cells.values ≡ Some k
+      → k < first + length tallies
   -- no two strings have one tally
-  pub apart : (q p : List ℕ) (k : ℕ) → find (slice_cmp nat_cmp) q cells.values ≡ Some k → find (slice_cmp nat_cmp) p cells.values ≡ Some k → first ≤ k → q ≡ p
+  pub apart : (q p : List ℕ) (k : ℕ) → find (slice_cmp nat_cmp) q cells.values ≡ Some k
+      → find (slice_cmp nat_cmp) p cells.values ≡ Some k → first ≤ k → q ≡ p
   -- and each tally is that of a string
   pub size : length (numbers_in (told cells first tallies).values) ≡ length tallies

@@ -5,34 +5,50 @@ use Rattle.std.specs.Cmp.Lexicographic.{slice_cmp}
 use Rattle.std.specs.FinMap.{find, put}
 use Rattle.pg_cells.specs.declared.member.Member.{Member}
 use Rattle.pg_cells.specs.ValuedFamilies.{ValuedFamilies}
-use Rattle.pg_cells.specs.AreValuedFamilies.{AreValuedFamilies}
-use Rattle.pg_cells.specs.Members.{IsNextSign, goes_on}
+use Rattle.pg_cells.specs.Inside.AreValuedFamilies.{AreValuedFamilies}
+use Rattle.pg_cells.specs.Inside.Members.{IsNextSign, goes_on}
 
 module _ {V : Type 0} where
   -- the cells without their links
   abbrev pub unlinked : ValuedFamilies (Member V) → ValuedFamilies V
-  unlinked h = record { signs = h.signs; families = h.families; values = map (λ e. (e.0, e.1.value)) h.values }
+  unlinked h = record {
+    signs = h.signs;
+    families = h.families;
+    values = map (λ e. (e.0, e.1.value)) h.values;
+  }
 
   -- each string has the first sign below it, and each string below a string the next sign
   pub record AreLinks (h : ValuedFamilies (Member V)) : Type 0 where
     pub held : AreValuedFamilies h
-    pub first : (q : List ℕ) (m : Member V) → find (slice_cmp nat_cmp) q h.values ≡ Some m → IsNextSign h.values q 0 m.first
-    pub next : (q : List ℕ) (s : ℕ) (m : Member V) → q ≢ [] → find (slice_cmp nat_cmp) (q ++ s ∷ []) h.values ≡ Some m → IsNextSign h.values q s m.next
+    pub first : (q : List ℕ) (m : Member V) → find (slice_cmp nat_cmp) q h.values ≡ Some m
+        → IsNextSign h.values q 0 m.first
+    pub next : (q : List ℕ) (s : ℕ) (m : Member V)
+        → q ≢ [] → find (slice_cmp nat_cmp) (q ++ s ∷ []) h.values ≡ Some m
+        → IsNextSign h.values q s m.next
 
-  -- b is the greatest sign below s by which a string with a value goes on from q, or 0 where there is none
+  -- b is the greatest sign below s by which a string with a value goes on from q, or 0 where there
+  -- is none
   pub record IsBefore (values : List (List ℕ × Member V)) (q : List ℕ) (s b : ℕ) : Type 0 where
     pub less : b < s
     pub there : (b ≡ 0) ⊎ (goes_on values q b ≡ true)
     pub most : (z : ℕ) → z < s → goes_on values q z ≡ true → z ≤ b
 
-  abbrev pub with_first : Option (Member V) → ℕ → List ℕ → List (List ℕ × Member V) → List (List ℕ × Member V)
+  abbrev pub with_first : Option (Member V) → ℕ → List ℕ
+      → List (List ℕ × Member V) → List (List ℕ × Member V)
   with_first None to q values = values
   with_first (Some m) to q values = put (slice_cmp nat_cmp) q (record m { first = to }) values
 
-  abbrev pub with_next : Option (Member V) → ℕ → List ℕ → List (List ℕ × Member V) → List (List ℕ × Member V)
+  abbrev pub with_next : Option (Member V) → ℕ → List ℕ
+      → List (List ℕ × Member V) → List (List ℕ × Member V)
   with_next None to q values = values
   with_next (Some m) to q values = put (slice_cmp nat_cmp) q (record m { next = to }) values
 
   -- the sign `to` stands behind s in the family below q, as the first one where s is 0
   abbrev pub with_link : ValuedFamilies (Member V) → List ℕ → ℕ → ℕ → ValuedFamilies (Member V)
-  with_link h q s to = record h { values = if nat_eq s 0 then with_first (find (slice_cmp nat_cmp) q h.values) to q h.values else with_next (find (slice_cmp nat_cmp) (q ++ s ∷ []) h.values) to (q ++ s ∷ []) h.values }
+  with_link h q s to =
+      record h {
+        values = if nat_eq s 0
+            then with_first (find (slice_cmp nat_cmp) q h.values) to q h.values
+            else with_next (find (slice_cmp nat_cmp) (q ++ s ∷ []) h.values) to
+            (q ++ s ∷ []) h.values;
+      }

@@ -7,7 +7,7 @@ use Rattle.pg_types.specs.Placement.{cell_of}
 use Rattle.pg_outputs.specs.declared.records.Record.{Record}
 use Rattle.pg_outputs.specs.Lists.{list_of}
 use Rattle.pg_cells.specs.ValuedFamilies.{ValuedFamilies}
-use Rattle.pg_cells.specs.AreValuedFamilies.{AreValuedFamilies}
+use Rattle.pg_cells.specs.Inside.AreValuedFamilies.{AreValuedFamilies}
 use Rattle.pg_trie.specs.declared.mark.TheConstants.{HOPELESS}
 
 -- the list without its marks
@@ -19,7 +19,8 @@ abbrev pub IsEnd : List (ℕ × ℕ) → List (ℕ × ℕ) → Type 0
 IsEnd l list = (front : List (ℕ × ℕ)) × (list ≡ front ++ l)
 
 -- a head among the new records whose list is that of an old head without its marks
-pub record IsFreshHead (records : List Record) (old : ℕ) (fresh : List Record) (head : ℕ) : Type 0 where
+pub record IsFreshHead (records : List Record) (old : ℕ)
+    (fresh : List Record) (head : ℕ) : Type 0 where
   pub inside : head ≤ length fresh
   pub list : list_of fresh head ≡ values_in (list_of records old)
 
@@ -27,27 +28,38 @@ pub record IsFreshHead (records : List Record) (old : ℕ) (fresh : List Record)
 abbrev pub AreNeeded : List Record → List Record → List (ℕ × ℕ) → Type 0
 AreNeeded old new list = (h : ℕ) → length old < h → h ≤ length new → IsEnd (list_of new h) list
 
--- beside each head of a string whose cell is below n stands the head of its values among the new records, and there are no
--- others
-pub record AreFreshTo (cells : ValuedFamilies ℕ) (records : List Record) (n : ℕ) (fresh : List Record) (heads : List ℕ) : Type 0 where
+-- beside each head of a string whose cell is below n stands the head of its values among the new
+-- records, and there are no others
+pub record AreFreshTo (cells : ValuedFamilies ℕ) (records : List Record)
+    (n : ℕ) (fresh : List Record) (heads : List ℕ) : Type 0 where
   pub size : length heads ≡ length records + 1
-  pub lists : (q : List ℕ) (cell u : ℕ) → cell_of cells.families q ≡ Some cell → cell < n → find (slice_cmp nat_cmp) q cells.values ≡ Some u → IsFreshHead records u fresh (get_or heads u 0)
-  pub needed : (h : ℕ) → 0 < h → h ≤ length fresh → (q : List ℕ) × (old : ℕ) × (find (slice_cmp nat_cmp) q cells.values ≡ Some old) × IsEnd (list_of fresh h) (values_in (list_of records old))
+  pub lists : (q : List ℕ) (cell u : ℕ) → cell_of cells.families q ≡ Some cell
+      → cell < n → find (slice_cmp nat_cmp) q cells.values ≡ Some u
+      → IsFreshHead records u fresh (get_or heads u 0)
+  pub needed : (h : ℕ) → 0 < h → h ≤ length fresh
+      → (q : List ℕ) × (old : ℕ) × (find (slice_cmp nat_cmp) q cells.values ≡ Some old)
+      × IsEnd (list_of fresh h) (values_in (list_of records old))
 
 -- all strings' heads
 abbrev pub AreFresh : ValuedFamilies ℕ → List Record → List Record → List ℕ → Type 0
-AreFresh cells records fresh heads = (n : ℕ) × AreFreshTo cells records n fresh heads × ((q : List ℕ) (cell : ℕ) → cell_of cells.families q ≡ Some cell → cell < n)
+AreFresh cells records fresh heads = (n : ℕ) × AreFreshTo cells records n fresh heads
+    × ((q : List ℕ) (cell : ℕ) → cell_of cells.families q ≡ Some cell → cell < n)
 
--- the strings whose cells are below n have the heads that stand beside their old ones, and the others their old heads
-pub record RenewsTo (old : ValuedFamilies ℕ) (n : ℕ) (heads : List ℕ) (new : ValuedFamilies ℕ) : Type 0 where
+-- the strings whose cells are below n have the heads that stand beside their old ones, and the
+-- others their old heads
+pub record RenewsTo (old : ValuedFamilies ℕ) (n : ℕ)
+    (heads : List ℕ) (new : ValuedFamilies ℕ) : Type 0 where
   pub held : AreValuedFamilies new
   pub signs : new.signs ≡ old.signs
   pub families : new.families ≡ old.families
-  pub given : (q : List ℕ) (cell u : ℕ) → cell_of old.families q ≡ Some cell → find (slice_cmp nat_cmp) q old.values ≡ Some u → find (slice_cmp nat_cmp) q new.values ≡ Some (if nat_lt cell n then get_or heads u 0 else u)
+  pub given : (q : List ℕ) (cell u : ℕ) → cell_of old.families q ≡ Some cell
+      → find (slice_cmp nat_cmp) q old.values ≡ Some u
+      → find (slice_cmp nat_cmp) q new.values ≡ Some (if nat_lt cell n then get_or heads u 0 else u)
 
 -- each string has the head that stands beside its old one
 pub record Renews (old : ValuedFamilies ℕ) (heads : List ℕ) (new : ValuedFamilies ℕ) : Type 0 where
   pub held : AreValuedFamilies new
   pub signs : new.signs ≡ old.signs
   pub families : new.families ≡ old.families
-  pub given : (q : List ℕ) (u : ℕ) → find (slice_cmp nat_cmp) q old.values ≡ Some u → find (slice_cmp nat_cmp) q new.values ≡ Some (get_or heads u 0)
+  pub given : (q : List ℕ) (u : ℕ) → find (slice_cmp nat_cmp) q old.values ≡ Some u
+      → find (slice_cmp nat_cmp) q new.values ≡ Some (get_or heads u 0)

@@ -15,7 +15,8 @@ pub record IsNext (test : ℕ → Bool) (x y : ℕ) : Type 0 where
 abbrev pub goes_on : {X : Type 0} → List (List ℕ × X) → List ℕ → ℕ → Bool
 goes_on values p s = is_some (find (slice_cmp nat_cmp) (p ++ s ∷ []) values)
 
--- y is the least sign greater than s by which a string with a value goes on from p, or 0 where there is none
+-- y is the least sign greater than s by which a string with a value goes on from p, or 0 where
+-- there is none
 abbrev pub IsNextSign : {X : Type 0} → List (List ℕ × X) → List ℕ → ℕ → ℕ → Type 0
 IsNextSign values p s y = IsNext (goes_on values p) s y
 
@@ -29,7 +30,8 @@ number_before xs k = get_or (0 ∷ xs) k 0
 
 -- the list has the numbers that pass the test, but for 0, in rising order
 pub record ArePassing (test : ℕ → Bool) (xs : List ℕ) : Type 0 where
-  pub each : (k : ℕ) → k < length xs → (0 < get_or xs k 0) × IsNext test (number_before xs k) (get_or xs k 0)
+  pub each : (k : ℕ) → k < length xs → (0 < get_or xs k 0)
+      × IsNext test (number_before xs k) (get_or xs k 0)
   pub last : IsNext test (number_before xs (length xs)) 0
 
 -- the family below the string has no sign but s

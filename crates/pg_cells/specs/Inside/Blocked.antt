@@ -1,13 +1,15 @@
 -- Bases that can't take a family, because of the cells and bases of others.
 use Rattle.std.specs.Prelude.{◌≡◌, ◌≢◌, ℕ, ◌+◌, ◌<◌, ◌≤◌, ◌⊎◌, true}
-use Rattle.pg_cells.specs.Lists.{Row, sign_at, base_at}
+use Rattle.pg_cells.specs.Inside.Lists.{Row, sign_at, base_at}
 
 module _ {V : Type 0} where
-  -- the base k can't take the family that stands at `placed`: it is a family's, or a cell that it would have is taken, and not by
-  -- the family itself
+  -- the base k can't take the family that stands at `placed`: it is a family's, or a cell that it
+  -- would have is taken, and not by the family itself
   abbrev pub IsBlocked : Row V → ℕ → ℕ → Type 0
   IsBlocked r placed k =
-      (base_at r k ≡ true) ⊎ ((x : ℕ) × (0 < x) × (sign_at r (placed + x) ≡ x) × (sign_at r (k + x) ≢ 0) × (sign_at r (k + x) + placed ≢ k + x))
+      (base_at r k ≡ true) ⊎
+      ((x : ℕ) × (0 < x) × (sign_at r (placed + x) ≡ x)
+      × (sign_at r (k + x) ≢ 0) × (sign_at r (k + x) + placed ≢ k + x))
 
   -- no base from `from` on and below `placed` can take the family that stands there
   abbrev pub AreBlocked : Row V → ℕ → ℕ → Type 0

@@ -6,8 +6,8 @@ use Rattle.std.specs.Cmp.Lexicographic.{slice_cmp}
 use Rattle.std.specs.FinMap.{find}
 use Rattle.pg_types.specs.Placement.{Family, Families, cell_of, without_sign}
 use Rattle.pg_cells.specs.ValuedFamilies.{ValuedFamilies, without_key}
-use Rattle.pg_cells.specs.AreValuedFamilies.{AreValuedFamilies}
-use Rattle.pg_cells.specs.Walks.{EndsBefore}
+use Rattle.pg_cells.specs.Inside.AreValuedFamilies.{AreValuedFamilies}
+use Rattle.pg_cells.specs.Inside.Walks.{EndsBefore}
 
 -- a family with the signs whose strings pass the test, or none where no sign does
 abbrev pub kept_one : (List ℕ → Bool) → List ℕ × Family → Families
@@ -33,7 +33,9 @@ pub record IsDropped (old new : ValuedFamilies ℕ) (q : List ℕ) : Type 0 wher
 
 -- why a string keeps its cell: it has none, or one sign, or a list, or some string goes on from it
 abbrev pub IsNeeded : ValuedFamilies ℕ → List ℕ → Type 0
-IsNeeded old q = (cell_of old.families q ≡ None) ⊎ ((length q ≤ 1) ⊎ (((v : ℕ) × (find (slice_cmp nat_cmp) q old.values ≡ Some v) × (v ≢ 0)) ⊎ ((x : ℕ) × (v : ℕ) × (find (slice_cmp nat_cmp) (q ++ x ∷ []) old.values ≡ Some v))))
+IsNeeded old q = (cell_of old.families q ≡ None) ⊎
+    ((length q ≤ 1) ⊎ (((v : ℕ) × (find (slice_cmp nat_cmp) q old.values ≡ Some v) × (v ≢ 0)) ⊎
+    ((x : ℕ) × (v : ℕ) × (find (slice_cmp nat_cmp) (q ++ x ∷ []) old.values ≡ Some v))))
 
 -- the string lost its cell where that was not needed, and else nothing changed
 pub record Drops (old new : ValuedFamilies ℕ) (q : List ℕ) : Type 0 where
@@ -42,35 +44,48 @@ pub record Drops (old new : ValuedFamilies ℕ) (q : List ℕ) : Type 0 where
   pub either : ((new ≡ old) × IsNeeded old q) ⊎ IsDropped old new q
   pub cells : (r : List ℕ) → r ≢ q → cell_of new.families r ≡ cell_of old.families r
 
--- the test tells which strings are to keep their cells: those of one sign, those with a list, and those from which a string that
--- keeps its cell goes on
+-- the test tells which strings are to keep their cells: those of one sign, those with a list, and
+-- those from which a string that keeps its cell goes on
 pub record IsKeep (keep : List ℕ → Bool) (h : ValuedFamilies ℕ) : Type 0 where
   pub single : (q : List ℕ) → length q ≤ 1 → keep q ≡ true
-  pub listed : (q : List ℕ) (v : ℕ) → find (slice_cmp nat_cmp) q h.values ≡ Some v → v ≢ 0 → keep q ≡ true
+  pub listed : (q : List ℕ) (v : ℕ) → find (slice_cmp nat_cmp) q h.values ≡ Some v
+      → v ≢ 0 → keep q ≡ true
   pub goes_on : (q : List ℕ) (x : ℕ) → keep (q ++ x ∷ []) ≡ true → keep q ≡ true
-  pub blank : (q : List ℕ) → 1 < length q → find (slice_cmp nat_cmp) q h.values ≡ Some 0 → ((x v : ℕ) → find (slice_cmp nat_cmp) (q ++ x ∷ []) h.values ≡ Some v → keep (q ++ x ∷ []) ≡ false) → keep q ≡ false
+  pub blank : (q : List ℕ) → 1 < length q → find (slice_cmp nat_cmp) q h.values ≡ Some 0
+      → ((x v : ℕ) → find (slice_cmp nat_cmp) (q ++ x ∷ []) h.values ≡ Some v
+      → keep (q ++ x ∷ []) ≡ false) → keep q ≡ false
 
 -- some strings that are not to keep their cells have lost them
 pub record PrunesSome (keep : List ℕ → Bool) (old new : ValuedFamilies ℕ) : Type 0 where
   pub held : AreValuedFamilies new
   pub signs : new.signs ≡ old.signs
-  pub either : (q : List ℕ) → (find (slice_cmp nat_cmp) q new.values ≡ find (slice_cmp nat_cmp) q old.values) ⊎ ((find (slice_cmp nat_cmp) q new.values ≡ None) × (keep q ≡ false))
-  pub families : new.families ≡ kept_by (λ q. is_some (find (slice_cmp nat_cmp) q new.values)) old.families
+  pub either : (q : List ℕ)
+      → (find (slice_cmp nat_cmp) q new.values ≡ find (slice_cmp nat_cmp) q old.values) ⊎
+      ((find (slice_cmp nat_cmp) q new.values ≡ None) × (keep q ≡ false))
+  pub families : new.families
+      ≡ kept_by (λ q. is_some (find (slice_cmp nat_cmp) q new.values)) old.families
 
 -- the string r goes on from q
 abbrev pub IsBelow : List ℕ → List ℕ → Type 0
 IsBelow q r = (x : ℕ) × (more : List ℕ) × (r ≡ q ++ x ∷ more)
 
--- of the strings that go on from q by a sign before s, or by any where s is 0, those that are not to keep their cells have lost
--- them; other strings are as before
+-- of the strings that go on from q by a sign before s, or by any where s is 0, those that are not
+-- to keep their cells have lost them; other strings are as before
 pub record PrunesTo (old new : ValuedFamilies ℕ) (q : List ℕ) (s : ℕ) : Type 0 where
   pub held : AreValuedFamilies new
   pub signs : new.signs ≡ old.signs
-  pub less : (r : List ℕ) (v : ℕ) → find (slice_cmp nat_cmp) r new.values ≡ Some v → find (slice_cmp nat_cmp) r old.values ≡ Some v
-  pub elsewhere : (r : List ℕ) → (IsBelow q r → ⊥) → (find (slice_cmp nat_cmp) r new.values ≡ find (slice_cmp nat_cmp) r old.values) × (cell_of new.families r ≡ cell_of old.families r)
-  pub some : (keep : List ℕ → Bool) (start : ValuedFamilies ℕ) → IsKeep keep start → AreValuedFamilies start → PrunesSome keep start old → PrunesSome keep start new
-  pub gone : (keep : List ℕ → Bool) (start : ValuedFamilies ℕ) → IsKeep keep start → AreValuedFamilies start → PrunesSome keep start old
-      → (x : ℕ) (more : List ℕ) → (s ≡ 0) ⊎ (x < s) → keep (q ++ x ∷ more) ≡ false → find (slice_cmp nat_cmp) (q ++ x ∷ more) new.values ≡ None
+  pub less : (r : List ℕ) (v : ℕ) → find (slice_cmp nat_cmp) r new.values ≡ Some v
+      → find (slice_cmp nat_cmp) r old.values ≡ Some v
+  pub elsewhere : (r : List ℕ) → (IsBelow q r → ⊥)
+      → (find (slice_cmp nat_cmp) r new.values ≡ find (slice_cmp nat_cmp) r old.values)
+      × (cell_of new.families r ≡ cell_of old.families r)
+  pub some : (keep : List ℕ → Bool) (start : ValuedFamilies ℕ)
+      → IsKeep keep start → AreValuedFamilies start
+      → PrunesSome keep start old → PrunesSome keep start new
+  pub gone : (keep : List ℕ → Bool) (start : ValuedFamilies ℕ)
+      → IsKeep keep start → AreValuedFamilies start → PrunesSome keep start old
+      → (x : ℕ) (more : List ℕ) → (s ≡ 0) ⊎ (x < s)
+      → keep (q ++ x ∷ more) ≡ false → find (slice_cmp nat_cmp) (q ++ x ∷ more) new.values ≡ None
 
 -- of all that go on from q
 abbrev pub PrunesBelow : ValuedFamilies ℕ → ValuedFamilies ℕ → List ℕ → Type 0
@@ -80,6 +95,7 @@ PrunesBelow old new q = PrunesTo old new q 0
 pub record Prunes (keep : List ℕ → Bool) (old new : ValuedFamilies ℕ) : Type 0 where
   pub held : AreValuedFamilies new
   pub signs : new.signs ≡ old.signs
-  pub stays : (q : List ℕ) → keep q ≡ true → find (slice_cmp nat_cmp) q new.values ≡ find (slice_cmp nat_cmp) q old.values
+  pub stays : (q : List ℕ) → keep q ≡ true
+      → find (slice_cmp nat_cmp) q new.values ≡ find (slice_cmp nat_cmp) q old.values
   pub gone : (q : List ℕ) → keep q ≡ false → find (slice_cmp nat_cmp) q new.values ≡ None
   pub families : new.families ≡ kept_by keep old.families

@@ -2,16 +2,23 @@
 use Rattle.std.specs.Prelude.{◌≡◌, ◌≢◌, ℕ, ◌+◌, ◌<◌, ◌≤◌, ◌^◌, min, Bool, List, [], ◌∷◌, length, get_or, slice_get, false, refl}
 use Rattle.std.specs.Coded.{Coded, code_by, coded×, coded_ℕ, coded_bool, coded_list}
 use Rattle.pg_cells.specs.declared.cell.Cell.{Cell}
-use Rattle.pg_cells.specs.Lists.{Row, lists, row_of, sign_at, child_at, base_at}
-use Rattle.pg_cells.specs.Linked.{AreLinked}
-use Rattle.pg_cells.specs.Blocked.{AreBlocked}
-use Rattle.pg_cells.specs.Bounds.{AreBounds}
+use Rattle.pg_cells.specs.declared.member.Member.{Member}
+use Rattle.pg_cells.specs.Inside.Lists.{Row, lists, row_of, sign_at, child_at, base_at}
+use Rattle.pg_cells.specs.Inside.Linked.{AreLinked}
+use Rattle.pg_cells.specs.Inside.Blocked.{AreBlocked}
+use Rattle.pg_cells.specs.Inside.Bounds.{AreBounds}
+
+abbrev pub member_code : {V : Type 0} → Coded V → Coded (Member V)
+member_code {V} code = code_by (V × (ℕ × ℕ)) (coded× code (coded× coded_ℕ coded_ℕ))
+    (λ m. (m.value, (m.next, m.first))) (λ p. record { value = p.0; next = p.1.0; first = p.1.1 })
+    (λ _. refl)
 
 abbrev pub row_code : {V : Type 0} → Coded V → Coded (Row V)
 row_code {V} code =
     code_by
     (List ℕ × (List ℕ × (List V × List Bool)))
-    (coded× (coded_list coded_ℕ) (coded× (coded_list coded_ℕ) (coded× (coded_list code) (coded_list coded_bool))))
+    (coded× (coded_list coded_ℕ)
+    (coded× (coded_list coded_ℕ) (coded× (coded_list code) (coded_list coded_bool))))
     (λ r. (r.signs, (r.children, (r.values, r.bases))))
     (λ p. record { signs = p.0; children = p.1.0; values = p.1.1.0; bases = p.1.1.1 })
     (λ _. refl)
@@ -32,17 +39,20 @@ module _ {V : Type 0} where
   abbrev pub taken_in : Row V → ℕ
   taken_in r = how_many r.signs
 
+module _ {V : Type 0} where
   pub record IsKept (cells : List (Cell V)) (top taken : ℕ) : Type 0 where
     pub linked : AreLinked (lists cells)
     pub small : length cells < 2 ^ 32
     pub greatest : IsTop (row_of cells).signs top
     pub count : taken ≡ taken_in (row_of cells)
 
-  pub record IsStore (cells : List (Cell V)) (top taken : ℕ) (lows : List ℕ) (freed dropped placed sought : ℕ) : Type 0 where
+  pub record IsStore (cells : List (Cell V)) (top taken : ℕ)
+      (lows : List ℕ) (freed dropped placed sought : ℕ) : Type 0 where
     pub kept : IsKept cells top taken
     pub bounds : AreBounds (row_of cells) lows freed dropped
     pub blocked : AreBlocked (row_of cells) placed sought
 
+module _ {V : Type 0} where
   -- the new row is the old one with free cells at its end
   pub record Extends (old new : Row V) : Type 0 where
     pub longer : length old.signs ≤ length new.signs
@@ -54,4 +64,9 @@ module _ {V : Type 0} where
 
   -- one free cell
   abbrev pub one_free : V → Row V
-  one_free value = record { signs = 0 ∷ []; children = 0 ∷ []; values = value ∷ []; bases = false ∷ [] }
+  one_free value = record {
+    signs = 0 ∷ [];
+    children = 0 ∷ [];
+    values = value ∷ [];
+    bases = false ∷ [];
+  }

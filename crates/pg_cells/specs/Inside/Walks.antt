@@ -18,13 +18,20 @@ module _ {V : Type 0} where
 
   -- the sign s below the string q has a cell as before, or it gets one and the value
   abbrev pub StepsBy : ℕ → Option ℕ → ValuedFamilies V → ValuedFamilies V → List ℕ → ℕ → V → Type 0
-  StepsBy few None old new q s v = new ≡ record old { families = with_sign few old.signs old.families q s; values = put (slice_cmp nat_cmp) (q ++ s ∷ []) v old.values }
+  StepsBy few None old new q s v = new
+      ≡ record old {
+        families = with_sign few old.signs old.families q s;
+        values = put (slice_cmp nat_cmp) (q ++ s ∷ []) v old.values;
+      }
   StepsBy few (Some cell) old new q s v = new ≡ old
 
   abbrev pub Steps : ℕ → ValuedFamilies V → ValuedFamilies V → List ℕ → ℕ → V → Type 0
   Steps few old new q s v = StepsBy few (cell_of old.families (q ++ s ∷ [])) old new q s v
 
-  -- each string keeps its value, and a string that has one only now is a prefix of w, and its value is the blank
+  -- each string keeps its value, and a string that has one only now is a prefix of w, and its value
+  -- is the blank
   pub record AddsBlanks (w : List ℕ) (blank : V) (old new : List (List ℕ × V)) : Type 0 where
-    pub keeps : (q : List ℕ) (v : V) → find (slice_cmp nat_cmp) q old ≡ Some v → find (slice_cmp nat_cmp) q new ≡ Some v
-    pub blanks : (q : List ℕ) (v : V) → find (slice_cmp nat_cmp) q old ≡ None → find (slice_cmp nat_cmp) q new ≡ Some v → (v ≡ blank) × (k : ℕ) × (q ≡ take k w)
+    pub keeps : (q : List ℕ) (v : V) → find (slice_cmp nat_cmp) q old ≡ Some v
+        → find (slice_cmp nat_cmp) q new ≡ Some v
+    pub blanks : (q : List ℕ) (v : V) → find (slice_cmp nat_cmp) q old ≡ None
+        → find (slice_cmp nat_cmp) q new ≡ Some v → (v ≡ blank) × (k : ℕ) × (q ≡ take k w)

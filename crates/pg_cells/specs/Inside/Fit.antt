@@ -2,7 +2,7 @@
 use Rattle.std.specs.Prelude.{ℕ, ◌+◌, Bool, not, ◌&&◌, nat_eq, List, map, Option}
 use Rattle.std.specs.List.{list_all, find}
 use Rattle.pg_cells.specs.declared.fit.Slot.{Slot}
-use Rattle.pg_cells.specs.Lists.{Row, sign_at, base_at}
+use Rattle.pg_cells.specs.Inside.Lists.{Row, sign_at, base_at}
 
 abbrev pub signs_of : {V : Type 0} → List (Slot V) → List ℕ
 signs_of slots = map (λ s. s.sign) slots

@@ -1,9 +1,9 @@
 -- Bounds by sign below which no base is free.
 use Rattle.std.specs.Prelude.{◌≡◌, ◌≢◌, ℕ, ◌+◌, ◌<◌, false, List, get_or}
-use Rattle.pg_cells.specs.Lists.{Row, sign_at, base_at}
+use Rattle.pg_cells.specs.Inside.Lists.{Row, sign_at, base_at}
 
--- the base is below the bound of the sign and below each base that was given up, and its cell of the sign is below each cell
--- that was given up
+-- the base is below the bound of the sign and below each base that was given up, and its cell of
+-- the sign is below each cell that was given up
 pub record IsBelow (lows : List ℕ) (freed dropped sign base : ℕ) : Type 0 where
   pub under_low : base < get_or lows sign 0
   pub under_base : base < dropped
@@ -15,4 +15,5 @@ NoneFree r sign base = base_at r base ≡ false → sign_at r (base + sign) ≢ 
 
 -- the bounds of the row, after the least cell and the least base that were given up
 abbrev pub AreBounds : {V : Type 0} → Row V → List ℕ → ℕ → ℕ → Type 0
-AreBounds r lows freed dropped = (sign base : ℕ) → 0 < base → IsBelow lows freed dropped sign base → NoneFree r sign base
+AreBounds r lows freed dropped = (sign base : ℕ) → 0 < base
+    → IsBelow lows freed dropped sign base → NoneFree r sign base

@@ -11,9 +11,9 @@ use Rattle.std.specs.List.{range_with_len}
 use Rattle.std.specs.Coded.{Coded, Coded-set}
 use mathlib.Core.HLevel.{Σ_prop_path}
 use Rattle.pg_types.specs.Placement.{Family, family_at, cell_of}
-use Rattle.pg_cells.specs.Lists.{Row, child_at}
+use Rattle.pg_cells.specs.Inside.Lists.{Row, child_at}
 use Rattle.pg_cells.specs.ValuedFamilies.{Trie, trie_code}
-use Rattle.pg_cells.specs.Layouts.{IsLayout, IsTrie, standing, value_in}
+use Rattle.pg_cells.specs.Inside.Layouts.{IsLayout, IsTrie, standing, value_in}
 
 -- a string is empty, or has a last sign
 pub record HasLast (p : List ℕ) : Type 0 where
@@ -30,28 +30,39 @@ last_of (x ∷ xs) = inr (elim (last_of xs) [
 
 module _ {V : Type 0} (n : ℕ) (r : Row V) where
   -- a family of one placement is a family of the other
-  found_too : (F G : List ℕ → Option Family) → IsLayout n r F → IsLayout n r G → (k : ℕ) (p : List ℕ) (f : Family) → length p ≤ k → F p ≡ Some f → G p ≡ Some f
+  found_too : (F G : List ℕ → Option Family) → IsLayout n r F
+      → IsLayout n r G → (k : ℕ) (p : List ℕ) (f : Family)
+      → length p ≤ k → F p ≡ Some f → G p ≡ Some f
   found_too F G a b k p f le at = by k p f le at (last_of p)
     where
       at_root : (p : List ℕ) (f : Family) → F p ≡ Some f → p ≡ [] → G p ≡ Some f
       at_root p f at e =
-          let same : Some (record { base = 0; signs = range_with_len 1 n }) ≡ Some f = sym a.root ∙ ap F (sym e) ∙ at in
+          let same : Some (record { base = 0; signs = range_with_len 1 n })
+          ≡ Some f = sym a.root ∙ ap F (sym e) ∙ at in
           ap G e ∙ b.root ∙ same
 
-      by : (k : ℕ) (p : List ℕ) (f : Family) → length p ≤ k → F p ≡ Some f → (p ≡ []) ⊎ HasLast p → G p ≡ Some f
+      by : (k : ℕ) (p : List ℕ) (f : Family) → length p ≤ k
+          → F p ≡ Some f → (p ≡ []) ⊎ HasLast p → G p ≡ Some f
       by k p f le at (inl e) = at_root p f at e
-      by zero p f le at (inr h) = absurd (omega (arith, ap length h.whole, length_push h.front h.last))
+      by zero p f le at (inr h) =
+          absurd (omega (arith, ap length h.whole, length_push h.front h.last))
       by (suc k) p f le at (inr h) =
           let up = a.parent h.front h.last f (ap F (sym h.whole) ∙ at) in
-          let there : G h.front ≡ Some up.above = by k h.front up.above (omega (arith, ap length h.whole, length_push h.front h.last)) up.at (last_of h.front) in
-          let base : 0 < child_at r (up.above.base + h.last) = let e = up.child in let q = up.base in omega arith in
+          let there : G h.front ≡ Some up.above =
+          by k h.front up.above
+          (omega (arith, ap length h.whole, length_push h.front h.last)) up.at (last_of h.front) in
+          let base : 0 < child_at r (up.above.base + h.last) =
+          let e = up.child in let q = up.base in omega arith in
           let down = b.child h.front h.last up.above there up.positive up.sign base in
           let bases : down.0.base ≡ f.base = down.2 ∙ up.child in
-          let signs : down.0.signs ≡ f.signs = b.members (h.front ++ h.last ∷ []) down.0 down.1 ∙ ap (standing n r) bases ∙ sym (a.members p f at) in
+          let signs : down.0.signs
+          ≡ f.signs = b.members (h.front ++ h.last ∷ []) down.0 down.1
+          ∙ ap (standing n r) bases ∙ sym (a.members p f at) in
           let same : down.0 ≡ f = λ t. record { base = bases t; signs = signs t } in
           ap G h.whole ∙ down.1 ∙ ap Some same
 
-  same_found : (F G : List ℕ → Option Family) → IsLayout n r F → IsLayout n r G → (p : List ℕ) → F p ≡ G p
+  same_found : (F G : List ℕ → Option Family) → IsLayout n r F
+      → IsLayout n r G → (p : List ℕ) → F p ≡ G p
   same_found F G a b p = by (F p) (G p) refl refl
     where
       by : (x y : Option Family) → F p ≡ x → G p ≡ y → F p ≡ G p
@@ -61,9 +72,13 @@ module _ {V : Type 0} (n : ℕ) (r : Row V) where
 
   pub same_trie : (t u : Trie V) → IsTrie n r t → IsTrie n r u → t ≡ u
   same_trie t u a b =
-      let families : t.families ≡ u.families = same_entries (slice_cmp nat_cmp) nat_list_cmp_total (slice_cmp-IsAntisymmetric nat_cmp-IsAntisymmetric) t.families u.families a.sorted b.sorted
+      let families : t.families ≡ u.families =
+      same_entries (slice_cmp nat_cmp) nat_list_cmp_total
+      (slice_cmp-IsAntisymmetric nat_cmp-IsAntisymmetric) t.families u.families a.sorted b.sorted
       (same_found (family_at t.families) (family_at u.families) a.layout b.layout) in
-      let values : t.values ≡ u.values = same_entries (slice_cmp nat_cmp) nat_list_cmp_total (slice_cmp-IsAntisymmetric nat_cmp-IsAntisymmetric) t.values u.values a.ordered b.ordered
+      let values : t.values ≡ u.values =
+      same_entries (slice_cmp nat_cmp) nat_list_cmp_total
+      (slice_cmp-IsAntisymmetric nat_cmp-IsAntisymmetric) t.values u.values a.ordered b.ordered
       (λ q. a.has q ∙ ap (λ fs. value_in r (cell_of fs q)) families ∙ sym (b.has q)) in
       λ i. record { families = families i; values = values i }
 
@@ -74,12 +89,16 @@ Kept {V} n r = (t : Trie V) × ∥ IsTrie n r t ∥₁
 pub Kept-prop : {V : Type 0} → Coded V → (n : ℕ) (r : Row V) → IsProp (Kept n r)
 Kept-prop {V} code n r a b =
     Σ_prop_path (λ t. ∥∥₁_prop)
-    (∥∥₁_elim a.1 (Coded-set (trie_code code) a.0 b.0) (λ x. ∥∥₁_elim b.1 (Coded-set (trie_code code) a.0 b.0) (λ y. same_trie n r a.0 b.0 x y)))
+    (∥∥₁_elim a.1 (Coded-set (trie_code code) a.0 b.0)
+    (λ x. ∥∥₁_elim b.1 (Coded-set (trie_code code) a.0 b.0) (λ y. same_trie n r a.0 b.0 x y)))
 
 -- a kept trie is any that the row holds
-pub settled : {V : Type 0} → Coded V → (n : ℕ) (r : Row V) (kept : Kept n r) (t : Trie V) → IsTrie n r t → kept.0 ≡ t
-settled code n r kept t is = ∥∥₁_elim kept.1 (Coded-set (trie_code code) kept.0 t) (λ x. same_trie n r kept.0 t x is)
+pub settled : {V : Type 0} → Coded V → (n : ℕ) (r : Row V) (kept : Kept n r) (t : Trie V)
+    → IsTrie n r t → kept.0 ≡ t
+settled code n r kept t is = ∥∥₁_elim kept.1 (Coded-set (trie_code code) kept.0 t)
+    (λ x. same_trie n r kept.0 t x is)
 
 -- so where the row holds one, the kept one is held
-pub held : {V : Type 0} → Coded V → (n : ℕ) (r : Row V) (kept : Kept n r) (t : Trie V) → IsTrie n r t → IsTrie n r kept.0
+pub held : {V : Type 0} → Coded V → (n : ℕ) (r : Row V) (kept : Kept n r) (t : Trie V)
+    → IsTrie n r t → IsTrie n r kept.0
 held code n r kept t is = subst (IsTrie n r) (sym (settled code n r kept t is)) is

@@ -2,13 +2,17 @@
 use Rattle.std.specs.Prelude.{◌≡◌, ◌≢◌, ℕ, ◌+◌, ◌<◌, ◌≤◌, false, [], ◌∷◌, map, length, slice_get, Some}
 use Rattle.std.specs.List.{range_with_len}
 use Rattle.pg_types.specs.Placement.{root}
-use Rattle.pg_cells.specs.Lists.{Row, sign_at, child_at, base_at}
-use Rattle.pg_cells.specs.Store.{taken_in}
+use Rattle.pg_cells.specs.Inside.Lists.{Row, sign_at, child_at, base_at}
+use Rattle.pg_cells.specs.Inside.Store.{taken_in}
 use Rattle.pg_cells.specs.ValuedFamilies.{ValuedFamilies}
 
 -- the root family alone, each value blank
 abbrev pub root_held : {V : Type 0} → ℕ → V → ValuedFamilies V
-root_held n blank = record { signs = n; families = root n; values = map (λ x. (x ∷ [], blank)) (range_with_len 1 n) }
+root_held n blank = record {
+  signs = n;
+  families = root n;
+  values = map (λ x. (x ∷ [], blank)) (range_with_len 1 n);
+}
 
 module _ {V : Type 0} where
   -- the signs from 1 on and below k stand in their own cells, and nothing else is taken

@@ -1,7 +1,7 @@
--- The list through the free cells: each free cell once, in rising order. Cell 0 is always free and is the head of the list;
--- the cell before it is the last one, and 0 ends the list.
+-- The list through the free cells: each free cell once, in rising order. Cell 0 is always free and
+-- is the head of the list; the cell before it is the last one, and 0 ends the list.
 use Rattle.std.specs.Prelude.{◌≡◌, ◌≢◌, ℕ, ◌<◌, ◌≤◌, get_or}
-use Rattle.pg_cells.specs.Lists.{Lists}
+use Rattle.pg_cells.specs.Inside.Lists.{Lists}
 
 -- S is 0 at the free cells, and B and A give the free cell before and after
 pub record Linked (S B A : ℕ → ℕ) : Type 0 where
@@ -14,4 +14,5 @@ pub record Linked (S B A : ℕ → ℕ) : Type 0 where
   pub last_most : (j : ℕ) → S j ≡ 0 → j ≤ B 0
 
 abbrev pub AreLinked : {V : Type 0} → Lists V → Type 0
-AreLinked ls = Linked (λ j. get_or ls.row.signs j 1) (λ j. get_or ls.befores j 0) (λ j. get_or ls.afters j 0)
+AreLinked ls = Linked (λ j. get_or ls.row.signs j 1)
+    (λ j. get_or ls.befores j 0) (λ j. get_or ls.afters j 0)

@@ -9,7 +9,8 @@ use Rattle.pg_cells.specs.ValuedFamilies.{ValuedFamilies}
 
 -- strings with a value are short
 abbrev pub AreShort : ValuedFamilies ℕ → Type 0
-AreShort h = (q : List ℕ) (v : ℕ) → find (slice_cmp nat_cmp) q h.values ≡ Some v → length q ≤ PATTERN_SIGNS_MAX
+AreShort h = (q : List ℕ) (v : ℕ) → find (slice_cmp nat_cmp) q h.values ≡ Some v
+    → length q ≤ PATTERN_SIGNS_MAX
 
 -- a string that has a cell
 pub record IsString (h : ValuedFamilies ℕ) (q : List ℕ) : Type 0 where
@@ -22,16 +23,21 @@ abbrev pub StandsFrom : List (List ℕ × ℕ) → ℕ → List ℕ → Type 0
 StandsFrom items i q = (j : ℕ) × (i ≤ j) × (slice_get items j ≡ Some (q, 0))
 
 -- the strings of a family, of those with a sign below m, are put behind the others
-pub record PutsBelow (h : ValuedFamilies ℕ) (p : List ℕ) (m : ℕ) (old new : List (List ℕ × ℕ)) : Type 0 where
+pub record PutsBelow (h : ValuedFamilies ℕ) (p : List ℕ)
+    (m : ℕ) (old new : List (List ℕ × ℕ)) : Type 0 where
   pub keeps : (j : ℕ) (k : List ℕ × ℕ) → slice_get old j ≡ Some k → slice_get new j ≡ Some k
   pub longer : length old ≤ length new
-  pub sound : (j : ℕ) (k : List ℕ × ℕ) → slice_get new j ≡ Some k → (slice_get old j ≡ Some k) ⊎ IsString h k.0
-  pub below : (s cell : ℕ) → s < m → cell_of h.families (p ++ s ∷ []) ≡ Some cell → StandsFrom new (length old) (p ++ s ∷ [])
+  pub sound : (j : ℕ) (k : List ℕ × ℕ) → slice_get new j ≡ Some k
+      → (slice_get old j ≡ Some k) ⊎ IsString h k.0
+  pub below : (s cell : ℕ) → s < m → cell_of h.families (p ++ s ∷ []) ≡ Some cell
+      → StandsFrom new (length old) (p ++ s ∷ [])
 
 -- the list has the strings, and each before those with one sign more, as far as the number i
 pub record AreStringsTo (h : ValuedFamilies ℕ) (items : List (List ℕ × ℕ)) (i : ℕ) : Type 0 where
   pub sound : (j : ℕ) (k : List ℕ × ℕ) → slice_get items j ≡ Some k → IsString h k.0
-  pub below : (j : ℕ) (k : List ℕ × ℕ) → j < i → slice_get items j ≡ Some k → (s cell : ℕ) → cell_of h.families (k.0 ++ s ∷ []) ≡ Some cell → StandsFrom items (j + 1) (k.0 ++ s ∷ [])
+  pub below : (j : ℕ) (k : List ℕ × ℕ) → j < i → slice_get items j ≡ Some k
+      → (s cell : ℕ) → cell_of h.families (k.0 ++ s ∷ []) ≡ Some cell
+      → StandsFrom items (j + 1) (k.0 ++ s ∷ [])
   pub roots : (s cell : ℕ) → cell_of h.families (s ∷ []) ≡ Some cell → StandsFrom items 0 (s ∷ [])
 
 -- the list has the strings, and each before those with one sign more

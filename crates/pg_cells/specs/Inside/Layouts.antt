@@ -6,8 +6,8 @@ use Rattle.std.specs.Cmp.Lexicographic.{slice_cmp}
 use Rattle.std.specs.FinMap.{find}
 use Rattle.std.specs.FinMap.Entries.{is_sorted}
 use Rattle.pg_types.specs.Placement.{Family, family_at, cell_of, taken}
-use Rattle.pg_cells.specs.Lists.{Row, sign_at, child_at, base_at}
-use Rattle.pg_cells.specs.Store.{taken_in}
+use Rattle.pg_cells.specs.Inside.Lists.{Row, sign_at, child_at, base_at}
+use Rattle.pg_cells.specs.Inside.Store.{taken_in}
 use Rattle.pg_types.specs.declared.limits.TheConstants.{SIGNS_MAX}
 use Rattle.pg_cells.specs.ValuedFamilies.{Trie}
 
@@ -17,7 +17,8 @@ module _ {V : Type 0} where
   standing n r base = filter (λ x. nat_eq (sign_at r (base + x)) x) (range_with_len 1 n)
 
   -- what is told of the parent of the family f, which is at p and its sign x
-  pub record IsParent (r : Row V) (F : List ℕ → Option Family) (p : List ℕ) (x : ℕ) (f : Family) : Type 0 where
+  pub record IsParent (r : Row V) (F : List ℕ → Option Family)
+      (p : List ℕ) (x : ℕ) (f : Family) : Type 0 where
     pub above : Family
     pub at : F p ≡ Some above
     pub sign : sign_at r (above.base + x) ≡ x
@@ -25,20 +26,25 @@ module _ {V : Type 0} where
     pub base : 0 < f.base
     pub positive : 0 < x
 
-  -- the families F, by their prefixes, lie in the row: each family's signs stand at its base; the cell of a string tells the
-  -- base of the family below it; no two families have one base; and each taken cell and each flag belongs to a family
+  -- the families F, by their prefixes, lie in the row: each family's signs stand at its base; the
+  -- cell of a string tells the base of the family below it; no two families have one base; and each
+  -- taken cell and each flag belongs to a family
   pub record IsLayout (n : ℕ) (r : Row V) (F : List ℕ → Option Family) : Type 0 where
     pub root : F [] ≡ Some (record { base = 0; signs = range_with_len 1 n })
     pub members : (p : List ℕ) (f : Family) → F p ≡ Some f → f.signs ≡ standing n r f.base
     pub filled : (p : List ℕ) (f : Family) → F p ≡ Some f → f.signs ≢ []
     pub parent : (p : List ℕ) (x : ℕ) (f : Family) → F (p ++ x ∷ []) ≡ Some f → IsParent r F p x f
-    pub child : (p : List ℕ) (x : ℕ) (g : Family) → F p ≡ Some g → 0 < x → sign_at r (g.base + x) ≡ x → 0 < child_at r (g.base + x)
+    pub child : (p : List ℕ) (x : ℕ) (g : Family)
+        → F p ≡ Some g → 0 < x → sign_at r (g.base + x) ≡ x → 0 < child_at r (g.base + x)
         → (f : Family) × (F (p ++ x ∷ []) ≡ Some f) × (f.base ≡ child_at r (g.base + x))
-    pub apart : (p q : List ℕ) (f g : Family) → F p ≡ Some f → F q ≡ Some g → f.base ≡ g.base → p ≡ q
-    pub owned : (i : ℕ) → sign_at r i ≢ 0 → (p : List ℕ) × (f : Family) × (F p ≡ Some f) × (i ≡ f.base + sign_at r i)
+    pub apart : (p q : List ℕ) (f g : Family) → F p ≡ Some f
+        → F q ≡ Some g → f.base ≡ g.base → p ≡ q
+    pub owned : (i : ℕ) → sign_at r i ≢ 0 → (p : List ℕ)
+        × (f : Family) × (F p ≡ Some f) × (i ≡ f.base + sign_at r i)
     pub small : (i : ℕ) → sign_at r i ≤ n
     pub flag : (p : List ℕ) (f : Family) → F p ≡ Some f → base_at r f.base ≡ true
-    pub flagged : (b : ℕ) → base_at r b ≡ true → (p : List ℕ) × (f : Family) × (F p ≡ Some f) × (f.base ≡ b)
+    pub flagged : (b : ℕ) → base_at r b ≡ true
+        → (p : List ℕ) × (f : Family) × (F p ≡ Some f) × (f.base ≡ b)
 
   abbrev pub value_in : Row V → Option ℕ → Option V
   value_in r None = None

@@ -3,8 +3,8 @@ use Rattle.std.specs.Prelude.{◌≡◌, ℕ, Bool, true, false, nat_eq, nat_lt,
 use Rattle.std.specs.Ordering.{nat_cmp}
 use Rattle.std.specs.Cmp.Lexicographic.{slice_cmp}
 use Rattle.std.specs.FinMap.Entries.{find, where_key}
-use Rattle.pg_types.specs.Numbers.{Numbers}
-use Rattle.pg_count.specs.Counting.{Tallies, numbers_in}
+use Rattle.pg_types.specs.Inside.Numbers.{Numbers}
+use Rattle.pg_count.specs.Inside.Counting.{Tallies, numbers_in}
 
 -- the string r begins with p
 abbrev pub is_under : List ℕ → List ℕ → Bool
@@ -33,4 +33,5 @@ numbers_under p tallies = numbers_where (is_under p) (numbers_in tallies)
 
 -- each counted string has so many signs
 abbrev pub AreLong : Tallies → ℕ → Type 0
-AreLong tallies k = (u : List ℕ) (n : ℕ) → find (slice_cmp nat_cmp) u (numbers_in tallies) ≡ Some n → length u ≡ k
+AreLong tallies k = (u : List ℕ) (n : ℕ) → find (slice_cmp nat_cmp) u (numbers_in tallies) ≡ Some n
+    → length u ≡ k

@@ -7,8 +7,8 @@ use Rattle.pg_types.specs.declared.limits.TheConstants.{PATTERN_SIGNS_MAX, SIGNS
 use Rattle.pg_outputs.specs.declared.records.Record.{Record}
 use Rattle.pg_outputs.specs.Lists.{list_of}
 use Rattle.pg_cells.specs.ValuedFamilies.{ValuedFamilies}
-use Rattle.pg_cells.specs.AreValuedFamilies.{AreValuedFamilies}
-use Rattle.pg_trie.specs.Lists.{Rises, DotsUpTo}
+use Rattle.pg_cells.specs.Inside.AreValuedFamilies.{AreValuedFamilies}
+use Rattle.pg_trie.specs.Inside.Lists.{Rises, DotsUpTo}
 
 -- the head of a string: it has a list, which rises, and its dots are in the string
 pub record IsListHead (records : List Record) (q : List ℕ) (head : ℕ) : Type 0 where
@@ -20,4 +20,5 @@ pub record IsListHead (records : List Record) (q : List ℕ) (head : ℕ) : Type
 pub record IsTrie (cells : ValuedFamilies ℕ) (records : List Record) : Type 0 where
   pub signs : cells.signs ≤ SIGNS_MAX
   pub held : AreValuedFamilies cells
-  pub heads : (q : List ℕ) (head : ℕ) → find (slice_cmp nat_cmp) q cells.values ≡ Some head → IsListHead records q head
+  pub heads : (q : List ℕ) (head : ℕ) → find (slice_cmp nat_cmp) q cells.values ≡ Some head
+      → IsListHead records q head

@@ -1,17 +1,18 @@
 -- What a family's cells leave when they are collected, given up and put at another base.
 use Rattle.std.specs.Prelude.{◌≡◌, ◌≢◌, ℕ, ◌+◌, ◌<◌, ◌≤◌, ◌⊎◌, max, true, false, List, [], ◌∷◌, ◌++◌, length, take, get_or, slice_get, None, Some}
 use Rattle.pg_cells.specs.declared.fit.Slot.{Slot}
-use Rattle.pg_cells.specs.Lists.{Row, sign_at, child_at, base_at}
+use Rattle.pg_cells.specs.Inside.Lists.{Row, sign_at, child_at, base_at}
 use Rattle.pg_types.specs.Placement.{lowest_base, IsLeast}
-use Rattle.pg_cells.specs.Store.{taken_in, IsTop}
-use Rattle.pg_cells.specs.Writes.{Takes, SetsBase, SetsChild}
-use Rattle.pg_cells.specs.Fit.{signs_of, slot_of, fits_row}
-use Rattle.pg_cells.specs.Layouts.{standing}
+use Rattle.pg_cells.specs.Inside.Store.{taken_in, IsTop}
+use Rattle.pg_cells.specs.Inside.Writes.{Takes, SetsBase, SetsChild}
+use Rattle.pg_cells.specs.Inside.Fit.{signs_of, slot_of, fits_row}
+use Rattle.pg_cells.specs.Inside.Layouts.{standing}
 
 module _ {V : Type 0} where
   -- no two slots have one sign
   abbrev pub AreDistinct : List (Slot V) → Type 0
-  AreDistinct slots = (k : ℕ) → k < length slots → slot_of (take k slots) (get_or (signs_of slots) k 0) ≡ None
+  AreDistinct slots = (k : ℕ) → k < length slots
+      → slot_of (take k slots) (get_or (signs_of slots) k 0) ≡ None
 
   -- the cell is none of those that the slots have at the base
   abbrev pub Outside : ℕ → List (Slot V) → ℕ → Type 0
@@ -35,7 +36,8 @@ module _ {V : Type 0} where
   pub record Puts (old new : Row V) (base : ℕ) (slots : List (Slot V)) : Type 0 where
     pub others : Others old new base slots
     pub at : (x : ℕ) (slot : Slot V) → slot_of slots x ≡ Some slot
-        → (sign_at new (base + x) ≡ x) × (child_at new (base + x) ≡ slot.child) × (slice_get new.values (base + x) ≡ Some slot.value)
+        → (sign_at new (base + x) ≡ x) × (child_at new (base + x) ≡ slot.child)
+        × (slice_get new.values (base + x) ≡ Some slot.value)
     pub count : taken_in new ≡ taken_in old + length slots
 
   -- what a slot tells of the cell of the sign x at the base
@@ -54,31 +56,39 @@ module _ {V : Type 0} where
   -- the slot of the cell of the sign x is added, where the sign stands at the base
   abbrev pub Collects : Row V → ℕ → ℕ → List (Slot V) → List (Slot V) → Type 0
   Collects r base x old new =
-      ((sign_at r (base + x) ≢ x) × (new ≡ old)) ⊎ ((slot : Slot V) × (Tells r base x slot) × (slot.sign ≡ x) × (new ≡ old ++ slot ∷ []))
+      ((sign_at r (base + x) ≢ x) × (new ≡ old)) ⊎
+      ((slot : Slot V) × (Tells r base x slot) × (slot.sign ≡ x) × (new ≡ old ++ slot ∷ []))
 
   -- the base of a family is dropped, where there is one
   abbrev pub Drops : Row V → Row V → ℕ → Type 0
   Drops old new was = ((was ≡ 0) × (new ≡ old)) ⊎ ((0 < was) × (SetsBase old new was false))
 
-  -- what lets a family be settled: where its slots stand, that there is room past the last cell, and that each base has a cell
-  pub record CanPlace (n : ℕ) (r : Row V) (was : ℕ) (slots : List (Slot V)) (slot : Slot V) (parent : ℕ) : Type 0 where
+  -- what lets a family be settled: where its slots stand, that there is room past the last cell,
+  -- and that each base has a cell
+  pub record CanPlace (n : ℕ) (r : Row V) (was : ℕ)
+      (slots : List (Slot V)) (slot : Slot V) (parent : ℕ) : Type 0 where
     pub distinct : AreDistinct slots
-    pub stand : (x : ℕ) (k : Slot V) → slot_of slots x ≡ Some k → (0 < x) × (x ≤ n) × (sign_at r (was + x) ≢ 0) × (k.child < length r.signs)
+    pub stand : (x : ℕ) (k : Slot V) → slot_of slots x ≡ Some k
+        → (0 < x) × (x ≤ n) × (sign_at r (was + x) ≢ 0) × (k.child < length r.signs)
     pub new : slot_of slots slot.sign ≡ None
     pub sign : (0 < slot.sign) × (slot.sign ≤ n)
     pub child : slot.child ≡ 0
     pub parent_taken : sign_at r parent ≢ 0
     pub parent_other : Outside was slots parent
     pub room : (i : ℕ) → sign_at r i ≢ 0 → i + n + 1 < length r.signs
-    pub rooted : (b : ℕ) → base_at r b ≡ true → b ≢ was → 0 < b → (y : ℕ) × (0 < y) × (sign_at r (b + y) ≢ 0) × (Outside was slots (b + y))
-    -- each slot's sign stands there, and no other; the new sign's cell is taken; and each taken cell belongs to a base
+    pub rooted : (b : ℕ) → base_at r b ≡ true → b ≢ was
+        → 0 < b → (y : ℕ) × (0 < y) × (sign_at r (b + y) ≢ 0) × (Outside was slots (b + y))
+    -- each slot's sign stands there, and no other; the new sign's cell is taken; and each taken
+    -- cell belongs to a base
     pub stands : (x : ℕ) (k : Slot V) → slot_of slots x ≡ Some k → sign_at r (was + x) ≡ x
-    pub owns : (x : ℕ) → 0 < was → 0 < x → sign_at r (was + x) ≡ x → (k : Slot V) × (slot_of slots x ≡ Some k)
+    pub owns : (x : ℕ) → 0 < was → 0 < x → sign_at r (was + x) ≡ x
+        → (k : Slot V) × (slot_of slots x ≡ Some k)
     pub sign_taken : 0 < was → sign_at r (was + slot.sign) ≢ 0
     pub based : (i : ℕ) → sign_at r i ≢ 0 → (b : ℕ) × (base_at r b ≡ true) × (i ≡ b + sign_at r i)
 
   -- a family gave up its cells and its base, and was put with one sign more at the least base
-  pub record Moved (few n : ℕ) (old new : Row V) (was base : ℕ) (slots : List (Slot V)) (slot : Slot V) (parent : ℕ) : Type 0 where
+  pub record Moved (few n : ℕ) (old new : Row V) (was base : ℕ)
+      (slots : List (Slot V)) (slot : Slot V) (parent : ℕ) : Type 0 where
     pub gave : Row V
     pub dropped : Row V
     pub settled : Row V
@@ -88,7 +98,8 @@ module _ {V : Type 0} where
     pub drops : Drops gave dropped was
     pub top : ℕ
     pub is_top : IsTop dropped.signs top
-    pub least : IsLeast (fits_row dropped (slot.sign ∷ signs_of slots)) (lowest_base few n (length slots + 1) top) base
+    pub least : IsLeast (fits_row dropped (slot.sign ∷ signs_of slots))
+        (lowest_base few n (length slots + 1) top) base
     pub near : base ≤ max 1 top
     pub puts : Puts dropped settled base slots
     pub takes : Takes settled took (base + slot.sign) slot.sign slot.value slot.child
@@ -99,4 +110,5 @@ module _ {V : Type 0} where
   abbrev pub Prunes : ℕ → Row V → Row V → ℕ → ℕ → Type 0
   Prunes n old new base parent =
       ((standing n old base ≢ []) × (new ≡ old))
-      ⊎ ((mid : Row V) × (standing n old base ≡ []) × (SetsChild old mid parent 0) × (SetsBase mid new base false))
+      ⊎ ((mid : Row V) × (standing n old base ≡ [])
+      × (SetsChild old mid parent 0) × (SetsBase mid new base false))

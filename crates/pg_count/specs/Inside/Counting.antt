@@ -7,13 +7,13 @@ use Rattle.std.specs.Cmp.Lexicographic.{slice_cmp}
 use Rattle.std.specs.FinMap.Entries.{find, is_sorted}
 use Rattle.pg_types.specs.declared.limits.TheConstants.{LENGTH_MAX}
 use Rattle.pg_cells.specs.ValuedFamilies.{ValuedFamilies}
-use Rattle.pg_cells.specs.AreValuedFamilies.{AreValuedFamilies}
+use Rattle.pg_cells.specs.Inside.AreValuedFamilies.{AreValuedFamilies}
 use Rattle.pg_types.specs.Counts.{Counts, SignsWithin, is_counted, with_count}
 use Rattle.pg_types.specs.Numbered.{Windows, with_window}
-use Rattle.pg_types.specs.Numbers.{Numbers, AreNumbers, by_number}
+use Rattle.pg_types.specs.Inside.Numbers.{Numbers, AreNumbers, by_number}
 
--- the number of signs of the table; how many signs a window has; the counts of the windows; and the windows in the order of their
--- numbers
+-- the number of signs of the table; how many signs a window has; the counts of the windows; and the
+-- windows in the order of their numbers
 pub record Counting : Type 0 where
   pub signs : ℕ
   pub len : ℕ
@@ -32,7 +32,11 @@ pub record IsCounting (c : Counting) : Type 0 where
 
 -- a window was counted: its sums have the weight, and it is among the windows
 abbrev pub counted_more : Counting → List ℕ → Bool → ℕ → Counting
-counted_more c u good weight = record c { counts = with_count c.counts u good weight; windows = with_window c.windows c.counts u }
+counted_more c u good weight =
+    record c {
+      counts = with_count c.counts u good weight;
+      windows = with_window c.windows c.counts u;
+    }
 
 -- the number of a string, and its sums
 abbrev pub Tally : Type 0
@@ -70,7 +74,13 @@ numbers_in tallies = seen_in number_seen tallies
 
 -- a count trie by its cells
 abbrev pub counting_of : ValuedFamilies (Option Tally) → ℕ → Counting
-counting_of cells len = record { signs = cells.signs; len = len; counts = counts_in cells.values; windows = by_number (numbers_in cells.values) }
+counting_of cells len =
+    record {
+      signs = cells.signs;
+      len = len;
+      counts = counts_in cells.values;
+      windows = by_number (numbers_in cells.values);
+    }
 
 -- what is always true of the cells
 pub record AreCounting (cells : ValuedFamilies (Option Tally)) (len : ℕ) : Type 0 where

@@ -1,0 +1,123 @@
+-- The parts of the cells, each as a list by the cells' indices.
+use Rattle.std.specs.Prelude.{◌≡◌, ℕ, ◌+◌, ◌*◌, Bool, false, if◌then◌else◌, nat_eq, List, [], ◌∷◌, ◌++◌, map, set, get_or, zero, suc}
+use Rattle.pg_cells.specs.declared.cell.Cell.{Cell}
+use Rattle.pg_cells.specs.declared.cell.TheConstants.{HALF_COUNT}
+use Rattle.pg_cells.specs.declared.member.Member.{Member}
+
+-- what the families see of the cells: the sign, 0 in a free cell; the base of the child family, 0
+-- for none; the value; and whether the index is the base of a family
+pub record Row (V : Type 0) : Type 0 where
+  pub signs : List ℕ
+  pub children : List ℕ
+  pub values : List V
+  pub bases : List Bool
+
+-- and the links of the free cells
+pub record Lists (V : Type 0) : Type 0 where
+  pub row : Row V
+  pub befores : List ℕ
+  pub afters : List ℕ
+
+-- the number of two halves
+abbrev pub pair_of : ℕ → ℕ → ℕ
+pair_of high low = high * HALF_COUNT + low
+
+module _ {V : Type 0} where
+  abbrev pub sign_at : Row V → ℕ → ℕ
+  sign_at r cell = get_or r.signs cell 0
+
+  -- no cell past the end is free
+  abbrev pub IsFree : Row V → ℕ → Type 0
+  IsFree r cell = get_or r.signs cell 1 ≡ 0
+
+  abbrev pub child_at : Row V → ℕ → ℕ
+  child_at r cell = get_or r.children cell 0
+
+  abbrev pub base_at : Row V → ℕ → Bool
+  base_at r cell = get_or r.bases cell false
+
+  abbrev pub before_at : Lists V → ℕ → ℕ
+  before_at ls cell = get_or ls.befores cell 0
+
+  abbrev pub after_at : Lists V → ℕ → ℕ
+  after_at ls cell = get_or ls.afters cell 0
+
+  abbrev pub child_seen : Cell V → ℕ
+  child_seen c = if nat_eq c.sign 0 then 0 else c.link
+
+  -- a value without links
+  abbrev pub lone : V → Member V
+  lone v = record { value = v; next = 0; first = 0 }
+
+  -- the value at the index loses its links
+  abbrev pub bared : List (Member V) → ℕ → List (Member V)
+  bared [] i = []
+  bared (m ∷ ms) zero = lone m.value ∷ ms
+  bared (m ∷ ms) (suc i) = m ∷ bared ms i
+
+  -- a free cell has no links of a family
+  abbrev pub member_seen : Cell V → Member V
+  member_seen c = if nat_eq c.sign 0 then lone c.value
+      else record { value = c.value; next = c.next; first = c.first }
+
+  -- the number of the free cell before, by its two halves
+  abbrev pub before_seen : Cell V → ℕ
+  before_seen c = pair_of c.next c.first
+
+  abbrev pub row_of : List (Cell V) → Row (Member V)
+  row_of cells = record {
+    signs = map (λ c. c.sign) cells;
+    children = map child_seen cells;
+    values = map member_seen cells;
+    bases = map (λ c. c.is_base) cells;
+  }
+
+  abbrev pub lists : List (Cell V) → Lists (Member V)
+  lists cells = record {
+    row = row_of cells;
+    befores = map before_seen cells;
+    afters = map (λ c. c.link) cells;
+  }
+
+  abbrev pub with_befores : Lists V → ℕ → ℕ → Lists V
+  with_befores ls cell before = record ls { befores = set ls.befores cell before }
+
+  -- of a free cell
+  abbrev pub with_afters : Lists V → ℕ → ℕ → Lists V
+  with_afters ls cell after = record ls { afters = set ls.afters cell after }
+
+  -- of a taken cell
+  abbrev pub with_child : Row V → ℕ → ℕ → Row V
+  with_child r cell child = record r { children = set r.children cell child }
+
+  abbrev pub with_value : Row V → ℕ → V → Row V
+  with_value r cell value = record r { values = set r.values cell value }
+
+  abbrev pub with_base : Row V → ℕ → Bool → Row V
+  with_base r cell flag = record r { bases = set r.bases cell flag }
+
+  -- a cell that is taken
+  abbrev pub with_taken : Row V → ℕ → ℕ → V → ℕ → Row V
+  with_taken r cell sign value child =
+      record r {
+        signs = set r.signs cell sign;
+        values = set r.values cell value;
+        children = set r.children cell child;
+      }
+
+  -- a cell that is given up
+  abbrev pub with_free : Row (Member V) → ℕ → Row (Member V)
+  with_free r cell = record r {
+    signs = set r.signs cell 0;
+    children = set r.children cell 0;
+    values = bared r.values cell;
+  }
+
+  -- with a free cell at the end
+  abbrev pub with_more : Row V → V → Row V
+  with_more r value = record {
+    signs = r.signs ++ 0 ∷ [];
+    children = r.children ++ 0 ∷ [];
+    values = r.values ++ value ∷ [];
+    bases = r.bases ++ false ∷ [];
+  }

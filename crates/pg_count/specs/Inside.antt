@@ -1,0 +1,6 @@
+-- What only contracts between layers and proofs need.
+pub mod Bounds
+pub mod Counting
+pub mod Least
+pub mod Tallied
+pub mod Under

@@ -1,0 +1,6 @@
+-- What only contracts between layers and proofs need.
+pub mod IsTrie
+pub mod Lists
+pub mod Pruned
+pub mod Renewed
+pub mod Strings
