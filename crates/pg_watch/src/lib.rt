@@ -1,8 +1,8 @@
-//! An engine that tells an observer where a pass begins.
+//! Observers of a call, and an engine that tells one where a pass begins.
 #![tactic(auto)]
 
 mod watch;
 mod watched;
 
-pub use watch::{Quiet, Watch};
+pub use watch::{Pass, Quiet, Refused, Turn, Watch};
 pub use watched::Watched;

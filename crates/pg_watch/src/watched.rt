@@ -1,33 +1,62 @@
 //! An engine that is watched.
 ghost use Rattle.std.specs.Prelude.{◌≡◌};
 
-use crate::watch::Watch;
+use crate::watch::{Pass, Watch};
 use pg_dict::WordRef;
 use pg_patterns::PatternSet;
 use pg_select::{Engine, WordState};
-use pg_types::{Cursor, Layout, Sign, Weight};
+use pg_types::{Cursor, Layout, Params, Sign, Weight};
 use std::alloc::{AllocError, Global};
 
-/// An engine of its own with a borrowed observer.
+/// The pass of these parameters with this level, this length and this dot. Where they have no such
+/// level, it is said to have this length alone.
+fn pass_of(params: &Params, level: u8, len: u8, dot: u8) -> Pass {
+    let place = usize::from(level.saturating_sub(params.start()));
+    let (shortest, longest) = if place < params.count() {
+        let level = params.level(place);
+        (level.pat_start, level.pat_finish)
+    } else {
+        (len, len)
+    };
+    Pass {
+        level,
+        last: params.finish(),
+        len,
+        shortest,
+        longest,
+        dot,
+    }
+}
+
+/// An engine for the selection by these parameters, with a borrowed observer.
 #[derive(Drop)]
 pub struct Watched<'a, E, W> {
     inner: E,
-    watch: &'a mut W,
+    params: &'a Params,
+    watch: &'a W,
 }
 
 impl<'a, E, W> Watched<'a, E, W> {
-    /// The engine, watched by this observer.
-    pub fn new(inner: E, watch: &'a mut W) -> Watched<'a, E, W>
+    /// The engine, watched by this observer in the selection by these parameters.
+    pub fn new(inner: E, params: &'a Params, watch: &'a W) -> Watched<'a, E, W>
         ensures { result.inner ≡ inner }
     {
-        Watched { inner, watch }
+        Watched {
+            inner,
+            params,
+            watch,
+        }
     }
 
     /// The engine, which is watched no more.
     pub fn into_inner(self) -> E
         ensures { result ≡ self.entry.inner }
     {
-        let Watched { inner, watch: _ } = self;
+        let Watched {
+            inner,
+            params: _,
+            watch: _,
+        } = self;
         inner
     }
 }
@@ -40,7 +69,7 @@ impl<'a, E: Engine, W: Watch> Engine for Watched<'a, E, W> {
     }
 
     fn begin_pass(&mut self, level: u8, len: u8, dot: u8) {
-        self.watch.pass(level, len, dot);
+        self.watch.pass(pass_of(self.params, level, len, dot));
         self.inner.begin_pass(level, len, dot);
     }
 

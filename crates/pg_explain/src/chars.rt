@@ -1,0 +1,54 @@
+//! Characters and pieces of bytes, and which of them are letters of a table.
+
+use pg_translate::{Item, Place, Table};
+
+/// The bytes before a place, all where there are not so many.
+pub(crate) fn up_to(bytes: &[u8], end: usize) -> &[u8] {
+    bytes.get(..end).unwrap_or(bytes)
+}
+
+/// The bytes from a place on, none where there are not so many.
+pub(crate) fn behind(bytes: &[u8], start: usize) -> &[u8] {
+    bytes.get(start..).unwrap_or(&[])
+}
+
+/// The character with which bytes begin; none where they do not begin with one.
+pub(crate) fn first_char(bytes: &[u8]) -> Option<char> {
+    for size in 1..5 {
+        if let Ok(text) = str::from_utf8(up_to(bytes, size)) {
+            return text.chars().next();
+        }
+    }
+    None
+}
+
+/// The bytes of the character with which bytes begin, or the first of them where they do not begin
+/// with one.
+pub(crate) fn first_bytes(bytes: &[u8]) -> &[u8] {
+    up_to(bytes, first_char(bytes).map_or(1, |c| c.len_utf8()))
+}
+
+/// Whether a text is a spelling of a letter.
+pub(crate) fn is_letter(table: &Table, text: &[u8]) -> bool {
+    match table.item(Place::Dictionary, text) {
+        Item::Letter(_, rest) => rest.is_empty(),
+        _ => false,
+    }
+}
+
+/// Whether a character, in UTF-8, is a spelling of a letter.
+pub(crate) fn is_letter_char(table: &Table, c: char) -> bool {
+    let mut room = [0; 4];
+    is_letter(table, c.encode_utf8(&mut room).as_bytes())
+}
+
+/// The small letter of a capital; none where it is no capital, or its small letter is not one
+/// character.
+pub(crate) fn small_of(c: char) -> Option<char> {
+    let mut changed = c.to_lowercase();
+    let small = changed.next()?;
+    if small == c || changed.next().is_some() {
+        return None;
+    }
+    Some(small)
+}

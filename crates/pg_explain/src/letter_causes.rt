@@ -1,0 +1,178 @@
+//! The usual causes of a refusal that one character shows beside the table of letters.
+
+use crate::chars::{first_bytes, first_char, is_letter, is_letter_char, small_of};
+use crate::line::Part::{Byte, Char, Hex, Say, Show};
+use crate::text::Text;
+use crate::wrong::{Letters, Refused};
+use pg_translate::{Item, Place};
+use pg_types::{Kind, Mark};
+use std::alloc::AllocError;
+
+/// Why a character is no letter.
+#[derive(Clone, Copy)]
+enum Cause {
+    /// It is one byte, no UTF-8, and this character in Latin-1.
+    Latin1(char),
+    /// It is UTF-8, and the table has it as one byte.
+    Utf8,
+    /// It is a hyphen of Unicode.
+    Hyphen,
+    /// It is an accent behind its letter.
+    Accent,
+    /// It is a capital of this letter of the table.
+    Capital(char),
+    /// It is a mark of dictionaries, in a pattern.
+    Mark,
+    /// The table does not have it.
+    NewLetter,
+}
+
+/// Whether a character is a letter of the table as the one byte that it has in Latin-1.
+fn is_latin_letter(letters: &Letters<'_>, c: char) -> bool {
+    match u8::try_from(u32::from(c)) {
+        Ok(byte) => is_letter(letters.table, &[byte]),
+        Err(_) => false,
+    }
+}
+
+/// The small letter of a capital, where that one is a letter of the table.
+fn small_letter(letters: &Letters<'_>, c: char) -> Option<char> {
+    let small = small_of(c)?;
+    if is_letter_char(letters.table, small) {
+        Some(small)
+    } else {
+        None
+    }
+}
+
+/// Why a character is no letter.
+fn char_cause(letters: &Letters<'_>, c: char) -> Option<Cause> {
+    if is_latin_letter(letters, c) {
+        return Some(Cause::Utf8);
+    }
+    if let Some(small) = small_letter(letters, c) {
+        return Some(Cause::Capital(small));
+    }
+    match c {
+        '\u{AD}' | '\u{2010}'..='\u{2015}' => Some(Cause::Hyphen),
+        '\u{300}'..='\u{36F}' => Some(Cause::Accent),
+        _ if c.is_alphabetic() => Some(Cause::NewLetter),
+        _ => None,
+    }
+}
+
+/// Why the bytes that begin no item are none.
+fn cause_of(letters: &Letters<'_>, kind: Kind, rest: &[u8]) -> Option<Cause> {
+    if kind != Kind::DictionaryCharacter && kind != Kind::PatternCharacter {
+        return None;
+    }
+    if let Item::Mark(_, _) = letters.table.item(Place::Dictionary, rest) {
+        return Some(Cause::Mark);
+    }
+    match (first_char(rest), rest.first()) {
+        (Some(c), _) => char_cause(letters, c),
+        (None, Some(byte)) if 0xA0 <= *byte => Some(Cause::Latin1(char::from(*byte))),
+        (None, _) => None,
+    }
+}
+
+/// Appends that a byte is Latin-1, and what the table has.
+fn push_latin1<'a>(
+    text: &mut Text,
+    refused: &Refused<'a>,
+    letters: &Letters<'a>,
+    meant: char,
+    byte: &'a [u8],
+) -> Result<(), AllocError> {
+    if !is_letter_char(letters.table, meant) {
+        let words = " is no UTF-8; in Latin-1 it would be ";
+        return text.line(&[Hex(byte), Say(words), Char(meant)]);
+    }
+    text.line(&[
+        Hex(byte),
+        Say(" is "),
+        Char(meant),
+        Say(" in Latin-1, and "),
+        Show(letters.name.as_bytes()),
+        Say(" has it in UTF-8: convert "),
+        Show(refused.name.as_bytes()),
+        Say(", as by iconv -f LATIN1 -t UTF-8"),
+    ])
+}
+
+/// Appends that the table has the small letter of a capital alone.
+fn push_capital<'a>(
+    text: &mut Text,
+    letters: &Letters<'a>,
+    small: char,
+    capital: &'a [u8],
+) -> Result<(), AllocError> {
+    text.line(&[
+        Show(letters.name.as_bytes()),
+        Say(" has "),
+        Char(small),
+        Say(" without its capital: write it small, or let the line there be \" "),
+        Char(small),
+        Say(" "),
+        Show(capital),
+        Say("\""),
+    ])
+}
+
+/// Appends that the table does not have a character, and what would make it a letter.
+fn push_new_letter<'a>(
+    text: &mut Text,
+    letters: &Letters<'a>,
+    c: &'a [u8],
+) -> Result<(), AllocError> {
+    let name = Show(letters.name.as_bytes());
+    if letters.is_no_file() {
+        let words = " has the letters a to z alone: write a translate file with a line for ";
+        return text.line(&[name, Say(words), Show(c)]);
+    }
+    text.line(&[
+        Say("a line of "),
+        name,
+        Say(" with a blank and "),
+        Show(c),
+        Say(" would make it a letter"),
+    ])
+}
+
+/// Appends why the bytes that begin no item are none, where they show it.
+pub(crate) fn push_letter_cause<'a>(
+    text: &mut Text,
+    refused: &Refused<'a>,
+    letters: &Letters<'a>,
+    rest: &'a [u8],
+) -> Result<(), AllocError> {
+    let Some(cause) = cause_of(letters, refused.refusal.kind, rest) else {
+        return Ok(());
+    };
+    let c = first_bytes(rest);
+    let table = Show(letters.name.as_bytes());
+    match cause {
+        Cause::Latin1(meant) => push_latin1(text, refused, letters, meant, c),
+        Cause::Capital(small) => push_capital(text, letters, small, c),
+        Cause::NewLetter => push_new_letter(text, letters, c),
+        Cause::Utf8 => text.line(&[
+            Show(c),
+            Say(" is UTF-8 here and one byte of Latin-1 in "),
+            table,
+            Say(": both files need one encoding"),
+        ]),
+        Cause::Hyphen => text.line(&[
+            Say("this is a hyphen of Unicode; the mark of a hyphen is "),
+            Byte(letters.table.mark_byte(Mark::Missed)),
+        ]),
+        Cause::Accent => text.line(&[
+            Say("this accent is a character of its own behind its letter: "),
+            Say("compose the file to NFC, or spell the letter so in "),
+            table,
+        ]),
+        Cause::Mark => text.line(&[
+            Show(c),
+            Say(" is a mark of dictionaries; patterns have digits"),
+        ]),
+    }
+}

@@ -1,0 +1,170 @@
+//! The letter lines of a refused translate file.
+
+use crate::chars::{behind, up_to};
+use crate::line::Part::{Count, Say, Show};
+use crate::places::Spot;
+use crate::text::Text;
+use crate::wrong::Refused;
+use pg_translate::SPELLING_MAX;
+use pg_types::next_line;
+use std::alloc::AllocError;
+
+/// A letter line without the blanks at its end.
+fn without_blanks(line: &[u8]) -> &[u8] {
+    let blanks = line.iter().rev().take_while(|byte| **byte == b' ').count();
+    up_to(line, line.len().saturating_sub(blanks))
+}
+
+/// The spelling that begins at a place, up to the next delimiter of its line.
+fn spelling_at<'a>(spot: &Spot<'a>) -> &'a [u8] {
+    let line = without_blanks(spot.text);
+    let rest = behind(line, spot.offset());
+    match line.first() {
+        Some(delimiter) => up_to(
+            rest,
+            rest.iter()
+                .position(|byte| byte == delimiter)
+                .unwrap_or(rest.len()),
+        ),
+        None => rest,
+    }
+}
+
+/// Why a spelling is none.
+fn fault_of(spelling: &[u8]) -> &'static str {
+    if spelling.contains(&b' ') {
+        return " holds a blank";
+    }
+    if spelling.contains(&b'\t') {
+        return " holds a TAB";
+    }
+    if spelling.contains(&b'\r') {
+        return " holds a CR";
+    }
+    match spelling.first() {
+        Some(b'0'..=b'9') => " begins with a digit",
+        Some(b'.') => " begins with a dot, which is the edge of words",
+        Some(b'{') => " begins with a brace, which begins a weight",
+        _ => " begins with a mark of the head",
+    }
+}
+
+/// Appends what the delimiter of a line is, where it is no blank.
+pub(crate) fn push_delimiter(text: &mut Text, line: &[u8]) -> Result<(), AllocError> {
+    match line.first() {
+        Some(b' ') | None => Ok(()),
+        Some(_) => text.line(&[
+            Say("the first byte of a letter line stands between its spellings; here it is "),
+            Show(up_to(line, 1)),
+            Say(", and mostly it is a blank"),
+        ]),
+    }
+}
+
+/// Appends why the spelling at a place is none.
+pub(crate) fn push_spelling(
+    text: &mut Text,
+    name: &str,
+    spot: &Spot<'_>,
+) -> Result<(), AllocError> {
+    let spelling = spelling_at(spot);
+    if spelling.len() > SPELLING_MAX {
+        return text.place(
+            name,
+            spot,
+            &[
+                Say("the spelling \""),
+                Show(spelling),
+                Say("\" has "),
+                Count(spelling.len()),
+                Say(" bytes, and 8 is the most"),
+            ],
+        );
+    }
+    text.place(
+        name,
+        spot,
+        &[
+            Say("the spelling \""),
+            Show(spelling),
+            Say("\""),
+            Say(fault_of(spelling)),
+        ],
+    )
+}
+
+/// Whether of two spellings one begins the other, and they are not two equal ones of one letter.
+fn clashes(one: &[u8], other: &[u8], is_same_letter: bool) -> bool {
+    (one.starts_with(other) || other.starts_with(one)) && !(is_same_letter && one == other)
+}
+
+/// The first spelling of a letter line that clashes with this one.
+fn clash_in<'a>(line: &'a [u8], spelling: &[u8], is_same_letter: bool) -> Option<&'a [u8]> {
+    let (delimiter, rest) = without_blanks(line).split_first()?;
+    rest.split(|byte| byte == delimiter)
+        .take_while(|piece| !piece.is_empty())
+        .find(|piece| clashes(piece, spelling, is_same_letter))
+}
+
+/// The first spelling of the letter lines up to this one that clashes with this spelling, and the
+/// number of its line.
+fn clash_before<'a>(bytes: &'a [u8], last: usize, spelling: &[u8]) -> Option<(usize, &'a [u8])> {
+    let (_, mut rest) = next_line(bytes)?;
+    for line in 2..last.saturating_add(1) {
+        let (text, after) = next_line(rest)?;
+        if let Some(other) = clash_in(text, spelling, line == last) {
+            return Some((line, other));
+        }
+        rest = after;
+    }
+    None
+}
+
+/// Appends which spellings clash.
+pub(crate) fn push_clash<'a>(
+    text: &mut Text,
+    refused: &Refused<'a>,
+    spot: &Spot<'a>,
+) -> Result<(), AllocError> {
+    let spelling = spelling_at(spot);
+    let Some((line, other)) = clash_before(refused.bytes, spot.line, spelling) else {
+        return text.place(
+            refused.name,
+            spot,
+            &[Say("this spelling clashes with an earlier one")],
+        );
+    };
+    let (how, rule) = if other == spelling {
+        ("\" is \"", ": a spelling belongs to one letter")
+    } else if other.starts_with(spelling) {
+        ("\" begins \"", ": no spelling begins another")
+    } else {
+        ("\" begins with \"", ": no spelling begins another")
+    };
+    text.place(
+        refused.name,
+        spot,
+        &[
+            Say("\""),
+            Show(spelling),
+            Say(how),
+            Show(other),
+            Say("\", a spelling of line "),
+            Count(line),
+            Say(rule),
+        ],
+    )
+}
+
+/// Appends that there are too many letters.
+pub(crate) fn push_many_letters(
+    text: &mut Text,
+    name: &str,
+    spot: &Spot<'_>,
+) -> Result<(), AllocError> {
+    text.place(
+        name,
+        spot,
+        &[Say("2,000 letters stand above this line, the most that a table has")],
+    )
+}

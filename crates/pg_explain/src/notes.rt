@@ -1,0 +1,108 @@
+//! Status 0: what is worth a word although nothing is wrong.
+
+use crate::excerpts::push_excerpt;
+use crate::line::Part::{Count, Say, Show};
+use crate::places::Spot;
+use crate::text::Text;
+use pg_types::next_line;
+use std::alloc::AllocError;
+
+/// Appends that a dictionary has no word.
+pub(crate) fn push_no_word(text: &mut Text, dict: &str) -> Result<(), AllocError> {
+    text.line(&[
+        Show(dict.as_bytes()),
+        Say(" has no word: a word is a line with a letter before its first blank"),
+    ])
+}
+
+/// Appends that no word of a dictionary takes part.
+pub(crate) fn push_no_part(
+    text: &mut Text,
+    dict: &str,
+    words: usize,
+    left: u8,
+    right: u8,
+) -> Result<(), AllocError> {
+    text.line(&[
+        Say("no word of "),
+        Show(dict.as_bytes()),
+        Say(" takes part, of "),
+        Count(words),
+        Say(": with the minima "),
+        Count(usize::from(left)),
+        Say(" and "),
+        Count(usize::from(right)),
+        Say(" a word needs at least "),
+        Count(usize::from(left) + usize::from(right)),
+        Say(" letters"),
+    ])
+}
+
+/// Appends that the first level is not above the starting values.
+pub(crate) fn push_low_start(
+    text: &mut Text,
+    patterns: &str,
+    largest: u8,
+    start: u8,
+) -> Result<(), AllocError> {
+    text.line(&[
+        Show(patterns.as_bytes()),
+        Say(" has the value "),
+        Count(usize::from(largest)),
+        Say(", and the first level is "),
+        Count(usize::from(start)),
+        Say(": give a first level above the greatest value"),
+    ])
+}
+
+/// Where what follows the first blank or TAB of a line begins, where something does.
+fn behind_blank(line: &[u8]) -> Option<usize> {
+    let blank = line.iter().position(|byte| matches!(byte, b' ' | b'\t'))?;
+    let rest = line.get(blank..)?;
+    let more = rest.iter().position(|byte| !matches!(byte, b' ' | b'\t'))?;
+    Some(blank.saturating_add(more))
+}
+
+/// The first line with something behind its first blank, and how many lines have that.
+fn lines_behind(bytes: &[u8]) -> Option<(Spot<'_>, usize)> {
+    let mut first = None;
+    let mut count = 0_usize;
+    let mut line = 0_usize;
+    let mut rest = bytes;
+    'lines: while let Some((text, after)) = next_line(rest) {
+        line = line.saturating_add(1);
+        if let Some(at) = behind_blank(text) {
+            count = count.saturating_add(1);
+            let column = at.saturating_add(1);
+            first = first.or(Some(Spot { line, column, text }));
+        }
+        rest = after;
+    }
+    Some((first?, count))
+}
+
+/// Appends that lines of patterns have more behind their first blank, where some have.
+pub(crate) fn push_behind(text: &mut Text, patterns: &str, bytes: &[u8]) -> Result<(), AllocError> {
+    let Some((spot, count)) = lines_behind(bytes) else {
+        return Ok(());
+    };
+    text.place(
+        patterns,
+        &spot,
+        &[Say("a line ends at its first blank, and what follows it here is not read")],
+    )?;
+    push_excerpt(text, &spot)?;
+    if count == 1 {
+        return text.line(&[
+            Say("no other line of "),
+            Show(patterns.as_bytes()),
+            Say(" has more"),
+        ]);
+    }
+    text.line(&[
+        Count(count),
+        Say(" lines of "),
+        Show(patterns.as_bytes()),
+        Say(" have more behind their first blank"),
+    ])
+}

@@ -1,0 +1,82 @@
+//! Status 3: a file is refused.
+
+use crate::causes::push_cause;
+use crate::excerpts::push_excerpt;
+use crate::heads::{push_mark, push_minimum};
+use crate::letter_lines::{push_clash, push_delimiter, push_many_letters, push_spelling};
+use crate::line::Part::{Say, Show};
+use crate::more::push_more;
+use crate::parameters::{item_spot, push_item};
+use crate::places::Spot;
+use crate::tables::{push_bad_table, push_long_table, push_other_table};
+use crate::text::Text;
+use crate::word_lines::{push_character, push_long_pattern, push_long_word, push_weight};
+use crate::wrong::Refused;
+use pg_types::Kind;
+use std::alloc::AllocError;
+
+/// The place of a refusal.
+fn spot_of<'a>(refused: &Refused<'a>) -> Spot<'a> {
+    let refusal = &refused.refusal;
+    match refusal.kind {
+        Kind::BadNumber | Kind::OutOfRange | Kind::Missing | Kind::Extra => {
+            item_spot(refused.bytes, refusal.line as usize)
+        }
+        _ => Spot::new(
+            refused.bytes,
+            refusal.line as usize,
+            refusal.column as usize,
+        ),
+    }
+}
+
+/// Appends that a file has too many bytes.
+fn push_long_file(text: &mut Text, name: &str) -> Result<(), AllocError> {
+    let words = " has more than 67,108,864 bytes (2^26), the most that is read";
+    text.line(&[Show(name.as_bytes()), Say(words)])
+}
+
+/// Appends where and why a file is refused.
+fn push_reason<'a>(
+    text: &mut Text,
+    refused: &Refused<'a>,
+    spot: &Spot<'a>,
+) -> Result<(), AllocError> {
+    match refused.refusal.kind {
+        Kind::TranslateTooLong
+        | Kind::ParametersTooLong
+        | Kind::PatternsTooLong
+        | Kind::DictionaryTooLong => push_long_file(text, refused.name),
+        Kind::BadMinima => push_minimum(text, refused.name, spot),
+        Kind::BadMark => push_mark(text, refused.name, spot),
+        Kind::BadSpelling => push_spelling(text, refused.name, spot),
+        Kind::SpellingClash => push_clash(text, refused, spot),
+        Kind::TooManyLetters => push_many_letters(text, refused.name, spot),
+        Kind::BadNumber | Kind::OutOfRange | Kind::Missing | Kind::Extra => {
+            push_item(text, refused, spot)
+        }
+        Kind::PatternCharacter | Kind::DictionaryCharacter => push_character(text, refused, spot),
+        Kind::PatternTooLong => push_long_pattern(text, refused.name, spot),
+        Kind::WordTooLong => push_long_word(text, refused.name, spot),
+        Kind::BadWeight => push_weight(text, refused.name, spot),
+        Kind::TableTooLong => push_long_table(text, refused),
+        Kind::BadTable => push_bad_table(text, refused),
+        Kind::OtherTable => push_other_table(text, refused),
+    }
+}
+
+/// Appends where and why a file is refused: the place and what is due there, the line with a caret
+/// below the place, a cause where the bytes show one, and how many more lines would be refused.
+pub(crate) fn push_refused(text: &mut Text, refused: &Refused<'_>) -> Result<(), AllocError> {
+    let spot = spot_of(refused);
+    push_reason(text, refused, &spot)?;
+    if refused.refusal.line == 0 {
+        return Ok(());
+    }
+    push_excerpt(text, &spot)?;
+    if refused.refusal.kind == Kind::BadSpelling {
+        push_delimiter(text, spot.text)?;
+    }
+    push_cause(text, refused, &spot)?;
+    push_more(text, refused)
+}

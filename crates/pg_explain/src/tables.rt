@@ -1,0 +1,175 @@
+//! Refused packed tables: which of their rules they break.
+
+use crate::chars::{behind, up_to};
+use crate::line::Part::{Count, Say, Show};
+use crate::text::Text;
+use crate::wrong::Refused;
+use pg_types::{LEVEL_MAX, PATTERN_SIGNS_MAX, SIGNS_MAX};
+use std::alloc::AllocError;
+
+/// The bytes of the head, of a cell and of a record.
+const HEAD_LEN: usize = 16;
+
+const CELL_LEN: usize = 10;
+
+const RECORD_LEN: usize = 6;
+
+/// The number of so many bytes at a place, the first byte the greatest.
+fn number(bytes: &[u8], at: usize, len: usize) -> usize {
+    up_to(behind(bytes, at), len)
+        .iter()
+        .fold(0, |value: usize, byte| {
+            value.saturating_mul(256).saturating_add(usize::from(*byte))
+        })
+}
+
+/// The numbers of a table's head.
+#[derive(Clone, Copy)]
+struct Head {
+    signs: usize,
+    cells: usize,
+    records: usize,
+}
+
+impl Head {
+    /// The numbers of the head of a file.
+    fn read(bytes: &[u8]) -> Head {
+        Head {
+            signs: number(bytes, 4, 4),
+            cells: number(bytes, 8, 4),
+            records: number(bytes, 12, 4),
+        }
+    }
+
+    /// The length of a file with this head.
+    fn file_len(&self) -> usize {
+        let cells = self.cells.saturating_mul(CELL_LEN);
+        let records = self.records.saturating_mul(RECORD_LEN);
+        cells.saturating_add(records).saturating_add(HEAD_LEN)
+    }
+
+    /// What is wrong with a cell, if something is.
+    fn cell_fault(&self, bytes: &[u8], cell: usize) -> Option<&'static str> {
+        let at = cell.saturating_mul(CELL_LEN).saturating_add(HEAD_LEN);
+        let sign = number(bytes, at, 2);
+        let child = number(bytes, at.saturating_add(2), 4);
+        let head = number(bytes, at.saturating_add(6), 4);
+        if cell <= self.signs && sign != cell {
+            Some("stands at the root, and its sign is not its own number")
+        } else if sign == 0 && (child != 0 || head != 0) {
+            Some("has no sign, and is not all 0")
+        } else if sign > self.signs {
+            Some("has a sign above the greatest")
+        } else if child >= self.cells {
+            Some("leads to a family behind the last cell")
+        } else if head > self.records {
+            Some("leads to a record behind the last")
+        } else {
+            None
+        }
+    }
+
+    /// What is wrong with a record, if something is. Records are counted from 0 here.
+    fn record_fault(&self, bytes: &[u8], record: usize) -> Option<&'static str> {
+        let cells = self.cells.saturating_mul(CELL_LEN).saturating_add(HEAD_LEN);
+        let at = record.saturating_mul(RECORD_LEN).saturating_add(cells);
+        let value = number(bytes, at, 1);
+        if value == 0 || value > usize::from(LEVEL_MAX) {
+            Some("has a value that is not 1 to 9")
+        } else if number(bytes, at.saturating_add(1), 1) > PATTERN_SIGNS_MAX {
+            Some("has a dot above 32")
+        } else if number(bytes, at.saturating_add(2), 4) > record {
+            Some("leads to itself or a later one")
+        } else {
+            None
+        }
+    }
+}
+
+/// Appends that a cell or record breaks a rule, where one does.
+fn push_parts(text: &mut Text, name: &str, bytes: &[u8], head: &Head) -> Result<(), AllocError> {
+    let name = Show(name.as_bytes());
+    for cell in 0..head.cells {
+        if let Some(fault) = head.cell_fault(bytes, cell) {
+            let front = Say(" is no packed table: its cell ");
+            return text.line(&[name, front, Count(cell), Say(" "), Say(fault)]);
+        }
+    }
+    for record in 0..head.records {
+        if let Some(fault) = head.record_fault(bytes, record) {
+            let front = Say(" is no packed table: its record ");
+            let number = Count(record.saturating_add(1));
+            return text.line(&[name, front, number, Say(" "), Say(fault)]);
+        }
+    }
+    text.line(&[name, Say(" is no packed table")])
+}
+
+/// Appends what in the head of a table breaks a rule, or else which cell or record does.
+fn push_numbers(text: &mut Text, name: &str, bytes: &[u8]) -> Result<(), AllocError> {
+    let head = Head::read(bytes);
+    if head.file_len() != bytes.len() {
+        return text.line(&[
+            Show(name.as_bytes()),
+            Say(" is no packed table: by its head it has "),
+            Count(head.file_len()),
+            Say(" bytes, and it has "),
+            Count(bytes.len()),
+        ]);
+    }
+    if head.signs == 0 || head.signs > usize::from(SIGNS_MAX) || head.signs >= head.cells {
+        return text.line(&[
+            Show(name.as_bytes()),
+            Say(" is no packed table: its greatest sign is "),
+            Count(head.signs),
+            Say(", and has to be 1 to 2001 and below the number of cells, "),
+            Count(head.cells),
+        ]);
+    }
+    push_parts(text, name, bytes, &head)
+}
+
+/// Appends which rule of packed tables a file breaks.
+pub(crate) fn push_bad_table(text: &mut Text, refused: &Refused<'_>) -> Result<(), AllocError> {
+    let name = refused.name;
+    let bytes = refused.bytes;
+    let words = if bytes.is_empty() {
+        " is no packed table: it is empty"
+    } else if !bytes.starts_with(b"PGT1") {
+        " is no packed table: it does not begin with PGT1, as a file of pack does"
+    } else if bytes.len() < HEAD_LEN {
+        " is no packed table: it ends inside its head of 16 bytes"
+    } else {
+        return push_numbers(text, name, bytes);
+    };
+    text.line(&[Show(name.as_bytes()), Say(words)])
+}
+
+/// Appends that a packed table is of another number of letters.
+pub(crate) fn push_other_table(text: &mut Text, refused: &Refused<'_>) -> Result<(), AllocError> {
+    let own = Head::read(refused.bytes).signs.saturating_sub(1);
+    let name = Show(refused.name.as_bytes());
+    match &refused.letters {
+        Some(letters) => text.line(&[
+            name,
+            Say(" was packed for "),
+            Count(own),
+            Say(" letters, and "),
+            Show(letters.name.as_bytes()),
+            Say(" has "),
+            Count(usize::from(letters.table.letters())),
+            Say(": give the translate file that it was packed with"),
+        ]),
+        None => text.line(&[name, Say(" was packed for "), Count(own), Say(" letters")]),
+    }
+}
+
+/// Appends that a packed table has too many bytes.
+pub(crate) fn push_long_table(text: &mut Text, refused: &Refused<'_>) -> Result<(), AllocError> {
+    let words = if refused.bytes.is_empty() {
+        " would have more than 268,435,456 bytes (2^28), the most of a packed table"
+    } else {
+        " has more than 268,435,456 bytes (2^28), the most of a packed table"
+    };
+    text.line(&[Show(refused.name.as_bytes()), Say(words)])
+}

@@ -1,0 +1,97 @@
+//! The refused lines of dictionaries and pattern files.
+
+use crate::chars::{first_bytes, first_char, up_to};
+use crate::line::Part::{Hex, Say, Show};
+use crate::line::is_invisible;
+use crate::places::Spot;
+use crate::text::Text;
+use crate::wrong::Refused;
+use pg_types::Kind;
+use std::alloc::AllocError;
+
+/// Of what a byte begins no letter.
+fn letters_of<'a>(refused: &Refused<'a>) -> &'a str {
+    match &refused.letters {
+        Some(letters) if letters.is_no_file() => "a to z",
+        Some(letters) => letters.name,
+        None => "the translate file",
+    }
+}
+
+/// What else may stand in a line.
+fn else_due(kind: Kind) -> &'static str {
+    match kind {
+        Kind::PatternCharacter => ", and is no digit and no dot",
+        _ => ", and is no mark, digit or weight",
+    }
+}
+
+/// Whether a character can be shown by itself: one that can be seen, and no accent of a letter
+/// before it.
+fn is_seen_alone(c: char) -> bool {
+    !is_invisible(c) && !matches!(c, '\u{300}'..='\u{36F}')
+}
+
+/// Appends which bytes begin no item.
+pub(crate) fn push_character<'a>(
+    text: &mut Text,
+    refused: &Refused<'a>,
+    spot: &Spot<'a>,
+) -> Result<(), AllocError> {
+    let bytes = first_bytes(spot.rest());
+    let letters = Show(letters_of(refused).as_bytes());
+    let due = Say(else_due(refused.refusal.kind));
+    let begins = Say(" begins no letter of ");
+    match first_char(bytes) {
+        Some(c) if is_seen_alone(c) => text.place(
+            refused.name,
+            spot,
+            &[
+                Hex(bytes),
+                Say(" ("),
+                Show(bytes),
+                Say(")"),
+                begins,
+                letters,
+                due,
+            ],
+        ),
+        _ => text.place(refused.name, spot, &[Hex(bytes), begins, letters, due]),
+    }
+}
+
+/// Appends that a pattern is too long.
+pub(crate) fn push_long_pattern(
+    text: &mut Text,
+    name: &str,
+    spot: &Spot<'_>,
+) -> Result<(), AllocError> {
+    let words = "the 33rd letter or dot of the line begins here, and a pattern has at most 32";
+    text.place(name, spot, &[Say(words)])
+}
+
+/// Appends that a word is too long.
+pub(crate) fn push_long_word(
+    text: &mut Text,
+    name: &str,
+    spot: &Spot<'_>,
+) -> Result<(), AllocError> {
+    let words = "the 101st letter of the line begins here, and a word has at most 100";
+    text.place(name, spot, &[Say(words)])
+}
+
+/// Appends that a brace begins no weight.
+pub(crate) fn push_weight(text: &mut Text, name: &str, spot: &Spot<'_>) -> Result<(), AllocError> {
+    let rest = spot.rest();
+    let size = rest.iter().position(|byte| *byte == b'}');
+    text.place(
+        name,
+        spot,
+        &[
+            Show(up_to(rest, size.map_or(1, |size| size.saturating_add(1)))),
+            Say(
+                " is no weight: a weight is {, one to four digits with a value from 1 to 9,999, and }",
+            ),
+        ],
+    )
+}

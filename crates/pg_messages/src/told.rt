@@ -1,0 +1,343 @@
+//! The observer of a program.
+use crate::line::{Step, line_text};
+use crate::screen::Screen;
+use pg_audit::FalseLine;
+use pg_dict::Dictionary;
+use pg_explain::{
+    Before, Deed, FalseLine as Wanted, Fault, Letters, MEMORY, Refused as RefusedFile, Wrong,
+    explain, visible,
+};
+use pg_patterns::PatternSet;
+use pg_translate::Table;
+use pg_types::{Params, next_line};
+use pg_watch::{Pass, Refused, Turn, Watch};
+use std::alloc::Global;
+use std::cell::{Cell, RefCell};
+use std::io::Write;
+use std::time::Clock;
+
+/// How many bytes of a name are shown at most.
+const NAME: usize = 48;
+
+/// A file that was read or written.
+#[derive(Drop)]
+struct Call {
+    deed: Deed,
+    name: String,
+}
+
+/// An observer that shows where a call is, and keeps what explains its answer. Where memory is
+/// short, less is kept.
+#[derive(Drop)]
+pub struct Told<'a, C, E: Drop> {
+    alloc: Global,
+    screen: Screen<'a, C, E>,
+    /// The first word.
+    command: RefCell<String>,
+    /// The run of a sweep.
+    turn: Cell<Option<Turn>>,
+    /// The files that were read and written, in this order.
+    calls: RefCell<Vec<Call>>,
+    /// Whether the last of them failed.
+    failed: Cell<bool>,
+    /// Whether the answer was a fault.
+    fault: Cell<bool>,
+    /// The name of the translate file.
+    letters: RefCell<String>,
+    /// Why a file is refused, or a given one is not the wanted one.
+    reason: RefCell<Vec<u8>>,
+    /// What is worth a look though all went well.
+    notes: RefCell<Vec<u8>>,
+}
+
+/// The line of a text with this number, counted from 1, with its line feed.
+fn line_at(text: &[u8], number: u64) -> Option<&[u8]> {
+    let mut rest = text;
+    let mut left = number;
+    'lines: while let Some((_, after)) = next_line(rest) {
+        left = left.saturating_sub(1);
+        if left == 0 {
+            return Some(&rest[..rest.len() - after.len()]);
+        }
+        rest = after;
+    }
+    None
+}
+
+/// Whether a word of a dictionary takes part.
+fn has_part(dictionary: &Dictionary, letters: &Table) -> bool {
+    'words: for i in 0..dictionary.len() {
+        if letters.reach(dictionary.word(i).signs().len()).is_some() {
+            return true;
+        }
+    }
+    false
+}
+
+/// A name with its control bytes made visible, of which the first are given.
+fn shown_name(alloc: Global, name: &str) -> Vec<u8> {
+    match visible(alloc, name.as_bytes(), NAME) {
+        Ok(name) => name,
+        Err(_) => Vec::new(alloc),
+    }
+}
+
+impl<'a, C: Clock, E: Write + Drop> Told<'a, C, E> {
+    /// An observer on standard error, which shows where a call is or does not.
+    pub fn new(alloc: Global, clock: &'a C, err: E, is_shown: bool) -> Told<'a, C, E> {
+        Told {
+            alloc,
+            screen: Screen::new(clock, err, is_shown),
+            command: RefCell::new(String::new(alloc)),
+            turn: Cell::new(None),
+            calls: RefCell::new(Vec::new(alloc)),
+            failed: Cell::new(false),
+            fault: Cell::new(false),
+            letters: RefCell::new(String::new(alloc)),
+            reason: RefCell::new(Vec::new(alloc)),
+            notes: RefCell::new(Vec::new(alloc)),
+        }
+    }
+
+    /// Shows what the call does, where the line is to be shown now.
+    fn step(&self, step: &Step, name: &str) {
+        let Some(seconds) = self.screen.due() else {
+            return;
+        };
+        let Ok(command) = self.command.try_borrow() else {
+            return;
+        };
+        let turn = self.turn.get();
+        let name = shown_name(self.alloc, name);
+        if let Ok(line) = line_text(self.alloc, &command, seconds, turn.as_ref(), step, &name) {
+            self.screen.show(&line);
+        }
+    }
+
+    /// Keeps that a file is read or written, and shows it.
+    fn call(&self, deed: Deed, step: &Step, name: &str) {
+        self.step(step, name);
+        if let (Ok(name), Ok(mut calls)) = (
+            String::from_str(self.alloc, name),
+            self.calls.try_borrow_mut(),
+        ) {
+            let _ = calls.push(Call { deed, name });
+        }
+    }
+
+    /// Keeps what explains the answer.
+    fn explains(&self, wrong: &Wrong<'_>) {
+        if let Ok(text) = explain(self.alloc, wrong) {
+            let _ = self.reason.try_replace(text);
+        }
+    }
+
+    /// Keeps a note.
+    fn notes(&self, wrong: &Wrong<'_>) {
+        if let (Ok(text), Ok(mut notes)) = (
+            explain(self.alloc, wrong),
+            self.notes.try_borrow_mut(),
+        ) {
+            let _ = notes.extend_from_slice(&text);
+        }
+    }
+
+    /// Takes the words of the call.
+    pub fn take_words(&self, words: &[String]) {
+        if let Some(first) = words.first() {
+            if let Ok(command) = String::from_str(self.alloc, first) {
+                let _ = self.command.try_replace(command);
+            }
+        }
+    }
+
+    /// Puts a text on standard error.
+    pub fn put(&self, text: &[u8]) {
+        self.screen.clear();
+        self.screen.put(text);
+    }
+
+    /// Puts what explains the answer on standard error.
+    fn put_wrong(&self, wrong: &Wrong<'_>) {
+        if let Ok(text) = explain(self.alloc, wrong) {
+            self.put(&text);
+        }
+    }
+
+    /// Puts on standard error why these words are no command.
+    pub fn put_words(&self, words: &[String]) {
+        self.put_wrong(&Wrong::Words(words));
+    }
+
+    /// Puts on standard error why a file is refused, or a given one is not the wanted one.
+    pub fn put_reason(&self) {
+        if let Ok(reason) = self.reason.try_borrow() {
+            self.put(&reason);
+        }
+    }
+
+    /// Puts the notes on standard error.
+    pub fn put_notes(&self) {
+        if let Ok(notes) = self.notes.try_borrow() {
+            self.put(&notes);
+        }
+    }
+
+    /// Puts on standard error that memory was short. It takes none.
+    pub fn put_memory(&self) {
+        self.put(MEMORY);
+    }
+
+    /// Keeps that the answer was a fault, until the reason of the system is asked.
+    pub fn keep_fault(&self) {
+        self.fault.set(true);
+    }
+
+    /// Puts on standard error why a file could not be read or written, or a line not put, if the
+    /// answer was such a fault: the reason of the system, and what was done before with the same
+    /// file.
+    pub fn put_fault<S: SameFile>(&self, reason: &str, same: &S) {
+        if !self.fault.get() {
+            return;
+        }
+        if let Ok(calls) = self.calls.try_borrow() {
+            let fault = fault_of(&calls, self.failed.get(), reason, same);
+            self.put_wrong(&Wrong::Fault(fault));
+        }
+    }
+}
+
+/// Tells whether two names are of one file.
+pub trait SameFile {
+    /// Whether they are.
+    fn is_same(&self, one: &str, other: &str) -> bool;
+}
+
+/// The fault of the last of these calls, or of a put where that did not fail.
+fn fault_of<'b, S: SameFile>(
+    calls: &'b [Call],
+    failed: bool,
+    reason: &'b str,
+    same: &S,
+) -> Fault<'b> {
+    match calls.split_last() {
+        Some((last, earlier)) if failed => Fault {
+            deed: last.deed,
+            name: &last.name,
+            reason,
+            before: before_of(earlier, last, same),
+        },
+        _ => Fault {
+            deed: Deed::Printing,
+            name: "",
+            reason,
+            before: None,
+        },
+    }
+}
+
+/// The first of these calls that was on the file of another one.
+fn before_of<'b, S: SameFile>(earlier: &'b [Call], last: &Call, same: &S) -> Option<Before<'b>> {
+    'calls: for call in earlier {
+        if same.is_same(&call.name, &last.name) {
+            return Some(Before {
+                deed: call.deed,
+                name: &call.name,
+            });
+        }
+    }
+    None
+}
+
+impl<'a, C: Clock, E: Write + Drop> Watch for Told<'a, C, E> {
+    fn reads(&self, name: &str) {
+        self.call(Deed::Reading, &Step::Reading, name);
+    }
+
+    fn writes(&self, name: &str) {
+        self.call(Deed::Writing, &Step::Writing, name);
+    }
+
+    fn letters(&self, name: &str) {
+        if let Ok(name) = String::from_str(self.alloc, name) {
+            let _ = self.letters.try_replace(name);
+        }
+    }
+
+    fn patterns(&self, name: &str, bytes: &[u8]) {
+        self.notes(&Wrong::Behind {
+            patterns: name,
+            bytes,
+        });
+    }
+
+    fn words(&self, name: &str, dictionary: &Dictionary, letters: &Table) {
+        if dictionary.len() == 0 {
+            self.notes(&Wrong::NoWord { dict: name });
+        } else if !has_part(dictionary, letters) {
+            self.notes(&Wrong::NoPart {
+                dict: name,
+                words: dictionary.len(),
+                left: letters.left(),
+                right: letters.right(),
+            });
+        }
+    }
+
+    fn refuses(&self, refused: &Refused<'_>) {
+        let Ok(name) = self.letters.try_borrow() else {
+            return;
+        };
+        let letters = refused.letters.map(|table| Letters { name: &name, table });
+        self.explains(&Wrong::Refused(RefusedFile {
+            name: refused.name,
+            bytes: refused.bytes,
+            refusal: refused.refusal,
+            letters,
+        }));
+    }
+
+    fn selects(&self, name: &str, params: &Params, start: &PatternSet) {
+        if params.count() > 0 && start.largest() >= params.start() {
+            self.notes(&Wrong::LowStart {
+                patterns: name,
+                largest: start.largest(),
+                start: params.start(),
+            });
+        }
+    }
+
+    fn turn(&self, turn: Turn) {
+        self.turn.set(Some(turn));
+    }
+
+    fn round(&self, round: u64) {
+        self.step(&Step::Round(round), "");
+    }
+
+    fn pass(&self, pass: Pass) {
+        self.step(&Step::Pass(pass), "");
+    }
+
+    fn false_line(&self, name: &str, line: &FalseLine<'_>, text: &[u8]) {
+        let found = if line.found.is_empty() {
+            None
+        } else {
+            Some(line.found)
+        };
+        self.explains(&Wrong::False(Wanted {
+            name,
+            line: line.line as usize,
+            found,
+            wanted: line_at(text, line.line),
+        }));
+    }
+
+    fn fails(&self) {
+        self.failed.set(true);
+    }
+
+    fn answers(&self) {
+        self.screen.clear();
+    }
+}
