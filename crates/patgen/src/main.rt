@@ -6,5 +6,5 @@ use std::process::ExitCode;
 
 /// Runs the command that its words name. `run_words` says what the status means.
 fn main(rt: HostRuntime) -> ExitCode {
-    run_words(&rt, rt.stdout())
+    run_words(&rt, rt.stdout(), rt.stderr())
 }

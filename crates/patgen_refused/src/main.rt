@@ -1,4 +1,5 @@
-//! The program `patgen` once more, for a run on a dictionary that is refused: its line and its status are what is looked at.
+//! The program `patgen` once more, for a run of eleven words, the last of which names a file that
+//! is refused: the line and the status are what is looked at.
 #![tactic(auto)]
 
 use pg_main::run_words;
@@ -6,5 +7,5 @@ use std::process::ExitCode;
 
 /// Runs the command that its words name, as `patgen` does.
 fn main(rt: HostRuntime) -> ExitCode {
-    run_words(&rt, rt.stdout())
+    run_words(&rt, rt.stdout(), rt.stderr())
 }

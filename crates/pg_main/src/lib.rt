@@ -1,16 +1,23 @@
-//! What a program does that runs one command: it takes the words, works on the files of the system, and gives the status.
+//! What a program does that runs one command: it takes the words, works on the files of the system,
+//! and gives the status.
 #![tactic(auto)]
 
-ghost use Rattle.std.specs.Prelude.{◌≡◌, ◌⊎◌, IfOk, IfErr, MatchResult};
+ghost use Rattle.std.specs.Prelude.{◌≡◌, ◌≤◌, ◌⊎◌, IfOk, IfErr, MatchResult};
 ghost use Rattle.std.specs.Process.{exit_status};
 ghost use Rattle.pg_main.specs.Given.{words_in, IsReasonOf};
 ghost use Rattle.pg_main.specs.Statuses.{IsCodeOfRun, IsCodeOfNone};
 
-use pg_outside::{Files, HostFiles, HostSink, Sink};
-use pg_top::{exit_code, run};
+mod listen;
+mod named;
+
+use crate::named::Named;
+pub use listen::Listen;
+use pg_messages::{Told, is_shown};
+use pg_outside::{Files, HostFiles, HostSink, HostSystem, Sink};
+use pg_top::{exit_code, run_watched};
 use std::alloc::Global;
 use std::env::Args;
-use std::io::{ErrorKind, Write};
+use std::io::{ErrorKind, IsTerminal, Write};
 use std::process::ExitCode;
 use std::{env, io, rt};
 
@@ -39,32 +46,46 @@ pub fn words_after_name(alloc: Global, arguments: Args) -> Result<Vec<String>, N
 
 /// The exit code of a program that was handed these words, or was not for this reason.
 ///
-/// It is that of the answer of a call of `run` on these words: 0 where all went well, 1 for a file that is not the wanted
-/// one, 2 where the words are no command, 3 for a refused file, 4 for a file that could not be read or written, and 5
-/// where memory was wanted. Where there are no words, it is 5 if they found no memory and 6 if the system gave none, and
-/// neither `files` nor `out` was called.
-pub fn status_of<F: Files, O: Sink>(
+/// It is that of the answer of a call of `run` on these words: 0 where all went well, 1 for a file
+/// that is not the wanted one, 2 where the words are no command, 3 for a refused file, 4 for a file
+/// that could not be read or written, and 5 where memory was wanted. Where there are no words, it
+/// is 5 if they found no memory and 6 if the system gave none, and neither `files` nor `out` was
+/// called. The observer is told of the call and of its answer.
+pub fn status_of<F: Files, O: Sink, L: Listen>(
     alloc: Global,
     words: Result<Vec<String>, NoWords>,
     files: &mut F,
     out: &mut O,
+    listen: &L,
 ) -> u8
-    ensures { MatchResult words
+    ensures told { MatchResult words
         (λ words. IsCodeOfRun words.items result files.old files.new
         (F.shown files.old, O.shown out.old) (F.shown files.new, O.shown out.new))
         (λ reason. IsCodeOfNone reason result files.old files.new out.old out.new) }
+    ensures most { result ≤ 6 }
 {
     match words {
-        Ok(words) => exit_code(&run(alloc, &words, files, out)),
-        Err(NoWords::Memory) => 5,
-        Err(NoWords::Unreadable) => 6,
+        Ok(words) => {
+            listen.begins(&words);
+            let status = run_watched(alloc, &words, files, out, listen);
+            listen.ends(&words, &status);
+            exit_code(&status)
+        }
+        Err(reason) => {
+            listen.has_no_words(&reason);
+            match reason {
+                NoWords::Memory => 5,
+                NoWords::Unreadable => 6,
+            }
+        }
     }
 }
 
 /// The words of a program by what the system says of its arguments.
 ///
 /// # Errors
-/// Where there is not enough memory, here or in the system, and where the system does not give the arguments.
+/// Where there is not enough memory, here or in the system, and where the system does not give the
+/// arguments.
 pub fn words_of(alloc: Global, arguments: io::Result<Args>) -> Result<Vec<String>, NoWords>
     ensures given { IfOk arguments (λ arguments. MatchResult result
         (λ words. words.items ≡ words_in arguments) (λ reason. reason ≡ NoWords.Memory)) }
@@ -79,13 +100,15 @@ pub fn words_of(alloc: Global, arguments: io::Result<Args>) -> Result<Vec<String
 
 /// Does what the arguments ask for, and gives the exit code.
 ///
-/// It is that of the answer of a call of `run` on all words after the program's name, 5 where these find no memory or the
-/// system found none, and 6 where it does not give them.
-pub fn exit_of<F: Files, O: Sink>(
+/// It is that of the answer of a call of `run` on all words after the program's name, 5 where these
+/// find no memory or the system found none, and 6 where it does not give them. The observer is told
+/// of the call and of its answer.
+pub fn exit_of<F: Files, O: Sink, L: Listen>(
     alloc: Global,
     arguments: io::Result<Args>,
     files: &mut F,
     out: &mut O,
+    listen: &L,
 ) -> ExitCode
     ensures given { IfOk arguments (λ arguments.
         IsCodeOfRun (words_in arguments) (exit_status result) files.old files.new
@@ -93,19 +116,44 @@ pub fn exit_of<F: Files, O: Sink>(
         ⊎ IsCodeOfNone NoWords.Memory (exit_status result) files.old files.new out.old out.new) }
     ensures none { IfErr arguments (λ error. (reason : NoWords) × IsReasonOf error reason
         × IsCodeOfNone reason (exit_status result) files.old files.new out.old out.new) }
+    ensures most { exit_status result ≤ 6 }
 {
     let words = words_of(alloc, arguments);
-    ExitCode::from(status_of(alloc, words, files, out))
+    ExitCode::from(status_of(alloc, words, files, out, listen))
 }
 
-/// Does what the arguments of the program ask for, over the files of the system and a writer, which is to be standard
-/// output.
-pub fn run_words<R: rt::Files + rt::Env + AllocGlobal, W: Write + Drop>(
-    rt: &R,
-    out: W,
-) -> ExitCode {
+/// The system's reason as it prints it; empty where it gave none, and where memory is short.
+fn reason_text(alloc: Global, reason: Option<io::Error>) -> String {
+    let Some(error) = reason else {
+        return String::new(alloc);
+    };
+    match format!(in alloc; "{error}") {
+        Ok(text) => text,
+        Err(_) => String::new(alloc),
+    }
+}
+
+/// Does what the arguments of the program ask for, over the files of the system and a writer, which
+/// is to be standard output.
+///
+/// On `err`, which is to be standard error, stands a line that says where the call is, while it
+/// works, and what explains the answer at the end. The variable `PATGEN_PROGRESS` says whether the
+/// line is shown: `always`, `never`, or anything else for only where standard error is a terminal.
+pub fn run_words<
+    R: rt::Files + rt::Env + rt::Clock + AllocGlobal,
+    W: Write + Drop,
+    E: Write + IsTerminal + Drop,
+>(rt: &R, out: W, err: E) -> ExitCode
+    ensures { exit_status result ≤ 6 }
+{
     let alloc = rt.alloc();
-    let mut files = HostFiles::new(alloc, rt);
+    let choice = env::var(rt, "PATGEN_PROGRESS").ok();
+    let is_shown = is_shown(choice.as_deref(), err.is_terminal());
+    let mut files = HostFiles::new(alloc, HostSystem::new(rt));
     let mut sink = HostSink::new(out);
-    exit_of(alloc, env::args(rt), &mut files, &mut sink)
+    let told = Told::new(alloc, rt, err, is_shown);
+    let code = exit_of(alloc, env::args(rt), &mut files, &mut sink, &told);
+    let reason = reason_text(alloc, files.system().reason());
+    told.put_fault(&reason, &Named::new(rt));
+    code
 }

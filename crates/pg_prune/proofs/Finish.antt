@@ -7,8 +7,8 @@ use Rattle.pg_select.specs.Windows.{Patterns}
 use Rattle.pg_prune.specs.declared.pruned.Need.{Need}
 use Rattle.pg_prune.specs.Places.{WordPlace, places}
 use Rattle.pg_prune.specs.Prunes.{rounds, needs, pruned, found_by, Found, Rounds}
-use Rattle.pg_prune.specs.Picks.{picked, RoundStart}
-use Rattle.pg_prune.specs.Picks.{entry_of}
+use Rattle.pg_prune.specs.Inside.Picks.{picked, RoundStart}
+use Rattle.pg_prune.specs.Inside.Picks.{entry_of}
 
 abbrev pub to_rounds : Patterns → ℕ → Rounds
 to_rounds Q count = record { patterns = Q; count = count }

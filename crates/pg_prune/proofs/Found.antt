@@ -4,7 +4,7 @@ use Rattle.std.specs.Prelude.{MatchOption, is_some}
 use Rattle.pg_select.specs.Windows.{Patterns}
 use Rattle.pg_prune.specs.Places.{WordPlace}
 use Rattle.pg_prune.specs.Prunes.{break_alike, break_alike_at, first_difference}
-use Rattle.pg_prune.specs.Turns.{IsFound}
+use Rattle.pg_prune.specs.Inside.Turns.{IsFound}
 use Rattle.pg_prune.proofs.NeedLaws.{alike_where_none}
 use Rattle.pg_prune.proofs.TurnLaws.{find_nothing}
 

@@ -9,11 +9,11 @@ use Rattle.pg_types.proofs.BoolFacts.{and_first, and_second}
 use Rattle.pg_patterns.specs.Values.{is_entry}
 use Rattle.pg_select.specs.Windows.{Patterns}
 use Rattle.pg_prune.specs.Places.{WordPlace}
-use Rattle.pg_prune.specs.Standing.{standing}
-use Rattle.pg_prune.specs.Turns.{Turn, with_entry, IsAwaited, IsTallied}
-use Rattle.pg_prune.specs.Picks.{IsGround}
+use Rattle.pg_prune.specs.Inside.Standing.{standing}
+use Rattle.pg_prune.specs.Inside.Turns.{Turn, with_entry, IsAwaited, IsTallied}
+use Rattle.pg_prune.specs.Inside.Picks.{IsGround}
 use Rattle.pg_prune.proofs.RoundSteps.{standing_at}
-use Rattle.pg_prune.specs.Picks.{entry_of}
+use Rattle.pg_prune.specs.Inside.Picks.{entry_of}
 
 -- where no entry is, no place has a holder
 pub none_tallied : (places : List WordPlace) → IsTallied places [] (replicate (length places) (replicate 9 0))

@@ -8,11 +8,11 @@ use Rattle.pg_select.specs.Windows.{Patterns}
 use Rattle.pg_prune.specs.declared.pruned.Need.{Need}
 use Rattle.pg_prune.specs.Places.{WordPlace}
 use Rattle.pg_prune.specs.Prunes.{need_at, need_list, needs_from, needs, first_difference}
-use Rattle.pg_prune.specs.Turns.{with_entry, without_entry, IsHeld, IsTallied, IsFound}
-use Rattle.pg_prune.specs.Picks.{picked, RoundStart}
+use Rattle.pg_prune.specs.Inside.Turns.{with_entry, without_entry, IsHeld, IsTallied, IsFound}
+use Rattle.pg_prune.specs.Inside.Picks.{picked, RoundStart}
 use Rattle.pg_prune.proofs.TurnSteps.{left_at, none_left}
 use Rattle.pg_prune.proofs.RoundSteps.{turn_of, turn_from}
-use Rattle.pg_prune.specs.Picks.{entry_of}
+use Rattle.pg_prune.specs.Inside.Picks.{entry_of}
 
 module _ (places : List WordPlace) (P : Patterns) (kept : List ℕ) where
   -- these are the needs of the first i entries

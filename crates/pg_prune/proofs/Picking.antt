@@ -4,8 +4,8 @@ use Rattle.std.specs.List.{All, range_with_len}
 use Rattle.std.proofs.lemmas.List.{map-append, take_more}
 use Rattle.std.proofs.lemmas.List.Elements.{All-nil, All-cons}
 use Rattle.pg_select.specs.Windows.{Patterns}
-use Rattle.pg_prune.specs.Picks.{picked}
-use Rattle.pg_prune.specs.Picks.{entry_of}
+use Rattle.pg_prune.specs.Inside.Picks.{picked}
+use Rattle.pg_prune.specs.Inside.Picks.{entry_of}
 
 -- one number more
 pub picked_more : (P : Patterns) (kept : List ℕ) (i : ℕ) → i < length kept → picked P (take (i + 1) kept) ≡ picked P (take i kept) ++ entry_of P (get_or kept i 0) ∷ []

@@ -10,7 +10,7 @@ use Rattle.pg_translate.specs.Alphabets.{Alphabet}
 use Rattle.pg_patterns.specs.Values.{is_entry}
 use Rattle.pg_select.specs.Windows.{Patterns}
 use Rattle.pg_prune.specs.declared.pruned.Need.{Need}
-use Rattle.pg_prune.specs.Picks.{entry_of}
+use Rattle.pg_prune.specs.Inside.Picks.{entry_of}
 use Rattle.pg_prune.specs.Reports.{keep_line, keep_lines}
 
 -- an entry from its parts

@@ -12,9 +12,9 @@ use Rattle.pg_patterns.specs.Values.{is_entry}
 use Rattle.pg_select.specs.Windows.{Patterns}
 use Rattle.pg_prune.specs.Places.{WordPlace}
 use Rattle.pg_prune.specs.Prunes.{break_alike, round_from, round}
-use Rattle.pg_prune.specs.Standing.{standing, all_standing}
-use Rattle.pg_prune.specs.Turns.{Turn, with_entry, without_entry, IsHeld, IsTallied}
-use Rattle.pg_prune.specs.Picks.{entry_of, picked, RoundStart, RoundDone}
+use Rattle.pg_prune.specs.Inside.Standing.{standing, all_standing}
+use Rattle.pg_prune.specs.Inside.Turns.{Turn, with_entry, without_entry, IsHeld, IsTallied}
+use Rattle.pg_prune.specs.Inside.Picks.{entry_of, picked, RoundStart, RoundDone}
 use Rattle.pg_prune.proofs.RoundLaws.{regrouped}
 use Rattle.pg_prune.proofs.NeedLaws.{alike_over}
 use Rattle.pg_prune.proofs.TurnSteps.{left_at}

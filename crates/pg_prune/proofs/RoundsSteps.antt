@@ -9,11 +9,11 @@ use Rattle.pg_types.proofs.BoolFacts.{no_test}
 use Rattle.pg_select.specs.Windows.{Patterns}
 use Rattle.pg_prune.specs.Places.{WordPlace}
 use Rattle.pg_prune.specs.Prunes.{break_alike, round, rounds_from, rounds, Rounds}
-use Rattle.pg_prune.specs.Turns.{IsTallied}
-use Rattle.pg_prune.specs.Picks.{picked, RoundStart, RoundDone, RoundsStart}
+use Rattle.pg_prune.specs.Inside.Turns.{IsTallied}
+use Rattle.pg_prune.specs.Inside.Picks.{picked, RoundStart, RoundDone, RoundsStart}
 use Rattle.pg_prune.proofs.RoundLaws.{round_length, round_same}
 use Rattle.pg_prune.proofs.NeedLaws.{alike_self}
-use Rattle.pg_prune.specs.Picks.{entry_of}
+use Rattle.pg_prune.specs.Inside.Picks.{entry_of}
 use Rattle.pg_prune.proofs.Picking.{picked_all, range_below}
 
 -- so many rounds are made, and the entries with the numbers `kept` are left

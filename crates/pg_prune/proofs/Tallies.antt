@@ -9,8 +9,8 @@ use Rattle.pg_types.proofs.BoolFacts.{and_first, and_second, no_test}
 use Rattle.pg_patterns.specs.Values.{is_entry, value_at}
 use Rattle.pg_select.specs.Windows.{Patterns}
 use Rattle.pg_prune.specs.Places.{WordPlace}
-use Rattle.pg_prune.specs.Standing.{stands}
-use Rattle.pg_prune.specs.Holders.{count_at, holder_counts, greatest_value_from, greatest_value, with_one, less_one}
+use Rattle.pg_prune.specs.Inside.Standing.{stands}
+use Rattle.pg_prune.specs.Inside.Holders.{count_at, holder_counts, greatest_value_from, greatest_value, with_one, less_one}
 
 -- where two functions agree on numbers, so do the lists that they make
 map_same : (f g : ℕ → ℕ) (a n : ℕ) → ((u : ℕ) → a ≤ u → f u ≡ g u) → map f (range_with_len a n) ≡ map g (range_with_len a n)

@@ -13,9 +13,9 @@ use Rattle.pg_patterns.specs.Values.{stands_at, applies}
 use Rattle.pg_select.specs.CountedPositions.{Minima}
 use Rattle.pg_select.proofs.Reaches.{Reaches, reach_is}
 use Rattle.pg_prune.specs.Places.{WordPlace, places_in, places_from, places}
-use Rattle.pg_prune.specs.Standing.{numbers_of, stands, standing}
+use Rattle.pg_prune.specs.Inside.Standing.{numbers_of, stands, standing}
 use Rattle.pg_prune.specs.declared.trail.Start.{Start}
-use Rattle.pg_prune.specs.Trails.{width_of, width, start_at, starts_in, starts_from, all_starts, begins_at, starts_of, place_in, place_of}
+use Rattle.pg_prune.specs.Inside.Trails.{width_of, width, start_at, starts_in, starts_from, all_starts, begins_at, starts_of, place_in, place_of}
 use Rattle.pg_prune.proofs.TrailLists.{range_parts, nothing_in, given_shifted}
 use Rattle.pg_prune.proofs.TrailStarts.{signs_at}
 

@@ -9,7 +9,7 @@ use Rattle.pg_dict.specs.Word.{Word}
 use Rattle.pg_dict.proofs.Parts.{drop_word}
 use Rattle.pg_select.specs.CountedPositions.{Minima}
 use Rattle.pg_prune.specs.declared.trail.Start.{Start}
-use Rattle.pg_prune.specs.Trails.{signs_of, width, start_at, starts_in, starts_from, IsStart}
+use Rattle.pg_prune.specs.Inside.Trails.{signs_of, width, start_at, starts_in, starts_from, IsStart}
 
 -- a sign of a word more
 pub start_more : (first : List Start) (word places at : ℕ) → (first ++ starts_in word places at) ++ start_at word places at ∷ [] ≡ first ++ starts_in word places (at + 1)

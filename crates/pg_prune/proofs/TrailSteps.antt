@@ -11,7 +11,7 @@ use Rattle.pg_types.proofs.BoolFacts.{and_first, and_second}
 use Rattle.pg_dict.specs.Word.{Word}
 use Rattle.pg_patterns.specs.Values.{stands_at}
 use Rattle.pg_prune.specs.declared.trail.Start.{Start}
-use Rattle.pg_prune.specs.Trails.{signs_of, IsStart, begins_at, continues_with, starts_of, trail_upto, IsTrail, last_of}
+use Rattle.pg_prune.specs.Inside.Trails.{signs_of, IsStart, begins_at, continues_with, starts_of, trail_upto, IsTrail, last_of}
 use Rattle.pg_prune.proofs.TrailLists.{range_agree, filter_both, filter_all}
 
 -- what it means that q stands in w at a

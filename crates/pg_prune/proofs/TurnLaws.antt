@@ -11,9 +11,9 @@ use Rattle.pg_patterns.specs.Values.{is_entry, value_at}
 use Rattle.pg_select.specs.Windows.{Patterns}
 use Rattle.pg_prune.specs.Places.{WordPlace}
 use Rattle.pg_prune.specs.Prunes.{break_alike_at}
-use Rattle.pg_prune.specs.Standing.{stands, numbers_of}
-use Rattle.pg_prune.specs.Holders.{count_at, holder_counts, greatest_value, with_one, less_one, stays_alike}
-use Rattle.pg_prune.specs.Turns.{Turn, with_entry, without_entry, IsOf}
+use Rattle.pg_prune.specs.Inside.Standing.{stands, numbers_of}
+use Rattle.pg_prune.specs.Inside.Holders.{count_at, holder_counts, greatest_value, with_one, less_one, stays_alike}
+use Rattle.pg_prune.specs.Inside.Turns.{Turn, with_entry, without_entry, IsOf}
 use Rattle.pg_prune.proofs.PrunedLaws.{sound_without}
 use Rattle.pg_prune.proofs.Tallies.{tally_away, tally_there, less_with, greatest_value_is, entry_low, entry_high}
 use Rattle.pg_prune.proofs.Walks.{next_of, none_of, is_false}

@@ -4,9 +4,9 @@ use Rattle.std.proofs.Math.Seq.{drop-cons}
 use Rattle.std.proofs.lemmas.List.{nil_from_length}
 use Rattle.pg_prune.specs.Places.{WordPlace}
 use Rattle.pg_prune.specs.Prunes.{break_alike_at, first_difference}
-use Rattle.pg_prune.specs.Standing.{stands}
-use Rattle.pg_prune.specs.Holders.{holder_counts}
-use Rattle.pg_prune.specs.Turns.{Turn, with_entry, without_entry, IsHeld, IsAwaited}
+use Rattle.pg_prune.specs.Inside.Standing.{stands}
+use Rattle.pg_prune.specs.Inside.Holders.{holder_counts}
+use Rattle.pg_prune.specs.Inside.Turns.{Turn, with_entry, without_entry, IsHeld, IsAwaited}
 use Rattle.pg_prune.proofs.Walks.{Walked, Step, walk_begins, walk_steps, walk_ends}
 use Rattle.pg_prune.proofs.TurnLaws.{away_same, away_alike, Looked, LookStep, look_begins, look_steps, look_ends}
 

@@ -7,7 +7,7 @@ use Rattle.std.proofs.lemmas.List.{length-map, map-append}
 use Rattle.std.proofs.lemmas.Bool.{and_from}
 use Rattle.pg_types.proofs.BoolFacts.{and_first, and_second}
 use Rattle.pg_prune.specs.Places.{WordPlace}
-use Rattle.pg_prune.specs.Standing.{numbers_of}
+use Rattle.pg_prune.specs.Inside.Standing.{numbers_of}
 
 -- the first number: places before it fail, its own passes, and the numbers that follow are those of the places behind it
 pub record Next (test : WordPlace → Bool) (n : ℕ) (ys : List WordPlace) (k : ℕ) (ks : List ℕ) : Type 0 where

@@ -2,9 +2,4 @@ pub mod Places
 pub mod Prunes
 pub mod Promises
 pub mod Reports
-pub mod Standing
-pub mod Holders
-pub mod Turns
-pub mod Picks
-pub mod Ends
-pub mod Trails
+pub mod Inside

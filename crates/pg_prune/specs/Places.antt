@@ -12,7 +12,8 @@ pub record WordPlace : Type 0 where
 
 -- the places of a word with this number: its positions in reach
 abbrev pub places_in : Minima → ℕ → Word → List WordPlace
-places_in m number w = map (λ p. record { word = number; signs = w.signs; position = p }) (positions m.left m.right (length w.signs))
+places_in m number w = map (λ p. record { word = number; signs = w.signs; position = p })
+    (positions m.left m.right (length w.signs))
 
 -- the places of words, the first of which has this number
 abbrev pub places_from : Minima → ℕ → List Word → List WordPlace

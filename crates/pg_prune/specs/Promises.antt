@@ -10,11 +10,14 @@ use Rattle.pg_prune.specs.Prunes.{Found}
 
 -- two maps give each position in reach of each word values that are both odd or both even
 abbrev pub BreakAlike : Minima → List Word → Patterns → Patterns → Type 0
-BreakAlike m words P Q = All (λ (w : Word). All (λ p. value_at P w.signs p % 2 ≡ value_at Q w.signs p % 2) (positions m.left m.right (length w.signs))) words
+BreakAlike m words P Q =
+    All (λ (w : Word). All (λ p. value_at P w.signs p % 2 ≡ value_at Q w.signs p % 2)
+    (positions m.left m.right (length w.signs))) words
 
 -- no entry can be taken alone out of Q so that it still breaks alike with P
 abbrev pub NoneCanGo : Minima → List Word → Patterns → Patterns → Type 0
-NoneCanGo m words P Q = (before : Patterns) (e : (List ℕ × ℕ) × ℕ) (behind : Patterns) → Q ≡ before ++ e ∷ behind → ¬ BreakAlike m words P (before ++ behind)
+NoneCanGo m words P Q = (before : Patterns) (e : (List ℕ × ℕ) × ℕ) (behind : Patterns)
+    → Q ≡ before ++ e ∷ behind → ¬ BreakAlike m words P (before ++ behind)
 
 -- each entry has a need, and no need is at a position before the first letter
 pub record HasNeeds (f : Found) : Type 0 where

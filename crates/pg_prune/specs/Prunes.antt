@@ -11,18 +11,21 @@ use Rattle.pg_prune.specs.Places.{WordPlace, places}
 
 -- two maps break alike at a place: the value there is odd in both, or in neither
 abbrev pub break_alike_at : Patterns → Patterns → WordPlace → Bool
-break_alike_at P Q x = nat_eq (value_at P x.signs x.position % 2) (value_at Q x.signs x.position % 2)
+break_alike_at P Q x = nat_eq (value_at P x.signs x.position % 2)
+    (value_at Q x.signs x.position % 2)
 
 -- two maps break alike at all places
 abbrev pub break_alike : List WordPlace → Patterns → Patterns → Bool
 break_alike places P Q = list_all (break_alike_at P Q) places
 
--- a round from its middle: of the map, `kept` are the entries that were looked at and stay, and then come those to be looked at. An
--- entry is taken out where the map without it breaks alike with the first map P
+-- a round from its middle: of the map, `kept` are the entries that were looked at and stay, and
+-- then come those to be looked at. An entry is taken out where the map without it breaks alike with
+-- the first map P
 abbrev pub round_from : List WordPlace → Patterns → Patterns → Patterns → Patterns
 round_from places P kept [] = kept
 round_from places P kept (e ∷ rest) =
-    if break_alike places P (kept ++ rest) then round_from places P kept rest else round_from places P (kept ++ e ∷ []) rest
+    if break_alike places P (kept ++ rest) then round_from places P kept rest
+    else round_from places P (kept ++ e ∷ []) rest
 
 -- a round through all entries of the map Q
 unfoldable pub round : List WordPlace → Patterns → Patterns → Patterns
@@ -33,8 +36,8 @@ pub record Rounds : Type 0 where
   pub patterns : Patterns
   pub count : ℕ
 
--- rounds on from the map Q, until one takes out nothing, which is counted too. So many entries at most are in Q, and a round takes out
--- nothing of a map that has none
+-- rounds on from the map Q, until one takes out nothing, which is counted too. So many entries at
+-- most are in Q, and a round takes out nothing of a map that has none
 abbrev pub rounds_from : List WordPlace → Patterns → ℕ → ℕ → Patterns → Rounds
 rounds_from places P count zero Q = record { patterns = Q; count = count + 1 }
 rounds_from places P count (suc most) Q =
@@ -58,18 +61,20 @@ abbrev pub need_list : Option WordPlace → List Need
 need_list None = []
 need_list (Some x) = need_at x ∷ []
 
--- the needs of the entries from `rest` on, behind the entries `before`: of each the first place at which the map without it does not break
--- alike with the map
+-- the needs of the entries from `rest` on, behind the entries `before`: of each the first place at
+-- which the map without it does not break alike with the map
 abbrev pub needs_from : List WordPlace → Patterns → Patterns → List Need
 needs_from places before [] = []
 needs_from places before (e ∷ rest) =
-    need_list (first_difference places (before ++ e ∷ rest) (before ++ rest)) ++ needs_from places (before ++ e ∷ []) rest
+    need_list (first_difference places (before ++ e ∷ rest) (before ++ rest))
+    ++ needs_from places (before ++ e ∷ []) rest
 
 -- the needs of all entries of a map
 unfoldable pub needs : List WordPlace → Patterns → List Need
 needs places Q = needs_from places [] Q
 
--- what pruning comes to: the patterns that stay, the need of each, the number of rounds, and how many entries were taken out
+-- what pruning comes to: the patterns that stay, the need of each, the number of rounds, and how
+-- many entries were taken out
 pub record Found : Type 0 where
   pub patterns : Patterns
   pub needs : List Need
@@ -78,7 +83,13 @@ pub record Found : Type 0 where
 
 -- what the rounds come to, where so many entries were there at first
 abbrev pub found_by : List WordPlace → ℕ → Rounds → Found
-found_by places first r = record { patterns = r.patterns; needs = needs places r.patterns; rounds = r.count; removed = first - length r.patterns }
+found_by places first r =
+    record {
+      patterns = r.patterns;
+      needs = needs places r.patterns;
+      rounds = r.count;
+      removed = first - length r.patterns;
+    }
 
 -- patterns pruned by the words of a dictionary
 unfoldable pub pruned : Minima → List Word → Patterns → Found

@@ -2,7 +2,7 @@
 ghost use Rattle.std.specs.Prelude.{◌≡◌, map, IfOk};
 ghost use Rattle.pg_select.specs.CountedPositions.{minima_of};
 ghost use Rattle.pg_prune.specs.Places.{places as places_of};
-ghost use Rattle.pg_prune.specs.Standing.{all_standing};
+ghost use Rattle.pg_prune.specs.Inside.Standing.{all_standing};
 
 use crate::trail::{Trail, all_starts, standing};
 use pg_dict::Dictionary;
@@ -10,8 +10,8 @@ use pg_patterns::PatternSet;
 use pg_translate::Table;
 use std::alloc::{AllocError, Global};
 
-/// For each entry the numbers of the places at which it stands, in rising order. Places are the positions in reach of all words, in
-/// the order of words and positions, and are counted from 0.
+/// For each entry the numbers of the places at which it stands, in rising order. Places are the
+/// positions in reach of all words, in the order of words and positions, and are counted from 0.
 ///
 /// Entries that follow one another share the starts of their common first signs.
 pub(crate) fn gather(

@@ -17,7 +17,7 @@ impl Model for Holders {
 
 impl Holders {
     ghost use Rattle.std.specs.Prelude.{◌≡◌, ◌+◌, ◌-◌, ◌<◌, ◌≤◌, ◌^◌, slice_index, replicate};
-    ghost use Rattle.pg_prune.specs.Holders.{greatest_value, with_one, less_one, stays_alike};
+    ghost use Rattle.pg_prune.specs.Inside.Holders.{greatest_value, with_one, less_one, stays_alike};
 
     /// No entry.
     pub fn none() -> Holders

@@ -1,7 +1,7 @@
 //! The patterns that stay.
 ghost use Rattle.std.specs.Prelude.{◌≡◌, ◌<◌, length, All, IfOk};
 ghost use Rattle.pg_patterns.specs.Values.{IsPatternMap};
-ghost use Rattle.pg_prune.specs.Picks.{picked};
+ghost use Rattle.pg_prune.specs.Inside.Picks.{picked};
 
 use pg_patterns::{DottedSigns, PatternSet};
 use std::alloc::{AllocError, Global};

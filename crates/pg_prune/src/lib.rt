@@ -12,5 +12,6 @@ mod rounds;
 mod trail;
 
 pub use pruned::{Need, Pruned};
-pub use pruning::prune;
+pub use pruning::{prune, prune_watched};
 pub use report::prune_text;
+pub use rounds::{Rounds, Unseen};

@@ -1,7 +1,7 @@
 //! The places at which words can break.
 ghost use Rattle.std.specs.Prelude.{◌≡◌, ◌+◌, ◌++◌, map, IfOk, OnOk};
 ghost use Rattle.pg_dict.specs.Word.{IsWord};
-ghost use Rattle.pg_dict.specs.Lent.{lent_word};
+ghost use Rattle.pg_dict.specs.Inside.Lent.{lent_word};
 ghost use Rattle.pg_select.specs.CountedPositions.{minima_of};
 ghost use Rattle.pg_prune.specs.Places.{places as places_of, places_in};
 ghost use Rattle.pg_prune.specs.Prunes.{need_at};
@@ -21,7 +21,8 @@ fn add_word(
 ) -> Result<(), AllocError>
     requires { IsWord (lent_word w.now) }
     ensures { OnOk result (places.new.items
-        ≡ places.old.items ++ map need_at (places_in (minima_of table.now) word (lent_word w.now))) }
+        ≡ places.old.items ++ map need_at
+        (places_in (minima_of table.now) word (lent_word w.now))) }
 {
     let Some((first, end)) = positions(table, w) else {
         return Ok(());
@@ -39,7 +40,8 @@ pub(crate) fn places(
     dictionary: &Dictionary,
     table: &Table,
 ) -> Result<Vec<Need>, AllocError>
-    ensures { IfOk result (λ places. places.items ≡ map need_at (places_of (minima_of table.now) dictionary.now)) }
+    ensures { IfOk result
+        (λ places. places.items ≡ map need_at (places_of (minima_of table.now) dictionary.now)) }
 {
     let mut places = Vec::new(alloc);
     'words: for i in 0..dictionary.len() {

@@ -2,7 +2,8 @@
 use pg_patterns::PatternSet;
 use std::marker::Model;
 
-/// The first position that needs an entry: without the entry its value would be odd in place of even, or even in place of odd.
+/// The first position that needs an entry: without the entry its value would be odd in place of
+/// even, or even in place of odd.
 #[derive(Clone, Copy, Debug, PartialEq, Eq)]
 pub struct Need {
     /// The number of the word in the dictionary, from 1.
@@ -11,8 +12,8 @@ pub struct Need {
     pub position: u8,
 }
 
-/// What pruning comes to: the patterns that stay, the need of each entry of them in order, the number of rounds, and how many
-/// entries were taken out.
+/// What pruning comes to: the patterns that stay, the need of each entry of them in order, the
+/// number of rounds, and how many entries were taken out.
 #[derive(Drop)]
 pub struct Pruned {
     patterns: PatternSet,
@@ -27,7 +28,12 @@ impl Model for Pruned {
 
     ghost Value = { Found };
 
-    ghost view = { λ p. record { patterns = p.patterns; needs = p.needs.items; rounds = p.rounds; removed = p.removed } };
+    ghost view = { λ p. record {
+      patterns = p.patterns;
+      needs = p.needs.items;
+      rounds = p.rounds;
+      removed = p.removed;
+    } };
 
     ghost invariant = { λ p. HasNeeds (record {
       patterns = p.patterns;
@@ -43,8 +49,18 @@ impl Pruned {
 
     /// What pruning with these patterns, needs and numbers came to.
     pub(crate) fn new(patterns: PatternSet, needs: Vec<Need>, rounds: u64, removed: u64) -> Pruned
-        requires { HasNeeds (record { patterns = patterns; needs = needs.items; rounds = rounds; removed = removed }) }
-        ensures { result ≡ record { patterns = patterns; needs = needs.items; rounds = rounds; removed = removed } }
+        requires { HasNeeds (record {
+          patterns = patterns;
+          needs = needs.items;
+          rounds = rounds;
+          removed = removed;
+        }) }
+        ensures { result ≡ record {
+          patterns = patterns;
+          needs = needs.items;
+          rounds = rounds;
+          removed = removed;
+        } }
     {
         Pruned {
             patterns,

@@ -10,18 +10,20 @@ use crate::gather::gather;
 use crate::kept::kept_patterns;
 use crate::places::places;
 use crate::pruned::Pruned;
-use crate::rounds::{all_holders, all_rounds, needs};
+use crate::rounds::{Rounds, Unseen, all_holders, all_rounds, needs};
 use pg_dict::Dictionary;
 use pg_patterns::PatternSet;
 use pg_translate::Table;
 use std::alloc::{AllocError, Global};
 
-/// Takes the entries out of `patterns` that change no break of the words, in rounds, and finds for each entry that stays the first
-/// position that needs it.
+/// Takes the entries out of `patterns` that change no break of the words, in rounds, and finds for
+/// each entry that stays the first position that needs it.
 ///
-/// Values are compared at all positions in reach of the words that take part, also where a position is marked don't-care. An entry
-/// goes where each of these values stays odd, or even, without it. Rounds through the entries, in the order of signs and then of dots,
-/// are made until one takes out nothing. A round costs about the number of places at which its entries stand. The only error is want of memory.
+/// Values are compared at all positions in reach of the words that take part, also where a position
+/// is marked don't-care. An entry goes where each of these values stays odd, or even, without it.
+/// Rounds through the entries, in the order of signs and then of dots, are made until one takes out
+/// nothing. A round costs about the number of places at which its entries stand. The only error is
+/// want of memory.
 pub fn prune(
     alloc: Global,
     dictionary: &Dictionary,
@@ -29,7 +31,30 @@ pub fn prune(
     patterns: &PatternSet,
 ) -> Result<Pruned, AllocError>
     requires known { SignsUpTo (letters_of table.now + 1) patterns.now }
-    ensures pruned { IfOk result (λ found. found ≡ pruned (minima_of table.now) dictionary.now patterns.now) }
+    ensures pruned { IfOk result
+        (λ found. found ≡ pruned (minima_of table.now) dictionary.now patterns.now) }
+    ensures alike { IfOk result
+        (λ found. BreakAlike (minima_of table.now) dictionary.now patterns.now found.patterns) }
+    ensures least { IfOk result
+        (λ found. NoneCanGo (minima_of table.now) dictionary.now patterns.now found.patterns) }
+    ensures needs { IfOk result HasNeeds }
+    ensures part { IfOk result (λ found. All (Contains patterns.now) found.patterns) }
+    ensures known { IfOk result (λ found. SignsUpTo (letters_of table.now + 1) found.patterns) }
+{
+    prune_watched(alloc, dictionary, table, patterns, &Unseen)
+}
+
+/// Does what `prune` does, and tells the observer where a round begins.
+pub fn prune_watched<W: Rounds>(
+    alloc: Global,
+    dictionary: &Dictionary,
+    table: &Table,
+    patterns: &PatternSet,
+    watch: &W,
+) -> Result<Pruned, AllocError>
+    requires known { SignsUpTo (letters_of table.now + 1) patterns.now }
+    ensures pruned { IfOk result
+        (λ found. found ≡ pruned (minima_of table.now) dictionary.now patterns.now) }
     ensures alike { IfOk result
         (λ found. BreakAlike (minima_of table.now) dictionary.now patterns.now found.patterns) }
     ensures least { IfOk result
@@ -44,7 +69,7 @@ pub fn prune(
     let standing = lists.as_slice();
     let mut all = all_holders(alloc, patterns, standing, places.len())?;
     let holders = all.as_mut_slice();
-    let finished = all_rounds(alloc, patterns, standing, holders)?;
+    let finished = all_rounds(alloc, patterns, standing, holders, watch)?;
     let kept = finished.kept.as_slice();
     let needs = needs(alloc, patterns, standing, places.as_slice(), holders, kept)?;
     let removed = count - kept.len();

@@ -2,7 +2,7 @@
 ghost use Rattle.std.specs.Prelude.{◌≡◌, ◌≤◌, ◌+◌, ◌++◌, [], ◌∷◌, length, ◌<◌, decimal, OnOk, IfOk};
 ghost use Rattle.pg_translate.specs.Alphabets.{letters_of};
 ghost use Rattle.pg_patterns.specs.Values.{SignsUpTo};
-ghost use Rattle.pg_prune.specs.Picks.{entry_of};
+ghost use Rattle.pg_prune.specs.Inside.Picks.{entry_of};
 ghost use Rattle.pg_prune.specs.Reports.{entry_text, keep_line, last_line, prune_report};
 
 use crate::pruned::{Need, Pruned};
@@ -20,7 +20,8 @@ fn push_number(text: &mut Vec<u8>, front: &[u8], number: u64) -> Result<(), Allo
     text.extend_from_slice(digits.format(number).as_bytes())
 }
 
-/// The text of the entry with the number `i`: the pattern file of this entry alone, without its line feed.
+/// The text of the entry with the number `i`: the pattern file of this entry alone, without its
+/// line feed.
 fn text_of_entry(
     alloc: Global,
     table: &Table,
@@ -73,8 +74,8 @@ fn push_last_line(text: &mut Vec<u8>, pruned: &Pruned) -> Result<(), AllocError>
     Ok(())
 }
 
-/// The report: a line for each entry that stays, with its need, and a last line with the numbers of rounds, of entries that were taken
-/// out and of those that stay.
+/// The report: a line for each entry that stays, with its need, and a last line with the numbers of
+/// rounds, of entries that were taken out and of those that stay.
 pub fn prune_text(alloc: Global, table: &Table, pruned: &Pruned) -> Result<Vec<u8>, AllocError>
     requires { SignsUpTo (letters_of table.now + 1) pruned.now.patterns }
     ensures { IfOk result (λ text. text.items ≡ prune_report table.now pruned.now) }

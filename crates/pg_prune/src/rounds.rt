@@ -2,16 +2,30 @@
 ghost use Rattle.std.specs.Prelude.{◌≡◌, ◌<◌, ◌≤◌, not, [], ◌∷◌, List, length, map, if◌then◌else◌, IfOk, None, MatchOption};
 ghost use Rattle.pg_prune.specs.Places.{WordPlace};
 ghost use Rattle.pg_prune.specs.Prunes.{break_alike, first_difference, need_at, needs as needs_of};
-ghost use Rattle.pg_prune.specs.Standing.{all_standing};
-ghost use Rattle.pg_prune.specs.Picks.{picked, IsGround, RoundStart, RoundDone, RoundsStart};
+ghost use Rattle.pg_prune.specs.Inside.Standing.{all_standing};
+ghost use Rattle.pg_prune.specs.Inside.Picks.{picked, IsGround, RoundStart, RoundDone, RoundsStart};
 ghost use Rattle.std.specs.List.{range_with_len};
-ghost use Rattle.pg_prune.specs.Ends.{RoundsDone};
-ghost use Rattle.pg_prune.specs.Turns.{Turn, with_entry, without_entry, IsHeld, IsAwaited, IsTallied, IsFound};
+ghost use Rattle.pg_prune.specs.Inside.Ends.{RoundsDone};
+ghost use Rattle.pg_prune.specs.Inside.Turns.{Turn, with_entry, without_entry, IsHeld, IsAwaited, IsTallied, IsFound};
 
 use crate::holders::Holders;
 use crate::pruned::Need;
 use pg_patterns::PatternSet;
 use std::alloc::{AllocError, Global};
+
+/// An observer of the rounds. Nothing is promised of its calls, and nothing is asked of it.
+pub trait Rounds {
+    /// A round begins, counted from 1.
+    fn begins(&self, round: u64);
+}
+
+/// An observer that does nothing.
+#[derive(Clone, Copy, Debug, Default)]
+pub struct Unseen;
+
+impl Rounds for Unseen {
+    fn begins(&self, _round: u64) {}
+}
 
 /// Adds an entry with this value at its places.
 fn add(holders: &mut [Holders], places: &[usize], value: u8)
@@ -35,7 +49,8 @@ fn take_off(holders: &mut [Holders], places: &[usize], value: u8)
     }
 }
 
-/// The first of the places of an entry that needs it, as it would not stay odd, or even, without it; none where the entry can go.
+/// The first of the places of an entry that needs it, as it would not stay odd, or even, without
+/// it; none where the entry can go.
 fn first_need(holders: &[Holders], places: &[usize], value: u8) -> Option<usize>
     requires { (turn : Turn) × IsHeld turn holders.now places.now value }
     ensures { (turn : Turn) → IsHeld turn holders.now places.now value
@@ -57,8 +72,10 @@ pub(crate) fn all_holders(
     standing: &[Vec<usize>],
     count: usize,
 ) -> Result<Vec<Holders>, AllocError>
-    requires { (places : List WordPlace) × IsGround places patterns.now (map (λ l. l.items) standing.now) count }
-    ensures { (places : List WordPlace) → IsGround places patterns.now (map (λ l. l.items) standing.now) count
+    requires { (places : List WordPlace)
+        × IsGround places patterns.now (map (λ l. l.items) standing.now) count }
+    ensures { (places : List WordPlace)
+        → IsGround places patterns.now (map (λ l. l.items) standing.now) count
         → IfOk result (λ holders. IsTallied places patterns.now holders.items) }
 {
     let mut holders = Vec::new(alloc);
@@ -72,13 +89,15 @@ pub(crate) fn all_holders(
     Ok(holders)
 }
 
-/// Takes an entry with this value off its places, where none of them needs it. The answer is whether one does.
+/// Takes an entry with this value off its places, where none of them needs it. The answer is
+/// whether one does.
 fn keep_or_take_off(holders: &mut [Holders], places: &[usize], value: u8) -> bool
     requires { (turn : Turn) × IsHeld turn holders.old places.now value }
     ensures answer { (turn : Turn) → IsHeld turn holders.old places.now value
         → result ≡ not (break_alike turn.places (with_entry turn) (without_entry turn)) }
     ensures holders { (turn : Turn) → IsHeld turn holders.old places.now value
-        → IsTallied turn.places (if result then with_entry turn else without_entry turn) holders.new }
+        → IsTallied turn.places
+        (if result then with_entry turn else without_entry turn) holders.new }
 {
     let is_needed = first_need(holders, places, value).is_some();
     if !is_needed {
@@ -100,7 +119,8 @@ pub(crate) fn round(
     ensures { (places : List WordPlace)
         → RoundStart places patterns.now (map (λ l. l.items) standing.now) holders.old kept.now
         → IfOk result (λ stay.
-        RoundDone places patterns.now (map (λ l. l.items) standing.now) holders.new kept.now stay.items) }
+        RoundDone places patterns.now
+        (map (λ l. l.items) standing.now) holders.new kept.now stay.items) }
 {
     let mut stay = Vec::new(alloc);
     'entries: for i in kept {
@@ -130,24 +150,27 @@ fn numbers(alloc: Global, count: usize) -> Result<Vec<usize>, AllocError>
     Ok(numbers)
 }
 
-/// Rounds, until one takes out nothing.
-pub(crate) fn all_rounds(
+/// Rounds, until one takes out nothing. The observer is told of each.
+pub(crate) fn all_rounds<W: Rounds>(
     alloc: Global,
     patterns: &PatternSet,
     standing: &[Vec<usize>],
     holders: &mut [Holders],
+    watch: &W,
 ) -> Result<Finished, AllocError>
     requires { (places : List WordPlace)
         × RoundsStart places patterns.now (map (λ l. l.items) standing.now) holders.old }
     ensures { (places : List WordPlace)
         → RoundsStart places patterns.now (map (λ l. l.items) standing.now) holders.old
-        → IfOk result (RoundsDone places patterns.now (map (λ l. l.items) standing.now) holders.new) }
+        → IfOk result (RoundsDone places patterns.now
+        (map (λ l. l.items) standing.now) holders.new) }
 {
     let mut kept = numbers(alloc, patterns.len())?;
     let mut count = 0;
     'rounds: loop {
-        let stay = round(alloc, patterns, standing, holders, kept.as_slice())?;
         count += 1;
+        watch.begins(count);
+        let stay = round(alloc, patterns, standing, holders, kept.as_slice())?;
         if stay.len() == kept.len() {
             return Ok(Finished { kept, count });
         }

@@ -3,7 +3,7 @@ ghost use Rattle.std.specs.Prelude.{◌≡◌, ◌≤◌, ◌+◌, ◌++◌, [],
 ghost use Rattle.std.specs.List.{filter, filter_map};
 ghost use Rattle.pg_types.specs.declared.limits.TheConstants.{PATTERN_SIGNS_MAX};
 ghost use Rattle.pg_select.specs.CountedPositions.{minima_of};
-ghost use Rattle.pg_prune.specs.Trails.{IsStart, IsTrail, starts_in, all_starts as all_starts_of, continues_with as continues_with_by, last_of, place_of as place_by};
+ghost use Rattle.pg_prune.specs.Inside.Trails.{IsStart, IsTrail, starts_in, all_starts as all_starts_of, continues_with as continues_with_by, last_of, place_of as place_by};
 
 use pg_dict::Dictionary;
 use pg_translate::Table;
@@ -36,7 +36,8 @@ pub(crate) fn all_starts(
     dictionary: &Dictionary,
     table: &Table,
 ) -> Result<Vec<Start>, AllocError>
-    ensures starts { IfOk result (λ starts. starts.items ≡ all_starts_of (minima_of table.now) dictionary.now) }
+    ensures starts { IfOk result
+        (λ starts. starts.items ≡ all_starts_of (minima_of table.now) dictionary.now) }
     ensures known { IfOk result (λ starts. All (IsStart dictionary.now) starts.items) }
 {
     let mut starts = Vec::new(alloc);
@@ -76,7 +77,8 @@ fn longer(
 ) -> Result<Vec<Start>, AllocError>
     requires known { All (IsStart dictionary.now) starts.now }
     requires few { len ≤ PATTERN_SIGNS_MAX }
-    ensures { IfOk result (λ found. found.items ≡ filter (continues_with_by dictionary.now len sign) starts.now) }
+    ensures { IfOk result
+        (λ found. found.items ≡ filter (continues_with_by dictionary.now len sign) starts.now) }
 {
     let mut found = Vec::new(alloc);
     'starts: for start in starts {
@@ -125,7 +127,8 @@ impl Trail {
         }
     }
 
-    /// Goes to another string, where `all` are all starts. What it has in common with the last one stays.
+    /// Goes to another string, where `all` are all starts. What it has in common with the last one
+    /// stays.
     pub fn go_to(
         &mut self,
         alloc: Global,
@@ -133,7 +136,8 @@ impl Trail {
         all: &[Start],
         signs: &[Sign],
     ) -> Result<(), AllocError>
-        requires trail { IsTrail dictionary.now all.now self.old.signs.items (map (λ l. l.items) self.old.starts.items) }
+        requires trail { IsTrail dictionary.now all.now self.old.signs.items
+            (map (λ l. l.items) self.old.starts.items) }
         requires known { All (IsStart dictionary.now) all.now }
         requires few { length signs.now ≤ PATTERN_SIGNS_MAX }
         ensures trail { OnOk result

@@ -3,24 +3,28 @@ use Rattle.std.proofs.Common.{◌≡◌, ℕ, ◌+◌, List, [], take, Option, N
 use Rattle.std.specs.Prelude.{slice_get, unwrap_or}
 use Rattle.std.proofs.lemmas.Option.{get_or_from_slice_get, slice_get_within, slice_get-map}
 use Rattle.std.specs.Option.{option_map}
+use Rattle.pg_types.specs.declared.refusals.Refusal.{Refusal}
 use Rattle.pg_outside.specs.Content.{FileMap, FilesShown, SinkShown, KeepsHeld, file_at}
 use Rattle.pg_outside.specs.Faults.{NoneFell, Rose}
 use Rattle.pg_top.specs.Answers.{MayAnswer, DoesAll, IsAnswered, IsSampled, IsAnswerOf, IsCall}
 use Rattle.pg_top.specs.Calls.{outcome, outcome_of, finished, reads_of, writes_of}
-use Rattle.pg_top.specs.Counted.{EndsAt}
-use Rattle.pg_top.specs.Faults.{FilesRose, IsUnread, StopsWriting, DoesPart}
+use Rattle.pg_top.specs.Counted.{MakesCalls, MakesPuts, read_calls, write_calls, PutsFault, PutsCounted, LinesCounted, ReadsUpTo, IsUnreadAt, EndsAt, IsEndCounted}
+use Rattle.pg_top.specs.Faults.{FilesRose, StopsWriting, DoesPart}
 use Rattle.pg_top.specs.Moments.{Moment, OfFiles, Puts, PutsPart, PutRose, PutOrRose}
 use Rattle.pg_top.specs.Outcomes.{Ends, Writing, refuses}
 use Rattle.pg_top.specs.PrintedLines.{usage_line, refused_line, reading_line, writing_line}
 use Rattle.pg_top.specs.Readings.{first_end}
 use Rattle.pg_top.specs.Requests.{Request, ToGenerate, ToAudit, ToSample, ToPack, ToTotals, ToPrune, ToSweep}
 use Rattle.pg_top.specs.SampleTexts.{sample_lines}
-use Rattle.pg_top.specs.Stops.{StopsWith, StopsReading, StopsCommandWith, StopsCommand, PutsAnswer, PutsLines, PutsStop, Finishes}
+use Rattle.pg_top.specs.Inside.Stops.{StopsWith, StopsReading, StopsCommandWith, StopsCommand, PutsAnswer, PutsLines, PutsStop, Finishes}
 use Rattle.pg_top.specs.Writings.{written_names, after_all, IsPartWritten, WroteAll, StoppedAt}
 use Rattle.pg_top.specs.declared.answers.Status.{Status}
 use Rattle.pg_top.specs.declared.answers.Status.TheVariants.{Done, Yes, No, Usage, Refused, Fault, Memory}
+use Rattle.pg_top.specs.declared.inputs.Input.{Input}
 use Rattle.pg_top.specs.declared.inputs.Stop.{Stop}
 use Rattle.pg_top.specs.declared.inputs.Stop.TheVariants as stop
+use Rattle.pg_top.proofs.CountedCalls.{calls_on, calls_are}
+use Rattle.pg_top.proofs.CountedEnds.{refused_counted, whole_calls, sample_whole}
 use Rattle.pg_top.proofs.Faults.{rose_since}
 use Rattle.pg_top.proofs.Orders.{mapped, end_of_all}
 
@@ -105,24 +109,27 @@ module _ (request : Request) (wanted : Status) (writing : Writing) (lines : List
   }
 
   -- its lines could not be put
-  put_failed : (s0 s1 s2 : FilesShown) (o0 o1 : SinkShown) → KeepsHeld s0.held s1.held → IfSome s1.held Comes → WroteAll s1 s2 writing → PutRose o0 o1 → PutsPart o0 o1 lines → IsCall (Some request) Fault (s0, o0) (s2, o1)
-  put_failed s0 s1 s2 o0 o1 keeps told wrote rose part = record {
+  put_failed : (s0 s1 s2 : FilesShown) (o0 o1 : SinkShown) → IsEndCounted request wanted (s0, o0) (s2, o1) → KeepsHeld s0.held s1.held → IfSome s1.held Comes → WroteAll s1 s2 writing → PutRose o0 o1 → PutsPart o0 o1 lines → IsCall (Some request) Fault (s0, o0) (s2, o1)
+  put_failed s0 s1 s2 o0 o1 counted keeps told wrote rose part = record {
     answers = may_fault request;
     usage = λ is. cc;
     answered = tt;
     memory = λ is. cc;
     fault = λ _. inl rose;
     faulted = λ _. inr (inr (record {
+      wanted = wanted;
+      counted = counted;
       rose = rose;
-      part = of_files s0 s1 s2 writing Comes (λ before after. DoesPart (s0, o0) (s2, o1) before after (outcome_of (file_at before) request)) keeps told wrote (λ before after comes written. subst (DoesPart (s0, o0) (s2, o1) before after) (sym comes) (written, part));
+      part = of_files s0 s1 s2 writing Comes (λ before after. DoesPart (s0, o0) (s2, o1) wanted before after (outcome_of (file_at before) request)) keeps told wrote
+          (λ before after comes written. subst (DoesPart (s0, o0) (s2, o1) wanted before after) (sym comes) (refl, written, part));
     }));
     complete = inl (inl rose);
   }
 
   -- all was written
-  pub ended_call : (s0 s1 s2 : FilesShown) (o0 o1 : SinkShown) (answer : Status) → IsEnd wanted → MayAnswer (Some request) wanted → KeepsHeld s0.held s1.held → IfSome s1.held Comes → WroteAll s1 s2 writing → PutsAnswer lines wanted answer o0 o1 → IsCall (Some request) answer (s0, o0) (s2, o1)
-  ended_call s0 s1 s2 o0 o1 answer end may keeps told wrote (inl h) = subst (λ (status : Status). IsCall (Some request) status (s0, o0) (s2, o1)) (sym h.0) (done_call s0 s1 s2 o0 o1 end may keeps told wrote h.1)
-  ended_call s0 s1 s2 o0 o1 answer end may keeps told wrote (inr h) = subst (λ (status : Status). IsCall (Some request) status (s0, o0) (s2, o1)) (sym h.0) (put_failed s0 s1 s2 o0 o1 keeps told wrote h.1 h.2)
+  pub ended_call : (s0 s1 s2 : FilesShown) (o0 o1 : SinkShown) (answer : Status) → IsEnd wanted → MayAnswer (Some request) wanted → IsEndCounted request wanted (s0, o0) (s2, o1) → KeepsHeld s0.held s1.held → IfSome s1.held Comes → WroteAll s1 s2 writing → PutsAnswer lines wanted answer o0 o1 → IsCall (Some request) answer (s0, o0) (s2, o1)
+  ended_call s0 s1 s2 o0 o1 answer end may counted keeps told wrote (inl h) = subst (λ (status : Status). IsCall (Some request) status (s0, o0) (s2, o1)) (sym h.0) (done_call s0 s1 s2 o0 o1 end may keeps told wrote h.1)
+  ended_call s0 s1 s2 o0 o1 answer end may counted keeps told wrote (inr h) = subst (λ (status : Status). IsCall (Some request) status (s0, o0) (s2, o1)) (sym h.0) (put_failed s0 s1 s2 o0 o1 counted keeps told wrote h.1 h.2)
 
   -- where writing stopped, it stands there
   stopped_writing : (s0 s1 s2 : FilesShown) (place : ℕ) (stopped : StoppedAt s1 s2 writing place) → KeepsHeld s0.held s1.held → IfSome s1.held Comes → IfSome s2.held (λ after. MatchOption s0.held ⊥ (λ before. StopsWriting stopped.write.0 before after (outcome_of (file_at before) request)))
@@ -139,8 +146,8 @@ module _ (request : Request) (wanted : Status) (writing : Writing) (lines : List
           (subst (StopsWriting stopped.write.0 before after) (sym told) part)
 
 -- an answer with no write
-pub answered_call : (request : Request) (wanted : Status) (lines : List ℕ) (s0 s1 : FilesShown) (o0 o1 : SinkShown) (answer : Status) → IsEnd wanted → MayAnswer (Some request) wanted → KeepsHeld s0.held s1.held → IfSome s1.held (λ files. outcome_of (file_at files) request ≡ Ends wanted [] lines) → PutsAnswer lines wanted answer o0 o1 → IsCall (Some request) answer (s0, o0) (s1, o1)
-answered_call request wanted lines s0 s1 o0 o1 answer end may keeps told puts = ended_call request wanted [] lines s0 s1 s1 o0 o1 answer end may keeps told (nothing_written s1) puts
+pub answered_call : (request : Request) (wanted : Status) (lines : List ℕ) (s0 s1 : FilesShown) (o0 o1 : SinkShown) (answer : Status) → IsEnd wanted → MayAnswer (Some request) wanted → IsEndCounted request wanted (s0, o0) (s1, o1) → KeepsHeld s0.held s1.held → IfSome s1.held (λ files. outcome_of (file_at files) request ≡ Ends wanted [] lines) → PutsAnswer lines wanted answer o0 o1 → IsCall (Some request) answer (s0, o0) (s1, o1)
+answered_call request wanted lines s0 s1 o0 o1 answer end may counted keeps told puts = ended_call request wanted [] lines s0 s1 s1 o0 o1 answer end may counted keeps told (nothing_written s1) puts
 
 -- memory was wanted
 pub memory_call : (request : Request) (s0 s1 : FilesShown) (o0 o1 : SinkShown) (answer : Status) → KeepsHeld s0.held s1.held → answer ≡ Memory → Puts o0 o1 [] → IsCall (Some request) answer (s0, o0) (s1, o1)
@@ -155,31 +162,38 @@ memory_call request s0 s1 o0 o1 answer keeps is puts = subst (λ (status : Statu
 })
 
 -- a file could not be read
-unread_call : (request : Request) (name : List ℕ) (s0 s1 : FilesShown) (o0 o1 : SinkShown) → KeepsHeld s0.held s1.held → IsUnread (reads_of request) name s0 s1 → PutOrRose o0 o1 (reading_line name) → IsCall (Some request) Fault (s0, o0) (s1, o1)
-unread_call request name s0 s1 o0 o1 keeps unread line =
+unread_call : (request : Request) (place : ℕ) (s0 s1 : FilesShown) (o0 o1 : SinkShown) → KeepsHeld s0.held s1.held → ReadsUpTo (reads_of request) place s0 s1 → (unread : IsUnreadAt (reads_of request) place s0 s1) → PutOrRose o0 o1 (reading_line unread.reading.name) → PutsFault o0 o1 → IsCall (Some request) Fault (s0, o0) (s1, o1)
+unread_call request place s0 s1 o0 o1 keeps read unread line puts =
     let rose : FilesRose request (s0, o0) (s1, o1) =
-    inl (unread.place, unread.reading, slice_get_within (reads_of request) unread.place unread.reading unread.there, get_or_from_slice_get (reads_of request) unread.place unread.reading unread.reading unread.there, subst (λ at. Rose (s0.read_faults at) (s1.read_faults at)) (sym unread.named) unread.rose) in
+    inl (place, unread.reading, slice_get_within (reads_of request) place unread.reading unread.there, get_or_from_slice_get (reads_of request) place unread.reading unread.reading unread.there, unread.rose) in
     record {
       answers = may_fault request;
       usage = λ is. cc;
       answered = tt;
       memory = λ is. cc;
       fault = λ _. inr rose;
-      faulted = λ _. inl (record { name = name; unread = unread; unchanged = keeps; line = line });
+      faulted = λ _. inl (record { place = place; read = read; unread = unread; unchanged = keeps; line = line; puts = puts });
       complete = inl (inr rose);
     }
 
+-- the line of a refusal was put, or could not be, at once
+refused_puts : (input : Input) (refusal : Refusal) (line : List ℕ) (answer : Status) (o0 o1 : SinkShown) → PutsAnswer line Refused answer o0 o1 → PutsCounted (stop.Refused input refusal) answer o0 o1 → MakesPuts o0 o1 1
+refused_puts input refusal line answer o0 o1 (inl is) puts = subst (λ (answer : Status). PutsCounted (stop.Refused input refusal) answer o0 o1) is.0 puts
+refused_puts input refusal line answer o0 o1 (inr is) puts = subst (λ (answer : Status). PutsCounted (stop.Refused input refusal) answer o0 o1) is.0 puts
+
 -- a command stopped before it wrote
-pub stopped_command : (request : Request) (s0 s1 : FilesShown) (o0 o1 : SinkShown) (why : Stop) (answer : Status) → MayAnswer (Some request) Refused → KeepsHeld s0.held s1.held → StopsCommand request s0 s1 why → PutsStop why answer o0 o1 → IsCall (Some request) answer (s0, o0) (s1, o1)
-stopped_command request s0 s1 o0 o1 (stop.Refused input refusal) answer may keeps stops (inl h) = memory_call request s0 s1 o0 o1 answer keeps h.0 h.1
-stopped_command request s0 s1 o0 o1 (stop.Refused input refusal) answer may keeps stops (inr h) =
-    answered_call request Refused (refused_line input refusal) s0 s1 o0 o1 answer tt may keeps
+pub stopped_command : (request : Request) (s0 s1 : FilesShown) (o0 o1 : SinkShown) (why : Stop) (answer : Status) → MayAnswer (Some request) Refused → KeepsHeld s0.held s1.held → StopsCommand request s0 s1 why → PutsStop why answer o0 o1 → PutsCounted why answer o0 o1 → IsCall (Some request) answer (s0, o0) (s1, o1)
+stopped_command request s0 s1 o0 o1 (stop.Refused input refusal) answer may keeps stops (inl h) puts = memory_call request s0 s1 o0 o1 answer keeps h.0 h.1
+stopped_command request s0 s1 o0 o1 (stop.Refused input refusal) answer may keeps stops (inr h) puts =
+    answered_call request Refused (refused_line input refusal) s0 s1 o0 o1 answer tt may (refused_counted request s0 s1 o0 o1 input refusal stops (refused_puts input refusal (refused_line input refusal) answer o0 o1 h puts)) keeps
     (mapped s1.held (λ files. (outcome_of (file_at files) request ≡ refuses input refusal) × EndsAt request stops.place (file_at files)) (λ files. outcome_of (file_at files) request ≡ refuses input refusal) (λ files k. k.0) stops.why) h
-stopped_command request s0 s1 o0 o1 (stop.Unread name) answer may keeps stops puts =
+stopped_command request s0 s1 o0 o1 (stop.Unread name) answer may keeps stops line puts =
     let why = stops.why in
-    let unread : IsUnread (reads_of request) name.now s0 s1 = record { place = stops.place; reading = why.0; there = why.1; named = why.2; rose = why.3; before_it = stops.read.before_it } in
-    subst (λ (status : Status). IsCall (Some request) status (s0, o0) (s1, o1)) (sym puts.0) (unread_call request name.now s0 s1 o0 o1 keeps unread puts.1)
-stopped_command request s0 s1 o0 o1 stop.Memory answer may keeps stops puts = memory_call request s0 s1 o0 o1 answer keeps puts.0 puts.1
+    let unread : IsUnreadAt (reads_of request) stops.place s0 s1 = record { reading = why.0; there = why.1; rose = subst (λ (at : List ℕ). Rose (s0.read_faults at) (s1.read_faults at)) (sym why.2) why.3 } in
+    let named : PutOrRose o0 o1 (reading_line unread.reading.name) = subst (λ (at : List ℕ). PutOrRose o0 o1 (reading_line at)) (sym why.2) line.1 in
+    subst (λ (status : Status). IsCall (Some request) status (s0, o0) (s1, o1)) (sym line.0)
+    (unread_call request stops.place s0 s1 o0 o1 keeps stops.read unread named (subst (λ (answer : Status). PutsCounted (stop.Unread name) answer o0 o1) line.0 puts))
+stopped_command request s0 s1 o0 o1 stop.Memory answer may keeps stops line puts = memory_call request s0 s1 o0 o1 answer keeps line.0 line.1
 
 -- it stopped while it read
 pub stops_reading : (request : Request) (s0 s1 : FilesShown) (why : Stop) → StopsReading (reads_of request) s0 s1 why → StopsCommand request s0 s1 why
@@ -194,13 +208,13 @@ stops_reading request s0 s1 why stops = record { place = stops.place; read = sto
     why_command (stop.Unread name) place stops = stops
     why_command stop.Memory place stops = tt
 
-pub stopped_call : (request : Request) (s0 s1 : FilesShown) (o0 o1 : SinkShown) (why : Stop) (answer : Status) → MayAnswer (Some request) Refused → KeepsHeld s0.held s1.held → StopsReading (reads_of request) s0 s1 why → PutsStop why answer o0 o1 → IsCall (Some request) answer (s0, o0) (s1, o1)
-stopped_call request s0 s1 o0 o1 why answer may keeps stops puts = stopped_command request s0 s1 o0 o1 why answer may keeps (stops_reading request s0 s1 why stops) puts
+pub stopped_call : (request : Request) (s0 s1 : FilesShown) (o0 o1 : SinkShown) (why : Stop) (answer : Status) → MayAnswer (Some request) Refused → KeepsHeld s0.held s1.held → StopsReading (reads_of request) s0 s1 why → PutsStop why answer o0 o1 → PutsCounted why answer o0 o1 → IsCall (Some request) answer (s0, o0) (s1, o1)
+stopped_call request s0 s1 o0 o1 why answer may keeps stops line puts = stopped_command request s0 s1 o0 o1 why answer may keeps (stops_reading request s0 s1 why stops) line puts
 
 -- a file could not be written
 write_failed : (request : Request) (writing : Writing) (lines : List ℕ) (s0 s1 s2 : FilesShown) (o0 o1 : SinkShown) (place : ℕ) (stopped : StoppedAt s1 s2 writing place) → written_names writing ≡ writes_of request → KeepsHeld s0.held s1.held → NoneFell s0.write_faults s1.write_faults → IfSome s1.held (λ files. outcome_of (file_at files) request ≡ Ends Done writing lines)
-    → PutOrRose o0 o1 (writing_line stopped.write.0) → IsCall (Some request) Fault (s0, o0) (s2, o1)
-write_failed request writing lines s0 s1 s2 o0 o1 place stopped named keeps fell told line =
+    → MakesCalls s0 s1 (read_calls (reads_of request)) → MakesCalls s1 s2 (write_calls (take (place + 1) (written_names writing))) → PutOrRose o0 o1 (writing_line stopped.write.0) → PutsFault o0 o1 → IsCall (Some request) Fault (s0, o0) (s2, o1)
+write_failed request writing lines s0 s1 s2 o0 o1 place stopped named keeps fell told read wrote line puts =
     let name : List ℕ = stopped.write.0 in
     let rose = rose_since (s0.write_faults name) (s1.write_faults name) (s2.write_faults name) (fell name) stopped.rose in
     let there : slice_get (writes_of request) place ≡ Some name = ap (λ names. slice_get names place) (sym named) ∙ slice_get-map (λ (w : List ℕ × List ℕ). w.0) writing place ∙ ap (option_map (λ (w : List ℕ × List ℕ). w.0)) stopped.there in
@@ -213,20 +227,22 @@ write_failed request writing lines s0 s1 s2 o0 o1 place stopped named keeps fell
       memory = λ is. cc;
       fault = λ _. inr (inr (place, name, within, at, rose));
       faulted = λ _. inr (inl (record {
-        name = name;
-        written = (place, within, at);
-        rose = rose;
+        place = place;
+        unwritten = record { name = name; there = there; rose = rose };
+        calls = calls_on (read_calls (reads_of request)) (write_calls (take (place + 1) (writes_of request))) s0 s1 s2 read
+            (calls_are (write_calls (take (place + 1) (written_names writing))) (write_calls (take (place + 1) (writes_of request))) s1 s2 (ap (λ (names : List (List ℕ)). write_calls (take (place + 1) names)) named) wrote);
         part = stopped_writing request Done writing lines s0 s1 s2 place stopped keeps told;
         line = line;
+        puts = puts;
       }));
       complete = inl (inr (inr (place, name, within, at, rose)));
     }
 
 -- a command wrote its files and put its lines
 pub finished_call : (request : Request) (writing : Writing) (lines : List ℕ) (s0 s1 s2 : FilesShown) (o0 o1 : SinkShown) (answer : Status) → MayAnswer (Some request) Done → written_names writing ≡ writes_of request → KeepsHeld s0.held s1.held → NoneFell s0.write_faults s1.write_faults → IfSome s1.held (λ files. outcome_of (file_at files) request ≡ Ends Done writing lines)
-    → Finishes writing lines answer (s1, o0) (s2, o1) → IsCall (Some request) answer (s0, o0) (s2, o1)
-finished_call request writing lines s0 s1 s2 o0 o1 answer may named keeps fell told (inl h) = ended_call request Done writing lines s0 s1 s2 o0 o1 answer tt may keeps told h.0 h.1
-finished_call request writing lines s0 s1 s2 o0 o1 answer may named keeps fell told (inr h) = subst (λ (status : Status). IsCall (Some request) status (s0, o0) (s2, o1)) (sym h.0) (write_failed request writing lines s0 s1 s2 o0 o1 h.1 h.2 named keeps fell told h.3)
+    → MakesCalls s0 s1 (read_calls (reads_of request)) → Finishes writing lines answer (s1, o0) (s2, o1) → IsCall (Some request) answer (s0, o0) (s2, o1)
+finished_call request writing lines s0 s1 s2 o0 o1 answer may named keeps fell told read (inl h) = ended_call request Done writing lines s0 s1 s2 o0 o1 answer tt may (whole_calls request writing s0 s1 s2 named read h.2, h.3) keeps told h.0 h.1
+finished_call request writing lines s0 s1 s2 o0 o1 answer may named keeps fell told read (inr h) = subst (λ (status : Status). IsCall (Some request) status (s0, o0) (s2, o1)) (sym h.0) (write_failed request writing lines s0 s1 s2 o0 o1 h.1 h.2 named keeps fell told read h.4 h.3 h.5)
 
 -- words that are no command
 pub usage_call : (s : FilesShown) (o0 o1 : SinkShown) (answer : Status) → PutsAnswer usage_line Usage answer o0 o1 → IsCall None answer (s, o0) (s, o1)
@@ -262,14 +278,18 @@ usage_call s o0 o1 answer (inr h) = subst (λ (status : Status). IsCall None sta
     kept (Some files) = refl
 
 -- `sample` reads and writes nothing
-pub sample_call : (seed count : ℕ) (s : FilesShown) (o0 o1 : SinkShown) (answer : Status) → PutsLines (sample_lines seed count) answer o0 o1 → IsCall (Some (ToSample seed count)) answer (s, o0) (s, o1)
-sample_call seed count s o0 o1 answer (inl h) = memory_call (ToSample seed count) s s o0 o1 answer (kept s.held) h.0 h.1
+pub sample_call : (seed count : ℕ) (s : FilesShown) (o0 o1 : SinkShown) (answer : Status) → PutsLines (sample_lines seed count) answer o0 o1 → LinesCounted answer o0 o1 → IsCall (Some (ToSample seed count)) answer (s, o0) (s, o1)
+sample_call seed count s o0 o1 answer (inl h) puts = memory_call (ToSample seed count) s s o0 o1 answer (kept s.held) h.0 h.1
   where
     kept : (held : Option FileMap) → KeepsHeld held held
     kept None = tt
     kept (Some files) = refl
-sample_call seed count s o0 o1 answer (inr h) = answered_call (ToSample seed count) Done (sample_lines seed count) s s o0 o1 answer tt tt (kept s.held) (told s.held) h
+sample_call seed count s o0 o1 answer (inr h) puts = answered_call (ToSample seed count) Done (sample_lines seed count) s s o0 o1 answer tt tt (sample_whole seed count s o0 o1 (at_once h)) (kept s.held) (told s.held) h
   where
+    at_once : PutsAnswer (sample_lines seed count) Done answer o0 o1 → MakesPuts o0 o1 1
+    at_once (inl is) = subst (λ (answer : Status). LinesCounted answer o0 o1) is.0 puts
+    at_once (inr is) = subst (λ (answer : Status). LinesCounted answer o0 o1) is.0 puts
+
     kept : (held : Option FileMap) → KeepsHeld held held
     kept None = tt
     kept (Some files) = refl

@@ -23,7 +23,7 @@ use Rattle.pg_patterns.specs.Starts.{start, entries_from, joined_entries}
 use Rattle.pg_top.specs.Outcomes.{refuses, unless_accepted}
 use Rattle.pg_top.specs.PackedTables.{packed_table, table_refused}
 use Rattle.pg_top.specs.Readings.{read_as, input_file}
-use Rattle.pg_top.specs.Stops.{StopsAt, stop_of}
+use Rattle.pg_top.specs.Inside.Stops.{StopsAt, stop_of}
 use Rattle.pg_top.specs.declared.inputs.Input.{Input}
 use Rattle.pg_top.proofs.Orders.{mapped}
 

@@ -2,8 +2,8 @@
 use Rattle.std.proofs.Common.{◌≡◌, ℕ, ◌+◌, List, take, Option, None, Some, IfSome, inl, inr, refl, sym, ap, ◌∙◌, subst, arith}
 use Rattle.pg_outside.specs.Content.{FileMap, FilesShown, IsFile, IsFileCut, IsCut, file_at}
 use Rattle.pg_top.specs.Readings.{Reading}
-use Rattle.pg_top.specs.Stops.{StopsFront, StopsAt}
-use Rattle.pg_top.specs.Verdicts.{IsFrontOf}
+use Rattle.pg_top.specs.Inside.Stops.{StopsFront, StopsAt}
+use Rattle.pg_top.specs.Inside.Verdicts.{IsFrontOf}
 use Rattle.pg_top.specs.declared.inputs.Stop.{Stop}
 use Rattle.pg_top.specs.declared.inputs.Stop.TheVariants.{Refused, Unread, Memory}
 

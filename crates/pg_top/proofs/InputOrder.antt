@@ -4,6 +4,7 @@ use Rattle.std.specs.Prelude.{unwrap_or}
 use Rattle.pg_types.specs.Parameters.{Parameters, parameters}
 use Rattle.pg_outside.specs.Content.{FileMap, FilesShown, KeepsHeld, file_at}
 use Rattle.pg_outside.specs.Faults.{NoneFell}
+use Rattle.pg_outside.specs.FilesCalls.{Reads}
 use Rattle.pg_translate.specs.Alphabets.{Alphabet}
 use Rattle.pg_translate.specs.Tables.{table}
 use Rattle.pg_dict.specs.Word.{Word}
@@ -13,12 +14,12 @@ use Rattle.pg_top.specs.Calls.{outcome_of, finished}
 use Rattle.pg_top.specs.Readings.{Reading, read_as, input_file}
 use Rattle.pg_top.specs.Requests.{FileNames, ToGenerate}
 use Rattle.pg_top.specs.Selecting.{table_in, inputs_in, inputs_of, generated, HasInputs}
-use Rattle.pg_top.specs.Stops.{StopsAt, StopsReading}
+use Rattle.pg_top.specs.Inside.Stops.{StopsAt, StopsReading}
 use Rattle.pg_top.specs.declared.inputs.Input.TheVariants as input
 use Rattle.pg_top.specs.declared.reading.Inputs.{Inputs}
 use Rattle.pg_top.specs.declared.inputs.Stop.{Stop}
 use Rattle.pg_top.specs.declared.inputs.Stop.TheVariants.{Memory}
-use Rattle.pg_top.specs.Counted.{MakesCalls}
+use Rattle.pg_top.specs.Counted.{MakesCalls, read_calls}
 use Rattle.pg_top.proofs.Orders.{AreAccepted, accepted_all, mapped, both, held_later, stopped_behind, wanted_after}
 use Rattle.pg_top.proofs.UnderTable.{accepted, means, HasTable as HasTableNamed, is_table, table_accepted, accepted_under, means_under, stopped_first, stopped_under}
 
@@ -96,22 +97,22 @@ all_read n t p S ws h3 h4 keeps three more =
     (both h4 (HasThree n t p S) (λ files. read_as (words t) (file_at files) n.dict ≡ Some (Ok ws)) (held_later h3 h4 (HasThree n t p S) keeps three) more)
 
 -- a stop at the first input, at the second, at the third and at the last
-pub stopped_1 : (n : FileNames) (s0 s1 : FilesShown) (stop : Stop) → MakesCalls s0 s1 1 → StopsAt (translate_input n) s0 s1 stop → StopsReading (inputs_of n) s0 s1 stop
+pub stopped_1 : (n : FileNames) (s0 s1 : FilesShown) (stop : Stop) → MakesCalls s0 s1 (Reads n.translate ∷ []) → StopsAt (translate_input n) s0 s1 stop → StopsReading (inputs_of n) s0 s1 stop
 stopped_1 n s0 s1 stop calls stops = stopped_first (translate_input n) (parameters_input n ∷ patterns_input n ∷ dictionary_input n ∷ []) s0 s1 stop calls stops
 
-pub stopped_2 : (n : FileNames) (t : Alphabet) (s0 s1 s2 : FilesShown) (stop : Stop) → NoneFell s0.read_faults s1.read_faults → MakesCalls s0 s2 2 → KeepsHeld s1.held s2.held → IfSome s1.held (HasTable n t) → StopsAt (parameters_input n) s1 s2 stop → StopsReading (inputs_of n) s0 s2 stop
+pub stopped_2 : (n : FileNames) (t : Alphabet) (s0 s1 s2 : FilesShown) (stop : Stop) → NoneFell s0.read_faults s1.read_faults → MakesCalls s0 s2 (Reads n.translate ∷ Reads n.params ∷ []) → KeepsHeld s1.held s2.held → IfSome s1.held (HasTable n t) → StopsAt (parameters_input n) s1 s2 stop → StopsReading (inputs_of n) s0 s2 stop
 stopped_2 n t s0 s1 s2 stop fell calls keeps one stops =
     stopped_behind (translate_input n ∷ []) (parameters_input n) (patterns_input n ∷ dictionary_input n ∷ []) s0 s1 s2 stop fell calls
     (mapped s2.held (HasTable n t) (λ files. AreAccepted (file_at files) (translate_input n ∷ [])) (λ files h. (table_accepted n.translate t files h, tt)) (held_later s1.held s2.held (HasTable n t) keeps one)) stops
 
-pub stopped_3 : (n : FileNames) (t : Alphabet) (p : Parameters) (s0 s2 s3 : FilesShown) (stop : Stop) → NoneFell s0.read_faults s2.read_faults → MakesCalls s0 s3 3 → KeepsHeld s2.held s3.held → IfSome s2.held (HasTwo n t p) → StopsAt (input_file input.Patterns n.patterns (λ _. start t)) s2 s3 stop → StopsReading (inputs_of n) s0 s3 stop
+pub stopped_3 : (n : FileNames) (t : Alphabet) (p : Parameters) (s0 s2 s3 : FilesShown) (stop : Stop) → NoneFell s0.read_faults s2.read_faults → MakesCalls s0 s3 (Reads n.translate ∷ Reads n.params ∷ Reads n.patterns ∷ []) → KeepsHeld s2.held s3.held → IfSome s2.held (HasTwo n t p) → StopsAt (input_file input.Patterns n.patterns (λ _. start t)) s2 s3 stop → StopsReading (inputs_of n) s0 s3 stop
 stopped_3 n t p s0 s2 s3 stop fell calls keeps two stops =
     let later : IfSome s3.held (HasTwo n t p) = held_later s2.held s3.held (HasTwo n t p) keeps two in
     stopped_behind (translate_input n ∷ parameters_input n ∷ []) (patterns_input n) (dictionary_input n ∷ []) s0 s2 s3 stop fell calls
     (mapped s3.held (HasTwo n t p) (λ files. AreAccepted (file_at files) (translate_input n ∷ parameters_input n ∷ [])) (two_accepted n t p) later)
     (stopped_under n.translate t start input.Patterns n.patterns s2 s3 stop (mapped s3.held (HasTwo n t p) (HasTable n t) (λ files h. h.0) later) stops)
 
-pub stopped_4 : (n : FileNames) (t : Alphabet) (p : Parameters) (S : List ((List ℕ × ℕ) × ℕ)) (s0 s3 s4 : FilesShown) (stop : Stop) → NoneFell s0.read_faults s3.read_faults → MakesCalls s0 s4 4 → KeepsHeld s3.held s4.held → IfSome s3.held (HasThree n t p S) → StopsAt (input_file input.Dictionary n.dict (λ _. words t)) s3 s4 stop → StopsReading (inputs_of n) s0 s4 stop
+pub stopped_4 : (n : FileNames) (t : Alphabet) (p : Parameters) (S : List ((List ℕ × ℕ) × ℕ)) (s0 s3 s4 : FilesShown) (stop : Stop) → NoneFell s0.read_faults s3.read_faults → MakesCalls s0 s4 (read_calls (inputs_of n)) → KeepsHeld s3.held s4.held → IfSome s3.held (HasThree n t p S) → StopsAt (input_file input.Dictionary n.dict (λ _. words t)) s3 s4 stop → StopsReading (inputs_of n) s0 s4 stop
 stopped_4 n t p S s0 s3 s4 stop fell calls keeps three stops =
     let later : IfSome s4.held (HasThree n t p S) = held_later s3.held s4.held (HasThree n t p S) keeps three in
     stopped_behind (translate_input n ∷ parameters_input n ∷ patterns_input n ∷ []) (dictionary_input n) [] s0 s3 s4 stop fell calls
@@ -119,7 +120,7 @@ stopped_4 n t p S s0 s3 s4 stop fell calls keeps three stops =
     (stopped_under n.translate t words input.Dictionary n.dict s3 s4 stop (mapped s4.held (HasThree n t p S) (HasTable n t) (λ files h. h.0.0) later) stops)
 
 -- all were read, and then memory was wanted
-pub inputs_wanted : (n : FileNames) (i : Inputs) (s0 s1 : FilesShown) → MakesCalls s0 s1 4 → IfSome s1.held (λ files. HasInputs (file_at files) n i) → StopsReading (inputs_of n) s0 s1 Memory
+pub inputs_wanted : (n : FileNames) (i : Inputs) (s0 s1 : FilesShown) → MakesCalls s0 s1 (read_calls (inputs_of n)) → IfSome s1.held (λ files. HasInputs (file_at files) n i) → StopsReading (inputs_of n) s0 s1 Memory
 inputs_wanted n i s0 s1 calls read =
     wanted_after (inputs_of n) s0 s1 (omega arith) calls
     (mapped s1.held (λ files. HasInputs (file_at files) n i) (λ files. AreAccepted (file_at files) (inputs_of n)) (λ files h. inputs_accepted n i.table i.params i.start i.dictionary files h) read)

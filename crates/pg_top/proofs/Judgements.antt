@@ -3,25 +3,26 @@ use Rattle.std.proofs.Common.{◌≡◌, ℕ, ◌+◌, ◌≤◌, List, [], ◌�
 use Rattle.std.specs.Option.{option_map, option_map_or, option_or}
 use Rattle.std.specs.Prelude.{slice_get, unwrap_or}
 use Rattle.std.specs.declared.alloc.Global.{Global}
-use Rattle.std.proofs.lemmas.List.{drop_more, take_more, take_all, take-map, map-append, take-append-drop, length-map, length-take-le}
+use Rattle.std.proofs.lemmas.List.{append-nil, drop_more, take_all, take-map, map-append, take-append-drop, length-map}
 use Rattle.std.proofs.lemmas.Option.{slice_get_within, get_or_from_slice_get, slice_get-map}
 use Rattle.pg_audit.specs.Differences.{Difference, first_false}
 use Rattle.pg_audit.specs.FoundLines.{printed_of}
 use Rattle.pg_audit.proofs.PrintedPart.{part_printed}
 use Rattle.pg_outside.specs.Content.{FileMap, FilesShown, SinkShown, KeepsHeld, file_at}
 use Rattle.pg_outside.specs.Faults.{NoneFell, next_count}
+use Rattle.pg_outside.specs.FilesCalls.{Reads}
 use Rattle.pg_top.specs.Answers.{IsCall}
 use Rattle.pg_top.specs.Auditing.{denies, given_file, given_names, given_files}
 use Rattle.pg_top.specs.Calls.{outcome_of, reads_of}
-use Rattle.pg_top.specs.Counted.{MakesCalls, ReadsUpTo, EndsAt, IsCounted}
+use Rattle.pg_top.specs.Counted.{MakesCalls, MakesPuts, read_call, read_calls, ReadsUpTo, EndsAt, IsEndedCounted, IsWholeCounted, IsCounted}
 use Rattle.pg_top.specs.Outcomes.{Outcome, Unknown, Ends, refuses}
 use Rattle.pg_top.specs.PrintedLines.{no_line, yes_line}
 use Rattle.pg_top.specs.Readings.{Held, Reading, first_end}
 use Rattle.pg_top.specs.Requests.{FileNames, ToAudit, if_asked}
 use Rattle.pg_top.specs.Selection.{selected_text, selected_report}
 use Rattle.pg_top.specs.Selecting.{HasInputs, inputs_in, inputs_of}
-use Rattle.pg_top.specs.Stops.{StopsAt, StopsWith, StopsReading}
-use Rattle.pg_top.specs.Verdicts.{wanted_file, wanted_files, end_of, outcome_by, ReadsToFind, IsFrontOf, PutsVerdict}
+use Rattle.pg_top.specs.Inside.Stops.{StopsAt, StopsWith, StopsReading}
+use Rattle.pg_top.specs.Inside.Verdicts.{wanted_file, wanted_files, end_of, outcome_by, ReadsToFind, IsFrontOf, PutsVerdict}
 use Rattle.pg_top.specs.declared.answers.Status.{Status}
 use Rattle.pg_top.specs.declared.answers.Status.TheVariants.{Yes, No}
 use Rattle.pg_top.specs.declared.audit.Verdict.{Verdict}
@@ -33,7 +34,7 @@ use Rattle.pg_top.specs.declared.inputs.Stop.{Stop}
 use Rattle.pg_top.specs.declared.inputs.Stop.TheVariants.{Refused, Unread, Memory}
 use Rattle.pg_top.specs.declared.reading.Inputs.{Inputs}
 use Rattle.pg_top.proofs.Calls.{answered_call}
-use Rattle.pg_top.proofs.CountedCalls.{calls_on}
+use Rattle.pg_top.proofs.CountedCalls.{calls_on, calls_are, taken_more, read_more, all_reads}
 use Rattle.pg_top.proofs.CountedEnds.{counted_line}
 use Rattle.pg_top.proofs.InputOrder.{inputs_accepted, given as given_inputs}
 use Rattle.pg_top.proofs.Orders.{IsAccepted, AreAccepted, accepted_and, accepted_front, accepted_all, end_behind, mapped, both, held_later, stopped_behind, stopped_after, read_after, end_after}
@@ -71,6 +72,18 @@ same_ends files inputs i is (g ∷ gs) =
     ap (λ j. first_end files (given_file (λ _. j) g ∷ map (given_file inputs) gs)) is
     ∙ ap (λ rest. option_map_or (λ bytes. option_or ((given_file (λ _. i) g).ends files bytes) rest) (files g.1) (Some Unknown)) (same_ends files inputs i is gs)
 
+-- they are read alike under whatever inputs
+given_calls : (inputs : Held → Inputs) (gs : List (Given × List ℕ)) → read_calls (map (given_file inputs) gs) ≡ map (λ g. Reads g.1) gs
+given_calls inputs [] = refl
+given_calls inputs (g ∷ gs) = ap (λ calls. Reads g.1 ∷ calls) (given_calls inputs gs)
+
+same_calls : (inputs others : Held → Inputs) (gs : List (Given × List ℕ)) → read_calls (map (given_file inputs) gs) ≡ read_calls (map (given_file others) gs)
+same_calls inputs others gs = given_calls inputs gs ∙ sym (given_calls others gs)
+
+front_calls : (inputs others : Held → Inputs) (k : ℕ) (gs : List (Given × List ℕ)) → read_calls (take k (map (given_file inputs) gs)) ≡ read_calls (take k (map (given_file others) gs))
+front_calls inputs others k gs =
+    ap read_calls (take-map (given_file inputs) k gs) ∙ same_calls inputs others (take k gs) ∙ ap read_calls (sym (take-map (given_file others) k gs))
+
 module _ (n : FileNames) (i : Inputs) where
   -- what is known of the files once the inputs are read
   inputs_there : (files : FileMap) → HasInputs (file_at files) n i → AreAccepted (file_at files) (inputs_of n)
@@ -99,7 +112,7 @@ module _ (n : FileNames) (i : Inputs) where
   read_given : (place : ℕ) (s2 s3 : FilesShown) → IfSome s3.held (λ files. HasInputs (file_at files) n i) → ReadsUpTo (given_files (λ _. i) n) place s2 s3 → ReadsUpTo (given_files (λ files. inputs_in files n) n) place s2 s3
   read_given place s2 s3 h read = record {
     within = let within : place < length (given_files (λ _. i) n) = read.within in omega (arith, length-map (given_names n) (given_file (λ _. i)), length-map (given_names n) (given_file (λ files. inputs_in files n)));
-    calls = read.calls;
+    calls = calls_are (read_calls (take (place + 1) (given_files (λ _. i) n))) (read_calls (take (place + 1) (given_files (λ files. inputs_in files n) n))) s2 s3 (front_calls (λ _. i) (λ files. inputs_in files n) (place + 1) (given_names n)) read.calls;
     before_it = mapped s3.held (λ files. HasInputs (file_at files) n i × (first_end (file_at files) (take place (given_files (λ _. i) n)) ≡ None)) (λ files. first_end (file_at files) (take place (given_files (λ files. inputs_in files n) n)) ≡ None)
         (λ files k. same_front files k.0 place ∙ k.1)
         (both s3.held (λ files. HasInputs (file_at files) n i) (λ files. first_end (file_at files) (take place (given_files (λ _. i) n)) ≡ None) h read.before_it);
@@ -138,7 +151,7 @@ module _ (n : FileNames) (i : Inputs) where
   why_given place s2 s3 Memory h why = tt
 
   -- a stop at a given file is a stop of all
-  pub stopped_given : (ws : List Wanted) (s0 s2 s3 : FilesShown) (stop : Stop) → wanted_files ws ≡ given_files (λ _. i) n → NoneFell s0.read_faults s2.read_faults → MakesCalls s0 s2 4 → KeepsHeld s2.held s3.held → IfSome s2.held (λ files. HasInputs (file_at files) n i) → StopsReading (wanted_files ws) s2 s3 stop → StopsReading (reads_of (ToAudit n)) s0 s3 stop
+  pub stopped_given : (ws : List Wanted) (s0 s2 s3 : FilesShown) (stop : Stop) → wanted_files ws ≡ given_files (λ _. i) n → NoneFell s0.read_faults s2.read_faults → MakesCalls s0 s2 (read_calls (inputs_of n)) → KeepsHeld s2.held s3.held → IfSome s2.held (λ files. HasInputs (file_at files) n i) → StopsReading (wanted_files ws) s2 s3 stop → StopsReading (reads_of (ToAudit n)) s0 s3 stop
   stopped_given ws s0 s2 s3 stop wanted fell calls keeps h stops =
       let later : IfSome s3.held (λ files. HasInputs (file_at files) n i) = held_later s2.held s3.held (λ files. HasInputs (file_at files) n i) keeps h in
       let given_stops : StopsReading (given_files (λ _. i) n) s2 s3 stop = subst (λ (reads : List Reading). StopsReading reads s2 s3 stop) wanted stops in
@@ -151,12 +164,11 @@ module _ (n : FileNames) (i : Inputs) where
       })
 
   -- how far all files were read where this was found
-  pub found_given : (ws : List Wanted) (verdict : Verdict) (s0 s2 s3 : FilesShown) → wanted_files ws ≡ given_files (λ _. i) n → MakesCalls s0 s2 4 → KeepsHeld s2.held s3.held → IfSome s2.held (λ files. HasInputs (file_at files) n i) → ReadsToFind (wanted_files ws) verdict s2 s3 → ReadsToFind (reads_of (ToAudit n)) verdict s0 s3
+  pub found_given : (ws : List Wanted) (verdict : Verdict) (s0 s2 s3 : FilesShown) → wanted_files ws ≡ given_files (λ _. i) n → MakesCalls s0 s2 (read_calls (inputs_of n)) → KeepsHeld s2.held s3.held → IfSome s2.held (λ files. HasInputs (file_at files) n i) → ReadsToFind (wanted_files ws) verdict s2 s3 → ReadsToFind (reads_of (ToAudit n)) verdict s0 s3
   found_given ws Equal s0 s2 s3 wanted calls keeps h read =
-      let count : length (wanted_files ws) ≡ length (given_names n) = ap (length {A = Reading}) wanted ∙ length-map (given_names n) (given_file (λ _. i)) in
-      let more : length (given_files (λ files. inputs_in files n) n) ≡ length (given_names n) = length-map (given_names n) (given_file (λ files. inputs_in files n)) in
-      let same : 4 + length (wanted_files ws) ≡ length (reads_of (ToAudit n)) = omega (arith, count, more, length-append (inputs_of n) (given_files (λ files. inputs_in files n) n)) in
-      subst (λ n. MakesCalls s0 s3 n) same (calls_on 4 (length (wanted_files ws)) s0 s2 s3 calls read)
+      let given : read_calls (wanted_files ws) ≡ read_calls (given_files (λ files. inputs_in files n) n) = ap read_calls wanted ∙ same_calls (λ _. i) (λ files. inputs_in files n) (given_names n) in
+      let same : read_calls (inputs_of n) ++ read_calls (wanted_files ws) ≡ read_calls (reads_of (ToAudit n)) = ap (λ more. read_calls (inputs_of n) ++ more) given ∙ sym (map-append read_call (inputs_of n) (given_files (λ files. inputs_in files n) n)) in
+      calls_are (read_calls (inputs_of n) ++ read_calls (wanted_files ws)) (read_calls (reads_of (ToAudit n))) s0 s3 same (calls_on (read_calls (inputs_of n)) (read_calls (wanted_files ws)) s0 s2 s3 calls read)
   found_given ws (False line) s0 s2 s3 wanted calls keeps h found =
       let later : IfSome s3.held (λ files. HasInputs (file_at files) n i) = held_later s2.held s3.held (λ files. HasInputs (file_at files) n i) keeps h in
       let front : IfSome s3.held (λ files. AreAccepted (file_at files) (inputs_of n)) = mapped s3.held (λ files. HasInputs (file_at files) n i) (λ files. AreAccepted (file_at files) (inputs_of n)) inputs_there later in
@@ -168,23 +180,30 @@ module _ (n : FileNames) (i : Inputs) where
         end_after (inputs_of n) (given_files (λ files. inputs_in files n) n) place s3.held (Ends No [] line.items) front (end_given place s3.held (Ends No [] line.items) later end),
       )
 
+-- all were right, or one had a false line: the calls
+equal_counted : (n : FileNames) (s0 s1 : FilesShown) (o0 o1 : SinkShown) → ReadsToFind (reads_of (ToAudit n)) Equal s0 s1 → MakesPuts o0 o1 1 → IsWholeCounted (ToAudit n) (s0, o0) (s1, o1)
+equal_counted n s0 s1 o0 o1 read put =
+    (calls_are (read_calls (reads_of (ToAudit n))) (read_calls (reads_of (ToAudit n)) ++ []) s0 s1 (sym (append-nil (read_calls (reads_of (ToAudit n))))) read, put)
+
+false_counted : (n : FileNames) (line : Vec ℕ Global) (s0 s1 : FilesShown) (o0 o1 : SinkShown) → IfSome s1.held (λ files. outcome_of (file_at files) (ToAudit n) ≡ Ends No [] line.items) → ReadsToFind (reads_of (ToAudit n)) (False line) s0 s1 → MakesPuts o0 o1 1 → IsEndedCounted (ToAudit n) (s0, o0) (s1, o1)
+false_counted n line s0 s1 o0 o1 told found put = (found.0, found.1, ends, put)
+  where
+    ends : IfSome s1.held (λ files. EndsAt (ToAudit n) found.0 (file_at files))
+    ends =
+        mapped s1.held (λ files. (outcome_of (file_at files) (ToAudit n) ≡ Ends No [] line.items) × (first_end (file_at files) (take (found.0 + 1) (reads_of (ToAudit n))) ≡ Some (Ends No [] line.items))) (λ files. EndsAt (ToAudit n) found.0 (file_at files))
+        (λ files h. inl (h.1 ∙ ap Some (sym h.0)))
+        (both s1.held (λ files. outcome_of (file_at files) (ToAudit n) ≡ Ends No [] line.items) (λ files. first_end (file_at files) (take (found.0 + 1) (reads_of (ToAudit n))) ≡ Some (Ends No [] line.items)) told found.2)
+
 -- the answer of a verdict
-pub verdict_call : (n : FileNames) (verdict : Verdict) (s0 s1 : FilesShown) (o0 o1 : SinkShown) (answer : Status) → KeepsHeld s0.held s1.held → IfSome s1.held (λ files. outcome_of (file_at files) (ToAudit n) ≡ outcome_by verdict) → PutsVerdict verdict answer o0 o1 → IsCall (Some (ToAudit n)) answer (s0, o0) (s1, o1)
-verdict_call n Equal s0 s1 o0 o1 answer keeps told puts = answered_call (ToAudit n) Yes yes_line s0 s1 o0 o1 answer tt tt keeps told puts
-verdict_call n (False line) s0 s1 o0 o1 answer keeps told puts = answered_call (ToAudit n) No line.items s0 s1 o0 o1 answer tt tt keeps told puts
+pub verdict_call : (n : FileNames) (verdict : Verdict) (s0 s1 : FilesShown) (o0 o1 : SinkShown) (answer : Status) → KeepsHeld s0.held s1.held → IfSome s1.held (λ files. outcome_of (file_at files) (ToAudit n) ≡ outcome_by verdict) → ReadsToFind (reads_of (ToAudit n)) verdict s0 s1 → PutsVerdict verdict answer o0 o1 → MakesPuts o0 o1 1
+    → IsCall (Some (ToAudit n)) answer (s0, o0) (s1, o1)
+verdict_call n Equal s0 s1 o0 o1 answer keeps told read puts put = answered_call (ToAudit n) Yes yes_line s0 s1 o0 o1 answer tt tt (equal_counted n s0 s1 o0 o1 read put) keeps told puts
+verdict_call n (False line) s0 s1 o0 o1 answer keeps told read puts put = answered_call (ToAudit n) No line.items s0 s1 o0 o1 answer tt tt (false_counted n line s0 s1 o0 o1 told read put) keeps told puts
 
 -- and its calls
-pub verdict_counted : (n : FileNames) (verdict : Verdict) (s0 s1 : FilesShown) (o0 o1 : SinkShown) (answer : Status) → IfSome s1.held (λ files. outcome_of (file_at files) (ToAudit n) ≡ outcome_by verdict) → ReadsToFind (reads_of (ToAudit n)) verdict s0 s1 → PutsVerdict verdict answer o0 o1 → o1.puts ≡ next_count o0.puts → IsCounted (ToAudit n) answer (s0, o0) (s1, o1)
-verdict_counted n Equal s0 s1 o0 o1 answer told read puts put =
-    let same : length (reads_of (ToAudit n)) ≡ length (reads_of (ToAudit n)) + 0 = omega arith in
-    let calls : MakesCalls s0 s1 (length (reads_of (ToAudit n)) + 0) = subst (λ n. MakesCalls s0 s1 n) same read in
-    counted_line (ToAudit n) Yes yes_line s0 s1 o0 o1 answer (calls, put) (inr (inr (inr (calls, put)))) puts
-verdict_counted n (False line) s0 s1 o0 o1 answer told found puts put =
-    let ends : IfSome s1.held (λ files. EndsAt (ToAudit n) found.0 (file_at files)) =
-    mapped s1.held (λ files. (outcome_of (file_at files) (ToAudit n) ≡ Ends No [] line.items) × (first_end (file_at files) (take (found.0 + 1) (reads_of (ToAudit n))) ≡ Some (Ends No [] line.items))) (λ files. EndsAt (ToAudit n) found.0 (file_at files))
-    (λ files h. inl (h.1 ∙ ap Some (sym h.0)))
-    (both s1.held (λ files. outcome_of (file_at files) (ToAudit n) ≡ Ends No [] line.items) (λ files. first_end (file_at files) (take (found.0 + 1) (reads_of (ToAudit n))) ≡ Some (Ends No [] line.items)) told found.2) in
-    counted_line (ToAudit n) No line.items s0 s1 o0 o1 answer (found.0, found.1, ends, put) (inr (inr (inl (found.0, found.1, ends, put)))) puts
+pub verdict_counted : (n : FileNames) (verdict : Verdict) (s0 s1 : FilesShown) (o0 o1 : SinkShown) (answer : Status) → IfSome s1.held (λ files. outcome_of (file_at files) (ToAudit n) ≡ outcome_by verdict) → ReadsToFind (reads_of (ToAudit n)) verdict s0 s1 → PutsVerdict verdict answer o0 o1 → MakesPuts o0 o1 1 → IsCounted (ToAudit n) answer (s0, o0) (s1, o1)
+verdict_counted n Equal s0 s1 o0 o1 answer told read puts put = counted_line (ToAudit n) Yes yes_line s0 s1 o0 o1 answer (equal_counted n s0 s1 o0 o1 read put) puts
+verdict_counted n (False line) s0 s1 o0 o1 answer told read puts put = counted_line (ToAudit n) No line.items s0 s1 o0 o1 answer (false_counted n line s0 s1 o0 o1 told read put) puts
 
 -- the loop over given files: one more is right
 module _ (ws : List Wanted) (i : ℕ) (w : Wanted) (at : slice_get ws i ≡ Some w) where
@@ -196,7 +215,7 @@ module _ (ws : List Wanted) (i : ℕ) (w : Wanted) (at : slice_get ws i ≡ Some
       (drop_more (wanted_files ws) i (wanted_file w) (slice_get_within (wanted_files ws) i (wanted_file w) reads_at) ∙ ap (λ r. r ∷ drop (i + 1) (wanted_files ws)) (get_or_from_slice_get (wanted_files ws) i (wanted_file w) (wanted_file w) reads_at))
 
   taken_there : take (i + 1) (wanted_files ws) ≡ take i (wanted_files ws) ++ wanted_file w ∷ []
-  taken_there = take_more (wanted_files ws) i (wanted_file w) (slice_get_within (wanted_files ws) i (wanted_file w) reads_at) ∙ ap (λ r. take i (wanted_files ws) ++ r ∷ []) (get_or_from_slice_get (wanted_files ws) i (wanted_file w) (wanted_file w) reads_at)
+  taken_there = taken_more (wanted_files ws) i (wanted_file w) reads_at
 
   -- so the files up to it are right
   pub accepted_more : (held : Option FileMap) → IfSome held (λ files. AreAccepted (file_at files) (take i (wanted_files ws))) → IfSome held (λ files. IsAccepted (file_at files) (wanted_file w)) → IfSome held (λ files. AreAccepted (file_at files) (take (i + 1) (wanted_files ws)))
@@ -212,25 +231,27 @@ module _ (ws : List Wanted) (i : ℕ) (w : Wanted) (at : slice_get ws i ≡ Some
       (λ files h. ap (first_end (file_at files)) cut_there ∙ end_behind (file_at files) (take i (wanted_files ws)) (wanted_file w) (drop (i + 1) (wanted_files ws)) end h.0 (h.1 ∙ ap Some is) ∙ sym is)
       (both held (λ files. AreAccepted (file_at files) (take i (wanted_files ws))) (λ files. option_map ((wanted_file w).ends (file_at files)) (file_at files w.name.now) ≡ Some (end_of verdict)) front here)
 
-  -- there are so many before it
-  count_there : length (take i (wanted_files ws)) ≡ i
-  count_there = length-take-le i (wanted_files ws) (let within : i < length (wanted_files ws) = slice_get_within (wanted_files ws) i (wanted_file w) reads_at in omega arith)
+  -- the calls up to it
+  pub called_there : (s0 s1 s2 : FilesShown) → MakesCalls s0 s1 (read_calls (take i (wanted_files ws))) → MakesCalls s1 s2 (Reads w.name.now ∷ []) → MakesCalls s0 s2 (read_calls (take i (wanted_files ws)) ++ Reads w.name.now ∷ [])
+  called_there s0 s1 s2 before here = calls_on (read_calls (take i (wanted_files ws))) (Reads w.name.now ∷ []) s0 s1 s2 before here
+
+  pub read_there : (s0 s1 s2 : FilesShown) → MakesCalls s0 s1 (read_calls (take i (wanted_files ws))) → MakesCalls s1 s2 (Reads w.name.now ∷ []) → MakesCalls s0 s2 (read_calls (take (i + 1) (wanted_files ws)))
+  read_there s0 s1 s2 before here = read_more (wanted_files ws) i (wanted_file w) s0 s1 s2 reads_at before here
 
   -- a stop there, whose files were read once each
-  stop_there : (s0 s1 s2 : FilesShown) (stop : Stop) → NoneFell s0.read_faults s1.read_faults → MakesCalls s0 s2 (i + 1) → IfSome s2.held (λ files. AreAccepted (file_at files) (take i (wanted_files ws))) → StopsAt (wanted_file w) s1 s2 stop → StopsReading (take i (wanted_files ws) ++ wanted_file w ∷ drop (i + 1) (wanted_files ws)) s0 s2 stop
+  stop_there : (s0 s1 s2 : FilesShown) (stop : Stop) → NoneFell s0.read_faults s1.read_faults → MakesCalls s0 s2 (read_calls (take i (wanted_files ws)) ++ Reads w.name.now ∷ []) → IfSome s2.held (λ files. AreAccepted (file_at files) (take i (wanted_files ws))) → StopsAt (wanted_file w) s1 s2 stop → StopsReading (take i (wanted_files ws) ++ wanted_file w ∷ drop (i + 1) (wanted_files ws)) s0 s2 stop
   stop_there s0 s1 s2 stop fell calls front stops =
-      let same : i + 1 ≡ length (take i (wanted_files ws)) + 1 = ap (λ n. n + 1) (sym count_there) in
-      stopped_behind (take i (wanted_files ws)) (wanted_file w) (drop (i + 1) (wanted_files ws)) s0 s1 s2 stop fell (subst (λ n. MakesCalls s0 s2 n) same calls) front stops
+      stopped_behind (take i (wanted_files ws)) (wanted_file w) (drop (i + 1) (wanted_files ws)) s0 s1 s2 stop fell calls front stops
 
-  pub stopped_there : (s0 s1 s2 : FilesShown) (stop : Stop) → NoneFell s0.read_faults s1.read_faults → MakesCalls s0 s2 (i + 1) → IfSome s2.held (λ files. AreAccepted (file_at files) (take i (wanted_files ws))) → StopsAt (wanted_file w) s1 s2 stop → StopsReading (wanted_files ws) s0 s2 stop
+  pub stopped_there : (s0 s1 s2 : FilesShown) (stop : Stop) → NoneFell s0.read_faults s1.read_faults → MakesCalls s0 s2 (read_calls (take i (wanted_files ws)) ++ Reads w.name.now ∷ []) → IfSome s2.held (λ files. AreAccepted (file_at files) (take i (wanted_files ws))) → StopsAt (wanted_file w) s1 s2 stop → StopsReading (wanted_files ws) s0 s2 stop
   stopped_there s0 s1 s2 stop fell calls front stops = subst (λ (reads : List Reading). StopsReading reads s0 s2 stop) (sym cut_there) (stop_there s0 s1 s2 stop fell calls front stops)
 
   -- a false line there
-  pub false_found : (line : Vec ℕ Global) (s0 s2 : FilesShown) → MakesCalls s0 s2 (i + 1) → IfSome s2.held (λ files. AreAccepted (file_at files) (take i (wanted_files ws))) → IfSome s2.held (λ files. option_map ((wanted_file w).ends (file_at files)) (file_at files w.name.now) ≡ Some (Some (Ends No [] line.items))) → ReadsToFind (wanted_files ws) (False line) s0 s2
-  false_found line s0 s2 calls front here = (i, read_there, end_there)
+  pub false_found : (line : Vec ℕ Global) (s0 s2 : FilesShown) → MakesCalls s0 s2 (read_calls (take (i + 1) (wanted_files ws))) → IfSome s2.held (λ files. AreAccepted (file_at files) (take i (wanted_files ws))) → IfSome s2.held (λ files. option_map ((wanted_file w).ends (file_at files)) (file_at files w.name.now) ≡ Some (Some (Ends No [] line.items))) → ReadsToFind (wanted_files ws) (False line) s0 s2
+  false_found line s0 s2 calls front here = (i, up_to_there, end_there)
     where
-      read_there : ReadsUpTo (wanted_files ws) i s0 s2
-      read_there = record {
+      up_to_there : ReadsUpTo (wanted_files ws) i s0 s2
+      up_to_there = record {
         within = slice_get_within (wanted_files ws) i (wanted_file w) reads_at;
         calls = calls;
         before_it = mapped s2.held (λ files. AreAccepted (file_at files) (take i (wanted_files ws))) (λ files. first_end (file_at files) (take i (wanted_files ws)) ≡ None) (λ files h. accepted_all (file_at files) (take i (wanted_files ws)) h) front;
@@ -252,5 +273,5 @@ all_right ws i held far front =
     take_past reads i far = take_all i reads far
 
 -- and all were read
-pub all_found : (ws : List Wanted) (i : ℕ) (s0 s1 : FilesShown) → i ≡ length ws → MakesCalls s0 s1 i → MakesCalls s0 s1 (length (wanted_files ws))
-all_found ws i s0 s1 far calls = subst (λ n. MakesCalls s0 s1 n) (far ∙ sym (length-map ws wanted_file)) calls
+pub all_found : (ws : List Wanted) (i : ℕ) (s0 s1 : FilesShown) → length ws ≤ i → MakesCalls s0 s1 (read_calls (take i (wanted_files ws))) → MakesCalls s0 s1 (read_calls (wanted_files ws))
+all_found ws i s0 s1 far calls = all_reads (wanted_files ws) i s0 s1 (omega (arith, length-map ws wanted_file)) calls

@@ -11,6 +11,7 @@ pub mod UnderTable
 pub mod InputOrder
 pub mod PackedOrder
 pub mod PackedTexts
+pub mod PackedHeads
 pub mod SetFiles
 pub mod PruneOrder
 pub mod PruneWords

@@ -2,17 +2,18 @@
 use Rattle.std.proofs.Common.{◌≡◌, ℕ, ◌+◌, ◌-◌, ◌<◌, List, [], ◌∷◌, ◌++◌, length, take, drop, Option, None, Some, IfSome, refl, sym, ap, ◌∙◌, subst, arith, length-append}
 use Rattle.std.specs.Option.{option_map, option_map_or, option_or}
 use Rattle.std.proofs.Math.Seq.{take-append_seam, take-append-add, get_or-append_seam}
-use Rattle.std.proofs.lemmas.List.{take-append-drop, take-append-le, get_or_append_left, get_or-append-add}
+use Rattle.std.proofs.lemmas.List.{map-append, take-append-drop, take-append-le, get_or_append_left, get_or-append-add}
 use Rattle.std.proofs.lemmas.Option.{slice_get_read, get_or_from_slice_get}
 use Rattle.pg_outside.specs.Content.{FileMap, FilesShown, KeepsHeld, file_at}
 use Rattle.pg_outside.specs.Faults.{NoneFell}
-use Rattle.pg_top.specs.Counted.{MakesCalls, ReadsUpTo}
+use Rattle.pg_outside.specs.FilesCalls.{FilesCall}
+use Rattle.pg_top.specs.Counted.{MakesCalls, read_call, read_calls, ReadsUpTo}
 use Rattle.pg_top.specs.Outcomes.{Outcome, Unknown, refuses}
 use Rattle.pg_top.specs.Readings.{Held, Reading, first_end}
-use Rattle.pg_top.specs.Stops.{StopsAt, StopsWith, StopsReading}
+use Rattle.pg_top.specs.Inside.Stops.{StopsAt, StopsWith, StopsReading}
 use Rattle.pg_top.specs.declared.inputs.Stop.{Stop}
 use Rattle.pg_top.specs.declared.inputs.Stop.TheVariants.{Refused, Unread, Memory}
-use Rattle.pg_top.proofs.CountedCalls.{calls_on}
+use Rattle.pg_top.proofs.CountedCalls.{calls_on, calls_are, up_to_all}
 use Rattle.pg_top.proofs.Faults.{rose_since}
 
 -- a file that is held and does not end the call, and all files of a list
@@ -58,10 +59,10 @@ held_later old None P keeps p = tt
 held_later old (Some files) P keeps p = subst (λ held. IfSome held P) keeps p
 
 -- files that were read once each up to one behind those that are accepted
-read_behind : (front : List Reading) (r : Reading) (rest : List Reading) (s0 s2 : FilesShown) → MakesCalls s0 s2 (length front + 1) → IfSome s2.held (λ files. AreAccepted (file_at files) front) → ReadsUpTo (front ++ r ∷ rest) (length front) s0 s2
+read_behind : (front : List Reading) (r : Reading) (rest : List Reading) (s0 s2 : FilesShown) → MakesCalls s0 s2 (read_calls front ++ read_call r ∷ []) → IfSome s2.held (λ files. AreAccepted (file_at files) front) → ReadsUpTo (front ++ r ∷ rest) (length front) s0 s2
 read_behind front r rest s0 s2 calls accepted = record {
   within = omega (arith, length-append front (r ∷ rest));
-  calls = calls;
+  calls = calls_are (read_calls front ++ read_call r ∷ []) (read_calls (take (length front + 1) (front ++ r ∷ rest))) s0 s2 (sym (ap read_calls (take-append-add front (r ∷ rest) 1) ∙ map-append read_call front (r ∷ []))) calls;
   before_it = mapped s2.held (λ files. AreAccepted (file_at files) front) (λ files. first_end (file_at files) (take (length front) (front ++ r ∷ rest)) ≡ None)
       (λ files h. ap (first_end (file_at files)) (take-append_seam front (r ∷ rest)) ∙ accepted_all (file_at files) front h) accepted;
 }
@@ -76,7 +77,7 @@ why_behind front r rest s0 s1 s2 (Unread name) fell accepted stops =
 why_behind front r rest s0 s1 s2 Memory fell accepted stops = tt
 
 -- a stop at a file behind those that are accepted is a stop of all
-pub stopped_behind : (front : List Reading) (r : Reading) (rest : List Reading) (s0 s1 s2 : FilesShown) (stop : Stop) → NoneFell s0.read_faults s1.read_faults → MakesCalls s0 s2 (length front + 1) → IfSome s2.held (λ files. AreAccepted (file_at files) front) → StopsAt r s1 s2 stop → StopsReading (front ++ r ∷ rest) s0 s2 stop
+pub stopped_behind : (front : List Reading) (r : Reading) (rest : List Reading) (s0 s1 s2 : FilesShown) (stop : Stop) → NoneFell s0.read_faults s1.read_faults → MakesCalls s0 s2 (read_calls front ++ read_call r ∷ []) → IfSome s2.held (λ files. AreAccepted (file_at files) front) → StopsAt r s1 s2 stop → StopsReading (front ++ r ∷ rest) s0 s2 stop
 stopped_behind front r rest s0 s1 s2 stop fell calls accepted stops = record {
   place = length front;
   read = read_behind front r rest s0 s2 calls accepted;
@@ -93,13 +94,15 @@ accepted_both files [] rest accepted more = more
 accepted_both files (r ∷ front) rest accepted more = (accepted.0, accepted_both files front rest accepted.1 more)
 
 -- files that were read after those of a front, which are accepted
-pub read_after : (front rest : List Reading) (place : ℕ) (s0 s1 s2 : FilesShown) → MakesCalls s0 s1 (length front) → IfSome s2.held (λ files. AreAccepted (file_at files) front) → ReadsUpTo rest place s1 s2 → ReadsUpTo (front ++ rest) (length front + place) s0 s2
+pub read_after : (front rest : List Reading) (place : ℕ) (s0 s1 s2 : FilesShown) → MakesCalls s0 s1 (read_calls front) → IfSome s2.held (λ files. AreAccepted (file_at files) front) → ReadsUpTo rest place s1 s2 → ReadsUpTo (front ++ rest) (length front + place) s0 s2
 read_after front rest place s0 s1 s2 calls accepted read =
     let within : place < length rest = read.within in
-    let same : length front + (place + 1) ≡ length front + place + 1 = omega arith in
+    let same : length front + place + 1 ≡ length front + (place + 1) = omega arith in
+    let are : read_calls front ++ read_calls (take (place + 1) rest) ≡ read_calls (take (length front + place + 1) (front ++ rest)) =
+    sym (ap (λ n. read_calls (take n (front ++ rest))) same ∙ ap read_calls (take-append-add front rest (place + 1)) ∙ map-append read_call front (take (place + 1) rest)) in
     record {
       within = omega (arith, length-append front rest);
-      calls = subst (λ n. MakesCalls s0 s2 n) same (calls_on (length front) (place + 1) s0 s1 s2 calls read.calls);
+      calls = calls_are (read_calls front ++ read_calls (take (place + 1) rest)) (read_calls (take (length front + place + 1) (front ++ rest))) s0 s2 are (calls_on (read_calls front) (read_calls (take (place + 1) rest)) s0 s1 s2 calls read.calls);
       before_it = mapped s2.held (λ files. AreAccepted (file_at files) front × (first_end (file_at files) (take place rest) ≡ None)) (λ files. first_end (file_at files) (take (length front + place) (front ++ rest)) ≡ None)
           (λ files h. ap (first_end (file_at files)) (take-append-add front rest place) ∙ accepted_front (file_at files) front (take place rest) h.0 ∙ h.1)
           (both s2.held (λ files. AreAccepted (file_at files) front) (λ files. first_end (file_at files) (take place rest) ≡ None) accepted read.before_it);
@@ -114,7 +117,7 @@ end_after front rest place held end accepted is =
     (both held (λ files. AreAccepted (file_at files) front) (λ files. first_end (file_at files) (take (place + 1) rest) ≡ Some end) accepted is)
 
 -- a stop while more files are read is a stop of all
-pub stopped_after : (front rest : List Reading) (s0 s1 s2 : FilesShown) (stop : Stop) → NoneFell s0.read_faults s1.read_faults → MakesCalls s0 s1 (length front) → IfSome s2.held (λ files. AreAccepted (file_at files) front) → StopsReading rest s1 s2 stop → StopsReading (front ++ rest) s0 s2 stop
+pub stopped_after : (front rest : List Reading) (s0 s1 s2 : FilesShown) (stop : Stop) → NoneFell s0.read_faults s1.read_faults → MakesCalls s0 s1 (read_calls front) → IfSome s2.held (λ files. AreAccepted (file_at files) front) → StopsReading rest s1 s2 stop → StopsReading (front ++ rest) s0 s2 stop
 stopped_after front rest s0 s1 s2 stop fell calls accepted stops = record {
   place = length front + stops.place;
   read = read_after front rest stops.place s0 s1 s2 calls accepted stops.read;
@@ -153,7 +156,7 @@ stopped_in_front front rest s0 s1 stop stops = record {
   place = stops.place;
   read = record {
     within = let within : stops.place < length front = stops.read.within in omega (arith, length-append front rest);
-    calls = stops.read.calls;
+    calls = calls_are (read_calls (take (stops.place + 1) front)) (read_calls (take (stops.place + 1) (front ++ rest))) s0 s1 (sym (ap read_calls (take-append-le (stops.place + 1) front rest (let within : stops.place < length front = stops.read.within in omega arith)))) stops.read.calls;
     before_it = mapped s1.held (λ files. first_end (file_at files) (take stops.place front) ≡ None) (λ files. first_end (file_at files) (take stops.place (front ++ rest)) ≡ None)
         (λ files is. ap (first_end (file_at files)) (take-append-le stops.place front rest (let within : stops.place < length front = stops.read.within in omega arith)) ∙ is) stops.read.before_it;
   };
@@ -187,18 +190,16 @@ none_before files [] rest is = refl
 none_before files (r ∷ front) rest is = goes_before (r.ends files) (files r.name) (first_end files (front ++ rest)) (first_end files front) (none_before files front rest) is
 
 -- all files were read once each, and are accepted
-pub reads_all : (reads : List Reading) (s0 s1 : FilesShown) → 0 < length reads → MakesCalls s0 s1 (length reads) → IfSome s1.held (λ files. AreAccepted (file_at files) reads) → ReadsUpTo reads (length reads - 1) s0 s1
-reads_all reads s0 s1 some calls accepted =
-    let same : length reads ≡ length reads - 1 + 1 = omega arith in
-    record {
-      within = omega arith;
-      calls = subst (λ n. MakesCalls s0 s1 n) same calls;
-      before_it = mapped s1.held (λ files. AreAccepted (file_at files) reads) (λ files. first_end (file_at files) (take (length reads - 1) reads) ≡ None)
-          (λ files h. none_before (file_at files) (take (length reads - 1) reads) (drop (length reads - 1) reads) (ap (first_end (file_at files)) (take-append-drop (length reads - 1) reads) ∙ accepted_all (file_at files) reads h)) accepted;
-    }
+pub reads_all : (reads : List Reading) (s0 s1 : FilesShown) → 0 < length reads → MakesCalls s0 s1 (read_calls reads) → IfSome s1.held (λ files. AreAccepted (file_at files) reads) → ReadsUpTo reads (length reads - 1) s0 s1
+reads_all reads s0 s1 some calls accepted = record {
+  within = omega arith;
+  calls = up_to_all reads (length reads - 1 + 1) s0 s1 (omega arith) calls;
+  before_it = mapped s1.held (λ files. AreAccepted (file_at files) reads) (λ files. first_end (file_at files) (take (length reads - 1) reads) ≡ None)
+      (λ files h. none_before (file_at files) (take (length reads - 1) reads) (drop (length reads - 1) reads) (ap (first_end (file_at files)) (take-append-drop (length reads - 1) reads) ∙ accepted_all (file_at files) reads h)) accepted;
+}
 
 -- and then memory was wanted
-pub wanted_after : (reads : List Reading) (s0 s1 : FilesShown) → 0 < length reads → MakesCalls s0 s1 (length reads) → IfSome s1.held (λ files. AreAccepted (file_at files) reads) → StopsReading reads s0 s1 Memory
+pub wanted_after : (reads : List Reading) (s0 s1 : FilesShown) → 0 < length reads → MakesCalls s0 s1 (read_calls reads) → IfSome s1.held (λ files. AreAccepted (file_at files) reads) → StopsReading reads s0 s1 Memory
 wanted_after reads s0 s1 some calls accepted = record { place = length reads - 1; read = reads_all reads s0 s1 some calls accepted; why = tt }
 
 -- files that are told are kept in two steps

@@ -15,14 +15,14 @@ use Rattle.pg_select.specs.Windows.{Patterns}
 use Rattle.pg_table.specs.declared.limits.TheConstants.{TABLE_MAX}
 use Rattle.pg_table.specs.Forms.{head_of, is_well_formed}
 use Rattle.pg_top.specs.Calls.{outcome_of, finished}
-use Rattle.pg_top.specs.Counted.{MakesCalls, EndsAt}
+use Rattle.pg_top.specs.Counted.{MakesCalls, read_calls, EndsAt}
 use Rattle.pg_top.specs.Outcomes.{Ends, Writing, refuses}
 use Rattle.pg_top.specs.PackedTables.{file_under, packed_table, table_refused, packing_reads, packed, packed_text, totals_reads, totals_lines}
 use Rattle.pg_top.specs.Promises.{GivesValues, PackKeeps}
 use Rattle.pg_top.specs.Readings.{Reading, read_as, input_file}
 use Rattle.pg_top.specs.Requests.{ToPack, ToTotals}
-use Rattle.pg_top.specs.Sources.{HasSource, IsTotalled}
-use Rattle.pg_top.specs.Stops.{StopsAt, StopsReading, StopsCommandWith, StopsCommand, StopsMaking}
+use Rattle.pg_top.specs.Inside.Sources.{HasSource, IsTotalled}
+use Rattle.pg_top.specs.Inside.Stops.{StopsAt, StopsReading, StopsCommandWith, StopsCommand, StopsMaking}
 use Rattle.pg_top.specs.declared.answers.Status.TheVariants.{Done}
 use Rattle.pg_top.specs.declared.inputs.Input.TheVariants as input
 use Rattle.pg_top.specs.declared.inputs.Stop.{Stop}
@@ -51,16 +51,17 @@ pack_outcome patterns translate name s files h =
     ∙ (λ k. packed name (is_t k) (is_P k))
 
 -- what it promises
-pub pack_keeps : (patterns translate name : List ℕ) (s : Source) (writing : Writing) (lines : List ℕ) (files : FileMap) → packed name s.table s.patterns ≡ Ends Done writing lines → writing ≡ (name, packed_text s.table s.patterns) ∷ [] → GivesValues (packed_text s.table s.patterns) s.patterns → HasSource (file_at files) patterns translate s → PackKeeps (file_at files) patterns translate name
-pack_keeps patterns translate name s writing lines files made table gives h = record {
+pub pack_keeps : (patterns translate name : List ℕ) (s : Source) (writing : Writing) (lines : List ℕ) (files : FileMap) → packed name s.table s.patterns ≡ Ends Done writing lines → writing ≡ (name, packed_text s.table s.patterns) ∷ [] → packed_table s.table (packed_text s.table s.patterns) ≡ Ok (packed_text s.table s.patterns) → GivesValues (packed_text s.table s.patterns) s.patterns → HasSource (file_at files) patterns translate s → PackKeeps (file_at files) patterns translate name
+pack_keeps patterns translate name s writing lines files made table accepted gives h = record {
   bytes = packed_text s.table s.patterns;
   lines = lines;
   comes = pack_outcome patterns translate name s files h ∙ made ∙ ap (λ (w : Writing). Ends Done w lines) table;
+  accepted = subst (λ (t : Alphabet). packed_table t (packed_text s.table s.patterns) ≡ Ok (packed_text s.table s.patterns)) (sym (is_table translate s.table files h.table)) accepted;
   gives = subst (λ (P : Patterns). GivesValues (packed_text s.table s.patterns) P) (sym (means_under translate s.table start [] patterns s.patterns files h.table h.patterns)) gives;
 }
 
 -- a stop at making the table
-pub stopped_making : (patterns translate name : List ℕ) (s : Source) (s0 s1 : FilesShown) (why : Stop) → MakesCalls s0 s1 2 → IfSome s1.held (λ files. HasSource (file_at files) patterns translate s) → StopsMaking (packed name s.table s.patterns) why → StopsCommand (ToPack patterns translate name) s0 s1 why
+pub stopped_making : (patterns translate name : List ℕ) (s : Source) (s0 s1 : FilesShown) (why : Stop) → MakesCalls s0 s1 (read_calls (packing_reads patterns translate)) → IfSome s1.held (λ files. HasSource (file_at files) patterns translate s) → StopsMaking (packed name s.table s.patterns) why → StopsCommand (ToPack patterns translate name) s0 s1 why
 stopped_making patterns translate name s s0 s1 why calls h making = record {
   place = 1;
   read = reads_all (packing_reads patterns translate) s0 s1 (omega arith) calls (mapped s1.held (λ files. HasSource (file_at files) patterns translate s) (λ files. AreAccepted (file_at files) (packing_reads patterns translate)) (pack_accepted patterns translate s) h);
@@ -99,7 +100,7 @@ totals_told dict translate name t ws lines h2 h3 keeps two more =
     (both h3 (HasWords dict translate t ws) (λ files. IsTotalled t ws (file_at files) name lines) (held_later h2 h3 (HasWords dict translate t ws) keeps two) more)
 
 -- a stop at the packed table
-pub stopped_table : (dict translate name : List ℕ) (t : Alphabet) (ws : List Word) (s0 s2 s3 : FilesShown) (why : Stop) → NoneFell s0.read_faults s2.read_faults → MakesCalls s0 s3 3 → KeepsHeld s2.held s3.held → IfSome s2.held (HasWords dict translate t ws) → StopsAt (input_file input.Table name (λ _. packed_table t)) s2 s3 why → StopsReading (totals_reads dict translate name) s0 s3 why
+pub stopped_table : (dict translate name : List ℕ) (t : Alphabet) (ws : List Word) (s0 s2 s3 : FilesShown) (why : Stop) → NoneFell s0.read_faults s2.read_faults → MakesCalls s0 s3 (read_calls (totals_reads dict translate name)) → KeepsHeld s2.held s3.held → IfSome s2.held (HasWords dict translate t ws) → StopsAt (input_file input.Table name (λ _. packed_table t)) s2 s3 why → StopsReading (totals_reads dict translate name) s0 s3 why
 stopped_table dict translate name t ws s0 s2 s3 why fell calls keeps two stops =
     let later : IfSome s3.held (HasWords dict translate t ws) = held_later s2.held s3.held (HasWords dict translate t ws) keeps two in
     let front : List Reading = input_file input.Translate translate (λ _. table) ∷ file_under translate input.Dictionary dict words ∷ [] in

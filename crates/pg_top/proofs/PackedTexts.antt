@@ -11,8 +11,8 @@ use Rattle.pg_table.specs.declared.limits.TheConstants.{TABLE_MAX}
 use Rattle.pg_top.specs.Outcomes.{Ends, refuses}
 use Rattle.pg_top.specs.PackedTables.{packed, packed_text, table_refused}
 use Rattle.pg_top.specs.PrintedLines.{packed_line}
-use Rattle.pg_top.specs.Sources.{stop_of_table}
-use Rattle.pg_top.specs.Stops.{StopsMaking}
+use Rattle.pg_top.specs.Inside.Sources.{stop_of_table}
+use Rattle.pg_top.specs.Inside.Stops.{StopsMaking}
 use Rattle.pg_top.specs.declared.answers.Status.TheVariants.{Done}
 use Rattle.pg_top.specs.declared.inputs.Input.TheVariants as input
 

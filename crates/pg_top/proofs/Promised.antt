@@ -1,14 +1,14 @@
 -- What is promised of a command that is done, at its ends.
 use Rattle.std.proofs.Common.{◌≡◌, ℕ, List, Option, None, Some, IfSome, MatchOption, inl, inr, sym, subst}
 use Rattle.pg_outside.specs.Content.{FileMap, FilesShown, SinkShown, KeepsHeld}
-use Rattle.pg_table.specs.Laws.{HasEntries}
+use Rattle.pg_table.specs.Inside.Laws.{HasEntries}
 use Rattle.pg_table.proofs.PackedValues.{values_are_packed, totals_are_packed}
 use Rattle.pg_patterns.specs.Values.{IsPatternMap}
 use Rattle.pg_select.specs.Windows.{Patterns}
 use Rattle.pg_top.specs.Moments.{OfFiles}
 use Rattle.pg_top.specs.Outcomes.{Writing}
 use Rattle.pg_top.specs.Promises.{GivesValues}
-use Rattle.pg_top.specs.Stops.{PutsStop, Finishes}
+use Rattle.pg_top.specs.Inside.Stops.{PutsStop, Finishes}
 use Rattle.pg_top.specs.Writings.{after_all}
 use Rattle.pg_top.specs.declared.answers.Status.{Status}
 use Rattle.pg_top.specs.declared.answers.Status.TheVariants.{Done}

@@ -1,8 +1,9 @@
 -- What `prune` reads, and what it comes to.
-use Rattle.std.proofs.Common.{◌≡◌, List, [], ◌∷◌, Option, Some, Ok, IfSome, ap, ◌∙◌}
+use Rattle.std.proofs.Common.{◌≡◌, List, [], ◌∷◌, Option, Some, Ok, IfSome, sym, subst, ap, ◌∙◌}
 use Rattle.std.specs.Prelude.{unwrap_or}
 use Rattle.pg_outside.specs.Content.{FileMap, FilesShown, KeepsHeld, file_at}
 use Rattle.pg_outside.specs.Faults.{NoneFell}
+use Rattle.pg_outside.specs.FilesCalls.{Reads}
 use Rattle.pg_translate.specs.Alphabets.{Alphabet}
 use Rattle.pg_translate.specs.Tables.{table}
 use Rattle.pg_dict.specs.Word.{Word}
@@ -10,19 +11,19 @@ use Rattle.pg_dict.specs.Words.{words}
 use Rattle.pg_patterns.specs.Starts.{start}
 use Rattle.pg_select.specs.Windows.{Patterns}
 use Rattle.pg_top.specs.Calls.{outcome_of, finished}
-use Rattle.pg_top.specs.Counted.{MakesCalls}
+use Rattle.pg_top.specs.Counted.{MakesCalls, read_calls}
 use Rattle.pg_top.specs.PackedTables.{file_under}
-use Rattle.pg_top.specs.PruneInputs.{HasPrune}
+use Rattle.pg_top.specs.Inside.PruneInputs.{HasPrune}
 use Rattle.pg_prune.specs.Prunes.{pruned}
 use Rattle.pg_prune.specs.Reports.{prune_report}
-use Rattle.pg_prune.proofs.PrunedLaws.{pruned_alike, pruned_least}
+use Rattle.pg_prune.proofs.PrunedLaws.{pruned_part, pruned_alike, pruned_least}
 use Rattle.pg_select.specs.CountedPositions.{minima_of}
-use Rattle.pg_top.specs.Promises.{words_under, patterns_under, PruneKeeps}
+use Rattle.pg_top.specs.Promises.{words_under, patterns_under, ReadsBack, PruneKeeps}
 use Rattle.pg_top.specs.Pruning.{prune_reads, pruned_by, line_of_pruned}
 use Rattle.pg_top.specs.Readings.{Reading, read_as, input_file}
 use Rattle.pg_top.specs.Requests.{PruneRequest, ToPrune}
 use Rattle.pg_top.specs.Selecting.{table_named}
-use Rattle.pg_top.specs.Stops.{StopsAt, StopsReading}
+use Rattle.pg_top.specs.Inside.Stops.{StopsAt, StopsReading}
 use Rattle.pg_top.specs.declared.inputs.Input.TheVariants as input
 use Rattle.pg_top.specs.declared.inputs.Stop.{Stop}
 use Rattle.pg_top.specs.declared.pruning.PruneInputs.{PruneInputs}
@@ -40,12 +41,12 @@ module _ (p : PruneRequest) where
   dictionary_file = file_under p.translate input.Dictionary p.dict words
 
   -- a stop at the translate file
-  pub stopped_table : (s0 s1 : FilesShown) (stop : Stop) → MakesCalls s0 s1 1 → StopsAt translate_file s0 s1 stop → StopsReading (prune_reads p) s0 s1 stop
+  pub stopped_table : (s0 s1 : FilesShown) (stop : Stop) → MakesCalls s0 s1 (Reads p.translate ∷ []) → StopsAt translate_file s0 s1 stop → StopsReading (prune_reads p) s0 s1 stop
   stopped_table s0 s1 stop calls stops = stopped_first translate_file (patterns_file ∷ dictionary_file ∷ []) s0 s1 stop calls stops
 
   module _ (t : Alphabet) where
     -- a stop at the patterns
-    pub stopped_patterns : (s0 s1 s2 : FilesShown) (stop : Stop) → NoneFell s0.read_faults s1.read_faults → MakesCalls s0 s2 2 → KeepsHeld s1.held s2.held → IfSome s1.held (HasTable p.translate t) → StopsAt (input_file input.Patterns p.patterns (λ _. start t)) s1 s2 stop → StopsReading (prune_reads p) s0 s2 stop
+    pub stopped_patterns : (s0 s1 s2 : FilesShown) (stop : Stop) → NoneFell s0.read_faults s1.read_faults → MakesCalls s0 s2 (Reads p.translate ∷ Reads p.patterns ∷ []) → KeepsHeld s1.held s2.held → IfSome s1.held (HasTable p.translate t) → StopsAt (input_file input.Patterns p.patterns (λ _. start t)) s1 s2 stop → StopsReading (prune_reads p) s0 s2 stop
     stopped_patterns s0 s1 s2 stop fell calls keeps one stops = stopped_second p.translate t start input.Patterns p.patterns (dictionary_file ∷ []) s0 s1 s2 stop fell calls keeps one stops
 
     module _ (P : Patterns) where
@@ -60,7 +61,7 @@ module _ (p : PruneRequest) where
       patterns_read h1 h2 keeps one more = both h2 (HasTable p.translate t) (λ files. read_as (start t) (file_at files) p.patterns ≡ Some (Ok P)) (held_later h1 h2 (HasTable p.translate t) keeps one) more
 
       -- a stop at the dictionary
-      pub stopped_words : (s0 s2 s3 : FilesShown) (stop : Stop) → NoneFell s0.read_faults s2.read_faults → MakesCalls s0 s3 3 → KeepsHeld s2.held s3.held → IfSome s2.held HasPatterns → StopsAt (input_file input.Dictionary p.dict (λ _. words t)) s2 s3 stop → StopsReading (prune_reads p) s0 s3 stop
+      pub stopped_words : (s0 s2 s3 : FilesShown) (stop : Stop) → NoneFell s0.read_faults s2.read_faults → MakesCalls s0 s3 (read_calls (prune_reads p)) → KeepsHeld s2.held s3.held → IfSome s2.held HasPatterns → StopsAt (input_file input.Dictionary p.dict (λ _. words t)) s2 s3 stop → StopsReading (prune_reads p) s0 s3 stop
       stopped_words s0 s2 s3 stop fell calls keeps two stops =
           let later : IfSome s3.held HasPatterns = held_later s2.held s3.held HasPatterns keeps two in
           stopped_behind (translate_file ∷ patterns_file ∷ []) dictionary_file [] s0 s2 s3 stop fell calls
@@ -94,16 +95,23 @@ prune_outcome p i files h =
     ∙ (λ k. pruned_by p (is_t k) (is_ws k) (is_P k))
 
 -- what it promises
-pub prune_keeps : (p : PruneRequest) (i : PruneInputs) (files : FileMap) → HasPrune (file_at files) p i → PruneKeeps (file_at files) p
-prune_keeps p i files h =
+pub prune_keeps : (p : PruneRequest) (i : PruneInputs) (files : FileMap) → ReadsBack i.table (pruned (minima_of i.table) i.dictionary i.patterns).patterns → HasPrune (file_at files) p i → PruneKeeps (file_at files) p
+prune_keeps p i files back h =
     let m = minima_of (table_named p.translate (file_at files)) in
     let ws : List Word = words_under (file_at files) p.translate p.dict in
     let P : Patterns = patterns_under (file_at files) p.translate p.patterns in
+    let is_t : table_named p.translate (file_at files) ≡ i.table = is_table p.translate i.table files h.table in
+    let is_P : P ≡ i.patterns = means_under p.translate i.table start [] p.patterns i.patterns files h.table h.patterns in
+    let is_ws : ws ≡ i.dictionary = means_under p.translate i.table words [] p.dict i.dictionary files h.table h.words in
+    let with_P : ReadsBack i.table (pruned (minima_of i.table) i.dictionary P).patterns = subst (λ (Q : Patterns). ReadsBack i.table (pruned (minima_of i.table) i.dictionary Q).patterns) (sym is_P) back in
+    let with_ws : ReadsBack i.table (pruned (minima_of i.table) ws P).patterns = subst (λ (vs : List Word). ReadsBack i.table (pruned (minima_of i.table) vs P).patterns) (sym is_ws) with_P in
     record {
       kept = (pruned m ws P).patterns;
       report = prune_report (table_named p.translate (file_at files)) (pruned m ws P);
       lines = line_of_pruned (pruned m ws P);
       comes = ap (λ end. unwrap_or end (finished (file_at files) (ToPrune p))) (accepted_all (file_at files) (prune_reads p) (prune_accepted p i files h));
+      part = pruned_part m ws P;
+      reads_back = subst (λ (t : Alphabet). ReadsBack t (pruned (minima_of t) ws P).patterns) (sym is_t) with_ws;
       alike = pruned_alike m ws P;
       least = pruned_least m ws P;
     }

@@ -8,15 +8,15 @@ use Rattle.std.proofs.lemmas.Grind.{common_steps}
 use Rattle.std.proofs.lemmas.List.Folds.{list_all-append}
 use Rattle.pg_types.specs.declared.limits.TheConstants.{FILE_MAX, WORD_LETTERS_MAX}
 use Rattle.pg_types.specs.declared.marks.Mark.TheVariants.{Missed}
-use Rattle.pg_translate.specs.Rules.{KeepsRules}
+use Rattle.pg_translate.specs.Inside.Rules.{KeepsRules}
 use Rattle.pg_translate.specs.Spellings.{IsAmong}
 use Rattle.pg_translate.specs.Tables.{default_alphabet, default_letter}
 use Rattle.pg_translate.specs.Tokens.{Token, Letter, Marked}
-use Rattle.pg_translate.specs.Items.{IsItem, text_of_items}
+use Rattle.pg_translate.specs.Inside.Items.{IsItem, text_of_items}
 use Rattle.pg_translate.specs.declared.items.Place.TheVariants.{Dictionary}
 use Rattle.pg_dict.specs.Word.{Word}
 use Rattle.pg_dict.specs.Words.{line_reading, line_word, word_weight, word_of_items, words}
-use Rattle.pg_dict.specs.Written.{letters_among, IsLine, file_of, LinesGive}
+use Rattle.pg_dict.specs.Inside.Written.{letters_among, IsLine, file_of, LinesGive}
 use Rattle.pg_dict.proofs.LineLaws.{line_is_read, file_is_read, items_line}
 use Rattle.pg_top.specs.SampleTexts.{Made, next_state, drawn, consonants, vowels, closings, ending, syllable, further, word, words_made, sample_text}
 use Rattle.pg_types.proofs.BoolFacts.{and_first, and_second}

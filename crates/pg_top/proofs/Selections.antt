@@ -16,7 +16,7 @@ use Rattle.pg_patterns.specs.Values.{largest}
 use Rattle.pg_texts.specs.CellsTexts.{cells_text}
 use Rattle.pg_texts.specs.PattmpTexts.{pattmp_text}
 use Rattle.pg_texts.specs.ReportTexts.{report_text}
-use Rattle.pg_top.specs.Runs.{last_told}
+use Rattle.pg_top.specs.Inside.Runs.{last_told}
 use Rattle.pg_top.specs.Selection.{signs_of, selection, selected, selected_account, passes_begun, selected_cells_from, selected_cells, selected_text, selected_list, selected_cells_text, selected_report, last_layout}
 use Rattle.pg_top.specs.declared.reading.Inputs.{Inputs}
 

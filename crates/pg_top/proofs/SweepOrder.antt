@@ -1,10 +1,11 @@
 -- What `sweep` reads, and what it comes to.
-use Rattle.std.proofs.Common.{◌≡◌, ◌+◌, List, [], ◌∷◌, ◌++◌, length, Option, Some, Ok, IfSome, sym, ap, ◌∙◌, subst, arith, length-append}
+use Rattle.std.proofs.Common.{◌≡◌, List, [], ◌∷◌, ◌++◌, Option, Some, Ok, IfSome, sym, ap, ◌∙◌, subst}
 use Rattle.std.specs.Prelude.{unwrap_or}
-use Rattle.std.proofs.lemmas.List.{append_assoc}
+use Rattle.std.proofs.lemmas.List.{append_assoc, map-append}
 use Rattle.pg_types.specs.Parameters.{Parameters}
 use Rattle.pg_outside.specs.Content.{FileMap, FilesShown, KeepsHeld, file_at}
 use Rattle.pg_outside.specs.Faults.{NoneFell}
+use Rattle.pg_outside.specs.FilesCalls.{Reads}
 use Rattle.pg_translate.specs.Alphabets.{Alphabet}
 use Rattle.pg_translate.specs.Tables.{table}
 use Rattle.pg_dict.specs.Word.{Word}
@@ -13,17 +14,17 @@ use Rattle.pg_patterns.specs.Starts.{start}
 use Rattle.pg_select.specs.Windows.{Patterns}
 use Rattle.pg_sweep.specs.Sweeps.{Terms}
 use Rattle.pg_top.specs.Calls.{outcome_of, finished}
-use Rattle.pg_top.specs.Counted.{MakesCalls}
+use Rattle.pg_top.specs.Counted.{MakesCalls, read_call, read_calls}
 use Rattle.pg_top.specs.PackedTables.{file_under}
 use Rattle.pg_top.specs.Readings.{Reading, read_as, input_file}
 use Rattle.pg_top.specs.Requests.{SweepRequest, ToSweep}
-use Rattle.pg_top.specs.Stops.{StopsAt, StopsReading}
+use Rattle.pg_top.specs.Inside.Stops.{StopsAt, StopsReading}
 use Rattle.pg_top.specs.Sweeping.{set_files, sweep_reads, HasSets, HasSweep, swept}
 use Rattle.pg_top.specs.declared.inputs.Input.TheVariants as input
 use Rattle.pg_top.specs.declared.inputs.Stop.{Stop}
 use Rattle.pg_top.proofs.Orders.{AreAccepted, accepted_all, accepted_and, accepted_both, both, held_later, mapped, stopped_after, stopped_behind, stopped_in_front}
-use Rattle.pg_top.proofs.CountedCalls.{one_more, calls_on}
-use Rattle.pg_top.proofs.SetFiles.{sets_accepted, sets_mean, sets_length}
+use Rattle.pg_top.proofs.CountedCalls.{calls_on, calls_are}
+use Rattle.pg_top.proofs.SetFiles.{sets_accepted, sets_mean}
 use Rattle.pg_top.proofs.UnderTable.{HasTable, is_table, table_accepted, accepted_under, means_under, stopped_first, stopped_under}
 
 module _ (s : SweepRequest) where
@@ -47,23 +48,27 @@ module _ (s : SweepRequest) where
   reads_by_dictionary = append_assoc set_front (patterns_file ∷ []) (dictionary_file ∷ [])
 
   -- the calls until all sets are read, and until all is read
-  pub front_calls : (s0 s1 s2 : FilesShown) → MakesCalls s0 s1 1 → MakesCalls s1 s2 (length s.params) → MakesCalls s0 s2 (length set_front)
-  front_calls s0 s1 s2 one more =
-      let same : 1 + length s.params ≡ length set_front = let counted = sets_length 1 s.params in omega arith in
-      subst (λ n. MakesCalls s0 s2 n) same (calls_on 1 (length s.params) s0 s1 s2 one more)
+  pub front_calls : (s0 s1 s2 : FilesShown) → MakesCalls s0 s1 (Reads s.translate ∷ []) → MakesCalls s1 s2 (read_calls (set_files 1 s.params)) → MakesCalls s0 s2 (read_calls set_front)
+  front_calls s0 s1 s2 one more = calls_on (Reads s.translate ∷ []) (read_calls (set_files 1 s.params)) s0 s1 s2 one more
 
-  pub all_calls : (s0 s2 s3 s4 : FilesShown) → MakesCalls s0 s2 (length set_front) → MakesCalls s2 s3 1 → MakesCalls s3 s4 1 → MakesCalls s0 s4 (length (sweep_reads s))
+  pub all_calls : (s0 s2 s3 s4 : FilesShown) → MakesCalls s0 s2 (read_calls set_front) → MakesCalls s2 s3 (Reads s.patterns ∷ []) → MakesCalls s3 s4 (Reads s.dict ∷ []) → MakesCalls s0 s4 (read_calls (sweep_reads s))
   all_calls s0 s2 s3 s4 front third fourth =
-      let same : length set_front + 2 ≡ length (sweep_reads s) = omega (arith, length-append set_front (patterns_file ∷ dictionary_file ∷ [])) in
-      subst (λ n. MakesCalls s0 s4 n) same (calls_on (length set_front) 2 s0 s2 s4 front (one_more 1 s2 s3 s4 third fourth))
+      calls_are (read_calls set_front ++ Reads s.patterns ∷ Reads s.dict ∷ []) (read_calls (sweep_reads s)) s0 s4 (sym (map-append read_call set_front (patterns_file ∷ dictionary_file ∷ [])))
+      (calls_on (read_calls set_front) (Reads s.patterns ∷ Reads s.dict ∷ []) s0 s2 s4 front (calls_on (Reads s.patterns ∷ []) (Reads s.dict ∷ []) s2 s3 s4 third fourth))
+
+  -- those until the dictionary is read
+  words_calls : (s0 s2 s3 s4 : FilesShown) → MakesCalls s0 s2 (read_calls set_front) → MakesCalls s2 s3 (Reads s.patterns ∷ []) → MakesCalls s3 s4 (Reads s.dict ∷ []) → MakesCalls s0 s4 (read_calls patterns_front ++ Reads s.dict ∷ [])
+  words_calls s0 s2 s3 s4 front third fourth =
+      calls_on (read_calls patterns_front) (Reads s.dict ∷ []) s0 s3 s4
+      (calls_are (read_calls set_front ++ Reads s.patterns ∷ []) (read_calls patterns_front) s0 s3 (sym (map-append read_call set_front (patterns_file ∷ []))) (calls_on (read_calls set_front) (Reads s.patterns ∷ []) s0 s2 s3 front third)) fourth
 
   -- a stop at the translate file
-  pub stopped_table : (s0 s1 : FilesShown) (stop : Stop) → MakesCalls s0 s1 1 → StopsAt translate_file s0 s1 stop → StopsReading (sweep_reads s) s0 s1 stop
+  pub stopped_table : (s0 s1 : FilesShown) (stop : Stop) → MakesCalls s0 s1 (Reads s.translate ∷ []) → StopsAt translate_file s0 s1 stop → StopsReading (sweep_reads s) s0 s1 stop
   stopped_table s0 s1 stop calls stops = stopped_first translate_file (set_files 1 s.params ++ patterns_file ∷ dictionary_file ∷ []) s0 s1 stop calls stops
 
   module _ (t : Alphabet) where
     -- a stop at a parameter file
-    pub stopped_sets : (s0 s1 s2 : FilesShown) (stop : Stop) → NoneFell s0.read_faults s1.read_faults → MakesCalls s0 s1 1 → KeepsHeld s1.held s2.held → IfSome s1.held (HasTable s.translate t) → StopsReading (set_files 1 s.params) s1 s2 stop → StopsReading (sweep_reads s) s0 s2 stop
+    pub stopped_sets : (s0 s1 s2 : FilesShown) (stop : Stop) → NoneFell s0.read_faults s1.read_faults → MakesCalls s0 s1 (Reads s.translate ∷ []) → KeepsHeld s1.held s2.held → IfSome s1.held (HasTable s.translate t) → StopsReading (set_files 1 s.params) s1 s2 stop → StopsReading (sweep_reads s) s0 s2 stop
     stopped_sets s0 s1 s2 stop fell calls keeps one stops =
         stopped_after (translate_file ∷ []) (set_files 1 s.params ++ patterns_file ∷ dictionary_file ∷ []) s0 s1 s2 stop fell calls
         (mapped s2.held (HasTable s.translate t) (λ files. AreAccepted (file_at files) (translate_file ∷ [])) (λ files h. (table_accepted s.translate t files h, tt)) (held_later s1.held s2.held (HasTable s.translate t) keeps one))
@@ -81,10 +86,10 @@ module _ (s : SweepRequest) where
       front_read h1 h2 keeps one more = both h2 (HasTable s.translate t) (λ files. HasSets (file_at files) s.params sets) (held_later h1 h2 (HasTable s.translate t) keeps one) more
 
       -- a stop at the patterns
-      pub stopped_patterns : (s0 s2 s3 : FilesShown) (stop : Stop) → NoneFell s0.read_faults s2.read_faults → MakesCalls s0 s2 (length set_front) → MakesCalls s2 s3 1 → KeepsHeld s2.held s3.held → IfSome s2.held HasFront → StopsAt (input_file input.Patterns s.patterns (λ _. start t)) s2 s3 stop → StopsReading (sweep_reads s) s0 s3 stop
+      pub stopped_patterns : (s0 s2 s3 : FilesShown) (stop : Stop) → NoneFell s0.read_faults s2.read_faults → MakesCalls s0 s2 (read_calls set_front) → MakesCalls s2 s3 (Reads s.patterns ∷ []) → KeepsHeld s2.held s3.held → IfSome s2.held HasFront → StopsAt (input_file input.Patterns s.patterns (λ _. start t)) s2 s3 stop → StopsReading (sweep_reads s) s0 s3 stop
       stopped_patterns s0 s2 s3 stop fell front third keeps two stops =
           let later : IfSome s3.held HasFront = held_later s2.held s3.held HasFront keeps two in
-          stopped_behind set_front patterns_file (dictionary_file ∷ []) s0 s2 s3 stop fell (calls_on (length set_front) 1 s0 s2 s3 front third)
+          stopped_behind set_front patterns_file (dictionary_file ∷ []) s0 s2 s3 stop fell (calls_on (read_calls set_front) (Reads s.patterns ∷ []) s0 s2 s3 front third)
           (mapped s3.held HasFront (λ files. AreAccepted (file_at files) set_front) front_accepted later)
           (stopped_under s.translate t start input.Patterns s.patterns s2 s3 stop (mapped s3.held HasFront (HasTable s.translate t) (λ files h. h.0) later) stops)
 
@@ -100,12 +105,11 @@ module _ (s : SweepRequest) where
         start_read h2 h3 keeps two more = both h3 HasFront (λ files. read_as (start t) (file_at files) s.patterns ≡ Some (Ok P)) (held_later h2 h3 HasFront keeps two) more
 
         -- a stop at the dictionary
-        pub stopped_words : (s0 s2 s3 s4 : FilesShown) (stop : Stop) → NoneFell s0.read_faults s3.read_faults → MakesCalls s0 s2 (length set_front) → MakesCalls s2 s3 1 → MakesCalls s3 s4 1 → KeepsHeld s3.held s4.held → IfSome s3.held HasStart → StopsAt (input_file input.Dictionary s.dict (λ _. words t)) s3 s4 stop → StopsReading (sweep_reads s) s0 s4 stop
+        pub stopped_words : (s0 s2 s3 s4 : FilesShown) (stop : Stop) → NoneFell s0.read_faults s3.read_faults → MakesCalls s0 s2 (read_calls set_front) → MakesCalls s2 s3 (Reads s.patterns ∷ []) → MakesCalls s3 s4 (Reads s.dict ∷ []) → KeepsHeld s3.held s4.held → IfSome s3.held HasStart → StopsAt (input_file input.Dictionary s.dict (λ _. words t)) s3 s4 stop → StopsReading (sweep_reads s) s0 s4 stop
         stopped_words s0 s2 s3 s4 stop fell front third fourth keeps three stops =
-            let same : length set_front + 2 ≡ length patterns_front + 1 = omega (arith, length-append set_front (patterns_file ∷ [])) in
             let later : IfSome s4.held HasStart = held_later s3.held s4.held HasStart keeps three in
             subst (λ (reads : List Reading). StopsReading reads s0 s4 stop) reads_by_dictionary
-            (stopped_behind patterns_front dictionary_file [] s0 s3 s4 stop fell (subst (λ n. MakesCalls s0 s4 n) same (calls_on (length set_front) 2 s0 s2 s4 front (one_more 1 s2 s3 s4 third fourth)))
+            (stopped_behind patterns_front dictionary_file [] s0 s3 s4 stop fell (words_calls s0 s2 s3 s4 front third fourth)
             (mapped s4.held HasStart (λ files. AreAccepted (file_at files) patterns_front) start_accepted later)
             (stopped_under s.translate t words input.Dictionary s.dict s3 s4 stop (mapped s4.held HasStart (HasTable s.translate t) (λ files h. h.0.0) later) stops))
 

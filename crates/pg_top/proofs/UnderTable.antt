@@ -5,6 +5,7 @@ use Rattle.std.specs.Result.{result_unwrap_or}
 use Rattle.pg_types.specs.declared.refusals.Refusal.{Refusal}
 use Rattle.pg_outside.specs.Content.{FileMap, FilesShown, KeepsHeld, file_at}
 use Rattle.pg_outside.specs.Faults.{NoneFell}
+use Rattle.pg_outside.specs.FilesCalls.{Reads}
 use Rattle.pg_translate.specs.Alphabets.{Alphabet}
 use Rattle.pg_translate.specs.Tables.{table, default_alphabet}
 use Rattle.pg_top.specs.Counted.{MakesCalls}
@@ -12,7 +13,7 @@ use Rattle.pg_top.specs.Outcomes.{unless_accepted, refuses}
 use Rattle.pg_top.specs.PackedTables.{file_under, meant_under}
 use Rattle.pg_top.specs.Readings.{Held, Reading, read_as, meant, input_file}
 use Rattle.pg_top.specs.Selecting.{table_named}
-use Rattle.pg_top.specs.Stops.{StopsAt, StopsReading}
+use Rattle.pg_top.specs.Inside.Stops.{StopsAt, StopsReading}
 use Rattle.pg_top.specs.declared.inputs.Input.{Input}
 use Rattle.pg_top.specs.declared.inputs.Input.TheVariants as input
 use Rattle.pg_top.specs.declared.inputs.Stop.{Stop}
@@ -28,7 +29,7 @@ pub means : {Y : Type 0} (parse : List ℕ → Result Y Refusal) (other : Y) (fi
 means {Y} parse other files name y is = ap (λ (got : Option (Result Y Refusal)). option_map_or (λ (r : Result Y Refusal). result_unwrap_or r other) got other) is
 
 -- a stop at the first file
-pub stopped_first : (r : Reading) (rest : List Reading) (s0 s1 : FilesShown) (stop : Stop) → MakesCalls s0 s1 1 → StopsAt r s0 s1 stop → StopsReading (r ∷ rest) s0 s1 stop
+pub stopped_first : (r : Reading) (rest : List Reading) (s0 s1 : FilesShown) (stop : Stop) → MakesCalls s0 s1 (Reads r.name ∷ []) → StopsAt r s0 s1 stop → StopsReading (r ∷ rest) s0 s1 stop
 stopped_first r rest s0 s1 stop calls stops = stopped_behind [] r rest s0 s0 s1 stop (λ name. omega arith) calls (nothing_said s1.held) stops
   where
     nothing_said : (held : Option FileMap) → IfSome held (λ files. AreAccepted (file_at files) [])
@@ -68,7 +69,7 @@ module _ (translate : List ℕ) (t : Alphabet) where
   stopped_under parse input name old new Memory h stops = tt
 
   -- a stop at the file behind the translate file
-  pub stopped_second : {Y : Type 0} (parse : Alphabet → List ℕ → Result Y Refusal) (input : Input) (name : List ℕ) (rest : List Reading) (s0 s1 s2 : FilesShown) (stop : Stop) → NoneFell s0.read_faults s1.read_faults → MakesCalls s0 s2 2 → KeepsHeld s1.held s2.held → IfSome s1.held HasTable → StopsAt (input_file input name (λ _. parse t)) s1 s2 stop
+  pub stopped_second : {Y : Type 0} (parse : Alphabet → List ℕ → Result Y Refusal) (input : Input) (name : List ℕ) (rest : List Reading) (s0 s1 s2 : FilesShown) (stop : Stop) → NoneFell s0.read_faults s1.read_faults → MakesCalls s0 s2 (Reads translate ∷ Reads name ∷ []) → KeepsHeld s1.held s2.held → IfSome s1.held HasTable → StopsAt (input_file input name (λ _. parse t)) s1 s2 stop
       → StopsReading (translate_file ∷ file_under translate input name parse ∷ rest) s0 s2 stop
   stopped_second parse input name rest s0 s1 s2 stop fell calls keeps h stops =
       let later : IfSome s2.held HasTable = held_later s1.held s2.held HasTable keeps h in

@@ -1,5 +1,5 @@
 -- Writing file after file: what is written so far goes on to the whole.
-use Rattle.std.proofs.Common.{◌≡◌, ℕ, ◌+◌, ◌<◌, ◌≤◌, List, [], ◌∷◌, ◌++◌, length, drop, Option, None, Some, IfSome, MatchOption, inl, inr, refl, sym, ap, ◌∙◌, subst, arith}
+use Rattle.std.proofs.Common.{◌≡◌, ℕ, ◌+◌, ◌<◌, ◌≤◌, List, [], ◌∷◌, ◌++◌, length, drop, take, Option, None, Some, IfSome, MatchOption, inl, inr, refl, sym, ap, ◌∙◌, subst, arith}
 use Rattle.std.specs.Prelude.{slice_get}
 use Rattle.std.proofs.lemmas.List.{drop_more, length-map, map-append}
 use Rattle.std.proofs.lemmas.Option.{slice_get_within, get_or_from_slice_get, slice_get-map}
@@ -7,9 +7,11 @@ use Rattle.std.proofs.Math.ListN.{drop_of_length-le}
 use Rattle.std.specs.Option.{option_map}
 use Rattle.pg_outside.specs.Content.{FileMap, FilesShown, WasWritten, WasPartWritten}
 use Rattle.pg_outside.specs.Faults.{Rose, NoneFell}
+use Rattle.pg_top.specs.Counted.{MakesCalls, write_calls}
 use Rattle.pg_top.specs.Outcomes.{Writing}
-use Rattle.pg_top.specs.Writings.{after_all, IsPartWritten, named_text, writing_of, WroteAll, StoppedAt}
+use Rattle.pg_top.specs.Writings.{after_all, IsPartWritten, named_text, writing_of, written_names, WroteAll, StoppedAt}
 use Rattle.pg_top.specs.declared.writes.Output.{Output}
+use Rattle.pg_top.proofs.CountedCalls.{all_writes}
 use Rattle.pg_top.proofs.Faults.{rose_since}
 
 -- from the files after some of the writes, the rest of them goes where all go from the start
@@ -53,6 +55,13 @@ from_place ws i w at = ap writing_of (drop_more ws i w (slice_get_within ws i w 
 
 pub place_of_map : (ws : List Output) (i : ℕ) (w : Output) → slice_get ws i ≡ Some w → slice_get (writing_of ws) i ≡ Some (named_text w)
 place_of_map ws i w at = slice_get-map named_text ws i ∙ ap (option_map named_text) at
+
+pub name_there : (ws : List Output) (i : ℕ) (w : Output) → slice_get ws i ≡ Some w → slice_get (written_names (writing_of ws)) i ≡ Some w.name.now
+name_there ws i w at = slice_get-map (λ (w : List ℕ × List ℕ). w.0) (writing_of ws) i ∙ ap (option_map (λ (w : List ℕ × List ℕ). w.0)) (place_of_map ws i w at)
+
+-- all are called once each
+pub all_called : (ws : List Output) (i : ℕ) (s0 s1 : FilesShown) → length ws ≤ i → MakesCalls s0 s1 (write_calls (take i (written_names (writing_of ws)))) → MakesCalls s0 s1 (write_calls (written_names (writing_of ws)))
+all_called ws i s0 s1 far calls = all_writes (written_names (writing_of ws)) i s0 s1 (omega (arith, length-map (writing_of ws) (λ (w : List ℕ × List ℕ). w.0), length-map ws named_text)) calls
 
 pub none_left : (ws : List Output) (i : ℕ) → length ws ≤ i → writing_of (drop i ws) ≡ []
 none_left ws i far = ap writing_of (drop_of_length-le ws far)

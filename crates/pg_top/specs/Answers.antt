@@ -45,7 +45,8 @@ abbrev pub IsAnswered : Option Request → Status → Moment → Moment → Type
 IsAnswered asked Fault old new = Unit {0}
 IsAnswered asked Memory old new = Unit {0}
 IsAnswered asked status old new =
-    OfFiles old new (λ before after. DoesAll old new status before after (outcome (file_at before) asked))
+    OfFiles old new (λ before after. DoesAll old new status before after
+    (outcome (file_at before) asked))
 
 -- the lines of a `sample` that is done were put. This is so of files that tell nothing too
 abbrev pub IsSampled : Option Request → Status → Moment → Moment → Type 0
@@ -62,11 +63,13 @@ abbrev pub IsAnswerOf : Status → Outcome → Type 0
 IsAnswerOf status Unknown = ⊥
 IsAnswerOf status (Ends wanted writing lines) = status ≡ wanted
 
--- the answer where no fault rose: usage where the words are no command, else that of the outcome, or want of memory
+-- the answer where no fault rose: usage where the words are no command, else that of the outcome,
+-- or want of memory
 abbrev pub IsComplete : Option Request → Status → Moment → Moment → Type 0
 IsComplete None status old new = status ≡ Usage
 IsComplete (Some request) status old new =
-    (status ≡ Memory) ⊎ OfFiles old new (λ before after. IsAnswerOf status (outcome_of (file_at before) request))
+    (status ≡ Memory) ⊎ OfFiles old new
+    (λ before after. IsAnswerOf status (outcome_of (file_at before) request))
 
 -- all that is said of the answer of a call
 pub record IsCall (asked : Option Request) (status : Status) (old new : Moment) : Type 0 where

@@ -27,14 +27,16 @@ denies given difference = Ends No [] (no_line given (printed_of difference))
 abbrev pub given_file : (Held → Inputs) → Given × List ℕ → Reading
 given_file inputs g = record {
   name = g.1;
-  ends = λ files bytes. option_map (denies g.0) (first_false bytes (wanted_text (inputs files) g.0));
+  ends = λ files bytes. option_map (denies g.0)
+      (first_false bytes (wanted_text (inputs files) g.0));
 }
 
--- the given files in their order, each with its name: the pattern file, the hyphenated list where it is asked for, and
--- the report
+-- the given files in their order, each with its name: the pattern file, the hyphenated list where
+-- it is asked for, and the report
 abbrev pub given_names : FileNames → List (Given × List ℕ)
 given_names n =
-    (given.Patterns, n.output) ∷ if_asked n.pattmp (λ name. (given.Pattmp, name)) ++ (given.Report, n.report) ∷ []
+    (given.Patterns, n.output) ∷ if_asked n.pattmp (λ name. (given.Pattmp, name))
+    ++ (given.Report, n.report) ∷ []
 
 abbrev pub given_files : (Held → Inputs) → FileNames → List Reading
 given_files inputs n = map (given_file inputs) (given_names n)

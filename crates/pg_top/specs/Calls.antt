@@ -43,7 +43,8 @@ finished files (ToTotals dict translate table) = totalled_in files dict translat
 finished files (ToPrune p) = pruned_in files p
 finished files (ToSweep s) = swept_in files s
 
--- the outcome of a command: that of the first file that ends the call, and where none does, what it writes and prints
+-- the outcome of a command: that of the first file that ends the call, and where none does, what it
+-- writes and prints
 abbrev pub outcome_of : Held → Request → Outcome
 outcome_of files request = unwrap_or (first_end files (reads_of request)) (finished files request)
 

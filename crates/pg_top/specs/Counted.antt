@@ -1,7 +1,8 @@
--- How many calls a command makes on files and on the sink.
-use Rattle.std.specs.Prelude.{◌≡◌, ℕ, zero, suc, ◌+◌, ◌<◌, ◌≤◌, List, length, take, slice_get, Option, None, Some, IfSome, ◌⊎◌}
+-- Which calls a command makes on files, in their order, and how many on the sink.
+use Rattle.std.specs.Prelude.{◌≡◌, ℕ, zero, suc, ◌+◌, ◌<◌, ◌≤◌, List, ◌++◌, length, map, take, slice_get, Option, None, Some, IfSome, ◌⊎◌}
 use Rattle.pg_outside.specs.Content.{FilesShown, SinkShown, file_at}
 use Rattle.pg_outside.specs.Faults.{next_count, Rose}
+use Rattle.pg_outside.specs.FilesCalls.{FilesCall, Reads, Writes}
 use Rattle.pg_top.specs.Calls.{outcome_of, reads_of, writes_of}
 use Rattle.pg_top.specs.Moments.{Moment}
 use Rattle.pg_top.specs.Readings.{Held, Reading, first_end}
@@ -16,9 +17,23 @@ abbrev pub after_calls : ℕ → ℕ → ℕ
 after_calls count zero = count
 after_calls count (suc more) = next_count (after_calls count more)
 
--- so many calls were made on files
-abbrev pub MakesCalls : FilesShown → FilesShown → ℕ → Type 0
-MakesCalls old new calls = new.calls ≡ after_calls old.calls calls
+-- these calls were made on files, in this order, and no other
+abbrev pub MakesCalls : FilesShown → FilesShown → List FilesCall → Type 0
+MakesCalls old new calls = new.calls ≡ old.calls ++ calls
+
+-- no call was made on files
+abbrev pub MakesNone : FilesShown → FilesShown → Type 0
+MakesNone old new = new.calls ≡ old.calls
+
+-- the call that reads a file, those that read files, and those that write files of these names
+abbrev pub read_call : Reading → FilesCall
+read_call r = Reads r.name
+
+abbrev pub read_calls : List Reading → List FilesCall
+read_calls reads = map read_call reads
+
+abbrev pub write_calls : List (List ℕ) → List FilesCall
+write_calls names = map Writes names
 
 -- so many puts were made
 abbrev pub MakesPuts : SinkShown → SinkShown → ℕ → Type 0
@@ -28,10 +43,11 @@ MakesPuts old new puts = new.puts ≡ after_calls old.puts puts
 abbrev pub PutsFault : SinkShown → SinkShown → Type 0
 PutsFault old new = (puts : ℕ) × (1 ≤ puts) × (puts ≤ 3) × MakesPuts old new puts
 
--- the files up to a place of the order were read once each, and no other; none before it ends the call
+-- the files up to a place of the order were read once each, and no other; none before it ends the
+-- call
 pub record ReadsUpTo (reads : List Reading) (place : ℕ) (old new : FilesShown) : Type 0 where
   pub within : place < length reads
-  pub calls : MakesCalls old new (place + 1)
+  pub calls : MakesCalls old new (read_calls (take (place + 1) reads))
   pub before_it : IfSome new.held (λ files. first_end (file_at files) (take place reads) ≡ None)
 
 -- the file at a place of the order could not be read
@@ -46,13 +62,15 @@ pub record IsUnwrittenAt (names : List (List ℕ)) (place : ℕ) (old new : File
   pub there : slice_get names place ≡ Some name
   pub rose : Rose (old.write_faults name) (new.write_faults name)
 
--- the file at a place of the order is the one that ends the call; or all were read up to this place, and none ends it
+-- the file at a place of the order is the one that ends the call; or all were read up to this
+-- place, and none ends it
 abbrev pub EndsAt : Request → ℕ → Held → Type 0
 EndsAt request place files =
     (first_end files (take (place + 1) (reads_of request)) ≡ Some (outcome_of files request))
     ⊎ ((place + 1 ≡ length (reads_of request)) × (first_end files (reads_of request) ≡ None))
 
--- the puts of a command that stopped before it wrote: a refusal is one line, and the line of a fault has three parts
+-- the puts of a command that stopped before it wrote: a refusal is one line, and the line of a
+-- fault has three parts
 abbrev pub PutsCounted : Stop → Status → SinkShown → SinkShown → Type 0
 PutsCounted stop status.Memory old new = MakesPuts old new 0
 PutsCounted (Refused input refusal) status.Refused old new = MakesPuts old new 1
@@ -60,20 +78,11 @@ PutsCounted (Refused input refusal) status.Fault old new = MakesPuts old new 1
 PutsCounted (Unread name) status.Fault old new = PutsFault old new
 PutsCounted stop answer old new = ⊥
 
--- the puts of a command that reads and writes nothing: its lines are put at once, and nothing where memory is wanted
+-- the puts of a command that reads and writes nothing: its lines are put at once, and nothing where
+-- memory is wanted
 abbrev pub LinesCounted : Status → SinkShown → SinkShown → Type 0
 LinesCounted status.Memory old new = MakesPuts old new 0
 LinesCounted answer old new = MakesPuts old new 1
-
--- files of these names are to be written: each was written once and the lines were put at once, or one could not be
--- written, and none behind it was
-abbrev pub FinishCounted : List (List ℕ) → Status → Moment → Moment → Type 0
-FinishCounted names status.Done old new = MakesCalls old.0 new.0 (length names) × MakesPuts old.1 new.1 1
-FinishCounted names status.Fault old new =
-    ((place : ℕ) × (place < length names) × IsUnwrittenAt names place old.0 new.0
-    × MakesCalls old.0 new.0 (place + 1) × PutsFault old.1 new.1)
-    ⊎ (MakesCalls old.0 new.0 (length names) × MakesPuts old.1 new.1 1)
-FinishCounted names answer old new = ⊥
 
 -- a file ended the call, and its line was put at once
 abbrev pub IsEndedCounted : Request → Moment → Moment → Type 0
@@ -81,42 +90,33 @@ IsEndedCounted request old new =
     (place : ℕ) × ReadsUpTo (reads_of request) place old.0 new.0
     × IfSome new.0.held (λ files. EndsAt request place (file_at files)) × MakesPuts old.1 new.1 1
 
--- a file could not be read, and the line of its fault was put
-abbrev pub IsUnreadCounted : Request → Moment → Moment → Type 0
-IsUnreadCounted request old new =
-    (place : ℕ) × ReadsUpTo (reads_of request) place old.0 new.0
-    × IsUnreadAt (reads_of request) place old.0 new.0 × PutsFault old.1 new.1
-
--- all files were read, and those before one that could not be written were written; the line of its fault was put
-abbrev pub IsUnwrittenCounted : Request → Moment → Moment → Type 0
-IsUnwrittenCounted request old new =
-    (place : ℕ) × (place < length (writes_of request)) × IsUnwrittenAt (writes_of request) place old.0 new.0
-    × MakesCalls old.0 new.0 (length (reads_of request) + (place + 1)) × PutsFault old.1 new.1
-
--- each file was read once and each written once, and the lines were put at once
+-- each file was read once, then each written once, and the lines were put at once
 abbrev pub IsWholeCounted : Request → Moment → Moment → Type 0
 IsWholeCounted request old new =
-    MakesCalls old.0 new.0 (length (reads_of request) + length (writes_of request)) × MakesPuts old.1 new.1 1
+    MakesCalls old.0 new.0 (read_calls (reads_of request) ++ write_calls (writes_of request))
+    × MakesPuts old.1 new.1 1
 
 -- memory was wanted, before the first read or behind the last of some, and nothing was put
 abbrev pub IsWantCounted : Request → Moment → Moment → Type 0
 IsWantCounted request old new =
-    (MakesCalls old.0 new.0 0 ⊎ ((place : ℕ) × ReadsUpTo (reads_of request) place old.0 new.0))
+    (MakesNone old.0 new.0 ⊎ ((place : ℕ) × ReadsUpTo (reads_of request) place old.0 new.0))
     × MakesPuts old.1 new.1 0
 
--- how many calls each answer has made on files, and how many puts
+-- the calls of an answer that is an outcome's
+abbrev pub IsEndCounted : Request → Status → Moment → Moment → Type 0
+IsEndCounted request status.Done old new = IsWholeCounted request old new
+IsEndCounted request status.Yes old new = IsWholeCounted request old new
+IsEndCounted request status.No old new = IsEndedCounted request old new
+IsEndCounted request status.Refused old new = IsEndedCounted request old new
+IsEndCounted request answer old new = ⊥
+
+-- the calls of each answer but a fault, whose calls stand with it
 abbrev pub IsCounted : Request → Status → Moment → Moment → Type 0
-IsCounted request status.Done old new = IsWholeCounted request old new
-IsCounted request status.Yes old new = IsWholeCounted request old new
-IsCounted request status.No old new = IsEndedCounted request old new
-IsCounted request status.Refused old new = IsEndedCounted request old new
 IsCounted request status.Memory old new = IsWantCounted request old new
-IsCounted request status.Fault old new =
-    IsUnreadCounted request old new ⊎ (IsUnwrittenCounted request old new
-    ⊎ (IsEndedCounted request old new ⊎ IsWholeCounted request old new))
-IsCounted request status.Usage old new = ⊥
+IsCounted request status.Fault old new = Unit {0}
+IsCounted request answer old new = IsEndCounted request answer old new
 
 -- the same of a call: words that are no command call no file, and their line is put at once
 abbrev pub IsCountedCall : Option Request → Status → Moment → Moment → Type 0
-IsCountedCall None answer old new = MakesCalls old.0 new.0 0 × MakesPuts old.1 new.1 1
+IsCountedCall None answer old new = MakesNone old.0 new.0 × MakesPuts old.1 new.1 1
 IsCountedCall (Some request) answer old new = IsCounted request answer old new

@@ -5,7 +5,6 @@ pub mod PrintedLines
 pub mod Outcomes
 pub mod Readings
 pub mod Selection
-pub mod Runs
 pub mod Selecting
 pub mod SampleTexts
 pub mod PackedTables
@@ -17,11 +16,7 @@ pub mod Writings
 pub mod Moments
 pub mod Faults
 pub mod Answers
-pub mod Stops
 pub mod Counted
 pub mod Promises
 pub mod WholeCalls
-pub mod Sources
-pub mod PruneInputs
-pub mod SweepInputs
-pub mod Verdicts
+pub mod Inside

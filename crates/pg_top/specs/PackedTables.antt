@@ -25,12 +25,16 @@ use Rattle.pg_top.specs.declared.inputs.Input.{Input}
 use Rattle.pg_top.specs.declared.inputs.Input.TheVariants as input
 
 -- a file that is read under the table of the translate file of a name
-abbrev pub file_under : {Y : Type 0} → List ℕ → Input → List ℕ → (Alphabet → List ℕ → Result Y Refusal) → Reading
-file_under translate input name parse = input_file input name (λ files. parse (table_named translate files))
+abbrev pub file_under : {Y : Type 0} → List ℕ → Input
+    → List ℕ → (Alphabet → List ℕ → Result Y Refusal) → Reading
+file_under translate input name parse =
+    input_file input name (λ files. parse (table_named translate files))
 
 -- what such a file means
-abbrev pub meant_under : {Y : Type 0} → List ℕ → (Alphabet → List ℕ → Result Y Refusal) → Y → Held → List ℕ → Y
-meant_under translate parse other files name = meant (parse (table_named translate files)) other files name
+abbrev pub meant_under : {Y : Type 0} → List ℕ → (Alphabet → List ℕ → Result Y Refusal)
+    → Y → Held → List ℕ → Y
+meant_under translate parse other files name =
+    meant (parse (table_named translate files)) other files name
 
 -- a table is refused, without a place
 abbrev pub table_refused : Kind → Refusal
@@ -45,7 +49,8 @@ abbrev pub packed_table : Alphabet → List ℕ → Result (List ℕ) Refusal
 packed_table t b =
     if nat_lt TABLE_MAX (length b) then Err (table_refused TableTooLong)
     else (if not (is_well_formed b) then Err (table_refused BadTable)
-    else (if nat_eq (head_of b).signs (letters_of t + 1) then Ok b else Err (table_refused OtherTable)))
+    else (if nat_eq (head_of b).signs (letters_of t + 1) then Ok b
+    else Err (table_refused OtherTable)))
 
 -- what `pack` reads
 abbrev pub packing_reads : List ℕ → List ℕ → List Reading
@@ -57,7 +62,8 @@ packing_reads patterns translate =
 -- what it writes and prints: the table under its name, where that is not too long
 abbrev pub packed : List ℕ → Alphabet → Patterns → Outcome
 packed name t P =
-    if nat_lt TABLE_MAX (length (packed_text t P)) then refuses input.Table (table_refused TableTooLong)
+    if nat_lt TABLE_MAX (length (packed_text t P))
+    then refuses input.Table (table_refused TableTooLong)
     else Ends Done ((name, packed_text t P) ∷ []) (packed_line (pattern_text t P) (packed_text t P))
 
 abbrev pub packed_in : Held → List ℕ → List ℕ → List ℕ → Outcome

@@ -20,27 +20,32 @@ usage_line = codes "usage: patgen COMMAND NAMES [OPTIONS]\n"
 -- where `generate` is done: how many lines the pattern file has, and the totals of its patterns
 abbrev pub done_line : List ℕ → Totals → List ℕ
 done_line patterns t =
-    codes "done: " ++ decimal (length (lines patterns)) ++ codes " patterns, " ++ totals_text t ++ codes "\n"
+    codes "done: " ++ decimal (length (lines patterns))
+    ++ codes " patterns, " ++ totals_text t ++ codes "\n"
 
 -- where `generate` is done: how many passes were begun, and the layout at the end
 abbrev pub work_line : ℕ → Layout → List ℕ
-work_line passes layout = codes "work: " ++ decimal passes ++ codes " passes, " ++ layout_text layout
+work_line passes layout = codes "work: " ++ decimal passes
+    ++ codes " passes, " ++ layout_text layout
 
 -- where `pack` is done: how many lines the pattern file has, and how many bytes the table
 abbrev pub packed_line : List ℕ → List ℕ → List ℕ
 packed_line patterns table =
-    codes "packed: " ++ decimal (length (lines patterns)) ++ codes " patterns, " ++ decimal (length table)
+    codes "packed: " ++ decimal (length (lines patterns))
+    ++ codes " patterns, " ++ decimal (length table)
     ++ codes " bytes\n"
 
 -- where `prune` is done: how many rounds were made, and how many entries were taken out and stay
 abbrev pub pruned_line : ℕ → ℕ → ℕ → List ℕ
 pruned_line rounds removed kept =
-    codes "done: " ++ decimal rounds ++ codes " rounds, " ++ decimal removed ++ codes " removed, " ++ decimal kept
+    codes "done: " ++ decimal rounds ++ codes " rounds, "
+    ++ decimal removed ++ codes " removed, " ++ decimal kept
     ++ codes " kept\n"
 
 -- where `sweep` is done: the number of the cheapest set of parameters, and what it costs
 abbrev pub winner_line : ℕ → ℕ → List ℕ
-winner_line winner cost = codes "winner: set " ++ decimal winner ++ codes ", cost " ++ decimal cost ++ codes "\n"
+winner_line winner cost = codes "winner: set " ++ decimal winner
+    ++ codes ", cost " ++ decimal cost ++ codes "\n"
 
 -- the words for a file in a line of refusal or of `no`
 abbrev pub word_of : Input → List ℕ
@@ -63,7 +68,8 @@ place_of other r = codes " line " ++ decimal r.line ++ codes " column " ++ decim
 -- where a file is refused; a refusal with line 0 has no place
 abbrev pub refused_line : Input → Refusal → List ℕ
 refused_line input r =
-    codes "refused: " ++ word_of input ++ codes " " ++ decimal (kind_number r.kind) ++ codes " " ++ name_of r.kind
+    codes "refused: " ++ word_of input ++ codes " "
+    ++ decimal (kind_number r.kind) ++ codes " " ++ name_of r.kind
     ++ (if r.line == 0 then [] else place_of input r) ++ codes "\n"
 
 -- where `audit` finds all given files right
@@ -80,7 +86,8 @@ found_text (Unended line) = codes " found " ++ line ++ codes " and the file ends
 -- where a line of a given file is false: its number, and what stands there
 abbrev pub no_line : Given → ℕ × FoundLine → List ℕ
 no_line given l =
-    codes "no: " ++ word_of (input.Given given) ++ codes " line " ++ decimal l.0 ++ found_text l.1 ++ codes "\n"
+    codes "no: " ++ word_of (input.Given given) ++ codes " line "
+    ++ decimal l.0 ++ found_text l.1 ++ codes "\n"
 
 -- where the file of a name could not be read, or not be written
 abbrev pub reading_line : List ℕ → List ℕ

@@ -1,6 +1,8 @@
 -- What is promised of a command that is done, without how it goes about it.
-use Rattle.std.specs.Prelude.{◌≡◌, ℕ, ◌-◌, List, [], ◌∷◌, Option, Some, slice_index}
+use Rattle.std.specs.Prelude.{◌≡◌, ℕ, ◌-◌, ◌≤◌, List, [], ◌∷◌, length, Option, Some, Ok, slice_index, All, Contains}
+use Rattle.pg_types.specs.declared.limits.TheConstants.{FILE_MAX}
 use Rattle.pg_outside.specs.Content.{file_at}
+use Rattle.pg_translate.specs.Alphabets.{Alphabet}
 use Rattle.pg_dict.specs.Word.{Word}
 use Rattle.pg_dict.specs.Words.{words}
 use Rattle.pg_patterns.specs.Starts.{start}
@@ -16,7 +18,7 @@ use Rattle.pg_sweep.specs.Winners.{IsWinner}
 use Rattle.pg_top.specs.Calls.{outcome_of}
 use Rattle.pg_top.specs.Moments.{Moment, OfFiles}
 use Rattle.pg_top.specs.Outcomes.{Ends}
-use Rattle.pg_top.specs.PackedTables.{meant_under}
+use Rattle.pg_top.specs.PackedTables.{meant_under, packed_table}
 use Rattle.pg_top.specs.PrintedLines.{winner_line}
 use Rattle.pg_top.specs.Readings.{Held}
 use Rattle.pg_top.specs.Requests.{Request, PruneRequest, SweepRequest, ToPack, ToPrune, ToSweep}
@@ -32,29 +34,43 @@ patterns_under files translate name = meant_under translate start [] files name
 abbrev pub words_under : Held → List ℕ → List ℕ → List Word
 words_under files translate name = meant_under translate words [] files name
 
--- the bytes of a packed table give each position of each word the value of the patterns, and each word list their totals
+-- the bytes of a packed table give each position of each word the value of the patterns, and each
+-- word list their totals
 pub record GivesValues (bytes : List ℕ) (P : Patterns) : Type 0 where
   pub values : (w : List ℕ) (p : ℕ) → table_value bytes w p ≡ value_at P w p
   pub totals : (m : Minima) (ws : List Word) → table_totals m ws bytes ≡ totals m ws P
 
--- `pack` writes bytes that give the values of the patterns
+-- `pack` writes bytes that `totals` accepts under the same translate file, and that give the values
+-- of the patterns
 pub record PackKeeps (files : Held) (patterns translate name : List ℕ) : Type 0 where
   pub bytes : List ℕ
   pub lines : List ℕ
-  pub comes : outcome_of files (ToPack patterns translate name) ≡ Ends Done ((name, bytes) ∷ []) lines
+  pub comes : outcome_of files (ToPack patterns translate name)
+      ≡ Ends Done ((name, bytes) ∷ []) lines
+  pub accepted : packed_table (table_named translate files) bytes ≡ Ok bytes
   pub gives : GivesValues bytes (patterns_under files translate patterns)
 
--- `prune` writes the text of patterns that break alike with those it read, at each position in reach of each word, and of
--- which none can go alone
+-- the text of patterns is read as these patterns, where it is no longer than a pattern file may be
+abbrev pub ReadsBack : Alphabet → Patterns → Type 0
+ReadsBack t P = length (pattern_text t P) ≤ FILE_MAX → start t (pattern_text t P) ≡ Ok P
+
+-- `prune` writes the text of patterns that are entries of those it read, and is read as them again.
+-- They break alike with those it read, at each position in reach of each word, and none of them can
+-- go alone
 pub record PruneKeeps (files : Held) (p : PruneRequest) : Type 0 where
   pub kept : Patterns
   pub report : List ℕ
   pub lines : List ℕ
   pub comes : outcome_of files (ToPrune p)
-      ≡ Ends Done ((p.output, pattern_text (table_named p.translate files) kept) ∷ (p.report, report) ∷ []) lines
-  pub alike : BreakAlike (minima_of (table_named p.translate files)) (words_under files p.translate p.dict)
+      ≡ Ends Done ((p.output, pattern_text (table_named p.translate files) kept) ∷
+      (p.report, report) ∷ []) lines
+  pub part : All (Contains (patterns_under files p.translate p.patterns)) kept
+  pub reads_back : ReadsBack (table_named p.translate files) kept
+  pub alike : BreakAlike (minima_of (table_named p.translate files))
+      (words_under files p.translate p.dict)
       (patterns_under files p.translate p.patterns) kept
-  pub least : NoneCanGo (minima_of (table_named p.translate files)) (words_under files p.translate p.dict)
+  pub least : NoneCanGo (minima_of (table_named p.translate files))
+      (words_under files p.translate p.dict)
       (patterns_under files p.translate p.patterns) kept
 
 -- what the sets of a sweep cost
@@ -66,13 +82,15 @@ pub record SweepNames (files : Held) (s : SweepRequest) : Type 0 where
   pub winner : ℕ
   pub text : List ℕ
   pub comes : outcome_of files (ToSweep s)
-      ≡ Ends Done ((s.output, text) ∷ []) (winner_line winner (slice_index (set_costs files s) (winner - 1)))
+      ≡ Ends Done ((s.output, text) ∷ [])
+      (winner_line winner (slice_index (set_costs files s) (winner - 1)))
   pub wins : IsWinner (set_costs files s) winner
 
 -- where it is done, this was kept
 abbrev pub IsPromised : Option Request → Status → Moment → Moment → Type 0
 IsPromised (Some (ToPack patterns translate name)) status old new =
-    status ≡ Done → OfFiles old new (λ before after. PackKeeps (file_at before) patterns translate name)
+    status ≡ Done → OfFiles old new
+    (λ before after. PackKeeps (file_at before) patterns translate name)
 IsPromised (Some (ToPrune p)) status old new =
     status ≡ Done → OfFiles old new (λ before after. PruneKeeps (file_at before) p)
 IsPromised (Some (ToSweep s)) status old new =

@@ -11,24 +11,29 @@ abbrev pub Held : Type 0
 Held = List ℕ → Option (List ℕ)
 
 -- the file of a name, read by the rules of its kind; none where the name is not held
-abbrev pub read_as : {Y : Type 0} → (List ℕ → Result Y Refusal) → Held → List ℕ → Option (Result Y Refusal)
+abbrev pub read_as : {Y : Type 0} → (List ℕ → Result Y Refusal)
+    → Held → List ℕ → Option (Result Y Refusal)
 read_as parse files name = option_map parse (files name)
 
 -- what the file of a name means, where it is held and accepted, and else this
 abbrev pub meant : {Y : Type 0} → (List ℕ → Result Y Refusal) → Y → Held → List ℕ → Y
-meant parse other files name = option_map_or (λ got. result_unwrap_or got other) (read_as parse files name) other
+meant parse other files name = option_map_or (λ got. result_unwrap_or got other)
+    (read_as parse files name) other
 
--- a file that is read: its name, and the outcome where its bytes end the call, none where the call goes on
+-- a file that is read: its name, and the outcome where its bytes end the call, none where the call
+-- goes on
 pub record Reading : Type 0 where
   pub name : List ℕ
   pub ends : Held → List ℕ → Option Outcome
 
 -- an input, which ends the call where it breaks the rules of its kind
 abbrev pub input_file : {Y : Type 0} → Input → List ℕ → (Held → List ℕ → Result Y Refusal) → Reading
-input_file input name parse = record { name = name; ends = λ files bytes. unless_accepted input (parse files bytes) }
+input_file input name parse =
+    record { name = name; ends = λ files bytes. unless_accepted input (parse files bytes) }
 
 -- the outcome of the first file that ends the call; a name that is not held ends it too
 abbrev pub first_end : Held → List Reading → Option Outcome
 first_end files [] = None
 first_end files (r ∷ rs) =
-    option_map_or (λ bytes. option_or (r.ends files bytes) (first_end files rs)) (files r.name) (Some Unknown)
+    option_map_or (λ bytes. option_or (r.ends files bytes) (first_end files rs))
+    (files r.name) (Some Unknown)

@@ -5,8 +5,8 @@ use Rattle.std.specs.Option.{option_and_then, option_map, option_map_or, is_none
 use Rattle.std.specs.Str.{bytes_eq}
 use Rattle.pg_types.specs.Parameters.{number_from}
 
--- the names of the files of `generate` and `audit`, each as its bytes; those of the hyphenated list and of the cells
--- file where they are asked for
+-- the names of the files of `generate` and `audit`, each as its bytes; those of the hyphenated list
+-- and of the cells file where they are asked for
 pub record FileNames : Type 0 where
   pub dict : List ℕ
   pub patterns : List ℕ
@@ -17,8 +17,8 @@ pub record FileNames : Type 0 where
   pub pattmp : Option (List ℕ)
   pub cells : Option (List ℕ)
 
--- what `sweep` is asked for: the names of its files, the number of folds, what a unit of bad and of missed costs, and the
--- names of the parameter files
+-- what `sweep` is asked for: the names of its files, the number of folds, what a unit of bad and of
+-- missed costs, and the names of the parameter files
 pub record SweepRequest : Type 0 where
   pub dict : List ℕ
   pub patterns : List ℕ
@@ -37,8 +37,8 @@ pub record PruneRequest : Type 0 where
   pub translate : List ℕ
   pub report : List ℕ
 
--- what words ask for. `pack` has the names of the patterns, of the translate file and of the table, and `totals` those of
--- the dictionary, of the translate file and of the table
+-- what words ask for. `pack` has the names of the patterns, of the translate file and of the table,
+-- and `totals` those of the dictionary, of the translate file and of the table
 pub data Request : Type 0 where
   ToGenerate : FileNames → Request
   ToAudit : FileNames → Request
@@ -63,18 +63,22 @@ differs_from name others = list_all (λ other. not (bytes_eq name other)) others
 -- each output name differs from the output names after it and from the input names
 abbrev pub outputs_differ : List (List ℕ) → List (List ℕ) → Bool
 outputs_differ [] inputs = true
-outputs_differ (output ∷ outputs) inputs = differs_from output (outputs ++ inputs) && outputs_differ outputs inputs
+outputs_differ (output ∷ outputs) inputs = differs_from output (outputs ++ inputs)
+    && outputs_differ outputs inputs
 
--- the names of the inputs of `generate`, and those of its outputs in the order in which they are written
+-- the names of the inputs of `generate`, and those of its outputs in the order in which they are
+-- written
 abbrev pub input_names : FileNames → List (List ℕ)
 input_names n = n.dict ∷ n.patterns ∷ n.translate ∷ n.params ∷ []
 
 abbrev pub output_names : FileNames → List (List ℕ)
-output_names n = n.output ∷ if_asked n.pattmp (λ name. name) ++ if_asked n.cells (λ name. name) ++ n.report ∷ []
+output_names n = n.output ∷ if_asked n.pattmp (λ name. name)
+    ++ if_asked n.cells (λ name. name) ++ n.report ∷ []
 
 -- whether `generate` takes these names
 abbrev pub are_taken : FileNames → Bool
-are_taken n = list_all is_name (input_names n ++ output_names n) && outputs_differ (output_names n) (input_names n)
+are_taken n = list_all is_name (input_names n ++ output_names n)
+    && outputs_differ (output_names n) (input_names n)
 
 -- the names with that of an option
 abbrev pub with_option : FileNames → List ℕ → List ℕ → Option FileNames
@@ -116,7 +120,8 @@ to_generate n = if are_taken n then Some (ToGenerate n) else None
 
 -- `audit` with the same names, which may be equal, and then `--pattmp FILE`
 abbrev pub to_audit : FileNames → Option Request
-to_audit n = if list_all is_name (input_names n ++ output_names n) && is_none n.cells then Some (ToAudit n) else None
+to_audit n = if list_all is_name (input_names n ++ output_names n) && is_none n.cells
+    then Some (ToAudit n) else None
 
 -- a number, where it is not greater than this
 abbrev pub at_most : ℕ → Option ℕ → Option ℕ
@@ -125,25 +130,29 @@ at_most most number = option_and_then (λ n. if nat_le n most then Some n else N
 -- the number that a word of 1 to 10 decimal digits is, where it is not greater than this
 abbrev pub number_up_to : ℕ → List ℕ → Option ℕ
 number_up_to most word =
-    if nat_lt 0 (length word) && nat_le (length word) 10 then at_most most (number_from 0 word) else None
+    if nat_lt 0 (length word) && nat_le (length word) 10 then at_most most (number_from 0 word)
+    else None
 
 -- `sample N COUNT`
 abbrev pub sample_in : List (List ℕ) → Option Request
 sample_in (seed ∷ count ∷ []) =
-    option_and_then (λ s. option_map (ToSample s) (number_up_to 100000 count)) (number_up_to 2147483647 seed)
+    option_and_then (λ s. option_map (ToSample s) (number_up_to 100000 count))
+    (number_up_to 2147483647 seed)
 sample_in words = None
 
 -- `pack PATTERNS TRANSLATE TABLE`, where the table is an output
 abbrev pub pack_in : List (List ℕ) → Option Request
 pack_in (patterns ∷ translate ∷ table ∷ []) =
-    if list_all is_name (patterns ∷ translate ∷ table ∷ []) && outputs_differ (table ∷ []) (patterns ∷ translate ∷ [])
+    if list_all is_name (patterns ∷ translate ∷ table ∷ [])
+    && outputs_differ (table ∷ []) (patterns ∷ translate ∷ [])
     then Some (ToPack patterns translate table) else None
 pack_in words = None
 
 -- `totals DICT TRANSLATE TABLE`, whose names may be equal
 abbrev pub totals_in : List (List ℕ) → Option Request
 totals_in (dict ∷ translate ∷ table ∷ []) =
-    if list_all is_name (dict ∷ translate ∷ table ∷ []) then Some (ToTotals dict translate table) else None
+    if list_all is_name (dict ∷ translate ∷ table ∷ []) then Some (ToTotals dict translate table)
+    else None
 totals_in words = None
 
 -- whether `prune` takes these names: the two outputs differ from each other and from all inputs
@@ -170,9 +179,11 @@ prune_in words = None
 abbrev pub number_within : ℕ → ℕ → ℕ → List ℕ → Option ℕ
 number_within digits least most word =
     if nat_le (length word) digits
-    then option_and_then (λ n. if nat_le least n then Some n else None) (number_up_to most word) else None
+    then option_and_then (λ n. if nat_le least n then Some n else None) (number_up_to most word)
+    else None
 
--- whether `sweep` takes these names: 1 to 16 of parameter files, and an output that differs from all other names
+-- whether `sweep` takes these names: 1 to 16 of parameter files, and an output that differs from
+-- all other names
 abbrev pub is_sweep_taken : List ℕ → List ℕ → List ℕ → List ℕ → List (List ℕ) → Bool
 is_sweep_taken dict patterns output translate params =
     nat_lt 0 (length params) && nat_le (length params) 16

@@ -33,11 +33,15 @@ vowels = codes "aeiou"
 abbrev pub closings : List ℕ
 closings = codes "nrs"
 
--- the end of a syllable, behind the draw that says whether it is closed: a consonant where that draw is 0
+-- the end of a syllable, behind the draw that says whether it is closed: a consonant where that
+-- draw is 0
 unfoldable pub ending : ℕ → Made
 ending x =
     if drawn 4 x == 0
-    then (record { text = slice_index closings (drawn 3 (next_state x)) ∷ []; state = next_state x })
+    then (record {
+      text = slice_index closings (drawn 3 (next_state x)) ∷ [];
+      state = next_state x;
+    })
     else (record { text = []; state = x })
 
 -- a syllable: a consonant, a vowel, and its end
@@ -46,7 +50,11 @@ syllable x =
     let c = next_state x in
     let v = next_state c in
     let end = ending (next_state v) in
-    record { text = slice_index consonants (drawn 12 c) ∷ slice_index vowels (drawn 5 v) ∷ end.text; state = end.state }
+    record {
+      text = slice_index consonants (drawn 12 c) ∷ slice_index vowels
+          (drawn 5 v) ∷ end.text;
+      state = end.state;
+    }
 
 -- so many further syllables, each behind a hyphen
 abbrev pub further : ℕ → ℕ → Made
@@ -106,7 +114,8 @@ printed_part report = flat_map (λ line. line ++ 10 ∷ []) (filter is_printed (
 
 -- what is printed of a selection: these lines, and the Done line
 abbrev pub selection_lines : Inputs → List ℕ
-selection_lines i = printed_part (selected_report i) ++ done_line (selected_text i) (selected_account i).totals
+selection_lines i = printed_part (selected_report i)
+    ++ done_line (selected_text i) (selected_account i).totals
 
 -- what is printed
 abbrev pub sample_lines : ℕ → ℕ → List ℕ

@@ -47,8 +47,8 @@ pub record HasInputs (files : Held) (n : FileNames) (i : Inputs) : Type 0 where
   pub start : read_as (start i.table) files n.patterns ≡ Some (Ok i.start)
   pub words : read_as (words i.table) files n.dict ≡ Some (Ok i.dictionary)
 
--- the files that are written: the pattern file, the hyphenated list and the cells file where they are asked for, and
--- the report
+-- the files that are written: the pattern file, the hyphenated list and the cells file where they
+-- are asked for, and the report
 abbrev pub selected_files : FileNames → Inputs → Writing
 selected_files n i =
     (n.output, selected_text i)

@@ -18,7 +18,8 @@ use Rattle.pg_top.specs.Selecting.{table_named}
 use Rattle.pg_top.specs.declared.answers.Status.TheVariants.{Done}
 use Rattle.pg_top.specs.declared.inputs.Input.TheVariants as input
 
--- the parameter file with this number, and such files one after the other, the first of which has this number
+-- the parameter file with this number, and such files one after the other, the first of which has
+-- this number
 abbrev pub set_file : ℕ → List ℕ → Reading
 set_file number name = input_file (input.Set number) name (λ files. parameters)
 
@@ -60,7 +61,8 @@ abbrev pub sets_in : Held → SweepRequest → List Parameters
 sets_in files s = map (set_named files) s.params
 
 -- the files that are held are accepted as these terms and sets
-pub record HasSweep (files : Held) (s : SweepRequest) (terms : Terms) (params : List Parameters) : Type 0 where
+pub record HasSweep (files : Held) (s : SweepRequest)
+    (terms : Terms) (params : List Parameters) : Type 0 where
   pub table : read_as table files s.translate ≡ Some (Ok terms.table)
   pub sets : HasSets files s.params params
   pub start : read_as (start terms.table) files s.patterns ≡ Some (Ok terms.start)
@@ -75,7 +77,8 @@ swept_rows s terms sets = rows_of terms (record { bad = s.bad; missed = s.missed
 abbrev pub sweep_ends : SweepRequest → List SweepRow → Outcome
 sweep_ends s rows =
     let winner = winner_of (costs_of rows) in
-    Ends Done ((s.output, sweep_file s.folds rows winner) ∷ []) (winner_line winner (slice_index (costs_of rows) (winner - 1)))
+    Ends Done ((s.output, sweep_file s.folds rows winner) ∷ [])
+    (winner_line winner (slice_index (costs_of rows) (winner - 1)))
 
 abbrev pub swept : SweepRequest → Terms → List Parameters → Outcome
 swept s terms sets = sweep_ends s (swept_rows s terms sets)

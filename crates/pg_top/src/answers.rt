@@ -21,7 +21,8 @@ pub enum Status {
     Memory,
 }
 
-/// The exit code of an answer: 0 for `Done` and `Yes`, and 1 to 5 for `No`, `Usage`, `Refused`, `Fault` and `Memory`.
+/// The exit code of an answer: 0 for `Done` and `Yes`, and 1 to 5 for `No`, `Usage`, `Refused`,
+/// `Fault` and `Memory`.
 pub fn exit_code(status: &Status) -> u8
     ensures value { result ≡ code_of status.now }
     ensures most { result ≤ 5 }

@@ -1,19 +1,21 @@
 //! Given files, which are compared with those that `generate` would write.
-ghost use Rattle.std.specs.Prelude.{◌≡◌, ◌++◌, ◌+◌, ◌-◌, ◌^◌, ◌<◌, length, slice_get, IfOk, IfErr, IfSome, OnOk, Some};
+ghost use Rattle.std.specs.Prelude.{◌≡◌, [], ◌∷◌, ◌++◌, ◌+◌, ◌-◌, ◌^◌, ◌<◌, length, slice_get, IfOk, IfErr, IfSome, OnOk, Some};
 ghost use Rattle.std.specs.Option.{option_map};
 ghost use Rattle.pg_audit.specs.Differences.{first_false};
 ghost use Rattle.pg_driver.specs.Told.{account_of};
 ghost use Rattle.pg_outside.specs.Content.{KeepsHeld, file_at};
 ghost use Rattle.pg_outside.specs.Faults.{NoneFell, next_count};
+ghost use Rattle.pg_outside.specs.FilesCalls.{Reads};
 ghost use Rattle.pg_patterns.specs.Values.{SignsUpTo};
 ghost use Rattle.pg_top.specs.Auditing.{denies, given_file, given_files};
 ghost use Rattle.pg_top.specs.Calls.{outcome_of, reads_of};
 ghost use Rattle.pg_top.specs.Commands.{name_now, texts_of};
+ghost use Rattle.pg_top.specs.Counted.{MakesCalls};
 ghost use Rattle.pg_top.specs.Readings.{first_end};
 ghost use Rattle.pg_top.specs.Requests.{ToAudit, if_asked};
 ghost use Rattle.pg_top.specs.Selection.{signs_of, HasSigns, selected, selected_account};
-ghost use Rattle.pg_top.specs.Stops.{StopsFront, StopsAt, StopsReading};
-ghost use Rattle.pg_top.specs.Verdicts.{wanted_file, wanted_files, end_of, outcome_by, ReadsToFind, IsFrontOf, PutsVerdict};
+ghost use Rattle.pg_top.specs.Inside.Stops.{StopsFront, StopsAt, StopsReading};
+ghost use Rattle.pg_top.specs.Inside.Verdicts.{wanted_file, wanted_files, end_of, outcome_by, ReadsToFind, IsFrontOf, PutsVerdict};
 
 use crate::answers::Status;
 use crate::commands::Names;
@@ -28,6 +30,7 @@ use pg_outside::{Files, ReadError, Sink};
 use pg_plain::PlainEngine;
 use pg_select::Engine;
 use pg_texts::{pattmp_text, report_text};
+use pg_watch::{Watch, Watched};
 use std::alloc::{AllocError, Global};
 
 /// The line where all given files are right.
@@ -69,7 +72,8 @@ fn push_pattmp<'a, E: Engine>(
     requires patterns { (E.meaning engine.now).patterns ≡ selected inputs.now }
     ensures { OnOk result (wanted_files wanted.new.items ≡
         wanted_files wanted.old.items
-        ++ if_asked (name_now name.entry) (λ name. given_file (λ _. inputs.now) (Given.Pattmp, name))) }
+        ++ if_asked (name_now name.entry)
+        (λ name. given_file (λ _. inputs.now) (Given.Pattmp, name))) }
 {
     if let Some(name) = name {
         let text = pattmp_text(alloc, engine, &inputs.dictionary, &inputs.table)?;
@@ -116,38 +120,44 @@ fn wanted_after<'a, E: Engine>(
     Ok(wanted)
 }
 
-/// Does the run of the inputs over the plain engine, and builds the texts that the given files should be, in their
-/// order.
-fn make_wanted<'a>(
+/// Does the run of the inputs over the plain engine, and builds the texts that the given files
+/// should be, in their order.
+fn make_wanted<'a, W: Watch>(
     alloc: Global,
     names: &Names<'a>,
     inputs: &Inputs,
+    watch: &W,
 ) -> Result<Vec<Wanted<'a>>, AllocError>
     requires { HasSigns inputs.now }
     ensures { IfOk result (λ wanted.
         wanted_files wanted.items ≡ given_files (λ _. inputs.now) (texts_of names.now)) }
 {
-    let mut engine = PlainEngine::new(alloc, inputs.table.letters() + 1, &inputs.start)?;
+    watch.selects(names.patterns, &inputs.params, &inputs.start);
+    let engine = PlainEngine::new(alloc, inputs.table.letters() + 1, &inputs.start)?;
+    let mut engine = Watched::new(engine, &inputs.params, watch);
     let run = select(alloc, &mut engine, inputs)?;
     wanted_after(alloc, names, inputs, &engine, &run)
 }
 
-/// Reads a given file, or of one that is longer than this size by more than `MORE` bytes the first, one more than
-/// these.
-fn read_given<'a, F: Files>(
+/// Reads a given file. The right one has this size. Of a file that is longer by more than `MORE`
+/// bytes, only the first `size + MORE + 1` bytes are kept: they have the same first false line.
+fn read_given<'a, F: Files, W: Watch>(
     alloc: Global,
     name: &'a str,
     size: usize,
     files: &mut F,
+    watch: &W,
 ) -> Result<Vec<u8>, Stop<'a>>
     requires { size + MORE < 2 ^ 64 - 1 }
     ensures held { KeepsHeld (F.shown files.old).held (F.shown files.new).held }
     ensures reads { NoneFell (F.shown files.old).read_faults (F.shown files.new).read_faults }
-    ensures calls { (F.shown files.new).calls ≡ next_count (F.shown files.old).calls }
+    ensures calls { MakesCalls (F.shown files.old) (F.shown files.new) (Reads name.now ∷ []) }
     ensures front { IfOk result (λ bytes.
-        IfSome (F.shown files.new).held (λ files. IsFrontOf (file_at files name.now) size MORE bytes.items)) }
+        IfSome (F.shown files.new).held
+        (λ files. IsFrontOf (file_at files name.now) size MORE bytes.items)) }
     ensures stopped { IfErr result (StopsFront name.now (F.shown files.old) (F.shown files.new)) }
 {
+    watch.reads(name);
     let mut bytes = Vec::new(alloc);
     match files.read(alloc, name, size + MORE, &mut bytes) {
         Ok(()) => Ok(bytes),
@@ -157,33 +167,49 @@ fn read_given<'a, F: Files>(
     }
 }
 
-/// What comparing a given file, or a long one's first bytes, with its text gives.
-fn judge(alloc: Global, bytes: &[u8], given: Given, text: &[u8]) -> Result<Verdict, AllocError>
-    ensures { IfOk result (λ verdict. end_of verdict ≡ option_map (denies given) (first_false bytes.now text.now)) }
+/// What comparing a given file, or a long one's first bytes, with its text gives. The observer is
+/// told of a false line.
+fn judge<W: Watch>(
+    alloc: Global,
+    bytes: &[u8],
+    wanted: &Wanted<'_>,
+    text: &[u8],
+    watch: &W,
+) -> Result<Verdict, AllocError>
+    ensures { IfOk result
+        (λ verdict. end_of verdict
+        ≡ option_map (denies wanted.now.given) (first_false bytes.now text.now)) }
 {
     match compare(bytes, text) {
         None => Ok(Verdict::Equal),
-        Some(line) => Ok(Verdict::False(no_line(alloc, given, &line)?)),
+        Some(line) => {
+            watch.false_line(wanted.name, &line, text);
+            Ok(Verdict::False(no_line(alloc, wanted.given, &line)?))
+        }
     }
 }
 
 /// Reads a given file and compares it with its text.
-fn compare_file<'a, F: Files>(
+fn compare_file<'a, F: Files, W: Watch>(
     alloc: Global,
     wanted: &Wanted<'a>,
     files: &mut F,
+    watch: &W,
 ) -> Result<Verdict, Stop<'a>>
     ensures held { KeepsHeld (F.shown files.old).held (F.shown files.new).held }
     ensures reads { NoneFell (F.shown files.old).read_faults (F.shown files.new).read_faults }
-    ensures calls { (F.shown files.new).calls ≡ next_count (F.shown files.old).calls }
+    ensures calls { MakesCalls (F.shown files.old)
+        (F.shown files.new) (Reads wanted.now.name.now ∷ []) }
     ensures ok { IfOk result (λ verdict. IfSome (F.shown files.new).held (λ files.
-        option_map ((wanted_file wanted.now).ends (file_at files)) (file_at files wanted.now.name.now)
+        option_map ((wanted_file wanted.now).ends (file_at files))
+        (file_at files wanted.now.name.now)
         ≡ Some (end_of verdict))) }
-    ensures stopped { IfErr result (StopsAt (wanted_file wanted.now) (F.shown files.old) (F.shown files.new)) }
+    ensures stopped { IfErr result
+        (StopsAt (wanted_file wanted.now) (F.shown files.old) (F.shown files.new)) }
 {
     let text = wanted.text.as_slice();
-    let bytes = read_given(alloc, wanted.name, text.len(), files)?;
-    let verdict = judge(alloc, &bytes, wanted.given, text)?;
+    let bytes = read_given(alloc, wanted.name, text.len(), files, watch)?;
+    let verdict = judge(alloc, &bytes, wanted, text, watch)?;
     Ok(verdict)
 }
 
@@ -196,21 +222,23 @@ fn wanted_at<'a, 'b>(wanted: &'b [Wanted<'a>], i: usize) -> &'b Wanted<'a>
 }
 
 /// Compares files one after the other, up to the first that has a false line.
-fn compare_all<'a, F: Files>(
+fn compare_all<'a, F: Files, W: Watch>(
     alloc: Global,
     wanted: &[Wanted<'a>],
     files: &mut F,
+    watch: &W,
 ) -> Result<Verdict, Stop<'a>>
     ensures held { KeepsHeld (F.shown files.old).held (F.shown files.new).held }
     ensures ok { IfOk result (λ verdict. IfSome (F.shown files.new).held (λ files.
         first_end (file_at files) (wanted_files wanted.now) ≡ end_of verdict)) }
     ensures counted { IfOk result (λ verdict.
         ReadsToFind (wanted_files wanted.now) verdict (F.shown files.old) (F.shown files.new)) }
-    ensures stopped { IfErr result (StopsReading (wanted_files wanted.now) (F.shown files.old) (F.shown files.new)) }
+    ensures stopped { IfErr result
+        (StopsReading (wanted_files wanted.now) (F.shown files.old) (F.shown files.new)) }
 {
     let count = wanted.len();
     'files: for i in 0..count {
-        let verdict = compare_file(alloc, wanted_at(wanted, i), files)?;
+        let verdict = compare_file(alloc, wanted_at(wanted, i), files, watch)?;
         match verdict {
             Verdict::Equal => {}
             Verdict::False(line) => return Ok(Verdict::False(line)),
@@ -220,32 +248,35 @@ fn compare_all<'a, F: Files>(
 }
 
 /// Reads what `audit` reads, and compares the given files with those that `generate` would write.
-pub fn audit_files<'a, F: Files>(
+pub fn audit_files<'a, F: Files, W: Watch>(
     alloc: Global,
     names: &Names<'a>,
     files: &mut F,
+    watch: &W,
 ) -> Result<Verdict, Stop<'a>>
     ensures held { KeepsHeld (F.shown files.old).held (F.shown files.new).held }
     ensures ok { IfOk result (λ verdict. IfSome (F.shown files.new).held (λ files.
         outcome_of (file_at files) (ToAudit (texts_of names.now)) ≡ outcome_by verdict)) }
     ensures counted { IfOk result (λ verdict.
-        ReadsToFind (reads_of (ToAudit (texts_of names.now))) verdict (F.shown files.old) (F.shown files.new)) }
+        ReadsToFind (reads_of (ToAudit (texts_of names.now))) verdict
+        (F.shown files.old) (F.shown files.new)) }
     ensures stopped { IfErr result
-        (StopsReading (reads_of (ToAudit (texts_of names.now))) (F.shown files.old) (F.shown files.new)) }
+        (StopsReading (reads_of (ToAudit (texts_of names.now)))
+        (F.shown files.old) (F.shown files.new)) }
 {
-    let inputs = read_inputs(alloc, names, files)?;
-    let wanted = make_wanted(alloc, names, &inputs)?;
-    let verdict = compare_all(alloc, &wanted, files)?;
+    let inputs = read_inputs(alloc, names, files, watch)?;
+    let wanted = make_wanted(alloc, names, &inputs, watch)?;
+    let verdict = compare_all(alloc, &wanted, files, watch)?;
     Ok(verdict)
 }
 
 /// Puts the line of a verdict, and gives its answer.
-pub fn put_verdict<O: Sink>(out: &mut O, verdict: &Verdict) -> Status
+pub fn put_verdict<O: Sink, W: Watch>(out: &mut O, verdict: &Verdict, watch: &W) -> Status
     ensures put { PutsVerdict verdict.now result (O.shown out.old) (O.shown out.new) }
     ensures counted { (O.shown out.new).puts ≡ next_count (O.shown out.old).puts }
 {
     match verdict {
-        Verdict::Equal => answer(out, YES, Status::Yes),
-        Verdict::False(line) => answer(out, line, Status::No),
+        Verdict::Equal => answer(out, YES, Status::Yes, watch),
+        Verdict::False(line) => answer(out, line, Status::No, watch),
     }
 }

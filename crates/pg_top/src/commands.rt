@@ -49,8 +49,8 @@ pub enum Command<'a> {
     Generate(Names<'a>),
     /// To compare given files with those that would be written.
     Audit(Names<'a>),
-    /// To make a dictionary of so many words from a seed, and to print how a selection on it goes: the seed and the
-    /// number of words.
+    /// To make a dictionary of so many words from a seed, and to print how a selection on it goes:
+    /// the seed and the number of words.
     Sample(u32, u32),
     /// To write the packed table of patterns.
     Pack {
@@ -70,7 +70,8 @@ pub enum Command<'a> {
         /// The table.
         table: &'a str,
     },
-    /// To take out the entries of patterns that change no break of a dictionary, and to write the rest and a report.
+    /// To take out the entries of patterns that change no break of a dictionary, and to write the
+    /// rest and a report.
     Prune {
         /// The dictionary.
         dict: &'a str,

@@ -71,7 +71,8 @@ fn push_found(text: &mut Vec<u8>, found: &[u8]) -> Result<(), AllocError>
 
 /// The line that says which line of a given file is false, and what stands there.
 pub fn no_line(alloc: Global, given: Given, line: &FalseLine<'_>) -> Result<Vec<u8>, AllocError>
-    ensures { IfOk result (λ text. text.items ≡ no_line_of given (line.now.line, found_line line.now.found.now)) }
+    ensures { IfOk result
+        (λ text. text.items ≡ no_line_of given (line.now.line, found_line line.now.found.now)) }
 {
     let mut text = Vec::from_slice(alloc, b"no: ")?;
     push_word(&mut text, Input::Given(given))?;

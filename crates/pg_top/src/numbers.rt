@@ -6,7 +6,8 @@ ghost use Rattle.pg_top.specs.Requests.{at_most, number_up_to, number_within as 
 /// How many digits a number has at most.
 const DIGITS: usize = 10;
 
-/// The value of decimal digits; none where there is another byte, or the value is greater than `most`.
+/// The value of decimal digits; none where there is another byte, or the value is greater than
+/// `most`.
 fn digits_value(digits: &[u8], most: u32) -> Option<u32>
     ensures value { result ≡ at_most most (number_from 0 digits.now) }
     ensures within { IfSome result (λ n. n ≤ most) }
@@ -36,7 +37,8 @@ pub fn number(word: &str, most: u32) -> Option<u32>
     digits_value(word.as_bytes(), most)
 }
 
-/// The number that a word of at most so many decimal digits is, where it is at least `least` and at most `most`.
+/// The number that a word of at most so many decimal digits is, where it is at least `least` and at
+/// most `most`.
 pub fn number_within(word: &str, digits: usize, least: u32, most: u32) -> Option<u32>
     ensures value { result ≡ number_within_of digits least most word.now }
     ensures within { IfSome result (λ n. (least ≤ n) × (n ≤ most)) }

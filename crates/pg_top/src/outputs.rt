@@ -42,7 +42,8 @@ fn push_pattmp<'a, E: Engine>(
     requires greatest { (E.meaning engine.now).signs ≡ signs_of inputs.now }
     requires patterns { (E.meaning engine.now).patterns ≡ selected inputs.now }
     ensures { OnOk result (writing_of files.new.items ≡
-        writing_of files.old.items ++ if_asked (name_now name.entry) (λ name. (name, selected_list inputs.now))) }
+        writing_of files.old.items ++ if_asked (name_now name.entry)
+        (λ name. (name, selected_list inputs.now))) }
 {
     if let Some(name) = name {
         let text = pattmp_text(alloc, engine, &inputs.dictionary, &inputs.table)?;
@@ -76,7 +77,8 @@ fn push_end(lines: &mut Vec<u8>, run: &Run, inputs: &Inputs) -> Result<(), Alloc
     requires begun { run.now.begun ≡ passes_begun inputs.now }
     requires cells { TellsCells (Some (selected_cells inputs.now)) run.now }
     ensures { OnOk result (lines.new.items ≡
-        lines.old.items ++ work_line (passes_begun inputs.now) (last_layout_of (selected_cells inputs.now))) }
+        lines.old.items ++ work_line (passes_begun inputs.now)
+        (last_layout_of (selected_cells inputs.now))) }
 {
     let layout = match last_layout(run) {
         Some(layout) => layout,
@@ -140,21 +142,22 @@ fn make_files<'a, E: Engine>(
     Ok(Outputs { files, lines })
 }
 
-/// Does the run of the inputs over the packed engine, and builds all that `generate` writes and prints. The observer is
-/// told of the passes.
+/// Does the run of the inputs over the packed engine, and builds all that `generate` writes and
+/// prints. The observer is told of the passes.
 pub fn make_outputs<'a, W: Watch>(
     alloc: Global,
     names: &Names<'a>,
     inputs: &Inputs,
-    watch: &mut W,
+    watch: &W,
 ) -> Result<Outputs<'a>, AllocError>
     requires { HasSigns inputs.now }
     ensures files { IfOk result (λ made.
         writing_of made.files.items ≡ selected_files (texts_of names.now) inputs.now) }
     ensures lines { IfOk result (λ made. made.lines.items ≡ selected_lines inputs.now) }
 {
+    watch.selects(names.patterns, &inputs.params, &inputs.start);
     let engine = PackedEngine::new(alloc, inputs.table.letters() + 1, &inputs.start)?;
-    let mut engine = Watched::new(engine, watch);
+    let mut engine = Watched::new(engine, &inputs.params, watch);
     let run = select(alloc, &mut engine, inputs)?;
     make_files(alloc, names, inputs, &engine, &run)
 }

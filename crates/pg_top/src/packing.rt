@@ -1,20 +1,20 @@
 //! `pack`: patterns as a packed table.
-ghost use Rattle.std.specs.Prelude.{◌≡◌, ◌+◌, ◌∷◌, [], length, IfOk, IfErr, IfSome, Some};
+ghost use Rattle.std.specs.Prelude.{◌≡◌, ◌+◌, ◌∷◌, [], length, IfOk, IfErr, IfSome, Some, Ok};
 ghost use Rattle.pg_outside.specs.Content.{KeepsHeld, file_at};
 ghost use Rattle.pg_outside.specs.Faults.{NoneFell};
 ghost use Rattle.pg_patterns.specs.Values.{SignsUpTo};
 ghost use Rattle.pg_translate.specs.Alphabets.{letters_of};
 ghost use Rattle.pg_top.specs.Calls.{outcome_of, reads_of, writes_of};
-ghost use Rattle.pg_top.specs.Counted.{MakesCalls};
+ghost use Rattle.pg_top.specs.Counted.{MakesCalls, read_calls};
 ghost use Rattle.pg_top.specs.Outcomes.{Ends};
 ghost use Rattle.pg_top.specs.declared.answers.Status.TheVariants.{Done};
 ghost use Rattle.pg_patterns.specs.Texts.{pattern_text};
-ghost use Rattle.pg_top.specs.PackedTables.{packed, packed_text, packing_reads};
+ghost use Rattle.pg_top.specs.PackedTables.{packed, packed_table, packed_text, packing_reads};
 ghost use Rattle.pg_top.specs.PrintedLines.{packed_line as packed_line_of};
 ghost use Rattle.pg_top.specs.Promises.{GivesValues, PackKeeps};
 ghost use Rattle.pg_top.specs.Requests.{ToPack};
-ghost use Rattle.pg_top.specs.Sources.{HasSource, stop_of_table};
-ghost use Rattle.pg_top.specs.Stops.{StopsCommand, StopsMaking, StopsReading};
+ghost use Rattle.pg_top.specs.Inside.Sources.{HasSource, stop_of_table};
+ghost use Rattle.pg_top.specs.Inside.Stops.{StopsCommand, StopsMaking, StopsReading};
 ghost use Rattle.pg_top.specs.Writings.{written_names, writing_of};
 
 use crate::inputs::{Input, Stop};
@@ -27,6 +27,7 @@ use pg_patterns::PatternSet;
 use pg_table::{TableError, table_text};
 use pg_translate::Table;
 use pg_types::{Kind, Refusal};
+use pg_watch::{Refused, Watch};
 use std::alloc::{AllocError, Global};
 
 /// What `pack` reads.
@@ -39,42 +40,52 @@ struct Source {
 }
 
 /// Reads what `pack` reads, in its order, up to the first refusal or fault.
-fn read_source<'a, F: Files>(
+fn read_source<'a, F: Files, W: Watch>(
     alloc: Global,
     patterns: &'a str,
     translate: &'a str,
     files: &mut F,
+    watch: &W,
 ) -> Result<Source, Stop<'a>>
     ensures held { KeepsHeld (F.shown files.old).held (F.shown files.new).held }
     ensures writes { NoneFell (F.shown files.old).write_faults (F.shown files.new).write_faults }
     ensures ok { IfOk result (λ source. IfSome (F.shown files.new).held (λ files.
         HasSource (file_at files) patterns.now translate.now source)) }
-    ensures known { IfOk result (λ source. SignsUpTo (letters_of source.table + 1) source.patterns) }
+    ensures known { IfOk result
+        (λ source. SignsUpTo (letters_of source.table + 1) source.patterns) }
     ensures stopped { IfErr result
-        (StopsReading (packing_reads patterns.now translate.now) (F.shown files.old) (F.shown files.new)) }
-    ensures counted { IfOk result (λ _. MakesCalls (F.shown files.old) (F.shown files.new) 2) }
+        (StopsReading (packing_reads patterns.now translate.now)
+        (F.shown files.old) (F.shown files.new)) }
+    ensures counted { IfOk result (λ _. MakesCalls (F.shown files.old) (F.shown files.new)
+        (read_calls (packing_reads patterns.now translate.now))) }
 {
-    let table = read_table(alloc, translate, files)?;
-    let read = read_start(alloc, &table, patterns, files)?;
+    let table = read_table(alloc, translate, files, watch)?;
+    let read = read_start(alloc, &table, patterns, files, watch)?;
     Ok(Source {
         table,
         patterns: read,
     })
 }
 
-/// Why `pack` stops where no table is made.
-fn table_stop<'a>(error: TableError) -> Stop<'a>
+/// Why `pack` stops where no table is made, which the observer is told.
+fn table_stop<'a, W: Watch>(error: TableError, name: &str, letters: &Table, watch: &W) -> Stop<'a>
     ensures { result ≡ stop_of_table error }
 {
     match error {
-        TableError::TooLong => Stop::Refused(
-            Input::Table,
-            Refusal {
+        TableError::TooLong => {
+            let refusal = Refusal {
                 kind: Kind::TableTooLong,
                 line: 0,
                 column: 0,
-            },
-        ),
+            };
+            watch.refuses(&Refused {
+                name,
+                bytes: &[],
+                refusal,
+                letters: Some(letters),
+            });
+            Stop::Refused(Input::Table, refusal)
+        }
         TableError::Memory => Stop::Memory,
     }
 }
@@ -87,9 +98,11 @@ fn write_table<'a>(
     source: &Source,
 ) -> Result<Outputs<'a>, AllocError>
     requires { SignsUpTo (letters_of source.now.table + 1) source.now.patterns }
-    ensures files { IfOk result (λ made. writing_of made.files.items ≡ (name.now, text.items) ∷ []) }
+    ensures files { IfOk result
+        (λ made. writing_of made.files.items ≡ (name.now, text.items) ∷ []) }
     ensures lines { IfOk result (λ made.
-        made.lines.items ≡ packed_line_of (pattern_text source.now.table source.now.patterns) text.items) }
+        made.lines.items ≡ packed_line_of
+        (pattern_text source.now.table source.now.patterns) text.items) }
 {
     let patterns = source.patterns.text(alloc, &source.table)?;
     let lines = packed_line(alloc, &patterns, &text)?;
@@ -99,16 +112,27 @@ fn write_table<'a>(
 }
 
 /// Builds the table, and all that `pack` writes and prints.
-fn make_table<'a>(alloc: Global, name: &'a str, source: &Source) -> Result<Outputs<'a>, Stop<'a>>
+fn make_table<'a, W: Watch>(
+    alloc: Global,
+    name: &'a str,
+    source: &Source,
+    watch: &W,
+) -> Result<Outputs<'a>, Stop<'a>>
     requires { SignsUpTo (letters_of source.now.table + 1) source.now.patterns }
     ensures made { IfOk result (λ made. packed name.now source.now.table source.now.patterns
         ≡ Ends Done (writing_of made.files.items) made.lines.items) }
-    ensures named { IfOk result (λ made. written_names (writing_of made.files.items) ≡ name.now ∷ []) }
+    ensures named { IfOk result
+        (λ made. written_names (writing_of made.files.items) ≡ name.now ∷ []) }
     ensures table { IfOk result (λ made.
-        writing_of made.files.items ≡ (name.now, packed_text source.now.table source.now.patterns) ∷ []) }
+        writing_of made.files.items
+        ≡ (name.now, packed_text source.now.table source.now.patterns) ∷ []) }
+    ensures accepted { IfOk result (λ _. packed_table source.now.table
+        (packed_text source.now.table source.now.patterns)
+        ≡ Ok (packed_text source.now.table source.now.patterns)) }
     ensures gives { IfOk result (λ _.
         GivesValues (packed_text source.now.table source.now.patterns) source.now.patterns) }
-    ensures stopped { IfErr result (StopsMaking (packed name.now source.now.table source.now.patterns)) }
+    ensures stopped { IfErr result
+        (StopsMaking (packed name.now source.now.table source.now.patterns)) }
 {
     let _kept = source.patterns.len();
     match table_text(alloc, source.table.letters() + 1, &source.patterns) {
@@ -116,17 +140,18 @@ fn make_table<'a>(alloc: Global, name: &'a str, source: &Source) -> Result<Outpu
             let outputs = write_table(alloc, name, text, source)?;
             Ok(outputs)
         }
-        Err(error) => Err(table_stop(error)),
+        Err(error) => Err(table_stop(error, name, &source.table, watch)),
     }
 }
 
 /// Reads what `pack` reads, and builds all that it writes and prints.
-pub fn pack_files<'a, F: Files>(
+pub fn pack_files<'a, F: Files, W: Watch>(
     alloc: Global,
     patterns: &'a str,
     translate: &'a str,
     table: &'a str,
     files: &mut F,
+    watch: &W,
 ) -> Result<Outputs<'a>, Stop<'a>>
     ensures held { KeepsHeld (F.shown files.old).held (F.shown files.new).held }
     ensures writes { NoneFell (F.shown files.old).write_faults (F.shown files.new).write_faults }
@@ -138,11 +163,11 @@ pub fn pack_files<'a, F: Files>(
     ensures kept { IfOk result (λ _. IfSome (F.shown files.new).held (λ files.
         PackKeeps (file_at files) patterns.now translate.now table.now)) }
     ensures counted { IfOk result (λ _. MakesCalls (F.shown files.old) (F.shown files.new)
-        (length (reads_of (ToPack patterns.now translate.now table.now)))) }
+        (read_calls (reads_of (ToPack patterns.now translate.now table.now)))) }
     ensures stopped { IfErr result (StopsCommand (ToPack patterns.now translate.now table.now)
         (F.shown files.old) (F.shown files.new)) }
 {
-    let source = read_source(alloc, patterns, translate, files)?;
-    let outputs = make_table(alloc, table, &source)?;
+    let source = read_source(alloc, patterns, translate, files, watch)?;
+    let outputs = make_table(alloc, table, &source, watch)?;
     Ok(outputs)
 }

@@ -39,7 +39,8 @@ fn count_lines(text: &[u8]) -> usize
     count
 }
 
-/// The line where `generate` is done: how many lines the pattern file has, and the totals of its patterns.
+/// The line where `generate` is done: how many lines the pattern file has, and the totals of its
+/// patterns.
 pub fn done_line(alloc: Global, patterns: &[u8], totals: &Totals) -> Result<Vec<u8>, AllocError>
     ensures { IfOk result (λ line. line.items ≡ done_line_of patterns.now totals.now) }
 {
@@ -52,7 +53,8 @@ pub fn done_line(alloc: Global, patterns: &[u8], totals: &Totals) -> Result<Vec<
     Ok(line)
 }
 
-/// The line where `pack` is done: how many lines the pattern file has, and how many bytes the table.
+/// The line where `pack` is done: how many lines the pattern file has, and how many bytes the
+/// table.
 pub fn packed_line(alloc: Global, patterns: &[u8], table: &[u8]) -> Result<Vec<u8>, AllocError>
     ensures { IfOk result (λ line. line.items ≡ packed_line_of patterns.now table.now) }
 {
@@ -63,7 +65,8 @@ pub fn packed_line(alloc: Global, patterns: &[u8], table: &[u8]) -> Result<Vec<u
     Ok(line)
 }
 
-/// The line where `prune` is done: how many rounds were made, and how many entries were taken out and stay.
+/// The line where `prune` is done: how many rounds were made, and how many entries were taken out
+/// and stay.
 pub fn pruned_line(
     alloc: Global,
     rounds: u64,

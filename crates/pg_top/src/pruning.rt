@@ -4,14 +4,16 @@ ghost use Rattle.pg_outside.specs.Content.{KeepsHeld, file_at};
 ghost use Rattle.pg_outside.specs.Faults.{NoneFell};
 ghost use Rattle.pg_patterns.specs.Values.{SignsUpTo};
 ghost use Rattle.pg_translate.specs.Alphabets.{letters_of};
+ghost use Rattle.pg_prune.specs.Prunes.{pruned as pruned_found};
+ghost use Rattle.pg_select.specs.CountedPositions.{minima_of};
 ghost use Rattle.pg_top.specs.Calls.{outcome_of, reads_of, writes_of};
-ghost use Rattle.pg_top.specs.Counted.{MakesCalls};
-ghost use Rattle.pg_top.specs.Promises.{PruneKeeps};
+ghost use Rattle.pg_top.specs.Counted.{MakesCalls, read_calls};
+ghost use Rattle.pg_top.specs.Promises.{PruneKeeps, ReadsBack};
 ghost use Rattle.pg_top.specs.Outcomes.{Ends};
-ghost use Rattle.pg_top.specs.PruneInputs.{prune_of, HasPrune, HasKnownSigns};
+ghost use Rattle.pg_top.specs.Inside.PruneInputs.{prune_of, HasPrune, HasKnownSigns};
 ghost use Rattle.pg_top.specs.Pruning.{prune_reads, pruned_files, line_of_pruned, pruned_by};
 ghost use Rattle.pg_top.specs.Requests.{ToPrune};
-ghost use Rattle.pg_top.specs.Stops.{StopsCommand, StopsReading};
+ghost use Rattle.pg_top.specs.Inside.Stops.{StopsCommand, StopsReading};
 ghost use Rattle.pg_top.specs.Writings.{written_names, writing_of};
 ghost use Rattle.pg_top.specs.declared.answers.Status.TheVariants.{Done};
 
@@ -23,8 +25,9 @@ use crate::writes::Output;
 use pg_dict::Dictionary;
 use pg_outside::Files;
 use pg_patterns::PatternSet;
-use pg_prune::{Pruned, prune, prune_text};
+use pg_prune::{Pruned, Rounds, prune_text, prune_watched};
 use pg_translate::Table;
+use pg_watch::Watch;
 use std::alloc::{AllocError, Global};
 
 /// The names that `prune` is given.
@@ -42,6 +45,18 @@ pub struct PruneNames<'a> {
     pub report: &'a str,
 }
 
+/// Tells an observer of a call where a round begins.
+#[derive(Drop)]
+struct Told<'a, W> {
+    watch: &'a W,
+}
+
+impl<'a, W: Watch> Rounds for Told<'a, W> {
+    fn begins(&self, round: u64) {
+        self.watch.round(round);
+    }
+}
+
 /// What `prune` reads.
 #[derive(Drop)]
 struct PruneInputs {
@@ -54,10 +69,11 @@ struct PruneInputs {
 }
 
 /// Reads what `prune` reads, in its order, up to the first refusal or fault.
-fn read_prune<'a, F: Files>(
+fn read_prune<'a, F: Files, W: Watch>(
     alloc: Global,
     names: &PruneNames<'a>,
     files: &mut F,
+    watch: &W,
 ) -> Result<PruneInputs, Stop<'a>>
     ensures held { KeepsHeld (F.shown files.old).held (F.shown files.new).held }
     ensures writes { NoneFell (F.shown files.old).write_faults (F.shown files.new).write_faults }
@@ -66,11 +82,12 @@ fn read_prune<'a, F: Files>(
     ensures known { IfOk result HasKnownSigns }
     ensures stopped { IfErr result
         (StopsReading (prune_reads (prune_of names.now)) (F.shown files.old) (F.shown files.new)) }
-    ensures counted { IfOk result (λ _. MakesCalls (F.shown files.old) (F.shown files.new) 3) }
+    ensures counted { IfOk result (λ _. MakesCalls (F.shown files.old) (F.shown files.new)
+        (read_calls (prune_reads (prune_of names.now)))) }
 {
-    let table = read_table(alloc, names.translate, files)?;
-    let patterns = read_start(alloc, &table, names.patterns, files)?;
-    let dictionary = read_dictionary(alloc, &table, names.dict, files)?;
+    let table = read_table(alloc, names.translate, files, watch)?;
+    let patterns = read_start(alloc, &table, names.patterns, files, watch)?;
+    let dictionary = read_dictionary(alloc, &table, names.dict, files, watch)?;
     Ok(PruneInputs {
         table,
         patterns,
@@ -89,6 +106,7 @@ fn write_pruned<'a>(
     ensures files { IfOk result (λ made.
         writing_of made.files.items ≡ pruned_files (prune_of names.now) table.now pruned.now) }
     ensures lines { IfOk result (λ made. made.lines.items ≡ line_of_pruned pruned.now) }
+    ensures reads_back { IfOk result (λ _. ReadsBack table.now pruned.now.patterns) }
 {
     let kept = pruned.patterns();
     let text = kept.text(alloc, table)?;
@@ -107,28 +125,40 @@ fn write_pruned<'a>(
 }
 
 /// Prunes, and builds all that `prune` writes and prints.
-fn make_prune<'a>(
+fn make_prune<'a, W: Watch>(
     alloc: Global,
     names: &PruneNames<'a>,
     inputs: &PruneInputs,
+    watch: &W,
 ) -> Result<Outputs<'a>, AllocError>
     requires { HasKnownSigns inputs.now }
     ensures made { IfOk result (λ made.
         pruned_by (prune_of names.now) inputs.now.table inputs.now.dictionary inputs.now.patterns
         ≡ Ends Done (writing_of made.files.items) made.lines.items) }
     ensures named { IfOk result (λ made.
-        written_names (writing_of made.files.items) ≡ names.now.output.now ∷ names.now.report.now ∷ []) }
+        written_names (writing_of made.files.items)
+        ≡ names.now.output.now ∷ names.now.report.now ∷ []) }
+    ensures reads_back { IfOk result (λ _. ReadsBack inputs.now.table
+        (pruned_found (minima_of inputs.now.table)
+        inputs.now.dictionary inputs.now.patterns).patterns) }
 {
-    let pruned = prune(alloc, &inputs.dictionary, &inputs.table, &inputs.patterns)?;
+    let pruned = prune_watched(
+        alloc,
+        &inputs.dictionary,
+        &inputs.table,
+        &inputs.patterns,
+        &Told { watch },
+    )?;
     let outputs = write_pruned(alloc, names, &inputs.table, &pruned)?;
     Ok(outputs)
 }
 
 /// Reads what `prune` reads, and builds all that it writes and prints.
-pub fn prune_files<'a, F: Files>(
+pub fn prune_files<'a, F: Files, W: Watch>(
     alloc: Global,
     names: &PruneNames<'a>,
     files: &mut F,
+    watch: &W,
 ) -> Result<Outputs<'a>, Stop<'a>>
     ensures held { KeepsHeld (F.shown files.old).held (F.shown files.new).held }
     ensures writes { NoneFell (F.shown files.old).write_faults (F.shown files.new).write_faults }
@@ -140,11 +170,11 @@ pub fn prune_files<'a, F: Files>(
     ensures kept { IfOk result (λ _. IfSome (F.shown files.new).held (λ files.
         PruneKeeps (file_at files) (prune_of names.now))) }
     ensures counted { IfOk result (λ _. MakesCalls (F.shown files.old) (F.shown files.new)
-        (length (reads_of (ToPrune (prune_of names.now))))) }
+        (read_calls (reads_of (ToPrune (prune_of names.now))))) }
     ensures stopped { IfErr result
         (StopsCommand (ToPrune (prune_of names.now)) (F.shown files.old) (F.shown files.new)) }
 {
-    let inputs = read_prune(alloc, names, files)?;
-    let outputs = make_prune(alloc, names, &inputs)?;
+    let inputs = read_prune(alloc, names, files, watch)?;
+    let outputs = make_prune(alloc, names, &inputs, watch)?;
     Ok(outputs)
 }

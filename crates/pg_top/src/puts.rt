@@ -3,19 +3,22 @@ ghost use Rattle.std.specs.Prelude.{◌≡◌, ◌≤◌, ◌++◌, ◌∷◌, [
 ghost use Rattle.pg_outside.specs.Faults.{Rose, next_count};
 ghost use Rattle.pg_top.specs.Counted.{PutsFault, PutsCounted};
 ghost use Rattle.pg_top.specs.Moments.{Puts, PutsPart, PutOrRose};
-ghost use Rattle.pg_top.specs.Stops.{PutsAnswer, PutsStop};
+ghost use Rattle.pg_top.specs.Inside.Stops.{PutsAnswer, PutsStop};
 
 use crate::answers::Status;
 use crate::inputs::Stop;
 use crate::printed::{READING, refused_line};
 use pg_outside::{Failed, Sink};
+use pg_watch::Watch;
 use std::alloc::{AllocError, Global};
 
-/// Puts the line of an answer as the last step of a call, and gives the answer: this one, or a fault.
-pub fn answer<O: Sink>(out: &mut O, line: &[u8], status: Status) -> Status
+/// Puts the line of an answer as the last step of a call, and gives the answer: this one, or a
+/// fault.
+pub fn answer<O: Sink, W: Watch>(out: &mut O, line: &[u8], status: Status, watch: &W) -> Status
     ensures put { PutsAnswer line.now status result (O.shown out.old) (O.shown out.new) }
     ensures counted { (O.shown out.new).puts ≡ next_count (O.shown out.old).puts }
 {
+    watch.answers();
     match out.put(line) {
         Ok(()) => status,
         Err(Failed) => Status::Fault,
@@ -24,8 +27,10 @@ pub fn answer<O: Sink>(out: &mut O, line: &[u8], status: Status) -> Status
 
 /// Puts the three parts of a fault line, and stops where a put fails.
 fn put_parts<O: Sink>(out: &mut O, front: &[u8], name: &str) -> Result<(), Failed>
-    ensures whole { OnOk result (Puts (O.shown out.old) (O.shown out.new) (front.now ++ name.now ++ 10 ∷ [])) }
-    ensures part { OnErr result (PutsPart (O.shown out.old) (O.shown out.new) (front.now ++ name.now ++ 10 ∷ [])) }
+    ensures whole { OnOk result
+        (Puts (O.shown out.old) (O.shown out.new) (front.now ++ name.now ++ 10 ∷ [])) }
+    ensures part { OnErr result
+        (PutsPart (O.shown out.old) (O.shown out.new) (front.now ++ name.now ++ 10 ∷ [])) }
     ensures later { (O.shown out.old).faults ≤ (O.shown out.new).faults }
     ensures failed { OnErr result (Rose (O.shown out.old).faults (O.shown out.new).faults) }
     ensures counted { PutsFault (O.shown out.old) (O.shown out.new) }
@@ -35,28 +40,31 @@ fn put_parts<O: Sink>(out: &mut O, front: &[u8], name: &str) -> Result<(), Faile
     out.put(b"\n")
 }
 
-/// Puts a fault line for a name as the last step of a call, and gives its answer. Where a put fails, nothing more is
-/// put.
-pub fn put_fault<O: Sink>(out: &mut O, front: &[u8], name: &str) -> Status
+/// Puts a fault line for a name as the last step of a call, and gives its answer. Where a put
+/// fails, nothing more is put.
+pub fn put_fault<O: Sink, W: Watch>(out: &mut O, front: &[u8], name: &str, watch: &W) -> Status
     ensures status { result ≡ Status.Fault }
-    ensures line { PutOrRose (O.shown out.old) (O.shown out.new) (front.now ++ name.now ++ 10 ∷ []) }
+    ensures line { PutOrRose (O.shown out.old) (O.shown out.new)
+        (front.now ++ name.now ++ 10 ∷ []) }
     ensures counted { PutsFault (O.shown out.old) (O.shown out.new) }
 {
+    watch.fails();
+    watch.answers();
     let _ = put_parts(out, front, name);
     Status::Fault
 }
 
 /// Puts the line that says why a command stopped, if there is one, and gives its answer.
-pub fn put_stop<O: Sink>(alloc: Global, out: &mut O, stop: &Stop<'_>) -> Status
+pub fn put_stop<O: Sink, W: Watch>(alloc: Global, out: &mut O, stop: &Stop<'_>, watch: &W) -> Status
     ensures put { PutsStop stop.now result (O.shown out.old) (O.shown out.new) }
     ensures counted { PutsCounted stop.now result (O.shown out.old) (O.shown out.new) }
 {
     match stop {
         Stop::Refused(input, refusal) => match refused_line(alloc, *input, refusal) {
-            Ok(line) => answer(out, &line, Status::Refused),
+            Ok(line) => answer(out, &line, Status::Refused, watch),
             Err(AllocError) => Status::Memory,
         },
-        Stop::Unread(name) => put_fault(out, READING, name),
+        Stop::Unread(name) => put_fault(out, READING, name, watch),
         Stop::Memory => Status::Memory,
     }
 }

@@ -1,10 +1,11 @@
 //! The readers of the input files.
-ghost use Rattle.std.specs.Prelude.{◌≡◌, ◌+◌, ◌-◌, ◌<◌, ◌^◌, [], length, take, IfOk, IfErr, IfSome, OnOk, Some, Ok, Err};
+ghost use Rattle.std.specs.Prelude.{◌≡◌, ◌+◌, ◌-◌, ◌<◌, ◌^◌, [], ◌∷◌, take, IfOk, IfErr, IfSome, OnOk, Some, Ok, Err};
 ghost use Rattle.std.specs.Option.{option_map};
 ghost use Rattle.pg_types.specs.Parameters.{parameters};
 ghost use Rattle.pg_types.specs.Reading.{Gives};
 ghost use Rattle.pg_outside.specs.Content.{KeepsHeld, file_at};
-ghost use Rattle.pg_outside.specs.Faults.{NoneFell, next_count};
+ghost use Rattle.pg_outside.specs.Faults.{NoneFell};
+ghost use Rattle.pg_outside.specs.FilesCalls.{Reads};
 ghost use Rattle.pg_translate.specs.Alphabets.{letters_of};
 ghost use Rattle.pg_translate.specs.Tables.{table as table_of_file};
 ghost use Rattle.pg_dict.specs.Word.{SignsAtMost};
@@ -12,11 +13,11 @@ ghost use Rattle.pg_dict.specs.Words.{words};
 ghost use Rattle.pg_patterns.specs.Starts.{start};
 ghost use Rattle.pg_patterns.specs.Values.{SignsUpTo};
 ghost use Rattle.pg_top.specs.Commands.{texts_of};
-ghost use Rattle.pg_top.specs.Counted.{MakesCalls};
+ghost use Rattle.pg_top.specs.Counted.{MakesCalls, read_calls};
 ghost use Rattle.pg_top.specs.Readings.{read_as, input_file};
 ghost use Rattle.pg_top.specs.Selecting.{inputs_of, HasInputs};
 ghost use Rattle.pg_top.specs.Selection.{HasSigns};
-ghost use Rattle.pg_top.specs.Stops.{stop_of, StopsFront, StopsAt, StopsReading};
+ghost use Rattle.pg_top.specs.Inside.Stops.{stop_of, StopsFront, StopsAt, StopsReading};
 
 use crate::commands::Names;
 use crate::inputs::{Input, Stop};
@@ -25,6 +26,7 @@ use pg_outside::{Files, ReadError};
 use pg_patterns::PatternSet;
 use pg_translate::Table;
 use pg_types::{FILE_MAX, Params, ReadingError, read_params};
+use pg_watch::{Refused, Watch};
 use std::alloc::Global;
 
 /// What `generate` reads.
@@ -41,22 +43,24 @@ pub struct Inputs {
 }
 
 /// Reads a file of at most `limit` bytes, or of a longer one the first bytes, one more than these.
-pub fn read_front<'a, F: Files>(
+pub fn read_front<'a, F: Files, W: Watch>(
     alloc: Global,
     name: &'a str,
     limit: usize,
     files: &mut F,
+    watch: &W,
 ) -> Result<Vec<u8>, Stop<'a>>
     requires { limit < 2 ^ 64 - 1 }
     ensures held { KeepsHeld (F.shown files.old).held (F.shown files.new).held }
     ensures reads { NoneFell (F.shown files.old).read_faults (F.shown files.new).read_faults }
     ensures writes { NoneFell (F.shown files.old).write_faults (F.shown files.new).write_faults }
-    ensures calls { (F.shown files.new).calls ≡ next_count (F.shown files.old).calls }
+    ensures calls { MakesCalls (F.shown files.old) (F.shown files.new) (Reads name.now ∷ []) }
     ensures front { IfOk result (λ bytes.
         IfSome (F.shown files.new).held (λ files.
         option_map (take (limit + 1)) (file_at files name.now) ≡ Some bytes.items)) }
     ensures stopped { IfErr result (StopsFront name.now (F.shown files.old) (F.shown files.new)) }
 {
+    watch.reads(name);
     let mut bytes = Vec::new(alloc);
     match files.read(alloc, name, limit, &mut bytes) {
         Ok(()) => Ok(bytes),
@@ -66,98 +70,127 @@ pub fn read_front<'a, F: Files>(
     }
 }
 
-/// Why a command stops at an input whose reader failed.
-fn stop<'a>(input: Input, error: ReadingError) -> Stop<'a>
+/// Why a command stops at an input whose reader failed, which the observer is told.
+fn stop<'a, W: Watch>(
+    input: Input,
+    error: ReadingError,
+    name: &str,
+    bytes: &[u8],
+    letters: Option<&Table>,
+    watch: &W,
+) -> Stop<'a>
     ensures { result ≡ stop_of input error }
 {
     match error {
-        ReadingError::Refused(refusal) => Stop::Refused(input, refusal),
+        ReadingError::Refused(refusal) => {
+            watch.refuses(&Refused {
+                name,
+                bytes,
+                refusal,
+                letters,
+            });
+            Stop::Refused(input, refusal)
+        }
         ReadingError::Memory => Stop::Memory,
     }
 }
 
 /// Reads the translate file.
-pub fn read_table<'a, F: Files>(
+pub fn read_table<'a, F: Files, W: Watch>(
     alloc: Global,
     name: &'a str,
     files: &mut F,
+    watch: &W,
 ) -> Result<Table, Stop<'a>>
     ensures held { KeepsHeld (F.shown files.old).held (F.shown files.new).held }
     ensures reads { NoneFell (F.shown files.old).read_faults (F.shown files.new).read_faults }
     ensures writes { NoneFell (F.shown files.old).write_faults (F.shown files.new).write_faults }
-    ensures calls { (F.shown files.new).calls ≡ next_count (F.shown files.old).calls }
+    ensures calls { MakesCalls (F.shown files.old) (F.shown files.new) (Reads name.now ∷ []) }
     ensures ok { IfOk result (λ table.
         IfSome (F.shown files.new).held (λ files.
         read_as table_of_file (file_at files) name.now ≡ Some (Ok table))) }
     ensures stopped { IfErr result
-        (StopsAt (input_file Input.Translate name.now (λ _. table_of_file)) (F.shown files.old) (F.shown files.new)) }
+        (StopsAt (input_file Input.Translate name.now (λ _. table_of_file))
+        (F.shown files.old) (F.shown files.new)) }
 {
-    let bytes = read_front(alloc, name, FILE_MAX, files)?;
+    let bytes = read_front(alloc, name, FILE_MAX, files, watch)?;
     match Table::read(alloc, &bytes) {
-        Ok(table) => Ok(table),
-        Err(error) => Err(stop(Input::Translate, error)),
+        Ok(table) => {
+            watch.letters(name);
+            Ok(table)
+        }
+        Err(error) => Err(stop(Input::Translate, error, name, &bytes, None, watch)),
     }
 }
 
 /// Reads parameters as this input.
-pub fn read_parameters<'a, F: Files>(
+pub fn read_parameters<'a, F: Files, W: Watch>(
     alloc: Global,
     input: Input,
     name: &'a str,
     files: &mut F,
+    watch: &W,
 ) -> Result<Params, Stop<'a>>
     ensures held { KeepsHeld (F.shown files.old).held (F.shown files.new).held }
     ensures reads { NoneFell (F.shown files.old).read_faults (F.shown files.new).read_faults }
     ensures writes { NoneFell (F.shown files.old).write_faults (F.shown files.new).write_faults }
-    ensures calls { (F.shown files.new).calls ≡ next_count (F.shown files.old).calls }
+    ensures calls { MakesCalls (F.shown files.old) (F.shown files.new) (Reads name.now ∷ []) }
     ensures ok { IfOk result (λ params.
-        IfSome (F.shown files.new).held (λ files. read_as parameters (file_at files) name.now ≡ Some (Ok params))) }
+        IfSome (F.shown files.new).held
+        (λ files. read_as parameters (file_at files) name.now ≡ Some (Ok params))) }
     ensures stopped { IfErr result
-        (StopsAt (input_file input name.now (λ _. parameters)) (F.shown files.old) (F.shown files.new)) }
+        (StopsAt (input_file input name.now (λ _. parameters))
+        (F.shown files.old) (F.shown files.new)) }
 {
-    let bytes = read_front(alloc, name, FILE_MAX, files)?;
+    let bytes = read_front(alloc, name, FILE_MAX, files, watch)?;
     match read_params(alloc, &bytes) {
         Ok(params) => Ok(params),
-        Err(error) => Err(stop(input, error)),
+        Err(error) => Err(stop(input, error, name, &bytes, None, watch)),
     }
 }
 
 /// Reads the starting patterns under a table.
-pub fn read_start<'a, F: Files>(
+pub fn read_start<'a, F: Files, W: Watch>(
     alloc: Global,
     table: &Table,
     name: &'a str,
     files: &mut F,
+    watch: &W,
 ) -> Result<PatternSet, Stop<'a>>
     ensures held { KeepsHeld (F.shown files.old).held (F.shown files.new).held }
     ensures reads { NoneFell (F.shown files.old).read_faults (F.shown files.new).read_faults }
     ensures writes { NoneFell (F.shown files.old).write_faults (F.shown files.new).write_faults }
-    ensures calls { (F.shown files.new).calls ≡ next_count (F.shown files.old).calls }
+    ensures calls { MakesCalls (F.shown files.old) (F.shown files.new) (Reads name.now ∷ []) }
     ensures ok { IfOk result (λ patterns.
         IfSome (F.shown files.new).held (λ files.
         read_as (start table.now) (file_at files) name.now ≡ Some (Ok patterns))) }
     ensures known { IfOk result (SignsUpTo (letters_of table.now + 1)) }
     ensures stopped { IfErr result
-        (StopsAt (input_file Input.Patterns name.now (λ _. start table.now)) (F.shown files.old) (F.shown files.new)) }
+        (StopsAt (input_file Input.Patterns name.now (λ _. start table.now))
+        (F.shown files.old) (F.shown files.new)) }
 {
-    let bytes = read_front(alloc, name, FILE_MAX, files)?;
+    let bytes = read_front(alloc, name, FILE_MAX, files, watch)?;
     match PatternSet::read(alloc, table, &bytes) {
-        Ok(patterns) => Ok(patterns),
-        Err(error) => Err(stop(Input::Patterns, error)),
+        Ok(patterns) => {
+            watch.patterns(name, &bytes);
+            Ok(patterns)
+        }
+        Err(error) => Err(stop(Input::Patterns, error, name, &bytes, Some(table), watch)),
     }
 }
 
 /// Reads the dictionary under a table.
-pub fn read_dictionary<'a, F: Files>(
+pub fn read_dictionary<'a, F: Files, W: Watch>(
     alloc: Global,
     table: &Table,
     name: &'a str,
     files: &mut F,
+    watch: &W,
 ) -> Result<Dictionary, Stop<'a>>
     ensures held { KeepsHeld (F.shown files.old).held (F.shown files.new).held }
     ensures reads { NoneFell (F.shown files.old).read_faults (F.shown files.new).read_faults }
     ensures writes { NoneFell (F.shown files.old).write_faults (F.shown files.new).write_faults }
-    ensures calls { (F.shown files.new).calls ≡ next_count (F.shown files.old).calls }
+    ensures calls { MakesCalls (F.shown files.old) (F.shown files.new) (Reads name.now ∷ []) }
     ensures ok { IfOk result (λ dictionary.
         IfSome (F.shown files.new).held (λ files.
         read_as (words table.now) (file_at files) name.now ≡ Some (Ok dictionary))) }
@@ -166,18 +199,22 @@ pub fn read_dictionary<'a, F: Files>(
         (StopsAt (input_file Input.Dictionary name.now (λ _. words table.now))
         (F.shown files.old) (F.shown files.new)) }
 {
-    let bytes = read_front(alloc, name, FILE_MAX, files)?;
+    let bytes = read_front(alloc, name, FILE_MAX, files, watch)?;
     match Dictionary::read(alloc, table, &bytes) {
-        Ok(dictionary) => Ok(dictionary),
-        Err(error) => Err(stop(Input::Dictionary, error)),
+        Ok(dictionary) => {
+            watch.words(name, &dictionary, table);
+            Ok(dictionary)
+        }
+        Err(error) => Err(stop(Input::Dictionary, error, name, &bytes, Some(table), watch)),
     }
 }
 
 /// Reads what `generate` reads, in its order, up to the first refusal or fault.
-pub fn read_inputs<'a, F: Files>(
+pub fn read_inputs<'a, F: Files, W: Watch>(
     alloc: Global,
     names: &Names<'a>,
     files: &mut F,
+    watch: &W,
 ) -> Result<Inputs, Stop<'a>>
     ensures held { KeepsHeld (F.shown files.old).held (F.shown files.new).held }
     ensures reads { NoneFell (F.shown files.old).read_faults (F.shown files.new).read_faults }
@@ -188,12 +225,13 @@ pub fn read_inputs<'a, F: Files>(
     ensures stopped { IfErr result
         (StopsReading (inputs_of (texts_of names.now)) (F.shown files.old) (F.shown files.new)) }
     ensures counted { IfOk result (λ _.
-        MakesCalls (F.shown files.old) (F.shown files.new) (length (inputs_of (texts_of names.now)))) }
+        MakesCalls (F.shown files.old) (F.shown files.new)
+        (read_calls (inputs_of (texts_of names.now)))) }
 {
-    let table = read_table(alloc, names.translate, files)?;
-    let params = read_parameters(alloc, Input::Parameters, names.params, files)?;
-    let start = read_start(alloc, &table, names.patterns, files)?;
-    let dictionary = read_dictionary(alloc, &table, names.dict, files)?;
+    let table = read_table(alloc, names.translate, files, watch)?;
+    let params = read_parameters(alloc, Input::Parameters, names.params, files, watch)?;
+    let start = read_start(alloc, &table, names.patterns, files, watch)?;
+    let dictionary = read_dictionary(alloc, &table, names.dict, files, watch)?;
     Ok(Inputs {
         table,
         params,

@@ -39,7 +39,8 @@ impl Draws {
 /// Appends the end of a syllable, a consonant or nothing.
 #[tactic(auto, unfolding(crate::specs::SampleTexts::ending))]
 fn push_ending(text: &mut Vec<u8>, draws: &mut Draws) -> Result<(), AllocError>
-    ensures text { OnOk result (text.new.items ≡ text.old.items ++ (ending (next_state draws.old.state)).text) }
+    ensures text { OnOk result
+        (text.new.items ≡ text.old.items ++ (ending (next_state draws.old.state)).text) }
     ensures state { OnOk result (draws.new.state ≡ (ending (next_state draws.old.state)).state) }
 {
     if draws.draw(4) == 0 {
@@ -51,7 +52,8 @@ fn push_ending(text: &mut Vec<u8>, draws: &mut Draws) -> Result<(), AllocError>
 /// Appends a syllable.
 #[tactic(auto, unfolding(crate::specs::SampleTexts::syllable))]
 fn push_syllable(text: &mut Vec<u8>, draws: &mut Draws) -> Result<(), AllocError>
-    ensures text { OnOk result (text.new.items ≡ text.old.items ++ (syllable_of draws.old.state).text) }
+    ensures text { OnOk result
+        (text.new.items ≡ text.old.items ++ (syllable_of draws.old.state).text) }
     ensures state { OnOk result (draws.new.state ≡ (syllable_of draws.old.state).state) }
 {
     text.push(CONSONANTS[draws.draw(12) as usize])?;
@@ -61,7 +63,8 @@ fn push_syllable(text: &mut Vec<u8>, draws: &mut Draws) -> Result<(), AllocError
 
 /// Appends further syllables, each behind a hyphen.
 fn push_further(text: &mut Vec<u8>, draws: &mut Draws, count: u32) -> Result<(), AllocError>
-    ensures text { OnOk result (text.new.items ≡ text.old.items ++ (further count draws.old.state).text) }
+    ensures text { OnOk result
+        (text.new.items ≡ text.old.items ++ (further count draws.old.state).text) }
     ensures state { OnOk result (draws.new.state ≡ (further count draws.old.state).state) }
 {
     'syllables: for i in 0..count {
@@ -74,7 +77,8 @@ fn push_further(text: &mut Vec<u8>, draws: &mut Draws, count: u32) -> Result<(),
 /// Appends a word.
 #[tactic(auto, unfolding(crate::specs::SampleTexts::word))]
 fn push_word(text: &mut Vec<u8>, draws: &mut Draws) -> Result<(), AllocError>
-    ensures text { OnOk result (text.new.items ≡ text.old.items ++ (word_of_state draws.old.state).text) }
+    ensures text { OnOk result
+        (text.new.items ≡ text.old.items ++ (word_of_state draws.old.state).text) }
     ensures state { OnOk result (draws.new.state ≡ (word_of_state draws.old.state).state) }
 {
     let more = draws.draw(3) + 1;
@@ -84,9 +88,9 @@ fn push_word(text: &mut Vec<u8>, draws: &mut Draws) -> Result<(), AllocError>
 
 /// The dictionary of `sample`: `count` words, at most 100,000, from the seed.
 ///
-/// Each word has two to four syllables with a hyphen between two. A syllable is a consonant, a vowel, and in one of
-/// four cases a closing consonant. All are drawn by a linear congruential generator modulo 2^31, of which the higher
-/// bits are used.
+/// Each word has two to four syllables with a hyphen between two. A syllable is a consonant, a
+/// vowel, and in one of four cases a closing consonant. All are drawn by a linear congruential
+/// generator modulo 2^31, of which the higher bits are used.
 pub fn sample_text(alloc: Global, seed: u32, count: u32) -> Result<Vec<u8>, AllocError>
     requires seed { seed < 2 ^ 31 }
     requires count { count ≤ 100000 }

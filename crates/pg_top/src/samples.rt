@@ -8,7 +8,7 @@ ghost use Rattle.pg_patterns.specs.Values.{SignsUpTo};
 ghost use Rattle.pg_top.specs.Counted.{LinesCounted};
 ghost use Rattle.pg_top.specs.SampleTexts.{is_printed as is_printed_line, printed_part, sample_inputs, sample_lines as lines_of, sample_parameters, selection_lines};
 ghost use Rattle.pg_top.specs.Selection.{signs_of, HasSigns, selected, selected_account};
-ghost use Rattle.pg_top.specs.Stops.{PutsLines};
+ghost use Rattle.pg_top.specs.Inside.Stops.{PutsLines};
 
 use crate::answers::Status;
 use crate::printed::done_line;
@@ -25,6 +25,7 @@ use pg_texts::report_text;
 use pg_translate::Table;
 use pg_translate::laws::keeps_rules;
 use pg_types::{Params, ReadingError, next_line, read_params};
+use pg_watch::{Watch, Watched};
 use std::alloc::{AllocError, Global};
 
 /// Two levels, with lengths 1 to 3 and 2 to 4.
@@ -128,35 +129,48 @@ fn lines_after(alloc: Global, inputs: &Inputs, run: &Run) -> Result<Vec<u8>, All
     Ok(lines)
 }
 
-/// Does the run of the inputs over the packed engine, and builds the printed lines.
-fn run_lines(alloc: Global, inputs: &Inputs) -> Result<Vec<u8>, AllocError>
+/// Does the run of the inputs over the packed engine, and builds the printed lines. The observer is
+/// told of the passes.
+fn run_lines<W: Watch>(alloc: Global, inputs: &Inputs, watch: &W) -> Result<Vec<u8>, AllocError>
     requires { HasSigns inputs.now }
     ensures { IfOk result (λ lines. lines.items ≡ selection_lines inputs.now) }
 {
-    let mut engine = PackedEngine::new(alloc, inputs.table.letters() + 1, &inputs.start)?;
+    let engine = PackedEngine::new(alloc, inputs.table.letters() + 1, &inputs.start)?;
+    let mut engine = Watched::new(engine, &inputs.params, watch);
     let run = select(alloc, &mut engine, inputs)?;
     lines_after(alloc, inputs, &run)
 }
 
 /// The printed lines.
-fn sample_lines(alloc: Global, seed: u32, count: u32) -> Result<Vec<u8>, AllocError>
+fn sample_lines<W: Watch>(
+    alloc: Global,
+    seed: u32,
+    count: u32,
+    watch: &W,
+) -> Result<Vec<u8>, AllocError>
     requires seed { seed < 2 ^ 31 }
     requires count { count ≤ 100000 }
     ensures { IfOk result (λ lines. lines.items ≡ lines_of seed count) }
 {
     let inputs = make_inputs(alloc, seed, count)?;
-    run_lines(alloc, &inputs)
+    run_lines(alloc, &inputs, watch)
 }
 
 /// Does the selection and prints what it tells. It reads and writes no file, and refuses nothing.
-pub fn sample<O: Sink>(alloc: Global, seed: u32, count: u32, out: &mut O) -> Status
+pub fn sample<O: Sink, W: Watch>(
+    alloc: Global,
+    seed: u32,
+    count: u32,
+    out: &mut O,
+    watch: &W,
+) -> Status
     requires seed { seed < 2 ^ 31 }
     requires count { count ≤ 100000 }
     ensures put { PutsLines (lines_of seed count) result (O.shown out.old) (O.shown out.new) }
     ensures counted { LinesCounted result (O.shown out.old) (O.shown out.new) }
 {
-    match sample_lines(alloc, seed, count) {
-        Ok(lines) => answer(out, &lines, Status::Done),
+    match sample_lines(alloc, seed, count, watch) {
+        Ok(lines) => answer(out, &lines, Status::Done, watch),
         Err(AllocError) => Status::Memory,
     }
 }

@@ -3,7 +3,7 @@ ghost use Rattle.std.specs.Prelude.{◌≡◌, IfOk, IsSome};
 ghost use Rattle.std.specs.Option.{option_map};
 ghost use Rattle.pg_select.specs.Meanings.{new_engine};
 ghost use Rattle.pg_driver.specs.Told.{account_of, TellsCells};
-ghost use Rattle.pg_top.specs.Runs.{last_told};
+ghost use Rattle.pg_top.specs.Inside.Runs.{last_told};
 ghost use Rattle.pg_top.specs.Selection.{signs_of, HasSigns, selected, selected_account, passes_begun, selected_cells_from};
 ghost use Rattle.pg_patterns.specs.Values.{SignsUpTo};
 
@@ -38,7 +38,8 @@ pub fn select<E: Engine>(alloc: Global, engine: &mut E, inputs: &Inputs) -> Resu
     Ok(run)
 }
 
-/// The layout after the last level, or where no level was run that before the first, if the run tells layouts.
+/// The layout after the last level, or where no level was run that before the first, if the run
+/// tells layouts.
 pub fn last_layout(run: &Run) -> Option<Layout>
     ensures { result ≡ last_told run.now }
 {

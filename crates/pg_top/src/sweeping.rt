@@ -7,12 +7,12 @@ ghost use Rattle.pg_patterns.specs.Values.{SignsUpTo};
 ghost use Rattle.pg_translate.specs.Alphabets.{letters_of};
 ghost use Rattle.pg_top.specs.Calls.{outcome_of, reads_of, writes_of};
 ghost use Rattle.pg_top.specs.Commands.{sweep_of, KeepsSweepLimits};
-ghost use Rattle.pg_top.specs.Counted.{MakesCalls};
+ghost use Rattle.pg_top.specs.Counted.{MakesCalls, read_calls};
 ghost use Rattle.pg_top.specs.Promises.{SweepNames};
 ghost use Rattle.pg_top.specs.Outcomes.{Ends};
 ghost use Rattle.pg_top.specs.Requests.{ToSweep};
-ghost use Rattle.pg_top.specs.Stops.{StopsCommand, StopsReading};
-ghost use Rattle.pg_top.specs.SweepInputs.{terms_of, HasSigns, line_of_sweep};
+ghost use Rattle.pg_top.specs.Inside.Stops.{StopsCommand, StopsReading};
+ghost use Rattle.pg_top.specs.Inside.SweepInputs.{terms_of, HasSigns, line_of_sweep};
 ghost use Rattle.pg_top.specs.Sweeping.{sweep_reads, HasSweep, swept};
 ghost use Rattle.pg_top.specs.Writings.{written_names, writing_of};
 ghost use Rattle.pg_top.specs.declared.answers.Status.TheVariants.{Done};
@@ -31,21 +31,58 @@ use pg_patterns::PatternSet;
 use pg_sweep::{Maker, Sweep, sweep, sweep_text};
 use pg_translate::Table;
 use pg_types::Params;
+use pg_watch::{Turn, Watch, Watched};
 use std::alloc::{AllocError, Global};
+use std::cell::Cell;
 
-/// Makes packed engines.
-struct Packed;
+/// Makes packed engines that are watched. It is asked for one for each set of parameters and fold,
+/// set by set.
+#[derive(Drop)]
+struct Packed<'a, W> {
+    sets: &'a [Params],
+    /// The first of the sets.
+    first: &'a Params,
+    folds: u8,
+    /// The places of the set and of the fold that come next.
+    next: Cell<(usize, u8)>,
+    watch: &'a W,
+}
 
-impl Maker for Packed {
-    type Made = PackedEngine;
+impl<'a, W: Watch> Packed<'a, W> {
+    /// Tells the observer which run begins, and gives the parameters of that run.
+    fn turn(&self) -> &'a Params {
+        let (set, fold) = self.next.get();
+        let fold = fold.saturating_add(1);
+        self.watch.turn(Turn {
+            set: set.saturating_add(1),
+            sets: self.sets.len(),
+            fold,
+            folds: self.folds,
+        });
+        self.next.set(if fold < self.folds {
+            (set, fold)
+        } else {
+            (set.saturating_add(1), 0)
+        });
+        match self.sets.get(set) {
+            Some(params) => params,
+            None => self.first,
+        }
+    }
+}
+
+impl<'a, W: Watch> Maker for Packed<'a, W> {
+    type Made = Watched<'a, PackedEngine, W>;
 
     fn make(
         &self,
         alloc: Global,
         signs: u16,
         start: &PatternSet,
-    ) -> Result<PackedEngine, AllocError> {
-        PackedEngine::new(alloc, signs, start)
+    ) -> Result<Watched<'a, PackedEngine, W>, AllocError> {
+        let params = self.turn();
+        let engine = PackedEngine::new(alloc, signs, start)?;
+        Ok(Watched::new(engine, params, self.watch))
     }
 }
 
@@ -63,27 +100,30 @@ struct SweepInputs {
 }
 
 /// Reads what `sweep` reads, in its order, up to the first refusal or fault.
-fn read_sweep<'a, F: Files>(
+fn read_sweep<'a, F: Files, W: Watch>(
     alloc: Global,
     words: &SweepWords<'a>,
     files: &mut F,
+    watch: &W,
 ) -> Result<SweepInputs, Stop<'a>>
     requires { KeepsSweepLimits words.now }
     ensures held { KeepsHeld (F.shown files.old).held (F.shown files.new).held }
     ensures writes { NoneFell (F.shown files.old).write_faults (F.shown files.new).write_faults }
     ensures ok { IfOk result (λ inputs. IfSome (F.shown files.new).held (λ files.
-        HasSweep (file_at files) (sweep_of words.now) (terms_of words.now.folds inputs) inputs.sets.items)) }
+        HasSweep (file_at files) (sweep_of words.now)
+        (terms_of words.now.folds inputs) inputs.sets.items)) }
     ensures signs { IfOk result HasSigns }
-    ensures count { IfOk result (λ inputs. (1 ≤ length inputs.sets.items) × (length inputs.sets.items ≤ 16)) }
+    ensures count { IfOk result
+        (λ inputs. (1 ≤ length inputs.sets.items) × (length inputs.sets.items ≤ 16)) }
     ensures stopped { IfErr result
         (StopsReading (sweep_reads (sweep_of words.now)) (F.shown files.old) (F.shown files.new)) }
     ensures counted { IfOk result (λ _. MakesCalls (F.shown files.old) (F.shown files.new)
-        (length (sweep_reads (sweep_of words.now)))) }
+        (read_calls (sweep_reads (sweep_of words.now)))) }
 {
-    let table = read_table(alloc, words.translate, files)?;
-    let sets = read_sets(alloc, words.params, files)?;
-    let start = read_start(alloc, &table, words.patterns, files)?;
-    let dictionary = read_dictionary(alloc, &table, words.dict, files)?;
+    let table = read_table(alloc, words.translate, files, watch)?;
+    let sets = read_sets(alloc, words.params, files, watch)?;
+    let start = read_start(alloc, &table, words.patterns, files, watch)?;
+    let dictionary = read_dictionary(alloc, &table, words.dict, files, watch)?;
     Ok(SweepInputs {
         table,
         sets,
@@ -101,10 +141,11 @@ fn sweep_line(alloc: Global, found: &Sweep) -> Result<Vec<u8>, AllocError>
 }
 
 /// Does the sweep, and builds all that `sweep` writes and prints.
-fn make_sweep<'a>(
+fn make_sweep<'a, W: Watch>(
     alloc: Global,
     words: &SweepWords<'a>,
     inputs: &SweepInputs,
+    watch: &W,
 ) -> Result<Outputs<'a>, AllocError>
     requires within { KeepsSweepLimits words.now }
     requires signs { HasSigns inputs.now }
@@ -115,9 +156,16 @@ fn make_sweep<'a>(
     ensures named { IfOk result (λ made.
         written_names (writing_of made.files.items) ≡ words.now.output.now ∷ []) }
 {
+    let maker = Packed {
+        sets: &inputs.sets,
+        first: &inputs.sets[0],
+        folds: words.folds,
+        next: Cell::new((0, 0)),
+        watch,
+    };
     let found = sweep(
         alloc,
-        &Packed,
+        &maker,
         &inputs.dictionary,
         &inputs.table,
         &inputs.start,
@@ -136,11 +184,26 @@ fn make_sweep<'a>(
     Ok(Outputs { files, lines })
 }
 
+/// Tells the observer of the set whose first level is the least: where it is above the values of
+/// the starting patterns, that of each set is.
+fn tell_lowest<W: Watch>(name: &str, sets: &[Params], start: &PatternSet, watch: &W)
+    requires { 1 ≤ length sets.now }
+{
+    let mut lowest = &sets[0];
+    for params in sets {
+        if params.start() < lowest.start() {
+            lowest = params;
+        }
+    }
+    watch.selects(name, lowest, start);
+}
+
 /// Reads what `sweep` reads, and builds all that it writes and prints.
-pub fn sweep_files<'a, F: Files>(
+pub fn sweep_files<'a, F: Files, W: Watch>(
     alloc: Global,
     words: &SweepWords<'a>,
     files: &mut F,
+    watch: &W,
 ) -> Result<Outputs<'a>, Stop<'a>>
     requires { KeepsSweepLimits words.now }
     ensures held { KeepsHeld (F.shown files.old).held (F.shown files.new).held }
@@ -153,11 +216,12 @@ pub fn sweep_files<'a, F: Files>(
     ensures names { IfOk result (λ _. IfSome (F.shown files.new).held (λ files.
         SweepNames (file_at files) (sweep_of words.now))) }
     ensures counted { IfOk result (λ _. MakesCalls (F.shown files.old) (F.shown files.new)
-        (length (reads_of (ToSweep (sweep_of words.now))))) }
+        (read_calls (reads_of (ToSweep (sweep_of words.now))))) }
     ensures stopped { IfErr result
         (StopsCommand (ToSweep (sweep_of words.now)) (F.shown files.old) (F.shown files.new)) }
 {
-    let inputs = read_sweep(alloc, words, files)?;
-    let outputs = make_sweep(alloc, words, &inputs)?;
+    let inputs = read_sweep(alloc, words, files, watch)?;
+    tell_lowest(words.patterns, &inputs.sets, &inputs.start, watch);
+    let outputs = make_sweep(alloc, words, &inputs, watch)?;
     Ok(outputs)
 }

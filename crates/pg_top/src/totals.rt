@@ -1,20 +1,20 @@
 //! `totals`: the totals of a dictionary by a packed table.
-ghost use Rattle.std.specs.Prelude.{◌≡◌, ◌+◌, IfOk, IfErr, IfSome, Some, [], ◌∷◌, length};
+ghost use Rattle.std.specs.Prelude.{◌≡◌, ◌+◌, IfOk, IfErr, IfSome, Some, [], ◌∷◌};
 ghost use Rattle.pg_dict.specs.Word.{SignsAtMost};
 ghost use Rattle.pg_driver.specs.Sound.{IsSmall};
 ghost use Rattle.pg_outside.specs.Content.{KeepsHeld, file_at};
-ghost use Rattle.pg_outside.specs.Faults.{next_count};
+ghost use Rattle.pg_outside.specs.FilesCalls.{Reads};
 ghost use Rattle.pg_texts.specs.ReportTexts.{ending_text};
 ghost use Rattle.pg_translate.specs.Alphabets.{letters_of};
 ghost use Rattle.pg_top.specs.Calls.{outcome_of, reads_of};
-ghost use Rattle.pg_top.specs.Counted.{MakesCalls};
+ghost use Rattle.pg_top.specs.Counted.{MakesCalls, read_calls};
 ghost use Rattle.pg_top.specs.Outcomes.{Ends};
 ghost use Rattle.pg_top.specs.declared.answers.Status.TheVariants.{Done};
 ghost use Rattle.pg_top.specs.PackedTables.{packed_table, table_refused};
 ghost use Rattle.pg_top.specs.Readings.{input_file};
 ghost use Rattle.pg_top.specs.Requests.{ToTotals};
-ghost use Rattle.pg_top.specs.Sources.{IsTotalled};
-ghost use Rattle.pg_top.specs.Stops.{StopsAt, StopsCommand};
+ghost use Rattle.pg_top.specs.Inside.Sources.{IsTotalled};
+ghost use Rattle.pg_top.specs.Inside.Stops.{StopsAt, StopsCommand};
 
 use crate::inputs::{Input, Stop};
 use crate::reading::{read_dictionary, read_front, read_table};
@@ -24,6 +24,7 @@ use pg_table::{TABLE_MAX, TableView, table_totals};
 use pg_texts::push_ending;
 use pg_translate::Table;
 use pg_types::{Kind, Refusal, Totals};
+use pg_watch::{Refused, Watch};
 use std::alloc::{AllocError, Global};
 
 /// The refusal of a packed table, which has no place.
@@ -65,51 +66,61 @@ fn total_lines(alloc: Global, totals: &Totals) -> Result<Vec<u8>, AllocError>
 }
 
 /// Reads a packed table and gives the lines of the totals of the words by it.
-fn total_by<'a, F: Files>(
+fn total_by<'a, F: Files, W: Watch>(
     alloc: Global,
     table: &Table,
     dictionary: &Dictionary,
     name: &'a str,
     files: &mut F,
+    watch: &W,
 ) -> Result<Vec<u8>, Stop<'a>>
     requires { SignsAtMost (letters_of table.now + 1) dictionary.now }
     ensures held { KeepsHeld (F.shown files.old).held (F.shown files.new).held }
-    ensures calls { (F.shown files.new).calls ≡ next_count (F.shown files.old).calls }
+    ensures calls { MakesCalls (F.shown files.old) (F.shown files.new) (Reads name.now ∷ []) }
     ensures ok { IfOk result (λ lines. IfSome (F.shown files.new).held (λ files.
         IsTotalled table.now dictionary.now (file_at files) name.now lines.items)) }
     ensures stopped { IfErr result
         (StopsAt (input_file Input.Table name.now (λ _. packed_table table.now))
         (F.shown files.old) (F.shown files.new)) }
 {
-    let bytes = read_front(alloc, name, TABLE_MAX, files)?;
+    let bytes = read_front(alloc, name, TABLE_MAX, files, watch)?;
     match open_table(&bytes, table) {
         Ok(view) => {
             let lines = total_lines(alloc, &table_totals(&view, dictionary, table))?;
             Ok(lines)
         }
-        Err(refusal) => Err(Stop::Refused(Input::Table, refusal)),
+        Err(refusal) => {
+            watch.refuses(&Refused {
+                name,
+                bytes: &bytes,
+                refusal,
+                letters: Some(table),
+            });
+            Err(Stop::Refused(Input::Table, refusal))
+        }
     }
 }
 
 /// Reads what `totals` reads, and gives the lines that it prints.
-pub fn total_files<'a, F: Files>(
+pub fn total_files<'a, F: Files, W: Watch>(
     alloc: Global,
     dict: &'a str,
     translate: &'a str,
     table: &'a str,
     files: &mut F,
+    watch: &W,
 ) -> Result<Vec<u8>, Stop<'a>>
     ensures held { KeepsHeld (F.shown files.old).held (F.shown files.new).held }
     ensures ok { IfOk result (λ lines. IfSome (F.shown files.new).held (λ files.
         outcome_of (file_at files) (ToTotals dict.now translate.now table.now)
         ≡ Ends Done [] lines.items)) }
     ensures counted { IfOk result (λ _. MakesCalls (F.shown files.old) (F.shown files.new)
-        (length (reads_of (ToTotals dict.now translate.now table.now)))) }
+        (read_calls (reads_of (ToTotals dict.now translate.now table.now)))) }
     ensures stopped { IfErr result (StopsCommand (ToTotals dict.now translate.now table.now)
         (F.shown files.old) (F.shown files.new)) }
 {
-    let letters = read_table(alloc, translate, files)?;
-    let dictionary = read_dictionary(alloc, &letters, dict, files)?;
-    let lines = total_by(alloc, &letters, &dictionary, table, files)?;
+    let letters = read_table(alloc, translate, files, watch)?;
+    let dictionary = read_dictionary(alloc, &letters, dict, files, watch)?;
+    let lines = total_by(alloc, &letters, &dictionary, table, files, watch)?;
     Ok(lines)
 }

@@ -42,7 +42,8 @@ fn is_name_if_asked(word: Option<&str>) -> bool
 
 /// Whether each word for a name can be one.
 fn are_names(names: &Names<'_>) -> bool
-    ensures { result ≡ list_all is_name_word (input_names (texts_of names.now) ++ output_names (texts_of names.now)) }
+    ensures { result ≡ list_all is_name_word
+        (input_names (texts_of names.now) ++ output_names (texts_of names.now)) }
 {
     is_name(names.dict)
         && is_name(names.patterns)
@@ -76,12 +77,14 @@ fn differs_if_asked(name: &str, other: Option<&str>) -> bool
 
 /// Whether the name of the report differs from the names of all inputs.
 fn is_report_distinct(names: &Names<'_>) -> bool
-    ensures { result ≡ outputs_differ ((texts_of names.now).report ∷ []) (input_names (texts_of names.now)) }
+    ensures { result ≡ outputs_differ ((texts_of names.now).report ∷ [])
+        (input_names (texts_of names.now)) }
 {
     differs_from_inputs(names.report, names)
 }
 
-/// Whether the name of the cells file, where it is asked for, differs from those of the report and the inputs.
+/// Whether the name of the cells file, where it is asked for, differs from those of the report and
+/// the inputs.
 fn is_cells_distinct(names: &Names<'_>) -> bool
     ensures { result ≡ outputs_differ
         (if_asked (texts_of names.now).cells (λ name. name) ++ (texts_of names.now).report ∷ [])
@@ -95,8 +98,8 @@ fn is_cells_distinct(names: &Names<'_>) -> bool
     }
 }
 
-/// Whether the name of the hyphenated list, where it is asked for, differs from those of the outputs after it and of
-/// the inputs.
+/// Whether the name of the hyphenated list, where it is asked for, differs from those of the
+/// outputs after it and of the inputs.
 fn is_pattmp_distinct(names: &Names<'_>) -> bool
     ensures { result ≡ outputs_differ
         (if_asked (texts_of names.now).pattmp (λ name. name)
@@ -117,7 +120,8 @@ fn is_pattmp_distinct(names: &Names<'_>) -> bool
 
 /// Whether the output names differ from each other and from the names of all inputs.
 fn are_distinct(names: &Names<'_>) -> bool
-    ensures { result ≡ outputs_differ (output_names (texts_of names.now)) (input_names (texts_of names.now)) }
+    ensures { result ≡ outputs_differ (output_names (texts_of names.now))
+        (input_names (texts_of names.now)) }
 {
     differs_if_asked(names.output, names.pattmp)
         && differs_if_asked(names.output, names.cells)
@@ -128,7 +132,8 @@ fn are_distinct(names: &Names<'_>) -> bool
 
 /// The names with that of an option.
 fn with_option<'a>(names: Names<'a>, option: &str, name: &'a str) -> Option<Names<'a>>
-    ensures { option_map texts_of result ≡ with_option_of (texts_of names.entry) option.now name.now }
+    ensures { option_map texts_of result
+        ≡ with_option_of (texts_of names.entry) option.now name.now }
 {
     if option == "--pattmp" {
         Some(Names {
@@ -148,7 +153,8 @@ fn with_option<'a>(names: Names<'a>, option: &str, name: &'a str) -> Option<Name
 /// The names with those of two options, which differ.
 fn with_both<'a>(names: Names<'a>, words: &'a [String]) -> Option<Names<'a>>
     requires { length words.now ≡ 4 }
-    ensures { option_map texts_of result ≡ with_options_of (texts_of names.entry) (words_of words.now) }
+    ensures { option_map texts_of result
+        ≡ with_options_of (texts_of names.entry) (words_of words.now) }
 {
     let (first, second) = (words[0].as_str(), words[2].as_str());
     if first == second {
@@ -162,7 +168,8 @@ fn with_both<'a>(names: Names<'a>, words: &'a [String]) -> Option<Names<'a>>
 
 /// The names with those of the options, of which each may stand once.
 fn with_options<'a>(names: Names<'a>, words: &'a [String]) -> Option<Names<'a>>
-    ensures { option_map texts_of result ≡ with_options_of (texts_of names.entry) (words_of words.now) }
+    ensures { option_map texts_of result
+        ≡ with_options_of (texts_of names.entry) (words_of words.now) }
 {
     match words.len() {
         0 => Some(names),
@@ -175,7 +182,8 @@ fn with_options<'a>(names: Names<'a>, words: &'a [String]) -> Option<Names<'a>>
 /// Six names in the order in which they are given.
 fn first_names(words: &[String]) -> Names<'_>
     requires { 6 ≤ length words.now }
-    ensures { names_in (words_of words.now) ≡ with_options_of (texts_of result) (words_of (drop 6 words.now)) }
+    ensures { names_in (words_of words.now)
+        ≡ with_options_of (texts_of result) (words_of (drop 6 words.now)) }
 {
     Names {
         dict: words[0].as_str(),
@@ -202,7 +210,8 @@ fn names(words: &[String]) -> Option<Names<'_>>
 /// What the words behind `generate` ask for.
 fn generate(words: &[String]) -> Option<Command<'_>>
     ensures within { IfSome result KeepsLimits }
-    ensures value { option_map asked_by result ≡ option_and_then to_generate (names_in (words_of words.now)) }
+    ensures value { option_map asked_by result
+        ≡ option_and_then to_generate (names_in (words_of words.now)) }
 {
     let names = names(words)?;
     if are_names(&names) && are_distinct(&names) {
@@ -215,7 +224,8 @@ fn generate(words: &[String]) -> Option<Command<'_>>
 /// What the words behind `audit` ask for.
 fn audit(words: &[String]) -> Option<Command<'_>>
     ensures within { IfSome result KeepsLimits }
-    ensures value { option_map asked_by result ≡ option_and_then to_audit (names_in (words_of words.now)) }
+    ensures value { option_map asked_by result
+        ≡ option_and_then to_audit (names_in (words_of words.now)) }
 {
     let names = names(words)?;
     if are_names(&names) && names.cells.is_none() {
@@ -363,7 +373,8 @@ fn differs_from_all(name: &str, words: &[String]) -> bool
 
 /// Whether `sweep` takes these names.
 fn is_taken(dict: &str, patterns: &str, output: &str, translate: &str, params: &[String]) -> bool
-    ensures { result ≡ is_sweep_taken dict.now patterns.now output.now translate.now (words_of params.now) }
+    ensures { result ≡ is_sweep_taken dict.now patterns.now output.now translate.now
+        (words_of params.now) }
 {
     !params.is_empty()
         && params.len() <= SETS_MAX
@@ -425,11 +436,12 @@ fn sweep(words: &[String]) -> Option<Command<'_>>
     }))
 }
 
-/// What the words, without the program's name, ask for; none exactly where they are no command. Commands are
-/// `generate DICT PATTERNS OUT TRANSLATE PARAMS REPORT`, then `--pattmp FILE` and `--cells FILE`, each at most once
-/// and in either order, `audit` with the same six names and at most one `--pattmp FILE`, `sample N COUNT`,
-/// `pack PATTERNS TRANSLATE TABLE`, `totals DICT TRANSLATE TABLE`, `prune DICT PATTERNS OUT TRANSLATE REPORT`, and
-/// `sweep DICT PATTERNS OUT TRANSLATE K BAD MISSED` with the names of 1 to 16 parameter files. It takes no memory.
+/// What the words, without the program's name, ask for; none exactly where they are no command.
+/// Commands are `generate DICT PATTERNS OUT TRANSLATE PARAMS REPORT`, then `--pattmp FILE` and
+/// `--cells FILE`, each at most once and in either order, `audit` with the same six names and at
+/// most one `--pattmp FILE`, `sample N COUNT`, `pack PATTERNS TRANSLATE TABLE`, `totals DICT
+/// TRANSLATE TABLE`, `prune DICT PATTERNS OUT TRANSLATE REPORT`, and `sweep DICT PATTERNS OUT
+/// TRANSLATE K BAD MISSED` with the names of 1 to 16 parameter files. It takes no memory.
 pub fn command(words: &[String]) -> Option<Command<'_>>
     ensures value { option_map asked_by result ≡ request_of (words_of words.now) }
     ensures within { IfSome result KeepsLimits }

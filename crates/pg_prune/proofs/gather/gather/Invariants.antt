@@ -1,8 +1,8 @@
 use Rattle.std.proofs.Common.{◌≡◌, take, map}
 use Rattle.pg_select.specs.CountedPositions.{minima_of}
 use Rattle.pg_prune.specs.Places.{places as places_of}
-use Rattle.pg_prune.specs.Standing.{all_standing}
-use Rattle.pg_prune.specs.Trails.{IsTrail}
+use Rattle.pg_prune.specs.Inside.Standing.{all_standing}
+use Rattle.pg_prune.specs.Inside.Trails.{IsTrail}
 use Rattle.pg_prune.proofs.gather.gather.Given as goal
 
 abbrev pub invariant-entries : goal.invariant-entries

@@ -1,5 +1,5 @@
 use Rattle.std.proofs.Common.{◌≡◌, take}
-use Rattle.pg_prune.specs.Picks.{picked}
+use Rattle.pg_prune.specs.Inside.Picks.{picked}
 use Rattle.pg_prune.proofs.kept.kept_patterns.Given as goal
 
 abbrev pub invariant-entries : goal.invariant-entries

@@ -2,8 +2,8 @@ use Rattle.std.proofs.Common.{◌≡◌, ◌<◌, ◌-◌, ◌^◌, ◌∙◌, �
 use Rattle.std.proofs.Math.Seq.{take-append_seam}
 use Rattle.std.specs.Prelude.{replicate}
 use Rattle.pg_select.specs.Windows.{Patterns}
-use Rattle.pg_prune.specs.Holders.{holder_counts}
-use Rattle.pg_prune.specs.Turns.{IsTallied}
+use Rattle.pg_prune.specs.Inside.Holders.{holder_counts}
+use Rattle.pg_prune.specs.Inside.Turns.{IsTallied}
 use Rattle.pg_prune.proofs.HolderSteps.{none_tallied, replicate_more, turn_after, turn_awaited, with_next}
 use Rattle.pg_prune.proofs.rounds.all_holders.Goals as goal
 

@@ -1,8 +1,8 @@
 use Rattle.std.proofs.Common.{◌≡◌, List, map, take}
 use Rattle.std.specs.Prelude.{replicate}
 use Rattle.pg_prune.specs.Places.{WordPlace}
-use Rattle.pg_prune.specs.Picks.{IsGround}
-use Rattle.pg_prune.specs.Turns.{IsTallied}
+use Rattle.pg_prune.specs.Inside.Picks.{IsGround}
+use Rattle.pg_prune.specs.Inside.Turns.{IsTallied}
 use Rattle.pg_prune.proofs.rounds.all_holders.Given as goal
 
 abbrev pub invariant-places : goal.invariant-places

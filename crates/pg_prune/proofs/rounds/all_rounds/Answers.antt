@@ -1,11 +1,11 @@
 use Rattle.std.proofs.Common.{◌≡◌, ◌≢◌, ◌<◌, ◌≤◌, ◌+◌, ◌∙◌, map, length, ap, sym, subst, arith}
 use Rattle.std.specs.List.{range_with_len}
-use Rattle.pg_prune.specs.Picks.{RoundStart, RoundDone}
+use Rattle.pg_prune.specs.Inside.Picks.{RoundStart, RoundDone}
 use Rattle.pg_prune.proofs.RoundsSteps.{RoundsSoFar, rounds_begin, round_fewer, rounds_next, rounds_end_with}
 use Rattle.pg_prune.proofs.rounds.all_rounds.Goals as goal
 
 pub rounds-init : goal.rounds-init
-rounds-init c = (
+rounds-init g c = (
   omega arith,
   λ places s.
       let P = c.args.patterns.now in
@@ -15,12 +15,12 @@ rounds-init c = (
 )
 
 pub round-requires : goal.round-requires
-round-requires c =
+round-requires g c =
     let r = c.rounds.invariant.1 c.requires.0 c.requires.1 in
     (c.requires.0, subst (λ ks. RoundStart c.requires.0 c.args.patterns.now (map (λ v. v.items) c.args.standing.now) c.rounds.holders ks) (sym c.as_slice.ensures.value) r.ready)
 
 pub returns-then-len : goal.returns-then-len
-returns-then-len c = λ places s.
+returns-then-len g c = λ places s.
     let P = c.args.patterns.now in
     let stands = map (λ v. v.items) c.args.standing.now in
     let r = c.rounds.invariant.1 places s in
@@ -30,7 +30,7 @@ returns-then-len c = λ places s.
     record { ready = end.0; done = end.1 }
 
 pub rounds-smaller : goal.rounds-smaller
-rounds-smaller c =
+rounds-smaller g c =
     let P = c.args.patterns.now in
     let stands = map (λ v. v.items) c.args.standing.now in
     let r = c.rounds.invariant.1 c.requires.0 c.requires.1 in
@@ -40,7 +40,7 @@ rounds-smaller c =
     less
 
 pub rounds-preserved : goal.rounds-preserved
-rounds-preserved c = (
+rounds-preserved g c = (
   (let P = c.args.patterns.now in
       let stands = map (λ v. v.items) c.args.standing.now in
       let r = c.rounds.invariant.1 c.requires.0 c.requires.1 in

@@ -1,7 +1,7 @@
 use Rattle.std.proofs.Common.{drop}
 use Rattle.pg_prune.specs.Prunes.{break_alike_at}
-use Rattle.pg_prune.specs.Standing.{stands}
-use Rattle.pg_prune.specs.Turns.{Turn, with_entry, without_entry, IsHeld}
+use Rattle.pg_prune.specs.Inside.Standing.{stands}
+use Rattle.pg_prune.specs.Inside.Turns.{Turn, with_entry, without_entry, IsHeld}
 use Rattle.pg_prune.proofs.TurnLaws.{Looked}
 use Rattle.pg_prune.proofs.rounds.first_need.Given as goal
 

@@ -1,7 +1,7 @@
 use Rattle.std.proofs.Common.{◌≡◌, List, map}
 use Rattle.pg_prune.specs.Places.{WordPlace}
 use Rattle.pg_prune.specs.Prunes.{need_at}
-use Rattle.pg_prune.specs.Picks.{RoundStart}
+use Rattle.pg_prune.specs.Inside.Picks.{RoundStart}
 use Rattle.pg_prune.proofs.NeedSteps.{NeedsSoFar}
 use Rattle.pg_prune.proofs.rounds.needs.Given as goal
 

@@ -1,5 +1,5 @@
 use Rattle.std.proofs.Common.{◌∙◌, ◌+◌, if◌then◌else◌, map, get_or, drop, sym, subst, ap}
-use Rattle.pg_prune.specs.Turns.{with_entry, without_entry, IsTallied}
+use Rattle.pg_prune.specs.Inside.Turns.{with_entry, without_entry, IsTallied}
 use Rattle.pg_prune.proofs.RoundSteps.{Rounding, rounding_begins, rounding_at, turn_at, turn_of, rounding_goes, rounding_stays, rounding_ends}
 use Rattle.pg_prune.proofs.TurnSteps.{none_left}
 use Rattle.pg_prune.proofs.rounds.round.Goals as goal

@@ -1,6 +1,6 @@
 use Rattle.std.proofs.Common.{drop, List, map}
 use Rattle.pg_prune.specs.Places.{WordPlace}
-use Rattle.pg_prune.specs.Picks.{RoundStart}
+use Rattle.pg_prune.specs.Inside.Picks.{RoundStart}
 use Rattle.pg_prune.proofs.RoundSteps.{Rounding}
 use Rattle.pg_prune.proofs.rounds.round.Given as goal
 

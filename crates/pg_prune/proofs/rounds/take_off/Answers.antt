@@ -1,5 +1,5 @@
 use Rattle.std.proofs.Common.{◌<◌, ◌-◌, ◌∙◌, length, get_or, ap, sym, subst, arith}
-use Rattle.pg_prune.specs.Holders.{less_one}
+use Rattle.pg_prune.specs.Inside.Holders.{less_one}
 use Rattle.pg_prune.proofs.TurnLaws.{there_less, there_some}
 use Rattle.pg_prune.proofs.TurnSteps.{off_begins, off_steps, off_ends}
 use Rattle.pg_prune.proofs.rounds.take_off.Goals as goal

@@ -1,7 +1,7 @@
 use Rattle.std.proofs.Common.{drop}
-use Rattle.pg_prune.specs.Standing.{stands}
-use Rattle.pg_prune.specs.Holders.{holder_counts}
-use Rattle.pg_prune.specs.Turns.{Turn, with_entry, without_entry, IsHeld}
+use Rattle.pg_prune.specs.Inside.Standing.{stands}
+use Rattle.pg_prune.specs.Inside.Holders.{holder_counts}
+use Rattle.pg_prune.specs.Inside.Turns.{Turn, with_entry, without_entry, IsHeld}
 use Rattle.pg_prune.proofs.Walks.{Walked}
 use Rattle.pg_prune.proofs.rounds.take_off.Given as goal
 

@@ -1,6 +1,6 @@
 use Rattle.std.proofs.Common.{◌≡◌, take}
 use Rattle.std.specs.List.{filter}
-use Rattle.pg_prune.specs.Trails.{continues_with as continues_with_by}
+use Rattle.pg_prune.specs.Inside.Trails.{continues_with as continues_with_by}
 use Rattle.pg_prune.proofs.trail.longer.Given as goal
 
 abbrev pub invariant-starts : goal.invariant-starts

@@ -1,5 +1,5 @@
 use Rattle.std.proofs.Common.{◌++◌, ◌∷◌, [], ap, ◌∙◌}
-use Rattle.pg_prune.specs.Trails.{start_at}
+use Rattle.pg_prune.specs.Inside.Trails.{start_at}
 use Rattle.pg_prune.proofs.TrailStarts.{start_more}
 use Rattle.pg_prune.proofs.trail.push_starts.Goals as goal
 

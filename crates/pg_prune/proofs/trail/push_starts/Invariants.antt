@@ -1,5 +1,5 @@
 use Rattle.std.proofs.Common.{◌≡◌, ◌++◌}
-use Rattle.pg_prune.specs.Trails.{starts_in}
+use Rattle.pg_prune.specs.Inside.Trails.{starts_in}
 use Rattle.pg_prune.proofs.trail.push_starts.Given as goal
 
 abbrev pub invariant-signs : goal.invariant-signs

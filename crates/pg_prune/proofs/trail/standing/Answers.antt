@@ -1,6 +1,6 @@
 use Rattle.std.proofs.Common.{◌++◌, ◌∷◌, [], List, Vec, Global, ℕ, ap, ◌∙◌}
 use Rattle.pg_select.specs.CountedPositions.{minima_of}
-use Rattle.pg_prune.specs.Trails.{place_of}
+use Rattle.pg_prune.specs.Inside.Trails.{place_of}
 use Rattle.pg_prune.proofs.TrailLists.{given_more, given_none}
 use Rattle.pg_prune.proofs.trail.standing.Goals as goal
 use Rattle.pg_prune.proofs.trail.standing.Goals.{in-Some+in_ok-push, in_default}

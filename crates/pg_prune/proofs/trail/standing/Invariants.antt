@@ -1,7 +1,7 @@
 use Rattle.std.proofs.Common.{◌≡◌, take}
 use Rattle.std.specs.List.{filter_map}
 use Rattle.pg_select.specs.CountedPositions.{minima_of}
-use Rattle.pg_prune.specs.Trails.{place_of as place_by}
+use Rattle.pg_prune.specs.Inside.Trails.{place_of as place_by}
 use Rattle.pg_prune.proofs.trail.standing.Given as goal
 
 abbrev pub invariant-starts : goal.invariant-starts

@@ -6,7 +6,7 @@ use Rattle.pg_top.specs.Commands.{texts_of}
 use Rattle.pg_top.specs.Readings.{first_end}
 use Rattle.pg_top.specs.Requests.{FileNames, ToAudit}
 use Rattle.pg_top.specs.Selecting.{inputs_of, inputs_in, HasInputs}
-use Rattle.pg_top.specs.Verdicts.{wanted_files, end_of, outcome_by}
+use Rattle.pg_top.specs.Inside.Verdicts.{wanted_files, end_of, outcome_by}
 use Rattle.pg_top.specs.declared.inputs.Stop.TheVariants.{Memory}
 use Rattle.pg_top.proofs.InputOrder.{inputs_wanted}
 use Rattle.pg_top.proofs.Judgements.{outcome_audited, stopped_given, found_given}
@@ -34,9 +34,8 @@ returns-in_err-inputs-clause-stopped g c =
 
 pub returns-in_err-verdict-clause-stopped : goal.returns-in_err-verdict-clause-stopped
 returns-in_err-verdict-clause-stopped g c =
-    let stops = rw c.deref.ensures.value at c.in_err-verdict.ensures.stopped in
     let h = stopped_given (texts_of c.args.names.now) c.in_ok-inputs.inputs c.in_ok-wanted.wanted.items (g.F.Files.shown c.args.files.now) (g.F.Files.shown c.read_inputs.new.files) (g.F.Files.shown c.compare_all.new.files) c.in_err-verdict.field-0.0
-    c.in_ok-wanted.ensures c.read_inputs.ensures.reads c.in_ok-inputs.ensures.counted c.compare_all.ensures.held c.in_ok-inputs.ensures.ok stops in
+    c.in_ok-wanted.ensures c.read_inputs.ensures.reads c.in_ok-inputs.ensures.counted c.compare_all.ensures.held c.in_ok-inputs.ensures.ok (rw c.deref.ensures.value at c.in_err-verdict.ensures.stopped) in
     search rules
 
 pub returns-in_err-wanted-clause-stopped : goal.returns-in_err-wanted-clause-stopped

@@ -3,14 +3,19 @@ use Rattle.std.specs.Option.{option_map}
 use Rattle.pg_outside.specs.Content.{FilesShown, file_at}
 use Rattle.pg_top.specs.Outcomes.{Ends}
 use Rattle.pg_top.specs.Readings.{first_end}
-use Rattle.pg_top.specs.Verdicts.{wanted_file, wanted_files, end_of}
+use Rattle.pg_top.specs.Inside.Verdicts.{wanted_file, wanted_files, end_of}
 use Rattle.pg_top.specs.declared.answers.Status.TheVariants.{No}
 use Rattle.pg_top.specs.declared.audit.Verdict.{Verdict}
-use Rattle.pg_top.proofs.CountedCalls.{one_more}
+use Rattle.pg_top.proofs.CountedCalls.{no_calls}
 use Rattle.pg_top.proofs.Faults.{none_fell}
-use Rattle.pg_top.proofs.Judgements.{accepted_more, false_ends, false_found, stopped_there, all_right, all_found}
+use Rattle.pg_top.proofs.Judgements.{accepted_more, called_there, read_there, false_ends, false_found, stopped_there, all_right, all_found}
 use Rattle.pg_top.proofs.Orders.{AreAccepted, held_later, kept_on}
 use Rattle.pg_top.proofs.audit.compare_all.Goals as goal
+
+pub files-init : goal.files-init
+files-init g c =
+    let calls = no_calls (g.F.Files.shown c.args.files.now) in
+    search rules
 
 pub returns-in_err-verdict-clause-stopped : goal.returns-in_err-verdict-clause-stopped
 returns-in_err-verdict-clause-stopped g c =
@@ -19,7 +24,7 @@ returns-in_err-verdict-clause-stopped g c =
     let s1 : FilesShown = g.F.Files.shown c.files.files in
     let s2 : FilesShown = g.F.Files.shown c.compare_file.new.files in
     let right = held_later s1.held s2.held (λ files. AreAccepted (file_at files) (take c.files.i (wanted_files ws))) c.compare_file.ensures.held c.files.invariant.right in
-    let h = stopped_there ws c.files.i c.wanted_at.result.now c.wanted_at.ensures s0 s1 s2 c.in_err-verdict.field-0.0 c.files.invariant.reads (one_more c.files.i s0 s1 s2 c.files.invariant.calls c.compare_file.ensures.calls) right c.in_err-verdict.ensures.stopped in
+    let h = stopped_there ws c.files.i c.wanted_at.result.now c.wanted_at.ensures s0 s1 s2 c.in_err-verdict.field-0.0 c.files.invariant.reads (called_there ws c.files.i c.wanted_at.result.now c.wanted_at.ensures s0 s1 s2 c.files.invariant.calls c.compare_file.ensures.calls) right c.in_err-verdict.ensures.stopped in
     search rules
 
 pub returns-in-False-clause-ok : goal.returns-in-False-clause-ok
@@ -44,7 +49,7 @@ files-preserved g c =
     record {
       held = kept_on s0.held s1.held s2.held c.files.invariant.held c.compare_file.ensures.held;
       reads = none_fell s0.read_faults s1.read_faults s2.read_faults c.files.invariant.reads c.compare_file.ensures.reads;
-      calls = one_more c.files.i s0 s1 s2 c.files.invariant.calls c.compare_file.ensures.calls;
+      calls = read_there ws c.files.i w c.wanted_at.ensures s0 s1 s2 c.files.invariant.calls c.compare_file.ensures.calls;
       right = accepted_more ws c.files.i w c.wanted_at.ensures s2.held right here;
     }
 
@@ -60,7 +65,7 @@ returns-in-False-clause-counted g c =
     let s2 : FilesShown = g.F.Files.shown c.compare_file.new.files in
     let right = held_later s1.held s2.held (λ files. AreAccepted (file_at files) (take c.files.i (wanted_files ws))) c.compare_file.ensures.held c.files.invariant.right in
     let here = subst (λ (v : Verdict). IfSome s2.held (λ files. option_map ((wanted_file w).ends (file_at files)) (file_at files w.name.now) ≡ Some (end_of v))) c.in-False.is c.in_ok-verdict.ensures.ok in
-    false_found ws c.files.i w c.wanted_at.ensures c.in-False.line s0 s2 (one_more c.files.i s0 s1 s2 c.files.invariant.calls c.compare_file.ensures.calls) right here
+    false_found ws c.files.i w c.wanted_at.ensures c.in-False.line s0 s2 (read_there ws c.files.i w c.wanted_at.ensures s0 s1 s2 c.files.invariant.calls c.compare_file.ensures.calls) right here
 
 pub returns-clause-counted : goal.returns-clause-counted
 returns-clause-counted g c = all_found c.args.wanted.now c.files.i (g.F.Files.shown c.args.files.now) (g.F.Files.shown c.files.files) (omega arith) c.files.invariant.calls

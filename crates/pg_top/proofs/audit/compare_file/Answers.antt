@@ -3,7 +3,7 @@ use Rattle.std.specs.Option.{option_map}
 use Rattle.pg_audit.specs.Differences.{first_false}
 use Rattle.pg_outside.specs.Content.{FilesShown, file_at}
 use Rattle.pg_top.specs.Auditing.{denies}
-use Rattle.pg_top.specs.Verdicts.{wanted_file, end_of, IsFrontOf}
+use Rattle.pg_top.specs.Inside.Verdicts.{wanted_file, end_of, IsFrontOf}
 use Rattle.pg_top.proofs.GivenFronts.{front_stop}
 use Rattle.pg_top.proofs.Judgements.{judged}
 use Rattle.pg_top.proofs.Orders.{mapped}

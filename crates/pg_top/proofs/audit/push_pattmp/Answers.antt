@@ -1,5 +1,5 @@
 use Rattle.std.proofs.Common.{◌++◌, ◌∷◌, [], ◌∙◌, List, ℕ, ap}
-use Rattle.pg_top.specs.Verdicts.{wanted_files}
+use Rattle.pg_top.specs.Inside.Verdicts.{wanted_files}
 use Rattle.pg_top.specs.declared.audit.Wanted.{Wanted}
 use Rattle.pg_top.specs.declared.inputs.Given.TheVariants.{Pattmp}
 use Rattle.pg_top.proofs.Judgements.{one_wanted, reading_of}

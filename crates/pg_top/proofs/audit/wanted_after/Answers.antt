@@ -5,7 +5,7 @@ use Rattle.pg_top.specs.Commands.{name_now}
 use Rattle.pg_top.specs.Readings.{Reading}
 use Rattle.pg_top.specs.Requests.{if_asked}
 use Rattle.pg_top.specs.Selection.{selected_text}
-use Rattle.pg_top.specs.Verdicts.{wanted_file, wanted_files}
+use Rattle.pg_top.specs.Inside.Verdicts.{wanted_file, wanted_files}
 use Rattle.pg_top.specs.declared.audit.Wanted.{Wanted}
 use Rattle.pg_top.specs.declared.inputs.Given.TheVariants.{Patterns, Pattmp, Report}
 use Rattle.pg_top.proofs.Selections.{text_selected, report_selected}

@@ -1,7 +1,7 @@
 use Rattle.std.proofs.Common.{◌+◌, ◌∙◌, Some, ap}
 use Rattle.pg_packed.specs.Starts.{pattern_families}
 use Rattle.pg_select.specs.Meanings.{Meaning}
-use Rattle.pg_packed.specs.Engines.{meaning_of}
+use Rattle.pg_packed.specs.Inside.Engines.{meaning_of}
 use Rattle.pg_top.proofs.Selections.{cells_packed}
 use Rattle.pg_top.proofs.outputs.make_outputs.Goals as goal
 

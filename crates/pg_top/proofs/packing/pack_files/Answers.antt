@@ -4,7 +4,7 @@ use Rattle.pg_top.specs.Calls.{outcome_of}
 use Rattle.pg_top.specs.Outcomes.{Ends}
 use Rattle.pg_top.specs.Promises.{PackKeeps}
 use Rattle.pg_top.specs.Requests.{ToPack}
-use Rattle.pg_top.specs.Sources.{HasSource}
+use Rattle.pg_top.specs.Inside.Sources.{HasSource}
 use Rattle.pg_top.specs.Writings.{writing_of}
 use Rattle.pg_top.specs.declared.answers.Status.TheVariants.{Done}
 use Rattle.pg_top.proofs.Calls.{stops_reading}
@@ -40,4 +40,4 @@ returns-clause-kept g c =
     let s = c.in_ok-source.source in
     let made = c.in_ok-outputs.outputs in
     mapped (g.F.Files.shown c.read_source.new.files).held (λ files. HasSource (file_at files) p t s) (λ files. PackKeeps (file_at files) p t n)
-    (λ files h. pack_keeps p t n s (writing_of made.files.items) made.lines.items files c.in_ok-outputs.ensures.made c.in_ok-outputs.ensures.table c.in_ok-outputs.ensures.gives h) c.in_ok-source.ensures.ok
+    (λ files h. pack_keeps p t n s (writing_of made.files.items) made.lines.items files c.in_ok-outputs.ensures.made c.in_ok-outputs.ensures.table c.in_ok-outputs.ensures.accepted c.in_ok-outputs.ensures.gives h) c.in_ok-source.ensures.ok

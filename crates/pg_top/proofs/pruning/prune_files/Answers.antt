@@ -2,7 +2,7 @@ use Rattle.std.proofs.Common.{◌≡◌, ◌∙◌, arith, rules}
 use Rattle.pg_outside.specs.Content.{file_at}
 use Rattle.pg_top.specs.Calls.{outcome_of}
 use Rattle.pg_top.specs.Outcomes.{Ends}
-use Rattle.pg_top.specs.PruneInputs.{prune_of, HasPrune}
+use Rattle.pg_top.specs.Inside.PruneInputs.{prune_of, HasPrune}
 use Rattle.pg_top.specs.Promises.{PruneKeeps}
 use Rattle.pg_top.specs.Pruning.{prune_reads}
 use Rattle.pg_top.specs.Requests.{PruneRequest, ToPrune}
@@ -41,4 +41,4 @@ pub returns-clause-kept : goal.returns-clause-kept
 returns-clause-kept g c =
     let p : PruneRequest = prune_of c.args.names.now in
     let i = c.in_ok-inputs.inputs in
-    mapped (g.F.Files.shown c.read_prune.new.files).held (λ files. HasPrune (file_at files) p i) (λ files. PruneKeeps (file_at files) p) (prune_keeps p i) c.in_ok-inputs.ensures.ok
+    mapped (g.F.Files.shown c.read_prune.new.files).held (λ files. HasPrune (file_at files) p i) (λ files. PruneKeeps (file_at files) p) (λ files h. prune_keeps p i files c.in_ok-outputs.ensures.reads_back h) c.in_ok-inputs.ensures.ok

@@ -1,4 +1,6 @@
-use Rattle.std.proofs.Common.{List, [], ◌∷◌, ◌++◌, length, ◌∙◌, ap}
+use Rattle.std.proofs.Common.{◌≤◌, ℕ, List, [], ◌∷◌, ◌++◌, length, Ok, ◌∙◌, sym, ap, subst}
+use Rattle.pg_types.specs.declared.limits.TheConstants.{FILE_MAX}
+use Rattle.pg_patterns.specs.Starts.{start}
 use Rattle.pg_patterns.specs.Texts.{pattern_text}
 use Rattle.pg_top.specs.PrintedLines.{pruned_line}
 use Rattle.pg_top.specs.Writings.{writing_of}
@@ -16,5 +18,6 @@ returns c =
     let kept = c.len.ensures.value ∙ ap length c.patterns-kept.ensures in
     record {
       files = ap writing_of both ∙ (λ k. (names.output.now, text k) ∷ (names.report.now, c.in_ok-report.ensures k) ∷ []);
+      reads_back = λ short. ap (start c.args.table.now) (sym text) ∙ c.in_ok-text.ensures.read_back (subst (λ (b : List ℕ). length b ≤ FILE_MAX) (sym text) short) ∙ ap Ok c.patterns-kept.ensures;
       lines = c.in_ok-lines.ensures ∙ (λ k. pruned_line (c.rounds.ensures k) (c.removed.ensures k) (kept k));
     }

@@ -1,5 +1,5 @@
 use Rattle.std.proofs.Common.{◌∙◌, sym, subst}
-use Rattle.pg_translate.specs.Rules.{KeepsRules}
+use Rattle.pg_translate.specs.Inside.Rules.{KeepsRules}
 use Rattle.pg_dict.specs.Words.{words}
 use Rattle.pg_top.proofs.SampleReads.{only_memory, dictionary_is}
 use Rattle.pg_top.proofs.SampleWords.{sample_accepted}

@@ -1,6 +1,7 @@
-use Rattle.std.proofs.Common.{◌≡◌, length, take, IfSome}
+use Rattle.std.proofs.Common.{◌≡◌, length, map, take, IfSome}
 use Rattle.pg_outside.specs.Content.{KeepsHeld, file_at}
 use Rattle.pg_outside.specs.Faults.{NoneFell}
+use Rattle.pg_outside.specs.FilesCalls.{Reads}
 use Rattle.pg_top.specs.Commands.{words_of}
 use Rattle.pg_top.specs.Counted.{MakesCalls}
 use Rattle.pg_top.specs.Sweeping.{HasSets}
@@ -15,6 +16,6 @@ invariant-sets g l =
       reads : NoneFell s0.read_faults s.read_faults;
       writes : NoneFell s0.write_faults s.write_faults;
       taken : IfSome s.held (λ files. HasSets (file_at files) (words_of (take l.i l.names)) l.sets.items);
-      calls : MakesCalls s0 s l.i;
+      calls : MakesCalls s0 s (map Reads (words_of (take l.i l.names)));
       count : length l.sets.items ≡ l.i;
     }

@@ -7,7 +7,7 @@ use Rattle.pg_top.specs.Commands.{sweep_of}
 use Rattle.pg_top.specs.Outcomes.{Ends}
 use Rattle.pg_top.specs.Promises.{SweepNames}
 use Rattle.pg_top.specs.Requests.{ToSweep}
-use Rattle.pg_top.specs.SweepInputs.{terms_of}
+use Rattle.pg_top.specs.Inside.SweepInputs.{terms_of}
 use Rattle.pg_top.specs.Sweeping.{sweep_reads, HasSweep}
 use Rattle.pg_top.specs.Writings.{writing_of}
 use Rattle.pg_top.specs.declared.answers.Status.TheVariants.{Done}

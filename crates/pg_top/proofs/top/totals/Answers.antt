@@ -1,4 +1,3 @@
-use Rattle.std.proofs.Common.{inr}
 use Rattle.pg_top.specs.Requests.{ToTotals}
 use Rattle.pg_top.specs.declared.answers.Status.TheVariants.{Done}
 use Rattle.pg_top.proofs.CountedEnds.{counted_line, counted_stop}
@@ -9,20 +8,18 @@ pub returns-in-Ok-clause-call : goal.returns-in-Ok-clause-call
 returns-in-Ok-clause-call g c =
     answered_call (ToTotals c.args.dict.now c.args.translate.now c.args.table.now) Done c.in-Ok.lines.items
     (g.F.Files.shown c.args.files.now) (g.F.Files.shown c.total_files.new.files) (g.O.Sink.shown c.args.out.now) (g.O.Sink.shown c.answer.new.out) c.answer.result
-    tt tt c.in-Ok.ensures.held c.in-Ok.ensures.ok (rw c.deref.ensures.value at c.answer.ensures.put)
+    tt tt (c.in-Ok.ensures.counted, c.answer.ensures.counted) c.in-Ok.ensures.held c.in-Ok.ensures.ok (rw c.deref.ensures.value at c.answer.ensures.put)
 
 pub returns-in-Err-clause-call : goal.returns-in-Err-clause-call
 returns-in-Err-clause-call g c =
     stopped_command (ToTotals c.args.dict.now c.args.translate.now c.args.table.now) (g.F.Files.shown c.args.files.now) (g.F.Files.shown c.total_files.new.files) (g.O.Sink.shown c.args.out.now) (g.O.Sink.shown c.put_stop.new.out) c.in-Err.stop c.put_stop.result
-    tt c.in-Err.ensures.held c.in-Err.ensures.stopped c.put_stop.ensures.put
+    tt c.in-Err.ensures.held c.in-Err.ensures.stopped c.put_stop.ensures.put c.put_stop.ensures.counted
 
 pub returns-in-Ok-clause-counted : goal.returns-in-Ok-clause-counted
 returns-in-Ok-clause-counted g c =
-    let calls = c.in-Ok.ensures.counted in
-    let put = c.answer.ensures.counted in
     counted_line (ToTotals c.args.dict.now c.args.translate.now c.args.table.now) Done c.in-Ok.lines.items
     (g.F.Files.shown c.args.files.now) (g.F.Files.shown c.total_files.new.files) (g.O.Sink.shown c.args.out.now) (g.O.Sink.shown c.answer.new.out) c.answer.result
-    (calls, put) (inr (inr (inr (calls, put)))) (rw c.deref.ensures.value at c.answer.ensures.put)
+    (c.in-Ok.ensures.counted, c.answer.ensures.counted) (rw c.deref.ensures.value at c.answer.ensures.put)
 
 pub returns-in-Err-clause-counted : goal.returns-in-Err-clause-counted
 returns-in-Err-clause-counted g c =

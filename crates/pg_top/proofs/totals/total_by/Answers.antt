@@ -6,7 +6,7 @@ use Rattle.pg_table.specs.declared.limits.TheConstants.{TABLE_MAX}
 use Rattle.pg_texts.specs.ReportTexts.{ending_text}
 use Rattle.pg_top.specs.PackedTables.{packed_table, totals_lines}
 use Rattle.pg_top.specs.Readings.{read_as}
-use Rattle.pg_top.specs.Sources.{IsTotalled}
+use Rattle.pg_top.specs.Inside.Sources.{IsTotalled}
 use Rattle.pg_top.specs.declared.inputs.Input.TheVariants as input
 use Rattle.pg_top.proofs.Fronts.{packed_table-front, read_up_to, stopped_up_to}
 use Rattle.pg_top.proofs.Orders.{mapped}

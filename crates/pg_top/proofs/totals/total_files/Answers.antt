@@ -1,13 +1,14 @@
 use Rattle.std.proofs.Common.{◌∷◌, [], IfSome, rules}
 use Rattle.pg_dict.specs.Words.{words}
 use Rattle.pg_outside.specs.Content.{FilesShown}
+use Rattle.pg_outside.specs.FilesCalls.{Reads}
 use Rattle.pg_translate.specs.Tables.{table}
 use Rattle.pg_top.specs.PackedTables.{file_under, packed_table}
 use Rattle.pg_top.specs.Readings.{input_file}
 use Rattle.pg_top.specs.Requests.{ToTotals}
 use Rattle.pg_top.specs.declared.inputs.Input.TheVariants as input
 use Rattle.pg_top.proofs.Calls.{stops_reading}
-use Rattle.pg_top.proofs.CountedCalls.{one_more}
+use Rattle.pg_top.proofs.CountedCalls.{calls_on}
 use Rattle.pg_top.proofs.Faults.{none_fell}
 use Rattle.pg_top.proofs.PackedOrder.{HasWords, words_read, totals_told, stopped_table}
 use Rattle.pg_top.proofs.UnderTable.{stopped_first, stopped_second}
@@ -45,7 +46,7 @@ returns-in_err-dictionary-clause-stopped g c =
     let s1 : FilesShown = g.F.Files.shown c.read_table.new.files in
     let s2 : FilesShown = g.F.Files.shown c.read_dictionary.new.files in
     let letters = c.in_ok-letters.letters in
-    let reading = stopped_second t letters words input.Dictionary d (file_under t input.Table n packed_table ∷ []) s0 s1 s2 c.in_err-dictionary.field-0.0 c.read_table.ensures.reads (one_more 1 s0 s1 s2 c.read_table.ensures.calls c.read_dictionary.ensures.calls) c.read_dictionary.ensures.held c.in_ok-letters.ensures.ok c.in_err-dictionary.ensures.stopped in
+    let reading = stopped_second t letters words input.Dictionary d (file_under t input.Table n packed_table ∷ []) s0 s1 s2 c.in_err-dictionary.field-0.0 c.read_table.ensures.reads (calls_on (Reads t ∷ []) (Reads d ∷ []) s0 s1 s2 c.read_table.ensures.calls c.read_dictionary.ensures.calls) c.read_dictionary.ensures.held c.in_ok-letters.ensures.ok c.in_err-dictionary.ensures.stopped in
     let h = stops_reading (ToTotals d t n) s0 s2 c.in_err-dictionary.field-0.0 reading in
     search rules
 
@@ -61,13 +62,16 @@ returns-in_err-lines-clause-stopped g c =
     let letters = c.in_ok-letters.letters in
     let ws = c.in_ok-dictionary.dictionary in
     let two : IfSome s2.held (HasWords d t letters ws) = words_read d t letters ws s1.held s2.held c.read_dictionary.ensures.held c.in_ok-letters.ensures.ok c.in_ok-dictionary.ensures.ok in
-    let reading = stopped_table d t n letters ws s0 s2 s3 c.in_err-lines.field-0.0 (none_fell s0.read_faults s1.read_faults s2.read_faults c.read_table.ensures.reads c.read_dictionary.ensures.reads) (one_more 2 s0 s2 s3 (one_more 1 s0 s1 s2 c.read_table.ensures.calls c.read_dictionary.ensures.calls) c.total_by.ensures.calls) c.total_by.ensures.held two c.in_err-lines.ensures.stopped in
+    let reading = stopped_table d t n letters ws s0 s2 s3 c.in_err-lines.field-0.0 (none_fell s0.read_faults s1.read_faults s2.read_faults c.read_table.ensures.reads c.read_dictionary.ensures.reads) (calls_on (Reads t ∷ Reads d ∷ []) (Reads n ∷ []) s0 s2 s3 (calls_on (Reads t ∷ []) (Reads d ∷ []) s0 s1 s2 c.read_table.ensures.calls c.read_dictionary.ensures.calls) c.total_by.ensures.calls) c.total_by.ensures.held two c.in_err-lines.ensures.stopped in
     let h = stops_reading (ToTotals d t n) s0 s3 c.in_err-lines.field-0.0 reading in
     search rules
 
 pub returns-clause-counted : goal.returns-clause-counted
 returns-clause-counted g c =
+    let d = c.args.dict.now in
+    let t = c.args.translate.now in
+    let n = c.args.table.now in
     let s0 : FilesShown = g.F.Files.shown c.args.files.now in
     let s1 : FilesShown = g.F.Files.shown c.read_table.new.files in
     let s2 : FilesShown = g.F.Files.shown c.read_dictionary.new.files in
-    one_more 2 s0 s2 (g.F.Files.shown c.total_by.new.files) (one_more 1 s0 s1 s2 c.read_table.ensures.calls c.read_dictionary.ensures.calls) c.total_by.ensures.calls
+    calls_on (Reads t ∷ Reads d ∷ []) (Reads n ∷ []) s0 s2 (g.F.Files.shown c.total_by.new.files) (calls_on (Reads t ∷ []) (Reads d ∷ []) s0 s1 s2 c.read_table.ensures.calls c.read_dictionary.ensures.calls) c.total_by.ensures.calls

@@ -1,7 +1,7 @@
-use Rattle.std.proofs.Common.{drop}
+use Rattle.std.proofs.Common.{drop, take}
 use Rattle.pg_outside.specs.Faults.{NoneFell}
-use Rattle.pg_top.specs.Counted.{MakesCalls}
-use Rattle.pg_top.specs.Writings.{writing_of}
+use Rattle.pg_top.specs.Counted.{MakesCalls, write_calls}
+use Rattle.pg_top.specs.Writings.{writing_of, written_names}
 use Rattle.pg_top.proofs.Writings.{Continues, OfHeld}
 use Rattle.pg_top.proofs.writes.write_all.Given as goal
 
@@ -13,5 +13,5 @@ invariant-writes g l =
       so_far : OfHeld s0.held s.held (λ before mid. Continues before mid (writing_of l.outputs) (writing_of (drop l.i l.outputs)));
       reads : NoneFell s0.read_faults s.read_faults;
       writes : NoneFell s0.write_faults s.write_faults;
-      calls : MakesCalls s0 s l.i;
+      calls : MakesCalls s0 s (write_calls (take l.i (written_names (writing_of l.outputs))));
     }

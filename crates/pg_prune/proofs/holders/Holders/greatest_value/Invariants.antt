@@ -1,5 +1,5 @@
 use Rattle.std.proofs.Common.{◌≡◌, drop}
-use Rattle.pg_prune.specs.Holders.{greatest_value_from, greatest_value}
+use Rattle.pg_prune.specs.Inside.Holders.{greatest_value_from, greatest_value}
 use Rattle.pg_prune.proofs.holders.Holders.greatest_value.Given as goal
 
 abbrev pub invariant-counts : goal.invariant-counts

@@ -3,8 +3,8 @@ use Rattle.std.specs.List.{filter}
 use Rattle.std.proofs.lemmas.List.{take-map, map-append, take_more}
 use Rattle.std.proofs.lemmas.List.Elements.{All-filter, All-same}
 use Rattle.pg_prune.specs.declared.trail.Start.{Start}
-use Rattle.pg_prune.specs.Trails.{IsStart, begins_at, starts_of, trail_upto, last_of}
-use Rattle.pg_prune.specs.Trails.{continues_with as continues_with_by}
+use Rattle.pg_prune.specs.Inside.Trails.{IsStart, begins_at, starts_of, trail_upto, last_of}
+use Rattle.pg_prune.specs.Inside.Trails.{continues_with as continues_with_by}
 use Rattle.pg_prune.proofs.TrailSteps.{longer_starts, last_trail, trail_more, trail_cut}
 use Rattle.pg_prune.proofs.trail.Trail.go_to.Goals as goal
 

@@ -1,5 +1,5 @@
 use Rattle.std.proofs.Common.{◌≡◌, take, map}
-use Rattle.pg_prune.specs.Trails.{trail_upto}
+use Rattle.pg_prune.specs.Inside.Trails.{trail_upto}
 use Rattle.pg_prune.proofs.trail.Trail.go_to.Given as goal
 
 abbrev pub invariant-signs : goal.invariant-signs

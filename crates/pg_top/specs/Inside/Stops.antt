@@ -6,13 +6,13 @@ use Rattle.pg_types.specs.declared.refusals.ReadingError.TheVariants as reader
 use Rattle.pg_outside.specs.Content.{FilesShown, SinkShown, file_at}
 use Rattle.pg_outside.specs.Faults.{Rose}
 use Rattle.pg_top.specs.Calls.{outcome_of, reads_of}
-use Rattle.pg_top.specs.Counted.{ReadsUpTo, EndsAt}
+use Rattle.pg_top.specs.Counted.{MakesCalls, MakesPuts, PutsFault, write_calls, ReadsUpTo, EndsAt}
 use Rattle.pg_top.specs.Moments.{Moment, Puts, PutsPart, PutRose, PutOrRose}
 use Rattle.pg_top.specs.Outcomes.{Outcome, Writing, refuses}
 use Rattle.pg_top.specs.PrintedLines.{refused_line, reading_line, writing_line}
 use Rattle.pg_top.specs.Readings.{Reading, first_end}
 use Rattle.pg_top.specs.Requests.{Request}
-use Rattle.pg_top.specs.Writings.{WroteAll, StoppedAt}
+use Rattle.pg_top.specs.Writings.{written_names, WroteAll, StoppedAt}
 use Rattle.pg_top.specs.declared.answers.Status.{Status}
 use Rattle.pg_top.specs.declared.answers.Status.TheVariants as status
 use Rattle.pg_top.specs.declared.inputs.Input.{Input}
@@ -22,11 +22,14 @@ use Rattle.pg_top.specs.declared.inputs.Stop.TheVariants.{Refused, Unread, Memor
 -- why reading one file stopped: it is refused, its read faults rose, or memory was wanted
 abbrev pub StopsAt : Reading → FilesShown → FilesShown → Stop → Type 0
 StopsAt r old new (Refused input refusal) = IfSome new.held (λ files.
-    option_map (r.ends (file_at files)) (file_at files r.name) ≡ Some (Some (refuses input refusal)))
-StopsAt r old new (Unread name) = (name.now ≡ r.name) × Rose (old.read_faults name.now) (new.read_faults name.now)
+    option_map (r.ends (file_at files)) (file_at files r.name)
+    ≡ Some (Some (refuses input refusal)))
+StopsAt r old new (Unread name) = (name.now ≡ r.name)
+    × Rose (old.read_faults name.now) (new.read_faults name.now)
 StopsAt r old new Memory = Unit {0}
 
--- why reading files stopped at a place of the order: the file there is refused, it could not be read, or memory was wanted
+-- why reading files stopped at a place of the order: the file there is refused, it could not be
+-- read, or memory was wanted
 abbrev pub StopsWith : List Reading → ℕ → FilesShown → FilesShown → Stop → Type 0
 StopsWith reads place old new (Refused input refusal) = IfSome new.held (λ files.
     first_end (file_at files) (take (place + 1) reads) ≡ Some (refuses input refusal))
@@ -41,13 +44,15 @@ pub record StopsReading (reads : List Reading) (old new : FilesShown) (stop : St
   pub read : ReadsUpTo reads place old new
   pub why : StopsWith reads place old new stop
 
--- why a command stopped once it had read up to a place: it is refused, by the file there or by all of them, the file
--- there could not be read, or memory was wanted
+-- why a command stopped once it had read up to a place: it is refused, by the file there or by all
+-- of them, the file there could not be read, or memory was wanted
 abbrev pub StopsCommandWith : Request → ℕ → FilesShown → FilesShown → Stop → Type 0
 StopsCommandWith request place old new (Refused input refusal) = IfSome new.held (λ files.
-    (outcome_of (file_at files) request ≡ refuses input refusal) × EndsAt request place (file_at files))
+    (outcome_of (file_at files) request ≡ refuses input refusal)
+    × EndsAt request place (file_at files))
 StopsCommandWith request place old new (Unread name) =
-    (reading : Reading) × (slice_get (reads_of request) place ≡ Some reading) × (reading.name ≡ name.now)
+    (reading : Reading) × (slice_get (reads_of request) place ≡ Some reading)
+    × (reading.name ≡ name.now)
     × Rose (old.read_faults name.now) (new.read_faults name.now)
 StopsCommandWith request place old new Memory = Unit {0}
 
@@ -66,7 +71,8 @@ StopsMaking outcome Memory = Unit {0}
 -- why reading the first bytes of a file stopped: its read faults rose, or memory was wanted
 abbrev pub StopsFront : List ℕ → FilesShown → FilesShown → Stop → Type 0
 StopsFront name old new (Refused input refusal) = ⊥
-StopsFront name old new (Unread at) = (at.now ≡ name) × Rose (old.read_faults at.now) (new.read_faults at.now)
+StopsFront name old new (Unread at) = (at.now ≡ name)
+    × Rose (old.read_faults at.now) (new.read_faults at.now)
 StopsFront name old new Memory = Unit {0}
 
 -- why a command stops at an input whose reader failed
@@ -77,7 +83,8 @@ stop_of input reader.Memory = Memory
 -- the line of an answer was put, or its put failed, which is a fault
 abbrev pub PutsAnswer : List ℕ → Status → Status → SinkShown → SinkShown → Type 0
 PutsAnswer line wanted answer old new =
-    ((answer ≡ wanted) × Puts old new line) ⊎ ((answer ≡ status.Fault) × PutRose old new × PutsPart old new line)
+    ((answer ≡ wanted) × Puts old new line) ⊎
+    ((answer ≡ status.Fault) × PutRose old new × PutsPart old new line)
 
 -- nothing was put for want of memory, or the lines of a command that is done were
 abbrev pub PutsLines : List ℕ → Status → SinkShown → SinkShown → Type 0
@@ -89,12 +96,17 @@ abbrev pub PutsStop : Stop → Status → SinkShown → SinkShown → Type 0
 PutsStop (Refused input refusal) answer old new =
     ((answer ≡ status.Memory) × Puts old new [])
     ⊎ PutsAnswer (refused_line input refusal) status.Refused answer old new
-PutsStop (Unread name) answer old new = (answer ≡ status.Fault) × PutOrRose old new (reading_line name.now)
+PutsStop (Unread name) answer old new = (answer ≡ status.Fault)
+    × PutOrRose old new (reading_line name.now)
 PutsStop Memory answer old new = (answer ≡ status.Memory) × Puts old new []
 
--- all files were written, and the lines put or their put failed; or a write failed, and the line of its fault was put
+-- all files were written, each once, and the lines put at once, or their put failed; or a write
+-- failed, none was made behind it, and the line of its fault was put
 abbrev pub Finishes : Writing → List ℕ → Status → Moment → Moment → Type 0
 Finishes writing lines answer old new =
-    (WroteAll old.0 new.0 writing × PutsAnswer lines status.Done answer old.1 new.1)
+    (WroteAll old.0 new.0 writing × PutsAnswer lines status.Done answer old.1 new.1
+    × MakesCalls old.0 new.0 (write_calls (written_names writing)) × MakesPuts old.1 new.1 1)
     ⊎ ((answer ≡ status.Fault) × (place : ℕ) × (stopped : StoppedAt old.0 new.0 writing place)
-    × PutOrRose old.1 new.1 (writing_line stopped.write.0))
+    × PutOrRose old.1 new.1 (writing_line stopped.write.0)
+    × MakesCalls old.0 new.0 (write_calls (take (place + 1) (written_names writing)))
+    × PutsFault old.1 new.1)

@@ -25,14 +25,16 @@ width m len = width_of (reach m.left m.right len)
 abbrev pub start_at : ℕ → ℕ → ℕ → Start
 start_at word places at = record { word = word; places = places; at = at }
 
--- each sign of a word as a start, where the word has this number, its first place has this number, and it has so many signs
+-- each sign of a word as a start, where the word has this number, its first place has this number,
+-- and it has so many signs
 abbrev pub starts_in : ℕ → ℕ → ℕ → List Start
 starts_in word places len = map (start_at word places) (range_with_len 0 len)
 
 -- each sign of words as a start, where the first word and its first place have these numbers
 abbrev pub starts_from : Minima → ℕ → ℕ → List Word → List Start
 starts_from m word places [] = []
-starts_from m word places (w ∷ ws) = starts_in word places (length w.signs) ++ starts_from m (word + 1) (places + width m (length w.signs)) ws
+starts_from m word places (w ∷ ws) = starts_in word places (length w.signs)
+    ++ starts_from m (word + 1) (places + width m (length w.signs)) ws
 
 -- each sign of all words as a start
 abbrev pub all_starts : Minima → List Word → List Start
@@ -50,7 +52,8 @@ begins_at ws u s = stands_at u (signs_of ws s.word) s.at
 
 -- whether a sign follows so many signs behind a start
 abbrev pub continues_with : List Word → ℕ → ℕ → Start → Bool
-continues_with ws len sign s = nat_lt (s.at + len) (length (signs_of ws s.word)) && nat_eq (slice_index (signs_of ws s.word) (s.at + len)) sign
+continues_with ws len sign s = nat_lt (s.at + len) (length (signs_of ws s.word))
+    && nat_eq (slice_index (signs_of ws s.word) (s.at + len)) sign
 
 -- the starts of a string
 abbrev pub starts_of : List Word → List Start → List ℕ → List Start
@@ -66,13 +69,17 @@ IsTrail ws all u lists = lists ≡ trail_upto ws all u (length u)
 
 -- the last list, or another where there is none
 abbrev pub last_of : List Start → List (List Start) → List Start
-last_of all lists = if nat_eq (length lists) 0 then all else slice_index_or lists (length lists - 1) []
+last_of all lists = if nat_eq (length lists) 0 then all
+    else slice_index_or lists (length lists - 1) []
 
--- the number of the place at this position, where the first place of the word has the number `places`; none where it is out of reach
+-- the number of the place at this position, where the first place of the word has the number
+-- `places`; none where it is out of reach
 abbrev pub place_in : Option (ℕ × ℕ) → ℕ → ℕ → Option ℕ
 place_in None places p = None
-place_in (Some ends) places p = if nat_le ends.0 p && nat_le p ends.1 then Some (places + (p - ends.0)) else None
+place_in (Some ends) places p = if nat_le ends.0 p && nat_le p ends.1
+    then Some (places + (p - ends.0)) else None
 
 -- the number of the place at which the dot of a string stands
 abbrev pub place_of : Minima → List Word → ℕ → Start → Option ℕ
-place_of m ws dot s = place_in (reach m.left m.right (length (signs_of ws s.word))) s.places (s.at + dot)
+place_of m ws dot s = place_in (reach m.left m.right (length (signs_of ws s.word))) s.places
+    (s.at + dot)

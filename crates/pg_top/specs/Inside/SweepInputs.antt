@@ -18,4 +18,5 @@ pub record HasSigns (i : SweepInputs) : Type 0 where
 
 -- the line of a sweep
 abbrev pub line_of_sweep : Found → List ℕ
-line_of_sweep found = winner_line found.winner (slice_index (costs_of found.rows) (found.winner - 1))
+line_of_sweep found = winner_line found.winner
+    (slice_index (costs_of found.rows) (found.winner - 1))

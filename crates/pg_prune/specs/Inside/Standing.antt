@@ -7,7 +7,8 @@ use Rattle.pg_prune.specs.Places.{WordPlace}
 -- the numbers of the elements that pass a test, where the first has this number
 abbrev pub numbers_of : (WordPlace → Bool) → ℕ → List WordPlace → List ℕ
 numbers_of test number [] = []
-numbers_of test number (x ∷ xs) = if test x then number ∷ numbers_of test (number + 1) xs else numbers_of test (number + 1) xs
+numbers_of test number (x ∷ xs) = if test x then number ∷ numbers_of test (number + 1) xs
+    else numbers_of test (number + 1) xs
 
 -- whether an entry stands at a place
 abbrev pub stands : (List ℕ × ℕ) × ℕ → WordPlace → Bool

@@ -24,7 +24,9 @@ abbrev pub stop_of_table : TableError → Stop
 stop_of_table table_error.TooLong = stop.Refused input.Table (table_refused TableTooLong)
 stop_of_table table_error.Memory = stop.Memory
 
--- the file of this name is accepted as a packed table, by which the totals of the words have these lines
+-- the file of this name is accepted as a packed table, by which the totals of the words have these
+-- lines
 abbrev pub IsTotalled : Alphabet → List Word → Held → List ℕ → List ℕ → Type 0
 IsTotalled t words files name lines =
-    (b : List ℕ) × (read_as (packed_table t) files name ≡ Some (Ok b)) × (lines ≡ totals_lines t words b)
+    (b : List ℕ) × (read_as (packed_table t) files name ≡ Some (Ok b))
+    × (lines ≡ totals_lines t words b)

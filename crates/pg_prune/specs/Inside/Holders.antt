@@ -2,7 +2,7 @@
 use Rattle.std.specs.Prelude.{ℕ, ◌+◌, ◌-◌, ◌%◌, Bool, ◌&&◌, nat_eq, nat_lt, if◌then◌else◌, List, [], ◌∷◌, map, count_by, slice_index, slice_set}
 use Rattle.pg_select.specs.Windows.{Patterns}
 use Rattle.pg_prune.specs.Places.{WordPlace}
-use Rattle.pg_prune.specs.Standing.{stands}
+use Rattle.pg_prune.specs.Inside.Standing.{stands}
 
 -- how many entries of a map stand at a place and have this value
 abbrev pub count_at : Patterns → WordPlace → ℕ → ℕ
@@ -12,10 +12,12 @@ count_at Q x v = count_by (λ e. stands e x && nat_eq e.1 v) Q
 abbrev pub holder_counts : Patterns → WordPlace → List ℕ
 holder_counts Q x = map (count_at Q x) (1 ∷ 2 ∷ 3 ∷ 4 ∷ 5 ∷ 6 ∷ 7 ∷ 8 ∷ 9 ∷ [])
 
--- the greatest value that some entry gives, where the first number is that of the value v + 1; v0 where none is
+-- the greatest value that some entry gives: the first number is how many give the value v + 1. It
+-- is `best` where no number is above 0
 abbrev pub greatest_value_from : ℕ → ℕ → List ℕ → ℕ
 greatest_value_from best v [] = best
-greatest_value_from best v (n ∷ ns) = greatest_value_from (if nat_lt 0 n then v + 1 else best) (v + 1) ns
+greatest_value_from best v (n ∷ ns) =
+    greatest_value_from (if nat_lt 0 n then v + 1 else best) (v + 1) ns
 
 abbrev pub greatest_value : List ℕ → ℕ
 greatest_value counts = greatest_value_from 0 0 counts

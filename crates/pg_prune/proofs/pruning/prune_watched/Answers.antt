@@ -8,13 +8,13 @@ use Rattle.pg_select.specs.Windows.{Patterns}
 use Rattle.pg_prune.specs.Places.{places}
 use Rattle.pg_prune.specs.Prunes.{need_at, pruned, needs, rounds, Found}
 use Rattle.pg_prune.specs.Promises.{BreakAlike, NoneCanGo, HasNeeds}
-use Rattle.pg_prune.specs.Picks.{picked}
+use Rattle.pg_prune.specs.Inside.Picks.{picked}
 use Rattle.pg_prune.proofs.PrunedLaws.{pruned_all, pruned_part, pruned_map, pruned_alike, pruned_least, pruned_needs, pruned_few}
 use Rattle.pg_prune.proofs.Finish.{finish, to_rounds, rounds_patterns, with_kept, picked_few}
-use Rattle.pg_prune.proofs.pruning.prune.Goals as goal
+use Rattle.pg_prune.proofs.pruning.prune_watched.Goals as goal
 
 pub all_rounds-requires : goal.all_rounds-requires
-all_rounds-requires c =
+all_rounds-requires g c =
     let xs = places (minima_of c.args.table.now) c.args.dictionary.now in
     let stands = ap (map (λ l. l.items)) c.as_slice-standing.ensures.value ∙ c.in_ok-lists.ensures in
     let many : c.len.result ≡ length xs = c.len.ensures ∙ c.in_ok-places.places.ok.0 ∙ ap length c.in_ok-places.ensures ∙ length-map xs need_at in
@@ -22,7 +22,7 @@ all_rounds-requires c =
     (xs, record { all = stands; sound = c.len-count.ensures.kept.sound; tallied = c.as_mut_slice-holders.ensures.value ∙ tallied })
 
 pub overflow_sub-removed : goal.overflow_sub-removed
-overflow_sub-removed c =
+overflow_sub-removed g c =
     let m = minima_of c.args.table.now in
     let ws = c.args.dictionary.now in
     let P = c.args.patterns.now in
@@ -37,7 +37,7 @@ overflow_sub-removed c =
     omega (arith, c.len-count.ensures.value)
 
 pub kept_patterns-requires-clause-map : goal.kept_patterns-requires-clause-map
-kept_patterns-requires-clause-map c =
+kept_patterns-requires-clause-map g c =
     let m = minima_of c.args.table.now in
     let ws = c.args.dictionary.now in
     let P = c.args.patterns.now in
@@ -51,7 +51,7 @@ kept_patterns-requires-clause-map c =
     subst (λ (Q : Patterns). IsPatternMap Q) (sym left) (pruned_map m ws P c.len-count.ensures.kept)
 
 pub new-requires : goal.new-requires
-new-requires c =
+new-requires g c =
     let m = minima_of c.args.table.now in
     let ws = c.args.dictionary.now in
     let P = c.args.patterns.now in
@@ -69,7 +69,7 @@ new-requires c =
     subst (λ (f : Found). HasNeeds f) (sym is) (pruned_needs m ws P)
 
 pub returns-clause-pruned : goal.returns-clause-pruned
-returns-clause-pruned c =
+returns-clause-pruned g c =
     let m = minima_of c.args.table.now in
     let ws = c.args.dictionary.now in
     let P = c.args.patterns.now in
@@ -87,7 +87,7 @@ returns-clause-pruned c =
     c.new.ensures ∙ is
 
 pub returns-clause-alike : goal.returns-clause-alike
-returns-clause-alike c =
+returns-clause-alike g c =
     let m = minima_of c.args.table.now in
     let ws = c.args.dictionary.now in
     let P = c.args.patterns.now in
@@ -105,7 +105,7 @@ returns-clause-alike c =
     subst (λ (f : Found). BreakAlike m ws P f.patterns) (sym (c.new.ensures ∙ is)) (pruned_alike m ws P)
 
 pub returns-clause-least : goal.returns-clause-least
-returns-clause-least c =
+returns-clause-least g c =
     let m = minima_of c.args.table.now in
     let ws = c.args.dictionary.now in
     let P = c.args.patterns.now in
@@ -123,7 +123,7 @@ returns-clause-least c =
     subst (λ (f : Found). NoneCanGo m ws P f.patterns) (sym (c.new.ensures ∙ is)) (pruned_least m ws P)
 
 pub returns-clause-part : goal.returns-clause-part
-returns-clause-part c =
+returns-clause-part g c =
     let m = minima_of c.args.table.now in
     let ws = c.args.dictionary.now in
     let P = c.args.patterns.now in
@@ -141,7 +141,7 @@ returns-clause-part c =
     subst (λ (f : Found). All (Contains P) f.patterns) (sym (c.new.ensures ∙ is)) (pruned_part m ws P)
 
 pub returns-clause-known : goal.returns-clause-known
-returns-clause-known c =
+returns-clause-known g c =
     let m = minima_of c.args.table.now in
     let ws = c.args.dictionary.now in
     let P = c.args.patterns.now in

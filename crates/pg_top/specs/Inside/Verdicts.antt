@@ -4,11 +4,11 @@ use Rattle.std.specs.Option.{option_map}
 use Rattle.pg_audit.specs.Differences.{first_false}
 use Rattle.pg_outside.specs.Content.{FilesShown, SinkShown, file_at}
 use Rattle.pg_top.specs.Auditing.{denies}
-use Rattle.pg_top.specs.Counted.{MakesCalls, ReadsUpTo}
+use Rattle.pg_top.specs.Counted.{MakesCalls, read_calls, ReadsUpTo}
 use Rattle.pg_top.specs.Outcomes.{Outcome, Ends}
 use Rattle.pg_top.specs.PrintedLines.{yes_line}
 use Rattle.pg_top.specs.Readings.{Reading, first_end}
-use Rattle.pg_top.specs.Stops.{PutsAnswer}
+use Rattle.pg_top.specs.Inside.Stops.{PutsAnswer}
 use Rattle.pg_top.specs.declared.answers.Status.{Status}
 use Rattle.pg_top.specs.declared.answers.Status.TheVariants.{Yes, No}
 use Rattle.pg_top.specs.declared.audit.Verdict.{Verdict}
@@ -34,14 +34,17 @@ end_of (False line) = Some (Ends No [] line.items)
 abbrev pub outcome_by : Verdict → Outcome
 outcome_by verdict = unwrap_or (end_of verdict) (Ends Yes [] yes_line)
 
--- how far files were read where this was found: all of them, or those up to the one with the false line
+-- how far files were read where this was found: all of them, or those up to the one with the false
+-- line
 abbrev pub ReadsToFind : List Reading → Verdict → FilesShown → FilesShown → Type 0
-ReadsToFind reads Equal old new = MakesCalls old new (length reads)
+ReadsToFind reads Equal old new = MakesCalls old new (read_calls reads)
 ReadsToFind reads (False line) old new =
     (place : ℕ) × ReadsUpTo reads place old new
-    × IfSome new.held (λ files. first_end (file_at files) (take (place + 1) reads) ≡ Some (Ends No [] line.items))
+    × IfSome new.held (λ files. first_end (file_at files) (take (place + 1) reads)
+    ≡ Some (Ends No [] line.items))
 
--- these bytes are the file, or of one that is longer than this size by more than so many the first, one more than these
+-- these bytes are the file. Where it is longer than this size by more than `more`, they are its
+-- first size + more + 1 bytes
 abbrev pub IsFrontOf : Option (List ℕ) → ℕ → ℕ → List ℕ → Type 0
 IsFrontOf file size more bytes = MatchOption file ⊥ (λ whole.
     (bytes ≡ whole) ⊎ ((size + more < length whole) × (bytes ≡ take (size + (more + 1)) whole)))

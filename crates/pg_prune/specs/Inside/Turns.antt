@@ -4,8 +4,8 @@ use Rattle.std.specs.List.{list_all}
 use Rattle.pg_patterns.specs.Values.{is_entry}
 use Rattle.pg_select.specs.Windows.{Patterns}
 use Rattle.pg_prune.specs.Places.{WordPlace}
-use Rattle.pg_prune.specs.Standing.{standing}
-use Rattle.pg_prune.specs.Holders.{holder_counts}
+use Rattle.pg_prune.specs.Inside.Standing.{standing}
+use Rattle.pg_prune.specs.Inside.Holders.{holder_counts}
 
 -- an entry between others
 pub record Turn : Type 0 where
@@ -37,7 +37,8 @@ pub record IsHeld (t : Turn) (holders : List (List ℕ)) (numbers : List ℕ) (v
   pub tallied : IsTallied t.places (with_entry t) holders
 
 -- the same, where the map without the entry has them, and has room for it
-pub record IsAwaited (t : Turn) (holders : List (List ℕ)) (numbers : List ℕ) (value : ℕ) : Type 0 where
+pub record IsAwaited (t : Turn) (holders : List (List ℕ))
+    (numbers : List ℕ) (value : ℕ) : Type 0 where
   pub entry : IsOf t numbers value
   pub tallied : IsTallied t.places (without_entry t) holders
   pub room : length (without_entry t) < 2 ^ 64 - 1

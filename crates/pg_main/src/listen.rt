@@ -1,0 +1,47 @@
+//! The observer of a program.
+use crate::NoWords;
+use pg_messages::Told;
+use pg_top::Status;
+use pg_watch::Watch;
+use std::io::Write;
+use std::time::Clock;
+
+/// An observer that is told of the words and of the answer too. Nothing is promised of its calls,
+/// and nothing is asked of it.
+pub trait Listen: Watch {
+    /// The call on these words begins.
+    fn begins(&self, words: &[String]);
+
+    /// The call on these words gave this answer.
+    fn ends(&self, words: &[String], status: &Status);
+
+    /// There are no words.
+    fn has_no_words(&self, reason: &NoWords);
+}
+
+/// What stands on standard error where the system did not give the words.
+const UNREADABLE: &[u8] =
+    b"patgen: the system did not give the words, or one of them is no UTF-8\n";
+
+impl<'a, C: Clock, E: Write + Drop> Listen for Told<'a, C, E> {
+    fn begins(&self, words: &[String]) {
+        self.take_words(words);
+    }
+
+    fn ends(&self, words: &[String], status: &Status) {
+        match status {
+            Status::Done | Status::Yes => self.put_notes(),
+            Status::No | Status::Refused => self.put_reason(),
+            Status::Usage => self.put_words(words),
+            Status::Memory => self.put_memory(),
+            Status::Fault => self.keep_fault(),
+        }
+    }
+
+    fn has_no_words(&self, reason: &NoWords) {
+        match reason {
+            NoWords::Memory => self.put_memory(),
+            NoWords::Unreadable => self.put(UNREADABLE),
+        }
+    }
+}

@@ -1,0 +1,29 @@
+//! Names of the system, and the files behind them.
+use pg_messages::SameFile;
+use std::os::unix::fs::MetadataExt;
+use std::{fs, rt};
+
+/// Tells by device and inode whether two names of the system are of one file.
+#[derive(Clone, Copy)]
+pub(crate) struct Named<'a, R> {
+    system: &'a R,
+}
+
+impl<'a, R> Named<'a, R> {
+    /// The names of this system.
+    pub(crate) fn new(system: &'a R) -> Named<'a, R> {
+        Named { system }
+    }
+}
+
+impl<'a, R: rt::Files> SameFile for Named<'a, R> {
+    fn is_same(&self, one: &str, other: &str) -> bool {
+        match (
+            fs::metadata(self.system, one),
+            fs::metadata(self.system, other),
+        ) {
+            (Ok(one), Ok(other)) => one.dev() == other.dev() && one.ino() == other.ino(),
+            _ => false,
+        }
+    }
+}

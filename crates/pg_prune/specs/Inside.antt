@@ -1,0 +1,7 @@
+-- What only contracts between layers and proofs need.
+pub mod Standing
+pub mod Holders
+pub mod Turns
+pub mod Picks
+pub mod Ends
+pub mod Trails
