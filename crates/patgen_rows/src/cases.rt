@@ -123,6 +123,9 @@ impl<'a> Case<'a> {
             let bytes = self.contents.bytes(file.content);
             self.hold(file.name.as_str(), Some(bytes))?;
         }
+        for file in wants.beginnings.iter() {
+            self.hold(file.name.as_str(), None)?;
+        }
         for name in wants.any.iter() {
             self.hold(name.as_str(), None)?;
         }

@@ -37,6 +37,7 @@ pub(crate) fn differences(
         )?;
     }
     compare_files(&mut text, case)?;
+    compare_beginnings(&mut text, wants, case)?;
     compare_pairs(&mut text, wants, case)?;
     compare_end(&mut text, wants, case, &outcome.printed)?;
     compare_counts(&mut text, wants, outcome)?;
@@ -122,6 +123,17 @@ fn compare_file(text: &mut String, case: &Case<'_>, held: &Held<'_>) -> Result<(
         None => writeln!(text, "  there is no file {name}"),
         Some(came) => push_difference(text, came == wanted, name, wanted, came),
     }
+}
+
+/// Each file that has to begin with something.
+fn compare_beginnings(text: &mut String, wants: &Wants, case: &Case<'_>) -> Result<(), AllocError> {
+    for file in wants.beginnings.iter() {
+        let wanted = case.contents.bytes(file.content);
+        let name = file.name.as_str();
+        let came = case.files.bytes(name).unwrap_or(b"no file");
+        push_difference(text, came.starts_with(wanted), name, wanted, came)?;
+    }
+    Ok(())
 }
 
 /// Each two files that have to hold the same.

@@ -87,10 +87,33 @@ impl Contents {
             ("letters", numbers) => push_letters(&mut bytes, numbers)?,
             ("words", numbers) => push_words(&mut bytes, numbers)?,
             ("cells", numbers) => push_cells(&mut bytes, numbers)?,
+            ("joined", names) => self.push_joined(&mut bytes, names)?,
             _ => return Err(Problem::NoPiece),
         }
         Ok(bytes)
     }
+
+    /// Appends a line for each word of one content with each word of another.
+    fn push_joined(&self, bytes: &mut Vec<u8>, names: &str) -> Result<(), Problem> {
+        let (one, other) = names.split_once(' ').ok_or(Problem::NoContent)?;
+        let one = self.find(one).ok_or(Problem::NoContent)?;
+        let other = self.find(other).ok_or(Problem::NoContent)?;
+        for front in self.bytes(one).split(|byte| *byte == b' ') {
+            push_pairs(bytes, front, self.bytes(other))?;
+        }
+        Ok(())
+    }
+}
+
+/// Appends a line for each word of a text, which a blank parts: these bytes, a hyphen and the word. It ends with CR and LF.
+fn push_pairs(bytes: &mut Vec<u8>, front: &[u8], text: &[u8]) -> Result<(), AllocError> {
+    for word in text.split(|byte| *byte == b' ') {
+        bytes.extend_from_slice(front)?;
+        bytes.push(b'-')?;
+        bytes.extend_from_slice(word)?;
+        bytes.extend_from_slice(b"\r\n")?;
+    }
+    Ok(())
 }
 
 /// How often a piece stands, and the piece: `3 times > a` is the line a three times.

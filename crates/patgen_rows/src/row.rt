@@ -61,6 +61,8 @@ pub(crate) struct Wants {
     pub printed: Vec<Printed>,
     /// The files that hold something else after the call than before it.
     pub after: Vec<NamedContent>,
+    /// The files that begin with something after the call, and may hold anything behind it.
+    pub beginnings: Vec<NamedContent>,
     /// The files that may hold anything after the call.
     pub any: Vec<String>,
     /// Files that hold the same after the call.
@@ -81,6 +83,7 @@ impl Wants {
             status: None,
             printed: Vec::new(alloc),
             after: Vec::new(alloc),
+            beginnings: Vec::new(alloc),
             any: Vec::new(alloc),
             same: Vec::new(alloc),
             ended: None,

@@ -40,8 +40,10 @@ struct Reader {
     is_in_content: bool,
 }
 
-/// The words with which a piece of a content begins that is made from numbers.
-const MADE: [&str; 5] = ["bytes ", "sample ", "letters ", "words ", "cells "];
+/// The words with which a piece of a content begins that is made from numbers or names.
+const MADE: [&str; 6] = [
+    "bytes ", "sample ", "letters ", "words ", "cells ", "joined ",
+];
 
 /// Whether a line is a piece of a content.
 fn is_piece(line: &str) -> bool {
@@ -138,6 +140,11 @@ impl Reader {
                 let content = self.read_content(rest)?;
                 let named = NamedContent::new(self.alloc, name, content)?;
                 self.wants()?.after.push(named)?;
+            }
+            ("begins", _) => {
+                let content = self.read_content(rest)?;
+                let named = NamedContent::new(self.alloc, name, content)?;
+                self.wants()?.beginnings.push(named)?;
             }
             ("prints", _) => self.read_printed(name, rest)?,
             ("fails", "call") => {

@@ -1,17 +1,24 @@
-//! The calls of the lower crates on worked rows.
+//! The calls of the crates below the driver, on worked rows that name them. What a whole command shows is a row of
+//! patgen_rows.
 #![tactic(auto)]
 
 #[cfg(test)]
-mod audit;
+mod cells;
+#[cfg(test)]
+mod count;
 #[cfg(test)]
 mod dict;
+#[cfg(test)]
+mod engines;
+#[cfg(test)]
+mod families;
 #[cfg(test)]
 mod outputs;
 #[cfg(test)]
 mod patterns;
 #[cfg(test)]
-mod select;
+mod slow;
 #[cfg(test)]
-mod translate;
+mod strings;
 #[cfg(test)]
-mod types;
+mod trie;

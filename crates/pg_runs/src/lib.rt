@@ -1,15 +1,22 @@
-//! Whole calls of the program that no table of rows can say: over files that never fail, and on a list of 2,000 words.
-//! All others are rows of patgen_rows.
+//! What no table of rows can say: runs of the driver beside a run that skips no pass, and over both
+//! engines; the windows that a pass counts; a call of the program over files that never fail; and
+//! the status of each answer. All other calls are rows of patgen_rows.
 #![tactic(auto)]
 
 #[cfg(test)]
-mod calls;
+mod arguments;
 #[cfg(test)]
-mod codes;
+mod counts;
+#[cfg(test)]
+mod engines;
+#[cfg(test)]
+mod plain;
 #[cfg(test)]
 mod quiet;
 pub mod quiet_calls;
 #[cfg(test)]
-mod realistic;
+mod runs;
 #[cfg(test)]
-mod samples;
+mod statuses;
+#[cfg(test)]
+mod unskipped;

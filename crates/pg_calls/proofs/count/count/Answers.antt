@@ -1,0 +1,13 @@
+use Rattle.std.proofs.Common.{◌≡◌, ℕ, ◌+◌, ◌*◌, ◌≤◌, List, subst, arith}
+use Rattle.pg_types.specs.Counts.{sums_of}
+use Rattle.pg_calls.proofs.count.count.Goals as goal
+
+nine_more : (i : ℕ) → 9 * i + 9 ≡ 9 * (i + 1)
+nine_more i = omega arith
+
+pub loop-window-preserved : goal.loop-window-preserved
+loop-window-preserved c = record {
+  signs = c.count_window.ensures.signs;
+  len = c.count_window.ensures.len;
+  room = subst (λ n. (u : List ℕ) → ((sums_of c.count_window.new.counts.counts u).0 ≤ n) × ((sums_of c.count_window.new.counts.counts u).1 ≤ n)) (nine_more c.loop-window.window-index) (c.count_window.ensures.room (9 * c.loop-window.window-index) c.loop-window.invariant.room);
+}

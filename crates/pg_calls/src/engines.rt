@@ -1,0 +1,47 @@
+//! The values that both engines give from the same patterns. The signs are the edge 1, a 2, b 3 and c 4.
+ghost use Rattle.std.specs.Prelude.{◌≡◌, IfOk};
+ghost use Rattle.pg_patterns.specs.Values.{SignsUpTo};
+
+use pg_dict::WordRef;
+use pg_packed::PackedEngine;
+use pg_patterns::PatternSet;
+use pg_plain::PlainEngine;
+use pg_select::{Engine, WordState};
+use pg_translate::Table;
+use std::alloc::Global;
+use std::test::Fail;
+
+/// The patterns `.a1`, `a2b` and `b1c`.
+fn start(alloc: Global) -> Result<PatternSet, Fail>
+    ensures { IfOk result (SignsUpTo 4) }
+{
+    let table = Table::read(alloc, b" 1 1\n a\n b\n c\n")?;
+    if table.letters() != 3 {
+        return Err(Fail::new("the letters are a, b and c"));
+    }
+    Ok(PatternSet::read(alloc, &table, b"b1c\na2b\na1b\n.a1\n")?)
+}
+
+/// The values of the positions 2 and 3 of the word `ab-a`.
+fn values<E: Engine>(e: &E) -> [u8; 2]
+    requires { (E.meaning e.now).signs ≡ 4 }
+{
+    let word = WordRef {
+        signs: &[1, 2, 3, 2, 1],
+        hyphens: &[false, false, false, true, false],
+        weights: &[1; 5],
+        weight: 1,
+        cares: &[true; 5],
+    };
+    let mut state = WordState::new();
+    e.hyphenate(word, &mut state);
+    [state.value(2), state.value(3)]
+}
+
+#[test]
+fn the_same_values_from_both_engines(rt: HostRuntime) -> Result<(), Fail> {
+    let start = start(rt.alloc())?;
+    assert_eq!(rt; values(&PlainEngine::new(rt.alloc(), 4, &start)?), [2, 0]);
+    assert_eq!(rt; values(&PackedEngine::new(rt.alloc(), 4, &start)?), [2, 0]);
+    Ok(())
+}

@@ -1,5 +1,0 @@
-use Rattle.std.proofs.Common.{◌≤◌}
-use Rattle.pg_rows.proofs.plain.PlainRun.needed.Given as goal
-
-abbrev pub invariant-passes : goal.invariant-passes
-invariant-passes l = l.needed ≤ l.i

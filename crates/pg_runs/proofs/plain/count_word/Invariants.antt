@@ -1,0 +1,10 @@
+use Rattle.std.proofs.Common.{◌*◌}
+use Rattle.pg_types.specs.declared.limits.TheConstants.{WEIGHT_MAX}
+use Rattle.pg_runs.specs.Inside.Keeping.{AreAtMost, KeepsPass}
+use Rattle.pg_runs.proofs.plain.count_word.Given as goal
+
+abbrev pub invariant-positions : goal.invariant-positions
+invariant-positions g l = record {
+  kept : KeepsPass (g.E.Engine.meaning l.fn.engine) (g.E.Engine.meaning l.engine);
+  sums : AreAtMost (g.E.Engine.meaning l.engine).counts (WEIGHT_MAX * l.seen);
+}

@@ -1,0 +1,8 @@
+use Rattle.std.proofs.Common.{◌≡◌, ◌≤◌, length}
+use Rattle.pg_runs.proofs.plain.run_plainly.Given as goal
+
+abbrev pub invariant-levels : goal.invariant-levels
+invariant-levels g l = record {
+  begun : (g.E.Engine.meaning l.engine).begun ≤ length l.passes.items;
+  signs : (g.E.Engine.meaning l.engine).signs ≡ (g.E.Engine.meaning l.fn.engine).signs;
+}

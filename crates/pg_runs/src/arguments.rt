@@ -1,0 +1,131 @@
+//! A system whose arguments are given, and a standard error that takes all and shows nothing.
+ghost use Rattle.std.specs.Prelude.{◌≤◌, length, IfOk};
+
+use std::alloc::Allocator;
+use std::env::FillError;
+use std::fs::{Metadata, OpenOptions};
+use std::io::{IsTerminal, Write};
+use std::time::Duration;
+use std::{io, rt};
+
+/// A system, but for the arguments: the program's name, and then these words.
+#[derive(Drop)]
+pub struct Given<'a, R> {
+    pub system: &'a R,
+    pub words: &'a [&'a [u8]],
+}
+
+/// Copies a text to the start of the buffer.
+fn fill(text: &[u8], buffer: &mut [u8]) -> Result<usize, FillError>
+    ensures { IfOk result (λ n. n ≤ length buffer.new) }
+{
+    if buffer.len() < text.len() {
+        return Err(FillError::TooLong);
+    }
+    buffer[..text.len()].copy_from_slice(text);
+    Ok(text.len())
+}
+
+impl<'a, R> rt::Env for Given<'a, R> {
+    fn arg(&self, i: usize, buf: &mut [u8]) -> Result<usize, FillError> {
+        if i == 0 {
+            return fill(b"patgen", buf);
+        }
+        match self.words.get(i - 1) {
+            Some(word) => fill(word, buf),
+            None => Err(FillError::NotPresent),
+        }
+    }
+
+    fn var(&self, _name: &str, _buf: &mut [u8]) -> Result<usize, FillError> {
+        Err(FillError::NotPresent)
+    }
+
+    fn var_at(&self, _i: usize, _buf: &mut [u8]) -> Result<usize, FillError> {
+        Err(FillError::NotPresent)
+    }
+}
+
+impl<'a, R: rt::Clock> rt::Clock for Given<'a, R> {
+    fn monotonic(&self) -> io::Result<Duration> {
+        self.system.monotonic()
+    }
+
+    fn since_1970(&self) -> io::Result<Duration> {
+        self.system.since_1970()
+    }
+}
+
+impl<'a, R: Alloc> Alloc for Given<'a, R> {
+    type A = R::A;
+
+    fn alloc(&self) -> R::A {
+        self.system.alloc()
+    }
+}
+
+impl<'a, R: rt::Files> rt::Files for Given<'a, R> {
+    type File = R::File;
+
+    type Dir = R::Dir;
+
+    fn open_file(&self, how: &OpenOptions, path: &str) -> io::Result<R::File> {
+        self.system.open_file(how, path)
+    }
+
+    fn open_dir(&self, path: &str) -> io::Result<R::Dir> {
+        self.system.open_dir(path)
+    }
+
+    fn metadata(&self, path: &str) -> io::Result<Metadata> {
+        self.system.metadata(path)
+    }
+
+    fn symlink_metadata(&self, path: &str) -> io::Result<Metadata> {
+        self.system.symlink_metadata(path)
+    }
+
+    fn copy(&self, from: &str, to: &str) -> io::Result<u64> {
+        self.system.copy(from, to)
+    }
+
+    fn rename(&self, from: &str, to: &str) -> io::Result<()> {
+        self.system.rename(from, to)
+    }
+
+    fn remove_file(&self, path: &str) -> io::Result<()> {
+        self.system.remove_file(path)
+    }
+
+    fn create_dir(&self, path: &str) -> io::Result<()> {
+        self.system.create_dir(path)
+    }
+
+    fn remove_dir(&self, path: &str) -> io::Result<()> {
+        self.system.remove_dir(path)
+    }
+
+    fn remove_dir_all<B: Allocator>(&self, alloc: B, path: &str) -> io::Result<()> {
+        self.system.remove_dir_all(alloc, path)
+    }
+}
+
+/// A writer that takes all, and is no terminal.
+#[derive(Drop)]
+pub struct Nowhere;
+
+impl Write for Nowhere {
+    fn write(&mut self, bytes: &[u8]) -> io::Result<usize> {
+        Ok(bytes.len())
+    }
+
+    fn flush(&mut self) -> io::Result<()> {
+        Ok(())
+    }
+}
+
+impl IsTerminal for Nowhere {
+    fn is_terminal(&self) -> bool {
+        false
+    }
+}

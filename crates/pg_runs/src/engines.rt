@@ -1,0 +1,84 @@
+//! The same run from both engines.
+ghost use Rattle.std.specs.Prelude.{◌+◌};
+ghost use Rattle.pg_translate.specs.Alphabets.{letters_of};
+ghost use Rattle.pg_dict.specs.Word.{SignsAtMost};
+
+use crate::runs::{Inputs, packed_run, plain_run, read_inputs};
+use pg_driver::{LevelRecord, PassRecord, Run};
+use pg_patterns::PatternSet;
+use std::alloc::{AllocError, Global};
+use std::process::Abort;
+use std::test::Fail;
+
+/// Compares records of passes without their layouts.
+fn compare_passes(rt: &impl Abort, packed: &[PassRecord], plain: &[PassRecord]) {
+    assert_eq!(rt; packed.len(), plain.len());
+    for (one, other) in packed.iter().zip(plain) {
+        let alone = PassRecord {
+            layout: None,
+            ..*one
+        };
+        assert_eq!(rt; alone, *other);
+    }
+}
+
+/// Compares records of levels without their layouts.
+fn compare_levels(rt: &impl Abort, packed: &[LevelRecord], plain: &[LevelRecord]) {
+    assert_eq!(rt; packed.len(), plain.len());
+    for (one, other) in packed.iter().zip(plain) {
+        let alone = LevelRecord {
+            layout: None,
+            ..*one
+        };
+        assert_eq!(rt; alone, *other);
+    }
+}
+
+/// Compares patterns.
+fn compare_patterns(rt: &impl Abort, packed: &PatternSet, plain: &PatternSet) {
+    assert_eq!(rt; packed.len(), plain.len());
+    for i in 0..packed.len().min(plain.len()) {
+        let (one, other) = (packed.entry(i), plain.entry(i));
+        assert_eq!(rt; one.signs, other.signs);
+        assert_eq!(rt; (one.dot, one.value), (other.dot, other.value));
+    }
+}
+
+/// Compares runs without their layouts.
+fn compare(rt: &impl Abort, packed: &Run, plain: &Run) {
+    compare_patterns(rt, packed.patterns(), plain.patterns());
+    compare_passes(rt, packed.passes(), plain.passes());
+    compare_levels(rt, packed.levels(), plain.levels());
+    assert_eq!(rt; packed.totals(), plain.totals());
+    assert_eq!(rt; packed.begun(), plain.begun());
+}
+
+/// Does the run over the packed engine, and compares it with this one.
+fn compare_with(
+    rt: &impl Abort,
+    alloc: Global,
+    inputs: &Inputs,
+    plain: &Run,
+) -> Result<(), AllocError>
+    requires { SignsAtMost (letters_of inputs.now.table + 1) inputs.now.dictionary }
+{
+    let packed = packed_run(alloc, inputs)?;
+    compare(rt, &packed, plain);
+    Ok(())
+}
+
+/// Does the run over both engines, and compares them.
+fn compare_engines(rt: &impl Abort, alloc: Global, inputs: &Inputs) -> Result<(), AllocError>
+    requires { SignsAtMost (letters_of inputs.now.table + 1) inputs.now.dictionary }
+{
+    let plain = plain_run(alloc, inputs)?;
+    compare_with(rt, alloc, inputs, &plain)
+}
+
+/// The run of 2,000 words over both engines: the same patterns, records, totals and number of passes begun.
+#[test]
+fn the_same_run_from_both_engines(rt: HostRuntime) -> Result<(), Fail> {
+    let inputs = read_inputs(rt.alloc(), 2_000, b"1 2 1 3 1 2 20 2 4 2 1 8")?;
+    compare_engines(&rt, rt.alloc(), &inputs)?;
+    Ok(())
+}

@@ -1,0 +1,112 @@
+//! The status of the program, by the words that it is handed or the reason why there are none.
+use crate::arguments::{Given, Nowhere};
+use crate::quiet::words;
+use pg_main::{NoWords, run_words, status_of};
+use pg_messages::Told;
+use pg_outside::{MemoryFiles, MemorySink};
+use std::alloc::{AllocError, Global};
+use std::process::ExitCode;
+use std::test::Fail;
+use std::{fs, io};
+
+/// What the calls are given: the files of a small run, another pattern file than it writes, and a
+/// dictionary with a letter that the table lacks.
+const FILES: [(&str, &[u8]); 6] = [
+    ("T", b" 1 1\n a\n b\n c\n"),
+    ("A", b"1 1 2 2 1 1 2"),
+    ("P", b""),
+    ("D", b"ab-c\nab-a\n"),
+    ("other", b"ab3\n"),
+    ("bad", b"zz\n"),
+];
+
+/// The words of a call, and its status.
+const CALLS: [(&str, u8); 5] = [
+    ("generate D P O T A R", 0),
+    ("audit D P other T A R", 1),
+    ("generate D", 2),
+    ("generate bad P O T A R", 3),
+    ("generate missing P O T A R", 4),
+];
+
+/// The files of a call.
+fn given(alloc: Global) -> Result<MemoryFiles, AllocError> {
+    let mut files = MemoryFiles::new(alloc);
+    for (name, bytes) in FILES {
+        files.add(name, bytes, 0)?;
+    }
+    Ok(files)
+}
+
+#[test]
+fn the_status_of_each_answer(rt: HostRuntime) -> Result<(), Fail> {
+    for (line, status) in CALLS {
+        let told = Told::new(rt.alloc(), &rt, io::sink(), false);
+        let mut out = MemorySink::new(rt.alloc(), 200)?;
+        let mut files = given(rt.alloc())?;
+        let words = words(rt.alloc(), line)?;
+        assert_eq!(rt;
+            status_of(rt.alloc(), Ok(words), &mut files, &mut out, &told),
+            status
+        );
+    }
+    Ok(())
+}
+
+#[test]
+fn the_status_where_there_are_no_words(rt: HostRuntime) -> Result<(), Fail> {
+    for (reason, status) in [(NoWords::Memory, 5), (NoWords::Unreadable, 6)] {
+        let told = Told::new(rt.alloc(), &rt, io::sink(), false);
+        let mut out = MemorySink::new(rt.alloc(), 200)?;
+        let mut files = given(rt.alloc())?;
+        assert_eq!(rt;
+            status_of(rt.alloc(), Err(reason), &mut files, &mut out, &told),
+            status
+        );
+    }
+    Ok(())
+}
+
+/// The arguments of a program behind its name, and its status. The files are real ones: `A` has
+/// parameters, and `O` a pattern where there is to be none.
+const PROGRAMS: [(&[&[u8]], u8); 6] = [
+    (&[b"sample", b"1", b"10"], 0),
+    (
+        &[
+            b"audit",
+            b"/dev/null",
+            b"/dev/null",
+            b"O",
+            b"/dev/null",
+            b"A",
+            b"R",
+        ],
+        1,
+    ),
+    (&[b"sample", b"1"], 2),
+    (
+        &[
+            b"generate",
+            b"/dev/null",
+            b"/dev/null",
+            b"N",
+            b"/dev/null",
+            b"/dev/null",
+            b"R",
+        ],
+        3,
+    ),
+    (&[b"totals", b"missing", b"/dev/null", b"T"], 4),
+    (&[b"sample", b"1", b"\xFF"], 6),
+];
+
+#[test]
+fn the_status_of_the_program(rt: HostRuntime) -> Result<(), Fail> {
+    fs::write(&rt, "A", b"1 1 1 1 1 1 1\n")?;
+    fs::write(&rt, "O", b"a1b\n")?;
+    for (words, status) in PROGRAMS {
+        let given = Given { system: &rt, words };
+        assert!(rt; run_words(&given, io::sink(), Nowhere) == ExitCode::from(status));
+    }
+    Ok(())
+}

@@ -1,0 +1,97 @@
+//! The run of the driver beside a run that skips no pass, both over the packed engine.
+ghost use Rattle.std.specs.Prelude.{◌+◌};
+ghost use Rattle.pg_translate.specs.Alphabets.{letters_of};
+ghost use Rattle.pg_dict.specs.Word.{SignsAtMost};
+
+use crate::plain::{PlainRun, run_plainly};
+use crate::runs::{Inputs, packed_run, read_inputs};
+use pg_driver::{PassRecord, Run};
+use pg_packed::PackedEngine;
+use pg_patterns::PatternSet;
+use std::alloc::{AllocError, Global};
+use std::process::Abort;
+use std::test::Fail;
+
+/// The run that skips no pass.
+fn unskipped_run(alloc: Global, inputs: &Inputs) -> Result<PlainRun, Fail>
+    requires { SignsAtMost (letters_of inputs.now.table + 1) inputs.now.dictionary }
+{
+    let letters = inputs.table.letters();
+    let mut engine = PackedEngine::new(alloc, letters + 1, &PatternSet::empty(alloc))?;
+    run_plainly(
+        alloc,
+        &mut engine,
+        &inputs.dictionary,
+        &inputs.table,
+        &inputs.params,
+    )
+}
+
+/// The passes that have a candidate.
+fn with_candidates(alloc: Global, passes: &[PassRecord]) -> Result<Vec<PassRecord>, AllocError> {
+    let mut found = Vec::new(alloc);
+    for pass in passes {
+        if pass.candidates > 0 {
+            found.push(*pass)?;
+        }
+    }
+    Ok(found)
+}
+
+/// Compares the passes of a run with those that have a candidate.
+fn compare_passes(
+    rt: &impl Abort,
+    alloc: Global,
+    run: &[PassRecord],
+    plain: &[PassRecord],
+) -> Result<(), AllocError> {
+    let passes = with_candidates(alloc, plain)?;
+    assert_eq!(rt; run, passes.as_slice());
+    Ok(())
+}
+
+/// Compares the run of the driver with the one that skips no pass.
+fn compare(rt: &impl Abort, alloc: Global, run: &Run, plain: &PlainRun) -> Result<(), AllocError> {
+    assert_eq!(rt; run.levels(), plain.levels.as_slice());
+    assert_eq!(rt; run.totals(), plain.totals);
+    assert_eq!(rt; run.begun(), plain.needed() as u64);
+    assert!(rt; plain.needed() < plain.passes.len());
+    compare_passes(rt, alloc, run.passes(), plain.passes.as_slice())
+}
+
+/// Does the run of the driver, and compares it with this one.
+fn compare_with(
+    rt: &impl Abort,
+    alloc: Global,
+    inputs: &Inputs,
+    plain: &PlainRun,
+) -> Result<(), AllocError>
+    requires { SignsAtMost (letters_of inputs.now.table + 1) inputs.now.dictionary }
+{
+    let run = packed_run(alloc, inputs)?;
+    compare(rt, alloc, &run, plain)
+}
+
+/// Does both runs, and compares them.
+fn compare_runs(rt: &impl Abort, alloc: Global, inputs: &Inputs) -> Result<(), Fail>
+    requires { SignsAtMost (letters_of inputs.now.table + 1) inputs.now.dictionary }
+{
+    let plain = unskipped_run(alloc, inputs)?;
+    compare_with(rt, alloc, inputs, &plain)?;
+    Ok(())
+}
+
+/// How many words a list has, and the parameters.
+const RUNS: [(u32, &[u8]); 2] = [
+    (100_000, b"1 2 1 3 1 2 20 2 4 2 1 8"),
+    (2_000, b"1 2 1 3 3 1 9 3 4 3 2 5"),
+];
+
+#[test]
+fn the_same_run_without_skipping(rt: HostRuntime) -> Result<(), Fail> {
+    for (count, parameters) in RUNS {
+        let inputs = read_inputs(rt.alloc(), count, parameters)?;
+        compare_runs(&rt, rt.alloc(), &inputs)?;
+    }
+    Ok(())
+}
