@@ -5,7 +5,7 @@ use Rattle.std.specs.List.{onto_first}
 use Rattle.std.specs.Str.{bytes_eq}
 use Rattle.std.proofs.lemmas.Slice.Eq.{bytes_eq-Decides}
 use Rattle.pg_types.specs.Lines.{is_line_feed}
-use Rattle.pg_audit.specs.Cut.{first_whole, rest_whole}
+use Rattle.pg_audit.specs.Inside.Cut.{first_whole, rest_whole}
 use Rattle.pg_audit.specs.Differences.{whole_lines, difference_from}
 
 -- a file that is not empty is cut into its first line and the lines of the rest

@@ -7,20 +7,23 @@ use Rattle.pg_types.specs.Lines.{is_line_feed}
 -- the lines of a file, each with its line feed and with its CR
 abbrev pub whole_lines : List ℕ → List (List ℕ)
 whole_lines [] = []
-whole_lines (b ∷ bs) = if is_line_feed b then (b ∷ []) ∷ whole_lines bs else onto_first b (whole_lines bs)
+whole_lines (b ∷ bs) = if is_line_feed b then (b ∷ []) ∷ whole_lines bs
+    else onto_first b (whole_lines bs)
 
--- where two files differ: the number of a line, from 1, and the line that the given file has there, which is empty where it has none
+-- where two files differ: the number of a line, from 1, and the line that the given file has there,
+-- which is empty where it has none
 pub record Difference : Type 0 where
   pub line : ℕ
   pub found : List ℕ
 
--- the first line, where these have the numbers from `line` on, at which the given ones differ from the wanted; a missing line
--- differs from every line
+-- the first line, where these have the numbers from `line` on, at which the given ones differ from
+-- the wanted; a missing line differs from every line
 abbrev pub difference_from : ℕ → List (List ℕ) → List (List ℕ) → Option Difference
 difference_from line [] [] = None
 difference_from line [] (wanted ∷ rest) = Some (record { line = line; found = [] })
 difference_from line (given ∷ rest) [] = Some (record { line = line; found = given })
-difference_from line (given ∷ after) (wanted ∷ rest) = if bytes_eq given wanted then difference_from (line + 1) after rest else Some (record { line = line; found = given })
+difference_from line (given ∷ after) (wanted ∷ rest) = if bytes_eq given wanted
+    then difference_from (line + 1) after rest else Some (record { line = line; found = given })
 
 -- the first false line of a given file
 abbrev pub first_false : List ℕ → List ℕ → Option Difference

@@ -3,8 +3,8 @@ use Rattle.std.specs.Prelude.{ℕ, ◌-◌, nat_lt, Bool, if◌then◌else◌, L
 use Rattle.pg_types.specs.Lines.{is_line_feed}
 use Rattle.pg_audit.specs.Differences.{Difference, first_false}
 
--- there is no such line; it has more than 200 bytes, and these are the first 200; it is this line, and its line feed follows; or it is
--- this line, and the file ends
+-- there is no such line; it has more than 200 bytes, and these are the first 200; it is this line,
+-- and its line feed follows; or it is this line, and the file ends
 pub data FoundLine : Type 0 where
   Missing : FoundLine
   Begins : List ℕ → FoundLine
@@ -21,7 +21,8 @@ without_feed line = if has_feed line then take (length line - 1) line else line
 
 -- a line that is there
 abbrev pub line_there : List ℕ → FoundLine
-line_there line = if nat_lt 200 (length (without_feed line)) then Begins (take 200 line) else if has_feed line then Ended (without_feed line) else Unended line
+line_there line = if nat_lt 200 (length (without_feed line)) then Begins (take 200 line)
+    else if has_feed line then Ended (without_feed line) else Unended line
 
 -- the found line
 abbrev pub found_line : List ℕ → FoundLine

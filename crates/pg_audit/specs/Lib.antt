@@ -1,3 +1,3 @@
-pub mod Cut
 pub mod Differences
 pub mod FoundLines
+pub mod Inside

@@ -3,13 +3,16 @@ ghost use Rattle.std.specs.Prelude.{◌≡◌, ℕ, ◌+◌, ◌<◌, ◌≤◌,
 ghost use Rattle.pg_audit.specs.Differences.{first_false_shown, first_part};
 ghost use Rattle.pg_audit.specs.FoundLines.{first_false_printed};
 
-/// Of a given file that is longer than the wanted one by more than `more` bytes, the first part has the same false line as the
-/// whole: the same number, and the same first bytes of the line found. The part is longer than the wanted file by `more + 1`
-/// bytes, and this many bytes of the line are the same. Where they are at least 202, the same is printed.
+/// Of a given file that is longer than the wanted one by more than `more` bytes, the first part has
+/// the same false line as the whole: the same number, and the same first bytes of the line found.
+/// The part is longer than the wanted file by `more + 1` bytes, and this many bytes of the line are
+/// the same. Where they are at least 202, the same is printed.
 pub fn first_part_is_enough()
     ensures shown { (given wanted : List ℕ) (more : ℕ) → length wanted + more < length given
         → first_false_shown (more + 1) (first_part (more + 1) given wanted) wanted
         ≡ first_false_shown (more + 1) given wanted }
-    ensures printed { (given wanted : List ℕ) (more : ℕ) → 201 ≤ more → length wanted + more < length given
-        → first_false_printed (first_part (more + 1) given wanted) wanted ≡ first_false_printed given wanted }
+    ensures printed { (given wanted : List ℕ) (more : ℕ)
+        → 201 ≤ more → length wanted + more < length given
+        → first_false_printed (first_part (more + 1) given wanted) wanted
+        ≡ first_false_printed given wanted }
 {}

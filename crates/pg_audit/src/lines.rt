@@ -2,7 +2,7 @@
 ghost use Rattle.std.specs.Prelude.{◌≡◌, ◌+◌, ◌≤◌, ◌↔◌, [], None, Some, length, IsNone, IfSome, MatchOption};
 ghost use Rattle.pg_types.specs.Lines.{is_line_feed};
 ghost use Rattle.pg_audit.specs.Differences.{whole_lines, first_false, IsFirstFalse};
-ghost use Rattle.pg_audit.specs.Cut.{first_whole, rest_whole};
+ghost use Rattle.pg_audit.specs.Inside.Cut.{first_whole, rest_whole};
 
 use memchr::memchr;
 
@@ -11,20 +11,24 @@ use memchr::memchr;
 pub struct FalseLine<'a> {
     /// The number of the line, counted from 1.
     pub line: u64,
-    /// What the given file has there, its LF included where it has one; empty where it has no such line.
+    /// What the given file has there, its LF included where it has one; empty where it has no such
+    /// line.
     pub found: &'a [u8],
 }
 
 /// The first line at which `given` differs from `wanted`; none exactly where the two are equal.
 ///
-/// Lines are compared with their LF and CR, and a missing line differs from every line. It takes no memory.
+/// Lines are compared with their LF and CR, and a missing line differs from every line. It takes no
+/// memory.
 pub fn compare<'a>(given: &'a [u8], wanted: &[u8]) -> Option<FalseLine<'a>>
     ensures answer { MatchOption result (first_false given.now wanted.now ≡ None)
-        (λ f. first_false given.now wanted.now ≡ Some (record { line = f.line; found = f.found.now })) }
+        (λ f. first_false given.now wanted.now
+        ≡ Some (record { line = f.line; found = f.found.now })) }
     ensures equal { IsNone result ↔ (given.now ≡ wanted.now) }
     ensures least { IfSome result
         (λ f. IsFirstFalse given.now wanted.now (record { line = f.line; found = f.found.now })) }
-    ensures missing { IfSome result (λ f. (f.found.now ≡ []) ↔ (length (whole_lines given.now) + 1 ≡ f.line)) }
+    ensures missing { IfSome result
+        (λ f. (f.found.now ≡ []) ↔ (length (whole_lines given.now) + 1 ≡ f.line)) }
     ensures within { IfSome result (λ f. length f.found.now ≤ length given.now) }
 {
     let mut rest = given;

@@ -12,7 +12,7 @@ use Rattle.pg_dict.specs.declared.store.Store.{Store}
 use Rattle.pg_dict.specs.declared.store.Stored.{Stored}
 use Rattle.pg_dict.specs.PositionedSigns.{PositionedSign, Columns, with_signs}
 use Rattle.pg_dict.specs.Word.{Word, word_with, IsWord}
-use Rattle.pg_dict.specs.Store.{columns_of, word_at, stored_words, all_signs, lies_within, IsSound}
+use Rattle.pg_dict.specs.Inside.Store.{columns_of, word_at, stored_words, all_signs, lies_within, IsSound}
 
 -- a part of a list stays when the list grows
 pub range_kept : {X : Type 0} (xs ys : List X) (a b : ℕ) → a ≤ b → b ≤ length xs → slice_range (xs ++ ys) a b ≡ slice_range xs a b

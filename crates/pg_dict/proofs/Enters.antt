@@ -5,7 +5,7 @@ use Rattle.pg_types.specs.declared.marks.Mark.TheVariants.{Nothing}
 use Rattle.pg_types.specs.declared.refusals.Refusal.{Refusal}
 use Rattle.pg_types.specs.Reading.{unless}
 use Rattle.pg_translate.specs.Alphabets.{Alphabet}
-use Rattle.pg_translate.specs.Rules.{KeepsRules}
+use Rattle.pg_translate.specs.Inside.Rules.{KeepsRules}
 use Rattle.pg_translate.specs.Tokens.{Token, Letter}
 use Rattle.pg_translate.specs.Cuts.{cut_rest, tokens_of}
 use Rattle.pg_dict.specs.declared.store.Store.{Store}
@@ -13,11 +13,11 @@ use Rattle.pg_dict.specs.PositionedSigns.{PositionedSign, positioned_sign, Colum
 use Rattle.pg_dict.specs.Word.{Word, word_with}
 use Rattle.pg_translate.specs.LineRefusals.{refusal_with_room}
 use Rattle.pg_translate.specs.declared.items.Place.TheVariants.{Dictionary}
-use Rattle.pg_dict.specs.Running.{running_word, signs_behind, word_signs}
-use Rattle.pg_dict.specs.ReadColumns.{columns_after}
-use Rattle.pg_dict.specs.LineStarts.{word_reading}
-use Rattle.pg_dict.specs.Entries.{with_word}
-use Rattle.pg_dict.specs.Store.{columns_of, stored_words, IsSound, IsFit}
+use Rattle.pg_dict.specs.Inside.Running.{running_word, signs_behind, word_signs}
+use Rattle.pg_dict.specs.Inside.ReadColumns.{columns_after}
+use Rattle.pg_dict.specs.Inside.LineStarts.{word_reading}
+use Rattle.pg_dict.specs.Inside.Entries.{with_word}
+use Rattle.pg_dict.specs.Inside.Store.{columns_of, stored_words, IsSound, IsFit}
 use Rattle.pg_dict.proofs.Takes.{add_spots-add}
 use Rattle.pg_dict.proofs.Adds.{length_signs, adds_words, adds_sound}
 use Rattle.pg_dict.proofs.Good.{fits_word}

@@ -12,8 +12,8 @@ use Rattle.pg_dict.specs.declared.store.Store.{Store}
 use Rattle.pg_dict.specs.PositionedSigns.{PositionedSign, positioned_sign, sets_hyphen, keeps_care, Columns, with_signs}
 use Rattle.pg_dict.specs.Word.{Word, word_with, is_weight}
 use Rattle.pg_dict.proofs.WordTests.{is_word, is_plain_at, decides, has_lengths}
-use Rattle.pg_dict.specs.Running.{signs_behind, word_signs}
-use Rattle.pg_dict.specs.Store.{columns_of, is_sign_up_to, IsFit}
+use Rattle.pg_dict.specs.Inside.Running.{signs_behind, word_signs}
+use Rattle.pg_dict.specs.Inside.Store.{columns_of, is_sign_up_to, IsFit}
 use Rattle.pg_types.proofs.BoolFacts.{all_weaker}
 
 -- whether an item is one of a dictionary: not the edge, nor a letter with its sign

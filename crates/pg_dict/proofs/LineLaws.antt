@@ -8,8 +8,8 @@ use Rattle.pg_types.specs.Reading.{both_parts}
 use Rattle.pg_translate.specs.Alphabets.{Alphabet}
 use Rattle.pg_translate.specs.Tokens.{Token, Letter, Digit, Weight, Marked, Edge}
 use Rattle.pg_translate.specs.Gaps.{signs_of}
-use Rattle.pg_translate.specs.Items.{IsItem, text_of_items}
-use Rattle.pg_translate.specs.Rules.{KeepsRules}
+use Rattle.pg_translate.specs.Inside.Items.{IsItem, text_of_items}
+use Rattle.pg_translate.specs.Inside.Rules.{KeepsRules}
 use Rattle.pg_translate.specs.declared.items.Place.TheVariants.{Dictionary}
 use Rattle.pg_translate.specs.Spellings.{is_space}
 use Rattle.pg_translate.proofs.Unbroken.{joined_unbroken}
@@ -17,7 +17,7 @@ use Rattle.pg_translate.proofs.LineTexts.{pieces_of_line, unbroken_feed, unbroke
 use Rattle.pg_translate.proofs.JoinedItems as reads
 use Rattle.pg_dict.specs.Word.{Word}
 use Rattle.pg_dict.specs.Words.{LineWord, line_word, line_reading, on_line, words_from, words}
-use Rattle.pg_dict.specs.Written.{letters_among, IsLine, file_of, LinesGive}
+use Rattle.pg_dict.specs.Inside.Written.{letters_among, IsLine, file_of, LinesGive}
 use Rattle.pg_dict.proofs.Lines.{words_short}
 
 -- the signs of the items of a dictionary are its letters

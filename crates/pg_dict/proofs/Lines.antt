@@ -16,10 +16,10 @@ use Rattle.pg_types.specs.Lines.{lines}
 use Rattle.pg_dict.specs.declared.store.Store.{Store}
 use Rattle.pg_dict.specs.declared.store.Stored.{Stored}
 use Rattle.pg_dict.specs.PositionedSigns.{Columns, no_columns}
-use Rattle.pg_dict.specs.Store.{columns_of, word_at, stored_words, all_signs, lies_within, is_sign_up_to, IsSound, IsFit}
+use Rattle.pg_dict.specs.Inside.Store.{columns_of, word_at, stored_words, all_signs, lies_within, is_sign_up_to, IsSound, IsFit}
 use Rattle.pg_dict.specs.Word.{Word, is_weight, IsWord}
 use Rattle.pg_dict.specs.Words.{LineWord, line_reading, on_line, words_from, words}
-use Rattle.pg_dict.specs.Entries.{Entries, with_word}
+use Rattle.pg_dict.specs.Inside.Entries.{Entries, with_word}
 
 -- words behind words behind words
 pub both_parts-both_parts : (ws more : List Word) (rest : Result (List Word) Refusal) → both_parts (Ok ws) (both_parts (Ok more) rest) ≡ both_parts (Ok (ws ++ more)) rest

@@ -15,8 +15,8 @@ use Rattle.pg_translate.proofs.Gaps.{gaps_some}
 use Rattle.pg_dict.specs.PositionedSigns.{PositionedSign, positioned_sign, sets_hyphen, keeps_care}
 use Rattle.pg_dict.specs.Word.{Word, word_with}
 use Rattle.pg_dict.specs.Words.{LineWord, at_positions, word_of_items, word_if, line_word, line_reading}
-use Rattle.pg_dict.specs.LineStarts.{rest_reading}
-use Rattle.pg_dict.specs.Running.{signs_behind, word_signs, running_word}
+use Rattle.pg_dict.specs.Inside.LineStarts.{rest_reading}
+use Rattle.pg_dict.specs.Inside.Running.{signs_behind, word_signs, running_word}
 
 -- two words with the same parts
 pub same_word : (v w : Word) → v.signs ≡ w.signs → v.hyphens ≡ w.hyphens → v.weights ≡ w.weights → v.cares ≡ w.cares → v.weight ≡ w.weight → v ≡ w

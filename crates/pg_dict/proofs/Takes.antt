@@ -7,16 +7,16 @@ use Rattle.pg_types.specs.Reading.{unless}
 use Rattle.pg_translate.specs.Alphabets.{Alphabet}
 use Rattle.pg_translate.specs.Tokens.{Token, Letter}
 use Rattle.pg_translate.specs.Cuts.{Cut, with_item, tokens_of}
-use Rattle.pg_translate.specs.Answers.{HasItem}
+use Rattle.pg_translate.specs.Inside.Answers.{HasItem}
 use Rattle.pg_translate.specs.declared.items.Place.TheVariants.{Dictionary}
 use Rattle.pg_types.specs.declared.refusals.Refusal.{Refusal}
 use Rattle.pg_dict.specs.PositionedSigns.{PositionedSign, positioned_sign, Columns, with_signs}
 use Rattle.pg_translate.specs.LineRefusals.{refusal_with_room, line_refusal}
 use Rattle.pg_translate.proofs.LineSteps.{along}
 use Rattle.pg_dict.specs.Words.{LineWord}
-use Rattle.pg_dict.specs.Running.{running_word, signs_behind}
-use Rattle.pg_dict.specs.ReadColumns.{columns_after}
-use Rattle.pg_dict.specs.LineStarts.{rest_reading, word_reading}
+use Rattle.pg_dict.specs.Inside.Running.{running_word, signs_behind}
+use Rattle.pg_dict.specs.Inside.ReadColumns.{columns_after}
+use Rattle.pg_dict.specs.Inside.LineStarts.{rest_reading, word_reading}
 
 -- signs behind signs
 pub add_spots-add : (c : Columns) (s : PositionedSign) (ss : List PositionedSign) → with_signs (with_signs c (s ∷ [])) ss ≡ with_signs c (s ∷ ss)

@@ -13,7 +13,7 @@ use Rattle.pg_dict.specs.declared.store.Store.{Store}
 use Rattle.pg_dict.specs.declared.store.Stored.{Stored}
 use Rattle.pg_dict.specs.Word.{Word, letter_count, IsPlainAt, IsWord, SignsAtMost}
 use Rattle.pg_dict.proofs.WordTests.{is_plain_at, decides, has_lengths, has_signs, has_weights, has_plain, is_word}
-use Rattle.pg_dict.specs.Store.{columns_of, word_at, stored_words, all_signs, is_sign_up_to, IsDictionary}
+use Rattle.pg_dict.specs.Inside.Store.{columns_of, word_at, stored_words, all_signs, is_sign_up_to, IsDictionary}
 
 -- a number that passes the tests of all elements
 pub all_at_most : (n : ℕ) (xs : List ℕ) → list_all (λ x. nat_le x n) xs ≡ true → All (λ x. x ≤ n) xs

@@ -10,9 +10,9 @@ use Rattle.pg_translate.specs.Tokens.{Token, Letter, Digit, Weight}
 use Rattle.pg_dict.specs.PositionedSigns.{PositionedSign, positioned_sign, sets_hyphen, keeps_care}
 use Rattle.pg_dict.specs.Word.{Word, word_with, IsWord}
 use Rattle.pg_dict.specs.Words.{line_word}
-use Rattle.pg_dict.specs.Running.{signs_behind, running_word}
+use Rattle.pg_dict.specs.Inside.Running.{signs_behind, running_word}
 use Rattle.pg_dict.proofs.Running.{same_word, running_is}
-use Rattle.pg_dict.specs.Written.{Written, number_token, mark_tokens, weight_tokens, letters_tokens, written_signs, written_letters, between_letters, AreMarksOf, letters_with, word_tokens}
+use Rattle.pg_dict.specs.Inside.Written.{Written, number_token, mark_tokens, weight_tokens, letters_tokens, written_signs, written_letters, between_letters, AreMarksOf, letters_with, word_tokens}
 
 -- a number sets the weight
 number_read : (weight : ℕ) (mark : Mark) (before n : ℕ) (more : List Token) → signs_behind weight mark before (number_token n ∷ more) ≡ signs_behind weight mark n more

@@ -1,12 +1,5 @@
 pub mod PositionedSigns
 pub mod Word
 pub mod Words
-pub mod Running
-pub mod Store
-pub mod ReadColumns
-pub mod Steps
-pub mod LineStarts
-pub mod Entries
-pub mod Lent
-pub mod Written
 pub mod Parts
+pub mod Inside

@@ -28,7 +28,8 @@ keeps_care DontCare = false
 
 -- a sign behind a position with this last mark and this weight
 abbrev pub positioned_sign : Mark → ℕ → ℕ → PositionedSign
-positioned_sign mark weight sign = record { sign = sign; hyphen = sets_hyphen mark; weight = weight; care = keeps_care mark }
+positioned_sign mark weight sign =
+    record { sign = sign; hyphen = sets_hyphen mark; weight = weight; care = keeps_care mark }
 
 -- signs with their positions, as four lists of one length
 pub record Columns : Type 0 where

@@ -14,12 +14,14 @@ use Rattle.pg_translate.specs.declared.items.Place.TheVariants.{Dictionary}
 use Rattle.pg_dict.specs.PositionedSigns.{sets_hyphen, keeps_care}
 use Rattle.pg_dict.specs.Word.{Word}
 
--- what a word has at its positions: one thing at the first two and at the last, and between two letters what their gap gives
+-- what a word has at its positions: one thing at the first two and at the last, and between two
+-- letters what their gap gives
 abbrev pub at_positions : {X : Type 0} → X → (List Token → X) → List Token → List X
 at_positions plain of_gap items = plain ∷ plain ∷ (map of_gap (inner_gaps items) ++ plain ∷ [])
 
--- the word of a line with this word weight: its letters between two edges. The position between two letters has a hyphen and
--- care by the last mark of their gap, and the last number of the gap as its weight, else that of the word
+-- the word of a line with this word weight: its letters between two edges. The position between two
+-- letters has a hyphen and care by the last mark of their gap, and the last number of the gap as
+-- its weight, else that of the word
 abbrev pub word_of_items : ℕ → List Token → Word
 word_of_items weight items = record {
   signs = EDGE ∷ (signs_of items ++ EDGE ∷ []);
@@ -45,22 +47,29 @@ word_if (sign ∷ signs) word = Some word
 
 -- what a line of these items gives, below a line with this word weight
 abbrev pub line_word : ℕ → List Token → LineWord
-line_word before items = record { word = word_if (signs_of items) (word_of_items (word_weight before items) items); weight = word_weight before items }
+line_word before items =
+    record {
+      word = word_if (signs_of items) (word_of_items (word_weight before items) items);
+      weight = word_weight before items;
+    }
 
 -- what a line gives, or its refusal
 abbrev pub line_reading : Alphabet → ℕ → ℕ → List ℕ → Result LineWord Refusal
 line_reading t line weight text = of_line (line_word weight) t Dictionary line text
 
 -- what follows a line, from what the line gives
-abbrev pub on_line : (LineWord → Result (List Word) Refusal) → Result LineWord Refusal → Result (List Word) Refusal
+abbrev pub on_line : (LineWord → Result (List Word) Refusal)
+    → Result LineWord Refusal → Result (List Word) Refusal
 on_line more (Ok l) = both_parts (Ok (option_to_list l.word)) (more l)
 on_line more (Err r) = Err r
 
 -- the words of lines that begin with this line number and word weight
 abbrev pub words_from : Alphabet → ℕ → ℕ → List (List ℕ) → Result (List Word) Refusal
 words_from t line weight [] = Ok []
-words_from t line weight (l ∷ ls) = on_line (λ (l : LineWord). words_from t (line + 1) l.weight ls) (line_reading t line weight l)
+words_from t line weight (l ∷ ls) = on_line (λ (l : LineWord). words_from t (line + 1) l.weight ls)
+    (line_reading t line weight l)
 
 -- the words of a dictionary file, or its first refusal
 abbrev pub words : Alphabet → List ℕ → Result (List Word) Refusal
-words t bytes = if nat_lt FILE_MAX (length bytes) then Err (refused 0 DictionaryTooLong 0) else words_from t 1 1 (lines bytes)
+words t bytes = if nat_lt FILE_MAX (length bytes) then Err (refused 0 DictionaryTooLong 0)
+    else words_from t 1 1 (lines bytes)

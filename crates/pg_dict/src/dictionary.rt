@@ -4,8 +4,8 @@ ghost use Rattle.pg_types.specs.Reading.{Gives};
 ghost use Rattle.pg_translate.specs.Alphabets as alphabet;
 ghost use Rattle.pg_dict.specs.Word.{letter_count, IsWord, SignsAtMost};
 ghost use Rattle.pg_dict.specs.Words.{words};
-ghost use Rattle.pg_dict.specs.Store.{all_signs};
-ghost use Rattle.pg_dict.specs.Lent.{lent_word};
+ghost use Rattle.pg_dict.specs.Inside.Store.{all_signs};
+ghost use Rattle.pg_dict.specs.Inside.Lent.{lent_word};
 ghost use Rattle.pg_dict.specs.Parts.{is_in_part, part_of};
 
 use crate::entries::read_line;
@@ -19,8 +19,8 @@ use std::marker::Model;
 
 /// The words of a dictionary file, in its order. All of them lie in one store.
 ///
-/// Every word has 3 to 102 signs, each at least 1, and weights of at most [`WEIGHT_MAX`](pg_types::WEIGHT_MAX).
-/// Together the words have at most 2^26 letters.
+/// Every word has 3 to 102 signs, each at least 1, and weights of at most
+/// [`WEIGHT_MAX`](pg_types::WEIGHT_MAX). Together the words have at most 2^26 letters.
 #[derive(Drop)]
 pub struct Dictionary {
     store: Store,
@@ -32,7 +32,7 @@ impl Model for Dictionary {
 
     ghost Value = { List Word };
 
-    ghost use Rattle.pg_dict.specs.Store.{stored_words, IsDictionary};
+    ghost use Rattle.pg_dict.specs.Inside.Store.{stored_words, IsDictionary};
 
     ghost view = { λ d. stored_words d.store };
 
@@ -42,9 +42,10 @@ impl Model for Dictionary {
 impl Dictionary {
     /// Reads a dictionary file under a table, in one pass.
     ///
-    /// A file of more than 2^26 bytes is refused 403. Else the first refused place, from line to line and left to
-    /// right, is refused 401, 402 or 404: a byte that begins no item, or the 101st letter of a line. The rules are
-    /// patgen's, with weights in braces and don't-care marks besides.
+    /// A file of more than 2^26 bytes is refused 403. Else the first refused place, from line to
+    /// line and left to right, is refused 401, 402 or 404: a byte that begins no item, or the 101st
+    /// letter of a line. The rules are patgen's, with weights in braces and don't-care marks
+    /// besides.
     pub fn read(alloc: Global, table: &Table, bytes: &[u8]) -> Result<Dictionary, ReadingError>
         ensures words { Gives (λ dictionary. dictionary) result (words table.now bytes.now) }
         ensures signs { IfOk result (SignsAtMost (alphabet.letters_of table.now + 1)) }
@@ -95,15 +96,17 @@ impl Dictionary {
         }
     }
 
-    /// The signs of all words, edges included, joined in the order of the words: one slice of the store.
+    /// The signs of all words, edges included, joined in the order of the words: one slice of the
+    /// store.
     pub fn all_signs(&self) -> &[Sign]
         ensures { result.now ≡ all_signs self.now }
     {
         self.store.signs.as_slice()
     }
 
-    /// The words of a fold where `inside`, else all other words, in their order. Words are counted from 0, and a fold has the
-    /// words whose number leaves the remainder `fold` when it is divided by `folds`. Each word keeps its weight.
+    /// The words of a fold where `inside`, else all other words, in their order. Words are counted
+    /// from 0, and a fold has the words whose number leaves the remainder `fold` when it is divided
+    /// by `folds`. Each word keeps its weight.
     pub fn part(
         &self,
         alloc: Global,

@@ -2,11 +2,11 @@
 ghost use Rattle.std.specs.Prelude.{◌<◌, ◌≤◌, ◌+◌, length, IfOk, OnOk};
 ghost use Rattle.pg_types.specs.Reading.{Gives};
 ghost use Rattle.pg_translate.specs.Alphabets.{letters_of};
-ghost use Rattle.pg_translate.specs.Rules.{KeepsRules};
+ghost use Rattle.pg_translate.specs.Inside.Rules.{KeepsRules};
 ghost use Rattle.pg_dict.specs.Words.{line_reading};
-ghost use Rattle.pg_dict.specs.LineStarts.{word_reading_by};
-ghost use Rattle.pg_dict.specs.Entries.{with_word, entries_of, GrowsBy};
-ghost use Rattle.pg_dict.specs.Store.{stored_words, IsSound, IsFit};
+ghost use Rattle.pg_dict.specs.Inside.LineStarts.{word_reading_by};
+ghost use Rattle.pg_dict.specs.Inside.Entries.{with_word, entries_of, GrowsBy};
+ghost use Rattle.pg_dict.specs.Inside.Store.{stored_words, IsSound, IsFit};
 
 use crate::line::Line;
 use crate::line_start::LineStart;
@@ -16,8 +16,8 @@ use pg_translate::Table;
 use pg_types::{EDGE, FILE_MAX, ReadingError, Sign, WEIGHT_MAX, Weight};
 
 impl Line<'_> {
-    /// Adds the word of a line with this first letter, and the rest of the line behind it. After an error nothing is
-    /// said of the store.
+    /// Adds the word of a line with this first letter, and the rest of the line behind it. After an
+    /// error nothing is said of the store.
     fn read_word(&self, store: &mut Store, sign: Sign, rest: &[u8]) -> Result<(), ReadingError>
         requires within { length rest.now ≤ self.now.size }
         requires letter { (1 < sign) × (sign ≤ letters_of self.now.table.now + 1) }
@@ -25,7 +25,8 @@ impl Line<'_> {
         requires sound { IsSound store.old }
         requires fit { IsFit (letters_of self.now.table.now + 1) store.old }
         ensures word { let line = word_reading_by self.now sign rest.now in Gives
-            (λ _. entries_of store.new self.now.weight) result (with_word (stored_words store.old) line) }
+            (λ _. entries_of store.new self.now.weight) result
+            (with_word (stored_words store.old) line) }
         ensures sound { OnOk result (IsSound store.new) }
         ensures fit { OnOk result (IsFit (letters_of self.now.table.now + 1) store.new) }
         ensures counted { OnOk result (GrowsBy (length rest.now + 1) store.old store.new) }
@@ -44,8 +45,9 @@ impl Line<'_> {
     }
 }
 
-/// Adds the word of a line, if it has one, and gives the word weight for the lines below. `number` is that of the line,
-/// and `weight` the word weight above it. After an error nothing is said of the store.
+/// Adds the word of a line, if it has one, and gives the word weight for the lines below. `number`
+/// is that of the line, and `weight` the word weight above it. After an error nothing is said of
+/// the store.
 pub(crate) fn read_line(
     store: &mut Store,
     table: &Table,
@@ -58,7 +60,8 @@ pub(crate) fn read_line(
     requires rules { KeepsRules table.now }
     requires sound { IsSound store.old }
     requires fit { IsFit (letters_of table.now + 1) store.old }
-    ensures line { let line = line_reading table.now number weight text.now in Gives (entries_of store.new) result
+    ensures line { let line = line_reading table.now number weight text.now in
+        Gives (entries_of store.new) result
         (with_word (stored_words store.old) line) }
     ensures small { IfOk result (λ next. next ≤ WEIGHT_MAX) }
     ensures sound { OnOk result (IsSound store.new) }

@@ -4,40 +4,45 @@ ghost use Rattle.std.specs.List.{AllByRecursion};
 ghost use Rattle.pg_types.specs.declared.marks.Mark.{Mark};
 ghost use Rattle.pg_translate.specs.declared.items.Place.TheVariants.{Dictionary};
 ghost use Rattle.pg_translate.specs.Tokens.{Token};
-ghost use Rattle.pg_translate.specs.Items.{AreItems, text_of_items, tokens_in};
+ghost use Rattle.pg_translate.specs.Inside.Items.{AreItems, text_of_items, tokens_in};
 ghost use Rattle.pg_dict.specs.Word.{Word, IsWord};
 ghost use Rattle.pg_dict.specs.Words.{line_reading, line_word, words};
-ghost use Rattle.pg_dict.specs.Written.{AreMarksOf, word_tokens, letters_among, IsLine, file_of, LinesGive};
+ghost use Rattle.pg_dict.specs.Inside.Written.{AreMarksOf, word_tokens, letters_among, IsLine, file_of, LinesGive};
 
 use pg_translate::Table;
 use pg_translate::laws::keeps_rules;
 use pg_types::{FILE_MAX, WORD_LETTERS_MAX};
 
-/// The items of a written word, under any word weight of the lines above, give that word. Its marks may be any that
-/// mean its hyphens and cares.
+/// The items of a written word, under any word weight of the lines above, give that word. Its marks
+/// may be any that mean its hyphens and cares.
 pub fn words_are_read()
     ensures { (before : ℕ) (w : Word) (marks : List Mark) → IsWord w → AreMarksOf w marks
-        → line_word before (word_tokens before marks w) ≡ record { word = Some w; weight = w.weight } }
+        → line_word before (word_tokens before marks w)
+        ≡ record { word = Some w; weight = w.weight } }
 {}
 
 /// A line of items with at most 100 letters is accepted, and gives what its items give.
 pub fn lines_are_read(table: &Table)
-    ensures { (line weight : ℕ) (items : List (Token × List ℕ)) → AreItems table.now Dictionary items
+    ensures { (line weight : ℕ) (items : List (Token × List ℕ))
+        → AreItems table.now Dictionary items
         → letters_among (tokens_in items) ≤ WORD_LETTERS_MAX
-        → line_reading table.now line weight (text_of_items items) ≡ Ok (line_word weight (tokens_in items)) }
+        → line_reading table.now line weight (text_of_items items)
+        ≡ Ok (line_word weight (tokens_in items)) }
 {
     keeps_rules(table);
 }
 
-/// The items of a dictionary, joined, are one line: they hold no line feed, and do not end with a CR.
+/// The items of a dictionary, joined, are one line: they hold no line feed, and do not end with a
+/// CR.
 pub fn items_are_lines(table: &Table)
-    ensures { (items : List (Token × List ℕ)) → AreItems table.now Dictionary items → IsLine (text_of_items items) }
+    ensures { (items : List (Token × List ℕ)) → AreItems table.now Dictionary items
+        → IsLine (text_of_items items) }
 {
     keeps_rules(table);
 }
 
-/// A file of lines that give words, each below the word weight that the line before it hands on, is the list of these
-/// words.
+/// A file of lines that give words, each below the word weight that the line before it hands on, is
+/// the list of these words.
 pub fn files_are_read(table: &Table)
     ensures { (texts : List (List ℕ)) (all : List Word) → AllByRecursion IsLine texts
         → LinesGive table.now 1 texts all → length (file_of texts) ≤ FILE_MAX

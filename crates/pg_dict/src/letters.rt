@@ -1,10 +1,10 @@
 //! The reading of a word, behind its first letter, into the columns of the store.
 ghost use Rattle.std.specs.Prelude.{◌≡◌, ◌<◌, ◌≤◌, ◌+◌, ◌-◌, length, OnOk};
-ghost use Rattle.pg_dict.specs.ReadColumns.{columns_behind};
-ghost use Rattle.pg_dict.specs.Store.{columns_of, IsFit};
+ghost use Rattle.pg_dict.specs.Inside.ReadColumns.{columns_behind};
+ghost use Rattle.pg_dict.specs.Inside.Store.{columns_of, IsFit};
 ghost use Rattle.pg_types.specs.Reading.{Gives};
 ghost use Rattle.pg_translate.specs.Alphabets.{letters_of};
-ghost use Rattle.pg_dict.specs.Steps.{IsStep, AddsSigns};
+ghost use Rattle.pg_dict.specs.Inside.Steps.{IsStep, AddsSigns};
 
 use crate::line::{Line, kind_of};
 use crate::position::Position;
@@ -24,15 +24,17 @@ pub(crate) struct At<'a> {
 }
 
 impl Line<'_> {
-    /// Reads the next item of a word: where the reading then stands, or none at the word's end. After an error nothing
-    /// is said of the columns.
+    /// Reads the next item of a word: where the reading then stands, or none at the word's end.
+    /// After an error nothing is said of the columns.
     fn take<'a>(&self, store: &mut Store, at: At<'a>) -> Result<Option<At<'a>>, ReadingError>
         requires within { length at.rest.now ≤ self.now.size }
         requires fit { IsFit (letters_of self.now.table.now + 1) store.old }
-        ensures step { IsStep self.now at.entry (columns_of store.old) (columns_of store.new) result }
+        ensures step { IsStep self.now at.entry (columns_of store.old)
+            (columns_of store.new) result }
         ensures words { store.new.words.items ≡ store.old.words.items }
         ensures fit { OnOk result (IsFit (letters_of self.now.table.now + 1) store.new) }
-        ensures counted { AddsSigns at.entry (length store.old.signs.items) (length store.new.signs.items) result }
+        ensures counted { AddsSigns at.entry (length store.old.signs.items)
+            (length store.new.signs.items) result }
     {
         let At {
             position,
@@ -75,8 +77,8 @@ impl Line<'_> {
         }
     }
 
-    /// Reads the rest of a word, behind its first letter, into the columns. After an error nothing is said of the
-    /// columns.
+    /// Reads the rest of a word, behind its first letter, into the columns. After an error nothing
+    /// is said of the columns.
     pub(crate) fn fill(&self, store: &mut Store, rest: &[u8]) -> Result<(), ReadingError>
         requires within { length rest.now ≤ self.now.size }
         requires fit { IsFit (letters_of self.now.table.now + 1) store.old }

@@ -7,7 +7,8 @@ ghost use Rattle.pg_translate.specs.declared.items.Place.TheVariants.{Dictionary
 use pg_translate::Table;
 use pg_types::{Kind, Refusal, Weight};
 
-/// A line that is being read: the table by which it is read, its number and its size in bytes, and its word weight.
+/// A line that is being read: the table by which it is read, its number and its size in bytes, and
+/// its word weight.
 #[derive(Clone, Copy)]
 pub(crate) struct Line<'t> {
     /// The table.

@@ -1,7 +1,7 @@
 //! The reading of a line up to its first letter.
 ghost use Rattle.std.specs.Prelude.{◌≡◌, length};
 ghost use Rattle.pg_dict.specs.Words.{line_reading};
-ghost use Rattle.pg_dict.specs.LineStarts.{IsLineStart};
+ghost use Rattle.pg_dict.specs.Inside.LineStarts.{IsLineStart};
 
 use crate::line::{Line, kind_of};
 use pg_translate::{Item, Place};
@@ -26,11 +26,12 @@ pub(crate) enum LineStart<'a> {
 }
 
 impl Line<'_> {
-    /// The first letter of the line `text`, and its word weight: the last number before it, else that of the line
-    /// above.
+    /// The first letter of the line `text`, and its word weight: the last number before it, else
+    /// that of the line above.
     pub(crate) fn seek<'a>(&self, text: &'a [u8]) -> Result<LineStart<'a>, Refusal>
         requires { length text.now ≡ self.now.size }
-        ensures { IsLineStart self.now (line_reading self.now.table.now self.now.number self.now.weight text.now)
+        ensures { IsLineStart self.now
+            (line_reading self.now.table.now self.now.number self.now.weight text.now)
             result }
     {
         let mut weight = self.weight;

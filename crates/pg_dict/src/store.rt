@@ -1,10 +1,10 @@
-//! The store: the signs of all words in one vector, and beside each sign the hyphen, weight and care of the position
-//! before it.
+//! The store: the signs of all words in one vector, and beside each sign the hyphen, weight and
+//! care of the position before it.
 ghost use Rattle.std.specs.Prelude.{◌≡◌, ◌+◌, [], ◌∷◌, ◌++◌, length, OnOk};
 ghost use Rattle.pg_dict.specs.PositionedSigns.{with_signs, no_columns, positioned_sign};
-ghost use Rattle.pg_dict.specs.Store.{columns_of, stored_words, IsSound};
+ghost use Rattle.pg_dict.specs.Inside.Store.{columns_of, stored_words, IsSound};
 ghost use Rattle.pg_dict.specs.Word.{IsWord};
-ghost use Rattle.pg_dict.specs.Lent.{lent_word};
+ghost use Rattle.pg_dict.specs.Inside.Lent.{lent_word};
 
 use crate::position::Position;
 use crate::word::WordRef;
@@ -55,7 +55,8 @@ impl Store {
     /// Adds a sign, and the position before it. After an error nothing is said of the columns.
     pub(crate) fn push(&mut self, position: Position, sign: Sign) -> Result<(), AllocError>
         ensures ok { OnOk result (columns_of self.new
-            ≡ with_signs (columns_of self.old) (positioned_sign position.mark position.weight sign ∷ [])) }
+            ≡ with_signs (columns_of self.old)
+            (positioned_sign position.mark position.weight sign ∷ [])) }
         ensures words { self.new.words.items ≡ self.old.words.items }
     {
         self.signs.push(sign)?;
@@ -70,10 +71,14 @@ impl Store {
     pub(crate) fn push_word(&mut self, word: &WordRef<'_>) -> Result<(), AllocError>
         requires word { IsWord (lent_word word.now) }
         requires sound { IsSound self.old }
-        ensures words { OnOk result (stored_words self.new ≡ stored_words self.old ++ lent_word word.now ∷ []) }
+        ensures words { OnOk result
+            (stored_words self.new ≡ stored_words self.old ++ lent_word word.now ∷ []) }
         ensures sound { OnOk result (IsSound self.new) }
-        ensures signs { OnOk result (length self.new.signs.items ≡ length self.old.signs.items + length word.now.signs.now) }
-        ensures count { OnOk result (length self.new.words.items ≡ length self.old.words.items + 1) }
+        ensures signs { OnOk result
+            (length self.new.signs.items
+            ≡ length self.old.signs.items + length word.now.signs.now) }
+        ensures count { OnOk result
+            (length self.new.words.items ≡ length self.old.words.items + 1) }
     {
         let start = self.signs.len();
         self.signs.extend_from_slice(word.signs)?;

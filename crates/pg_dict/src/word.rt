@@ -3,8 +3,8 @@ ghost use Rattle.std.specs.Prelude.{◌≡◌, length};
 
 use pg_types::{Sign, Weight};
 
-/// A word, lent by its dictionary. Its four slices have one length, that of the word in signs. They are parts of the
-/// dictionary's store, so a `WordRef` does not outlive its dictionary.
+/// A word, lent by its dictionary. Its four slices have one length, that of the word in signs. They
+/// are parts of the dictionary's store, so a `WordRef` does not outlive its dictionary.
 ///
 /// Position `p` is the place that has `p` signs of the word before it.
 #[derive(Clone, Copy, Debug)]

@@ -1,7 +1,7 @@
 -- The greatest number of all strings of a word: within each bound on the numbers of those that stand in it, and over each of them.
 use Rattle.std.proofs.Common.{◌≡◌, ℕ, ◌+◌, ◌≤◌, max, nat_eq, true, false, cond, inl, inr, List, [], ◌∷◌, ◌++◌, length, refl, sym, ap, subst, ◌∙◌, append_assoc, arith, length-append}
 use Rattle.std.proofs.lemmas.Bool.{eqb-true, eq-eqb}
-use Rattle.pg_hyph.specs.Walks.{by_list, by_strings, by_starts}
+use Rattle.pg_hyph.specs.Inside.Walks.{by_list, by_strings, by_starts}
 use Rattle.pg_hyph.proofs.Members.{In, most, most_first, most_rest}
 use Rattle.pg_hyph.proofs.Cuts.{Cut}
 

@@ -7,13 +7,13 @@ use Rattle.pg_types.specs.declared.limits.TheConstants.{LEVEL_MAX, WORD_LETTERS_
 use Rattle.pg_patterns.specs.Values.{applies, value_at, is_entry}
 use Rattle.pg_select.specs.Windows.{window, fits, is_within, covered}
 use Rattle.pg_trie.specs.declared.mark.TheConstants.{HOPELESS}
-use Rattle.pg_trie.specs.Lists.{outputs_at}
+use Rattle.pg_trie.specs.Inside.Lists.{outputs_at}
 use Rattle.pg_trie.specs.Maps.{Maps, AreKept, is_dotted}
 use Rattle.pg_select.specs.declared.pass.Pass.{Pass}
 use Rattle.pg_select.specs.Positions.{bit, Raises}
 use Rattle.pg_select.proofs.Bits.{same_bits}
-use Rattle.pg_hyph.specs.ListValues.{value_given, value_by, cover_by}
-use Rattle.pg_hyph.specs.Walks.{by_starts}
+use Rattle.pg_hyph.specs.Inside.ListValues.{value_given, value_by, cover_by}
+use Rattle.pg_hyph.specs.Inside.Walks.{by_starts}
 use Rattle.pg_hyph.proofs.Members.{In, all_in, in_any, any_in, in_found, found_in, in_best, best_within}
 use Rattle.pg_hyph.proofs.Outputs.{in_outputs, outputs_value, outputs_mark}
 use Rattle.pg_hyph.proofs.Cuts.{Cut, cut_applies, applies_cut, out_of_window, within_window, into_window}

@@ -3,7 +3,7 @@ use Rattle.std.proofs.Common.{◌≡◌, ℕ, ◌+◌, ◌-◌, ◌<◌, ◌≤�
 use Rattle.std.proofs.lemmas.List.{append-nil, drop_more, drop_all, take_more, get_or-drop, length-take-le}
 use Rattle.pg_types.specs.declared.limits.TheConstants.{WORD_LETTERS_MAX}
 use Rattle.pg_select.specs.Positions.{Raises}
-use Rattle.pg_hyph.specs.Walks.{by_list, by_strings, by_starts}
+use Rattle.pg_hyph.specs.Inside.Walks.{by_list, by_strings, by_starts}
 
 abbrev pub Level : (ℕ → ℕ) → (ℕ → ℕ) → (ℕ → ℕ) → (ℕ → ℕ) → Type 0
 Level left whole before now = (p : ℕ) → p < WORD_LETTERS_MAX + 2 → max (now p) (left p) ≡ max (before p) (whole p)

@@ -4,7 +4,7 @@ use Rattle.std.specs.List.{range_with_len}
 use Rattle.std.specs.FinMap.Entries.{find}
 use Rattle.pg_patterns.specs.DottedSigns.{dotted_cmp}
 use Rattle.pg_trie.specs.declared.mark.TheConstants.{HOPELESS}
-use Rattle.pg_trie.specs.Lists.{value_part, mark_part, outputs_at_dot, outputs_at}
+use Rattle.pg_trie.specs.Inside.Lists.{value_part, mark_part, outputs_at_dot, outputs_at}
 use Rattle.pg_hyph.proofs.Members.{In, in_left, in_right, in_either, in_flat, flat_in, in_range}
 
 value_in : (v d : ℕ) (o : Option ℕ) → o ≡ Some v → In (v, d) (value_part o d)

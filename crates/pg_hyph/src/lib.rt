@@ -1,4 +1,5 @@
-//! The hyphenator: the values and the covers of the positions of a word, by the lists of a pattern trie.
+//! The hyphenator: the values and the covers of the positions of a word, by the lists of a pattern
+//! trie.
 #![tactic(auto)]
 
 mod records;

@@ -1,16 +1,16 @@
 //! The list of a string that stands in a word.
 ghost use Rattle.std.specs.Prelude.{◌≡◌, ◌+◌, ◌≤◌, length};
 ghost use Rattle.pg_types.specs.declared.limits.TheConstants.{WORD_LETTERS_MAX};
-ghost use Rattle.pg_trie.specs.Lists.{list_of};
+ghost use Rattle.pg_trie.specs.Inside.Lists.{list_of};
 ghost use Rattle.pg_select.specs.Positions.{RaisesValues, RaisesCovers, RaisesAt, values_of, covers_of};
-ghost use Rattle.pg_hyph.specs.ListValues.{value_given, value_by, cover_by};
-ghost use Rattle.pg_hyph.specs.Walks.{by_list};
+ghost use Rattle.pg_hyph.specs.Inside.ListValues.{value_given, value_by, cover_by};
+ghost use Rattle.pg_hyph.specs.Inside.Walks.{by_list};
 
 use pg_select::{Pass, WordState};
 use pg_trie::{HOPELESS, PatternTrie};
 
-/// Raises the values and covers of a word by the values and marks of the list at `head`, that of a string of `len` signs which
-/// stands in the word from `start` on.
+/// Raises the values and covers of a word by the values and marks of the list at `head`, that of a
+/// string of `len` signs which stands in the word from `start` on.
 pub fn raise_by_list(
     trie: &PatternTrie,
     head: u64,
@@ -22,8 +22,10 @@ pub fn raise_by_list(
     requires head { head ≤ length trie.now.records }
     requires start { start ≤ WORD_LETTERS_MAX + 2 }
     requires len { len ≤ WORD_LETTERS_MAX + 2 }
-    ensures values { RaisesValues (by_list (value_by len) start (list_of trie.now.records head)) out.old out.new }
-    ensures covers { RaisesCovers (by_list (cover_by pass.now len) start (list_of trie.now.records head)) out.old
+    ensures values { RaisesValues
+        (by_list (value_by len) start (list_of trie.now.records head)) out.old out.new }
+    ensures covers { RaisesCovers
+        (by_list (cover_by pass.now len) start (list_of trie.now.records head)) out.old
         out.new }
 {
     let mut at = head;
@@ -33,12 +35,14 @@ pub fn raise_by_list(
     }
 }
 
-/// Raises by one value or mark: a value raises that of the position of its dot, and either covers the window there where it is at
-/// least the level, as the mark always is, and the string stands in the window.
+/// Raises by one value or mark: a value raises that of the position of its dot, and either covers
+/// the window there where it is at least the level, as the mark always is, and the string stands in
+/// the window.
 fn raise_at(value: u8, dot: u8, start: usize, len: usize, pass: &Pass, out: &mut WordState)
     requires start { start ≤ WORD_LETTERS_MAX + 2 }
     requires len { len ≤ WORD_LETTERS_MAX + 2 }
-    ensures values { RaisesAt (start + dot) (value_by len (value, dot)) (values_of out.old) (values_of out.new) }
+    ensures values { RaisesAt (start + dot) (value_by len (value, dot))
+        (values_of out.old) (values_of out.new) }
     ensures covers { RaisesAt (start + dot) (cover_by pass.now len (value, dot)) (covers_of out.old)
         (covers_of out.new) }
 {

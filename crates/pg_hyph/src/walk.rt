@@ -3,35 +3,39 @@ ghost use Rattle.std.specs.Prelude.{◌≡◌, ◌+◌, ◌≤◌, [], length, d
 ghost use Rattle.pg_types.specs.declared.limits.TheConstants.{WORD_LETTERS_MAX};
 ghost use Rattle.pg_types.specs.Counts.{SignsWithin};
 ghost use Rattle.pg_select.specs.Positions.{RaisesValues, RaisesCovers};
-ghost use Rattle.pg_hyph.specs.ListValues.{lists_in, value_by, cover_by};
-ghost use Rattle.pg_hyph.specs.Walks.{by_strings, by_starts};
+ghost use Rattle.pg_hyph.specs.Inside.ListValues.{lists_in, value_by, cover_by};
+ghost use Rattle.pg_hyph.specs.Inside.Walks.{by_strings, by_starts};
 
 use crate::records::raise_by_list;
 use pg_select::{Pass, WordState};
 use pg_trie::PatternTrie;
 use pg_types::Sign;
 
-/// Raises the values and covers of a word by the lists of all its strings. It takes no memory. From each start on it goes along
-/// the word from cell to cell, up to the first string that has none.
+/// Raises the values and covers of a word by the lists of all its strings. It takes no memory. From
+/// each start on it goes along the word from cell to cell, up to the first string that has none.
 pub fn walk(trie: &PatternTrie, w: &[Sign], pass: &Pass, out: &mut WordState)
     requires len { length w.now ≤ WORD_LETTERS_MAX + 2 }
     requires signs { SignsWithin trie.now.signs w.now }
     ensures values { RaisesValues (by_starts value_by (lists_in trie.now) 0 w.now) out.old out.new }
-    ensures covers { RaisesCovers (by_starts (cover_by pass.now) (lists_in trie.now) 0 w.now) out.old out.new }
+    ensures covers { RaisesCovers
+        (by_starts (cover_by pass.now) (lists_in trie.now) 0 w.now) out.old out.new }
 {
     for start in 0..w.len() {
         raise_by_strings(trie, w, start, pass, out);
     }
 }
 
-/// Raises them by the lists of the strings that stand in the word from `start` on, the shorter ones first.
+/// Raises them by the lists of the strings that stand in the word from `start` on, the shorter ones
+/// first.
 fn raise_by_strings(trie: &PatternTrie, w: &[Sign], start: usize, pass: &Pass, out: &mut WordState)
     requires len { length w.now ≤ WORD_LETTERS_MAX + 2 }
     requires signs { SignsWithin trie.now.signs w.now }
     requires inside { start ≤ length w.now }
-    ensures values { RaisesValues (by_strings value_by (lists_in trie.now) start [] (drop start w.now)) out.old
+    ensures values { RaisesValues
+        (by_strings value_by (lists_in trie.now) start [] (drop start w.now)) out.old
         out.new }
-    ensures covers { RaisesCovers (by_strings (cover_by pass.now) (lists_in trie.now) start [] (drop start w.now))
+    ensures covers { RaisesCovers
+        (by_strings (cover_by pass.now) (lists_in trie.now) start [] (drop start w.now))
         out.old out.new }
 {
     let mut at = None;

@@ -1,7 +1,7 @@
 //! The values and the covers of a word.
 ghost use Rattle.std.specs.Prelude.{◌+◌, ◌≤◌, length};
 ghost use Rattle.pg_types.specs.declared.limits.TheConstants.{LEVEL_MAX, LENGTH_MAX, WORD_LETTERS_MAX};
-ghost use Rattle.pg_select.specs.LawsClosedDots.{pass_at};
+ghost use Rattle.pg_select.specs.Inside.LawsClosedDots.{pass_at};
 ghost use Rattle.pg_select.specs.Positions.{HasValues, HasCovers};
 ghost use Rattle.pg_types.specs.Counts.{SignsWithin};
 
@@ -10,9 +10,9 @@ use pg_dict::WordRef;
 use pg_select::{Pass, WordState};
 use pg_trie::PatternTrie;
 
-/// The value of each position of a word by the patterns of a trie, and for each position whose window of the pass fits in the
-/// word whether that is covered by the patterns and the hopeless marks. Of the cover of other positions nothing is said. It
-/// takes no memory.
+/// The value of each position of a word by the patterns of a trie, and for each position whose
+/// window of the pass fits in the word whether that is covered by the patterns and the hopeless
+/// marks. Of the cover of other positions nothing is said. It takes no memory.
 pub fn hyphenate(
     trie: &PatternTrie,
     w: WordRef<'_>,
@@ -27,7 +27,8 @@ pub fn hyphenate(
     requires len { (1 ≤ len) × (len ≤ LENGTH_MAX) }
     requires dot { dot ≤ len }
     ensures values { HasValues trie.now.patterns w.entry.signs.now out.new.values }
-    ensures covers { HasCovers (pass_at level len dot) trie.now.patterns trie.now.hopeless w.entry.signs.now
+    ensures covers { HasCovers
+        (pass_at level len dot) trie.now.patterns trie.now.hopeless w.entry.signs.now
         out.new.covers }
 {
     let _kept = trie.outputs();

@@ -6,7 +6,7 @@ use Rattle.std.specs.List.{position_or_len}
 use Rattle.indexmap.specs.IndexSet.{insert_key}
 use Rattle.pg_outputs.specs.declared.records.Record.{Record}
 use Rattle.pg_outputs.specs.Lists.{list_of, Grows, Lacks}
-use Rattle.pg_outputs.specs.Records.{AreShared}
+use Rattle.pg_outputs.specs.Inside.Records.{AreShared}
 use Rattle.pg_outputs.proofs.ListLaws.{list_of-new, list_of-at, grows_none, grows_push}
 use Rattle.pg_outputs.proofs.RecordLaws.{is_same, there_or_new, IsThere, shared_push}
 

@@ -5,7 +5,7 @@ use Rattle.std.proofs.lemmas.List.Sums.{fold-append}
 use Rattle.std.proofs.lemmas.Option.{slice_get_within, get_or_from_slice_get, slice_get_cases}
 use Rattle.pg_outputs.specs.declared.records.Record.{Record}
 use Rattle.pg_outputs.specs.Lists.{with_record, lists, list_of, Grows, OneHeadEach}
-use Rattle.pg_outputs.specs.Records.{AreShared}
+use Rattle.pg_outputs.specs.Inside.Records.{AreShared}
 
 -- each step adds one list
 length-fold_lists : (ls : List (List (ℕ × ℕ))) (rs : List Record) → length (fold with_record ls rs) ≡ length ls + length rs

@@ -6,7 +6,7 @@ use Rattle.std.specs.List.{list_any, position_or_len}
 use Rattle.pg_outputs.specs.declared.records.Record.{Record}
 use Rattle.pg_outputs.specs.Lists.{Lacks}
 use Rattle.pg_outputs.specs.contracts.records.RecordPartialEq.TheImpl.{eq-value}
-use Rattle.pg_outputs.specs.Records.{AreShared}
+use Rattle.pg_outputs.specs.Inside.Records.{AreShared}
 
 -- the test that `insert` makes, which is equality
 abbrev pub is_same : Record → Record → Bool

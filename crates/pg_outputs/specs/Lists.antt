@@ -1,5 +1,5 @@
--- Lists that are named by heads. Head 0 is the empty list, and head h is the record at index h - 1: its value and dot, and
--- then the list at its next.
+-- Lists that are named by heads. Head 0 is the empty list, and head h is the record at index h - 1:
+-- its value and dot, and then the list at its next.
 use Rattle.std.specs.Prelude.{◌≡◌, ◌≢◌, ℕ, ◌+◌, ◌≤◌, List, [], ◌∷◌, ◌++◌, length, fold, get_or, slice_get, Some}
 use Rattle.pg_outputs.specs.declared.records.Record.{Record}
 

@@ -2,7 +2,7 @@
 ghost use Rattle.std.specs.Prelude.{◌≡◌, ℕ, true, ◌+◌, ◌-◌, ◌<◌, ◌≤◌, ◌↔◌, ◌≢◌, ◌⊎◌, List, [], ◌∷◌, ◌++◌, length, slice_get, Some, None, Ok, IsNone, IfSome, IfOk, OnOk, OnErr, MatchOption};
 ghost use Rattle.indexmap.specs.IndexSet.{index_set_len};
 ghost use Rattle.pg_outputs.specs.Lists.{list_of, Grows, OneHeadEach, IsRecordOf, Lacks};
-ghost use Rattle.pg_outputs.specs.Records.{AreShared};
+ghost use Rattle.pg_outputs.specs.Inside.Records.{AreShared};
 
 use crate::records::Record;
 use indexmap::IndexSet;
@@ -12,10 +12,11 @@ use std::marker::Model;
 /// The latest record is known for so many dots.
 const DOTS: usize = 16;
 
-/// Lists of (value, dot) that share their ends. Head 0 is the empty list, and head `h` is the record at index `h - 1`.
+/// Lists of (value, dot) that share their ends. Head 0 is the empty list, and head `h` is the
+/// record at index `h - 1`.
 ///
-/// Most lists that are made in a pass are equal to one that was just made. So the index of the record that was given last is kept
-/// for each dot, and such a list is found without hashing.
+/// Most lists that are made in a pass are equal to one that was just made. So the index of the
+/// record that was given last is kept for each dot, and such a list is found without hashing.
 #[derive(Drop)]
 pub struct Outputs {
     records: IndexSet<Record>,
@@ -25,7 +26,7 @@ pub struct Outputs {
 impl Model for Outputs {
     ghost use Rattle.std.specs.Prelude.{List};
     ghost use Rattle.pg_outputs.specs.declared.records.Record.{Record};
-    ghost use Rattle.pg_outputs.specs.Records.{AreShared};
+    ghost use Rattle.pg_outputs.specs.Inside.Records.{AreShared};
 
     ghost Value = { List Record };
 
@@ -51,14 +52,17 @@ impl Outputs {
     /// A record that is there gives its own head, and nothing grows. That takes no memory.
     pub fn cons(&mut self, value: u8, dot: u8, next: u64) -> Result<u64, AllocError>
         requires { next ≤ length self.old }
-        ensures list { IfOk result (λ h. list_of self.new h ≡ (value, dot) ∷ list_of self.old next) }
+        ensures list { IfOk result
+            (λ h. list_of self.new h ≡ (value, dot) ∷ list_of self.old next) }
         ensures head { IfOk result (λ h. (0 < h) × (h ≤ length self.new)) }
-        ensures there { (i : ℕ) → slice_get self.old i ≡ Some (record { value = value; dot = dot; next = next })
+        ensures there { (i : ℕ) → slice_get self.old i
+            ≡ Some (record { value = value; dot = dot; next = next })
             → (result ≡ Ok (i + 1)) × (self.new ≡ self.old) }
         ensures added { Lacks self.old (record { value = value; dot = dot; next = next })
             → IfOk result (λ h. (h ≡ length self.old + 1)
             × (self.new ≡ self.old ++ record { value = value; dot = dot; next = next } ∷ [])) }
-        ensures record { IfOk result (λ h. IsRecordOf self.new h (record { value = value; dot = dot; next = next })) }
+        ensures record { IfOk result
+            (λ h. IsRecordOf self.new h (record { value = value; dot = dot; next = next })) }
         ensures adds { OnOk result ((self.new ≡ self.old)
             ⊎ (self.new ≡ self.old ++ record { value = value; dot = dot; next = next } ∷ [])) }
         ensures grows { Grows self.old self.new }
@@ -77,7 +81,8 @@ impl Outputs {
         Ok(head_at(&self.records, index))
     }
 
-    /// The first value and dot of a list, with the head of its rest. `None` is the empty list, head 0.
+    /// The first value and dot of a list, with the head of its rest. `None` is the empty list, head
+    /// 0.
     pub fn first(&self, head: u64) -> Option<(u8, u8, u64)>
         requires { head ≤ length self.now }
         ensures none { IsNone result ↔ (head ≡ 0) }

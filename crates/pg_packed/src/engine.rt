@@ -15,8 +15,9 @@ use std::alloc::{AllocError, Global};
 
 /// An [`Engine`] over tries in packed cells, which tells its families.
 ///
-/// The patterns and the hopeless places share one trie, and the counts have another, whose windows have the length of the pass.
-/// To hyphenate a word goes along it from cell to cell from each of its positions on.
+/// The patterns and the hopeless places share one trie, and the counts have another, whose windows
+/// have the length of the pass. To hyphenate a word goes along it from cell to cell from each of
+/// its positions on.
 #[derive(Drop)]
 pub struct PackedEngine {
     trie: PatternTrie,
@@ -36,11 +37,12 @@ impl PackedEngine {
     ghost use Rattle.pg_types.specs.declared.limits.TheConstants.{SIGNS_MAX};
     ghost use Rattle.pg_patterns.specs.Values.{SignsUpTo};
     ghost use Rattle.pg_select.specs.Meanings.{new_engine};
-    ghost use Rattle.pg_packed.specs.Engines.{meaning_of};
+    ghost use Rattle.pg_packed.specs.Inside.Engines.{meaning_of};
     ghost use Rattle.pg_packed.specs.Starts.{pattern_families};
 
-    /// An engine with the greatest sign `signs` whose patterns are those of `start`. Nothing is hopeless or counted, no pass
-    /// was begun, and the engine is tidy. Its families are those after the patterns are entered in their order.
+    /// An engine with the greatest sign `signs` whose patterns are those of `start`. Nothing is
+    /// hopeless or counted, no pass was begun, and the engine is tidy. Its families are those after
+    /// the patterns are entered in their order.
     pub fn new(alloc: Global, signs: u16, start: &PatternSet) -> Result<PackedEngine, AllocError>
         requires signs { (1 ≤ signs) × (signs ≤ SIGNS_MAX) }
         requires known { SignsUpTo signs start.now }
@@ -59,7 +61,7 @@ impl PackedEngine {
 }
 
 impl Engine for PackedEngine {
-    ghost use Rattle.pg_packed.specs.Engines.{meaning_of};
+    ghost use Rattle.pg_packed.specs.Inside.Engines.{meaning_of};
 
     ghost meaning = { meaning_of };
 

@@ -13,7 +13,7 @@ use Rattle.std.specs.List.{list_all, All, dedup_from, dedup}
 use Rattle.std.specs.List.Sorted.{IsPermutation, IsSortedBy}
 use Rattle.pg_patterns.specs.DottedSigns.{dotted_cmp, dotted_total, same_dotted, dotted_ties, dotted_exact}
 use Rattle.pg_patterns.specs.Values.{value_of, best, map_of_entries, is_entry, IsPatternMap}
-use Rattle.pg_patterns.specs.Search.{entry_cmp}
+use Rattle.pg_patterns.specs.Inside.Search.{entry_cmp}
 use Rattle.pg_types.proofs.BoolFacts.{and_first, and_second, equal_is, less_is, is_true, holds, first_half, second_half}
 use Rattle.pg_patterns.proofs.Joins.{only, same_maps, joined_keeps, value_of_joined, best-IsPermutation}
 use Rattle.std.proofs.lemmas.Bool.{and_from, not-true, not_from_false}

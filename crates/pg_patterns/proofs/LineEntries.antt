@@ -19,7 +19,7 @@ use Rattle.pg_translate.specs.LineRefusals.{line_refusal}
 use Rattle.pg_patterns.specs.Lines.{digit_at_dot, entry_at, entries_at, line_entries, entries_of_line}
 use Rattle.pg_patterns.proofs.Running.{digits_from, digits_are}
 use Rattle.pg_patterns.specs.Starts.{entries_from}
-use Rattle.pg_patterns.specs.Drafts.{Draft, IsDraft, IsDotDigit, no_draft, all_digits, draft_with_sign, with_token, draft_entries, line_draft}
+use Rattle.pg_patterns.specs.Inside.Drafts.{Draft, IsDraft, IsDotDigit, no_draft, all_digits, draft_with_sign, with_token, draft_entries, line_draft}
 use Rattle.pg_types.proofs.BoolFacts.{and_first, and_second}
 use Rattle.pg_patterns.proofs.Sound.{EntryBounds, entry_told}
 use Rattle.pg_patterns.proofs.Steps.{keeps_digits}

@@ -22,8 +22,8 @@ use Rattle.pg_patterns.specs.Texts.{value_digit, line_from, pattern_line}
 use Rattle.pg_types.proofs.BoolFacts.{and_first, and_second, equal_is}
 use Rattle.pg_patterns.proofs.Sound.{entry_bounds}
 use Rattle.pg_translate.specs.declared.items.Place.TheVariants.{Patterns}
-use Rattle.pg_translate.specs.Items.{IsItem, text_of_items, tokens_in}
-use Rattle.pg_translate.specs.Rules.{KeepsRules}
+use Rattle.pg_translate.specs.Inside.Items.{IsItem, text_of_items, tokens_in}
+use Rattle.pg_translate.specs.Inside.Rules.{KeepsRules}
 use Rattle.pg_translate.proofs.JoinedItems.{line_is_read}
 use Rattle.pg_translate.proofs.LineTexts.{lines_of_text}
 use Rattle.pg_translate.proofs.RuleLaws.{spelling_item}

@@ -11,13 +11,13 @@ use Rattle.pg_translate.specs.declared.items.Place.TheVariants.{Patterns}
 use Rattle.pg_translate.specs.Alphabets.{Alphabet}
 use Rattle.pg_translate.specs.Tokens.{Token, Digit}
 use Rattle.pg_translate.specs.Cuts.{Cut, cut_rest, with_item, tokens_of}
-use Rattle.pg_translate.specs.Answers.{HasItem, HasNoItem}
+use Rattle.pg_translate.specs.Inside.Answers.{HasItem, HasNoItem}
 use Rattle.pg_translate.specs.Gaps.{sign_of}
 use Rattle.pg_translate.specs.LineRefusals.{refused, refusal_with_room}
 use Rattle.pg_translate.proofs.Cuts.{cut_stops}
 use Rattle.pg_translate.proofs.LineSteps.{cut_rest-takes, refusal_sign, refusal_full}
 use Rattle.pg_patterns.specs.Lines.{digit_at_dot}
-use Rattle.pg_patterns.specs.Drafts.{Draft, IsDraft, IsDotDigit, all_digits, draft_with_sign, draft_with_digit, with_token, refusal_after, draft_left}
+use Rattle.pg_patterns.specs.Inside.Drafts.{Draft, IsDraft, IsDotDigit, all_digits, draft_with_sign, draft_with_digit, with_token, refusal_after, draft_left}
 
 -- a sign leaves room for one less
 room_less : (n : ℕ) → n < PATTERN_SIGNS_MAX → PATTERN_SIGNS_MAX - n ≡ PATTERN_SIGNS_MAX - (n + 1) + 1

@@ -12,7 +12,7 @@ use Rattle.std.specs.FinMap.Entries.{is_sorted}
 use Rattle.pg_translate.specs.Alphabets.{Alphabet}
 use Rattle.pg_patterns.specs.DottedSigns.{dotted_cmp, dotted_total}
 use Rattle.pg_patterns.specs.Values.{IsPatternMap, is_entry}
-use Rattle.pg_patterns.specs.Search.{is_after, HasRank}
+use Rattle.pg_patterns.specs.Inside.Search.{is_after, HasRank}
 use Rattle.pg_patterns.specs.Texts.{with_string, strings_of, pattern_line}
 use Rattle.pg_types.proofs.BoolFacts.{equal_is, greater_is}
 use Rattle.pg_patterns.proofs.Ordered.{sorted_at, after_below}

@@ -23,7 +23,8 @@ pub dotted_partial_equiv : IsPartialEquivalence same_dotted
 dotted_partial_equiv = partial_equiv_from_equiv dotted_equiv
 
 pub dotted_total : IsTotalOrder dotted_cmp
-dotted_total = then_total (on_total (λ k. k.0) nat_list_cmp_total) (on_total (λ k. k.1) nat_cmp_total)
+dotted_total = then_total (on_total (λ k. k.0) nat_list_cmp_total)
+    (on_total (λ k. k.1) nat_cmp_total)
 
 -- only the same places tie in the order
 pub dotted_ties : (a b : List ℕ × ℕ) → same_dotted a b ≡ eq_by_cmp dotted_cmp a b

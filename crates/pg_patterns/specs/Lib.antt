@@ -1,7 +1,6 @@
 pub mod DottedSigns
 pub mod Values
-pub mod Search
 pub mod Lines
 pub mod Starts
 pub mod Texts
-pub mod Drafts
+pub mod Inside

@@ -20,10 +20,12 @@ strings_of (e ∷ es) = with_string e.0.0 (strings_of es)
 abbrev pub value_digit : List ((List ℕ × ℕ) × ℕ) → List ℕ × ℕ → List ℕ
 value_digit P k = option_map_or (λ v. (48 + v) ∷ []) (find dotted_cmp k P) []
 
--- the line of a string from a dot on, before the signs that are left: at each dot its digit, and then the spelling of the sign
+-- the line of a string from a dot on, before the signs that are left: at each dot its digit, and
+-- then the spelling of the sign
 abbrev pub line_from : Alphabet → List ((List ℕ × ℕ) × ℕ) → List ℕ → ℕ → List ℕ → List ℕ
 line_from t P q dot [] = value_digit P (q, dot) ++ 10 ∷ []
-line_from t P q dot (s ∷ ss) = value_digit P (q, dot) ++ spelling_of t s ++ line_from t P q (dot + 1) ss
+line_from t P q dot (s ∷ ss) = value_digit P (q, dot)
+    ++ spelling_of t s ++ line_from t P q (dot + 1) ss
 
 -- the line of a string
 abbrev pub pattern_line : Alphabet → List ((List ℕ × ℕ) × ℕ) → List ℕ → List ℕ

@@ -1,4 +1,5 @@
--- Patterns as a map from places, which are signs with a dot, to values, and the value that they give to a position of a word.
+-- Patterns as a map from places, which are signs with a dot, to values, and the value that they
+-- give to a position of a word.
 use Rattle.std.specs.Prelude.{◌≡◌, ℕ, ◌+◌, ◌-◌, ◌≤◌, Bool, true, ◌&&◌, T, if◌then◌else◌, List, [], ◌∷◌, length, drop, max, fold, unwrap_or, nat_le, nat_eq}
 use Rattle.std.specs.FinMap.Entries.{put, find, is_sorted}
 use Rattle.std.specs.List.{starts_with, list_all, All}
@@ -39,9 +40,11 @@ applies w p k = nat_le k.1 p && stands_at k.0 w (p - k.1)
 abbrev pub value_at : List ((List ℕ × ℕ) × ℕ) → List ℕ → ℕ → ℕ
 value_at P w p = best (applies w p) P
 
--- an entry has 1 to 32 signs, each at least 1, its dot is at most their number, and its value is 1 to 9
+-- an entry has 1 to 32 signs, each at least 1, its dot is at most their number, and its value is 1
+-- to 9
 abbrev pub is_entry : (List ℕ × ℕ) × ℕ → Bool
-is_entry e = nat_le 1 (length e.0.0) && nat_le (length e.0.0) PATTERN_SIGNS_MAX && list_all is_sign e.0.0 && nat_le e.0.1 (length e.0.0) && nat_le 1 e.1 && nat_le e.1 LEVEL_MAX
+is_entry e = nat_le 1 (length e.0.0) && nat_le (length e.0.0) PATTERN_SIGNS_MAX
+    && list_all is_sign e.0.0 && nat_le e.0.1 (length e.0.0) && nat_le 1 e.1 && nat_le e.1 LEVEL_MAX
 
 -- places stand in order, each once, and each entry is one of a pattern
 pub record IsPatternMap (P : List ((List ℕ × ℕ) × ℕ)) : Type 0 where

@@ -5,8 +5,8 @@ use pg_types::{PATTERN_SIGNS_MAX, Sign};
 use std::cmp::Ordering;
 use std::marker::Model;
 
-/// Up to [`PATTERN_SIGNS_MAX`] signs and a dot, the number of signs before it. Places are ordered by their signs, a
-/// string before its extensions, and then by their dots.
+/// Up to [`PATTERN_SIGNS_MAX`] signs and a dot, the number of signs before it. Places are ordered
+/// by their signs, a string before its extensions, and then by their dots.
 #[derive(Drop)]
 pub struct DottedSigns {
     signs: [Sign; PATTERN_SIGNS_MAX],

@@ -10,7 +10,8 @@ use std::marker::Model;
 /// The most dots that a line may have between its signs.
 const DOTS_MAX: usize = PATTERN_SIGNS_MAX;
 
-/// The signs of a line, the digits at the dots between them, and the last digit behind the last sign.
+/// The signs of a line, the digits at the dots between them, and the last digit behind the last
+/// sign.
 #[derive(Drop)]
 pub struct LineDraft {
     signs: [Sign; PATTERN_SIGNS_MAX],
@@ -23,11 +24,15 @@ pub struct LineDraft {
 impl Model for LineDraft {
     ghost use Rattle.std.specs.Prelude.{◌≤◌, take};
     ghost use Rattle.pg_types.specs.declared.limits.TheConstants.{PATTERN_SIGNS_MAX};
-    ghost use Rattle.pg_patterns.specs.Drafts.{Draft};
+    ghost use Rattle.pg_patterns.specs.Inside.Drafts.{Draft};
 
     ghost Value = { Draft };
 
-    ghost view = { λ d. record { signs = take d.len d.signs; digits = take d.count d.digits; digit = d.digit } };
+    ghost view = { λ d. record {
+      signs = take d.len d.signs;
+      digits = take d.count d.digits;
+      digit = d.digit;
+    } };
 
     ghost invariant = { λ d. (d.len ≤ PATTERN_SIGNS_MAX) × (d.count ≤ d.len) };
 }
@@ -35,7 +40,7 @@ impl Model for LineDraft {
 impl LineDraft {
     ghost use Rattle.std.specs.Prelude.{◌≡◌, ℕ, ◌<◌, ◌≤◌, ◌++◌, length, IsTrue, ◌↔◌, OnOk};
     ghost use Rattle.pg_types.specs.declared.limits.TheConstants.{PATTERN_SIGNS_MAX};
-    ghost use Rattle.pg_patterns.specs.Drafts.{IsDraft, no_draft, draft_with_sign, draft_with_digit, draft_entries};
+    ghost use Rattle.pg_patterns.specs.Inside.Drafts.{IsDraft, no_draft, draft_with_sign, draft_with_digit, draft_entries};
 
     /// The draft of no item.
     pub fn new() -> LineDraft
@@ -99,7 +104,8 @@ fn push_digits(
     entries: &mut Vec<(DottedSigns, u8)>,
 ) -> Result<(), AllocError>
     requires { length signs.now ≤ PATTERN_SIGNS_MAX }
-    ensures { OnOk result (entries.new.items ≡ entries.old.items ++ map (entry_at signs.now) digits.now) }
+    ensures { OnOk result
+        (entries.new.items ≡ entries.old.items ++ map (entry_at signs.now) digits.now) }
 {
     for digit in digits {
         entries.push((DottedSigns::new(signs, digit.0), digit.1))?;

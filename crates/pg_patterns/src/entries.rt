@@ -6,7 +6,7 @@ ghost use Rattle.std.specs.List.{list_all};
 ghost use Rattle.std.specs.List.Sorted.{IsPartitionPoint};
 ghost use Rattle.pg_patterns.specs.DottedSigns.{dotted_cmp};
 ghost use Rattle.pg_patterns.specs.Values.{IsPatternMap, is_entry, map_of_entries, raise};
-ghost use Rattle.pg_patterns.specs.Search.{is_after, begins_with};
+ghost use Rattle.pg_patterns.specs.Inside.Search.{is_after, begins_with};
 
 use crate::dotted_signs::DottedSigns;
 use std::alloc::AllocError;
@@ -59,11 +59,12 @@ pub fn raise_in(
     Ok(())
 }
 
-/// Joins the entries of one place by the greatest value: they are sorted where they stand, by place and falling value,
-/// and the first of each place is kept.
+/// Joins the entries of one place by the greatest value: they are sorted where they stand, by place
+/// and falling value, and the first of each place is kept.
 pub fn join(entries: &mut Vec<(DottedSigns, u8)>)
     requires { list_all is_entry entries.old.items ≡ true }
-    ensures { IsPatternMap entries.new.items × (entries.new.items ≡ map_of_entries entries.old.items) }
+    ensures { IsPatternMap entries.new.items
+        × (entries.new.items ≡ map_of_entries entries.old.items) }
 {
     entries.sort_unstable_by(|a, b| a.0.cmp(&b.0).then(b.1.cmp(&a.1)));
     entries.dedup_by(|later, kept| later.0 == kept.0);

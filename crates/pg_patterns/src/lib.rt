@@ -1,4 +1,5 @@
-//! Hyphenation patterns: a map from signs with a dot to values, read from and written to pattern files.
+//! Hyphenation patterns: a map from signs with a dot to values, read from and written to pattern
+//! files.
 #![tactic(auto)]
 
 pub mod dotted_signs;

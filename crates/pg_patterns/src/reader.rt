@@ -6,7 +6,7 @@ ghost use Rattle.pg_types.specs.Reading.{Gives};
 ghost use Rattle.pg_translate.specs.Alphabets.{letters_of};
 ghost use Rattle.pg_translate.specs.LineRefusals.{refused};
 ghost use Rattle.pg_patterns.specs.Values.{SignsUpTo, is_entry};
-ghost use Rattle.pg_patterns.specs.Drafts.{IsDraft, EndsWith, ReadsOn, draft_left, line_draft, draft_with_sign};
+ghost use Rattle.pg_patterns.specs.Inside.Drafts.{IsDraft, EndsWith, ReadsOn, draft_left, line_draft, draft_with_sign};
 ghost use Rattle.pg_patterns.specs.Starts.{entries_from};
 
 use crate::dotted_signs::DottedSigns;
@@ -22,7 +22,8 @@ pub fn read_entries(
     bytes: &[u8],
 ) -> Result<Vec<(DottedSigns, u8)>, ReadingError>
     requires { length bytes.now ≤ FILE_MAX }
-    ensures value { Gives (λ entries. entries.items) result (entries_from table.now 1 (lines bytes.now)) }
+    ensures value { Gives (λ entries. entries.items) result
+        (entries_from table.now 1 (lines bytes.now)) }
     ensures sound { IfOk result (λ entries. list_all is_entry entries.items ≡ true) }
     ensures known { IfOk result (λ entries. SignsUpTo (letters_of table.now + 1) entries.items) }
 {
@@ -51,8 +52,8 @@ fn read_line(table: &Table, line: u32, text: &[u8]) -> Result<LineDraft, Refusal
     Ok(draft)
 }
 
-/// Takes the first item of `rest`, of a line of `size` bytes, into the draft, and gives what follows it; none where
-/// the line ends.
+/// Takes the first item of `rest`, of a line of `size` bytes, into the draft, and gives what
+/// follows it; none where the line ends.
 fn take_item<'a>(
     table: &Table,
     draft: &mut LineDraft,
@@ -94,11 +95,13 @@ fn take_item<'a>(
     }
 }
 
-/// Adds a sign that stands in a column of a line; the sign after the last that a pattern may have is refused.
+/// Adds a sign that stands in a column of a line; the sign after the last that a pattern may have
+/// is refused.
 fn add_sign(draft: &mut LineDraft, sign: Sign, line: u32, column: u32) -> Result<(), Refusal>
     ensures { MatchResult result (λ _. (length draft.old.signs < PATTERN_SIGNS_MAX)
         × (draft.new ≡ draft_with_sign draft.old sign))
-        (λ r. (PATTERN_SIGNS_MAX ≤ length draft.old.signs) × (r ≡ refused line Kind.PatternTooLong column)) }
+        (λ r. (PATTERN_SIGNS_MAX ≤ length draft.old.signs)
+        × (r ≡ refused line Kind.PatternTooLong column)) }
 {
     if draft.is_full() {
         return Err(Refusal {

@@ -12,9 +12,9 @@ use std::marker::Model;
 
 /// Patterns: a map from signs with a dot to a value.
 ///
-/// An entry has 1 to [`PATTERN_SIGNS_MAX`](pg_types::PATTERN_SIGNS_MAX) signs, a dot that is at most their number, and
-/// a value from 1 to [`LEVEL_MAX`](pg_types::LEVEL_MAX). Entries stand in the order of their signs, a string before
-/// its extensions, and then of their dots.
+/// An entry has 1 to [`PATTERN_SIGNS_MAX`](pg_types::PATTERN_SIGNS_MAX) signs, a dot that is at
+/// most their number, and a value from 1 to [`LEVEL_MAX`](pg_types::LEVEL_MAX). Entries stand in
+/// the order of their signs, a string before its extensions, and then of their dots.
 #[derive(Drop)]
 pub struct PatternSet {
     held: Vec<(DottedSigns, u8)>,
@@ -65,8 +65,8 @@ impl PatternSet {
         }
     }
 
-    /// The patterns of a file. A file of more than [`FILE_MAX`](pg_types::FILE_MAX) bytes is refused, and else the
-    /// first line with a byte that begins no item, or with a sign too many.
+    /// The patterns of a file. A file of more than [`FILE_MAX`](pg_types::FILE_MAX) bytes is
+    /// refused, and else the first line with a byte that begins no item, or with a sign too many.
     pub fn read(alloc: Global, table: &Table, bytes: &[u8]) -> Result<PatternSet, ReadingError>
         ensures value { Gives (λ set. set) result (start table.now bytes.now) }
         ensures known { IfOk result (SignsUpTo (letters_of table.now + 1)) }
@@ -82,9 +82,9 @@ impl PatternSet {
         Ok(PatternSet::from_entries(entries))
     }
 
-    /// The map of `entries`, which may stand in any order. Where a place has several, the greatest value counts. The
-    /// vector is sorted where it stands, in O(n log n) comparisons, or O(n) where it is in order, and no memory is
-    /// taken.
+    /// The map of `entries`, which may stand in any order. Where a place has several, the greatest
+    /// value counts. The vector is sorted where it stands, in O(n log n) comparisons, or O(n) where
+    /// it is in order, and no memory is taken.
     pub fn from_entries(mut entries: Vec<(DottedSigns, u8)>) -> PatternSet
         requires { list_all is_entry entries.items ≡ true }
         ensures value { result ≡ map_of_entries entries.items }
@@ -94,8 +94,8 @@ impl PatternSet {
         PatternSet { held: entries }
     }
 
-    /// Sets the value of `dot` among `signs` to the greater of its value and `value`. A set that finds no memory stays
-    /// as it was.
+    /// Sets the value of `dot` among `signs` to the greater of its value and `value`. A set that
+    /// finds no memory stays as it was.
     pub fn raise(&mut self, signs: &[Sign], dot: u8, value: u8) -> Result<(), AllocError>
         requires some { 0 < length signs.now }
         requires few { length signs.now ≤ PATTERN_SIGNS_MAX }
@@ -147,9 +147,10 @@ impl PatternSet {
         largest
     }
 
-    /// The text of the pattern file of these patterns: a line for each string, in the order of signs. At each dot
-    /// stands the digit of its value, where it has one, between the first spellings of the letters, or `.` for the
-    /// edge. A text of at most [`FILE_MAX`](pg_types::FILE_MAX) bytes is read as these patterns again.
+    /// The text of the pattern file of these patterns: a line for each string, in the order of
+    /// signs. At each dot stands the digit of its value, where it has one, between the first
+    /// spellings of the letters, or `.` for the edge. A text of at most
+    /// [`FILE_MAX`](pg_types::FILE_MAX) bytes is read as these patterns again.
     pub fn text(&self, alloc: Global, table: &Table) -> Result<Vec<u8>, AllocError>
         requires { SignsUpTo (letters_of table.now + 1) self.now }
         ensures text { IfOk result (λ text. text.items ≡ pattern_text table.now self.now) }

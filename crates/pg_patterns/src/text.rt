@@ -3,7 +3,7 @@ ghost use Rattle.std.specs.Prelude.{◌≡◌, ◌+◌, ◌≤◌, ◌++◌, len
 ghost use Rattle.pg_translate.specs.Alphabets.{letters_of};
 ghost use Rattle.pg_patterns.specs.DottedSigns.{same_dotted};
 ghost use Rattle.pg_patterns.specs.Values.{IsPatternMap, SignsUpTo};
-ghost use Rattle.pg_patterns.specs.Search.{HasRank, first_value};
+ghost use Rattle.pg_patterns.specs.Inside.Search.{HasRank, first_value};
 ghost use Rattle.pg_patterns.specs.Texts.{value_digit, pattern_line, pattern_text};
 
 use crate::dotted_signs::DottedSigns;
@@ -29,7 +29,8 @@ pub fn push_lines(
     Ok(())
 }
 
-/// Appends the line of `signs`, whose entries begin at `at`, and gives where those of the next string begin.
+/// Appends the line of `signs`, whose entries begin at `at`, and gives where those of the next
+/// string begin.
 fn push_line(
     entries: &[(DottedSigns, u8)],
     at: usize,
@@ -42,8 +43,10 @@ fn push_line(
     requires few { length signs.now ≤ PATTERN_SIGNS_MAX }
     requires each { All (λ s. 1 ≤ s) signs.now }
     requires known { All (λ s. s ≤ letters_of table.now + 1) signs.now }
-    ensures text { OnOk result (text.new.items ≡ text.old.items ++ pattern_line table.now entries.now signs.now) }
-    ensures next { IfOk result (λ next. HasRank entries.now (signs.now, length signs.now + 1) next) }
+    ensures text { OnOk result
+        (text.new.items ≡ text.old.items ++ pattern_line table.now entries.now signs.now) }
+    ensures next { IfOk result
+        (λ next. HasRank entries.now (signs.now, length signs.now + 1) next) }
 {
     let mut next = at;
     'signs: for (dot, sign) in signs.iter().enumerate() {
@@ -55,8 +58,8 @@ fn push_line(
     Ok(next)
 }
 
-/// Appends the digit of `dot` among `signs`, where the entry at `next` is theirs, and gives where the entry of the
-/// next dot would stand.
+/// Appends the digit of `dot` among `signs`, where the entry at `next` is theirs, and gives where
+/// the entry of the next dot would stand.
 fn push_digit(
     entries: &[(DottedSigns, u8)],
     next: usize,
@@ -66,7 +69,8 @@ fn push_digit(
 ) -> Result<usize, AllocError>
     requires map { IsPatternMap entries.now }
     requires point { HasRank entries.now (signs.now, dot) next }
-    ensures text { OnOk result (text.new.items ≡ text.old.items ++ value_digit entries.now (signs.now, dot)) }
+    ensures text { OnOk result
+        (text.new.items ≡ text.old.items ++ value_digit entries.now (signs.now, dot)) }
     ensures next { IfOk result (λ after. HasRank entries.now (signs.now, dot + 1) after) }
 {
     match entry_value_at(entries, next, signs, dot) {

@@ -4,8 +4,8 @@ use Rattle.std.specs.List.{filter, list_all}
 use Rattle.std.specs.Cmp.Lexicographic.{pointwise}
 use Rattle.pg_types.specs.declared.limits.TheConstants.{WORD_LETTERS_MAX}
 use Rattle.pg_select.specs.Positions.{RaisesAt}
-use Rattle.pg_plain.specs.Greatest.{greatest, RaisesBy}
-use Rattle.pg_plain.specs.Walks.{has_signs_at}
+use Rattle.pg_plain.specs.Inside.Greatest.{greatest, RaisesBy}
+use Rattle.pg_plain.specs.Inside.Walks.{has_signs_at}
 use Rattle.pg_types.proofs.BoolFacts.{and_first, and_second, no_test}
 
 joined_number : (a b : Bool) (n x y : ℕ) → max (cond (a || b) n 0) (max x y) ≡ max (max (cond a n 0) x) (max (cond b n 0) y)

@@ -6,7 +6,7 @@ use Rattle.std.specs.List.{All, list_all}
 use Rattle.pg_types.specs.Counts.{Counts, SignsWithin, is_counted}
 use Rattle.pg_types.specs.Signs.{is_sign}
 use Rattle.pg_patterns.specs.Values.{SignsUpTo, is_entry}
-use Rattle.pg_plain.specs.Strings.{has_signs_up_to}
+use Rattle.pg_plain.specs.Inside.Strings.{has_signs_up_to}
 use Rattle.pg_plain.proofs.Counted.{counted_good}
 use Rattle.pg_types.proofs.BoolFacts.{and_first, and_second}
 

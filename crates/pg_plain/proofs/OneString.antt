@@ -9,8 +9,8 @@ use Rattle.std.specs.List.{starts_with, list_all, list_any}
 use Rattle.pg_patterns.specs.DottedSigns.{dotted_cmp}
 use Rattle.pg_select.specs.Positions.{Positions}
 use Rattle.pg_select.specs.Positions.{RaisesAt, values_of, covers_of}
-use Rattle.pg_plain.specs.Greatest.{RaisesBy}
-use Rattle.pg_plain.specs.Walks.{has_signs_at, is_extension}
+use Rattle.pg_plain.specs.Inside.Greatest.{RaisesBy}
+use Rattle.pg_plain.specs.Inside.Walks.{has_signs_at, is_extension}
 use Rattle.pg_plain.proofs.Bools.{any_none, any_filter, all_filter}
 use Rattle.pg_plain.proofs.Greatest.{Level, greatest-filter, level_end, level_first}
 use Rattle.pg_plain.proofs.Orders.{upto_itself, prefix_upto, prefix_between, both_upto, from_string, string_from, behind}

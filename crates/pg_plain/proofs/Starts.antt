@@ -4,9 +4,9 @@ use Rattle.std.specs.List.{list_all, list_any}
 use Rattle.pg_patterns.specs.Values.{applies}
 use Rattle.pg_select.specs.Positions.{Positions}
 use Rattle.pg_select.specs.Positions.{values_of, covers_of}
-use Rattle.pg_plain.specs.Greatest.{RaisesBy}
-use Rattle.pg_plain.specs.Strings.{is_string}
-use Rattle.pg_plain.specs.Walks.{has_signs_at, is_extension, applies_from, applies_from_at_least, applies_not_before}
+use Rattle.pg_plain.specs.Inside.Greatest.{RaisesBy}
+use Rattle.pg_plain.specs.Inside.Strings.{is_string}
+use Rattle.pg_plain.specs.Inside.Walks.{has_signs_at, is_extension, applies_from, applies_from_at_least, applies_not_before}
 use Rattle.pg_plain.proofs.Bools.{all_not}
 use Rattle.pg_plain.proofs.Greatest.{Level, level_step, level_end, level_start}
 use Rattle.pg_plain.proofs.Strings.{longer_step, longer_first, longer_last, longer_out, longer_stops, later_step, later_first, later_last}

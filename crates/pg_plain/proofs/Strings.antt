@@ -5,8 +5,8 @@ use Rattle.std.proofs.lemmas.List.{length-take-le, length-drop, take-take}
 use Rattle.std.specs.Cmp.Lexicographic.{pointwise, bytes_decides}
 use Rattle.std.specs.List.{starts_with}
 use Rattle.pg_patterns.specs.Values.{stands_at, applies}
-use Rattle.pg_plain.specs.Strings.{is_string}
-use Rattle.pg_plain.specs.Walks.{has_signs_at, is_extension, applies_from, applies_from_at_least, applies_not_before}
+use Rattle.pg_plain.specs.Inside.Strings.{is_string}
+use Rattle.pg_plain.specs.Inside.Walks.{has_signs_at, is_extension, applies_from, applies_from_at_least, applies_not_before}
 use Rattle.pg_types.proofs.BoolFacts.{and_first, and_second, no_test}
 use Rattle.std.specs.Cmp.{both_ways}
 

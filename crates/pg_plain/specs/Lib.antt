@@ -1,5 +1,1 @@
-pub mod Counted
-pub mod Strings
-pub mod Greatest
-pub mod Walks
-pub mod Engines
+pub mod Inside

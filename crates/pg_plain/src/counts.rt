@@ -1,4 +1,5 @@
-//! The windows that are counted in a pass, in the order of signs, each with its number and its sums of good and bad weights.
+//! The windows that are counted in a pass, in the order of signs, each with its number and its sums
+//! of good and bad weights.
 ghost use Rattle.std.specs.List.{list_all};
 ghost use Rattle.std.specs.Prelude.{◌≡◌, ℕ, Bool, ◌≤◌, ◌<◌, ◌++◌, true, List, [], ◌∷◌, T, length, map, set, Some, IfOk, OnOk, OnErr, IsOk};
 ghost use Rattle.std.specs.Cmp.Lexicographic.{slice_cmp};
@@ -6,7 +7,7 @@ ghost use Rattle.std.specs.FinMap.Entries.{put, find, is_sorted};
 ghost use Rattle.std.specs.Ordering.{nat_cmp};
 ghost use Rattle.pg_types.specs.Counts.{AreSmall, IsNextAbove, counted_sums, sums_of, with_weight, is_counted};
 ghost use Rattle.pg_types.specs.Numbered.{AreInOrder, AreNumbered, HasNumber};
-ghost use Rattle.pg_plain.specs.Counted.{counted_more, tally_at};
+ghost use Rattle.pg_plain.specs.Inside.Counted.{counted_more, tally_at};
 
 use pg_types::Cursor;
 use std::alloc::{AllocError, Global};
@@ -17,7 +18,8 @@ use std::ops::Bound;
 /// At most so many windows have numbers.
 pub const NUMBERS_MAX: u32 = u32::MAX;
 
-/// The windows that are counted in a pass. A map leads from a window to its number, and the sums stand by number.
+/// The windows that are counted in a pass. A map leads from a window to its number, and the sums
+/// stand by number.
 #[derive(Drop)]
 pub struct CountedWindows {
     numbers: BTreeMap<Cursor, u32>,
@@ -25,11 +27,11 @@ pub struct CountedWindows {
 }
 
 impl Model for CountedWindows {
-    ghost use Rattle.pg_plain.specs.Counted.{Counted};
+    ghost use Rattle.pg_plain.specs.Inside.Counted.{Counted};
 
     ghost Value = { Counted };
 
-    ghost use Rattle.pg_plain.specs.Counted.{counted_of, AreCounted};
+    ghost use Rattle.pg_plain.specs.Inside.Counted.{counted_of, AreCounted};
 
     ghost view = { λ t. counted_of t.numbers.entries t.tallies.items };
 
@@ -64,15 +66,16 @@ impl CountedWindows {
         self.tallies.len()
     }
 
-    /// Adds `weight` to the good or the bad sum of a window, and gives its number. A window that is counted already takes
-    /// no memory.
+    /// Adds `weight` to the good or the bad sum of a window, and gives its number. A window that is
+    /// counted already takes no memory.
     pub fn count(&mut self, window: Cursor, good: bool, weight: u64) -> Result<u32, AllocError>
         requires { AreSmall (with_weight (sums_of self.old.counts window) good weight) }
         ensures ok { OnOk result (self.new ≡ counted_more self.old window good weight) }
         ensures number { IfOk result (λ number. HasNumber self.new.windows window number) }
         ensures there { is_counted self.old.counts window ≡ true → IsOk result }
         ensures err { OnErr result (self.new ≡ self.old) }
-        ensures windows { (good : List ℕ → Bool) → good window ≡ true → list_all (λ e. good e.0) self.old.counts
+        ensures windows { (good : List ℕ → Bool) → good window ≡ true
+            → list_all (λ e. good e.0) self.old.counts
             ≡ true → list_all (λ e. good e.0) self.new.counts ≡ true }
     {
         match self.numbers.get(&window).copied() {
@@ -99,12 +102,14 @@ impl CountedWindows {
     /// The sums of the window with the number.
     pub fn sums_of(&self, number: u32) -> (u64, u64)
         requires { number < length self.now.windows }
-        ensures { (u : List ℕ) → HasNumber self.now.windows u number → counted_sums self.now.counts u ≡ Some result }
+        ensures { (u : List ℕ) → HasNumber self.now.windows u number
+            → counted_sums self.now.counts u ≡ Some result }
     {
         self.tallies[number as usize]
     }
 
-    /// Appends the numbers of the windows in the order of signs. Refused: some of them may have been appended.
+    /// Appends the numbers of the windows in the order of signs. Refused: some of them may have
+    /// been appended.
     pub fn order(&self, out: &mut Vec<u32>) -> Result<(), AllocError>
         ensures { OnOk result ((ns : List ℕ) × (out.new.items ≡ out.old.items ++ ns)
             × AreInOrder self.now.windows self.now.counts ns) }
@@ -113,8 +118,8 @@ impl CountedWindows {
         Ok(())
     }
 
-    /// Moves the cursor to the least window that is greater, and gives its sums; none where there is no such window. It
-    /// takes no memory.
+    /// Moves the cursor to the least window that is greater, and gives its sums; none where there
+    /// is no such window. It takes no memory.
     pub fn next_behind(&self, at: &mut Cursor) -> Option<(u64, u64)>
         ensures { IsNextAbove self.now.counts at.old at.new result }
     {
@@ -133,7 +138,8 @@ fn add_to(tallies: &mut Vec<(u64, u64)>, number: u32, good: bool, weight: u64)
     requires there { number < length tallies.old.items }
     requires small { AreSmall (with_weight (tally_at tallies.old.items number) good weight) }
     ensures { tallies.new.items
-        ≡ set tallies.old.items number (with_weight (tally_at tallies.old.items number) good weight) }
+        ≡ set tallies.old.items number
+        (with_weight (tally_at tallies.old.items number) good weight) }
 {
     let sums = tallies[number as usize];
     tallies[number as usize] = added(sums, good, weight);

@@ -3,7 +3,7 @@ ghost use Rattle.std.specs.Prelude.{◌≡◌, ℕ, ◌≤◌, true, nat_eq, len
 ghost use Rattle.std.specs.List.{list_all};
 ghost use Rattle.pg_types.specs.declared.limits.TheConstants.{LEVEL_MAX, LENGTH_MAX};
 ghost use Rattle.pg_patterns.specs.Values.{is_entry};
-ghost use Rattle.pg_plain.specs.Strings.{is_string, has_signs_up_to};
+ghost use Rattle.pg_plain.specs.Inside.Strings.{is_string, has_signs_up_to};
 
 use crate::counts::CountedWindows;
 use crate::places::{map_of, put_in, raise_in, set_of};
@@ -17,9 +17,9 @@ use std::collections::BTreeMap;
 
 /// An [`Engine`] over ordered maps, which tells no families.
 ///
-/// A word costs a look-up for each of its strings up to the longest that a pattern begins with. A window that is
-/// counted, chosen or given up costs a look-up, and to begin a pass or end a level costs at most the size of what is
-/// emptied.
+/// A word costs a look-up for each of its strings up to the longest that a pattern begins with. A
+/// window that is counted, chosen or given up costs a look-up, and to begin a pass or end a level
+/// costs at most the size of what is emptied.
 #[derive(Drop)]
 pub struct PlainEngine {
     signs: u16,
@@ -43,10 +43,10 @@ impl PlainEngine {
     ghost use Rattle.std.specs.Prelude.{◌≡◌, IfOk};
     ghost use Rattle.pg_patterns.specs.Values.{SignsUpTo};
     ghost use Rattle.pg_select.specs.Meanings.{new_engine};
-    ghost use Rattle.pg_plain.specs.Engines.{meaning_of};
+    ghost use Rattle.pg_plain.specs.Inside.Engines.{meaning_of};
 
-    /// An engine with the greatest sign `signs` whose patterns are those of `start`. Nothing is hopeless or counted,
-    /// no pass was begun, and the engine is tidy.
+    /// An engine with the greatest sign `signs` whose patterns are those of `start`. Nothing is
+    /// hopeless or counted, no pass was begun, and the engine is tidy.
     pub fn new(alloc: Global, signs: u16, start: &PatternSet) -> Result<PlainEngine, AllocError>
         requires { SignsUpTo signs start.now }
         ensures { IfOk result (λ engine. meaning_of engine ≡ new_engine signs start.now None) }
@@ -68,7 +68,7 @@ impl PlainEngine {
 }
 
 impl Engine for PlainEngine {
-    ghost use Rattle.pg_plain.specs.Engines.{meaning_of};
+    ghost use Rattle.pg_plain.specs.Inside.Engines.{meaning_of};
 
     ghost meaning = { meaning_of };
 

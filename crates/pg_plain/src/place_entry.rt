@@ -1,8 +1,8 @@
 //! What an entry of a map of places gives at its dot.
 ghost use Rattle.std.specs.Prelude.{◌≡◌, ℕ, Bool};
 
-/// What a map has at a place: in a word an entry gives a value to the position of its dot, and it may cover the window
-/// there.
+/// What a map has at a place: in a word an entry gives a value to the position of its dot, and it
+/// may cover the window there.
 pub trait PlaceEntry {
     ghost given: { Self → ℕ };
 

@@ -19,7 +19,7 @@ fn value_in(map: &BTreeMap<DottedSigns, u8>, place: &DottedSigns) -> u8
     }
 }
 
-/// RaisesBy the value of `place` to `value`.
+/// Raises the value of `place` to `value`, where it is less.
 pub fn raise_in(
     map: &mut BTreeMap<DottedSigns, u8>,
     place: DottedSigns,
@@ -29,7 +29,8 @@ pub fn raise_in(
     ensures err { OnErr result (map.new.entries ≡ map.old.entries) }
     ensures kept { list_all is_entry map.old.entries ≡ true → is_entry (place, value) ≡ true
         → list_all is_entry map.new.entries ≡ true }
-    ensures places { (good : List ℕ × ℕ → Bool) → list_all (λ e. good e.0) map.old.entries ≡ true → good place
+    ensures places { (good : List ℕ × ℕ → Bool) → list_all (λ e. good e.0) map.old.entries ≡ true
+        → good place
         ≡ true → list_all (λ e. good e.0) map.new.entries ≡ true }
 {
     let held = value_in(map, &place);
@@ -41,7 +42,8 @@ pub fn raise_in(
 pub fn put_in(set: &mut BTreeMap<DottedSigns, ()>, place: DottedSigns) -> Result<(), AllocError>
     ensures ok { OnOk result (set.new.entries ≡ put dotted_cmp place (tt {0}) set.old.entries) }
     ensures err { OnErr result (set.new.entries ≡ set.old.entries) }
-    ensures places { (good : List ℕ × ℕ → Bool) → list_all (λ e. good e.0) set.old.entries ≡ true → good place
+    ensures places { (good : List ℕ × ℕ → Bool) → list_all (λ e. good e.0) set.old.entries ≡ true
+        → good place
         ≡ true → list_all (λ e. good e.0) set.new.entries ≡ true }
 {
     set.insert(place, ())?;

@@ -4,9 +4,9 @@ ghost use Rattle.std.specs.List.{list_all, list_any};
 ghost use Rattle.pg_types.specs.declared.limits.TheConstants.{PATTERN_SIGNS_MAX, WORD_LETTERS_MAX};
 ghost use Rattle.pg_patterns.specs.Values.{applies};
 ghost use Rattle.pg_select.specs.Positions.{RaisesValues, RaisesCovers, RaisesAt, values_of, covers_of};
-ghost use Rattle.pg_plain.specs.Greatest.{greatest_at, entry_value, entry_cover};
-ghost use Rattle.pg_plain.specs.Strings.{is_string};
-ghost use Rattle.pg_plain.specs.Walks.{has_signs_at, is_extension, applies_from};
+ghost use Rattle.pg_plain.specs.Inside.Greatest.{greatest_at, entry_value, entry_cover};
+ghost use Rattle.pg_plain.specs.Inside.Strings.{is_string};
+ghost use Rattle.pg_plain.specs.Inside.Walks.{has_signs_at, is_extension, applies_from};
 
 use crate::place_entry::PlaceEntry;
 use pg_patterns::DottedSigns;
@@ -15,10 +15,10 @@ use pg_types::{PATTERN_SIGNS_MAX, Sign};
 use std::collections::BTreeMap;
 use std::ops::Bound;
 
-/// Raises the values and covers of a word by each entry whose signs stand in it: the value of the position of its dot
-/// to its own, and it covers the window of that position where it stands in it and covers at the level of the pass. It
-/// takes no memory. From each place on it looks up each string of the word in the map, up to the first with which no
-/// longer string of the map begins.
+/// Raises the values and covers of a word by each entry whose signs stand in it: the value of the
+/// position of its dot to its own, and it covers the window of that position where it stands in it
+/// and covers at the level of the pass. It takes no memory. From each place on it looks up each
+/// string of the word in the map, up to the first with which no longer string of the map begins.
 pub fn walk<F: PlaceEntry>(
     map: &BTreeMap<DottedSigns, F>,
     w: &[Sign],
@@ -27,8 +27,10 @@ pub fn walk<F: PlaceEntry>(
 )
     requires len { length w.now ≤ WORD_LETTERS_MAX + 2 }
     requires strings { list_all (λ e. is_string e.0) map.now.entries ≡ true }
-    ensures values { RaisesValues (greatest_at (entry_value F.given) (applies w.now) map.now.entries) out.old out.new }
-    ensures covers { RaisesCovers (greatest_at (entry_cover F.covers_at pass.now) (applies w.now) map.now.entries)
+    ensures values { RaisesValues
+        (greatest_at (entry_value F.given) (applies w.now) map.now.entries) out.old out.new }
+    ensures covers { RaisesCovers
+        (greatest_at (entry_cover F.covers_at pass.now) (applies w.now) map.now.entries)
         out.old out.new }
 {
     for i in 0..w.len() {
@@ -47,9 +49,11 @@ fn raise_from<F: PlaceEntry>(
     requires len { length w.now ≤ WORD_LETTERS_MAX + 2 }
     requires inside { i ≤ length w.now }
     requires strings { list_all (λ e. is_string e.0) map.now.entries ≡ true }
-    ensures values { RaisesValues (greatest_at (entry_value F.given) (applies_from w.now i) map.now.entries) out.old
+    ensures values { RaisesValues
+        (greatest_at (entry_value F.given) (applies_from w.now i) map.now.entries) out.old
         out.new }
-    ensures covers { RaisesCovers (greatest_at (entry_cover F.covers_at pass.now) (applies_from w.now i)
+    ensures covers { RaisesCovers
+        (greatest_at (entry_cover F.covers_at pass.now) (applies_from w.now i)
         map.now.entries)
         out.old out.new }
 {
@@ -63,8 +67,8 @@ fn raise_from<F: PlaceEntry>(
     }
 }
 
-/// Raises them by the entries whose signs are `q`, which stand in the word from `i` on. It is false only where no
-/// longer string of the map begins with `q`.
+/// Raises them by the entries whose signs are `q`, which stand in the word from `i` on. It is false
+/// only where no longer string of the map begins with `q`.
 fn raise_by_string<F: PlaceEntry>(
     map: &BTreeMap<DottedSigns, F>,
     q: &[Sign],
@@ -74,11 +78,14 @@ fn raise_by_string<F: PlaceEntry>(
 ) -> bool
     requires few { length q.now ≤ PATTERN_SIGNS_MAX }
     requires inside { i ≤ WORD_LETTERS_MAX + 2 }
-    ensures values { RaisesValues (greatest_at (entry_value F.given) (has_signs_at q.now i) map.now.entries) out.old
+    ensures values { RaisesValues
+        (greatest_at (entry_value F.given) (has_signs_at q.now i) map.now.entries) out.old
         out.new }
-    ensures covers { RaisesCovers (greatest_at (entry_cover F.covers_at pass.now) (has_signs_at q.now i)
+    ensures covers { RaisesCovers
+        (greatest_at (entry_cover F.covers_at pass.now) (has_signs_at q.now i)
         map.now.entries) out.old out.new }
-    ensures ends { result ≡ false → list_any (λ e. is_extension q.now e.0.0) map.now.entries ≡ false }
+    ensures ends { result ≡ false → list_any (λ e. is_extension q.now e.0.0) map.now.entries
+        ≡ false }
 {
     let first = DottedSigns::new(q, 0);
     for (place, entry) in map.range((Bound::Included(&first), Bound::Unbounded)) {
@@ -99,8 +106,10 @@ fn raise_by_entry<F: PlaceEntry>(
     out: &mut WordState,
 )
     requires { i ≤ WORD_LETTERS_MAX + 2 }
-    ensures values { RaisesAt (i + place.now.1) (F.given entry.now) (values_of out.old) (values_of out.new) }
-    ensures covers { RaisesAt (i + place.now.1) (entry_cover F.covers_at pass.now (place.now, entry.now))
+    ensures values { RaisesAt (i + place.now.1) (F.given entry.now)
+        (values_of out.old) (values_of out.new) }
+    ensures covers { RaisesAt (i + place.now.1)
+        (entry_cover F.covers_at pass.now (place.now, entry.now))
         (covers_of out.old) (covers_of out.new) }
 {
     let covered = entry.covers(pass.level) && pass.has_within(place.signs().len(), place.dot());

@@ -13,7 +13,7 @@ use Rattle.pg_translate.specs.Reach.{positions}
 use Rattle.pg_patterns.specs.DottedSigns.{dotted_cmp}
 use Rattle.pg_patterns.specs.Values.{raise, applies, stands_at, value_at}
 use Rattle.pg_patterns.proofs.Joins.{only}
-use Rattle.pg_select.specs.Laws.{raised_all, hopeless_all}
+use Rattle.pg_select.specs.Inside.Laws.{raised_all, hopeless_all}
 use Rattle.pg_select.specs.Statuses.{status_at, position_weight}
 use Rattle.pg_select.specs.Windows.{Hopeless, window, fits, covered, Patterns}
 use Rattle.pg_select.specs.declared.pass.Pass.{Pass}
@@ -23,7 +23,7 @@ use Rattle.pg_select.proofs.LawsValues.{raised_value, covered_raised, covered_ho
 use Rattle.pg_select.proofs.LawsClosed.{is_among}
 use Rattle.pg_select.proofs.LawsLonger.{part_length}
 use Rattle.pg_select.proofs.LawsCandidates.{all_candidates, all_flat, applies_itself}
-use Rattle.pg_select.specs.LawsSteps.{candidate_at, is_candidate, patterns_after_pass, hopeless_after_pass}
+use Rattle.pg_select.specs.Inside.LawsSteps.{candidate_at, is_candidate, patterns_after_pass, hopeless_after_pass}
 use Rattle.pg_select.proofs.LawsLengths.{fits_parts}
 
 pub same_itself : (u : List ℕ) → same_signs u u ≡ true

@@ -4,7 +4,9 @@ use Rattle.pg_types.specs.declared.parameters.LevelParams.{LevelParams}
 use Rattle.pg_select.specs.declared.choice.Choice.{Choice}
 use Rattle.pg_select.specs.declared.choice.Choice.TheVariants.{Hopeless, Chosen, Left}
 
--- hopeless where its good cannot reach the threshold, chosen where its good less its bad does, else left
+-- hopeless where its good cannot reach the threshold, chosen where its good less its bad does, else
+-- left
 abbrev pub choice : LevelParams → ℕ → ℕ → Choice
 choice level good bad = if nat_lt (good * level.good_wt) level.thresh then Hopeless
-    else (if nat_le (level.thresh + bad * level.bad_wt) (good * level.good_wt) then Chosen else Left)
+    else (if nat_le (level.thresh + bad * level.bad_wt) (good * level.good_wt) then Chosen
+    else Left)

@@ -40,13 +40,18 @@ counts_as level DontCare = None
 -- whether a position counts as good or bad in a pass: its window fits, and is not covered
 abbrev pub counted_at : Pass → Patterns → Hopeless → Word → ℕ → Option Bool
 counted_at pass P H w p =
-    if fits w.signs p pass.len pass.dot && not (covered pass.level P H (window w.signs p pass.len pass.dot) pass.dot)
+    if fits w.signs p pass.len pass.dot
+    && not (covered pass.level P H (window w.signs p pass.len pass.dot) pass.dot)
     then counts_as pass.level (status_at P w p) else None
 
 -- what a pass counts at a position
 abbrev pub counted_positions_at : Pass → Patterns → Hopeless → Word → ℕ → List CountedPosition
 counted_positions_at pass P H w p = option_map_or
-    (λ good. record { window = window w.signs p pass.len pass.dot; good = good; weight = position_weight w p } ∷ [])
+    (λ good. record {
+      window = window w.signs p pass.len pass.dot;
+      good = good;
+      weight = position_weight w p;
+    } ∷ [])
     (counted_at pass P H w p) []
 
 -- what a pass counts in a word: at each position in reach
@@ -55,7 +60,8 @@ counted_positions_in m pass P H w = flat_map (counted_positions_at pass P H w)
     (positions m.left m.right (length w.signs))
 
 -- what a pass counts in all words
-abbrev pub counted_positions : Minima → List Word → Pass → Patterns → Hopeless → List CountedPosition
+abbrev pub counted_positions : Minima → List Word
+    → Pass → Patterns → Hopeless → List CountedPosition
 counted_positions m words pass P H = flat_map (counted_positions_in m pass P H) words
 
 -- two windows have the same signs
@@ -85,4 +91,5 @@ pub record Candidate : Type 0 where
 
 -- the candidates of what is counted, with their sums
 abbrev pub tally : List CountedPosition → List Candidate
-tally counted = map (λ u. record { window = u; good = good_of counted u; bad = bad_of counted u }) (candidates counted)
+tally counted = map (λ u. record { window = u; good = good_of counted u; bad = bad_of counted u })
+    (candidates counted)

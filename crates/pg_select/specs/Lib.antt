@@ -6,7 +6,4 @@ pub mod Sums
 pub mod AnyPositions
 pub mod Positions
 pub mod Meanings
-pub mod Laws
-pub mod LawsSteps
-pub mod LawsClosedDots
-pub mod LawsAbove
+pub mod Inside

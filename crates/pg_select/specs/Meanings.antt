@@ -1,4 +1,5 @@
--- What an engine means: the patterns and the counts that it holds, and what each of its calls makes of them.
+-- What an engine means: the patterns and the counts that it holds, and what each of its calls makes
+-- of them.
 use Rattle.std.specs.Prelude.{◌≡◌, ℕ, ◌+◌, Bool, true, T, List, [], map, Option, None, Some, MatchOption, All, take}
 use Rattle.std.specs.Option.{option_map}
 use Rattle.std.specs.Ordering.{nat_cmp}
@@ -16,9 +17,10 @@ use Rattle.pg_select.specs.Windows.{Patterns, Hopeless}
 use Rattle.pg_select.specs.declared.pass.Pass.{Pass}
 use Rattle.pg_select.specs.CountedPositions.{CountedPosition}
 
--- the greatest sign; the patterns and the hopeless places; the windows that are counted in the pass, and the same
--- in the order in which they were first counted; the pass; the families of the
--- strings, where they are told; how many passes were begun; and whether nothing was chosen or given up since a level ended
+-- the greatest sign; the patterns and the hopeless places; the windows that are counted in the
+-- pass, and the same in the order in which they were first counted; the pass; the families of the
+-- strings, where they are told; how many passes were begun; and whether nothing was chosen or given
+-- up since a level ended
 pub record Meaning : Type 0 where
   pub signs : ℕ
   pub patterns : Patterns
@@ -30,8 +32,9 @@ pub record Meaning : Type 0 where
   pub begun : ℕ
   pub tidy : Bool
 
--- what every engine keeps: its patterns are a map of patterns, so that they stand in order and each value is 1 to 9; its hopeless
--- places and its counts stand in order; and no sign is above the greatest
+-- what every engine keeps: its patterns are a map of patterns, so that they stand in order and each
+-- value is 1 to 9; its hopeless places and its counts stand in order; and no sign is above the
+-- greatest
 pub record IsKept (m : Meaning) : Type 0 where
   pub patterns : IsPatternMap m.patterns
   pub hopeless_order : T (is_sorted dotted_cmp m.hopeless)
@@ -41,8 +44,8 @@ pub record IsKept (m : Meaning) : Type 0 where
   pub numbered : AreNumbered m.windows m.counts
   pub counted_signs : (u : List ℕ) → is_counted m.counts u ≡ true → SignsWithin m.signs u
 
--- an engine that was just made: it has these patterns and tells these families; nothing is hopeless or counted, no pass was begun, and
--- it is tidy
+-- an engine that was just made: it has these patterns and tells these families; nothing is hopeless
+-- or counted, no pass was begun, and it is tidy
 abbrev pub new_engine : ℕ → Patterns → Option Families → Meaning
 new_engine signs P families = record {
   signs = signs;
@@ -62,29 +65,56 @@ with_position counts s = with_count counts s.window s.good s.weight
 
 -- a pass has begun: nothing is counted in it
 abbrev pub after_begin_pass : Meaning → ℕ → ℕ → ℕ → Meaning
-after_begin_pass m level len dot = record m { pass = record { level = level; len = len; dot = dot }; counts = []; windows = []; begun = m.begun + 1 }
+after_begin_pass m level len dot =
+    record m {
+      pass = record { level = level; len = len; dot = dot };
+      counts = [];
+      windows = [];
+      begun = m.begun + 1;
+    }
 
 -- a position was counted
 abbrev pub after_count : Meaning → List ℕ → Bool → ℕ → Meaning
-after_count m u good weight = record m { counts = with_position m.counts (record { window = u; good = good; weight = weight }); windows = with_window m.windows m.counts u }
+after_count m u good weight =
+    record m {
+      counts = with_position m.counts (record { window = u; good = good; weight = weight });
+      windows = with_window m.windows m.counts u;
+    }
 
 -- the families after a string is entered, where they are told
 abbrev pub families_with : Meaning → List ℕ → Option Families
 families_with m u = option_map (λ fs. enter m.signs fs u) m.families
 
--- a window was chosen: at the pass's dot it has at least the level as its value. Nothing is said of tidiness
+-- a window was chosen: at the pass's dot it has at least the level as its value. Nothing is said of
+-- tidiness
 abbrev pub after_choose : Meaning → List ℕ → Bool → Meaning
-after_choose m u tidy = record m { patterns = raise m.patterns (u, m.pass.dot) m.pass.level; families = families_with m u; tidy = tidy }
+after_choose m u tidy =
+    record m {
+      patterns = raise m.patterns (u, m.pass.dot) m.pass.level;
+      families = families_with m u;
+      tidy = tidy;
+    }
 
 -- a window was given up: it is hopeless at the pass's dot. Nothing is said of tidiness
 abbrev pub after_give_up : Meaning → List ℕ → Bool → Meaning
-after_give_up m u tidy = record m { hopeless = put dotted_cmp (u, m.pass.dot) (tt {0}) m.hopeless; families = families_with m u; tidy = tidy }
+after_give_up m u tidy =
+    record m {
+      hopeless = put dotted_cmp (u, m.pass.dot) (tt {0}) m.hopeless;
+      families = families_with m u;
+      tidy = tidy;
+    }
 
--- a level ended: nothing is hopeless, and the families lose the cells of strings that are no prefix of a pattern's
+-- a level ended: nothing is hopeless, and the families lose the cells of strings that are no prefix
+-- of a pattern's
 abbrev pub after_end_level : Meaning → Meaning
-after_end_level m = record m { hopeless = []; families = option_map (kept (map (λ e. e.0.0) m.patterns)) m.families; tidy = true }
+after_end_level m = record m {
+  hopeless = [];
+  families = option_map (kept (map (λ e. e.0.0) m.patterns)) m.families;
+  tidy = true;
+}
 
--- all but the families and tidiness stayed as it was; a front of the string, its first k signs, was entered into families that are told
+-- all but the families and tidiness stayed as it was; a front of the string, its first k signs, was
+-- entered into families that are told
 pub record KeepsButFamilies (u : List ℕ) (old new : Meaning) : Type 0 where
   pub kept : new ≡ record old { families = new.families; tidy = new.tidy }
   pub k : ℕ
@@ -98,7 +128,10 @@ SetsValues m w values = HasValues m.patterns w values
 abbrev pub SetsCovers : Meaning → List ℕ → List Bool → Type 0
 SetsCovers m w covers = HasCovers m.pass m.patterns m.hopeless w covers
 
--- the numbers of the families; none where they are not told. The tails are those of the patterns where the engine is tidy
+-- the numbers of the families; none where they are not told. The tails are those of the patterns
+-- where the engine is tidy
 abbrev pub IsLayout : Meaning → Option Layout → Type 0
 IsLayout m None = m.families ≡ None
-IsLayout m (Some layout) = MatchOption m.families ⊥ (λ fs. (layout.taken ≡ taken fs) × (layout.top ≡ top fs)) × (m.tidy ≡ true → layout.tails ≡ tails m.patterns)
+IsLayout m (Some layout) = MatchOption m.families ⊥
+    (λ fs. (layout.taken ≡ taken fs) × (layout.top ≡ top fs))
+    × (m.tidy ≡ true → layout.tails ≡ tails m.patterns)

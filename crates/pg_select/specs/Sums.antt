@@ -15,7 +15,10 @@ use Rattle.pg_select.specs.Windows.{Patterns}
 -- the status and the weight of each position in reach of a word, by the values of its positions
 abbrev pub marks_by : Minima → (ℕ → ℕ) → Word → List (Mark × ℕ)
 marks_by m value w = map
-    (λ p. (status (slice_index_or w.hyphens p false) (slice_index_or w.cares p true) (value p), position_weight w p))
+    (λ p. (
+      status (slice_index_or w.hyphens p false) (slice_index_or w.cares p true) (value p),
+      position_weight w p,
+    ))
     (positions m.left m.right (length w.signs))
 
 -- and by the patterns

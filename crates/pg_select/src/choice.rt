@@ -18,8 +18,8 @@ pub enum Choice {
     Left,
 }
 
-/// What becomes of a candidate with these sums of good and bad weights, by the weights and the threshold of its level
-/// (Liang's thesis, patgen).
+/// What becomes of a candidate with these sums of good and bad weights, by the weights and the
+/// threshold of its level (Liang's thesis, patgen).
 pub fn decide(good: u64, bad: u64, p: &LevelParams) -> Choice
     requires good { good < sums_limit }
     requires bad { bad < sums_limit }

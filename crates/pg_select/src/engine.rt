@@ -12,21 +12,22 @@ use pg_patterns::PatternSet;
 use pg_types::{Cursor, Layout, Sign, Weight};
 use std::alloc::{AllocError, Global};
 
-/// What the levels and passes of a run are made over: patterns that give values to positions, hopeless places that
-/// cover longer windows, and the counts of the windows of a pass.
+/// What the levels and passes of a run are made over: patterns that give values to positions,
+/// hopeless places that cover longer windows, and the counts of the windows of a pass.
 ///
-/// A run begins each pass, hyphenates each word once in it, counts the windows of its positions, and walks over the
-/// windows that are counted to choose some and to give up others. What a call does not name stays as it was.
+/// A run begins each pass, hyphenates each word once in it, counts the windows of its positions,
+/// and walks over the windows that are counted to choose some and to give up others. What a call
+/// does not name stays as it was.
 pub trait Engine {
     ghost meaning: { Self → Meaning };
 
-    /// Tells what every engine keeps: its maps stand in order, each value is 1 to 9, and no sign is above the
-    /// greatest. A call does nothing.
+    /// Tells what every engine keeps: its maps stand in order, each value is 1 to 9, and no sign is
+    /// above the greatest. A call does nothing.
     fn kept(&self)
         ensures { IsKept (meaning self.now) };
 
-    /// Begins the pass of `level` with windows of `len` signs whose dot is behind `dot` of them. Nothing is counted in
-    /// it yet.
+    /// Begins the pass of `level` with windows of `len` signs whose dot is behind `dot` of them.
+    /// Nothing is counted in it yet.
     fn begin_pass(&mut self, level: u8, len: u8, dot: u8)
         requires level { (1 ≤ level) × (level ≤ LEVEL_MAX) }
         requires len { (1 ≤ len) × (len ≤ LENGTH_MAX) }
@@ -34,26 +35,30 @@ pub trait Engine {
         requires begun { (meaning self.old).begun < begun_before_pass }
         ensures { meaning self.new ≡ after_begin_pass (meaning self.old) level len dot };
 
-    /// The value of each position of a word, and for each position whose window of the pass fits in the word whether
-    /// that is covered. Of the cover of other positions nothing is said. It takes no memory.
+    /// The value of each position of a word, and for each position whose window of the pass fits in
+    /// the word whether that is covered. Of the cover of other positions nothing is said. It takes
+    /// no memory.
     fn hyphenate(&self, w: WordRef<'_>, out: &mut WordState)
         requires len { length w.signs.now ≤ WORD_LETTERS_MAX + 2 }
         requires signs { SignsWithin (meaning self.now).signs w.signs.now }
         ensures values { SetsValues (meaning self.now) w.entry.signs.now out.new.values }
         ensures covers { SetsCovers (meaning self.now) w.entry.signs.now out.new.covers };
 
-    /// Adds `weight` to the good or the bad sum of a window. A window that is counted already takes no memory.
+    /// Adds `weight` to the good or the bad sum of a window. A window that is counted already takes
+    /// no memory.
     fn count(&mut self, window: &[Sign], good: bool, weight: Weight) -> Result<(), AllocError>
         requires len { length window.now ≡ (meaning self.old).pass.len }
         requires signs { SignsWithin (meaning self.old).signs window.now }
         requires weight { weight ≤ WEIGHT_MAX }
-        requires small { AreSmall (with_weight (sums_of (meaning self.old).counts window.now) good weight) }
-        ensures ok { OnOk result (meaning self.new ≡ after_count (meaning self.old) window.now good weight) }
+        requires small { AreSmall
+            (with_weight (sums_of (meaning self.old).counts window.now) good weight) }
+        ensures ok { OnOk result
+            (meaning self.new ≡ after_count (meaning self.old) window.now good weight) }
         ensures there { is_counted (meaning self.old).counts window.now ≡ true → IsOk result }
         ensures err { OnErr result (meaning self.new ≡ meaning self.old) };
 
-    /// Counts as `count` does, and gives the window's number: its place, from 0, among the windows of the pass in the
-    /// order in which they were first counted.
+    /// Counts as `count` does, and gives the window's number: its place, from 0, among the windows
+    /// of the pass in the order in which they were first counted.
     fn count_numbered(
         &mut self,
         window: &[Sign],
@@ -63,13 +68,17 @@ pub trait Engine {
         requires len { length window.now ≡ (meaning self.old).pass.len }
         requires signs { SignsWithin (meaning self.old).signs window.now }
         requires weight { weight ≤ WEIGHT_MAX }
-        requires small { AreSmall (with_weight (sums_of (meaning self.old).counts window.now) good weight) }
-        ensures ok { OnOk result (meaning self.new ≡ after_count (meaning self.old) window.now good weight) }
-        ensures number { IfOk result (λ number. HasNumber (meaning self.new).windows window.now number) }
+        requires small { AreSmall
+            (with_weight (sums_of (meaning self.old).counts window.now) good weight) }
+        ensures ok { OnOk result
+            (meaning self.new ≡ after_count (meaning self.old) window.now good weight) }
+        ensures number { IfOk result
+            (λ number. HasNumber (meaning self.new).windows window.now number) }
         ensures there { is_counted (meaning self.old).counts window.now ≡ true → IsOk result }
         ensures err { OnErr result (meaning self.new ≡ meaning self.old) };
 
-    /// The good and the bad sum of a window; none exactly where it is not counted. It takes no memory.
+    /// The good and the bad sum of a window; none exactly where it is not counted. It takes no
+    /// memory.
     fn sums(&self, window: &[Sign]) -> Option<(u64, u64)>
         requires len { length window.now ≡ (meaning self.now).pass.len }
         requires signs { SignsWithin (meaning self.now).signs window.now }
@@ -81,33 +90,38 @@ pub trait Engine {
         ensures { (u : List ℕ) → HasNumber (meaning self.now).windows u number
             → counted_sums (meaning self.now).counts u ≡ Some result };
 
-    /// Appends the numbers of the counted windows in the order of signs, by one walk. Refused: some of them may have been
-    /// appended.
+    /// Appends the numbers of the counted windows in the order of signs, by one walk. Refused: some
+    /// of them may have been appended.
     fn order(&self, out: &mut Vec<u32>) -> Result<(), AllocError>
         ensures { OnOk result ((ns : List ℕ) × (out.new.items ≡ out.old.items ++ ns)
             × AreInOrder (meaning self.now).windows (meaning self.now).counts ns) };
 
-    /// Moves the cursor to the least counted window that is greater, and gives its good and bad sums; none exactly
-    /// where there is no such window, and the cursor stays. It takes no memory.
+    /// Moves the cursor to the least counted window that is greater, and gives its good and bad
+    /// sums; none exactly where there is no such window, and the cursor stays. It takes no memory.
     fn next_candidate(&self, at: &mut Cursor) -> Option<(u64, u64)>
         ensures { IsNextAbove (meaning self.now).counts at.old at.new result };
 
-    /// Gives the window at the cursor the level as its value, where it has no greater one, at the dot of the pass.
-    /// The window is entered into families that are told; a refused call may leave part of that.
+    /// Gives the window at the cursor the level as its value, where it has no greater one, at the
+    /// dot of the pass. The window is entered into families that are told; a refused call may leave
+    /// part of that.
     fn choose(&mut self, at: &Cursor) -> Result<(), AllocError>
         requires { is_counted (meaning self.old).counts at.now ≡ true }
-        ensures ok { OnOk result (meaning self.new ≡ after_choose (meaning self.old) at.now (meaning self.new).tidy) }
-        ensures err { OnErr result (KeepsButFamilies at.now (meaning self.old) (meaning self.new)) };
+        ensures ok { OnOk result
+            (meaning self.new ≡ after_choose (meaning self.old) at.now (meaning self.new).tidy) }
+        ensures err { OnErr result
+            (KeepsButFamilies at.now (meaning self.old) (meaning self.new)) };
 
-    /// Makes the window at the cursor hopeless at the dot of the pass, to the end of the level. The window is entered
-    /// into families that are told; a refused call may leave part of that.
+    /// Makes the window at the cursor hopeless at the dot of the pass, to the end of the level. The
+    /// window is entered into families that are told; a refused call may leave part of that.
     fn give_up(&mut self, at: &Cursor) -> Result<(), AllocError>
         requires { is_counted (meaning self.old).counts at.now ≡ true }
-        ensures ok { OnOk result (meaning self.new ≡ after_give_up (meaning self.old) at.now (meaning self.new).tidy) }
-        ensures err { OnErr result (KeepsButFamilies at.now (meaning self.old) (meaning self.new)) };
+        ensures ok { OnOk result
+            (meaning self.new ≡ after_give_up (meaning self.old) at.now (meaning self.new).tidy) }
+        ensures err { OnErr result
+            (KeepsButFamilies at.now (meaning self.old) (meaning self.new)) };
 
-    /// Ends the level: nothing is hopeless any more, and families that are told lose the cells that no pattern needs.
-    /// Afterwards the engine is tidy.
+    /// Ends the level: nothing is hopeless any more, and families that are told lose the cells that
+    /// no pattern needs. Afterwards the engine is tidy.
     fn end_level(&mut self) -> Result<(), AllocError>
         ensures ok { OnOk result (meaning self.new ≡ after_end_level (meaning self.old)) }
         ensures err { OnErr result (meaning self.new ≡ meaning self.old) };
@@ -116,8 +130,8 @@ pub trait Engine {
     fn copy_patterns(&self, alloc: Global) -> Result<PatternSet, AllocError>
         ensures { IfOk result (λ patterns. patterns ≡ (meaning self.now).patterns) };
 
-    /// The numbers of the families; none exactly where they are not told. The tails are right where the engine is
-    /// tidy. It takes no memory.
+    /// The numbers of the families; none exactly where they are not told. The tails are right where
+    /// the engine is tidy. It takes no memory.
     fn layout(&self) -> Option<Layout>
         ensures { IsLayout (meaning self.now) result };
 }

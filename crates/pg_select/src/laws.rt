@@ -1,23 +1,24 @@
 //! Laws of the definitions of this crate. A call does nothing; its contract is the law.
-ghost use Rattle.pg_select.specs.Laws.{CandidatesInOrder, CandidatesAreCounted, CountsAreTally, PositionsAreFew, CandidatesAreFew, TotalsAreSmall, CountedAreLight, SumsAreParts, CandidatesAreLow, ChosenGetLevel, OthersStay, NoneFalls, RaisesWhereItApplies, GivenUpKeepsValues, RaisedCovers, HopelessCovers, GivenUpCovers, LaterAtOnce, LaterStill, LaterRaised, LaterHopeless, StatusBack, CountedBack, ClosedLater, CountedShorter, ClosedLonger, LaterAfterPass, ClosedWhenCovered, ClosedAtEnd};
-ghost use Rattle.pg_select.specs.LawsSteps.{BelowByLargest, UpToLargest, UpToAtStart, NextIsBelow, UpToAfter, CoversUpToAtStart, CoversUpToLonger, CoversUpToAfter, LengthStep, NothingCovered, ValuesAfter, CoversAfter, CountedAreUncovered, TotalsAfter};
-ghost use Rattle.pg_select.specs.LawsAbove.{AboveStay, TotalsAfterAbove};
-ghost use Rattle.pg_select.specs.LawsClosedDots.{TellsAtStart, TellsLonger, TellsAfter, DoneByStatus, DoneWhenClosed, DoneLonger, DoneAfter, RaisedStop, HopelessStop, LeftStay, UncountedStay};
+ghost use Rattle.pg_select.specs.Inside.Laws.{CandidatesInOrder, CandidatesAreCounted, CountsAreTally, PositionsAreFew, CandidatesAreFew, TotalsAreSmall, CountedAreLight, SumsAreParts, CandidatesAreLow, ChosenGetLevel, OthersStay, NoneFalls, RaisesWhereItApplies, GivenUpKeepsValues, RaisedCovers, HopelessCovers, GivenUpCovers, LaterAtOnce, LaterStill, LaterRaised, LaterHopeless, StatusBack, CountedBack, ClosedLater, CountedShorter, ClosedLonger, LaterAfterPass, ClosedWhenCovered, ClosedAtEnd};
+ghost use Rattle.pg_select.specs.Inside.LawsSteps.{BelowByLargest, UpToLargest, UpToAtStart, NextIsBelow, UpToAfter, CoversUpToAtStart, CoversUpToLonger, CoversUpToAfter, LengthStep, NothingCovered, ValuesAfter, CoversAfter, CountedAreUncovered, TotalsAfter};
+ghost use Rattle.pg_select.specs.Inside.LawsAbove.{AboveStay, TotalsAfterAbove};
+ghost use Rattle.pg_select.specs.Inside.LawsClosedDots.{TellsAtStart, TellsLonger, TellsAfter, DoneByStatus, DoneWhenClosed, DoneLonger, DoneAfter, RaisedStop, HopelessStop, LeftStay, UncountedStay};
 
-/// The candidates of a pass are the windows that it counts. They stand strictly in the order of signs, so each once.
+/// The candidates of a pass are the windows that it counts. They stand strictly in the order of
+/// signs, so each once.
 pub fn candidates_in_order()
     ensures order { CandidatesInOrder }
     ensures counted { CandidatesAreCounted }
 {}
 
-/// Counting what a pass counts, one position after the other, gives its candidates with their sums of good and bad
-/// weights.
+/// Counting what a pass counts, one position after the other, gives its candidates with their sums
+/// of good and bad weights.
 pub fn counts_are_tally()
     ensures { CountsAreTally }
 {}
 
-/// The words of a dictionary have no more positions in reach than letters, and a pass no more candidates. The totals
-/// of the words are below 2^40, and so is each sum of weights of a pass.
+/// The words of a dictionary have no more positions in reach than letters, and a pass no more
+/// candidates. The totals of the words are below 2^40, and so is each sum of weights of a pass.
 pub fn sums_are_small()
     ensures positions { PositionsAreFew }
     ensures candidates { CandidatesAreFew }
@@ -26,22 +27,23 @@ pub fn sums_are_small()
     ensures parts { SumsAreParts }
 {}
 
-/// A candidate has at the dot of its pass a value below the level, so it gets exactly the level where it is chosen.
+/// A candidate has at the dot of its pass a value below the level, so it gets exactly the level
+/// where it is chosen.
 pub fn chosen_get_level()
     ensures low { CandidatesAreLow }
     ensures chosen { ChosenGetLevel }
 {}
 
-/// An entry never falls: a raise leaves the values of the other places, and raises those of positions where its place
-/// applies.
+/// An entry never falls: a raise leaves the values of the other places, and raises those of
+/// positions where its place applies.
 pub fn entries_never_fall()
     ensures others { OthersStay }
     ensures falls { NoneFalls }
     ensures values { RaisesWhereItApplies }
 {}
 
-/// A hopeless entry changes no value. It covers the windows in which it stands with its dot, as an entry of the level
-/// does.
+/// A hopeless entry changes no value. It covers the windows in which it stands with its dot, as an
+/// entry of the level does.
 pub fn hopeless_only_covers()
     ensures values { GivenUpKeepsValues }
     ensures raised { RaisedCovers }
@@ -58,29 +60,31 @@ pub fn levels_go_on()
     ensures decided { LaterAfterPass }
 {}
 
-/// Within a level a position that is no longer counted is not counted later, so a pass that counts nothing counts
-/// nothing later.
+/// Within a level a position that is no longer counted is not counted later, so a pass that counts
+/// nothing counts nothing later.
 pub fn closed_stays_closed()
     ensures statuses { StatusBack }
     ensures counted { CountedBack }
     ensures closed { ClosedLater }
 {}
 
-/// A position that is not counted with a window is not counted with a longer one, so where a pass counts nothing, the
-/// passes that are longer by a sign, with the same dot or the next, count nothing.
+/// A position that is not counted with a window is not counted with a longer one, so where a pass
+/// counts nothing, the passes that are longer by a sign, with the same dot or the next, count
+/// nothing.
 pub fn closed_when_longer()
     ensures counted { CountedShorter }
     ensures closed { ClosedLonger }
 {}
 
-/// A pass that left no candidate, as it chose or gave up each of them, counts nothing from its end to the end of the
-/// level.
+/// A pass that left no candidate, as it chose or gave up each of them, counts nothing from its end
+/// to the end of the level.
 pub fn closed_at_end()
     ensures covered { ClosedWhenCovered }
     ensures decided { ClosedAtEnd }
 {}
 
-/// Where the starting patterns of a level have no value as great as it, its passes lead to none above it.
+/// Where the starting patterns of a level have no value as great as it, its passes lead to none
+/// above it.
 pub fn values_up_to_the_level()
     ensures largest { BelowByLargest }
     ensures up_to_largest { UpToLargest }
@@ -89,8 +93,8 @@ pub fn values_up_to_the_level()
     ensures next { NextIsBelow }
 {}
 
-/// Where no string longer than a length covers, a window of the next length is covered where one of the two shorter
-/// ones in it is.
+/// Where no string longer than a length covers, a window of the next length is covered where one of
+/// the two shorter ones in it is.
 pub fn covers_by_length()
     ensures none { NothingCovered }
     ensures start { CoversUpToAtStart }
@@ -99,24 +103,25 @@ pub fn covers_by_length()
     ensures step { LengthStep }
 {}
 
-/// A pass changes the values of the positions whose windows it chooses, and the covers of its own windows at its own
-/// dot.
+/// A pass changes the values of the positions whose windows it chooses, and the covers of its own
+/// windows at its own dot.
 pub fn passes_change()
     ensures values { ValuesAfter }
     ensures covers { CoversAfter }
     ensures counted { CountedAreUncovered }
 {}
 
-/// A pass adds to the totals, or takes from them, the sums of the candidates that it chooses, where no value is above
-/// its level. Where some are, the positions that have them are left out: they are counted, and stay as they are.
+/// A pass adds to the totals, or takes from them, the sums of the candidates that it chooses, where
+/// no value is above its level. Where some are, the positions that have them are left out: they are
+/// counted, and stay as they are.
 pub fn totals_by_the_chosen()
     ensures chosen { TotalsAfter }
     ensures above { TotalsAfterAbove }
     ensures stay { AboveStay }
 {}
 
-/// A position whose window was chosen does not count any more, and one whose window was made hopeless is covered at
-/// the dot. Any other that counts keeps its status and its covers.
+/// A position whose window was chosen does not count any more, and one whose window was made
+/// hopeless is covered at the dot. Any other that counts keeps its status and its covers.
 pub fn positions_after_a_pass()
     ensures raised { RaisedStop }
     ensures hopeless { HopelessStop }
@@ -124,7 +129,8 @@ pub fn positions_after_a_pass()
     ensures uncounted { UncountedStay }
 {}
 
-/// Closed dots tell what counts at a position, from the start of a level through its passes and lengths.
+/// Closed dots tell what counts at a position, from the start of a level through its passes and
+/// lengths.
 pub fn closed_dots_tell()
     ensures start { TellsAtStart }
     ensures longer { TellsLonger }

@@ -1,4 +1,5 @@
-//! The choice among windows: statuses, windows, covers, candidates and their counts, and the contract of an engine.
+//! The choice among windows: statuses, windows, covers, candidates and their counts, and the
+//! contract of an engine.
 #![tactic(auto)]
 
 pub mod choice;

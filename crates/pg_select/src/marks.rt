@@ -4,7 +4,7 @@ ghost use Rattle.std.specs.List.{range_with_len};
 ghost use Rattle.pg_types.specs.declared.limits.TheConstants.{WORD_LETTERS_MAX};
 ghost use Rattle.pg_translate.specs.Reach.{positions as positions_of};
 ghost use Rattle.pg_dict.specs.Word.{IsWord, letter_count};
-ghost use Rattle.pg_dict.specs.Lent.{lent_word};
+ghost use Rattle.pg_dict.specs.Inside.Lent.{lent_word};
 ghost use Rattle.pg_select.specs.CountedPositions.{minima_of};
 ghost use Rattle.pg_select.specs.Statuses.{status as status_of};
 ghost use Rattle.pg_select.specs.Sums.{marks_by, with_mark, with_marks, sum_of, HasRoomFor, TookRoomFor};
@@ -26,12 +26,15 @@ pub fn no_totals() -> Totals
     }
 }
 
-/// The first position of a word in reach, and the place behind the last one; none where the word takes no part.
+/// The first position of a word in reach, and the place behind the last one; none where the word
+/// takes no part.
 pub fn positions(table: &Table, w: &WordRef<'_>) -> Option<(usize, usize)>
     requires { IsWord (lent_word w.now) }
-    ensures none { IfNone result (positions_of table.now.left table.now.right (length w.now.signs.now) ≡ []) }
+    ensures none { IfNone result
+        (positions_of table.now.left table.now.right (length w.now.signs.now) ≡ []) }
     ensures some { IfSome result
-        (λ r. positions_of table.now.left table.now.right (length w.now.signs.now) ≡ range_with_len r.0 (r.1 - r.0)) }
+        (λ r. positions_of table.now.left table.now.right (length w.now.signs.now)
+        ≡ range_with_len r.0 (r.1 - r.0)) }
     ensures within { IfSome result (λ r. r.1 ≤ length w.now.signs.now) }
     ensures few { IfSome result (λ r. r.1 - r.0 ≤ letter_count (lent_word w.now)) }
 {
@@ -43,7 +46,8 @@ pub fn positions(table: &Table, w: &WordRef<'_>) -> Option<(usize, usize)>
 pub fn mark_at(w: &WordRef<'_>, found: &WordState, p: usize) -> Mark
     requires within { p < length w.now.signs.now }
     requires short { length w.now.signs.now ≤ WORD_LETTERS_MAX + 2 }
-    ensures { result ≡ status_of (slice_index_or w.now.hyphens.now p false) (slice_index_or w.now.cares.now p true)
+    ensures { result ≡ status_of (slice_index_or w.now.hyphens.now p false)
+        (slice_index_or w.now.cares.now p true)
         (slice_index found.now.values p) }
 {
     status(w.hyphens[p], w.cares[p], found.value(p))
@@ -76,7 +80,8 @@ pub fn add_mark(sums: Totals, mark: Mark, weight: Weight) -> Totals
     }
 }
 
-/// The totals with the positions of a word in reach more, by the values that were found for them. It takes no memory.
+/// The totals with the positions of a word in reach more, by the values that were found for them.
+/// It takes no memory.
 pub fn add_marks(table: &Table, w: &WordRef<'_>, found: &WordState, sums: Totals) -> Totals
     requires word { IsWord (lent_word w.now) }
     requires room { HasRoomFor sums (letter_count (lent_word w.now)) }

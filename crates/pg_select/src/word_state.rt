@@ -62,8 +62,8 @@ impl WordState {
         self.covers[p] = covered;
     }
 
-    /// Raises the value of position `p` to at least `value`, and covers its window where `covered` is true. The other
-    /// positions stay; where `p` is past the positions of every word, all do.
+    /// Raises the value of position `p` to at least `value`, and covers its window where `covered`
+    /// is true. The other positions stay; where `p` is past the positions of every word, all do.
     pub fn raise(&mut self, p: usize, value: u8, covered: bool)
         ensures values { RaisesAt p value (values_of self.old) (values_of self.new) }
         ensures covers { RaisesAt p (bit covered) (covers_of self.old) (covers_of self.new) }

@@ -1,4 +1,4 @@
 pub mod Sweeps
 pub mod Winners
 pub mod Files
-pub mod Given
+pub mod Inside

@@ -12,7 +12,8 @@ use Rattle.pg_driver.specs.Told.{over}
 use Rattle.pg_driver.specs.Traces.{Source, trace, final_patterns}
 use Rattle.pg_sweep.specs.declared.rows.SweepRow.{SweepRow}
 
--- what the runs of a sweep share: the table, the words, the patterns to start with, and the number of folds
+-- what the runs of a sweep share: the table, the words, the patterns to start with, and the number
+-- of folds
 pub record Terms : Type 0 where
   pub table : Alphabet
   pub words : List Word
@@ -33,7 +34,8 @@ rest s fold = over s.table (part_of s.folds fold false s.words)
 
 -- the totals of the words of a fold by the patterns that are selected from all other words
 abbrev pub fold_totals : Terms → Parameters → ℕ → Totals
-fold_totals s set fold = totals_by (left_out s fold) (final_patterns s.start (trace (rest s fold) set s.start))
+fold_totals s set fold = totals_by (left_out s fold)
+    (final_patterns s.start (trace (rest s fold) set s.start))
 
 -- totals together
 abbrev pub summed : List Totals → Totals
@@ -49,7 +51,8 @@ totals_of_folds s set count = summed (map (fold_totals s set) (range_with_len 0 
 
 -- the row of totals: what they cost stands beside them
 abbrev pub row_with : Prices → Totals → SweepRow
-row_with prices totals = record { totals = totals; cost = prices.bad * totals.bad + prices.missed * totals.missed }
+row_with prices totals =
+    record { totals = totals; cost = prices.bad * totals.bad + prices.missed * totals.missed }
 
 -- the row of a set, and the rows of all sets
 abbrev pub row_of : Terms → Prices → Parameters → SweepRow

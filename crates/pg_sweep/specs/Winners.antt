@@ -1,11 +1,13 @@
 -- The winner among costs.
 use Rattle.std.specs.Prelude.{ℕ, ◌+◌, ◌-◌, ◌<◌, ◌≤◌, nat_lt, if◌then◌else◌, List, [], ◌∷◌, length, take, slice_index, All}
 
--- the winner, where `best` with this cost is the winner of the costs before, and the next cost has the number `number`
+-- the winner, where `best` with this cost is the winner of the costs before, and the next cost has
+-- the number `number`
 abbrev pub winner_from : ℕ → ℕ → ℕ → List ℕ → ℕ
 winner_from best least number [] = best
 winner_from best least number (cost ∷ costs) =
-    winner_from (if nat_lt cost least then number else best) (if nat_lt cost least then cost else least) (number + 1) costs
+    winner_from (if nat_lt cost least then number else best)
+    (if nat_lt cost least then cost else least) (number + 1) costs
 
 -- the winner: the least number, counted from 1, whose cost is least
 abbrev pub winner_of : List ℕ → ℕ

@@ -5,7 +5,7 @@ ghost use Rattle.pg_dict.specs.Word.{SignsAtMost};
 ghost use Rattle.pg_patterns.specs.Values.{SignsUpTo};
 ghost use Rattle.pg_driver.specs.Sound.{IsSmall};
 ghost use Rattle.pg_sweep.specs.Sweeps.{fold_totals, totals_of_folds};
-ghost use Rattle.pg_sweep.specs.Given.{terms, HasSigns, IsSmallFor};
+ghost use Rattle.pg_sweep.specs.Inside.Given.{terms, HasSigns, IsSmallFor};
 
 use crate::maker::Maker;
 use pg_dict::Dictionary;
@@ -62,7 +62,8 @@ pub(crate) fn totals_of_set<K: Maker>(
     params: &Params,
 ) -> Result<Totals, AllocError>
     requires signs { HasSigns given.now }
-    ensures value { IfOk result (λ sums. sums ≡ totals_of_folds (terms given.now) params.now given.now.folds) }
+    ensures value { IfOk result
+        (λ sums. sums ≡ totals_of_folds (terms given.now) params.now given.now.folds) }
     ensures small { IfOk result (IsSmallFor given.now.folds) }
 {
     let mut sums = Totals {

@@ -2,7 +2,8 @@
 use crate::rows::{SweepRow, number_of_winner};
 use std::marker::Model;
 
-/// What a sweep found: a row for each set of parameters, in order, and which of them is the cheapest.
+/// What a sweep found: a row for each set of parameters, in order, and which of them is the
+/// cheapest.
 #[derive(Drop)]
 pub struct Sweep {
     rows: Vec<SweepRow>,
@@ -41,7 +42,8 @@ impl Sweep {
         self.rows.as_slice()
     }
 
-    /// The number of the winner, counted from 1: no row costs less, and each row before it costs more.
+    /// The number of the winner, counted from 1: no row costs less, and each row before it costs
+    /// more.
     pub fn winner(&self) -> usize
         ensures value { result ≡ self.now.winner }
         ensures least { IsWinner (costs_of self.now.rows) result }

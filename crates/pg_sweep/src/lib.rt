@@ -1,4 +1,5 @@
-//! The cheapest of several sets of parameters, weighed by words that were left out of the selection.
+//! The cheapest of several sets of parameters, weighed by words that were left out of the
+//! selection.
 #![tactic(auto)]
 
 mod folds;

@@ -13,8 +13,8 @@ pub trait Maker {
     /// The engines that it makes.
     type Made: Engine + Drop;
 
-    /// An engine with the greatest sign `signs` and the patterns `start`. Nothing is hopeless or counted, no pass was begun, and
-    /// the engine is tidy.
+    /// An engine with the greatest sign `signs` and the patterns `start`. Nothing is hopeless or
+    /// counted, no pass was begun, and the engine is tidy.
     fn make(&self, alloc: Global, signs: u16, start: &PatternSet) -> Result<Self::Made, AllocError>
         requires signs { (1 ≤ signs) × (signs ≤ SIGNS_MAX) }
         requires known { SignsUpTo signs start.now }

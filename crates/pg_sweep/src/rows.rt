@@ -5,7 +5,8 @@ ghost use Rattle.pg_sweep.specs.Winners.{winner_of};
 
 use pg_types::Totals;
 
-/// What a set of parameters came to: the totals of the words that were left out, over all folds, and what these cost.
+/// What a set of parameters came to: the totals of the words that were left out, over all folds,
+/// and what these cost.
 #[derive(Clone, Copy, Debug, PartialEq, Eq)]
 pub struct SweepRow {
     /// The totals of the words that were left out.

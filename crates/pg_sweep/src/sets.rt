@@ -5,7 +5,7 @@ ghost use Rattle.pg_dict.specs.Word.{SignsAtMost};
 ghost use Rattle.pg_patterns.specs.Values.{SignsUpTo};
 ghost use Rattle.pg_sweep.specs.Sweeps.{rows_of, row_with, costs_of};
 ghost use Rattle.pg_sweep.specs.Winners.{winner_of};
-ghost use Rattle.pg_sweep.specs.Given.{IsSmallFor};
+ghost use Rattle.pg_sweep.specs.Inside.Given.{IsSmallFor};
 
 use crate::folds::{Given, totals_of_set};
 use crate::found::Sweep;
@@ -29,8 +29,9 @@ fn priced(totals: Totals, bad: u32, missed: u32) -> SweepRow
     }
 }
 
-/// Weighs each set of parameters: for each fold it selects patterns from all words but those of the fold, and adds up the totals of
-/// the words that were left out. `bad` and `missed` are what a unit of each costs, 1 to 1,000.
+/// Weighs each set of parameters: for each fold it selects patterns from all words but those of the
+/// fold, and adds up the totals of the words that were left out. `bad` and `missed` are what a unit
+/// of each costs, 1 to 1,000.
 ///
 /// One engine is alive at a time. The only error is want of memory.
 pub fn sweep<K: Maker>(

@@ -44,7 +44,8 @@ fn sweep_value(alloc: Global, folds: u8, sweep: &Sweep) -> Result<Value, AllocEr
     })
 }
 
-/// The file of a sweep with this number of folds: one JSON object in its compact form, and a line feed.
+/// The file of a sweep with this number of folds: one JSON object in its compact form, and a line
+/// feed.
 pub fn sweep_text(alloc: Global, folds: u8, sweep: &Sweep) -> Result<Vec<u8>, AllocError>
     ensures { IfOk result (λ text. text.items ≡ sweep_file folds sweep.now.rows sweep.now.winner) }
 {

@@ -14,16 +14,16 @@ use Rattle.pg_types.specs.Signs.{is_sign}
 use Rattle.pg_patterns.specs.Texts.{strings_of}
 use Rattle.pg_outputs.specs.declared.records.Record.{Record}
 use Rattle.pg_outputs.specs.Lists.{list_of, OneHeadEach, Grows}
-use Rattle.pg_outputs.specs.Records.{AreShared}
+use Rattle.pg_outputs.specs.Inside.Records.{AreShared}
 use Rattle.pg_outputs.proofs.ListLaws.{list_of-zero}
 use Rattle.pg_cells.specs.ValuedFamilies.{ValuedFamilies}
-use Rattle.pg_cells.specs.AreValuedFamilies.{AreValuedFamilies}
-use Rattle.pg_cells.specs.Root.{root_held}
-use Rattle.pg_cells.specs.Walks.{AddsBlanks}
+use Rattle.pg_cells.specs.Inside.AreValuedFamilies.{AreValuedFamilies}
+use Rattle.pg_cells.specs.Inside.Root.{root_held}
+use Rattle.pg_cells.specs.Inside.Walks.{AddsBlanks}
 use Rattle.pg_cells.proofs.PlacementLaws.{cell_of_last}
 use Rattle.pg_cells.proofs.StringMaps.{order, same_string, same_from, equal_or_not, find_put_same, find_put_other}
-use Rattle.pg_table.specs.Packed.{IsGroup, IsReached, IsEntered, pairs}
-use Rattle.pg_table.specs.Sharing.{Lists, Shares, turned, with_ends}
+use Rattle.pg_table.specs.Inside.Packed.{IsGroup, IsReached, IsEntered, pairs}
+use Rattle.pg_table.specs.Inside.Sharing.{Lists, Shares, turned, with_ends}
 use Rattle.pg_table.specs.Texts.{layout, recorded}
 use Rattle.pg_table.proofs.Groups.{Entry, AreApart, apart_more, others_same, string_so_far, string_whole, strings_left, front_more, part_each}
 use Rattle.pg_table.proofs.RecordedStrings.{with_strings, recorded_is, recorded_ordered, recorded_known}

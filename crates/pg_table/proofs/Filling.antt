@@ -7,13 +7,13 @@ use Rattle.std.proofs.lemmas.List.{get_or-set_same, get_or-set_other, length-set
 use Rattle.std.proofs.lemmas.List.FromFn.{fill_by_all}
 use Rattle.pg_types.specs.Placement.{cell_of, base_of, top}
 use Rattle.pg_cells.specs.ValuedFamilies.{ValuedFamilies}
-use Rattle.pg_cells.specs.AreValuedFamilies.{AreValuedFamilies}
+use Rattle.pg_cells.specs.Inside.AreValuedFamilies.{AreValuedFamilies}
 use Rattle.pg_cells.proofs.StringCells.{cell_parts}
 use Rattle.pg_cells.proofs.StringMaps.{order}
 use Rattle.pg_outputs.specs.declared.records.Record.{Record}
 use Rattle.pg_table.specs.declared.cell.Cell.{Cell}
-use Rattle.pg_table.specs.Packed.{IsEntered}
-use Rattle.pg_table.specs.Rows.{HasHeads, IsRow, HasCell, Fills}
+use Rattle.pg_table.specs.Inside.Packed.{IsEntered}
+use Rattle.pg_table.specs.Inside.Rows.{HasHeads, IsRow, HasCell, Fills}
 use Rattle.pg_table.specs.Texts.{last_sign, cell_for, unused_cell, cell_of_table, head_in, table_cells}
 use Rattle.pg_table.proofs.Groups.{Entry}
 use Rattle.pg_table.proofs.TableCells.{cell_with, cell_cases, last_sign_is}

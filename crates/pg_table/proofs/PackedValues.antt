@@ -15,7 +15,7 @@ use Rattle.pg_patterns.proofs.Sound.{entry_bounds, entry_at}
 use Rattle.pg_cells.proofs.StringMaps.{same_from, same_itself}
 use Rattle.pg_select.specs.Statuses.{status, position_weight}
 use Rattle.pg_select.specs.Sums.{totals_of}
-use Rattle.pg_table.specs.Laws.{HasEntries, ValuesArePacked, TotalsArePacked}
+use Rattle.pg_table.specs.Inside.Laws.{HasEntries, ValuesArePacked, TotalsArePacked}
 use Rattle.pg_table.specs.Lookups.{greatest, value_from, table_value, table_entry}
 use Rattle.pg_table.proofs.Groups.{Entry}
 

@@ -11,7 +11,7 @@ use Rattle.std.proofs.lemmas.List.Quantifiers.{position-Some}
 use Rattle.std.proofs.lemmas.List.Sums.{fold-append}
 use Rattle.std.proofs.lemmas.Option.{slice_get_within, slice_get-get_or, get_or_from_slice_get}
 use Rattle.pg_types.specs.Tails.{suffixes, same_pair}
-use Rattle.pg_table.specs.Sharing.{Lists, with_ends}
+use Rattle.pg_table.specs.Inside.Sharing.{Lists, with_ends}
 use Rattle.pg_table.specs.Texts.{with_list, head_among}
 use Rattle.pg_table.proofs.TableCells.{find_cases}
 

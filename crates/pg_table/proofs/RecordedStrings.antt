@@ -11,7 +11,7 @@ use Rattle.pg_patterns.specs.Texts.{strings_of, with_string}
 use Rattle.pg_types.proofs.BoolFacts.{and_first, and_second}
 use Rattle.pg_patterns.proofs.Sound.{entry_bounds}
 use Rattle.pg_cells.proofs.StringMaps.{same_from}
-use Rattle.pg_table.specs.Sharing.{Lists, with_ends}
+use Rattle.pg_table.specs.Inside.Sharing.{Lists, with_ends}
 use Rattle.pg_table.specs.Texts.{with_list, recorded}
 use Rattle.pg_table.proofs.Recorded.{Among, AreOrdered, Grows, ends_taken}
 use Rattle.pg_table.proofs.TableRecords.{IsGood}

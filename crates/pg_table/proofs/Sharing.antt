@@ -5,11 +5,11 @@ use Rattle.std.proofs.lemmas.List.{length_push, drop_more}
 use Rattle.std.proofs.lemmas.Option.{slice_get_within, slice_get-get_or, get_or_from_slice_get}
 use Rattle.pg_outputs.specs.declared.records.Record.{Record}
 use Rattle.pg_outputs.specs.Lists.{list_of, OneHeadEach, Lacks}
-use Rattle.pg_outputs.specs.Records.{AreShared}
+use Rattle.pg_outputs.specs.Inside.Records.{AreShared}
 use Rattle.pg_outputs.proofs.ListLaws.{list_of-at, list_of-old, list_of-new}
 use Rattle.pg_outputs.proofs.RecordLaws.{there_or_new}
-use Rattle.pg_table.specs.Packed.{pairs}
-use Rattle.pg_table.specs.Sharing.{Lists, turned, Shares}
+use Rattle.pg_table.specs.Inside.Packed.{pairs}
+use Rattle.pg_table.specs.Inside.Sharing.{Lists, turned, Shares}
 use Rattle.pg_table.specs.Texts.{with_list}
 use Rattle.pg_table.proofs.Recorded.{test_among, with_cases, get_cases}
 use Rattle.pg_table.proofs.TableRecords.{turned_apart}

@@ -5,7 +5,7 @@ use Rattle.std.proofs.lemmas.Bool.{cases_Bool, cases_lt, and_from, and_left, and
 use Rattle.std.proofs.lemmas.List.{length_push}
 use Rattle.pg_types.specs.Placement.{Family, Families, cell_of, base_of, top}
 use Rattle.pg_cells.specs.ValuedFamilies.{ValuedFamilies}
-use Rattle.pg_cells.specs.AreValuedFamilies.{AreValuedFamilies}
+use Rattle.pg_cells.specs.Inside.AreValuedFamilies.{AreValuedFamilies}
 use Rattle.pg_cells.proofs.StringCells.{cell_parts}
 use Rattle.pg_cells.proofs.Walking.{childless}
 use Rattle.pg_table.specs.declared.cell.Cell.{Cell}

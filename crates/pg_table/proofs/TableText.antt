@@ -17,8 +17,8 @@ use Rattle.pg_table.specs.declared.cell.Cell.{Cell}
 use Rattle.pg_table.specs.declared.limits.TheConstants.{TABLE_MAX}
 use Rattle.pg_table.specs.Forms.{is_well_formed}
 use Rattle.pg_table.specs.Lookups.{lookup, table_entry, value_in_list}
-use Rattle.pg_table.specs.Packed.{IsPacked, IsEntered}
-use Rattle.pg_table.specs.Sharing.{turned}
+use Rattle.pg_table.specs.Inside.Packed.{IsPacked, IsEntered}
+use Rattle.pg_table.specs.Inside.Sharing.{turned}
 use Rattle.pg_table.specs.Texts.{recorded, head_in, record_of, cell_of_table, table_cells, table_records, file_of, table_text}
 use Rattle.pg_table.proofs.FormLaws.{IsSoundCell, IsSoundRecord, form_from}
 use Rattle.pg_table.proofs.FileParts.{AreSmall, head_with, head_is, cell_is, file_sound, records_are_those, length-file_of}

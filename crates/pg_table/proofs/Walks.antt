@@ -7,7 +7,7 @@ use Rattle.std.proofs.lemmas.List.{drop-drop, drop_more}
 use Rattle.pg_types.specs.declared.limits.TheConstants.{PATTERN_SIGNS_MAX}
 use Rattle.pg_table.specs.Forms.{cell_at}
 use Rattle.pg_table.specs.Lookups.{cell_has_sign, list_in, lookup, lookup_from, greatest, value_in_list, value_from, table_value}
-use Rattle.pg_table.specs.Raising.{by_value, by_record_list, by_strings, by_starts}
+use Rattle.pg_table.specs.Inside.Raising.{by_value, by_record_list, by_strings, by_starts}
 
 -- the greatest of numbers that are all 0
 pub greatest_none : (f : ℕ → ℕ) (a n : ℕ) → ((i : ℕ) → a ≤ i → i < a + n → f i ≡ 0) → greatest f (range_with_len a n) ≡ 0

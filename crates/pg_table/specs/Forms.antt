@@ -1,4 +1,5 @@
--- The form of a packed table file: a head of 16 bytes, the cells of 10 bytes each, and the records of 6 bytes each.
+-- The form of a packed table file: a head of 16 bytes, the cells of 10 bytes each, and the records
+-- of 6 bytes each.
 use Rattle.std.specs.Prelude.{ℕ, ◌+◌, ◌*◌, Bool, not, ◌&&◌, ◌||◌, nat_eq, nat_lt, nat_le, List, [], ◌∷◌, length, map, slice_index}
 use Rattle.std.specs.List.{list_all, range_with_len, starts_with}
 use Rattle.pg_types.specs.declared.limits.TheConstants.{LEVEL_MAX, PATTERN_SIGNS_MAX, SIGNS_MAX}
@@ -22,15 +23,25 @@ cell_start at = 16 + 10 * at
 
 -- the cell with this number
 abbrev pub cell_at : List ℕ → ℕ → Cell
-cell_at b at = record { sign = u16_at b (cell_start at); child = u32_at b (cell_start at + 2); head = u32_at b (cell_start at + 6) }
+cell_at b at = record {
+  sign = u16_at b (cell_start at);
+  child = u32_at b (cell_start at + 2);
+  head = u32_at b (cell_start at + 6);
+}
 
--- where the record with the number i begins, behind n cells. Records are numbered from 0 here, and the head of the first is 1
+-- where the record with the number i begins, behind n cells. Records are numbered from 0 here, and
+-- the head of the first is 1
 abbrev pub record_start : ℕ → ℕ → ℕ
 record_start n i = cell_start n + 6 * i
 
 -- the record that begins at a place
 abbrev pub read_record : List ℕ → ℕ → Record
-read_record b start = record { value = slice_index b start; dot = slice_index b (start + 1); next = u32_at b (start + 2) }
+read_record b start =
+    record {
+      value = slice_index b start;
+      dot = slice_index b (start + 1);
+      next = u32_at b (start + 2);
+    }
 
 -- the record with this number
 abbrev pub record_at : List ℕ → ℕ → Record
@@ -46,24 +57,30 @@ file_len h = 16 + 10 * h.cells + 6 * h.records
 
 -- the numbers of a head are in their ranges, and agree with the length of the file
 abbrev pub fits_head : Head → ℕ → Bool
-fits_head h len = nat_eq len (file_len h) && nat_le len TABLE_MAX && nat_le 1 h.signs && nat_le h.signs SIGNS_MAX && nat_lt h.signs h.cells
+fits_head h len = nat_eq len (file_len h) && nat_le len TABLE_MAX
+    && nat_le 1 h.signs && nat_le h.signs SIGNS_MAX && nat_lt h.signs h.cells
 
 -- a file begins as it should, and its numbers agree with its length
 abbrev pub has_head : List ℕ → Bool
 has_head b = starts_with nat_eq b file_mark && fits_head (head_of b) (length b)
 
--- a cell may stand at its place: up to the greatest sign, cell 0 has no sign and each other has its number as its sign; a cell
--- without a sign is unused, so all of it is 0; and its numbers are in their ranges
+-- a cell may stand at its place: up to the greatest sign, cell 0 has no sign and each other has its
+-- number as its sign; a cell without a sign is unused, so all of it is 0; and its numbers are in
+-- their ranges
 abbrev pub is_sound_cell : Head → ℕ → Cell → Bool
-is_sound_cell h at c = (nat_lt h.signs at || nat_eq c.sign at) && (not (nat_eq c.sign 0) || (nat_eq c.child 0 && nat_eq c.head 0)) && nat_le c.sign h.signs && nat_lt c.child h.cells && nat_le c.head h.records
+is_sound_cell h at c = (nat_lt h.signs at || nat_eq c.sign at)
+    && (not (nat_eq c.sign 0) || (nat_eq c.child 0 && nat_eq c.head 0))
+    && nat_le c.sign h.signs && nat_lt c.child h.cells && nat_le c.head h.records
 
 -- a record may stand at its place: its value is 1 to 9, its dot is at most 32, and it leads back
 abbrev pub is_sound_record : ℕ → Record → Bool
-is_sound_record i r = nat_le 1 r.value && nat_le r.value LEVEL_MAX && nat_le r.dot PATTERN_SIGNS_MAX && nat_le r.next i
+is_sound_record i r = nat_le 1 r.value && nat_le r.value LEVEL_MAX
+    && nat_le r.dot PATTERN_SIGNS_MAX && nat_le r.next i
 
 -- bytes are a packed table file
 unfoldable pub is_well_formed : List ℕ → Bool
 is_well_formed b =
     has_head b
-    && list_all (λ at. is_sound_cell (head_of b) at (cell_at b at)) (range_with_len 0 (head_of b).cells)
+    && list_all (λ at. is_sound_cell (head_of b) at (cell_at b at))
+    (range_with_len 0 (head_of b).cells)
     && list_all (λ i. is_sound_record i (record_at b i)) (range_with_len 0 (head_of b).records)

@@ -1,9 +1,5 @@
 pub mod Numbers
 pub mod Forms
-pub mod Laws
 pub mod Lookups
-pub mod Packed
-pub mod Raising
-pub mod Rows
-pub mod Sharing
 pub mod Texts
+pub mod Inside

@@ -1,4 +1,5 @@
--- What a packed table file says: the list of a string, its values, the values of the positions of a word, and the totals.
+-- What a packed table file says: the list of a string, its values, the values of the positions of a
+-- word, and the totals.
 use Rattle.std.specs.Prelude.{ℕ, ◌+◌, ◌-◌, Bool, ◌&&◌, nat_eq, nat_lt, nat_le, max, if◌then◌else◌, List, [], ◌∷◌, length, take, drop}
 use Rattle.std.specs.List.{flat_map, range_with_len}
 use Rattle.pg_types.specs.declared.limits.TheConstants.{PATTERN_SIGNS_MAX}
@@ -18,11 +19,14 @@ cell_has_sign b base s = nat_lt (base + s) (head_of b).cells && nat_eq (cell_at 
 abbrev pub list_in : List ℕ → ℕ → List (ℕ × ℕ)
 list_in b h = list_of (records_of b) h
 
--- the list of the string q below the family at the base, each value with its dot. It is empty where a cell is missing
+-- the list of the string q below the family at the base, each value with its dot. It is empty where
+-- a cell is missing
 abbrev pub lookup_from : List ℕ → ℕ → List ℕ → List (ℕ × ℕ)
 lookup_from b base [] = []
-lookup_from b base (s ∷ []) = if cell_has_sign b base s then list_in b (cell_at b (base + s)).head else []
-lookup_from b base (s ∷ t ∷ q) = if cell_has_sign b base s && nat_lt 0 (cell_at b (base + s)).child then lookup_from b (cell_at b (base + s)).child (t ∷ q) else []
+lookup_from b base (s ∷ []) = if cell_has_sign b base s then list_in b (cell_at b (base + s)).head
+    else []
+lookup_from b base (s ∷ t ∷ q) = if cell_has_sign b base s && nat_lt 0 (cell_at b (base + s)).child
+    then lookup_from b (cell_at b (base + s)).child (t ∷ q) else []
 
 -- the list of the string q
 unfoldable pub lookup : List ℕ → List ℕ → List (ℕ × ℕ)
@@ -44,11 +48,14 @@ greatest f (x ∷ xs) = max (f x) (greatest f xs)
 
 -- the value that the n signs of w from i on give to position p, which is their dot p - i
 abbrev pub value_from : List ℕ → List ℕ → ℕ → ℕ → ℕ → ℕ
-value_from b w p i n = if nat_le (i + n) (length w) && (nat_le i p && nat_le (p - i) n) then table_entry b (take n (drop i w)) (p - i) else 0
+value_from b w p i n = if nat_le (i + n) (length w) && (nat_le i p && nat_le (p - i) n)
+    then table_entry b (take n (drop i w)) (p - i) else 0
 
 -- the value of position p of w: the greatest of all strings of 1 to 32 signs that stand in w
 unfoldable pub table_value : List ℕ → List ℕ → ℕ → ℕ
-table_value b w p = greatest (λ i. greatest (value_from b w p i) (range_with_len 1 PATTERN_SIGNS_MAX)) (range_with_len 0 (length w))
+table_value b w p = greatest
+    (λ i. greatest (value_from b w p i) (range_with_len 1 PATTERN_SIGNS_MAX))
+    (range_with_len 0 (length w))
 
 -- the status of each position in reach of a word by the table, and its weight
 abbrev pub table_marks : Minima → List ℕ → Word → List (Mark × ℕ)

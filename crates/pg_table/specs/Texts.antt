@@ -19,8 +19,8 @@ layout n P = entered_families n (map (λ e. e.0.0) P)
 abbrev pub with_list : List (List (ℕ × ℕ)) → List (ℕ × ℕ) → List (List (ℕ × ℕ))
 with_list lists l = if list_any (pointwise same_pair l) lists then lists else lists ++ l ∷ []
 
--- the lists that get a record, each once, as they are first met: string by string, of each the ends of its list of (dot, value)
--- from the shortest on
+-- the lists that get a record, each once, as they are first met: string by string, of each the ends
+-- of its list of (dot, value) from the shortest on
 abbrev pub recorded : List ((List ℕ × ℕ) × ℕ) → List (List (ℕ × ℕ))
 recorded P = fold with_list [] (flat_map (λ q. reverse (suffixes (outputs_of P q))) (strings_of P))
 
@@ -49,14 +49,16 @@ last_sign (s ∷ t ∷ q) = last_sign (t ∷ q)
 
 -- the cell of a string: its last sign, the base of the family below it, and the head of its list
 abbrev pub cell_for : Families → (List ℕ → ℕ) → List ℕ → Cell
-cell_for fs heads q = record { sign = last_sign q; child = unwrap_or (base_of fs q) 0; head = heads q }
+cell_for fs heads q =
+    record { sign = last_sign q; child = unwrap_or (base_of fs q) 0; head = heads q }
 
 abbrev pub unused_cell : Cell
 unused_cell = record { sign = 0; child = 0; head = 0 }
 
 -- the cell with this number, which is unused where no string has it
 abbrev pub cell_of_table : Families → (List ℕ → ℕ) → ℕ → Cell
-cell_of_table fs heads at = option_map_or (cell_for fs heads) (find (has_cell fs at) (strings_with_cells fs)) unused_cell
+cell_of_table fs heads at = option_map_or (cell_for fs heads)
+    (find (has_cell fs at) (strings_with_cells fs)) unused_cell
 
 abbrev pub cell_bytes : Cell → List ℕ
 cell_bytes c = u16_bytes c.sign ++ u32_bytes c.child ++ u32_bytes c.head
@@ -70,14 +72,17 @@ head_in P q = head_among (recorded P) (outputs_of P q)
 
 -- the cells from 0 to the greatest used one
 abbrev pub table_cells : ℕ → List ((List ℕ × ℕ) × ℕ) → List Cell
-table_cells n P = map (cell_of_table (layout n P) (head_in P)) (range_with_len 0 (top (layout n P) + 1))
+table_cells n P = map (cell_of_table (layout n P) (head_in P))
+    (range_with_len 0 (top (layout n P) + 1))
 
 abbrev pub table_records : List ((List ℕ × ℕ) × ℕ) → List Record
 table_records P = map (record_of (recorded P)) (recorded P)
 
 -- a file with these cells and records
 abbrev pub file_of : ℕ → List Cell → List Record → List ℕ
-file_of n cells records = file_mark ++ u32_bytes n ++ u32_bytes (length cells) ++ u32_bytes (length records) ++ flat_map cell_bytes cells ++ flat_map record_bytes records
+file_of n cells records = file_mark ++ u32_bytes n
+    ++ u32_bytes (length cells) ++ u32_bytes (length records)
+    ++ flat_map cell_bytes cells ++ flat_map record_bytes records
 
 -- the packed table file of the patterns P, where n is the greatest sign
 unfoldable pub table_text : ℕ → List ((List ℕ × ℕ) × ℕ) → List ℕ

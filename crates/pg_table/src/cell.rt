@@ -7,8 +7,8 @@ use crate::limits::{CELL_LEN, HEAD_LEN};
 use crate::numbers::{u16_at, u32_at};
 use pg_types::Sign;
 
-/// A cell: its sign, the base of the family below its string, and the head of its string's list. Each is 0 where there
-/// is none.
+/// A cell: its sign, the base of the family below its string, and the head of its string's list.
+/// Each is 0 where there is none.
 #[derive(Clone, Copy, Debug, PartialEq, Eq)]
 pub struct Cell {
     /// The last sign of the string that has the cell.

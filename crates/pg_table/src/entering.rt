@@ -3,8 +3,8 @@ ghost use Rattle.std.specs.Prelude.{◌≡◌, ℕ, ◌<◌, ◌≤◌, List, le
 ghost use Rattle.pg_types.specs.declared.limits.TheConstants.{SIGNS_MAX};
 ghost use Rattle.pg_patterns.specs.Values.{SignsUpTo};
 ghost use Rattle.pg_outputs.specs.Lists.{list_of, Grows};
-ghost use Rattle.pg_table.specs.Packed.{IsGroup, IsEntered, pairs};
-ghost use Rattle.pg_table.specs.Sharing.{Lists, Shares, turned, with_ends};
+ghost use Rattle.pg_table.specs.Inside.Packed.{IsGroup, IsEntered, pairs};
+ghost use Rattle.pg_table.specs.Inside.Sharing.{Lists, Shares, turned, with_ends};
 
 use pg_cells::{Cells, enter};
 use pg_outputs::Outputs;
@@ -45,7 +45,8 @@ pub fn enter_all(alloc: Global, signs: u16, patterns: &PatternSet) -> Result<Pac
 /// Where the entries end that have the string of the entry at `at`.
 fn string_end(patterns: &PatternSet, at: usize) -> usize
     requires { at < length patterns.now }
-    ensures { (e : (List ℕ × ℕ) × ℕ) → slice_get patterns.now at ≡ Some e → IsGroup patterns.now e.0.0 at result }
+    ensures { (e : (List ℕ × ℕ) × ℕ) → slice_get patterns.now at ≡ Some e
+        → IsGroup patterns.now e.0.0 at result }
 {
     let count = patterns.len();
     let signs = patterns.entry(at).signs;
@@ -57,7 +58,8 @@ fn string_end(patterns: &PatternSet, at: usize) -> usize
     count
 }
 
-/// The head of the list of the entries from `at` to `end`, whose ends are shared from the shortest on.
+/// The head of the list of the entries from `at` to `end`, whose ends are shared from the shortest
+/// on.
 fn share(
     patterns: &PatternSet,
     at: usize,
@@ -67,8 +69,10 @@ fn share(
     requires order { at ≤ end }
     requires within { end ≤ length patterns.now }
     ensures shares { IfOk result (λ head. (lists : Lists) →
-        Shares outputs.old lists → Shares outputs.new (with_ends lists (pairs patterns.now at end))) }
-    ensures list { IfOk result (λ head. list_of outputs.new head ≡ map turned (pairs patterns.now at end)) }
+        Shares outputs.old lists
+        → Shares outputs.new (with_ends lists (pairs patterns.now at end))) }
+    ensures list { IfOk result
+        (λ head. list_of outputs.new head ≡ map turned (pairs patterns.now at end)) }
     ensures inside { IfOk result (λ head. head ≤ length outputs.new) }
     ensures grows { Grows outputs.old outputs.new }
 {

@@ -21,8 +21,8 @@ pub struct Head {
 }
 
 impl Head {
-    /// The head of a file, or `None` where a file does not begin so, or where the numbers are out of their ranges or do
-    /// not agree with the file's length.
+    /// The head of a file, or `None` where a file does not begin so, or where the numbers are out
+    /// of their ranges or do not agree with the file's length.
     pub fn read(bytes: &[u8]) -> Option<Head>
         ensures { MatchOption result (has_head bytes.now ≡ false)
             (λ h. (has_head bytes.now ≡ true) × (h ≡ head_of bytes.now)) }

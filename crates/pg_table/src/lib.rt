@@ -1,4 +1,5 @@
-//! A packed table of patterns: a file of cells and records that is read in place, and the text of such a file.
+//! A packed table of patterns: a file of cells and records that is read in place, and the text of
+//! such a file.
 #![tactic(auto)]
 
 mod cell;

@@ -6,9 +6,9 @@ ghost use Rattle.std.specs.Ordering.{nat_cmp};
 ghost use Rattle.pg_types.specs.declared.limits.TheConstants.{SIGNS_MAX};
 ghost use Rattle.pg_types.specs.Placement.{top};
 ghost use Rattle.pg_patterns.specs.Values.{SignsUpTo};
-ghost use Rattle.pg_cells.specs.AreValuedFamilies.{AreValuedFamilies};
-ghost use Rattle.pg_table.specs.Packed.{IsEntered};
-ghost use Rattle.pg_table.specs.Rows.{HasHeads, IsRow, Fills};
+ghost use Rattle.pg_cells.specs.Inside.AreValuedFamilies.{AreValuedFamilies};
+ghost use Rattle.pg_table.specs.Inside.Packed.{IsEntered};
+ghost use Rattle.pg_table.specs.Inside.Rows.{HasHeads, IsRow, Fills};
 ghost use Rattle.pg_table.specs.Texts.{head_in, table_cells};
 
 use crate::cell::Cell;
@@ -70,7 +70,8 @@ fn fill_string(cells: &Cells<u64, FEW_SIGNS>, signs: &[Sign], row: &mut [Cell])
     requires signs { All (λ s. (1 ≤ s) × (s ≤ cells.now.signs)) signs.now }
     requires size { length row.old ≡ top cells.now.families + 1 }
     requires cells { top cells.now.families + 1 < 2 ^ 32 }
-    requires values { (q : List ℕ) (v : ℕ) → find (slice_cmp nat_cmp) q cells.now.values ≡ Some v → v < 2 ^ 32 }
+    requires values { (q : List ℕ) (v : ℕ) → find (slice_cmp nat_cmp) q cells.now.values ≡ Some v
+        → v < 2 ^ 32 }
     ensures { (heads : List ℕ → ℕ) → HasHeads cells.now heads → IsRow cells.now heads row.old →
         Fills cells.now heads signs.now (length signs.now) row.old row.new }
 {

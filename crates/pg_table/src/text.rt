@@ -7,7 +7,7 @@ ghost use Rattle.pg_patterns.specs.Values.{SignsUpTo};
 ghost use Rattle.pg_table.specs.declared.error.TableError.TheVariants.{TooLong};
 ghost use Rattle.pg_table.specs.declared.limits.TheConstants.{TABLE_MAX};
 ghost use Rattle.pg_table.specs.Forms.{is_well_formed};
-ghost use Rattle.pg_table.specs.Laws.{HasEntries};
+ghost use Rattle.pg_table.specs.Inside.Laws.{HasEntries};
 ghost use Rattle.pg_table.specs.Texts.{cell_bytes, record_bytes, file_of, table_text};
 
 use crate::cell::Cell;
@@ -21,8 +21,9 @@ use pg_outputs::Outputs;
 use pg_patterns::PatternSet;
 use std::alloc::{AllocError, Global};
 
-/// The packed table of patterns, where `signs` is the greatest sign. [`TableView`](crate::TableView) reads it in place,
-/// and each string has the values of the patterns there.
+/// The packed table of patterns, where `signs` is the greatest sign.
+/// [`TableView`](crate::TableView) reads it in place, and each string has the values of the
+/// patterns there.
 ///
 /// [`TableError::TooLong`] comes exactly where the table would have more than [`TABLE_MAX`] bytes.
 pub fn table_text(alloc: Global, signs: u16, patterns: &PatternSet) -> Result<Vec<u8>, TableError>
@@ -32,7 +33,8 @@ pub fn table_text(alloc: Global, signs: u16, patterns: &PatternSet) -> Result<Ve
     ensures well_formed { IfOk result (λ text. is_well_formed text.items ≡ true) }
     ensures values { IfOk result (λ text. HasEntries text.items patterns.now) }
     ensures short { OnOk result (length (table_text signs patterns.now) ≤ TABLE_MAX) }
-    ensures too_long { IfErr result (λ e. e ≡ TooLong → TABLE_MAX < length (table_text signs patterns.now)) }
+    ensures too_long { IfErr result
+        (λ e. e ≡ TooLong → TABLE_MAX < length (table_text signs patterns.now)) }
 {
     let _kept = patterns.len();
     let packed = enter_all(alloc, signs, patterns)?;
@@ -47,7 +49,8 @@ pub fn table_text(alloc: Global, signs: u16, patterns: &PatternSet) -> Result<Ve
 /// Whether the table has more than [`TABLE_MAX`] bytes.
 fn is_too_long(packed: &Packed) -> bool
     ensures { IsTrue result
-        ↔ (TABLE_MAX < 16 + 10 * (top packed.now.cells.families + 1) + 6 * length packed.now.outputs) }
+        ↔ (TABLE_MAX < 16 + 10 * (top packed.now.cells.families + 1)
+        + 6 * length packed.now.outputs) }
 {
     let top = packed.cells.top();
     let records = packed.outputs.len();

@@ -1,7 +1,7 @@
 //! The totals of a word list by a packed table.
 ghost use Rattle.std.specs.Prelude.{◌≡◌, ◌<◌, ◌≤◌, ◌+◌, ◌-◌, ◌^◌, [], true, false, length, slice_index, slice_index_or, All, IfSome, IfNone};
 ghost use Rattle.pg_dict.specs.Word.{IsWord, SignsAtMost, letter_count};
-ghost use Rattle.pg_dict.specs.Lent.{lent_word};
+ghost use Rattle.pg_dict.specs.Inside.Lent.{lent_word};
 ghost use Rattle.pg_table.specs.Forms.{head_of};
 ghost use Rattle.pg_table.specs.Lookups.{table_marks, table_totals};
 ghost use Rattle.pg_select.specs.CountedPositions.{minima_of};
@@ -14,8 +14,8 @@ use pg_select::marks::{add_marks, no_totals};
 use pg_translate::Table;
 use pg_types::Totals;
 
-/// The totals of the words of a dictionary by a packed table: the sums of the weights of the positions in reach that are
-/// found, that are errors and that are missed. It takes no memory.
+/// The totals of the words of a dictionary by a packed table: the sums of the weights of the
+/// positions in reach that are found, that are errors and that are missed. It takes no memory.
 pub fn table_totals(view: &TableView<'_>, dictionary: &Dictionary, table: &Table) -> Totals
     requires { SignsAtMost (head_of view.now).signs dictionary.now }
     ensures value { result ≡ table_totals (minima_of table.now) dictionary.now view.now }
@@ -41,7 +41,8 @@ fn add_word(
     requires signs { All (λ s. s ≤ (head_of view.now).signs) w.now.signs.now }
     requires room { HasRoomFor sums (letter_count (lent_word w.now)) }
     ensures took { TookRoomFor sums result (letter_count (lent_word w.now)) }
-    ensures value { result ≡ with_marks sums (table_marks (minima_of table.now) view.now (lent_word w.now)) }
+    ensures value { result
+        ≡ with_marks sums (table_marks (minima_of table.now) view.now (lent_word w.now)) }
 {
     view.values(*w, found);
     add_marks(table, w, found, sums)

@@ -34,7 +34,8 @@ impl<'a> Model for TableView<'a> {
 }
 
 impl<'a> TableView<'a> {
-    /// The table of a file, or `None` exactly where the bytes are not well formed. Each byte is looked at once.
+    /// The table of a file, or `None` exactly where the bytes are not well formed. Each byte is
+    /// looked at once.
     pub fn read(bytes: &'a [u8]) -> Option<TableView<'a>>
         ensures { MatchOption result (is_well_formed bytes.now ≡ false)
             (λ v. (is_well_formed bytes.now ≡ true) × (v ≡ bytes.now)) }
@@ -56,9 +57,11 @@ impl<'a> TableView<'a> {
         self.head.signs as u16
     }
 
-    /// The ten bytes of the cell with this number, or `None` exactly where there are not so many cells.
+    /// The ten bytes of the cell with this number, or `None` exactly where there are not so many
+    /// cells.
     pub fn cell(&self, at: u32) -> Option<&'a [u8]>
-        ensures { MatchOption result ((head_of self.now).cells ≤ at) (λ c. (at < (head_of self.now).cells)
+        ensures { MatchOption result ((head_of self.now).cells ≤ at)
+            (λ c. (at < (head_of self.now).cells)
             × (c.now ≡ slice_range self.now (cell_start at) (cell_start at + 10))) }
     {
         if at >= self.head.cells {
@@ -68,12 +71,13 @@ impl<'a> TableView<'a> {
         Some(&self.bytes[start..start + CELL_LEN])
     }
 
-    /// The six bytes of the record with this head, or `None` exactly where the head is 0 or greater than the number of
-    /// records.
+    /// The six bytes of the record with this head, or `None` exactly where the head is 0 or greater
+    /// than the number of records.
     pub fn output_at(&self, head: u32) -> Option<&'a [u8]>
         ensures { let start = record_start (head_of self.now).cells (head - 1) in
             MatchOption result ((head ≡ 0) ⊎ ((head_of self.now).records < head))
-            (λ r. (0 < head) × (head ≤ (head_of self.now).records) × (r.now ≡ slice_range self.now start (start + 6))) }
+            (λ r. (0 < head) × (head ≤ (head_of self.now).records)
+            × (r.now ≡ slice_range self.now start (start + 6))) }
     {
         let i = head.checked_sub(1)?;
         if i >= self.head.records {
@@ -83,13 +87,15 @@ impl<'a> TableView<'a> {
         Some(&self.bytes[start..start + RECORD_LEN])
     }
 
-    /// Sets the value of each position of a word to that of the table, and its cover to false. It takes no memory.
+    /// Sets the value of each position of a word to that of the table, and its cover to false. It
+    /// takes no memory.
     pub fn values(&self, w: WordRef<'_>, out: &mut WordState)
         requires word { length w.signs.now ≤ WORD_LETTERS_MAX + 2 }
         requires signs { All (λ s. s ≤ (head_of self.now).signs) w.signs.now }
         ensures values { (p : ℕ) → p < length w.entry.signs.now →
             slice_index out.new.values p ≡ table_value self.now w.entry.signs.now p }
-        ensures covers { (p : ℕ) → p < length w.entry.signs.now → slice_index_or out.new.covers p false ≡ false }
+        ensures covers { (p : ℕ) → p < length w.entry.signs.now
+            → slice_index_or out.new.covers p false ≡ false }
     {
         *out = WordState::new();
         walk(self, w.signs, out);
@@ -114,7 +120,8 @@ impl TableView<'_> {
         if cell.sign == s { Some(cell) } else { None }
     }
 
-    /// The first value and dot of a list, with the head of its rest. `None` is the empty list, head 0.
+    /// The first value and dot of a list, with the head of its rest. `None` is the empty list, head
+    /// 0.
     pub(crate) fn first(&self, head: u32) -> Option<(u8, u8, u32)>
         requires { head ≤ (head_of self.now).records }
         ensures list { MatchOption result (list_in self.now head ≡ [])
@@ -131,7 +138,8 @@ impl TableView<'_> {
 fn has_sound_cells(bytes: &[u8], head: &Head) -> bool
     requires { file_len head.now ≤ length bytes.now }
     ensures { result
-        ≡ list_all (λ at. is_sound_cell head.now at (cell_at bytes.now at)) (range_with_len 0 head.now.cells) }
+        ≡ list_all (λ at. is_sound_cell head.now at (cell_at bytes.now at))
+        (range_with_len 0 head.now.cells) }
 {
     for at in 0..head.cells {
         if !Cell::read(bytes, at).is_sound(at, head) {
@@ -144,7 +152,8 @@ fn has_sound_cells(bytes: &[u8], head: &Head) -> bool
 /// Whether each record may stand at its place.
 fn has_sound_records(bytes: &[u8], head: &Head) -> bool
     requires { file_len head.now ≤ length bytes.now }
-    ensures { result ≡ list_all (λ i. is_sound_record i (read_record bytes.now (record_start head.now.cells i)))
+    ensures { result ≡ list_all
+        (λ i. is_sound_record i (read_record bytes.now (record_start head.now.cells i)))
         (range_with_len 0 head.now.records) }
 {
     for i in 0..head.records {

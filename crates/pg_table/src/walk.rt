@@ -4,14 +4,14 @@ ghost use Rattle.pg_types.specs.declared.limits.TheConstants.{WORD_LETTERS_MAX};
 ghost use Rattle.pg_table.specs.Forms.{head_of};
 ghost use Rattle.pg_table.specs.Lookups.{list_in};
 ghost use Rattle.pg_select.specs.Positions.{values_of, Raises};
-ghost use Rattle.pg_table.specs.Raising.{IsUncovered, by_value, by_record_list, by_strings, by_starts};
+ghost use Rattle.pg_table.specs.Inside.Raising.{IsUncovered, by_value, by_record_list, by_strings, by_starts};
 
 use crate::view::TableView;
 use pg_select::WordState;
 use pg_types::{PATTERN_SIGNS_MAX, Sign};
 
-/// Takes in the lists of all strings of the word. From each start on it goes along the word from cell to cell, up to the
-/// first string that has none.
+/// Takes in the lists of all strings of the word. From each start on it goes along the word from
+/// cell to cell, up to the first string that has none.
 pub fn walk(view: &TableView<'_>, w: &[Sign], out: &mut WordState)
     requires len { length w.now ≤ WORD_LETTERS_MAX + 2 }
     requires uncovered { IsUncovered out.old }
@@ -23,12 +23,14 @@ pub fn walk(view: &TableView<'_>, w: &[Sign], out: &mut WordState)
     }
 }
 
-/// Takes in the lists of the strings that stand in the word from `start` on, the shorter ones first.
+/// Takes in the lists of the strings that stand in the word from `start` on, the shorter ones
+/// first.
 fn take_strings(view: &TableView<'_>, w: &[Sign], start: usize, out: &mut WordState)
     requires len { length w.now ≤ WORD_LETTERS_MAX + 2 }
     requires inside { start ≤ length w.now }
     requires uncovered { IsUncovered out.old }
-    ensures values { Raises (by_strings view.now w.now start 1) (values_of out.old) (values_of out.new) }
+    ensures values { Raises (by_strings view.now w.now start 1)
+        (values_of out.old) (values_of out.new) }
     ensures uncovered { IsUncovered out.new }
 {
     let _signs = view.signs();
@@ -50,7 +52,8 @@ fn take_list(view: &TableView<'_>, head: u32, start: usize, len: usize, out: &mu
     requires head { head ≤ (head_of view.now).records }
     requires start { start ≤ WORD_LETTERS_MAX + 2 }
     requires uncovered { IsUncovered out.old }
-    ensures values { Raises (by_record_list start len (list_in view.now head)) (values_of out.old) (values_of out.new) }
+    ensures values { Raises (by_record_list start len (list_in view.now head))
+        (values_of out.old) (values_of out.new) }
     ensures uncovered { IsUncovered out.new }
 {
     let mut at = head;
@@ -64,7 +67,8 @@ fn take_list(view: &TableView<'_>, head: u32, start: usize, len: usize, out: &mu
 fn raise(value: u8, dot: u8, start: usize, len: usize, out: &mut WordState)
     requires start { start ≤ WORD_LETTERS_MAX + 2 }
     requires uncovered { IsUncovered out.old }
-    ensures values { Raises (by_value start len (value, dot)) (values_of out.old) (values_of out.new) }
+    ensures values { Raises (by_value start len (value, dot))
+        (values_of out.old) (values_of out.new) }
     ensures uncovered { IsUncovered out.new }
 {
     let dot = usize::from(dot);

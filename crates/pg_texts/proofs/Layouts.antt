@@ -10,7 +10,7 @@ use Rattle.pg_driver.specs.declared.records.LevelRecord.{LevelRecord}
 use Rattle.pg_driver.specs.Sound.{Finished}
 use Rattle.pg_driver.specs.Layouts.{CellsAccount}
 use Rattle.pg_driver.specs.Told.{TellsCells}
-use Rattle.pg_texts.specs.Told.{HasLayouts, layout_there, pass_told, level_told, cells_told}
+use Rattle.pg_texts.specs.Inside.Told.{HasLayouts, layout_there, pass_told, level_told, cells_told}
 
 -- a value that is some is what the layout gives
 there : {A : Type 0} (f : Layout → A) (layout : Option Layout) (a : A) → option_map f layout ≡ Some a → f (layout_there layout) ≡ a

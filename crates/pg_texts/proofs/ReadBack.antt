@@ -8,10 +8,10 @@ use Rattle.pg_types.specs.declared.limits.TheConstants.{FILE_MAX, WORD_LETTERS_M
 use Rattle.pg_types.specs.declared.marks.Mark.{Mark}
 use Rattle.pg_translate.specs.Alphabets.{Alphabet, letters_of}
 use Rattle.pg_translate.specs.Tokens.{Token}
-use Rattle.pg_translate.specs.Items.{text_of_items}
+use Rattle.pg_translate.specs.Inside.Items.{text_of_items}
 use Rattle.pg_dict.specs.Word.{Word, IsWord, SignsAtMost}
 use Rattle.pg_dict.specs.Words.{line_reading, line_word, words}
-use Rattle.pg_dict.specs.Written.{AreMarksOf, word_tokens, letters_among, IsLine, file_of, LinesGive}
+use Rattle.pg_dict.specs.Inside.Written.{AreMarksOf, word_tokens, letters_among, IsLine, file_of, LinesGive}
 use Rattle.pg_select.specs.Windows.{Patterns}
 use Rattle.pg_texts.specs.PattmpTexts.{is_taking_part, words_taking_part, statuses, lines_behind, pattmp_text}
 use Rattle.pg_texts.proofs.WordItems.{IsDictionaryItem, SpellsLetters, inner_positions, word_items, word_items_tokens, word_items_joined, word_items_each, word_items_few}

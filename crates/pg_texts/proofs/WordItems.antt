@@ -11,10 +11,10 @@ use Rattle.pg_types.specs.declared.marks.Mark.{Mark}
 use Rattle.pg_types.specs.declared.marks.Mark.TheVariants.{Nothing, Error, Missed, Found, DontCare}
 use Rattle.pg_translate.specs.Alphabets.{Alphabet, letters_of, spelling_of, mark_byte_of}
 use Rattle.pg_translate.specs.Tokens.{Token, Letter, Digit, Weight, Marked, Edge}
-use Rattle.pg_translate.specs.Items.{IsItem, text_of_items}
+use Rattle.pg_translate.specs.Inside.Items.{IsItem, text_of_items}
 use Rattle.pg_translate.specs.declared.items.Place.TheVariants.{Dictionary}
 use Rattle.pg_dict.specs.Word.{Word, IsWord}
-use Rattle.pg_dict.specs.Written.{Written, mark_tokens, weight_tokens, number_token, letters_tokens, written_letters, between_letters, letters_with, word_tokens, letters_among}
+use Rattle.pg_dict.specs.Inside.Written.{Written, mark_tokens, weight_tokens, number_token, letters_tokens, written_letters, between_letters, letters_with, word_tokens, letters_among}
 use Rattle.pg_select.specs.Statuses.{position_weight}
 use Rattle.pg_texts.specs.PattmpTexts.{mark_text, weight_text, letter_text, position_text, word_text}
 use Rattle.pg_texts.proofs.Ranges.{same_over_range, part_of, each_append, each_over_range, map_pieces, shifted}

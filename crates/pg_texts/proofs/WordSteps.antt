@@ -13,7 +13,7 @@ use Rattle.pg_patterns.specs.Values.{value_at}
 use Rattle.pg_select.specs.Statuses.{status}
 use Rattle.pg_select.specs.Windows.{Patterns}
 use Rattle.pg_texts.proofs.Ranges.{same_over_range}
-use Rattle.pg_texts.specs.Found.{status_found}
+use Rattle.pg_texts.specs.Inside.Found.{status_found}
 use Rattle.pg_texts.specs.PattmpTexts.{is_taking_part, words_taking_part, weight_text, position_text, word_text, statuses, lines_behind, letter_text}
 
 -- one position more of a range

@@ -32,4 +32,5 @@ level_cells_text passes l = passes_cells_text passes l.0 ++ level_cells_line l
 
 -- the cells file
 abbrev pub cells_text : CellsAccount → List ℕ
-cells_text a = codes "start: " ++ layout_text a.start ++ flat_map (level_cells_text a.passes) a.levels
+cells_text a = codes "start: " ++ layout_text a.start
+    ++ flat_map (level_cells_text a.passes) a.levels

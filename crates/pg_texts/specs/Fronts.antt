@@ -4,7 +4,8 @@ use Rattle.pg_select.specs.declared.pass.Pass.{Pass}
 
 -- `pass LEVEL LEN DOT: `
 abbrev pub pass_front : Pass → List ℕ
-pass_front p = codes "pass " ++ decimal p.level ++ codes " " ++ decimal p.len ++ codes " " ++ decimal p.dot ++ codes ": "
+pass_front p = codes "pass " ++ decimal p.level ++ codes " "
+    ++ decimal p.len ++ codes " " ++ decimal p.dot ++ codes ": "
 
 -- `level LEVEL: `
 abbrev pub level_front : ℕ → List ℕ

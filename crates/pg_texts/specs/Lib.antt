@@ -2,5 +2,4 @@ pub mod Fronts
 pub mod ReportTexts
 pub mod PattmpTexts
 pub mod CellsTexts
-pub mod Told
-pub mod Found
+pub mod Inside

@@ -28,7 +28,8 @@ mark_text t mark = mark_byte_of t mark ∷ []
 
 -- a weight: a digit, or a greater number in braces
 abbrev pub number_text : ℕ → List ℕ
-number_text weight = if nat_lt weight 10 then decimal weight else codes "{" ++ decimal weight ++ codes "}"
+number_text weight = if nat_lt weight 10 then decimal weight
+    else codes "{" ++ decimal weight ++ codes "}"
 
 -- a weight where it differs from another
 abbrev pub weight_text : ℕ → ℕ → List ℕ
@@ -38,28 +39,34 @@ weight_text other weight = if weight == other then [] else number_text weight
 abbrev pub letter_text : Alphabet → Word → ℕ → List ℕ
 letter_text t w p = spelling_of t (slice_index w.signs (p - 1))
 
--- a position between two letters: the letter before it, its mark, and its weight where it is not the word's
+-- a position between two letters: the letter before it, its mark, and its weight where it is not
+-- the word's
 abbrev pub position_text : Alphabet → (ℕ → Mark) → Word → ℕ → List ℕ
-position_text t marks w p = letter_text t w p ++ mark_text t (marks p) ++ weight_text w.weight (position_weight w p)
+position_text t marks w p = letter_text t w p ++ mark_text t (marks p)
+    ++ weight_text w.weight (position_weight w p)
 
--- a word of n letters, where its positions have these marks: the positions 2 to n, which stand between two letters, and then the
--- last letter
+-- a word of n letters, where its positions have these marks: the positions 2 to n, which stand
+-- between two letters, and then the last letter
 abbrev pub word_text : Alphabet → (ℕ → Mark) → Word → List ℕ
-word_text t marks w = flat_map (position_text t marks w) (range_with_len 2 (length w.signs - 3)) ++ letter_text t w (length w.signs - 1) ++ codes "\n"
+word_text t marks w = flat_map (position_text t marks w) (range_with_len 2 (length w.signs - 3))
+    ++ letter_text t w (length w.signs - 1) ++ codes "\n"
 
 -- the status of each position of a word, in reach or not
 abbrev pub statuses : Alphabet → Patterns → Word → ℕ → Mark
 statuses t P w = status_of_position (minima_of t) P w
 
--- a line for each word, behind a line with this word weight: the word's weight where it is another, and the word
+-- a line for each word, behind a line with this word weight: the word's weight where it is another,
+-- and the word
 abbrev pub lines_behind : Alphabet → Patterns → ℕ → List Word → List ℕ
 lines_behind t P weight [] = []
-lines_behind t P weight (w ∷ ws) = weight_text weight w.weight ++ word_text t (statuses t P w) w ++ lines_behind t P w.weight ws
+lines_behind t P weight (w ∷ ws) = weight_text weight w.weight
+    ++ word_text t (statuses t P w) w ++ lines_behind t P w.weight ws
 
 -- the list: a line for each word that takes part
 abbrev pub pattmp_text : Alphabet → Patterns → List Word → List ℕ
 pattmp_text t P words = lines_behind t P 1 (words_taking_part t words)
 
--- a text of at most 2^26 bytes is a dictionary file, under the table, of those of the words that take part
+-- a text of at most 2^26 bytes is a dictionary file, under the table, of those of the words that
+-- take part
 abbrev pub ReadsBack : Alphabet → List Word → List ℕ → Type 0
 ReadsBack t words text = length text ≤ FILE_MAX → words_of t text ≡ Ok (words_taking_part t words)

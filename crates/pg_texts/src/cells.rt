@@ -4,7 +4,7 @@ ghost use Rattle.std.specs.List.{flat_map};
 ghost use Rattle.pg_driver.specs.Layouts.{CellsAccount};
 ghost use Rattle.pg_driver.specs.Told.{TellsCells};
 ghost use Rattle.pg_texts.specs.CellsTexts as cells;
-ghost use Rattle.pg_texts.specs.Told.{HasLayouts, layout_there, pass_told, level_told, cells_told};
+ghost use Rattle.pg_texts.specs.Inside.Told.{HasLayouts, layout_there, pass_told, level_told, cells_told};
 
 use crate::fronts::{push_level_front, push_pass_front};
 use crate::numbers::push_number;
@@ -25,7 +25,8 @@ fn layout_of(layout: Option<Layout>) -> Layout
 
 /// Appends how many cells are used, and the greatest of them.
 fn push_used(text: &mut Vec<u8>, layout: &Layout) -> Result<(), AllocError>
-    ensures { OnOk result (text.new.items ≡ text.old.items ++ cells.used_text layout.now.taken layout.now.top) }
+    ensures { OnOk result
+        (text.new.items ≡ text.old.items ++ cells.used_text layout.now.taken layout.now.top) }
 {
     push_number(text, b"", layout.taken)?;
     push_number(text, b" taken, top ", layout.top)
@@ -43,7 +44,8 @@ fn push_layout(text: &mut Vec<u8>, layout: &Layout) -> Result<(), AllocError>
 /// Appends the line of a pass.
 fn push_pass(text: &mut Vec<u8>, pass: &PassRecord) -> Result<(), AllocError>
     requires { IsSome pass.now.layout }
-    ensures { OnOk result (text.new.items ≡ text.old.items ++ cells.pass_cells_text (pass_told pass.now)) }
+    ensures { OnOk result
+        (text.new.items ≡ text.old.items ++ cells.pass_cells_text (pass_told pass.now)) }
 {
     push_pass_front(text, pass.level, pass.len, pass.dot)?;
     push_used(text, &layout_of(pass.layout))?;
@@ -67,7 +69,8 @@ fn push_passes(text: &mut Vec<u8>, passes: &[PassRecord], level: u8) -> Result<(
 /// Appends the line of a level.
 fn push_level(text: &mut Vec<u8>, level: &LevelRecord) -> Result<(), AllocError>
     requires { IsSome level.now.layout }
-    ensures { OnOk result (text.new.items ≡ text.old.items ++ cells.level_cells_line (level_told level.now)) }
+    ensures { OnOk result
+        (text.new.items ≡ text.old.items ++ cells.level_cells_line (level_told level.now)) }
 {
     push_level_front(text, level.level)?;
     push_layout(text, &layout_of(level.layout))
@@ -82,7 +85,8 @@ fn push_levels(
     requires passes { All (λ p. IsSome p.layout) passes.now }
     requires levels { All (λ l. IsSome l.layout) levels.now }
     ensures { OnOk result (text.new.items
-        ≡ text.old.items ++ flat_map (cells.level_cells_text (map pass_told passes.now)) (map level_told levels.now)) }
+        ≡ text.old.items ++ flat_map (cells.level_cells_text (map pass_told passes.now))
+        (map level_told levels.now)) }
 {
     'levels: for level in levels {
         push_passes(text, passes, level.level)?;
@@ -91,8 +95,9 @@ fn push_levels(
     Ok(())
 }
 
-/// The cells file of a run whose layouts are all there: the layout before the first level, then for each pass that has a candidate
-/// how many cells are used and the greatest of them, and the layout after each level.
+/// The cells file of a run whose layouts are all there: the layout before the first level, then for
+/// each pass that has a candidate how many cells are used and the greatest of them, and the layout
+/// after each level.
 pub fn cells_text(alloc: Global, run: &Run) -> Result<Vec<u8>, AllocError>
     requires { HasLayouts run.now }
     ensures told { IfOk result (λ text. text.items ≡ cells.cells_text (cells_told run.now)) }

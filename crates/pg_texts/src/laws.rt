@@ -9,10 +9,12 @@ use pg_dict::laws::{files_are_read, items_are_lines, lines_are_read, words_are_r
 use pg_translate::laws::items_are_read;
 use pg_translate::{Place, Table};
 
-/// The hyphenated list of words, by any patterns, is a dictionary file of those that take part, under the same table: with their
-/// hyphens, their cares, their weights and their word weights. It must have at most 2^26 bytes.
+/// The hyphenated list of words, by any patterns, is a dictionary file of those that take part,
+/// under the same table: with their hyphens, their cares, their weights and their word weights. It
+/// must have at most 2^26 bytes.
 pub fn lists_are_read(table: &Table)
-    ensures { (P : Patterns) (words : List Word) → All IsWord words → SignsAtMost (letters_of table.now + 1) words
+    ensures { (P : Patterns) (words : List Word) → All IsWord words
+        → SignsAtMost (letters_of table.now + 1) words
         → ReadsBack table.now words (pattmp_text table.now P words) }
 {
     items_are_read(table, Place::Dictionary);

@@ -26,8 +26,8 @@ fn push_hundredths(text: &mut Vec<u8>, front: &[u8], n: u64) -> Result<(), Alloc
     push_number(text, b"", n % 10)
 }
 
-/// Appends the line of rates: the shares of the hyphens in reach in percent, cut after two digits. There is none where no hyphen
-/// is in reach.
+/// Appends the line of rates: the shares of the hyphens in reach in percent, cut after two digits.
+/// There is none where no hyphen is in reach.
 fn push_rates(text: &mut Vec<u8>, totals: &Totals) -> Result<(), AllocError>
     requires { IsSmall totals.now }
     ensures { OnOk result (text.new.items ≡ text.old.items ++ rate_text totals.now) }

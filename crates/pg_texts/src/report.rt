@@ -22,9 +22,11 @@ fn push_warning_line(text: &mut Vec<u8>, value: u8, level: u8) -> Result<(), All
     Ok(())
 }
 
-/// Appends the warning, where a level is run and the greatest starting value is not below the first one.
+/// Appends the warning, where a level is run and the greatest starting value is not below the first
+/// one.
 fn push_warning(text: &mut Vec<u8>, largest: u8, params: &Params) -> Result<(), AllocError>
-    ensures { OnOk result (text.new.items ≡ text.old.items ++ report.warning_text largest params.now) }
+    ensures { OnOk result
+        (text.new.items ≡ text.old.items ++ report.warning_text largest params.now) }
 {
     let start = params.start();
     if start <= params.finish() && start <= largest {
@@ -36,7 +38,8 @@ fn push_warning(text: &mut Vec<u8>, largest: u8, params: &Params) -> Result<(), 
 /// Appends how many candidates a pass has, and how many of them are chosen, hopeless and left.
 fn push_counts(text: &mut Vec<u8>, pass: &PassRecord) -> Result<(), AllocError>
     requires { IsSoundPass pass.now }
-    ensures { OnOk result (text.new.items ≡ text.old.items ++ report.counts_text (line_of pass.now)) }
+    ensures { OnOk result
+        (text.new.items ≡ text.old.items ++ report.counts_text (line_of pass.now)) }
 {
     let left = pass.candidates - pass.chosen - pass.hopeless;
     push_number(text, b"", pass.candidates)?;
@@ -73,7 +76,8 @@ fn push_pass(text: &mut Vec<u8>, pass: &PassRecord) -> Result<(), AllocError>
 /// Appends the lines of the passes of a level.
 fn push_passes(text: &mut Vec<u8>, passes: &[PassRecord], level: u8) -> Result<(), AllocError>
     requires { All IsSoundPass passes.now }
-    ensures { OnOk result (text.new.items ≡ text.old.items ++ report.passes_text (map line_of passes.now) level) }
+    ensures { OnOk result
+        (text.new.items ≡ text.old.items ++ report.passes_text (map line_of passes.now) level) }
 {
     'passes: for pass in passes {
         if pass.level == level {
@@ -85,7 +89,8 @@ fn push_passes(text: &mut Vec<u8>, passes: &[PassRecord], level: u8) -> Result<(
 
 /// Appends the line of a level.
 fn push_level(text: &mut Vec<u8>, level: &LevelRecord) -> Result<(), AllocError>
-    ensures { OnOk result (text.new.items ≡ text.old.items ++ report.level_line_text (level_line_of level.now)) }
+    ensures { OnOk result
+        (text.new.items ≡ text.old.items ++ report.level_line_text (level_line_of level.now)) }
 {
     push_level_front(text, level.level)?;
     push_number(text, b"", level.chosen)?;
@@ -102,7 +107,8 @@ fn push_levels(
 ) -> Result<(), AllocError>
     requires { All IsSoundPass passes.now }
     ensures { OnOk result (text.new.items
-        ≡ text.old.items ++ flat_map (report.level_text (map line_of passes.now)) (map level_line_of levels.now)) }
+        ≡ text.old.items ++ flat_map (report.level_text (map line_of passes.now))
+        (map level_line_of levels.now)) }
 {
     'levels: for level in levels {
         push_passes(text, passes, level.level)?;
@@ -111,15 +117,17 @@ fn push_levels(
     Ok(())
 }
 
-/// The report of a run, where `largest` is the greatest starting value: a warning where that is not below the first level that is
-/// run, a line for each pass that has a candidate and for each level, and the totals with their rates.
+/// The report of a run, where `largest` is the greatest starting value: a warning where that is not
+/// below the first level that is run, a line for each pass that has a candidate and for each level,
+/// and the totals with their rates.
 pub fn report_text(
     alloc: Global,
     largest: u8,
     params: &Params,
     run: &Run,
 ) -> Result<Vec<u8>, AllocError>
-    ensures { IfOk result (λ text. text.items ≡ report.report_text largest params.now (account_of run.now)) }
+    ensures { IfOk result
+        (λ text. text.items ≡ report.report_text largest params.now (account_of run.now)) }
 {
     let mut text = Vec::new(alloc);
     push_warning(&mut text, largest, params)?;

@@ -3,9 +3,9 @@ ghost use Rattle.std.specs.Prelude.{◌≡◌, ◌<◌, ◌≤◌, ◌+◌, ◌-
 ghost use Rattle.pg_types.specs.declared.limits.TheConstants.{WORD_LETTERS_MAX, WEIGHT_MAX};
 ghost use Rattle.pg_translate.specs.Alphabets.{letters_of};
 ghost use Rattle.pg_dict.specs.Word.{IsWord};
-ghost use Rattle.pg_dict.specs.Lent.{lent_word};
+ghost use Rattle.pg_dict.specs.Inside.Lent.{lent_word};
 ghost use Rattle.pg_texts.specs.PattmpTexts as pattmp;
-ghost use Rattle.pg_texts.specs.Found.{status_found};
+ghost use Rattle.pg_texts.specs.Inside.Found.{status_found};
 
 use crate::numbers::push_number;
 use pg_dict::WordRef;
@@ -41,7 +41,8 @@ fn push_mark(text: &mut Vec<u8>, table: &Table, mark: Mark) -> Result<(), AllocE
     Ok(())
 }
 
-/// The status of position `p`, where `reach` has the first and the last position in reach. Out of reach the value counts as 0.
+/// The status of position `p`, where `reach` has the first and the last position in reach. Out of
+/// reach the value counts as 0.
 fn status_at(word: WordRef<'_>, found: &WordState, reach: (usize, usize), p: usize) -> Mark
     requires within { p < length word.signs.now }
     requires short { length word.signs.now ≤ WORD_LETTERS_MAX + 2 }
@@ -55,7 +56,8 @@ fn status_at(word: WordRef<'_>, found: &WordState, reach: (usize, usize), p: usi
     status(word.hyphens[p], word.cares[p], value)
 }
 
-/// Appends the letter before position `p`, the mark of the position, and its weight where it is not the word's.
+/// Appends the letter before position `p`, the mark of the position, and its weight where it is not
+/// the word's.
 fn push_position(
     text: &mut Vec<u8>,
     table: &Table,
@@ -75,8 +77,8 @@ fn push_position(
     push_weight(text, word.weight, word.weights[p])
 }
 
-/// Appends the line of a word: its letters, and behind each but the last the mark of its position, and the weight of that where it
-/// is not the word's.
+/// Appends the line of a word: its letters, and behind each but the last the mark of its position,
+/// and the weight of that where it is not the word's.
 pub fn push_word(
     text: &mut Vec<u8>,
     table: &Table,

@@ -10,8 +10,8 @@ use Rattle.pg_translate.specs.declared.index.Index.{Index}
 use Rattle.pg_translate.specs.declared.spellings.Text.{Text}
 use Rattle.pg_translate.specs.Alphabets.{letters_in, first_of}
 use Rattle.pg_translate.specs.Spellings.{clash, IsAmong}
-use Rattle.pg_translate.specs.Texts.{text_of}
-use Rattle.pg_translate.specs.Fronts.{IsIndex, AreBytes, pairs, firsts_of, front_at, front_of, front_in, front_code}
+use Rattle.pg_translate.specs.Inside.Texts.{text_of}
+use Rattle.pg_translate.specs.Inside.Fronts.{IsIndex, AreBytes, pairs, firsts_of, front_at, front_of, front_in, front_code}
 use Rattle.pg_translate.proofs.Fronts.{front_in-push, IsAmong-push, list_any_at}
 use Rattle.pg_translate.proofs.Walks.{AreApart}
 

@@ -13,8 +13,8 @@ use Rattle.pg_translate.specs.Spellings.{begins_well, IsAmong}
 use Rattle.std.specs.Char.{is_ascii_digit}
 use Rattle.pg_translate.specs.Tokens.{Token, Letter, Digit, Weight, Marked, Edge, letter_at, digit_at, weight_at, weight_from, weight_end, mark_at, edge_at, item_at}
 use Rattle.pg_translate.specs.Cuts.{Placed, Cut, cut_from, with_item}
-use Rattle.pg_translate.specs.Items.{IsItem, IsWeight, IsMark, IsCut, IsPrefix, IsLongest, items_at, text_of_items, decimal_value}
-use Rattle.pg_translate.specs.Rules.{KeepsRules}
+use Rattle.pg_translate.specs.Inside.Items.{IsItem, IsWeight, IsMark, IsCut, IsPrefix, IsLongest, items_at, text_of_items, decimal_value}
+use Rattle.pg_translate.specs.Inside.Rules.{KeepsRules}
 use Rattle.pg_translate.proofs.Prefixes.{begins_front, begins_within}
 use Rattle.pg_translate.proofs.Firsts.{find_among, found_passes}
 use Rattle.pg_translate.proofs.Cuts.{cut_item, cut_none}

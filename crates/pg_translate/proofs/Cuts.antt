@@ -4,7 +4,7 @@ use Rattle.pg_translate.specs.declared.items.Place.{Place}
 use Rattle.pg_translate.specs.Alphabets.{Alphabet}
 use Rattle.pg_translate.specs.Tokens.{Token, item_at}
 use Rattle.pg_translate.specs.Cuts.{cut_from, with_item}
-use Rattle.pg_translate.specs.Answers.{HasItem, HasNoItem}
+use Rattle.pg_translate.specs.Inside.Answers.{HasItem, HasNoItem}
 
 -- the bytes of an item are passed over
 pub cut_skip : (t : Alphabet) (place : Place) (column skip : ℕ) (text : List ℕ) → skip ≤ length text → cut_from t place column skip text ≡ cut_from t place (column + skip) zero (drop skip text)

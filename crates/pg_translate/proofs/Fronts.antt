@@ -6,7 +6,7 @@ use Rattle.std.proofs.lemmas.Bool.{and_parts, and_cases, or_parts, or_from, or_l
 use Rattle.pg_translate.specs.declared.index.Front.{Front}
 use Rattle.pg_translate.specs.declared.index.Front.TheVariants.{Inside, Whole}
 use Rattle.pg_translate.specs.Spellings.{clash, IsAmong}
-use Rattle.pg_translate.specs.Fronts.{front_of, front_in}
+use Rattle.pg_translate.specs.Inside.Fronts.{front_of, front_in}
 use Rattle.pg_translate.proofs.Prefixes.{begins_both, begins_equal}
 
 -- a choice is one of its two values

@@ -15,8 +15,8 @@ use Rattle.pg_translate.specs.Spellings.{is_space, may_begin, begins_well, IsAmo
 use Rattle.std.specs.Char.{is_ascii_digit}
 use Rattle.pg_translate.specs.Tables.{check, mark_fails, mark_checks_from, mark_checks}
 use Rattle.pg_translate.specs.Tokens.{Token, Letter, Digit, Weight, Marked, Edge, letter_at, weight_from, mark_at, item_at}
-use Rattle.pg_translate.specs.Items.{IsItem, IsWeight, IsMark, decimal_value}
-use Rattle.pg_translate.specs.Rules.{KeepsRules}
+use Rattle.pg_translate.specs.Inside.Items.{IsItem, IsWeight, IsMark, decimal_value}
+use Rattle.pg_translate.specs.Inside.Rules.{KeepsRules}
 use Rattle.pg_translate.proofs.Prefixes.{begins-append}
 use Rattle.pg_translate.proofs.Fronts.{find_begins, find_none}
 

@@ -11,7 +11,7 @@ use Rattle.pg_types.specs.Reading.{Fails, first_refusal}
 use Rattle.pg_translate.specs.declared.index.Index.{Index}
 use Rattle.pg_translate.specs.Alphabets.{letters_in}
 use Rattle.pg_translate.specs.Tables.{ListedSpelling, first_failure, spelling_with_sign, spelling_check, spelling_checks, spellings_at, spellings_from, with_line_spellings, line_pieces, pieces_of, delimited_pieces}
-use Rattle.pg_translate.specs.Fronts.{IsIndex, pairs}
+use Rattle.pg_translate.specs.Inside.Fronts.{IsIndex, pairs}
 
 -- checks that pass leave those behind them
 pub outcome_passed : (before after : List Refusal) → first_failure before ≡ Ok tt → first_failure (before ++ after) ≡ first_failure after

@@ -9,13 +9,13 @@ use Rattle.pg_translate.specs.declared.items.Place.{Place}
 use Rattle.pg_translate.specs.Alphabets.{Alphabet, letters_of, letters_in, first_spelling, spelling_of, first_of}
 use Rattle.pg_translate.specs.Spellings.{is_spelling, IsAmong}
 use Rattle.pg_translate.specs.Tokens.{Letter}
-use Rattle.pg_translate.specs.Items.{IsItem}
-use Rattle.pg_translate.specs.Rules.{KeepsRules}
+use Rattle.pg_translate.specs.Inside.Items.{IsItem}
+use Rattle.pg_translate.specs.Inside.Rules.{KeepsRules}
 use Rattle.pg_translate.specs.declared.head.Head.{Head}
-use Rattle.pg_translate.specs.Heads.{head_marks}
-use Rattle.pg_translate.specs.Sound.{IsTable}
-use Rattle.pg_translate.specs.Fronts.{IsIndex, pairs, firsts_of}
-use Rattle.pg_translate.specs.Texts.{text_of}
+use Rattle.pg_translate.specs.Inside.Heads.{head_marks}
+use Rattle.pg_translate.specs.Inside.Sound.{IsTable}
+use Rattle.pg_translate.specs.Inside.Fronts.{IsIndex, pairs, firsts_of}
+use Rattle.pg_translate.specs.Inside.Texts.{text_of}
 use Rattle.pg_translate.proofs.Firsts.{find_among, found_passes}
 use Rattle.pg_translate.proofs.Walks.{sign_within}
 

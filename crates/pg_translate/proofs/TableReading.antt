@@ -14,9 +14,9 @@ use Rattle.pg_translate.specs.declared.head.Head.{Head}
 use Rattle.pg_translate.specs.declared.index.Index.{Index}
 use Rattle.pg_translate.specs.Spellings.{is_spelling, clash}
 use Rattle.pg_translate.specs.Tables.{ListedSpelling, check, first_failure, spelling_with_sign, spelling_check, spelling_checks, spellings_from, head_checks, marks_of, alphabet_of, table, table_of, default_alphabet}
-use Rattle.pg_translate.specs.Heads.{IsHead, IsSoundHead, head_marks}
-use Rattle.pg_translate.specs.Sound.{IsTable}
-use Rattle.pg_translate.specs.Fronts.{IsIndex, pairs}
+use Rattle.pg_translate.specs.Inside.Heads.{IsHead, IsSoundHead, head_marks}
+use Rattle.pg_translate.specs.Inside.Sound.{IsTable}
+use Rattle.pg_translate.specs.Inside.Fronts.{IsIndex, pairs}
 
 -- a check that fails nowhere is a test that is false
 check_none : (fails : Bool) (kind : Kind) (line column : ℕ) → check fails kind line column ≡ [] → fails ≡ false

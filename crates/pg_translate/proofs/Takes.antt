@@ -7,7 +7,7 @@ use Rattle.pg_translate.specs.declared.items.Place.TheVariants.{Dictionary, Patt
 use Rattle.pg_translate.specs.Alphabets.{Alphabet}
 use Rattle.std.specs.Char.{is_ascii_digit}
 use Rattle.pg_translate.specs.Tokens.{Token, Digit, Marked, letter_at, digit_at, weight_at, mark_at, item_at}
-use Rattle.pg_translate.specs.Answers.{HasItem}
+use Rattle.pg_translate.specs.Inside.Answers.{HasItem}
 
 -- an item of one byte
 pub takes_one : (t : Alphabet) (place : Place) (text : List ℕ) (token : Token) → item_at t place text ≡ Some (token, 1) → (length text == 0) ≡ false → HasItem t place text token (take (length text - 1) (drop 1 text))

@@ -8,7 +8,7 @@ use Rattle.pg_translate.specs.Alphabets.{letters_in}
 use Rattle.pg_translate.specs.Spellings.{clash, IsAmong}
 use Rattle.pg_translate.specs.Tokens.{Letter, letter_at}
 use Rattle.pg_translate.specs.declared.index.Index.{Index}
-use Rattle.pg_translate.specs.Fronts.{AreBytes, IsIndex, pairs, front_code, front_at, front_in}
+use Rattle.pg_translate.specs.Inside.Fronts.{AreBytes, IsIndex, pairs, front_code, front_at, front_in}
 use Rattle.pg_translate.proofs.Codes.{code_more, code_small, code_least}
 use Rattle.pg_translate.proofs.Prefixes.{begins_front, begins_within, begins-take, begins_take, begins_less}
 use Rattle.pg_translate.proofs.Fronts.{IsInside, whole_in, inside_in, nothing_in, find_none, find_begins, list_any_none, list_any_some, apart_equal}

@@ -4,7 +4,8 @@ use Rattle.pg_types.specs.declared.limits.TheConstants.{EDGE}
 use Rattle.pg_types.specs.declared.marks.Mark.{Mark}
 use Rattle.pg_types.specs.declared.marks.Mark.TheVariants.{Nothing, Error, Missed, Found, DontCare}
 
--- the minima, the bytes for an erroneous, a missed, a found and a don't-care position, and the spellings, each with its sign, in the order of the file
+-- the minima, the bytes for an erroneous, a missed, a found and a don't-care position, and the
+-- spellings, each with its sign, in the order of the file
 pub record Alphabet : Type 0 where
   pub left : ℕ
   pub right : ℕ
@@ -21,7 +22,8 @@ letters_of t = letters_in t.spellings
 
 -- the first spelling of a letter, where it has one
 abbrev pub first_of : List (ℕ × List ℕ) → ℕ → Option (List ℕ)
-first_of spellings sign = option_map (λ spelling. spelling.1) (find (λ spelling. spelling.0 == sign) spellings)
+first_of spellings sign = option_map (λ spelling. spelling.1)
+    (find (λ spelling. spelling.0 == sign) spellings)
 
 -- the first spelling of a letter that has one
 abbrev pub first_spelling : List (ℕ × List ℕ) → ℕ → List ℕ

@@ -17,7 +17,12 @@ pub record Cut : Type 0 where
 
 -- a cut with one item more before it
 abbrev pub with_item : ℕ → Token → Cut → Cut
-with_item column token c = record { items = record { column = column; token = token } ∷ c.items; column = c.column; rest = c.rest }
+with_item column token c =
+    record {
+      items = record { column = column; token = token } ∷ c.items;
+      column = c.column;
+      rest = c.rest;
+    }
 
 -- the cut at a column: that behind the item that begins there, or nothing where none does
 abbrev pub cut_at : ℕ → List ℕ → Option (Token × ℕ) → (ℕ → Cut) → Cut
@@ -28,7 +33,9 @@ cut_at column text (Some item) behind = with_item column item.0 (behind (item.1 
 abbrev pub cut_from : Alphabet → Place → ℕ → ℕ → List ℕ → Cut
 cut_from t place column skip [] = record { items = []; column = column; rest = [] }
 cut_from t place column (suc skip) (b ∷ bs) = cut_from t place (column + 1) skip bs
-cut_from t place column zero (b ∷ bs) = cut_at column (b ∷ bs) (item_at t place (b ∷ bs)) (λ more. cut_from t place (column + 1) more bs)
+cut_from t place column zero (b ∷ bs) =
+    cut_at column (b ∷ bs) (item_at t place (b ∷ bs))
+    (λ more. cut_from t place (column + 1) more bs)
 
 -- the longest cut of a line
 abbrev pub cut : Alphabet → Place → List ℕ → Cut

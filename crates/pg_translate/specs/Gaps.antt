@@ -23,7 +23,8 @@ signs_of items = filter_map sign_of items
 abbrev pub is_sign_item : Token → Bool
 is_sign_item item = is_some (sign_of item)
 
--- the gaps of a line: the items before its first sign, between each two signs, and behind its last sign
+-- the gaps of a line: the items before its first sign, between each two signs, and behind its last
+-- sign
 abbrev pub gaps : List Token → List (List Token)
 gaps items = slice_split is_sign_item items
 

@@ -6,10 +6,4 @@ pub mod Cuts
 pub mod Gaps
 pub mod LineRefusals
 pub mod Reach
-pub mod Answers
-pub mod Texts
-pub mod Fronts
-pub mod Sound
-pub mod Items
-pub mod Rules
-pub mod Heads
+pub mod Inside

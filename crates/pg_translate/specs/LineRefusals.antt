@@ -43,16 +43,22 @@ sign_columns c = filter_map sign_column c.items
 
 -- the refusal where the cut of a line stops, unless that is at its end or before a blank or TAB
 abbrev pub stop_refusal : Place → ℕ → Cut → Option Refusal
-stop_refusal place line c = if is_ended c.rest then None else Some (refused line (bad_kind place c.rest) c.column)
+stop_refusal place line c = if is_ended c.rest then None
+    else Some (refused line (bad_kind place c.rest) c.column)
 
--- the refusal of a line in which so many signs may still come: that of the sign too many, else where its cut stops
+-- the refusal of a line in which so many signs may still come: that of the sign too many, else
+-- where its cut stops
 abbrev pub refusal_with_room : Place → ℕ → ℕ → Cut → Option Refusal
-refusal_with_room place line room c = option_or (option_map (refused line (long_kind place)) (slice_get (sign_columns c) room)) (stop_refusal place line c)
+refusal_with_room place line room c =
+    option_or (option_map (refused line (long_kind place)) (slice_get (sign_columns c) room))
+    (stop_refusal place line c)
 
 -- the refusal of a whole line
 abbrev pub line_refusal : Place → ℕ → Cut → Option Refusal
 line_refusal place line c = refusal_with_room place line (signs_max place) c
 
 -- what the items of a line give, or its refusal
-abbrev pub of_line : {X : Type 0} → (List Token → X) → Alphabet → Place → ℕ → List ℕ → Result X Refusal
-of_line give t place line text = let c = cut t place text in unless (line_refusal place line c) (give (tokens_of c))
+abbrev pub of_line : {X : Type 0} → (List Token → X)
+    → Alphabet → Place → ℕ → List ℕ → Result X Refusal
+of_line give t place line text = let c = cut t place text in
+    unless (line_refusal place line c) (give (tokens_of c))

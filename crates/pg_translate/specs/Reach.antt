@@ -3,10 +3,13 @@ use Rattle.std.specs.Prelude.{ℕ, ◌+◌, ◌-◌, nat_le, if◌then◌else◌
 use Rattle.std.specs.Option.{option_map_or}
 use Rattle.std.specs.List.{range_with_len}
 
--- the first and the last position in reach of a word of so many signs; none where the word takes no part, as it has fewer letters than both minima together
+-- the first and the last position in reach of a word of so many signs; none where the word takes no
+-- part, as it has fewer letters than both minima together
 abbrev pub reach : ℕ → ℕ → ℕ → Option (ℕ × ℕ)
-reach left right signs = if nat_le (left + right + 2) signs then Some (left + 1, signs - right - 1) else None
+reach left right signs = if nat_le (left + right + 2) signs then Some (left + 1, signs - right - 1)
+    else None
 
 -- the positions in reach of a word of so many signs, in order
 abbrev pub positions : ℕ → ℕ → ℕ → List ℕ
-positions left right signs = option_map_or (λ ends. range_with_len ends.0 (ends.1 + 1 - ends.0)) (reach left right signs) []
+positions left right signs = option_map_or (λ ends. range_with_len ends.0 (ends.1 + 1 - ends.0))
+    (reach left right signs) []

@@ -10,7 +10,8 @@ is_space b = b == 32 || b == 9 || b == 10 || b == 13
 
 -- whether a spelling may begin with a byte: it is no digit, dot, brace or mark
 abbrev pub may_begin : List ℕ → ℕ → Bool
-may_begin marks b = not (is_ascii_digit b || b == 46 || b == 123 || list_any (λ mark. mark == b) marks)
+may_begin marks b = not
+    (is_ascii_digit b || b == 46 || b == 123 || list_any (λ mark. mark == b) marks)
 
 -- whether the first byte of a text may begin a spelling
 abbrev pub begins_well : List ℕ → List ℕ → Bool
@@ -19,11 +20,13 @@ begins_well marks (b ∷ bs) = may_begin marks b
 
 -- whether a text may be a spelling beside these marks
 abbrev pub is_spelling : List ℕ → List ℕ → Bool
-is_spelling marks text = nat_le (length text) SPELLING_MAX && begins_well marks text && not (list_any is_space text)
+is_spelling marks text = nat_le (length text) SPELLING_MAX
+    && begins_well marks text && not (list_any is_space text)
 
 -- two spellings clash where one begins with the other, unless they are equal and of one letter
 abbrev pub clash : ℕ × List ℕ → ℕ × List ℕ → Bool
-clash s t = (starts_with nat_eq s.1 t.1 || starts_with nat_eq t.1 s.1) && not (s.0 == t.0 && length s.1 == length t.1)
+clash s t = (starts_with nat_eq s.1 t.1 || starts_with nat_eq t.1 s.1)
+    && not (s.0 == t.0 && length s.1 == length t.1)
 
 -- a spelling is among some
 abbrev pub IsAmong : ℕ × List ℕ → List (ℕ × List ℕ) → Type 0

@@ -14,7 +14,8 @@ use Rattle.std.specs.Char.{is_ascii_digit}
 
 -- a refusal with its place, where a check fails
 abbrev pub check : Bool → Kind → ℕ → ℕ → List Refusal
-check fails kind line column = if fails then record { kind = kind; line = line; column = column } ∷ [] else []
+check fails kind line column = if fails
+    then record { kind = kind; line = line; column = column } ∷ [] else []
 
 -- whether all checks pass, or the refusal of the first that fails
 abbrev pub first_failure : List Refusal → Result (Unit {0}) Refusal
@@ -32,16 +33,19 @@ pair_at head column = (in_column head column, in_column head (column + 1))
 abbrev pub is_blank_pair : ℕ × ℕ → Bool
 is_blank_pair pair = pair.0 == 32 && pair.1 == 32
 
--- the value of a digit and a blank, a blank and a digit, or two digits; 0, which is no minimum, for other pairs
+-- the value of a digit and a blank, a blank and a digit, or two digits; 0, which is no minimum, for
+-- other pairs
 abbrev pub pair_value : ℕ → ℕ → ℕ
 pair_value first second =
     if is_ascii_digit first
-    then (if is_ascii_digit second then (first - 48) * 10 + (second - 48) else if second == 32 then first - 48 else 0)
+    then (if is_ascii_digit second then (first - 48) * 10 + (second - 48)
+    else if second == 32 then first - 48 else 0)
     else if first == 32 && is_ascii_digit second then second - 48 else 0
 
 -- a pair fails where it is blank and the other is not, or where it is not blank and no minimum
 abbrev pub pair_fails : ℕ × ℕ → ℕ × ℕ → Bool
-pair_fails pair other = if is_blank_pair pair then not (is_blank_pair other) else pair_value pair.0 pair.1 == 0
+pair_fails pair other = if is_blank_pair pair then not (is_blank_pair other)
+    else pair_value pair.0 pair.1 == 0
 
 -- the minimum of a pair; two blanks mean a default
 abbrev pub minimum : ℕ × ℕ → ℕ → ℕ
@@ -60,16 +64,20 @@ mark_in head column default = if in_column head column == 32 then default else i
 
 -- the bytes for an erroneous, a missed, a found and a don't-care position
 abbrev pub marks_of : List ℕ → List ℕ
-marks_of head = mark_in head 5 DEFAULT_ERROR ∷ mark_in head 6 DEFAULT_MISSED ∷ mark_in head 7 DEFAULT_FOUND ∷ mark_in head 8 DEFAULT_DONT_CARE ∷ []
+marks_of head = mark_in head 5 DEFAULT_ERROR ∷ mark_in head 6 DEFAULT_MISSED
+    ∷ mark_in head 7 DEFAULT_FOUND ∷ mark_in head 8 DEFAULT_DONT_CARE ∷ []
 
 -- a mark is no digit, blank, TAB, LF, CR or brace, and differs from those before it
 abbrev pub mark_fails : List ℕ → ℕ → Bool
-mark_fails earlier mark = is_ascii_digit mark || is_space mark || mark == 123 || list_any (λ other. other == mark) earlier
+mark_fails earlier mark = is_ascii_digit mark || is_space mark
+    || mark == 123 || list_any (λ other. other == mark) earlier
 
 -- the checks of the marks, from a column on
 abbrev pub mark_checks_from : ℕ → List ℕ → List ℕ → List Refusal
 mark_checks_from column earlier [] = []
-mark_checks_from column earlier (mark ∷ marks) = check (mark_fails earlier mark) BadMark 1 column ++ mark_checks_from (column + 1) (mark ∷ earlier) marks
+mark_checks_from column earlier (mark ∷ marks) =
+    check (mark_fails earlier mark) BadMark 1 column
+    ++ mark_checks_from (column + 1) (mark ∷ earlier) marks
 
 -- the checks of the marks, of which the first stands in column 5
 abbrev pub mark_checks : List ℕ → List Refusal
@@ -77,7 +85,8 @@ mark_checks marks = mark_checks_from 5 [] marks
 
 -- the checks of the minima: the left pair and the right pair
 abbrev pub minima_checks : List ℕ → List Refusal
-minima_checks head = check (pair_fails (pair_at head 1) (pair_at head 3)) BadMinima 1 1 ++ check (pair_fails (pair_at head 3) (pair_at head 1)) BadMinima 1 3
+minima_checks head = check (pair_fails (pair_at head 1) (pair_at head 3)) BadMinima 1 1
+    ++ check (pair_fails (pair_at head 3) (pair_at head 1)) BadMinima 1 3
 
 -- the checks of the head: the minima and the marks
 abbrev pub head_checks : List ℕ → List Refusal
@@ -122,30 +131,39 @@ pub record ListedSpelling : Type 0 where
 -- the spellings of a line from a column on, with one delimiter after each
 abbrev pub spellings_at : ℕ → ℕ → ℕ → List (List ℕ) → List ListedSpelling
 spellings_at line column letter [] = []
-spellings_at line column letter (piece ∷ pieces) = record { line = line; column = column; letter = letter; text = piece } ∷ spellings_at line (column + (length piece + 1)) letter pieces
+spellings_at line column letter (piece ∷ pieces) =
+    record { line = line; column = column; letter = letter; text = piece } ∷ spellings_at line
+    (column + (length piece + 1)) letter pieces
 
--- the spellings of a letter in a line of this number, from what follows the delimiter at the line's begin, and from the whole line
+-- the spellings of a letter in a line of this number, from what follows the delimiter at the line's
+-- begin, and from the whole line
 abbrev pub spellings_behind : ℕ → ℕ → ℕ → List ℕ → List ListedSpelling
 spellings_behind line letter delimiter text = spellings_at line 2 letter (pieces_of delimiter text)
 
 abbrev pub spellings_of_line : ℕ → ℕ → List ℕ → List ListedSpelling
 spellings_of_line line letter text = spellings_at line 2 letter (line_pieces text)
 
--- the spellings of a line with these pieces, before those of the lines after it, which begin with the next letter
-abbrev pub with_line_spellings : ℕ → ℕ → List (List ℕ) → (ℕ → List ListedSpelling) → List ListedSpelling
+-- the spellings of a line with these pieces, before those of the lines after it, which begin with
+-- the next letter
+abbrev pub with_line_spellings : ℕ → ℕ → List (List ℕ)
+    → (ℕ → List ListedSpelling) → List ListedSpelling
 with_line_spellings line letter [] later = later letter
-with_line_spellings line letter (piece ∷ pieces) later = spellings_at line 2 letter (piece ∷ pieces) ++ later (letter + 1)
+with_line_spellings line letter (piece ∷ pieces) later =
+    spellings_at line 2 letter (piece ∷ pieces) ++ later (letter + 1)
 
 -- the spellings of the letter lines from a line and a letter on
 abbrev pub spellings_from : ℕ → ℕ → List (List ℕ) → List ListedSpelling
 spellings_from line letter [] = []
-spellings_from line letter (text ∷ texts) = with_line_spellings line letter (line_pieces text) (λ next. spellings_from (line + 1) next texts)
+spellings_from line letter (text ∷ texts) =
+    with_line_spellings line letter (line_pieces text)
+    (λ next. spellings_from (line + 1) next texts)
 
 -- a spelling with the sign of its letter; sign 1 is the edge
 abbrev pub spelling_with_sign : ListedSpelling → ℕ × List ℕ
 spelling_with_sign spelling = (spelling.letter + 1, spelling.text)
 
--- the checks of a spelling beside earlier ones: the number of letters, its own form, and its clash with an earlier one
+-- the checks of a spelling beside earlier ones: the number of letters, its own form, and its clash
+-- with an earlier one
 abbrev pub spelling_check : List ℕ → List (ℕ × List ℕ) → ListedSpelling → List Refusal
 spelling_check marks earlier s =
     check (nat_lt (SIGNS_MAX - 1) s.letter) TooManyLetters s.line 1
@@ -155,16 +173,22 @@ spelling_check marks earlier s =
 -- the checks of the letter lines, spelling by spelling
 abbrev pub spelling_checks : List ℕ → List (ℕ × List ℕ) → List ListedSpelling → List Refusal
 spelling_checks marks earlier [] = []
-spelling_checks marks earlier (s ∷ later) = spelling_check marks earlier s ++ spelling_checks marks (earlier ++ spelling_with_sign s ∷ []) later
+spelling_checks marks earlier (s ∷ later) =
+    spelling_check marks earlier s ++ spelling_checks marks
+    (earlier ++ spelling_with_sign s ∷ []) later
 
--- whether all spellings pass their checks beside earlier ones, or the refusal of the first that fails
-abbrev pub spellings_outcome : List ℕ → List (ℕ × List ℕ) → List ListedSpelling → Result (Unit {0}) Refusal
+-- whether all spellings pass their checks beside earlier ones, or the refusal of the first that
+-- fails
+abbrev pub spellings_outcome : List ℕ → List (ℕ × List ℕ)
+    → List ListedSpelling → Result (Unit {0}) Refusal
 spellings_outcome marks earlier spellings = first_failure (spelling_checks marks earlier spellings)
 
--- all checks of a translate file of some size, with this head and these letter lines, in their order
+-- all checks of a translate file of some size, with this head and these letter lines, in their
+-- order
 abbrev pub checks : ℕ → List ℕ → List (List ℕ) → List Refusal
 checks size head letter_lines =
-    check (nat_lt FILE_MAX size) TranslateTooLong 0 0 ++ (head_checks head ++ spelling_checks (marks_of head) [] (spellings_from 2 1 letter_lines))
+    check (nat_lt FILE_MAX size) TranslateTooLong 0 0
+    ++ (head_checks head ++ spelling_checks (marks_of head) [] (spellings_from 2 1 letter_lines))
 
 -- what a head and letter lines say
 abbrev pub alphabet_of : List ℕ → List (List ℕ) → Alphabet
@@ -188,10 +212,12 @@ default_alphabet = record {
   spellings = flat_map default_letter (range_with_len 0 26);
 }
 
--- the table of a file of some size with these lines; a file of no bytes has no line, and means the default table
+-- the table of a file of some size with these lines; a file of no bytes has no line, and means the
+-- default table
 abbrev pub table_of : ℕ → List (List ℕ) → Result Alphabet Refusal
 table_of size [] = Ok default_alphabet
-table_of size (head ∷ letter_lines) = first_refusal (checks size head letter_lines) (alphabet_of head letter_lines)
+table_of size (head ∷ letter_lines) =
+    first_refusal (checks size head letter_lines) (alphabet_of head letter_lines)
 
 -- the table of a translate file, or the refusal of the first check that fails
 abbrev pub table : List ℕ → Result Alphabet Refusal

@@ -20,7 +20,8 @@ pub data Token : Type 0 where
 
 -- the letter whose spelling begins a text, and the length of that spelling
 abbrev pub letter_at : List (ℕ × List ℕ) → List ℕ → Option (Token × ℕ)
-letter_at spellings text = option_map (λ spelling. (Letter spelling.0, length spelling.1)) (find (λ spelling. starts_with nat_eq text spelling.1) spellings)
+letter_at spellings text = option_map (λ spelling. (Letter spelling.0, length spelling.1))
+    (find (λ spelling. starts_with nat_eq text spelling.1) spellings)
 
 -- the digit that begins a text
 abbrev pub digit_at : List ℕ → Option (Token × ℕ)
@@ -45,7 +46,8 @@ weight_end value size b = if b == 125 && nat_lt 0 value then Some (Weight value,
 abbrev pub weight_from : ℕ → ℕ → ℕ → List ℕ → Option (Token × ℕ)
 weight_from more value size [] = None
 weight_from zero value size (b ∷ bs) = weight_end value size b
-weight_from (suc more) value size (b ∷ bs) = if is_ascii_digit b then weight_from more (with_digit value b) (size + 1) bs else weight_end value size b
+weight_from (suc more) value size (b ∷ bs) = if is_ascii_digit b
+    then weight_from more (with_digit value b) (size + 1) bs else weight_end value size b
 
 -- the weight in braces that begins a text: one to four digits, with a value above 0
 abbrev pub weight_at : List ℕ → Option (Token × ℕ)
@@ -59,8 +61,10 @@ edge_at (b ∷ bs) = if b == 46 then Some (Edge, 1) else None
 
 -- the item that begins a text, and the length of its own text
 abbrev pub item_at : Alphabet → Place → List ℕ → Option (Token × ℕ)
-item_at t Dictionary text = option_or (letter_at t.spellings text) (option_or (digit_at text) (option_or (weight_at text) (mark_at t.marks text)))
-item_at t Patterns text = option_or (letter_at t.spellings text) (option_or (digit_at text) (edge_at text))
+item_at t Dictionary text = option_or (letter_at t.spellings text)
+    (option_or (digit_at text) (option_or (weight_at text) (mark_at t.marks text)))
+item_at t Patterns text = option_or (letter_at t.spellings text)
+    (option_or (digit_at text) (edge_at text))
 
 -- whether a line ends here: at its end, or at a blank or TAB
 abbrev pub is_ended : List ℕ → Bool

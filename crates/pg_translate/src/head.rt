@@ -48,7 +48,8 @@ fn in_column(head: &[u8], column: usize) -> u8
     }
 }
 
-/// The value of a digit and a blank, a blank and a digit, or two digits; 0, which is no minimum, for other pairs.
+/// The value of a digit and a blank, a blank and a digit, or two digits; 0, which is no minimum,
+/// for other pairs.
 fn pair_value(first: u8, second: u8) -> u8
     ensures value { result ≡ table.pair_value first second }
     ensures few { result ≤ MINIMUM_MAX }
@@ -77,7 +78,8 @@ fn pair_at(head: &[u8], column: usize) -> (u8, u8)
     (in_column(head, column), in_column(head, column + 1))
 }
 
-/// The minimum of a pair beside the other pair, where two blanks mean a default; none where the pair fails.
+/// The minimum of a pair beside the other pair, where two blanks mean a default; none where the
+/// pair fails.
 fn minimum(pair: (u8, u8), other: (u8, u8), default: u8) -> Option<u8>
     requires some { 0 < default }
     requires few { default ≤ MINIMUM_MAX }
@@ -113,8 +115,10 @@ fn mark_fails(earlier: &[u8], mark: u8) -> bool
 fn minima(line: &[u8]) -> Result<(u8, u8), Refusal>
     ensures answer { MatchResult result
         (λ m. (table.minima_checks line.now ≡ []) × (m.0 ≡ table.left_minimum line.now)
-        × (m.1 ≡ table.right_minimum line.now)) (λ r. table.first_failure (table.minima_checks line.now) ≡ Err r) }
-    ensures range { IfOk result (λ m. (0 < m.0) × (m.0 ≤ MINIMUM_MAX) × (0 < m.1) × (m.1 ≤ MINIMUM_MAX)) }
+        × (m.1 ≡ table.right_minimum line.now))
+        (λ r. table.first_failure (table.minima_checks line.now) ≡ Err r) }
+    ensures range { IfOk result
+        (λ m. (0 < m.0) × (m.0 ≤ MINIMUM_MAX) × (0 < m.1) × (m.1 ≤ MINIMUM_MAX)) }
 {
     let (left, right) = (pair_at(line, 1), pair_at(line, 3));
     let Some(first) = minimum(left, right, DEFAULT_LEFT) else {
@@ -145,10 +149,13 @@ fn bad_mark(column: u32) -> Refusal
     }
 }
 
-/// Whether the mark bytes of a head are marks, one after the other, or the refusal of the first that is none.
+/// Whether the mark bytes of a head are marks, one after the other, or the refusal of the first
+/// that is none.
 fn check_marks(error: u8, missed: u8, found: u8, dont_care: u8) -> Result<(), Refusal>
-    ensures { MatchResult result (λ _. table.mark_checks (error ∷ missed ∷ found ∷ dont_care ∷ []) ≡ [])
-        (λ r. table.first_failure (table.mark_checks (error ∷ missed ∷ found ∷ dont_care ∷ [])) ≡ Err r) }
+    ensures { MatchResult result
+        (λ _. table.mark_checks (error ∷ missed ∷ found ∷ dont_care ∷ []) ≡ [])
+        (λ r. table.first_failure (table.mark_checks (error ∷ missed ∷ found ∷ dont_care ∷ []))
+        ≡ Err r) }
 {
     if mark_fails(&[], error) {
         return Err(bad_mark(5));
@@ -167,10 +174,11 @@ fn check_marks(error: u8, missed: u8, found: u8, dont_care: u8) -> Result<(), Re
 
 impl Head {
     ghost use Rattle.std.specs.Prelude.{◌≡◌, IfOk, MatchResult, Err};
-    ghost use Rattle.pg_translate.specs.Heads.{IsHead, IsSoundHead, head_marks};
+    ghost use Rattle.pg_translate.specs.Inside.Heads.{IsHead, IsSoundHead, head_marks};
     ghost use Rattle.pg_translate.specs.Tables as table;
 
-    /// The minima and marks of a head, or the refusal of the first that fails. A blank means a default.
+    /// The minima and marks of a head, or the refusal of the first that fails. A blank means a
+    /// default.
     pub(crate) fn read(line: &[u8]) -> Result<Head, Refusal>
         ensures answer { MatchResult result (IsHead line.now)
             (λ r. table.first_failure (table.head_checks line.now) ≡ Err r) }

@@ -1,5 +1,5 @@
-//! The index of the spellings by their fronts: it finds the spelling that begins a text, and clashes, in a look-up for
-//! each byte.
+//! The index of the spellings by their fronts: it finds the spelling that begins a text, and
+//! clashes, in a look-up for each byte.
 ghost use Rattle.std.specs.Prelude.{◌≡◌, ℕ, ◌+◌, ◌<◌, ◌≤◌, false, ◌++◌, ◌==◌, if◌then◌else◌, ◌∷◌, [], List, length, MatchOption, IfSome, IfOk, OnOk, Some, None, slice_get, map};
 ghost use Rattle.std.specs.List.{list_any, flat_map, range_with_len};
 ghost use Rattle.pg_translate.specs.Tables.{default_letter};
@@ -8,7 +8,7 @@ ghost use Rattle.pg_translate.specs.Spellings.{clash};
 ghost use Rattle.pg_translate.specs.Alphabets.{first_spelling, letters_in};
 ghost use Rattle.pg_translate.specs.Tokens.{letter_at};
 ghost use Rattle.pg_translate.specs.Tokens as token;
-ghost use Rattle.pg_translate.specs.Fronts.{pairs, firsts_of, front_at, front_code, front_of, AreBytes, IsIndex};
+ghost use Rattle.pg_translate.specs.Inside.Fronts.{pairs, firsts_of, front_at, front_code, front_of, AreBytes, IsIndex};
 
 use crate::spellings::{SPELLING_MAX, Text};
 use pg_types::Sign;
@@ -53,7 +53,8 @@ pub(crate) struct Index {
     firsts: Vec<Text>,
     /// The fronts of one byte, by that byte.
     heads: [Option<Front>; 256],
-    /// The longer fronts. The key is the number whose digits in base 256 are a 1 and then the bytes.
+    /// The longer fronts. The key is the number whose digits in base 256 are a 1 and then the
+    /// bytes.
     longer: HashMap<u128, Front>,
 }
 
@@ -161,7 +162,8 @@ impl Index {
     /// Enters all fronts of a spelling.
     fn enter(&mut self, sign: Sign, text: &[u8]) -> Result<(), AllocError>
         requires { length text.now ≤ SPELLING_MAX }
-        ensures fronts { OnOk result ((q : List ℕ) → AreBytes q → 0 < length q → front_at self.new (front_code q)
+        ensures fronts { OnOk result
+            ((q : List ℕ) → AreBytes q → 0 < length q → front_at self.new (front_code q)
             ≡ option_or (front_of (sign, text.now) q) (front_at self.old (front_code q))) }
         ensures spellings { self.new.spellings ≡ self.old.spellings }
         ensures firsts { self.new.firsts ≡ self.old.firsts }
@@ -177,7 +179,8 @@ impl Index {
     /// Keeps the first spelling of a new letter.
     fn keep_first(&mut self, sign: Sign, text: Text) -> Result<(), AllocError>
         ensures firsts { OnOk result (self.new.firsts.items
-            ≡ (if sign == length self.old.firsts.items + 2 then self.old.firsts.items ++ text ∷ [] else
+            ≡ (if sign == length self.old.firsts.items + 2
+            then self.old.firsts.items ++ text ∷ [] else
             self.old.firsts.items)) }
         ensures spellings { self.new.spellings ≡ self.old.spellings }
         ensures heads { self.new.heads ≡ self.old.heads }
@@ -213,7 +216,8 @@ impl Index {
         requires number { n < 26 }
         requires sound { IsIndex self.old }
         requires before { pairs self.old ≡ flat_map default_letter (range_with_len 0 n) }
-        ensures spellings { OnOk result (pairs self.new ≡ flat_map default_letter (range_with_len 0 (n + 1))) }
+        ensures spellings { OnOk result
+            (pairs self.new ≡ flat_map default_letter (range_with_len 0 (n + 1))) }
         ensures sound { OnOk result (IsIndex self.new) }
     {
         let sign = n as Sign + 2;
@@ -224,7 +228,8 @@ impl Index {
 
     /// The letters a to z, each with its capital as its second spelling.
     pub(crate) fn default_letters(alloc: Global) -> Result<Index, AllocError>
-        ensures spellings { IfOk result (λ index. pairs index ≡ flat_map default_letter (range_with_len 0 26)) }
+        ensures spellings { IfOk result
+            (λ index. pairs index ≡ flat_map default_letter (range_with_len 0 26)) }
         ensures sound { IfOk result IsIndex }
     {
         let mut index = Index::new(alloc);

@@ -1,5 +1,5 @@
-//! The table of a translate file: its letters with their spellings, its marks and minima, and the items of lines under
-//! it.
+//! The table of a translate file: its letters with their spellings, its marks and minima, and the
+//! items of lines under it.
 #![tactic(auto)]
 
 mod head;

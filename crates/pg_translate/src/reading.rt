@@ -4,7 +4,7 @@ ghost use Rattle.std.specs.List.{list_any};
 ghost use Rattle.pg_types.specs.Lines.{lines};
 ghost use Rattle.pg_types.specs.Reading.{Gives, first_refusal};
 ghost use Rattle.pg_translate.specs.Alphabets.{letters_in};
-ghost use Rattle.pg_translate.specs.Fronts.{pairs, IsIndex};
+ghost use Rattle.pg_translate.specs.Inside.Fronts.{pairs, IsIndex};
 ghost use Rattle.pg_translate.specs.Spellings as spelling;
 ghost use Rattle.pg_translate.specs.Tables as table;
 ghost use Rattle.pg_types.specs.declared.refusals.ReadingError.TheVariants.{Refused};
@@ -53,8 +53,8 @@ fn is_spelling(marks: &[u8], text: &[u8]) -> bool
     text.len() <= SPELLING_MAX && begins_well(marks, text) && !has_space(text)
 }
 
-/// Adds a spelling of the letter with this number to the index, unless one of its checks fails. The letter is the last
-/// of the index or a new one.
+/// Adds a spelling of the letter with this number to the index, unless one of its checks fails. The
+/// letter is the last of the index or a new one.
 fn add_spelling(
     index: &mut Index,
     marks: &[u8],
@@ -70,8 +70,10 @@ fn add_spelling(
     ensures answer { Gives (λ _. tt) result
         (table.first_failure (table.spelling_check marks.now (pairs index.old)
         (record { line = line; column = column; letter = letter; text = text.now }))) }
-    ensures spellings { OnOk result (pairs index.new ≡ pairs index.old ++ (letter + 1, text.now) ∷ []) }
-    ensures letters { OnOk result ((letters_in (pairs index.new) ≡ letter) × (letter ≤ SIGNS_MAX - 1)) }
+    ensures spellings { OnOk result
+        (pairs index.new ≡ pairs index.old ++ (letter + 1, text.now) ∷ []) }
+    ensures letters { OnOk result
+        ((letters_in (pairs index.new) ≡ letter) × (letter ≤ SIGNS_MAX - 1)) }
     ensures sound { OnOk result (IsIndex index.new) }
 {
     if letter > SIGNS_MAX - 1 {
@@ -94,8 +96,8 @@ fn find_delimiter(delimiter: u8, rest: &[u8]) -> Option<usize>
     rest.iter().position(|byte| *byte == delimiter)
 }
 
-/// The first piece of what is left of a letter line behind its delimiter, and what follows it; none where the piece is
-/// empty, at which the pieces end.
+/// The first piece of what is left of a letter line behind its delimiter, and what follows it; none
+/// where the piece is empty, at which the pieces end.
 fn next_piece(delimiter: u8, rest: &[u8]) -> Option<(&[u8], &[u8])>
     ensures pieces { MatchOption result (table.pieces_of delimiter rest.now ≡ [])
         (λ p. table.pieces_of delimiter rest.now ≡ p.0.now ∷ table.pieces_of delimiter p.1.now) }
@@ -110,7 +112,8 @@ fn next_piece(delimiter: u8, rest: &[u8]) -> Option<(&[u8], &[u8])>
     }
 }
 
-/// Adds the spellings of the letter with this number, which stand in the text behind the delimiter of its line.
+/// Adds the spellings of the letter with this number, which stand in the text behind the delimiter
+/// of its line.
 fn add_pieces(
     index: &mut Index,
     marks: &[u8],
@@ -124,7 +127,8 @@ fn add_pieces(
     requires letters { letter ≤ SIGNS_MAX }
     requires few { length text.now ≤ FILE_MAX }
     ensures answer { Gives (λ _. tt) result
-        (table.spellings_outcome marks.now (pairs index.old) (table.spellings_behind line letter delimiter text.now)) }
+        (table.spellings_outcome marks.now (pairs index.old)
+        (table.spellings_behind line letter delimiter text.now)) }
     ensures spellings { OnOk result
         (pairs index.new ≡ pairs index.old ++ map table.spelling_with_sign
         (table.spellings_behind line letter delimiter text.now)) }
@@ -159,7 +163,8 @@ fn add_line(index: &mut Index, marks: &[u8], line: u32, text: &[u8]) -> Result<(
     requires letters { letters_in (pairs index.old) ≤ SIGNS_MAX - 1 }
     requires few { length text.now ≤ FILE_MAX }
     ensures answer { Gives (λ _. tt) result
-        (let letter = letters_in (pairs index.old) + 1 in table.spellings_outcome marks.now (pairs index.old)
+        (let letter = letters_in (pairs index.old) + 1 in
+        table.spellings_outcome marks.now (pairs index.old)
         (table.spellings_of_line line letter text.now)) }
     ensures spellings { OnOk result
         (pairs index.new ≡ pairs index.old ++ map table.spelling_with_sign
@@ -179,7 +184,8 @@ fn add_line(index: &mut Index, marks: &[u8], line: u32, text: &[u8]) -> Result<(
 pub(crate) fn read_letters(alloc: Global, marks: &[u8], text: &[u8]) -> Result<Index, ReadingError>
     requires { length text.now ≤ FILE_MAX }
     ensures answer { let all = table.spellings_from 2 1 (lines text.now) in Gives pairs result
-        (first_refusal (table.spelling_checks marks.now [] all) (map table.spelling_with_sign all)) }
+        (first_refusal (table.spelling_checks marks.now [] all)
+        (map table.spelling_with_sign all)) }
     ensures sound { IfOk result IsIndex }
 {
     let mut index = Index::new(alloc);

@@ -1,7 +1,7 @@
 //! The table of a translate file.
 ghost use Rattle.std.specs.Prelude.{◌≡◌, IfOk};
 ghost use Rattle.pg_translate.specs.Alphabets.{Alphabet};
-ghost use Rattle.pg_translate.specs.Sound.{IsTable, alphabet_in};
+ghost use Rattle.pg_translate.specs.Inside.Sound.{IsTable, alphabet_in};
 
 pub mod laws;
 
@@ -40,12 +40,12 @@ impl Table {
     ghost use Rattle.pg_translate.specs.Tables.{default_alphabet, table};
     ghost use Rattle.pg_translate.specs.Tokens.{letter_at, mark_at, is_ended};
     ghost use Rattle.pg_translate.specs.Tokens as token;
-    ghost use Rattle.pg_translate.specs.Answers.{IsFirstItem, IsInRange};
+    ghost use Rattle.pg_translate.specs.Inside.Answers.{IsFirstItem, IsInRange};
     ghost use Rattle.pg_translate.specs.Reach.{reach};
     ghost use Rattle.pg_types.specs.declared.limits.TheConstants.{WORD_LETTERS_MAX};
 
-    /// The default table: the minima 2 and 3, the marks `.`, `-`, `*` and `?`, and the letters a to z, each with its
-    /// capital as its second spelling.
+    /// The default table: the minima 2 and 3, the marks `.`, `-`, `*` and `?`, and the letters a to
+    /// z, each with its capital as its second spelling.
     pub fn default_letters(alloc: Global) -> Result<Table, AllocError>
         ensures { IfOk result (λ table. table ≡ default_alphabet) }
     {
@@ -61,8 +61,8 @@ impl Table {
         Ok(Table { head, index })
     }
 
-    /// The table of a translate file, or the first place at which its rules refuse it. A file of no bytes means the
-    /// default table. Want of memory is an error of its own.
+    /// The table of a translate file, or the first place at which its rules refuse it. A file of no
+    /// bytes means the default table. Want of memory is an error of its own.
     pub fn read(alloc: Global, bytes: &[u8]) -> Result<Table, ReadingError>
         ensures { Gives (λ t. t) result (table bytes.now) }
     {
@@ -125,8 +125,8 @@ impl Table {
         }
     }
 
-    /// The first and the last position in reach of a word of so many signs, its edges included; none where such a word
-    /// takes no part, as it has fewer letters than both minima together.
+    /// The first and the last position in reach of a word of so many signs, its edges included;
+    /// none where such a word takes no part, as it has fewer letters than both minima together.
     pub fn reach(&self, signs: usize) -> Option<(usize, usize)>
         requires low { 2 ≤ signs }
         requires high { signs ≤ WORD_LETTERS_MAX + 2 }
@@ -176,11 +176,13 @@ impl Table {
         }
     }
 
-    /// The item that begins `rest`, a line of a file of this kind or what is left of it, and what follows that item.
+    /// The item that begins `rest`, a line of a file of this kind or what is left of it, and what
+    /// follows that item.
     ///
-    /// `End` comes exactly where the line ends here, or a blank or TAB stands here. `Bad` comes exactly where no item
-    /// stands here and the line does not end. Letters have signs 2 to `letters` + 1, digits are 0 to 9, and weights
-    /// 1 to 9,999. Marks and weights come only in a dictionary, and `Edge` only in patterns.
+    /// `End` comes exactly where the line ends here, or a blank or TAB stands here. `Bad` comes
+    /// exactly where no item stands here and the line does not end. Letters have signs 2 to
+    /// `letters` + 1, digits are 0 to 9, and weights 1 to 9,999. Marks and weights come only in a
+    /// dictionary, and `Edge` only in patterns.
     #[inline]
     pub fn item<'a>(&self, place: Place, rest: &'a [u8]) -> Item<'a>
         ensures item { IsFirstItem self.now place rest.now result }

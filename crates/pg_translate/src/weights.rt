@@ -8,8 +8,8 @@ use pg_types::{WEIGHT_MAX, Weight};
 /// The most digits of a weight in braces.
 const WEIGHT_DIGITS_MAX: usize = 4;
 
-/// The weight in braces that begins `text`, with the size of its own text: a brace, one to four digits whose value is
-/// not 0, and a brace.
+/// The weight in braces that begins `text`, with the size of its own text: a brace, one to four
+/// digits whose value is not 0, and a brace.
 pub(crate) fn weight_of(text: &[u8]) -> Option<(Weight, usize)>
     ensures value { MatchOption result (weight_at text.now ≡ None)
         (λ w. weight_at text.now ≡ Some (token.Weight w.0, w.1)) }

@@ -1,4 +1,5 @@
--- The windows that are counted in a pass, in the order of signs, each with its sums of good and bad weights.
+-- The windows that are counted in a pass, in the order of signs, each with its sums of good and bad
+-- weights.
 use Rattle.std.specs.Prelude.{◌≡◌, ℕ, ◌+◌, ◌<◌, ◌≤◌, Bool, if◌then◌else◌, List, [], ◌∷◌, filter, unwrap_or, Option, None, Some, All, is_some}
 use Rattle.pg_types.specs.Limits.{counts_limit}
 use Rattle.std.specs.Ordering.{nat_cmp, is_lt}
@@ -22,7 +23,8 @@ with_weight sums good weight = if good then (sums.0 + weight, sums.1) else (sums
 
 -- the counts with one weight more at a window
 abbrev pub with_count : Counts → List ℕ → Bool → ℕ → Counts
-with_count counts u good weight = put (slice_cmp nat_cmp) u (with_weight (sums_of counts u) good weight) counts
+with_count counts u good weight = put (slice_cmp nat_cmp) u
+    (with_weight (sums_of counts u) good weight) counts
 
 -- a window is counted
 abbrev pub is_counted : Counts → List ℕ → Bool
@@ -32,7 +34,8 @@ is_counted counts u = is_some (counted_sums counts u)
 abbrev pub above : List ℕ → Counts → Counts
 above u counts = filter (λ e. is_lt (slice_cmp nat_cmp u e.0)) counts
 
--- what a look for the least window above `old` finds: that window and its sums; or none, where there is none, and then `new` is `old`
+-- what a look for the least window above `old` finds: that window and its sums; or none, where
+-- there is none, and then `new` is `old`
 abbrev pub IsNextAbove : Counts → List ℕ → List ℕ → Option (ℕ × ℕ) → Type 0
 IsNextAbove counts old new None = (above old counts ≡ []) × (new ≡ old)
 IsNextAbove counts old new (Some sums) = above old counts ≡ (new, sums) ∷ above new counts

@@ -4,9 +4,8 @@ pub mod Lines
 pub mod Signs
 pub mod Limits
 pub mod Parameters
-pub mod ItemSteps
 pub mod Counts
 pub mod Numbered
-pub mod Numbers
 pub mod Placement
 pub mod Tails
+pub mod Inside

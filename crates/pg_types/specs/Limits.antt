@@ -2,7 +2,8 @@
 use Rattle.std.specs.Prelude.{ℕ, ◌+◌, ◌*◌, ◌^◌}
 use Rattle.pg_types.specs.declared.limits.TheConstants.{LENGTH_MAX, LEVEL_MAX}
 
--- the number of the item behind the last of a parameters file: the first and the last level, and five numbers for each level
+-- the number of the item behind the last of a parameters file: the first and the last level, and
+-- five numbers for each level
 abbrev pub items_end : ℕ
 items_end = 2 + 5 * LEVEL_MAX + 1
 
@@ -13,7 +14,8 @@ length_passes = LENGTH_MAX + 1
 abbrev pub level_passes : ℕ
 level_passes = LENGTH_MAX * length_passes
 
--- every sum of weights of positions is below this: the longest dictionary has FILE_MAX letters, each of at most WEIGHT_MAX
+-- every sum of weights of positions is below this: the longest dictionary has FILE_MAX letters,
+-- each of at most WEIGHT_MAX
 abbrev pub sums_limit : ℕ
 sums_limit = 2 ^ 40
 
@@ -21,8 +23,9 @@ sums_limit = 2 ^ 40
 abbrev pub counts_limit : ℕ
 counts_limit = 2 ^ 60
 
--- an engine may have begun fewer passes than the first of these before a run, and than the second before a pass. The passes of a
--- run, which are at most level_passes for each level, fit between them
+-- an engine may have begun fewer passes than the first of these before a run, and than the second
+-- before a pass. The passes of a run, which are at most level_passes for each level, fit between
+-- them
 abbrev pub begun_before_run : ℕ
 begun_before_run = 2 ^ 59
 

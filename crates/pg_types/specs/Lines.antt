@@ -2,10 +2,12 @@
 use Rattle.std.specs.Prelude.{ℕ, ◌-◌, ◌==◌, Bool, if◌then◌else◌, List, [], ◌∷◌, length, map, take, slice_index}
 use Rattle.std.specs.List.{onto_first}
 
--- the pieces between the bytes that pass a test; a last piece without such a byte behind it counts where it is not empty
+-- the pieces between the bytes that pass a test; a last piece without such a byte behind it counts
+-- where it is not empty
 abbrev pub pieces_at : (ℕ → Bool) → List ℕ → List (List ℕ)
 pieces_at test [] = []
-pieces_at test (b ∷ bs) = if test b then [] ∷ pieces_at test bs else onto_first b (pieces_at test bs)
+pieces_at test (b ∷ bs) = if test b then [] ∷ pieces_at test bs
+    else onto_first b (pieces_at test bs)
 
 -- the line feed ends a line
 abbrev pub is_line_feed : ℕ → Bool
@@ -13,7 +15,8 @@ is_line_feed b = b == 10
 
 -- a line without the one CR at its end
 abbrev pub without_cr : List ℕ → List ℕ
-without_cr line = if slice_index line (length line - 1) == 13 then take (length line - 1) line else line
+without_cr line = if slice_index line (length line - 1) == 13 then take (length line - 1) line
+    else line
 
 -- the lines of a file
 abbrev pub lines : List ℕ → List (List ℕ)

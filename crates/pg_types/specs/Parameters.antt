@@ -36,7 +36,8 @@ with_digit n b = n * 10 + (b - 48)
 
 -- the number that the digits write behind a number so far, where they are digits
 abbrev pub number_from : ℕ → List ℕ → Option ℕ
-number_from n digits = if list_all is_ascii_digit digits then Some (fold with_digit n digits) else None
+number_from n digits = if list_all is_ascii_digit digits then Some (fold with_digit n digits)
+    else None
 
 -- the number that an item is, where it is one
 abbrev pub number : List ℕ → Option ℕ
@@ -54,13 +55,21 @@ pub record Demand : Type 0 where
 abbrev pub between : ℕ → ℕ → Demand
 between least greatest = record { least = least; greatest = greatest }
 
--- what a level demands of its five items: the lengths, of which the last is at least the first, the two weights and the threshold
+-- what a level demands of its five items: the lengths, of which the last is at least the first, the
+-- two weights and the threshold
 abbrev pub level_demands : List (List ℕ) → List Demand
-level_demands xs = between 1 LENGTH_MAX ∷ between (number_at xs 0) LENGTH_MAX ∷ between 1 COST_MAX ∷ between 1 COST_MAX ∷ between 1 COST_MAX ∷ []
+level_demands xs = between 1 LENGTH_MAX ∷ between
+    (number_at xs 0) LENGTH_MAX ∷ between 1 COST_MAX ∷ between 1 COST_MAX ∷ between 1 COST_MAX ∷ []
 
 -- the parameters of a level from its five items
 abbrev pub level_of : List (List ℕ) → LevelParams
-level_of xs = record { pat_start = number_at xs 0; pat_finish = number_at xs 1; good_wt = number_at xs 2; bad_wt = number_at xs 3; thresh = number_at xs 4 }
+level_of xs = record {
+  pat_start = number_at xs 0;
+  pat_finish = number_at xs 1;
+  good_wt = number_at xs 2;
+  bad_wt = number_at xs 3;
+  thresh = number_at xs 4;
+}
 
 -- how many levels are run
 abbrev pub level_count : ℕ → ℕ → ℕ
@@ -72,19 +81,26 @@ level_items xs i = drop (5 * i) xs
 
 -- what so many levels demand of their items
 abbrev pub demands_of_levels : ℕ → List (List ℕ) → List Demand
-demands_of_levels count xs = flat_map (λ i. level_demands (level_items xs i)) (range_with_len 0 count)
+demands_of_levels count xs = flat_map (λ i. level_demands (level_items xs i))
+    (range_with_len 0 count)
 
 -- so many levels from their items
 abbrev pub levels_of : ℕ → List (List ℕ) → List LevelParams
 levels_of count xs = map (λ i. level_of (level_items xs i)) (range_with_len 0 count)
 
--- what a file demands of its items: the first and the last level, and then five numbers for each level that is run
+-- what a file demands of its items: the first and the last level, and then five numbers for each
+-- level that is run
 abbrev pub demands : List (List ℕ) → List Demand
-demands xs = between 1 LEVEL_MAX ∷ between 1 LEVEL_MAX ∷ demands_of_levels (level_count (number_at xs 0) (number_at xs 1)) (drop 2 xs)
+demands xs = between 1 LEVEL_MAX ∷ between 1 LEVEL_MAX ∷ demands_of_levels
+    (level_count (number_at xs 0) (number_at xs 1)) (drop 2 xs)
 
 -- the parameters that the items are
 abbrev pub parameters_of : List (List ℕ) → Parameters
-parameters_of xs = record { start = number_at xs 0; finish = number_at xs 1; levels = levels_of (level_count (number_at xs 0) (number_at xs 1)) (drop 2 xs) }
+parameters_of xs = record {
+  start = number_at xs 0;
+  finish = number_at xs 1;
+  levels = levels_of (level_count (number_at xs 0) (number_at xs 1)) (drop 2 xs);
+}
 
 -- the refusal of the item with this number
 abbrev pub refused_at : ℕ → Kind → Refusal
@@ -92,7 +108,9 @@ refused_at place kind = record { kind = kind; line = place; column = 0 }
 
 -- how an item fails a demand
 abbrev pub failure : Demand → List ℕ → Option Kind
-failure d item = option_map_or (λ n. if nat_le d.least n && nat_le n d.greatest then None else Some OutOfRange) (number item) (Some BadNumber)
+failure d item = option_map_or
+    (λ n. if nat_le d.least n && nat_le n d.greatest then None else Some OutOfRange)
+    (number item) (Some BadNumber)
 
 -- the answer of a user of patgen to its last question: y, Y, n or N
 abbrev pub is_answer : List ℕ → Bool
@@ -107,17 +125,21 @@ refusal_behind place (x ∷ xs) = Some (refused_at place Extra)
 -- one answer may follow the numbers
 abbrev pub surplus : ℕ → List (List ℕ) → Option Refusal
 surplus place [] = None
-surplus place (x ∷ xs) = if is_answer x then refusal_behind (place + 1) xs else Some (refused_at place Extra)
+surplus place (x ∷ xs) = if is_answer x then refusal_behind (place + 1) xs
+    else Some (refused_at place Extra)
 
 -- the refusal of the first item that fails its demand, where the first item has the number place
 abbrev pub refusal_from : ℕ → List Demand → List (List ℕ) → Option Refusal
 refusal_from place [] xs = surplus place xs
 refusal_from place (d ∷ ds) [] = Some (refused_at place Missing)
-refusal_from place (d ∷ ds) (x ∷ xs) = option_map_or (λ kind. Some (refused_at place kind)) (failure d x) (refusal_from (place + 1) ds xs)
+refusal_from place (d ∷ ds) (x ∷ xs) =
+    option_map_or (λ kind. Some (refused_at place kind))
+    (failure d x) (refusal_from (place + 1) ds xs)
 
 -- the parameters that a file holds, or its refusal
 abbrev pub parameters : List ℕ → Result Parameters Refusal
-parameters bytes = if nat_lt FILE_MAX (length bytes) then Err (refused_at 0 ParametersTooLong) else unless (refusal_from 1 (demands (items bytes)) (items bytes)) (parameters_of (items bytes))
+parameters bytes = if nat_lt FILE_MAX (length bytes) then Err (refused_at 0 ParametersTooLong)
+    else unless (refusal_from 1 (demands (items bytes)) (items bytes)) (parameters_of (items bytes))
 
 -- the ranges that the numbers of a level keep
 pub record IsLevel (level : LevelParams) : Type 0 where

@@ -1,5 +1,6 @@
--- Where the families of a trie lie in one row of cells. The signs that follow one prefix are a family. It has a base, and its
--- sign s has the cell base + s. A placement is the list of the families in the order of their prefixes.
+-- Where the families of a trie lie in one row of cells. The signs that follow one prefix are a
+-- family. It has a base, and its sign s has the cell base + s. A placement is the list of the
+-- families in the order of their prefixes.
 use Rattle.std.specs.Prelude.{◌≡◌, ℕ, suc, zero, ◌+◌, ◌-◌, ◌<◌, ◌≤◌, max, Bool, true, false, if◌then◌else◌, not, ◌&&◌, ◌||◌, nat_eq, nat_lt, nat_le, List, [], ◌∷◌, ◌++◌, length, map, filter, fold, Option, Some, None}
 use Rattle.std.specs.List.{flat_map, list_any, list_all, range_with_len, starts_with}
 use Rattle.std.specs.Ordering.{nat_cmp, eq_by_cmp}
@@ -20,12 +21,13 @@ Families = List (List ℕ × Family)
 abbrev pub few_signs : ℕ
 few_signs = 4
 
--- for a family of more signs the search begins this many cells below the greatest used one; in a table of more signs than this,
--- as many cells below as there are signs
+-- for a family of more signs the search begins this many cells below the greatest used one; in a
+-- table of more signs than this, as many cells below as there are signs
 abbrev pub far_below : ℕ
 far_below = 255
 
--- where no family is placed from base 1 on, each search begins this many cells below the greatest used one
+-- where no family is placed from base 1 on, each search begins this many cells below the greatest
+-- used one
 abbrev pub near_below : ℕ
 near_below = 32
 
@@ -35,7 +37,8 @@ family_at fs p = find (slice_cmp nat_cmp) p fs
 
 -- the families but that with the prefix
 abbrev pub without_family : Families → List ℕ → Families
-without_family fs p = where_key (slice_cmp nat_cmp) (λ q. not (eq_by_cmp (slice_cmp nat_cmp) p q)) fs
+without_family fs p = where_key (slice_cmp nat_cmp)
+    (λ q. not (eq_by_cmp (slice_cmp nat_cmp) p q)) fs
 
 -- the cells of a family
 abbrev pub cells_of : Family → List ℕ
@@ -63,16 +66,18 @@ is_base fs b = list_any (λ e. nat_eq b e.1.base) fs
 abbrev pub fits_at : Families → List ℕ → ℕ → Bool
 fits_at fs signs b = not (is_base fs b) && list_all (λ s. not (is_used fs (b + s))) signs
 
--- how far below the greatest used cell the search begins for a family of more than few signs, in a table of n signs. No patterns
--- are placed with few 0, so it is near there
+-- how far below the greatest used cell the search begins for a family of more than few signs, in a
+-- table of n signs. No patterns are placed with few 0, so it is near there
 abbrev pub far_from_top : ℕ → ℕ → ℕ
 far_from_top few n = if nat_eq few 0 then near_below else max far_below n
 
--- the lowest base that is tried for so many signs, where t is the greatest used cell and up to few signs are placed from base 1 on
+-- the lowest base that is tried for so many signs, where t is the greatest used cell and up to few
+-- signs are placed from base 1 on
 abbrev pub lowest_base : ℕ → ℕ → ℕ → ℕ → ℕ
 lowest_base few n count t = if nat_le count few then 1 else max 1 (t - far_from_top few n)
 
--- the first of b, b + 1 and so on that meets the test; after so many that do not, the next one, untested
+-- the first of b, b + 1 and so on that meets the test; after so many that do not, the next one,
+-- untested
 abbrev pub first_from : (ℕ → Bool) → ℕ → ℕ → ℕ
 first_from test zero b = b
 first_from test (suc more) b = elim (test b) [ true ↦ b | false ↦ first_from test more (b + 1) ]
@@ -83,35 +88,43 @@ pub record IsLeast (test : ℕ → Bool) (low b : ℕ) : Type 0 where
   pub meets : test b ≡ true
   pub first : (k : ℕ) → low ≤ k → k < b → test k ≡ false
 
--- the least base at which the signs may stand. The greatest used cell always serves, since the family then lies past all others
+-- the least base at which the signs may stand. The greatest used cell always serves, since the
+-- family then lies past all others
 abbrev pub least_base : ℕ → ℕ → Families → List ℕ → ℕ
-least_base few n fs signs = first_from (fits_at fs signs) (top fs) (lowest_base few n (length signs) (top fs))
+least_base few n fs signs = first_from (fits_at fs signs)
+    (top fs) (lowest_base few n (length signs) (top fs))
 
 -- the families with one more, placed at the least base
 abbrev pub placed : ℕ → ℕ → Families → List ℕ → List ℕ → Families
-placed few n fs p signs = put (slice_cmp nat_cmp) p (record { base = least_base few n fs signs; signs = signs }) fs
+placed few n fs p signs = put (slice_cmp nat_cmp) p
+    (record { base = least_base few n fs signs; signs = signs }) fs
 
 -- the signs, in rising order, with s
 abbrev pub with_one_sign : ℕ → List ℕ → List ℕ
 with_one_sign s [] = s ∷ []
-with_one_sign s (x ∷ xs) = if nat_lt s x then s ∷ x ∷ xs else (if nat_eq s x then x ∷ xs else x ∷ with_one_sign s xs)
+with_one_sign s (x ∷ xs) = if nat_lt s x then s ∷ x ∷ xs
+    else (if nat_eq s x then x ∷ xs else x ∷ with_one_sign s xs)
 
--- whether s joins the family of the prefix p in place: there is a family, and the cell of s is unused
+-- whether s joins the family of the prefix p in place: there is a family, and the cell of s is
+-- unused
 abbrev pub joins_at : Families → List ℕ → ℕ → Bool
 joins_at fs p s = elim (family_at fs p) [ None ↦ false | Some f ↦ not (is_used fs (f.base + s)) ]
 
--- the families of a table of n signs with s in the family of the prefix p: a new family is placed with its one sign; a sign
--- joins in place where its cell is unused; else the family gives up its cells and its base, and is placed anew with s
+-- the families of a table of n signs with s in the family of the prefix p: a new family is placed
+-- with its one sign; a sign joins in place where its cell is unused; else the family gives up its
+-- cells and its base, and is placed anew with s
 unfoldable pub with_sign : ℕ → ℕ → Families → List ℕ → ℕ → Families
 with_sign few n fs p s = elim (family_at fs p) [
   | None ↦ placed few n fs p (s ∷ [])
   | Some f ↦ elim (is_used fs (f.base + s)) [
-    | false ↦ put (slice_cmp nat_cmp) p (record { base = f.base; signs = with_one_sign s f.signs }) fs
+    | false ↦ put (slice_cmp nat_cmp) p
+        (record { base = f.base; signs = with_one_sign s f.signs }) fs
     | true ↦ placed few n (without_family fs p) p (with_one_sign s f.signs)
   ]
 ]
 
--- the families without s in the family of the prefix p. A family without a sign is gone, and the others keep their bases
+-- the families without s in the family of the prefix p. A family without a sign is gone, and the
+-- others keep their bases
 unfoldable pub without_sign : Families → List ℕ → ℕ → Families
 without_sign fs p s = elim (family_at fs p) [
   | None ↦ fs
@@ -146,12 +159,15 @@ cell_of fs q = cell_after fs [] q
 abbrev pub base_of : Families → List ℕ → Option ℕ
 base_of fs p = option_map (λ f. f.base) (family_at fs p)
 
--- the families with each sign of q, in turn, in the family of the string before it, which begins with p
+-- the families with each sign of q, in turn, in the family of the string before it, which begins
+-- with p
 abbrev pub enter_after : ℕ → ℕ → Families → List ℕ → List ℕ → Families
 enter_after few n fs p [] = fs
-enter_after few n fs p (s ∷ q) = enter_after few n (elim (cell_in fs p s) [ Some cell ↦ fs | None ↦ with_sign few n fs p s ]) (p ++ s ∷ []) q
+enter_after few n fs p (s ∷ q) = enter_after few n
+    (elim (cell_in fs p s) [ Some cell ↦ fs | None ↦ with_sign few n fs p s ]) (p ++ s ∷ []) q
 
--- the families after the string is entered, where up to few signs are placed from base 1 on. Its first sign is in the root
+-- the families after the string is entered, where up to few signs are placed from base 1 on. Its
+-- first sign is in the root
 abbrev pub enter_by : ℕ → ℕ → Families → List ℕ → Families
 enter_by few n fs [] = fs
 enter_by few n fs (s ∷ q) = enter_after few n fs (s ∷ []) q
@@ -164,7 +180,8 @@ enter n fs q = enter_by few_signs n fs q
 abbrev pub entered_families : ℕ → List (List ℕ) → Families
 entered_families n strings = fold (enter n) (root n) strings
 
--- whether a string keeps its cell at a level's end: it has one sign, or it is a prefix of one of the strings of the patterns
+-- whether a string keeps its cell at a level's end: it has one sign, or it is a prefix of one of
+-- the strings of the patterns
 abbrev pub keeps_cell : List (List ℕ) → List ℕ → Bool
 keeps_cell strings q = nat_le (length q) 1 || list_any (λ t. starts_with nat_eq t q) strings
 

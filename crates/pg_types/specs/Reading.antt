@@ -14,7 +14,8 @@ abbrev pub FailsBy : ReadingError → Option Refusal → Type 0
 FailsBy (Refused r) refusal = refusal ≡ Some r
 FailsBy Memory refusal = Unit {0}
 
--- what a reader gives is, by this view of it, what the definition gives, or it fails as the definition does
+-- what a reader gives is, by this view of it, what the definition gives, or it fails as the
+-- definition does
 abbrev pub Gives : {X Y : Type 0} → (X → Y) → Result X ReadingError → Result Y Refusal → Type 0
 Gives view (Ok x) reading = reading ≡ Ok (view x)
 Gives view (Err e) reading = Fails e reading
@@ -25,7 +26,8 @@ unless None y = Ok y
 unless (Some r) y = Err r
 
 -- two parts of a list, one behind the other, or the first refusal
-abbrev pub both_parts : {X : Type 0} → Result (List X) Refusal → Result (List X) Refusal → Result (List X) Refusal
+abbrev pub both_parts : {X : Type 0} → Result (List X) Refusal
+    → Result (List X) Refusal → Result (List X) Refusal
 both_parts (Ok xs) (Ok ys) = Ok (xs ++ ys)
 both_parts (Ok xs) (Err r) = Err r
 both_parts (Err r) ys = Err r

@@ -4,7 +4,8 @@ use Rattle.std.specs.List.{flat_map}
 use Rattle.std.specs.Cmp.Lexicographic.{pointwise}
 use Rattle.std.specs.Set.{distinct_count}
 
--- the outputs of the string q: its (dot, value) by rising dot, where the patterns stand in the order of signs and then dots
+-- the outputs of the string q: its (dot, value) by rising dot, where the patterns stand in the
+-- order of signs and then dots
 abbrev pub outputs_of : List ((List ℕ × ℕ) × ℕ) → List ℕ → List (ℕ × ℕ)
 outputs_of patterns q = map (λ e. (e.0.1, e.1)) (filter (λ e. pointwise nat_eq q e.0.0) patterns)
 
@@ -18,4 +19,5 @@ same_pair x y = nat_eq x.0 y.0 && nat_eq x.1 y.1
 
 -- the number of distinct non-empty suffixes of the outputs of all strings
 abbrev pub tails : List ((List ℕ × ℕ) × ℕ) → ℕ
-tails patterns = distinct_count (pointwise same_pair) (flat_map (λ e. suffixes (outputs_of patterns e.0.0)) patterns)
+tails patterns = distinct_count (pointwise same_pair)
+    (flat_map (λ e. suffixes (outputs_of patterns e.0.0)) patterns)

@@ -7,8 +7,8 @@ use std::marker::Model;
 /// The room for a window's signs.
 const ROOM: usize = LENGTH_MAX as usize;
 
-/// A window, of at most [`LENGTH_MAX`](crate::LENGTH_MAX) signs, compared in the order of signs. A walk over windows
-/// keeps its place by one.
+/// A window, of at most [`LENGTH_MAX`](crate::LENGTH_MAX) signs, compared in the order of signs. A
+/// walk over windows keeps its place by one.
 #[derive(Drop)]
 pub struct Cursor {
     signs: [Sign; ROOM],
@@ -25,7 +25,8 @@ impl Model for Cursor {
 
     ghost view = { λ w. take w.len w.signs };
 
-    ghost invariant = { λ w. (w.len ≤ LENGTH_MAX) × (list_all is_sign (take w.len w.signs) ≡ true) };
+    ghost invariant = { λ w. (w.len ≤ LENGTH_MAX)
+        × (list_all is_sign (take w.len w.signs) ≡ true) };
 }
 
 impl Cursor {

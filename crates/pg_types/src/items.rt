@@ -1,7 +1,7 @@
 //! The items of a parameters file, taken one after the other.
 ghost use Rattle.std.specs.Prelude.{◌≡◌, ◌<◌, ◌≤◌, ◌+◌, ◌++◌, ◌∷◌, [], List, length, drop, min, option_map, IfOk, OnOk, None, Some, IfErr, IfSome, MatchOption, not, position, ◌-◌, nat_lt, slice_index};
 ghost use Rattle.std.specs.List.{position_or_len};
-ghost use Rattle.pg_types.specs.ItemSteps.{Meets, Misses};
+ghost use Rattle.pg_types.specs.Inside.ItemSteps.{Meets, Misses};
 ghost use Rattle.pg_types.specs.Parameters.{Demand, between, items, is_separator as is_separator_byte, number, number_at, level_demands, level_of, refusal_from, refused_at, surplus, is_answer as is_answer_item, IsLevel};
 
 use crate::limits::{COST_MAX, LENGTH_MAX};
@@ -51,7 +51,8 @@ fn first_separator(rest: &[u8]) -> Option<usize>
 
 /// The first item of `rest` and what follows it.
 fn next_item(rest: &[u8]) -> Option<(&[u8], &[u8])>
-    ensures { MatchOption result (items rest.now ≡ []) (λ r. items rest.now ≡ r.0.now ∷ items r.1.now) }
+    ensures { MatchOption result (items rest.now ≡ [])
+        (λ r. items rest.now ≡ r.0.now ∷ items r.1.now) }
 {
     let (_, rest) = rest.split_at(separators_len(rest));
     if rest.is_empty() {
@@ -148,7 +149,8 @@ impl<'a> Items<'a> {
         ensures ranges { IfOk result (λ level. IsLevel level) }
         ensures rest { OnOk result (items self.new.rest.now ≡ drop 5 (items self.old.rest.now)) }
         ensures place { OnOk result (self.new.place ≡ self.old.place + 5) }
-        ensures passed { OnOk result (Meets (level_demands (items self.old.rest.now)) self.old self.new) }
+        ensures passed { OnOk result
+            (Meets (level_demands (items self.old.rest.now)) self.old self.new) }
         ensures refused { IfErr result (Misses (level_demands (items self.old.rest.now)) self.old) }
     {
         let pat_start = self.small_number(1, LENGTH_MAX)?;
@@ -169,7 +171,8 @@ impl<'a> Items<'a> {
     pub fn end(&self) -> Result<(), Refusal>
         requires { self.now.place ≤ PLACE_MAX }
         ensures passed { OnOk result (surplus self.now.place (items self.now.rest.now) ≡ None) }
-        ensures refused { IfErr result (λ refusal. surplus self.now.place (items self.now.rest.now) ≡ Some refusal) }
+        ensures refused { IfErr result
+            (λ refusal. surplus self.now.place (items self.now.rest.now) ≡ Some refusal) }
     {
         let Some((answer, rest)) = next_item(self.rest) else {
             return Ok(());

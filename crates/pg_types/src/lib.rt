@@ -1,5 +1,6 @@
-//! What every crate of PatGen speaks of: signs, weights and limits, the status of a position, totals, a layout's
-//! numbers, refusals, lines, the parameters of a run, and the cursor over windows.
+//! What every crate of PatGen speaks of: signs, weights and limits, the status of a position,
+//! totals, a layout's numbers, refusals, lines, the parameters of a run, and the cursor over
+//! windows.
 #![tactic(auto)]
 
 pub mod cursor;

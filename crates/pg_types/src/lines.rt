@@ -5,10 +5,11 @@ ghost use Rattle.pg_types.specs.Lines.{lines, is_line_feed, without_cr};
 
 use memchr::memchr;
 
-/// The first line of `rest`, without its LF and without one CR at its end, and what follows it; none exactly where
-/// `rest` is empty. A last piece without LF is a line too.
+/// The first line of `rest`, without its LF and without one CR at its end, and what follows it;
+/// none exactly where `rest` is empty. A last piece without LF is a line too.
 pub fn next_line(rest: &[u8]) -> Option<(&[u8], &[u8])>
-    ensures lines { MatchOption result (rest.now ≡ []) (λ r. lines rest.now ≡ r.0.now ∷ lines r.1.now) }
+    ensures lines { MatchOption result (rest.now ≡ [])
+        (λ r. lines rest.now ≡ r.0.now ∷ lines r.1.now) }
     ensures line { IfSome result (λ r. r.0.now ≡ without_cr (before_first is_line_feed rest.now)) }
     ensures rest { IfSome result (λ r. r.1.now ≡ after_first is_line_feed rest.now) }
     ensures shorter { IfSome result (λ r. length r.1.now < length rest.now) }

@@ -1,6 +1,6 @@
 //! The parameters of a run, and the reader of the file that holds them.
 ghost use Rattle.std.specs.Prelude.{◌≡◌, ◌<◌, ◌≤◌, ◌+◌, ◌-◌, ◌*◌, length, map, drop, slice_get, IfOk, IfErr, OnOk, All};
-ghost use Rattle.pg_types.specs.ItemSteps.{levels_refusal};
+ghost use Rattle.pg_types.specs.Inside.ItemSteps.{levels_refusal};
 ghost use Rattle.pg_types.specs.Limits.{items_end};
 ghost use Rattle.pg_types.specs.Reading.{Gives, FailsBy};
 ghost use Rattle.pg_types.specs.Parameters.{items as items_of, levels_of, surplus, parameters, IsLevel};
@@ -41,7 +41,8 @@ impl Model for Params {
 
     ghost view = { λ p. record { start = p.start; finish = p.finish; levels = p.levels.items } };
 
-    ghost invariant = { λ p. IsRun (record { start = p.start; finish = p.finish; levels = p.levels.items }) };
+    ghost invariant = { λ p. IsRun
+        (record { start = p.start; finish = p.finish; levels = p.levels.items }) };
 }
 
 impl Params {
@@ -82,9 +83,10 @@ impl Params {
     }
 }
 
-/// Reads a file of parameters: `start finish`, then for each level that is run `pat_start pat_finish good_wt bad_wt
-/// thresh`, and then perhaps the answer `y`, `Y`, `n` or `N` of patgen's last question, which has no effect. Items
-/// stand between blanks, TABs, CRs and LFs, in the order in which patgen asks for them.
+/// Reads a file of parameters: `start finish`, then for each level that is run `pat_start
+/// pat_finish good_wt bad_wt thresh`, and then perhaps the answer `y`, `Y`, `n` or `N` of patgen's
+/// last question, which has no effect. Items stand between blanks, TABs, CRs and LFs, in the order
+/// in which patgen asks for them.
 ///
 /// The first item that fails its demand is refused, with its number as the line.
 pub fn read_params(alloc: Global, bytes: &[u8]) -> Result<Params, ReadingError>
@@ -117,7 +119,8 @@ fn read_levels(
 ) -> Result<Vec<LevelParams>, ReadingError>
     requires place { items.old.place ≡ 3 }
     requires count { count ≤ LEVEL_MAX }
-    ensures value { IfOk result (λ levels. levels.items ≡ levels_of count (items_of items.old.rest.now)) }
+    ensures value { IfOk result
+        (λ levels. levels.items ≡ levels_of count (items_of items.old.rest.now)) }
     ensures ranges { IfOk result (λ levels. All IsLevel levels.items) }
     ensures place { OnOk result (items.new.place ≤ items_end) }
     ensures passed { OnOk result (levels_refusal count items.old

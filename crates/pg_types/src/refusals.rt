@@ -11,13 +11,15 @@ use thiserror::Error;
 pub enum Kind {
     /// A translate file has more than [`FILE_MAX`](crate::FILE_MAX) bytes.
     TranslateTooLong,
-    /// A minimum of a translate file's head is no number from 1 to 99, or is missing beside the other.
+    /// A minimum of a translate file's head is no number from 1 to 99, or is missing beside the
+    /// other.
     BadMinima,
     /// A mark byte is a digit, TAB, CR or `{`, or equals an earlier one.
     BadMark,
     /// A spelling is too long, or holds or begins with a byte that may not stand there.
     BadSpelling,
-    /// A spelling is a proper prefix of another, has another as proper prefix, or belongs to two letters.
+    /// A spelling is a proper prefix of another, has another as proper prefix, or belongs to two
+    /// letters.
     SpellingClash,
     /// A letter too many.
     TooManyLetters,
@@ -115,8 +117,8 @@ impl Kind {
 
 /// Where and why a file is refused. Lines and columns count from 1, and columns count bytes.
 ///
-/// Of a parameters file `line` is the number of the item and `column` is 0. Of a file that is too long, and of a packed
-/// table file, both are 0.
+/// Of a parameters file `line` is the number of the item and `column` is 0. Of a file that is too
+/// long, and of a packed table file, both are 0.
 #[derive(Clone, Copy, Debug, PartialEq, Eq)]
 pub struct Refusal {
     /// Why.

@@ -3,8 +3,8 @@ ghost use Rattle.std.specs.Prelude.{◌≡◌, ℕ, ◌+◌, ◌≤◌, ◌⊎�
 ghost use Rattle.std.specs.List.{list_any};
 ghost use Rattle.pg_translate.specs.Alphabets.{letters_of, spelling_of};
 ghost use Rattle.pg_translate.specs.Cuts.{cut};
-ghost use Rattle.pg_translate.specs.Items.{IsItem, IsCut, IsPrefix, IsLongest};
-ghost use Rattle.pg_translate.specs.Rules.{KeepsRules};
+ghost use Rattle.pg_translate.specs.Inside.Items.{IsItem, IsCut, IsPrefix, IsLongest};
+ghost use Rattle.pg_translate.specs.Inside.Rules.{KeepsRules};
 ghost use Rattle.pg_translate.specs.Spellings.{is_space};
 ghost use Rattle.pg_translate.specs.Tokens.{Token, item_at, is_ended};
 ghost use Rattle.pg_translate.specs.Tokens as token;
@@ -19,12 +19,14 @@ pub fn keeps_rules(table: &Table)
     let _ = &table.head;
 }
 
-/// Where an item begins a text, it is the first item of the text, whatever follows it; the spelling of each letter is
-/// an item; an item holds no blank, TAB, LF or CR; and where a line ends, no item stands.
+/// Where an item begins a text, it is the first item of the text, whatever follows it; the spelling
+/// of each letter is an item; an item holds no blank, TAB, LF or CR; and where a line ends, no item
+/// stands.
 pub fn items_are_read(table: &Table, place: Place)
     ensures read { (item : Token) (text more : List ℕ) → IsItem table.now place item text
         → item_at table.now place (text ++ more) ≡ Some (item, length text) }
-    ensures unbroken { (item : Token) (text : List ℕ) → IsItem table.now place item text → list_any is_space text
+    ensures unbroken { (item : Token) (text : List ℕ)
+        → IsItem table.now place item text → list_any is_space text
         ≡ false }
     ensures ended { (text : List ℕ) → is_ended text ≡ true → item_at table.now place text ≡ None }
     ensures spellings { (s : ℕ) → 2 ≤ s → s ≤ letters_of table.now + 1
@@ -41,8 +43,8 @@ pub fn cuts_agree(table: &Table, place: Place)
     keeps_rules(table);
 }
 
-/// The cut of a line, which is taken item by item, is its longest cut into items: its items, the column of each, and
-/// what is left of the line.
+/// The cut of a line, which is taken item by item, is its longest cut into items: its items, the
+/// column of each, and what is left of the line.
 pub fn cut_is_longest(table: &Table, place: Place)
     ensures { (line : List ℕ) → IsLongest table.now place 1 line (cut table.now place line) }
 {

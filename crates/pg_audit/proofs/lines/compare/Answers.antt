@@ -1,7 +1,7 @@
 use Rattle.std.proofs.Common.{◌≡◌, ◌+◌, Some, length, refl, true, false, sym, ap, ◌∙◌, arith}
 use Rattle.std.specs.Str.{bytes_eq}
 use Rattle.std.specs.Prelude.{not}
-use Rattle.pg_audit.specs.Cut.{first_whole, rest_whole}
+use Rattle.pg_audit.specs.Inside.Cut.{first_whole, rest_whole}
 use Rattle.pg_audit.specs.Differences.{whole_lines, difference_from}
 use Rattle.pg_audit.proofs.Cuts.{whole_length, other_first, same_first, filled_first, given_ends, both_end}
 use Rattle.pg_audit.proofs.Least.{is_least, missing_where, none_where_equal, some_differ}

@@ -1,6 +1,6 @@
-use Rattle.pg_trie.specs.Lists.{outputs_at}
+use Rattle.pg_trie.specs.Inside.Lists.{outputs_at}
 use Rattle.pg_select.specs.Positions.{values_of, covers_of}
-use Rattle.pg_hyph.specs.ListValues.{value_by, cover_by}
+use Rattle.pg_hyph.specs.Inside.ListValues.{value_by, cover_by}
 use Rattle.pg_hyph.proofs.Loops.{AtStart}
 use Rattle.pg_hyph.proofs.walk.walk.Given as goal
 

@@ -1,5 +1,5 @@
 use Rattle.std.proofs.Common.{ap, sym, ◌∙◌}
-use Rattle.pg_patterns.specs.Search.{is_after}
+use Rattle.pg_patterns.specs.Inside.Search.{is_after}
 use Rattle.pg_patterns.proofs.Raises.{told_by_last}
 use Rattle.pg_patterns.proofs.entries.comes_last.Goals as goal
 

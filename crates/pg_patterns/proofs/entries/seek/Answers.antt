@@ -1,6 +1,6 @@
 use Rattle.std.proofs.Common.{arith, rules}
 use Rattle.std.proofs.lemmas.List.Sorted.{IsPartitionPoint-from_clause}
-use Rattle.pg_patterns.specs.Search.{is_after}
+use Rattle.pg_patterns.specs.Inside.Search.{is_after}
 use Rattle.pg_patterns.proofs.Raises.{parted}
 use Rattle.pg_patterns.proofs.entries.seek.Goals as goal
 

@@ -1,6 +1,6 @@
 use Rattle.std.proofs.Common.{◌≡◌, ◌+◌, ◌≤◌, length}
 use Rattle.pg_translate.specs.Alphabets.{letters_of}
-use Rattle.pg_patterns.specs.Drafts.{IsDraft, draft_left, line_draft}
+use Rattle.pg_patterns.specs.Inside.Drafts.{IsDraft, draft_left, line_draft}
 use Rattle.pg_patterns.proofs.reader.read_line.Given as goal
 
 abbrev pub invariant-items : goal.invariant-items

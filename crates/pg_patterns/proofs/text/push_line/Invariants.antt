@@ -1,5 +1,5 @@
 use Rattle.std.proofs.Common.{◌≡◌, ◌++◌, drop}
-use Rattle.pg_patterns.specs.Search.{HasRank}
+use Rattle.pg_patterns.specs.Inside.Search.{HasRank}
 use Rattle.pg_patterns.specs.Texts.{line_from, pattern_line}
 use Rattle.pg_patterns.proofs.text.push_line.Given as goal
 

@@ -1,6 +1,6 @@
 use Rattle.std.proofs.Common.{◌≡◌, ◌+◌, ◌<◌, ◌≤◌, length, get_or, refl, arith, sym, ap, subst, ◌∙◌}
 use Rattle.std.specs.List.{All}
-use Rattle.pg_patterns.specs.Search.{HasRank}
+use Rattle.pg_patterns.specs.Inside.Search.{HasRank}
 use Rattle.pg_patterns.proofs.Sound.{each_sign, entry_bounds, entry_at}
 use Rattle.pg_patterns.proofs.Strings.{string_start, string_progress, line_step, next_string}
 use Rattle.pg_patterns.proofs.text.push_lines.Goals as goal

@@ -2,7 +2,7 @@ use Rattle.std.proofs.Common.{◌≡◌, false, true, nat_eq, sym, subst, ◌∙
 use Rattle.std.specs.Cmp.Lexicographic.{pointwise}
 use Rattle.std.specs.List.{starts_with}
 use Rattle.pg_patterns.specs.DottedSigns.{dotted_cmp}
-use Rattle.pg_plain.specs.Greatest.{entry_value, entry_cover}
+use Rattle.pg_plain.specs.Inside.Greatest.{entry_value, entry_cover}
 use Rattle.pg_types.proofs.EntryLists.{sorted_from}
 use Rattle.pg_plain.proofs.OneString.{string_begins, string_steps, string_stops, string_stops_ends}
 use Rattle.pg_plain.proofs.walk.raise_by_string.Goals as goal

@@ -1,4 +1,4 @@
-use Rattle.pg_plain.specs.Greatest.{entry_value, entry_cover}
+use Rattle.pg_plain.specs.Inside.Greatest.{entry_value, entry_cover}
 use Rattle.pg_plain.proofs.OneString.{StringLeft}
 use Rattle.pg_plain.proofs.walk.raise_by_string.Given as goal
 

@@ -1,6 +1,6 @@
 use Rattle.std.proofs.Common.{◌≡◌, ◌+◌, ◌-◌, ◌<◌, ◌≤◌, length, take, drop, refl, subst, arith}
-use Rattle.pg_plain.specs.Greatest.{entry_value, entry_cover}
-use Rattle.pg_plain.specs.Walks.{applies_from_at_least, applies_from}
+use Rattle.pg_plain.specs.Inside.Greatest.{entry_value, entry_cover}
+use Rattle.pg_plain.specs.Inside.Walks.{applies_from_at_least, applies_from}
 use Rattle.pg_plain.proofs.Starts.{Left, start_begins, start_steps, start_out, start_stops, start_ends}
 use Rattle.pg_plain.proofs.walk.raise_from.Goals as goal
 

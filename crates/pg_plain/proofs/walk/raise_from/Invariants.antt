@@ -1,5 +1,5 @@
-use Rattle.pg_plain.specs.Greatest.{entry_value, entry_cover}
-use Rattle.pg_plain.specs.Walks.{applies_from_at_least, applies_from}
+use Rattle.pg_plain.specs.Inside.Greatest.{entry_value, entry_cover}
+use Rattle.pg_plain.specs.Inside.Walks.{applies_from_at_least, applies_from}
 use Rattle.pg_plain.proofs.Starts.{Left}
 use Rattle.pg_plain.proofs.walk.raise_from.Given as goal
 

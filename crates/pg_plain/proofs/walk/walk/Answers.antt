@@ -1,7 +1,7 @@
 use Rattle.std.proofs.Common.{◌≡◌, length, subst, arith}
 use Rattle.pg_patterns.specs.Values.{applies}
-use Rattle.pg_plain.specs.Greatest.{entry_value, entry_cover}
-use Rattle.pg_plain.specs.Walks.{applies_not_before}
+use Rattle.pg_plain.specs.Inside.Greatest.{entry_value, entry_cover}
+use Rattle.pg_plain.specs.Inside.Walks.{applies_not_before}
 use Rattle.pg_plain.proofs.Starts.{Left, walk_begins, walk_steps, walk_ends}
 use Rattle.pg_plain.proofs.walk.walk.Goals as goal
 

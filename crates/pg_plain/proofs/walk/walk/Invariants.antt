@@ -1,6 +1,6 @@
 use Rattle.pg_patterns.specs.Values.{applies}
-use Rattle.pg_plain.specs.Greatest.{entry_value, entry_cover}
-use Rattle.pg_plain.specs.Walks.{applies_not_before}
+use Rattle.pg_plain.specs.Inside.Greatest.{entry_value, entry_cover}
+use Rattle.pg_plain.specs.Inside.Walks.{applies_not_before}
 use Rattle.pg_plain.proofs.Starts.{Left}
 use Rattle.pg_plain.proofs.walk.walk.Given as goal
 

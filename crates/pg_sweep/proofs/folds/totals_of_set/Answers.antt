@@ -1,6 +1,6 @@
 use Rattle.std.proofs.Common.{arith}
 use Rattle.pg_sweep.specs.Sweeps.{fold_totals}
-use Rattle.pg_sweep.specs.Given.{terms}
+use Rattle.pg_sweep.specs.Inside.Given.{terms}
 use Rattle.pg_sweep.proofs.Steps.{totals_step}
 use Rattle.pg_sweep.proofs.folds.totals_of_set.Goals as goal
 

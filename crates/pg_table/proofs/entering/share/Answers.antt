@@ -1,7 +1,7 @@
 use Rattle.std.proofs.Common.{◌≡◌, ℕ, ◌+◌, ◌-◌, ◌∷◌, List, map, refl, sym, ap, subst, ◌∙◌, arith}
 use Rattle.pg_outputs.proofs.ListLaws.{list_of-zero}
-use Rattle.pg_table.specs.Packed.{pairs}
-use Rattle.pg_table.specs.Sharing.{Shares, turned, with_ends}
+use Rattle.pg_table.specs.Inside.Packed.{pairs}
+use Rattle.pg_table.specs.Inside.Sharing.{Shares, turned, with_ends}
 use Rattle.pg_table.proofs.Recorded.{ends_more}
 use Rattle.pg_table.proofs.Sharing.{shares_more, pairs_none, pairs_more}
 use Rattle.pg_table.proofs.entering.share.Goals as goal

@@ -1,7 +1,7 @@
 use Rattle.std.proofs.Common.{◌≡◌, ◌-◌, ◌≤◌, length, map}
 use Rattle.pg_outputs.specs.Lists.{list_of, Grows}
-use Rattle.pg_table.specs.Packed.{pairs}
-use Rattle.pg_table.specs.Sharing.{Lists, Shares, turned, with_ends}
+use Rattle.pg_table.specs.Inside.Packed.{pairs}
+use Rattle.pg_table.specs.Inside.Sharing.{Lists, Shares, turned, with_ends}
 use Rattle.pg_table.proofs.entering.share.Given as goal
 
 abbrev pub invariant-loop-i : goal.invariant-loop-i

@@ -1,7 +1,7 @@
 use Rattle.std.proofs.Common.{◌≡◌, ◌≤◌, ℕ, List, [], ◌∷◌, inl, inr, length, take, slice_get, Some, All, sym, ap, subst, ◌∙◌, arith}
 use Rattle.std.proofs.lemmas.Bool.{cases_lt}
 use Rattle.std.proofs.lemmas.List.{take_all}
-use Rattle.pg_table.specs.Rows.{HasHeads, HasCell}
+use Rattle.pg_table.specs.Inside.Rows.{HasHeads, HasCell}
 use Rattle.pg_table.specs.Texts.{head_in}
 use Rattle.pg_table.proofs.EnteredStrings.{signs_within}
 use Rattle.pg_table.proofs.Filling.{row_last}

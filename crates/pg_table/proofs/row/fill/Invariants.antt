@@ -1,5 +1,5 @@
 use Rattle.std.proofs.Common.{◌≡◌, ℕ, ◌<◌, ◌≤◌, List, [], ◌∷◌, slice_get, Some, take}
-use Rattle.pg_table.specs.Rows.{IsRow, HasCell}
+use Rattle.pg_table.specs.Inside.Rows.{IsRow, HasCell}
 use Rattle.pg_table.specs.Texts.{head_in}
 use Rattle.pg_table.proofs.row.fill.Given as goal
 

@@ -1,6 +1,6 @@
 use Rattle.std.proofs.Common.{ℕ, List, take}
-use Rattle.pg_cells.specs.Walks.{IsAt}
-use Rattle.pg_table.specs.Rows.{HasHeads, IsRow, Fills}
+use Rattle.pg_cells.specs.Inside.Walks.{IsAt}
+use Rattle.pg_table.specs.Inside.Rows.{HasHeads, IsRow, Fills}
 use Rattle.pg_table.proofs.row.fill_string.Given as goal
 
 abbrev pub invariant-loop-s : goal.invariant-loop-s

@@ -1,4 +1,4 @@
-use Rattle.pg_dict.specs.Lent.{lent_word}
+use Rattle.pg_dict.specs.Inside.Lent.{lent_word}
 use Rattle.pg_table.specs.Lookups.{table_value}
 use Rattle.pg_table.proofs.totals.add_word.Goals as goal
 

@@ -1,6 +1,6 @@
 use Rattle.std.proofs.Common.{◌+◌, List, drop, ap, sym, ◌∙◌, arith}
 use Rattle.std.specs.List.{flat_map}
-use Rattle.pg_dict.specs.Lent.{lent_word}
+use Rattle.pg_dict.specs.Inside.Lent.{lent_word}
 use Rattle.pg_dict.specs.Word.{Word}
 use Rattle.pg_table.specs.Lookups.{table_marks}
 use Rattle.pg_select.specs.CountedPositions.{minima_of}

@@ -1,6 +1,6 @@
 use Rattle.std.proofs.Common.{◌≡◌, ap, ◌∙◌, rules}
 use Rattle.pg_texts.specs.CellsTexts.{cells_text}
-use Rattle.pg_texts.specs.Told.{cells_told}
+use Rattle.pg_texts.specs.Inside.Told.{cells_told}
 use Rattle.pg_texts.proofs.Layouts.{account_told}
 use Rattle.pg_texts.proofs.cells.cells_text.Goals as goal
 

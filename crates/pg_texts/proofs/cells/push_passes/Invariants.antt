@@ -1,5 +1,5 @@
 use Rattle.std.proofs.Common.{◌≡◌, ◌++◌, drop, map}
-use Rattle.pg_texts.specs.Told.{pass_told}
+use Rattle.pg_texts.specs.Inside.Told.{pass_told}
 use Rattle.pg_texts.specs.CellsTexts.{passes_cells_text}
 use Rattle.pg_texts.proofs.cells.push_passes.Given as goal
 

@@ -1,5 +1,5 @@
 use Rattle.std.proofs.Common.{◌+◌, sym, ◌∙◌}
-use Rattle.pg_dict.specs.Lent.{lent_word}
+use Rattle.pg_dict.specs.Inside.Lent.{lent_word}
 use Rattle.pg_translate.specs.Alphabets.{letters_of}
 use Rattle.pg_texts.proofs.WordSteps.{line_step, no_line_step, signs_known, signs_within}
 use Rattle.pg_texts.proofs.pattmp.pattmp_text.Goals as goal

@@ -1,6 +1,6 @@
 use Rattle.std.proofs.Common.{◌∙◌, sym, arith}
-use Rattle.pg_dict.specs.Lent.{lent_word}
-use Rattle.pg_dict.specs.Store.{stored_words}
+use Rattle.pg_dict.specs.Inside.Lent.{lent_word}
+use Rattle.pg_dict.specs.Inside.Store.{stored_words}
 use Rattle.pg_dict.proofs.Parts.{part_taken, part_passed, letters_from}
 use Rattle.pg_dict.proofs.dictionary.Dictionary.part.Goals as goal
 use Rattle.pg_dict.proofs.dictionary.Dictionary.part.Goals.{then-belongs+in_ok-push_word, else-belongs}

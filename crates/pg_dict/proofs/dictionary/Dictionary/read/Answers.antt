@@ -7,7 +7,7 @@ use Rattle.pg_types.specs.Lines.{lines}
 use Rattle.pg_translate.specs.Alphabets.{letters_of}
 use Rattle.pg_dict.specs.PositionedSigns.{Columns}
 use Rattle.pg_dict.specs.Word.{Word}
-use Rattle.pg_dict.specs.Store.{stored_words, is_sign_up_to}
+use Rattle.pg_dict.specs.Inside.Store.{stored_words, is_sign_up_to}
 use Rattle.pg_dict.proofs.Sizes.{size_of, size_of-cons, size_of-lines}
 use Rattle.pg_dict.proofs.Lines.{next_read, next_refused, words_short, starts, starts_sound, starts_fit}
 use Rattle.pg_dict.proofs.Told.{signs_at_most}

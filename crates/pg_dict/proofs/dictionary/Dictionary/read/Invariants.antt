@@ -4,7 +4,7 @@ use Rattle.pg_types.specs.Lines.{lines}
 use Rattle.pg_translate.specs.Alphabets.{letters_of}
 use Rattle.pg_types.specs.Reading.{both_parts}
 use Rattle.pg_dict.specs.Words.{words_from}
-use Rattle.pg_dict.specs.Store.{stored_words, IsSound, IsFit}
+use Rattle.pg_dict.specs.Inside.Store.{stored_words, IsSound, IsFit}
 use Rattle.pg_dict.proofs.Sizes.{size_of}
 use Rattle.pg_dict.proofs.dictionary.Dictionary.read.Given as goal
 

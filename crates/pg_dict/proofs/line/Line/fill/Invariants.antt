@@ -2,8 +2,8 @@ use Rattle.std.proofs.Common.{◌≡◌, ◌≤◌, ◌+◌, ◌-◌, length}
 use Rattle.pg_types.specs.declared.marks.Mark.TheVariants.{Nothing}
 use Rattle.pg_types.specs.declared.limits.TheConstants.{WORD_LETTERS_MAX}
 use Rattle.pg_translate.specs.Alphabets.{letters_of}
-use Rattle.pg_dict.specs.Store.{columns_of, IsFit}
-use Rattle.pg_dict.specs.ReadColumns.{columns_after}
+use Rattle.pg_dict.specs.Inside.Store.{columns_of, IsFit}
+use Rattle.pg_dict.specs.Inside.ReadColumns.{columns_after}
 use Rattle.pg_dict.proofs.line.Line.fill.Given as goal
 
 abbrev pub invariant-items : goal.invariant-items

@@ -2,9 +2,9 @@ use Rattle.std.proofs.Common.{◌≡◌, ◌+◌, ◌++◌, ◌∷◌, [], List,
 use Rattle.pg_translate.specs.Alphabets.{letters_of}
 use Rattle.pg_dict.specs.declared.store.Store.{Store}
 use Rattle.pg_dict.specs.declared.store.Stored.{Stored}
-use Rattle.pg_dict.specs.LineStarts.{word_reading}
-use Rattle.pg_dict.specs.Entries.{with_word}
-use Rattle.pg_dict.specs.Store.{stored_words, IsSound}
+use Rattle.pg_dict.specs.Inside.LineStarts.{word_reading}
+use Rattle.pg_dict.specs.Inside.Entries.{with_word}
+use Rattle.pg_dict.specs.Inside.Store.{stored_words, IsSound}
 use Rattle.pg_dict.proofs.Enters.{enters}
 use Rattle.pg_dict.proofs.line.Line.read_word.Goals as goal
 

@@ -1,5 +1,5 @@
 use Rattle.std.proofs.Common.{refl}
-use Rattle.pg_dict.specs.Store.{columns_of}
+use Rattle.pg_dict.specs.Inside.Store.{columns_of}
 use Rattle.pg_translate.proofs.ItemKinds.{no_edge}
 use Rattle.pg_dict.proofs.Takes.{takes_item, takes_letter}
 use Rattle.pg_dict.proofs.line.Line.take.Goals as goal

@@ -1,6 +1,6 @@
 use Rattle.std.proofs.Common.{subst}
 use Rattle.pg_outputs.specs.Lists.{OneHeadEach}
-use Rattle.pg_outputs.specs.Records.{AreShared}
+use Rattle.pg_outputs.specs.Inside.Records.{AreShared}
 use Rattle.pg_outputs.proofs.ListLaws.{one_head_each}
 use Rattle.pg_outputs.proofs.lists.Outputs.len.Goals as goal
 

@@ -1,6 +1,6 @@
 use Rattle.std.proofs.Common.{ℕ, List, length, nat_eq, ap, ◌∙◌}
 use Rattle.std.proofs.lemmas.Bool.{eq-eqb}
-use Rattle.pg_plain.specs.Strings.{has_signs_up_to}
+use Rattle.pg_plain.specs.Inside.Strings.{has_signs_up_to}
 use Rattle.pg_plain.proofs.Counted.{signs_told}
 use Rattle.pg_plain.proofs.Known.{up_to_told}
 use Rattle.pg_plain.proofs.engine.PlainEngineEngine.count_numbered.Goals as goal

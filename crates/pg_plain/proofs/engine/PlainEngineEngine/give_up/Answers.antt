@@ -1,5 +1,5 @@
 use Rattle.std.proofs.Common.{◌≡◌, ℕ, true, List, length, sym, ap, subst, ◌∙◌}
-use Rattle.pg_plain.specs.Strings.{is_string, has_signs_up_to}
+use Rattle.pg_plain.specs.Inside.Strings.{is_string, has_signs_up_to}
 use Rattle.pg_plain.proofs.Counted.{counted_len, counted_good}
 use Rattle.pg_plain.proofs.Entered.{window_string}
 use Rattle.pg_plain.proofs.engine.PlainEngineEngine.give_up.Goals as goal

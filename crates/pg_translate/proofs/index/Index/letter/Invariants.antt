@@ -1,4 +1,4 @@
-use Rattle.pg_translate.specs.Fronts.{pairs}
+use Rattle.pg_translate.specs.Inside.Fronts.{pairs}
 use Rattle.pg_translate.proofs.Walks.{HasWalked}
 use Rattle.pg_translate.proofs.index.Index.letter.Given as goal
 

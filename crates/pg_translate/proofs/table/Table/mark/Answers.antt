@@ -1,4 +1,4 @@
-use Rattle.pg_translate.specs.Heads.{head_marks}
+use Rattle.pg_translate.specs.Inside.Heads.{head_marks}
 use Rattle.pg_translate.proofs.RuleLaws.{keeps}
 use Rattle.pg_translate.proofs.Unbroken.{mark_begun, fourth_mark}
 use Rattle.pg_translate.proofs.table.Table.mark.Goals as goal

@@ -2,7 +2,7 @@ use Rattle.std.proofs.Common.{◌≡◌, List, [], ℕ, map, Ok, subst}
 use Rattle.std.proofs.lemmas.Result.{err_from_is_err_and}
 use Rattle.pg_types.specs.Lines.{lines}
 use Rattle.pg_types.specs.Reading.{Fails, first_refusal}
-use Rattle.pg_translate.specs.Fronts.{pairs}
+use Rattle.pg_translate.specs.Inside.Fronts.{pairs}
 use Rattle.pg_translate.specs.Tables.{spelling_with_sign, spelling_checks, spellings_from}
 use Rattle.pg_translate.proofs.TableReading.{read_bad_head, read_bad_letters, read_whole, read_sound}
 use Rattle.pg_translate.proofs.table.Table.read.Goals as goal

@@ -1,0 +1,9 @@
+-- What only contracts between layers and proofs need.
+pub mod Running
+pub mod Store
+pub mod ReadColumns
+pub mod Steps
+pub mod LineStarts
+pub mod Entries
+pub mod Lent
+pub mod Written

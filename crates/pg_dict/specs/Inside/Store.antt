@@ -1,0 +1,62 @@
+-- What a store holds.
+use Rattle.std.specs.Prelude.{◌≡◌, ◌≤◌, ◌+◌, ◌*◌, ℕ, Bool, true, ◌&&◌, nat_le, List, map, length, slice_range, All}
+use Rattle.std.specs.List.{list_all, flat_map}
+use Rattle.pg_types.specs.declared.limits.TheConstants.{FILE_MAX}
+use Rattle.pg_dict.specs.Word.{Word, IsWord, is_weight}
+use Rattle.pg_dict.specs.PositionedSigns.{Columns}
+use Rattle.pg_dict.specs.declared.store.Store.{Store}
+use Rattle.pg_dict.specs.declared.store.Stored.{Stored}
+
+-- the columns of a store
+abbrev pub columns_of : Store → Columns
+columns_of s = record {
+  signs = s.signs.items;
+  hyphens = s.hyphens.items;
+  weights = s.weights.items;
+  cares = s.cares.items;
+}
+
+-- the word that lies at a place of the columns
+abbrev pub word_at : Columns → Stored → Word
+word_at c w = record {
+  signs = slice_range c.signs w.start w.end;
+  hyphens = slice_range c.hyphens w.start w.end;
+  weights = slice_range c.weights w.start w.end;
+  cares = slice_range c.cares w.start w.end;
+  weight = w.weight;
+}
+
+-- the words of a store
+abbrev pub stored_words : Store → List Word
+stored_words s = map (word_at (columns_of s)) s.words.items
+
+-- the signs of all words, joined
+abbrev pub all_signs : List Word → List ℕ
+all_signs words = flat_map (λ (w : Word). w.signs) words
+
+-- a word lies within columns of this length
+abbrev pub lies_within : ℕ → Stored → Bool
+lies_within n w = nat_le w.start w.end && nat_le w.end n
+
+-- the four columns have one length, and are the words joined
+pub record IsSound (s : Store) : Type 0 where
+  pub hyphens_len : length s.hyphens.items ≡ length s.signs.items
+  pub weights_len : length s.weights.items ≡ length s.signs.items
+  pub cares_len : length s.cares.items ≡ length s.signs.items
+  pub within : list_all (lies_within (length s.signs.items)) s.words.items ≡ true
+  pub joined : s.signs.items ≡ all_signs (stored_words s)
+  pub words : All IsWord (stored_words s)
+
+-- a letter takes a byte of the file, and each word has two edges
+pub record IsDictionary (s : Store) : Type 0 where
+  pub sound : IsSound s
+  pub few : length s.signs.items ≤ FILE_MAX + 2 * length s.words.items
+
+-- whether a number is a sign up to this
+abbrev pub is_sign_up_to : ℕ → ℕ → Bool
+is_sign_up_to n sign = nat_le 1 sign && nat_le sign n
+
+-- the signs of the columns are at most this number, and the weights are within their limit
+pub record IsFit (n : ℕ) (s : Store) : Type 0 where
+  pub signs : list_all (is_sign_up_to n) s.signs.items ≡ true
+  pub weights : list_all is_weight s.weights.items ≡ true

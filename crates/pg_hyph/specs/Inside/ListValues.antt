@@ -1,0 +1,26 @@
+-- What the values and marks of a string's list give at the position of their dot.
+use Rattle.std.specs.Prelude.{ℕ, ◌&&◌, nat_lt, nat_le, if◌then◌else◌, List}
+use Rattle.pg_select.specs.declared.pass.Pass.{Pass}
+use Rattle.pg_select.specs.Positions.{bit}
+use Rattle.pg_select.specs.Windows.{is_within}
+use Rattle.pg_trie.specs.Inside.Lists.{outputs_at}
+use Rattle.pg_trie.specs.Maps.{Maps}
+use Rattle.pg_trie.specs.declared.mark.TheConstants.{HOPELESS}
+
+-- the lists of the strings of a trie
+abbrev pub lists_in : Maps → List ℕ → List (ℕ × ℕ)
+lists_in m = outputs_at m.patterns m.hopeless
+
+-- the value itself, and 0 for a mark
+abbrev pub value_given : ℕ → ℕ
+value_given v = if nat_lt v HOPELESS then v else 0
+
+-- the value that a record of a string's list gives to the position of its dot. It is the same for
+-- every number of signs
+abbrev pub value_by : ℕ → ℕ × ℕ → ℕ
+value_by n x = value_given x.0
+
+-- 1 where it covers the window of that position: it is at least the level, as a mark always is, and
+-- its string stands in the window
+abbrev pub cover_by : Pass → ℕ → ℕ × ℕ → ℕ
+cover_by pass n x = bit (nat_le pass.level x.0 && is_within pass.len pass.dot n x.1)

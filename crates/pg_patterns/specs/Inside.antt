@@ -1,0 +1,3 @@
+-- What only contracts between layers and proofs need.
+pub mod Search
+pub mod Drafts

@@ -1,0 +1,32 @@
+-- What the entries of a map of places give at the positions of a word.
+use Rattle.std.specs.Prelude.{ℕ, Bool, ◌&&◌, if◌then◌else◌, List, [], ◌∷◌, length, max}
+use Rattle.pg_select.specs.declared.pass.Pass.{Pass}
+use Rattle.pg_select.specs.Positions.{bit, Raises}
+use Rattle.pg_select.specs.Windows.{is_within}
+
+-- the greatest number of the entries whose places pass the test, 0 where there is none
+abbrev pub greatest : {X : Type 0} → ((List ℕ × ℕ) × X → ℕ)
+    → (List ℕ × ℕ → Bool) → List ((List ℕ × ℕ) × X) → ℕ
+greatest number test [] = 0
+greatest number test (e ∷ es) = max (if test e.0 then number e else 0) (greatest number test es)
+
+-- for each position the greatest number of the entries whose places pass its test
+abbrev pub greatest_at : {X : Type 0} → ((List ℕ × ℕ) × X → ℕ)
+    → (ℕ → List ℕ × ℕ → Bool) → List ((List ℕ × ℕ) × X) → ℕ → ℕ
+greatest_at number test es p = greatest number (test p) es
+
+-- the numbers of a word's positions were raised by the entries whose places pass the test of the
+-- position
+abbrev pub RaisesBy : {X : Type 0} → ((List ℕ × ℕ) × X → ℕ)
+    → (ℕ → List ℕ × ℕ → Bool) → List ((List ℕ × ℕ) × X) → (ℕ → ℕ) → (ℕ → ℕ) → Type 0
+RaisesBy number test es before after = Raises (greatest_at number test es) before after
+
+-- the value that an entry gives to the position of its dot
+abbrev pub entry_value : {X : Type 0} → (X → ℕ) → (List ℕ × ℕ) × X → ℕ
+entry_value given e = given e.1
+
+-- 1 where it covers the window of that position in a pass: it covers at the level, and its string
+-- stands in the window
+abbrev pub entry_cover : {X : Type 0} → (ℕ → X → Bool) → Pass → (List ℕ × ℕ) × X → ℕ
+entry_cover covers_at pass e =
+    bit (covers_at pass.level e.1 && is_within pass.len pass.dot (length e.0.0) e.0.1)

@@ -1,0 +1,6 @@
+-- What only contracts between layers and proofs need.
+pub mod Laws
+pub mod Packed
+pub mod Raising
+pub mod Rows
+pub mod Sharing

@@ -1,0 +1,27 @@
+-- How the records of outputs stand for the lists that they share.
+use Rattle.std.specs.Prelude.{◌≡◌, ℕ, ◌+◌, List, map, fold, reverse, length, slice_get, Some}
+use Rattle.pg_types.specs.Tails.{suffixes}
+use Rattle.pg_outputs.specs.declared.records.Record.{Record}
+use Rattle.pg_outputs.specs.Lists.{list_of, OneHeadEach}
+use Rattle.pg_outputs.specs.Inside.Records.{AreShared}
+use Rattle.pg_table.specs.Texts.{with_list}
+
+-- lists of dots with their values
+abbrev pub Lists : Type 0
+Lists = List (List (ℕ × ℕ))
+
+-- a dot with its value, in the other order
+abbrev pub turned : ℕ × ℕ → ℕ × ℕ
+turned x = (x.1, x.0)
+
+-- lists, with the ends of one more, from the shortest on
+abbrev pub with_ends : Lists → List (ℕ × ℕ) → Lists
+with_ends lists l = fold with_list lists (reverse (suffixes l))
+
+-- the records stand for the lists, in their order
+pub record Shares (records : List Record) (lists : Lists) : Type 0 where
+  pub size : length records ≡ length lists
+  pub each : (i : ℕ) (l : List (ℕ × ℕ)) → slice_get lists i ≡ Some l
+      → list_of records (i + 1) ≡ map turned l
+  pub one_head : OneHeadEach records
+  pub shared : AreShared records

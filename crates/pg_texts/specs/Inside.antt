@@ -1,0 +1,3 @@
+-- What only contracts between layers and proofs need.
+pub mod Told
+pub mod Found

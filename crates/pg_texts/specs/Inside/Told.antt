@@ -1,0 +1,34 @@
+-- What a run tells of the cells, where each of its records has a layout.
+use Rattle.std.specs.Prelude.{ℕ, map, All, IsSome, Option, unwrap_or}
+use Rattle.pg_types.specs.declared.marks.Layout.{Layout}
+use Rattle.pg_select.specs.declared.pass.Pass.{Pass}
+use Rattle.pg_driver.specs.declared.records.PassRecord.{PassRecord}
+use Rattle.pg_driver.specs.declared.records.LevelRecord.{LevelRecord}
+use Rattle.pg_driver.specs.Sound.{Finished}
+use Rattle.pg_driver.specs.Layouts.{CellsAccount}
+
+-- every layout of a run is there
+pub record HasLayouts (r : Finished) : Type 0 where
+  pub first : IsSome r.first_layout
+  pub passes : All (λ (p : PassRecord). IsSome p.layout) r.passes
+  pub levels : All (λ (l : LevelRecord). IsSome l.layout) r.levels
+
+-- a layout that is there
+abbrev pub layout_there : Option Layout → Layout
+layout_there layout = unwrap_or layout (record { taken = 0; top = 0; tails = 0 })
+
+-- what a record of a pass tells of the cells, and a record of a level
+abbrev pub pass_told : PassRecord → Pass × ℕ × ℕ
+pass_told r = let l = layout_there r.layout in
+    (record { level = r.level; len = r.len; dot = r.dot }, l.taken, l.top)
+
+abbrev pub level_told : LevelRecord → ℕ × Layout
+level_told r = (r.level, layout_there r.layout)
+
+-- what a run tells of the cells
+abbrev pub cells_told : Finished → CellsAccount
+cells_told r = record {
+  start = layout_there r.first_layout;
+  passes = map pass_told r.passes;
+  levels = map level_told r.levels;
+}

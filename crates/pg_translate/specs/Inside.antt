@@ -1,0 +1,8 @@
+-- What only contracts between layers and proofs need.
+pub mod Answers
+pub mod Texts
+pub mod Fronts
+pub mod Sound
+pub mod Items
+pub mod Rules
+pub mod Heads
