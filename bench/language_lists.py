@@ -24,7 +24,7 @@ PATTERN_PACKAGES = {
     "texlive-lang-english": "en-gb en-us",
     "texlive-lang-european": "da et ga hr hsb hu is kmr lt lv nb nl nn oc ro sl sv tr",
     "texlive-lang-french": "eu fr",
-    "texlive-lang-german": "de-1901 de-1996",
+    "texlive-lang-german": "de-1901 de-1996 de-ch-1901",
     "texlive-lang-greek": "el-monoton",
     "texlive-lang-italian": "it",
     "texlive-lang-other": "af bn eo gu hi hy id ml te th",
@@ -44,6 +44,7 @@ cs          | Czech                | hunspell-cs       | hunspell/cs_CZ.dic
 da          | Danish               | wdanish           | dict/danish
 de-1901     | German of 1901       | wogerman          | dict/ogerman
 de-1996     | German of 1996       | wngerman          | dict/ngerman
+de-ch-1901  | German, Swiss        | wswiss            | dict/swiss
 el-monoton  | Greek                | hunspell-el       | hunspell/el_GR.dic
 en-gb       | English, British     | wbritish          | dict/british-english
 en-us       | English, American    | wamerican         | dict/american-english
@@ -75,6 +76,7 @@ pl          | Polish               | wpolish           | dict/polish
 pt          | Portuguese           | wportuguese       | dict/portuguese
 ro          | Romanian             | hunspell-ro       | hunspell/ro_RO.dic
 ru          | Russian              | hunspell-ru       | hunspell/ru_RU.dic
+sh-cyrl     | Serbo-Croatian       | hunspell-sr       | hunspell/sr_RS.dic
 sh-latn     | Serbian, Latin       | hunspell-sr       | hunspell/sr_Latn_RS.dic
 sk          | Slovak               | hunspell-sk       | hunspell/sk_SK.dic
 sl          | Slovenian            | hunspell-sl       | hunspell/sl_SI.dic
@@ -96,11 +98,12 @@ LONGEST = 48  # letters of a word, by patgen
 
 
 class WordList:
-    """One word list: its key, its name, the tag of the patterns that go with it, the package and path of its file, and what reads it
-    where its hyphens are marked by hand."""
+    """One word list: its key, its name, the tag of the patterns that go with it, the package and path of its file, what reads it where
+    its hyphens are marked by hand, and whether all its words are taken, however many they are."""
 
-    def __init__(self, key, name, tag, package, path, read=None):
-        self.key, self.name, self.tag, self.package, self.path, self.read = key, name, tag, package, path, read
+    def __init__(self, key, name, tag, package, path, read=None, is_whole=False):
+        self.key, self.name, self.tag, self.package, self.path = key, name, tag, package, path
+        self.read, self.is_whole = read, is_whole
 
     @property
     def by_hand(self):
@@ -129,6 +132,7 @@ def hand_marked():
     found.append(WordList("tugboat", "English, TUGboat's exceptions", "en-us", "texlive-base", EXCEPTIONS, tex_exceptions))
     found.append(WordList("webster", "English, Webster of 1913", "en-us", "dict-gcide", WEBSTER, webster))
     found.append(WordList("compounds", "Norwegian, compounds", "nb", "norwegian (source)", NORWEGIAN, compounds))
+    found.append(WordList("compounds-all", "Norwegian, compounds, all", "nb", "norwegian (source)", NORWEGIAN, compounds, is_whole=True))
     return found
 
 

@@ -27,8 +27,10 @@ def totals(found):
 
 def equality(results):
     """Whether both pattern files are patgen's, or what stopped it."""
-    said = [equal_in(results, name) for name in ("five", "eight")]
-    return said[0] if said[0] == said[1] else f"five: {said[0]}; eight: {said[1]}"
+    said = {name: equal_in(results, name) for name in ("five", "eight")}
+    if said["five"] == said["eight"]:
+        return said["five"]
+    return "; ".join(f"{name}: {its}" for name, its in said.items() if its)
 
 
 def equal_in(results, name):
@@ -59,14 +61,29 @@ def not_needed(results):
     return f"{number(prune['removed'])} of {number(all_of)} ({100 * prune['removed'] / all_of:.0f} %)"
 
 
+def seconds(results, name):
+    """The seconds of generate and of patgen by one set, and their ratio where it says something."""
+    ours, theirs = results.get(name), results.get(f"patgen {name}")
+    if not ours or not theirs or "stopped" in ours:
+        return ""
+    says = "stopped" not in theirs and theirs["seconds"] >= LEAST
+    return f"{ours['seconds']:.2f}, {theirs['seconds']:.2f}" + (f": {ours['seconds'] / theirs['seconds']:.2f}" if says else "")
+
+
+def both_sets(results):
+    """The cells of both sets of levels, and whether their patterns are patgen's."""
+    cells = [cell for name in ("five", "eight") for cell in (totals(results.get(name)), seconds(results, name))]
+    return " | ".join([*cells, equality(results)])
+
+
 def language_rows(rows):
     """The table of the languages."""
-    yield ("| Language | Letters | Words, of all | Hyphens | Five levels | Eight levels | Equal to patgen's | Published entries not needed | Winner of the sweep |")
-    yield "|---|---|---|---|---|---|---|---|---|"
+    yield "| Language | Letters | Words, of all | Hyphens | Five levels | Seconds | Eight levels | Seconds | Equal to patgen's | Published entries not needed | Winner of the sweep |"
+    yield "|---|---|---|---|---|---|---|---|---|---|---|"
     for words, results in rows:
         made = results["words"]
         yield (f"| {words.name} | {made['letters']} | {number(made['words'])} of {number(made['whole'])} | {number(made['hyphens'])} | "
-               f"{totals(results.get('five'))} | {totals(results.get('eight'))} | {equality(results)} | {not_needed(results)} | {winner(results)} |")
+               f"{both_sets(results)} | {not_needed(results)} | {winner(results)} |")
 
 
 def share(results):
@@ -80,13 +97,13 @@ def share(results):
 
 def hand_rows(rows):
     """The table of the lists that are marked by hand."""
-    yield "| List | Letters | Words | Hyphens | Published patterns | Five levels | Eight levels | Equal to patgen's | Winner of the sweep |"
-    yield "|---|---|---|---|---|---|---|---|---|"
+    yield "| List | Letters | Words | Hyphens | Published patterns | Five levels | Seconds | Eight levels | Seconds | Equal to patgen's | Winner of the sweep |"
+    yield "|---|---|---|---|---|---|---|---|---|---|---|"
     for words, results in rows:
         made = results["words"]
         size = number(made["words"]) + (f" of {number(made['whole'])}" if made["words"] < made["whole"] else "")
         yield (f"| {words.name} | {made['letters']} | {size} | {number(made['hyphens'])} | {share(results)} | "
-               f"{totals(results.get('five'))} | {totals(results.get('eight'))} | {equality(results)} | {winner(results)} |")
+               f"{both_sets(results)} | {winner(results)} |")
 
 
 def alone(letter):
@@ -104,31 +121,27 @@ def lacking_rows(rows):
             yield f"| {words.name} | {', '.join(often)} |"
 
 
+# The steps whose seconds are told, each with what it is called.
+STEPS = {"words": "marking", "patgen five": "patgen, five", "five": "generate", "audit five": "audit", "patgen eight": "patgen, eight", "eight": "generate",
+         "audit eight": "audit", "published": "published", "prune": "prune", "sweep": "sweep"}
+
+
 def cost(found):
-    return f"{found['seconds']:.2f} s, {found['memory']:.0f} MB"
-
-
-def run_costs(results, name):
-    """What the runs of one set cost: generate, patgen, their ratio, and the audit."""
-    ours, theirs = results.get(name), results.get(f"patgen {name}")
-    if not ours or not theirs or "stopped" in ours:
-        return ["", "", "", ""]
-    is_ended = "stopped" not in theirs
-    ratio = f"{ours['seconds'] / theirs['seconds']:.2f}" if is_ended and theirs["seconds"] >= LEAST else ""
-    audit = results.get(f"audit {name}", {})
-    return [cost(ours), cost(theirs) + ("" if is_ended else ", stopped"), ratio, f"{audit['seconds']:.1f} s, {audit['answer']}" if "answer" in audit else ""]
+    """What one step took: its seconds, and its memory and answer where it has them."""
+    if "seconds" not in found:
+        return found.get("stopped", "")
+    said = [f"{found['seconds']:.2f} s"] + ([f"{found['memory']:.0f} MB"] if "memory" in found else [])
+    return ", ".join([*said, *(found[key] for key in ("answer",) if key in found), *(["stopped"] if "stopped" in found else [])])
 
 
 def cost_rows(rows):
-    """The table of seconds and memory."""
-    yield "| List | Five: generate | patgen | Ratio | audit | Eight: generate | patgen | Ratio | audit | prune | sweep |"
-    yield "|---|---|---|---|---|---|---|---|---|---|---|"
+    """The table of seconds and memory, with the sums of the seconds at its end."""
+    yield f"| List | {' | '.join(STEPS.values())} |"
+    yield "|---|" + "---|" * len(STEPS)
     for words, results in rows:
-        cells = run_costs(results, "five") + run_costs(results, "eight")
-        for name in ("prune", "sweep"):
-            found = results.get(name, {})
-            cells.append(cost(found) if "seconds" in found else "")
-        yield f"| {words.name} | {' | '.join(cells)} |"
+        yield f"| {words.name} | {' | '.join(cost(results.get(name, {})) for name in STEPS)} |"
+    sums = [sum(results.get(name, {}).get("seconds", 0) for _, results in rows) for name in STEPS]
+    yield f"| All, {number(round(sum(sums)))} s | {' | '.join(f'{number(round(of))} s' for of in sums)} |"
 
 
 def package_rows(versions):
@@ -176,15 +189,17 @@ def picture(title, levels):
 
 
 def write_page(root, rows, hand, versions, shown):
-    """Writes the tables into the page, and the picture of the levels of one list."""
+    """Writes the tables into the page, and the picture of the levels of one list where there is one."""
     path = os.path.join(root, "docs", "LANGUAGES.md")
     with open(path, encoding="utf-8") as file:
         page = file.read()
-    tables = {"The languages": language_rows(rows), "Lists that are marked by hand": hand_rows(hand), "Letters that patterns lack": lacking_rows(rows), "What it cost": cost_rows(rows + hand),
-              "The packages": package_rows(versions)}
+    tables = {"The languages": language_rows(rows), "Lists that are marked by hand": hand_rows(hand), "Letters that patterns lack": lacking_rows(rows),
+              "What it cost": cost_rows(rows + hand), "The packages": package_rows(versions)}
     page = with_tables(page, tables)
     with open(path, "w", encoding="utf-8") as file:
         file.write(page)
+    if not shown:
+        return
     words, results = shown
     with open(os.path.join(root, "docs", "levels.svg"), "w", encoding="utf-8") as file:
         file.write(picture(f"{words.name}, {number(results['words']['words'])} words, the eight levels", results["eight"]["levels"]))

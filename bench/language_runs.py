@@ -19,7 +19,8 @@ NO_LEVEL = "2 1\n"
 SETS = {"five": FIVE, "eight": EIGHT, "three": THREE}
 SWEEP = ["4", "3", "1"]  # folds, and what an error and a missed hyphen cost
 
-MOST_BYTES = 2**26  # of an input file of PatGen
+# The rounds: each list goes through one before the next one begins, since the first tells most.
+ROUNDS = FIRST, SECOND, THIRD = ("patterns", "audits", "sweeps")
 
 
 class Stopped(Exception):
@@ -36,24 +37,28 @@ class Runs:
         self.results = read_results(self.folder)
 
     def steps(self):
-        """The steps in their order: a name and what it does."""
-        yield "words", self.make_files
+        """The steps in their order: the round of each, its name, and what it does."""
+        yield FIRST, "words", self.make_files
         for name in ("five", "eight"):
-            yield f"patgen {name}", functools.partial(self.theirs, name)
+            yield FIRST, f"patgen {name}", functools.partial(self.theirs, name)
             if not self.options.patgen:
-                yield name, functools.partial(self.made, name)
-                yield f"audit {name}", functools.partial(self.audited, name)
+                yield FIRST, name, functools.partial(self.made, name)
         if not self.options.patgen:
-            yield "published", self.count_published
-            yield "sweep", self.sweep
+            yield FIRST, "published", self.count_published
             if not self.words.by_hand:
-                yield "prune", self.prune
+                yield FIRST, "prune", self.prune
+            for name in ("five", "eight"):
+                yield SECOND, f"audit {name}", functools.partial(self.audited, name)
+            yield THIRD, "sweep", self.sweep
 
-    def all(self, tell):
-        """Does each step that has no result yet."""
-        for name, step in self.steps():
-            if name in self.results and (name != "words" or self.is_done() or self.has_files()):
-                continue
+    def do(self, which, tell):
+        """Does each step of a round that has no result yet, and makes the files once more where they are gone."""
+        if self.is_done():
+            return
+        steps = [(name, step) for its, name, step in self.steps() if its == which and name not in self.results]
+        if steps and steps[0][0] != "words" and not self.has_files():
+            steps.insert(0, ("words", self.make_files))
+        for name, step in steps:
             began = time.time()
             try:
                 self.results[name] = step()
@@ -61,11 +66,12 @@ class Runs:
                 self.results[name] = {"stopped": str(stopped)}
             self.keep()
             tell(f"{self.words.key}: {name}, {time.time() - began:.0f} s")
-        for name in set(os.listdir(self.folder)) - {"results.json"} if self.is_done() and not self.options.patgen else ():
-            os.remove(self.path(name))
+        if self.is_done() and not self.options.patgen:
+            for name in set(os.listdir(self.folder)) - {"results.json"}:
+                os.remove(self.path(name))
 
     def is_done(self):
-        return all(name in self.results for name, _ in self.steps())
+        return all(name in self.results for _, name, _ in self.steps())
 
     def has_files(self):
         return all(os.path.exists(os.path.join(self.folder, name)) for name in ("translate", "published", "whole", "words"))
@@ -94,19 +100,20 @@ class Runs:
     def make_files(self):
         """Writes the files that the runs take: published patterns, translate file, all words, and so many of them with their hyphens
         marked."""
+        began = time.process_time()
         patterns, path = Patterns(self.packages, self.words.tag), self.packages.find(self.words.path)
         if self.words.by_hand:
             kept, left_out, lacking = kept_marked(self.words.read(path), patterns)
         else:
             kept, left_out, lacking = kept_words(plain_words(path), patterns, self.words.tag)
-        most, mark = self.options.most, patterns.missed_mark()
-        chosen = kept[:: -(-len(kept) // most)] if most else kept
+        mark, chosen = patterns.missed_mark(), part_of(kept, 0 if self.words.is_whole else self.options.most)
         marked = [word.replace("-", mark) if self.words.by_hand else mark.join(patterns.pieces(word)) for word in chosen]
         whole = [] if self.words.by_hand else kept
         put_files(self.folder, {"translate": patterns.translate().encode(), "published": text_of_lines(patterns.lines),
                                 "whole": text_of_lines(whole), "words": text_of_lines(marked), "none": b""})
         return {"letters": len(patterns.letters), "minima": patterns.minima, "lines": len(patterns.lines), "entries": patterns.entries(),
-                "whole": len(kept), "left_out": left_out, "lacking": lacking, "words": len(marked), "hyphens": sum(word.count(mark) for word in marked)}
+                "whole": len(kept), "left_out": left_out, "lacking": lacking, "words": len(marked), "hyphens": sum(word.count(mark) for word in marked),
+                "seconds": round(time.process_time() - began, 2)}
 
     def count_published(self):
         """What the published patterns find of the hyphens. It is all of them where they were marked by these patterns."""
@@ -155,12 +162,18 @@ class Runs:
 
     def sweep(self):
         """Which of the parameter files is best on words that are left out."""
-        put_files(self.folder, {name: text.encode() for name, text in SETS.items()})
-        printed, cost = self.ours("sweep", "words", "none", "out", "translate", *SWEEP, *SETS)
+        swept = part_of(self.read("words").splitlines(), self.options.swept)
+        put_files(self.folder, {"swept": text_of_lines(swept), **{name: text.encode() for name, text in SETS.items()}})
+        printed, cost = self.ours("sweep", "swept", "none", "out", "translate", *SWEEP, *SETS)
         winner = int(re.match(r"winner: set (\d+), cost", printed).group(1))
         rows = json.loads(self.read("out"))["rows"]
-        return {"winner": list(SETS)[winner - 1], "costs": {name: row["cost"] for name, row in zip(SETS, rows)},
+        return {"words": len(swept), "winner": list(SETS)[winner - 1], "costs": {name: row["cost"] for name, row in zip(SETS, rows)},
                 "rows": {name: row for name, row in zip(SETS, rows)}, **cost}
+
+
+def part_of(words, most):
+    """All words, or every second, third and so on where they are more than so many; 0 takes all."""
+    return words[:: -(-len(words) // most) or 1] if most else words
 
 
 def text_of_lines(lines):

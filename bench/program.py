@@ -48,13 +48,16 @@ def measured(words, folder, seconds=None):
         sys.exit("bench: GNU time is not installed. On Debian: apt-get install time")
     cost = os.path.join(folder, "cost")
     timed = [TIME, "-q", "-o", cost, "-f", "%U %S %M", *words]
-    with subprocess.Popen(timed, cwd=folder, stdin=subprocess.DEVNULL, stdout=subprocess.PIPE, stderr=subprocess.STDOUT,
+    with subprocess.Popen(timed, cwd=folder, stdin=subprocess.DEVNULL, stdout=subprocess.PIPE, stderr=subprocess.DEVNULL,
                           start_new_session=True) as started:
         try:
             printed, _ = started.communicate(timeout=seconds)
         except subprocess.TimeoutExpired:
             os.killpg(started.pid, signal.SIGKILL)
             return None, b"", float(seconds), 0.0
+        except KeyboardInterrupt:  # it is in a session of its own, so it isn't stopped by the terminal
+            os.killpg(started.pid, signal.SIGKILL)
+            raise
     with open(cost, encoding="ascii") as file:
         user, system, memory = map(float, file.read().split())
     return started.returncode, printed, user + system, memory / 1000
