@@ -1,6 +1,6 @@
 //! Cells of small tables.
 
-use crate::strings::{base_of, cell_of, change_at, value_of};
+use crate::strings::{change_at, told};
 use pg_cells::Cells;
 use pg_types::Sign;
 use std::test::Fail;
@@ -9,19 +9,11 @@ use std::test::Fail;
 fn one_sign(rt: HostRuntime) -> Result<(), Fail> {
     let mut cells = Cells::<u32, 4>::new(rt.alloc(), 1, 7)?;
     assert_eq!(rt; change_at(&mut cells, &[1], 1, 8)?, Some(2));
-    assert_eq!(rt; base_of(&cells, &[1]), 1);
+    assert_eq!(rt; told(&cells, &[1]), Some((1, 1, 7)));
     assert_eq!(rt; change_at(&mut cells, &[1, 1], 1, 9)?, Some(3));
-    for (string, cell, base, value) in [
-        ([1].as_slice(), 1, 1, 7),
-        (&[1, 1], 2, 2, 8),
-        (&[1, 1, 1], 3, 0, 9),
-    ] {
-        assert_eq!(rt;
-            (cell_of(&cells, string), base_of(&cells, string)),
-            (Some(cell), base)
-        );
-        assert_eq!(rt; value_of(&cells, string), Some(value));
-    }
+    assert_eq!(rt; told(&cells, &[1]), Some((1, 1, 7)));
+    assert_eq!(rt; told(&cells, &[1, 1]), Some((2, 2, 8)));
+    assert_eq!(rt; told(&cells, &[1, 1, 1]), Some((3, 0, 9)));
     assert_eq!(rt; (cells.taken(), cells.top()), (3, 3));
     Ok(())
 }
@@ -43,11 +35,9 @@ fn small_steps(rt: HostRuntime) -> Result<(), Fail> {
         change_at(&mut cells, &[first], second, 1)?;
         assert_eq!(rt; (cells.taken(), cells.top()), (taken, top));
     }
-    assert_eq!(rt; base_of(&cells, &[2]), 6);
-    assert_eq!(rt;
-        (cell_of(&cells, &[2, 1]), cell_of(&cells, &[2, 3])),
-        (Some(7), Some(9))
-    );
+    assert_eq!(rt; told(&cells, &[2]), Some((2, 6, 0)));
+    assert_eq!(rt; told(&cells, &[2, 1]), Some((7, 0, 1)));
+    assert_eq!(rt; told(&cells, &[2, 3]), Some((9, 0, 1)));
     take_back(&mut cells)?;
     assert_eq!(rt; (cells.taken(), cells.top()), (5, 9));
     Ok(())

@@ -44,11 +44,16 @@ fn count(counts: &mut CountTrie, seen: &[(Sign, Sign, bool, Weight)]) -> Result<
     Ok(())
 }
 
+/// The sums of the next window that is counted. The cursor goes to it.
+fn next(counts: &CountTrie, at: &mut Cursor) -> Option<(u64, u64)> {
+    counts.next(at)
+}
+
 /// Compares the windows that are counted, in their order, with these: each has sums, and at the end the cursor stays.
 fn compare(rt: &impl Abort, counts: &CountTrie, windows: &[([Sign; 2], Option<(u64, u64)>)]) {
     let mut at = Cursor::start();
     for (window, sums) in windows {
-        assert_eq!(rt; counts.next(&mut at), *sums);
+        assert_eq!(rt; next(counts, &mut at), *sums);
         assert_eq!(rt; at.signs(), window.as_slice());
     }
 }

@@ -4,24 +4,34 @@ use pg_translate::Table;
 use std::alloc::{AllocError, Global};
 use std::test::Fail;
 
-/// A line for each word: its weight, its hyphens and the weights of its positions.
+/// A line for each word: its weight, its hyphens and the weights of its positions. Then the signs of all of them.
 fn push_words(text: &mut String, dictionary: &Dictionary) -> Result<(), AllocError> {
     for i in 0..dictionary.len() {
         let word = dictionary.word(i);
         let (weight, hyphens, weights) = (word.weight(), word.hyphens(), word.weights());
         write!(text, "{weight} {hyphens:?} {weights:?}\n")?;
     }
+    write!(text, "{:?}", dictionary.all_signs())?;
     Ok(())
 }
 
-/// The words of a file under the letters a, b and c, and the signs of all of them.
+/// All of that.
+fn lines_of(alloc: Global, dictionary: &Dictionary) -> Result<String, AllocError> {
+    let mut text = String::new(alloc);
+    push_words(&mut text, dictionary)?;
+    Ok(text)
+}
+
+/// The words of a file under a table.
+fn words_under(alloc: Global, table: &Table, file: &[u8]) -> Result<String, Fail> {
+    let dictionary = Dictionary::read(alloc, table, file)?;
+    Ok(lines_of(alloc, &dictionary)?)
+}
+
+/// The words of a file under the letters a, b and c.
 fn words_of(alloc: Global, file: &[u8]) -> Result<String, Fail> {
     let table = Table::read(alloc, b" 1 1\n a\n b\n c\n")?;
-    let dictionary = Dictionary::read(alloc, &table, file)?;
-    let mut text = String::new(alloc);
-    push_words(&mut text, &dictionary)?;
-    write!(text, "{:?}", dictionary.all_signs())?;
-    Ok(text)
+    words_under(alloc, &table, file)
 }
 
 /// Files, and what they give.

@@ -8,7 +8,7 @@ use pg_patterns::PatternSet;
 use pg_plain::PlainEngine;
 use pg_select::{Engine, WordState};
 use pg_translate::Table;
-use std::alloc::Global;
+use std::alloc::{AllocError, Global};
 use std::test::Fail;
 
 /// The patterns `.a1`, `a2b` and `b1c`.
@@ -38,10 +38,24 @@ fn values<E: Engine>(e: &E) -> [u8; 2]
     [state.value(2), state.value(3)]
 }
 
+/// Those of the plain engine.
+fn plain(alloc: Global, start: &PatternSet) -> Result<[u8; 2], AllocError>
+    requires { SignsUpTo 4 start.now }
+{
+    Ok(values(&PlainEngine::new(alloc, 4, start)?))
+}
+
+/// Those of the packed engine.
+fn packed(alloc: Global, start: &PatternSet) -> Result<[u8; 2], AllocError>
+    requires { SignsUpTo 4 start.now }
+{
+    Ok(values(&PackedEngine::new(alloc, 4, start)?))
+}
+
 #[test]
 fn the_same_values_from_both_engines(rt: HostRuntime) -> Result<(), Fail> {
     let start = start(rt.alloc())?;
-    assert_eq!(rt; values(&PlainEngine::new(rt.alloc(), 4, &start)?), [2, 0]);
-    assert_eq!(rt; values(&PackedEngine::new(rt.alloc(), 4, &start)?), [2, 0]);
+    assert_eq!(rt; plain(rt.alloc(), &start)?, [2, 0]);
+    assert_eq!(rt; packed(rt.alloc(), &start)?, [2, 0]);
     Ok(())
 }

@@ -1,24 +1,27 @@
-//! A slow list of families: each with its prefix, its base and its signs.
+//! A slow list of the cells of families.
 use pg_types::Sign;
 use std::alloc::{AllocError, Global};
 
-/// A family.
-#[derive(Drop)]
-pub struct Family {
-    /// The string that its signs follow.
-    pub prefix: Vec<Sign>,
-    /// Its base.
-    pub base: usize,
-    /// Its signs, in rising order.
-    pub signs: Vec<Sign>,
+/// No family.
+pub const NONE: usize = usize::MAX;
+
+/// A cell of a family.
+#[derive(Clone, Copy)]
+pub struct Used {
+    /// The cell, 0 where it was given up.
+    pub cell: usize,
+    /// Its sign.
+    pub sign: Sign,
+    /// Its family: the number in the list, counted from 1, of the cell that the family is below, or 0 for the root.
+    pub family: usize,
 }
 
-/// The families of a table with so many signs. Up to four signs are placed from base 1 on.
+/// The cells of a table with so many signs. Up to four signs of a family are placed from base 1 on.
 #[derive(Drop)]
 pub struct Families {
     alloc: Global,
     signs: Sign,
-    list: Vec<Family>,
+    list: Vec<Used>,
 }
 
 // The cell of a sign at a base.
@@ -26,175 +29,166 @@ fn cell_at(base: usize, sign: Sign) -> usize {
     base.saturating_add(usize::from(sign))
 }
 
-// A family's cells.
-fn push_cells(family: &Family, cells: &mut Vec<usize>) -> Result<(), AllocError> {
-    for sign in &family.signs {
-        cells.push(cell_at(family.base, *sign))?;
-    }
-    Ok(())
-}
-
 impl Families {
     /// The root alone.
     pub fn new(alloc: Global, signs: Sign) -> Result<Families, AllocError> {
-        let mut root = Family {
-            prefix: Vec::new(alloc),
-            base: 0,
-            signs: Vec::new(alloc),
-        };
-        for sign in 1..=signs {
-            root.signs.push(sign)?;
-        }
         let mut list = Vec::new(alloc);
-        list.push(root)?;
+        for sign in 1..=signs {
+            list.push(Used {
+                cell: usize::from(sign),
+                sign,
+                family: 0,
+            })?;
+        }
         Ok(Families { alloc, signs, list })
     }
 
-    /// The families.
-    pub fn list(&self) -> &[Family] {
+    /// The cells, in the order in which they were added.
+    pub fn list(&self) -> &[Used] {
         self.list.as_slice()
     }
 
-    /// The used cells, in rising order.
-    pub fn used_cells(&self) -> Result<Vec<usize>, AllocError> {
+    /// The used cells that are not of this family, in rising order.
+    pub fn cells_without(&self, family: usize) -> Result<Vec<usize>, AllocError> {
         let mut cells = Vec::new(self.alloc);
-        for family in &self.list {
-            push_cells(family, &mut cells)?;
+        for used in &self.list {
+            if used.cell != 0 && used.family != family {
+                cells.push(used.cell)?;
+            }
         }
         cells.sort_unstable();
         Ok(cells)
     }
 
-    /// The string of a used cell.
-    pub fn string_of(&self, cell: usize) -> Result<Option<Vec<Sign>>, AllocError> {
-        for family in &self.list {
-            if let Some(sign) = family.sign_of(cell) {
-                let mut string = family.prefix.clone()?;
-                string.push(sign)?;
-                return Ok(Some(string));
-            }
+    /// The cell that a family is below, or `None` for the root.
+    pub fn parent(&self, family: usize) -> Option<usize> {
+        if family == 0 {
+            return None;
         }
-        Ok(None)
+        let used = self.list.get(family - 1)?;
+        Some(used.cell)
     }
 
-    /// Adds the sign to the family of the prefix, or removes it where it is there and no family is below it.
-    pub fn change(&mut self, prefix: &[Sign], sign: Sign) -> Result<(), AllocError> {
-        let Some(at) = self.position(prefix) else {
-            return self.place(prefix, sign);
-        };
-        if !self.has(at, sign) {
-            return self.add(at, sign);
+    /// Adds the sign to the family below a used cell, or removes it where it is there and no family is below it.
+    pub fn change(&mut self, parent: usize, sign: Sign) -> Result<(), AllocError> {
+        let family = self.family_below(parent);
+        let at = self.number_of(family, sign);
+        if at == 0 {
+            return self.add(family, sign);
         }
-        if !self.has_below(prefix, sign) {
-            self.remove(at, sign);
+        if self.base(at) == 0 {
+            self.give_up(at);
         }
         Ok(())
     }
 
-    // Whether there is a family below a sign of the family of a prefix.
-    fn has_below(&self, prefix: &[Sign], sign: Sign) -> bool {
-        self.list.iter().any(|family| {
-            family.prefix.as_slice().split_last() == Some((&sign, prefix))
-        })
-    }
-
-    // The index of the family of a prefix.
-    fn position(&self, prefix: &[Sign]) -> Option<usize> {
-        self.list
-            .iter()
-            .position(|family| family.prefix.as_slice() == prefix)
-    }
-
-    // Whether a family has a sign.
-    fn has(&self, at: usize, sign: Sign) -> bool {
-        self.list
-            .get(at)
-            .is_some_and(|family| family.signs.contains(&sign))
-    }
-
-    // Whether a family has a base.
-    fn is_base(&self, base: usize) -> bool {
-        self.list.iter().any(|family| family.base == base)
-    }
-
-    // A new family of one sign.
-    fn place(&mut self, prefix: &[Sign], sign: Sign) -> Result<(), AllocError> {
-        let mut signs = Vec::new(self.alloc);
-        signs.push(sign)?;
-        let prefix = prefix.to_vec(self.alloc)?;
-        self.put(prefix, signs)
-    }
-
-    // One sign more in a family.
-    fn add(&mut self, at: usize, sign: Sign) -> Result<(), AllocError> {
-        let used = self.used_cells()?;
-        let Some(family) = self.list.get_mut(at) else {
-            return Ok(());
-        };
-        family.signs.push(sign)?;
-        family.signs.sort_unstable();
-        let cell = cell_at(family.base, sign);
-        if used.binary_search(&cell).is_err() {
-            return Ok(());
+    // The family below a used cell.
+    fn family_below(&self, cell: usize) -> usize {
+        for (i, used) in self.list.iter().enumerate() {
+            if used.cell == cell {
+                return i + 1;
+            }
         }
-        let Family { prefix, signs, .. } = self.list.swap_remove(at);
-        self.put(prefix, signs)
+        NONE
     }
 
-    // One sign less in a family, which is gone where none is left.
-    fn remove(&mut self, at: usize, sign: Sign) {
-        if let Some(family) = self.list.get_mut(at) {
-            family.signs.retain(|other| *other != sign);
+    // The number of a family's sign in the list, counted from 1, or 0 where the family lacks it.
+    fn number_of(&self, family: usize, sign: Sign) -> usize {
+        for (i, used) in self.list.iter().enumerate() {
+            if used.family == family && used.sign == sign {
+                return i + 1;
+            }
         }
-        self.list.retain(|family| !family.signs.is_empty());
+        0
+    }
+
+    // The base of a family that is not the root, or 0 where there is none.
+    fn base(&self, family: usize) -> usize {
+        for used in &self.list {
+            if used.family == family {
+                return used.cell.saturating_sub(usize::from(used.sign));
+            }
+        }
+        0
+    }
+
+    // Gives up the cell with a number.
+    fn give_up(&mut self, number: usize) {
+        if let Some(used) = self.list.get_mut(number.saturating_sub(1)) {
+            used.cell = 0;
+            used.family = NONE;
+        }
+    }
+
+    // One sign more in a family, in its place where the cell is unused.
+    fn add(&mut self, family: usize, sign: Sign) -> Result<(), AllocError> {
+        let base = self.base(family);
+        let cell = cell_at(base, sign);
+        let joins = base != 0 && self.family_below(cell) == NONE;
+        self.list.push(Used { cell, sign, family })?;
+        if joins { Ok(()) } else { self.place(family) }
     }
 
     // Puts a family at the least base.
-    fn put(&mut self, prefix: Vec<Sign>, signs: Vec<Sign>) -> Result<(), AllocError> {
-        let used = self.used_cells()?;
-        let low = self.lowest_base(signs.len(), used.as_slice());
-        let base = self.least_base(signs.as_slice(), low, used.as_slice());
-        self.list.push(Family {
-            prefix,
-            base,
-            signs,
-        })?;
+    fn place(&mut self, family: usize) -> Result<(), AllocError> {
+        let signs = self.signs_of(family)?;
+        let cells = self.cells_without(family)?;
+        let base = self.least_base(family, signs.as_slice(), cells.as_slice());
+        for used in self.list.iter_mut() {
+            if used.family == family {
+                used.cell = cell_at(base, used.sign);
+            }
+        }
         Ok(())
     }
 
+    // A family's signs.
+    fn signs_of(&self, family: usize) -> Result<Vec<Sign>, AllocError> {
+        let mut signs = Vec::new(self.alloc);
+        for used in &self.list {
+            if used.family == family {
+                signs.push(used.sign)?;
+            }
+        }
+        Ok(signs)
+    }
+
     // The lowest base that is tried for so many signs.
-    fn lowest_base(&self, count: usize, used: &[usize]) -> usize {
-        let top = used.last().copied().unwrap_or(0);
+    fn lowest_base(&self, count: usize, cells: &[usize]) -> usize {
+        let top = cells.last().copied().unwrap_or(0);
         if count <= 4 {
             return 1;
         }
         top.saturating_sub(usize::from(self.signs).max(255)).max(1)
     }
 
-    // The least base from `low` on that no family has and where the signs' cells are unused.
-    fn least_base(&self, signs: &[Sign], low: usize, used: &[usize]) -> usize {
-        for base in low..usize::MAX {
-            if are_unused(base, signs, used) && !self.is_base(base) {
+    // The least base that no other family has and where the signs' cells are none of these.
+    fn least_base(&self, family: usize, signs: &[Sign], cells: &[usize]) -> usize {
+        for base in self.lowest_base(signs.len(), cells)..usize::MAX {
+            if are_unused(base, signs, cells) && !self.is_base(base, family) {
                 return base;
             }
         }
         usize::MAX
     }
-}
 
-// Whether the cells of signs at a base are unused.
-fn are_unused(base: usize, signs: &[Sign], used: &[usize]) -> bool {
-    signs
-        .iter()
-        .all(|sign| used.binary_search(&cell_at(base, *sign)).is_err())
-}
-
-impl Family {
-    // The sign of one of the family's cells.
-    fn sign_of(&self, cell: usize) -> Option<Sign> {
-        self.signs
-            .iter()
-            .copied()
-            .find(|sign| cell_at(self.base, *sign) == cell)
+    // Whether another family has a base.
+    fn is_base(&self, base: usize, family: usize) -> bool {
+        for used in &self.list {
+            if used.family != family && used.cell == cell_at(base, used.sign) {
+                return true;
+            }
+        }
+        false
     }
+}
+
+// Whether the cells of signs at a base are none of these.
+fn are_unused(base: usize, signs: &[Sign], cells: &[usize]) -> bool {
+    for sign in signs {
+        if cells.binary_search(&cell_at(base, *sign)).is_ok() {
+            return false;
+        }
+    }
+    true
 }

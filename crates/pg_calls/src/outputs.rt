@@ -1,6 +1,5 @@
 //! What the calls give on lists that share their ends.
 use pg_outputs::Outputs;
-use std::alloc::Global;
 use std::test::Fail;
 
 /// Adds a record before a list that is there.
@@ -11,21 +10,18 @@ fn cons(outputs: &mut Outputs, value: u8, dot: u8, next: u64) -> Result<u64, Fai
     Ok(outputs.cons(value, dot, next)?)
 }
 
-/// Two records, of which the first is added once more, and the heads that the calls gave.
-fn lists(alloc: Global) -> Result<(Outputs, [u64; 3]), Fail> {
-    let mut outputs = Outputs::new(alloc);
-    let heads = [
-        cons(&mut outputs, 1, 2, 0)?,
-        cons(&mut outputs, 2, 0, 1)?,
-        cons(&mut outputs, 1, 2, 0)?,
-    ];
-    Ok((outputs, heads))
+/// Adds two records, and the first of them once more. Gives the heads.
+fn cons_all(outputs: &mut Outputs) -> Result<[u64; 3], Fail> {
+    let first = cons(outputs, 1, 2, 0)?;
+    let second = cons(outputs, 2, 0, 1)?;
+    let again = cons(outputs, 1, 2, 0)?;
+    Ok([first, second, again])
 }
 
 #[test]
 fn one_head_for_equal_records(rt: HostRuntime) -> Result<(), Fail> {
-    let (outputs, heads) = lists(rt.alloc())?;
-    assert_eq!(rt; heads, [1, 2, 1]);
+    let mut outputs = Outputs::new(rt.alloc());
+    assert_eq!(rt; cons_all(&mut outputs)?, [1, 2, 1]);
     assert!(rt; outputs.len() == 2);
     assert_eq!(rt;
         (outputs.first(2), outputs.first(0)),

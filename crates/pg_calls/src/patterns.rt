@@ -4,8 +4,9 @@ ghost use Rattle.pg_patterns.specs.Values.{SignsUpTo, is_entry, raise};
 
 use pg_patterns::PatternSet;
 use pg_translate::Table;
-use pg_types::Sign;
+use pg_types::{ReadingError, Sign};
 use std::alloc::{AllocError, Global};
+use std::process::Abort;
 use std::test::Fail;
 
 /// Raises the value of `dot` among `signs`.
@@ -31,11 +32,25 @@ fn raised(alloc: Global) -> Result<PatternSet, AllocError>
 /// The longest pattern, with a digit at each of its dots.
 const LONGEST: &[u8] = b"1a1a1a1a1a1a1a1a1a1a1a1a1a1a1a1a1a1a1a1a1a1a1a1a1a1a1a1a1a1a1a1a1";
 
+/// Compares their text under the default letters.
+fn compare_text(rt: &impl Abort, alloc: Global, table: &Table) -> Result<(), Fail> {
+    if table.letters() != 26 {
+        return Err(Fail::new("the letters a to z"));
+    }
+    let text = raised(alloc)?.text(alloc, table)?;
+    assert_eq!(rt; text.as_slice(), b".a1\na2b\nb1c\n".as_slice());
+    Ok(())
+}
+
+/// How many entries the longest pattern has.
+fn longest_len(alloc: Global, table: &Table) -> Result<usize, ReadingError> {
+    Ok(PatternSet::read(alloc, table, LONGEST)?.len())
+}
+
 #[test]
 fn raised_values_and_the_longest_pattern(rt: HostRuntime) -> Result<(), Fail> {
     let table = Table::default_letters(rt.alloc())?;
-    let text = raised(rt.alloc())?.text(rt.alloc(), &table)?;
-    assert_eq!(rt; text.as_slice(), b".a1\na2b\nb1c\n".as_slice());
-    assert_eq!(rt; PatternSet::read(rt.alloc(), &table, LONGEST)?.len(), 33);
+    compare_text(&rt, rt.alloc(), &table)?;
+    assert_eq!(rt; longest_len(rt.alloc(), &table)?, 33);
     Ok(())
 }

@@ -2,8 +2,8 @@
 ghost use Rattle.std.specs.Prelude.{◌<◌, ◌≤◌, max};
 ghost use Rattle.pg_types.specs.declared.limits.TheConstants.{SIGNS_MAX};
 
-use crate::families::Families;
-use crate::strings::{base_of, change_at};
+use crate::families::{Families, NONE};
+use crate::strings::{cell_below, change_below};
 use pg_cells::Cells;
 use pg_types::{SIGNS_MAX, Sign};
 use std::alloc::Global;
@@ -25,32 +25,30 @@ impl Draws {
     }
 }
 
-/// One step, on both.
+/// One step, on both, below one of the taken cells.
 fn take_step(
     cells: &mut Cells<u32, 4>,
     families: &mut Families,
+    taken: &[usize],
     draws: &mut Draws,
 ) -> Result<(), Fail> {
-    let used = families.used_cells()?;
-    let parent = used.get(draws.draw(used.len())).copied().unwrap_or(0);
+    let parent = taken.get(draws.draw(taken.len())).copied().unwrap_or(0);
     let s = 1 + draws.draw(usize::from(cells.signs())) as Sign;
-    let Some(string) = families.string_of(parent)? else {
-        return Err(Fail::new("a used cell has a string"));
-    };
-    change_at(cells, string.as_slice(), s, 1)?;
-    families.change(string.as_slice(), s)?;
+    change_below(cells, parent, s, 1)?;
+    families.change(parent, s)?;
     Ok(())
 }
 
-/// Compares the top, the number of taken cells and each base.
-fn compare(rt: &impl Abort, cells: &Cells<u32, 4>, families: &Families) -> Result<(), Fail> {
-    let used = families.used_cells()?;
-    assert_eq!(rt; cells.taken(), used.len());
-    assert_eq!(rt; cells.top(), used.last().copied().unwrap_or(0));
-    for family in families.list() {
-        assert_eq!(rt; base_of(cells, family.prefix.as_slice()), family.base);
+/// Compares the top, the number of taken cells and each cell with its family.
+fn compare(rt: &impl Abort, cells: &Cells<u32, 4>, families: &Families, taken: &[usize]) {
+    assert_eq!(rt; cells.taken(), taken.len());
+    assert_eq!(rt; cells.top(), taken.last().copied().unwrap_or(0));
+    for used in families.list() {
+        if used.cell != 0 {
+            let parent = families.parent(used.family);
+            assert_eq!(rt; cell_below(cells, parent, used.sign), Some(used.cell));
+        }
     }
-    Ok(())
 }
 
 /// Takes steps in a table with so many signs, and compares after each. Gives the number of taken cells.
@@ -59,12 +57,25 @@ fn run(rt: &impl Abort, alloc: Global, signs: Sign, steps: u32) -> Result<usize,
 {
     let mut cells = Cells::<u32, 4>::new(alloc, signs, 0)?;
     let mut families = Families::new(alloc, signs)?;
-    let mut draws = Draws(5);
-    for _ in 0..steps {
-        take_step(&mut cells, &mut families, &mut draws)?;
-        compare(rt, &cells, &families)?;
-    }
+    take_steps(rt, &mut cells, &mut families, steps)?;
     Ok(cells.taken())
+}
+
+/// Takes steps in both, and compares after each.
+fn take_steps(
+    rt: &impl Abort,
+    cells: &mut Cells<u32, 4>,
+    families: &mut Families,
+    steps: u32,
+) -> Result<(), Fail> {
+    let mut draws = Draws(5);
+    let mut taken = families.cells_without(NONE)?;
+    for _ in 0..steps {
+        take_step(cells, families, taken.as_slice(), &mut draws)?;
+        taken = families.cells_without(NONE)?;
+        compare(rt, cells, families, taken.as_slice());
+    }
+    Ok(())
 }
 
 #[test]

@@ -1,43 +1,45 @@
 //! The cells by their strings.
-ghost use Rattle.std.specs.Prelude.{◌≡◌, ◌≤◌, ℕ, List, Some, IfSome};
+ghost use Rattle.std.specs.Prelude.{◌≡◌, ◌≤◌, ℕ, List, Some};
 ghost use Rattle.pg_types.specs.Placement.{cell_of};
 
 use pg_cells::{Cells, step};
 use pg_types::Sign;
 use std::test::Fail;
 
+/// The cell of the sign in the family below a cell, or below the root for `None`.
+pub fn cell_below(cells: &Cells<u32, 4>, parent: Option<usize>, s: Sign) -> Option<usize> {
+    if s < 1 || cells.signs() < s {
+        return None;
+    }
+    match parent {
+        None => step(cells, None, s),
+        Some(cell) => {
+            cells.value_if_taken(cell)?;
+            step(cells, Some(cell), s)
+        }
+    }
+}
+
 /// The cell of a string.
-pub fn cell_of<const FEW: usize>(cells: &Cells<u32, FEW>, string: &[Sign]) -> Option<usize>
-    ensures { IfSome result (λ cell. (q : List ℕ) × (cell_of cells.now.families q ≡ Some cell)) }
-{
+fn cell_of(cells: &Cells<u32, 4>, string: &[Sign]) -> Option<usize> {
     let mut at = None;
     for s in string {
-        if *s < 1 || cells.signs() < *s {
-            return None;
-        }
-        at = Some(step(cells, at, *s)?);
+        at = Some(cell_below(cells, at, *s)?);
     }
     at
 }
 
-/// The value of a string.
-pub fn value_of<const FEW: usize>(cells: &Cells<u32, FEW>, string: &[Sign]) -> Option<u32> {
+/// The cell of a string, the base of the family below it, 0 for none, and its value.
+pub fn told(cells: &Cells<u32, 4>, string: &[Sign]) -> Option<(usize, usize, u32)> {
     let cell = cell_of(cells, string)?;
-    Some(cells.value(cell))
-}
-
-/// The base of the family of a prefix, 0 where it has none.
-pub fn base_of<const FEW: usize>(cells: &Cells<u32, FEW>, prefix: &[Sign]) -> usize {
-    match cell_of(cells, prefix) {
-        Some(cell) => cells.child(cell),
-        None => 0,
-    }
+    let value = cells.value_if_taken(cell)?;
+    Some((cell, cells.child(cell), value))
 }
 
 /// Adds the sign with the value below the string of a cell, and gives its cell, or removes it where it is there and no family is
 /// below it.
-fn change<const FEW: usize>(
-    cells: &mut Cells<u32, FEW>,
+fn change(
+    cells: &mut Cells<u32, 4>,
     parent: usize,
     s: Sign,
     value: u32,
@@ -56,18 +58,31 @@ fn change<const FEW: usize>(
     }
 }
 
+/// The same below a cell that may be free.
+pub fn change_below(
+    cells: &mut Cells<u32, 4>,
+    parent: usize,
+    s: Sign,
+    value: u32,
+) -> Result<Option<usize>, Fail> {
+    if s < 1 || cells.signs() < s {
+        return Err(Fail::new("a sign of the table"));
+    }
+    match cells.value_if_taken(parent) {
+        None => Err(Fail::new("a taken cell")),
+        Some(_) => change(cells, parent, s, value),
+    }
+}
+
 /// The same below a string.
-pub fn change_at<const FEW: usize>(
-    cells: &mut Cells<u32, FEW>,
+pub fn change_at(
+    cells: &mut Cells<u32, 4>,
     string: &[Sign],
     s: Sign,
     value: u32,
 ) -> Result<Option<usize>, Fail> {
-    let Some(cell) = cell_of(cells, string) else {
-        return Err(Fail::new("the string has a cell"));
-    };
-    if s < 1 || cells.signs() < s {
-        return Err(Fail::new("a sign of the table"));
+    match cell_of(cells, string) {
+        None => Err(Fail::new("the string has a cell")),
+        Some(cell) => change_below(cells, cell, s, value),
     }
-    change(cells, cell, s, value)
 }

@@ -1,9 +1,11 @@
 //! Worked tries over the edge 1, a 2, b 3 and c 4.
 ghost use Rattle.std.specs.Prelude.{◌≡◌, IfOk, OnOk};
 
+use pg_patterns::{Entry, PatternSet};
 use pg_trie::{HOPELESS, PatternTrie};
 use pg_types::{Layout, PATTERN_SIGNS_MAX, Sign};
 use std::alloc::Global;
+use std::process::Abort;
 use std::test::Fail;
 
 /// Enters a value, or the mark, at the dot of a string.
@@ -33,24 +35,44 @@ fn trie_of(alloc: Global, entries: &[(&[Sign], u8, u8)]) -> Result<PatternTrie, 
     Ok(trie)
 }
 
-#[test]
-fn a_mark_beside_a_value(rt: HostRuntime) -> Result<(), Fail> {
-    let mut trie = trie_of(rt.alloc(), &[(&[2, 3], 1, 1), (&[2, 3], 1, HOPELESS)])?;
+/// The same, without the mark.
+fn deleted(alloc: Global, entries: &[(&[Sign], u8, u8)]) -> Result<PatternTrie, Fail>
+    ensures { IfOk result (λ t. t.signs ≡ 4) }
+{
+    let mut trie = trie_of(alloc, entries)?;
     trie.delete_hopeless()?;
+    Ok(trie)
+}
+
+/// Compares an entry with the value 1 at the dot 1 of a and b.
+fn compare_entry(rt: &impl Abort, entry: Entry) {
+    assert_eq!(rt; entry.signs, [2, 3].as_slice());
+    assert_eq!(rt; (entry.dot, entry.value), (1, 1));
+}
+
+/// The same of the one entry of a set.
+fn compare_patterns(rt: &impl Abort, patterns: &PatternSet) -> Result<(), Fail> {
+    if patterns.len() != 1 {
+        return Err(Fail::new("one entry"));
+    }
+    compare_entry(rt, patterns.entry(0));
+    Ok(())
+}
+
+/// The same of the one record of a trie, and of its patterns.
+fn compare_record(rt: &impl Abort, alloc: Global, trie: &PatternTrie) -> Result<(), Fail> {
     // The value is the one record that is left, so no mark is.
     if trie.outputs().len() != 1 {
         return Err(Fail::new("one record"));
     }
     assert_eq!(rt; trie.outputs().first(1), Some((1, 1, 0)));
-    let patterns = trie.copy(rt.alloc())?;
-    if patterns.len() != 1 {
-        return Err(Fail::new("one entry"));
-    }
-    let entry = patterns.entry(0);
-    assert_eq!(rt;
-        (entry.signs, entry.dot, entry.value),
-        ([2, 3].as_slice(), 1, 1)
-    );
+    compare_patterns(rt, &trie.copy(alloc)?)
+}
+
+#[test]
+fn a_mark_beside_a_value(rt: HostRuntime) -> Result<(), Fail> {
+    let trie = deleted(rt.alloc(), &[(&[2, 3], 1, 1), (&[2, 3], 1, HOPELESS)])?;
+    compare_record(&rt, rt.alloc(), &trie)?;
     let layout = Layout {
         taken: 5,
         top: 5,
@@ -62,11 +84,10 @@ fn a_mark_beside_a_value(rt: HostRuntime) -> Result<(), Fail> {
 
 #[test]
 fn tails_are_shared(rt: HostRuntime) -> Result<(), Fail> {
-    let mut trie = trie_of(
+    let trie = deleted(
         rt.alloc(),
         &[(&[2, 3], 0, 1), (&[2, 3], 1, 2), (&[4, 3], 1, 2)],
     )?;
-    trie.delete_hopeless()?;
     let layout = Layout {
         taken: 6,
         top: 6,

@@ -14,6 +14,7 @@ use Rattle.pg_cells.specs.Inside.Writes.{Takes}
 use Rattle.pg_cells.specs.Inside.Moves.{Outside, CanPlace, Moved, Collected}
 use Rattle.pg_cells.specs.ValuedFamilies.{Trie}
 use Rattle.pg_cells.specs.Inside.Layouts.{IsTrie, standing, value_in}
+use Rattle.pg_cells.specs.Inside.Adding.{added}
 use Rattle.pg_cells.proofs.LinkedLists.{taken_within}
 use Rattle.pg_cells.proofs.StringMaps.{order, same_maps, find_put_same, find_without_same, find_without_other, sorted_without, equal_or_not}
 use Rattle.pg_cells.proofs.BaseCells.{first_sign}
@@ -92,10 +93,6 @@ sign_moves few n fs p s f at used =
       | false ↦ put order p (record { base = f.base; signs = with_one_sign s f.signs }) fs
       | true ↦ placed few n (without_family fs p) p (with_one_sign s f.signs)
     ]) used
-
--- the trie that `add` leaves
-abbrev pub added : {V : Type 0} → ℕ → ℕ → Trie V → List ℕ → ℕ → V → Trie V
-added few n t p s v = record { families = with_sign few n t.families p s; values = put order (p ++ s ∷ []) v t.values }
 
 module _ {V : Type 0} (few n : ℕ) (r : Row V) (t : Trie V) (trie : IsTrie n r t) (p : List ℕ) (parent : ℕ) (parent_is : cell_of t.families p ≡ Some parent)
     (s : ℕ) (low : 1 ≤ s) (high : s ≤ n) (lacks : cell_of t.families (p ++ s ∷ []) ≡ None) where

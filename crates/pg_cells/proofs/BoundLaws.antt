@@ -50,10 +50,6 @@ module _ {V : Type 0} (old new : Row V) (lows : List ℕ) (freed dropped : ℕ) 
         are s b up (record { under_low = below.under_low; under_base = (let far = below.under_base in omega arith); under_cell = below.under_cell }) (sym (sets.bases b n) ∙ none) (sym (sets.signs (b + s)) ∙ z)
   ]
 
--- before anything is found, all bases count as given up
-pub bounds_start : {V : Type 0} (r : Row V) (lows : List ℕ) (freed : ℕ) → AreBounds r lows freed 0
-bounds_start r lows freed s b up below = absurd (let far = below.under_base in omega arith)
-
 -- one bound more is lowered
 pub lower_below : (lows first : List ℕ) (freed dropped i v : ℕ) → i < length lows → v ≤ get_or lows i 0 → v ≤ dropped → v ≤ freed - i
     → ((s b : ℕ) → s < i → b < get_or lows s 0 → IsBelow first freed dropped s b) → ((s : ℕ) → i ≤ s → get_or lows s 0 ≡ get_or first s 0)

@@ -2,9 +2,11 @@ mod Relinked
 mod RootLinks
 mod SteppedLinks
 pub mod AddTrie
+pub mod AddedSlot
 pub mod BaseCells
 pub mod BlockedLaws
 pub mod BoundLaws
+pub mod ChainSteps
 pub mod CellWrites
 pub mod CellsStay
 pub mod Cleared

@@ -99,21 +99,6 @@ module _ {V : Type 0} (h : ValuedFamilies V) (held : AreValuedFamilies h) where
       let most = k.1 in
       omega arith
 
--- the next number is one alone
-pub next_same : (test : ℕ → Bool) (x y z : ℕ) → IsNext test x y → IsNext test x z → y ≡ z
-next_same test x y z a b = elim (cases_eq y 0) [
-  | inl ye ↦ elim (cases_eq z 0) [
-    | inl ze ↦ omega arith
-    | inr zn ↦ let f = b.found (omega arith) in let l = a.least z f.0 f.1 in absurd (omega arith)
-  ]
-  | inr yn ↦
-      let f = a.found (omega arith) in
-      let l = b.least y f.0 f.1 in
-      let g = b.found l.0 in
-      let m = a.least z g.0 g.1 in
-      omega arith
-]
-
 -- the numbers that pass with one more, which stands behind the number b
 pub record HasMore (test more : ℕ → Bool) (s : ℕ) : Type 0 where
   pub here : more s ≡ true

@@ -84,11 +84,6 @@ size_of (Some f) = length f.signs
 taken_cons : (e : List ℕ × Family) (es : Families) → taken (e ∷ es) ≡ length e.1.signs + taken es
 taken_cons e es = length-append (cells_of e.1) (used_cells es) ∙ ap (λ n. n + taken es) (length-map e.1.signs (λ s. e.1.base + s))
 
--- where the string is below the list, it is not in it
-not_there : (p : List ℕ) (e : List ℕ × Family) (es : Families) → order p e.0 ≡ Less → T (is_sorted order (e ∷ es)) → family_at (e ∷ es) p ≡ None
-not_there p e es less h =
-    ap (λ o. cond (is_eq o) (Some e.1) (find order p es)) less ∙ find_below p es (below_less p e.0 es less (head_below e es h))
-
 pub taken_put : (p : List ℕ) (f : Family) (fs : Families) → T (is_sorted order fs) → taken (put order p f fs) + size_of (family_at fs p) ≡ taken fs + length f.signs
 taken_put p f [] h = omega (arith, taken_cons (p, f) [])
 taken_put p f (e ∷ es) h =

@@ -1,4 +1,5 @@
 -- What only contracts between layers and proofs need.
+pub mod Adding
 pub mod Blocked
 pub mod Bounds
 pub mod Fit

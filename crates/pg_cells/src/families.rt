@@ -1,5 +1,5 @@
 //! The families of a trie, each with its cells at its base.
-ghost use Rattle.std.specs.Prelude.{◌≡◌, ◌≢◌, ℕ, ◌+◌, ◌<◌, ◌≤◌, List, [], ◌∷◌, ◌++◌, Some, None, IfOk, IfSome, OnOk, OnErr, ◌==◌, ◌&&◌, ◌^◌, false, true, length, slice_index, nat_lt, nat_eq, MatchBool, if◌then◌else◌};
+ghost use Rattle.std.specs.Prelude.{◌≡◌, ◌≢◌, ℕ, ◌+◌, ◌<◌, ◌≤◌, List, [], ◌∷◌, ◌++◌, Some, None, IfOk, IfSome, OnOk, OnErr, ◌==◌, ◌^◌, false, true, length, slice_index, MatchBool, if◌then◌else◌};
 ghost use Rattle.std.specs.FinMap.{find, put};
 ghost use Rattle.std.specs.Cmp.Lexicographic.{slice_cmp};
 ghost use Rattle.std.specs.Ordering.{nat_cmp};
@@ -7,17 +7,15 @@ ghost use Rattle.pg_types.specs.Placement.{taken, top, cell_of, base_of, joins_a
 ghost use Rattle.pg_cells.specs.ValuedFamilies.{ValuedFamilies, without_key};
 ghost use Rattle.pg_cells.specs.Inside.AreValuedFamilies.{AreValuedFamilies};
 ghost use Rattle.pg_cells.specs.declared.member.Member.{Member as MemberOf};
-ghost use Rattle.pg_cells.specs.Inside.Lists.{sign_at};
 ghost use Rattle.pg_cells.specs.Inside.Store.{member_code};
 ghost use Rattle.pg_cells.specs.Inside.Members.{ArePassing, IsAlone, HasOther, has_sign};
 ghost use Rattle.pg_cells.specs.Inside.OneTrie.{Kept, Kept-prop};
 ghost use Rattle.pg_cells.specs.Inside.Root.{root_held};
 ghost use Rattle.pg_cells.specs.Inside.Walks.{EndsBefore};
 
+use crate::adding::{add_slot, joins};
 use crate::fit::Slot;
 use crate::member::Member;
-use crate::moves::collect;
-use crate::place::place_family;
 use crate::prune::drop_family;
 use crate::root::{clear, take_root};
 use crate::store::Store;
@@ -192,25 +190,23 @@ impl<V: Copy, const FEW: usize> Placed<V, FEW> {
         ensures kept { OnOk result (AreValuedFamilies self.new) }
         ensures err { OnErr result (self.new ≡ self.old) }
     {
-        self.store.make_room(self.signs as usize + 2, v.value)?;
         let slot = Slot {
             value: v,
             child: 0,
             sign: s,
         };
-        let base = self.store.child(parent);
-        let _cells = self.store.len();
-        if joins(&self.store, base, s) {
-            let cell = base + s as usize;
-            self.store.take(cell, slot);
-            let _length = self.store.len();
-            return Ok(cell);
-        }
-        collect(&self.store, base, members, &mut self.moving)?;
-        let slots = self.moving.as_slice();
-        let placed = place_family(&mut self.store, slots, slot, parent, base, FEW, self.signs);
+        let moving = &mut self.moving;
+        let answer = add_slot(
+            &mut self.store,
+            moving,
+            slot,
+            parent,
+            members,
+            FEW,
+            self.signs,
+        );
         let _length = self.store.len();
-        Ok(placed + s as usize)
+        answer
     }
 
     /// Takes the sign away from the family below the parent's string, whose one sign it is where it
@@ -276,12 +272,4 @@ impl<V: Copy, const FEW: usize> Placed<V, FEW> {
     {
         self.store.taken()
     }
-}
-
-// Whether a sign may join the family at the base in place.
-fn joins<V: Copy>(store: &Store<V>, base: usize, s: Sign) -> bool
-    requires { base < 2 ^ 32 }
-    ensures { result ≡ (nat_lt 0 base && nat_eq (sign_at store.now (base + s)) 0) }
-{
-    base != 0 && store.sign(base + s as usize) == 0
 }

@@ -2,6 +2,7 @@
 //! free cells are linked in rising order.
 #![tactic(auto)]
 
+mod adding;
 mod bounds;
 mod cell;
 mod chain;

@@ -4,8 +4,6 @@ use Rattle.std.proofs.lemmas.Bool.{ne_eqb}
 use Rattle.std.proofs.lemmas.Bool.Decides.{nat_tests}
 use borrow.Rule.Slice.PartMut.{put_mid}
 use Rattle.std.proofs.lemmas.List.{append_assoc, append-nil, drop_all}
-use Rattle.std.specs.FinMap.{nat_cmp-IsAntisymmetric}
-use Rattle.std.specs.declared.cmp.Ordering.{Ordering}
 use Rattle.std.specs.declared.cmp.Ordering.TheVariants.{Less, Equal, Greater}
 use Rattle.std.specs.List.{list_all}
 use Rattle.std.specs.Ordering.{nat_cmp, ordering_then, is_lt}
@@ -57,10 +55,6 @@ none_before h held p bound k s lt = λ q n size there over.
     let less = below_first bound s q sign.0 lt in
     let wrong : Less ≡ Greater = sym over ∙ less in
     cc
-
--- nor one past the table's
-pub none_past : (h : ValuedFamilies (Option Tally)) → AreValuedFamilies h → (p bound : List ℕ) (k s : ℕ) → h.signs < s → NoneAt h.values p bound k s
-none_past h held p bound k s lt = λ q n size there over. let sign = counted_sign h held p s q n there in omega arith
 
 -- nor one below which no string has a value
 pub none_ends : (ts : Tallies) (p bound : List ℕ) (k s : ℕ) → EndsBefore ts (p ++ s ∷ []) → NoneAt ts p bound k s
@@ -158,25 +152,6 @@ least_last ts p bound s number sums sign over there = record {
 
 below_from : (x s : ℕ) → nat_cmp x s ≡ Less → x < s
 below_from x s is = grind (arith, nat_tests)
-
--- a path that is the least of its first sign, where no less sign serves
-pub least_above : (ts : Tallies) (p bound : List ℕ) (s : ℕ) (path : List ℕ) (sums : ℕ × ℕ) (k : ℕ) → k ≡ length path → ((x : ℕ) → x < s → NoneAt ts p bound k x) → LeastAt ts p bound s path sums → LeastAbove ts p bound path sums
-least_above ts p bound s path sums k long none at = λ x. record {
-  found = at.least.found;
-  over = at.least.over;
-  are_signs = at.least.are_signs;
-  least = λ q n size there over less. by x q n size there over less (nat_cmp x s) refl;
-}
-  where
-    by : (x : ℕ) (q : List ℕ) (n : ℕ × ℕ) → length (x ∷ q) ≡ length path → sums_at ts (p ++ x ∷ q) ≡ Some n → order bound (x ∷ q) ≡ Less → order (x ∷ q) path ≡ Less → (o : Ordering) → nat_cmp x s ≡ o → ⊥
-    by x q n size there over less Less is = none x (below_from x s is) q n (omega arith) there over
-    by x q n size there over less Equal is =
-        let same : x ≡ s = nat_cmp-IsAntisymmetric x s is in
-        at.least.least q n (omega arith) (sym (ap (λ y. sums_at ts (p ++ y ∷ q)) same) ∙ there) (sym (ap (λ y. order bound (y ∷ q)) same) ∙ over) (sym (ap (λ y. order (y ∷ q) path) same) ∙ less)
-    by x q n size there over less Greater is =
-        let more : order (x ∷ q) path ≡ Greater = ap (order (x ∷ q)) at.starts ∙ ap (λ o. ordering_then o (order q at.tail)) is in
-        let wrong : Less ≡ Greater = sym less ∙ more in
-        cc
 
 -- a base that is not 0
 pub base_there : (o : Option ℕ) (base : ℕ) → o ≡ cond (nat_eq base 0) None (Some base) → base ≢ 0 → o ≡ Some base

@@ -1,23 +1,22 @@
 -- How the items of a pattern line are read, one after the other.
-use Rattle.std.proofs.Common.{◌≡◌, ℕ, ◌+◌, ◌-◌, ◌<◌, ◌≤◌, Bool, true, false, if◌then◌else◌, ◌==◌, List, [], ◌∷◌, ◌++◌, length, Some, None, Err, fold, sym, refl, ap, subst, ◌∙◌, arith}
+use Rattle.std.proofs.Common.{◌≡◌, ℕ, ◌+◌, ◌-◌, ◌<◌, ◌≤◌, true, false, if◌then◌else◌, ◌==◌, List, [], ◌∷◌, ◌++◌, length, Some, Err, fold, sym, refl, ap, subst, ◌∙◌, arith}
 use Rattle.std.proofs.lemmas.Bool.{eqb-false}
 use Rattle.std.proofs.lemmas.List.{length_push}
 use Rattle.std.proofs.lemmas.List.Elements.{All-push, All-append, All-weaker, All-nil, All-cons}
 use Rattle.std.specs.List.{All}
 use Rattle.pg_types.specs.declared.limits.TheConstants.{PATTERN_SIGNS_MAX}
-use Rattle.pg_types.specs.declared.refusals.Kind.TheVariants.{PatternCharacter, PatternTooLong}
+use Rattle.pg_types.specs.declared.refusals.Kind.TheVariants.{PatternTooLong}
 use Rattle.pg_types.specs.Reading.{unless}
 use Rattle.pg_translate.specs.declared.items.Place.TheVariants.{Patterns}
 use Rattle.pg_translate.specs.Alphabets.{Alphabet}
-use Rattle.pg_translate.specs.Tokens.{Token, Digit}
+use Rattle.pg_translate.specs.Tokens.{Token}
 use Rattle.pg_translate.specs.Cuts.{Cut, cut_rest, with_item, tokens_of}
-use Rattle.pg_translate.specs.Inside.Answers.{HasItem, HasNoItem}
+use Rattle.pg_translate.specs.Inside.Answers.{HasItem}
 use Rattle.pg_translate.specs.Gaps.{sign_of}
 use Rattle.pg_translate.specs.LineRefusals.{refused, refusal_with_room}
-use Rattle.pg_translate.proofs.Cuts.{cut_stops}
 use Rattle.pg_translate.proofs.LineSteps.{cut_rest-takes, refusal_sign, refusal_full}
 use Rattle.pg_patterns.specs.Lines.{digit_at_dot}
-use Rattle.pg_patterns.specs.Inside.Drafts.{Draft, IsDraft, IsDotDigit, all_digits, draft_with_sign, draft_with_digit, with_token, refusal_after, draft_left}
+use Rattle.pg_patterns.specs.Inside.Drafts.{Draft, IsDraft, IsDotDigit, all_digits, draft_with_sign, with_token, refusal_after, draft_left}
 
 -- a sign leaves room for one less
 room_less : (n : ℕ) → n < PATTERN_SIGNS_MAX → PATTERN_SIGNS_MAX - n ≡ PATTERN_SIGNS_MAX - (n + 1) + 1
@@ -39,16 +38,6 @@ sign_refused t line size d rest after token sign takes bound is full =
     let none : PATTERN_SIGNS_MAX - length d.signs ≡ 0 = omega arith in
     ap (λ c. unless (refusal_after (length d.signs) line c) (fold with_token d (tokens_of c))) (cut_rest-takes t Patterns size token rest after takes bound)
     ∙ ap (λ r. unless r (fold with_token (with_token d token) (tokens_of behind))) (ap (λ m. refusal_with_room Patterns line m (with_item column token behind)) none ∙ refusal_full Patterns line column token sign behind is)
-
-pub digit_step : (t : Alphabet) (line size : ℕ) (d : Draft) (rest after : List ℕ) (digit : ℕ) → HasItem t Patterns rest (Digit digit) after → length rest ≤ size → draft_left t line size d rest ≡ draft_left t line size (draft_with_digit d digit) after
-digit_step t line size d rest after digit takes bound =
-    ap (λ c. unless (refusal_after (length d.signs) line c) (fold with_token d (tokens_of c))) (cut_rest-takes t Patterns size (Digit digit) rest after takes bound)
-
--- where no item stands, the line ends or is refused
-pub stop_step : (t : Alphabet) (line size : ℕ) (d : Draft) (rest : List ℕ) (ended : Bool) → HasNoItem t Patterns rest ended → draft_left t line size d rest ≡ unless (if ended then None else Some (refused line PatternCharacter (size - length rest + 1))) d
-stop_step t line size d rest ended stops =
-    ap (λ c. unless (refusal_after (length d.signs) line c) (fold with_token d (tokens_of c))) (cut_stops t Patterns (size - length rest + 1) rest ended stops)
-    ∙ ap (λ b. unless (if b then None else Some (refused line PatternCharacter (size - length rest + 1))) d) stops.end
 
 -- what a draft keeps, it keeps with one digit more at its dots
 pub keeps_digits : (n : ℕ) (d : Draft) → IsDraft n d → All (IsDotDigit (length d.signs + 1)) (all_digits d)

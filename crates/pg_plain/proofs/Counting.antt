@@ -8,7 +8,7 @@ use Rattle.std.specs.Cmp.Lexicographic.{nat_list_cmp_total}
 use Rattle.pg_types.specs.Counts.{counted_sums, with_weight, with_count, is_counted}
 use Rattle.pg_types.specs.Numbered.{AreNumbered, AreInOrder, HasNumber}
 use Rattle.pg_types.specs.Inside.Numbers.{Numbers, AreNumbers, by_number}
-use Rattle.pg_types.proofs.Numbering.{number_of, numbered_found, numbers_none, numbers_put, by_number_none, by_number_put, length_by_number, in_order}
+use Rattle.pg_types.proofs.Numbering.{number_of, numbered_found, numbers_put, by_number_none, by_number_put, length_by_number, in_order}
 use Rattle.pg_types.proofs.StringEntries.{order, mapped, found_mapped, none_mapped, sorted_mapped, sorted_put, find_put_same, find_put_other, put_from}
 use Rattle.pg_plain.specs.Inside.Counted.{AreCounted, counted_of, counted_more, tally_at}
 use Rattle.pg_plain.specs.declared.counts.TheConstants.{NUMBERS_MAX}
@@ -23,14 +23,6 @@ tally_read tallies n sums lt read =
 -- where nothing is counted
 pub none_seen : (numbers : Numbers) (tallies : List (ℕ × ℕ)) → numbers ≡ [] → counted_of numbers tallies ≡ record { counts = []; windows = [] }
 none_seen numbers tallies none = ap (λ M. counted_of M tallies) none ∙ ap (λ ws. record { counts = []; windows = ws }) by_number_none
-
-pub none_are : (numbers : Numbers) (tallies : List (ℕ × ℕ)) → numbers ≡ [] → tallies ≡ [] → AreCounted numbers tallies
-none_are numbers tallies none empty = subst (λ M. AreCounted M tallies) (sym none) (subst (AreCounted []) (sym empty) (record {
-  sorted = tt;
-  numbered = numbers_none;
-  size = refl;
-  few = omega arith;
-}))
 
 module _ (numbers : Numbers) (tallies : List (ℕ × ℕ)) (are : AreCounted numbers tallies) where
   pub ordered : T (is_sorted order (counted_of numbers tallies).counts)

@@ -1,7 +1,7 @@
 -- The codes of texts: different texts of bytes have different codes.
 use Rattle.std.proofs.Common.{◌≡◌, ℕ, ◌+◌, ◌-◌, ◌*◌, ◌^◌, ◌<◌, ◌≤◌, nat_lt, true, ⊎_elim, List, [], ◌∷◌, ◌++◌, length, take, drop, get_or, fold, refl, sym, ap, ap₂, ◌∙◌, arith, suc, zero}
 use Rattle.std.specs.List.{list_all}
-use Rattle.std.proofs.lemmas.Bool.{and_parts, and_from, ltb-true, lt-ltb, cases_order}
+use Rattle.std.proofs.lemmas.Bool.{and_parts, ltb-true, cases_order}
 use Rattle.std.proofs.lemmas.List.{length-drop, take-append-drop, take_more, length-take-le}
 use Rattle.std.proofs.lemmas.List.Sums.{fold-append}
 use Rattle.pg_translate.specs.Inside.Fronts.{front_code, AreBytes}
@@ -67,11 +67,6 @@ code_same p q bp bq h =
 -- the code of a text and a byte behind it
 pub code_push : (p : List ℕ) (b : ℕ) → front_code (p ++ b ∷ []) ≡ front_code p * 256 + b
 code_push p b = fold-append (λ code b. code * 256 + b) 1 p (b ∷ [])
-
--- a text of bytes with a byte behind it
-pub bytes_push : (p : List ℕ) (b : ℕ) → AreBytes p → b < 256 → AreBytes (p ++ b ∷ [])
-bytes_push [] b h small = and_from _ _ (lt-ltb b 256 small) refl
-bytes_push (x ∷ xs) b h small = and_from _ _ (and_parts _ _ h).0 (bytes_push xs b (and_parts _ _ h).1 small)
 
 -- the code of the next front of a text
 pub code_more : (text : List ℕ) (i b : ℕ) → i < length text → b ≡ get_or text i 0 → front_code (take i text) * 256 + b ≡ front_code (take (i + 1) text)

@@ -1,10 +1,10 @@
 -- The cut of a line, item by item.
-use Rattle.std.proofs.Common.{◌≡◌, ℕ, ◌+◌, ◌-◌, ◌<◌, ◌≤◌, Bool, List, [], ◌∷◌, length, drop, Some, refl, sym, ap, ◌∙◌, arith, suc, zero, None}
+use Rattle.std.proofs.Common.{◌≡◌, ℕ, ◌+◌, ◌-◌, ◌<◌, ◌≤◌, List, [], ◌∷◌, length, drop, Some, refl, sym, ap, ◌∙◌, arith, suc, zero, None}
 use Rattle.pg_translate.specs.declared.items.Place.{Place}
 use Rattle.pg_translate.specs.Alphabets.{Alphabet}
 use Rattle.pg_translate.specs.Tokens.{Token, item_at}
 use Rattle.pg_translate.specs.Cuts.{cut_from, with_item}
-use Rattle.pg_translate.specs.Inside.Answers.{HasItem, HasNoItem}
+use Rattle.pg_translate.specs.Inside.Answers.{HasItem}
 
 -- the bytes of an item are passed over
 pub cut_skip : (t : Alphabet) (place : Place) (column skip : ℕ) (text : List ℕ) → skip ≤ length text → cut_from t place column skip text ≡ cut_from t place (column + skip) zero (drop skip text)
@@ -32,7 +32,3 @@ cut_takes t place column text after token takes =
 pub cut_none : (t : Alphabet) (place : Place) (column : ℕ) (text : List ℕ) → item_at t place text ≡ None → cut_from t place column zero text ≡ record { items = []; column = column; rest = text }
 cut_none t place column [] none = refl
 cut_none t place column (b ∷ bs) none = rw none refl
-
--- where no item stands the cut ends
-pub cut_stops : (t : Alphabet) (place : Place) (column : ℕ) (text : List ℕ) (ended : Bool) → HasNoItem t place text ended → cut_from t place column zero text ≡ record { items = []; column = column; rest = text }
-cut_stops t place column text ended stops = cut_none t place column text stops.none

@@ -23,15 +23,6 @@ pub record HasEntered (old new : Index) (spelling : ℕ × List ℕ) (i code : �
   pub spellings : new.spellings ≡ old.spellings
   pub firsts : new.firsts ≡ old.firsts
 
--- no front is entered yet
-pub enter_begin : (index : Index) (spelling : ℕ × List ℕ) → HasEntered index index spelling 0 1
-enter_begin index spelling = record {
-  code_is = refl;
-  fronts = λ text bytes some. rw (lt-leb (length text) 0 some) refl;
-  spellings = refl;
-  firsts = refl;
-}
-
 -- the front of a spelling of some size
 abbrev pub front_of_size : ℕ × List ℕ → ℕ → Front
 front_of_size spelling size = if size == length spelling.1 then Whole spelling.0 else Inside

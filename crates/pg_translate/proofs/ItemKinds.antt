@@ -34,9 +34,6 @@ item_of_patterns t text =
       | Some spelling ↦ refl
     ]
 
-pub no_weight : (t : Alphabet) (rest after : List ℕ) (weight : ℕ) → HasItem t Patterns rest (Weight weight) after → ⊥
-no_weight t rest after weight takes = cc (ap of_patterns takes.found, item_of_patterns t rest)
-
 pub no_mark : (t : Alphabet) (rest after : List ℕ) (mark : Mark) → HasItem t Patterns rest (Marked mark) after → ⊥
 no_mark t rest after mark takes = cc (ap of_patterns takes.found, item_of_patterns t rest)
 

@@ -1,5 +1,5 @@
 -- An item more of a line, and what it changes of the line's cut and refusal.
-use Rattle.std.proofs.Common.{◌≡◌, ℕ, ◌+◌, ◌-◌, ◌<◌, ◌≤◌, List, ◌∷◌, length, Some, None, option_map, sym, ap, ◌∙◌, arith, suc, zero}
+use Rattle.std.proofs.Common.{◌≡◌, ℕ, ◌+◌, ◌-◌, ◌<◌, ◌≤◌, List, ◌∷◌, length, Some, option_map, sym, ap, ◌∙◌, arith, suc, zero}
 use Rattle.std.specs.List.{cons_option, slice_get}
 use Rattle.std.specs.Option.{option_or}
 use Rattle.std.proofs.lemmas.List.{length-drop}
@@ -45,8 +45,3 @@ refusal_sign place line room column item sign c is =
 pub refusal_full : (place : Place) (line column : ℕ) (item : Token) (sign : ℕ) (c : Cut) → sign_of item ≡ Some sign → refusal_with_room place line 0 (with_item column item c) ≡ Some (refused line (long_kind place) column)
 refusal_full place line column item sign c is =
     ap (λ o. option_or (option_map (refused line (long_kind place)) (slice_get (cons_option (option_map (λ (_ : ℕ). column) o) (sign_columns c)) 0)) (stop_refusal place line c)) is
-
--- an item that stands for no sign leaves the refusal as it is
-pub refusal_other : (place : Place) (line room column : ℕ) (item : Token) (c : Cut) → sign_of item ≡ None → refusal_with_room place line room (with_item column item c) ≡ refusal_with_room place line room c
-refusal_other place line room column item c is =
-    ap (λ o. option_or (option_map (refused line (long_kind place)) (slice_get (cons_option (option_map (λ (_ : ℕ). column) o) (sign_columns c)) room)) (stop_refusal place line c)) is

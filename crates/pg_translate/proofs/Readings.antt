@@ -1,6 +1,6 @@
 -- The checks of letter lines, spelling by spelling and line by line.
-use Rattle.std.proofs.Common.{◌≡◌, ℕ, ◌+◌, ◌-◌, ◌*◌, ◌<◌, ◌≤◌, ◌==◌, max, fold, false, List, [], ◌∷◌, ◌++◌, map, length, take, drop, get_or, Ok, Err, refl, sym, ap, ◌∙◌, subst, arith}
-use Rattle.std.proofs.lemmas.List.{append_assoc, append-nil, map-append, take_rest}
+use Rattle.std.proofs.Common.{◌≡◌, ℕ, ◌+◌, ◌-◌, ◌*◌, ◌<◌, ◌≤◌, max, fold, List, [], ◌∷◌, ◌++◌, map, length, Ok, Err, refl, sym, ap, ◌∙◌, subst, arith}
+use Rattle.std.proofs.lemmas.List.{append_assoc, append-nil, map-append}
 use Rattle.std.proofs.lemmas.List.Sums.{fold-append}
 use Rattle.pg_types.specs.declared.limits.TheConstants.{SIGNS_MAX}
 use Rattle.pg_types.specs.declared.refusals.Refusal.{Refusal}
@@ -10,7 +10,7 @@ use Rattle.pg_types.specs.Lines.{lines}
 use Rattle.pg_types.specs.Reading.{Fails, first_refusal}
 use Rattle.pg_translate.specs.declared.index.Index.{Index}
 use Rattle.pg_translate.specs.Alphabets.{letters_in}
-use Rattle.pg_translate.specs.Tables.{ListedSpelling, first_failure, spelling_with_sign, spelling_check, spelling_checks, spellings_at, spellings_from, with_line_spellings, line_pieces, pieces_of, delimited_pieces}
+use Rattle.pg_translate.specs.Tables.{ListedSpelling, first_failure, spelling_with_sign, spelling_check, spelling_checks, spellings_at, spellings_from, with_line_spellings, line_pieces, pieces_of}
 use Rattle.pg_translate.specs.Inside.Fronts.{IsIndex, pairs}
 
 -- checks that pass leave those behind them
@@ -36,11 +36,6 @@ fails_guarded (Refused r) checks y h = refused checks h
     refused [] h = absurd (cc)
     refused (x ∷ xs) h = let same : x ≡ r = cc in ap (λ (z : Refusal). Err z) same
 fails_guarded Memory checks y h = tt
-
--- checks that pass give what they guard
-pub passed_guarded : {Y : Type 0} (checks : List Refusal) (y : Y) → first_failure checks ≡ Ok tt → first_refusal checks y ≡ Ok y
-passed_guarded [] y h = refl
-passed_guarded (r ∷ rs) y h = absurd (cc)
 
 -- what the reading of pieces keeps
 pub record HasPieces (old new : Index) (marks : List ℕ) (line letter column delimiter : ℕ) (text rest : List ℕ) : Type 0 where
@@ -76,16 +71,6 @@ pieces_fail old mid marks line letter column delimiter text rest piece after e b
     let here : ListedSpelling = record { line = line; column = column; letter = letter; text = piece } in
     let whole : Fails e (first_failure (spelling_checks marks (pairs mid) (spellings_at line column letter (piece ∷ pieces_of delimiter after)))) = fails_first e (spelling_check marks (pairs mid) here) (spelling_checks marks (pairs mid ++ spelling_with_sign here ∷ []) (spellings_at line (column + (length piece + 1)) letter (pieces_of delimiter after))) fails in
     subst (Fails e) (ap (λ (ps : List (List ℕ)). first_failure (spelling_checks marks (pairs mid) (spellings_at line column letter ps))) (sym cut) ∙ before.answer) whole
-
--- no piece is left
-pub pieces_done : (old new : Index) (marks : List ℕ) (line letter column delimiter : ℕ) (text rest : List ℕ) → HasPieces old new marks line letter column delimiter text rest → pieces_of delimiter rest ≡ [] → (first_failure (spelling_checks marks (pairs old) (spellings_at line 2 letter (pieces_of delimiter text))) ≡ Ok tt) × (pairs new ≡ pairs old ++ map spelling_with_sign (spellings_at line 2 letter (pieces_of delimiter text)))
-pieces_done old new marks line letter column delimiter text rest done none =
-    (sym (ap (λ (ps : List (List ℕ)). first_failure (spelling_checks marks (pairs new) (spellings_at line column letter ps))) (sym none) ∙ done.answer), sym (append-nil (pairs new)) ∙ ap (λ (ps : List (List ℕ)). pairs new ++ map spelling_with_sign (spellings_at line column letter ps)) (sym none) ∙ done.spellings)
-
--- the delimiter and what follows it
-pub delimited_is : (line : List ℕ) → (length line == 0) ≡ false → delimited_pieces line ≡ pieces_of (get_or line 0 0) (take (length line - 1) (drop 1 line))
-delimited_is [] some = absurd (cc)
-delimited_is (b ∷ bs) some = rw (take_rest (b ∷ bs) 1) refl
 
 -- checks of two lists, one behind the other
 pub spelling_checks-append : (marks : List ℕ) (earlier : List (ℕ × List ℕ)) (first later : List ListedSpelling) → spelling_checks marks earlier (first ++ later) ≡ spelling_checks marks earlier first ++ spelling_checks marks (earlier ++ map spelling_with_sign first) later
@@ -163,10 +148,3 @@ pub lines_fail : (mid : Index) (marks text : List ℕ) (line : ℕ) (rest first 
 lines_fail mid marks text line rest first after e before cut fails =
     let here : Fails e (first_failure (spelling_checks marks (pairs mid) (with_line_spellings line (letters_in (pairs mid) + 1) (line_pieces first) (λ next. spellings_from (line + 1) next (lines after))))) = line_fails marks (pairs mid) line (line_pieces first) (λ next. spellings_from (line + 1) next (lines after)) e fails in
     fails_guarded e (spelling_checks marks [] (spellings_from 2 1 (lines text))) (map spelling_with_sign (spellings_from 2 1 (lines text))) (subst (Fails e) (ap (λ (ls : List (List ℕ)). first_failure (spelling_checks marks (pairs mid) (spellings_from line (letters_in (pairs mid) + 1) ls))) (sym cut) ∙ before.answer) here)
-
--- no line is left
-pub lines_done : (index : Index) (marks text : List ℕ) (line : ℕ) (rest : List ℕ) → HasLines index marks text line rest → rest ≡ [] → first_refusal (spelling_checks marks [] (spellings_from 2 1 (lines text))) (map spelling_with_sign (spellings_from 2 1 (lines text))) ≡ Ok (pairs index)
-lines_done index marks text line rest done none =
-    let answer : first_failure (spelling_checks marks [] (spellings_from 2 1 (lines text))) ≡ Ok tt = sym (ap (λ (bytes : List ℕ). first_failure (spelling_checks marks (pairs index) (spellings_from line (letters_in (pairs index) + 1) (lines bytes)))) (sym none) ∙ done.answer) in
-    let spellings : map spelling_with_sign (spellings_from 2 1 (lines text)) ≡ pairs index = sym (sym (append-nil (pairs index)) ∙ ap (λ (bytes : List ℕ). pairs index ++ map spelling_with_sign (spellings_from line (letters_in (pairs index) + 1) (lines bytes))) (sym none) ∙ done.spellings) in
-    passed_guarded (spelling_checks marks [] (spellings_from 2 1 (lines text))) (map spelling_with_sign (spellings_from 2 1 (lines text))) answer ∙ ap (λ (ss : List (ℕ × List ℕ)). Ok ss) spellings

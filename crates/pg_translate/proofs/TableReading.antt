@@ -1,10 +1,10 @@
 -- A whole translate file, from its head and its letter lines.
-use Rattle.std.proofs.Common.{◌≡◌, ℕ, ◌+◌, ◌-◌, ◌<◌, ◌≤◌, max, fold, nat_lt, Bool, true, false, not, List, [], ◌∷◌, ◌++◌, map, length, Ok, Err, refl, sym, ap, ap₂, ◌∙◌, subst, arith}
+use Rattle.std.proofs.Common.{◌≡◌, ℕ, ◌+◌, ◌-◌, ◌≤◌, max, fold, nat_lt, Bool, true, false, not, List, [], ◌∷◌, ◌++◌, map, length, Ok, Err, refl, sym, ap, ap₂, ◌∙◌, subst, arith}
 use Rattle.std.specs.List.{list_all, list_any}
-use Rattle.std.proofs.lemmas.Bool.{and_from, lt-ltb, le-ltb, ltb-false, not-false}
+use Rattle.std.proofs.lemmas.Bool.{and_from, le-ltb, ltb-false, not-false}
 use Rattle.pg_types.specs.declared.limits.TheConstants.{FILE_MAX, SIGNS_MAX}
 use Rattle.pg_types.specs.declared.refusals.Kind.{Kind}
-use Rattle.pg_types.specs.declared.refusals.Kind.TheVariants.{TranslateTooLong, BadSpelling, SpellingClash, TooManyLetters}
+use Rattle.pg_types.specs.declared.refusals.Kind.TheVariants.{BadSpelling, SpellingClash, TooManyLetters}
 use Rattle.pg_types.specs.declared.refusals.Refusal.{Refusal}
 use Rattle.pg_types.specs.declared.refusals.ReadingError.{ReadingError}
 use Rattle.pg_types.specs.declared.refusals.ReadingError.TheVariants.{Refused, Memory}
@@ -13,7 +13,7 @@ use Rattle.pg_types.specs.Reading.{Fails, first_refusal}
 use Rattle.pg_translate.specs.declared.head.Head.{Head}
 use Rattle.pg_translate.specs.declared.index.Index.{Index}
 use Rattle.pg_translate.specs.Spellings.{is_spelling, clash}
-use Rattle.pg_translate.specs.Tables.{ListedSpelling, check, first_failure, spelling_with_sign, spelling_check, spelling_checks, spellings_from, head_checks, marks_of, alphabet_of, table, table_of, default_alphabet}
+use Rattle.pg_translate.specs.Tables.{ListedSpelling, check, first_failure, spelling_with_sign, spelling_check, spelling_checks, spellings_from, head_checks, marks_of, alphabet_of, table, table_of}
 use Rattle.pg_translate.specs.Inside.Heads.{IsHead, IsSoundHead, head_marks}
 use Rattle.pg_translate.specs.Inside.Sound.{IsTable}
 use Rattle.pg_translate.specs.Inside.Fronts.{IsIndex, pairs}
@@ -50,16 +50,6 @@ few_letters n marks earlier (s ∷ later) few none =
     let own : (check (nat_lt (SIGNS_MAX - 1) s.letter) TooManyLetters s.line 1 ≡ []) × (check (not (is_spelling marks s.text)) BadSpelling s.line s.column ++ check (list_any (clash (spelling_with_sign s)) earlier) SpellingClash s.line s.column ≡ []) = none_parts (check (nat_lt (SIGNS_MAX - 1) s.letter) TooManyLetters s.line 1) (check (not (is_spelling marks s.text)) BadSpelling s.line s.column ++ check (list_any (clash (spelling_with_sign s)) earlier) SpellingClash s.line s.column) parts.0 in
     let low : s.letter ≤ 2000 = ltb-false 2000 s.letter (check_none (nat_lt (SIGNS_MAX - 1) s.letter) TooManyLetters s.line 1 own.0) in
     few_letters (max n (s.letter + 1 - 1)) marks (earlier ++ spelling_with_sign s ∷ []) later (omega arith) parts.1
-
--- the file of no bytes
-pub read_none : (bytes : List ℕ) → bytes ≡ [] → table bytes ≡ Ok default_alphabet
-read_none bytes none = ap table none
-
--- a file that is too long
-pub read_long : (bytes first : List ℕ) (later : List (List ℕ)) → lines bytes ≡ first ∷ later → FILE_MAX < length bytes → table bytes ≡ Err (record { kind = TranslateTooLong; line = 0; column = 0 })
-read_long bytes first later cut long =
-    let whole : table bytes ≡ table_of (length bytes) (first ∷ later) = ap (table_of (length bytes)) cut in
-    whole ∙ rw (lt-ltb FILE_MAX (length bytes) long) refl
 
 -- the table of a file that is not too long
 not_long : (bytes first : List ℕ) (later : List (List ℕ)) → lines bytes ≡ first ∷ later → length bytes ≤ FILE_MAX → table bytes ≡ first_refusal (head_checks first ++ spelling_checks (marks_of first) [] (spellings_from 2 1 later)) (alphabet_of first later)

@@ -152,10 +152,3 @@ walk_more index text i code sound bytes walked inside front = record {
   code_is = ap (λ (n : ℕ). n * 256 + get_or text i 0) walked.code_is ∙ code_more text i (get_or text i 0) inside refl;
   none = walk_inside (pairs index) text i sound.apart (sym (walk_front index text i code sound bytes walked inside) ∙ front) walked.none;
 }
-
--- no walk yet
-pub walk_begin : (index : Index) (text : List ℕ) → IsIndex index → HasWalked (pairs index) text 0 1
-walk_begin index text sound = record {
-  code_is = refl;
-  none = λ s among few. let some : 0 < length s.1 = sound.some s among in absurd (omega arith);
-}

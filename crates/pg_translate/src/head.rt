@@ -27,7 +27,7 @@ pub const DEFAULT_FOUND: u8 = b'*';
 pub const DEFAULT_DONT_CARE: u8 = b'?';
 
 /// The minima and the mark bytes of a table.
-#[derive(Clone, Copy, Debug)]
+#[derive(Clone, Copy)]
 pub(crate) struct Head {
     pub(crate) left: u8,
     pub(crate) right: u8,

@@ -16,7 +16,7 @@ use std::alloc::{AllocError, Global};
 use std::collections::HashMap;
 
 /// What the first bytes of spellings are.
-#[derive(Clone, Copy, Debug)]
+#[derive(Clone, Copy)]
 pub(crate) enum Front {
     /// A proper front of spellings.
     Inside,
@@ -38,7 +38,7 @@ impl Front {
 }
 
 /// A spelling, and the sign of its letter.
-#[derive(Clone, Copy, Debug)]
+#[derive(Clone, Copy)]
 pub(crate) struct Spelling {
     sign: Sign,
     text: Text,

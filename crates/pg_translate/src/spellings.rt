@@ -6,7 +6,7 @@ ghost use Rattle.pg_translate.specs.declared.spellings.TheConstants.{SPELLING_MA
 pub const SPELLING_MAX: usize = 8;
 
 /// A text of at most [`SPELLING_MAX`] bytes: the first `size` of `bytes`.
-#[derive(Clone, Copy, Debug)]
+#[derive(Clone, Copy)]
 pub(crate) struct Text {
     bytes: [u8; SPELLING_MAX],
     size: u8,

@@ -1,5 +1,5 @@
 -- The entries of the strings, gathered string by string.
-use Rattle.std.proofs.Common.{◌≡◌, ℕ, ◌+◌, ◌*◌, ◌<◌, ◌≤◌, max, Bool, true, false, cond, ◌&&◌, nat_eq, nat_lt, List, [], ◌∷◌, ◌++◌, length, slice_get, Option, None, Some, unwrap_or, inl, inr, refl, sym, ◌∙◌, ap, subst, arith, append_assoc}
+use Rattle.std.proofs.Common.{◌≡◌, ℕ, ◌+◌, ◌*◌, ◌<◌, ◌≤◌, max, Bool, true, false, cond, ◌&&◌, nat_eq, nat_lt, List, [], ◌∷◌, ◌++◌, length, slice_get, Option, None, Some, unwrap_or, inl, inr, refl, sym, ◌∙◌, ap, subst, arith}
 use Rattle.std.proofs.lemmas.Bool.{cases_Bool, cases_lt, eqb-true, and_from}
 use Rattle.std.proofs.lemmas.List.Folds.{list_all-append}
 use Rattle.std.proofs.lemmas.Option.{slice_get_within}
@@ -138,16 +138,6 @@ gathered cells records is strings listed es g =
         let under = g.under (q, d) in
         let reached = g.reached there.0 (q, 0) (slice_get_within strings there.0 (q, 0) there.2) there.2 d in
         omega arith
-
--- the entries of a list, with one value more or a mark more
-pub values_step : (q : List ℕ) (es new : List ((List ℕ × ℕ) × ℕ)) (v d : ℕ) (rest list : List (ℕ × ℕ)) (whole : List ((List ℕ × ℕ) × ℕ)) → nat_lt v HOPELESS ≡ true → list ≡ (v, d) ∷ rest → new ≡ es ++ ((q, d), v) ∷ []
-    → es ++ entries_of as_value q list ≡ whole → new ++ entries_of as_value q rest ≡ whole
-values_step q es new v d rest list whole value list_is new_is is =
-    ap (λ l. l ++ entries_of as_value q rest) new_is
-    ∙ append_assoc es (((q, d), v) ∷ []) (entries_of as_value q rest)
-    ∙ ap (λ o. es ++ with_entry as_value (q, d) o (entries_of as_value q rest)) (sym (as_value_is v true value))
-    ∙ ap (λ l. es ++ entries_of as_value q l) (sym list_is)
-    ∙ is
 
 pub marks_step : (q : List ℕ) (es : List ((List ℕ × ℕ) × ℕ)) (v d : ℕ) (rest list : List (ℕ × ℕ)) (whole : List ((List ℕ × ℕ) × ℕ)) → nat_lt v HOPELESS ≡ false → list ≡ (v, d) ∷ rest
     → es ++ entries_of as_value q list ≡ whole → es ++ entries_of as_value q rest ≡ whole

@@ -191,10 +191,6 @@ pub some_there : {X : Type 0} (o : Option X) → is_some o ≡ true → (x : X) 
 some_there None e = absurd (let n : false ≡ true = e in cc)
 some_there (Some x) e = (x, refl)
 
-pub none_there : {X : Type 0} (o : Option X) → is_some o ≡ false → o ≡ None
-none_there None e = refl
-none_there (Some x) e = absurd (let n : true ≡ false = e in cc)
-
 -- what follows where a call is Ok
 pub on_ok : {V E : Type 0} (A B : Type 0) (r : Result V E) → (A → B) → OnOk r A → OnOk r B
 on_ok A B (Ok x) f h = f h

@@ -54,26 +54,12 @@ needed_value old mid new v d next rest list is value needed there_is grows there
 pub needed_mark : (old new : List Record) (v d : ℕ) (rest list : List (ℕ × ℕ)) → list ≡ (v, d) ∷ rest → nat_lt v HOPELESS ≡ false → AreNeeded old new (values_in rest) → AreNeeded old new (values_in list)
 needed_mark old new v d rest list is mark needed = subst (AreNeeded old new) (sym (ap values_in is ∙ mark_left v d rest mark)) needed
 
-pub needed_none : (old : List Record) (list : List (ℕ × ℕ)) → AreNeeded old old list
-needed_none old list h low high = absurd (omega arith)
-
 -- no head is told yet
 pub fresh_start : (cells : ValuedFamilies ℕ) (records : List Record) (fresh : List Record) (heads : List ℕ) → length fresh ≡ 0 → length heads ≡ length records + 1 → AreFreshTo cells records 0 fresh heads
 fresh_start cells records fresh heads none size = record {
   size = size;
   lists = λ q cell u at lt there. absurd (omega arith);
   needed = λ h low high. absurd (omega arith);
-}
-
--- a cell that no string has
-pub fresh_skip : (cells : ValuedFamilies ℕ) (records : List Record) (cell : ℕ) (fresh : List Record) (heads : List ℕ) → AreFreshTo cells records cell fresh heads → ((q : List ℕ) → cell_of cells.families q ≡ Some cell → ⊥) → AreFreshTo cells records (cell + 1) fresh heads
-fresh_skip cells records cell fresh heads f none = record {
-  size = f.size;
-  lists = λ q c u at lt there. elim (cases_eq c cell) [
-    | inl e ↦ absurd (none q (at ∙ ap Some e))
-    | inr other ↦ f.lists q c u at (omega arith) there
-  ];
-  needed = f.needed;
 }
 
 -- the new head of the string that has the cell

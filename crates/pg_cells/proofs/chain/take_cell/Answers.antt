@@ -1,6 +1,50 @@
-use Rattle.pg_cells.specs.Inside.Lists.{lists, pair_of}
+use Rattle.std.proofs.Common.{◌<◌, length, ap, sym, subst, ◌∙◌}
+use Rattle.pg_cells.specs.declared.member.Member.{Member}
+use Rattle.pg_cells.specs.Inside.Lists.{Row, Lists, lists, pair_of, IsFree, with_taken}
 use Rattle.pg_cells.proofs.LinkedLists.{linked_taken, after_taking, lists_even}
+use Rattle.pg_cells.proofs.ChainSteps.{before_free, after_free, free_in, fits_link, kept_in}
 use Rattle.pg_cells.proofs.chain.take_cell.Goals as goal
+
+pub set_after-requires-clause-cell : goal.set_after-requires-clause-cell
+set_after-requires-clause-cell g c =
+    free_in c.args.cells.now c.before_of-before.result
+    (before_free (lists c.args.cells.now) c.args.cell c.before_of-before.result c.requires.linked c.requires.cell.0 c.requires.free c.before_of-before.ensures)
+
+pub set_after-requires-clause-free : goal.set_after-requires-clause-free
+set_after-requires-clause-free g c =
+    before_free (lists c.args.cells.now) c.args.cell c.before_of-before.result c.requires.linked c.requires.cell.0 c.requires.free c.before_of-before.ensures
+
+pub set_after-requires-clause-after : goal.set_after-requires-clause-after
+set_after-requires-clause-after g c =
+    let free = after_free (lists c.args.cells.now) c.args.cell c.after_of-after.result c.requires.linked c.requires.free c.after_of-after.ensures in
+    fits_link c.args.cells.now c.after_of-after.result (free_in c.args.cells.now c.after_of-after.result free) c.requires.small
+
+pub set_before-requires-clause-cell : goal.set_before-requires-clause-cell
+set_before-requires-clause-cell g c =
+    let free = after_free (lists c.args.cells.now) c.args.cell c.after_of-after.result c.requires.linked c.requires.free c.after_of-after.ensures in
+    kept_in c.args.cells.now c.set_after.new.cells c.after_of-after.result (ap (λ (ls : Lists (Member g.row.V.Denot)). ls.row) c.set_after.ensures)
+    (free_in c.args.cells.now c.after_of-after.result free)
+
+pub set_before-requires-clause-free : goal.set_before-requires-clause-free
+set_before-requires-clause-free g c =
+    subst (λ (r : Row (Member g.row.V.Denot)). IsFree r c.after_of-after.result) (sym (ap (λ (ls : Lists (Member g.row.V.Denot)). ls.row) c.set_after.ensures))
+    (after_free (lists c.args.cells.now) c.args.cell c.after_of-after.result c.requires.linked c.requires.free c.after_of-after.ensures)
+
+pub set_before-requires-clause-before : goal.set_before-requires-clause-before
+set_before-requires-clause-before g c =
+    let free = before_free (lists c.args.cells.now) c.args.cell c.before_of-before.result c.requires.linked c.requires.cell.0 c.requires.free c.before_of-before.ensures in
+    fits_link c.args.cells.now c.before_of-before.result (free_in c.args.cells.now c.before_of-before.result free) c.requires.small
+
+pub set_taken-requires-clause-cell : goal.set_taken-requires-clause-cell
+set_taken-requires-clause-cell g c =
+    kept_in c.set_after.new.cells c.set_before.new.cells c.args.cell (ap (λ (ls : Lists (Member g.row.V.Denot)). ls.row) c.set_before.ensures)
+    (kept_in c.args.cells.now c.set_after.new.cells c.args.cell (ap (λ (ls : Lists (Member g.row.V.Denot)). ls.row) c.set_after.ensures) c.requires.cell.1)
+
+pub returns-clause-row : goal.returns-clause-row
+returns-clause-row g c =
+    ap (λ (ls : Lists (Member g.row.V.Denot)). ls.row) c.set_taken.ensures
+    ∙ ap (λ (ls : Lists (Member g.row.V.Denot)). with_taken ls.row c.args.cell c.args.sign c.args.value c.args.child) c.set_before.ensures
+    ∙ ap (λ (ls : Lists (Member g.row.V.Denot)). with_taken ls.row c.args.cell c.args.sign c.args.value c.args.child) c.set_after.ensures
 
 pub returns-clause-linked : goal.returns-clause-linked
 returns-clause-linked g c =

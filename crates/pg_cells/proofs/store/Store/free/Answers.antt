@@ -1,13 +1,34 @@
-use Rattle.std.proofs.Common.{◌≡◌, ◌≢◌, ◌<◌, ◌≤◌, ℕ, sym, ap, subst, ◌∙◌, length, arith, take, drop, ◌++◌}
+use Rattle.std.proofs.Common.{◌≡◌, ◌≢◌, ◌<◌, ◌≤◌, ◌^◌, ℕ, List, sym, ap, subst, ◌∙◌, length, arith, take, drop, ◌++◌}
 use Rattle.std.proofs.lemmas.List.{length-map}
-use Rattle.pg_cells.specs.Inside.Lists.{row_of, sign_at, with_free}
+use Rattle.pg_cells.specs.declared.cell.Cell.{Cell}
+use Rattle.pg_cells.specs.declared.member.Member.{Member}
+use Rattle.pg_cells.specs.Inside.Linked.{AreLinked}
+use Rattle.pg_cells.specs.Inside.Lists.{Row, lists, row_of, sign_at, with_free}
 use Rattle.pg_cells.proofs.LinkedLists.{taken_within}
+use Rattle.pg_cells.proofs.ChainSteps.{signs_long}
 use Rattle.pg_cells.specs.Inside.Writes.{Frees}
 use Rattle.pg_cells.proofs.RowWrites.{row_frees}
 use Rattle.pg_cells.proofs.BlockedLaws.{blocked_none}
 use Rattle.pg_cells.proofs.BoundLaws.{bounds_free}
 use Rattle.pg_cells.proofs.StoreSteps.{given_back, kept_freed, some_taken}
 use Rattle.pg_cells.proofs.store.Store.free.Goals as goal
+
+pub free_cell-requires-clause-linked : goal.free_cell-requires-clause-linked
+free_cell-requires-clause-linked g c = subst (λ (cells : List (Cell g.row.V.Denot)). AreLinked (lists cells)) (sym c.as_mut_slice.ensures.value) c.self.invariant.kept.linked
+
+pub free_cell-requires-clause-small : goal.free_cell-requires-clause-small
+free_cell-requires-clause-small g c = subst (λ (cells : List (Cell g.row.V.Denot)). length cells < 2 ^ 32) (sym c.as_mut_slice.ensures.value) c.self.invariant.kept.small
+
+pub free_cell-requires-clause-taken : goal.free_cell-requires-clause-taken
+free_cell-requires-clause-taken g c =
+    subst (λ (cells : List (Cell g.row.V.Denot)). sign_at (row_of cells) c.args.cell ≢ 0) (sym c.as_mut_slice.ensures.value)
+    (subst (λ (r : Row (Member g.row.V.Denot)). sign_at r c.args.cell ≢ 0) (sym c.self.view_is) c.requires.taken)
+
+pub free_cell-requires-clause-cell : goal.free_cell-requires-clause-cell
+free_cell-requires-clause-cell g c =
+    let taken : sign_at (row_of c.self.inside.cells.items) c.args.cell ≢ 0 = subst (λ (r : Row (Member g.row.V.Denot)). sign_at r c.args.cell ≢ 0) (sym c.self.view_is) c.requires.taken in
+    let within = subst (λ n. c.args.cell < n) (signs_long c.self.inside.cells.items) (taken_within (row_of c.self.inside.cells.items) c.args.cell taken) in
+    (c.requires.cell, subst (λ (cells : List (Cell g.row.V.Denot)). c.args.cell < length cells) (sym c.as_mut_slice.ensures.value) within)
 
 pub invariant_of-self : goal.invariant_of-self
 invariant_of-self g c =

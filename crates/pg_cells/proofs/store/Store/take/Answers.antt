@@ -1,7 +1,11 @@
-use Rattle.std.proofs.Common.{◌≡◌, ◌<◌, sym, ap, subst, ◌∙◌, length, arith, take, drop, ◌++◌}
+use Rattle.std.proofs.Common.{◌≡◌, ◌<◌, ◌^◌, List, sym, ap, subst, ◌∙◌, length, arith, take, drop, ◌++◌}
 use Rattle.std.proofs.lemmas.List.{length-map}
-use Rattle.pg_cells.specs.Inside.Lists.{row_of, IsFree, with_taken}
+use Rattle.pg_cells.specs.declared.cell.Cell.{Cell}
+use Rattle.pg_cells.specs.declared.member.Member.{Member}
+use Rattle.pg_cells.specs.Inside.Linked.{AreLinked}
+use Rattle.pg_cells.specs.Inside.Lists.{Row, lists, row_of, IsFree, with_taken}
 use Rattle.pg_cells.proofs.LinkedLists.{free_within}
+use Rattle.pg_cells.proofs.ChainSteps.{free_in, child_fits}
 use Rattle.pg_cells.specs.Inside.Writes.{Takes}
 use Rattle.pg_cells.proofs.RowWrites.{row_takes}
 use Rattle.pg_cells.proofs.BlockedLaws.{blocked_take, free_sign}
@@ -15,6 +19,28 @@ overflow_add-self g c =
     let small = c.self.invariant.kept.small in
     let count = c.self.invariant.kept.count in
     omega arith
+
+pub take_cell-requires-clause-linked : goal.take_cell-requires-clause-linked
+take_cell-requires-clause-linked g c = subst (λ (cells : List (Cell g.row.V.Denot)). AreLinked (lists cells)) (sym c.as_mut_slice.ensures.value) c.self.invariant.kept.linked
+
+pub take_cell-requires-clause-small : goal.take_cell-requires-clause-small
+take_cell-requires-clause-small g c = subst (λ (cells : List (Cell g.row.V.Denot)). length cells < 2 ^ 32) (sym c.as_mut_slice.ensures.value) c.self.invariant.kept.small
+
+pub take_cell-requires-clause-free : goal.take_cell-requires-clause-free
+take_cell-requires-clause-free g c =
+    subst (λ (cells : List (Cell g.row.V.Denot)). IsFree (row_of cells) c.args.cell) (sym c.as_mut_slice.ensures.value)
+    (subst (λ (r : Row (Member g.row.V.Denot)). IsFree r c.args.cell) (sym c.self.view_is) c.requires.free)
+
+pub take_cell-requires-clause-cell : goal.take_cell-requires-clause-cell
+take_cell-requires-clause-cell g c = (
+  c.requires.cell,
+  free_in c.as_mut_slice.result.now c.args.cell (subst (λ (cells : List (Cell g.row.V.Denot)). IsFree (row_of cells) c.args.cell) (sym c.as_mut_slice.ensures.value)
+      (subst (λ (r : Row (Member g.row.V.Denot)). IsFree r c.args.cell) (sym c.self.view_is) c.requires.free)),
+)
+
+pub take_cell-requires-clause-child : goal.take_cell-requires-clause-child
+take_cell-requires-clause-child g c =
+    child_fits c.self.inside.cells.items c.args.slot.child (subst (λ (r : Row (Member g.row.V.Denot)). c.args.slot.child < length r.signs) (sym c.self.view_is) c.requires.child) c.self.invariant.kept.small
 
 pub invariant_of-self : goal.invariant_of-self
 invariant_of-self g c =

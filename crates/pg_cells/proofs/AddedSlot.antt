@@ -1,0 +1,96 @@
+-- A slot is added to a family: what the steps need, and what they leave.
+use Rattle.std.proofs.Common.{◌≡◌, ◌≢◌, ℕ, ◌+◌, ◌<◌, ◌≤◌, true, false, ◌&&◌, nat_eq, nat_lt, List, [], ◌∷◌, ◌++◌, length, Result, Ok, Err, IfOk, OnOk, OnErr, None, Some, ap, sym, ◌∙◌, subst}
+use Rattle.std.proofs.lemmas.Bool.{and_parts, and_from, ltb-true, lt-ltb, eqb-true, eq-eqb, both_ways}
+use Rattle.pg_types.specs.Placement.{Families, cell_of, joins_at, with_sign}
+use Rattle.pg_cells.specs.declared.fit.Slot.{Slot}
+use Rattle.pg_cells.specs.Inside.Lists.{Row, sign_at, child_at, IsFree}
+use Rattle.pg_cells.specs.Inside.Store.{Extends}
+use Rattle.pg_cells.specs.Inside.Writes.{Takes}
+use Rattle.pg_cells.specs.Inside.Moves.{CanPlace, Moved, Collected}
+use Rattle.pg_cells.specs.Inside.Members.{ArePassing, has_sign}
+use Rattle.pg_cells.specs.Inside.Adding.{CanAdd, added}
+use Rattle.pg_cells.specs.Inside.Layouts.{IsTrie}
+use Rattle.pg_cells.specs.ValuedFamilies.{Trie, ValuedFamilies}
+use Rattle.pg_cells.proofs.AddTrie.{grown, trie_extended, joins_trie, joins_cell, joins_free, settles_can, settles_trie, settles_cell}
+use Rattle.pg_cells.proofs.StringCells.{cells_apart}
+use Rattle.pg_cells.proofs.GivenMembers.{joins_told, given_none, given_some}
+
+module _ {V : Type 0} (few n : ℕ) (old r : Row V) (t : Trie V) (p : List ℕ) (parent s : ℕ) (members : List ℕ) (can : CanAdd n old t p parent s members) (more : Extends old r)
+    (low : 1 ≤ s) (high : s ≤ n) (base : ℕ) (base_is : base ≡ child_at r parent) where
+  -- the sign joins in place
+  module _ (test : (nat_lt 0 base && nat_eq (sign_at r (base + s)) 0) ≡ true) where
+    up : 0 < base
+    up = ltb-true 0 base (and_parts (nat_lt 0 base) (nat_eq (sign_at r (base + s)) 0) test).0
+
+    free : sign_at r (base + s) ≡ 0
+    free = eqb-true (sign_at r (base + s)) 0 (and_parts (nat_lt 0 base) (nat_eq (sign_at r (base + s)) 0) test).1
+
+    pub joining_free : ((i : ℕ) → sign_at old i ≢ 0 → i + (n + 2) ≤ length r.signs) → IsFree r (base + s)
+    joining_free room = joins_free few n old r t can.trie more p parent can.at s low high can.lacks base base_is up free room
+
+    pub joining_trie : (new : Row V) (v : V) (child : ℕ) → child ≡ 0 → Takes r new (base + s) s v child → IsTrie n new (added few n t p s v)
+    joining_trie new v child none takes =
+        joins_trie few n old r t can.trie more p parent can.at s low high can.lacks base base_is up free new v (subst (Takes r new (base + s) s v) none takes)
+
+    pub joining_cell : cell_of (with_sign few n t.families p s) (p ++ s ∷ []) ≡ Some (base + s)
+    joining_cell = joins_cell few n old r t can.trie more p parent can.at s low high can.lacks base base_is up free
+
+  -- it does not join, and the family is put at another base
+  module _ (test : (nat_lt 0 base && nat_eq (sign_at r (base + s)) 0) ≡ false) (slots : List (Slot V)) (none : members ≡ [] → slots ≡ [])
+      (some : (m : ℕ) → ((i : ℕ) → sign_at r i ≤ m) → ArePassing (λ x. nat_eq (sign_at r (base + x)) x) members → Collected m r base slots) where
+    are : ArePassing (has_sign t.families p) members
+    are = can.are (sym (joins_told few n old r t can.trie more p parent can.at s low high can.lacks base base_is) ∙ test)
+
+    empty : base ≡ 0 → slots ≡ []
+    empty z = none (given_none few n old r t can.trie more p parent can.at s low high can.lacks base base_is members z are)
+
+    full : 0 < base → Collected n r base slots
+    full up =
+        some n (grown few n old r t can.trie more p parent can.at s low high can.lacks base base_is).layout.small
+        (given_some few n old r t can.trie more p parent can.at s low high can.lacks base base_is members up are)
+
+    stays : 0 < base → sign_at r (base + s) ≢ 0
+    stays up z = both_ways (nat_lt 0 base && nat_eq (sign_at r (base + s)) 0) test
+        (and_from (nat_lt 0 base) (nat_eq (sign_at r (base + s)) 0) (lt-ltb 0 base up) (eq-eqb (sign_at r (base + s)) 0 z))
+
+    pub moving_can : (slot : Slot V) → slot.sign ≡ s → slot.child ≡ 0 → length r.bases ≡ length r.signs → ((i : ℕ) → sign_at old i ≢ 0 → i + (n + 2) ≤ length r.signs) → CanPlace n r base slots slot parent
+    moving_can slot is no_child even room =
+        settles_can few n old r t can.trie more p parent can.at s low high can.lacks base base_is slots empty full stays slot is no_child even room
+
+    module _ (new : Row V) (at : ℕ) (slot : Slot V) (is : slot.sign ≡ s) (place : CanPlace n r base slots slot parent) (moved : Moved few n r new base at slots slot parent) where
+      pub moving_trie : IsTrie n new (added few n t p s slot.value)
+      moving_trie = settles_trie few n old r t can.trie more p parent can.at s low high can.lacks base base_is slots empty full stays new at slot is place moved
+
+      pub moving_cell : cell_of (with_sign few n t.families p s) (p ++ s ∷ []) ≡ Some (at + s)
+      moving_cell = settles_cell few n old r t can.trie more p parent can.at s low high can.lacks base base_is slots empty full stays new at slot is place moved
+
+-- the trie that is held after an answer
+abbrev pub after : {V E : Type 0} → ℕ → ℕ → Trie V → List ℕ → ℕ → V → Result ℕ E → Trie V
+after few n t p s v (Ok cell) = added few n t p s v
+after few n t p s v (Err e) = t
+
+pub after_held : {V E : Type 0} (few n : ℕ) (old new : Row V) (t : Trie V) (p : List ℕ) (s : ℕ) (v : V) (answer : Result ℕ E) → IsTrie n old t
+    → OnOk answer (IsTrie n new (added few n t p s v)) → OnErr answer (Extends old new) → IsTrie n new (after few n t p s v answer)
+after_held few n old new t p s v (Ok cell) before ok err = ok
+after_held few n old new t p s v (Err e) before ok err = trie_extended n old new t before err
+
+-- what is required of the view holds of the trie behind it
+pub can_add : {V : Type 0} (n : ℕ) (r : Row V) (t : Trie V) → IsTrie n r t → (h : ValuedFamilies V) → ◌≡◌ {A = ValuedFamilies V} (record { signs = n; families = t.families; values = t.values }) h
+    → (p q : List ℕ) (parent s : ℕ) (members : List ℕ) → cell_of h.families p ≡ Some parent → cell_of h.families (p ++ s ∷ []) ≡ None → cell_of h.families q ≡ Some parent
+    → ((q : List ℕ) → cell_of h.families q ≡ Some parent → joins_at h.families q s ≡ false → ArePassing (has_sign h.families q) members) → CanAdd n r t q parent s members
+can_add {V} n r t trie h view p q parent s members at lacks there owed =
+    let at_p : cell_of t.families p ≡ Some parent = subst (λ (k : ValuedFamilies V). cell_of k.families p ≡ Some parent) (sym view) at in
+    let at_q : cell_of t.families q ≡ Some parent = subst (λ (k : ValuedFamilies V). cell_of k.families q ≡ Some parent) (sym view) there in
+    let same : p ≡ q = cells_apart n r t trie p q parent at_p at_q in
+    let lacks_q : cell_of h.families (q ++ s ∷ []) ≡ None = subst (λ z. cell_of h.families (z ++ s ∷ []) ≡ None) same lacks in
+    record {
+      trie = trie;
+      at = at_q;
+      lacks = subst (λ (k : ValuedFamilies V). cell_of k.families (q ++ s ∷ []) ≡ None) (sym view) lacks_q;
+      are = subst (λ (k : ValuedFamilies V). joins_at k.families q s ≡ false → ArePassing (has_sign k.families q) members) (sym view) (owed q there);
+    }
+
+-- the cell that is answered, in families that are the same
+pub cell_alike : {E : Type 0} (answer : Result ℕ E) (fs gs : Families) (q : List ℕ) → OnOk answer (fs ≡ gs) → IfOk answer (λ cell. cell_of gs q ≡ Some cell) → IfOk answer (λ cell. cell_of fs q ≡ Some cell)
+cell_alike (Ok cell) fs gs q same at = ap (λ x. cell_of x q) same ∙ at
+cell_alike (Err e) fs gs q same at = at

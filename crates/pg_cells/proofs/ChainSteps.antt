@@ -1,0 +1,65 @@
+-- What the steps of the list through the free cells need: which cells are free, and that their numbers fit a link.
+use Rattle.std.proofs.Common.{◌≡◌, ◌≢◌, ℕ, ◌+◌, ◌-◌, ◌<◌, ◌^◌, inl, inr, List, [], ◌∷◌, ◌++◌, length, get_or, map, zero, suc, refl, sym, ◌∙◌, ap, subst, arith}
+use Rattle.std.proofs.lemmas.Bool.{cases_eq}
+use Rattle.std.proofs.lemmas.List.{length-map, map_push, length_push}
+use Rattle.pg_cells.specs.declared.cell.Cell.{Cell}
+use Rattle.pg_cells.specs.Inside.Lists.{Lists, lists, row_of, IsFree, sign_at, before_at, after_at}
+use Rattle.pg_cells.specs.Inside.Linked.{AreLinked}
+use Rattle.pg_cells.proofs.LinkedLists.{free_within}
+
+module _ {V : Type 0} where
+  -- the cells before and after a free one are free
+  pub before_free : (ls : Lists V) (i b : ℕ) → AreLinked ls → 0 < i → IsFree ls.row i → b ≡ before_at ls i → IsFree ls.row b
+  before_free ls i b linked up free is = subst (IsFree ls.row) (sym is) (linked.before_ok i up free).1
+
+  pub after_free : (ls : Lists V) (i a : ℕ) → AreLinked ls → IsFree ls.row i → a ≡ after_at ls i → IsFree ls.row a
+  after_free ls i a linked free is = subst (IsFree ls.row) (sym is) (elim (cases_eq (after_at ls i) 0) [
+    | inl z ↦ subst (IsFree ls.row) (sym z) linked.head
+    | inr up ↦ (linked.after_ok i free up).1
+  ])
+
+module _ {V : Type 0} (cells : List (Cell V)) where
+  pub signs_long : length (map (λ (c : Cell V). c.sign) cells) ≡ length cells
+  signs_long = length-map cells (λ c. c.sign)
+
+  -- a free cell is among the cells
+  pub free_in : (i : ℕ) → IsFree (row_of cells) i → i < length cells
+  free_in i free = subst (λ n. i < n) signs_long (free_within (row_of cells) i free)
+
+  -- the number of a cell fits a link
+  pub fits_link : (i : ℕ) → i < length cells → length cells < 2 ^ 32 → i < 2 ^ 32
+  fits_link i lt small = omega arith
+
+  -- and so does the base of a family below it
+  pub child_fits : (i : ℕ) → i < length (row_of cells).signs → length cells < 2 ^ 32 → i < 2 ^ 32
+  child_fits i lt small = fits_link i (subst (λ n. i < n) signs_long lt) small
+
+-- there are as many cells where the row is the same
+pub kept_in : {V : Type 0} (cells new : List (Cell V)) (i : ℕ) → row_of new ≡ row_of cells → i < length cells → i < length new
+kept_in cells new i same lt = subst (λ n. i < n) (sym (signs_long cells) ∙ sym (ap (λ r. length r.signs) same) ∙ signs_long new) lt
+
+get_or_last : (xs : List ℕ) (x d : ℕ) → get_or (xs ++ x ∷ []) (length xs) d ≡ x
+get_or_last [] x d = refl
+get_or_last (y ∷ ys) x d = get_or_last ys x d
+
+-- a taken cell at the end, of linked cells that are not too many
+module _ {V : Type 0} (cells new : List (Cell V)) (c : Cell V) (is : new ≡ cells ++ c ∷ []) where
+  long_push : length new ≡ length cells + 1
+  long_push = ap length is ∙ length_push cells c
+
+  pub small_push : length cells + 1 < 2 ^ 32 → length new < 2 ^ 32
+  small_push small = subst (λ n. n < 2 ^ 32) (sym long_push) small
+
+  pub some_push : AreLinked (lists cells) → 1 < length new
+  some_push linked = let head = free_in cells 0 linked.head in let long = long_push in omega arith
+
+  pub taken_push : c.sign ≡ 1 → sign_at (row_of new) (length new - 1) ≢ 0
+  taken_push sign z =
+      let last : length new - 1 ≡ length (map (λ (x : Cell V). x.sign) cells) = let long = long_push in let signs = signs_long cells in omega arith in
+      let at : sign_at (row_of new) (length new - 1) ≡ c.sign =
+      ap (sign_at (row_of new)) last
+      ∙ ap (λ (xs : List (Cell V)). get_or (map (λ (x : Cell V). x.sign) xs) (length (map (λ (x : Cell V). x.sign) cells)) 0) is
+      ∙ ap (λ xs. get_or xs (length (map (λ (x : Cell V). x.sign) cells)) 0) (map_push (λ (x : Cell V). x.sign) cells c)
+      ∙ get_or_last (map (λ (x : Cell V). x.sign) cells) c.sign 0 in
+      let zero_is : c.sign ≡ 0 = sym at ∙ z in
+      omega arith
