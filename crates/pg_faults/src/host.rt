@@ -1,120 +1,109 @@
-use super::folders::{enter_names, holds, is_new_file_left, leave_folder, permit};
-use pg_outside::{Failed, Files, HostFiles, HostSystem, ReadError};
+use super::folders::{enter_names, holds, leave_folder, permit};
+use pg_outside::{Files, HostFiles, HostSystem, ReadError};
 use std::os::unix::fs::MetadataExt;
 use std::test::Fail;
 use std::{fs, io, rt};
 
-/// Writes the file of a name after a read of another.
-fn write_after_reading<R: rt::Files + AllocGlobal>(
-    rt: &R,
-    read: &str,
-    name: &str,
-) -> Result<(), Failed> {
-    let mut files = HostFiles::new(rt.alloc(), HostSystem::new(rt));
-    let mut into = Vec::new(rt.alloc());
-    if files.read(rt.alloc(), read, 9, &mut into).is_err() {
-        return Ok(());
-    }
-    files.write(name, b"a1b\n")
-}
+/// A read with its limit, how it goes, and what it gives.
+const READS: [(&str, u32, Result<(), ReadError>, &[u8]); 6] = [
+    ("D", 5, Ok(()), b"a-b\n"),
+    ("D", 4, Ok(()), b"a-b\n"),
+    ("soft", 4, Ok(()), b"a-b\n"),
+    ("D", 3, Err(ReadError::TooLong), b"a-b\n"),
+    ("missing", 5, Err(ReadError::Failed), b""),
+    ("folder", 5, Err(ReadError::Failed), b""),
+];
 
-/// How a read of a file goes, and what it gives.
-fn read<R: rt::Files + AllocGlobal>(
+/// Names that are not written once D was read: names of D, and what is no file or cannot be one.
+const NOT_WRITTEN: [&str; 10] = [
+    "D",
+    "./D",
+    "hard",
+    "soft",
+    "folder",
+    ".",
+    "",
+    "missing/O",
+    "O/",
+    "/dev/full",
+];
+
+/// Names that are written, and a name that leads to each file then. D is replaced, then a file is
+/// made, then one behind a link, and a device is written in place.
+const WRITTEN: [(&str, &str); 7] = [
+    ("D", "soft"),
+    ("./D", "D"),
+    ("N", "N"),
+    ("folder/N", "folder/N"),
+    ("soft", "D"),
+    ("dangling", "later"),
+    ("/dev/null", "later"),
+];
+
+/// Whether a read of the file goes so, and gives these bytes.
+fn reads_so<R: rt::Files + AllocGlobal>(
     rt: &R,
     name: &str,
     limit: u32,
-) -> (Result<(), ReadError>, Vec<u8>) {
+    wanted: Result<(), ReadError>,
+    bytes: &[u8],
+) -> bool {
+    let mut files = HostFiles::new(rt.alloc(), HostSystem::new(rt));
     let mut into = Vec::new(rt.alloc());
-    let result = HostFiles::new(rt.alloc(), HostSystem::new(rt)).read(
-        rt.alloc(),
-        name,
-        limit as usize,
-        &mut into,
-    );
-    (result, into)
+    let result = files.read(rt.alloc(), name, limit as usize, &mut into);
+    result == wanted && into.as_slice() == bytes
+}
+
+/// Whether a read of one file goes well, and then a write of another.
+fn outcomes<R: rt::Files + AllocGlobal>(rt: &R, read: &str, name: &str) -> [bool; 2] {
+    let mut files = HostFiles::new(rt.alloc(), HostSystem::new(rt));
+    let mut into = Vec::new(rt.alloc());
+    [
+        files.read(rt.alloc(), read, 9, &mut into).is_ok(),
+        files.write(name, b"a1b\n").is_ok(),
+    ]
+}
+
+/// Whether the file of this name is not written once D was read, and D stays.
+fn is_not_written<R: rt::Files + AllocGlobal>(rt: &R, name: &str) -> bool {
+    outcomes(rt, "D", name) == [true, false]
+        && holds(rt, "D", b"a-b\n")
+        && holds(rt, "patgen-new-0", b"x")
+}
+
+/// Whether the file of this name is written, and the other name leads to it.
+fn is_written<R: rt::Files + AllocGlobal>(rt: &R, name: &str, other: &str) -> bool {
+    outcomes(rt, "patgen-new-0", name) == [true, true] && holds(rt, other, b"a1b\n")
 }
 
 #[test]
-fn reads_of_real_files(rt: HostRuntime) -> Result<(), Fail> {
-    enter_names(&rt, "reads_of_real_files")?;
-    let table: [(&str, u32, Result<(), ReadError>, &[u8]); 6] = [
-        ("D", 5, Ok(()), b"a-b\n"),
-        ("D", 4, Ok(()), b"a-b\n"),
-        ("soft", 4, Ok(()), b"a-b\n"),
-        ("D", 3, Err(ReadError::TooLong), b"a-b\n"),
-        ("missing", 5, Err(ReadError::Failed), b""),
-        ("folder", 5, Err(ReadError::Failed), b""),
-    ];
-    for (name, limit, wanted, bytes) in table {
-        let (result, into) = read(&rt, name, limit);
-        assert_eq!(rt; (result, into.as_slice()), (wanted, bytes), "{name}");
-    }
-    leave_folder(&rt, "reads_of_real_files")?;
-    Ok(())
-}
-
-#[test]
-fn what_was_read_is_not_written(rt: HostRuntime) -> Result<(), Fail> {
-    enter_names(&rt, "what_was_read_is_not_written")?;
-    for name in ["D", "./D", "hard", "soft"] {
-        assert_eq!(rt; write_after_reading(&rt, "D", name), Err(Failed));
-        assert!(rt; holds(&rt, "D", b"a-b\n") && !is_new_file_left(&rt));
-    }
-    leave_folder(&rt, "what_was_read_is_not_written")?;
-    Ok(())
-}
-
-#[test]
-fn names_that_are_not_written(rt: HostRuntime) -> Result<(), Fail> {
-    enter_names(&rt, "names_that_are_not_written")?;
-    for name in ["folder", ".", "", "missing/O", "O/", "/dev/full"] {
-        assert_eq!(rt; write_after_reading(&rt, "D", name), Err(Failed));
-        assert!(rt; !is_new_file_left(&rt));
-    }
-    leave_folder(&rt, "names_that_are_not_written")?;
-    Ok(())
-}
-
-#[test]
-fn written_in_place(rt: HostRuntime) -> Result<(), Fail> {
-    enter_names(&rt, "written_in_place")?;
-    fs::write(&rt, "other", b"x")?;
-    for name in ["soft", "dangling", "/dev/null"] {
-        assert_eq!(rt; write_after_reading(&rt, "other", name), Ok(()));
-    }
-    for name in ["D", "soft", "later"] {
-        assert!(rt; holds(&rt, name, b"a1b\n"));
-    }
-    assert!(rt; fs::symlink_metadata(&rt, "soft")?.is_symlink());
-    leave_folder(&rt, "written_in_place")?;
-    Ok(())
-}
-
-#[test]
-fn a_file_is_replaced_as_a_whole(rt: HostRuntime) -> Result<(), Fail> {
-    enter_names(&rt, "a_file_is_replaced_as_a_whole")?;
+fn real_files(rt: HostRuntime) -> Result<(), Fail> {
+    enter_names(&rt, "real_files")?;
     fs::write(&rt, "patgen-new-0", b"x")?;
     permit(&rt, "D", 0o640)?;
-    for name in ["D", "./D", "N", "folder/N"] {
-        assert_eq!(rt; write_after_reading(&rt, "patgen-new-0", name), Ok(()));
-        assert!(rt; holds(&rt, name, b"a1b\n"));
+    for (name, limit, wanted, bytes) in READS {
+        assert!(rt; reads_so(&rt, name, limit, wanted, bytes), "{name}");
+    }
+    for name in NOT_WRITTEN {
+        assert!(rt; is_not_written(&rt, name), "{name}");
+    }
+    for (name, other) in WRITTEN {
+        assert!(rt; is_written(&rt, name, other), "{name}");
     }
     assert!(rt; holds(&rt, "hard", b"a-b\n") && holds(&rt, "patgen-new-0", b"x"));
     assert_eq!(rt; fs::metadata(&rt, "D")?.mode() & 0o777, 0o640);
+    assert!(rt; fs::symlink_metadata(&rt, "soft")?.is_symlink());
     assert!(rt; !fs::exists(&rt, "patgen-new-1")?);
-    leave_folder(&rt, "a_file_is_replaced_as_a_whole")?;
+    leave_folder(&rt, "real_files")?;
     Ok(())
 }
 
 /// Writes a file that is there and one that is not in this folder, where it may not be written to.
-fn written_within(rt: &(impl rt::Files + AllocGlobal)) -> io::Result<[Result<(), Failed>; 2]> {
+fn written_within(rt: &(impl rt::Files + AllocGlobal)) -> io::Result<[[bool; 2]; 2]> {
     permit(rt, "folder", 0o500)?;
-    let outcomes = [
-        write_after_reading(rt, "D", "folder/O"),
-        write_after_reading(rt, "D", "folder/N"),
-    ];
+    let both = [outcomes(rt, "D", "folder/O"), outcomes(rt, "D", "folder/N")];
     permit(rt, "folder", 0o700)?;
-    Ok(outcomes)
+    Ok(both)
 }
 
 #[test]
@@ -124,7 +113,7 @@ fn a_folder_without_permission(rt: HostRuntime) -> Result<(), Fail> {
     if fs::metadata(&rt, "folder")?.uid() == 0 {
         println!(rt; "skipped as root: a folder without permission")?;
     } else {
-        assert_eq!(rt; written_within(&rt)?, [Err(Failed), Err(Failed)]);
+        assert_eq!(rt; written_within(&rt)?, [[true, false], [true, false]]);
         assert!(rt; holds(&rt, "folder/O", b"x"));
     }
     leave_folder(&rt, "a_folder_without_permission")?;

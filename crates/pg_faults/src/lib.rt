@@ -1,12 +1,13 @@
-//! What files and sinks do whose calls fail: those in memory, real files, and files and writers whose calls go as a list says.
+//! What files and sinks do whose calls fail: a disk in memory, real files, and files and writers
+//! whose calls go as a list says.
 #![tactic(auto)]
 
+#[cfg(test)]
+mod disk;
 #[cfg(test)]
 mod folders;
 #[cfg(test)]
 mod host;
-#[cfg(test)]
-mod memory;
 #[cfg(test)]
 mod scripted;
 #[cfg(test)]

@@ -1,5 +1,5 @@
 -- What following one link after the other has come to.
-use Rattle.std.proofs.Common.{◌≡◌, ◌+◌, ◌<◌, ◌≤◌, ⊎_elim, ℕ, suc, List, false, true, Option, Some, None, refl, sym, ap, subst, ◌∙◌, arith, add-one}
+use Rattle.std.proofs.Common.{◌≡◌, ◌+◌, ◌<◌, ◌≤◌, ⊎_elim, ℕ, List, true, Option, Some, None, refl, sym, ap, subst, ◌∙◌, arith, add-one}
 use Rattle.pg_outside.specs.Inside.Disk.{Disk, Told, AreOne, Keeps, Now, IsEntry, IsFollowedBy}
 use Rattle.pg_outside.specs.Inside.DiskWrites.{followed, IsDeep, StandsFor}
 use Rattle.pg_outside.specs.Inside.NewNames.{IsJoined}

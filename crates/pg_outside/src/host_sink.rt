@@ -1,5 +1,5 @@
 //! The adapter over standard output.
-ghost use Rattle.std.specs.Prelude.{◌≡◌, ◌≤◌, None, OnOk, OnErr};
+ghost use Rattle.std.specs.Prelude.{◌≡◌, ◌≤◌, None, OnOk, OnErr, IsSome};
 ghost use Rattle.std.specs.Io.KnownBytes.{Appends};
 ghost use Rattle.pg_outside.specs.Content.{WasPut, WasPartPut};
 ghost use Rattle.pg_outside.specs.Faults.{Rose, next_count};
@@ -7,36 +7,47 @@ ghost use Rattle.pg_outside.specs.Inside.Streams.{AppendsPart};
 
 use super::outside::{Failed, Sink};
 use super::streams::write_bytes;
+use std::io;
 use std::io::Write;
 
-/// A writer as a sink, with a count of faults. It tells no content. A write that fails or takes
-/// none of its bytes is a fault.
+/// A writer as a sink, with a count of faults, which keeps why the last of these came. It tells no
+/// content. A write that fails or takes none of its bytes is a fault.
 #[derive(Drop)]
 pub struct HostSink<W: Write + Drop> {
     writer: W,
     failed: u64,
     puts: u64,
+    reason: Option<io::Error>,
 }
 
 impl<W: Write + Drop> HostSink<W> {
-    ghost use Rattle.pg_outside.specs.Inside.HostSink.{writer_faults, writer_puts, writer_of};
+    ghost use Rattle.pg_outside.specs.Inside.HostSink.{writer_faults, writer_puts, writer_of, writer_reason};
 
     /// A sink over this writer, with no fault so far.
     pub fn new(writer: W) -> HostSink<W>
         ensures writer { writer_of result ≡ writer }
         ensures faults { writer_faults result ≡ 0 }
         ensures puts { writer_puts result ≡ 0 }
+        ensures reason { writer_reason result ≡ None }
     {
         HostSink {
             writer,
             failed: 0,
             puts: 0,
+            reason: None,
         }
+    }
+
+    /// Why the put that failed last did, where one failed.
+    pub fn reason(&self) -> Option<io::Error>
+        ensures { result ≡ writer_reason self.now }
+    {
+        self.reason
     }
 }
 
 impl<W: Write + Drop> Sink for HostSink<W> {
-    ghost use Rattle.pg_outside.specs.Inside.HostSink.{writer_faults, writer_puts, writer_of};
+    ghost use Rattle.pg_outside.specs.Inside.HostSink.{writer_faults, writer_puts, writer_of, writer_reason};
 
     ghost shown = { λ sink. record {
       text = None;
@@ -57,6 +68,10 @@ impl<W: Write + Drop> Sink for HostSink<W> {
             (writer_faults self.new ≡ next_count (writer_faults self.old)) }
         ensures ok_faults { OnOk result (writer_faults self.new ≡ writer_faults self.old) }
 
+        // The reason of a put that fails is kept until another one fails.
+        ensures reason { OnErr result (IsSome (writer_reason self.new)) }
+        ensures ok_reason { OnOk result (writer_reason self.new ≡ writer_reason self.old) }
+
         // The writer gets the bytes, where it says which it holds.
         ensures written { OnOk result
             (Appends (W.contents (writer_of self.old))
@@ -66,10 +81,13 @@ impl<W: Write + Drop> Sink for HostSink<W> {
             (W.contents (writer_of self.new)) bytes.now) }
     {
         self.puts = self.puts.saturating_add(1);
-        let result = write_bytes(&mut self.writer, bytes);
-        if result.is_err() {
-            self.failed = self.failed.saturating_add(1);
+        match write_bytes(&mut self.writer, bytes) {
+            Ok(()) => Ok(()),
+            Err(error) => {
+                self.failed = self.failed.saturating_add(1);
+                self.reason = Some(error);
+                Err(Failed)
+            }
         }
-        result
     }
 }

@@ -4,7 +4,6 @@ ghost use Rattle.std.specs.Io.{ReadsAtMost, WritesAtMost};
 ghost use Rattle.std.specs.Io.KnownBytes.{Appends, Consumes, IsAtEnd, Keeps};
 ghost use Rattle.pg_outside.specs.Inside.Streams.{AppendsPart};
 
-use super::outside::Failed;
 use std::io;
 use std::io::{ErrorKind, Read, Write};
 
@@ -44,16 +43,17 @@ pub(crate) fn write_some<W: Write>(to: &mut W, bytes: &[u8]) -> io::Result<usize
     Err(io::Error::from(ErrorKind::Interrupted))
 }
 
-/// Writes all bytes, in as many writes as it takes. A write of no byte is a fault.
-pub(crate) fn write_bytes<W: Write>(to: &mut W, bytes: &[u8]) -> Result<(), Failed>
+/// Writes all bytes, in as many writes as it takes. A write of no byte is an error.
+pub(crate) fn write_bytes<W: Write>(to: &mut W, bytes: &[u8]) -> io::Result<()>
     ensures whole { OnOk result (Appends (W.contents to.old) (W.contents to.new) bytes.now) }
     ensures part { OnErr result (AppendsPart (W.contents to.old) (W.contents to.new) bytes.now) }
 {
     let mut rest = bytes;
     while !rest.is_empty() {
         match write_some(to, rest) {
-            Ok(0) | Err(_) => return Err(Failed),
+            Ok(0) => return Err(io::Error::from(ErrorKind::WriteZero)),
             Ok(count) => rest = &rest[count..],
+            Err(error) => return Err(error),
         }
     }
     Ok(())

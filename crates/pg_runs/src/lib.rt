@@ -1,6 +1,7 @@
 //! What no table of rows can say: runs of the driver beside a run that skips no pass, and over both
-//! engines; the windows that a pass counts; a call of the program over files that never fail; and
-//! the status of each answer. All other calls are rows of patgen_rows.
+//! engines; the windows that a pass counts; a call of the program over files that never fail; calls
+//! over a disk each call of which stops the program or fails; and the status of each answer. All
+//! other calls are rows of patgen_rows.
 #![tactic(auto)]
 
 #[cfg(test)]
@@ -18,5 +19,7 @@ pub mod quiet_calls;
 mod runs;
 #[cfg(test)]
 mod statuses;
+#[cfg(test)]
+mod stopped;
 #[cfg(test)]
 mod unskipped;

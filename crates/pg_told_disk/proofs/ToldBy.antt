@@ -5,16 +5,19 @@ use Rattle.pg_outside.specs.Inside.Disk.{Disk, Keeps, Steps, Now}
 use Rattle.pg_told_disk.specs.Inside.Changes.{disk_in, told_in}
 use Rattle.pg_told_disk.specs.Inside.Memory.{told_where}
 use Rattle.pg_told_disk.specs.declared.change.Change.{Change}
+use Rattle.pg_told_disk.specs.declared.links.Link.{Link}
 
-pub steps : (b b2 : Bool) (log log2 : List Change) (change : Change) (R : Disk → Disk → Type 0) → (b2 ≡ true → b ≡ true) → (b2 ≡ true → log2 ≡ change ∷ log) → R (disk_in log) (disk_in (change ∷ log)) → Steps (told_where b log) (told_where b2 log2) R
-steps b false log log2 change R told is r = tt
-steps false true log log2 change R told is r = absurd (false≢true (told refl))
-steps true true log log2 change R told is r = subst (λ (l : List Change). Steps (Some (told_in log)) (Some (told_in l)) R) (sym (is refl)) (refl, r)
+pub steps : (b b2 : Bool) (links links2 : List Link) (log log2 : List Change) (change : Change) (R : Disk → Disk → Type 0) → (b2 ≡ true → b ≡ true) → links2 ≡ links → (b2 ≡ true → log2 ≡ change ∷ log) → R (disk_in links log) (disk_in links (change ∷ log)) → Steps (told_where b links log) (told_where b2 links2 log2) R
+steps b false links links2 log log2 change R told same is r = tt
+steps false true links links2 log log2 change R told same is r = absurd (false≢true (told refl))
+steps true true links links2 log log2 change R told same is r =
+    subst (λ (l : List Link). Steps (Some (told_in links log)) (Some (told_in l log2)) R) (sym same)
+    (subst (λ (l : List Change). Steps (Some (told_in links log)) (Some (told_in links l)) R) (sym (is refl)) (refl, r))
 
-pub keeps : (b : Bool) (log : List Change) → Keeps (told_where b log) (told_where b log)
-keeps true log = refl
-keeps false log = tt
+pub keeps : (b : Bool) (links : List Link) (log : List Change) → Keeps (told_where b links log) (told_where b links log)
+keeps true links log = refl
+keeps false links log = tt
 
-pub told_now : (b : Bool) (log : List Change) (F : Disk → Type 0) → F (disk_in log) → Now (told_where b log) F
-told_now true log F f = f
-told_now false log F f = tt
+pub told_now : (b : Bool) (links : List Link) (log : List Change) (F : Disk → Type 0) → F (disk_in links log) → Now (told_where b links log) F
+told_now true links log F f = f
+told_now false links log F f = tt

@@ -3,7 +3,10 @@
 /// A change. A file's number is how many changes were before it was made.
 #[derive(Drop)]
 pub(crate) enum Change {
-    Made(String),
+    /// A file was made under this name, which is regular or not.
+    Made(String, bool),
+    /// The first name was given to the file of the second, which keeps it.
+    Shared(String, String),
     GotMode(u64, u32),
     Wrote(u64, Vec<u8>),
     Stored(u64),

@@ -2,6 +2,7 @@
 #![tactic(auto)]
 
 mod change;
+mod links;
 mod lookup;
 mod told_disk;
 

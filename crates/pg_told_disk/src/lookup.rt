@@ -1,19 +1,26 @@
 //! What a list of changes says of a name and of a file.
 ghost use Rattle.std.specs.Prelude.{◌≡◌, IfOk};
-ghost use Rattle.pg_told_disk.specs.Inside.Changes.{number_in, bytes_in, mode_in};
+ghost use Rattle.pg_told_disk.specs.Inside.Changes.{number_in, bytes_in, mode_in, kind_in, lets_write};
 
 use crate::change::Change;
 use std::alloc::{AllocError, Global};
 
-/// The number of the file that the name leads to.
+/// The number of the file that the name leads to, which is no link.
 pub(crate) fn number_of(log: &[Change], name: &str) -> Option<u64>
     ensures { result ≡ number_in log.now name.now }
 {
     match log {
         [] => None,
-        [Change::Made(own), older @ ..] => {
+        [Change::Made(own, _), older @ ..] => {
             if name == own.as_str() {
                 Some(older.len() as u64)
+            } else {
+                number_of(older, name)
+            }
+        }
+        [Change::Shared(own, old), older @ ..] => {
+            if name == own.as_str() {
+                number_of(older, old.as_str())
             } else {
                 number_of(older, name)
             }
@@ -44,9 +51,9 @@ pub(crate) fn mode_of(log: &[Change], number: u64) -> Option<u32>
 {
     match log {
         [] => None,
-        [Change::Made(_), older @ ..] => {
+        [Change::Made(_, _), older @ ..] => {
             if number == older.len() as u64 {
-                Some(0)
+                Some(0o644)
             } else {
                 mode_of(older, number)
             }
@@ -58,15 +65,24 @@ pub(crate) fn mode_of(log: &[Change], number: u64) -> Option<u32>
                 mode_of(older, number)
             }
         }
-        [Change::Wrote(other, _) | Change::Stored(other), older @ ..] => {
-            let mode = mode_of(older, number);
-            if number == *other {
-                Some(mode.unwrap_or(0))
+        [_, older @ ..] => mode_of(older, number),
+    }
+}
+
+/// Whether a file is regular.
+pub(crate) fn is_regular(log: &[Change], number: u64) -> bool
+    ensures { result ≡ kind_in log.now number }
+{
+    match log {
+        [] => true,
+        [Change::Made(_, regular), older @ ..] => {
+            if number == older.len() as u64 {
+                *regular
             } else {
-                mode
+                is_regular(older, number)
             }
         }
-        [_, older @ ..] => mode_of(older, number),
+        [_, older @ ..] => is_regular(older, number),
     }
 }
 
@@ -76,7 +92,7 @@ pub(crate) fn bytes_of(alloc: Global, log: &[Change], number: u64) -> Result<Vec
 {
     match log {
         [] => Ok(Vec::new(alloc)),
-        [Change::Made(_), older @ ..] => {
+        [Change::Made(_, _), older @ ..] => {
             if number == older.len() as u64 {
                 return Ok(Vec::new(alloc));
             }
@@ -91,4 +107,11 @@ pub(crate) fn bytes_of(alloc: Global, log: &[Change], number: u64) -> Result<Vec
         }
         [_, older @ ..] => bytes_of(alloc, older, number),
     }
+}
+
+/// Whether a file of these permissions may be written by who has it.
+pub(crate) fn lets_write(mode: u32) -> bool
+    ensures { result ≡ lets_write mode }
+{
+    mode / 128 % 2 == 1
 }

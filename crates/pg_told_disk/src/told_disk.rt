@@ -1,12 +1,16 @@
 //! A disk in memory, some calls of which fail.
-ghost use Rattle.std.specs.Prelude.{◌≡◌, ◌≤◌, [], ◌∷◌, true, IfOk};
+ghost use Rattle.std.specs.Prelude.{◌≡◌, ◌≤◌, [], ◌∷◌, true, false, IfOk};
 ghost use Rattle.pg_outside.specs.Faults.{Rose};
 ghost use Rattle.pg_told_disk.specs.Inside.Changes.{IsHeldIn};
 
 use crate::change::Change;
-use crate::lookup::{bytes_of, mode_of, number_of};
+use crate::links::{Link, folder_of, is_link, joined, link_of, real_of, text_of};
+use crate::lookup::{bytes_of, is_regular, lets_write, mode_of, number_of};
 use pg_outside::{CallFailed, Entry, FileId, Seen, System};
 use std::alloc::{AllocError, Global};
+
+/// How many bytes a write takes at most.
+const PIECE: usize = 16;
 
 /// A file of a disk in memory, and how many of its bytes were read.
 #[derive(Drop)]
@@ -15,13 +19,19 @@ pub struct ToldFile {
     at: usize,
 }
 
-/// A disk in memory of regular files without links. It tells all that it holds and held, until
-/// there is no memory for a change.
+/// A disk in memory, with links, several names of one file, devices, and folders without
+/// permission. It tells all that it holds and held, until there is no memory for a change.
+///
+/// Every name is a file, a link or none, and two spellings are two names. All folders are there.
 #[derive(Drop)]
 pub struct ToldDisk {
     alloc: Global,
+    /// The links, the latest first.
+    links: Vec<Link>,
     /// The changes, the latest first.
     log: Vec<Change>,
+    /// The folders in which nothing may be made, removed or renamed.
+    closed: Vec<String>,
     is_told: bool,
     failing: Failing,
 }
@@ -60,6 +70,7 @@ impl Failing {
     fn next_fails(&mut self) -> bool
         ensures later { self.old.failures ≤ self.new.failures }
         ensures rose { result ≡ true → Rose self.old.failures self.new.failures }
+        ensures calm { result ≡ false → self.new.failures ≡ self.old.failures }
     {
         self.calls = self.calls.saturating_add(1);
         let fails = self.from <= self.calls && self.calls <= self.to;
@@ -71,22 +82,102 @@ impl Failing {
 }
 
 impl ToldDisk {
-    /// An empty disk, the calls of which fail from one number to another, counted from 1.
-    pub fn new(alloc: Global, from: u64, to: u64) -> ToldDisk
+    /// An empty disk, no call of which fails.
+    pub fn new(alloc: Global) -> ToldDisk
+        ensures links { result.links.items ≡ [] }
         ensures log { result.log.items ≡ [] }
         ensures told { result.is_told ≡ true }
     {
         ToldDisk {
             alloc,
+            links: Vec::new(alloc),
             log: Vec::new(alloc),
+            closed: Vec::new(alloc),
             is_told: true,
             failing: Failing {
                 calls: 0,
-                from,
-                to,
+                from: u64::MAX,
+                to: 0,
                 failures: 0,
             },
         }
+    }
+
+    /// Makes a regular file with these bytes and permissions.
+    ///
+    /// # Errors
+    /// Where there is not enough memory.
+    pub fn add(&mut self, name: &str, bytes: &[u8], mode: u32) -> Result<(), AllocError> {
+        let number = self.log.len() as u64;
+        let name = String::from_str(self.alloc, name)?;
+        let bytes = bytes.to_vec(self.alloc)?;
+        self.change(Change::Made(name, true));
+        self.change(Change::Wrote(number, bytes));
+        self.change(Change::GotMode(number, mode));
+        Ok(())
+    }
+
+    /// Makes a device.
+    ///
+    /// # Errors
+    /// Where there is not enough memory.
+    pub fn add_device(&mut self, name: &str) -> Result<(), AllocError> {
+        let name = String::from_str(self.alloc, name)?;
+        self.change(Change::Made(name, false));
+        Ok(())
+    }
+
+    /// Gives the file of the old name another one.
+    ///
+    /// # Errors
+    /// Where there is not enough memory.
+    pub fn add_hard_link(&mut self, name: &str, old: &str) -> Result<(), AllocError> {
+        let name = String::from_str(self.alloc, name)?;
+        let old = String::from_str(self.alloc, old)?;
+        self.change(Change::Shared(name, old));
+        Ok(())
+    }
+
+    /// Makes a link with this text, under a name that is none.
+    ///
+    /// # Errors
+    /// Where there is not enough memory.
+    pub fn add_link(&mut self, name: &str, text: &str) -> Result<(), AllocError> {
+        let said = joined(self.alloc, name, text)?;
+        let name = String::from_str(self.alloc, name)?;
+        let text = String::from_str(self.alloc, text)?;
+        self.links.insert(0, Link { name, text, said })?;
+        Ok(())
+    }
+
+    /// Takes the permission to make, remove and rename in this folder, whose name ends in a slash.
+    ///
+    /// # Errors
+    /// Where there is not enough memory.
+    pub fn close_folder(&mut self, folder: &str) -> Result<(), AllocError> {
+        let folder = String::from_str(self.alloc, folder)?;
+        self.closed.push(folder)?;
+        Ok(())
+    }
+
+    /// Lets the call of this number fail, counted from 1.
+    pub fn fail_at(&mut self, call: u64)
+        ensures links { self.new.links ≡ self.old.links }
+        ensures log { self.new.log ≡ self.old.log }
+        ensures told { self.new.is_told ≡ self.old.is_told }
+    {
+        self.failing.from = call;
+        self.failing.to = call;
+    }
+
+    /// Lets the call of this number and each later one fail, as if the program had ended before it.
+    pub fn stop_at(&mut self, call: u64)
+        ensures links { self.new.links ≡ self.old.links }
+        ensures log { self.new.log ≡ self.old.log }
+        ensures told { self.new.is_told ≡ self.old.is_told }
+    {
+        self.failing.from = call;
+        self.failing.to = u64::MAX;
     }
 
     /// Whether it tells what it holds.
@@ -103,22 +194,39 @@ impl ToldDisk {
         self.failing.calls
     }
 
-    /// The bytes of the file of this name, if there is one.
+    /// The bytes of the file that the name leads to, if there is one.
     ///
     /// # Errors
     /// Where there is not enough memory.
     pub fn bytes(&self, name: &str) -> Result<Option<Vec<u8>>, AllocError>
-        ensures { IfOk result (IsHeldIn self.now.log.items name.now) }
+        ensures { IfOk result (IsHeldIn self.now.links.items self.now.log.items name.now) }
     {
-        match number_of(&self.log, name) {
+        match number_of(&self.log, real_of(&self.links, name)) {
             None => Ok(None),
             Some(number) => Ok(Some(bytes_of(self.alloc, &self.log, number)?)),
         }
     }
 
+    /// The permissions of the file that the name leads to, if there is one.
+    pub fn mode(&self, name: &str) -> Option<u32> {
+        mode_of(&self.log, number_of(&self.log, real_of(&self.links, name))?)
+    }
+
+    /// Whether the name is a link.
+    pub fn is_link(&self, name: &str) -> bool {
+        is_link(&self.links, name)
+    }
+
+    /// Whether the folder of this name may be changed.
+    fn is_open(&self, name: &str) -> bool {
+        let folder = folder_of(name);
+        self.closed.iter().all(|closed| closed.as_str() != folder)
+    }
+
     /// Makes a change.
     fn change(&mut self, change: Change)
         ensures told { self.new.is_told ≡ true → self.old.is_told ≡ true }
+        ensures links { self.new.links.items ≡ self.old.links.items }
         ensures log { self.new.is_told ≡ true → self.new.log.items ≡ change ∷ self.old.log.items }
         ensures failing { self.new.failing ≡ self.old.failing }
     {
@@ -142,13 +250,16 @@ impl System for ToldDisk {
 
     ghost at = { file_at };
 
-    ghost plain = { λ disk. plain_where disk.is_told disk.log.items };
+    ghost plain = { λ disk. plain_where disk.is_told disk.links.items disk.log.items };
 
-    ghost new_names = { λ disk. new_names_where disk.is_told disk.log.items };
+    ghost new_names = { λ disk. new_names_where disk.is_told disk.links.items disk.log.items };
 
     fn look(&mut self, name: &str) -> Result<Entry, CallFailed> {
         if self.failing.next_fails() {
             return Err(CallFailed);
+        }
+        if is_link(&self.links, name) {
+            return Ok(Entry::Link);
         }
         match number_of(&self.log, name) {
             None => Ok(Entry::Missing),
@@ -156,15 +267,24 @@ impl System for ToldDisk {
         }
     }
 
-    fn read_link(&mut self, _alloc: Global, _name: &str) -> Result<String, CallFailed> {
-        Err(self.failing.fail())
+    fn read_link(&mut self, alloc: Global, name: &str) -> Result<String, CallFailed> {
+        if self.failing.next_fails() {
+            return Err(CallFailed);
+        }
+        match link_of(&self.links, name) {
+            None => Err(self.failing.fail()),
+            Some(link) => match text_of(alloc, name, link) {
+                Some(text) => Ok(text),
+                None => Err(self.failing.fail()),
+            },
+        }
     }
 
     fn open(&mut self, name: &str) -> Result<ToldFile, CallFailed> {
         if self.failing.next_fails() {
             return Err(CallFailed);
         }
-        match number_of(&self.log, name) {
+        match number_of(&self.log, real_of(&self.links, name)) {
             None => Err(self.failing.fail()),
             Some(number) => Ok(ToldFile { number, at: 0 }),
         }
@@ -174,9 +294,16 @@ impl System for ToldDisk {
         if self.failing.next_fails() {
             return Err(CallFailed);
         }
-        match number_of(&self.log, name) {
-            None => Ok(None),
-            Some(number) => Ok(Some(ToldFile { number, at: 0 })),
+        let real = real_of(&self.links, name);
+        let Some(number) = number_of(&self.log, real) else {
+            if is_link(&self.links, real) {
+                return Err(self.failing.fail());
+            }
+            return Ok(None);
+        };
+        match mode_of(&self.log, number) {
+            Some(mode) if lets_write(mode) => Ok(Some(ToldFile { number, at: 0 })),
+            _ => Err(self.failing.fail()),
         }
     }
 
@@ -189,7 +316,7 @@ impl System for ToldDisk {
         };
         Ok(Seen {
             id: id_of(file.number),
-            is_regular: true,
+            is_regular: is_regular(&self.log, file.number),
             mode,
         })
     }
@@ -215,16 +342,20 @@ impl System for ToldDisk {
         if self.failing.next_fails() {
             return Err(CallFailed);
         }
+        if is_link(&self.links, name) {
+            return Ok(None);
+        }
         match number_of(&self.log, name) {
             Some(_) => Ok(None),
-            None => {
+            None if self.is_open(name) => {
                 let Ok(own) = String::from_str(self.alloc, name) else {
                     return Err(self.failing.fail());
                 };
                 let number = self.log.len() as u64;
-                self.change(Change::Made(own));
+                self.change(Change::Made(own, true));
                 Ok(Some(ToldFile { number, at: 0 }))
             }
+            None => Err(self.failing.fail()),
         }
     }
 
@@ -242,12 +373,13 @@ impl System for ToldDisk {
             self.change(Change::Stayed);
             return Err(self.failing.fail());
         }
-        let Ok(held) = bytes.to_vec(self.alloc) else {
+        let count = bytes.len().min(PIECE);
+        let Ok(held) = bytes[..count].to_vec(self.alloc) else {
             self.change(Change::Stayed);
             return Err(self.failing.fail());
         };
         self.change(Change::Wrote(file.number, held));
-        Ok(bytes.len())
+        Ok(count)
     }
 
     fn sync(&mut self, file: &mut ToldFile) -> Result<(), CallFailed> {
@@ -260,7 +392,7 @@ impl System for ToldDisk {
     }
 
     fn rename(&mut self, from: &str, to: &str) -> Result<(), CallFailed> {
-        if self.failing.next_fails() || number_of(&self.log, from).is_none() {
+        if self.failing.next_fails() || !self.is_open(to) || number_of(&self.log, from).is_none() {
             return Err(self.failing.fail());
         }
         let Ok(old) = String::from_str(self.alloc, from) else {
@@ -278,9 +410,9 @@ impl System for ToldDisk {
             self.is_told = false;
             return Err(self.failing.fail());
         };
-        if self.failing.next_fails() {
+        if self.failing.next_fails() || !self.is_open(name) {
             self.change(Change::Refused(own));
-            return Err(CallFailed);
+            return Err(self.failing.fail());
         }
         self.change(Change::Removed(own));
         Ok(())

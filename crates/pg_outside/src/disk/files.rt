@@ -110,6 +110,8 @@ impl<S: System + Drop> DiskFiles<S> {
             → Now (S.told self.new.system) (IsNoted name.now self.new.kept.items) }
         ensures only { Now (S.told self.new.system)
             (KeepsOnly name.now self.old.kept.items self.new.kept.items) }
+        ensures ok_failures { OnOk result
+            (S.failures self.new.system ≡ S.failures self.old.system) }
         ensures failed { IsErrOf result ReadError.Failed
             → Rose (S.failures self.old.system) (S.failures self.new.system) }
     {
@@ -144,6 +146,8 @@ impl<S: System + Drop> DiskFiles<S> {
         ensures faults { disk_faults self.new ≡ disk_faults self.old }
         ensures calls { disk_calls self.new ≡ disk_calls self.old }
         ensures later { S.failures self.old.system ≤ S.failures self.new.system }
+        ensures ok_failures { OnOk result
+            (S.failures self.new.system ≡ S.failures self.old.system) }
         ensures failed { IsErrOf result WriteError.Failed
             → Rose (S.failures self.old.system) (S.failures self.new.system) }
         ensures taken { IsErrOf result WriteError.Taken
@@ -182,6 +186,8 @@ impl<S: System + Drop> DiskFiles<S> {
         ensures faults { disk_faults self.new ≡ disk_faults self.old }
         ensures calls { disk_calls self.new ≡ disk_calls self.old }
         ensures later { S.failures self.old.system ≤ S.failures self.new.system }
+        ensures ok_failures { OnOk result
+            (S.failures self.new.system ≡ S.failures self.old.system) }
         ensures failed { IsErrOf result WriteError.Failed
             → Rose (S.failures self.old.system) (S.failures self.new.system) }
         ensures unfollowed { IsErrOf result WriteError.Unfollowed
@@ -215,6 +221,8 @@ impl<S: System + Drop> DiskFiles<S> {
         ensures faults { disk_faults self.new ≡ disk_faults self.old }
         ensures calls { disk_calls self.new ≡ disk_calls self.old }
         ensures later { S.failures self.old.system ≤ S.failures self.new.system }
+        ensures ok_failures { OnOk result
+            (S.failures self.new.system ≡ S.failures self.old.system) }
         ensures failed { IsErrOf result WriteError.Failed
             → Rose (S.failures self.old.system) (S.failures self.new.system) }
         ensures unfollowed { IsErrOf result WriteError.Unfollowed
@@ -247,6 +255,8 @@ impl<S: System + Drop> DiskFiles<S> {
         ensures faults { disk_faults self.new ≡ disk_faults self.old }
         ensures calls { disk_calls self.new ≡ disk_calls self.old }
         ensures later { S.failures self.old.system ≤ S.failures self.new.system }
+        ensures ok_failures { OnOk result
+            (S.failures self.new.system ≡ S.failures self.old.system) }
         ensures failed { IsErrOf result WriteError.Failed
             → Rose (S.failures self.old.system) (S.failures self.new.system) }
         ensures unfollowed { IsErrOf result WriteError.Unfollowed
@@ -292,6 +302,10 @@ impl<S: System + Drop> DiskFiles<S> {
             → Now (S.told self.new.system) (IsDeep name.now) }
         ensures taken { IsErrOf result WriteError.Taken
             → Now (S.told self.new.system) (IsFull name.now) }
+
+        // Where it is done no call of the system failed, so none was tried again.
+        ensures ok_failures { OnOk result
+            (S.failures self.new.system ≡ S.failures self.old.system) }
 
         // A write that fails is one fault, and no other write is one. The call is one more.
         ensures later { disk_faults self.old ≤ disk_faults self.new }
@@ -367,6 +381,10 @@ impl<S: System + Drop> Files for DiskFiles<S> {
         ensures cause { IsErrOf result ReadError.Failed
             → Rose (S.failures self.old.system) (S.failures self.new.system) }
 
+        // Where it is done no call of the system failed, so none was tried again.
+        ensures ok_failures { OnOk result
+            (S.failures self.new.system ≡ S.failures self.old.system) }
+
         // A read that fails is one fault, and no other read is one.
         ensures one_fault { IsErrOf result ReadError.Failed
             → disk_faults self.new ≡ next_count (disk_faults self.old) }
@@ -405,6 +423,10 @@ impl<S: System + Drop> Files for DiskFiles<S> {
         // A file that was kept in mind is so, and a write that fails adds none.
         ensures kept { KeepsAll self.old.kept.items self.new.kept.items }
         ensures err_kept { OnErr result (self.new.kept.items ≡ self.old.kept.items) }
+
+        // Where it is done no call of the system failed, so none was tried again.
+        ensures ok_failures { OnOk result
+            (S.failures self.new.system ≡ S.failures self.old.system) }
 
         // A write that fails is one fault, and no other write is one.
         ensures one_fault { OnErr result

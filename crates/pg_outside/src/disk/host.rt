@@ -1,6 +1,6 @@
 //! The adapter over real files: each call is one call of the operating system, and it decides
 //! nothing.
-ghost use Rattle.std.specs.Prelude.{◌≡◌, ◌≤◌, None, OnErr};
+ghost use Rattle.std.specs.Prelude.{◌≡◌, ◌≤◌, None, OnOk, OnErr};
 ghost use Rattle.pg_outside.specs.Faults.{Rose, next_count};
 
 use super::files::DiskFiles;
@@ -108,6 +108,7 @@ impl<R: rt::Files + Drop> HostSystem<R> {
     fn count<T>(&mut self, outcome: Result<T, CallFailed>) -> Result<T, CallFailed>
         ensures same { result ≡ outcome }
         ensures later { self.old.failures ≤ self.new.failures }
+        ensures ok_failures { OnOk result (self.new.failures ≡ self.old.failures) }
         ensures failed { OnErr result (Rose self.old.failures self.new.failures) }
     {
         if outcome.is_err() {

@@ -1,5 +1,5 @@
 //! The folder of a name, and what a name stands for once its links are followed.
-ghost use Rattle.std.specs.Prelude.{◌≡◌, ◌≤◌, IfOk, IsErrOf, string_bytes};
+ghost use Rattle.std.specs.Prelude.{◌≡◌, ◌≤◌, OnOk, IfOk, IsErrOf, string_bytes};
 ghost use Rattle.pg_outside.specs.Faults.{Rose};
 ghost use Rattle.pg_outside.specs.Inside.Disk.{Keeps, Now};
 ghost use Rattle.pg_outside.specs.Inside.NewNames.{IsFolderOf, IsJoined};
@@ -60,6 +60,7 @@ pub(crate) fn find<S: System>(
     ensures found { IfOk result (λ found. Now (S.told system.new)
         (StandsFor (string_bytes found.name) found.file name.now)) }
     ensures later { S.failures system.old ≤ S.failures system.new }
+    ensures ok_failures { OnOk result (S.failures system.new ≡ S.failures system.old) }
     ensures failed { IsErrOf result WriteError.Failed
         → Rose (S.failures system.old) (S.failures system.new) }
     ensures unfollowed { IsErrOf result WriteError.Unfollowed

@@ -36,6 +36,7 @@ fn make_beside<S: System>(
     ensures own { IfOk result (λ made. IsNewName (string_bytes made.own) name.now) }
     ensures apart { IfOk result (λ made. string_bytes made.own ≢ name.now) }
     ensures later { S.failures system.old ≤ S.failures system.new }
+    ensures ok_failures { OnOk result (S.failures system.new ≡ S.failures system.old) }
     ensures failed { IsErrOf result WriteError.Failed
         → Rose (S.failures system.old) (S.failures system.new) }
     ensures taken { IsErrOf result WriteError.Taken → Now (S.told system.new) (AllTaken name.now) }
@@ -67,6 +68,7 @@ pub(crate) fn write_all<S: System>(
     ensures err { OnErr result (Runs (S.told system.old) (S.told system.new)
         (WrotePart (S.id file.old) bytes.now) (WrotePart (S.id file.old) bytes.now)) }
     ensures later { S.failures system.old ≤ S.failures system.new }
+    ensures ok_failures { OnOk result (S.failures system.new ≡ S.failures system.old) }
     ensures failed { OnErr result (Rose (S.failures system.old) (S.failures system.new)) }
 {
     let mut rest = bytes;
@@ -92,6 +94,7 @@ fn keep_mode<S: System>(
     ensures err { OnErr result (Runs (S.told system.old) (S.told system.new)
         (Disturbed (S.id file.old)) (Disturbed (S.id file.old))) }
     ensures later { S.failures system.old ≤ S.failures system.new }
+    ensures ok_failures { OnOk result (S.failures system.new ≡ S.failures system.old) }
     ensures failed { OnErr result (Rose (S.failures system.old) (S.failures system.new)) }
 {
     match mode {
@@ -114,6 +117,7 @@ fn fill<S: System>(
     ensures err { OnErr result (Runs (S.told system.old) (S.told system.new)
         (Disturbed (S.id file.old)) (Disturbed (S.id file.old))) }
     ensures later { S.failures system.old ≤ S.failures system.new }
+    ensures ok_failures { OnOk result (S.failures system.new ≡ S.failures system.old) }
     ensures failed { OnErr result (Rose (S.failures system.old) (S.failures system.new)) }
 {
     keep_mode(system, file, mode)?;
@@ -136,6 +140,7 @@ fn place<S: System>(
     ensures err { OnErr result (Runs (S.told system.old) (S.told system.new)
         (Disturbed (S.id new.old.file)) (Disturbed (S.id new.old.file))) }
     ensures later { S.failures system.old ≤ S.failures system.new }
+    ensures ok_failures { OnOk result (S.failures system.new ≡ S.failures system.old) }
     ensures failed { OnErr result (Rose (S.failures system.old) (S.failures system.new)) }
 {
     fill(system, &mut new.file, mode, bytes)?;
@@ -163,6 +168,7 @@ pub(crate) fn replace<S: System>(
         (WhereDirect name.now (AtMoment name.now bytes.now mode))
         (WhereDirect name.now (IsAsBefore name.now))) }
     ensures later { S.failures system.old ≤ S.failures system.new }
+    ensures ok_failures { OnOk result (S.failures system.new ≡ S.failures system.old) }
     ensures failed { IsErrOf result WriteError.Failed
         → Rose (S.failures system.old) (S.failures system.new) }
     ensures taken { IsErrOf result WriteError.Taken → Now (S.told system.new) (AllTaken name.now) }

@@ -27,6 +27,7 @@ pub(crate) fn read_within<S: System>(
     ensures front { IsErrOf result ReadError.TooLong
         → Now (S.told system.new) (IsFrontOf (S.id file.old) limit into.new.items) }
     ensures later { S.failures system.old ≤ S.failures system.new }
+    ensures ok_failures { OnOk result (S.failures system.new ≡ S.failures system.old) }
     ensures failed { IsErrOf result ReadError.Failed
         → Rose (S.failures system.old) (S.failures system.new) }
 {

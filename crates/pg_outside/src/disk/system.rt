@@ -66,6 +66,7 @@ pub trait System {
         ensures same { Keeps (told self.old) (told self.new) }
         ensures entry { IfOk result (λ entry. Now (told self.new) (IsEntry name.now entry)) }
         ensures later { failures self.old ≤ failures self.new }
+        ensures ok_failures { OnOk result (failures self.new ≡ failures self.old) }
         ensures failed { OnErr result (Rose (failures self.old) (failures self.new)) };
 
     /// The text of a link. It is a name, seen from the folder of the link.
@@ -74,6 +75,7 @@ pub trait System {
         ensures text { IfOk result
             (λ text. Now (told self.new) (IsFollowedBy name.now (string_bytes text))) }
         ensures later { failures self.old ≤ failures self.new }
+        ensures ok_failures { OnOk result (failures self.new ≡ failures self.old) }
         ensures failed { OnErr result (Rose (failures self.old) (failures self.new)) };
 
     /// Opens the file that the name leads to at its start, to be read.
@@ -82,6 +84,7 @@ pub trait System {
         ensures opened { IfOk result (λ file. Now (told self.new) (IsOpened name.now (id file))) }
         ensures start { IfOk result (λ file. at file ≡ 0) }
         ensures later { failures self.old ≤ failures self.new }
+        ensures ok_failures { OnOk result (failures self.new ≡ failures self.old) }
         ensures failed { OnErr result (Rose (failures self.old) (failures self.new)) };
 
     /// Opens the file that the name leads to, to be written behind its bytes. `None` comes where it
@@ -94,6 +97,7 @@ pub trait System {
         ensures writable { IfOk result (λ opened. IfSome opened (λ file.
             Now (told self.new) (IsWritable (id file)))) }
         ensures later { failures self.old ≤ failures self.new }
+        ensures ok_failures { OnOk result (failures self.new ≡ failures self.old) }
         ensures failed { OnErr result (Rose (failures self.old) (failures self.new)) };
 
     /// Which file this is, and of what kind.
@@ -101,6 +105,7 @@ pub trait System {
         ensures same { Keeps (told self.old) (told self.new) }
         ensures seen { IfOk result (λ seen. Now (told self.new) (IsStat (id file.now) seen)) }
         ensures later { failures self.old ≤ failures self.new }
+        ensures ok_failures { OnOk result (failures self.new ≡ failures self.old) }
         ensures failed { OnErr result (Rose (failures self.old) (failures self.new)) };
 
     /// Reads some of the next bytes, and none only at the end.
@@ -112,6 +117,7 @@ pub trait System {
             (HasPiece (id file.old) (at file.old)
             (at file.new) count (length buffer.old) buffer.new)) }
         ensures later { failures self.old ≤ failures self.new }
+        ensures ok_failures { OnOk result (failures self.new ≡ failures self.old) }
         ensures failed { OnErr result (Rose (failures self.old) (failures self.new)) };
 
     /// Makes a regular file under a name that is none. `None` comes where the name is taken.
@@ -121,6 +127,7 @@ pub trait System {
         ensures err { OnErr result (Keeps (told self.old) (told self.new)) }
         ensures later { failures self.old ≤ failures self.new }
         ensures taken { IfOk result (λ made. IfNone made (Now (told self.new) (IsTaken name.now))) }
+        ensures ok_failures { OnOk result (failures self.new ≡ failures self.old) }
         ensures failed { OnErr result (Rose (failures self.old) (failures self.new)) };
 
     /// Gives the file these permissions.
@@ -131,6 +138,7 @@ pub trait System {
         ensures err { OnErr result
             (Steps (told self.old) (told self.new) (Disturbed (id file.old))) }
         ensures later { failures self.old ≤ failures self.new }
+        ensures ok_failures { OnOk result (failures self.new ≡ failures self.old) }
         ensures failed { OnErr result (Rose (failures self.old) (failures self.new)) };
 
     /// Appends some of the bytes. A call that takes none of them failed. One that gives no number
@@ -145,6 +153,8 @@ pub trait System {
         ensures later { failures self.old ≤ failures self.new }
         ensures none { IfOk result
             (λ count. count ≡ 0 → Rose (failures self.old) (failures self.new)) }
+        ensures ok_failures { IfOk result
+            (λ count. 0 < count → failures self.new ≡ failures self.old) }
         ensures failed { OnErr result (Rose (failures self.old) (failures self.new)) };
 
     /// Waits until the device has the file.
@@ -154,6 +164,7 @@ pub trait System {
         ensures err { OnErr result
             (Steps (told self.old) (told self.new) (Disturbed (id file.old))) }
         ensures later { failures self.old ≤ failures self.new }
+        ensures ok_failures { OnOk result (failures self.new ≡ failures self.old) }
         ensures failed { OnErr result (Rose (failures self.old) (failures self.new)) };
 
     /// Gives what is named `from` the name `to`, which ends what had it.
@@ -161,6 +172,7 @@ pub trait System {
         ensures ok { OnOk result (Steps (told self.old) (told self.new) (Renamed from.now to.now)) }
         ensures err { OnErr result (Keeps (told self.old) (told self.new)) }
         ensures later { failures self.old ≤ failures self.new }
+        ensures ok_failures { OnOk result (failures self.new ≡ failures self.old) }
         ensures failed { OnErr result (Rose (failures self.old) (failures self.new)) };
 
     /// Takes the name away.
@@ -168,6 +180,7 @@ pub trait System {
         ensures ok { OnOk result (Steps (told self.old) (told self.new) (RemovedName name.now)) }
         ensures err { OnErr result (Steps (told self.old) (told self.new) (Refused name.now)) }
         ensures later { failures self.old ≤ failures self.new }
+        ensures ok_failures { OnOk result (failures self.new ≡ failures self.old) }
         ensures failed { OnErr result (Rose (failures self.old) (failures self.new)) };
 
     /// A disk that is told to be plain is so.

@@ -1,41 +1,22 @@
 -- Each change makes of the disk what the call that it stands for says.
-use Rattle.std.proofs.Common.{◌≡◌, ◌≢◌, ⊎_elim, ℕ, suc, ◌+◌, ◌<◌, List, [], ◌∷◌, length, Bool, true, false, cond, nat_eq, Option, Some, None, Decides, String, Vec, string_bytes, refl, sym, ap, ◌∙◌, arith, eq-eqb, append-nil}
-use Rattle.std.specs.Option.{unwrap_or, option_map}
+use Rattle.std.proofs.Common.{◌≡◌, ◌≢◌, ⊎_elim, ℕ, suc, ◌+◌, ◌<◌, List, [], ◌∷◌, ◌++◌, length, Bool, true, false, cond, nat_eq, Option, Some, None, String, Vec, string_bytes, refl, sym, ap, ◌∙◌, arith, eq-eqb, append-nil}
+use Rattle.std.specs.Option.{option_map, is_some}
 use Rattle.std.specs.Str.{bytes_eq}
 use Rattle.std.specs.FinMap as fin
 use Rattle.std.specs.declared.alloc.Global.{Global}
-use Rattle.std.proofs.lemmas.Bool.{false≢true}
 use Rattle.std.proofs.lemmas.Cmp.{nat_list_cmp_total}
-use Rattle.std.proofs.lemmas.Bool.Decides.{nat_tests, eqb_tells}
+use Rattle.std.proofs.lemmas.Bool.Decides.{eqb_tells}
 use Rattle.std.proofs.lemmas.Map.Text.{is_eq-slice_cmp}
-use Rattle.std.proofs.lemmas.Slice.Eq.{bytes_eq-Decides}
 use Rattle.pg_outside.specs.Inside.Disk as disk
 use Rattle.pg_outside.specs.Inside.Disk.{Node, Disk, NameMap, FileSet}
-use Rattle.pg_told_disk.specs.Inside.Changes.{number_in, names_in, node_in, file_in, id_of, given, disk_in, new_node, wrote_node}
 use Rattle.pg_outside.specs.declared.disk.system.FileId.{FileId}
+use Rattle.pg_told_disk.specs.Inside.Cases.{eq_yes, eq_no, number_no, cond_yes, cond_no}
+use Rattle.pg_told_disk.specs.Inside.Changes.{number_in, names_in, mode_in, kind_in, bytes_in, stored_in, node_in, node_with, file_in, id_of, given, disk_in}
+use Rattle.pg_told_disk.specs.Inside.Following.{not_link}
+use Rattle.pg_told_disk.specs.Inside.Linked.{link_in, real_in}
 use Rattle.pg_told_disk.specs.declared.change.Change.{Change}
-use Rattle.pg_told_disk.specs.declared.change.Change.TheVariants.{Made, GotMode, Wrote, Stored, Renamed, Removed, Refused, Stayed}
-
-eq_yes : (p q : List ℕ) → p ≡ q → bytes_eq p q ≡ true
-eq_yes p q e = (bytes_eq-Decides p q).1 e
-
-eq_no : (p q : List ℕ) → (p ≡ q → ⊥) → bytes_eq p q ≡ false
-eq_no p q apart = by_test (bytes_eq p q) (bytes_eq-Decides p q)
-  where
-    by_test : (r : Bool) → Decides r (p ≡ q) → r ≡ false
-    by_test true d = absurd (apart (d.0 refl))
-    by_test false d = refl
-
-number_no : (m n : ℕ) → m ≢ n → nat_eq m n ≡ false
-number_no m n apart = grind (arith, nat_tests)
-
-cond_yes : {A : Type 0} (b : Bool) (x y : A) → b ≡ true → cond b x y ≡ x
-cond_yes true x y e = refl
-cond_yes false x y e = absurd (false≢true e)
-
-cond_no : {A : Type 0} (b : Bool) (x y : A) → b ≡ false → cond b x y ≡ y
-cond_no true x y e = absurd (false≢true (sym e))
-cond_no false x y e = refl
+use Rattle.pg_told_disk.specs.declared.change.Change.TheVariants.{Made, Shared, GotMode, Wrote, Stored, Renamed, Removed, Refused, Stayed}
+use Rattle.pg_told_disk.specs.declared.links.Link.{Link}
 
 get_put : (m : NameMap) (k q : List ℕ) (v : FileId)
     → fin.get (fin.insert m k v) q ≡ cond (bytes_eq q k) (Some v) (fin.get m q)
@@ -76,7 +57,7 @@ of_id o n e =
 pub get_names : (log : List Change) (q : List ℕ)
     → fin.get (names_in log) q ≡ option_map id_of (number_in log q)
 get_names [] q = fin.get-empty _ q
-get_names (Made own ∷ older) q = get_put (names_in older)
+get_names (Made own regular ∷ older) q = get_put (names_in older)
     (string_bytes own) q (id_of (length older)) ∙ ap
     (λ (o : Option FileId). cond (bytes_eq q (string_bytes own)) (Some (id_of (length older))) o)
     (get_names older q)
@@ -91,6 +72,12 @@ get_names (Renamed from to ∷ older) q =
     (get_names older q) ∙ map_cond (bytes_eq q (string_bytes from)) None (number_in older q))
     ∙ map_cond (bytes_eq q (string_bytes to)) (number_in older (string_bytes from))
     (cond (bytes_eq q (string_bytes from)) None (number_in older q))
+get_names (Shared own old ∷ older) q =
+    get_given (number_in older (string_bytes old)) (names_in older) (string_bytes own) q
+    ∙ ap (λ (o : Option FileId). cond (bytes_eq q (string_bytes own))
+    (option_map id_of (number_in older (string_bytes old))) o) (get_names older q)
+    ∙ map_cond (bytes_eq q (string_bytes own)) (number_in older (string_bytes old))
+    (number_in older q)
 get_names (Removed own ∷ older) q = get_cut (names_in older) (string_bytes own) q
     ∙ ap (λ (o : Option FileId). cond (bytes_eq q (string_bytes own)) None o) (get_names older q)
     ∙ map_cond (bytes_eq q (string_bytes own)) None (number_in older q)
@@ -129,7 +116,7 @@ later_one n k lt = omega arith
 pub number_below : (log : List Change) (q : List ℕ) (n : ℕ)
     → number_in log q ≡ Some n → n < length log
 number_below [] q n is = absurd (none_some n is)
-number_below (Made own ∷ older) q n is =
+number_below (Made own regular ∷ older) q n is =
     later_one _ _ (below_of_some (bytes_eq q (string_bytes own))
     (length older) n (number_in older q) is (λ e. more n (length older) (number_below older q n e)))
 number_below (Renamed from to ∷ older) q n is =
@@ -139,6 +126,11 @@ number_below (Renamed from to ∷ older) q n is =
     (λ e. of_cond (bytes_eq q (string_bytes from)) n None
     (number_in older q) (n < suc (length older)) e
     (λ none. absurd (none_some n none)) (λ e2. later _ _ (number_below older q n e2)))
+number_below (Shared own old ∷ older) q n is =
+    of_cond (bytes_eq q (string_bytes own)) n (number_in older (string_bytes old))
+    (number_in older q) (n < suc (length older)) is
+    (λ e. later _ _ (number_below older (string_bytes old) n e))
+    (λ e. later _ _ (number_below older q n e))
 number_below (Removed own ∷ older) q n is =
     of_cond (bytes_eq q (string_bytes own)) n None
     (number_in older q) (n < suc (length older)) is
@@ -172,85 +164,166 @@ other_file log log2 n same other apart =
     ∙ sym (ap (λ (b : Bool). cond b (node_in log other.inode) None) there.0))
     (eqb_tells other.device 1)
 
-pub made : (log : List Change) (own : String Global)
+-- which file a name leads to
+pub id_in : (links : List Link) (log : List Change) (q : List ℕ)
+    → disk.id_at (disk_in links log) q ≡ option_map id_of (number_in log (real_in links q))
+id_in links log q = get_names log (real_in links q)
+
+-- the same of a name that stands for this one
+id_real : (links : List Link) (log : List Change) (q r : List ℕ) → real_in links q ≡ r
+    → disk.id_at (disk_in links log) q ≡ option_map id_of (number_in log r)
+id_real links log q r is = id_in links log q
+    ∙ ap (λ (p : List ℕ). option_map id_of (number_in log p)) is
+
+pub id_none : (o : Option ℕ) → o ≡ None → option_map id_of o ≡ None
+id_none o is = ap (λ (p : Option ℕ). option_map id_of p) is
+
+pub id_same : (o p : Option ℕ) → o ≡ p → option_map id_of o ≡ option_map id_of p
+id_same o p is = ap (λ (p : Option ℕ). option_map id_of p) is
+
+-- a name that does not stand for this one, stands for another
+stands_apart : (links : List Link) (q own : List ℕ) → real_in links own ≡ own
+    → (real_in links q ≡ real_in links own → ⊥) → bytes_eq (real_in links q) own ≡ false
+stands_apart links q own direct apart =
+    eq_no (real_in links q) own (λ e. apart (e ∙ sym direct))
+
+-- the file of this number, where its parts are these
+node_parts : (log : List Change) (n mode : ℕ) (regular stored : Bool) (bytes : List ℕ)
+    → kind_in log n ≡ regular → bytes_in log n ≡ bytes → stored_in log n ≡ stored
+    → mode_in log n ≡ Some mode
+    → node_in log n ≡ Some (node_with regular bytes stored mode)
+node_parts log n mode regular stored bytes kind held has modes =
+    ap (λ (k : Bool). option_map (node_with k (bytes_in log n) (stored_in log n)) (mode_in log n))
+    kind
+    ∙ ap (λ (l : List ℕ). option_map (node_with regular l (stored_in log n)) (mode_in log n)) held
+    ∙ ap (λ (s : Bool). option_map (node_with regular bytes s) (mode_in log n)) has
+    ∙ ap (λ (o : Option ℕ). option_map (node_with regular bytes stored) o) modes
+
+-- a file that is there has permissions, and is made of its parts
+pub of_node : (log : List Change) (n : ℕ) (node : Node) → node_in log n ≡ Some node
+    → (mode : ℕ) × (mode_in log n ≡ Some mode)
+    × (node ≡ node_with (kind_in log n) (bytes_in log n) (stored_in log n) mode)
+of_node log n node is = by_mode (mode_in log n) refl is
+  where
+    none_node : None ≡ Some node → ⊥
+    none_node e = cc
+
+    some_node : (other : Node) → Some other ≡ Some node → node ≡ other
+    some_node other e = cc
+
+    by_mode : (o : Option ℕ) → mode_in log n ≡ o
+        → option_map (node_with (kind_in log n) (bytes_in log n) (stored_in log n)) o ≡ Some node
+        → (mode : ℕ) × (mode_in log n ≡ Some mode)
+        × (node ≡ node_with (kind_in log n) (bytes_in log n) (stored_in log n) mode)
+    by_mode None has e = absurd (none_node e)
+    by_mode (Some mode) has e = (mode, has, some_node _ e)
+
+pub made : (links : List Link) (log : List Change) (own : String Global)
+    → is_some (link_in links (string_bytes own)) ≡ false
     → number_in log (string_bytes own) ≡ None
-    → disk.Made (string_bytes own) (id_of (length log)) (disk_in log) (disk_in (Made own ∷ log))
-made log own none = record {
-  node = new_node;
+    → disk.Made (string_bytes own) (id_of (length log)) (disk_in links log)
+    (disk_in links (Made own true ∷ log))
+made links log own unlinked none = record {
+  node = node_with true [] false 420;
   is_regular = refl;
   empty = refl;
   mode = refl;
-  direct = refl;
+  direct = unlinked;
   beside = record {
     links = refl;
-    unnamed = get_names log (string_bytes own) ∙ ap (λ (o : Option ℕ). option_map id_of o) none;
+    unnamed = id_real links log (string_bytes own) (string_bytes own) stands
+        ∙ ap (λ (o : Option ℕ). option_map id_of o) none;
     fresh = λ name e. not_below (length log)
-        (number_below log name (length log)
-        (of_id (number_in log name) (length log) (sym (get_names log name) ∙ e)));
-    named = get_names (Made own ∷ log) (string_bytes own)
+        (number_below log (real_in links name) (length log)
+        (of_id (number_in log (real_in links name)) (length log) (sym (id_in links log name) ∙ e)));
+    named = id_real links (Made own true ∷ log) (string_bytes own) (string_bytes own) stands
         ∙ ap (λ (o : Option ℕ). option_map id_of o)
         (cond_yes _ _ _ (eq_yes (string_bytes own) (string_bytes own) refl));
-    names = λ name apart. get_names (Made own ∷ log) name
+    names = λ name apart. id_in links (Made own true ∷ log) name
         ∙ ap (λ (o : Option ℕ). option_map id_of o)
-        (cond_no _ _ _ (eq_no name (string_bytes own) apart)) ∙ sym (get_names log name);
-    file = cond_yes _ _ _ (eq-eqb (length log) (length log) refl);
-    others = λ other apart. other_file log (Made own ∷ log)
-        (length log) (λ m no. cond_no _ _ _ (number_no m (length log) no)) other apart;
+        (cond_no _ _ _ (stands_apart links name (string_bytes own) stands apart))
+        ∙ sym (id_in links log name);
+    file = node_parts (Made own true ∷ log) (length log) 420 true false []
+        (cond_yes _ _ _ here) (cond_yes _ _ _ here) (cond_yes _ _ _ here) (cond_yes _ _ _ here);
+    others = λ other apart. other_file log (Made own true ∷ log) (length log)
+        (λ m differs. other_node m differs) other apart;
     refused = refl;
   };
 }
+  where
+    stands : real_in links (string_bytes own) ≡ string_bytes own
+    stands = not_link links (string_bytes own) unlinked
 
-pub got_mode : (log : List Change) (n mode : ℕ)
-    → disk.GotMode (id_of n) mode (disk_in log) (disk_in (GotMode n mode ∷ log))
-got_mode log n mode = λ node is. (
-  record node { mode = mode },
-  record {
-    links = refl;
-    names = refl;
-    refused = refl;
-    file = cond_yes _ _ _ (eq-eqb n n refl) ∙ ap
-        (λ (o : Option Node). Some (record (unwrap_or o new_node) { mode = mode })) is;
-    others = λ other apart. other_file log (GotMode n mode ∷ log) n
-        (λ m no. cond_no _ _ _ (number_no m n no)) other apart;
-  },
-  refl,
-  refl,
-  refl,
-)
+    here : nat_eq (length log) (length log) ≡ true
+    here = eq-eqb (length log) (length log) refl
 
-pub stored : (log : List Change) (n : ℕ)
-    → disk.Stored (id_of n) (disk_in log) (disk_in (Stored n ∷ log))
-stored log n = λ node is. record {
-  links = refl;
-  names = refl;
-  refused = refl;
-  file = cond_yes _ _ _ (eq-eqb n n refl) ∙ ap
-      (λ (o : Option Node). Some (record (unwrap_or o new_node) { is_stored = true })) is;
-  others = λ other apart. other_file log (Stored n ∷ log) n
-      (λ m no. cond_no _ _ _ (number_no m n no)) other apart;
+    other_node : (m : ℕ) → m ≢ length log → node_in (Made own true ∷ log) m ≡ node_in log m
+    other_node m differs =
+        ap (λ (b : Bool). option_map (node_with (cond b true (kind_in log m))
+        (cond b [] (bytes_in log m)) (cond b false (stored_in log m)))
+        (cond b (Some 420) (mode_in log m))) (number_no m (length log) differs)
+
+-- a node and its parts
+set_file : (log log2 : List Change) (n : ℕ) (node after : Node) (links : List Link)
+    → (disk_in links log2).links ≡ (disk_in links log).links
+    → names_in log2 ≡ names_in log
+    → (disk_in links log2).refused ≡ (disk_in links log).refused
+    → node_in log2 n ≡ Some after
+    → ((m : ℕ) → m ≢ n → node_in log2 m ≡ node_in log m)
+    → FileSet (id_of n) after (disk_in links log) (disk_in links log2)
+set_file log log2 n node after links same names refused file others = record {
+  links = same;
+  names = names;
+  refused = refused;
+  file = file;
+  others = λ other apart. other_file log log2 n others other apart;
 }
 
-pub wrote : (log : List Change) (n : ℕ) (bytes : Vec ℕ Global)
-    → disk.Wrote (id_of n) bytes.items (disk_in log) (disk_in (Wrote n bytes ∷ log))
-wrote log n bytes = λ node is. (
-  wrote_node node bytes.items,
-  record {
-    links = refl;
-    names = refl;
-    refused = refl;
-    file = cond_yes _ _ _ (eq-eqb n n refl) ∙ ap
-        (λ (o : Option Node). Some (wrote_node (unwrap_or o new_node) bytes.items)) is;
-    others = λ other apart. other_file log (Wrote n bytes ∷ log) n
-        (λ m no. cond_no _ _ _ (number_no m n no)) other apart;
-  },
-  refl,
-  refl,
-  refl,
-)
+pub got_mode : (links : List Link) (log : List Change) (n mode : ℕ)
+    → disk.GotMode (id_of n) mode (disk_in links log) (disk_in links (GotMode n mode ∷ log))
+got_mode links log n mode = λ node is.
+    let parts = of_node log n node is in (
+      node_with (kind_in log n) (bytes_in log n) (stored_in log n) mode,
+      set_file log (GotMode n mode ∷ log) n node _ links refl refl refl
+          (node_parts (GotMode n mode ∷ log) n mode _ _ _ refl refl refl
+          (cond_yes _ _ _ (eq-eqb n n refl)))
+          (λ m differs. ap (λ (b : Bool). option_map (node_with (kind_in log m) (bytes_in log m)
+          (stored_in log m)) (cond b (Some mode) (mode_in log m))) (number_no m n differs)),
+      sym (ap (λ (k : Node). k.is_regular) parts.2),
+      sym (ap (λ (k : Node). k.bytes) parts.2),
+      refl,
+    )
 
-pub stayed : (log : List Change) (id : FileId)
-    → disk.Disturbed id (disk_in log) (disk_in (Stayed ∷ log))
-stayed log id = λ node is. (
+pub stored : (links : List Link) (log : List Change) (n : ℕ)
+    → disk.Stored (id_of n) (disk_in links log) (disk_in links (Stored n ∷ log))
+stored links log n = λ node is.
+    let parts = of_node log n node is in
+    set_file log (Stored n ∷ log) n node (record node { is_stored = true }) links refl refl refl
+    (node_parts (Stored n ∷ log) n parts.0 _ _ _ refl refl
+    (cond_yes _ _ _ (eq-eqb n n refl)) parts.1
+    ∙ sym (ap (λ (k : Node). Some (record k { is_stored = true })) parts.2))
+    (λ m differs. ap (λ (b : Bool). option_map (node_with (kind_in log m) (bytes_in log m)
+    (cond b true (stored_in log m))) (mode_in log m)) (number_no m n differs))
+
+pub wrote : (links : List Link) (log : List Change) (n : ℕ) (bytes : Vec ℕ Global)
+    → disk.Wrote (id_of n) bytes.items (disk_in links log) (disk_in links (Wrote n bytes ∷ log))
+wrote links log n bytes = λ node is.
+    let parts = of_node log n node is in (
+      node_with (kind_in log n) (bytes_in log n ++ bytes.items) false parts.0,
+      set_file log (Wrote n bytes ∷ log) n node _ links refl refl refl
+          (node_parts (Wrote n bytes ∷ log) n parts.0 _ _ _ refl
+          (cond_yes _ _ _ (eq-eqb n n refl)) (cond_yes _ _ _ (eq-eqb n n refl)) parts.1)
+          (λ m differs. ap (λ (b : Bool). option_map (node_with (kind_in log m)
+          (cond b (bytes_in log m ++ bytes.items) (bytes_in log m))
+          (cond b false (stored_in log m))) (mode_in log m)) (number_no m n differs)),
+      sym (ap (λ (k : Node). k.is_regular) parts.2),
+      sym (ap (λ (k : Node). k.mode) parts.2),
+      sym (ap (λ (k : Node). k.bytes ++ bytes.items) parts.2),
+    )
+
+pub stayed : (links : List Link) (log : List Change) (id : FileId)
+    → disk.Disturbed id (disk_in links log) (disk_in links (Stayed ∷ log))
+stayed links log id = λ node is. (
   node,
   record {
     links = refl;
@@ -261,9 +334,9 @@ stayed log id = λ node is. (
   },
 )
 
-pub stayed_part : (log : List Change) (id : FileId) (bytes : List ℕ)
-    → disk.WrotePart id bytes (disk_in log) (disk_in (Stayed ∷ log))
-stayed_part log id bytes = (
+pub stayed_part : (links : List Link) (log : List Change) (id : FileId) (bytes : List ℕ)
+    → disk.WrotePart id bytes (disk_in links log) (disk_in links (Stayed ∷ log))
+stayed_part links log id bytes = (
   0,
   λ node is. (
     node,
@@ -274,43 +347,48 @@ stayed_part log id bytes = (
   ),
 )
 
-pub refused : (log : List Change) (own : String Global)
-    → disk.Refused (string_bytes own) (disk_in log) (disk_in (Refused own ∷ log))
-refused log own = record { links = refl; names = refl; files = λ other. refl; refused = refl }
-
-pub id_none : (o : Option ℕ) → o ≡ None → option_map id_of o ≡ None
-id_none o is = ap (λ (p : Option ℕ). option_map id_of p) is
-
-pub id_same : (o p : Option ℕ) → o ≡ p → option_map id_of o ≡ option_map id_of p
-id_same o p is = ap (λ (p : Option ℕ). option_map id_of p) is
-
-pub removed : (log : List Change) (own : String Global)
-    → disk.RemovedName (string_bytes own) (disk_in log) (disk_in (Removed own ∷ log))
-removed log own = λ direct. record {
+pub refused : (links : List Link) (log : List Change) (own : String Global)
+    → disk.Refused (string_bytes own) (disk_in links log) (disk_in links (Refused own ∷ log))
+refused links log own = record {
   links = refl;
-  gone = get_names (Removed own ∷ log) (string_bytes own)
-      ∙ id_none _ (cond_yes _ _ _ (eq_yes (string_bytes own) (string_bytes own) refl));
-  names = λ name apart. get_names (Removed own ∷ log) name
-      ∙ id_same _ _ (cond_no _ _ _ (eq_no name (string_bytes own) apart))
-      ∙ sym (get_names log name);
+  names = refl;
   files = λ other. refl;
   refused = refl;
 }
 
-pub renamed : (log : List Change) (from to : String Global)
+pub removed : (links : List Link) (log : List Change) (own : String Global)
+    → disk.RemovedName (string_bytes own) (disk_in links log) (disk_in links (Removed own ∷ log))
+removed links log own = λ unlinked.
+    let stands = not_link links (string_bytes own) unlinked in record {
+      links = refl;
+      gone = id_real links (Removed own ∷ log) (string_bytes own) (string_bytes own) stands
+          ∙ id_none _ (cond_yes _ _ _ (eq_yes (string_bytes own) (string_bytes own) refl));
+      names = λ name apart. id_in links (Removed own ∷ log) name
+          ∙ id_same _ _ (cond_no _ _ _ (stands_apart links name (string_bytes own) stands apart))
+          ∙ sym (id_in links log name);
+      files = λ other. refl;
+      refused = refl;
+    }
+
+pub renamed : (links : List Link) (log : List Change) (from to : String Global)
     → disk.Renamed (string_bytes from) (string_bytes to)
-    (disk_in log) (disk_in (Renamed from to ∷ log))
-renamed log from to = λ one other. record {
-  links = refl;
-  moved = get_names (Renamed from to ∷ log) (string_bytes to)
-      ∙ id_same _ _ (cond_yes _ _ _ (eq_yes (string_bytes to) (string_bytes to) refl))
-      ∙ sym (get_names log (string_bytes from));
-  gone = λ apart. get_names (Renamed from to ∷ log) (string_bytes from)
-      ∙ id_none _ (cond_no _ _ _ (eq_no (string_bytes from) (string_bytes to) apart)
-      ∙ cond_yes _ _ _ (eq_yes (string_bytes from) (string_bytes from) refl));
-  names = λ name not_from not_to. get_names (Renamed from to ∷ log) name
-      ∙ id_same _ _ (cond_no _ _ _ (eq_no name (string_bytes to) not_to)
-      ∙ cond_no _ _ _ (eq_no name (string_bytes from) not_from)) ∙ sym (get_names log name);
-  files = λ other. refl;
-  refused = refl;
-}
+    (disk_in links log) (disk_in links (Renamed from to ∷ log))
+renamed links log from to = λ one other.
+    let stands_from = not_link links (string_bytes from) one in
+    let stands_to = not_link links (string_bytes to) other in record {
+      links = refl;
+      moved = id_real links (Renamed from to ∷ log) (string_bytes to) (string_bytes to) stands_to
+          ∙ id_same _ _ (cond_yes _ _ _ (eq_yes (string_bytes to) (string_bytes to) refl))
+          ∙ sym (id_real links log (string_bytes from) (string_bytes from) stands_from);
+      gone = λ apart.
+          id_real links (Renamed from to ∷ log) (string_bytes from) (string_bytes from) stands_from
+          ∙ id_none _ (cond_no _ _ _ (eq_no (string_bytes from) (string_bytes to)
+          (λ e. apart (stands_from ∙ e ∙ sym stands_to)))
+          ∙ cond_yes _ _ _ (eq_yes (string_bytes from) (string_bytes from) refl));
+      names = λ name not_from not_to. id_in links (Renamed from to ∷ log) name
+          ∙ id_same _ _ (cond_no _ _ _ (stands_apart links name (string_bytes to) stands_to not_to)
+          ∙ cond_no _ _ _ (stands_apart links name (string_bytes from) stands_from not_from))
+          ∙ sym (id_in links log name);
+      files = λ other. refl;
+      refused = refl;
+    }

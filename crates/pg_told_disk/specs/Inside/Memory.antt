@@ -4,14 +4,15 @@ use Rattle.pg_outside.specs.Inside.Disk.{Told}
 use Rattle.pg_told_disk.specs.Inside.Changes.{told_in, id_of}
 use Rattle.pg_outside.specs.declared.disk.system.FileId.{FileId}
 use Rattle.pg_told_disk.specs.declared.change.Change.{Change}
+use Rattle.pg_told_disk.specs.declared.links.Link.{Link}
 use Rattle.pg_told_disk.specs.declared.told_disk.ToldDisk.{ToldDisk}
 use Rattle.pg_told_disk.specs.declared.told_disk.ToldFile.{ToldFile}
 
-abbrev pub told_where : Bool → List Change → Option Told
-told_where is_told log = cond is_told (Some (told_in log)) None
+abbrev pub told_where : Bool → List Link → List Change → Option Told
+told_where is_told links log = cond is_told (Some (told_in links log)) None
 
 abbrev pub told_by : ToldDisk → Option Told
-told_by disk = told_where disk.is_told disk.log.items
+told_by disk = told_where disk.is_told disk.links.items disk.log.items
 
 abbrev pub file_id : ToldFile → FileId
 file_id file = id_of file.number

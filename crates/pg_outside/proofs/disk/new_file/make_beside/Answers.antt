@@ -12,7 +12,7 @@ loop-number-preserved-then-eq g c =
     let same : string_bytes c.in_ok-own.own ≡ c.args.name.now = grind (arith, common_steps, bytes_eq-Decides) in
     record {
       same = c.loop-number.invariant.same;
-      later = c.loop-number.invariant.later;
+      failures = c.loop-number.invariant.failures;
       tried = skipped _ _ _ c.loop-number.number-counter _ refl c.loop-number.invariant.tried (sym own ∙ same);
     }
 
@@ -33,9 +33,8 @@ loop-number-preserved g c =
     let none : c.in_ok-file.field-0 ≡ None = grind (arith, common_steps, c.in_default.is, c.in_default.not-Some) in
     let same = rw none at c.in_ok-file.ensures.ok in
     let is_taken = rw none at c.in_ok-file.ensures.taken in
-    let before = c.loop-number.invariant.later in
     record {
       same = keeps_both _ _ _ c.loop-number.invariant.same same;
-      later = omega (arith, c.make.ensures.later);
+      failures = c.in_ok-file.ensures.ok_failures ∙ c.loop-number.invariant.failures;
       tried = taken _ _ _ _ _ c.loop-number.number-counter _ same refl (c.as_str-in-loop-number.ensures.value ∙ own) c.loop-number.invariant.tried is_taken;
     }

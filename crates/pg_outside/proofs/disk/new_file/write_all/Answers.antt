@@ -1,5 +1,5 @@
 use Rattle.std.proofs.lemmas.List.{take_rest}
-use Rattle.std.proofs.Common.{arith}
+use Rattle.std.proofs.Common.{◌∙◌, arith}
 use Rattle.pg_outside.proofs.Results.{on_err}
 use Rattle.pg_outside.proofs.WriteLoop.{written_step, written_then_failed, written_part}
 use Rattle.pg_outside.proofs.disk.new_file.write_all.Goals as goal
@@ -13,5 +13,5 @@ returns-then-count-eq0-clause-err g c = written_part _ _ _ _ _ _ (written_step _
 pub loop-rest-preserved : goal.loop-rest-preserved
 loop-rest-preserved g c = record {
   written = written_step _ _ _ _ _ _ _ _ _ c.in_ok-count.count c.loop-rest.invariant.written c.write_some.ensures.file c.in_ok-count.ensures.ok (take_rest c.loop-rest.rest.now c.in_ok-count.count);
-  later = let before = c.loop-rest.invariant.later in omega (arith, c.write_some.ensures.later);
+  failures = c.in_ok-count.ensures.ok_failures (omega arith) ∙ c.loop-rest.invariant.failures;
 }

@@ -14,10 +14,9 @@ loop-piece-preserved g c =
     let bound : c.in-Ok.count ≤ length c.read_some.new.buffer = grind (arith, common_steps, c.in-Ok.ensures.bound) in
     let items : c.extend_from_slice.new.self.items ≡ c.loop-piece.into.items ++ take c.in-Ok.count c.read_some.new.buffer = c.in_ok-extend_from_slice-in-Ok.ensures.items ∙ ap (λ (l : List ℕ). c.loop-piece.into.items ++ l) (take-append-le c.in-Ok.count c.read_some.new.buffer _ bound) in
     let within : length c.extend_from_slice.new.self.items ≤ c.args.limit + 1 = grind (arith, common_steps, c.in_ok-extend_from_slice-in-Ok.ensures.items, c.in-Ok.ensures.bound) in
-    let before = c.loop-piece.invariant.later in
     record {
       read = reads_on _ _ _ _ _ _ _ _ _ _ _ _ _ _ c.loop-piece.invariant.read c.read_some.ensures.same c.read_some.ensures.file c.in-Ok.ensures.bytes bound items within;
-      later = omega (arith, c.read_some.ensures.later);
+      failures = c.in-Ok.ensures.ok_failures ∙ c.loop-piece.invariant.failures;
     }
 
 pub returns-clause-front : goal.returns-clause-front

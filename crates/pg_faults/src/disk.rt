@@ -1,0 +1,220 @@
+//! Files over a disk in memory, with links, other names of one file, a device and a closed folder:
+//! what is written whole, stopped and failing at each call, and what is not written.
+use pg_outside::{DiskFiles, Files};
+use pg_told_disk::ToldDisk;
+use std::alloc::{AllocError, Global};
+use std::test::Fail;
+
+const NEW: &[u8] = b"new bytes, of two pieces\n";
+
+/// A name that is written, and what the file that it leads to held before.
+const WRITTEN: [(&str, Option<&[u8]>); 7] = [
+    ("O", Some(b"old\n")),
+    ("soft", Some(b"old\n")),
+    ("chain", Some(b"old\n")),
+    ("folder/far", Some(b"far\n")),
+    ("N", None),
+    ("dangling", None),
+    ("patgen-new-0", None),
+];
+
+/// The names of files that no write of these touches.
+const OTHERS: [(&str, &[u8]); 4] = [
+    ("hard", b"old\n"),
+    ("D", b"a-b\n"),
+    ("null", b""),
+    ("read_only", b"x\n"),
+];
+
+/// The names that a new file may have.
+const NEW_NAMES: [&str; 4] = [
+    "patgen-new-0",
+    "patgen-new-1",
+    "folder/patgen-new-0",
+    "closed/patgen-new-0",
+];
+
+/// A name that is not written, and what it leads to.
+const REFUSED: [(&str, Option<&[u8]>); 4] = [
+    ("read_only", Some(b"x\n")),
+    ("closed/O", Some(b"old\n")),
+    ("closed/N", None),
+    ("itself", None),
+];
+
+/// Files, links to them, one to another link, one into another folder and one without a file,
+/// another name of O, and a device.
+fn disk(alloc: Global) -> Result<ToldDisk, AllocError> {
+    let mut disk = ToldDisk::new(alloc);
+    for (name, bytes, mode) in [
+        ("D", b"a-b\n".as_slice(), 0o644),
+        ("O", b"old\n", 0o640),
+        ("folder/old", b"far\n", 0o600),
+        ("read_only", b"x\n", 0o444),
+        ("closed/O", b"old\n", 0o644),
+    ] {
+        disk.add(name, bytes, mode)?;
+    }
+    disk.add_device("null")?;
+    disk.add_hard_link("hard", "O")?;
+    for (name, text) in [
+        ("chain", "soft"),
+        ("soft", "O"),
+        ("folder/far", "old"),
+        ("dangling", "folder/later"),
+        ("itself", "itself"),
+    ] {
+        disk.add_link(name, text)?;
+    }
+    disk.close_folder("closed/")?;
+    Ok(disk)
+}
+
+/// Whether the name leads to these bytes.
+fn holds(disk: &ToldDisk, name: &str, wanted: Option<&[u8]>) -> bool {
+    match (disk.bytes(name), wanted) {
+        (Ok(Some(found)), Some(bytes)) => found.as_slice() == bytes,
+        (Ok(None), None) => true,
+        _ => false,
+    }
+}
+
+/// Whether each file that is not written has what it had, and each link is one.
+fn is_rest_kept(disk: &ToldDisk) -> bool {
+    OTHERS
+        .iter()
+        .all(|(name, bytes)| holds(disk, name, Some(bytes)))
+        && ["soft", "chain", "folder/far", "dangling"]
+            .iter()
+            .all(|name| disk.is_link(name))
+}
+
+/// Whether no new file is left but the one of this name.
+fn is_tidy(disk: &ToldDisk, name: &str) -> bool {
+    NEW_NAMES
+        .iter()
+        .all(|own| *own == name || holds(disk, own, None))
+}
+
+/// Writes the name over a disk that fails at a call, or at it and each later one.
+fn written(
+    alloc: Global,
+    name: &str,
+    call: u64,
+    stops: bool,
+) -> Result<(bool, DiskFiles<ToldDisk>), AllocError> {
+    let mut disk = disk(alloc)?;
+    if stops {
+        disk.stop_at(call);
+    } else {
+        disk.fail_at(call);
+    }
+    let mut files = DiskFiles::new(alloc, disk);
+    let is_written = files.write(name, NEW).is_ok();
+    Ok((is_written, files))
+}
+
+/// How many calls a write takes, where it goes well.
+fn calls_of(alloc: Global, name: &str) -> Result<u64, AllocError> {
+    let (is_written, files) = written(alloc, name, 0, false)?;
+    let disk = files.system();
+    let goes_well = is_written && holds(disk, name, Some(NEW)) && is_rest_kept(disk);
+    Ok(if goes_well && is_tidy(disk, name) {
+        disk.calls()
+    } else {
+        0
+    })
+}
+
+/// Whether a write that is stopped at a call leaves the old bytes or the new ones.
+fn survives_a_stop(
+    alloc: Global,
+    name: &str,
+    old: Option<&[u8]>,
+    call: u64,
+) -> Result<bool, AllocError> {
+    let (_, files) = written(alloc, name, call, true)?;
+    let disk = files.system();
+    Ok((holds(disk, name, old) || holds(disk, name, Some(NEW))) && is_rest_kept(disk))
+}
+
+/// Whether a write that fails at a call is a fault, and leaves the disk as it was.
+fn survives_a_failure(
+    alloc: Global,
+    name: &str,
+    old: Option<&[u8]>,
+    call: u64,
+) -> Result<bool, AllocError> {
+    let (is_written, files) = written(alloc, name, call, false)?;
+    let disk = files.system();
+    Ok(!is_written && holds(disk, name, old) && is_rest_kept(disk) && is_tidy(disk, name))
+}
+
+#[test]
+fn writes_whole_stopped_and_failing(rt: HostRuntime) -> Result<(), Fail> {
+    let alloc = rt.alloc();
+    for (name, old) in WRITTEN {
+        let calls = calls_of(alloc, name)?;
+        assert!(rt; calls > 0, "{name}");
+        for call in 1..calls.saturating_add(1) {
+            assert!(rt;
+                survives_a_stop(alloc, name, old, call)?,
+                "{name} stopped at {call}"
+            );
+            assert!(rt;
+                survives_a_failure(alloc, name, old, call)?,
+                "{name} failing at {call}"
+            );
+        }
+    }
+    for (name, old) in REFUSED {
+        assert!(rt; survives_a_failure(alloc, name, old, 0)?, "{name}");
+    }
+    Ok(())
+}
+
+/// Whether a write of one name after a read of another is refused.
+fn is_kept_for(alloc: Global, first: &str, second: &str) -> Result<bool, AllocError> {
+    let mut files = DiskFiles::new(alloc, disk(alloc)?);
+    let mut into = Vec::new(alloc);
+    let is_read = files.read(alloc, first, 9, &mut into).is_ok();
+    let is_written = files.write(second, NEW).is_ok();
+    Ok(is_read && !is_written && holds(files.system(), second, Some(b"old\n")))
+}
+
+/// Whether a second write of what was written under one name is refused under another.
+fn is_written_once(alloc: Global, second: &str) -> Result<bool, AllocError> {
+    let mut files = DiskFiles::new(alloc, disk(alloc)?);
+    let outcomes = [
+        files.write("soft", NEW).is_ok(),
+        files.write(second, b"again").is_ok(),
+    ];
+    let disk = files.system();
+    Ok(outcomes == [true, false] && holds(disk, "O", Some(NEW)) && disk.mode("O") == Some(0o640))
+}
+
+/// Whether a device takes what is written, one write behind the other.
+fn takes_all(alloc: Global) -> Result<bool, AllocError> {
+    let mut files = DiskFiles::new(alloc, disk(alloc)?);
+    let outcomes = [
+        files.write("null", b"one ").is_ok(),
+        files.write("null", b"two").is_ok(),
+    ];
+    Ok(outcomes == [true, true] && holds(files.system(), "null", Some(b"one two")))
+}
+
+#[test]
+fn no_file_twice_but_a_device(rt: HostRuntime) -> Result<(), Fail> {
+    let alloc = rt.alloc();
+    let names = ["O", "soft", "chain", "hard"];
+    for first in names {
+        for second in names {
+            assert!(rt; is_kept_for(alloc, first, second)?, "{first} {second}");
+        }
+    }
+    for second in ["O", "soft", "chain"] {
+        assert!(rt; is_written_once(alloc, second)?, "{second}");
+    }
+    assert!(rt; takes_all(alloc)?);
+    Ok(())
+}

@@ -1,0 +1,201 @@
+//! Calls of the program over a disk that tells: what stands under each name when they are done, and
+//! when a call of the system stops the program or fails.
+use crate::quiet::words;
+use pg_outside::{DiskFiles, MemorySink};
+use pg_told_disk::ToldDisk;
+use pg_top::{Status, run};
+use std::alloc::{AllocError, Global};
+use std::test::Fail;
+
+/// What stands on the disk: the files of a run whose three passes find the one pattern that two
+/// words need, and old files, one of them the one that the run writes.
+const FILES: [(&str, &[u8]); 7] = [
+    ("T", b" 1 1\n a\n b\n c\n"),
+    ("A", b"1 1 2 2 1 1 2"),
+    ("P", b""),
+    ("D", b"ab-c\nab-a\n"),
+    ("folder/old", b"old patterns, longer than the new\n"),
+    ("R", b"old report\n"),
+    ("good", b"ab1\n"),
+];
+
+/// The names of what is written.
+const WRITTEN: [&str; 4] = ["O", "R", "M", "C"];
+
+/// The names of what is not.
+const OTHERS: [&str; 6] = ["T", "A", "P", "D", "twin", "good"];
+
+/// Calls and their answers. The first writes four files: one through a link, one beside another
+/// name of the old file, and two that are not there. The second writes none.
+const CALLS: [(&str, Status); 2] = [
+    ("generate D P O T A R --pattmp M --cells C", Status::Done),
+    ("audit D P good T A R", Status::No),
+];
+
+/// A disk of these files alone. It has no link, so what files over it hold is told.
+fn plain_disk(alloc: Global) -> Result<ToldDisk, AllocError> {
+    let mut disk = ToldDisk::new(alloc);
+    for (name, bytes) in FILES {
+        disk.add(name, bytes, 0o644)?;
+    }
+    Ok(disk)
+}
+
+/// The same disk with a link to a file in a folder, and another name of the old report.
+fn disk(alloc: Global) -> Result<ToldDisk, AllocError> {
+    let mut disk = plain_disk(alloc)?;
+    disk.add_link("O", "folder/old")?;
+    disk.add_hard_link("twin", "R")?;
+    Ok(disk)
+}
+
+/// A disk that fails at a call, or at it and each later one.
+fn failing_disk(alloc: Global, call: u64, stops: bool) -> Result<ToldDisk, AllocError> {
+    let mut disk = disk(alloc)?;
+    if stops {
+        disk.stop_at(call);
+    } else {
+        disk.fail_at(call);
+    }
+    Ok(disk)
+}
+
+/// Does what the words ask for, over the disk.
+fn run_over(
+    alloc: Global,
+    words: &[String],
+    disk: ToldDisk,
+) -> Result<(Status, DiskFiles<ToldDisk>), AllocError> {
+    let mut files = DiskFiles::new(alloc, disk);
+    let mut out = MemorySink::new(alloc, 200)?;
+    let status = run(alloc, words, &mut files, &mut out);
+    Ok((status, files))
+}
+
+/// Whether the name leads to the same bytes on both disks.
+fn is_same(one: &ToldDisk, other: &ToldDisk, name: &str) -> bool {
+    match (one.bytes(name), other.bytes(name)) {
+        (Ok(one), Ok(other)) => one == other,
+        _ => false,
+    }
+}
+
+/// Whether each name that is written leads to what it led to before or does after, whole, and each
+/// other name to what it led to before.
+fn is_old_or_new(disk: &ToldDisk, before: &ToldDisk, after: &ToldDisk) -> bool {
+    WRITTEN.iter().all(|name| is_same(disk, before, name) || is_same(disk, after, name))
+        && OTHERS.iter().all(|name| is_same(disk, before, name))
+        && disk.is_link("O")
+}
+
+/// Whether no new file is left.
+fn is_tidy(disk: &ToldDisk) -> bool {
+    ["patgen-new-0", "folder/patgen-new-0"]
+        .iter()
+        .all(|name| matches!(disk.bytes(name), Ok(None)))
+}
+
+/// Whether the call leaves old files and new ones, whole, where it is stopped at this call of the
+/// system.
+fn survives_a_stop(
+    alloc: Global,
+    words: &[String],
+    call: u64,
+    before: &ToldDisk,
+    after: &ToldDisk,
+) -> Result<bool, AllocError> {
+    let (_, files) = run_over(alloc, words, failing_disk(alloc, call, true)?)?;
+    Ok(files.system().is_told() && is_old_or_new(files.system(), before, after))
+}
+
+/// Whether the call answers with a fault, and leaves old files and new ones, whole, and nothing
+/// else, where this call of the system fails.
+fn survives_a_failure(
+    alloc: Global,
+    words: &[String],
+    call: u64,
+    before: &ToldDisk,
+    after: &ToldDisk,
+) -> Result<bool, AllocError> {
+    let (status, files) = run_over(alloc, words, failing_disk(alloc, call, false)?)?;
+    let disk = files.system();
+    Ok(status == Status::Fault && is_old_or_new(disk, before, after) && is_tidy(disk))
+}
+
+/// Whether this goes well whichever call stops or fails.
+fn survives_all(
+    alloc: Global,
+    words: &[String],
+    before: &ToldDisk,
+    after: &ToldDisk,
+) -> Result<bool, AllocError> {
+    for call in 1..after.calls().saturating_add(1) {
+        if !survives_a_stop(alloc, words, call, before, after)?
+            || !survives_a_failure(alloc, words, call, before, after)?
+        {
+            return Ok(false);
+        }
+    }
+    Ok(true)
+}
+
+/// Whether the call has this answer where no call of the system fails, and leaves whole files
+/// whichever stops or fails.
+fn goes_well(
+    alloc: Global,
+    line: &str,
+    answer: Status,
+    before: &ToldDisk,
+) -> Result<bool, AllocError> {
+    let words = words(alloc, line)?;
+    let (status, files) = run_over(alloc, &words, disk(alloc)?)?;
+    let after = files.system();
+    Ok(
+        status == answer
+            && is_tidy(after)
+            && is_old_or_new(after, before, after)
+            && survives_all(alloc, &words, before, after)?,
+    )
+}
+
+#[test]
+fn generate_and_audit(rt: HostRuntime) -> Result<(), Fail> {
+    let alloc = rt.alloc();
+    let before = disk(alloc)?;
+    for (line, answer) in CALLS {
+        assert!(rt; goes_well(alloc, line, answer, &before)?, "{line}");
+    }
+    Ok(())
+}
+
+/// The answer of a call over files, which may be those of an earlier call.
+fn answer_of(
+    alloc: Global,
+    line: &str,
+    files: &mut DiskFiles<ToldDisk>,
+) -> Result<Status, AllocError> {
+    let words = words(alloc, line)?;
+    let mut out = MemorySink::new(alloc, 200)?;
+    Ok(run(alloc, &words, files, &mut out))
+}
+
+/// Whether the disk has a file of this name with these bytes.
+fn holds(disk: &ToldDisk, name: &str, bytes: &[u8]) -> bool {
+    match disk.bytes(name) {
+        Ok(Some(found)) => found.as_slice() == bytes,
+        _ => false,
+    }
+}
+
+#[test]
+fn files_that_are_told(rt: HostRuntime) -> Result<(), Fail> {
+    let alloc = rt.alloc();
+    let mut files = DiskFiles::new(alloc, plain_disk(alloc)?);
+    let made = answer_of(alloc, CALLS[0].0, &mut files)?;
+    assert_eq!(rt; made, Status::Done);
+    assert!(rt; holds(files.system(), "O", b"ab1\n"));
+    assert!(rt; holds(files.system(), "M", b"ab*c\nab*a\n"));
+    let judged = answer_of(alloc, "audit D P O T A R --pattmp M", &mut files)?;
+    assert_eq!(rt; judged, Status::Yes);
+    Ok(())
+}

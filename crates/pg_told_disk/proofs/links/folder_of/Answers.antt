@@ -1,0 +1,11 @@
+use Rattle.std.proofs.Common.{refl, arith}
+use Rattle.std.proofs.lemmas.Grind.{common_steps}
+use Rattle.pg_outside.proofs.Folders.{folder_none, folder_at}
+use Rattle.pg_told_disk.proofs.links.folder_of.Goals as goal
+
+pub returns-in-Some : goal.returns-in-Some
+returns-in-Some c =
+    folder_at c.range.result.now c.args.name.now c.in-Some.slash c.in-Some.ensures.cases.0 c.in-Some.ensures.cases.1.1 c.in-Some.ensures.cases.1.0 (grind (arith, common_steps))
+
+pub returns-in-None : goal.returns-in-None
+returns-in-None c = folder_none _ _ refl c.in-None.ensures.cases

@@ -1,0 +1,87 @@
+//! The links of a disk, the name that each says, and what a name stands for.
+ghost use Rattle.std.specs.Prelude.{◌≡◌, None, Some, MatchOption, IfOk, IfSome, string_bytes};
+ghost use Rattle.pg_outside.specs.Inside.NewNames.{IsFolderOf, IsJoined};
+ghost use Rattle.pg_told_disk.specs.Inside.Linked.{link_in, is_link_in, real_in};
+
+use std::alloc::{AllocError, Global};
+
+/// A link: its name, its text, and the name that this says.
+#[derive(Drop)]
+pub(crate) struct Link {
+    pub name: String,
+    pub text: String,
+    pub said: String,
+}
+
+/// The folder of a name with its last slash, and nothing where the name has no slash.
+pub(crate) fn folder_of(name: &str) -> &str
+    ensures { IsFolderOf result.now name.now }
+{
+    match name.rfind('/') {
+        Some(slash) => &name[..slash + 1],
+        None => "",
+    }
+}
+
+/// The name that the text of a link says.
+pub(crate) fn joined(alloc: Global, link: &str, text: &str) -> Result<String, AllocError>
+    ensures { IfOk result (λ joined. IsJoined link.now text.now (string_bytes joined)) }
+{
+    let folder = folder_of(link);
+    if text.starts_with('/') {
+        return String::from_str(alloc, text);
+    }
+    format!(in alloc; "{folder}{text}")
+}
+
+/// The link of this name, if there is one.
+pub(crate) fn link_of<'a>(links: &'a [Link], name: &str) -> Option<&'a Link>
+    ensures { MatchOption result (link_in links.now name.now ≡ None)
+        (λ link. link_in links.now name.now ≡ Some link.now) }
+{
+    match links {
+        [] => None,
+        [link, older @ ..] => match link_of(older, name) {
+            Some(first) => Some(first),
+            None if name == link.name.as_str() => Some(link),
+            None => None,
+        },
+    }
+}
+
+/// Whether the name is a link.
+pub(crate) fn is_link(links: &[Link], name: &str) -> bool
+    ensures { result ≡ is_link_in links.now name.now }
+{
+    link_of(links, name).is_some()
+}
+
+/// What the name stands for once each link is followed.
+pub(crate) fn real_of<'a>(links: &'a [Link], name: &'a str) -> &'a str
+    ensures { result.now ≡ real_in links.now name.now }
+{
+    match links {
+        [] => name,
+        [link, older @ ..] => {
+            let real = real_of(older, name);
+            if real == link.name.as_str() {
+                real_of(older, link.said.as_str())
+            } else {
+                real
+            }
+        }
+    }
+}
+
+/// The text of a link, seen from which it says what it is to say.
+pub(crate) fn text_of(alloc: Global, name: &str, link: &Link) -> Option<String>
+    ensures text { IfSome result (λ text. string_bytes text ≡ string_bytes link.now.text) }
+    ensures said { IfSome result (λ text.
+        IsJoined name.now (string_bytes text) (string_bytes link.now.said)) }
+{
+    let said = joined(alloc, name, link.text.as_str()).ok()?;
+    if said.as_str() != link.said.as_str() {
+        return None;
+    }
+    String::from_str(alloc, link.text.as_str()).ok()
+}
