@@ -1,11 +1,10 @@
 //! The usual causes of a refusal that lie in the whole file, where its bytes show one.
 
 use crate::letter_causes::push_letter_cause;
-use crate::line::Part::{Say, Show};
-use crate::places::Spot;
-use crate::text::Text;
 use crate::wrong::Refused;
 use pg_types::Kind;
+use pg_visible::Part::{Say, Show};
+use pg_visible::{Spot, Text};
 use std::alloc::AllocError;
 
 /// What is wrong with a file as a whole.
@@ -73,18 +72,18 @@ fn cause_of(refused: &Refused<'_>, spot: &Spot<'_>) -> Option<Cause> {
 }
 
 /// What a cause says of a file.
-fn words_of(cause: Cause) -> &'static str {
+fn words_of(cause: Cause) -> &'static [u8] {
     match cause {
         Cause::ByteOrderMark => {
-            " begins with a byte order mark (EF BB BF): save it as UTF-8 without one"
+            b" begins with a byte order mark (EF BB BF): save it as UTF-8 without one"
         }
-        Cause::Utf16 => " is in UTF-16, with two bytes for a character: save it as UTF-8",
-        Cause::Return => " has a CR inside the line: only one CR is dropped, at the line's end",
-        Cause::Comment => " has a comment of TeX: % begins none here, so take comments out",
+        Cause::Utf16 => b" is in UTF-16, with two bytes for a character: save it as UTF-8",
+        Cause::Return => b" has a CR inside the line: only one CR is dropped, at the line's end",
+        Cause::Comment => b" has a comment of TeX: % begins none here, so take comments out",
         Cause::Tex => {
-            " has commands of TeX, as \\patterns{ and }: keep only the lines between the braces"
+            b" has commands of TeX, as \\patterns{ and }: keep only the lines between the braces"
         }
-        Cause::NoHead => " has no head: its first line has the minima, and may be empty",
+        Cause::NoHead => b" has no head: its first line has the minima, and may be empty",
     }
 }
 

@@ -1,14 +1,14 @@
 //! The explanation of what went wrong.
 ghost use Rattle.std.specs.Prelude.{IfOk};
-ghost use Rattle.pg_explain.specs.Inside.Texts.{IsExplanation};
+ghost use Rattle.pg_visible.specs.Inside.Texts.{IsVisibleText};
 
 use crate::false_lines::push_false_line;
 use crate::faults::push_fault;
 use crate::notes::{push_behind, push_low_start, push_no_part, push_no_word};
 use crate::refused::push_refused;
-use crate::text::Text;
 use crate::words::push_words;
 use crate::wrong::Wrong;
+use pg_visible::Text;
 use std::alloc::{AllocError, Global};
 
 /// What is said where memory was short. It takes none.
@@ -41,7 +41,7 @@ fn push(text: &mut Text, wrong: &Wrong<'_>) -> Result<(), AllocError> {
 /// is empty where there is nothing to say. Any bytes may stand in the names and files: their
 /// control bytes are shown by their numbers.
 pub fn explain(alloc: Global, wrong: &Wrong<'_>) -> Result<Vec<u8>, AllocError>
-    ensures { IfOk result (λ text. IsExplanation text.items) }
+    ensures { IfOk result (λ text. IsVisibleText text.items) }
 {
     let mut text = Text::new(alloc);
     push(&mut text, wrong)?;

@@ -1,8 +1,8 @@
 //! Status 1: a line of an audited file is not the one that the inputs give.
 
-use crate::line::Part::{Count, Say, Show};
-use crate::text::Text;
 use crate::wrong::FalseLine;
+use pg_visible::Part::{Count, Say, Show};
+use pg_visible::Text;
 use std::alloc::AllocError;
 
 /// A line without its LF.
@@ -23,19 +23,19 @@ fn push_lines<'a>(
     if found == wanted {
         return text.line(&[
             Show(name),
-            Say(":"),
+            Say(b":"),
             Count(line),
-            Say(": the line is right but for its end, which should be one LF"),
+            Say(b": the line is right but for its end, which should be one LF"),
         ]);
     }
     text.line(&[
         Show(name),
-        Say(":"),
+        Say(b":"),
         Count(line),
-        Say(": the inputs give another line; found and due are"),
+        Say(b": the inputs give another line; found and due are"),
     ])?;
-    text.line(&[Say("    "), Show(found)])?;
-    text.line(&[Say("    "), Show(wanted)])
+    text.line(&[Say(b"    "), Show(found)])?;
+    text.line(&[Say(b"    "), Show(wanted)])
 }
 
 /// Appends the line that should be there, or that none should.
@@ -46,17 +46,17 @@ pub(crate) fn push_false_line(text: &mut Text, line: &FalseLine<'_>) -> Result<(
         (None, Some(wanted)) => {
             text.line(&[
                 Show(name),
-                Say(" ends before line "),
+                Say(b" ends before line "),
                 Count(line.line),
-                Say(", which is due and is"),
+                Say(b", which is due and is"),
             ])?;
-            text.line(&[Say("    "), Show(without_feed(wanted))])
+            text.line(&[Say(b"    "), Show(without_feed(wanted))])
         }
         (_, None) => text.line(&[
             Show(name),
-            Say(":"),
+            Say(b":"),
             Count(line.line),
-            Say(": no line is due here: the file should end before it"),
+            Say(b": no line is due here: the file should end before it"),
         ]),
     }
 }

@@ -1,24 +1,24 @@
 //! Status 4: a file could not be read or written, or a line not be printed.
 
-use crate::line::Part::{Say, Show};
-use crate::text::Text;
 use crate::wrong::{Before, Deed, Fault};
+use pg_visible::Part::{Say, Show};
+use pg_visible::Text;
 use std::alloc::AllocError;
 
 /// What failed, in words.
-fn failed(deed: Deed) -> &'static str {
+fn failed(deed: Deed) -> &'static [u8] {
     match deed {
-        Deed::Reading => " could not be read",
-        Deed::Writing => " could not be written",
-        Deed::Printing => "standard output could not be written",
+        Deed::Reading => b" could not be read",
+        Deed::Writing => b" could not be written",
+        Deed::Printing => b"standard output could not be written",
     }
 }
 
 /// What was done, in words.
-fn done(deed: Deed) -> &'static str {
+fn done(deed: Deed) -> &'static [u8] {
     match deed {
-        Deed::Reading => " was read",
-        Deed::Writing | Deed::Printing => " was written",
+        Deed::Reading => b" was read",
+        Deed::Writing | Deed::Printing => b" was written",
     }
 }
 
@@ -36,16 +36,16 @@ fn push_before<'a>(text: &mut Text, name: &'a str, before: &Before<'a>) -> Resul
         return text.line(&[
             Show(name.as_bytes()),
             Say(done(before.deed)),
-            Say(" before in this call, and is not written again"),
+            Say(b" before in this call, and is not written again"),
         ]);
     }
     text.line(&[
         Show(name.as_bytes()),
-        Say(" is the file that"),
+        Say(b" is the file that"),
         Say(done(before.deed)),
-        Say(" before in this call as "),
+        Say(b" before in this call as "),
         Show(before.name.as_bytes()),
-        Say(", and is not written again"),
+        Say(b", and is not written again"),
     ])
 }
 
@@ -56,7 +56,7 @@ pub(crate) fn push_fault(text: &mut Text, fault: &Fault<'_>) -> Result<(), Alloc
         Deed::Printing => "",
     };
     let reason = reason_of(fault.reason);
-    let between = if reason.is_empty() { "" } else { ": " };
+    let between: &[u8] = if reason.is_empty() { b"" } else { b": " };
     text.line(&[
         Show(name.as_bytes()),
         Say(failed(fault.deed)),

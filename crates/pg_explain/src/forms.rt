@@ -1,7 +1,7 @@
 //! The commands, and what each of their words has to be.
 
 /// A command.
-#[derive(Clone, Copy, Debug, PartialEq, Eq)]
+#[derive(Clone, Copy, PartialEq, Eq)]
 pub(crate) enum Verb {
     Generate,
     Audit,
@@ -24,18 +24,18 @@ pub(crate) const VERBS: [Verb; 7] = [
 ];
 
 /// A number of a command.
-#[derive(Clone, Copy, Debug)]
+#[derive(Clone, Copy)]
 pub(crate) struct Range {
     /// The most digits that it may have.
     pub digits: usize,
     pub least: u64,
     pub most: u64,
     /// The range in words.
-    pub words: &'static str,
+    pub words: &'static [u8],
 }
 
 /// What a word of a command has to be.
-#[derive(Clone, Copy, Debug)]
+#[derive(Clone, Copy)]
 pub(crate) enum Role {
     /// The name of a file that is read.
     Input,
@@ -46,7 +46,7 @@ pub(crate) enum Role {
 }
 
 /// A word of a command: how it is called, and what it has to be.
-#[derive(Clone, Copy, Debug)]
+#[derive(Clone, Copy)]
 pub(crate) struct Slot {
     pub name: &'static str,
     pub role: Role,
@@ -74,7 +74,7 @@ const fn number(
     digits: usize,
     least: u64,
     most: u64,
-    words: &'static str,
+    words: &'static [u8],
 ) -> Slot {
     let range = Range {
         digits,
@@ -90,14 +90,14 @@ const fn number(
 
 /// What costs a unit of an error, or of a missed hyphen, in a sweep.
 const fn price(name: &'static str) -> Slot {
-    number(name, 4, 1, 1_000, "1 to 1,000")
+    number(name, 4, 1, 1_000, b"1 to 1,000")
 }
 
 /// The words of `sample`.
 fn sample_slot(place: usize) -> Option<Slot> {
     match place {
-        0 => Some(number("N", 10, 0, 2_147_483_647, "0 to 2,147,483,647")),
-        1 => Some(number("COUNT", 10, 0, 100_000, "0 to 100,000")),
+        0 => Some(number("N", 10, 0, 2_147_483_647, b"0 to 2,147,483,647")),
+        1 => Some(number("COUNT", 10, 0, 100_000, b"0 to 100,000")),
         _ => None,
     }
 }
@@ -109,7 +109,7 @@ fn sweep_slot(place: usize) -> Option<Slot> {
         1 => Some(input("PATTERNS")),
         2 => Some(output("OUT")),
         3 => Some(input("TRANSLATE")),
-        4 => Some(number("K", 2, 2, 10, "2 to 10")),
+        4 => Some(number("K", 2, 2, 10, b"2 to 10")),
         5 => Some(price("BAD")),
         6 => Some(price("MISSED")),
         _ => None,
@@ -134,34 +134,36 @@ fn selection_slot(place: usize, is_written: bool) -> Option<Slot> {
 impl Verb {
     /// The command of this word.
     pub fn of(word: &str) -> Option<Verb> {
-        VERBS.into_iter().find(|verb| verb.word() == word)
+        VERBS
+            .into_iter()
+            .find(|verb| verb.word() == word.as_bytes())
     }
 
     /// Its word.
-    pub fn word(self) -> &'static str {
+    pub fn word(self) -> &'static [u8] {
         match self {
-            Verb::Generate => "generate",
-            Verb::Audit => "audit",
-            Verb::Sample => "sample",
-            Verb::Pack => "pack",
-            Verb::Totals => "totals",
-            Verb::Prune => "prune",
-            Verb::Sweep => "sweep",
+            Verb::Generate => b"generate",
+            Verb::Audit => b"audit",
+            Verb::Sample => b"sample",
+            Verb::Pack => b"pack",
+            Verb::Totals => b"totals",
+            Verb::Prune => b"prune",
+            Verb::Sweep => b"sweep",
         }
     }
 
     /// All its words.
-    pub fn words(self) -> &'static str {
+    pub fn words(self) -> &'static [u8] {
         match self {
             Verb::Generate => {
-                "generate DICT PATTERNS OUT TRANSLATE PARAMS REPORT [--pattmp FILE] [--cells FILE]"
+                b"generate DICT PATTERNS OUT TRANSLATE PARAMS REPORT [--pattmp FILE] [--cells FILE]"
             }
-            Verb::Audit => "audit DICT PATTERNS OUT TRANSLATE PARAMS REPORT [--pattmp FILE]",
-            Verb::Sample => "sample N COUNT",
-            Verb::Pack => "pack PATTERNS TRANSLATE TABLE",
-            Verb::Totals => "totals DICT TRANSLATE TABLE",
-            Verb::Prune => "prune DICT PATTERNS OUT TRANSLATE REPORT",
-            Verb::Sweep => "sweep DICT PATTERNS OUT TRANSLATE K BAD MISSED PARAMS..",
+            Verb::Audit => b"audit DICT PATTERNS OUT TRANSLATE PARAMS REPORT [--pattmp FILE]",
+            Verb::Sample => b"sample N COUNT",
+            Verb::Pack => b"pack PATTERNS TRANSLATE TABLE",
+            Verb::Totals => b"totals DICT TRANSLATE TABLE",
+            Verb::Prune => b"prune DICT PATTERNS OUT TRANSLATE REPORT",
+            Verb::Sweep => b"sweep DICT PATTERNS OUT TRANSLATE K BAD MISSED PARAMS..",
         }
     }
 

@@ -1,17 +1,19 @@
 //! The head of a refused translate file.
 
 use crate::chars::up_to;
-use crate::line::Part::{Byte, Count, Say, Show};
-use crate::places::Spot;
-use crate::text::Text;
+use pg_visible::Part::{Byte, Count, Say, Show};
+use pg_visible::{Spot, Text};
 use std::alloc::AllocError;
 
 /// Appends why the minimum that begins at a place is none.
 pub(crate) fn push_minimum(text: &mut Text, name: &str, spot: &Spot<'_>) -> Result<(), AllocError> {
-    let (side, other, columns) = if spot.column < 3 {
-        ("left", "right", "columns 1 and 2")
+    let is_left = spot.column < 3;
+    let side: &[u8] = if is_left { b"left" } else { b"right" };
+    let other: &[u8] = if is_left { b"right" } else { b"left" };
+    let columns: &[u8] = if is_left {
+        b"columns 1 and 2"
     } else {
-        ("right", "left", "columns 3 and 4")
+        b"columns 3 and 4"
     };
     let pair = up_to(spot.rest(), 2);
     if pair.iter().all(|byte| *byte == b' ') {
@@ -20,11 +22,11 @@ pub(crate) fn push_minimum(text: &mut Text, name: &str, spot: &Spot<'_>) -> Resu
             spot,
             &[
                 Say(columns),
-                Say(" are blank, and the "),
+                Say(b" are blank, and the "),
                 Say(side),
-                Say(" minimum is due there, 1 to 99, since the "),
+                Say(b" minimum is due there, 1 to 99, since the "),
                 Say(other),
-                Say(" one is given"),
+                Say(b" one is given"),
             ],
         );
     }
@@ -33,22 +35,22 @@ pub(crate) fn push_minimum(text: &mut Text, name: &str, spot: &Spot<'_>) -> Resu
         spot,
         &[
             Say(columns),
-            Say(" are \""),
+            Say(b" are \""),
             Show(pair),
-            Say("\", and the "),
+            Say(b"\", and the "),
             Say(side),
-            Say(" minimum is due there: a number from 1 to 99"),
+            Say(b" minimum is due there: a number from 1 to 99"),
         ],
     )
 }
 
 /// What the mark in a column means, and the byte that a blank there means.
-fn mark_in(column: usize) -> (&'static str, u8) {
+fn mark_in(column: usize) -> (&'static [u8], u8) {
     match column {
-        5 => ("an error", b'.'),
-        6 => ("a missed hyphen", b'-'),
-        7 => ("a found hyphen", b'*'),
-        _ => ("a don't-care position", b'?'),
+        5 => (b"an error", b'.'),
+        6 => (b"a missed hyphen", b'-'),
+        7 => (b"a found hyphen", b'*'),
+        _ => (b"a don't-care position", b'?'),
     }
 }
 
@@ -71,10 +73,10 @@ pub(crate) fn push_mark(text: &mut Text, name: &str, spot: &Spot<'_>) -> Result<
     let (meaning, _) = mark_in(spot.column);
     let mark = Byte(mark_byte(spot.text, spot.column));
     let is_blank = up_to(spot.rest(), 1).iter().all(|byte| *byte == b' ');
-    let blank = if is_blank {
-        ", as a blank means it"
+    let blank: &[u8] = if is_blank {
+        b", as a blank means it"
     } else {
-        ""
+        b""
     };
     match same_mark(spot.text, spot.column) {
         Some(column) => text.place(
@@ -82,12 +84,12 @@ pub(crate) fn push_mark(text: &mut Text, name: &str, spot: &Spot<'_>) -> Result<
             spot,
             &[
                 mark,
-                Say(" is the mark of "),
+                Say(b" is the mark of "),
                 Say(meaning),
                 Say(blank),
-                Say(", and that of column "),
+                Say(b", and that of column "),
                 Count(column),
-                Say(" too: the four marks differ"),
+                Say(b" too: the four marks differ"),
             ],
         ),
         None => text.place(
@@ -95,9 +97,9 @@ pub(crate) fn push_mark(text: &mut Text, name: &str, spot: &Spot<'_>) -> Result<
             spot,
             &[
                 mark,
-                Say(" is no mark of "),
+                Say(b" is no mark of "),
                 Say(meaning),
-                Say(": a mark is no digit, TAB, CR or {"),
+                Say(b": a mark is no digit, TAB, CR or {"),
             ],
         ),
     }

@@ -1,11 +1,11 @@
 //! The usual causes of a refusal that one character shows beside the table of letters.
 
 use crate::chars::{first_bytes, first_char, is_letter, is_letter_char, small_of};
-use crate::line::Part::{Byte, Char, Hex, Say, Show};
-use crate::text::Text;
 use crate::wrong::{Letters, Refused};
 use pg_translate::{Item, Place};
 use pg_types::{Kind, Mark};
+use pg_visible::Part::{Byte, Char, Hex, Say, Show};
+use pg_visible::Text;
 use std::alloc::AllocError;
 
 /// Why a character is no letter.
@@ -85,18 +85,18 @@ fn push_latin1<'a>(
     byte: &'a [u8],
 ) -> Result<(), AllocError> {
     if !is_letter_char(letters.table, meant) {
-        let words = " is no UTF-8; in Latin-1 it would be ";
+        let words = b" is no UTF-8; in Latin-1 it would be ";
         return text.line(&[Hex(byte), Say(words), Char(meant)]);
     }
     text.line(&[
         Hex(byte),
-        Say(" is "),
+        Say(b" is "),
         Char(meant),
-        Say(" in Latin-1, and "),
+        Say(b" in Latin-1, and "),
         Show(letters.name.as_bytes()),
-        Say(" has it in UTF-8: convert "),
+        Say(b" has it in UTF-8: convert "),
         Show(refused.name.as_bytes()),
-        Say(", as by iconv -f LATIN1 -t UTF-8"),
+        Say(b", as by iconv -f LATIN1 -t UTF-8"),
     ])
 }
 
@@ -109,13 +109,13 @@ fn push_capital<'a>(
 ) -> Result<(), AllocError> {
     text.line(&[
         Show(letters.name.as_bytes()),
-        Say(" has "),
+        Say(b" has "),
         Char(small),
-        Say(" without its capital: write it small, or let the line there be \" "),
+        Say(b" without its capital: write it small, or let the line there be \" "),
         Char(small),
-        Say(" "),
+        Say(b" "),
         Show(capital),
-        Say("\""),
+        Say(b"\""),
     ])
 }
 
@@ -127,15 +127,15 @@ fn push_new_letter<'a>(
 ) -> Result<(), AllocError> {
     let name = Show(letters.name.as_bytes());
     if letters.is_no_file() {
-        let words = " has the letters a to z alone: write a translate file with a line for ";
+        let words = b" has the letters a to z alone: write a translate file with a line for ";
         return text.line(&[name, Say(words), Show(c)]);
     }
     text.line(&[
-        Say("a line of "),
+        Say(b"a line of "),
         name,
-        Say(" with a blank and "),
+        Say(b" with a blank and "),
         Show(c),
-        Say(" would make it a letter"),
+        Say(b" would make it a letter"),
     ])
 }
 
@@ -157,22 +157,22 @@ pub(crate) fn push_letter_cause<'a>(
         Cause::NewLetter => push_new_letter(text, letters, c),
         Cause::Utf8 => text.line(&[
             Show(c),
-            Say(" is UTF-8 here and one byte of Latin-1 in "),
+            Say(b" is UTF-8 here and one byte of Latin-1 in "),
             table,
-            Say(": both files need one encoding"),
+            Say(b": both files need one encoding"),
         ]),
         Cause::Hyphen => text.line(&[
-            Say("this is a hyphen of Unicode; the mark of a hyphen is "),
+            Say(b"this is a hyphen of Unicode; the mark of a hyphen is "),
             Byte(letters.table.mark_byte(Mark::Missed)),
         ]),
         Cause::Accent => text.line(&[
-            Say("this accent is a character of its own behind its letter: "),
-            Say("compose the file to NFC, or spell the letter so in "),
+            Say(b"this accent is a character of its own behind its letter: "),
+            Say(b"compose the file to NFC, or spell the letter so in "),
             table,
         ]),
         Cause::Mark => text.line(&[
             Show(c),
-            Say(" is a mark of dictionaries; patterns have digits"),
+            Say(b" is a mark of dictionaries; patterns have digits"),
         ]),
     }
 }

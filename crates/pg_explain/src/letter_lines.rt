@@ -1,12 +1,11 @@
 //! The letter lines of a refused translate file.
 
 use crate::chars::{behind, up_to};
-use crate::line::Part::{Count, Say, Show};
-use crate::places::Spot;
-use crate::text::Text;
 use crate::wrong::Refused;
 use pg_translate::SPELLING_MAX;
 use pg_types::next_line;
+use pg_visible::Part::{Count, Say, Show};
+use pg_visible::{Spot, Text};
 use std::alloc::AllocError;
 
 /// A letter line without the blanks at its end.
@@ -31,21 +30,21 @@ fn spelling_at<'a>(spot: &Spot<'a>) -> &'a [u8] {
 }
 
 /// Why a spelling is none.
-fn fault_of(spelling: &[u8]) -> &'static str {
+fn fault_of(spelling: &[u8]) -> &'static [u8] {
     if spelling.contains(&b' ') {
-        return " holds a blank";
+        return b" holds a blank";
     }
     if spelling.contains(&b'\t') {
-        return " holds a TAB";
+        return b" holds a TAB";
     }
     if spelling.contains(&b'\r') {
-        return " holds a CR";
+        return b" holds a CR";
     }
     match spelling.first() {
-        Some(b'0'..=b'9') => " begins with a digit",
-        Some(b'.') => " begins with a dot, which is the edge of words",
-        Some(b'{') => " begins with a brace, which begins a weight",
-        _ => " begins with a mark of the head",
+        Some(b'0'..=b'9') => b" begins with a digit",
+        Some(b'.') => b" begins with a dot, which is the edge of words",
+        Some(b'{') => b" begins with a brace, which begins a weight",
+        _ => b" begins with a mark of the head",
     }
 }
 
@@ -54,9 +53,9 @@ pub(crate) fn push_delimiter(text: &mut Text, line: &[u8]) -> Result<(), AllocEr
     match line.first() {
         Some(b' ') | None => Ok(()),
         Some(_) => text.line(&[
-            Say("the first byte of a letter line stands between its spellings; here it is "),
+            Say(b"the first byte of a letter line stands between its spellings; here it is "),
             Show(up_to(line, 1)),
-            Say(", and mostly it is a blank"),
+            Say(b", and mostly it is a blank"),
         ]),
     }
 }
@@ -73,11 +72,11 @@ pub(crate) fn push_spelling(
             name,
             spot,
             &[
-                Say("the spelling \""),
+                Say(b"the spelling \""),
                 Show(spelling),
-                Say("\" has "),
+                Say(b"\" has "),
                 Count(spelling.len()),
-                Say(" bytes, and 8 is the most"),
+                Say(b" bytes, and 8 is the most"),
             ],
         );
     }
@@ -85,9 +84,9 @@ pub(crate) fn push_spelling(
         name,
         spot,
         &[
-            Say("the spelling \""),
+            Say(b"the spelling \""),
             Show(spelling),
-            Say("\""),
+            Say(b"\""),
             Say(fault_of(spelling)),
         ],
     )
@@ -131,25 +130,30 @@ pub(crate) fn push_clash<'a>(
         return text.place(
             refused.name,
             spot,
-            &[Say("this spelling clashes with an earlier one")],
+            &[Say(b"this spelling clashes with an earlier one")],
         );
     };
-    let (how, rule) = if other == spelling {
-        ("\" is \"", ": a spelling belongs to one letter")
+    let how: &[u8] = if other == spelling {
+        b"\" is \""
     } else if other.starts_with(spelling) {
-        ("\" begins \"", ": no spelling begins another")
+        b"\" begins \""
     } else {
-        ("\" begins with \"", ": no spelling begins another")
+        b"\" begins with \""
+    };
+    let rule: &[u8] = if other == spelling {
+        b": a spelling belongs to one letter"
+    } else {
+        b": no spelling begins another"
     };
     text.place(
         refused.name,
         spot,
         &[
-            Say("\""),
+            Say(b"\""),
             Show(spelling),
             Say(how),
             Show(other),
-            Say("\", a spelling of line "),
+            Say(b"\", a spelling of line "),
             Count(line),
             Say(rule),
         ],
@@ -165,6 +169,6 @@ pub(crate) fn push_many_letters(
     text.place(
         name,
         spot,
-        &[Say("2,000 letters stand above this line, the most that a table has")],
+        &[Say(b"2,000 letters stand above this line, the most that a table has")],
     )
 }

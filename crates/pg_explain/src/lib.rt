@@ -5,7 +5,6 @@
 
 mod causes;
 mod chars;
-mod excerpts;
 mod explanation;
 mod false_lines;
 mod faults;
@@ -13,20 +12,15 @@ mod forms;
 mod heads;
 mod letter_causes;
 mod letter_lines;
-mod line;
 mod more;
 mod notes;
 mod parameters;
-mod places;
 mod refused;
 mod tables;
-mod text;
 mod word_faults;
 mod word_lines;
 mod words;
 mod wrong;
 
 pub use explanation::{MEMORY, explain};
-pub use line::visible;
-pub use text::LINES_MAX;
 pub use wrong::{Before, Deed, FalseLine, Fault, Letters, Refused, Wrong};

@@ -1,137 +1,167 @@
 //! How many more lines of a refused file would be refused.
 
-use crate::line::Part::{Count, Say, Show};
-use crate::text::Text;
-use crate::wrong::{Letters, Refused};
+use crate::parameters::push_more_items;
+use crate::wrong::Refused;
 use pg_dict::Dictionary;
 use pg_patterns::PatternSet;
 use pg_translate::Table;
-use pg_types::{Kind, ReadingError};
+use pg_types::{Kind, ReadingError, Refusal};
+use pg_visible::Part::{Count, Say, Show};
+use pg_visible::Text;
 use std::alloc::{AllocError, Global};
 
-/// How many refused lines are counted at most.
-const MORE_MAX: usize = 100;
+/// How many lines or items are counted at most.
+pub(crate) const MORE_MAX: usize = 100;
 
-/// The longest translate file that is read once more for each line that it is refused for.
-const AGAIN_MAX: usize = 1_048_576;
+/// How many bytes of a translate file are read again at most, while its refused lines are counted.
+const AGAIN_MAX: usize = 134_217_728;
 
-/// Whether what a reader gave is a refusal.
-fn is_refusal<T: Drop>(read: Result<T, ReadingError>) -> Result<bool, AllocError> {
+/// What a reader refuses; none where it accepts.
+fn refusal_of<T: Drop>(read: Result<T, ReadingError>) -> Result<Option<Refusal>, AllocError> {
     match read {
-        Ok(_) => Ok(false),
-        Err(ReadingError::Refused(_)) => Ok(true),
+        Ok(_) => Ok(None),
+        Err(ReadingError::Refused(refusal)) => Ok(Some(refusal)),
         Err(ReadingError::Memory) => Err(AllocError),
     }
 }
 
-/// Whether a line is refused for itself, in a file of patterns or else in a dictionary.
-fn is_refused(
-    alloc: Global,
-    table: &Table,
-    is_pattern: bool,
-    line: &[u8],
-) -> Result<bool, AllocError> {
-    if is_pattern {
-        is_refusal(PatternSet::read(alloc, table, line))
+/// Appends how many more lines or items of a file would be refused: all of them, or at least so
+/// many.
+pub(crate) fn push_count(
+    text: &mut Text,
+    name: &str,
+    thing: &'static [u8],
+    more: usize,
+    is_all: bool,
+) -> Result<(), AllocError> {
+    let front: &[u8] = if is_all { b"" } else { b"at least " };
+    let number = if more == 0 {
+        Say(b"no other ")
     } else {
-        is_refusal(Dictionary::read(alloc, table, line))
-    }
+        Count(more)
+    };
+    let behind: &[u8] = if more == 0 { b"" } else { b" more " };
+    let plural: &[u8] = if more < 2 { b"" } else { b"s" };
+    text.line(&[
+        Say(front),
+        number,
+        Say(behind),
+        Say(thing),
+        Say(plural),
+        Say(b" of "),
+        Show(name.as_bytes()),
+        Say(b" would be refused"),
+    ])
 }
 
-/// How many lines behind this one are refused, up to a hundred.
+/// How many lines behind the refused one are refused for themselves, up to a hundred.
 fn refused_behind(
     alloc: Global,
+    refused: &Refused<'_>,
     table: &Table,
     is_pattern: bool,
-    bytes: &[u8],
-    line: usize,
 ) -> Result<usize, AllocError> {
+    let lines = refused.bytes.split_inclusive(|byte| *byte == b'\n');
     let mut more = 0;
-    for text in bytes.split_inclusive(|byte| *byte == b'\n').skip(line) {
-        if more < MORE_MAX && is_refused(alloc, table, is_pattern, text)? {
-            more += 1;
+    for line in lines.skip(refused.refusal.line as usize) {
+        if more < MORE_MAX {
+            let refusal = if is_pattern {
+                refusal_of(PatternSet::read(alloc, table, line))?
+            } else {
+                refusal_of(Dictionary::read(alloc, table, line))?
+            };
+            more += usize::from(refusal.is_some());
         }
     }
     Ok(more)
 }
 
-/// A file without one of its lines.
-fn without_line(alloc: Global, bytes: &[u8], line: usize) -> Result<Vec<u8>, AllocError> {
-    let mut left = Vec::new(alloc);
-    for (i, text) in bytes.split_inclusive(|byte| *byte == b'\n').enumerate() {
-        if i.saturating_add(1) != line {
-            left.extend_from_slice(text)?;
-        }
-    }
-    Ok(left)
+/// Whether a head has a digit where the minima are due, so that the marks behind them are meant as
+/// such.
+fn has_minima(head: &[u8]) -> bool {
+    head.iter().take(4).any(|byte| byte.is_ascii_digit())
 }
 
-/// How many lines of a translate file have to go besides this one until it is accepted, up to a
-/// hundred.
-fn refused_besides(alloc: Global, bytes: &[u8], line: usize) -> Result<usize, AllocError> {
-    let mut left = without_line(alloc, bytes, line)?;
-    for more in 0..MORE_MAX {
-        match Table::read(alloc, &left) {
-            Ok(_) => return Ok(more),
-            Err(ReadingError::Refused(refusal)) => {
-                left = without_line(alloc, &left, refusal.line as usize)?;
-            }
-            Err(ReadingError::Memory) => return Err(AllocError),
+/// Blanks what is refused out of a translate file: the minima of a head, or a whole line.
+fn blank_out(file: &mut [u8], refusal: &Refusal) {
+    let place = (refusal.line as usize).saturating_sub(1);
+    if let Some(line) = file.split_mut(|byte| *byte == b'\n').nth(place) {
+        let len = if refusal.kind == Kind::BadMinima && has_minima(line) {
+            line.len().min(4)
+        } else {
+            line.len()
+        };
+        if let Some(front) = line.get_mut(..len) {
+            front.fill(b' ');
         }
     }
-    Ok(MORE_MAX)
 }
 
-/// How many more lines of a file would be refused, up to a hundred; none where that cannot be told.
-fn more_lines(alloc: Global, refused: &Refused<'_>) -> Result<Option<usize>, AllocError> {
-    let line = refused.refusal.line as usize;
-    let is_pattern = match refused.refusal.kind {
-        Kind::PatternCharacter | Kind::PatternTooLong => true,
-        Kind::DictionaryCharacter | Kind::WordTooLong | Kind::BadWeight => false,
-        Kind::BadSpelling | Kind::SpellingClash | Kind::TooManyLetters => {
-            if refused.bytes.len() > AGAIN_MAX {
-                return Ok(None);
-            }
-            return Ok(Some(refused_besides(alloc, refused.bytes, line)?));
+/// How many lines behind its head have to be blank, besides what is refused, until a translate file
+/// is accepted, and whether these are all. The count ends at this number.
+fn refused_besides(
+    alloc: Global,
+    file: &mut [u8],
+    refusal: Refusal,
+    most: usize,
+) -> Result<(usize, bool), AllocError> {
+    let mut more = 0_usize;
+    let mut next = refusal;
+    for _ in 0..MORE_MAX + 2 {
+        blank_out(file, &next);
+        match refusal_of(Table::read(alloc, file))? {
+            None => return Ok((more, true)),
+            Some(refusal) => next = refusal,
         }
-        _ => return Ok(None),
-    };
+        more = more.saturating_add(usize::from(next.line > 1));
+        if more >= most {
+            return Ok((more, false));
+        }
+    }
+    Ok((more, false))
+}
+
+/// Appends how many more lines of a translate file would be refused. The lines behind a refused
+/// head are read as behind one whose minima, or else all of it, are blank.
+fn push_more_letters(text: &mut Text, refused: &Refused<'_>) -> Result<(), AllocError> {
+    let most = (AGAIN_MAX / refused.bytes.len().max(1))
+        .min(MORE_MAX)
+        .max(1);
+    let mut file = Vec::from_slice(text.alloc(), refused.bytes)?;
+    let (more, is_all) = refused_besides(text.alloc(), &mut file, refused.refusal, most)?;
+    push_count(text, refused.name, b"line", more, is_all)
+}
+
+/// Appends how many more lines of a dictionary or a file of patterns would be refused.
+fn push_more_words(
+    text: &mut Text,
+    refused: &Refused<'_>,
+    is_pattern: bool,
+) -> Result<(), AllocError> {
     match &refused.letters {
-        Some(Letters { table, .. }) => Ok(Some(refused_behind(
-            alloc,
-            table,
-            is_pattern,
-            refused.bytes,
-            line,
-        )?)),
-        None => Ok(None),
+        Some(letters) => {
+            let more = refused_behind(text.alloc(), refused, letters.table, is_pattern)?;
+            push_count(text, refused.name, b"line", more, more < MORE_MAX)
+        }
+        None => Ok(()),
     }
 }
 
 /// Appends how many more lines of a file would be refused.
 pub(crate) fn push_more(text: &mut Text, refused: &Refused<'_>) -> Result<(), AllocError> {
-    let name = Show(refused.name.as_bytes());
-    match more_lines(text.alloc(), refused)? {
-        None => Ok(()),
-        Some(0) => text.line(&[Say("no other line of "), name, Say(" would be refused")]),
-        Some(1) => text.line(&[Say("1 more line of "), name, Say(" would be refused")]),
-        Some(more) if more < MORE_MAX => {
-            text.line(&[
-                Count(more),
-                Say(" more lines of "),
-                name,
-                Say(" would be refused"),
-            ])
+    match refused.refusal.kind {
+        Kind::PatternCharacter | Kind::PatternTooLong => push_more_words(text, refused, true),
+        Kind::DictionaryCharacter | Kind::WordTooLong | Kind::BadWeight => {
+            push_more_words(text, refused, false)
         }
-        Some(more) => {
-            let words = " more lines of ";
-            text.line(&[
-                Say("at least "),
-                Count(more),
-                Say(words),
-                name,
-                Say(" would be refused"),
-            ])
+        Kind::BadMinima
+        | Kind::BadMark
+        | Kind::BadSpelling
+        | Kind::SpellingClash
+        | Kind::TooManyLetters => push_more_letters(text, refused),
+        Kind::BadNumber | Kind::OutOfRange | Kind::Missing | Kind::Extra => {
+            push_more_items(text, refused)
         }
+        _ => Ok(()),
     }
 }

@@ -1,17 +1,15 @@
 //! Status 0: what is worth a word although nothing is wrong.
 
-use crate::excerpts::push_excerpt;
-use crate::line::Part::{Count, Say, Show};
-use crate::places::Spot;
-use crate::text::Text;
 use pg_types::next_line;
+use pg_visible::Part::{Count, Say, Show};
+use pg_visible::{Spot, Text};
 use std::alloc::AllocError;
 
 /// Appends that a dictionary has no word.
 pub(crate) fn push_no_word(text: &mut Text, dict: &str) -> Result<(), AllocError> {
     text.line(&[
         Show(dict.as_bytes()),
-        Say(" has no word: a word is a line with a letter before its first blank"),
+        Say(b" has no word: a word is a line with a letter before its first blank"),
     ])
 }
 
@@ -24,17 +22,17 @@ pub(crate) fn push_no_part(
     right: u8,
 ) -> Result<(), AllocError> {
     text.line(&[
-        Say("no word of "),
+        Say(b"no word of "),
         Show(dict.as_bytes()),
-        Say(" takes part, of "),
+        Say(b" takes part, of "),
         Count(words),
-        Say(": with the minima "),
+        Say(b": with the minima "),
         Count(usize::from(left)),
-        Say(" and "),
+        Say(b" and "),
         Count(usize::from(right)),
-        Say(" a word needs at least "),
+        Say(b" a word needs at least "),
         Count(usize::from(left) + usize::from(right)),
-        Say(" letters"),
+        Say(b" letters"),
     ])
 }
 
@@ -47,11 +45,11 @@ pub(crate) fn push_low_start(
 ) -> Result<(), AllocError> {
     text.line(&[
         Show(patterns.as_bytes()),
-        Say(" has the value "),
+        Say(b" has the value "),
         Count(usize::from(largest)),
-        Say(", and the first level is "),
+        Say(b", and the first level is "),
         Count(usize::from(start)),
-        Say(": give a first level above the greatest value"),
+        Say(b": give a first level above the greatest value"),
     ])
 }
 
@@ -89,20 +87,20 @@ pub(crate) fn push_behind(text: &mut Text, patterns: &str, bytes: &[u8]) -> Resu
     text.place(
         patterns,
         &spot,
-        &[Say("a line ends at its first blank, and what follows it here is not read")],
+        &[Say(b"a line ends at its first blank, and what follows it here is not read")],
     )?;
-    push_excerpt(text, &spot)?;
+    text.excerpt(&spot)?;
     if count == 1 {
         return text.line(&[
-            Say("no other line of "),
+            Say(b"no other line of "),
             Show(patterns.as_bytes()),
-            Say(" has more"),
+            Say(b" has more"),
         ]);
     }
     text.line(&[
         Count(count),
-        Say(" lines of "),
+        Say(b" lines of "),
         Show(patterns.as_bytes()),
-        Say(" have more behind their first blank"),
+        Say(b" have more behind their first blank"),
     ])
 }

@@ -1,11 +1,11 @@
 //! A refused parameters file: where its items stand, and what is due there.
 
 use crate::chars::{behind, up_to};
-use crate::line::Part::{Count, Say, Show};
-use crate::places::Spot;
-use crate::text::Text;
+use crate::more::{MORE_MAX, push_count};
 use crate::wrong::Refused;
-use pg_types::{Kind, LENGTH_MAX};
+use pg_types::{COST_MAX, Kind, LENGTH_MAX, LEVEL_MAX};
+use pg_visible::Part::{Count, Say, Show};
+use pg_visible::{Spot, Text};
 use std::alloc::AllocError;
 
 /// More items than a file of parameters may have.
@@ -41,17 +41,32 @@ fn from_item_at(bytes: &[u8], item: usize) -> &[u8] {
 /// last one.
 pub(crate) fn item_spot(bytes: &[u8], item: usize) -> Spot<'_> {
     let rest = from_item_at(bytes, item);
-    if rest.is_empty() {
+    let at = if rest.is_empty() {
         let end = bytes.iter().rposition(|byte| !is_separator(*byte));
-        return Spot::of_byte(bytes, end.map_or(0, |end| end.saturating_add(1)));
-    }
-    Spot::of_byte(bytes, bytes.len().saturating_sub(rest.len()))
+        end.map_or(0, |end| end.saturating_add(1))
+    } else {
+        bytes.len().saturating_sub(rest.len())
+    };
+    let before = up_to(bytes, at);
+    let feeds = before.iter().filter(|byte| **byte == b'\n').count();
+    let since = before
+        .iter()
+        .rev()
+        .take_while(|byte| **byte != b'\n')
+        .count();
+    Spot::new(bytes, feeds.saturating_add(1), since.saturating_add(1))
 }
 
-/// The number that an item is; 0 where it is none, or too great.
-fn number_at(bytes: &[u8], item: usize) -> usize {
+/// How many items there are.
+fn items_in(bytes: &[u8]) -> usize {
+    let items = bytes.split(|byte| is_separator(*byte));
+    items.filter(|item| !item.is_empty()).count()
+}
+
+/// The number that an item is; 0 where it is none.
+fn number_of(item: &[u8]) -> usize {
     let mut value = 0_usize;
-    for digit in first_item(from_item_at(bytes, item)) {
+    for digit in item {
         if !digit.is_ascii_digit() {
             return 0;
         }
@@ -62,36 +77,32 @@ fn number_at(bytes: &[u8], item: usize) -> usize {
     value
 }
 
-/// What is due at an item: its name, the level that it belongs to, and its range.
-#[derive(Clone, Copy)]
-struct Due {
-    name: &'static str,
-    level: Option<usize>,
-    least: usize,
-    most: &'static str,
+/// The number that the item with this number is.
+fn number_at(bytes: &[u8], item: usize) -> usize {
+    number_of(first_item(from_item_at(bytes, item)))
 }
 
 /// What is due at the item with this number. Behind the first two there are five for each level.
-fn due_at(bytes: &[u8], item: usize) -> Due {
-    let (name, least, most) = match item.saturating_sub(3) % 5 {
-        _ if item <= 1 => ("the first level", 1, "9"),
-        _ if item == 2 => ("the last level", 1, "9"),
-        0 => ("the least length", 1, "15"),
-        1 => (
-            "the greatest length",
-            number_at(bytes, item.saturating_sub(1)),
-            "15",
-        ),
-        2 => ("the good weight", 1, "1,000,000"),
-        3 => ("the bad weight", 1, "1,000,000"),
-        _ => ("the threshold", 1, "1,000,000"),
-    };
-    let level = number_at(bytes, 1).saturating_add(item.saturating_sub(3) / 5);
-    Due {
-        name,
-        level: if item < 3 { None } else { Some(level) },
-        least: least.min(usize::from(LENGTH_MAX)),
-        most,
+fn name_of(item: usize) -> &'static [u8] {
+    match item.saturating_sub(3) % 5 {
+        _ if item <= 1 => b"the first level",
+        _ if item == 2 => b"the last level",
+        0 => b"the least length",
+        1 => b"the greatest length",
+        2 => b"the good weight",
+        3 => b"the bad weight",
+        _ => b"the threshold",
+    }
+}
+
+/// The least and the greatest number that may stand at an item, behind one that is this number.
+fn range_of(item: usize, before: usize) -> (usize, usize) {
+    let longest = usize::from(LENGTH_MAX);
+    match item.saturating_sub(3) % 5 {
+        _ if item < 3 => (1, usize::from(LEVEL_MAX)),
+        1 if before <= longest => (before.max(1), longest),
+        0 | 1 => (1, longest),
+        _ => (1, COST_MAX as usize),
     }
 }
 
@@ -100,53 +111,80 @@ fn push_due(
     text: &mut Text,
     refused: &Refused<'_>,
     spot: &Spot<'_>,
-    words: &'static str,
-    after: &'static str,
+    words: &'static [u8],
+    after: &'static [u8],
 ) -> Result<(), AllocError> {
     let item = refused.refusal.line as usize;
-    let due = due_at(refused.bytes, item);
-    let (of, level) = match due.level {
-        None => ("", Say("")),
-        Some(level) => (" of level ", Count(level)),
+    let (least, most) = range_of(item, number_at(refused.bytes, item.saturating_sub(1)));
+    let (of, level) = if item < 3 {
+        (Say(b""), Say(b""))
+    } else {
+        let first = number_at(refused.bytes, 1);
+        let level = first.saturating_add(item.saturating_sub(3) / 5);
+        (Say(b" of level "), Count(level))
+    };
+    let most = if most == COST_MAX as usize {
+        Say(b"1,000,000")
+    } else {
+        Count(most)
     };
     text.place(
         refused.name,
         spot,
         &[
-            Say("item "),
+            Say(b"item "),
             Count(item),
             Say(words),
             Show(first_item(spot.rest())),
             Say(after),
-            Say(due.name),
-            Say(of),
+            Say(name_of(item)),
+            of,
             level,
-            Say(" is due, "),
-            Count(due.least),
-            Say(" to "),
-            Say(due.most),
+            Say(b" is due, "),
+            Count(least),
+            Say(b" to "),
+            most,
         ],
     )
 }
 
+/// How many levels a file has by its first two items.
+fn levels_of(bytes: &[u8]) -> usize {
+    number_at(bytes, 2)
+        .saturating_add(1)
+        .saturating_sub(number_at(bytes, 1))
+}
+
+/// How many numbers a file of so many levels has.
+fn numbers_of(levels: usize) -> usize {
+    levels.saturating_mul(5).saturating_add(2)
+}
+
+/// What stands between a number of levels and how many numbers they take.
+fn take(levels: usize) -> &'static [u8] {
+    if levels == 1 {
+        b" level takes "
+    } else {
+        b" levels take "
+    }
+}
+
 /// Appends that an item may not follow.
 fn push_extra(text: &mut Text, refused: &Refused<'_>, spot: &Spot<'_>) -> Result<(), AllocError> {
-    let start = number_at(refused.bytes, 1);
-    let finish = number_at(refused.bytes, 2);
-    let levels = finish.saturating_add(1).saturating_sub(start);
+    let levels = levels_of(refused.bytes);
     text.place(
         refused.name,
         spot,
         &[
-            Say("item "),
+            Say(b"item "),
             Count(refused.refusal.line as usize),
-            Say(" is "),
+            Say(b" is "),
             Show(first_item(spot.rest())),
-            Say(", and the file should end: "),
+            Say(b", and the file should end: "),
             Count(levels),
-            Say(" levels take "),
-            Count(levels.saturating_mul(5).saturating_add(2)),
-            Say(" numbers, and one y or n may follow"),
+            Say(take(levels)),
+            Count(numbers_of(levels)),
+            Say(b" numbers, and one y or n may follow"),
         ],
     )
 }
@@ -159,8 +197,65 @@ pub(crate) fn push_item(
 ) -> Result<(), AllocError> {
     match refused.refusal.kind {
         Kind::Extra => push_extra(text, refused, spot),
-        Kind::Missing => push_due(text, refused, spot, " is missing", ": "),
-        Kind::BadNumber => push_due(text, refused, spot, " is ", ", which is no number: "),
-        _ => push_due(text, refused, spot, " is ", ", which is out of range: "),
+        Kind::Missing => push_due(text, refused, spot, b" is missing", b": "),
+        Kind::BadNumber => push_due(text, refused, spot, b" is ", b", which is no number: "),
+        _ => push_due(text, refused, spot, b" is ", b", which is out of range: "),
     }
+}
+
+/// Whether an item answers patgen's last question.
+fn is_answer(item: &[u8]) -> bool {
+    matches!(item, b"y" | b"Y" | b"n" | b"N")
+}
+
+/// How many items behind the one with this number would be refused too, each judged by its place.
+/// The file should have so many numbers; none where its levels are not known.
+fn refused_behind(bytes: &[u8], item: usize, numbers: Option<usize>) -> usize {
+    let items = bytes.split(|byte| is_separator(*byte));
+    let mut before = 0;
+    let mut more = 0_usize;
+    for (i, text) in items.filter(|text| !text.is_empty()).enumerate() {
+        let place = i.saturating_add(1);
+        let number = number_of(text);
+        let (least, most) = range_of(place, before);
+        let is_number = least <= number && number <= most;
+        let is_due = match numbers {
+            Some(numbers) if numbers < place => place == numbers.saturating_add(1)
+                && is_answer(text),
+            Some(_) => is_number,
+            None => is_number || (place % 5 == 3 && is_answer(text)),
+        };
+        if item < place && !is_due {
+            more = more.saturating_add(1);
+        }
+        before = number;
+    }
+    more.min(MORE_MAX)
+}
+
+/// Appends how many more items of a file would be refused, and how many numbers it should have
+/// where it has fewer.
+pub(crate) fn push_more_items(text: &mut Text, refused: &Refused<'_>) -> Result<(), AllocError> {
+    let item = refused.refusal.line as usize;
+    let levels = levels_of(refused.bytes);
+    let numbers = numbers_of(levels);
+    let is_known = 2 < item;
+    if refused.refusal.kind != Kind::Missing {
+        let due = if is_known { Some(numbers) } else { None };
+        let more = refused_behind(refused.bytes, item, due);
+        push_count(text, refused.name, b"item", more, more < MORE_MAX)?;
+    }
+    let has = items_in(refused.bytes);
+    if !is_known || numbers <= has {
+        return Ok(());
+    }
+    text.line(&[
+        Count(levels),
+        Say(take(levels)),
+        Count(numbers),
+        Say(b" numbers, and "),
+        Show(refused.name.as_bytes()),
+        Say(b" has "),
+        Count(has),
+    ])
 }

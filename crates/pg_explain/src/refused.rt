@@ -1,18 +1,16 @@
 //! Status 3: a file is refused.
 
 use crate::causes::push_cause;
-use crate::excerpts::push_excerpt;
 use crate::heads::{push_mark, push_minimum};
 use crate::letter_lines::{push_clash, push_delimiter, push_many_letters, push_spelling};
-use crate::line::Part::{Say, Show};
 use crate::more::push_more;
 use crate::parameters::{item_spot, push_item};
-use crate::places::Spot;
 use crate::tables::{push_bad_table, push_long_table, push_other_table};
-use crate::text::Text;
 use crate::word_lines::{push_character, push_long_pattern, push_long_word, push_weight};
 use crate::wrong::Refused;
 use pg_types::Kind;
+use pg_visible::Part::{Say, Show};
+use pg_visible::{Spot, Text};
 use std::alloc::AllocError;
 
 /// The place of a refusal.
@@ -32,7 +30,7 @@ fn spot_of<'a>(refused: &Refused<'a>) -> Spot<'a> {
 
 /// Appends that a file has too many bytes.
 fn push_long_file(text: &mut Text, name: &str) -> Result<(), AllocError> {
-    let words = " has more than 67,108,864 bytes (2^26), the most that is read";
+    let words = b" has more than 67,108,864 bytes (2^26), the most that is read";
     text.line(&[Show(name.as_bytes()), Say(words)])
 }
 
@@ -73,7 +71,7 @@ pub(crate) fn push_refused(text: &mut Text, refused: &Refused<'_>) -> Result<(),
     if refused.refusal.line == 0 {
         return Ok(());
     }
-    push_excerpt(text, &spot)?;
+    text.excerpt(&spot)?;
     if refused.refusal.kind == Kind::BadSpelling {
         push_delimiter(text, spot.text)?;
     }

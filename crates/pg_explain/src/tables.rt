@@ -1,10 +1,10 @@
 //! Refused packed tables: which of their rules they break.
 
 use crate::chars::{behind, up_to};
-use crate::line::Part::{Count, Say, Show};
-use crate::text::Text;
 use crate::wrong::Refused;
 use pg_types::{LEVEL_MAX, PATTERN_SIGNS_MAX, SIGNS_MAX};
+use pg_visible::Part::{Count, Say, Show};
+use pg_visible::Text;
 use std::alloc::AllocError;
 
 /// The bytes of the head, of a cell and of a record.
@@ -49,37 +49,37 @@ impl Head {
     }
 
     /// What is wrong with a cell, if something is.
-    fn cell_fault(&self, bytes: &[u8], cell: usize) -> Option<&'static str> {
+    fn cell_fault(&self, bytes: &[u8], cell: usize) -> Option<&'static [u8]> {
         let at = cell.saturating_mul(CELL_LEN).saturating_add(HEAD_LEN);
         let sign = number(bytes, at, 2);
         let child = number(bytes, at.saturating_add(2), 4);
         let head = number(bytes, at.saturating_add(6), 4);
         if cell <= self.signs && sign != cell {
-            Some("stands at the root, and its sign is not its own number")
+            Some(b"stands at the root, and its sign is not its own number")
         } else if sign == 0 && (child != 0 || head != 0) {
-            Some("has no sign, and is not all 0")
+            Some(b"has no sign, and is not all 0")
         } else if sign > self.signs {
-            Some("has a sign above the greatest")
+            Some(b"has a sign above the greatest")
         } else if child >= self.cells {
-            Some("leads to a family behind the last cell")
+            Some(b"leads to a family behind the last cell")
         } else if head > self.records {
-            Some("leads to a record behind the last")
+            Some(b"leads to a record behind the last")
         } else {
             None
         }
     }
 
     /// What is wrong with a record, if something is. Records are counted from 0 here.
-    fn record_fault(&self, bytes: &[u8], record: usize) -> Option<&'static str> {
+    fn record_fault(&self, bytes: &[u8], record: usize) -> Option<&'static [u8]> {
         let cells = self.cells.saturating_mul(CELL_LEN).saturating_add(HEAD_LEN);
         let at = record.saturating_mul(RECORD_LEN).saturating_add(cells);
         let value = number(bytes, at, 1);
         if value == 0 || value > usize::from(LEVEL_MAX) {
-            Some("has a value that is not 1 to 9")
+            Some(b"has a value that is not 1 to 9")
         } else if number(bytes, at.saturating_add(1), 1) > PATTERN_SIGNS_MAX {
-            Some("has a dot above 32")
+            Some(b"has a dot above 32")
         } else if number(bytes, at.saturating_add(2), 4) > record {
-            Some("leads to itself or a later one")
+            Some(b"leads to itself or a later one")
         } else {
             None
         }
@@ -91,18 +91,18 @@ fn push_parts(text: &mut Text, name: &str, bytes: &[u8], head: &Head) -> Result<
     let name = Show(name.as_bytes());
     for cell in 0..head.cells {
         if let Some(fault) = head.cell_fault(bytes, cell) {
-            let front = Say(" is no packed table: its cell ");
-            return text.line(&[name, front, Count(cell), Say(" "), Say(fault)]);
+            let front = Say(b" is no packed table: its cell ");
+            return text.line(&[name, front, Count(cell), Say(b" "), Say(fault)]);
         }
     }
     for record in 0..head.records {
         if let Some(fault) = head.record_fault(bytes, record) {
-            let front = Say(" is no packed table: its record ");
+            let front = Say(b" is no packed table: its record ");
             let number = Count(record.saturating_add(1));
-            return text.line(&[name, front, number, Say(" "), Say(fault)]);
+            return text.line(&[name, front, number, Say(b" "), Say(fault)]);
         }
     }
-    text.line(&[name, Say(" is no packed table")])
+    text.line(&[name, Say(b" is no packed table")])
 }
 
 /// Appends what in the head of a table breaks a rule, or else which cell or record does.
@@ -111,36 +111,39 @@ fn push_numbers(text: &mut Text, name: &str, bytes: &[u8]) -> Result<(), AllocEr
     if head.file_len() != bytes.len() {
         return text.line(&[
             Show(name.as_bytes()),
-            Say(" is no packed table: by its head it has "),
+            Say(b" is no packed table: by its head it has "),
             Count(head.file_len()),
-            Say(" bytes, and it has "),
+            Say(b" bytes, and it has "),
             Count(bytes.len()),
         ]);
     }
     if head.signs == 0 || head.signs > usize::from(SIGNS_MAX) || head.signs >= head.cells {
         return text.line(&[
             Show(name.as_bytes()),
-            Say(" is no packed table: its greatest sign is "),
+            Say(b" is no packed table: its greatest sign is "),
             Count(head.signs),
-            Say(", and has to be 1 to 2001 and below the number of cells, "),
+            Say(b", and has to be 1 to 2001 and below the number of cells, "),
             Count(head.cells),
         ]);
     }
     push_parts(text, name, bytes, &head)
 }
 
-/// Appends which rule of packed tables a file breaks.
+/// Appends which rule of packed tables a file breaks first. Its cells lead to one another, so
+/// nothing behind that is judged.
 pub(crate) fn push_bad_table(text: &mut Text, refused: &Refused<'_>) -> Result<(), AllocError> {
     let name = refused.name;
     let bytes = refused.bytes;
-    let words = if bytes.is_empty() {
-        " is no packed table: it is empty"
+    let words: &[u8] = if bytes.is_empty() {
+        b" is no packed table: it is empty"
     } else if !bytes.starts_with(b"PGT1") {
-        " is no packed table: it does not begin with PGT1, as a file of pack does"
+        b" is no packed table: it does not begin with PGT1, as a file of pack does"
     } else if bytes.len() < HEAD_LEN {
-        " is no packed table: it ends inside its head of 16 bytes"
+        b" is no packed table: it ends inside its head of 16 bytes"
     } else {
-        return push_numbers(text, name, bytes);
+        push_numbers(text, name, bytes)?;
+        let words = b"what stands behind that is not judged: pack makes a table anew";
+        return text.line(&[Say(words)]);
     };
     text.line(&[Show(name.as_bytes()), Say(words)])
 }
@@ -152,24 +155,24 @@ pub(crate) fn push_other_table(text: &mut Text, refused: &Refused<'_>) -> Result
     match &refused.letters {
         Some(letters) => text.line(&[
             name,
-            Say(" was packed for "),
+            Say(b" was packed for "),
             Count(own),
-            Say(" letters, and "),
+            Say(b" letters, and "),
             Show(letters.name.as_bytes()),
-            Say(" has "),
+            Say(b" has "),
             Count(usize::from(letters.table.letters())),
-            Say(": give the translate file that it was packed with"),
+            Say(b": give the translate file that it was packed with"),
         ]),
-        None => text.line(&[name, Say(" was packed for "), Count(own), Say(" letters")]),
+        None => text.line(&[name, Say(b" was packed for "), Count(own), Say(b" letters")]),
     }
 }
 
 /// Appends that a packed table has too many bytes.
 pub(crate) fn push_long_table(text: &mut Text, refused: &Refused<'_>) -> Result<(), AllocError> {
-    let words = if refused.bytes.is_empty() {
-        " would have more than 268,435,456 bytes (2^28), the most of a packed table"
+    let words: &[u8] = if refused.bytes.is_empty() {
+        b" would have more than 268,435,456 bytes (2^28), the most of a packed table"
     } else {
-        " has more than 268,435,456 bytes (2^28), the most of a packed table"
+        b" has more than 268,435,456 bytes (2^28), the most of a packed table"
     };
     text.line(&[Show(refused.name.as_bytes()), Say(words)])
 }

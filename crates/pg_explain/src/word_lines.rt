@@ -1,12 +1,10 @@
 //! The refused lines of dictionaries and pattern files.
 
 use crate::chars::{first_bytes, first_char, up_to};
-use crate::line::Part::{Hex, Say, Show};
-use crate::line::is_invisible;
-use crate::places::Spot;
-use crate::text::Text;
 use crate::wrong::Refused;
 use pg_types::Kind;
+use pg_visible::Part::{Hex, Say, Show};
+use pg_visible::{Spot, Text, is_invisible};
 use std::alloc::AllocError;
 
 /// Of what a byte begins no letter.
@@ -19,10 +17,10 @@ fn letters_of<'a>(refused: &Refused<'a>) -> &'a str {
 }
 
 /// What else may stand in a line.
-fn else_due(kind: Kind) -> &'static str {
+fn else_due(kind: Kind) -> &'static [u8] {
     match kind {
-        Kind::PatternCharacter => ", and is no digit and no dot",
-        _ => ", and is no mark, digit or weight",
+        Kind::PatternCharacter => b", and is no digit and no dot",
+        _ => b", and is no mark, digit or weight",
     }
 }
 
@@ -41,16 +39,16 @@ pub(crate) fn push_character<'a>(
     let bytes = first_bytes(spot.rest());
     let letters = Show(letters_of(refused).as_bytes());
     let due = Say(else_due(refused.refusal.kind));
-    let begins = Say(" begins no letter of ");
+    let begins = Say(b" begins no letter of ");
     match first_char(bytes) {
         Some(c) if is_seen_alone(c) => text.place(
             refused.name,
             spot,
             &[
                 Hex(bytes),
-                Say(" ("),
+                Say(b" ("),
                 Show(bytes),
-                Say(")"),
+                Say(b")"),
                 begins,
                 letters,
                 due,
@@ -66,7 +64,7 @@ pub(crate) fn push_long_pattern(
     name: &str,
     spot: &Spot<'_>,
 ) -> Result<(), AllocError> {
-    let words = "the 33rd letter or dot of the line begins here, and a pattern has at most 32";
+    let words = b"the 33rd letter or dot of the line begins here, and a pattern has at most 32";
     text.place(name, spot, &[Say(words)])
 }
 
@@ -76,7 +74,7 @@ pub(crate) fn push_long_word(
     name: &str,
     spot: &Spot<'_>,
 ) -> Result<(), AllocError> {
-    let words = "the 101st letter of the line begins here, and a word has at most 100";
+    let words = b"the 101st letter of the line begins here, and a word has at most 100";
     text.place(name, spot, &[Say(words)])
 }
 
@@ -90,7 +88,7 @@ pub(crate) fn push_weight(text: &mut Text, name: &str, spot: &Spot<'_>) -> Resul
         &[
             Show(up_to(rest, size.map_or(1, |size| size.saturating_add(1)))),
             Say(
-                " is no weight: a weight is {, one to four digits with a value from 1 to 9,999, and }",
+                b" is no weight: a weight is {, one to four digits with a value from 1 to 9,999, and }",
             ),
         ],
     )

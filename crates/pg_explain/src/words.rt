@@ -1,9 +1,9 @@
 //! Status 2: the words are no command.
 
 use crate::forms::{Range, VERBS, Verb};
-use crate::line::Part::{Count, Say, Show};
-use crate::text::Text;
 use crate::word_faults::{Fault, fault_of};
+use pg_visible::Part::{Count, Say, Show};
+use pg_visible::Text;
 use std::alloc::AllocError;
 
 /// Appends that a number is out of its range.
@@ -15,21 +15,21 @@ fn push_number(
     range: &Range,
 ) -> Result<(), AllocError> {
     let (digits, count, end) = if word.len() > range.digits {
-        (", in at most ", Count(range.digits), " digits")
+        (Say(b", in at most "), Count(range.digits), Say(b" digits"))
     } else {
-        ("", Say(""), "")
+        (Say(b""), Say(b""), Say(b""))
     };
     text.line(&[
         Say(verb.word()),
-        Say(": "),
-        Say(name),
-        Say(" is "),
+        Say(b": "),
+        Say(name.as_bytes()),
+        Say(b" is "),
         Show(word.as_bytes()),
-        Say(", and has to be "),
+        Say(b", and has to be "),
         Say(range.words),
-        Say(digits),
+        digits,
         count,
-        Say(end),
+        end,
     ])
 }
 
@@ -42,11 +42,11 @@ fn push_dashes(
 ) -> Result<(), AllocError> {
     text.line(&[
         Say(verb.word()),
-        Say(": "),
+        Say(b": "),
         Show(word.as_bytes()),
-        Say(" stands where "),
-        Say(name),
-        Say(" is due, and no name begins with two dashes"),
+        Say(b" stands where "),
+        Say(name.as_bytes()),
+        Say(b" is due, and no name begins with two dashes"),
     ])
 }
 
@@ -63,11 +63,11 @@ fn push_early(
     }
     text.line(&[
         Say(verb.word()),
-        Say(": "),
+        Say(b": "),
         Show(word.as_bytes()),
-        Say(" belongs behind the six names, and stands where "),
-        Say(name),
-        Say(" is due"),
+        Say(b" belongs behind the six names, and stands where "),
+        Say(name.as_bytes()),
+        Say(b" is due"),
     ])
 }
 
@@ -76,11 +76,11 @@ fn push_word(
     text: &mut Text,
     verb: Verb,
     word: &str,
-    words: &'static str,
+    words: &'static [u8],
 ) -> Result<(), AllocError> {
     text.line(&[
         Say(verb.word()),
-        Say(": "),
+        Say(b": "),
         Show(word.as_bytes()),
         Say(words),
     ])
@@ -96,37 +96,37 @@ fn push_same<'a>(
 ) -> Result<(), AllocError> {
     text.line(&[
         Say(verb.word()),
-        Say(": "),
+        Say(b": "),
         Show(one.as_bytes()),
-        Say(" and "),
+        Say(b" and "),
         Show(other.as_bytes()),
-        Say(" are one name, "),
+        Say(b" are one name, "),
         Show(name.as_bytes()),
-        Say(", and what is written has one of its own"),
+        Say(b", and what is written has one of its own"),
     ])
 }
 
 /// Appends what is wrong with the words of a command.
 fn push_fault(text: &mut Text, verb: Verb, fault: &Fault<'_>) -> Result<(), AllocError> {
     match fault {
-        Fault::Missing(name) => push_word(text, verb, name, " is missing"),
-        Fault::Empty(name) => push_word(text, verb, name, " is empty, and has to be a name"),
+        Fault::Missing(name) => push_word(text, verb, name, b" is missing"),
+        Fault::Empty(name) => push_word(text, verb, name, b" is empty, and has to be a name"),
         Fault::Early(word, name) => push_early(text, verb, word, name),
         Fault::Dashes(word, name) => push_dashes(text, verb, word, name),
         Fault::Number(name, word, range) => push_number(text, verb, name, word, range),
-        Fault::Extra(word) => push_word(text, verb, word, " is one word too many"),
+        Fault::Extra(word) => push_word(text, verb, word, b" is one word too many"),
         Fault::Unnamed(option) => text.line(&[
             Say(verb.word()),
-            Say(": FILE is missing behind "),
+            Say(b": FILE is missing behind "),
             Show(option.as_bytes()),
         ]),
-        Fault::Twice(word) => push_word(text, verb, word, " stands twice"),
-        Fault::Option(word) => push_word(text, verb, word, " is no option of this command"),
+        Fault::Twice(word) => push_word(text, verb, word, b" stands twice"),
+        Fault::Option(word) => push_word(text, verb, word, b" is no option of this command"),
         Fault::Sets(count) => text.line(&[
             Say(verb.word()),
-            Say(": "),
+            Say(b": "),
             Count(*count),
-            Say(" parameter files are given, and 16 is the most"),
+            Say(b" parameter files are given, and 16 is the most"),
         ]),
         Fault::Same(one, other, name) => push_same(text, verb, one, other, name),
     }
@@ -134,7 +134,7 @@ fn push_fault(text: &mut Text, verb: Verb, fault: &Fault<'_>) -> Result<(), Allo
 
 /// Appends the words of a command.
 fn push_form(text: &mut Text, verb: Verb) -> Result<(), AllocError> {
-    text.line(&[Say("    patgen "), Say(verb.words())])
+    text.line(&[Say(b"    patgen "), Say(verb.words())])
 }
 
 /// Appends the words of all commands.
@@ -148,13 +148,13 @@ fn push_forms(text: &mut Text) -> Result<(), AllocError> {
 /// Appends which word is wrong, and what is due there.
 pub(crate) fn push_words(text: &mut Text, words: &[String]) -> Result<(), AllocError> {
     let Some((first, rest)) = words.split_first() else {
-        text.line(&[Say("a command is missing; the commands are")])?;
+        text.line(&[Say(b"a command is missing; the commands are")])?;
         return push_forms(text);
     };
     let Some(verb) = Verb::of(first.as_str()) else {
         text.line(&[
             Show(first.as_bytes()),
-            Say(" is no command; the commands are"),
+            Say(b" is no command; the commands are"),
         ])?;
         return push_forms(text);
     };

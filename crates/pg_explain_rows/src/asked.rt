@@ -2,7 +2,7 @@
 
 use crate::rows::Row;
 use pg_dict::Dictionary;
-use pg_explain::{Before, Deed, FalseLine, Fault, Letters, Refused, Wrong, explain};
+use pg_explain::{Before, Deed, FalseLine, Fault, Letters, MEMORY, Refused, Wrong, explain};
 use pg_patterns::PatternSet;
 use pg_translate::Table;
 use pg_types::{Kind, ReadingError, Refusal, read_params};
@@ -194,6 +194,8 @@ pub(crate) fn said(alloc: Global, row: &Row) -> Result<Vec<u8>, AllocError> {
         said_false(alloc, row)
     } else if row.has("note") {
         said_note(alloc, row.behind("note"))
+    } else if row.has("memory") {
+        MEMORY.to_vec(alloc)
     } else if row.has("refused") {
         said_number(alloc, row)
     } else if row.has("params") {

@@ -7,4 +7,4 @@ mod told;
 
 pub use line::{Step, line_text};
 pub use screen::{is_due, is_shown};
-pub use told::{SameFile, Told};
+pub use told::{Reasons, SameFile, Told};

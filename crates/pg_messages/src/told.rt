@@ -5,11 +5,12 @@ use pg_audit::FalseLine;
 use pg_dict::Dictionary;
 use pg_explain::{
     Before, Deed, FalseLine as Wanted, Fault, Letters, MEMORY, Refused as RefusedFile, Wrong,
-    explain, visible,
+    explain,
 };
 use pg_patterns::PatternSet;
 use pg_translate::Table;
 use pg_types::{Params, next_line};
+use pg_visible::visible;
 use pg_watch::{Pass, Refused, Turn, Watch};
 use std::alloc::Global;
 use std::cell::{Cell, RefCell};
@@ -196,15 +197,25 @@ impl<'a, C: Clock, E: Write + Drop> Told<'a, C, E> {
     /// Puts on standard error why a file could not be read or written, or a line not put, if the
     /// answer was such a fault: the reason of the system, and what was done before with the same
     /// file.
-    pub fn put_fault<S: SameFile>(&self, reason: &str, same: &S) {
+    pub fn put_fault<S: SameFile>(&self, reasons: &Reasons<'_>, same: &S) {
         if !self.fault.get() {
             return;
         }
         if let Ok(calls) = self.calls.try_borrow() {
-            let fault = fault_of(&calls, self.failed.get(), reason, same);
+            let fault = fault_of(&calls, self.failed.get(), reasons, same);
             self.put_wrong(&Wrong::Fault(fault));
         }
     }
+}
+
+/// Why the last calls of the system failed, as it says it. A reason is empty where no such call
+/// failed, and where the system gave none.
+#[derive(Clone, Copy, Debug)]
+pub struct Reasons<'a> {
+    /// That of the last call on files.
+    pub files: &'a str,
+    /// That of the last put.
+    pub puts: &'a str,
 }
 
 /// Tells whether two names are of one file.
@@ -217,20 +228,20 @@ pub trait SameFile {
 fn fault_of<'b, S: SameFile>(
     calls: &'b [Call],
     failed: bool,
-    reason: &'b str,
+    reasons: &Reasons<'b>,
     same: &S,
 ) -> Fault<'b> {
     match calls.split_last() {
         Some((last, earlier)) if failed => Fault {
             deed: last.deed,
             name: &last.name,
-            reason,
+            reason: reasons.files,
             before: before_of(earlier, last, same),
         },
         _ => Fault {
             deed: Deed::Printing,
             name: "",
-            reason,
+            reason: reasons.puts,
             before: None,
         },
     }

@@ -1,7 +1,7 @@
-//! A line of an explanation, and how bytes are made visible in it.
+//! A line of a text, and how bytes are made visible in it.
 ghost use Rattle.std.specs.Prelude.{◌≡◌, ◌<◌, true, IfOk};
 ghost use Rattle.std.specs.List.{list_all};
-ghost use Rattle.pg_explain.specs.Inside.Bytes.{is_printable as is_printable_byte};
+ghost use Rattle.pg_visible.specs.Inside.Bytes.{is_printable as is_printable_byte};
 
 use itoa::Buffer;
 use std::alloc::{AllocError, Global};
@@ -12,9 +12,9 @@ const SHOWN_MAX: usize = 200;
 
 /// A piece of a line.
 #[derive(Clone, Copy)]
-pub(crate) enum Part<'a> {
+pub enum Part<'a> {
     /// Words of the program.
-    Say(&'a str),
+    Say(&'a [u8]),
     /// Bytes of a name or a file, made visible, and cut where they are many.
     Show(&'a [u8]),
     /// The numbers of bytes, as `C3 9F`.
@@ -36,7 +36,7 @@ pub(crate) struct Line {
 impl Model for Line {
     ghost use Rattle.std.specs.Prelude.{◌≡◌, ℕ, List, true};
     ghost use Rattle.std.specs.List.{list_all};
-    ghost use Rattle.pg_explain.specs.Inside.Bytes.{is_printable};
+    ghost use Rattle.pg_visible.specs.Inside.Bytes.{is_printable};
 
     ghost Value = { List ℕ };
 
@@ -54,7 +54,7 @@ fn is_printable(byte: u8) -> bool
 
 /// Whether a character cannot be seen although it is no blank: the controls, the soft hyphen, and
 /// marks that order or join what stands around them.
-pub(crate) fn is_invisible(c: char) -> bool {
+pub fn is_invisible(c: char) -> bool {
     c.is_control()
         || matches!(c, '\u{AD}' | '\u{200B}'..='\u{200F}' | '\u{2028}'..='\u{202E}')
         || matches!(c, '\u{2060}'..='\u{206F}' | '\u{FEFF}')
@@ -74,7 +74,7 @@ fn hex_digit(number: u8) -> u8
 impl Line {
     ghost use Rattle.std.specs.Prelude.{◌≡◌, ◌++◌, ◌∷◌, [], true, if◌then◌else◌, OnOk, IfOk};
     ghost use Rattle.std.specs.List.{list_all};
-    ghost use Rattle.pg_explain.specs.Inside.Bytes.{is_printable as is_printable_byte, width_of, caret_under};
+    ghost use Rattle.pg_visible.specs.Inside.Bytes.{is_printable as is_printable_byte, width_of, caret_under};
 
     /// A line of nothing.
     pub fn new(alloc: Global) -> Line
@@ -101,6 +101,16 @@ impl Line {
             .iter()
             .filter(|byte| **byte < 128 || 192 <= **byte)
             .count()
+    }
+
+    /// Its bytes and an LF.
+    pub fn whole(&self, alloc: Global) -> Result<Vec<u8>, AllocError>
+        ensures value { IfOk result (λ whole. whole.items ≡ self.now ++ 10 ∷ []) }
+        ensures printable { list_all is_printable_byte self.now ≡ true }
+    {
+        let mut whole = Vec::from_slice(alloc, &self.bytes)?;
+        whole.push(b'\n')?;
+        Ok(whole)
     }
 
     /// A line of a caret that stands under what follows `above`.
@@ -199,7 +209,7 @@ impl Line {
     /// Appends a piece.
     pub fn add(&mut self, part: &Part<'_>) -> Result<(), AllocError> {
         match part {
-            Part::Say(words) => self.show(words.as_bytes()),
+            Part::Say(words) => self.show(words),
             Part::Show(bytes) => self.show_front(bytes),
             Part::Hex(bytes) => self.push_hex(bytes),
             Part::Char(c) => self.push_char(*c),

@@ -1,11 +1,11 @@
--- The bytes of an explanation, and the columns that they take.
+-- The bytes of a text, and the columns that they take.
 use Rattle.std.specs.Prelude.{ℕ, Bool, not, ◌&&◌, ◌||◌, nat_eq, nat_lt, nat_le, List, [], ◌∷◌, ◌++◌, count_by, replicate}
 
 -- no control byte: what a terminal shows and does not obey
 abbrev pub is_printable : ℕ → Bool
 is_printable b = nat_le 32 b && not (nat_eq b 127)
 
--- a byte of an explanation: no control byte, or the line feed that ends a line
+-- a byte of a text: no control byte, or the line feed that ends a line
 abbrev pub is_text_byte : ℕ → Bool
 is_text_byte b = nat_eq b 10 || is_printable b
 

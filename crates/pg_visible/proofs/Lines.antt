@@ -5,9 +5,9 @@ use Rattle.std.proofs.lemmas.List.Folds.{list_all-append}
 use Rattle.std.proofs.lemmas.List.Sums.{sum_by-append}
 use Rattle.std.proofs.Math.Seq.{get_or-append_seam}
 use Rattle.std.proofs.lemmas.Grind.{common_steps}
-use Rattle.pg_explain.specs.declared.text.TheConstants.{LINES_MAX}
-use Rattle.pg_explain.specs.Inside.Bytes.{is_printable, is_text_byte, line_count}
-use Rattle.pg_explain.specs.Inside.Texts.{IsExplanation}
+use Rattle.pg_visible.specs.declared.text.TheConstants.{LINES_MAX}
+use Rattle.pg_visible.specs.Inside.Bytes.{is_printable, is_text_byte, line_count}
+use Rattle.pg_visible.specs.Inside.Texts.{IsVisibleText}
 
 -- printable bytes are bytes of a text
 pub text_bytes : (l : List ℕ) → list_all is_printable l ≡ true → list_all is_text_byte l ≡ true
@@ -24,7 +24,7 @@ pub count-append : (xs ys : List ℕ) → line_count (xs ++ ys) ≡ line_count x
 count-append xs ys = sum_by-append _ xs ys
 
 -- a text with a line behind it
-pub with_line : (t l : List ℕ) (n : ℕ) → IsExplanation t → line_count t ≡ n → n < LINES_MAX → list_all is_printable l ≡ true → IsExplanation (t ++ (l ++ 10 ∷ [])) × (line_count (t ++ (l ++ 10 ∷ [])) ≡ n + 1)
+pub with_line : (t l : List ℕ) (n : ℕ) → IsVisibleText t → line_count t ≡ n → n < LINES_MAX → list_all is_printable l ≡ true → IsVisibleText (t ++ (l ++ 10 ∷ [])) × (line_count (t ++ (l ++ 10 ∷ [])) ≡ n + 1)
 with_line t l n e counted few h =
     let count : line_count (t ++ (l ++ 10 ∷ [])) ≡ n + 1 = grind (arith, count-append t (l ++ 10 ∷ []), count-append l (10 ∷ []), no_line l h) in (
       record {

@@ -3,15 +3,16 @@ ghost use Rattle.std.specs.Prelude.{◌≡◌, ◌-◌, slice_get};
 ghost use Rattle.std.specs.Option.{option_copied};
 ghost use Rattle.pg_types.specs.Lines.{lines};
 
-use crate::chars::up_to;
 use pg_types::next_line;
 
-/// A place in a file: the numbers of its line and column, from 1, and its line without its end.
-/// Columns count bytes.
+/// A place in a file, with its line without its end. Columns count bytes.
 #[derive(Clone, Copy)]
-pub(crate) struct Spot<'a> {
+pub struct Spot<'a> {
+    /// The number of its line, from 1.
     pub line: usize,
+    /// The number of its column, from 1.
     pub column: usize,
+    /// Its line.
     pub text: &'a [u8],
 }
 
@@ -32,10 +33,15 @@ fn line_at(bytes: &[u8], line: usize) -> Option<&[u8]>
 }
 
 impl<'a> Spot<'a> {
-    ghost use Rattle.std.specs.Prelude.{◌≤◌, length};
+    ghost use Rattle.std.specs.Prelude.{◌≡◌, ◌-◌, [], length, min, drop, slice_get, unwrap_or};
+    ghost use Rattle.pg_types.specs.Lines.{lines};
 
-    /// The place in this line and column.
-    pub fn new(bytes: &'a [u8], line: usize, column: usize) -> Spot<'a> {
+    /// The place in this line and column. The line is empty where there are not so many.
+    pub fn new(bytes: &'a [u8], line: usize, column: usize) -> Spot<'a>
+        ensures line { result.line ≡ line }
+        ensures column { result.column ≡ column }
+        ensures text { result.text.now ≡ unwrap_or (slice_get (lines bytes.now) (line - 1)) [] }
+    {
         Spot {
             line,
             column,
@@ -43,27 +49,17 @@ impl<'a> Spot<'a> {
         }
     }
 
-    /// The place of the byte with this number, from 0.
-    pub fn of_byte(bytes: &'a [u8], at: usize) -> Spot<'a> {
-        let before = up_to(bytes, at);
-        let feeds = before.iter().filter(|byte| **byte == b'\n').count();
-        let since = before
-            .iter()
-            .rev()
-            .take_while(|byte| **byte != b'\n')
-            .count();
-        Spot::new(bytes, feeds.saturating_add(1), since.saturating_add(1))
-    }
-
     /// How many bytes of the line stand before the place.
     pub fn offset(&self) -> usize
-        ensures { result ≤ length self.now.text.now }
+        ensures { result ≡ min (self.now.column - 1) (length self.now.text.now) }
     {
         self.column.saturating_sub(1).min(self.text.len())
     }
 
     /// The rest of the line, from the place on.
-    pub fn rest(&self) -> &'a [u8] {
-        self.text.get(self.offset()..).unwrap_or(&[])
+    pub fn rest(&self) -> &'a [u8]
+        ensures { result.now ≡ drop (self.now.column - 1) self.now.text.now }
+    {
+        &self.text[self.offset()..]
     }
 }
