@@ -25,11 +25,9 @@ use Rattle.pg_patterns.specs.Values.{value_at}
 use Rattle.pg_select.proofs.LawsRaised.{counted_uncovered}
 use Rattle.pg_select.proofs.LawsTally.{is_counted_window}
 use Rattle.pg_driver.specs.declared.above_positions.Kept.{Kept}
-use Rattle.pg_driver.specs.declared.open_positions.OpenPosition.{OpenPosition}
 use Rattle.pg_driver.specs.declared.pass_windows.Place.{Place}
 use Rattle.pg_driver.specs.declared.pass_windows.TheConstants.{NOT_COUNTED}
 use Rattle.pg_driver.specs.Inside.Counting.{IsRead, counting, windows_after}
-use Rattle.pg_driver.specs.Inside.DotSets.{no_dots}
 use Rattle.pg_driver.specs.Inside.OpenLevels.{open_as}
 use Rattle.pg_driver.specs.Inside.OpenPositions.{counted_in}
 use Rattle.pg_driver.specs.Inside.PassWindows.{AreFates, ArePlaces, GetsNumber, HaveNumbers, IsNumbered, is_counted_at, uncovered_at}
@@ -45,7 +43,7 @@ window_counted ws counts pass P H w p good is =
 
 -- a position of a level that counts by its status has its number
 pub numbered_by : (pass : Pass) (P : Patterns) (H : Hopeless) (words : List Word) (ws : Windows) (w : Word) (word p n : ℕ) → slice_get words word ≡ Some w → is_some (counts_as pass.level (status_at P w p)) ≡ true
-    → GetsNumber (counted_at pass P H w p) ws (window w.signs p pass.len pass.dot) n → IsNumbered pass (uncovered_at pass P H) words ws (record { word = word; at = p; closed = no_dots }) n
+    → GetsNumber (counted_at pass P H w p) ws (window w.signs p pass.len pass.dot) n → IsNumbered pass (uncovered_at pass P H) words ws (record { word = word; at = p }) n
 numbered_by pass P H words ws w word p n at counts gets = record {
   counted = λ v to is. (
       let both : Some v ≡ Some w = sym to ∙ at in
@@ -114,7 +112,7 @@ place_noted pass P H words m n places more w word p number is numbered few at ge
         gets noted
 
 -- the numbers after a position
-pub number_noted : (pass : Pass) (P : Patterns) (H : Hopeless) (words : List Word) (m n : Meaning) (seen : List CountedPosition) (entries : List OpenPosition) (ns more : List ℕ) (w : Word) (word p number : ℕ)
+pub number_noted : (pass : Pass) (P : Patterns) (H : Hopeless) (words : List Word) (m n : Meaning) (seen : List CountedPosition) (entries : List Place) (ns more : List ℕ) (w : Word) (word p number : ℕ)
     → n ≡ counting m seen → slice_get words word ≡ Some w → GetsNumber (counted_at pass P H w p) n.windows (window w.signs p pass.len pass.dot) number
     → more ≡ cond (is_some (counts_above pass.level P w p)) (ns ++ number ∷ []) ns
     → HaveNumbers pass (uncovered_at pass P H) words m.windows entries ns
@@ -124,9 +122,9 @@ number_noted pass P H words m n seen entries ns more w word p number is at gets 
     (by (counts_above pass.level P w p) (above_counts pass.level (value_at P w.signs p) (counts_as pass.level (status_at P w p))))
   where
     by : (o : Option Bool) → (is_some o ≡ true → is_some (counts_as pass.level (status_at P w p)) ≡ true) → HaveNumbers pass (uncovered_at pass P H) words n.windows (entries ++ open_as word p o) (cond (is_some o) (ns ++ number ∷ []) ns)
-    by None counts = subst (λ (es : List OpenPosition). HaveNumbers pass (uncovered_at pass P H) words n.windows es ns) (sym (append-nil entries)) (still_have pass (uncovered_at pass P H) words m n seen entries ns is have)
+    by None counts = subst (λ (es : List Place). HaveNumbers pass (uncovered_at pass P H) words n.windows es ns) (sym (append-nil entries)) (still_have pass (uncovered_at pass P H) words m n seen entries ns is have)
     by (Some good) counts =
-        have_more pass (uncovered_at pass P H) words n.windows entries ns (record { word = word; at = p; closed = no_dots }) number
+        have_more pass (uncovered_at pass P H) words n.windows entries ns (record { word = word; at = p }) number
         (still_have pass (uncovered_at pass P H) words m n seen entries ns is have)
         (numbered_by pass P H words n.windows w word p number at (counts refl) gets)
 
@@ -141,7 +139,7 @@ covered_not_counted m words pass P H counts u are is =
     by true wrong = absurd (let clash : true ≡ false = wrong refl in cc)
     by false wrong = refl
 
-module _ (pass : Pass) (P : Patterns) (H : Hopeless) (words : List Word) (counts : Counts) (ws : Windows) (are : AreNumbered ws counts) (uncounted : (u : List ℕ) → covered pass.level P H u pass.dot ≡ true → is_counted counts u ≡ false) (e : OpenPosition) (n : ℕ) (is : IsNumbered pass (uncovered_at pass P H) words ws e n) where
+module _ (pass : Pass) (P : Patterns) (H : Hopeless) (words : List Word) (counts : Counts) (ws : Windows) (are : AreNumbered ws counts) (uncounted : (u : List ℕ) → covered pass.level P H u pass.dot ≡ true → is_counted counts u ≡ false) (e : Place) (n : ℕ) (is : IsNumbered pass (uncovered_at pass P H) words ws e n) where
   is_uncovered : (w : Word) (f c : Bool) → (f && is_counted counts (window w.signs e.at pass.len pass.dot)) ≡ true → (c ≡ true → is_counted counts (window w.signs e.at pass.len pass.dot) ≡ false) → (f && not c) ≡ true
   is_uncovered w false c have lack = absurd (let wrong : false ≡ true = have in cc)
   is_uncovered w true true have lack = absurd (let wrong : false ≡ true = sym (lack refl) ∙ have in cc)
@@ -161,7 +159,7 @@ module _ (pass : Pass) (P : Patterns) (H : Hopeless) (words : List Word) (counts
     uncounted = λ w at lack. not_counted w at lack (uncovered_at pass P H w e) refl;
   }
 
-pub numbered_as_counted : (m : Minima) (words : List Word) (pass : Pass) (P : Patterns) (H : Hopeless) (counts : Counts) (ws : Windows) (entries : List OpenPosition) (ns : List ℕ) → AreNumbered ws counts → counts ≡ fold with_position [] (counted_positions m words pass P H)
+pub numbered_as_counted : (m : Minima) (words : List Word) (pass : Pass) (P : Patterns) (H : Hopeless) (counts : Counts) (ws : Windows) (entries : List Place) (ns : List ℕ) → AreNumbered ws counts → counts ≡ fold with_position [] (counted_positions m words pass P H)
     → HaveNumbers pass (uncovered_at pass P H) words ws entries ns → HaveNumbers pass (is_counted_at pass counts) words ws entries ns
 numbered_as_counted m words pass P H counts ws entries ns are counted have = record {
   size = have.size;
@@ -170,7 +168,7 @@ numbered_as_counted m words pass P H counts ws entries ns are counted have = rec
 
 -- a listed position was chosen where its number says so
 pub chosen_by_number : (params : LevelParams) (counts : Counts) (ws : Windows) (fates : List Choice) → AreNumbered ws counts → AreFates params counts ws fates → length fates ≤ NOT_COUNTED
-    → (pass : Pass) (words : List Word) (e : OpenPosition) (n : ℕ) (w : Word) → slice_get words e.word ≡ Some w → IsNumbered pass (is_counted_at pass counts) words ws e n
+    → (pass : Pass) (words : List Word) (e : Place) (n : ℕ) (w : Word) → slice_get words e.word ≡ Some w → IsNumbered pass (is_counted_at pass counts) words ws e n
     → option_map_or is_chosen (slice_get fates n) false ≡ (fits w.signs e.at pass.len pass.dot && was_chosen params counts (window w.signs e.at pass.len pass.dot))
 chosen_by_number params counts ws fates are decided few pass words e n w at is = by (is_counted_at pass counts w e) refl
   where
@@ -199,13 +197,13 @@ chosen_by_number params counts ws fates are decided few pass words e n w at is =
 
 -- the weights with those of a position more
 module _ (params : LevelParams) (pass : Pass) (counts : Counts) (words : List Word) where
-  module _ (e : OpenPosition) (w : Word) (at : slice_get words e.word ≡ Some w) where
+  module _ (e : Place) (w : Word) (at : slice_get words e.word ≡ Some w) where
     abbrev here : CountedPosition
     here = record { window = window w.signs e.at pass.len pass.dot; good = is_good pass.level w e.at; weight = position_weight w e.at }
 
     one : (weigh : CountedPosition → ℕ) → sum_by weigh (flat_map (window_of pass words) (e ∷ [])) ≡ cond (fits w.signs e.at pass.len pass.dot) (weigh here) 0
     one weigh =
-        ap (λ (o : Option Word). sum_by weigh (option_map_or (λ (u : Word). counted_in pass.level pass.len pass.dot u e.at false) o [] ++ [])) at
+        ap (λ (o : Option Word). sum_by weigh (option_map_or (λ (u : Word). counted_in pass.level pass.len pass.dot u e.at) o [] ++ [])) at
         ∙ by (fits w.signs e.at pass.len pass.dot)
       where
         by : (f : Bool) → sum_by weigh (option_map_or (λ (good : Bool). record { window = window w.signs e.at pass.len pass.dot; good = good; weight = position_weight w e.at } ∷ []) (cond (f && true) (Some (is_good pass.level w e.at)) None) [] ++ []) ≡ cond f (weigh here) 0

@@ -85,9 +85,6 @@ numbers_append params s xs ys =
     (omega (arith, ap (λ (cs : List Candidate). sum_by (λ c. c.good) cs) chosen, sum_by-append (λ (c : Candidate). c.good) (chosen_of params xs) (chosen_of params ys)))
     (omega (arith, ap (λ (cs : List Candidate). sum_by (λ c. c.bad) cs) chosen, sum_by-append (λ (c : Candidate). c.bad) (chosen_of params xs) (chosen_of params ys)))
 
-pub numbers_none : (params : LevelParams) (s : Choices) → with_candidates params s [] ≡ s
-numbers_none params s = same_numbers _ _ _ _ _ _ _ _ _ _ (omega arith) (omega arith) (omega arith) (omega arith) (omega arith)
-
 -- what one candidate adds at most
 pub good_adds : (params : LevelParams) (s : Choices) (c : Candidate) → (with_candidates params s (c ∷ [])).good ≤ s.good + c.good
 good_adds params s c = elim (is_chosen (choice_of params c)) as (λ (b : Bool). s.good + sum_by (λ (c : Candidate). c.good) (cond b (c ∷ []) []) ≤ s.good + c.good) [ true ↦ omega arith | false ↦ omega arith ]

@@ -14,7 +14,6 @@ pub mod SkipLaw
 pub mod LevelSteps
 pub mod RunSteps
 pub mod ToldSteps
-pub mod DotBits
 pub mod OpenPositions
 pub mod OpenPlaces
 pub mod OpenSteps
@@ -30,5 +29,4 @@ pub mod AbovePositions
 pub mod WordLevels
 pub mod AboveNumbers
 pub mod ReadySteps
-mod DotRows
 pub mod NumberSteps

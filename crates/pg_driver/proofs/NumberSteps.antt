@@ -1,6 +1,6 @@
 -- Steps of a pass by the numbers of its windows.
-use Rattle.std.proofs.Common.{◌≡◌, ◌≢◌, ℕ, zero, suc, ◌+◌, ◌≤◌, ◌<◌, Bool, true, false, cond, nat_eq, ◌&&◌, T, List, [], ◌∷◌, ◌++◌, append-nil, filter, length, map, set, take, drop, get_or, slice_get, is_some, Option, Some, None, inl, inr, refl, sym, ap, subst, ◌∙◌, arith, length-append}
-use Rattle.std.specs.List.{All, list_all}
+use Rattle.std.proofs.Common.{◌≡◌, ◌≢◌, ℕ, zero, suc, ◌+◌, ◌≤◌, ◌<◌, Bool, true, false, cond, nat_eq, ◌&&◌, T, List, [], ◌∷◌, ◌++◌, filter, length, map, slice_get, is_some, Option, Some, None, inl, inr, refl, sym, ap, subst, ◌∙◌, arith, length-append}
+use Rattle.std.specs.List.{list_all}
 use Rattle.std.specs.Option.{option_map, option_map_or}
 use Rattle.std.specs.Ordering.{is_eq, eq_by_cmp, ordering_reverse}
 use Rattle.std.specs.declared.cmp.Ordering.TheVariants.{Less, Greater}
@@ -8,9 +8,8 @@ use Rattle.std.specs.Cmp.{tied_itself}
 use Rattle.std.specs.Cmp.Lexicographic.{nat_list_cmp_total}
 use Rattle.std.specs.FinMap.Entries.{find, is_sorted, below_all}
 use Rattle.std.proofs.lemmas.Bool.{and_from, le-leb, cases_Bool, cases_eq, cases_lt, eq-eqb, ne_eqb}
-use Rattle.std.proofs.lemmas.List.{drop_more, take_more}
-use Rattle.std.proofs.lemmas.List.Elements.{filter-append, All-head, All-tail}
-use Rattle.std.proofs.lemmas.Option.{get_or_from_slice_get, slice_get-get_or, slice_get_cases, slice_get_past, slice_get_within}
+use Rattle.std.proofs.lemmas.List.Elements.{All-head, All-tail}
+use Rattle.std.proofs.lemmas.Option.{slice_get_cases, slice_get_within}
 use Rattle.pg_types.proofs.BoolFacts.{first_half, second_half}
 use Rattle.pg_types.proofs.EntryLists.{below_get}
 use Rattle.pg_types.specs.declared.parameters.LevelParams.{LevelParams}
@@ -25,11 +24,7 @@ use Rattle.pg_select.specs.Statuses.{position_weight}
 use Rattle.pg_select.specs.Inside.LawsClosedDots.{is_good}
 use Rattle.pg_select.specs.Windows.{window, fits}
 use Rattle.pg_driver.specs.declared.pass_windows.Place.{Place}
-use Rattle.pg_driver.specs.declared.pass_windows.TheConstants.{NOT_COUNTED}
-use Rattle.pg_driver.specs.declared.open_positions.OpenPosition.{OpenPosition}
-use Rattle.pg_driver.specs.Inside.OpenLevels.{dots_after, closed_dots_after, position_after}
-use Rattle.pg_driver.specs.Inside.OpenPositions.{IsPlaced, with_closed}
-use Rattle.pg_driver.specs.Inside.PassWindows.{counts_at, is_open, ClosesAs, IsNumbered, HaveNumbers, AreFates, IsPlace, ArePlaces, IsPart}
+use Rattle.pg_driver.specs.Inside.PassWindows.{IsNumbered, HaveNumbers, AreFates, IsPlace, ArePlaces, IsPart}
 use Rattle.pg_select.specs.CountedPositions.{CountedPosition}
 use Rattle.pg_select.specs.Meanings.{Meaning, with_position}
 use Rattle.pg_driver.specs.Inside.Counting.{counting, windows_after}
@@ -51,21 +46,6 @@ module _ (params : LevelParams) (counts : Counts) (ws : Windows) (fates : List C
       by : (o : Option (ℕ × ℕ)) → counted_sums counts u ≡ o → option_map (λ sums. choice params sums.0 sums.1) (counted_sums counts u) ≡ slice_get fates n
       by None is = absurd (let wrong : false ≡ true = sym (ap is_some is) ∙ are.counted u n at in cc)
       by (Some sums) is = ap (option_map (λ sums. choice params sums.0 sums.1)) is ∙ sym (decided.each u n sums at is)
-
-  -- a position closes by the number of its window
-  pub closed_by_number : (pass : Pass) (words : List Word) (e : OpenPosition) (n : ℕ) → length fates ≤ NOT_COUNTED → IsPlaced words e → IsNumbered pass (counts_at pass) words ws e n
-      → with_closed e (dots_after e.closed pass.dot (slice_get fates n)) ≡ position_after params pass counts words e
-  closed_by_number pass words e n few placed numbered =
-      let w = word_there words e.word placed.word in
-      ap (with_closed e) (by w.0 w.1 (counts_at pass w.0 e) refl)
-      ∙ sym (ap (λ o. with_closed e (option_map_or (λ w. closed_dots_after params pass counts w e.at e.closed) o e.closed)) w.1)
-    where
-      by : (w : Word) → slice_get words e.word ≡ Some w → (b : Bool) → counts_at pass w e ≡ b
-          → dots_after e.closed pass.dot (slice_get fates n) ≡ cond b (dots_after e.closed pass.dot (option_map (λ sums. choice params sums.0 sums.1) (counted_sums counts (window w.signs e.at pass.len pass.dot)))) e.closed
-      by w at true is = ap (dots_after e.closed pass.dot) (sym (fate_there (window w.signs e.at pass.len pass.dot) n (numbered.counted w at is)))
-      by w at false is =
-          let none : slice_get fates n ≡ None = slice_get_past fates n (let e = numbered.uncounted w at is in omega arith) in
-          ap (dots_after e.closed pass.dot) none
 
 -- an entry is found at its window
 find_at : (es : Counts) (k : ℕ) (e : List ℕ × (ℕ × ℕ)) → T (is_sorted cmp es) → slice_get es k ≡ Some e → find cmp e.0 es ≡ Some e.1
@@ -154,7 +134,7 @@ pub number_stays : (ws : Windows) (counts : Counts) (seen : List CountedPosition
 number_stays ws counts [] v n at = at
 number_stays ws counts (s ∷ seen) v n at = number_stays (with_window ws counts s.window) (with_position counts s) seen v n (window_stays ws counts s.window v n at)
 
-pub still_numbered : (pass : Pass) (test : Word → OpenPosition → Bool) (words : List Word) (m n : Meaning) (seen : List CountedPosition) (e : OpenPosition) (k : ℕ) → n ≡ counting m seen → IsNumbered pass test words m.windows e k → IsNumbered pass test words n.windows e k
+pub still_numbered : (pass : Pass) (test : Word → Place → Bool) (words : List Word) (m n : Meaning) (seen : List CountedPosition) (e : Place) (k : ℕ) → n ≡ counting m seen → IsNumbered pass test words m.windows e k → IsNumbered pass test words n.windows e k
 still_numbered pass test words m n seen e k is numbered =
     let grown : n.windows ≡ windows_after m.windows m.counts seen = ap (λ (x : Meaning). x.windows) is in
     record {
@@ -165,7 +145,7 @@ still_numbered pass test words m n seen e k is numbered =
     }
 
 -- what one position adds to the windows
-pub window_in : (ws : Windows) (counts : Counts) (level len dot : ℕ) (w : Word) (p : ℕ) → fits w.signs p len dot ≡ true → windows_after ws counts (counted_in level len dot w p false) ≡ with_window ws counts (window w.signs p len dot)
+pub window_in : (ws : Windows) (counts : Counts) (level len dot : ℕ) (w : Word) (p : ℕ) → fits w.signs p len dot ≡ true → windows_after ws counts (counted_in level len dot w p) ≡ with_window ws counts (window w.signs p len dot)
 window_in ws counts level len dot w p fit = by (fits w.signs p len dot) fit
   where
     by : (b : Bool) → b ≡ true → windows_after ws counts (option_map_or (λ good. record { window = window w.signs p len dot; good = good; weight = position_weight w p } ∷ []) (cond (b && true) (Some (is_good level w p)) None) []) ≡ with_window ws counts (window w.signs p len dot)
@@ -211,19 +191,6 @@ place_more pass words ws after counts now places more place w n are numbered the
           ];
         })
 
--- an element that passes a test is where as many pass before it
-pub filter_at : {X : Type 0} (test : X → Bool) (xs : List X) (k : ℕ) (x : X) → slice_get xs k ≡ Some x → test x ≡ true → slice_get (filter test xs) (length (filter test (take k xs))) ≡ Some x
-filter_at test [] k x at is = absurd (let none : None ≡ Some x = at in cc)
-filter_at {X} test (y ∷ xs) zero x at is =
-    let same : y ≡ x = (let both : Some y ≡ Some x = at in cc) in
-    let passes : test y ≡ true = ap test same ∙ is in
-    ap (λ (b : Bool). slice_get (cond b (y ∷ filter test xs) (filter test xs)) 0) passes ∙ at
-filter_at {X} test (y ∷ xs) (suc k) x at is = by (test y) (filter_at test xs k x at is)
-  where
-    by : (b : Bool) → slice_get (filter test xs) (length (filter test (take k xs))) ≡ Some x → slice_get (cond b (y ∷ filter test xs) (filter test xs)) (length (cond b (y ∷ filter test (take k xs)) (filter test (take k xs)))) ≡ Some x
-    by true there = there
-    by false there = there
-
 -- the elements of all that pass are among all
 pub filter_from : {X : Type 0} (test : X → Bool) (P : X → Type 0) (xs : List X) → ((k : ℕ) (x : X) → slice_get xs k ≡ Some x → P x) → (k : ℕ) (x : X) → slice_get (filter test xs) k ≡ Some x → (P x) × (test x ≡ true)
 filter_from test P [] all k x at = absurd (let none : None ≡ Some x = at in cc)
@@ -234,36 +201,15 @@ filter_from {X} test P (y ∷ xs) all k x at = by (test y) refl (λ j there. fil
     by true is later (suc k) at = later k at
     by false is later k at = later k at
 
--- positions close by the numbers of their windows
-pub closes_by_number : (params : LevelParams) (counts : Counts) (ws : Windows) (fates : List Choice) (pass : Pass) (words : List Word) (entries : List OpenPosition) (ns : List ℕ) → AreNumbered ws counts → AreFates params counts ws fates → length fates ≤ NOT_COUNTED → All (IsPlaced words) entries
-    → HaveNumbers pass (counts_at pass) words ws (filter (is_open pass.dot) entries) ns → ClosesAs (position_after params pass counts words) pass.dot fates entries ns
-closes_by_number params counts ws fates pass words entries ns are decided few placed have = record {
-  stays = λ e shut.
-      ap (with_closed e) (by e (slice_get words e.word) shut);
-  closes = λ k e n at to.
-      closed_by_number params counts ws fates are decided pass words e n few
-      (filter_from (is_open pass.dot) (IsPlaced words) entries (λ j x there. subst (IsPlaced words) (get_or_from_slice_get entries j x x there) (placed j x (slice_get_within entries j x there))) k e at).0
-      (have.each k e n at to);
-}
-  where
-    one : (e : OpenPosition) (w : Word) (f b : Bool) → b ≡ false → cond (f && b) (dots_after e.closed pass.dot (option_map (λ sums. choice params sums.0 sums.1) (counted_sums counts (window w.signs e.at pass.len pass.dot)))) e.closed ≡ e.closed
-    one e w f true is = absurd (let clash : true ≡ false = is in cc)
-    one e w false false is = refl
-    one e w true false is = refl
-
-    by : (e : OpenPosition) (o : Option Word) → is_open pass.dot e ≡ false → option_map_or (λ (w : Word). closed_dots_after params pass counts w e.at e.closed) o e.closed ≡ e.closed
-    by e None shut = refl
-    by e (Some w) shut = one e w (fits w.signs e.at pass.len pass.dot) (is_open pass.dot e) shut
-
 -- positions keep their numbers while more is counted
-pub still_have : (pass : Pass) (test : Word → OpenPosition → Bool) (words : List Word) (m n : Meaning) (seen : List CountedPosition) (entries : List OpenPosition) (ns : List ℕ) → n ≡ counting m seen → HaveNumbers pass test words m.windows entries ns → HaveNumbers pass test words n.windows entries ns
+pub still_have : (pass : Pass) (test : Word → Place → Bool) (words : List Word) (m n : Meaning) (seen : List CountedPosition) (entries : List Place) (ns : List ℕ) → n ≡ counting m seen → HaveNumbers pass test words m.windows entries ns → HaveNumbers pass test words n.windows entries ns
 still_have pass test words m n seen entries ns is have = record {
   size = have.size;
   each = λ k e x at to. still_numbered pass test words m n seen e x is (have.each k e x at to);
 }
 
 -- a position more
-pub have_more : (pass : Pass) (test : Word → OpenPosition → Bool) (words : List Word) (ws : Windows) (entries : List OpenPosition) (ns : List ℕ) (e : OpenPosition) (n : ℕ) → HaveNumbers pass test words ws entries ns → IsNumbered pass test words ws e n → HaveNumbers pass test words ws (entries ++ e ∷ []) (ns ++ n ∷ [])
+pub have_more : (pass : Pass) (test : Word → Place → Bool) (words : List Word) (ws : Windows) (entries : List Place) (ns : List ℕ) (e : Place) (n : ℕ) → HaveNumbers pass test words ws entries ns → IsNumbered pass test words ws e n → HaveNumbers pass test words ws (entries ++ e ∷ []) (ns ++ n ∷ [])
 have_more pass test words ws entries ns e n have numbered = record {
   size = (let size = have.size in omega (arith, length-append entries (e ∷ []), length-append ns (n ∷ [])));
   each = λ k x y at to. elim (cases_lt k (length ns)) [
@@ -271,61 +217,6 @@ have_more pass test words ws entries ns e n have numbered = record {
     | inr le ↦
         let entry = get_last entries e k x at (λ lt. (let size = have.size in omega arith)) in
         let number = get_last ns n k y to (λ lt. omega arith) in
-        subst (λ (z : OpenPosition). IsNumbered pass test words ws z y) (sym entry.0) (subst (IsNumbered pass test words ws e) (sym number.0) numbered)
+        subst (λ (z : Place). IsNumbered pass test words ws z y) (sym entry.0) (subst (IsNumbered pass test words ws e) (sym number.0) numbered)
   ];
 }
-
--- the numbers after a position at which the dot of the pass is closed, and after one at which it is open
-pub shut_more : (pass : Pass) (words : List Word) (ws : Windows) (entries : List OpenPosition) (ns : List ℕ) (e : OpenPosition) → is_open pass.dot e ≡ false → HaveNumbers pass (counts_at pass) words ws entries ns → HaveNumbers pass (counts_at pass) words ws (entries ++ filter (is_open pass.dot) (e ∷ [])) ns
-shut_more pass words ws entries ns e shut have =
-    subst (λ (es : List OpenPosition). HaveNumbers pass (counts_at pass) words ws es ns) (sym (ap (λ (b : Bool). entries ++ cond b (e ∷ []) []) shut ∙ append-nil entries)) have
-
-pub open_more : (pass : Pass) (words : List Word) (m n : Meaning) (seen : List CountedPosition) (entries : List OpenPosition) (ns more : List ℕ) (e : OpenPosition) (k : ℕ) → n ≡ counting m seen → is_open pass.dot e ≡ true → more ≡ ns ++ k ∷ [] → IsNumbered pass (counts_at pass) words n.windows e k → HaveNumbers pass (counts_at pass) words m.windows entries ns
-    → HaveNumbers pass (counts_at pass) words n.windows (entries ++ filter (is_open pass.dot) (e ∷ [])) more
-open_more pass words m n seen entries ns more e k is free noted numbered have =
-    subst (λ (es : List OpenPosition). HaveNumbers pass (counts_at pass) words n.windows es more) (sym (ap (λ (b : Bool). entries ++ cond b (e ∷ []) []) free))
-    (subst (HaveNumbers pass (counts_at pass) words n.windows (entries ++ e ∷ [])) (sym noted)
-    (have_more pass (counts_at pass) words n.windows entries ns e k (still_have pass (counts_at pass) words m n seen entries ns is have) numbered))
-
--- what is left of a list whose front was changed in place
-pub drop_set : {X : Type 0} (xs : List X) (k : ℕ) (x : X) → drop (k + 1) (set xs k x) ≡ drop (k + 1) xs
-drop_set {X} xs k x = (let next : k + 1 ≡ suc k = omega arith in ap (λ n. drop n (set xs k x)) next ∙ by xs k ∙ ap (λ n. drop n xs) (sym next))
-  where
-    by : (xs : List X) (k : ℕ) → drop (suc k) (set xs k x) ≡ drop (suc k) xs
-    by [] k = refl
-    by (y ∷ xs) zero = refl
-    by (y ∷ xs) (suc k) = by xs k
-
-pub same_rest : {X : Type 0} (cur old : List X) (k : ℕ) (d : X) → k < length cur → k < length old → drop k cur ≡ drop k old → (get_or cur k d ≡ get_or old k d) × (drop (k + 1) cur ≡ drop (k + 1) old)
-same_rest cur old k d a b is =
-    let both : get_or cur k d ∷ drop (k + 1) cur ≡ get_or old k d ∷ drop (k + 1) old = sym (drop_more cur k d a) ∙ is ∙ drop_more old k d b in
-    (let h : get_or cur k d ≡ get_or old k d = cc in h, let t : drop (k + 1) cur ≡ drop (k + 1) old = cc in t)
-
--- an element that stays as it is
-pub stays_step : {X : Type 0} (f : X → X) (old : List X) (k : ℕ) (d : X) → k < length old → f (get_or old k d) ≡ get_or old k d → map f (take k old) ++ drop k old ≡ map f (take (k + 1) old) ++ drop (k + 1) old
-stays_step {X} f old k d within is = (let next : suc k ≡ k + 1 = omega arith in by old k within is ∙ ap (λ n. map f (take n old) ++ drop n old) next)
-  where
-    by : (old : List X) (k : ℕ) → k < length old → f (get_or old k d) ≡ get_or old k d → map f (take k old) ++ drop k old ≡ map f (take (suc k) old) ++ drop (suc k) old
-    by [] k within is = absurd (omega arith)
-    by (x ∷ xs) zero within is = ap (λ y. y ∷ xs) (sym is)
-    by (x ∷ xs) (suc k) within is = ap (λ ys. f x ∷ ys) (by xs k (omega arith) is)
-
--- how many elements pass a test, with one more
-pub next_open : {X : Type 0} (test : X → Bool) (xs : List X) (k : ℕ) (d : X) → k < length xs → (b : Bool) → test (get_or xs k d) ≡ b → length (filter test (take (k + 1) xs)) ≡ length (filter test (take k xs)) + cond b 1 0
-next_open {X} test xs k d within b is =
-    ap (λ (ys : List X). length (filter test ys)) (take_more xs k d within)
-    ∙ ap (λ (ys : List X). length ys) (filter-append test (take k xs) (get_or xs k d ∷ []))
-    ∙ length-append (filter test (take k xs)) (filter test (get_or xs k d ∷ []))
-    ∙ ap (λ (n : ℕ). length (filter test (take k xs)) + n) (ap (λ (c : Bool). length (cond c (get_or xs k d ∷ []) [])) is ∙ by b)
-  where
-    by : (b : Bool) → length (cond b (get_or xs k d ∷ []) []) ≡ cond b 1 0
-    by true = refl
-    by false = refl
-
--- the next number is there, where the dot is open
-pub next_within : (dot : ℕ) (old cur : List OpenPosition) (k next : ℕ) (d : OpenPosition) → k < length old → k < length cur → drop k cur ≡ drop k old → next ≡ length (filter (is_open dot) (take k old)) → is_open dot (get_or cur k d) ≡ true → next < length (filter (is_open dot) old)
-next_within dot old cur k next d within inside rest is free =
-    let same = same_rest cur old k d inside within rest in
-    let at : slice_get old k ≡ Some (get_or cur k d) = slice_get-get_or old k d within ∙ ap Some (sym same.0) in
-    let bound = slice_get_within (filter (is_open dot) old) (length (filter (is_open dot) (take k old))) (get_or cur k d) (filter_at (is_open dot) old k (get_or cur k d) at free) in
-    omega (arith, is, bound)

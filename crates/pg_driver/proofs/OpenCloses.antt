@@ -1,25 +1,23 @@
 -- Dots close at the open signs by the numbers of their windows.
-use Rattle.std.proofs.Common.{◌≡◌, ℕ, zero, suc, ◌+◌, ◌-◌, ◌≤◌, ◌<◌, Bool, true, false, cond, not, ◌&&◌, ◌||◌, nat_eq, List, [], ◌∷◌, filter, length, map, slice_get, is_some, Option, Some, None, inl, inr, refl, sym, ap, subst, ◌∙◌, arith}
+use Rattle.std.proofs.Common.{◌≡◌, ℕ, zero, suc, ◌+◌, ◌-◌, ◌≤◌, ◌<◌, Bool, true, false, cond, not, ◌||◌, nat_eq, List, [], ◌∷◌, length, map, slice_get, is_some, Option, Some, None, inl, inr, refl, sym, ap, subst, ◌∙◌, arith}
 use Rattle.std.specs.List.{range_with_len}
 use Rattle.std.specs.Option.{option_map_or}
 use Rattle.std.proofs.lemmas.Bool.{cases_Bool, not-true}
 use Rattle.std.proofs.lemmas.Option.{slice_get_past, slice_get_within}
 use Rattle.std.proofs.lemmas.List.FromFn.{length-range_with_len}
 use Rattle.pg_types.specs.declared.parameters.LevelParams.{LevelParams}
-use Rattle.pg_types.specs.Counts.{Counts, counted_sums, is_counted}
+use Rattle.pg_types.specs.Counts.{Counts, counted_sums}
 use Rattle.pg_types.specs.Numbered.{Windows, HasNumber, AreNumbered}
 use Rattle.pg_dict.specs.Word.{Word}
 use Rattle.pg_select.specs.declared.choice.Choice.{Choice}
 use Rattle.pg_select.specs.declared.pass.Pass.{Pass}
 use Rattle.pg_select.specs.Choices.{choice}
 use Rattle.pg_select.specs.Windows.{window, fits}
-use Rattle.pg_driver.specs.declared.open_positions.OpenPosition.{OpenPosition}
+use Rattle.pg_driver.specs.declared.pass_windows.Place.{Place}
 use Rattle.pg_driver.specs.declared.pass_windows.TheConstants.{NOT_COUNTED}
-use Rattle.pg_driver.specs.Inside.DotSets.{has_dot, no_dots}
-use Rattle.pg_driver.specs.Inside.OpenSigns.{ClosesBy, closed_after, closed_by, closed_in, open_places, open_signs, place_from, sign_count, start_of}
+use Rattle.pg_driver.specs.Inside.OpenSigns.{ClosesBy, closed_after, closed_by, closed_in, open_places, open_signs, place_from, sign_count}
 use Rattle.pg_driver.specs.Inside.PassWindows.{AreFates, HaveNumbers, IsNumbered, counts_at}
 use Rattle.pg_driver.proofs.NumberSteps.{filter_from}
-use Rattle.pg_driver.proofs.OpenLevels.{none_in}
 use Rattle.pg_driver.proofs.OpenSigns.{IsSignOf, place_at, range_get, sign_of}
 
 get_map : {X Y : Type 0} (f : X → Y) (xs : List X) (k : ℕ) (x : X) → slice_get xs k ≡ Some x → slice_get (map f xs) k ≡ Some (f x)
@@ -42,18 +40,16 @@ is_open_sign closed end k s at =
 
 module _ (params : LevelParams) (counts : Counts) (ws : Windows) (fates : List Choice) (are : AreNumbered ws counts) (decided : AreFates params counts ws fates) (few : length fates ≤ NOT_COUNTED) (pass : Pass) (words : List Word) (old : ℕ → ℕ → Bool) where
   -- at a position of a word
-  closes_at : (n p s number : ℕ) (w : Word) → slice_get words n ≡ Some w → old pass.dot s ≡ false → IsNumbered pass (counts_at pass) words ws (record { word = n; at = p; closed = no_dots }) number → (d : ℕ)
+  closes_at : (n p s number : ℕ) (w : Word) → slice_get words n ≡ Some w → old pass.dot s ≡ false → IsNumbered pass (counts_at pass) words ws (record { word = n; at = p }) number → (d : ℕ)
       → closed_by (λ c. old c s) pass.dot (slice_get fates number) d ≡ closed_in params pass counts w p (λ c. old c s) d
   closes_at n p s number w at free numbered d = elim (cases_Bool (fits w.signs p pass.len pass.dot)) [
     | inl fit ↦
-        let counts_here : (fits w.signs p pass.len pass.dot && not (has_dot no_dots pass.dot)) ≡ true = (λ i. fit i && not (none_in pass.dot i)) in
-        let has : HasNumber ws (window w.signs p pass.len pass.dot) number = numbered.counted w at counts_here in
+        let has : HasNumber ws (window w.signs p pass.len pass.dot) number = numbered.counted w at fit in
         by_sums (counted_sums counts (window w.signs p pass.len pass.dot)) refl has
         ∙ sym (ap (λ b. cond b (old d s) (cond (fits w.signs p pass.len pass.dot) (fitting (counted_sums counts (window w.signs p pass.len pass.dot))) (old d s || nat_eq d pass.dot))) free
         ∙ ap (λ b. cond b (fitting (counted_sums counts (window w.signs p pass.len pass.dot))) (old d s || nat_eq d pass.dot)) fit)
     | inr other ↦
-        let counts_not : (fits w.signs p pass.len pass.dot && not (has_dot no_dots pass.dot)) ≡ false = ap (λ b. b && not (has_dot no_dots pass.dot)) other in
-        let none : slice_get fates number ≡ None = slice_get_past fates number (let e = numbered.uncounted w at counts_not in omega arith) in
+        let none : slice_get fates number ≡ None = slice_get_past fates number (let e = numbered.uncounted w at other in omega arith) in
         ap (λ (o : Option Choice). closed_by (λ c. old c s) pass.dot o d) none
         ∙ sym (ap (λ b. cond b (old d s) (cond (fits w.signs p pass.len pass.dot) (fitting (counted_sums counts (window w.signs p pass.len pass.dot))) (old d s || nat_eq d pass.dot))) free
         ∙ ap (λ b. cond b (fitting (counted_sums counts (window w.signs p pass.len pass.dot))) (old d s || nat_eq d pass.dot)) other)
@@ -85,9 +81,9 @@ module _ (params : LevelParams) (counts : Counts) (ws : Windows) (fates : List C
       closes_sign : (k s n : ℕ) → slice_get (open_signs (old pass.dot) 0 (sign_count words)) k ≡ Some s → slice_get ns k ≡ Some n → (d : ℕ) → IsSignOf words s → old pass.dot s ≡ false
           → closed_by (λ c. old c s) pass.dot (slice_get fates n) d ≡ closed_after params pass counts words old d s
       closes_sign k s n at to d of free =
-          let place : place_from 0 words s ≡ record { word = of.number; at = of.at; closed = no_dots } =
-          ap (place_from 0 words) (sym of.is) ∙ place_at 0 words of.number of.at of.word of.there of.within ∙ (let z : 0 + of.number ≡ of.number = omega arith in ap (λ (m : ℕ). record { word = m; at = of.at; closed = no_dots }) z) in
-          let numbered = subst (λ (e : OpenPosition). IsNumbered pass (counts_at pass) words ws e n) place (have.each k (place_from 0 words s) n (get_map (place_from 0 words) (open_signs (old pass.dot) 0 (sign_count words)) k s at) to) in
+          let place : place_from 0 words s ≡ record { word = of.number; at = of.at } =
+          ap (place_from 0 words) (sym of.is) ∙ place_at 0 words of.number of.at of.word of.there of.within ∙ (let z : 0 + of.number ≡ of.number = omega arith in ap (λ (m : ℕ). record { word = m; at = of.at }) z) in
+          let numbered = subst (λ (e : Place). IsNumbered pass (counts_at pass) words ws e n) place (have.each k (place_from 0 words s) n (get_map (place_from 0 words) (open_signs (old pass.dot) 0 (sign_count words)) k s at) to) in
           closes_at of.number of.at s n of.word of.there free numbered d
-          ∙ sym (ap (λ (e : OpenPosition). option_map_or (λ (w : Word). closed_in params pass counts w e.at (λ c. old c s) d) (slice_get words e.word) (old d s)) place
+          ∙ sym (ap (λ (e : Place). option_map_or (λ (w : Word). closed_in params pass counts w e.at (λ c. old c s) d) (slice_get words e.word) (old d s)) place
           ∙ ap (λ (o : Option Word). option_map_or (λ (w : Word). closed_in params pass counts w of.at (λ c. old c s) d) o (old d s)) of.there)

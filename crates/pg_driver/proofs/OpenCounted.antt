@@ -1,28 +1,25 @@
 -- What a pass counts at the signs at which its dot is open is what it counts.
-use Rattle.std.proofs.Common.{◌≡◌, ℕ, zero, suc, ◌+◌, ◌-◌, ◌≤◌, ◌<◌, nat_lt, nat_le, nat_eq, Bool, true, false, cond, not, ◌&&◌, ◌||◌, List, [], ◌∷◌, ◌++◌, append-nil, filter, length, map, slice_get, Option, Some, None, inl, inr, refl, sym, ap, subst, ◌∙◌, arith, length-append}
+use Rattle.std.proofs.Common.{◌≡◌, ℕ, zero, suc, ◌+◌, ◌-◌, ◌≤◌, ◌<◌, nat_le, nat_eq, Bool, true, false, cond, not, ◌&&◌, ◌||◌, List, [], ◌∷◌, ◌++◌, append-nil, filter, length, map, slice_get, Option, Some, None, inl, inr, refl, sym, ap, subst, ◌∙◌, arith, length-append}
 use Rattle.std.proofs.lemmas.List.{map-append}
 use Rattle.std.specs.List.{flat_map, list_any, range_with_len, sum_by}
 use Rattle.std.specs.Option.{option_map_or}
-use Rattle.std.proofs.lemmas.Bool.{cases_Bool, cases_eq, cases_lt, eq-eqb, ne_eqb, lt-ltb, le-ltb, leb-true}
+use Rattle.std.proofs.lemmas.Bool.{cases_Bool, cases_eq, eq-eqb, ne_eqb, lt-ltb, le-ltb, leb-true}
 use Rattle.std.proofs.lemmas.List.Concat.{flat_map-append}
 use Rattle.std.proofs.lemmas.List.Elements.{filter-append}
 use Rattle.std.proofs.lemmas.List.Sums.{sum_by-cons}
 use Rattle.pg_types.specs.declared.limits.TheConstants.{LENGTH_MAX}
 use Rattle.pg_translate.specs.Reach.{positions}
-use Rattle.pg_dict.specs.Inside.Store.{all_signs}
 use Rattle.pg_dict.specs.Word.{Word, letter_count}
 use Rattle.pg_select.specs.Inside.Laws.{positions_in}
-use Rattle.pg_select.specs.Inside.LawsClosedDots.{counted_with, is_good, pass_at, Tells}
+use Rattle.pg_select.specs.Inside.LawsClosedDots.{counted_with, is_good, pass_at}
 use Rattle.pg_select.specs.CountedPositions.{Minima, CountedPosition, counted_positions_at, counted_positions_in, counted_positions}
 use Rattle.pg_select.specs.Statuses.{position_weight}
 use Rattle.pg_select.specs.Windows.{Patterns, Hopeless, window, fits}
 use Rattle.pg_select.proofs.LawsSums.{positions_within}
 use Rattle.pg_select.proofs.LawsTally.{counted_as}
-use Rattle.pg_driver.specs.declared.open_positions.OpenPosition.{OpenPosition}
-use Rattle.pg_driver.specs.Inside.DotSets.{has_dot, no_dots}
+use Rattle.pg_driver.specs.declared.pass_windows.Place.{Place}
 use Rattle.pg_driver.specs.Inside.OpenPositions.{counted_in, counted_of}
 use Rattle.pg_driver.specs.Inside.OpenSigns.{IsThere, IsTold, in_reach, open_places, open_signs, place_from, sign_count, start_of}
-use Rattle.pg_driver.proofs.OpenLevels.{none_in}
 use Rattle.pg_driver.proofs.OpenSigns.{range_append, signs_cons}
 
 -- the same parts give the same whole
@@ -88,7 +85,7 @@ split f g false p xs = refl
 module _ (level len dot : ℕ) (m : Minima) (words : List Word) (P : Patterns) (H : Hopeless) (closed : ℕ → Bool) (dots : ℕ → ℕ → Bool) (is : (s : ℕ) → dots dot s ≡ closed s) (short : len ≤ LENGTH_MAX) (within : dot ≤ len) where
   -- a position
   counted_one : (n p : ℕ) (w : Word) (c : ℕ → Bool) → slice_get words n ≡ Some w → IsTold level len m P H w p c
-      → cond (in_reach m w p) (counted_positions_at (pass_at level len dot) P H w p) [] ≡ flat_map (counted_of level len dot words) (map (λ (q : ℕ). record { word = n; at = q; closed = no_dots }) (cond (not (c dot)) (p ∷ []) []))
+      → cond (in_reach m w p) (counted_positions_at (pass_at level len dot) P H w p) [] ≡ flat_map (counted_of level len dot words) (map (λ (q : ℕ). record { word = n; at = q }) (cond (not (c dot)) (p ∷ []) []))
   counted_one n p w c at told = elim (cases_Bool (in_reach m w p)) [
     | inl reach ↦
         ap (λ b. cond b (counted_positions_at (pass_at level len dot) P H w p) []) reach
@@ -96,19 +93,18 @@ module _ (level len dot : ℕ) (m : Minima) (words : List Word) (P : Patterns) (
         ∙ by (c dot)
     | inr other ↦
         ap (λ b. cond b (counted_positions_at (pass_at level len dot) P H w p) []) other
-        ∙ ap (λ b. flat_map (counted_of level len dot words) (map (λ (q : ℕ). record { word = n; at = q; closed = no_dots }) (cond (not b) (p ∷ []) []))) (sym (told.outside other dot (omega arith)))
+        ∙ ap (λ b. flat_map (counted_of level len dot words) (map (λ (q : ℕ). record { word = n; at = q }) (cond (not b) (p ∷ []) []))) (sym (told.outside other dot (omega arith)))
   ]
     where
       nothing : (f : Bool) → counted_as (window w.signs p len dot) (position_weight w p) (cond (f && false) (Some (is_good level w p)) None) ≡ []
       nothing true = refl
       nothing false = refl
 
-      by : (b : Bool) → counted_as (window w.signs p len dot) (position_weight w p) (counted_with level w p len dot b) ≡ flat_map (counted_of level len dot words) (map (λ (q : ℕ). record { word = n; at = q; closed = no_dots }) (cond (not b) (p ∷ []) []))
+      by : (b : Bool) → counted_as (window w.signs p len dot) (position_weight w p) (counted_with level w p len dot b) ≡ flat_map (counted_of level len dot words) (map (λ (q : ℕ). record { word = n; at = q }) (cond (not b) (p ∷ []) []))
       by true = nothing (fits w.signs p len dot)
       by false =
-          ap (λ (b : Bool). counted_in level len dot w p b) (sym (none_in dot))
-          ∙ ap (λ (o : Option Word). option_map_or (λ (u : Word). counted_in level len dot u p (has_dot no_dots dot)) o []) (sym at)
-          ∙ sym (append-nil (counted_of level len dot words (record { word = n; at = p; closed = no_dots })))
+          ap (λ (o : Option Word). option_map_or (λ (u : Word). counted_in level len dot u p) o []) (sym at)
+          ∙ sym (append-nil (counted_of level len dot words (record { word = n; at = p })))
 
   -- the positions of a word
   counted_word : (n start : ℕ) (w : Word) (ws : List Word) → slice_get words n ≡ Some w → ((p : ℕ) → p < length w.signs → IsTold level len m P H w p (λ d. dots d (start + p))) → (a k : ℕ) → a + k ≤ length w.signs
@@ -116,15 +112,15 @@ module _ (level len dot : ℕ) (m : Minima) (words : List Word) (P : Patterns) (
   counted_word n start w ws at told a zero inside = refl
   counted_word n start w ws at told a (suc k) inside =
       (λ i. counted_one n a w (λ d. dots d (start + a)) at (told a (omega arith)) i ++ counted_word n start w ws at told (a + 1) k (omega arith) i)
-      ∙ ap (λ b. flat_map (counted_of level len dot words) (map (λ (q : ℕ). record { word = n; at = q; closed = no_dots }) (cond (not b) (a ∷ []) [])) ++ rest) (is (start + a))
+      ∙ ap (λ b. flat_map (counted_of level len dot words) (map (λ (q : ℕ). record { word = n; at = q }) (cond (not b) (a ∷ []) [])) ++ rest) (is (start + a))
       ∙ ap (λ (ys : List CountedPosition). ys ++ rest) (places (not (closed (start + a))))
       ∙ sym (split (counted_of level len dot words) (place_from n (w ∷ ws)) (not (closed (start + a))) a (filter (λ s. not (closed (start + s))) (range_with_len (a + 1) k)))
     where
       rest : List CountedPosition
       rest = flat_map (counted_of level len dot words) (map (place_from n (w ∷ ws)) (filter (λ s. not (closed (start + s))) (range_with_len (a + 1) k)))
 
-      places : (b : Bool) → flat_map (counted_of level len dot words) (map (λ (q : ℕ). record { word = n; at = q; closed = no_dots }) (cond b (a ∷ []) [])) ≡ flat_map (counted_of level len dot words) (map (place_from n (w ∷ ws)) (cond b (a ∷ []) []))
-      places true = ap (λ (e : OpenPosition). counted_of level len dot words e ++ []) (sym (ap (λ b. cond b (record { word = n; at = a; closed = no_dots }) (place_from (n + 1) ws (a - length w.signs))) (lt-ltb a (length w.signs) (omega arith))))
+      places : (b : Bool) → flat_map (counted_of level len dot words) (map (λ (q : ℕ). record { word = n; at = q }) (cond b (a ∷ []) [])) ≡ flat_map (counted_of level len dot words) (map (place_from n (w ∷ ws)) (cond b (a ∷ []) []))
+      places true = ap (λ (e : Place). counted_of level len dot words e ++ []) (sym (ap (λ b. cond b (record { word = n; at = a }) (place_from (n + 1) ws (a - length w.signs))) (lt-ltb a (length w.signs) (omega arith))))
       places false = refl
 
   -- the signs behind a word
@@ -141,7 +137,7 @@ module _ (level len dot : ℕ) (m : Minima) (words : List Word) (P : Patterns) (
 
       place : place_from n (w ∷ ws) (length w.signs + a) ≡ place_from (n + 1) ws a
       place =
-          ap (λ b. cond b (record { word = n; at = length w.signs + a; closed = no_dots }) (place_from (n + 1) ws (length w.signs + a - length w.signs))) (le-ltb (length w.signs + a) (length w.signs) (omega arith))
+          ap (λ b. cond b (record { word = n; at = length w.signs + a }) (place_from (n + 1) ws (length w.signs + a - length w.signs))) (le-ltb (length w.signs + a) (length w.signs) (omega arith))
           ∙ ap (place_from (n + 1) ws) back
 
       by : (b : Bool) → map (place_from n (w ∷ ws)) (filter (λ s. not (closed (start + s))) (range_with_len (length w.signs + a + 1) k)) ≡ map (place_from (n + 1) ws) (filter (λ s. not (closed (start + length w.signs + s))) (range_with_len (a + 1) k))
@@ -155,8 +151,8 @@ module _ (level len dot : ℕ) (m : Minima) (words : List Word) (P : Patterns) (
   counted_words n start [] place told = refl
   counted_words n start (w ∷ ws) place told =
       let size = length w.signs in
-      let f : OpenPosition → List CountedPosition = counted_of level len dot words in
-      let g : ℕ → OpenPosition = place_from n (w ∷ ws) in
+      let f : Place → List CountedPosition = counted_of level len dot words in
+      let g : ℕ → Place = place_from n (w ∷ ws) in
       let test : ℕ → Bool = λ s. not (closed (start + s)) in
       let here : slice_get words n ≡ Some w = ap (slice_get words) (let z : n ≡ n + 0 = omega arith in z) ∙ place 0 w refl in
       let behind : 0 + size ≡ size + 0 = omega arith in

@@ -1,5 +1,5 @@
 -- The positions that are open where a level begins, one after the other.
-use Rattle.std.proofs.Common.{◌≡◌, ℕ, ◌+◌, ◌-◌, ◌≤◌, ◌<◌, nat_lt, nat_le, nat_eq, Bool, true, false, cond, not, ◌&&◌, ◌||◌, List, [], length, is_some, Option, Some, None, inl, inr, refl, sym, ap, subst, ◌∙◌, arith}
+use Rattle.std.proofs.Common.{◌≡◌, ℕ, ◌+◌, ◌-◌, ◌≤◌, ◌<◌, nat_lt, nat_le, nat_eq, Bool, true, false, cond, not, ◌&&◌, [], length, is_some, Some, None, inl, inr, refl, sym, ap, ◌∙◌, arith}
 use Rattle.std.specs.List.{list_any, range_with_len}
 use Rattle.std.specs.Option.{option_map_or}
 use Rattle.std.proofs.lemmas.Bool.{cases_eq, cases_lt, eq-eqb, ne_eqb, lt-ltb, le-ltb, leb-true}
@@ -74,10 +74,6 @@ module _ (m : Minima) (level : ℕ) (P : Patterns) (w : Word) (first end : ℕ) 
           ∙ (λ i. not (sym (le-ltb s (start + (p + 1)) (omega arith)) i && is_open_first m level P w (s - start)) && old)
     ]
   ]
-
--- a word of which no position is in reach
-pub opens_none : (m : Minima) (level : ℕ) (P : Patterns) (w : Word) (q : ℕ) (old : Bool) → positions m.left m.right (length w.signs) ≡ [] → old ≡ (not (is_open_first m level P w q) && old)
-opens_none m level P w q old none = sym (ap (λ (ps : List ℕ). not (list_any (nat_eq q) ps && is_some (counts_as level (status_at P w q))) && old) none)
 
 -- behind a word nothing opens
 pub opens_behind : (m : Minima) (level : ℕ) (P : Patterns) (w : Word) (q : ℕ) (old : Bool) → length w.signs ≤ q → (not (is_open_first m level P w q) && old) ≡ old

@@ -1,9 +1,7 @@
 -- What is known of the open positions of a level, from its start through its passes and lengths.
-use Rattle.std.proofs.Common.{◌≡◌, ℕ, zero, suc, ◌+◌, ◌-◌, ◌≤◌, ◌<◌, nat_le, nat_eq, Bool, true, false, cond, not, ◌&&◌, ◌||◌, List, [], ◌∷◌, ◌++◌, append-nil, filter, length, map, fold, slice_get, is_some, Option, Some, None, inl, inr, refl, sym, ap, subst, ◌∙◌, arith}
-use Rattle.std.specs.List.{flat_map, list_any, range_with_len}
-use Rattle.std.specs.Option.{option_map, option_map_or}
-use Rattle.std.specs.FinMap.Entries.{find}
-use Rattle.std.proofs.lemmas.Bool.{cases_Bool, cases_eq, cases_lt, eq-eqb, ne_eqb, leb-true}
+use Rattle.std.proofs.Common.{◌≡◌, ℕ, ◌+◌, ◌-◌, ◌≤◌, ◌<◌, nat_le, nat_eq, Bool, true, false, cond, not, ◌&&◌, ◌||◌, List, [], length, fold, slice_get, is_some, Option, Some, None, inl, inr, refl, sym, ap, subst, ◌∙◌, arith}
+use Rattle.std.specs.Option.{option_map_or}
+use Rattle.std.proofs.lemmas.Bool.{cases_Bool, cases_eq, eq-eqb, ne_eqb}
 use Rattle.pg_types.specs.declared.limits.TheConstants.{LENGTH_MAX}
 use Rattle.pg_types.specs.declared.parameters.LevelParams.{LevelParams}
 use Rattle.pg_types.specs.Counts.{Counts, counted_sums}
@@ -15,15 +13,15 @@ use Rattle.pg_select.specs.Choices.{choice}
 use Rattle.pg_select.specs.Inside.LawsSteps.{IsBelow, IsUpTo, candidate_at, is_candidate, patterns_after_pass, hopeless_after_pass}
 use Rattle.pg_select.specs.Inside.LawsClosedDots.{counted_with, is_good, longer, pass_at, Tells, closed_after as dots_after_pass}
 use Rattle.pg_select.specs.Meanings.{with_position}
-use Rattle.pg_select.specs.CountedPositions.{Minima, CountedPosition, Candidate, counted_at, counts_as, good_of, bad_of, counted_positions}
+use Rattle.pg_select.specs.CountedPositions.{Minima, Candidate, counted_at, counts_as, good_of, bad_of, counted_positions}
 use Rattle.pg_select.specs.Statuses.{status_at}
 use Rattle.pg_select.specs.Windows.{Patterns, Hopeless, window, fits, covered}
 use Rattle.pg_select.proofs.LawsBounds.{up_to_at_start, up_to_after, covers_up_to_at_start, covers_up_to_longer, covers_up_to_after}
 use Rattle.pg_select.proofs.LawsClosedDots.{tells_at_start, tells_longer, tells_after}
 use Rattle.pg_select.proofs.LawsTally.{is_counted_window}
-use Rattle.pg_driver.specs.declared.open_positions.OpenPosition.{OpenPosition}
+use Rattle.pg_driver.specs.declared.pass_windows.Place.{Place}
 use Rattle.pg_driver.specs.Traces.{choice_of, is_chosen, is_hopeless}
-use Rattle.pg_driver.specs.Inside.OpenSigns.{IsThere, IsTold, closed_after, closed_by, closed_in, in_reach, is_open_first, place_from, sign_count, start_of}
+use Rattle.pg_driver.specs.Inside.OpenSigns.{IsThere, IsTold, closed_after, closed_by, closed_in, is_open_first, sign_count, start_of}
 use Rattle.pg_driver.proofs.OpenLevels.{found_is}
 use Rattle.pg_driver.proofs.OpenSigns.{place_at, sign_within}
 
@@ -101,12 +99,6 @@ module _ (level : LevelParams) (m : Minima) (words : List Word) (pass : Pass) (P
 
   abbrev made_hopeless : Candidate → Bool
   made_hopeless c = is_hopeless (choice_of level c)
-
-  abbrev P' : Patterns
-  P' = patterns_after_pass m words pass P H (λ c. is_chosen (choice_of level c))
-
-  abbrev H' : Hopeless
-  H' = hopeless_after_pass m words pass P H (λ c. is_hopeless (choice_of level c))
 
   -- dot by dot, where the window was counted
   by_fate : (closed : ℕ → Bool) (dot d : ℕ) (c : Choice) → (is_chosen c || (closed d || (nat_eq d dot && is_hopeless c))) ≡ closed_by closed dot (Some c) d
@@ -233,7 +225,7 @@ module _ (level : LevelParams) (m : Minima) (words : List Word) (pass : Pass) (P
       here : (n p : ℕ) (w : Word) → slice_get words n ≡ Some w → p < length w.signs → (d : ℕ) → closed_after level pass counts words old d (start_of words n + p) ≡ closed_in level pass counts w p (λ c. old c (start_of words n + p)) d
       here n p w at lies d =
           let number : 0 + n ≡ n = omega arith in
-          ap (λ (e : OpenPosition). option_map_or (λ (u : Word). closed_in level pass counts u e.at (λ c. old c (start_of words n + p)) d) (slice_get words e.word) (old d (start_of words n + p))) (place_at 0 words n p w at lies)
+          ap (λ (e : Place). option_map_or (λ (u : Word). closed_in level pass counts u e.at (λ c. old c (start_of words n + p)) d) (slice_get words e.word) (old d (start_of words n + p))) (place_at 0 words n p w at lies)
           ∙ ap (λ (o : Option Word). option_map_or (λ (u : Word). closed_in level pass counts u p (λ c. old c (start_of words n + p)) d) o (old d (start_of words n + p))) (ap (slice_get words) number ∙ at)
 
       each : (n p : ℕ) (w : Word) → slice_get words n ≡ Some w → p < length w.signs → IsTold pass.level pass.len m P H w p (λ d. old d (start_of words n + p))

@@ -11,11 +11,9 @@ use Rattle.pg_translate.specs.Reach.{positions}
 use Rattle.pg_dict.specs.Word.{Word, letter_count}
 use Rattle.pg_select.specs.Inside.Laws.{positions_in}
 use Rattle.pg_select.specs.CountedPositions.{Minima}
-use Rattle.pg_select.specs.Windows.{Patterns, Hopeless}
 use Rattle.pg_select.proofs.LawsSums.{positions_within}
-use Rattle.pg_driver.specs.declared.dot_set.DotSet.{DotSet}
-use Rattle.pg_driver.specs.declared.open_positions.OpenPosition.{OpenPosition}
-use Rattle.pg_driver.specs.Inside.OpenPositions.{numbered_positions, open_with, AreOpen}
+use Rattle.pg_driver.specs.declared.pass_windows.Place.{Place}
+use Rattle.pg_driver.specs.Inside.OpenPositions.{numbered_positions, open_with}
 use Rattle.pg_driver.specs.Inside.OpenPositions.{IsPlaced}
 
 all_flat : {X Y : Type 0} (P : Y → Type 0) (Q : X → Type 0) (f : X → List Y) → ((x : X) → Q x → All P (f x)) → (xs : List X) → All Q xs → All P (flat_map f xs)
@@ -62,35 +60,32 @@ numbered_in m words n (w ∷ ws) place =
       within = λ v at. subst (λ (u : Word). p < length u.signs) (same w v (sym here ∙ at)) low;
     }
 
-placed_with : (words : List Word) (closed : ℕ → ℕ → Option DotSet) (s : ℕ × ℕ) → IsNumbered words s → All (IsPlaced words) (open_with closed s)
-placed_with words closed s here_in = by_dots (closed s.0 s.1)
+placed_with : (words : List Word) (listed : ℕ → ℕ → Option Bool) (s : ℕ × ℕ) → IsNumbered words s → All (IsPlaced words) (open_with listed s)
+placed_with words listed s here_in = by_listed (listed s.0 s.1)
   where
-    by_dots : (o : Option DotSet) → All (IsPlaced words) (option_map_or (λ (dots : DotSet). record { word = s.0; at = s.1; closed = dots } ∷ []) o [])
-    by_dots None = All-nil (IsPlaced words)
-    by_dots (Some dots) = All-cons (IsPlaced words) (record { word = s.0; at = s.1; closed = dots }) [] (record { word = here_in.word; within = here_in.within }) (All-nil (IsPlaced words))
+    by_listed : (o : Option Bool) → All (IsPlaced words) (option_map_or (λ (good : Bool). record { word = s.0; at = s.1 } ∷ []) o [])
+    by_listed None = All-nil (IsPlaced words)
+    by_listed (Some good) = All-cons (IsPlaced words) (record { word = s.0; at = s.1 }) [] (record { word = here_in.word; within = here_in.within }) (All-nil (IsPlaced words))
 
 -- entries stand in the words
-pub entries_placed : (m : Minima) (words : List Word) (closed : ℕ → ℕ → Option DotSet) (entries : List OpenPosition) → entries ≡ flat_map (open_with closed) (numbered_positions m 0 words) → All (IsPlaced words) entries
-entries_placed m words closed entries are =
-    All-same (IsPlaced words) entries (flat_map (open_with closed) (numbered_positions m 0 words)) are
-    (all_flat (IsPlaced words) (IsNumbered words) (open_with closed) (placed_with words closed) (numbered_positions m 0 words) (numbered_in m words 0 words (λ k w at. ap (slice_get words) (zero_plus k) ∙ at)))
+pub entries_placed : (m : Minima) (words : List Word) (listed : ℕ → ℕ → Option Bool) (entries : List Place) → entries ≡ flat_map (open_with listed) (numbered_positions m 0 words) → All (IsPlaced words) entries
+entries_placed m words listed entries are =
+    All-same (IsPlaced words) entries (flat_map (open_with listed) (numbered_positions m 0 words)) are
+    (all_flat (IsPlaced words) (IsNumbered words) (open_with listed) (placed_with words listed) (numbered_positions m 0 words) (numbered_in m words 0 words (λ k w at. ap (slice_get words) (zero_plus k) ∙ at)))
   where
     zero_plus : (k : ℕ) → 0 + k ≡ k
     zero_plus k = omega arith
 
-pub open_placed : (level len : ℕ) (m : Minima) (words : List Word) (P : Patterns) (H : Hopeless) (entries : List OpenPosition) → AreOpen level len m words P H entries → All (IsPlaced words) entries
-open_placed level len m words P H entries are_open = entries_placed m words are_open.closed entries are_open.are
-
-few_open : (closed : ℕ → ℕ → Option DotSet) (numbered : List (ℕ × ℕ)) → length (flat_map (open_with closed) numbered) ≤ length numbered
-few_open closed [] = omega arith
-few_open closed (s ∷ numbered) =
-    let rest : length (flat_map (open_with closed) numbered) ≤ length numbered = few_open closed numbered in
-    let here : length (open_with closed s) ≤ 1 = one (closed s.0 s.1) in
-    omega (arith, length-append (open_with closed s) (flat_map (open_with closed) numbered))
+few_open : (listed : ℕ → ℕ → Option Bool) (numbered : List (ℕ × ℕ)) → length (flat_map (open_with listed) numbered) ≤ length numbered
+few_open listed [] = omega arith
+few_open listed (s ∷ numbered) =
+    let rest : length (flat_map (open_with listed) numbered) ≤ length numbered = few_open listed numbered in
+    let here : length (open_with listed s) ≤ 1 = one (listed s.0 s.1) in
+    omega (arith, length-append (open_with listed s) (flat_map (open_with listed) numbered))
   where
-    one : (o : Option DotSet) → length {A = OpenPosition} (option_map_or (λ (dots : DotSet). record { word = s.0; at = s.1; closed = dots } ∷ []) o []) ≤ 1
+    one : (o : Option Bool) → length {A = Place} (option_map_or (λ (good : Bool). record { word = s.0; at = s.1 } ∷ []) o []) ≤ 1
     one None = omega arith
-    one (Some dots) = omega arith
+    one (Some good) = omega arith
 
 numbered_length : (m : Minima) (n : ℕ) (words : List Word) → length (numbered_positions m n words) ≡ positions_in m words
 numbered_length m n [] = refl
@@ -100,9 +95,6 @@ numbered_length m n (w ∷ words) =
     omega (arith, length-append (map (λ p. (n, p)) (positions m.left m.right (length w.signs))) (numbered_positions m (n + 1) words), sizes, sum_by-cons (λ (w : Word). length (positions m.left m.right (length w.signs))) w words)
 
 -- and there are no more than letters
-pub entries_few : (m : Minima) (words : List Word) (closed : ℕ → ℕ → Option DotSet) (entries : List OpenPosition) → 1 ≤ m.left → entries ≡ flat_map (open_with closed) (numbered_positions m 0 words) → length entries ≤ sum_by letter_count words
-entries_few m words closed entries low are =
-    omega (arith, ap (λ (es : List OpenPosition). length es) are, few_open closed (numbered_positions m 0 words), numbered_length m 0 words, positions_within m words low)
-
-pub open_few : (level len : ℕ) (m : Minima) (words : List Word) (P : Patterns) (H : Hopeless) (entries : List OpenPosition) → 1 ≤ m.left → AreOpen level len m words P H entries → length entries ≤ sum_by letter_count words
-open_few level len m words P H entries low are_open = entries_few m words are_open.closed entries low are_open.are
+pub entries_few : (m : Minima) (words : List Word) (listed : ℕ → ℕ → Option Bool) (entries : List Place) → 1 ≤ m.left → entries ≡ flat_map (open_with listed) (numbered_positions m 0 words) → length entries ≤ sum_by letter_count words
+entries_few m words listed entries low are =
+    omega (arith, ap (λ (es : List Place). length es) are, few_open listed (numbered_positions m 0 words), numbered_length m 0 words, positions_within m words low)

@@ -1,9 +1,7 @@
 -- The signs of words at which a dot is open, one after the other, and where they stand.
-use Rattle.std.proofs.Common.{◌≡◌, ◌≢◌, ℕ, zero, suc, ◌+◌, ◌-◌, ◌*◌, ◌≤◌, ◌<◌, nat_lt, nat_le, nat_eq, Bool, true, false, cond, not, ◌&&◌, ◌||◌, List, [], ◌∷◌, ◌++◌, append-nil, append_assoc, filter, length, map, slice_get, Option, Some, None, inl, inr, refl, sym, ap, subst, ◌∙◌, arith, length-append}
-use Rattle.std.specs.List.{flat_map, list_any, range_with_len}
-use Rattle.std.specs.Option.{option_map_or}
-use Rattle.std.proofs.lemmas.Bool.{cases_Bool, cases_eq, cases_lt, eq-eqb, ne_eqb, lt-ltb, le-ltb, le-leb, lt-leb}
-use Rattle.std.proofs.lemmas.List.Concat.{flat_map-append}
+use Rattle.std.proofs.Common.{◌≡◌, ℕ, zero, suc, ◌+◌, ◌-◌, ◌*◌, ◌≤◌, ◌<◌, Bool, true, false, cond, not, List, [], ◌∷◌, ◌++◌, append-nil, filter, length, slice_get, Some, None, inl, inr, refl, sym, ap, ◌∙◌, arith, length-append}
+use Rattle.std.specs.List.{range_with_len}
+use Rattle.std.proofs.lemmas.Bool.{cases_Bool, cases_lt, lt-ltb, le-ltb}
 use Rattle.std.proofs.lemmas.List.Elements.{filter-append}
 use Rattle.pg_dict.specs.Inside.Store.{all_signs}
 use Rattle.std.specs.List.{All, sum_by}
@@ -11,9 +9,6 @@ use Rattle.std.proofs.lemmas.List.Elements.{All-head, All-tail}
 use Rattle.std.proofs.lemmas.List.Sums.{sum_by-cons}
 use Rattle.pg_dict.specs.Word.{IsWord, Word, letter_count}
 use Rattle.pg_select.proofs.Reaches.{range_step}
-use Rattle.pg_driver.specs.declared.open_positions.OpenPosition.{OpenPosition}
-use Rattle.pg_driver.specs.Inside.DotSets.{no_dots}
-use Rattle.pg_driver.specs.Inside.OpenPositions.{IsPlaced}
 use Rattle.pg_driver.specs.Inside.OpenSigns.{open_signs, place_from, sign_count, start_of}
 
 -- a range in two parts
@@ -177,7 +172,7 @@ signs_few (w ∷ words) all =
     omega (arith, signs_cons w words, sum_by-cons letter_count w words, word.long, signs_few words (All-tail IsWord w words all))
 
 -- the place of a sign
-pub place_at : (k : ℕ) (words : List Word) (n p : ℕ) (w : Word) → slice_get words n ≡ Some w → p < length w.signs → place_from k words (start_of words n + p) ≡ record { word = k + n; at = p; closed = no_dots }
+pub place_at : (k : ℕ) (words : List Word) (n p : ℕ) (w : Word) → slice_get words n ≡ Some w → p < length w.signs → place_from k words (start_of words n + p) ≡ record { word = k + n; at = p }
 place_at k [] n p w at low = absurd (let no : None ≡ Some w = at in cc)
 place_at k (v ∷ words) zero p w at low =
     let same : v ≡ w = (let both : Some v ≡ Some w = at in cc) in
@@ -185,15 +180,15 @@ place_at k (v ∷ words) zero p w at low =
     let sign : zero + p ≡ p = omega arith in
     let number : k ≡ k + zero = omega arith in
     ap (place_from k (v ∷ words)) sign
-    ∙ ap (λ b. cond b (record { word = k; at = p; closed = no_dots }) (place_from (k + 1) words (p - length v.signs))) (lt-ltb p (length v.signs) (omega arith))
-    ∙ ap (λ (n : ℕ). record { word = n; at = p; closed = no_dots }) number
+    ∙ ap (λ b. cond b (record { word = k; at = p }) (place_from (k + 1) words (p - length v.signs))) (lt-ltb p (length v.signs) (omega arith))
+    ∙ ap (λ (n : ℕ). record { word = n; at = p }) number
 place_at k (v ∷ words) (suc n) p w at low =
     let left : length v.signs + start_of words n + p - length v.signs ≡ start_of words n + p = omega arith in
     let number : k + 1 + n ≡ k + suc n = omega arith in
-    ap (λ b. cond b (record { word = k; at = length v.signs + start_of words n + p; closed = no_dots }) (place_from (k + 1) words (length v.signs + start_of words n + p - length v.signs))) (le-ltb (length v.signs + start_of words n + p) (length v.signs) (omega arith))
+    ap (λ b. cond b (record { word = k; at = length v.signs + start_of words n + p }) (place_from (k + 1) words (length v.signs + start_of words n + p - length v.signs))) (le-ltb (length v.signs + start_of words n + p) (length v.signs) (omega arith))
     ∙ ap (place_from (k + 1) words) left
     ∙ place_at (k + 1) words n p w at low
-    ∙ ap (λ (m : ℕ). record { word = m; at = p; closed = no_dots }) number
+    ∙ ap (λ (m : ℕ). record { word = m; at = p }) number
 
 -- each sign stands in a word
 pub record IsSignOf (words : List Word) (s : ℕ) : Type 0 where

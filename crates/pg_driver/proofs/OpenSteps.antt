@@ -1,7 +1,6 @@
 -- The steps of the loops over words, positions and open positions.
-use Rattle.std.proofs.Common.{◌≡◌, ℕ, zero, suc, ◌+◌, ◌-◌, ◌^◌, ◌≤◌, ◌<◌, Bool, true, false, cond, not, ◌&&◌, List, [], ◌∷◌, ◌++◌, length, map, fold, take, drop, get_or, set, slice_get, unwrap_or, append_assoc, Option, Some, None, refl, sym, ap, subst, ◌∙◌, arith}
+use Rattle.std.proofs.Common.{◌≡◌, ℕ, ◌+◌, ◌-◌, ◌^◌, ◌≤◌, ◌<◌, Bool, true, false, cond, ◌&&◌, List, [], ◌∷◌, ◌++◌, length, fold, drop, slice_get, unwrap_or, append_assoc, Option, Some, None, refl, sym, ap, subst, ◌∙◌, arith}
 use Rattle.std.specs.List.{All, flat_map, range_with_len, sum_by}
-use Rattle.std.proofs.lemmas.List.{append-nil, drop_more, drop_all, take_all}
 use Rattle.std.proofs.lemmas.List.Elements.{All-head, All-tail}
 use Rattle.std.proofs.lemmas.List.Sums.{sum_by-cons}
 use Rattle.std.specs.Option.{option_map_or}
@@ -9,7 +8,7 @@ use Rattle.std.specs.FinMap.Entries.{find}
 use Rattle.pg_dict.specs.Word.{Word, IsWord, letter_count}
 use Rattle.pg_types.specs.Counts.{Counts}
 use Rattle.pg_select.specs.Meanings.{Meaning, with_position}
-use Rattle.pg_select.specs.CountedPositions.{Minima, CountedPosition}
+use Rattle.pg_select.specs.CountedPositions.{Minima}
 use Rattle.pg_select.specs.Statuses.{position_weight}
 use Rattle.pg_select.specs.Windows.{window, fits}
 use Rattle.pg_driver.specs.Inside.Counting.{counting, HasRoom, TookRoom}
@@ -17,9 +16,8 @@ use Rattle.pg_select.proofs.MarkSteps.{weight_small}
 use Rattle.pg_driver.proofs.Puts.{cmp, weight_found}
 use Rattle.pg_select.proofs.Reaches.{range_step}
 use Rattle.pg_driver.proofs.Rooms.{took_none, took_with, window_filled}
-use Rattle.pg_driver.proofs.Walks.{counted_step}
 use Rattle.pg_driver.proofs.WordSteps.{drop_place}
-use Rattle.pg_driver.specs.declared.open_positions.OpenPosition.{OpenPosition}
+use Rattle.pg_driver.specs.declared.pass_windows.Place.{Place}
 use Rattle.pg_driver.specs.Inside.OpenLevels.{listed_in, listed_from}
 use Rattle.pg_select.specs.Inside.LawsClosedDots.{is_good}
 use Rattle.pg_driver.specs.Inside.OpenPositions.{counted_in}
@@ -33,13 +31,12 @@ position_added {Y} f items more whole p end before is left =
     added_step f items more whole p (range_with_len (p + 1) (end - (p + 1))) is (ap (λ (ps : List ℕ). items ++ flat_map f ps) (sym (range_step p end before)) ∙ left)
 
 -- what is counted at an open position takes the room of one
-pub took_in : (counts : Counts) (level len dot : ℕ) (w : Word) (p n : ℕ) (closed : Bool) → 1 ≤ len → IsWord w → p < length w.signs → HasRoom counts n → TookRoom counts (fold with_position counts (counted_in level len dot w p closed)) 1
-took_in counts level len dot w p n closed long word within room = by_test (fits w.signs p len dot) closed refl
+pub took_in : (counts : Counts) (level len dot : ℕ) (w : Word) (p n : ℕ) → 1 ≤ len → IsWord w → p < length w.signs → HasRoom counts n → TookRoom counts (fold with_position counts (counted_in level len dot w p)) 1
+took_in counts level len dot w p n long word within room = by_test (fits w.signs p len dot) refl
   where
-    by_test : (a b : Bool) → fits w.signs p len dot ≡ a → TookRoom counts (fold with_position counts (option_map_or (λ good. record { window = window w.signs p len dot; good = good; weight = position_weight w p } ∷ []) (cond (a && not b) (Some (is_good level w p)) None) [])) 1
-    by_test false b is = took_none counts n 1 room
-    by_test true true is = took_none counts n 1 room
-    by_test true false is = took_with counts (record { window = window w.signs p len dot; good = is_good level w p; weight = position_weight w p }) n room (window_filled w.signs p len dot long is) (weight_small w p word within)
+    by_test : (a : Bool) → fits w.signs p len dot ≡ a → TookRoom counts (fold with_position counts (option_map_or (λ good. record { window = window w.signs p len dot; good = good; weight = position_weight w p } ∷ []) (cond (a && true) (Some (is_good level w p)) None) [])) 1
+    by_test false is = took_none counts n 1 room
+    by_test true is = took_with counts (record { window = window w.signs p len dot; good = is_good level w p; weight = position_weight w p }) n room (window_filled w.signs p len dot long is) (weight_small w p word within)
 
 -- sums that are found are small
 pub found_small : (counts : Counts) (u : List ℕ) (n good bad : ℕ) → HasRoom counts n → Some (good, bad) ≡ find cmp u counts → (good < 2 ^ 40) × (bad < 2 ^ 40)
@@ -49,22 +46,9 @@ found_small counts u n good bad room is =
     (omega (arith, weight_found u counts, room.light), omega (arith, weight_found u counts, room.light))
 
 -- and so for a meaning that counts it
-pub took_entry : (m n : Meaning) (level len dot : ℕ) (w : Word) (p k : ℕ) (closed : Bool) → 1 ≤ len → IsWord w → p < length w.signs → HasRoom m.counts k → n ≡ counting m (counted_in level len dot w p closed) → TookRoom m.counts n.counts 1
-took_entry m n level len dot w p k closed long word within room is =
-    subst (λ (cs : Counts). TookRoom m.counts cs 1) (ap (λ (x : Meaning). x.counts) (sym is)) (took_in m.counts level len dot w p k closed long word within room)
-
--- one element more that is changed in place
-changed_more : {X : Type 0} (f : X → X) (xs : List X) (i : ℕ) (d : X) → i < length xs → set (map f (take i xs) ++ drop i xs) i (f (get_or (map f (take i xs) ++ drop i xs) i d)) ≡ map f (take (suc i) xs) ++ drop (suc i) xs
-changed_more f [] i d within = absurd (omega arith)
-changed_more f (x ∷ xs) zero d within = refl
-changed_more {X} f (x ∷ xs) (suc i) d within = ap (λ (ys : List X). f x ∷ ys) (changed_more f xs i d (omega arith))
-
-pub changed_step : {X : Type 0} (f : X → X) (old cur : List X) (i : ℕ) (x d : X) → i < length old → cur ≡ map f (take i old) ++ drop i old → x ≡ f (get_or cur i d) → set cur i x ≡ map f (take (i + 1) old) ++ drop (i + 1) old
-changed_step {X} f old cur i x d within is new =
-    ap (set cur i) new
-    ∙ ap (λ (ys : List X). set ys i (f (get_or ys i d))) is
-    ∙ changed_more f old i d within
-    ∙ (let next : suc i ≡ i + 1 = omega arith in ap (λ k. map f (take k old) ++ drop k old) next)
+pub took_entry : (m n : Meaning) (level len dot : ℕ) (w : Word) (p k : ℕ) → 1 ≤ len → IsWord w → p < length w.signs → HasRoom m.counts k → n ≡ counting m (counted_in level len dot w p) → TookRoom m.counts n.counts 1
+took_entry m n level len dot w p k long word within room is =
+    subst (λ (cs : Counts). TookRoom m.counts cs 1) (ap (λ (x : Meaning). x.counts) (sym is)) (took_in m.counts level len dot w p k long word within room)
 
 -- words have no fewer letters than their number
 pub few_words : (words : List Word) → All IsWord words → length words ≤ sum_by letter_count words
@@ -75,22 +59,10 @@ few_words (w ∷ words) all =
     omega (arith, sum_by-cons letter_count w words, word.long)
 
 -- the positions of one word more
-pub word_added : (m : Minima) (counts : Word → ℕ → Option Bool) (items more whole : List OpenPosition) (words : List Word) (i : ℕ) (w : Word) → slice_get words i ≡ Some w → more ≡ items ++ listed_in m counts i w → items ++ listed_from m counts i (drop i words) ≡ whole
+pub word_added : (m : Minima) (counts : Word → ℕ → Option Bool) (items more whole : List Place) (words : List Word) (i : ℕ) (w : Word) → slice_get words i ≡ Some w → more ≡ items ++ listed_in m counts i w → items ++ listed_from m counts i (drop i words) ≡ whole
     → more ++ listed_from m counts (i + 1) (drop (i + 1) words) ≡ whole
 word_added m counts items more whole words i w at is left =
-    ap (λ (es : List OpenPosition). es ++ listed_from m counts (i + 1) (drop (i + 1) words)) is
+    ap (λ (es : List Place). es ++ listed_from m counts (i + 1) (drop (i + 1) words)) is
     ∙ append_assoc items (listed_in m counts i w) (listed_from m counts (i + 1) (drop (i + 1) words))
     ∙ ap (λ (ws : List Word). items ++ listed_from m counts i ws) (sym (drop_place words i w at))
     ∙ left
-
--- an entry that was counted, and then the rest
-pub entry_counted : (f : OpenPosition → List CountedPosition) (m n whole : Meaning) (entries : List OpenPosition) (i : ℕ) (d : OpenPosition) → i < length entries → n ≡ counting m (f (get_or entries i d)) → counting m (flat_map f (drop i entries)) ≡ whole → counting n (flat_map f (drop (i + 1) entries)) ≡ whole
-entry_counted f m n whole entries i d within is left =
-    counted_step f m n whole (get_or entries i d) (drop (i + 1) entries) is (ap (λ (es : List OpenPosition). counting m (flat_map f es)) (sym (drop_more entries i d within)) ∙ left)
-
--- a list that is written back whole
-pub written_back : {X : Type 0} (old new : List X) (len : ℕ) → length new ≡ length old → len ≡ length old → take len (new ++ drop (length new) old) ≡ new
-written_back {X} old new len same size =
-    ap (λ (xs : List X). take len (new ++ xs)) (drop_all (length new) old (omega arith))
-    ∙ ap (take len) (append-nil new)
-    ∙ take_all len new (omega arith)

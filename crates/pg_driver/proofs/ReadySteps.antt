@@ -1,5 +1,5 @@
 -- A way to count is ready: what that gives for a pass, and how it goes on.
-use Rattle.std.proofs.Common.{◌≡◌, ℕ, ◌+◌, ◌-◌, ◌≤◌, ◌<◌, nat_le, Bool, not, ◌&&◌, ◌||◌, List, [], length, slice_get, Some, fold, sum_by, sym, ap, subst, ◌∙◌, arith}
+use Rattle.std.proofs.Common.{◌≡◌, ℕ, ◌+◌, ◌-◌, ◌≤◌, ◌<◌, nat_le, not, ◌&&◌, ◌||◌, List, [], length, slice_get, Some, fold, sum_by, sym, ap, subst, ◌∙◌, arith}
 use Rattle.std.specs.List.{All, flat_map}
 use Rattle.pg_types.specs.declared.limits.TheConstants.{LENGTH_MAX, FILE_MAX}
 use Rattle.pg_types.specs.declared.marks.Totals.{Totals}
@@ -16,7 +16,6 @@ use Rattle.pg_driver.specs.declared.choices.Choices.{Choices}
 use Rattle.pg_driver.specs.declared.counting.Counting.{Counting}
 use Rattle.pg_driver.specs.declared.counting.Counting.TheVariants.{Open, EachWord}
 use Rattle.pg_driver.specs.declared.open_positions.OpenLevel.{OpenLevel}
-use Rattle.pg_driver.specs.declared.open_positions.OpenPosition.{OpenPosition}
 use Rattle.pg_driver.specs.Accounts.{totals_by}
 use Rattle.pg_driver.specs.Inside.Choosing.{no_choices, with_candidates}
 use Rattle.pg_driver.specs.Inside.Counting.{HasRoom}

@@ -24,11 +24,9 @@ use Rattle.pg_select.proofs.LawsTally.{cmp, counted_as, is_counted_window}
 use Rattle.pg_select.proofs.LawsTotals.{above_stay, totals_after_above}
 use Rattle.pg_driver.specs.declared.above_positions.Kept.{Kept}
 use Rattle.pg_driver.specs.declared.choices.Choices.{Choices}
-use Rattle.pg_driver.specs.declared.dot_set.DotSet.{DotSet}
-use Rattle.pg_driver.specs.declared.open_positions.OpenPosition.{OpenPosition}
+use Rattle.pg_driver.specs.declared.pass_windows.Place.{Place}
 use Rattle.pg_driver.specs.declared.word_level.WordLevel.{WordLevel}
 use Rattle.pg_driver.specs.Accounts.{totals_by}
-use Rattle.pg_driver.specs.Inside.DotSets.{no_dots}
 use Rattle.pg_driver.specs.Inside.LevelCounting.{CanMove, Carries, IsAfterWords}
 use Rattle.pg_driver.specs.Inside.OpenLevels.{listed_from, listed_in, open_as}
 use Rattle.pg_driver.specs.Inside.OpenPositions.{IsPlaced, counted_in, open_with}
@@ -36,7 +34,7 @@ use Rattle.pg_driver.specs.Sound.{IsSmall}
 use Rattle.pg_driver.specs.Traces.{Known, PassTrace, Source, chosen_in, choice_of, is_chosen, known_after, pass_made}
 use Rattle.pg_driver.specs.Inside.WordLevels.{IsWordsAt, kept_by, listing, was_chosen, window_of}
 use Rattle.pg_driver.proofs.CarriedTotals.{carried_same, carried_small, carried_within, totals_are_small}
-use Rattle.pg_driver.proofs.OpenLevels.{found_is, listed_are, start_at, start_with}
+use Rattle.pg_driver.proofs.OpenLevels.{found_is, listed_are, start_at}
 use Rattle.pg_driver.proofs.OpenPlaces.{entries_few, entries_placed}
 use Rattle.pg_driver.proofs.OpenPositions.{counted_by_entries}
 
@@ -72,16 +70,16 @@ words_counted source level known e f is counted more totals = record {
   least = is.least;
   words = is.words;
   letters = is.letters;
-  above = more ∙ ap (λ (es : List OpenPosition). es ++ listed (not e.is_counted)) is.above ∙ whole e.is_counted ∙ ap listed (sym counted);
+  above = more ∙ ap (λ (es : List Place). es ++ listed (not e.is_counted)) is.above ∙ whole e.is_counted ∙ ap listed (sym counted);
   totals = λ _. totals;
 }
   where
-    listed : Bool → List OpenPosition
+    listed : Bool → List Place
     listed b = listed_from source.minima (listing b level known.patterns) 0 source.words
 
     whole : (b : Bool) → listed_from source.minima (listing b level known.patterns) 0 source.words ++ listed_from source.minima (listing (not b) level known.patterns) 0 source.words ≡ listed_from source.minima (listing true level known.patterns) 0 source.words
-    whole true = ap (λ (es : List OpenPosition). listed_from source.minima (listing true level known.patterns) 0 source.words ++ es) (none_listed source.minima level known.patterns 0 source.words) ∙ append-nil (listed_from source.minima (listing true level known.patterns) 0 source.words)
-    whole false = ap (λ (es : List OpenPosition). es ++ listed_from source.minima (listing true level known.patterns) 0 source.words) (none_listed source.minima level known.patterns 0 source.words)
+    whole true = ap (λ (es : List Place). listed_from source.minima (listing true level known.patterns) 0 source.words ++ es) (none_listed source.minima level known.patterns 0 source.words) ∙ append-nil (listed_from source.minima (listing true level known.patterns) 0 source.words)
+    whole false = ap (λ (es : List Place). es ++ listed_from source.minima (listing true level known.patterns) 0 source.words) (none_listed source.minima level known.patterns 0 source.words)
 
 -- listed positions stand in the words, and are no more than letters
 pub words_placed : (source : Source) (level : ℕ) (known : Known) (e : WordLevel) → IsWordsAt source level known e → All (IsPlaced source.words) e.above.items × (length e.above.items ≤ FILE_MAX)
@@ -111,21 +109,21 @@ module _ (m : Minima) (words : List Word) (pass : Pass) (P : Patterns) where
   each : (n p : ℕ) (w : Word) → slice_get words n ≡ Some w → above_at pass P w p ≡ flat_map (window_of pass words) (open_with (start_at m words above) (n, p))
   each n p w at =
       by_count (above w p) refl
-      ∙ ap (λ (o : Option Word). flat_map (window_of pass words) (option_map_or (λ (dots : DotSet). record { word = n; at = p; closed = dots } ∷ []) (started o) [])) (sym at)
+      ∙ ap (λ (o : Option Word). flat_map (window_of pass words) (option_map_or (λ (good : Bool). record { word = n; at = p } ∷ []) (started o) [])) (sym at)
     where
-      started : Option Word → Option DotSet
+      started : Option Word → Option Bool
       started None = None
-      started (Some u) = start_with (above u p)
+      started (Some u) = above u p
 
       by_count : (o : Option Bool) → above w p ≡ o
-          → counted_as (window w.signs p pass.len pass.dot) (position_weight w p) (cond (fits w.signs p pass.len pass.dot) o None) ≡ flat_map (window_of pass words) (option_map_or (λ (dots : DotSet). record { word = n; at = p; closed = dots } ∷ []) (start_with o) [])
+          → counted_as (window w.signs p pass.len pass.dot) (position_weight w p) (cond (fits w.signs p pass.len pass.dot) o None) ≡ flat_map (window_of pass words) (option_map_or (λ (good : Bool). record { word = n; at = p } ∷ []) o [])
       by_count None is = none_fits w p (fits w.signs p pass.len pass.dot)
       by_count (Some good) is =
           one_fits w p (fits w.signs p pass.len pass.dot) good (by_test w p (nat_lt pass.level (value_at P w.signs p)) good is)
-          ∙ ap (λ (o : Option Word). option_map_or (λ (u : Word). counted_in pass.level pass.len pass.dot u p false) o []) (sym at)
-          ∙ sym (append-nil (window_of pass words (record { word = n; at = p; closed = no_dots })))
+          ∙ ap (λ (o : Option Word). option_map_or (λ (u : Word). counted_in pass.level pass.len pass.dot u p) o []) (sym at)
+          ∙ sym (append-nil (window_of pass words (record { word = n; at = p })))
 
-  windows_are : (entries : List OpenPosition) → entries ≡ listed_from m above 0 words → flat_map (window_of pass words) entries ≡ above_positions m words pass P
+  windows_are : (entries : List Place) → entries ≡ listed_from m above 0 words → flat_map (window_of pass words) entries ≡ above_positions m words pass P
   windows_are entries are = sym (counted_by_entries m words (start_at m words above) (window_of pass words) (above_at pass P) each entries (are ∙ listed_are m words above))
 
 -- a window was chosen where it is a candidate that is

@@ -2,7 +2,6 @@
 pub mod Counting
 pub mod States
 pub mod Choosing
-pub mod DotSets
 pub mod OpenPositions
 pub mod OpenLevels
 pub mod OpenSigns

@@ -1,7 +1,7 @@
 //! The positions that count by their status and have a value above the level. They are counted as
 //! others, but no choice of the level changes their value, so that what is chosen of them stays as
 //! it is.
-ghost use Rattle.std.specs.Prelude.{◌≡◌, ◌≤◌, ◌<◌, ◌+◌, ◌*◌, ◌^◌, ◌++◌, ◌∷◌, [], nat_lt, false, true, if◌then◌else◌, None, length, slice_get, slice_index, slice_index_or, All, OnOk, is_some};
+ghost use Rattle.std.specs.Prelude.{◌≡◌, ◌≤◌, ◌<◌, ◌+◌, ◌^◌, ◌++◌, ◌∷◌, [], nat_lt, false, true, if◌then◌else◌, None, length, slice_get, slice_index, slice_index_or, All, OnOk, is_some};
 ghost use Rattle.std.specs.Option.{option_map_or};
 ghost use Rattle.pg_types.specs.declared.limits.TheConstants.{FILE_MAX, WORD_LETTERS_MAX, WEIGHT_MAX};
 ghost use Rattle.pg_types.specs.declared.parameters.LevelParams.{LevelParams};
@@ -21,10 +21,9 @@ ghost use Rattle.pg_driver.specs.Inside.PassWindows.{AreFates, HaveNumbers, IsNu
 ghost use Rattle.pg_driver.specs.Traces.{is_chosen};
 ghost use Rattle.pg_driver.specs.Inside.WordLevels.{TookKept, kept_by, with_kept};
 
-use crate::dot_set::DotSet;
 use crate::marks::counts_as;
 use crate::open_passes::is_good;
-use crate::open_positions::OpenPosition;
+use crate::pass_windows::Place;
 use pg_dict::{Dictionary, WordRef};
 use pg_select::marks::{mark_at, positions};
 use pg_select::{Choice, Pass, WordState};
@@ -61,7 +60,7 @@ fn list_at(
     w: &WordRef<'_>,
     found: &WordState,
     p: u8,
-    above: &mut Vec<OpenPosition>,
+    above: &mut Vec<Place>,
 ) -> Result<(), AllocError>
     requires within { p < length w.now.signs.now }
     requires short { length w.now.signs.now ≤ WORD_LETTERS_MAX + 2 }
@@ -72,11 +71,7 @@ fn list_at(
 {
     let at = usize::from(p);
     if is_above(level, found, at, mark_at(w, found, at)) {
-        above.push(OpenPosition {
-            word,
-            at: p,
-            closed: DotSet::none(),
-        })?;
+        above.push(Place { word, at: p })?;
     }
     Ok(())
 }
@@ -89,7 +84,7 @@ pub fn list_above(
     word: u32,
     w: &WordRef<'_>,
     found: &WordState,
-    above: &mut Vec<OpenPosition>,
+    above: &mut Vec<Place>,
 ) -> Result<(), AllocError>
     requires { IsWord (lent_word w.now) }
     ensures { (P : Patterns) → HasValues P w.now.signs.now found.now.values
@@ -119,7 +114,7 @@ fn add_kept(
     pass: Pass,
     fates: &[Choice],
     number: u32,
-    position: OpenPosition,
+    position: Place,
     kept: Kept,
 ) -> Kept
     requires placed { IsPlaced dictionary.now position }
@@ -157,7 +152,7 @@ pub fn kept_above(
     pass: Pass,
     fates: &[Choice],
     numbers: &[u32],
-    above: &[OpenPosition],
+    above: &[Place],
 ) -> Kept
     requires placed { All (IsPlaced dictionary.now) above.now }
     requires above { length above.now ≤ FILE_MAX }

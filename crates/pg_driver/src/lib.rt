@@ -6,7 +6,6 @@ mod carried_totals;
 mod choices;
 mod closed;
 mod counting;
-mod dot_set;
 mod dots;
 mod level;
 mod levels;

@@ -11,14 +11,11 @@ ghost use Rattle.pg_select.specs.Statuses.{is_odd};
 ghost use Rattle.pg_select.specs.Windows.{window, fits as fits_in};
 ghost use Rattle.pg_driver.specs.Inside.Counting.{counting, HasRoom, TookRoom};
 ghost use Rattle.pg_driver.specs.Inside.States.{IsPass};
-ghost use Rattle.pg_driver.specs.Inside.DotSets.{has_dot, no_dots};
 ghost use Rattle.pg_driver.specs.Inside.OpenSigns.{ClosesBy, closed_by, open_places, open_signs, place_from, sign_count, start_of};
 ghost use Rattle.pg_driver.specs.Inside.OpenPositions.{counted_in, counted_of, IsPlaced};
 ghost use Rattle.pg_driver.specs.Inside.PassWindows.{ArePlaces, HaveNumbers, IsNumbered, counts_at};
 
-use crate::dot_set::DotSet;
 use crate::marks::fits;
-use crate::open_positions::OpenPosition;
 use crate::pass_windows::{NOT_COUNTED, Place, note_place};
 use crate::word_start::{WordStart, go_on};
 use pg_dict::{Dictionary, WordRef};
@@ -49,7 +46,7 @@ fn count_at<E: Engine>(
     requires room { HasRoom (E.meaning engine.old).counts 1 }
     ensures ok { OnOk result (E.meaning engine.new
         ≡ counting (E.meaning engine.old)
-        (counted_in pass.level pass.len pass.dot (lent_word w.now) p false)) }
+        (counted_in pass.level pass.len pass.dot (lent_word w.now) p)) }
     ensures number { IfOk result
         (λ o. MatchOption o (fits_in w.now.signs.now p pass.len pass.dot ≡ false)
         (λ n. (fits_in w.now.signs.now p pass.len pass.dot ≡ true)
@@ -76,14 +73,13 @@ fn count_position<E: Engine>(
     engine: &mut E,
     dictionary: &Dictionary,
     pass: Pass,
-    position: OpenPosition,
+    position: Place,
     places: &mut Vec<Place>,
 ) -> Result<u32, AllocError>
     requires ranges { IsPass pass }
     requires pass { (E.meaning engine.old).pass ≡ pass }
     requires signs { SignsAtMost (E.meaning engine.old).signs dictionary.now }
     requires placed { IsPlaced dictionary.now position }
-    requires open { has_dot position.closed pass.dot ≡ false }
     requires room { HasRoom (E.meaning engine.old).counts 1 }
     requires places { ArePlaces pass dictionary.now
         (E.meaning engine.old).windows places.old.items }
@@ -104,11 +100,7 @@ fn count_position<E: Engine>(
         None => Ok(NOT_COUNTED),
         Some(number) => {
             engine.kept();
-            let place = Place {
-                word: position.word,
-                at: position.at,
-            };
-            note_place(places, number, place)?;
+            note_place(places, number, position)?;
             Ok(number)
         }
     }
@@ -161,7 +153,7 @@ pub fn count_open<E: Engine>(
 }
 
 /// The position of a sign, which stands in the word.
-fn position_at(dictionary: &Dictionary, at: WordStart, sign: usize) -> OpenPosition
+fn position_at(dictionary: &Dictionary, at: WordStart, sign: usize) -> Place
     requires start { at.start ≡ start_of dictionary.now at.word }
     requires word { at.word < length dictionary.now }
     requires behind { at.start ≤ sign }
@@ -169,14 +161,12 @@ fn position_at(dictionary: &Dictionary, at: WordStart, sign: usize) -> OpenPosit
         → sign < at.start + length w.signs }
     ensures position { result ≡ place_from 0 dictionary.now sign }
     ensures placed { IsPlaced dictionary.now result }
-    ensures closed { result.closed ≡ no_dots }
 {
     let _words = dictionary.len();
     let _w = dictionary.word(at.word);
-    OpenPosition {
+    Place {
         word: at.word as u32,
         at: (sign - at.start) as u8,
-        closed: DotSet::none(),
     }
 }
 

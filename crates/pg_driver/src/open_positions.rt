@@ -10,7 +10,6 @@ ghost use Rattle.pg_select.specs.CountedPositions.{counts_as as counts_as_of, mi
 ghost use Rattle.pg_select.specs.Sums.{totals as totals_of_words, marks_in, with_marks, HasRoomFor, TookRoomFor};
 ghost use Rattle.pg_driver.specs.Inside.OpenSigns.{is_open_first, sign_count, start_of};
 
-use crate::dot_set::DotSet;
 use crate::marks::counts_as;
 use pg_dict::{Dictionary, WordRef};
 use pg_dots::OpenDots;
@@ -20,23 +19,10 @@ use pg_translate::Table;
 use pg_types::{Mark, Totals};
 use std::alloc::{AllocError, Global};
 
-/// A position that counts by its status, and the dots of the present length whose windows do not
-/// count there. It has eight bytes.
-#[derive(Clone, Copy)]
-pub struct OpenPosition {
-    /// The number of its word in the dictionary, from 0.
-    pub word: u32,
-    /// Its place in the word.
-    pub at: u8,
-    /// The closed dots.
-    pub closed: DotSet,
-}
-
 /// The open positions of a level, and the totals, which are carried from pass to pass.
 #[derive(Drop)]
 pub struct OpenLevel {
-    /// Which dots are closed at each sign of the words, which are numbered through. No position has
-    /// more than its bits.
+    /// Which dots are closed at each sign of the words, which are numbered through.
     pub dots: OpenDots,
     /// The totals.
     pub totals: Totals,

@@ -18,7 +18,7 @@ use std::alloc::{AllocError, Global};
 /// In place of a number it says that a position was not counted.
 pub const NOT_COUNTED: u32 = u32::MAX;
 
-/// A position of a word at which a window was first counted.
+/// A position of a word.
 #[derive(Clone, Copy)]
 pub struct Place {
     /// The number of the word in the dictionary, from 0.

@@ -10,8 +10,7 @@ ghost use Rattle.pg_driver.specs.Inside.States.{IsPass};
 ghost use Rattle.pg_driver.specs.Told.{known_of, over};
 ghost use Rattle.pg_driver.specs.Inside.WordLevels.{IsWordsAt};
 
-use crate::open_positions::OpenPosition;
-use crate::pass_windows::PassWindows;
+use crate::pass_windows::{PassWindows, Place};
 use crate::words::count_words;
 use pg_dict::Dictionary;
 use pg_select::marks::no_totals;
@@ -26,9 +25,8 @@ use std::alloc::{AllocError, Global};
 pub struct WordLevel {
     /// Whether a pass was counted.
     pub is_counted: bool,
-    /// The positions that count and have a value above the level, once a pass was counted. No dot
-    /// of them is closed.
-    pub above: Vec<OpenPosition>,
+    /// The positions that count and have a value above the level, once a pass was counted.
+    pub above: Vec<Place>,
     /// The totals, once a pass was counted.
     pub totals: Totals,
 }

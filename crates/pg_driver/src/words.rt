@@ -1,5 +1,5 @@
 //! The walk over the words in a pass that hyphenates each of them.
-ghost use Rattle.std.specs.Prelude.{◌≡◌, ◌≤◌, ◌<◌, ◌+◌, ◌*◌, ◌++◌, ◌&&◌, [], not, false, if◌then◌else◌, None, Some, List, length, slice_get, slice_index, slice_index_or, IfOk, OnOk, OnErr};
+ghost use Rattle.std.specs.Prelude.{◌≡◌, ◌≤◌, ◌<◌, ◌+◌, ◌*◌, ◌++◌, ◌&&◌, [], not, false, if◌then◌else◌, None, Some, List, length, slice_get, slice_index_or, IfOk, OnOk, OnErr};
 ghost use Rattle.pg_types.specs.Counts.{SignsWithin};
 ghost use Rattle.pg_types.specs.declared.limits.TheConstants.{WORD_LETTERS_MAX};
 ghost use Rattle.pg_dict.specs.Word.{IsWord, SignsAtMost, Word, letter_count};
@@ -10,7 +10,7 @@ ghost use Rattle.pg_select.specs.Statuses.{status_at, position_weight};
 ghost use Rattle.pg_select.specs.Sums.{marks_in, totals as totals_of_words, with_mark, with_marks, HasRoomFor, TookRoomFor};
 ghost use Rattle.pg_select.specs.Windows.{fits as fits_in, window as window_of_word};
 ghost use Rattle.pg_driver.specs.Inside.Counting.{counting, HasRoom, TookRoom, IsRead};
-ghost use Rattle.pg_driver.specs.declared.open_positions.OpenPosition.{OpenPosition};
+ghost use Rattle.pg_driver.specs.declared.pass_windows.Place.{Place};
 ghost use Rattle.pg_driver.specs.Inside.OpenLevels.{listed_in, listed_from, open_as};
 ghost use Rattle.pg_driver.specs.Inside.PassWindows.{ArePlaces, GetsNumber, HaveNumbers, uncovered_at};
 ghost use Rattle.pg_driver.specs.Sound.{IsSmall};
@@ -19,7 +19,6 @@ ghost use Rattle.pg_driver.specs.Inside.WordLevels.{listing};
 
 use crate::above_positions::{is_above, list_above};
 use crate::marks::{counts_as, fits};
-use crate::open_positions::OpenPosition;
 use crate::pass_windows::{NOT_COUNTED, PassWindows, Place, note_place};
 use pg_dict::{Dictionary, WordRef};
 use pg_select::marks::{add_mark, mark_at, no_totals, positions};
@@ -105,7 +104,7 @@ fn count_position<E: Engine>(
     ensures sums { OnOk result (sums.new
         ≡ with_mark sums.old (status_at (E.meaning engine.old).patterns (lent_word w.now) p)
         (position_weight (lent_word w.now) p)) }
-    ensures numbers { OnOk result ((words : List Word) (entries : List OpenPosition)
+    ensures numbers { OnOk result ((words : List Word) (entries : List Place)
         → slice_get words word ≡ Some (lent_word w.now)
         → HaveNumbers pass (uncovered_at pass (E.meaning engine.old).patterns
         (E.meaning engine.old).hopeless) words
@@ -146,7 +145,7 @@ fn count_word<E: Engine>(
     found: &mut WordState,
     sums: &mut Totals,
     lists: bool,
-    above: &mut Vec<OpenPosition>,
+    above: &mut Vec<Place>,
     windows: &mut PassWindows,
 ) -> Result<(), AllocError>
     requires ranges { IsPass pass }
@@ -166,7 +165,7 @@ fn count_word<E: Engine>(
     ensures above { OnOk result
         (above.new.items ≡ above.old.items ++ listed_in (minima_of table.now)
         (listing lists pass.level (E.meaning engine.old).patterns) word (lent_word w.now)) }
-    ensures numbers { OnOk result ((words : List Word) (entries : List OpenPosition)
+    ensures numbers { OnOk result ((words : List Word) (entries : List Place)
         → slice_get words word ≡ Some (lent_word w.now)
         → HaveNumbers pass (uncovered_at pass (E.meaning engine.old).patterns
         (E.meaning engine.old).hopeless) words
@@ -209,7 +208,7 @@ pub fn count_words<E: Engine>(
     table: &Table,
     pass: Pass,
     lists: bool,
-    above: &mut Vec<OpenPosition>,
+    above: &mut Vec<Place>,
     windows: &mut PassWindows,
 ) -> Result<Totals, AllocError>
     requires ranges { IsPass pass }

@@ -1,7 +1,7 @@
 -- The status of a program.
 use Rattle.std.specs.Prelude.{◌≡◌, ℕ, List, String}
 use Rattle.std.specs.declared.alloc.Global.{Global}
-use Rattle.pg_top.specs.Commands.{asked}
+use Rattle.pg_words.specs.Commands.{asked}
 use Rattle.pg_top.specs.Moments.{Moment}
 use Rattle.pg_top.specs.Statuses.{code_of}
 use Rattle.pg_top.specs.WholeCalls.{IsRun}

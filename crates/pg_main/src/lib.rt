@@ -12,7 +12,7 @@ mod named;
 
 use crate::named::Named;
 pub use listen::Listen;
-use pg_messages::{Told, is_shown};
+use pg_messages::{Reasons, Told, is_shown};
 use pg_outside::{Files, HostFiles, HostSink, HostSystem, Sink};
 use pg_top::{exit_code, run_watched};
 use std::alloc::Global;
@@ -153,7 +153,12 @@ pub fn run_words<
     let mut sink = HostSink::new(out);
     let told = Told::new(alloc, rt, err, is_shown);
     let code = exit_of(alloc, env::args(rt), &mut files, &mut sink, &told);
-    let reason = reason_text(alloc, files.system().reason());
-    told.put_fault(&reason, &Named::new(rt));
+    let of_files = reason_text(alloc, files.system().reason());
+    let of_puts = reason_text(alloc, sink.reason());
+    let reasons = Reasons {
+        files: &of_files,
+        puts: &of_puts,
+    };
+    told.put_fault(&reasons, &Named::new(rt));
     code
 }

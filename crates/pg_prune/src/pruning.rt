@@ -1,15 +1,19 @@
 //! The call that prunes.
-ghost use Rattle.std.specs.Prelude.{◌≡◌, ◌+◌, IfOk, All, Contains};
+ghost use Rattle.std.specs.Prelude.{◌≡◌, ◌+◌, List, map, IfOk, All, Contains};
 ghost use Rattle.pg_translate.specs.Alphabets.{letters_of};
 ghost use Rattle.pg_patterns.specs.Values.{SignsUpTo};
-ghost use Rattle.pg_select.specs.CountedPositions.{minima_of};
-ghost use Rattle.pg_prune.specs.Prunes.{pruned};
+ghost use Rattle.pg_dict.specs.Word.{Word};
+ghost use Rattle.pg_select.specs.CountedPositions.{Minima, minima_of};
+ghost use Rattle.pg_prune.specs.Places.{places as places_of};
+ghost use Rattle.pg_prune.specs.Prunes.{need_at, pruned};
+ghost use Rattle.pg_prune.specs.Inside.Picks.{RoundsStart};
 ghost use Rattle.pg_prune.specs.Promises.{BreakAlike, NoneCanGo, HasNeeds};
 
 use crate::gather::gather;
+use crate::holders::Holders;
 use crate::kept::kept_patterns;
 use crate::places::places;
-use crate::pruned::Pruned;
+use crate::pruned::{Need, Pruned};
 use crate::rounds::{Rounds, Unseen, all_holders, all_rounds, needs};
 use pg_dict::Dictionary;
 use pg_patterns::PatternSet;
@@ -63,15 +67,60 @@ pub fn prune_watched<W: Rounds>(
     ensures part { IfOk result (λ found. All (Contains patterns.now) found.patterns) }
     ensures known { IfOk result (λ found. SignsUpTo (letters_of table.now + 1) found.patterns) }
 {
-    let count = patterns.len();
+    let found = find(alloc, dictionary, table, patterns, watch)?;
+    Ok(found)
+}
+
+/// The same, said by the definition alone.
+fn find<W: Rounds>(
+    alloc: Global,
+    dictionary: &Dictionary,
+    table: &Table,
+    patterns: &PatternSet,
+    watch: &W,
+) -> Result<Pruned, AllocError>
+    ensures { IfOk result
+        (λ found. found ≡ pruned (minima_of table.now) dictionary.now patterns.now) }
+{
+    let _count = patterns.len();
     let places = places(alloc, dictionary, table)?;
     let lists = gather(alloc, dictionary, table, patterns)?;
     let standing = lists.as_slice();
     let mut all = all_holders(alloc, patterns, standing, places.len())?;
-    let holders = all.as_mut_slice();
+    let found = settle(
+        alloc,
+        patterns,
+        standing,
+        places.as_slice(),
+        all.as_mut_slice(),
+        watch,
+    )?;
+    Ok(found)
+}
+
+/// Makes the rounds. `places` are those of the words, `standing` says at which of them each entry
+/// stands, and `holders` what all entries give to each.
+fn settle<W: Rounds>(
+    alloc: Global,
+    patterns: &PatternSet,
+    standing: &[Vec<usize>],
+    places: &[Need],
+    holders: &mut [Holders],
+    watch: &W,
+) -> Result<Pruned, AllocError>
+    requires { (m : Minima) × ((words : List Word)
+        × ((places.now ≡ map need_at (places_of m words))
+        × RoundsStart (places_of m words) patterns.now (map (λ l. l.items) standing.now)
+        holders.old)) }
+    ensures { (m : Minima) (words : List Word) → places.now ≡ map need_at (places_of m words)
+        → RoundsStart (places_of m words) patterns.now (map (λ l. l.items) standing.now)
+        holders.old
+        → IfOk result (λ found. found ≡ pruned m words patterns.now) }
+{
+    let count = patterns.len();
     let finished = all_rounds(alloc, patterns, standing, holders, watch)?;
     let kept = finished.kept.as_slice();
-    let needs = needs(alloc, patterns, standing, places.as_slice(), holders, kept)?;
+    let needs = needs(alloc, patterns, standing, places, holders, kept)?;
     let removed = count - kept.len();
     let patterns = kept_patterns(alloc, patterns, kept)?;
     Ok(Pruned::new(patterns, needs, finished.count, removed as u64))

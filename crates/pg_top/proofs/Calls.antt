@@ -6,7 +6,7 @@ use Rattle.std.specs.Option.{option_map}
 use Rattle.pg_types.specs.declared.refusals.Refusal.{Refusal}
 use Rattle.pg_outside.specs.Content.{FileMap, FilesShown, SinkShown, KeepsHeld, file_at}
 use Rattle.pg_outside.specs.Faults.{NoneFell, Rose}
-use Rattle.pg_top.specs.Answers.{MayAnswer, DoesAll, IsAnswered, IsSampled, IsAnswerOf, IsCall}
+use Rattle.pg_top.specs.Answers.{MayAnswer, DoesAll, IsAnswered, IsAnswerOf, IsCall}
 use Rattle.pg_top.specs.Calls.{outcome, outcome_of, finished, reads_of, writes_of}
 use Rattle.pg_top.specs.Counted.{MakesCalls, MakesPuts, read_calls, write_calls, PutsFault, PutsCounted, LinesCounted, ReadsUpTo, IsUnreadAt, EndsAt, IsEndCounted}
 use Rattle.pg_top.specs.Faults.{FilesRose, StopsWriting, DoesPart}
@@ -14,7 +14,7 @@ use Rattle.pg_top.specs.Moments.{Moment, OfFiles, Puts, PutsPart, PutRose, PutOr
 use Rattle.pg_top.specs.Outcomes.{Ends, Writing, refuses}
 use Rattle.pg_top.specs.PrintedLines.{usage_line, refused_line, reading_line, writing_line}
 use Rattle.pg_top.specs.Readings.{first_end}
-use Rattle.pg_top.specs.Requests.{Request, ToGenerate, ToAudit, ToSample, ToPack, ToTotals, ToPrune, ToSweep}
+use Rattle.pg_words.specs.Requests.{Request, ToGenerate, ToAudit, ToSample, ToPack, ToTotals, ToPrune, ToSweep}
 use Rattle.pg_top.specs.SampleTexts.{sample_lines}
 use Rattle.pg_top.specs.Inside.Stops.{StopsWith, StopsReading, StopsCommandWith, StopsCommand, PutsAnswer, PutsLines, PutsStop, Finishes}
 use Rattle.pg_top.specs.Writings.{written_names, after_all, IsPartWritten, WroteAll, StoppedAt}
@@ -297,9 +297,3 @@ sample_call seed count s o0 o1 answer (inr h) puts = answered_call (ToSample see
     told : (held : Option FileMap) → IfSome held (λ files. outcome_of (file_at files) (ToSample seed count) ≡ Ends Done [] (sample_lines seed count))
     told None = tt
     told (Some files) = refl
-
--- its lines are put where it is done
-pub sampled : (seed count : ℕ) (s0 s1 : FilesShown) (o0 o1 : SinkShown) (answer : Status) → PutsLines (sample_lines seed count) answer o0 o1 → IsSampled (Some (ToSample seed count)) answer (s0, o0) (s1, o1)
-sampled seed count s0 s1 o0 o1 answer (inl h) = subst (λ (status : Status). IsSampled (Some (ToSample seed count)) status (s0, o0) (s1, o1)) (sym h.0) tt
-sampled seed count s0 s1 o0 o1 answer (inr (inl h)) = subst (λ (status : Status). IsSampled (Some (ToSample seed count)) status (s0, o0) (s1, o1)) (sym h.0) h.1
-sampled seed count s0 s1 o0 o1 answer (inr (inr h)) = subst (λ (status : Status). IsSampled (Some (ToSample seed count)) status (s0, o0) (s1, o1)) (sym h.0) tt

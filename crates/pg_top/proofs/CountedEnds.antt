@@ -1,12 +1,12 @@
 -- The calls and puts of a command at each of its ends.
-use Rattle.std.proofs.Common.{◌≡◌, ℕ, List, ◌++◌, IfSome, inl, inr, sym, subst, ap, refl}
+use Rattle.std.proofs.Common.{◌≡◌, ℕ, List, ◌++◌, inl, inr, sym, subst, ap}
 use Rattle.pg_types.specs.declared.refusals.Refusal.{Refusal}
 use Rattle.pg_outside.specs.Content.{FilesShown, SinkShown, file_at}
 use Rattle.pg_top.specs.Calls.{reads_of, writes_of, outcome_of}
-use Rattle.pg_top.specs.Counted.{MakesCalls, MakesPuts, read_calls, write_calls, PutsCounted, LinesCounted, EndsAt, IsEndedCounted, IsEndCounted, IsCounted}
+use Rattle.pg_top.specs.Counted.{MakesCalls, MakesPuts, read_calls, write_calls, PutsCounted, EndsAt, IsEndedCounted, IsEndCounted, IsCounted}
 use Rattle.pg_top.specs.Outcomes.{Writing, refuses}
-use Rattle.pg_top.specs.Requests.{Request, ToSample}
-use Rattle.pg_top.specs.Inside.Stops.{StopsCommand, PutsAnswer, PutsLines, Finishes}
+use Rattle.pg_words.specs.Requests.{Request, ToSample}
+use Rattle.pg_top.specs.Inside.Stops.{StopsCommand, PutsAnswer, Finishes}
 use Rattle.pg_top.specs.Writings.{written_names}
 use Rattle.pg_top.specs.declared.answers.Status.{Status}
 use Rattle.pg_top.specs.declared.answers.Status.TheVariants.{Done, Refused, Fault, Memory}
@@ -54,11 +54,3 @@ counted_finish request writing lines s0 s1 s2 o0 o1 answer named read (inr h) = 
 -- `sample` reads and writes nothing
 pub sample_whole : (seed count : ℕ) (s : FilesShown) (o0 o1 : SinkShown) → MakesPuts o0 o1 1 → IsEndCounted (ToSample seed count) Done (s, o0) (s, o1)
 sample_whole seed count s o0 o1 puts = (no_calls s, puts)
-
-pub sample_counted : (seed count : ℕ) (lines : List ℕ) (s : FilesShown) (o0 o1 : SinkShown) (answer : Status) → PutsLines lines answer o0 o1 → LinesCounted answer o0 o1 → IsCounted (ToSample seed count) answer (s, o0) (s, o1)
-sample_counted seed count lines s o0 o1 answer (inl h) puts =
-    subst (λ (answer : Status). IsCounted (ToSample seed count) answer (s, o0) (s, o1)) (sym h.0) (inl refl, subst (λ (answer : Status). LinesCounted answer o0 o1) h.0 puts)
-sample_counted seed count lines s o0 o1 answer (inr (inl h)) puts =
-    subst (λ (answer : Status). IsCounted (ToSample seed count) answer (s, o0) (s, o1)) (sym h.0) (sample_whole seed count s o0 o1 (subst (λ (answer : Status). LinesCounted answer o0 o1) h.0 puts))
-sample_counted seed count lines s o0 o1 answer (inr (inr h)) puts =
-    subst (λ (answer : Status). IsCounted (ToSample seed count) answer (s, o0) (s, o1)) (sym h.0) tt

@@ -6,10 +6,6 @@ use Rattle.pg_outside.specs.Faults.{Rose, NoneFell}
 pub rose_since : (a b c : ℕ) → a ≤ b → Rose b c → Rose a c
 rose_since a b c fell rose = omega arith
 
--- a count that rose in an earlier call rose in both together
-pub rose_until : (a b c : ℕ) → Rose a b → b ≤ c → Rose a c
-rose_until a b c rose fell = omega arith
-
 -- no count fell, in two steps
 pub none_fell : (a b c : List ℕ → ℕ) → NoneFell a b → NoneFell b c → NoneFell a c
 none_fell a b c f g name = let x : a name ≤ b name = f name in let y : b name ≤ c name = g name in omega arith

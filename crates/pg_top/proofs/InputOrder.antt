@@ -12,7 +12,7 @@ use Rattle.pg_dict.specs.Words.{words}
 use Rattle.pg_patterns.specs.Starts.{start}
 use Rattle.pg_top.specs.Calls.{outcome_of, finished}
 use Rattle.pg_top.specs.Readings.{Reading, read_as, input_file}
-use Rattle.pg_top.specs.Requests.{FileNames, ToGenerate}
+use Rattle.pg_words.specs.Requests.{FileNames, ToGenerate}
 use Rattle.pg_top.specs.Selecting.{table_in, inputs_in, inputs_of, generated, HasInputs}
 use Rattle.pg_top.specs.Inside.Stops.{StopsAt, StopsReading}
 use Rattle.pg_top.specs.declared.inputs.Input.TheVariants as input

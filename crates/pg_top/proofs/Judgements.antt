@@ -1,5 +1,5 @@
 -- Given files that are compared.
-use Rattle.std.proofs.Common.{◌≡◌, ℕ, ◌+◌, ◌≤◌, List, [], ◌∷◌, ◌++◌, ◌<◌, Vec, length, map, take, drop, Option, None, Some, IfSome, inl, inr, refl, sym, ap, ◌∙◌, subst, arith, length-append}
+use Rattle.std.proofs.Common.{◌≡◌, ℕ, ◌+◌, ◌≤◌, List, [], ◌∷◌, ◌++◌, ◌<◌, Vec, length, map, take, drop, Option, None, Some, IfSome, inl, inr, refl, sym, ap, ◌∙◌, subst, arith}
 use Rattle.std.specs.Option.{option_map, option_map_or, option_or}
 use Rattle.std.specs.Prelude.{slice_get, unwrap_or}
 use Rattle.std.specs.declared.alloc.Global.{Global}
@@ -9,7 +9,7 @@ use Rattle.pg_audit.specs.Differences.{Difference, first_false}
 use Rattle.pg_audit.specs.FoundLines.{printed_of}
 use Rattle.pg_audit.proofs.PrintedPart.{part_printed}
 use Rattle.pg_outside.specs.Content.{FileMap, FilesShown, SinkShown, KeepsHeld, file_at}
-use Rattle.pg_outside.specs.Faults.{NoneFell, next_count}
+use Rattle.pg_outside.specs.Faults.{NoneFell}
 use Rattle.pg_outside.specs.FilesCalls.{Reads}
 use Rattle.pg_top.specs.Answers.{IsCall}
 use Rattle.pg_top.specs.Auditing.{denies, given_file, given_names, given_files}
@@ -18,7 +18,7 @@ use Rattle.pg_top.specs.Counted.{MakesCalls, MakesPuts, read_call, read_calls, R
 use Rattle.pg_top.specs.Outcomes.{Outcome, Unknown, Ends, refuses}
 use Rattle.pg_top.specs.PrintedLines.{no_line, yes_line}
 use Rattle.pg_top.specs.Readings.{Held, Reading, first_end}
-use Rattle.pg_top.specs.Requests.{FileNames, ToAudit, if_asked}
+use Rattle.pg_words.specs.Requests.{FileNames, ToAudit, if_asked}
 use Rattle.pg_top.specs.Selection.{selected_text, selected_report}
 use Rattle.pg_top.specs.Selecting.{HasInputs, inputs_in, inputs_of}
 use Rattle.pg_top.specs.Inside.Stops.{StopsAt, StopsWith, StopsReading}

@@ -12,7 +12,7 @@ use Rattle.pg_top.specs.Calls.{outcome_of}
 use Rattle.pg_top.specs.Outcomes.{Ends, Unknown}
 use Rattle.pg_top.specs.PrintedLines.{refused_line, reading_line}
 use Rattle.pg_top.specs.Readings.{Held}
-use Rattle.pg_top.specs.Requests.{FileNames, SweepRequest, ToGenerate, ToAudit, ToSample, ToPack, ToTotals, ToSweep, request_of}
+use Rattle.pg_words.specs.Requests.{FileNames, SweepRequest, ToGenerate, ToAudit, ToSample, ToPack, ToTotals, ToSweep, request_of}
 use Rattle.pg_top.specs.SampleTexts.{ending, syllable, word, sample_text}
 use Rattle.pg_top.specs.Selection.{selection, selected, selected_account, passes_begun, selected_cells_from, selected_cells, selected_text, selected_list, selected_cells_text, selected_report}
 use Rattle.pg_top.specs.declared.answers.Status.TheVariants.{Done, Yes, No, Refused}

@@ -20,7 +20,7 @@ use Rattle.pg_top.specs.Outcomes.{Ends, Writing, refuses}
 use Rattle.pg_top.specs.PackedTables.{file_under, packed_table, table_refused, packing_reads, packed, packed_text, totals_reads, totals_lines}
 use Rattle.pg_top.specs.Promises.{GivesValues, PackKeeps}
 use Rattle.pg_top.specs.Readings.{Reading, read_as, input_file}
-use Rattle.pg_top.specs.Requests.{ToPack, ToTotals}
+use Rattle.pg_words.specs.Requests.{ToPack, ToTotals}
 use Rattle.pg_top.specs.Inside.Sources.{HasSource, IsTotalled}
 use Rattle.pg_top.specs.Inside.Stops.{StopsAt, StopsReading, StopsCommandWith, StopsCommand, StopsMaking}
 use Rattle.pg_top.specs.declared.answers.Status.TheVariants.{Done}

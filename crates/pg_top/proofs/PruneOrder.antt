@@ -21,7 +21,7 @@ use Rattle.pg_select.specs.CountedPositions.{minima_of}
 use Rattle.pg_top.specs.Promises.{words_under, patterns_under, ReadsBack, PruneKeeps}
 use Rattle.pg_top.specs.Pruning.{prune_reads, pruned_by, line_of_pruned}
 use Rattle.pg_top.specs.Readings.{Reading, read_as, input_file}
-use Rattle.pg_top.specs.Requests.{PruneRequest, ToPrune}
+use Rattle.pg_words.specs.Requests.{PruneRequest, ToPrune}
 use Rattle.pg_top.specs.Selecting.{table_named}
 use Rattle.pg_top.specs.Inside.Stops.{StopsAt, StopsReading}
 use Rattle.pg_top.specs.declared.inputs.Input.TheVariants as input

@@ -1,8 +1,7 @@
 -- What `sample` reads is not refused.
 use Rattle.std.proofs.Common.{◌≡◌, Result, Ok, List, [], ℕ, refl, ap, sym}
-use Rattle.std.specs.Prelude.{codes}
 use Rattle.std.specs.Result.{result_unwrap_or}
-use Rattle.pg_types.specs.Parameters.{Parameters, parameters}
+use Rattle.pg_types.specs.Parameters.{Parameters}
 use Rattle.pg_types.specs.Reading.{Fails}
 use Rattle.pg_types.specs.declared.refusals.Refusal.{Refusal}
 use Rattle.pg_types.specs.declared.refusals.ReadingError.{ReadingError}
@@ -18,10 +17,6 @@ use Rattle.pg_top.specs.declared.reading.Inputs.{Inputs}
 pub only_memory : {Y : Type 0} (error : ReadingError) (got : Result Y Refusal) (y : Y) → got ≡ Ok y → Fails error got → error ≡ reader.Memory
 only_memory (reader.Refused refusal) got y accepted fails = cc
 only_memory reader.Memory got y accepted fails = refl
-
--- the parameters are read as they are defined
-pub parameters_read : parameters (codes "1 2 1 3 1 2 20 2 4 2 1 8") ≡ Ok sample_parameters
-parameters_read = refl
 
 -- the dictionary that is read is that of the selection
 pub dictionary_is : (seed count : ℕ) (found : List Word) → words default_alphabet (sample_text seed count) ≡ Ok found → found ≡ (sample_inputs seed count).dictionary

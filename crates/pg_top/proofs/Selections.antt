@@ -1,5 +1,5 @@
 -- What the driver gives over a new engine is the selection.
-use Rattle.std.proofs.Common.{◌≡◌, ℕ, ◌<◌, ◌-◌, List, [], ◌∷◌, Option, None, Some, fold, map, length, get_or, refl, ap, subst, ◌∙◌, arith}
+use Rattle.std.proofs.Common.{◌≡◌, ℕ, List, [], ◌∷◌, Option, None, Some, fold, map, refl, ap, subst, arith}
 use Rattle.std.specs.Option.{option_map}
 use Rattle.pg_types.specs.declared.marks.Layout.{Layout}
 use Rattle.pg_types.specs.Placement.{Families}
@@ -60,17 +60,6 @@ last_of (l ∷ levels) (t ∷ told) first start is same =
 
 pub last_is : (a : CellsAccount) (r : Finished) → TellsCells (Some a) r → last_told r ≡ Some (last_layout a)
 last_is a r tells = last_of r.levels a.levels r.first_layout a.start tells.0 tells.2
-
--- the last of a list
-last_behind : (l : LevelRecord) (levels : List LevelRecord) (first : Option Layout) (d : LevelRecord) → fold (λ _ l. l.layout) first (l ∷ levels) ≡ (get_or (l ∷ levels) (length levels) d).layout
-last_behind l [] first d = refl
-last_behind l (m ∷ levels) first d = last_behind m levels l.layout d
-
-pub last_at : (levels : List LevelRecord) (first : Option Layout) (d : LevelRecord) → 0 < length levels → fold (λ _ l. l.layout) first levels ≡ (get_or levels (length levels - 1) d).layout
-last_at [] first d some = absurd (omega arith)
-last_at (l ∷ levels) first d some =
-    let place : length levels ≡ length (l ∷ levels) - 1 = omega arith in
-    last_behind l levels first d ∙ ap (λ k. (get_or (l ∷ levels) k d).layout) place
 
 -- over the packed engine these are the cells
 pub cells_packed : (i : Inputs) (fs : Option Families) (r : Finished) → fs ≡ Some (pattern_families (signs_of i) i.start) → TellsCells (option_map (selected_cells_from i) fs) r → TellsCells (Some (selected_cells i)) r

@@ -7,7 +7,7 @@ use Rattle.pg_types.specs.Parameters.{Parameters, parameters}
 use Rattle.pg_outside.specs.Content.{FileMap, FilesShown, KeepsHeld, file_at}
 use Rattle.pg_outside.specs.Faults.{NoneFell}
 use Rattle.pg_outside.specs.FilesCalls.{Reads}
-use Rattle.pg_top.specs.Commands.{words_of}
+use Rattle.pg_words.specs.Commands.{words_of}
 use Rattle.pg_top.specs.Counted.{MakesCalls, read_calls}
 use Rattle.pg_top.specs.Readings.{Held, Reading, read_as}
 use Rattle.pg_top.specs.Inside.Stops.{StopsAt, StopsReading}

@@ -17,7 +17,7 @@ use Rattle.pg_top.specs.Calls.{outcome_of, finished}
 use Rattle.pg_top.specs.Counted.{MakesCalls, read_call, read_calls}
 use Rattle.pg_top.specs.PackedTables.{file_under}
 use Rattle.pg_top.specs.Readings.{Reading, read_as, input_file}
-use Rattle.pg_top.specs.Requests.{SweepRequest, ToSweep}
+use Rattle.pg_words.specs.Requests.{SweepRequest, ToSweep}
 use Rattle.pg_top.specs.Inside.Stops.{StopsAt, StopsReading}
 use Rattle.pg_top.specs.Sweeping.{set_files, sweep_reads, HasSets, HasSweep, swept}
 use Rattle.pg_top.specs.declared.inputs.Input.TheVariants as input

@@ -13,7 +13,7 @@ use Rattle.pg_top.specs.Outcomes.{Ends}
 use Rattle.pg_top.specs.PrintedLines.{winner_line}
 use Rattle.pg_top.specs.Promises.{set_costs, SweepNames}
 use Rattle.pg_top.specs.Readings.{Held, first_end}
-use Rattle.pg_top.specs.Requests.{SweepRequest, ToSweep}
+use Rattle.pg_words.specs.Requests.{SweepRequest, ToSweep}
 use Rattle.pg_top.specs.Inside.SweepInputs.{line_of_sweep}
 use Rattle.pg_top.specs.Sweeping.{set_named, sweep_reads, terms_in, sets_in, swept_rows, sweep_ends, swept}
 use Rattle.pg_top.specs.declared.answers.Status.TheVariants.{Done}

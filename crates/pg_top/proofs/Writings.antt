@@ -3,13 +3,12 @@ use Rattle.std.proofs.Common.{◌≡◌, ℕ, ◌+◌, ◌<◌, ◌≤◌, List,
 use Rattle.std.specs.Prelude.{slice_get}
 use Rattle.std.proofs.lemmas.List.{drop_more, length-map, map-append}
 use Rattle.std.proofs.lemmas.Option.{slice_get_within, get_or_from_slice_get, slice_get-map}
-use Rattle.std.proofs.Math.ListN.{drop_of_length-le}
 use Rattle.std.specs.Option.{option_map}
 use Rattle.pg_outside.specs.Content.{FileMap, FilesShown, WasWritten, WasPartWritten}
 use Rattle.pg_outside.specs.Faults.{Rose, NoneFell}
 use Rattle.pg_top.specs.Counted.{MakesCalls, write_calls}
 use Rattle.pg_top.specs.Outcomes.{Writing}
-use Rattle.pg_top.specs.Writings.{after_all, IsPartWritten, named_text, writing_of, written_names, WroteAll, StoppedAt}
+use Rattle.pg_top.specs.Writings.{after_all, IsPartWritten, named_text, writing_of, written_names, StoppedAt}
 use Rattle.pg_top.specs.declared.writes.Output.{Output}
 use Rattle.pg_top.proofs.CountedCalls.{all_writes}
 use Rattle.pg_top.proofs.Faults.{rose_since}
@@ -43,12 +42,6 @@ failed_at h0 None (Some after) ws rest w so part = absurd part
 failed_at None (Some mid) (Some after) ws rest w so part = absurd so
 failed_at (Some before) (Some mid) (Some after) ws rest w so part = so.stands after w.0 (inl (refl, part))
 
--- all are written
-whole : (h0 h1 : Option FileMap) (ws : Writing) → OfHeld h0 h1 (λ before mid. Continues before mid ws []) → OfHeld h0 h1 (λ before after. after ≡ after_all before ws)
-whole h0 None ws so = tt
-whole None (Some after) ws so = absurd so
-whole (Some before) (Some after) ws so = so.all
-
 -- the write at a place, and those behind it
 pub from_place : (ws : List Output) (i : ℕ) (w : Output) → slice_get ws i ≡ Some w → writing_of (drop i ws) ≡ named_text w ∷ writing_of (drop (i + 1) ws)
 from_place ws i w at = ap writing_of (drop_more ws i w (slice_get_within ws i w at) ∙ ap (λ y. y ∷ drop (i + 1) ws) (get_or_from_slice_get ws i w w at))
@@ -63,9 +56,6 @@ name_there ws i w at = slice_get-map (λ (w : List ℕ × List ℕ). w.0) (writi
 pub all_called : (ws : List Output) (i : ℕ) (s0 s1 : FilesShown) → length ws ≤ i → MakesCalls s0 s1 (write_calls (take i (written_names (writing_of ws)))) → MakesCalls s0 s1 (write_calls (written_names (writing_of ws)))
 all_called ws i s0 s1 far calls = all_writes (written_names (writing_of ws)) i s0 s1 (omega (arith, length-map (writing_of ws) (λ (w : List ℕ × List ℕ). w.0), length-map ws named_text)) calls
 
-pub none_left : (ws : List Output) (i : ℕ) → length ws ≤ i → writing_of (drop i ws) ≡ []
-none_left ws i far = ap writing_of (drop_of_length-le ws far)
-
 -- the facts of the loop
 pub step_on : (h0 h1 h2 : Option FileMap) (ws : List Output) (i : ℕ) (w : Output) → slice_get ws i ≡ Some w → OfHeld h0 h1 (λ before mid. Continues before mid (writing_of ws) (writing_of (drop i ws))) → WasWritten h1 h2 w.name.now w.text.items
     → OfHeld h0 h2 (λ before mid. Continues before mid (writing_of ws) (writing_of (drop (i + 1) ws)))
@@ -79,9 +69,6 @@ step_failed s0 s1 s2 ws i w at so fell part rose = record {
   rose = rose_since (s0.write_faults w.name.now) (s1.write_faults w.name.now) (s2.write_faults w.name.now) (fell w.name.now) rose;
   part = failed_at s0.held s1.held s2.held (writing_of ws) (writing_of (drop (i + 1) ws)) (named_text w) (subst (λ rest. OfHeld s0.held s1.held (λ before mid. Continues before mid (writing_of ws) rest)) (from_place ws i w at) so) part;
 }
-
-pub all_written : (s0 s1 : FilesShown) (ws : List Output) (i : ℕ) → length ws ≤ i → OfHeld s0.held s1.held (λ before mid. Continues before mid (writing_of ws) (writing_of (drop i ws))) → WroteAll s0 s1 (writing_of ws)
-all_written s0 s1 ws i far so = whole s0.held s1.held (writing_of ws) (subst (λ rest. OfHeld s0.held s1.held (λ before mid. Continues before mid (writing_of ws) rest)) (none_left ws i far) so)
 
 -- the place at which writing stopped is one of the list, and its name is that of its file
 pub place_within : (ws : List Output) (place : ℕ) (write : List ℕ × List ℕ) → slice_get (writing_of ws) place ≡ Some write → place < length ws

@@ -6,7 +6,7 @@ use Rattle.pg_audit.specs.FoundLines.{printed_of}
 use Rattle.pg_top.specs.Outcomes.{Outcome, Ends}
 use Rattle.pg_top.specs.PrintedLines.{no_line}
 use Rattle.pg_top.specs.Readings.{Held, Reading}
-use Rattle.pg_top.specs.Requests.{FileNames, if_asked}
+use Rattle.pg_words.specs.Requests.{FileNames, if_asked}
 use Rattle.pg_top.specs.Selection.{selected_text, selected_list, selected_report}
 use Rattle.pg_top.specs.declared.answers.Status.TheVariants.{No}
 use Rattle.pg_top.specs.declared.inputs.Given.{Given}

@@ -7,7 +7,7 @@ use Rattle.pg_top.specs.PackedTables.{packing_reads, packed_in, totals_reads, to
 use Rattle.pg_top.specs.PrintedLines.{usage_line, yes_line}
 use Rattle.pg_top.specs.Pruning.{prune_reads, pruned_in}
 use Rattle.pg_top.specs.Readings.{Held, Reading, first_end}
-use Rattle.pg_top.specs.Requests.{Request, ToGenerate, ToAudit, ToSample, ToPack, ToTotals, ToPrune, ToSweep, output_names}
+use Rattle.pg_words.specs.Requests.{Request, ToGenerate, ToAudit, ToSample, ToPack, ToTotals, ToPrune, ToSweep, output_names}
 use Rattle.pg_top.specs.SampleTexts.{sample_lines}
 use Rattle.pg_top.specs.Selecting.{inputs_of, inputs_in, generated}
 use Rattle.pg_top.specs.Sweeping.{sweep_reads, swept_in}

@@ -6,7 +6,7 @@ use Rattle.pg_top.specs.Counted.{MakesCalls, read_calls, write_calls, ReadsUpTo,
 use Rattle.pg_top.specs.Moments.{Moment, OfFiles, KeepsFiles, PutsPart, ReadRose, WriteRose, PutRose, PutOrRose}
 use Rattle.pg_top.specs.Outcomes.{Outcome, Unknown, Ends}
 use Rattle.pg_top.specs.PrintedLines.{usage_line, reading_line, writing_line}
-use Rattle.pg_top.specs.Requests.{Request}
+use Rattle.pg_words.specs.Requests.{Request}
 use Rattle.pg_top.specs.Writings.{after_all, IsPartWritten}
 use Rattle.pg_top.specs.declared.answers.Status.{Status}
 

@@ -1,5 +1,3 @@
-pub mod Requests
-pub mod Commands
 pub mod Statuses
 pub mod PrintedLines
 pub mod Outcomes

@@ -21,7 +21,7 @@ use Rattle.pg_top.specs.Outcomes.{Ends}
 use Rattle.pg_top.specs.PackedTables.{meant_under, packed_table}
 use Rattle.pg_top.specs.PrintedLines.{winner_line}
 use Rattle.pg_top.specs.Readings.{Held}
-use Rattle.pg_top.specs.Requests.{Request, PruneRequest, SweepRequest, ToPack, ToPrune, ToSweep}
+use Rattle.pg_words.specs.Requests.{Request, PruneRequest, SweepRequest, ToPack, ToPrune, ToSweep}
 use Rattle.pg_top.specs.Selecting.{table_named}
 use Rattle.pg_top.specs.Sweeping.{terms_in, sets_in, swept_rows}
 use Rattle.pg_top.specs.declared.answers.Status.{Status}

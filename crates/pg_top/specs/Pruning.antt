@@ -14,7 +14,7 @@ use Rattle.pg_top.specs.Outcomes.{Outcome, Ends, Writing}
 use Rattle.pg_top.specs.PackedTables.{file_under, meant_under}
 use Rattle.pg_top.specs.PrintedLines.{pruned_line}
 use Rattle.pg_top.specs.Readings.{Held, Reading, input_file}
-use Rattle.pg_top.specs.Requests.{PruneRequest}
+use Rattle.pg_words.specs.Requests.{PruneRequest}
 use Rattle.pg_top.specs.Selecting.{table_named}
 use Rattle.pg_top.specs.declared.answers.Status.TheVariants.{Done}
 use Rattle.pg_top.specs.declared.inputs.Input.TheVariants as input

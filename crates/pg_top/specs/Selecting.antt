@@ -8,7 +8,7 @@ use Rattle.pg_patterns.specs.Starts.{start}
 use Rattle.pg_top.specs.Outcomes.{Outcome, Ends, Writing}
 use Rattle.pg_top.specs.PrintedLines.{done_line, work_line}
 use Rattle.pg_top.specs.Readings.{Held, Reading, read_as, meant, input_file}
-use Rattle.pg_top.specs.Requests.{FileNames, if_asked}
+use Rattle.pg_words.specs.Requests.{FileNames, if_asked}
 use Rattle.pg_top.specs.Selection.{selected_text, selected_list, selected_cells_text, selected_report, selected_account, selected_cells, passes_begun, last_layout}
 use Rattle.pg_top.specs.declared.answers.Status.TheVariants.{Done}
 use Rattle.pg_top.specs.declared.inputs.Input.TheVariants as input

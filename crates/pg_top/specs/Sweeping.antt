@@ -13,7 +13,7 @@ use Rattle.pg_top.specs.Outcomes.{Outcome, Ends}
 use Rattle.pg_top.specs.PackedTables.{file_under, meant_under}
 use Rattle.pg_top.specs.PrintedLines.{winner_line}
 use Rattle.pg_top.specs.Readings.{Held, Reading, read_as, meant, input_file}
-use Rattle.pg_top.specs.Requests.{SweepRequest}
+use Rattle.pg_words.specs.Requests.{SweepRequest}
 use Rattle.pg_top.specs.Selecting.{table_named}
 use Rattle.pg_top.specs.declared.answers.Status.TheVariants.{Done}
 use Rattle.pg_top.specs.declared.inputs.Input.TheVariants as input

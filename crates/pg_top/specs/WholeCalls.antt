@@ -5,7 +5,7 @@ use Rattle.pg_top.specs.Calls.{has_files}
 use Rattle.pg_top.specs.Counted.{IsCountedCall}
 use Rattle.pg_top.specs.Moments.{Moment}
 use Rattle.pg_top.specs.Promises.{IsPromised}
-use Rattle.pg_top.specs.Requests.{Request}
+use Rattle.pg_words.specs.Requests.{Request}
 use Rattle.pg_top.specs.declared.answers.Status.{Status}
 
 -- files and a sink were handed to a call that was asked for this, and it gave this answer

@@ -7,18 +7,18 @@ ghost use Rattle.pg_outside.specs.Content.{KeepsHeld, file_at};
 ghost use Rattle.pg_outside.specs.Faults.{NoneFell, next_count};
 ghost use Rattle.pg_outside.specs.FilesCalls.{Reads};
 ghost use Rattle.pg_patterns.specs.Values.{SignsUpTo};
+ghost use Rattle.pg_select.specs.Meanings.{new_engine};
 ghost use Rattle.pg_top.specs.Auditing.{denies, given_file, given_files};
 ghost use Rattle.pg_top.specs.Calls.{outcome_of, reads_of};
-ghost use Rattle.pg_top.specs.Commands.{name_now, texts_of};
+ghost use Rattle.pg_words.specs.Commands.{name_now, texts_of};
 ghost use Rattle.pg_top.specs.Counted.{MakesCalls};
 ghost use Rattle.pg_top.specs.Readings.{first_end};
-ghost use Rattle.pg_top.specs.Requests.{ToAudit, if_asked};
+ghost use Rattle.pg_words.specs.Requests.{ToAudit, if_asked};
 ghost use Rattle.pg_top.specs.Selection.{signs_of, HasSigns, selected, selected_account};
 ghost use Rattle.pg_top.specs.Inside.Stops.{StopsFront, StopsAt, StopsReading};
 ghost use Rattle.pg_top.specs.Inside.Verdicts.{wanted_file, wanted_files, end_of, outcome_by, ReadsToFind, IsFrontOf, PutsVerdict};
 
 use crate::answers::Status;
-use crate::commands::Names;
 use crate::inputs::{Given, Stop};
 use crate::no_lines::no_line;
 use crate::puts::answer;
@@ -31,6 +31,7 @@ use pg_plain::PlainEngine;
 use pg_select::Engine;
 use pg_texts::{pattmp_text, report_text};
 use pg_watch::{Watch, Watched};
+use pg_words::Names;
 use std::alloc::{AllocError, Global};
 
 /// The line where all given files are right.
@@ -135,8 +136,25 @@ fn make_wanted<'a, W: Watch>(
     watch.selects(names.patterns, &inputs.params, &inputs.start);
     let engine = PlainEngine::new(alloc, inputs.table.letters() + 1, &inputs.start)?;
     let mut engine = Watched::new(engine, &inputs.params, watch);
-    let run = select(alloc, &mut engine, inputs)?;
-    wanted_after(alloc, names, inputs, &engine, &run)
+    run_wanted(alloc, names, inputs, &mut engine)
+}
+
+/// Does the run over an engine that was just made, and builds the texts that the given files should
+/// be, in their order.
+fn run_wanted<'a, E: Engine>(
+    alloc: Global,
+    names: &Names<'a>,
+    inputs: &Inputs,
+    engine: &mut E,
+) -> Result<Vec<Wanted<'a>>, AllocError>
+    requires new { E.meaning engine.old
+        ≡ new_engine (signs_of inputs.now) inputs.now.start (E.meaning engine.old).families }
+    requires signs { HasSigns inputs.now }
+    ensures { IfOk result (λ wanted.
+        wanted_files wanted.items ≡ given_files (λ _. inputs.now) (texts_of names.now)) }
+{
+    let run = select(alloc, engine, inputs)?;
+    wanted_after(alloc, names, inputs, engine, &run)
 }
 
 /// Reads a given file. The right one has this size. Of a file that is longer by more than `MORE`

@@ -6,7 +6,7 @@ use pg_types::Refusal;
 use std::alloc::AllocError;
 
 /// A file that `audit` compares with the one that `generate` would write.
-#[derive(Clone, Copy, Debug, PartialEq, Eq)]
+#[derive(Clone, Copy)]
 pub enum Given {
     /// The pattern file.
     Patterns,
@@ -17,7 +17,7 @@ pub enum Given {
 }
 
 /// As what a file is read.
-#[derive(Clone, Copy, Debug, PartialEq, Eq)]
+#[derive(Clone, Copy)]
 pub enum Input {
     /// The translate file.
     Translate,
@@ -36,7 +36,7 @@ pub enum Input {
 }
 
 /// Why a command stopped before it wrote.
-#[derive(Clone, Copy, Debug, PartialEq, Eq)]
+#[derive(Clone, Copy)]
 pub enum Stop<'a> {
     /// This input breaks its rules.
     Refused(Input, Refusal),

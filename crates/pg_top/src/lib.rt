@@ -4,10 +4,8 @@
 
 pub mod answers;
 mod audit;
-pub mod commands;
 pub mod inputs;
 mod no_lines;
-mod numbers;
 mod outputs;
 mod packing;
 mod printed;
@@ -21,11 +19,9 @@ mod sets;
 mod sweeping;
 mod top;
 mod totals;
-pub mod words;
 pub mod writes;
 
 pub use answers::{Status, exit_code};
-pub use commands::{Command, Names, SweepWords};
+pub use pg_words::{Command, Names, SweepWords, command};
 pub use sample::sample_text;
 pub use top::{run, run_watched};
-pub use words::command;

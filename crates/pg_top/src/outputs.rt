@@ -1,15 +1,16 @@
 //! What `generate` writes and prints.
-ghost use Rattle.std.specs.Prelude.{◌≡◌, ◌++◌, ◌∷◌, [], IfOk, OnOk, IsSome, Some};
+ghost use Rattle.std.specs.Prelude.{◌≡◌, ◌++◌, IfOk, OnOk, Some};
 ghost use Rattle.pg_driver.specs.Told.{account_of, TellsCells};
+ghost use Rattle.pg_packed.specs.Starts.{pattern_families};
 ghost use Rattle.pg_patterns.specs.Values.{SignsUpTo};
-ghost use Rattle.pg_top.specs.Commands.{name_now, texts_of};
+ghost use Rattle.pg_select.specs.Meanings.{new_engine};
+ghost use Rattle.pg_words.specs.Commands.{name_now, texts_of};
 ghost use Rattle.pg_top.specs.PrintedLines.{work_line};
-ghost use Rattle.pg_top.specs.Requests.{if_asked};
+ghost use Rattle.pg_words.specs.Requests.{if_asked};
 ghost use Rattle.pg_top.specs.Selecting.{selected_files, selected_lines};
 ghost use Rattle.pg_top.specs.Selection.{signs_of, HasSigns, selected, selected_list, selected_cells, selected_cells_text, selected_text, selected_account, passes_begun, last_layout as last_layout_of};
 ghost use Rattle.pg_top.specs.Writings.{writing_of};
 
-use crate::commands::Names;
 use crate::printed::{done_line, push_work};
 use crate::reading::Inputs;
 use crate::selection::{last_layout, select};
@@ -19,6 +20,7 @@ use pg_packed::PackedEngine;
 use pg_select::Engine;
 use pg_texts::{cells_text, pattmp_text, report_text};
 use pg_watch::{Watch, Watched};
+use pg_words::Names;
 use std::alloc::{AllocError, Global};
 
 /// What a command writes and prints.
@@ -158,6 +160,26 @@ pub fn make_outputs<'a, W: Watch>(
     watch.selects(names.patterns, &inputs.params, &inputs.start);
     let engine = PackedEngine::new(alloc, inputs.table.letters() + 1, &inputs.start)?;
     let mut engine = Watched::new(engine, &inputs.params, watch);
-    let run = select(alloc, &mut engine, inputs)?;
-    make_files(alloc, names, inputs, &engine, &run)
+    run_files(alloc, names, inputs, &mut engine)
+}
+
+/// Does the run over an engine that was just made, and builds all that `generate` writes and
+/// prints.
+fn run_files<'a, E: Engine>(
+    alloc: Global,
+    names: &Names<'a>,
+    inputs: &Inputs,
+    engine: &mut E,
+) -> Result<Outputs<'a>, AllocError>
+    requires new { E.meaning engine.old
+        ≡ new_engine (signs_of inputs.now) inputs.now.start (E.meaning engine.old).families }
+    requires families { (E.meaning engine.old).families
+        ≡ Some (pattern_families (signs_of inputs.now) inputs.now.start) }
+    requires signs { HasSigns inputs.now }
+    ensures files { IfOk result (λ made.
+        writing_of made.files.items ≡ selected_files (texts_of names.now) inputs.now) }
+    ensures lines { IfOk result (λ made. made.lines.items ≡ selected_lines inputs.now) }
+{
+    let run = select(alloc, engine, inputs)?;
+    make_files(alloc, names, inputs, engine, &run)
 }

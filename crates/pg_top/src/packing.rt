@@ -1,5 +1,5 @@
 //! `pack`: patterns as a packed table.
-ghost use Rattle.std.specs.Prelude.{◌≡◌, ◌+◌, ◌∷◌, [], length, IfOk, IfErr, IfSome, Some, Ok};
+ghost use Rattle.std.specs.Prelude.{◌≡◌, ◌+◌, ◌∷◌, [], IfOk, IfErr, IfSome, Some, Ok};
 ghost use Rattle.pg_outside.specs.Content.{KeepsHeld, file_at};
 ghost use Rattle.pg_outside.specs.Faults.{NoneFell};
 ghost use Rattle.pg_patterns.specs.Values.{SignsUpTo};
@@ -12,7 +12,7 @@ ghost use Rattle.pg_patterns.specs.Texts.{pattern_text};
 ghost use Rattle.pg_top.specs.PackedTables.{packed, packed_table, packed_text, packing_reads};
 ghost use Rattle.pg_top.specs.PrintedLines.{packed_line as packed_line_of};
 ghost use Rattle.pg_top.specs.Promises.{GivesValues, PackKeeps};
-ghost use Rattle.pg_top.specs.Requests.{ToPack};
+ghost use Rattle.pg_words.specs.Requests.{ToPack};
 ghost use Rattle.pg_top.specs.Inside.Sources.{HasSource, stop_of_table};
 ghost use Rattle.pg_top.specs.Inside.Stops.{StopsCommand, StopsMaking, StopsReading};
 ghost use Rattle.pg_top.specs.Writings.{written_names, writing_of};

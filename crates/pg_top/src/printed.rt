@@ -45,12 +45,20 @@ pub fn done_line(alloc: Global, patterns: &[u8], totals: &Totals) -> Result<Vec<
     ensures { IfOk result (λ line. line.items ≡ done_line_of patterns.now totals.now) }
 {
     let mut line = Vec::new(alloc);
-    push_number(&mut line, b"done: ", count_lines(patterns) as u64)?;
-    push_number(&mut line, b" patterns, ", totals.good)?;
-    push_number(&mut line, b" good, ", totals.bad)?;
-    push_number(&mut line, b" bad, ", totals.missed)?;
-    line.extend_from_slice(b" missed\n")?;
+    begin_done(&mut line, patterns, totals)?;
     Ok(line)
+}
+
+/// Puts that line into an empty text.
+fn begin_done(line: &mut Vec<u8>, patterns: &[u8], totals: &Totals) -> Result<(), AllocError>
+    requires { line.old.items ≡ [] }
+    ensures { OnOk result (line.new.items ≡ done_line_of patterns.now totals.now) }
+{
+    push_number(line, b"done: ", count_lines(patterns) as u64)?;
+    push_number(line, b" patterns, ", totals.good)?;
+    push_number(line, b" good, ", totals.bad)?;
+    push_number(line, b" bad, ", totals.missed)?;
+    line.extend_from_slice(b" missed\n")
 }
 
 /// The line where `pack` is done: how many lines the pattern file has, and how many bytes the
@@ -76,11 +84,19 @@ pub fn pruned_line(
     ensures { IfOk result (λ line. line.items ≡ pruned_line_of rounds removed kept) }
 {
     let mut line = Vec::new(alloc);
-    push_number(&mut line, b"done: ", rounds)?;
-    push_number(&mut line, b" rounds, ", removed)?;
-    push_number(&mut line, b" removed, ", kept)?;
-    line.extend_from_slice(b" kept\n")?;
+    begin_pruned(&mut line, rounds, removed, kept)?;
     Ok(line)
+}
+
+/// Puts that line into an empty text.
+fn begin_pruned(line: &mut Vec<u8>, rounds: u64, removed: u64, kept: u64) -> Result<(), AllocError>
+    requires { line.old.items ≡ [] }
+    ensures { OnOk result (line.new.items ≡ pruned_line_of rounds removed kept) }
+{
+    push_number(line, b"done: ", rounds)?;
+    push_number(line, b" rounds, ", removed)?;
+    push_number(line, b" removed, ", kept)?;
+    line.extend_from_slice(b" kept\n")
 }
 
 /// The line where `sweep` is done: the number of the cheapest set of parameters, and what it costs.
@@ -140,14 +156,23 @@ fn push_place(line: &mut Vec<u8>, input: Input, refusal: &Refusal) -> Result<(),
 pub fn refused_line(alloc: Global, input: Input, refusal: &Refusal) -> Result<Vec<u8>, AllocError>
     ensures { IfOk result (λ line. line.items ≡ refused_line_of input refusal.now) }
 {
-    let mut line = Vec::from_slice(alloc, b"refused: ")?;
-    push_word(&mut line, input)?;
-    push_number(&mut line, b" ", u64::from(refusal.kind.number()))?;
+    let mut line = Vec::new(alloc);
+    begin_refused(&mut line, input, refusal)?;
+    Ok(line)
+}
+
+/// Puts that line into an empty text.
+fn begin_refused(line: &mut Vec<u8>, input: Input, refusal: &Refusal) -> Result<(), AllocError>
+    requires { line.old.items ≡ [] }
+    ensures { OnOk result (line.new.items ≡ refused_line_of input refusal.now) }
+{
+    line.extend_from_slice(b"refused: ")?;
+    push_word(line, input)?;
+    push_number(line, b" ", u64::from(refusal.kind.number()))?;
     line.extend_from_slice(b" ")?;
     line.extend_from_slice(refusal.kind.name().as_bytes())?;
     if refusal.line != 0 {
-        push_place(&mut line, input, refusal)?;
+        push_place(line, input, refusal)?;
     }
-    line.extend_from_slice(b"\n")?;
-    Ok(line)
+    line.extend_from_slice(b"\n")
 }

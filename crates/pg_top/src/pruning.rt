@@ -1,5 +1,5 @@
 //! `prune`: the patterns that a dictionary needs.
-ghost use Rattle.std.specs.Prelude.{◌≡◌, length, ◌+◌, ◌∷◌, [], IfOk, IfErr, IfSome};
+ghost use Rattle.std.specs.Prelude.{◌≡◌, ◌+◌, ◌∷◌, [], IfOk, IfErr, IfSome};
 ghost use Rattle.pg_outside.specs.Content.{KeepsHeld, file_at};
 ghost use Rattle.pg_outside.specs.Faults.{NoneFell};
 ghost use Rattle.pg_patterns.specs.Values.{SignsUpTo};
@@ -12,7 +12,7 @@ ghost use Rattle.pg_top.specs.Promises.{PruneKeeps, ReadsBack};
 ghost use Rattle.pg_top.specs.Outcomes.{Ends};
 ghost use Rattle.pg_top.specs.Inside.PruneInputs.{prune_of, HasPrune, HasKnownSigns};
 ghost use Rattle.pg_top.specs.Pruning.{prune_reads, pruned_files, line_of_pruned, pruned_by};
-ghost use Rattle.pg_top.specs.Requests.{ToPrune};
+ghost use Rattle.pg_words.specs.Requests.{ToPrune};
 ghost use Rattle.pg_top.specs.Inside.Stops.{StopsCommand, StopsReading};
 ghost use Rattle.pg_top.specs.Writings.{written_names, writing_of};
 ghost use Rattle.pg_top.specs.declared.answers.Status.TheVariants.{Done};
@@ -31,7 +31,7 @@ use pg_watch::Watch;
 use std::alloc::{AllocError, Global};
 
 /// The names that `prune` is given.
-#[derive(Clone, Copy, Debug)]
+#[derive(Clone, Copy)]
 pub struct PruneNames<'a> {
     /// The dictionary.
     pub dict: &'a str,

@@ -1,8 +1,7 @@
 //! The readers of the input files.
-ghost use Rattle.std.specs.Prelude.{◌≡◌, ◌+◌, ◌-◌, ◌<◌, ◌^◌, [], ◌∷◌, take, IfOk, IfErr, IfSome, OnOk, Some, Ok, Err};
+ghost use Rattle.std.specs.Prelude.{◌≡◌, ◌+◌, ◌-◌, ◌<◌, ◌^◌, [], ◌∷◌, take, IfOk, IfErr, IfSome, Some, Ok, Err};
 ghost use Rattle.std.specs.Option.{option_map};
 ghost use Rattle.pg_types.specs.Parameters.{parameters};
-ghost use Rattle.pg_types.specs.Reading.{Gives};
 ghost use Rattle.pg_outside.specs.Content.{KeepsHeld, file_at};
 ghost use Rattle.pg_outside.specs.Faults.{NoneFell};
 ghost use Rattle.pg_outside.specs.FilesCalls.{Reads};
@@ -12,14 +11,13 @@ ghost use Rattle.pg_dict.specs.Word.{SignsAtMost};
 ghost use Rattle.pg_dict.specs.Words.{words};
 ghost use Rattle.pg_patterns.specs.Starts.{start};
 ghost use Rattle.pg_patterns.specs.Values.{SignsUpTo};
-ghost use Rattle.pg_top.specs.Commands.{texts_of};
+ghost use Rattle.pg_words.specs.Commands.{texts_of};
 ghost use Rattle.pg_top.specs.Counted.{MakesCalls, read_calls};
 ghost use Rattle.pg_top.specs.Readings.{read_as, input_file};
 ghost use Rattle.pg_top.specs.Selecting.{inputs_of, HasInputs};
 ghost use Rattle.pg_top.specs.Selection.{HasSigns};
 ghost use Rattle.pg_top.specs.Inside.Stops.{stop_of, StopsFront, StopsAt, StopsReading};
 
-use crate::commands::Names;
 use crate::inputs::{Input, Stop};
 use pg_dict::Dictionary;
 use pg_outside::{Files, ReadError};
@@ -27,6 +25,7 @@ use pg_patterns::PatternSet;
 use pg_translate::Table;
 use pg_types::{FILE_MAX, Params, ReadingError, read_params};
 use pg_watch::{Refused, Watch};
+use pg_words::Names;
 use std::alloc::Global;
 
 /// What `generate` reads.

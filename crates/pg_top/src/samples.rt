@@ -5,6 +5,7 @@ ghost use Rattle.pg_translate.specs.Tables.{default_alphabet};
 ghost use Rattle.pg_dict.specs.Word.{SignsAtMost};
 ghost use Rattle.pg_driver.specs.Told.{account_of};
 ghost use Rattle.pg_patterns.specs.Values.{SignsUpTo};
+ghost use Rattle.pg_select.specs.Meanings.{new_engine};
 ghost use Rattle.pg_top.specs.Counted.{LinesCounted};
 ghost use Rattle.pg_top.specs.SampleTexts.{is_printed as is_printed_line, printed_part, sample_inputs, sample_lines as lines_of, sample_parameters, selection_lines};
 ghost use Rattle.pg_top.specs.Selection.{signs_of, HasSigns, selected, selected_account};
@@ -21,6 +22,7 @@ use pg_driver::Run;
 use pg_outside::Sink;
 use pg_packed::PackedEngine;
 use pg_patterns::PatternSet;
+use pg_select::Engine;
 use pg_texts::report_text;
 use pg_translate::Table;
 use pg_translate::laws::keeps_rules;
@@ -137,7 +139,21 @@ fn run_lines<W: Watch>(alloc: Global, inputs: &Inputs, watch: &W) -> Result<Vec<
 {
     let engine = PackedEngine::new(alloc, inputs.table.letters() + 1, &inputs.start)?;
     let mut engine = Watched::new(engine, &inputs.params, watch);
-    let run = select(alloc, &mut engine, inputs)?;
+    lines_by(alloc, inputs, &mut engine)
+}
+
+/// Does the run over an engine that was just made, and builds the printed lines.
+fn lines_by<E: Engine>(
+    alloc: Global,
+    inputs: &Inputs,
+    engine: &mut E,
+) -> Result<Vec<u8>, AllocError>
+    requires new { E.meaning engine.old
+        ≡ new_engine (signs_of inputs.now) inputs.now.start (E.meaning engine.old).families }
+    requires signs { HasSigns inputs.now }
+    ensures { IfOk result (λ lines. lines.items ≡ selection_lines inputs.now) }
+{
+    let run = select(alloc, engine, inputs)?;
     lines_after(alloc, inputs, &run)
 }
 

@@ -1,23 +1,19 @@
 //! `sweep`: the cheapest of several parameter files.
-ghost use Rattle.std.specs.Prelude.{◌≡◌, ◌≤◌, ◌+◌, ◌∷◌, [], length, IfOk, IfErr, IfSome};
-ghost use Rattle.pg_dict.specs.Word.{SignsAtMost};
+ghost use Rattle.std.specs.Prelude.{◌≡◌, ◌≤◌, ◌∷◌, [], length, IfOk, IfErr, IfSome};
 ghost use Rattle.pg_outside.specs.Content.{KeepsHeld, file_at};
 ghost use Rattle.pg_outside.specs.Faults.{NoneFell};
-ghost use Rattle.pg_patterns.specs.Values.{SignsUpTo};
-ghost use Rattle.pg_translate.specs.Alphabets.{letters_of};
 ghost use Rattle.pg_top.specs.Calls.{outcome_of, reads_of, writes_of};
-ghost use Rattle.pg_top.specs.Commands.{sweep_of, KeepsSweepLimits};
+ghost use Rattle.pg_words.specs.Commands.{sweep_of, KeepsSweepLimits};
 ghost use Rattle.pg_top.specs.Counted.{MakesCalls, read_calls};
 ghost use Rattle.pg_top.specs.Promises.{SweepNames};
 ghost use Rattle.pg_top.specs.Outcomes.{Ends};
-ghost use Rattle.pg_top.specs.Requests.{ToSweep};
+ghost use Rattle.pg_words.specs.Requests.{ToSweep};
 ghost use Rattle.pg_top.specs.Inside.Stops.{StopsCommand, StopsReading};
 ghost use Rattle.pg_top.specs.Inside.SweepInputs.{terms_of, HasSigns, line_of_sweep};
 ghost use Rattle.pg_top.specs.Sweeping.{sweep_reads, HasSweep, swept};
 ghost use Rattle.pg_top.specs.Writings.{written_names, writing_of};
 ghost use Rattle.pg_top.specs.declared.answers.Status.TheVariants.{Done};
 
-use crate::commands::SweepWords;
 use crate::inputs::Stop;
 use crate::outputs::Outputs;
 use crate::printed::winner_line;
@@ -32,6 +28,7 @@ use pg_sweep::{Maker, Sweep, sweep, sweep_text};
 use pg_translate::Table;
 use pg_types::Params;
 use pg_watch::{Turn, Watch, Watched};
+use pg_words::SweepWords;
 use std::alloc::{AllocError, Global};
 use std::cell::Cell;
 

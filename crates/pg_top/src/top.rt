@@ -4,19 +4,18 @@ ghost use Rattle.pg_outside.specs.Content.{KeepsHeld, file_at};
 ghost use Rattle.pg_outside.specs.Faults.{NoneFell};
 ghost use Rattle.pg_top.specs.Answers.{IsSampled, IsCall};
 ghost use Rattle.pg_top.specs.Calls.{has_files, outcome_of, reads_of, writes_of};
-ghost use Rattle.pg_top.specs.Commands.{texts_of, sweep_of, asked_by, KeepsSweepLimits, KeepsLimits, asked};
+ghost use Rattle.pg_words.specs.Commands.{texts_of, sweep_of, asked_by, KeepsSweepLimits, KeepsLimits, asked};
 ghost use Rattle.pg_top.specs.Counted.{MakesCalls, read_calls, IsCounted, IsCountedCall};
 ghost use Rattle.pg_top.specs.Outcomes.{Ends};
 ghost use Rattle.pg_top.specs.Promises.{IsPromised};
 ghost use Rattle.pg_top.specs.Inside.PruneInputs.{prune_of};
-ghost use Rattle.pg_top.specs.Requests.{ToGenerate, ToAudit, ToPack, ToTotals, ToPrune, ToSweep};
+ghost use Rattle.pg_words.specs.Requests.{ToGenerate, ToAudit, ToPack, ToTotals, ToPrune, ToSweep};
 ghost use Rattle.pg_top.specs.Inside.Stops.{StopsReading, Finishes};
 ghost use Rattle.pg_top.specs.WholeCalls.{IsRun};
 ghost use Rattle.pg_top.specs.Writings.{written_names, writing_of};
 
 use crate::answers::Status;
 use crate::audit::{audit_files, put_verdict};
-use crate::commands::{Command, Names, SweepWords};
 use crate::inputs::Stop;
 use crate::outputs::{Outputs, make_outputs};
 use crate::packing::pack_files;
@@ -27,10 +26,10 @@ use crate::reading::read_inputs;
 use crate::samples::sample;
 use crate::sweeping::sweep_files;
 use crate::totals::total_files;
-use crate::words::command;
 use crate::writes::{output_at, write_all};
 use pg_outside::{Files, Sink};
 use pg_watch::{Quiet, Watch};
+use pg_words::{Command, Names, SweepWords, command};
 use std::alloc::Global;
 
 /// Reads what `generate` reads, and builds all that it writes and prints.

@@ -12,7 +12,7 @@ ghost use Rattle.pg_top.specs.Outcomes.{Ends};
 ghost use Rattle.pg_top.specs.declared.answers.Status.TheVariants.{Done};
 ghost use Rattle.pg_top.specs.PackedTables.{packed_table, table_refused};
 ghost use Rattle.pg_top.specs.Readings.{input_file};
-ghost use Rattle.pg_top.specs.Requests.{ToTotals};
+ghost use Rattle.pg_words.specs.Requests.{ToTotals};
 ghost use Rattle.pg_top.specs.Inside.Sources.{IsTotalled};
 ghost use Rattle.pg_top.specs.Inside.Stops.{StopsAt, StopsCommand};
 

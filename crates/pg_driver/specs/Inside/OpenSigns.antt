@@ -18,8 +18,7 @@ use Rattle.pg_select.specs.Inside.LawsClosedDots.{Tells}
 use Rattle.pg_select.specs.Inside.LawsSteps.{CoversUpTo, IsUpTo}
 use Rattle.pg_select.specs.Statuses.{status_at}
 use Rattle.pg_select.specs.Windows.{Patterns, Hopeless, window, fits}
-use Rattle.pg_driver.specs.declared.open_positions.OpenPosition.{OpenPosition}
-use Rattle.pg_driver.specs.Inside.DotSets.{no_dots}
+use Rattle.pg_driver.specs.declared.pass_windows.Place.{Place}
 
 -- how many signs words have together
 abbrev pub sign_count : List Word → ℕ
@@ -32,10 +31,10 @@ start_of (w ∷ words) zero = 0
 start_of (w ∷ words) (suc n) = length w.signs + start_of words n
 
 -- the position of a sign of words, which are numbered from a number on
-abbrev pub place_from : ℕ → List Word → ℕ → OpenPosition
-place_from n [] s = record { word = n; at = s; closed = no_dots }
+abbrev pub place_from : ℕ → List Word → ℕ → Place
+place_from n [] s = record { word = n; at = s }
 place_from n (w ∷ words) s =
-    if nat_lt s (length w.signs) then record { word = n; at = s; closed = no_dots }
+    if nat_lt s (length w.signs) then record { word = n; at = s }
     else place_from (n + 1) words (s - length w.signs)
 
 -- the signs from one on, up to an end, at which a dot is open
@@ -43,7 +42,7 @@ abbrev pub open_signs : (ℕ → Bool) → ℕ → ℕ → List ℕ
 open_signs closed from end = filter (λ s. not (closed s)) (range_with_len from (end - from))
 
 -- the positions of words at which a dot is open, in order
-abbrev pub open_places : (ℕ → Bool) → List Word → List OpenPosition
+abbrev pub open_places : (ℕ → Bool) → List Word → List Place
 open_places closed words = map (place_from 0 words) (open_signs closed 0 (sign_count words))
 
 -- a position of a word is in reach

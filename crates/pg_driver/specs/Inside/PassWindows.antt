@@ -1,5 +1,5 @@
 -- The windows of a pass by their numbers, as the pass keeps them.
-use Rattle.std.specs.Prelude.{◌≡◌, ℕ, Bool, true, false, not, ◌&&◌, List, filter, length, slice_get, Option, None, Some}
+use Rattle.std.specs.Prelude.{◌≡◌, ℕ, Bool, true, false, not, ◌&&◌, List, length, slice_get, Option, None, Some}
 use Rattle.pg_types.specs.declared.parameters.LevelParams.{LevelParams}
 use Rattle.pg_types.specs.Counts.{Counts, counted_sums, is_counted}
 use Rattle.pg_types.specs.Numbered.{Windows, HasNumber}
@@ -11,33 +11,25 @@ use Rattle.pg_select.specs.Meanings.{Meaning}
 use Rattle.pg_select.specs.Windows.{Hopeless, Patterns, window, fits, covered}
 use Rattle.pg_driver.specs.declared.pass_windows.Place.{Place}
 use Rattle.pg_driver.specs.declared.pass_windows.TheConstants.{NOT_COUNTED}
-use Rattle.pg_driver.specs.declared.open_positions.OpenPosition.{OpenPosition}
-use Rattle.pg_driver.specs.Inside.DotSets.{has_dot}
-use Rattle.pg_driver.specs.Inside.OpenLevels.{dots_after}
-use Rattle.pg_driver.specs.Inside.OpenPositions.{with_closed}
-
--- whether a dot is open at a position
-abbrev pub is_open : ℕ → OpenPosition → Bool
-is_open dot e = not (has_dot e.closed dot)
 
 -- whether a pass counts at an open position
-abbrev pub counts_at : Pass → Word → OpenPosition → Bool
-counts_at pass w e = fits w.signs e.at pass.len pass.dot && not (has_dot e.closed pass.dot)
+abbrev pub counts_at : Pass → Word → Place → Bool
+counts_at pass w e = fits w.signs e.at pass.len pass.dot
 
 -- whether the window of a pass at a position fits and is not covered
-abbrev pub uncovered_at : Pass → Patterns → Hopeless → Word → OpenPosition → Bool
+abbrev pub uncovered_at : Pass → Patterns → Hopeless → Word → Place → Bool
 uncovered_at pass P H w e =
     fits w.signs e.at pass.len pass.dot
     && not (covered pass.level P H (window w.signs e.at pass.len pass.dot) pass.dot)
 
 -- whether the window of a pass at a position fits and is counted
-abbrev pub is_counted_at : Pass → Counts → Word → OpenPosition → Bool
+abbrev pub is_counted_at : Pass → Counts → Word → Place → Bool
 is_counted_at pass counts w e =
     fits w.signs e.at pass.len pass.dot && is_counted counts (window w.signs e.at pass.len pass.dot)
 
 -- n is the number of the position's window where that counts, and else that of none
-pub record IsNumbered (pass : Pass) (counts : Word → OpenPosition → Bool) (words : List Word)
-    (ws : Windows) (e : OpenPosition) (n : ℕ) : Type 0 where
+pub record IsNumbered (pass : Pass) (counts : Word → Place → Bool) (words : List Word)
+    (ws : Windows) (e : Place) (n : ℕ) : Type 0 where
   pub counted : (w : Word) → slice_get words e.word ≡ Some w → counts w e ≡ true
       → HasNumber ws (window w.signs e.at pass.len pass.dot) n
   pub uncounted : (w : Word) → slice_get words e.word ≡ Some w → counts w e ≡ false
@@ -49,10 +41,10 @@ GetsNumber None ws u n = n ≡ NOT_COUNTED
 GetsNumber (Some good) ws u n = HasNumber ws u n
 
 -- each position has its number
-pub record HaveNumbers (pass : Pass) (counts : Word → OpenPosition → Bool) (words : List Word)
-    (ws : Windows) (entries : List OpenPosition) (ns : List ℕ) : Type 0 where
+pub record HaveNumbers (pass : Pass) (counts : Word → Place → Bool) (words : List Word)
+    (ws : Windows) (entries : List Place) (ns : List ℕ) : Type 0 where
   pub size : length ns ≡ length entries
-  pub each : (k : ℕ) (e : OpenPosition) (n : ℕ) → slice_get entries k ≡ Some e
+  pub each : (k : ℕ) (e : Place) (n : ℕ) → slice_get entries k ≡ Some e
       → slice_get ns k ≡ Some n → IsNumbered pass counts words ws e n
 
 -- what becomes of the windows, by number
@@ -82,15 +74,6 @@ pub record ArePlaces (pass : Pass) (words : List Word) (ws : Windows) (places : 
 abbrev pub IsPart : Counts → Counts → Type 0
 IsPart rest counts = (k : ℕ) (e : List ℕ × (ℕ × ℕ)) → slice_get rest k ≡ Some e
     → counted_sums counts e.0 ≡ Some e.1
-
--- the position after a pass: one at which the dot of the pass is closed stays, and each other is
--- closed by what became of its window
-pub record ClosesAs (after : OpenPosition → OpenPosition) (dot : ℕ) (fates : List Choice)
-    (entries : List OpenPosition) (ns : List ℕ) : Type 0 where
-  pub stays : (e : OpenPosition) → is_open dot e ≡ false → after e ≡ e
-  pub closes : (k : ℕ) (e : OpenPosition) (n : ℕ)
-      → slice_get (filter (is_open dot) entries) k ≡ Some e → slice_get ns k ≡ Some n
-      → with_closed e (dots_after e.closed dot (slice_get fates n)) ≡ after e
 
 -- the window has the number and these sums
 pub record IsCandidate (m : Meaning) (n : ℕ) (u : List ℕ) (s : ℕ × ℕ) : Type 0 where

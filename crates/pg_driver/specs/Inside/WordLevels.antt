@@ -16,7 +16,7 @@ use Rattle.pg_select.specs.CountedPositions.{CountedPosition}
 use Rattle.pg_select.specs.Inside.LawsAbove.{counts_above}
 use Rattle.pg_select.specs.Windows.{Patterns}
 use Rattle.pg_driver.specs.declared.above_positions.Kept.{Kept}
-use Rattle.pg_driver.specs.declared.open_positions.OpenPosition.{OpenPosition}
+use Rattle.pg_driver.specs.declared.pass_windows.Place.{Place}
 use Rattle.pg_driver.specs.declared.word_level.WordLevel.{WordLevel}
 use Rattle.pg_driver.specs.Accounts.{totals_by}
 use Rattle.pg_driver.specs.Inside.OpenLevels.{listed_from}
@@ -51,13 +51,13 @@ abbrev pub bad_kept : LevelParams → Counts → CountedPosition → ℕ
 bad_kept params counts s = if not s.good && was_chosen params counts s.window then s.weight else 0
 
 -- a listed position with its window of a pass, where that fits
-abbrev pub window_of : Pass → List Word → OpenPosition → List CountedPosition
+abbrev pub window_of : Pass → List Word → Place → List CountedPosition
 window_of pass words e =
-    option_map_or (λ w. counted_in pass.level pass.len pass.dot w e.at false)
+    option_map_or (λ w. counted_in pass.level pass.len pass.dot w e.at)
     (slice_get words e.word) []
 
 -- the weights of listed positions whose windows were chosen: of the good ones, and of the bad ones
-abbrev pub kept_by : LevelParams → Pass → Counts → List Word → List OpenPosition → Kept
+abbrev pub kept_by : LevelParams → Pass → Counts → List Word → List Place → Kept
 kept_by params pass counts words above = record {
   good = sum_by (good_kept params counts) (flat_map (window_of pass words) above);
   bad = sum_by (bad_kept params counts) (flat_map (window_of pass words) above);

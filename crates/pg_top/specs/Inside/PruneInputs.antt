@@ -6,7 +6,7 @@ use Rattle.pg_dict.specs.Words.{words}
 use Rattle.pg_patterns.specs.Starts.{start}
 use Rattle.pg_patterns.specs.Values.{SignsUpTo}
 use Rattle.pg_top.specs.Readings.{Held, read_as}
-use Rattle.pg_top.specs.Requests.{PruneRequest}
+use Rattle.pg_words.specs.Requests.{PruneRequest}
 use Rattle.pg_top.specs.declared.pruning.PruneInputs.{PruneInputs}
 use Rattle.pg_top.specs.declared.pruning.PruneNames.{PruneNames}
 

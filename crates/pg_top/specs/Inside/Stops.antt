@@ -11,7 +11,7 @@ use Rattle.pg_top.specs.Moments.{Moment, Puts, PutsPart, PutRose, PutOrRose}
 use Rattle.pg_top.specs.Outcomes.{Outcome, Writing, refuses}
 use Rattle.pg_top.specs.PrintedLines.{refused_line, reading_line, writing_line}
 use Rattle.pg_top.specs.Readings.{Reading, first_end}
-use Rattle.pg_top.specs.Requests.{Request}
+use Rattle.pg_words.specs.Requests.{Request}
 use Rattle.pg_top.specs.Writings.{written_names, WroteAll, StoppedAt}
 use Rattle.pg_top.specs.declared.answers.Status.{Status}
 use Rattle.pg_top.specs.declared.answers.Status.TheVariants as status

@@ -1,19 +1,16 @@
 use Rattle.std.proofs.Common.{◌≡◌, ℕ, ◌+◌, ◌-◌, ◌<◌, ◌≤◌, [], ◌∷◌, ◌++◌, List, Bool, true, false, None, Some, length, map, refl, sym, ap, subst, ◌∙◌, arith}
 use Rattle.std.specs.List.{flat_map}
 use Rattle.std.proofs.lemmas.List.{map-append}
-use Rattle.pg_dots.specs.Inside.Dots.{is_closed, places as places_in}
+use Rattle.pg_dots.specs.Inside.Dots.{is_closed}
 use Rattle.pg_driver.specs.Inside.Counting.{counting, HasRoom}
 use Rattle.pg_driver.specs.Inside.PassWindows.{HaveNumbers, IsNumbered, counts_at}
 use Rattle.pg_driver.proofs.Rooms.{room_left, room_less}
 use Rattle.pg_driver.proofs.Walks.{counted_step, kept_on}
-use Rattle.pg_driver.specs.declared.dot_set.DotSet.{DotSet}
-use Rattle.pg_driver.specs.declared.open_positions.OpenPosition.{OpenPosition}
-use Rattle.pg_driver.specs.Inside.DotSets.{has_dot}
+use Rattle.pg_driver.specs.declared.pass_windows.Place.{Place}
 use Rattle.pg_driver.specs.Inside.OpenPositions.{counted_of}
-use Rattle.pg_driver.specs.Inside.OpenSigns.{open_places, open_signs, place_from, sign_count}
+use Rattle.pg_driver.specs.Inside.OpenSigns.{open_signs, place_from, sign_count}
 use Rattle.pg_driver.proofs.NumberSteps.{have_more, still_have}
-use Rattle.pg_driver.proofs.OpenLevels.{none_in}
-use Rattle.pg_driver.proofs.OpenSigns.{open_first, open_none, open_skip, open_upto, start_zero, upto_all, upto_open, upto_skip}
+use Rattle.pg_driver.proofs.OpenSigns.{open_first, open_skip, open_upto, start_zero, upto_all, upto_open, upto_skip}
 use Rattle.pg_driver.proofs.open_passes.count_open.Goals as goal
 
 pub signs-init : goal.signs-init
@@ -42,9 +39,6 @@ signs-init g c =
       beyond = λ i from before. later.passes i (omega arith) before;
     }
 
-pub count_position-requires-clause-open : goal.count_position-requires-clause-open
-count_position-requires-clause-open g c = ap (λ (dots : DotSet). has_dot dots c.args.pass.dot) c.position_at-position.ensures.closed ∙ none_in c.args.pass.dot
-
 pub count_position-requires-clause-room : goal.count_position-requires-clause-room
 count_position-requires-clause-room g c =
     let words = c.args.dictionary.now in
@@ -64,7 +58,7 @@ signs-preserved g c =
     let words = c.args.dictionary.now in
     let pass = c.args.pass in
     let f = counted_of pass.level pass.len pass.dot words in
-    let place : ℕ → OpenPosition = place_from 0 words in
+    let place : ℕ → Place = place_from 0 words in
     let closed : ℕ → Bool = is_closed c.args.dots.now pass.dot in
     let total = sign_count words in
     let inv = c.signs.invariant in
@@ -75,15 +69,15 @@ signs-preserved g c =
     let low : s < total = omega (arith, c.signs-test.true) in
     let free : closed s ≡ false = inv.free (omega (arith, c.requires.size)) in
     let step : open_signs closed s total ≡ s ∷ open_signs closed t total = open_first closed total s low free ∙ ap (λ (xs : List ℕ). s ∷ xs) (open_skip closed total (s + 1) t later.after later.passes) in
-    let ok : after ≡ counting m (f (place s)) = c.in_ok-number.ensures.ok ∙ ap (λ (e : OpenPosition). counting m (f e)) c.position_at-position.ensures.position in
+    let ok : after ≡ counting m (f (place s)) = c.in_ok-number.ensures.ok ∙ ap (λ (e : Place). counting m (f e)) c.position_at-position.ensures.position in
     let front : map place (open_upto closed s) ++ place s ∷ [] ≡ map place (open_upto closed t) = sym (ap (map place) (sym (upto_skip closed (s + 1) t later.after later.passes) ∙ upto_open closed s free) ∙ map-append place (open_upto closed s) (s ∷ [])) in
-    let number : IsNumbered pass (counts_at pass) words after.windows (place s) c.in_ok-number.number = subst (λ (e : OpenPosition). IsNumbered pass (counts_at pass) words after.windows e c.in_ok-number.number) c.position_at-position.ensures.position c.in_ok-number.ensures.number in
+    let number : IsNumbered pass (counts_at pass) words after.windows (place s) c.in_ok-number.number = subst (λ (e : Place). IsNumbered pass (counts_at pass) words after.windows e c.in_ok-number.number) c.position_at-position.ensures.position c.in_ok-number.ensures.number in
     record {
       kept = kept_on m0 m after (f (place s)) inv.kept ok;
       whole = counted_step f m after _ (place s) (map place (open_signs closed t total)) ok (ap (λ (xs : List ℕ). counting m (flat_map f (map place xs))) (sym step) ∙ inv.whole);
       placed = c.in_ok-number.ensures.places;
       numbered =
-          subst (λ (es : List OpenPosition). HaveNumbers pass (counts_at pass) words after.windows es c.push.new.self.items) front
+          subst (λ (es : List Place). HaveNumbers pass (counts_at pass) words after.windows es c.push.new.self.items) front
           (subst (HaveNumbers pass (counts_at pass) words after.windows (map place (open_upto closed s) ++ place s ∷ [])) (sym c.in_ok-push.ensures.items)
           (have_more pass (counts_at pass) words after.windows (map place (open_upto closed s)) c.signs.numbers.items (place s) c.in_ok-number.number
           (still_have pass (counts_at pass) words m after (f (place s)) (map place (open_upto closed s)) c.signs.numbers.items ok inv.numbered) number));

@@ -1,4 +1,4 @@
-use Rattle.std.proofs.Common.{◌≡◌, ◌<◌, ℕ, true, length, false, sym, ap, subst, ◌∙◌, arith}
+use Rattle.std.proofs.Common.{◌≡◌, ◌<◌, ℕ, true, length, sym, ap, subst, ◌∙◌, arith}
 use Rattle.pg_dict.specs.Inside.Lent.{lent_word}
 use Rattle.pg_driver.proofs.WordSteps.{signs_within}
 use Rattle.pg_types.specs.Numbered.{HasNumber, with_window}
@@ -19,7 +19,7 @@ count_at-requires-clause-within g c =
 pub returns-in_ok-note_place-in-Some-clause-took : goal.returns-in_ok-note_place-in-Some-clause-took
 returns-in_ok-note_place-in-Some-clause-took g c =
     let within : c.args.position.at < length (lent_word c.word-w.result).signs = c.requires.placed.within (lent_word c.word-w.result) c.word-w.ensures.lent in
-    took_entry (g.E.Engine.meaning c.args.engine.now) _ c.args.pass.level c.args.pass.len c.args.pass.dot (lent_word c.word-w.result) c.from-p.result 1 false c.requires.ranges.len_low c.word-w.ensures.word (omega (arith, c.from-p.ensures)) c.requires.room c.in_ok-count_at.ensures.ok
+    took_entry (g.E.Engine.meaning c.args.engine.now) _ c.args.pass.level c.args.pass.len c.args.pass.dot (lent_word c.word-w.result) c.from-p.result 1 c.requires.ranges.len_low c.word-w.ensures.word (omega (arith, c.from-p.ensures)) c.requires.room c.in_ok-count_at.ensures.ok
 
 pub returns-in_ok-note_place-in-Some-clause-places : goal.returns-in_ok-note_place-in-Some-clause-places
 returns-in_ok-note_place-in-Some-clause-places g c =
@@ -31,7 +31,7 @@ returns-in_ok-note_place-in-Some-clause-places g c =
     let facts = rw c.in-Some.is at c.in_ok-count_at.ensures.number in
     let grown : n.windows ≡ with_window m.windows m.counts (window w.signs c.from-p.result pass.len pass.dot) =
     ap (λ (x : Meaning). x.windows) c.in_ok-count_at.ensures.ok ∙ window_in m.windows m.counts pass.level pass.len pass.dot w c.from-p.result facts.0 in
-    place_more pass c.args.dictionary.now m.windows n.windows m.counts n.counts c.args.places.now.items c.note_place.new.places.items (record { word = c.args.position.word; at = c.args.position.at }) w c.in-Some.number
+    place_more pass c.args.dictionary.now m.windows n.windows m.counts n.counts c.args.places.now.items c.note_place.new.places.items c.args.position w c.in-Some.number
     c.requires.places c.kept.ensures.numbered c.word-w.ensures.lent
     (subst (λ (p : ℕ). fits w.signs p pass.len pass.dot ≡ true) (sym same) facts.0)
     (subst (λ (p : ℕ). n.windows ≡ with_window m.windows m.counts (window w.signs p pass.len pass.dot)) (sym same) grown)

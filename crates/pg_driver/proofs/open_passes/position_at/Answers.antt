@@ -1,9 +1,5 @@
-use Rattle.std.proofs.Common.{◌≡◌, ℕ, ◌+◌, ◌-◌, ◌<◌, ◌≤◌, length, Some, sym, ap, ◌∙◌, arith}
+use Rattle.std.proofs.Common.{◌≡◌, ℕ, ◌+◌, ◌-◌, sym, ap, ◌∙◌, arith}
 use Rattle.pg_dict.specs.Inside.Lent.{lent_word}
-use Rattle.pg_dict.specs.Word.{Word}
-use Rattle.pg_driver.specs.declared.dot_set.DotSet.{DotSet}
-use Rattle.pg_driver.specs.declared.open_positions.OpenPosition.{OpenPosition}
-use Rattle.pg_driver.specs.Inside.DotSets.{no_dots}
 use Rattle.pg_driver.specs.Inside.OpenSigns.{place_from, start_of}
 use Rattle.pg_driver.proofs.OpenSigns.{place_at}
 use Rattle.pg_driver.proofs.OpenSteps.{few_words}
@@ -22,11 +18,10 @@ returns-clause-position c =
     let w = lent_word c.word-w.result in
     let p = c.args.sign - c.args.at.start in
     let inside = c.requires.inside w c.word-w.ensures.lent in
-    let place : place_from 0 c.args.dictionary.now (start_of c.args.dictionary.now c.args.at.word + p) ≡ record { word = 0 + c.args.at.word; at = p; closed = no_dots } = place_at 0 c.args.dictionary.now c.args.at.word p w c.word-w.ensures.lent (omega (arith, c.requires.behind)) in
+    let place : place_from 0 c.args.dictionary.now (start_of c.args.dictionary.now c.args.at.word + p) ≡ record { word = 0 + c.args.at.word; at = p } = place_at 0 c.args.dictionary.now c.args.at.word p w c.word-w.ensures.lent (omega (arith, c.requires.behind)) in
     let sign : start_of c.args.dictionary.now c.args.at.word + p ≡ c.args.sign = omega (arith, c.requires.start, c.requires.behind) in
     let number : 0 + c.args.at.word ≡ c.args.at.word = omega arith in
-    ap (λ (dots : DotSet). record { word = c.args.at.word; at = p; closed = dots }) c.none.ensures
-    ∙ sym (ap (place_from 0 c.args.dictionary.now) (sym sign) ∙ place ∙ ap (λ (n : ℕ). record { word = n; at = p; closed = no_dots }) number)
+    sym (ap (place_from 0 c.args.dictionary.now) (sym sign) ∙ place ∙ ap (λ (n : ℕ). record { word = n; at = p }) number)
 
 pub returns-clause-placed : goal.returns-clause-placed
 returns-clause-placed c = record {

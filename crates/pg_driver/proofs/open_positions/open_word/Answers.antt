@@ -10,7 +10,7 @@ use Rattle.pg_select.specs.Statuses.{status, status_at, position_weight}
 use Rattle.pg_select.specs.Sums.{with_mark, with_marks, sum_of}
 use Rattle.pg_patterns.specs.Values.{value_at}
 use Rattle.pg_select.proofs.MarkSteps.{marks_step, mark_took, weight_small}
-use Rattle.pg_driver.proofs.OpenFirst.{opens_first, opens_last, opens_next, opens_none}
+use Rattle.pg_driver.proofs.OpenFirst.{opens_first, opens_last, opens_next}
 use Rattle.pg_driver.proofs.open_positions.open_word.Goals as goal
 
 pub positions-preserved : goal.positions-preserved

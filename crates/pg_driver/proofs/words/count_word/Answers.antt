@@ -4,7 +4,7 @@ use Rattle.pg_dict.specs.Word.{letter_count}
 use Rattle.pg_select.specs.Meanings.{Meaning}
 use Rattle.pg_select.specs.declared.pass.Pass.{Pass}
 use Rattle.pg_select.specs.CountedPositions.{counted_positions_at, minima_of}
-use Rattle.pg_driver.specs.declared.open_positions.OpenPosition.{OpenPosition}
+use Rattle.pg_driver.specs.declared.pass_windows.Place.{Place}
 use Rattle.pg_driver.specs.Inside.OpenLevels.{listed_in, open_as}
 use Rattle.pg_driver.specs.Inside.PassWindows.{HaveNumbers, uncovered_at}
 use Rattle.pg_driver.proofs.OpenSteps.{position_added}
@@ -40,7 +40,7 @@ positions-preserved g c =
     let n = g.E.Engine.meaning c.count_position.new.engine in
     let pass = c.args.pass in
     let kept = c.positions.invariant.kept in
-    let f : ℕ → List OpenPosition = λ q. open_as c.args.word q (counts_above c.args.pass.level m0.patterns w q) in
+    let f : ℕ → List Place = λ q. open_as c.args.word q (counts_above c.args.pass.level m0.patterns w q) in
     let within : c.positions.p < length w.signs = omega (arith, c.positions-test.true, c.in-Some.ensures.within) in
     let long : 1 ≤ m.pass.len =
     let e : m.pass.len ≡ c.args.pass.len = ap (λ (m : Meaning). m.pass.len) kept ∙ ap (λ (pass : Pass). pass.len) c.requires.pass in
@@ -65,7 +65,7 @@ positions-preserved g c =
           let now : HaveNumbers pass (uncovered_at pass m.patterns m.hopeless) words m.windows (entries ++ c.positions.invariant.listed) c.positions.windows.numbers.items =
           subst (λ (x : Meaning). HaveNumbers pass (uncovered_at pass x.patterns x.hopeless) words m.windows (entries ++ c.positions.invariant.listed) c.positions.windows.numbers.items) (sym kept) (c.positions.invariant.numbers words entries at before) in
           let then = c.in_ok-count_position.ensures.numbers words (entries ++ c.positions.invariant.listed) at now in
-          subst (λ (es : List OpenPosition). HaveNumbers pass (uncovered_at pass m0.patterns m0.hopeless) words n.windows es c.count_position.new.windows.numbers.items) (append_assoc entries c.positions.invariant.listed (f c.positions.p))
+          subst (λ (es : List Place). HaveNumbers pass (uncovered_at pass m0.patterns m0.hopeless) words n.windows es c.count_position.new.windows.numbers.items) (append_assoc entries c.positions.invariant.listed (f c.positions.p))
           (subst (λ (x : Meaning). HaveNumbers pass (uncovered_at pass x.patterns x.hopeless) words n.windows ((entries ++ c.positions.invariant.listed) ++ open_as c.args.word c.positions.p (counts_above pass.level x.patterns w c.positions.p)) c.count_position.new.windows.numbers.items) kept then);
       places = λ words at before. c.in_ok-count_position.ensures.places words at (c.positions.invariant.places words at before);
     }
@@ -83,5 +83,5 @@ returns-else-lists-clause-above g c =
     let w = lent_word c.args.w.now in
     let minima = minima_of c.args.table.now in
     sym (append-nil c.args.above.now.items)
-    ∙ ap (λ (es : List OpenPosition). c.args.above.now.items ++ es) (sym (none_listed_in minima c.args.pass.level P c.args.word w))
+    ∙ ap (λ (es : List Place). c.args.above.now.items ++ es) (sym (none_listed_in minima c.args.pass.level P c.args.word w))
     ∙ ap (λ (lists : Bool). c.args.above.now.items ++ listed_in minima (listing lists c.args.pass.level P) c.args.word w) (sym c.if-lists.false)

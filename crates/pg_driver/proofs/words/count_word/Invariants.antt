@@ -4,7 +4,7 @@ use Rattle.pg_dict.specs.Word.{Word, letter_count}
 use Rattle.pg_dict.specs.Inside.Lent.{lent_word}
 use Rattle.pg_select.specs.CountedPositions.{counted_positions_at, counted_positions_in, minima_of}
 use Rattle.pg_select.specs.Inside.LawsAbove.{counts_above}
-use Rattle.pg_driver.specs.declared.open_positions.OpenPosition.{OpenPosition}
+use Rattle.pg_driver.specs.declared.pass_windows.Place.{Place}
 use Rattle.pg_driver.specs.Inside.OpenLevels.{listed_in, open_as}
 use Rattle.pg_driver.specs.Inside.PassWindows.{ArePlaces, HaveNumbers, uncovered_at}
 use Rattle.pg_select.specs.Sums.{marks_in, with_marks, TookRoomFor}
@@ -24,9 +24,9 @@ invariant-positions g l =
       took : TookRoom m0.counts m.counts (l.p - l.first);
       sums : with_marks l.sums (marks_from m0.patterns (lent_word l.w) l.p l.end) ≡ with_marks l.fn.sums (marks_in (minima_of l.table) m0.patterns (lent_word l.w));
       took_for : TookRoomFor l.fn.sums l.sums (l.p - l.first);
-      listed : List OpenPosition;
+      listed : List Place;
       upto : (listed ++ flat_map (λ (p : ℕ). open_as l.word p (counts_above l.pass.level m0.patterns (lent_word l.w) p)) (range_with_len l.p (l.end - l.p))) ≡ listed_in (minima_of l.table) (counts_above l.pass.level m0.patterns) l.word (lent_word l.w);
-      numbers : (words : List Word) (entries : List OpenPosition) → slice_get words l.word ≡ Some (lent_word l.w) → HaveNumbers l.pass (uncovered_at l.pass m0.patterns m0.hopeless) words m0.windows entries l.fn.windows.numbers.items
+      numbers : (words : List Word) (entries : List Place) → slice_get words l.word ≡ Some (lent_word l.w) → HaveNumbers l.pass (uncovered_at l.pass m0.patterns m0.hopeless) words m0.windows entries l.fn.windows.numbers.items
           → HaveNumbers l.pass (uncovered_at l.pass m0.patterns m0.hopeless) words m.windows (entries ++ listed) l.windows.numbers.items;
       places : (words : List Word) → slice_get words l.word ≡ Some (lent_word l.w) → ArePlaces l.pass words m0.windows l.fn.windows.places.items → ArePlaces l.pass words m.windows l.windows.places.items;
     }

@@ -10,7 +10,7 @@ use Rattle.pg_driver.specs.Inside.Counting.{counting}
 use Rattle.pg_select.proofs.MarkSteps.{marks_word}
 use Rattle.pg_driver.specs.Inside.OpenLevels.{listed_in}
 use Rattle.pg_select.specs.Inside.LawsAbove.{counts_above}
-use Rattle.pg_driver.specs.declared.open_positions.OpenPosition.{OpenPosition}
+use Rattle.pg_driver.specs.declared.pass_windows.Place.{Place}
 use Rattle.pg_driver.specs.Inside.PassWindows.{HaveNumbers, uncovered_at}
 use Rattle.pg_driver.specs.Inside.WordLevels.{listing}
 use Rattle.pg_driver.proofs.OpenSteps.{few_words, word_added}
@@ -46,7 +46,7 @@ words-preserved g c =
     let kept = c.words.invariant.kept in
     let place = drop_place c.args.dictionary.now c.words.i w c.word.ensures.lent in
     let letters = letters_left c.args.dictionary.now c.words.i w c.word.ensures.lent in
-    let here : List OpenPosition = listed_in minima (counts_above pass.level m0.patterns) c.words.i w in
+    let here : List Place = listed_in minima (counts_above pass.level m0.patterns) c.words.i w in
     let sums = c.in_ok-count_word.ensures.sums ∙ ap (λ (x : Meaning). with_marks c.words.sums (marks_in minima x.patterns w)) kept in
     record {
       kept = kept_on m0 m _ (counted_positions_in minima m.pass m.patterns m.hopeless w) kept c.in_ok-count_word.ensures.ok;

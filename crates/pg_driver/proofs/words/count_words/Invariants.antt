@@ -6,7 +6,7 @@ use Rattle.pg_select.specs.Sums.{marks_in, totals, with_marks, HasRoomFor}
 use Rattle.pg_driver.specs.Inside.Counting.{counting, HasRoom}
 use Rattle.pg_driver.specs.Inside.OpenLevels.{listed_from}
 use Rattle.pg_select.specs.Inside.LawsAbove.{counts_above}
-use Rattle.pg_driver.specs.declared.open_positions.OpenPosition.{OpenPosition}
+use Rattle.pg_driver.specs.declared.pass_windows.Place.{Place}
 use Rattle.pg_driver.specs.Inside.PassWindows.{ArePlaces, HaveNumbers, uncovered_at}
 use Rattle.pg_driver.specs.Inside.WordLevels.{listing}
 use Rattle.pg_driver.proofs.Walks.{KeepsButCounts}
@@ -23,7 +23,7 @@ invariant-words g l =
       sums : with_marks l.sums (flat_map (marks_in (minima_of l.table) m0.patterns) (drop l.i l.dictionary)) ≡ totals (minima_of l.table) l.dictionary m0.patterns;
       above : (l.above.items ++ listed_from (minima_of l.table) (listing l.lists l.pass.level m0.patterns) l.i (drop l.i l.dictionary)) ≡ (l.fn.above.items ++ listed_from (minima_of l.table) (listing l.lists l.pass.level m0.patterns) 0 l.dictionary);
       room_for : HasRoomFor l.sums (sum_by letter_count (drop l.i l.dictionary));
-      listed : List OpenPosition;
+      listed : List Place;
       upto : (listed ++ listed_from (minima_of l.table) (counts_above l.pass.level m0.patterns) l.i (drop l.i l.dictionary)) ≡ listed_from (minima_of l.table) (counts_above l.pass.level m0.patterns) 0 l.dictionary;
       numbers : HaveNumbers l.pass (uncovered_at l.pass m0.patterns m0.hopeless) l.dictionary m.windows listed l.windows.numbers.items;
       places : ArePlaces l.pass l.dictionary m.windows l.windows.places.items;

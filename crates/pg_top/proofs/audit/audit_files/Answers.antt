@@ -2,9 +2,9 @@ use Rattle.std.proofs.Common.{◌≡◌, rules}
 use Rattle.pg_outside.specs.Content.{FilesShown, file_at}
 use Rattle.pg_top.specs.Auditing.{given_files}
 use Rattle.pg_top.specs.Calls.{outcome_of}
-use Rattle.pg_top.specs.Commands.{texts_of}
+use Rattle.pg_words.specs.Commands.{texts_of}
 use Rattle.pg_top.specs.Readings.{first_end}
-use Rattle.pg_top.specs.Requests.{FileNames, ToAudit}
+use Rattle.pg_words.specs.Requests.{FileNames, ToAudit}
 use Rattle.pg_top.specs.Selecting.{inputs_of, inputs_in, HasInputs}
 use Rattle.pg_top.specs.Inside.Verdicts.{wanted_files, end_of, outcome_by}
 use Rattle.pg_top.specs.declared.inputs.Stop.TheVariants.{Memory}

@@ -1,9 +1,9 @@
 use Rattle.std.proofs.Common.{◌≡◌, ◌∙◌, ◌++◌, ◌∷◌, [], List, ℕ, ap}
 use Rattle.pg_driver.specs.Told.{account_of}
 use Rattle.pg_top.specs.Auditing.{given_file}
-use Rattle.pg_top.specs.Commands.{name_now}
+use Rattle.pg_words.specs.Commands.{name_now}
 use Rattle.pg_top.specs.Readings.{Reading}
-use Rattle.pg_top.specs.Requests.{if_asked}
+use Rattle.pg_words.specs.Requests.{if_asked}
 use Rattle.pg_top.specs.Selection.{selected_text}
 use Rattle.pg_top.specs.Inside.Verdicts.{wanted_file, wanted_files}
 use Rattle.pg_top.specs.declared.audit.Wanted.{Wanted}

@@ -1,8 +1,8 @@
 use Rattle.std.proofs.Common.{◌≡◌, ◌∙◌, ◌++◌, ◌∷◌, [], List, ℕ, ap}
 use Rattle.pg_driver.specs.Told.{account_of}
-use Rattle.pg_top.specs.Commands.{name_now}
+use Rattle.pg_words.specs.Commands.{name_now}
 use Rattle.pg_top.specs.Outcomes.{Writing}
-use Rattle.pg_top.specs.Requests.{if_asked}
+use Rattle.pg_words.specs.Requests.{if_asked}
 use Rattle.pg_top.specs.Selection.{selected_text, selected_list, selected_cells_text}
 use Rattle.pg_top.specs.Writings.{writing_of, named_text}
 use Rattle.pg_top.specs.declared.writes.Output.{Output}

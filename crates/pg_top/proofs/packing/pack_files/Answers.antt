@@ -3,7 +3,7 @@ use Rattle.pg_outside.specs.Content.{file_at}
 use Rattle.pg_top.specs.Calls.{outcome_of}
 use Rattle.pg_top.specs.Outcomes.{Ends}
 use Rattle.pg_top.specs.Promises.{PackKeeps}
-use Rattle.pg_top.specs.Requests.{ToPack}
+use Rattle.pg_words.specs.Requests.{ToPack}
 use Rattle.pg_top.specs.Inside.Sources.{HasSource}
 use Rattle.pg_top.specs.Writings.{writing_of}
 use Rattle.pg_top.specs.declared.answers.Status.TheVariants.{Done}

@@ -2,7 +2,7 @@ use Rattle.std.proofs.Common.{IfSome, [], ◌∷◌, rules}
 use Rattle.pg_outside.specs.Content.{FilesShown}
 use Rattle.pg_outside.specs.FilesCalls.{Reads}
 use Rattle.pg_top.specs.Inside.PruneInputs.{prune_of}
-use Rattle.pg_top.specs.Requests.{PruneRequest}
+use Rattle.pg_words.specs.Requests.{PruneRequest}
 use Rattle.pg_top.proofs.CountedCalls.{calls_on}
 use Rattle.pg_top.proofs.Faults.{none_fell}
 use Rattle.pg_top.proofs.PruneOrder.{HasPatterns, patterns_read, all_read, stopped_table, stopped_patterns, stopped_words}

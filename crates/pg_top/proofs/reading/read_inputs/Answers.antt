@@ -1,8 +1,8 @@
 use Rattle.std.proofs.Common.{IfSome, [], ◌∷◌, rules}
 use Rattle.pg_outside.specs.Content.{FilesShown}
 use Rattle.pg_outside.specs.FilesCalls.{Reads}
-use Rattle.pg_top.specs.Commands.{texts_of}
-use Rattle.pg_top.specs.Requests.{FileNames}
+use Rattle.pg_words.specs.Commands.{texts_of}
+use Rattle.pg_words.specs.Requests.{FileNames}
 use Rattle.pg_top.proofs.Faults.{none_fell}
 use Rattle.pg_top.proofs.CountedCalls.{calls_on}
 use Rattle.pg_top.proofs.InputOrder.{HasTwo, HasThree, two_read, three_read, all_read, stopped_1, stopped_2, stopped_3, stopped_4}

@@ -1,7 +1,7 @@
 use Rattle.std.proofs.Common.{◌+◌, ◌∷◌, [], List, take, length, IfSome, ◌∙◌, rules, sym, ap, subst, length-append, arith}
 use Rattle.pg_types.specs.Parameters.{Parameters}
 use Rattle.pg_outside.specs.Content.{FilesShown, file_at}
-use Rattle.pg_top.specs.Commands.{words_of}
+use Rattle.pg_words.specs.Commands.{words_of}
 use Rattle.pg_top.specs.Sweeping.{HasSets}
 use Rattle.pg_top.specs.declared.inputs.Stop.TheVariants.{Memory}
 use Rattle.pg_top.proofs.CountedCalls.{no_calls}

@@ -2,7 +2,7 @@ use Rattle.std.proofs.Common.{◌≡◌, length, map, take, IfSome}
 use Rattle.pg_outside.specs.Content.{KeepsHeld, file_at}
 use Rattle.pg_outside.specs.Faults.{NoneFell}
 use Rattle.pg_outside.specs.FilesCalls.{Reads}
-use Rattle.pg_top.specs.Commands.{words_of}
+use Rattle.pg_words.specs.Commands.{words_of}
 use Rattle.pg_top.specs.Counted.{MakesCalls}
 use Rattle.pg_top.specs.Sweeping.{HasSets}
 use Rattle.pg_top.proofs.sets.read_sets.Given as goal

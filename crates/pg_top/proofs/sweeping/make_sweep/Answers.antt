@@ -1,6 +1,6 @@
 use Rattle.std.proofs.Common.{◌++◌, ◌∷◌, [], List, ◌∙◌, sym, ap}
 use Rattle.pg_sweep.specs.Sweeps.{Terms, Prices, rows_of}
-use Rattle.pg_top.specs.Commands.{sweep_of}
+use Rattle.pg_words.specs.Commands.{sweep_of}
 use Rattle.pg_top.specs.Outcomes.{Ends}
 use Rattle.pg_top.specs.Inside.SweepInputs.{terms_of}
 use Rattle.pg_top.specs.Writings.{writing_of}

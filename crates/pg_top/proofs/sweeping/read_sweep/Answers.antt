@@ -1,7 +1,7 @@
 use Rattle.std.proofs.Common.{IfSome, rules}
 use Rattle.pg_outside.specs.Content.{FilesShown}
-use Rattle.pg_top.specs.Commands.{sweep_of}
-use Rattle.pg_top.specs.Requests.{SweepRequest}
+use Rattle.pg_words.specs.Commands.{sweep_of}
+use Rattle.pg_words.specs.Requests.{SweepRequest}
 use Rattle.pg_top.proofs.Faults.{none_fell}
 use Rattle.pg_top.proofs.SweepOrder.{HasFront, HasStart, front_calls, all_calls, front_read, start_read, all_read, stopped_table, stopped_sets, stopped_patterns, stopped_words}
 use Rattle.pg_top.proofs.sweeping.read_sweep.Goals as goal

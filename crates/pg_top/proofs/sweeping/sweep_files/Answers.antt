@@ -3,10 +3,10 @@ use Rattle.std.specs.Prelude.{string_bytes}
 use Rattle.std.proofs.lemmas.List.{length-map}
 use Rattle.pg_outside.specs.Content.{file_at}
 use Rattle.pg_top.specs.Calls.{outcome_of}
-use Rattle.pg_top.specs.Commands.{sweep_of}
+use Rattle.pg_words.specs.Commands.{sweep_of}
 use Rattle.pg_top.specs.Outcomes.{Ends}
 use Rattle.pg_top.specs.Promises.{SweepNames}
-use Rattle.pg_top.specs.Requests.{ToSweep}
+use Rattle.pg_words.specs.Requests.{ToSweep}
 use Rattle.pg_top.specs.Inside.SweepInputs.{terms_of}
 use Rattle.pg_top.specs.Sweeping.{sweep_reads, HasSweep}
 use Rattle.pg_top.specs.Writings.{writing_of}

@@ -1,5 +1,5 @@
-use Rattle.pg_top.specs.Commands.{texts_of}
-use Rattle.pg_top.specs.Requests.{ToGenerate}
+use Rattle.pg_words.specs.Commands.{texts_of}
+use Rattle.pg_words.specs.Requests.{ToGenerate}
 use Rattle.pg_top.specs.Writings.{writing_of}
 use Rattle.pg_top.proofs.CountedEnds.{counted_stop, counted_finish}
 use Rattle.pg_top.proofs.Calls.{finished_call, stopped_call, stops_reading}

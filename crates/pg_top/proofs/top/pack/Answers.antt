@@ -1,4 +1,4 @@
-use Rattle.pg_top.specs.Requests.{ToPack}
+use Rattle.pg_words.specs.Requests.{ToPack}
 use Rattle.pg_top.specs.Writings.{writing_of}
 use Rattle.pg_outside.specs.Content.{file_at}
 use Rattle.pg_top.specs.Promises.{PackKeeps}

@@ -1,9 +1,9 @@
 use Rattle.std.proofs.Common.{◌≡◌, ◌∙◌, sym, ap, rules}
 use Rattle.pg_outside.specs.Content.{file_at}
 use Rattle.pg_top.specs.Calls.{outcome_of}
-use Rattle.pg_top.specs.Commands.{texts_of}
+use Rattle.pg_words.specs.Commands.{texts_of}
 use Rattle.pg_top.specs.Outcomes.{Ends}
-use Rattle.pg_top.specs.Requests.{ToGenerate}
+use Rattle.pg_words.specs.Requests.{ToGenerate}
 use Rattle.pg_top.specs.Selecting.{HasInputs}
 use Rattle.pg_top.specs.Writings.{written_names, writing_of}
 use Rattle.pg_top.specs.declared.answers.Status.TheVariants.{Done}

@@ -1,5 +1,5 @@
 use Rattle.pg_top.specs.Inside.PruneInputs.{prune_of}
-use Rattle.pg_top.specs.Requests.{ToPrune}
+use Rattle.pg_words.specs.Requests.{ToPrune}
 use Rattle.pg_top.specs.Writings.{writing_of}
 use Rattle.pg_outside.specs.Content.{file_at}
 use Rattle.pg_top.specs.Promises.{PruneKeeps}

@@ -1,4 +1,4 @@
-use Rattle.pg_top.specs.Requests.{ToTotals}
+use Rattle.pg_words.specs.Requests.{ToTotals}
 use Rattle.pg_top.specs.declared.answers.Status.TheVariants.{Done}
 use Rattle.pg_top.proofs.CountedEnds.{counted_line, counted_stop}
 use Rattle.pg_top.proofs.Calls.{answered_call, stopped_command}

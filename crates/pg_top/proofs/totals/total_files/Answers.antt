@@ -5,7 +5,7 @@ use Rattle.pg_outside.specs.FilesCalls.{Reads}
 use Rattle.pg_translate.specs.Tables.{table}
 use Rattle.pg_top.specs.PackedTables.{file_under, packed_table}
 use Rattle.pg_top.specs.Readings.{input_file}
-use Rattle.pg_top.specs.Requests.{ToTotals}
+use Rattle.pg_words.specs.Requests.{ToTotals}
 use Rattle.pg_top.specs.declared.inputs.Input.TheVariants as input
 use Rattle.pg_top.proofs.Calls.{stops_reading}
 use Rattle.pg_top.proofs.CountedCalls.{calls_on}

@@ -1,7 +1,0 @@
-use Rattle.std.proofs.Common.{◌≡◌, drop}
-use Rattle.pg_top.specs.Commands.{words_of}
-use Rattle.pg_top.specs.Requests.{differs_from}
-use Rattle.pg_top.proofs.words.differs_from_all.Given as goal
-
-abbrev pub invariant-words : goal.invariant-words
-invariant-words l = differs_from l.name (words_of l.words) ≡ differs_from l.name (words_of (drop l.i l.words))

@@ -1,0 +1,22 @@
+-- What holds of each of a list of words, taken one after the other.
+use Rattle.std.proofs.Common.{◌≡◌, ℕ, ◌+◌, ◌<◌, Bool, true, false, ◌&&◌, List, length, drop, get_or, String, sym, ap, ◌∙◌}
+use Rattle.std.specs.List.{list_all}
+use Rattle.std.specs.Prelude.{string_bytes}
+use Rattle.std.specs.declared.alloc.Global.{Global}
+use Rattle.std.proofs.lemmas.List.{drop_more}
+use Rattle.pg_words.specs.Commands.{words_of}
+
+module _ (p : List ℕ → Bool) (words : List (String Global)) (i : ℕ) (word : String Global) (is : word ≡ get_or words i word) (within : i < length words) (so_far : list_all p (words_of words) ≡ list_all p (words_of (drop i words))) where
+  step : list_all p (words_of words) ≡ p (string_bytes word) && list_all p (words_of (drop (i + 1) words))
+  step =
+      so_far
+      ∙ ap (λ ws. list_all p (words_of ws)) (drop_more words i word within)
+      ∙ ap (λ (w : String Global). p (string_bytes w) && list_all p (words_of (drop (i + 1) words))) (sym is)
+
+  -- a word of which it holds leaves it to the others
+  pub holds_on : p (string_bytes word) ≡ true → list_all p (words_of words) ≡ list_all p (words_of (drop (i + 1) words))
+  holds_on holds = step ∙ ap (λ b. b && list_all p (words_of (drop (i + 1) words))) holds
+
+  -- and one of which it does not decides
+  pub holds_not : p (string_bytes word) ≡ false → list_all p (words_of words) ≡ false
+  holds_not fails = step ∙ ap (λ b. b && list_all p (words_of (drop (i + 1) words))) fails

@@ -1,0 +1,4 @@
+pub mod DigitValues
+pub mod AllWords
+pub mod PruneWords
+pub mod SweepParts
