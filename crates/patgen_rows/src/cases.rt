@@ -1,7 +1,7 @@
 //! The calls of a row.
 use crate::changes::Change;
 use crate::contents::Contents;
-use crate::row::{Call, NamedContent, Row, Wants};
+use crate::row::{Call, NamedContent, Row, Want};
 use crate::table::Table;
 use pg_outside::{Files, MemoryFiles, MemorySink, ReadError, Sink};
 use pg_top::{Status, run};
@@ -15,6 +15,36 @@ const ROOM: usize = 4096;
 pub(crate) struct Held<'a> {
     pub name: &'a str,
     pub bytes: Option<&'a [u8]>,
+}
+
+/// From now on a file has to hold this.
+fn hold<'a>(
+    holds: &mut Vec<Held<'a>>,
+    name: &'a str,
+    bytes: Option<&'a [u8]>,
+) -> Result<(), AllocError> {
+    let held = Held { name, bytes };
+    match holds.iter().position(|held| held.name == name) {
+        Some(place) => holds[place] = held,
+        None => holds.push(held)?,
+    }
+    Ok(())
+}
+
+/// From now on the files have to hold what is wanted of a call.
+fn hold_wanted<'a>(
+    holds: &mut Vec<Held<'a>>,
+    contents: &'a Contents<'a>,
+    wants: &[Want<'a>],
+) -> Result<(), AllocError> {
+    for want in wants {
+        match *want {
+            Want::After(file) => hold(holds, file.name, Some(contents.bytes(file.content)))?,
+            Want::Begins(NamedContent { name, .. }) | Want::Any(name) => hold(holds, name, None)?,
+            _ => {}
+        }
+    }
+    Ok(())
 }
 
 /// What came of a call.
@@ -31,7 +61,7 @@ pub(crate) struct Outcome {
 #[derive(Drop)]
 pub(crate) struct Case<'a> {
     alloc: Global,
-    pub contents: &'a Contents,
+    pub contents: &'a Contents<'a>,
     pub files: MemoryFiles,
     pub holds: Vec<Held<'a>>,
 }
@@ -40,8 +70,8 @@ impl<'a> Case<'a> {
     /// The files that a row gives, one of them with a change, if there is one.
     pub fn new(
         alloc: Global,
-        table: &'a Table,
-        row: &'a Row,
+        table: &'a Table<'a>,
+        row: &'a Row<'a>,
         change: Option<&'a Change<'a>>,
     ) -> Result<Case<'a>, AllocError> {
         let mut case = Case {
@@ -50,19 +80,34 @@ impl<'a> Case<'a> {
             files: MemoryFiles::new(alloc),
             holds: Vec::new(alloc),
         };
-        case.add_all(&table.files, &row.missing)?;
-        case.add_all(&row.files, &[])?;
-        if let Some(change) = change {
-            case.add(change.name, &change.bytes)?;
-        }
+        case.add_given(table, row, change)?;
         Ok(case)
     }
 
+    /// Adds the files that a row gives, one of them with a change, if there is one.
+    fn add_given(
+        &mut self,
+        table: &'a Table<'a>,
+        row: &'a Row<'a>,
+        change: Option<&'a Change<'a>>,
+    ) -> Result<(), AllocError> {
+        self.add_all(&table.files, &row.missing)?;
+        self.add_all(&row.files, &[])?;
+        if let Some(change) = change {
+            self.add(change.name, &change.bytes)?;
+        }
+        Ok(())
+    }
+
     /// Adds files, but for those that are missing.
-    fn add_all(&mut self, files: &'a [NamedContent], missing: &[String]) -> Result<(), AllocError> {
+    fn add_all(
+        &mut self,
+        files: &'a [NamedContent<'a>],
+        missing: &[&str],
+    ) -> Result<(), AllocError> {
         for file in files {
-            if !missing.iter().any(|name| file.is_named(name.as_str())) {
-                self.add(file.name.as_str(), self.contents.bytes(file.content))?;
+            if !missing.iter().any(|name| *name == file.name) {
+                self.add(file.name, self.contents.bytes(file.content))?;
             }
         }
         Ok(())
@@ -71,38 +116,37 @@ impl<'a> Case<'a> {
     /// Adds a file.
     fn add(&mut self, name: &'a str, bytes: &'a [u8]) -> Result<(), AllocError> {
         self.files.add(name, bytes, ROOM)?;
-        self.hold(name, Some(bytes))
-    }
-
-    /// From now on a file has to hold this.
-    fn hold(&mut self, name: &'a str, bytes: Option<&'a [u8]>) -> Result<(), AllocError> {
-        self.holds.retain(|held| held.name != name);
-        self.holds.push(Held { name, bytes })?;
-        Ok(())
+        hold(&mut self.holds, name, Some(bytes))
     }
 
     /// Does a call. The files then have to hold what it wants.
-    pub fn call(&mut self, call: &'a Call) -> Result<Outcome, AllocError> {
+    pub fn call(&mut self, call: &Call<'a>) -> Result<Outcome, AllocError> {
         let mut out = sink_of(self.alloc, &call.wants)?;
+        self.call_on(call, &mut out)
+    }
+
+    /// Does a call that prints to this sink.
+    fn call_on(&mut self, call: &Call<'a>, out: &mut MemorySink) -> Result<Outcome, AllocError> {
         self.list_faults(&call.wants)?;
-        let status = run(self.alloc, &call.words, &mut self.files, &mut out);
-        self.hold_wanted(&call.wants)?;
+        let status = run(self.alloc, &call.words, &mut self.files, out);
+        hold_wanted(&mut self.holds, self.contents, &call.wants)?;
         let printed = out.bytes().to_vec(self.alloc)?;
         Ok(Outcome {
             status,
             printed,
-            has_calls: call.wants.calls.is_none() || self.next_fails(),
-            has_puts: call.wants.puts.is_none() || out.put(b"").is_err(),
+            has_calls: !call.wants.iter().any(|want| want.is_calls()) || self.next_fails(),
+            has_puts: !call.wants.iter().any(|want| want.is_puts()) || out.put(b"").is_err(),
         })
     }
 
     /// Lists the call on the files that is to fail, and the one behind the last.
-    fn list_faults(&mut self, wants: &Wants) -> Result<(), AllocError> {
-        if let Some(fault) = wants.failing_call {
-            self.files.fail_at(fault.number, fault.keep)?;
-        }
-        if let Some(calls) = wants.calls {
-            self.files.fail_at(calls.saturating_add(1), None)?;
+    fn list_faults(&mut self, wants: &[Want<'_>]) -> Result<(), AllocError> {
+        for want in wants {
+            match *want {
+                Want::FailingCall(fault) => self.files.fail_at(fault.number, fault.keep)?,
+                Want::Calls(calls) => self.files.fail_at(calls.saturating_add(1), None)?,
+                _ => {}
+            }
         }
         Ok(())
     }
@@ -116,31 +160,23 @@ impl<'a> Case<'a> {
         let next = self.files.read(self.alloc, held.name, 100, &mut bytes);
         next == Err(ReadError::Failed)
     }
-
-    /// From now on the files have to hold what is wanted of a call.
-    fn hold_wanted(&mut self, wants: &'a Wants) -> Result<(), AllocError> {
-        for file in wants.after.iter() {
-            let bytes = self.contents.bytes(file.content);
-            self.hold(file.name.as_str(), Some(bytes))?;
-        }
-        for file in wants.beginnings.iter() {
-            self.hold(file.name.as_str(), None)?;
-        }
-        for name in wants.any.iter() {
-            self.hold(name.as_str(), None)?;
-        }
-        Ok(())
-    }
 }
 
 /// An empty sink, with the put that is to fail and the one behind the last.
-fn sink_of(alloc: Global, wants: &Wants) -> Result<MemorySink, AllocError> {
+fn sink_of(alloc: Global, wants: &[Want<'_>]) -> Result<MemorySink, AllocError> {
     let mut out = MemorySink::new(alloc, ROOM)?;
-    if let Some(fault) = wants.failing_put {
-        out.fail_at(fault.number, fault.keep)?;
-    }
-    if let Some(puts) = wants.puts {
-        out.fail_at(puts.saturating_add(1), None)?;
-    }
+    list_put_faults(&mut out, wants)?;
     Ok(out)
+}
+
+/// Lists the put that is to fail, and the one behind the last.
+fn list_put_faults(out: &mut MemorySink, wants: &[Want<'_>]) -> Result<(), AllocError> {
+    for want in wants {
+        match *want {
+            Want::FailingPut(fault) => out.fail_at(fault.number, fault.keep)?,
+            Want::Puts(puts) => out.fail_at(puts.saturating_add(1), None)?,
+            _ => {}
+        }
+    }
+    Ok(())
 }

@@ -58,18 +58,29 @@ pub(crate) fn changes_of<'a>(
     let mut changes = Vec::new(alloc);
     for line in lines_of(alloc, file)?.iter() {
         push_changed_bytes(&mut changes, alloc, name, line)?;
-        changes.push(Change {
-            name,
-            bytes: line.replaced(alloc, b"")?,
-            line: line.number,
-        })?;
-        changes.push(Change {
-            name,
-            bytes: line.replaced(alloc, &line.bytes.repeat(alloc, 2)?)?,
-            line: line.number.saturating_add(1),
-        })?;
+        push_changed_line(&mut changes, alloc, name, line)?;
     }
     Ok(changes)
+}
+
+/// Appends the changes of a line as a whole.
+fn push_changed_line<'a>(
+    changes: &mut Vec<Change<'a>>,
+    alloc: Global,
+    name: &'a str,
+    line: &Line<'_>,
+) -> Result<(), AllocError> {
+    changes.push(Change {
+        name,
+        bytes: line.replaced(alloc, b"")?,
+        line: line.number,
+    })?;
+    changes.push(Change {
+        name,
+        bytes: line.replaced(alloc, &line.bytes.repeat(alloc, 2)?)?,
+        line: line.number.saturating_add(1),
+    })?;
+    Ok(())
 }
 
 /// Appends the changes of the bytes of a line.

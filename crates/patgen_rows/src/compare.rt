@@ -1,7 +1,8 @@
 //! What came of a call beside what was wanted of it.
 use crate::cases::{Case, Held, Outcome};
 use crate::contents::Contents;
-use crate::row::{Printed, Wants};
+use crate::row::{NamedContent, Printed, Want};
+use pg_top::Status;
 use std::alloc::{AllocError, Global};
 
 /// How many bytes of a content are shown.
@@ -19,39 +20,65 @@ pub(crate) struct Around<'a> {
 /// What is wrong with a call, a line for each difference. It is empty where all is as wanted.
 pub(crate) fn differences(
     alloc: Global,
-    wants: &Wants,
+    wants: &[Want<'_>],
     case: &Case<'_>,
     outcome: &Outcome,
     around: &Around<'_>,
 ) -> Result<String, AllocError> {
     let mut text = String::new(alloc);
-    compare_status(&mut text, wants, outcome)?;
-    for printed in wants.printed.iter() {
-        compare_printed(
-            alloc,
-            &mut text,
-            *printed,
-            case.contents,
-            &outcome.printed,
-            around,
-        )?;
-    }
-    compare_files(&mut text, case)?;
-    compare_beginnings(&mut text, wants, case)?;
-    compare_pairs(&mut text, wants, case)?;
-    compare_end(&mut text, wants, case, &outcome.printed)?;
-    compare_counts(&mut text, wants, outcome)?;
+    compare_all(alloc, &mut text, wants, case, outcome, around)?;
     Ok(text)
 }
 
-fn compare_status(text: &mut String, wants: &Wants, outcome: &Outcome) -> Result<(), AllocError> {
-    if let Some(wanted) = wants.status
-        && wanted != outcome.status
-    {
-        let came = outcome.status;
-        writeln!(text, "  wanted the status {wanted:?}, and {came:?} came")?;
+/// Compares all that is wanted of a call.
+fn compare_all(
+    alloc: Global,
+    text: &mut String,
+    wants: &[Want<'_>],
+    case: &Case<'_>,
+    outcome: &Outcome,
+    around: &Around<'_>,
+) -> Result<(), AllocError> {
+    for want in wants {
+        compare_want(alloc, text, *want, case, outcome, around)?;
     }
-    Ok(())
+    compare_files(text, case)
+}
+
+/// Compares one thing that is wanted of a call.
+fn compare_want(
+    alloc: Global,
+    text: &mut String,
+    want: Want<'_>,
+    case: &Case<'_>,
+    outcome: &Outcome,
+    around: &Around<'_>,
+) -> Result<(), AllocError> {
+    let came = outcome.printed.as_slice();
+    match want {
+        Want::Status(wanted) => compare_status(text, wanted, outcome.status),
+        Want::Printed(printed) => {
+            compare_printed(alloc, text, printed, case.contents, came, around)
+        }
+        Want::Begins(file) => compare_beginning(text, case, file),
+        Want::Same(one, other) => compare_pair(text, case, one, other),
+        Want::Ended(name) => compare_end(text, case, name, came),
+        Want::Calls(calls) if !outcome.has_calls => writeln!(
+            text,
+            "  wanted {calls} calls on the files, and another number came"
+        ),
+        Want::Puts(puts) if !outcome.has_puts => {
+            writeln!(text, "  wanted {puts} puts, and another number came")
+        }
+        _ => Ok(()),
+    }
+}
+
+fn compare_status(text: &mut String, wanted: Status, came: Status) -> Result<(), AllocError> {
+    if wanted == came {
+        return Ok(());
+    }
+    writeln!(text, "  wanted the status {wanted:?}, and {came:?} came")
 }
 
 /// Compares what was printed with one thing that is wanted of it.
@@ -84,8 +111,7 @@ fn compare_printed(
             push_difference(text, came.ends_with(wanted), "printed last", wanted, came)
         }
         Printed::AtLine(content) => {
-            let mut wanted = contents.bytes(content).to_vec(alloc)?;
-            wanted.extend_from_slice(format!(in alloc; "{} ", around.line)?.as_bytes())?;
+            let wanted = front_of_line(alloc, contents.bytes(content), around.line)?;
             push_difference(
                 text,
                 came.starts_with(&wanted),
@@ -104,6 +130,13 @@ fn compare_printed(
             )
         }
     }
+}
+
+/// These bytes, the number of a line and a blank.
+fn front_of_line(alloc: Global, bytes: &[u8], line: usize) -> Result<Vec<u8>, AllocError> {
+    let mut front = bytes.to_vec(alloc)?;
+    front.extend_from_slice(format!(in alloc; "{line} ")?.as_bytes())?;
+    Ok(front)
 }
 
 /// Each file that has to hold something.
@@ -125,57 +158,39 @@ fn compare_file(text: &mut String, case: &Case<'_>, held: &Held<'_>) -> Result<(
     }
 }
 
-/// Each file that has to begin with something.
-fn compare_beginnings(text: &mut String, wants: &Wants, case: &Case<'_>) -> Result<(), AllocError> {
-    for file in wants.beginnings.iter() {
-        let wanted = case.contents.bytes(file.content);
-        let name = file.name.as_str();
-        let came = case.files.bytes(name).unwrap_or(b"no file");
-        push_difference(text, came.starts_with(wanted), name, wanted, came)?;
-    }
-    Ok(())
+/// A file that has to begin with something.
+fn compare_beginning(
+    text: &mut String,
+    case: &Case<'_>,
+    file: NamedContent<'_>,
+) -> Result<(), AllocError> {
+    let wanted = case.contents.bytes(file.content);
+    let came = case.files.bytes(file.name).unwrap_or(b"no file");
+    push_difference(text, came.starts_with(wanted), file.name, wanted, came)
 }
 
-/// Each two files that have to hold the same.
-fn compare_pairs(text: &mut String, wants: &Wants, case: &Case<'_>) -> Result<(), AllocError> {
-    for pair in wants.same.iter() {
-        let wanted = case.files.bytes(pair.other.as_str()).unwrap_or(b"no file");
-        let came = case.files.bytes(pair.one.as_str()).unwrap_or(b"none");
-        push_difference(text, came == wanted, pair.one.as_str(), wanted, came)?;
-    }
-    Ok(())
+/// Two files that have to hold the same.
+fn compare_pair(
+    text: &mut String,
+    case: &Case<'_>,
+    one: &str,
+    other: &str,
+) -> Result<(), AllocError> {
+    let wanted = case.files.bytes(other).unwrap_or(b"no file");
+    let came = case.files.bytes(one).unwrap_or(b"none");
+    push_difference(text, came == wanted, one, wanted, came)
 }
 
 /// The file that has to end with what was printed, which is not empty.
 fn compare_end(
     text: &mut String,
-    wants: &Wants,
     case: &Case<'_>,
+    name: &str,
     came: &[u8],
 ) -> Result<(), AllocError> {
-    let Some(name) = &wants.ended else {
-        return Ok(());
-    };
-    let file = case.files.bytes(name.as_str()).unwrap_or(b"");
+    let file = case.files.bytes(name).unwrap_or(b"");
     let is_end = !came.is_empty() && file.ends_with(came);
     push_difference(text, is_end, "printed the end", file, came)
-}
-
-fn compare_counts(text: &mut String, wants: &Wants, outcome: &Outcome) -> Result<(), AllocError> {
-    if let Some(calls) = wants.calls
-        && !outcome.has_calls
-    {
-        writeln!(
-            text,
-            "  wanted {calls} calls on the files, and another number came"
-        )?;
-    }
-    if let Some(puts) = wants.puts
-        && !outcome.has_puts
-    {
-        writeln!(text, "  wanted {puts} puts, and another number came")?;
-    }
-    Ok(())
 }
 
 /// Appends the bytes that were wanted of something and those that came, where these are wrong.

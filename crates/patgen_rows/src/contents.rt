@@ -10,15 +10,15 @@ pub(crate) struct ContentId(usize);
 
 /// All contents of a table, those with a name and those of one file or answer alone.
 #[derive(Drop)]
-pub(crate) struct Contents {
+pub(crate) struct Contents<'a> {
     alloc: Global,
     texts: Vec<Vec<u8>>,
-    named: Vec<NamedContent>,
+    named: Vec<NamedContent<'a>>,
 }
 
-impl Contents {
+impl<'a> Contents<'a> {
     /// No content.
-    pub fn new(alloc: Global) -> Contents {
+    pub fn new(alloc: Global) -> Contents<'a> {
         Contents {
             alloc,
             texts: Vec::new(alloc),
@@ -34,18 +34,17 @@ impl Contents {
     }
 
     /// Gives a content a name.
-    pub fn name(&mut self, name: &str, content: ContentId) -> Result<(), Problem> {
+    pub fn name(&mut self, name: &'a str, content: ContentId) -> Result<(), Problem> {
         if self.find(name).is_some() {
             return Err(Problem::NameTwice);
         }
-        self.named
-            .push(NamedContent::new(self.alloc, name, content)?)?;
+        self.named.push(NamedContent { name, content })?;
         Ok(())
     }
 
     /// The content of this name.
     pub fn find(&self, name: &str) -> Option<ContentId> {
-        let named = self.named.iter().find(|named| named.is_named(name))?;
+        let named = self.named.iter().find(|named| named.name == name)?;
         Some(named.content)
     }
 
@@ -60,37 +59,40 @@ impl Contents {
     pub fn push_piece(&mut self, line: &str) -> Result<(), Problem> {
         let (times, simple) = cut_times(line);
         let piece = self.simple_piece(simple)?;
-        let Some(text) = self.texts.last_mut() else {
-            return Err(Problem::PieceAlone);
-        };
-        for _ in 0..times {
-            text.extend_from_slice(&piece)?;
+        match self.texts.last_mut() {
+            Some(text) => Ok(push_times(text, times, &piece)?),
+            None => Err(Problem::PieceAlone),
         }
-        Ok(())
     }
 
     /// The bytes of a piece that stands once.
     fn simple_piece(&self, piece: &str) -> Result<Vec<u8>, Problem> {
         let mut bytes = Vec::new(self.alloc);
+        self.push_simple(&mut bytes, piece)?;
+        Ok(bytes)
+    }
+
+    /// Appends the bytes of a piece that stands once.
+    fn push_simple(&self, bytes: &mut Vec<u8>, piece: &str) -> Result<(), Problem> {
         match piece.split_once(' ').unwrap_or((piece, "")) {
             (">", text) => {
-                push_unescaped(&mut bytes, text)?;
+                push_unescaped(bytes, text)?;
                 bytes.push(b'\n')?;
             }
-            ("+", text) => push_unescaped(&mut bytes, text)?,
+            ("+", text) => push_unescaped(bytes, text)?,
             ("=", name) => {
                 let content = self.find(name).ok_or(Problem::NoContent)?;
                 bytes.extend_from_slice(self.bytes(content))?;
             }
-            ("bytes", numbers) => push_numbers(&mut bytes, numbers)?,
-            ("sample", numbers) => push_sample(self.alloc, &mut bytes, numbers)?,
-            ("letters", numbers) => push_letters(&mut bytes, numbers)?,
-            ("words", numbers) => push_words(&mut bytes, numbers)?,
-            ("cells", numbers) => push_cells(&mut bytes, numbers)?,
-            ("joined", names) => self.push_joined(&mut bytes, names)?,
+            ("bytes", numbers) => push_numbers(bytes, numbers)?,
+            ("sample", numbers) => push_sample(self.alloc, bytes, numbers)?,
+            ("letters", numbers) => push_letters(bytes, numbers)?,
+            ("words", numbers) => push_words(bytes, numbers)?,
+            ("cells", numbers) => push_cells(bytes, numbers)?,
+            ("joined", names) => self.push_joined(bytes, names)?,
             _ => return Err(Problem::NoPiece),
         }
-        Ok(bytes)
+        Ok(())
     }
 
     /// Appends a line for each word of one content with each word of another.
@@ -112,6 +114,14 @@ fn push_pairs(bytes: &mut Vec<u8>, front: &[u8], text: &[u8]) -> Result<(), Allo
         bytes.push(b'-')?;
         bytes.extend_from_slice(word)?;
         bytes.extend_from_slice(b"\r\n")?;
+    }
+    Ok(())
+}
+
+/// Appends bytes so many times.
+fn push_times(text: &mut Vec<u8>, times: usize, piece: &[u8]) -> Result<(), AllocError> {
+    for _ in 0..times {
+        text.extend_from_slice(piece)?;
     }
     Ok(())
 }

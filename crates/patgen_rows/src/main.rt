@@ -21,22 +21,13 @@ use std::{env, fs, io};
 use table::Table;
 use trial::Trial;
 
-/// Reads a table and does its rows: whether it is one and all goes as wanted.
-fn try_table<R: Files + AllocGlobal + Print>(rt: &R, name: &str) -> io::Result<bool> {
-    let alloc = rt.alloc();
-    let text = fs::read_to_string(rt, name)?;
-    let table = match Table::read(alloc, text.as_str()) {
-        Ok(table) => table,
-        Err(error) => {
-            println!(rt; "{name}: {error}")?;
-            return Ok(false);
-        }
-    };
+/// Does the rows of a table: whether all goes as wanted.
+fn try_rows<R: AllocGlobal + Print>(rt: &R, name: &str, table: &Table<'_>) -> io::Result<bool> {
     let trial = Trial {
         rt,
-        alloc,
+        alloc: rt.alloc(),
         name,
-        table: &table,
+        table,
     };
     let tally = trial.try_rows()?;
     let rows = table.rows.len();
@@ -45,6 +36,23 @@ fn try_table<R: Files + AllocGlobal + Print>(rt: &R, name: &str) -> io::Result<b
         tally.calls, tally.wrong
     )?;
     Ok(tally.wrong == 0)
+}
+
+/// Does the rows of the table in a text: whether it is one and all goes as wanted.
+fn try_text<R: AllocGlobal + Print>(rt: &R, name: &str, text: &str) -> io::Result<bool> {
+    match Table::read(rt.alloc(), text) {
+        Ok(table) => try_rows(rt, name, &table),
+        Err(error) => {
+            println!(rt; "{name}: {error}")?;
+            Ok(false)
+        }
+    }
+}
+
+/// Reads a table and does its rows: whether it is one and all goes as wanted.
+fn try_table<R: Files + AllocGlobal + Print>(rt: &R, name: &str) -> io::Result<bool> {
+    let text = fs::read_to_string(rt, name)?;
+    try_text(rt, name, text.as_str())
 }
 
 /// Tries each table that the words name: whether all go as wanted.

@@ -1,33 +1,12 @@
 //! The rows of a table: calls of the program, and what is wanted of each.
 use crate::contents::ContentId;
 use pg_top::Status;
-use std::alloc::{AllocError, Global};
 
 /// The name of a file or of a content, and the content.
-#[derive(Clone, Drop)]
-pub(crate) struct NamedContent {
-    pub name: String,
+#[derive(Clone, Copy)]
+pub(crate) struct NamedContent<'a> {
+    pub name: &'a str,
     pub content: ContentId,
-}
-
-impl NamedContent {
-    /// This content under this name.
-    pub fn new(alloc: Global, name: &str, content: ContentId) -> Result<NamedContent, AllocError> {
-        let name = String::from_str(alloc, name)?;
-        Ok(NamedContent { name, content })
-    }
-
-    /// Whether this is the name.
-    pub fn is_named(&self, name: &str) -> bool {
-        self.name.as_str() == name
-    }
-}
-
-/// The names of two files.
-#[derive(Clone, Drop)]
-pub(crate) struct Pair {
-    pub one: String,
-    pub other: String,
 }
 
 /// A call on files or a put that fails: its number, counted from 1, and how many bytes it keeps.
@@ -54,44 +33,52 @@ pub(crate) enum Printed {
     Anything,
 }
 
-/// What is wanted of a call, and which of its calls on files and puts fail.
-#[derive(Clone, Drop)]
-pub(crate) struct Wants {
-    pub status: Option<Status>,
-    pub printed: Vec<Printed>,
-    /// The files that hold something else after the call than before it.
-    pub after: Vec<NamedContent>,
-    /// The files that begin with something after the call, and may hold anything behind it.
-    pub beginnings: Vec<NamedContent>,
-    /// The files that may hold anything after the call.
-    pub any: Vec<String>,
-    /// Files that hold the same after the call.
-    pub same: Vec<Pair>,
-    /// The file that ends with what is printed, if one is to.
-    pub ended: Option<String>,
-    pub failing_call: Option<Fault>,
-    pub failing_put: Option<Fault>,
-    /// How many calls on the files and how many puts are made, those that fail too.
-    pub calls: Option<u64>,
-    pub puts: Option<u64>,
+/// Something that is wanted of a call, or one of its calls on files and puts that fails.
+#[derive(Clone, Copy)]
+pub(crate) enum Want<'a> {
+    /// The answer is this.
+    Status(Status),
+    /// This is wanted of what is printed.
+    Printed(Printed),
+    /// A file holds this after the call.
+    After(NamedContent<'a>),
+    /// A file begins with this after the call, and may hold anything behind it.
+    Begins(NamedContent<'a>),
+    /// A file may hold anything after the call.
+    Any(&'a str),
+    /// Two files hold the same after the call.
+    Same(&'a str, &'a str),
+    /// A file ends with what is printed.
+    Ended(&'a str),
+    /// A call on the files fails.
+    FailingCall(Fault),
+    /// A put fails.
+    FailingPut(Fault),
+    /// So many calls on the files are made, those that fail too.
+    Calls(u64),
+    /// So many puts are made, those that fail too.
+    Puts(u64),
 }
 
-impl Wants {
-    /// Nothing is wanted so far.
-    pub fn new(alloc: Global) -> Wants {
-        Wants {
-            status: None,
-            printed: Vec::new(alloc),
-            after: Vec::new(alloc),
-            beginnings: Vec::new(alloc),
-            any: Vec::new(alloc),
-            same: Vec::new(alloc),
-            ended: None,
-            failing_call: None,
-            failing_put: None,
-            calls: None,
-            puts: None,
-        }
+impl Want<'_> {
+    /// Whether it is the answer.
+    pub fn is_status(&self) -> bool {
+        matches!(self, Want::Status(_))
+    }
+
+    /// Whether it is something of what is printed.
+    pub fn is_of_prints(&self) -> bool {
+        matches!(self, Want::Printed(_) | Want::Ended(_))
+    }
+
+    /// Whether it is the number of calls on the files.
+    pub fn is_calls(&self) -> bool {
+        matches!(self, Want::Calls(_))
+    }
+
+    /// Whether it is the number of puts.
+    pub fn is_puts(&self) -> bool {
+        matches!(self, Want::Puts(_))
     }
 }
 
@@ -106,22 +93,22 @@ pub(crate) enum Before {
 
 /// A call of the program.
 #[derive(Drop)]
-pub(crate) struct Call {
+pub(crate) struct Call<'a> {
     /// The number of its line.
     pub line: usize,
     pub before: Before,
     pub words: Vec<String>,
-    pub wants: Wants,
+    pub wants: Vec<Want<'a>>,
 }
 
 /// Calls that begin with the same files.
 #[derive(Drop)]
-pub(crate) struct Row {
-    pub title: String,
-    pub files: Vec<NamedContent>,
+pub(crate) struct Row<'a> {
+    pub title: &'a str,
+    pub files: Vec<NamedContent<'a>>,
     /// The names of the files of the table that are not there.
-    pub missing: Vec<String>,
+    pub missing: Vec<&'a str>,
     /// The name of the file of which each change is tried, if there is one.
-    pub changed: Option<String>,
-    pub calls: Vec<Call>,
+    pub changed: Option<&'a str>,
+    pub calls: Vec<Call<'a>>,
 }

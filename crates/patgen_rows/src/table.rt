@@ -1,41 +1,34 @@
 //! Reading a table.
 use crate::contents::{ContentId, Contents};
 use crate::problem::{Problem, TableError};
-use crate::row::{Before, Call, Fault, NamedContent, Pair, Printed, Row, Wants};
+use crate::row::{Before, Call, Fault, NamedContent, Printed, Row, Want};
 use pg_top::Status;
 use std::alloc::{AllocError, Global};
 
 /// A table: its contents, the files of all its rows, and the rows.
 #[derive(Drop)]
-pub(crate) struct Table {
-    pub contents: Contents,
-    pub files: Vec<NamedContent>,
-    pub rows: Vec<Row>,
+pub(crate) struct Table<'a> {
+    pub contents: Contents<'a>,
+    pub files: Vec<NamedContent<'a>>,
+    pub rows: Vec<Row<'a>>,
 }
 
-impl Table {
+impl<'a> Table<'a> {
     /// Reads a table. The file FORMAT says what its lines mean.
-    pub fn read(alloc: Global, text: &str) -> Result<Table, TableError> {
+    pub fn read(alloc: Global, text: &'a str) -> Result<Table<'a>, TableError> {
         let mut reader = Reader::new(alloc);
-        let mut line = 0_usize;
-        for content in text.lines() {
-            line = line.saturating_add(1);
-            if let Err(problem) = reader.read_line(line, content) {
-                return Err(TableError { line, problem });
-            }
-        }
-        match reader.end_row() {
+        match reader.read_lines(text) {
             Ok(()) => Ok(reader.table),
-            Err(problem) => Err(TableError { line, problem }),
+            Err(error) => Err(error),
         }
     }
 }
 
 /// A table of which some lines were read.
 #[derive(Drop)]
-struct Reader {
+struct Reader<'a> {
     alloc: Global,
-    table: Table,
+    table: Table<'a>,
     /// Whether the line above is one of a content.
     is_in_content: bool,
 }
@@ -52,9 +45,9 @@ fn is_piece(line: &str) -> bool {
         || MADE.iter().any(|word| line.starts_with(*word))
 }
 
-impl Reader {
+impl<'a> Reader<'a> {
     /// No line so far.
-    fn new(alloc: Global) -> Reader {
+    fn new(alloc: Global) -> Reader<'a> {
         let table = Table {
             contents: Contents::new(alloc),
             files: Vec::new(alloc),
@@ -67,8 +60,23 @@ impl Reader {
         }
     }
 
+    /// Reads all lines of a table.
+    fn read_lines(&mut self, text: &'a str) -> Result<(), TableError> {
+        let mut line = 0_usize;
+        for content in text.lines() {
+            line = line.saturating_add(1);
+            if let Err(problem) = self.read_line(line, content) {
+                return Err(TableError { line, problem });
+            }
+        }
+        match self.end_row() {
+            Ok(()) => Ok(()),
+            Err(problem) => Err(TableError { line, problem }),
+        }
+    }
+
     /// Reads the line of this number.
-    fn read_line(&mut self, number: usize, line: &str) -> Result<(), Problem> {
+    fn read_line(&mut self, number: usize, line: &'a str) -> Result<(), Problem> {
         if line.is_empty() || line.starts_with('#') {
             return Ok(());
         }
@@ -106,61 +114,51 @@ impl Reader {
     }
 
     /// Reads a line that begins with one word.
-    fn read_word(&mut self, number: usize, word: &str, rest: &str) -> Result<(), Problem> {
+    fn read_word(&mut self, number: usize, word: &str, rest: &'a str) -> Result<(), Problem> {
         match word {
-            "row" => self.begin_row(rest)?,
-            "call" => self.begin_call(number, Before::Given, rest)?,
-            "then" => self.begin_call(number, Before::Left, rest)?,
-            "also" => self.repeat_call(number, rest)?,
-            "prints" => self.read_printed("", rest)?,
-            "status" => self.wants()?.status = Some(status_of(rest)?),
-            "calls" => {
-                let count = number_of(rest)?;
-                self.counted_wants()?.calls = Some(count);
-            }
-            "puts" => self.wants()?.puts = Some(number_of(rest)?),
-            "any" => self.read_any(rest)?,
-            "changes" => self.read_changes(rest)?,
-            "missing" => self.read_missing(rest)?,
-            "same" => self.read_same(rest)?,
-            _ => return Err(Problem::NoWord),
+            "row" => self.begin_row(rest),
+            "call" => self.begin_call(number, Before::Given, rest),
+            "then" => self.begin_call(number, Before::Left, rest),
+            "also" => self.repeat_call(number, rest),
+            "prints" => self.read_printed("", rest),
+            "status" => self.want(Want::Status(status_of(rest)?)),
+            "calls" => self.want_counted(Want::Calls(number_of(rest)?)),
+            "puts" => self.want(Want::Puts(number_of(rest)?)),
+            "any" => self.read_any(rest),
+            "changes" => self.read_changes(rest),
+            "missing" => self.read_missing(rest),
+            "same" => self.read_same(rest),
+            _ => Err(Problem::NoWord),
         }
-        Ok(())
     }
 
     /// Reads a line that begins with a word and a name or second word.
-    fn read_named(&mut self, word: &str, name: &str, rest: &str) -> Result<(), Problem> {
+    fn read_named(&mut self, word: &str, name: &'a str, rest: &'a str) -> Result<(), Problem> {
         match (word, name) {
             ("content", _) => {
                 let content = self.read_content(rest)?;
-                self.table.contents.name(name, content)?;
+                self.table.contents.name(name, content)
             }
-            ("file", _) => self.read_file(name, rest)?,
+            ("file", _) => self.read_file(name, rest),
             ("after", _) => {
                 let content = self.read_content(rest)?;
-                let named = NamedContent::new(self.alloc, name, content)?;
-                self.wants()?.after.push(named)?;
+                self.want(Want::After(NamedContent { name, content }))
             }
             ("begins", _) => {
                 let content = self.read_content(rest)?;
-                let named = NamedContent::new(self.alloc, name, content)?;
-                self.wants()?.beginnings.push(named)?;
+                self.want(Want::Begins(NamedContent { name, content }))
             }
-            ("prints", _) => self.read_printed(name, rest)?,
-            ("fails", "call") => {
-                let fault = fault_of(rest)?;
-                self.counted_wants()?.failing_call = Some(fault);
-            }
-            ("fails", "put") => self.wants()?.failing_put = Some(fault_of(rest)?),
-            _ => return Err(Problem::NoWord),
+            ("prints", _) => self.read_printed(name, rest),
+            ("fails", "call") => self.want_counted(Want::FailingCall(fault_of(rest)?)),
+            ("fails", "put") => self.want(Want::FailingPut(fault_of(rest)?)),
+            _ => Err(Problem::NoWord),
         }
-        Ok(())
     }
 
     /// Reads a file that the calls are given: those of one row, or above the first row those of all.
-    fn read_file(&mut self, name: &str, rest: &str) -> Result<(), Problem> {
+    fn read_file(&mut self, name: &'a str, rest: &str) -> Result<(), Problem> {
         let content = self.read_content(rest)?;
-        let named = NamedContent::new(self.alloc, name, content)?;
+        let named = NamedContent { name, content };
         match self.table.rows.last_mut() {
             None => self.table.files.push(named)?,
             Some(row) if row.calls.is_empty() => row.files.push(named)?,
@@ -170,27 +168,27 @@ impl Reader {
     }
 
     /// Reads the name of the file of which each change is tried.
-    fn read_changes(&mut self, name: &str) -> Result<(), Problem> {
-        let own_name = String::from_str(self.alloc, name)?;
-        let row = self.table.rows.last_mut().ok_or(Problem::NoRow)?;
+    fn read_changes(&mut self, name: &'a str) -> Result<(), Problem> {
+        let is_shared = is_given(&self.table.files, name);
+        let row = self.row()?;
         if !row.calls.is_empty() {
             return Err(Problem::LateFile);
         }
-        if !is_given(&self.table.files, name) && !is_given(&row.files, name) {
+        if !is_shared && !is_given(&row.files, name) {
             return Err(Problem::NoFile);
         }
-        row.changed = Some(own_name);
+        row.changed = Some(name);
         Ok(())
     }
 
     /// Reads the name of a file of the table that a row is without.
-    fn read_missing(&mut self, name: &str) -> Result<(), Problem> {
-        let name = String::from_str(self.alloc, name)?;
-        let row = self.table.rows.last_mut().ok_or(Problem::NoRow)?;
+    fn read_missing(&mut self, name: &'a str) -> Result<(), Problem> {
+        let is_shared = is_given(&self.table.files, name);
+        let row = self.row()?;
         if !row.calls.is_empty() {
             return Err(Problem::LateFile);
         }
-        if !is_given(&self.table.files, name.as_str()) {
+        if !is_shared {
             return Err(Problem::NoFile);
         }
         row.missing.push(name)?;
@@ -198,52 +196,40 @@ impl Reader {
     }
 
     /// Reads the names of two files that hold the same.
-    fn read_same(&mut self, names: &str) -> Result<(), Problem> {
-        let alloc = self.alloc;
+    fn read_same(&mut self, names: &'a str) -> Result<(), Problem> {
         let (one, other) = names.split_once(' ').ok_or(Problem::NoFile)?;
-        let pair = Pair {
-            one: String::from_str(alloc, one)?,
-            other: String::from_str(alloc, other)?,
-        };
-        self.wants()?.same.push(pair)?;
-        Ok(())
+        self.want(Want::Same(one, other))
     }
 
     /// Reads something that is wanted of what is printed.
-    fn read_printed(&mut self, how: &str, rest: &str) -> Result<(), Problem> {
-        let printed = match how {
-            "" => Printed::Whole(self.read_content(rest)?),
-            "beginning" => Printed::Beginning(self.read_content(rest)?),
-            "ending" => Printed::Ending(self.read_content(rest)?),
-            "at line" => Printed::AtLine(self.read_content(rest)?),
-            "end of" => {
-                self.wants()?.ended = Some(String::from_str(self.alloc, rest)?);
-                return Ok(());
-            }
-            "again" if rest.is_empty() => Printed::Again,
-            "anything" if rest.is_empty() => Printed::Anything,
+    fn read_printed(&mut self, how: &str, rest: &'a str) -> Result<(), Problem> {
+        let want = match how {
+            "" => Want::Printed(Printed::Whole(self.read_content(rest)?)),
+            "beginning" => Want::Printed(Printed::Beginning(self.read_content(rest)?)),
+            "ending" => Want::Printed(Printed::Ending(self.read_content(rest)?)),
+            "at line" => Want::Printed(Printed::AtLine(self.read_content(rest)?)),
+            "end of" => Want::Ended(rest),
+            "again" if rest.is_empty() => Want::Printed(Printed::Again),
+            "anything" if rest.is_empty() => Want::Printed(Printed::Anything),
             _ => return Err(Problem::NoWord),
         };
-        self.wants()?.printed.push(printed)?;
-        Ok(())
+        self.want(want)
     }
 
     /// Reads the names of the files that may hold anything.
-    fn read_any(&mut self, names: &str) -> Result<(), Problem> {
-        let alloc = self.alloc;
-        let wants = self.wants()?;
+    fn read_any(&mut self, names: &'a str) -> Result<(), Problem> {
         for name in names.split(' ') {
-            wants.any.push(String::from_str(alloc, name)?)?;
+            self.want(Want::Any(name))?;
         }
         Ok(())
     }
 
     /// Begins a row.
-    fn begin_row(&mut self, title: &str) -> Result<(), Problem> {
+    fn begin_row(&mut self, title: &'a str) -> Result<(), Problem> {
         self.end_row()?;
         let alloc = self.alloc;
         self.table.rows.push(Row {
-            title: String::from_str(alloc, title)?,
+            title,
             files: Vec::new(alloc),
             missing: Vec::new(alloc),
             changed: None,
@@ -266,10 +252,10 @@ impl Reader {
         let Some(call) = self.row()?.calls.last() else {
             return Ok(());
         };
-        if call.wants.status.is_none() {
+        if !call.wants.iter().any(|want| want.is_status()) {
             return Err(Problem::NoStatus);
         }
-        if call.wants.printed.is_empty() && call.wants.ended.is_none() {
+        if !call.wants.iter().any(|want| want.is_of_prints()) {
             return Err(Problem::NoPrints);
         }
         Ok(())
@@ -281,64 +267,65 @@ impl Reader {
         if before == Before::Left {
             self.call()?;
         }
-        let wants = Wants::new(self.alloc);
-        self.push_call(line, before, words, wants)
+        self.push_call(line, before, words, &[])
     }
 
     /// Begins a call of which the same is wanted as of the one above.
     fn repeat_call(&mut self, line: usize, words: &str) -> Result<(), Problem> {
         self.end_call()?;
+        let alloc = self.alloc;
         let above = self.row()?.calls.last().ok_or(Problem::NoCall)?;
         let before = above.before;
-        let wants = above.wants.clone()?;
-        self.push_call(line, before, words, wants)
+        let wants = above.wants.to_vec(alloc)?;
+        self.push_call(line, before, words, &wants)
     }
 
+    /// Begins a call of which this is wanted.
     fn push_call(
         &mut self,
         line: usize,
         before: Before,
         words: &str,
-        wants: Wants,
+        wants: &[Want<'a>],
     ) -> Result<(), Problem> {
-        let words = words_of(self.alloc, words)?;
-        self.row()?.calls.push(Call {
+        let call = Call {
             line,
             before,
-            words,
-            wants,
-        })?;
+            words: words_of(self.alloc, words)?,
+            wants: wants.to_vec(self.alloc)?,
+        };
+        self.row()?.calls.push(call)?;
         Ok(())
     }
 
     /// The last row.
-    fn row(&mut self) -> Result<&mut Row, Problem> {
+    fn row(&mut self) -> Result<&mut Row<'a>, Problem> {
         self.table.rows.last_mut().ok_or(Problem::NoRow)
     }
 
     /// The last call.
-    fn call(&mut self) -> Result<&mut Call, Problem> {
+    fn call(&mut self) -> Result<&mut Call<'a>, Problem> {
         self.row()?.calls.last_mut().ok_or(Problem::NoCall)
     }
 
-    /// What is wanted of the last call.
-    fn wants(&mut self) -> Result<&mut Wants, Problem> {
-        Ok(&mut self.call()?.wants)
+    /// Notes something that is wanted of the last call.
+    fn want(&mut self, want: Want<'a>) -> Result<(), Problem> {
+        self.call()?.wants.push(want)?;
+        Ok(())
     }
 
     /// The same, of a call whose calls on the files are counted.
-    fn counted_wants(&mut self) -> Result<&mut Wants, Problem> {
-        let call = self.call()?;
-        if call.before == Before::Left {
+    fn want_counted(&mut self, want: Want<'a>) -> Result<(), Problem> {
+        if self.call()?.before == Before::Left {
             return Err(Problem::LateCount);
         }
-        Ok(&mut call.wants)
+        self.want(want)
     }
 }
 
 /// Whether one of these files has this name.
-fn is_given(files: &[NamedContent], name: &str) -> bool {
-    files.iter().any(|file| file.is_named(name))
+fn is_given(files: &[NamedContent<'_>], name: &str) -> bool {
+    files.iter().any(|file| file.name == name)
 }
 
 /// The words of a line, which a blank parts. Two quotes are an empty word.

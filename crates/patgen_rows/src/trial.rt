@@ -1,8 +1,8 @@
 //! The rows of a table, done in turn.
-use crate::cases::Case;
+use crate::cases::{Case, Outcome};
 use crate::changes::{Change, changes_of};
 use crate::compare::{Around, differences};
-use crate::row::{Before, Row};
+use crate::row::{Before, Call, Row};
 use crate::table::Table;
 use std::alloc::Global;
 use std::io;
@@ -30,7 +30,7 @@ pub(crate) struct Trial<'a, R: Print> {
     pub rt: &'a R,
     pub alloc: Global,
     pub name: &'a str,
-    pub table: &'a Table,
+    pub table: &'a Table<'a>,
 }
 
 impl<'a, R: Print> Trial<'a, R> {
@@ -44,13 +44,31 @@ impl<'a, R: Print> Trial<'a, R> {
     }
 
     /// Does the calls of a row once, or once for each change of a file.
-    fn try_row(&self, row: &'a Row, tally: &mut Tally) -> io::Result<()> {
-        let Some(name) = &row.changed else {
-            return self.try_calls(row, None, tally);
-        };
+    fn try_row(&self, row: &'a Row<'a>, tally: &mut Tally) -> io::Result<()> {
+        match row.changed {
+            None => self.try_calls(row, None, tally),
+            Some(name) => {
+                let changes = self.changes(row, name)?;
+                self.try_changes(row, &changes, tally)
+            }
+        }
+    }
+
+    /// The changes of a file of a row.
+    fn changes(&self, row: &'a Row<'a>, name: &'a str) -> io::Result<Vec<Change<'a>>> {
         let case = Case::new(self.alloc, self.table, row, None)?;
-        let bytes = case.files.bytes(name.as_str()).unwrap_or(&[]);
-        for change in changes_of(self.alloc, name.as_str(), bytes)?.iter() {
+        let bytes = case.files.bytes(name).unwrap_or(&[]);
+        Ok(changes_of(self.alloc, name, bytes)?)
+    }
+
+    /// Does the calls of a row once for each change of a file.
+    fn try_changes(
+        &self,
+        row: &'a Row<'a>,
+        changes: &'a [Change<'a>],
+        tally: &mut Tally,
+    ) -> io::Result<()> {
+        for change in changes {
             self.try_calls(row, Some(change), tally)?;
         }
         Ok(())
@@ -59,8 +77,8 @@ impl<'a, R: Print> Trial<'a, R> {
     /// Does the calls of a row in turn, and prints what is wrong.
     fn try_calls(
         &self,
-        row: &Row,
-        change: Option<&Change<'_>>,
+        row: &'a Row<'a>,
+        change: Option<&'a Change<'a>>,
         tally: &mut Tally,
     ) -> io::Result<()> {
         let mut left = None;
@@ -73,19 +91,46 @@ impl<'a, R: Print> Trial<'a, R> {
                 Some(case) => case,
                 None => Case::new(self.alloc, self.table, row, change)?,
             };
-            let outcome = case.call(call)?;
-            let around = Around {
-                above: &above,
-                line: change.map_or(0, |change| change.line),
-            };
-            let text = differences(self.alloc, &call.wants, &case, &outcome, &around)?;
-            tally.count(text.is_empty());
-            if !text.is_empty() {
-                print!(self.rt; "{} line {}, {}:\n{text}", self.name, call.line, row.title)?;
-            }
-            above = outcome.printed;
+            let line = change.map_or(0, |change| change.line);
+            self.try_call(row, call, line, &mut case, &mut above, tally)?;
             left = Some(case);
         }
         Ok(())
+    }
+
+    /// Does a call of a row, of which this line is changed, if one is. `above` is what the call above
+    /// printed, and then what this one does.
+    fn try_call(
+        &self,
+        row: &Row<'_>,
+        call: &Call<'a>,
+        line: usize,
+        case: &mut Case<'a>,
+        above: &mut Vec<u8>,
+        tally: &mut Tally,
+    ) -> io::Result<()> {
+        let outcome = case.call(call)?;
+        let around = Around { above, line };
+        let is_right = self.compare(row, call, case, &outcome, &around)?;
+        tally.count(is_right);
+        *above = outcome.printed;
+        Ok(())
+    }
+
+    /// Whether a call went as wanted. Prints what is wrong.
+    fn compare(
+        &self,
+        row: &Row<'_>,
+        call: &Call<'_>,
+        case: &Case<'_>,
+        outcome: &Outcome,
+        around: &Around<'_>,
+    ) -> io::Result<bool> {
+        let text = differences(self.alloc, &call.wants, case, outcome, around)?;
+        if text.is_empty() {
+            return Ok(true);
+        }
+        print!(self.rt; "{} line {}, {}:\n{text}", self.name, call.line, row.title)?;
+        Ok(false)
     }
 }
