@@ -1,5 +1,5 @@
 -- What a write by name does to a disk, from what the calls say of the name that it leads to.
-use Rattle.std.proofs.Common.{◌≡◌, inl, inr, ⊎_elim, ℕ, List, [], ◌∷◌, ◌++◌, true, false, Option, Some, None, IfSome, refl, sym, ap, subst, ◌∙◌}
+use Rattle.std.proofs.Common.{◌≡◌, inl, inr, ⊎_elim, ℕ, List, [], ◌∷◌, ◌++◌, true, false, Option, Some, None, IfSome, Result, Ok, Err, OnOk, refl, sym, ap, subst, ◌∙◌}
 use Rattle.std.specs.FinMap as fin
 use Rattle.pg_outside.specs.Inside.Disk.{Node, Disk, Told, AreOne, Keeps, Now, LeadsTo, LeadsToNone, IsOpened, IsWritable, IsStat, Wrote, WrotePart, id_at, node_at, node_of}
 use Rattle.pg_outside.specs.Inside.DiskWrites.{IsIn, IsPlain, IsDevice, IsProtected, MayWrite, AtWrite, AfterWrite, AfterFailure, IsSeen, IsOld, IsPlaceOf, AllTaken, IsFull, StandsFor, mode_of, mode_at}
@@ -210,12 +210,18 @@ is_full real name found b c stands bc taken =
     now_weaker _ _ c (now_both _ _ c (keeps_now _ b c stands bc) taken) (λ d s. record { real = real; direct = s.0.direct; one = s.0.one; all = s.1 })
 
 -- a new file takes the place of what the name leads to
-pub replaces_found : (real name bytes : List ℕ) (kept after : List FileId) (mode : Option ℕ) (n : FileId) (a b c : Option Told) → Keeps a b → Now b (Leads real name kept mode) → after ≡ kept ++ n ∷ []
+replaces_one : (real name bytes : List ℕ) (kept after : List FileId) (mode : Option ℕ) (n : FileId) (a b c : Option Told) → Keeps a b → Now b (Leads real name kept mode) → after ≡ kept ++ n ∷ []
     → Runs b c (WhereDirect real (AtMoment real bytes mode)) (WhereDirect real (IsWritten real bytes mode n)) → Runs a c (AtWrite name bytes kept) (AfterWrite name bytes kept after)
-replaces_found real name bytes kept after mode n a b c ab leads grown bc =
+replaces_one real name bytes kept after mode n a b c ab leads grown bc =
     keeps_then _ _ a b c ab (known_start _ _ _ _ (Leads real name kept mode) b c leads bc
     (λ x y f p. at_one real name bytes kept x y f.one (at_may real bytes kept mode x y f.may (p f.direct)))
     (λ x y f p. after_one real name bytes kept after x y f.one (after_may real bytes kept after mode n x y f.may grown (p f.direct))))
+
+pub replaces_found : {T E : Type 0} (result : Result T E) (real name bytes : List ℕ) (kept after : List FileId) (mode : Option ℕ) (a b c : Option Told) → Keeps a b → Now b (Leads real name kept mode)
+    → OnOk result ((n : FileId) × (after ≡ kept ++ n ∷ []) × Runs b c (WhereDirect real (AtMoment real bytes mode)) (WhereDirect real (IsWritten real bytes mode n)))
+    → OnOk result (Runs a c (AtWrite name bytes kept) (AfterWrite name bytes kept after))
+replaces_found (Ok value) real name bytes kept after mode a b c ab leads run = replaces_one real name bytes kept after mode run.0 a b c ab leads run.1 run.2
+replaces_found (Err error) real name bytes kept after mode a b c ab leads run = tt
 
 pub replace_found_fails : (real name bytes : List ℕ) (kept : List FileId) (mode : Option ℕ) (a b c : Option Told) → Keeps a b → Now b (Leads real name kept mode)
     → Runs b c (WhereDirect real (AtMoment real bytes mode)) (WhereDirect real (IsAsBefore real)) → Runs a c (AtWrite name bytes kept) (AfterFailure name bytes)

@@ -1,10 +1,16 @@
 -- What trying one name after the other has come to.
-use Rattle.std.proofs.Common.{◌≡◌, ◌⊎◌, inl, inr, ⊎_elim, ◌+◌, ◌<◌, ◌≤◌, ℕ, List, Option, Some, None, sym, subst, arith}
+use Rattle.std.proofs.Common.{◌≡◌, ◌⊎◌, inl, inr, ⊎_elim, ◌+◌, ◌<◌, ◌≤◌, ℕ, List, ◌∷◌, ◌++◌, Option, Some, None, sym, subst, arith}
+use Rattle.std.specs.Fmt.{decimal}
 use Rattle.std.proofs.lemmas.Bool.{cases_lt}
+use Rattle.std.proofs.lemmas.Grind.{common_steps}
 use Rattle.pg_outside.specs.Inside.Disk.{Disk, Told, Keeps, Now, IsTaken}
 use Rattle.pg_outside.specs.Inside.DiskWrites.{AllTaken}
 use Rattle.pg_outside.specs.Inside.NewNames.{IsFolderOf, new_name}
 use Rattle.pg_outside.proofs.Runs.{keeps_self, keeps_now, now_weaker, now_always}
+
+-- the name as the code puts it together
+pub is_named : (own folder : List ℕ) (counted : ℕ) → own ≡ folder ++ (112 ∷ 97 ∷ 116 ∷ 103 ∷ 101 ∷ 110 ∷ 45 ∷ 110 ∷ 101 ∷ 119 ∷ 45 ∷ decimal counted) → own ≡ new_name folder counted
+is_named own folder counted is = grind (arith, common_steps, is)
 
 -- the name is taken, or is the one whose place is to be taken
 abbrev pub IsTried : List ℕ → List ℕ → ℕ → Disk → Type 0

@@ -1,10 +1,11 @@
 -- What a loop of reads has read so far.
-use Rattle.std.proofs.Common.{◌≡◌, ℕ, ◌+◌, ◌<◌, ◌≤◌, List, ◌++◌, length, take, drop, Option, Some, sym, ap, subst, ◌∙◌, arith}
+use Rattle.std.proofs.Common.{◌≡◌, ℕ, ◌+◌, ◌-◌, ◌<◌, ◌≤◌, List, [], ◌++◌, length, take, drop, Option, Some, refl, sym, ap, subst, ◌∙◌, arith}
 use Rattle.std.proofs.Math.Seq.{take-add}
+use Rattle.std.proofs.lemmas.List.{take-append-le}
 use Rattle.std.proofs.lemmas.Grind.{common_steps}
 use Rattle.pg_outside.specs.Inside.Disk.{Disk, Node, Told, Keeps, Now, HasPiece}
 use Rattle.pg_outside.specs.Inside.DiskReads.{IsAllOf, IsFrontOf}
-use Rattle.pg_outside.proofs.Runs.{keeps_both, keeps_now, now_both, now_weaker}
+use Rattle.pg_outside.proofs.Runs.{keeps_self, keeps_both, keeps_now, now_both, now_weaker, now_always}
 use Rattle.pg_outside.specs.declared.disk.system.FileId.{FileId}
 
 -- the bytes so far are the first of the file
@@ -18,6 +19,23 @@ pub record HasRead (before now : Option Told) (file same : FileId) (at : ℕ) (b
   pub keeps : Keeps before now
   pub within : length bytes ≤ limit + 1
   pub read : Now now (IsRead file at bytes)
+
+-- before the first read
+pub reads_none : (now : Option Told) (file : FileId) (at limit : ℕ) (bytes : List ℕ) → at ≡ 0 → bytes ≡ [] → HasRead now now file file at bytes limit
+reads_none now file at limit bytes start empty = record {
+  same_file = refl;
+  keeps = keeps_self now;
+  within = rw empty (omega arith);
+  read = now_always _ now (λ d. record { on = rw (start, empty) refl; front = λ node is. rw empty refl; within = λ node is. rw empty (omega arith) });
+}
+
+-- the bytes with those that one more read gave
+pub more_bytes : (bytes more buffer rest : List ℕ) (count : ℕ) → count ≤ length buffer → more ≡ bytes ++ take count (buffer ++ rest) → more ≡ bytes ++ take count buffer
+more_bytes bytes more buffer rest count within items = items ∙ ap (λ (l : List ℕ). bytes ++ l) (take-append-le count buffer rest within)
+
+-- a read of as much as the limit leaves, and one byte
+pub within_limit : (bytes more buffer piece : List ℕ) (count most limit : ℕ) → more ≡ bytes ++ take count buffer → count ≤ length (take most piece) → most ≤ (limit - length bytes) + 1 → length bytes ≤ limit → length more ≤ limit + 1
+within_limit bytes more buffer piece count most limit is asked left below = rw is (grind (arith, common_steps))
 
 piece_front : (bytes piece all : List ℕ) (at count : ℕ) → at ≡ length bytes → bytes ≡ take (length bytes) all → at + count ≤ length all → piece ≡ take count (drop at all) → (bytes ++ piece ≡ take (at + count) all) × (length (bytes ++ piece) ≡ at + count)
 piece_front bytes piece all at count on front within is =

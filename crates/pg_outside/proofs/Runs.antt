@@ -105,6 +105,12 @@ pub then_keeps : (P Q : Disk → Disk → Type 0) (a b c : Option Told) → Runs
 then_keeps P Q a b None ab bc = tt
 then_keeps P Q a b (Some c) ab bc = subst (λ (t : Option Told). Runs a t P Q) bc ab
 
+-- a call that changes nothing, and then one that does
+pub keeps_steps : (R : Disk → Disk → Type 0) (a b c : Option Told) → Keeps a b → Steps b c R → Steps a c R
+keeps_steps R a b None ab bc = tt
+keeps_steps R a None (Some c) ab bc = absurd bc
+keeps_steps R a (Some b) (Some c) ab bc = subst (λ (t : Option Told). Steps t (Some c) R) (sym ab) bc
+
 pub keeps_now : (F : Disk → Type 0) (a b : Option Told) → Now a F → Keeps a b → Now b F
 keeps_now F a None known ab = tt
 keeps_now F a (Some b) known ab = subst (λ (t : Option Told). Now t F) ab known

@@ -32,7 +32,7 @@ file_at files name = map.get files name
 abbrev pub KeepsHeld : Option FileMap → Option FileMap → Type 0
 KeepsHeld old new = IfSome new (λ files. old ≡ Some files)
 
--- these are the first bytes, one more than the limit, of a file that has more than the limit
+-- the file has more bytes than the limit, and these are its first limit + 1 bytes
 abbrev pub IsCut : Option (List ℕ) → ℕ → List ℕ → Type 0
 IsCut file limit front = MatchOption file ⊥
     (λ bytes. (limit < length bytes) × (front ≡ take (limit + 1) bytes))

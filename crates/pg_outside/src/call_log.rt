@@ -1,4 +1,5 @@
-//! The calls that were made on files, as clauses read them. No code does, and they take no memory.
+//! The calls that were made on files, as clauses read them. No code reads them, and they take no
+//! memory.
 ghost use Rattle.std.specs.Prelude.{◌≡◌, List, [], ◌∷◌, ◌++◌};
 ghost use Rattle.std.specs.Borrow.{ftrue};
 ghost use Rattle.pg_outside.specs.FilesCalls.{FilesCall, calls_code};

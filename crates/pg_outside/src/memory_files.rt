@@ -13,8 +13,8 @@ use super::plans::{Plan, Plans};
 use super::stored::{StoredFile, bytes_of, read_bytes, store};
 use std::alloc::{AllocError, Global};
 
-/// Files in memory, which always tell what they hold, and reads and writes of which can be made
-/// to fail.
+/// Files in memory. They always tell what they hold, and their reads and writes can be made to
+/// fail.
 ///
 /// A listed call raises both counts of every name. A read of a missing name raises the read
 /// faults of that name alone. A write that finds no memory raises the write faults of every name.
@@ -55,7 +55,8 @@ impl MemoryFiles {
         }
     }
 
-    /// Sets the file of this name, with room for at least `room` bytes. It is no call that counts.
+    /// Sets the file of this name, with room for at least `room` bytes. It does not count as a
+    /// call.
     ///
     /// # Errors
     /// Where there is not enough memory; all is then as before.
@@ -81,7 +82,7 @@ impl MemoryFiles {
 
     /// Lets the read or write with this number fail, counted from 1 over both kinds. A failing
     /// write leaves the file as before for `None`. For `Some(k)` it sets the file to the first `k`
-    /// bytes of those handed to it, at most all. Listed anew, a call has the later `keep`.
+    /// bytes of those handed to it, at most all. A call that is listed again has the later `keep`.
     ///
     /// # Errors
     /// Where there is not enough memory; all is then as before.
@@ -234,7 +235,7 @@ impl Files for MemoryFiles {
         ensures keeps { KeepsFront self.old self.new name.now bytes.now }
         ensures keeps_within { KeepsFrontWithin self.old self.new name.now bytes.now }
 
-        // Any other fails only where memory is wanted, and changes no file then.
+        // Any other write fails only where memory is short, and then changes no file.
         ensures within { IsUnlisted self.old → HasFile self.old name.now
             → length bytes.now ≤ room_of self.old name.now → IsOk result }
         ensures unlisted_files { IsUnlisted self.old → OnErr result (SameFiles self.old self.new) }

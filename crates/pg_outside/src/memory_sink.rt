@@ -9,9 +9,9 @@ use super::outside::{Failed, Sink};
 use super::plans::Plans;
 use std::alloc::{AllocError, Global};
 
-/// A sink of bounded room in memory, which always tells what it holds, and whose puts can be made
-/// to fail. A put that is listed, or for which the room does not suffice, fails and raises the
-/// count. Every other put succeeds.
+/// A sink of bounded room in memory. It always tells what it holds, and its puts can be made to
+/// fail. A put that is listed, or for which the room does not suffice, fails and raises the count.
+/// Every other put succeeds.
 #[derive(Drop)]
 pub struct MemorySink {
     held: BoundedBytes,
@@ -42,7 +42,7 @@ impl MemorySink {
 
     /// Lets the put with this number fail, counted from 1. It appends nothing for `None`. For
     /// `Some(k)` it appends the first `k` bytes of those handed to it, at most all, where the room
-    /// suffices for the whole put. Listed anew, a put has the later `keep`.
+    /// suffices for the whole put. A put that is listed again has the later `keep`.
     ///
     /// # Errors
     /// Where there is not enough memory; all is then as before.

@@ -11,7 +11,7 @@ use std::alloc::{AllocError, Global};
 pub(crate) struct Plan {
     /// Its number, counted from 1.
     pub call: u64,
-    /// How many of the bytes handed to it it keeps; `None` leaves all as before.
+    /// How many of the bytes that it was handed the call keeps; `None` leaves all as before.
     pub keep: Option<usize>,
 }
 

@@ -61,8 +61,8 @@ impl Sink for QuietSink {
             (Rose (quiet_sink_shown self.old).faults (quiet_sink_shown self.new).faults) }
         ensures puts { quiet_puts_of self.new ≡ next_count (quiet_puts_of self.old) }
 
-        // Every put succeeds. Within the room the sink stays telling, and past it it tells nothing
-        // from then on.
+        // Every put succeeds. Within its room the sink goes on telling its bytes; past the room it
+        // tells nothing from then on.
         ensures succeeds { IsOk result }
         ensures within { PutsWithin self.old self.new bytes.now }
         ensures past { EndsPast self.old self.new bytes.now }

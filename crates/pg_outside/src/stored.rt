@@ -100,7 +100,8 @@ pub(crate) fn store(
     }
 }
 
-/// Reads at most `limit` bytes into `into`, which is empty before.
+/// Reads the bytes into `into`, which is empty before. Of more than `limit` bytes it reads the
+/// first `limit + 1`.
 pub(crate) fn read_bytes(bytes: &[u8], limit: usize, into: &mut Vec<u8>) -> Result<(), ReadError>
     requires empty { into.old.items ≡ [] }
     requires limit { limit < 2 ^ 64 - 1 }

@@ -62,15 +62,15 @@ node_at disk name = node_of (id_at disk name) disk.files
 abbrev pub Keeps : Option Told → Option Told → Type 0
 Keeps old new = IfSome new (λ after. old ≡ Some after)
 
--- the names stand for one
+-- the two names stand for one
 abbrev pub AreOne : Disk → List ℕ → List ℕ → Type 0
 AreOne disk one other = disk.links.real one ≡ disk.links.real other
 
--- where a disk is told, it is so
+-- where a disk is told, P holds of it
 abbrev pub Now : Option Told → (Disk → Type 0) → Type 0
 Now told P = IfSome told (λ t. P t.now)
 
--- a call that changes the disk in this way: the disk before is kept with the past
+-- a call changes the disk as R says, and the disk before it is kept with the past
 abbrev pub Steps : Option Told → Option Told → (Disk → Disk → Type 0) → Type 0
 Steps old new R = IfSome new (λ after. MatchOption old ⊥ (λ before.
     (after.past ≡ before.now ∷ before.past) × R before.now after.now))
@@ -226,8 +226,8 @@ pub record HasNoLinks (disk : Disk) : Type 0 where
 abbrev pub KnowsPlain : Disk → Type 0
 KnowsPlain disk = disk.links.is_plain ≡ true → HasNoLinks disk
 
--- a new file's own name beside a name that is no link stands for another than that, unless it is
--- that name
+-- where neither a new file's own name nor the name beside it is a link, they stand for one only if
+-- they are one name
 abbrev pub KnowsNewNames : Disk → Type 0
 KnowsNewNames disk = (own name : List ℕ) → IsNewName own name → disk.links.is_link name ≡ false
     → disk.links.is_link own ≡ false → AreOne disk own name → own ≡ name

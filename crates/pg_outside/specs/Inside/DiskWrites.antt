@@ -15,7 +15,7 @@ is_same_file one other = nat_eq one.device other.device && nat_eq one.inode othe
 abbrev pub IsIn : FileId → List FileId → Type 0
 IsIn id kept = list_any (λ other. is_same_file other id) kept ≡ true
 
--- each file that was kept in mind is so
+-- each file that was kept in mind still is
 abbrev pub KeepsAll : List FileId → List FileId → Type 0
 KeepsAll old new = (id : FileId) → IsIn id old → IsIn id new
 

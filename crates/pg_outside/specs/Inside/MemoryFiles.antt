@@ -29,7 +29,7 @@ writes_failed_of memory name = memory.writes_failed
 abbrev pub calls_of : MemoryFiles → ℕ
 calls_of memory = memory.plans.calls
 
--- these, in their order
+-- the reads and writes that there were, in their order
 abbrev pub made_of : MemoryFiles → List FilesCall
 made_of memory = memory.log.made
 

@@ -5,7 +5,7 @@ use Rattle.pg_outside.specs.Inside.Disk.{Node, Disk, Told, FileSet, Renamed, Are
 use Rattle.pg_outside.specs.Inside.NewNames.{IsNewName}
 use Rattle.pg_outside.specs.declared.disk.system.FileId.{FileId}
 
--- each of these disks is so
+-- P holds of each of these disks
 abbrev pub Each : (Disk → Type 0) → List Disk → Type 0
 Each P [] = Unit {0}
 Each P (disk ∷ disks) = P disk × Each P disks

@@ -20,10 +20,11 @@ use std::alloc::{AllocError, Global};
 ///
 /// A file that is missing or can't be opened, a folder, and a read or write that fails are faults.
 /// A write replaces a regular file as a whole: the bytes go into a new file in the same folder,
-/// which takes the name once the device has them. Where that fails the old file stands as before,
-/// and the new one is removed. A link is followed, and what it leads to is replaced so. A device
-/// and a pipe are written in place. A regular file that was read or written is not written again,
-/// whatever its name: such a write is a fault.
+/// which takes the name once the device has them. Where that fails, the old file stands as before,
+/// and the new one is removed, unless the system refuses that. A link is followed, and the file
+/// that it leads to is replaced in the same way. A device and a pipe are written in place. A
+/// regular file that was read or written is not written again, whatever its name: such a write is a
+/// fault.
 #[derive(Drop)]
 pub struct DiskFiles<S: System + Drop> {
     alloc: Global,
@@ -47,11 +48,11 @@ fn keep_regular(kept: &mut Vec<FileId>, seen: Seen) -> Result<(), AllocError>
     Ok(())
 }
 
-/// The permissions of the old file that was seen, where this is the file that was found, or where
-/// there is none.
+/// The permissions of the old file that was seen, where the file that was found is the same; `None`
+/// where neither was there.
 ///
 /// # Errors
-/// `Unfollowed` where it is another.
+/// `Unfollowed` where they are not the same.
 fn mode_of_found(found: Option<FileId>, old: Option<Seen>) -> Result<Option<u32>, WriteError>
     ensures mode { IfOk result (λ mode. IsPlaceOf found old mode) }
     ensures other { OnErr result ((mode : Option ℕ) → IsPlaceOf found old mode → ⊥) }
@@ -243,7 +244,7 @@ impl<S: System + Drop> DiskFiles<S> {
         self.write_regular(name, Some(seen), bytes)
     }
 
-    /// Writes the file of this name as its kind wants it.
+    /// Writes the file of this name: a regular file is replaced, and any other is written in place.
     fn write_named(&mut self, name: &str, bytes: &[u8]) -> Result<(), WriteError>
         ensures ok { OnOk result (Runs (S.told self.old.system) (S.told self.new.system)
             (AtWrite name.now bytes.now self.old.kept.items)
@@ -289,7 +290,7 @@ impl<S: System + Drop> DiskFiles<S> {
         ensures err { OnErr result (Runs (S.told self.old.system) (S.told self.new.system)
             (AtWrite name.now bytes.now self.old.kept.items) (AfterFailure name.now bytes.now)) }
 
-        // A file that was kept in mind is so, and a write that fails adds none.
+        // A file that was kept in mind still is, and a write that fails adds none.
         ensures kept { KeepsAll self.old.kept.items self.new.kept.items }
         ensures err_kept { OnErr result (self.new.kept.items ≡ self.old.kept.items) }
 
@@ -420,7 +421,7 @@ impl<S: System + Drop> Files for DiskFiles<S> {
         ensures err { OnErr result (Runs (S.told self.old.system) (S.told self.new.system)
             (AtWrite name.now bytes.now self.old.kept.items) (AfterFailure name.now bytes.now)) }
 
-        // A file that was kept in mind is so, and a write that fails adds none.
+        // A file that was kept in mind still is, and a write that fails adds none.
         ensures kept { KeepsAll self.old.kept.items self.new.kept.items }
         ensures err_kept { OnErr result (self.new.kept.items ≡ self.old.kept.items) }
 

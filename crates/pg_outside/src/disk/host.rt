@@ -51,7 +51,7 @@ fn opened<F: Drop>(file: io::Result<F>, none: ErrorKind) -> Result<Option<F>, Ca
     }
 }
 
-/// The text of a link, which has to be text.
+/// The text of a link. It has to be UTF-8.
 fn text_of(alloc: Global, path: io::Result<PathBuf>) -> Result<String, CallFailed> {
     match String::from_str(alloc, path?.to_str().ok_or(CallFailed)?) {
         Ok(text) => Ok(text),

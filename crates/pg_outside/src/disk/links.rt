@@ -47,7 +47,7 @@ fn make_found(name: String, file: Option<FileId>) -> Found
     Found { name, file }
 }
 
-/// Follows the links of a name, up to what is none.
+/// Follows the links of a name, up to a name that is no link.
 ///
 /// # Errors
 /// `Unfollowed` where the name begins a row of more links than are followed.

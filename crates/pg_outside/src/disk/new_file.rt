@@ -153,7 +153,8 @@ fn place<S: System>(
 /// they are given. It gives which file it is.
 ///
 /// # Errors
-/// Where a call failed; each name then leads to what it led to, and the new file is removed.
+/// Each name then leads to what it led to before. A new file that was made is removed, unless the
+/// system refuses that.
 pub(crate) fn replace<S: System>(
     alloc: Global,
     system: &mut S,

@@ -46,7 +46,7 @@ pub struct Seen {
 /// A system of files, which may tell the disk and what it held after each call before.
 ///
 /// Each call is one call of the operating system. Where the disk is told, a call that may change it
-/// puts the disk before it to the past. Any other leaves the disk and its past as they are.
+/// adds the disk before it to the past. Any other leaves the disk and its past as they are.
 pub trait System {
     type File: Drop;
 
@@ -120,7 +120,7 @@ pub trait System {
         ensures ok_failures { OnOk result (failures self.new ≡ failures self.old) }
         ensures failed { OnErr result (Rose (failures self.old) (failures self.new)) };
 
-    /// Makes a regular file under a name that is none. `None` comes where the name is taken.
+    /// Makes a regular file under a name that is not taken. `None` comes where the name is taken.
     fn make(&mut self, name: &str) -> Result<Option<Self::File>, CallFailed>
         ensures ok { IfOk result (λ made. MatchOption made (Keeps (told self.old) (told self.new))
             (λ file. Steps (told self.old) (told self.new) (Made name.now (id file)))) }
@@ -167,7 +167,7 @@ pub trait System {
         ensures ok_failures { OnOk result (failures self.new ≡ failures self.old) }
         ensures failed { OnErr result (Rose (failures self.old) (failures self.new)) };
 
-    /// Gives what is named `from` the name `to`, which ends what had it.
+    /// Gives the file with the name `from` the name `to`. A file that had this name loses it.
     fn rename(&mut self, from: &str, to: &str) -> Result<(), CallFailed>
         ensures ok { OnOk result (Steps (told self.old) (told self.new) (Renamed from.now to.now)) }
         ensures err { OnErr result (Keeps (told self.old) (told self.new)) }
@@ -183,7 +183,7 @@ pub trait System {
         ensures ok_failures { OnOk result (failures self.new ≡ failures self.old) }
         ensures failed { OnErr result (Rose (failures self.old) (failures self.new)) };
 
-    /// A disk that is told to be plain is so.
+    /// A disk that is told to be plain has no links, and each file with a name is regular.
     ghost plain: { (system : Self) → Now (told system) KnowsPlain };
 
     /// In a folder, a new file's own name stands for no other name.

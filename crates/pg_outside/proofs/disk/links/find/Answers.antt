@@ -1,6 +1,6 @@
-use Rattle.std.proofs.Common.{◌∙◌, refl, string_bytes}
-use Rattle.pg_outside.proofs.Runs.{keeps_both}
-use Rattle.pg_outside.proofs.Links.{reached_on}
+use Rattle.std.proofs.Common.{◌∙◌, refl, string_bytes, arith}
+use Rattle.pg_outside.proofs.Runs.{keeps_both, keeps_self}
+use Rattle.pg_outside.proofs.Links.{not_followed, reached_on, stands_none, stands_some, is_deep}
 use Rattle.pg_outside.proofs.disk.links.find.Goals as goal
 
 pub loop-preserved : goal.loop-preserved
@@ -13,3 +13,38 @@ loop-preserved g c =
       reached = reached_on _ (string_bytes c.loop.real) (string_bytes c.in_ok-text-in-Link.text) _ c.loop.counter _ _ _ _ c.loop.invariant.reached c.look.ensures.same entry c.read_link.ensures.same text joined refl;
       failures = c.in_ok-text-in-Link.ensures.ok_failures ∙ c.in_ok-look.ensures.ok_failures ∙ c.loop.invariant.failures;
     }
+
+pub loop-init : goal.loop-init
+loop-init g c = record {
+  same = keeps_self _;
+  reached = not_followed _ _ _ c.in_ok-real.ensures.ok;
+  failures = refl;
+}
+
+pub returns-in-Missing-clause-found : goal.returns-in-Missing-clause-found
+returns-in-Missing-clause-found g c =
+    let entry = rw (c.as_str.ensures.value, c.in-Missing.is) at c.in_ok-look.ensures.entry in
+    stands_none _ _ _ _ _ _ _ c.loop.invariant.reached c.look.ensures.same entry c.make_found.ensures.name c.make_found.ensures.file
+
+pub returns-in-File-clause-found : goal.returns-in-File-clause-found
+returns-in-File-clause-found g c =
+    let entry = rw (c.as_str.ensures.value, c.in-File.is) at c.in_ok-look.ensures.entry in
+    stands_some _ _ _ c.in-File.id _ _ _ _ c.loop.invariant.reached c.look.ensures.same entry c.make_found-in-File.ensures.name c.make_found-in-File.ensures.file
+
+pub returns-clause-unfollowed : goal.returns-clause-unfollowed
+returns-clause-unfollowed g c = λ is. is_deep _ _ _ _ (omega arith) c.loop.invariant.reached
+
+pub returns-in_err-look-clause-same : goal.returns-in_err-look-clause-same
+returns-in_err-look-clause-same g c = keeps_both _ _ _ c.loop.invariant.same c.look.ensures.same
+
+pub returns-in-Missing-clause-same : goal.returns-in-Missing-clause-same
+returns-in-Missing-clause-same g c = keeps_both _ _ _ c.loop.invariant.same c.look.ensures.same
+
+pub returns-in-File-clause-same : goal.returns-in-File-clause-same
+returns-in-File-clause-same g c = keeps_both _ _ _ c.loop.invariant.same c.look.ensures.same
+
+pub returns-in_err-text-in-Link-clause-same : goal.returns-in_err-text-in-Link-clause-same
+returns-in_err-text-in-Link-clause-same g c = keeps_both _ _ _ (keeps_both _ _ _ c.loop.invariant.same c.look.ensures.same) c.read_link.ensures.same
+
+pub returns-in_err-real-in-Link-clause-same : goal.returns-in_err-real-in-Link-clause-same
+returns-in_err-real-in-Link-clause-same g c = keeps_both _ _ _ (keeps_both _ _ _ c.loop.invariant.same c.look.ensures.same) c.read_link.ensures.same

@@ -1,5 +1,6 @@
+use Rattle.std.proofs.Common.{◌∙◌}
 use Rattle.std.proofs.lemmas.Result.{on_err_weaker, on_ok_weaker}
-use Rattle.pg_outside.proofs.Results.{on_err}
+use Rattle.pg_outside.proofs.Results.{on_err, no_value}
 use Rattle.pg_outside.proofs.WriteLoop.{mode_then_failed, fills, fill_fails}
 use Rattle.pg_outside.proofs.disk.new_file.fill.Goals as goal
 
@@ -12,3 +13,12 @@ returns-clause-ok g c = on_ok_weaker c.sync.result (λ steps. fills _ _ _ c.args
 
 pub returns-clause-err : goal.returns-clause-err
 returns-clause-err g c = on_err_weaker c.sync.result (λ steps. fill_fails _ _ _ c.args.mode c.args.bytes.now _ _ _ _ c.in_ok-keep_mode.ensures.ok c.keep_mode.ensures.file c.in_ok-write_all.ensures.ok c.write_all.ensures.file steps) c.sync.ensures.err
+
+pub returns-in_err-keep_mode-clause-ok : goal.returns-in_err-keep_mode-clause-ok
+returns-in_err-keep_mode-clause-ok g c = no_value _ c.from_residual.result c.from_residual.ensures.0
+
+pub returns-in_err-write_all-clause-ok : goal.returns-in_err-write_all-clause-ok
+returns-in_err-write_all-clause-ok g c = no_value _ c.from_residual-in_err-write_all.result c.from_residual-in_err-write_all.ensures.0
+
+pub returns-clause-ok_failures : goal.returns-clause-ok_failures
+returns-clause-ok_failures g c = on_ok_weaker c.sync.result (λ same. same ∙ c.in_ok-write_all.ensures.ok_failures ∙ c.in_ok-keep_mode.ensures.ok_failures) c.sync.ensures.ok_failures

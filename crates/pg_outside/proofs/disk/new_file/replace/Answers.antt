@@ -1,4 +1,6 @@
-use Rattle.pg_outside.proofs.Replacing.{replaces, gave_up}
+use Rattle.std.proofs.Common.{◌∙◌}
+use Rattle.pg_outside.proofs.Results.{on_err}
+use Rattle.pg_outside.proofs.Replacing.{replaces, gave_up, nothing_done}
 use Rattle.pg_outside.proofs.disk.new_file.replace.Goals as goal
 
 pub returns-in-Ok-clause-ok : goal.returns-in-Ok-clause-ok
@@ -10,3 +12,9 @@ returns-clause-err g c =
     let ok = rw (c.as_str.ensures.value, c.place.ensures.own) at c.remove.ensures.ok in
     let err = rw (c.as_str.ensures.value, c.place.ensures.own) at c.remove.ensures.err in
     gave_up c.remove.result _ _ c.args.bytes.now c.args.mode _ _ _ _ _ (record { is_new = c.in_ok-new.ensures.own; apart = c.in_ok-new.ensures.apart }) (g.met.S.System.new_names c.args.system.now) c.in_ok-new.ensures.ok c.in-Err.ensures.err ok err
+
+pub returns-in_err-new-clause-err : goal.returns-in_err-new-clause-err
+returns-in_err-new-clause-err g c = on_err c.from_residual.result (nothing_done _ _ _ _ _ c.in_err-new.ensures.err)
+
+pub returns-in-Ok-clause-ok_failures : goal.returns-in-Ok-clause-ok_failures
+returns-in-Ok-clause-ok_failures g c = c.in-Ok.ensures.ok_failures ∙ c.in_ok-new.ensures.ok_failures

@@ -1,7 +1,8 @@
-use Rattle.std.proofs.lemmas.List.{take-append-le}
-use Rattle.std.proofs.Common.{List, ℕ, ap, ◌∙◌, ◌≡◌, ◌<◌, ◌≤◌, ◌+◌, ◌++◌, length, take, arith}
+use Rattle.pg_outside.proofs.Results.{no_value}
+use Rattle.pg_outside.proofs.Runs.{keeps_both}
+use Rattle.std.proofs.Common.{refl, ◌∙◌, ◌≡◌, ◌<◌, ◌≤◌, ◌+◌, ◌++◌, length, take, drop, arith}
 use Rattle.std.proofs.lemmas.Grind.{common_steps}
-use Rattle.pg_outside.proofs.ReadLoop.{reads_on, reads_end, reads_past}
+use Rattle.pg_outside.proofs.ReadLoop.{more_bytes, within_limit, reads_none, reads_on, reads_end, reads_past}
 use Rattle.pg_outside.proofs.disk.read.read_within.Goals as goal
 
 pub returns-in-Ok-eq0-clause-all : goal.returns-in-Ok-eq0-clause-all
@@ -11,9 +12,9 @@ returns-in-Ok-eq0-clause-all g c =
 
 pub loop-piece-preserved : goal.loop-piece-preserved
 loop-piece-preserved g c =
-    let bound : c.in-Ok.count ≤ length c.read_some.new.buffer = grind (arith, common_steps, c.in-Ok.ensures.bound) in
-    let items : c.extend_from_slice.new.self.items ≡ c.loop-piece.into.items ++ take c.in-Ok.count c.read_some.new.buffer = c.in_ok-extend_from_slice-in-Ok.ensures.items ∙ ap (λ (l : List ℕ). c.loop-piece.into.items ++ l) (take-append-le c.in-Ok.count c.read_some.new.buffer _ bound) in
-    let within : length c.extend_from_slice.new.self.items ≤ c.args.limit + 1 = grind (arith, common_steps, c.in_ok-extend_from_slice-in-Ok.ensures.items, c.in-Ok.ensures.bound) in
+    let bound : c.in-Ok.count ≤ length c.read_some.new.buffer = omega (arith, c.in-Ok.ensures.bound, c.read_some.auto.buffer) in
+    let items : c.extend_from_slice.new.self.items ≡ c.loop-piece.into.items ++ take c.in-Ok.count c.read_some.new.buffer = more_bytes c.loop-piece.into.items c.extend_from_slice.new.self.items c.read_some.new.buffer (drop c.min-most.result c.loop-piece.piece) c.in-Ok.count bound c.in_ok-extend_from_slice-in-Ok.ensures.items in
+    let within : length c.extend_from_slice.new.self.items ≤ c.args.limit + 1 = within_limit c.loop-piece.into.items _ c.read_some.new.buffer c.loop-piece.piece c.in-Ok.count c.min-most.result c.args.limit items c.in-Ok.ensures.bound (omega arith) (omega arith) in
     record {
       read = reads_on _ _ _ _ _ _ _ _ _ _ _ _ _ _ c.loop-piece.invariant.read c.read_some.ensures.same c.read_some.ensures.file c.in-Ok.ensures.bytes bound items within;
       failures = c.in-Ok.ensures.ok_failures ∙ c.loop-piece.invariant.failures;
@@ -23,3 +24,24 @@ pub returns-clause-front : goal.returns-clause-front
 returns-clause-front g c =
     let past : c.args.limit < length c.loop-piece.into.items = omega arith in
     λ long. reads_past _ _ _ _ _ _ _ c.loop-piece.invariant.read past
+
+pub returns-in-Ok-eq0-clause-same : goal.returns-in-Ok-eq0-clause-same
+returns-in-Ok-eq0-clause-same g c = keeps_both _ _ _ c.loop-piece.invariant.read.keeps c.read_some.ensures.same
+
+pub returns-in_err-extend_from_slice-in-Ok-clause-all : goal.returns-in_err-extend_from_slice-in-Ok-clause-all
+returns-in_err-extend_from_slice-in-Ok-clause-all g c = no_value _ c.from_residual.result c.from_residual.ensures.0
+
+pub returns-in_err-extend_from_slice-in-Ok-clause-same : goal.returns-in_err-extend_from_slice-in-Ok-clause-same
+returns-in_err-extend_from_slice-in-Ok-clause-same g c = keeps_both _ _ _ c.loop-piece.invariant.read.keeps c.read_some.ensures.same
+
+pub returns-in-Err-clause-same : goal.returns-in-Err-clause-same
+returns-in-Err-clause-same g c = keeps_both _ _ _ c.loop-piece.invariant.read.keeps c.read_some.ensures.same
+
+pub loop-piece-init : goal.loop-piece-init
+loop-piece-init g c = record { read = reads_none _ _ _ _ _ c.requires.start c.requires.empty; failures = refl }
+
+pub returns-in-Err-clause-all : goal.returns-in-Err-clause-all
+returns-in-Err-clause-all g c = tt
+
+pub returns-in-Err-clause-ok_failures : goal.returns-in-Err-clause-ok_failures
+returns-in-Err-clause-ok_failures g c = tt

@@ -1,6 +1,7 @@
-use Rattle.pg_outside.proofs.Results.{on_err}
+use Rattle.std.proofs.lemmas.Result.{on_err_weaker, on_ok_weaker}
+use Rattle.pg_outside.proofs.Results.{on_err, no_value}
 use Rattle.pg_outside.proofs.DiskWriting.{nothing_failed}
-use Rattle.pg_outside.proofs.Runs.{keeps_self}
+use Rattle.pg_outside.proofs.Runs.{keeps_self, keeps_then}
 use Rattle.pg_outside.proofs.disk.files.DiskFiles.write_named.Goals as goal
 
 pub returns-in_err-open_to_write-clause-err : goal.returns-in_err-open_to_write-clause-err
@@ -8,3 +9,30 @@ returns-in_err-open_to_write-clause-err g c = on_err c.from_residual-in_err-open
 
 pub returns-in_err-reserve-clause-err : goal.returns-in_err-reserve-clause-err
 returns-in_err-reserve-clause-err g c = on_err c.from_residual.result (nothing_failed _ _ _ _ _ (keeps_self _))
+
+pub returns-in_err-reserve-clause-ok : goal.returns-in_err-reserve-clause-ok
+returns-in_err-reserve-clause-ok g c = no_value _ c.from_residual.result c.from_residual.ensures.0
+
+pub returns-in_err-open_to_write-clause-ok : goal.returns-in_err-open_to_write-clause-ok
+returns-in_err-open_to_write-clause-ok g c = no_value _ c.from_residual-in_err-open_to_write.result c.from_residual-in_err-open_to_write.ensures.0
+
+pub returns-in-None-clause-ok : goal.returns-in-None-clause-ok
+returns-in-None-clause-ok g c = on_ok_weaker c.write_regular.result (λ run. keeps_then _ _ _ _ _ c.open_to_write.ensures.same (rw c.reserve.ensures.items at run)) c.write_regular.ensures.ok
+
+pub returns-in-None-clause-err : goal.returns-in-None-clause-err
+returns-in-None-clause-err g c = on_err_weaker c.write_regular.result (λ run. keeps_then _ _ _ _ _ c.open_to_write.ensures.same (rw c.reserve.ensures.items at run)) c.write_regular.ensures.err
+
+pub returns-in-Some-clause-ok : goal.returns-in-Some-clause-ok
+returns-in-Some-clause-ok g c = on_ok_weaker c.write_opened.result (λ run. keeps_then _ _ _ _ _ c.open_to_write.ensures.same (rw c.reserve.ensures.items at run)) c.write_opened.ensures.ok
+
+pub returns-in-Some-clause-err : goal.returns-in-Some-clause-err
+returns-in-Some-clause-err g c = on_err_weaker c.write_opened.result (λ run. keeps_then _ _ _ _ _ c.open_to_write.ensures.same (rw c.reserve.ensures.items at run)) c.write_opened.ensures.err
+
+pub write_regular-requires-clause-old : goal.write_regular-requires-clause-old
+write_regular-requires-clause-old g c = rw c.in-None.is at c.in_ok-open_to_write.ensures.opened
+
+pub write_opened-requires-clause-opened : goal.write_opened-requires-clause-opened
+write_opened-requires-clause-opened g c = rw c.in-Some.is at c.in_ok-open_to_write.ensures.opened
+
+pub write_opened-requires-clause-writable : goal.write_opened-requires-clause-writable
+write_opened-requires-clause-writable g c = rw c.in-Some.is at c.in_ok-open_to_write.ensures.writable
