@@ -1,16 +1,26 @@
--- What a write of one cell's parts leaves of the lists of all cells.
-use Rattle.std.proofs.Common.{◌≡◌, ◌≢◌, ℕ, ◌+◌, ◌*◌, ◌/◌, ◌%◌, ◌<◌, Bool, true, false, List, [], ◌∷◌, map, set, get_or, length, refl, sym, ◌∙◌, ap, cond, nat_eq, arith, zero, suc}
+-- What a read of one cell's parts shows of the lists of all cells, and what a write leaves of them.
+use Rattle.std.proofs.Common.{◌≡◌, ◌≢◌, ℕ, ◌+◌, ◌*◌, ◌/◌, ◌%◌, ◌^◌, ◌<◌, Bool, true, false, List, [], ◌∷◌, map, set, get_or, length, refl, sym, ◌∙◌, ap, cond, nat_eq, arith, zero, suc}
 use Rattle.std.proofs.Math.Seq.{map-set_same}
-use Rattle.std.proofs.lemmas.List.{map-set, get_or-map}
+use Rattle.std.specs.Prelude.{slice_get, Some}
+use Rattle.std.specs.Option.{option_map}
+use Rattle.std.proofs.lemmas.List.{map-set, get_or-map, get_or_default}
+use Rattle.std.proofs.lemmas.Option.{slice_get-map, slice_get-get_or}
 use Rattle.std.proofs.lemmas.Bool.{ne_eqb}
 use Rattle.pg_cells.specs.declared.cell.Cell.{Cell}
 use Rattle.pg_cells.specs.declared.cell.TheConstants.{HALF_COUNT}
 use Rattle.pg_cells.specs.declared.member.Member.{Member}
-use Rattle.pg_cells.specs.Inside.Lists.{lists, lone, bared, child_seen, member_seen, before_seen, pair_of, sign_at, IsFree, with_befores, with_afters, with_child, with_value, with_base, with_taken, with_free}
+use Rattle.pg_cells.specs.Inside.Lists.{lists, lone, bared, child_seen, member_seen, before_seen, pair_of, sign_at, child_at, base_at, before_at, after_at, IsFree, with_befores, with_afters, with_child, with_value, with_base, with_taken, with_free}
 
 -- a number is that of its halves
 halves : (x : ℕ) → pair_of (x / HALF_COUNT) (x % HALF_COUNT) ≡ x
 halves x = omega arith
+
+-- the halves of a number that fits a link fit a sign
+pub high_fits : (x : ℕ) → x < 2 ^ 32 → x / HALF_COUNT < 2 ^ 16
+high_fits x small = omega arith
+
+pub low_fits : (x : ℕ) → x % HALF_COUNT < 2 ^ 16
+low_fits x = omega arith
 
 -- a value without its links loses none
 lone_seen : {V : Type 0} (b : Bool) (v : V) (m : Member V) → m.value ≡ v → lone v ≡ lone (cond b (lone v) m).value
@@ -26,8 +36,19 @@ module _ {V : Type 0} (cells : List (Cell V)) (i : ℕ) (d : Cell V) where
   kept : {A : Type 0} (f : Cell V → A) (new : Cell V) → f new ≡ f old → map f (set cells i new) ≡ map f cells
   kept f new e = map-set_same f cells i new d e
 
-  sign_is : i < length cells → old.sign ≡ sign_at (lists cells).row i
+  pub sign_is : i < length cells → old.sign ≡ sign_at (lists cells).row i
   sign_is h = sym (get_or-map (λ (c : Cell V). c.sign) cells i d 0 h)
+
+  pub base_is : i < length cells → old.is_base ≡ base_at (lists cells).row i
+  base_is h = sym (get_or-map (λ (c : Cell V). c.is_base) cells i d false h)
+
+  pub after_is : i < length cells → old.link ≡ after_at (lists cells) i
+  after_is h = sym (get_or-map (λ (c : Cell V). c.link) cells i d 0 h)
+
+  -- of halves that are read one after the other
+  pub before_is : (e : Cell V) (high low : ℕ) → i < length cells → high ≡ old.next → low ≡ (get_or cells i e).first → pair_of high low ≡ before_at (lists cells) i
+  before_is e high low h upper lower =
+      ap (λ n. pair_of n low) upper ∙ ap (pair_of old.next) (lower ∙ ap (λ (c : Cell V). c.first) (get_or_default cells i e d h)) ∙ sym (get_or-map before_seen cells i d 0 h)
 
   -- the value that is seen of a free cell has no links, whatever stands there
   free_member : (high low : ℕ) → old.sign ≡ 0 → member_seen (record old { next = high; first = low }) ≡ member_seen old
@@ -74,6 +95,13 @@ module _ {V : Type 0} (cells : List (Cell V)) (i : ℕ) (d : Cell V) where
   -- and the value has its links
   pub taken_member : (c : Cell V) → c.sign ≢ 0 → member_seen c ≡ record { value = c.value; next = c.next; first = c.first }
   taken_member c e = ap (λ b. cond b (lone c.value) (record { value = c.value; next = c.next; first = c.first })) (ne_eqb c.sign 0 e)
+
+  pub child_is : i < length cells → sign_at (lists cells).row i ≢ 0 → old.link ≡ child_at (lists cells).row i
+  child_is h taken = sym (taken_child old (λ e. taken (sym (sign_is h) ∙ e))) ∙ sym (get_or-map child_seen cells i d 0 h)
+
+  pub value_is : (c : Cell V) → c ≡ old → i < length cells → sign_at (lists cells).row i ≢ 0 → slice_get (lists cells).row.values i ≡ Some (record { value = c.value; next = c.next; first = c.first })
+  value_is c same h taken =
+      slice_get-map member_seen cells i ∙ ap (option_map member_seen) (slice_get-get_or cells i d h) ∙ ap Some (ap member_seen (sym same) ∙ taken_member c (λ e. taken (sym (sign_is h) ∙ ap (λ (x : Cell V). x.sign) (sym same) ∙ e)))
 
   pub write_child : (x : ℕ) → i < length cells → sign_at (lists cells).row i ≢ 0 → lists (set cells i (record old { link = x })) ≡ record (lists cells) { row = with_child (lists cells).row i x; afters = set (lists cells).afters i x }
   write_child x h taken =

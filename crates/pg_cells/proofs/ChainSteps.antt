@@ -1,11 +1,12 @@
 -- What the steps of the list through the free cells need: which cells are free, and that their numbers fit a link.
-use Rattle.std.proofs.Common.{◌≡◌, ◌≢◌, ℕ, ◌+◌, ◌-◌, ◌<◌, ◌^◌, inl, inr, List, [], ◌∷◌, ◌++◌, length, get_or, map, zero, suc, refl, sym, ◌∙◌, ap, subst, arith}
+use Rattle.std.proofs.Common.{◌≡◌, ◌≢◌, ℕ, ◌+◌, ◌-◌, ◌<◌, ◌≤◌, ◌^◌, inl, inr, List, [], ◌∷◌, ◌++◌, length, get_or, map, zero, suc, refl, sym, ◌∙◌, ap, subst, arith}
 use Rattle.std.proofs.lemmas.Bool.{cases_eq}
-use Rattle.std.proofs.lemmas.List.{length-map, map_push, length_push}
+use Rattle.std.proofs.lemmas.List.{length-map, get_or_past, get_or_default, map_push, length_push}
 use Rattle.pg_cells.specs.declared.cell.Cell.{Cell}
-use Rattle.pg_cells.specs.Inside.Lists.{Lists, lists, row_of, IsFree, sign_at, before_at, after_at}
+use Rattle.pg_cells.specs.Inside.Lists.{Row, Lists, lists, row_of, IsFree, sign_at, before_at, after_at}
 use Rattle.pg_cells.specs.Inside.Linked.{AreLinked}
-use Rattle.pg_cells.proofs.LinkedLists.{free_within}
+use Rattle.pg_cells.specs.declared.member.Member.{Member}
+use Rattle.pg_cells.proofs.LinkedLists.{free_within, taken_within, not_free}
 
 module _ {V : Type 0} where
   -- the cells before and after a free one are free
@@ -25,6 +26,31 @@ module _ {V : Type 0} (cells : List (Cell V)) where
   -- a free cell is among the cells
   pub free_in : (i : ℕ) → IsFree (row_of cells) i → i < length cells
   free_in i free = subst (λ n. i < n) signs_long (free_within (row_of cells) i free)
+
+  -- a cell without a sign is free
+  pub free_here : (i : ℕ) → i < length cells → sign_at (row_of cells) i ≡ 0 → IsFree (row_of cells) i
+  free_here i lt none = get_or_default (row_of cells).signs i 1 0 (subst (λ n. i < n) (sym signs_long) lt) ∙ none
+
+  -- past the end no cell has a sign
+  pub sign_past : (i : ℕ) → length cells ≤ i → sign_at (row_of cells) i ≡ 0
+  sign_past i le = get_or_past (row_of cells).signs i 0 (subst (λ n. n ≤ i) (sym signs_long) le)
+
+  -- a cell that is taken in the row is among the cells, and has its sign there
+  pub taken_in_row : (r : Row (Member V)) (i : ℕ) → row_of cells ≡ r → sign_at r i ≢ 0 → (i < length cells) × (sign_at (row_of cells) i ≢ 0)
+  taken_in_row r i seen taken =
+      let here : sign_at (row_of cells) i ≢ 0 = λ z. taken (sym (ap (λ (x : Row (Member V)). sign_at x i) seen) ∙ z) in
+      (subst (λ n. i < n) signs_long (taken_within (row_of cells) i here), here)
+
+  -- a taken cell is another than a free one
+  pub taken_other : (i j : ℕ) → sign_at (row_of cells) i ≢ 0 → sign_at (row_of cells) j ≡ 0 → i ≢ j
+  taken_other i j taken free e = taken (ap (sign_at (row_of cells)) e ∙ free)
+
+  -- cell 0 is free, so a taken one is another
+  pub above_head : (i : ℕ) → AreLinked (lists cells) → sign_at (row_of cells) i ≢ 0 → 0 < i
+  above_head i linked taken = elim (cases_eq i 0) [
+    | inl z ↦ absurd (not_free (row_of cells) i taken (subst (IsFree (row_of cells)) (sym z) linked.head))
+    | inr up ↦ omega arith
+  ]
 
   -- the number of a cell fits a link
   pub fits_link : (i : ℕ) → i < length cells → length cells < 2 ^ 32 → i < 2 ^ 32

@@ -37,10 +37,10 @@ module _ {V : Type 0} (cells : List (Cell V)) (i : ℕ) where
   children_even : length (row_of cells).children ≡ length (row_of cells).signs
   children_even = length-map cells child_seen ∙ sym (length-map cells (λ c. c.sign))
 
-  values_even : length (row_of cells).values ≡ length (row_of cells).signs
+  pub values_even : length (row_of cells).values ≡ length (row_of cells).signs
   values_even = length-map cells member_seen ∙ sym (length-map cells (λ c. c.sign))
 
-  bases_even : length (row_of cells).bases ≡ length (row_of cells).signs
+  pub bases_even : length (row_of cells).bases ≡ length (row_of cells).signs
   bases_even = length-map cells (λ c. c.is_base) ∙ sym (length-map cells (λ c. c.sign))
 
   pub row_takes : (sign : ℕ) (value : Member V) (child : ℕ) → IsFree (row_of cells) i → sign ≢ 0 → Takes (row_of cells) (with_taken (row_of cells) i sign value child) i sign value child

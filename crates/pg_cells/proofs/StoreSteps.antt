@@ -176,6 +176,9 @@ module _ {V : Type 0} where
     taken = how_many_push r.signs;
   }
 
+  pub extends_same : (r : Row V) → Extends r r
+  extends_same r = record { longer = omega arith; signs = λ i. refl; children = λ i. refl; bases = λ i. refl; values = λ i lt. refl; taken = refl }
+
   pub extends_trans : (a b c : Row V) → Extends a b → Extends b c → Extends a c
   extends_trans a b c p q = record {
     longer = let h = p.longer in let k = q.longer in omega arith;

@@ -1,5 +1,5 @@
--- What the cells are seen as: the families by their placement, and the value of each string that
--- has a cell.
+-- The cells as a map: the families by their placement, and the value of each string that has a
+-- cell.
 use Rattle.std.specs.Prelude.{ℕ, List, refl, not}
 use Rattle.std.specs.Ordering.{nat_cmp, eq_by_cmp}
 use Rattle.std.specs.Cmp.Lexicographic.{slice_cmp}

@@ -24,9 +24,9 @@ pub fn joins<V: Copy>(store: &Store<V>, base: usize, s: Sign) -> bool
     base != 0 && store.sign(base + s as usize) == 0
 }
 
-/// Adds the slot's sign to the family below the parent's string, whose signs the members are where
-/// the sign does not join it in place. Answers its cell. Refused: the cells that were there are as
-/// before.
+/// Adds the slot's sign to the family below the parent's string, and answers its cell. Where the
+/// sign does not join the family in place, `members` are the family's signs. Refused: the cells
+/// that were there are as before.
 pub fn add_slot<V: Copy>(
     store: &mut Store<V>,
     moving: &mut Vec<Slot<Member<V>>>,

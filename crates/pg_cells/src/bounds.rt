@@ -4,7 +4,7 @@ ghost use Rattle.pg_cells.specs.Inside.Bounds.{IsBelow};
 
 use std::alloc::{AllocError, Global};
 
-/// The bounds of so many signs, and of 0.
+/// A bound for each of `signs` signs, and for 0.
 pub fn no_bounds(alloc: Global, signs: u16) -> Result<Vec<u32>, AllocError>
     ensures { IfOk result (λ lows. length lows.items ≡ signs + 1) }
 {
@@ -25,7 +25,7 @@ pub fn bound_of(lows: &[u32], freed: usize, dropped: usize, sign: u16) -> usize
         .min(freed.saturating_sub(sign as usize))
 }
 
-/// Lowers each bound as far as the cells and bases ask that were given up.
+/// Lowers each bound as far as the cells and bases that were given up require.
 pub fn lower(lows: &mut Vec<u32>, freed: usize, dropped: usize)
     ensures { (s b : ℕ) → b < slice_index lows.new.items s
         → IsBelow lows.old.items freed dropped s b }
@@ -51,7 +51,7 @@ pub fn set_low(lows: &mut Vec<u32>, sign: u16, low: usize)
     }
 }
 
-/// The lesser of the least base that was given up and a base, where that one is given up now.
+/// The least base that was given up, where `base` is given up too unless `is_base`.
 pub fn least_dropped(dropped: usize, base: usize, is_base: bool) -> usize
     ensures least { result ≤ dropped }
     ensures base { is_base ≡ false → result ≤ base }

@@ -209,8 +209,9 @@ impl<V: Copy, const FEW: usize> Placed<V, FEW> {
         answer
     }
 
-    /// Takes the sign away from the family below the parent's string, whose one sign it is where it
-    /// is told to be alone. A family without a sign is gone. Every other string keeps its cell.
+    /// Takes the sign away from the family below the parent's string. `is_alone` says that the
+    /// family has no other sign. A family without a sign is gone. Every other string keeps its
+    /// cell.
     pub fn remove(&mut self, parent: usize, s: Sign, is_alone: bool)
         requires parent { (q : List ℕ) × (cell : ℕ)
             × ((cell_of self.old.families q ≡ Some parent)

@@ -15,7 +15,7 @@ pub struct Slot<V> {
     pub value: V,
     /// The base of the child family, 0 for none.
     pub child: usize,
-    /// The sign.
+    /// The sign of the cell.
     pub sign: u16,
 }
 
@@ -75,8 +75,8 @@ fn free_from<V: Copy>(cells: &[Cell<V>], cell: usize, bound: usize) -> usize
     if free < cell { at } else { free }
 }
 
-/// The least base from `low` on at which the sign and those of the slots may stand; at `room` they
-/// may.
+/// The least base from `low` on at which the sign and those of the slots may stand. At `room` they
+/// may stand.
 pub fn find_base<V: Copy>(
     cells: &[Cell<V>],
     slots: &[Slot<Member<V>>],

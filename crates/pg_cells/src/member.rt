@@ -7,17 +7,17 @@ use pg_types::Sign;
 /// The value of a string, and the links of its family and of the family below it.
 #[derive(Clone, Copy)]
 pub struct Member<V> {
-    /// The value.
+    /// The value of the string.
     pub value: V,
     /// The next sign of the family that the cell is in, 0 for none. The root's signs have no link,
-    /// since each has its next.
+    /// since the root has every sign.
     pub next: Sign,
     /// The first sign of the family below the string, 0 for none.
     pub first: Sign,
 }
 
 impl<V: Copy> Member<V> {
-    /// That of a string with no family below it and no next sign.
+    /// The member of a string with no family below it and no next sign.
     pub fn alone(value: V) -> Member<V>
         ensures { result ≡ record { value = value; next = 0; first = 0 } }
     {

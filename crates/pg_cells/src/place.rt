@@ -10,12 +10,12 @@ use crate::moves::{give_up, put};
 use crate::store::Store;
 use pg_types::SIGNS_MAX;
 
-/// Where few signs are placed from base 1 on, a family of more is placed from so far below the top
-/// on, or as far as there are signs.
+/// Where small families are placed from base 1 on, the search for the base of a greater one begins
+/// this far below the top. It begins farther below where the table has more signs than this.
 const FAR_BELOW: usize = 255;
 
-/// Else each family is placed from so far below the top on. The search is short then, and most
-/// holes are filled all the same.
+/// Else the search for each base begins this far below the top. The search is short then, and most
+/// free cells are used all the same.
 const NEAR_BELOW: usize = 32;
 
 // How far below the top the search for a base begins.
@@ -41,7 +41,7 @@ fn lowest_base(few: usize, signs: u16, count: usize, top: usize) -> usize
     }
 }
 
-// Drops the base of a family; 0 is that of none.
+// Drops the base of a family; where the base is 0, there is no family.
 fn drop_base<V: Copy>(store: &mut Store<V>, base: usize)
     requires { base < length store.old.signs }
     ensures { Drops store.old store.new base }
@@ -51,8 +51,8 @@ fn drop_base<V: Copy>(store: &mut Store<V>, base: usize)
     }
 }
 
-// The base up to which those from `low` on were tried before, for a family that moves from the base
-// `was`, which was found by a search from `sought` on.
+// The end of the bases from `low` on that were tried before, for a family that moves. Its base
+// `was` was found by a search from `sought` on.
 fn tried_up_to(was: usize, sought: usize, low: usize) -> usize
     requires { was < 2 ^ 32 }
     ensures { low < result → (0 < was) × (sought ≤ low) × (result ≡ was + 1) }
@@ -61,8 +61,8 @@ fn tried_up_to(was: usize, sought: usize, low: usize) -> usize
 }
 
 // The least base from `low` on at which the sign and those of the slots may stand; at `room` they
-// may. It is sought from the bound of the sign on, and from `tried` on, below which they may not. A
-// search for one sign from its bound on raises the bound.
+// may. It is sought from the greatest of `low`, `tried` and the bound of the sign on: below `tried`
+// no base fits. A search for one sign from its bound on raises the bound.
 fn least_base<V: Copy>(
     store: &mut Store<V>,
     slots: &[Slot<Member<V>>],
@@ -91,8 +91,8 @@ fn least_base<V: Copy>(
     base
 }
 
-/// Gives up the cells of a family, whose slots these are, and puts it with one sign more below its
-/// parent. Answers its base.
+/// Gives up the cells of a family, puts it below its parent with one sign more, and answers its
+/// base. The slots are those of the family.
 pub fn place_family<V: Copy>(
     store: &mut Store<V>,
     slots: &[Slot<Member<V>>],

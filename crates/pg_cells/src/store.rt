@@ -23,8 +23,8 @@ use std::marker::Model;
 /// what was given up since the bounds were lowered: `freed` is the least such cell, and `dropped`
 /// the least such base.
 ///
-/// `placed` is the base of the family that was placed last, and `sought` the base from which on it
-/// was sought. `placed` is 0 where a cell or a base was given up since.
+/// `placed` is the base of the family that was placed last, and `sought` the base at which its
+/// search began. `placed` is 0 where a cell or a base was given up since.
 #[derive(Drop)]
 pub struct Store<V: Copy> {
     cells: Vec<Cell<V>>,
@@ -53,7 +53,7 @@ impl<V: Copy> Model for Store<V> {
 }
 
 impl<V: Copy> Store<V> {
-    /// One free cell, for so many signs.
+    /// One free cell, with a bound for each of so many signs.
     pub fn new(alloc: Global, signs: u16, value: V) -> Result<Store<V>, AllocError>
         ensures { IfOk result (λ s. s ≡ one_free (lone value)) }
     {
@@ -228,7 +228,7 @@ impl<V: Copy> Store<V> {
         self.dropped = usize::MAX;
     }
 
-    /// A base from which on no base below can take the family that stands at `base`.
+    /// From the answer up to `base`, no base but `base` can take the family that stands at `base`.
     pub fn sought_from(&self, base: usize) -> usize
         ensures { AreBlocked self.now base result }
     {
@@ -239,7 +239,7 @@ impl<V: Copy> Store<V> {
         }
     }
 
-    /// Keeps from which base on a family was sought that was placed now.
+    /// Notes that a family was placed now at `base`, and that its search began at `low`.
     pub fn set_sought(&mut self, base: usize, low: usize)
         requires { AreBlocked self.old base low }
         ensures { self.new ≡ self.old }
@@ -248,8 +248,8 @@ impl<V: Copy> Store<V> {
         self.sought = low;
     }
 
-    /// The least base from `low` on at which the sign and those of the slots may stand; at `room`
-    /// they may.
+    /// The least base from `low` on at which the sign and those of the slots may stand. At `room`
+    /// they may stand.
     pub fn find_base(&self, slots: &[Slot<Member<V>>], sign: u16, low: usize, room: usize) -> usize
         requires positive { 0 < sign }
         requires low { low ≤ room }

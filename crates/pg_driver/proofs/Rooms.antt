@@ -39,6 +39,10 @@ room_less counts n m room less = record { sorted = room.sorted; filled = room.fi
 pub took_none : (counts : Counts) (n k : ℕ) → HasRoom counts n → TookRoom counts counts k
 took_none counts n k room = record { sorted = room.sorted; filled = room.filled; few = omega arith; light = omega arith }
 
+-- counts that took some room took at most more
+pub took_less : (old new : Counts) (k n : ℕ) → k ≤ n → TookRoom old new k → TookRoom old new n
+took_less old new k n le took = record { sorted = took.sorted; filled = took.filled; few = omega (arith, took.few); light = omega (arith, took.light) }
+
 -- more positions
 pub took_more : (a b c : Counts) (n k m : ℕ) → TookRoom a b n → TookRoom b c k → n + k ≤ m → TookRoom a c m
 took_more a b c n k m first then within = record { sorted = then.sorted; filled = then.filled; few = omega (arith, first.few, then.few); light = omega (arith, first.light, then.light) }

@@ -1,5 +1,5 @@
 -- A step of the walk over the words of a pass.
-use Rattle.std.proofs.Common.{◌≡◌, ℕ, ◌+◌, ◌-◌, ◌<◌, ◌≤◌, List, [], ◌∷◌, ◌++◌, length, fold, refl, sym, ap, subst, ◌∙◌, arith}
+use Rattle.std.proofs.Common.{◌≡◌, ℕ, ◌+◌, ◌-◌, ◌<◌, ◌≤◌, List, [], ◌∷◌, ◌++◌, length, fold, map, refl, sym, ap, subst, ◌∙◌, append-nil, arith}
 use Rattle.std.specs.List.{flat_map, range_with_len}
 use Rattle.std.proofs.lemmas.List.Sums.{fold-append}
 use Rattle.pg_dict.specs.Word.{Word, IsWord}
@@ -11,6 +11,11 @@ use Rattle.pg_select.specs.CountedPositions.{Minima, CountedPosition, counted_po
 use Rattle.pg_driver.specs.Inside.Counting.{counting, windows_after, IsRead, HasRoom, TookRoom}
 use Rattle.pg_driver.proofs.Rooms.{room_left, took_position, took_more}
 use Rattle.pg_select.proofs.Reaches.{range_step}
+use Rattle.pg_select.proofs.MarkSteps.{marks_from}
+use Rattle.pg_select.specs.Statuses.{status_at, position_weight}
+use Rattle.pg_select.specs.Sums.{with_marks}
+use Rattle.pg_types.specs.declared.marks.Totals.{Totals}
+use Rattle.pg_types.specs.declared.marks.Mark.{Mark}
 
 -- all but the counts and the windows are kept
 abbrev pub KeepsButCounts : Meaning → Meaning → Type 0
@@ -68,3 +73,24 @@ room_on m0 m n w p k size long word within room few took is =
     let more : TookRoom m.counts (fold with_position m.counts (counted_positions_at m.pass m.patterns m.hopeless w p)) 1 = took_position m.counts m.pass m.patterns m.hopeless w p 1 long word within here in
     let P : Counts → Type 0 = λ cs. TookRoom m0.counts cs (k + 1) in
     subst P (ap (λ (x : Meaning). x.counts) (sym is)) (took_more m0.counts m.counts _ k 1 (k + 1) took more (omega arith))
+
+-- a walk that is at its end has counted, added and listed the whole
+pub counted_done : (m whole : Meaning) (f : ℕ → List CountedPosition) (p end : ℕ) → end ≤ p → counting m (flat_map f (range_with_len p (end - p))) ≡ whole → m ≡ whole
+counted_done m whole f p end past left =
+    let none : end - p ≡ 0 = omega arith in
+    subst (λ n. counting m (flat_map f (range_with_len p n)) ≡ whole) none left
+
+pub marks_done : (t whole : Totals) (P : List ((List ℕ × ℕ) × ℕ)) (w : Word) (p end : ℕ) → end ≤ p → with_marks t (marks_from P w p end) ≡ whole → t ≡ whole
+marks_done t whole P w p end past left =
+    let none : end - p ≡ 0 = omega arith in
+    let mark : ℕ → Mark × ℕ = λ q. (status_at P w q, position_weight w q) in
+    let good : t.good + 0 ≡ t.good = omega arith in
+    let bad : t.bad + 0 ≡ t.bad = omega arith in
+    let missed : t.missed + 0 ≡ t.missed = omega arith in
+    let same : with_marks t [] ≡ t = λ i. record { good = good i; bad = bad i; missed = missed i } in
+    sym same ∙ subst (λ n. with_marks t (map mark (range_with_len p n)) ≡ whole) none left
+
+pub listed_done : {X : Type 0} (f : ℕ → List X) (xs whole : List X) (p end : ℕ) → end ≤ p → xs ++ flat_map f (range_with_len p (end - p)) ≡ whole → xs ≡ whole
+listed_done f xs whole p end past left =
+    let none : end - p ≡ 0 = omega arith in
+    sym (append-nil xs) ∙ subst (λ n. xs ++ flat_map f (range_with_len p n) ≡ whole) none left

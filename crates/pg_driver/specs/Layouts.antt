@@ -21,7 +21,8 @@ after_pass signs fs p = fold (λ fs c. enter signs fs c.window) fs (entered_in p
 abbrev pub after_passes : ℕ → Families → List PassTrace → Families
 after_passes signs fs ps = fold (after_pass signs) fs ps
 
--- the families at a level's end: only the prefixes of the patterns' strings keep their cells
+-- the families at a level's end: only strings of one sign and prefixes of the patterns' strings
+-- keep their cells
 abbrev pub at_level_end : LevelTrace → Families → Families
 at_level_end l fs = kept (strings_in (patterns_after l)) fs
 

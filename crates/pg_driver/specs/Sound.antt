@@ -20,15 +20,15 @@ pub record IsSoundPass (r : PassRecord) : Type 0 where
 pub record IsSoundLevel (r : LevelRecord) : Type 0 where
   pub after : IsSmall r.after
 
--- what a run has recorded so far: the records of its passes and levels, how many windows the level
--- that goes on has chosen, and how many passes were begun
+-- what a run has recorded so far: the records of its passes and levels, how many windows were
+-- chosen in the level that is not at its end, and how many passes were begun
 pub record Recorded : Type 0 where
   pub passes : List PassRecord
   pub levels : List LevelRecord
   pub chosen : ℕ
   pub begun : ℕ
 
--- with a pass more, which has a record where it has a candidate
+-- the records with a pass more, which has a record of its own where it has a candidate
 abbrev pub with_pass : Recorded → PassRecord → Recorded
 with_pass r pass = record r {
   passes = if nat_lt 0 pass.candidates then r.passes ++ pass ∷ []
@@ -37,7 +37,7 @@ with_pass r pass = record r {
   begun = r.begun + 1;
 }
 
--- with the end of a level
+-- the records with the end of a level
 abbrev pub with_level : Recorded → ℕ → Totals → Option Layout → Recorded
 with_level r level after layout =
     record r {

@@ -17,7 +17,7 @@ use Rattle.pg_driver.specs.Traces.{Known, Source, Trace, trace, final_patterns}
 use Rattle.pg_driver.specs.Accounts.{Account, PassLine, LevelLine, account, begun}
 use Rattle.pg_driver.specs.Layouts.{CellsAccount, cells_account, final_families}
 
--- what a run under a table is over
+-- what a run under a table goes over: the minima of the table, and the words
 abbrev pub over : Alphabet → List Word → Source
 over t words = record { minima = minima_of t; words = words }
 

@@ -16,7 +16,7 @@ use Rattle.pg_select.specs.declared.pass.Pass.{Pass}
 use Rattle.pg_select.specs.CountedPositions.{Minima, Candidate, counted_positions, tally}
 use Rattle.pg_driver.specs.Dots.{order}
 
--- what a run is over: the minima of the table, and the words
+-- what a run goes over: the minima of the table, and the words
 pub record Source : Type 0 where
   pub minima : Minima
   pub words : List Word

@@ -1,6 +1,6 @@
-//! The positions that count by their status and have a value above the level. They are counted as
-//! others, but no choice of the level changes their value, so that what is chosen of them stays as
-//! it is.
+//! The positions that count by their status and have a value above the level. They are counted like
+//! others, but no choice of the level changes their value. So what is chosen of them changes no
+//! total.
 ghost use Rattle.std.specs.Prelude.{◌≡◌, ◌≤◌, ◌<◌, ◌+◌, ◌^◌, ◌++◌, ◌∷◌, [], nat_lt, false, true, if◌then◌else◌, None, length, slice_get, slice_index, slice_index_or, All, OnOk, is_some};
 ghost use Rattle.std.specs.Option.{option_map_or};
 ghost use Rattle.pg_types.specs.declared.limits.TheConstants.{FILE_MAX, WORD_LETTERS_MAX, WEIGHT_MAX};
@@ -31,8 +31,8 @@ use pg_translate::Table;
 use pg_types::Mark;
 use std::alloc::AllocError;
 
-/// The weights of positions that were chosen and stay as they are: of the good ones, and of the bad
-/// ones.
+/// The weights of positions whose windows were chosen and whose values stay: of the good ones, and
+/// of the bad ones.
 #[derive(Clone, Copy)]
 pub struct Kept {
     /// The sum of the good weights.
@@ -101,7 +101,7 @@ pub fn list_above(
     Ok(())
 }
 
-/// Whether the window with this number was chosen; not so for the number of none.
+/// Whether the window with this number was chosen. It is false for `NOT_COUNTED`.
 fn is_chosen_by(fates: &[Choice], number: u32) -> bool
     ensures { result ≡ option_map_or is_chosen (slice_get fates.now number) false }
 {

@@ -32,8 +32,8 @@ pub struct Choices {
     pub bad: u64,
 }
 
-/// Chooses the candidate at the cursor, which has these sums of weights, makes it hopeless or
-/// leaves it.
+/// Does with the candidate at the cursor what was decided: chooses it, makes it hopeless or leaves
+/// it. `good` and `bad` are its sums of weights.
 fn choose_at<E: Engine>(
     engine: &mut E,
     params: &LevelParams,

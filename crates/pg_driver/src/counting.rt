@@ -55,7 +55,7 @@ impl Counting {
             (known_of (E.meaning engine.now)) counting) }
         ensures form { IfOk result (λ counting. greatest < level → IsOverOpen counting) }
     {
-        // A minimum is at least 1, so that there are no more positions than letters.
+        // A minimum is at least 1, so there are no more positions than letters.
         let _least = table.left();
         if level <= greatest {
             let _words = dictionary.len();
@@ -121,8 +121,8 @@ impl Counting {
     }
 
     /// Takes in what was chosen in a pass: the open positions have dots closed, and the totals are
-    /// carried on. A position whose value is above the level stays as it is, so that it is left out
-    /// of what was chosen. No window is looked up. It takes no memory.
+    /// carried on. A position whose value is above the level keeps its value, so its weight is left
+    /// out of what was chosen. No window is looked up. It takes no memory.
     pub fn after_choices<E: Engine>(
         &mut self,
         engine: &E,

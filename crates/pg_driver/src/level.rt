@@ -81,7 +81,7 @@ fn run_pass<E: Engine>(
     })
 }
 
-/// Does a pass and records it; or skips it, where that can have no candidate.
+/// Does a pass and records it, or skips it where it can have no candidate.
 fn run_or_skip<E: Engine>(
     engine: &mut E,
     dictionary: &Dictionary,
@@ -238,8 +238,8 @@ fn run_lengths<E: Engine>(
     Ok(())
 }
 
-/// Does a level: its passes, and what stands at its end. Gives the totals at its end. `greatest` is
-/// the greatest value of the starting patterns. What `windows` holds does not matter.
+/// Does a level: its passes, and then its end. Gives the totals at its end. `greatest` is the
+/// greatest value of the starting patterns. What `windows` holds does not matter.
 pub fn run_level<E: Engine>(
     alloc: Global,
     engine: &mut E,

@@ -83,7 +83,7 @@ fn run_levels<E: Engine>(
 /// the dot before, left no candidate or was skipped. It would have no candidate, so the run is the
 /// one that does every pass.
 ///
-/// The only error is want of memory. The engine's greatest sign is then as before, and nothing is
+/// The only error is a lack of memory. The engine's greatest sign is then as before, and nothing is
 /// said of the rest of it.
 pub fn generate<E: Engine>(
     alloc: Global,

@@ -31,7 +31,7 @@ pub fn is_good(level: u8, hyphen: bool) -> bool
 }
 
 /// Counts the window at position `p` of a word, where it fits in the word, and gives its number;
-/// none where it does not fit.
+/// `None` where it does not fit.
 fn count_at<E: Engine>(
     engine: &mut E,
     pass: Pass,
@@ -170,7 +170,7 @@ fn position_at(dictionary: &Dictionary, at: WordStart, sign: usize) -> Place
     }
 }
 
-/// What became of the window with this number; nothing for the number of none.
+/// What became of the window with this number; `None` for `NOT_COUNTED`.
 fn fate_of(fates: &[Choice], number: u32) -> Option<Choice>
     ensures { result ≡ slice_get fates.now number }
 {
@@ -178,7 +178,7 @@ fn fate_of(fates: &[Choice], number: u32) -> Option<Choice>
 }
 
 /// Closes dots at a position at which the dot of a pass is open, by what became of its window.
-/// Where none fits, no longer one with the dot does.
+/// Where no window fits, no longer window with the dot fits either.
 fn close_at(dots: &mut OpenDots, dot: u8, sign: usize, fate: Option<Choice>)
     requires dot { dot < dots.old.reached }
     requires within { sign < places_in dots.old }

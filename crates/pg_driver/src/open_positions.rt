@@ -1,5 +1,5 @@
-//! The open positions of a level: those that count by their status, with their closed dots. Beside
-//! them the totals.
+//! The open positions of a level: those that count by their status, with their closed dots. The
+//! totals stand beside them.
 ghost use Rattle.std.specs.Prelude.{◌≡◌, ◌≤◌, ◌<◌, ◌+◌, ◌-◌, ◌^◌, ◌==◌, ◌&&◌, ℕ, not, length, slice_get, sum_by, Some, All, IfOk, OnOk, is_some};
 ghost use Rattle.pg_types.specs.declared.limits.TheConstants.{FILE_MAX};
 ghost use Rattle.pg_types.specs.Counts.{SignsWithin};
@@ -42,8 +42,8 @@ fn open_by_status(level: u8, sign: usize, mark: Mark, dots: &mut OpenDots)
     }
 }
 
-/// Opens the positions of a word that count at a level, and adds all in reach to the totals. The
-/// signs of the word begin at `start`. What `found` holds does not matter.
+/// Opens the positions of a word that count at a level, and adds all positions in reach to the
+/// totals. The signs of the word begin at `start`. What `found` holds does not matter.
 fn open_word<E: Engine>(
     engine: &E,
     table: &Table,
@@ -83,8 +83,8 @@ fn open_word<E: Engine>(
     }
 }
 
-/// The positions that count at a level's start are open, and each dot of the others is closed.
-/// Beside them the totals. Each word is hyphenated once.
+/// The positions that count at a level's start are open, and each dot of the others is closed. The
+/// totals stand beside them. Each word is hyphenated once.
 pub fn open_level<E: Engine>(
     engine: &E,
     dictionary: &Dictionary,

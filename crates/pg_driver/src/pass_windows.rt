@@ -15,7 +15,7 @@ use pg_select::{Choice, Engine, Pass, decide};
 use pg_types::{Cursor, LevelParams};
 use std::alloc::{AllocError, Global};
 
-/// In place of a number it says that a position was not counted.
+/// This stands for the number of a window at a position that was not counted.
 pub const NOT_COUNTED: u32 = u32::MAX;
 
 /// A position of a word.

@@ -3,7 +3,7 @@ use pg_types::{Layout, Totals};
 use std::alloc::{AllocError, Global};
 use std::marker::Model;
 
-/// What a run records of a pass that has a candidate.
+/// What a run records of a pass. It keeps this record only where the pass has a candidate.
 #[derive(Clone, Copy, Debug, PartialEq, Eq)]
 pub struct PassRecord {
     /// The level, 1 to 9.
@@ -14,7 +14,7 @@ pub struct PassRecord {
     pub dot: u8,
     /// The totals before the pass.
     pub before: Totals,
-    /// How many windows are candidates, at least 1.
+    /// How many windows are candidates: at least 1 in the records that a run keeps.
     pub candidates: u64,
     /// How many of them are chosen.
     pub chosen: u64,
@@ -24,7 +24,8 @@ pub struct PassRecord {
     pub good: u64,
     /// The sum of the bad weights of the chosen.
     pub bad: u64,
-    /// The layout after the pass, where the engine tells one. Its tails may be out of date.
+    /// The layout after the pass, where the engine tells one. Its tails may count records that no
+    /// pattern needs.
     pub layout: Option<Layout>,
 }
 
@@ -54,7 +55,7 @@ pub struct LevelRecord {
     pub layout: Option<Layout>,
 }
 
-/// The records of a run that goes on.
+/// The records of a run that is not at its end.
 #[derive(Drop)]
 pub struct Records {
     passes: Vec<PassRecord>,

@@ -1,4 +1,4 @@
-//! A level of which each word is hyphenated in each pass. Its totals are carried from pass to pass.
+//! A level in which each word is hyphenated in each pass. Its totals are carried from pass to pass.
 ghost use Rattle.std.specs.Prelude.{◌≡◌, [], false, true, IfOk, OnOk};
 ghost use Rattle.pg_dict.specs.Word.{SignsAtMost};
 ghost use Rattle.pg_select.specs.CountedPositions.{counted_positions, minima_of};
@@ -19,7 +19,7 @@ use pg_translate::Table;
 use pg_types::Totals;
 use std::alloc::{AllocError, Global};
 
-/// A level of which each word is hyphenated in each pass. The first pass that is counted lists the
+/// A level in which each word is hyphenated in each pass. The first pass that is counted lists the
 /// positions whose value is above the level: they stay the same in the level.
 #[derive(Drop)]
 pub struct WordLevel {

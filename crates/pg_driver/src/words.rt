@@ -44,7 +44,7 @@ fn counted(pass: Pass, w: &WordRef<'_>, found: &WordState, p: usize, mark: Mark)
 }
 
 /// Counts the window at position `p` of a word, which has this status, where it counts in the pass,
-/// and gives its number; that of none where it does not count.
+/// and gives its number; `NOT_COUNTED` where it does not count.
 fn count_at<E: Engine>(
     engine: &mut E,
     pass: Pass,

@@ -10,8 +10,8 @@ use Rattle.pg_cells.specs.Inside.Layouts.{IsTrie}
 use Rattle.pg_cells.specs.Inside.Members.{ArePassing, has_sign}
 
 module _ {V : Type 0} where
-  -- the row holds the trie, in which the string p has the cell and lacks the sign below it; and the
-  -- members are the signs of its family, where the sign does not join it in place
+  -- the row holds the trie; the string p has the cell `parent`, and the family below p lacks the
+  -- sign s; the members are the signs of that family, where s does not join it in place
   pub record CanAdd (n : ℕ) (r : Row V) (t : Trie V) (p : List ℕ)
       (parent s : ℕ) (members : List ℕ) : Type 0 where
     pub trie : IsTrie n r t

@@ -1,4 +1,4 @@
--- What is always true of what the cells are seen as, told by strings.
+-- What is always true of the families and values of the cells, in terms of strings.
 use Rattle.std.specs.Prelude.{◌≡◌, ℕ, ◌≤◌, T, List, [], ◌∷◌, ◌++◌, filter, None, Some}
 use Rattle.std.specs.List.{range_with_len}
 use Rattle.std.specs.Option.{is_some}
@@ -27,8 +27,7 @@ pub record AreValuedFamilies {V : Type 0} (h : ValuedFamilies V) : Type 0 where
   -- the root has base 0, and each sign alone has its own cell
   pub root : base_of h.families [] ≡ Some 0
   pub alone : (x : ℕ) → 1 ≤ x → x ≤ h.signs → cell_of h.families (x ∷ []) ≡ Some x
-  -- a string that has a family below it has a cell, but for the empty one; and the family has a
-  -- sign
+  -- a string that has a family below it has a cell, unless it is empty; and the family has a sign
   pub based : (p : List ℕ) (x base : ℕ) → base_of h.families (p ++ x ∷ []) ≡ Some base
       → (cell : ℕ) × (cell_of h.families (p ++ x ∷ []) ≡ Some cell)
   pub filled : (p : List ℕ) (base : ℕ) → base_of h.families p ≡ Some base

@@ -9,11 +9,12 @@ pub record IsBelow (lows : List ℕ) (freed dropped sign base : ℕ) : Type 0 wh
   pub under_base : base < dropped
   pub under_cell : base + sign < freed
 
--- no base below is free with its cell of the sign
+-- where the base is the base of no family, its cell of the sign is taken
 abbrev pub NoneFree : {V : Type 0} → Row V → ℕ → ℕ → Type 0
 NoneFree r sign base = base_at r base ≡ false → sign_at r (base + sign) ≢ 0
 
--- the bounds of the row, after the least cell and the least base that were given up
+-- no base below the bounds is free with its cell of the sign, but for the cells and bases that were
+-- given up
 abbrev pub AreBounds : {V : Type 0} → Row V → List ℕ → ℕ → ℕ → Type 0
 AreBounds r lows freed dropped = (sign base : ℕ) → 0 < base
     → IsBelow lows freed dropped sign base → NoneFree r sign base

@@ -1,4 +1,4 @@
--- When signs may stand at a base, told of the cells.
+-- Whether signs may stand at a base, by the row of cells.
 use Rattle.std.specs.Prelude.{ℕ, ◌+◌, Bool, not, ◌&&◌, nat_eq, List, map, Option}
 use Rattle.std.specs.List.{list_all, find}
 use Rattle.pg_cells.specs.declared.fit.Slot.{Slot}

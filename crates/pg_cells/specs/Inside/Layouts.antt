@@ -1,4 +1,4 @@
--- That the families lie in the row of cells.
+-- How the families of a trie lie in the row of cells.
 use Rattle.std.specs.Prelude.{◌≡◌, ◌≢◌, ℕ, ◌+◌, ◌<◌, ◌≤◌, T, true, nat_eq, List, [], ◌∷◌, ◌++◌, filter, Option, None, Some, slice_get}
 use Rattle.std.specs.List.{range_with_len}
 use Rattle.std.specs.Ordering.{nat_cmp}
@@ -16,7 +16,8 @@ module _ {V : Type 0} where
   abbrev pub standing : ℕ → Row V → ℕ → List ℕ
   standing n r base = filter (λ x. nat_eq (sign_at r (base + x)) x) (range_with_len 1 n)
 
-  -- what is told of the parent of the family f, which is at p and its sign x
+  -- the parent of the family f is the cell of the sign x in the family at p, and tells the base of
+  -- f
   pub record IsParent (r : Row V) (F : List ℕ → Option Family)
       (p : List ℕ) (x : ℕ) (f : Family) : Type 0 where
     pub above : Family
@@ -58,7 +59,7 @@ module _ {V : Type 0} where
     pub ordered : T (is_sorted (slice_cmp nat_cmp) t.values)
     pub has : (q : List ℕ) → find (slice_cmp nat_cmp) q t.values ≡ value_in r (cell_of t.families q)
 
-  -- and the table has some signs, and not too many
+  -- the row holds the trie, and the table has 1 to `SIGNS_MAX` signs
   pub record AreKept (n : ℕ) (r : Row V) (t : Trie V) : Type 0 where
     pub trie : IsTrie n r t
     pub some : 1 ≤ n

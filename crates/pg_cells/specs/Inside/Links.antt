@@ -17,7 +17,8 @@ module _ {V : Type 0} where
     values = map (λ e. (e.0, e.1.value)) h.values;
   }
 
-  -- each string has the first sign below it, and each string below a string the next sign
+  -- each string with a value has the link to the first sign below it, and each one that is longer
+  -- than a sign has the link to the next sign of its family
   pub record AreLinks (h : ValuedFamilies (Member V)) : Type 0 where
     pub held : AreValuedFamilies h
     pub first : (q : List ℕ) (m : Member V) → find (slice_cmp nat_cmp) q h.values ≡ Some m

@@ -12,13 +12,13 @@ pub record Row (V : Type 0) : Type 0 where
   pub values : List V
   pub bases : List Bool
 
--- and the links of the free cells
+-- a row, and the links of the free cells
 pub record Lists (V : Type 0) : Type 0 where
   pub row : Row V
   pub befores : List ℕ
   pub afters : List ℕ
 
--- the number of two halves
+-- the number that has these two halves
 abbrev pub pair_of : ℕ → ℕ → ℕ
 pair_of high low = high * HALF_COUNT + low
 
@@ -26,7 +26,7 @@ module _ {V : Type 0} where
   abbrev pub sign_at : Row V → ℕ → ℕ
   sign_at r cell = get_or r.signs cell 0
 
-  -- no cell past the end is free
+  -- the cell is free; no cell past the end is
   abbrev pub IsFree : Row V → ℕ → Type 0
   IsFree r cell = get_or r.signs cell 1 ≡ 0
 
@@ -82,11 +82,11 @@ module _ {V : Type 0} where
   abbrev pub with_befores : Lists V → ℕ → ℕ → Lists V
   with_befores ls cell before = record ls { befores = set ls.befores cell before }
 
-  -- of a free cell
+  -- with the free cell after a free cell
   abbrev pub with_afters : Lists V → ℕ → ℕ → Lists V
   with_afters ls cell after = record ls { afters = set ls.afters cell after }
 
-  -- of a taken cell
+  -- with the base of the child family of a taken cell
   abbrev pub with_child : Row V → ℕ → ℕ → Row V
   with_child r cell child = record r { children = set r.children cell child }
 
@@ -96,7 +96,7 @@ module _ {V : Type 0} where
   abbrev pub with_base : Row V → ℕ → Bool → Row V
   with_base r cell flag = record r { bases = set r.bases cell flag }
 
-  -- a cell that is taken
+  -- with a cell taken: it has the sign, the value and the base of the child family
   abbrev pub with_taken : Row V → ℕ → ℕ → V → ℕ → Row V
   with_taken r cell sign value child =
       record r {
@@ -105,7 +105,7 @@ module _ {V : Type 0} where
         children = set r.children cell child;
       }
 
-  -- a cell that is given up
+  -- with a cell given up: it has no sign, no child family and no links
   abbrev pub with_free : Row (Member V) → ℕ → Row (Member V)
   with_free r cell = record r {
     signs = set r.signs cell 0;

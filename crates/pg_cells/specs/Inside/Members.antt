@@ -38,6 +38,6 @@ pub record ArePassing (test : ℕ → Bool) (xs : List ℕ) : Type 0 where
 abbrev pub IsAlone : Families → List ℕ → ℕ → Type 0
 IsAlone fs p s = (x : ℕ) → x ≢ s → has_sign fs p x ≡ false
 
--- it has another sign
+-- the family below the string has a sign other than s
 abbrev pub HasOther : Families → List ℕ → ℕ → Type 0
 HasOther fs p s = (x : ℕ) × (x ≢ s) × (has_sign fs p x ≡ true)

@@ -63,8 +63,8 @@ module _ {V : Type 0} where
   abbrev pub Drops : Row V → Row V → ℕ → Type 0
   Drops old new was = ((was ≡ 0) × (new ≡ old)) ⊎ ((0 < was) × (SetsBase old new was false))
 
-  -- what lets a family be settled: where its slots stand, that there is room past the last cell,
-  -- and that each base has a cell
+  -- what a family needs to be placed: its slots stand in taken cells, there is room past the last
+  -- cell, and each other base has a taken cell
   pub record CanPlace (n : ℕ) (r : Row V) (was : ℕ)
       (slots : List (Slot V)) (slot : Slot V) (parent : ℕ) : Type 0 where
     pub distinct : AreDistinct slots
@@ -78,7 +78,7 @@ module _ {V : Type 0} where
     pub room : (i : ℕ) → sign_at r i ≢ 0 → i + n + 1 < length r.signs
     pub rooted : (b : ℕ) → base_at r b ≡ true → b ≢ was
         → 0 < b → (y : ℕ) × (0 < y) × (sign_at r (b + y) ≢ 0) × (Outside was slots (b + y))
-    -- each slot's sign stands there, and no other; the new sign's cell is taken; and each taken
+    -- at `was`, each slot's sign stands, and no other; the new sign's cell is taken; and each taken
     -- cell belongs to a base
     pub stands : (x : ℕ) (k : Slot V) → slot_of slots x ≡ Some k → sign_at r (was + x) ≡ x
     pub owns : (x : ℕ) → 0 < was → 0 < x → sign_at r (was + x) ≡ x

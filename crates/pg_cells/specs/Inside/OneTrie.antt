@@ -92,13 +92,13 @@ Kept-prop {V} code n r a b =
     (∥∥₁_elim a.1 (Coded-set (trie_code code) a.0 b.0)
     (λ x. ∥∥₁_elim b.1 (Coded-set (trie_code code) a.0 b.0) (λ y. same_trie n r a.0 b.0 x y)))
 
--- a kept trie is any that the row holds
+-- a row holds only one trie, so each trie that it holds is the kept one
 pub settled : {V : Type 0} → Coded V → (n : ℕ) (r : Row V) (kept : Kept n r) (t : Trie V)
     → IsTrie n r t → kept.0 ≡ t
 settled code n r kept t is = ∥∥₁_elim kept.1 (Coded-set (trie_code code) kept.0 t)
     (λ x. same_trie n r kept.0 t x is)
 
--- so where the row holds one, the kept one is held
+-- so where the row holds a trie, it holds the kept one
 pub held : {V : Type 0} → Coded V → (n : ℕ) (r : Row V) (kept : Kept n r) (t : Trie V)
     → IsTrie n r t → IsTrie n r kept.0
 held code n r kept t is = subst (IsTrie n r) (sym (settled code n r kept t is)) is

@@ -6,7 +6,7 @@ use Rattle.pg_cells.specs.Inside.Lists.{Row, sign_at, child_at, base_at}
 use Rattle.pg_cells.specs.Inside.Store.{taken_in}
 use Rattle.pg_cells.specs.ValuedFamilies.{ValuedFamilies}
 
--- the root family alone, each value blank
+-- the root family alone, with the blank as each value
 abbrev pub root_held : {V : Type 0} → ℕ → V → ValuedFamilies V
 root_held n blank = record {
   signs = n;

@@ -23,13 +23,13 @@ row_code {V} code =
     (λ p. record { signs = p.0; children = p.1.0; values = p.1.1.0; bases = p.1.1.1 })
     (λ _. refl)
 
--- t is the greatest place of a sign that is not 0, or 0 where there is none
+-- t is the greatest index at which the sign is not 0, or 0 where there is none
 pub record IsTop (signs : List ℕ) (t : ℕ) : Type 0 where
   pub most : (i : ℕ) → get_or signs i 0 ≢ 0 → i ≤ t
   pub within : t < length signs
   pub used : 0 < t → get_or signs t 0 ≢ 0
 
--- how many are not 0
+-- how many numbers of a list are not 0
 abbrev pub how_many : List ℕ → ℕ
 how_many [] = 0
 how_many (x ∷ xs) = min x 1 + how_many xs

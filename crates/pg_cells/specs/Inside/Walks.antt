@@ -16,7 +16,8 @@ module _ {V : Type 0} where
   abbrev pub EndsBefore : List (List ℕ × V) → List ℕ → Type 0
   EndsBefore values q = (more : List ℕ) → find (slice_cmp nat_cmp) (q ++ more) values ≡ None
 
-  -- the sign s below the string q has a cell as before, or it gets one and the value
+  -- where the string q with the sign s has a cell, nothing changes; else it gets a cell and the
+  -- value
   abbrev pub StepsBy : ℕ → Option ℕ → ValuedFamilies V → ValuedFamilies V → List ℕ → ℕ → V → Type 0
   StepsBy few None old new q s v = new
       ≡ record old {

@@ -8,7 +8,7 @@ use Rattle.pg_driver.specs.Traces.{PassTrace, chosen_of, hopeless_of}
 use Rattle.pg_driver.specs.Inside.States.{state_of, state_after}
 use Rattle.pg_driver.specs.Told.{known_of}
 
--- the candidate that an entry of the counts is
+-- an entry of the counts as a candidate
 abbrev pub candidate_of : List ℕ × (ℕ × ℕ) → Candidate
 candidate_of e = record { window = e.0; good = e.1.0; bad = e.1.1 }
 
@@ -16,7 +16,7 @@ candidate_of e = record { window = e.0; good = e.1.0; bad = e.1.1 }
 abbrev pub no_choices : Choices
 no_choices = record { candidates = 0; chosen = 0; hopeless = 0; good = 0; bad = 0 }
 
--- the numbers with more candidates
+-- the numbers and sums after more candidates
 abbrev pub with_candidates : LevelParams → Choices → List Candidate → Choices
 with_candidates params n cs = record {
   candidates = n.candidates + length cs;
@@ -26,12 +26,12 @@ with_candidates params n cs = record {
   bad = n.bad + sum_by (λ c. c.bad) (chosen_of params cs);
 }
 
--- the pass of an engine that goes on, with these candidates
+-- the pass that an engine is in, with these candidates
 abbrev pub pass_with : LevelParams → Meaning → List Candidate → PassTrace
 pass_with params m cs =
     record { pass = m.pass; params = params; before = known_of m; candidates = cs }
 
--- of the pass that goes on these candidates were chosen, made hopeless or left
+-- these candidates of the pass that the engine is in were chosen, made hopeless or left
 pub record HasChosen (params : LevelParams) (cs : List Candidate) (old new : Meaning) : Type 0 where
   pub state : state_of new ≡ state_after old.signs old.families (pass_with params old cs)
   pub kept : new ≡ record old {

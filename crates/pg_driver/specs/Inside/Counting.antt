@@ -40,14 +40,14 @@ is_filled e = is_lt (slice_cmp nat_cmp [] e.0)
 abbrev pub weight_in : Counts → ℕ
 weight_in counts = sum_by (λ e. e.1.0 + e.1.1) counts
 
--- counts have room for so many positions more of the longest dictionary
+-- counts have room for n more positions, in a dictionary of the greatest size
 pub record HasRoom (counts : Counts) (n : ℕ) : Type 0 where
   pub sorted : T (is_sorted (slice_cmp nat_cmp) counts)
   pub filled : list_all is_filled counts ≡ true
   pub few : length counts + n ≤ FILE_MAX
   pub light : weight_in counts + WEIGHT_MAX * n ≤ WEIGHT_MAX * FILE_MAX
 
--- counts have become new ones by at most so many positions
+-- at most n positions more turned the old counts into the new ones
 pub record TookRoom (old new : Counts) (n : ℕ) : Type 0 where
   pub sorted : T (is_sorted (slice_cmp nat_cmp) new)
   pub filled : list_all is_filled new ≡ true

@@ -42,12 +42,12 @@ abbrev pub IsReady : Source → ℕ → ℕ → Known → Counting → Type 0
 IsReady source level len known (Open o) = IsOpenAt source level len known o
 IsReady source level len known (EachWord e) = IsWordsAt source level known e
 
--- windows are counted at open positions, so that no word is hyphenated after the level's start
+-- windows are counted at open positions, so no word is hyphenated after the level's start
 abbrev pub IsOverOpen : Counting → Type 0
 IsOverOpen (Open o) = Unit {0}
 IsOverOpen (EachWord e) = ⊥
 
--- a pass was counted, where each word is hyphenated in each pass
+-- where each word is hyphenated in each pass, a pass was counted
 abbrev pub IsCounted : Counting → Type 0
 IsCounted (Open o) = Unit {0}
 IsCounted (EachWord e) = e.is_counted ≡ true
@@ -60,8 +60,8 @@ totals_in (EachWord e) = e.totals
 abbrev pub TellsTotals : Source → Patterns → Counting → Type 0
 TellsTotals source P c = (totals_in c ≡ totals_by source P) × IsSmall (totals_in c)
 
--- there is a bit for each sign of the words; or each position that is listed stands in one of them,
--- and there are no more than letters in the longest dictionary
+-- there is a bit for each sign of the words; or each listed position stands in one of the words,
+-- and there are at most as many of them as letters in a dictionary of the greatest size
 abbrev pub ArePlaced : List Word → Counting → Type 0
 ArePlaced words (Open o) = sign_count words ≤ places o.dots
 ArePlaced words (EachWord e) = All (IsPlaced words) e.above.items
@@ -88,13 +88,14 @@ abbrev pub Carries : Bool → Totals → Totals → ℕ → ℕ → Type 0
 Carries odd old new good bad = MatchBool odd (FindsMore old new good bad)
     (PreventsMore old new good bad)
 
--- the totals before a pass have what its choices take away, and all sums are small
+-- the totals before a pass are large enough for what its choices take away, and all sums are small
 pub record CanCarry (odd : Bool) (totals : Totals) (good bad : ℕ) : Type 0 where
   pub small : IsSmall totals
   pub sums : (good < sums_limit) × (bad < sums_limit)
   pub within : MatchBool odd (good ≤ totals.missed) ((bad ≤ totals.good) × (good ≤ totals.bad))
 
--- of the choices of a pass a part stays, and the totals have what the rest takes away
+-- a part of the choices of a pass changes no total, and the totals are large enough for what the
+-- rest takes away
 pub record CanMove (odd : Bool) (totals : Totals) (n : Choices) (stays : Kept) : Type 0 where
   pub good : stays.good ≤ n.good
   pub bad : stays.bad ≤ n.bad
@@ -114,8 +115,8 @@ pub record IsAfterPass (params : LevelParams) (pass : Pass)
       → is_closed new.dots d s ≡ closed_after params pass counts words (is_closed old.dots) d s
   pub totals : Carries (is_odd pass.level) old.totals new.totals n.good n.bad
 
--- what they make of a level of which each word is hyphenated: the totals are carried on, but the
--- listed positions stay
+-- what the choices of a pass make of a level in which each word is hyphenated: the totals are
+-- carried on, and the listed positions stay
 pub record IsAfterWords (odd : Bool) (n : Choices)
     (stays : Kept) (old new : WordLevel) : Type 0 where
   pub above : new.above.items ≡ old.above.items

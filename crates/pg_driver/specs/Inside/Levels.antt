@@ -1,4 +1,4 @@
--- How far a level is, and what a level that was done has made of an engine and of the records.
+-- How far a level has come, and what a whole level leaves in an engine and in the records.
 use Rattle.std.specs.Prelude.{◌≡◌, ℕ, ◌+◌, ◌≤◌, nat_le, Bool, true, false, List, [], ◌∷◌, ◌++◌, length, map, filter, slice_index_or, replicate, Option, None, Some, ◌⊎◌}
 use Rattle.std.specs.List.{list_all, flat_map}
 use Rattle.std.specs.Option.{option_map}
@@ -19,12 +19,12 @@ use Rattle.pg_driver.specs.Sound.{Recorded}
 use Rattle.pg_driver.specs.Inside.States.{State, state_of, state_at_end}
 use Rattle.pg_driver.specs.Told.{known_of, line_of, level_line_of, layout_told, level_layout_told}
 
--- what passes tell of the cells, those that have a candidate: where no families are told, no layout
+-- what each pass that has a candidate tells of the cells: no layout where no families are told
 abbrev pub layouts_in : ℕ → Option Families → List PassTrace → List (Option (Pass × ℕ × ℕ))
 layouts_in signs None ps = map (λ _. None) (filter has_candidate ps)
 layouts_in signs (Some fs) ps = map Some (pass_layouts signs fs ps)
 
--- the records have become new ones by passes of a level
+-- these passes of a level turned the old records into the new ones
 pub record AreRecorded (source : Source) (signs : ℕ)
     (families : Option Families) (ps : List PassTrace) (old new : Recorded) : Type 0 where
   pub lines : map line_of new.passes
@@ -52,8 +52,8 @@ WillCount flags counting = (flags.here ≡ unset) ⊎ IsCounted counting
 abbrev pub is_set : List Bool → ℕ → Bool
 is_set flags dot = slice_index_or flags dot false
 
--- the flags tell at a length which of its passes and of the next length's are skippable after these
--- passes; no longer one is
+-- after these passes the flags tell which passes of this length and of the next are skippable; no
+-- pass of a greater length is
 pub record Tells (number len : ℕ) (flags : ClosedDots) (ps : List PassTrace) : Type 0 where
   pub here : (dot : ℕ) → is_skippable ps (record { level = number; len = len; dot = dot })
       ≡ is_set flags.here dot
@@ -62,7 +62,7 @@ pub record Tells (number len : ℕ) (flags : ClosedDots) (ps : List PassTrace) :
   pub beyond : (n dot : ℕ) → len + 2 ≤ n
       → is_skippable ps (record { level = number; len = n; dot = dot }) ≡ false
 
--- each pass of the level that is skippable counts nothing where this is known
+-- where this is known, each skippable pass of the level counts no window
 abbrev pub AreClosed : Source → ℕ → List PassTrace → Known → Type 0
 AreClosed source number ps known = (len dot : ℕ)
     → is_skippable ps (record { level = number; len = len; dot = dot }) ≡ true
@@ -83,7 +83,7 @@ pub record LevelStart : Type 0 where
   pub engine : Meaning
   pub records : Recorded
 
--- a point at a length of a level is as far as these passes since its start
+-- these passes lead from the start of a level to this point at a length
 pub record IsAt (source : Source) (number len : ℕ)
     (start : LevelStart) (ps : List PassTrace) (at : Point) : Type 0 where
   pub signs : at.engine.signs ≡ start.engine.signs
@@ -93,17 +93,17 @@ pub record IsAt (source : Source) (number len : ℕ)
   pub tells : Tells number len at.flags ps
   pub closed : AreClosed source number ps (known_of at.engine)
 
--- from one point of a length to another these passes more are made
+-- these passes more lead from one point at a length to another
 abbrev pub GoesOn : Source → ℕ → ℕ → List PassTrace → Point → Point → Type 0
 GoesOn source number len more old new = (start : LevelStart) (ps : List PassTrace)
     → IsAt source number len start ps old → IsAt source number len start (ps ++ more) new
     × (known_of new.engine ≡ known_at_end (known_of old.engine) more)
 
--- the passes that are made where an engine knows what it does
+-- the passes that are made from what an engine knows
 abbrev pub all_made_by : Source → LevelParams → Meaning → List Pass → List PassTrace
 all_made_by source params m passes = passes_made source params (known_of m) passes
 
--- the state after a level that these families were told before: nothing is hopeless
+-- the state after a level, where these families were told before it: nothing is hopeless
 abbrev pub state_after_level : ℕ → Option Families → LevelTrace → State
 state_after_level signs families l =
     record {
@@ -126,8 +126,8 @@ pub record DidLevel (source : Source) (l : LevelTrace)
       (λ fs. level_layout old.signs fs l) old.families ∷ []
   pub begun : s.begun ≡ r.begun + length (begun_among l.passes)
 
--- what the passes of a run tell of the cells, and what its levels tell: where no families are told,
--- no layout
+-- what the passes of a run tell of the cells, and what its levels tell: no layout where no families
+-- are told
 abbrev pub run_layouts : ℕ → Option Families → Trace → List (Option (Pass × ℕ × ℕ))
 run_layouts signs None run = map (λ _. None) (flat_map (λ l. filter has_candidate l.passes) run)
 run_layouts signs (Some fs) run =

@@ -7,11 +7,12 @@ use Rattle.pg_dict.specs.Word.{Word}
 use Rattle.pg_select.specs.CountedPositions.{Minima}
 use Rattle.pg_driver.specs.declared.pass_windows.Place.{Place}
 
--- the positions of a word that count by their status, and those of words, from a number on
+-- position p of the word with the number n, where it counts; else nothing
 abbrev pub open_as : ℕ → ℕ → Option Bool → List Place
 open_as n p good = option_map_or (λ _. record { word = n; at = p } ∷ []) good []
 
--- the positions of a word that count as this says, and those of words, from a number on
+-- the positions in reach of a word that count as `counts` says, and those of words that are
+-- numbered from n on
 abbrev pub listed_in : Minima → (Word → ℕ → Option Bool) → ℕ → Word → List Place
 listed_in m counts n w = flat_map (λ p. open_as n p (counts w p))
     (positions m.left m.right (length w.signs))

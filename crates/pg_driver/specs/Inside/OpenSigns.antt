@@ -53,8 +53,8 @@ in_reach m w p = list_any (nat_eq p) (positions m.left m.right (length w.signs))
 abbrev pub is_open_first : Minima → ℕ → Patterns → Word → ℕ → Bool
 is_open_first m level P w p = in_reach m w p && is_some (counts_as level (status_at P w p))
 
--- what is known of a position at a length: the closed dots tell what counts there; out of reach
--- every dot is closed
+-- what is known of a position at a length: the closed dots tell what counts there; every dot of a
+-- position out of reach is closed
 pub record IsTold (level len : ℕ) (m : Minima) (P : Patterns) (H : Hopeless) (w : Word) (p : ℕ)
     (closed : ℕ → Bool) : Type 0 where
   pub inside : in_reach m w p ≡ true → Tells level len P H w p closed
@@ -69,8 +69,8 @@ pub record IsThere (level len : ℕ) (m : Minima) (words : List Word) (P : Patte
   pub known : (n p : ℕ) (w : Word) → slice_get words n ≡ Some w → p < length w.signs
       → IsTold level len m P H w p (λ d. closed d (start_of words n + p))
 
--- the closed dots of a position at which a dot was open, by what became of its window at the dot:
--- none fits there, where there is none, and then no longer one with the dot does
+-- the closed dots of a position at which a dot was open, by what became of its window with the dot.
+-- Where no window fits there, the dot is closed, since no longer window with the dot fits either
 abbrev pub closed_by : (ℕ → Bool) → ℕ → Option Choice → ℕ → Bool
 closed_by closed dot None d = closed d || nat_eq d dot
 closed_by closed dot (Some Left) d = closed d
@@ -92,8 +92,8 @@ closed_after level pass counts words closed d s =
     option_map_or (λ w. closed_in level pass counts w e.at (λ c. closed c s) d)
     (slice_get words e.word) (closed d s)
 
--- dots close at signs as the windows say that have these numbers, in the order of the open signs:
--- where the dot was closed nothing changes
+-- dots close at signs by what became of the windows with these numbers, which stand in the order of
+-- the open signs. Where the dot was closed before, nothing changes
 pub record ClosesBy (after : ℕ → ℕ → Bool) (dot : ℕ) (fates : List Choice) (old : ℕ → ℕ → Bool)
     (signs ns : List ℕ) : Type 0 where
   pub stays : (s : ℕ) → old dot s ≡ true → (d : ℕ) → after d s ≡ old d s

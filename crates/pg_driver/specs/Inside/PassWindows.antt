@@ -27,7 +27,7 @@ abbrev pub is_counted_at : Pass → Counts → Word → Place → Bool
 is_counted_at pass counts w e =
     fits w.signs e.at pass.len pass.dot && is_counted counts (window w.signs e.at pass.len pass.dot)
 
--- n is the number of the position's window where that counts, and else that of none
+-- n is the number of the position's window where the window counts, and else `NOT_COUNTED`
 pub record IsNumbered (pass : Pass) (counts : Word → Place → Bool) (words : List Word)
     (ws : Windows) (e : Place) (n : ℕ) : Type 0 where
   pub counted : (w : Word) → slice_get words e.word ≡ Some w → counts w e ≡ true
@@ -35,7 +35,7 @@ pub record IsNumbered (pass : Pass) (counts : Word → Place → Bool) (words : 
   pub uncounted : (w : Word) → slice_get words e.word ≡ Some w → counts w e ≡ false
       → n ≡ NOT_COUNTED
 
--- a position gets the number of its window where that counts, as good or as bad; else that of none
+-- a position gets the number of its window where it counts, as good or as bad; else `NOT_COUNTED`
 abbrev pub GetsNumber : Option Bool → Windows → List ℕ → ℕ → Type 0
 GetsNumber None ws u n = n ≡ NOT_COUNTED
 GetsNumber (Some good) ws u n = HasNumber ws u n

@@ -20,7 +20,7 @@ pub record State : Type 0 where
 abbrev pub state_of : Meaning → State
 state_of m = record { known = known_of m; families = m.families }
 
--- the state after a pass that these families were told before
+-- the state after a pass, where these families were told before it
 abbrev pub state_after : ℕ → Option Families → PassTrace → State
 state_after signs families p =
     record { known = known_after p; families = option_map (λ fs. after_pass signs fs p) families }
@@ -41,7 +41,7 @@ pub record IsPass (pass : Pass) : Type 0 where
   pub len_high : pass.len ≤ LENGTH_MAX
   pub within : pass.dot ≤ pass.len
 
--- the pass that is made where an engine knows what it does
+-- the pass that is made from what an engine knows
 abbrev pub made_by : Source → LevelParams → Meaning → Pass → PassTrace
 made_by source params m pass = pass_made source params (known_of m) pass
 

@@ -1,4 +1,4 @@
--- A level of which each word is hyphenated in each pass: its positions whose value is above the
+-- A level in which each word is hyphenated in each pass: its positions whose value is above the
 -- level, and the totals.
 use Rattle.std.specs.Prelude.{◌≡◌, ℕ, ◌+◌, ◌*◌, ◌≤◌, Bool, true, false, not, ◌&&◌, if◌then◌else◌, List, [], sum_by, slice_get, Option, None, All}
 use Rattle.std.specs.List.{flat_map}
@@ -27,8 +27,8 @@ use Rattle.pg_driver.specs.Traces.{Known, Source, is_chosen}
 abbrev pub listing : Bool → ℕ → Patterns → Word → ℕ → Option Bool
 listing listed level P w p = if listed then counts_above level P w p else None
 
--- a level of which each word is hyphenated in each pass, where so much is known: once a pass was
--- counted, the positions above the level are listed, and the totals are those by the patterns
+-- a level in which each word is hyphenated in each pass, at what is known: once a pass was counted,
+-- the positions above the level are listed, and the totals are those by the patterns
 pub record IsWordsAt (source : Source) (level : ℕ) (known : Known) (e : WordLevel) : Type 0 where
   pub least : 1 ≤ source.minima.left
   pub words : All IsWord source.words
@@ -67,6 +67,6 @@ kept_by params pass counts words above = record {
 abbrev pub with_kept : Kept → Kept → Kept
 with_kept k l = record { good = k.good + l.good; bad = k.bad + l.bad }
 
--- sums have become new ones by so many positions
+-- n positions more turned the old sums into the new ones
 abbrev pub TookKept : Kept → Kept → ℕ → Type 0
 TookKept old new n = new.good + new.bad ≤ old.good + old.bad + WEIGHT_MAX * n

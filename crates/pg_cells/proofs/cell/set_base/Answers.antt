@@ -1,5 +1,15 @@
+use Rattle.std.proofs.Common.{rules}
 use Rattle.pg_cells.proofs.CellWrites.{write_base}
 use Rattle.pg_cells.proofs.cell.set_base.Goals as goal
+
+pub offset_bounds-cells-cell : goal.offset_bounds-cells-cell
+offset_bounds-cells-cell g c = search rules
+
+pub bounds-cells-cell : goal.bounds-cells-cell
+bounds-cells-cell g c = c.requires
+
+pub bounds-cells-cell-2 : goal.bounds-cells-cell-2
+bounds-cells-cell-2 g c = c.requires
 
 pub returns : goal.returns
 returns g c = write_base c.args.cells.now c.args.cell c.index-cells-cell.result c.args.is_base

@@ -1,5 +1,15 @@
+use Rattle.std.proofs.Common.{rules}
 use Rattle.pg_cells.proofs.CellWrites.{write_taken}
 use Rattle.pg_cells.proofs.cell.set_taken.Goals as goal
+
+pub offset_bounds-cells-cell : goal.offset_bounds-cells-cell
+offset_bounds-cells-cell g c = search rules
+
+pub bounds-cells-cell : goal.bounds-cells-cell
+bounds-cells-cell g c = c.requires.cell
+
+pub overflow_cast-taken : goal.overflow_cast-taken
+overflow_cast-taken g c = record { fits = c.requires.child }
 
 pub returns : goal.returns
 returns g c = write_taken c.args.cells.now c.args.cell c.index-cells-cell.result c.args.sign c.args.value c.args.child c.requires.sign

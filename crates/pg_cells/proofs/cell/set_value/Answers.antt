@@ -1,5 +1,12 @@
+use Rattle.std.proofs.Common.{rules}
 use Rattle.pg_cells.proofs.CellWrites.{write_value}
 use Rattle.pg_cells.proofs.cell.set_value.Goals as goal
+
+pub offset_bounds-cells-cell : goal.offset_bounds-cells-cell
+offset_bounds-cells-cell g c = search rules
+
+pub bounds-cells-cell : goal.bounds-cells-cell
+bounds-cells-cell g c = c.requires.cell
 
 pub returns : goal.returns
 returns g c = write_value c.args.cells.now c.args.cell c.index-cells-cell.result c.args.value c.requires.cell c.requires.taken

@@ -1,7 +1,8 @@
 use Rattle.std.proofs.Common.{◌+◌, take, sym, subst, ◌∙◌, arith}
+use Rattle.std.proofs.lemmas.List.{take_all}
 use Rattle.pg_cells.specs.Inside.Moves.{GivesUp}
 use Rattle.pg_cells.proofs.Slots.{slot_here, outside_here}
-use Rattle.pg_cells.proofs.MoveSteps.{gives_more}
+use Rattle.pg_cells.proofs.MoveSteps.{gives_none, gives_more}
 use Rattle.pg_cells.proofs.moves.give_up.Goals as goal
 
 pub free-requires-clause-cell : goal.free-requires-clause-cell
@@ -20,3 +21,10 @@ loop-slot-preserved g c =
     let here = slot_here c.args.slots.now c.loop-slot.slot-index c.slot-item.result c.slot-item.is c.loop-slot-test.true c.requires.distinct in
     subst (GivesUp c.args.store.now c.free.new.self c.args.base) (sym here.2)
     (gives_more c.args.store.now c.loop-slot.store c.free.new.self c.args.base (take c.loop-slot.slot-index c.args.slots.now) c.slot-item.result here.0 c.loop-slot.invariant c.free.ensures)
+
+pub loop-slot-init : goal.loop-slot-init
+loop-slot-init g c = gives_none c.args.store.now c.args.base
+
+pub returns : goal.returns
+returns g c =
+    subst (GivesUp c.args.store.now c.loop-slot.store c.args.base) (take_all c.loop-slot.slot-index c.args.slots.now (omega arith)) c.loop-slot.invariant

@@ -16,8 +16,8 @@ use Rattle.pg_types.specs.declared.limits.TheConstants.{WEIGHT_MAX}
 use Rattle.pg_driver.specs.Inside.Counting.{IsRead}
 use Rattle.pg_select.specs.Sums.{with_mark, sum_of}
 use Rattle.pg_select.proofs.MarkSteps.{marks_step, mark_took, weight_small}
-use Rattle.pg_driver.proofs.Rooms.{room_left}
-use Rattle.pg_driver.proofs.Walks.{kept_on, read_on, position_step, room_on}
+use Rattle.pg_driver.proofs.Rooms.{room_left, took_less}
+use Rattle.pg_driver.proofs.Walks.{kept_on, read_on, position_step, room_on, counted_done, marks_done, listed_done}
 use Rattle.pg_driver.proofs.words.count_word.Goals as goal
 
 pub count_position-requires-clause-pass : goal.count_position-requires-clause-pass
@@ -85,3 +85,65 @@ returns-else-lists-clause-above g c =
     sym (append-nil c.args.above.now.items)
     ∙ ap (λ (es : List Place). c.args.above.now.items ++ es) (sym (none_listed_in minima c.args.pass.level P c.args.word w))
     ∙ ap (λ (lists : Bool). c.args.above.now.items ++ listed_in minima (listing lists c.args.pass.level P) c.args.word w) (sym c.if-lists.false)
+
+pub returns-in_ok-list_above-clause-ok : goal.returns-in_ok-list_above-clause-ok
+returns-in_ok-list_above-clause-ok g c =
+    let m0 = g.E.Engine.meaning c.args.engine.now in
+    counted_done (g.E.Engine.meaning c.positions.engine) _ (counted_positions_at m0.pass m0.patterns m0.hopeless (lent_word c.args.w.now)) c.positions.p c.in-Some.end c.positions-test.false c.positions.invariant.whole
+
+pub returns-in_ok-list_above-clause-sums : goal.returns-in_ok-list_above-clause-sums
+returns-in_ok-list_above-clause-sums g c =
+    let m0 = g.E.Engine.meaning c.args.engine.now in
+    marks_done c.positions.sums _ m0.patterns (lent_word c.args.w.now) c.positions.p c.in-Some.end c.positions-test.false c.positions.invariant.sums
+
+pub returns-in_ok-list_above-clause-numbers : goal.returns-in_ok-list_above-clause-numbers
+returns-in_ok-list_above-clause-numbers g c = λ words entries at before.
+    let m0 = g.E.Engine.meaning c.args.engine.now in
+    let m = g.E.Engine.meaning c.positions.engine in
+    let pass = c.args.pass in
+    let w = lent_word c.args.w.now in
+    let f : ℕ → List Place = λ q. open_as c.args.word q (counts_above pass.level m0.patterns w q) in
+    let all = listed_done f c.positions.invariant.listed (listed_in (minima_of c.args.table.now) (counts_above pass.level m0.patterns) c.args.word w) c.positions.p c.in-Some.end c.positions-test.false c.positions.invariant.upto in
+    subst (λ (es : List Place). HaveNumbers pass (uncovered_at pass m0.patterns m0.hopeless) words m.windows (entries ++ es) c.positions.windows.numbers.items) all
+    (c.positions.invariant.numbers words entries at before)
+
+pub returns-in_ok-list_above-clause-places : goal.returns-in_ok-list_above-clause-places
+returns-in_ok-list_above-clause-places g c = c.positions.invariant.places
+
+pub returns-in_ok-list_above-clause-took : goal.returns-in_ok-list_above-clause-took
+returns-in_ok-list_above-clause-took g c =
+    took_less (g.E.Engine.meaning c.args.engine.now).counts (g.E.Engine.meaning c.positions.engine).counts _ _ c.positions.invariant.few c.positions.invariant.took
+
+pub returns-in_ok-list_above-clause-signs : goal.returns-in_ok-list_above-clause-signs
+returns-in_ok-list_above-clause-signs g c = ap (λ (m : Meaning). m.signs) c.positions.invariant.kept
+
+pub returns-else-lists-clause-ok : goal.returns-else-lists-clause-ok
+returns-else-lists-clause-ok g c =
+    let m0 = g.E.Engine.meaning c.args.engine.now in
+    counted_done (g.E.Engine.meaning c.positions.engine) _ (counted_positions_at m0.pass m0.patterns m0.hopeless (lent_word c.args.w.now)) c.positions.p c.in-Some.end c.positions-test.false c.positions.invariant.whole
+
+pub returns-else-lists-clause-sums : goal.returns-else-lists-clause-sums
+returns-else-lists-clause-sums g c =
+    let m0 = g.E.Engine.meaning c.args.engine.now in
+    marks_done c.positions.sums _ m0.patterns (lent_word c.args.w.now) c.positions.p c.in-Some.end c.positions-test.false c.positions.invariant.sums
+
+pub returns-else-lists-clause-numbers : goal.returns-else-lists-clause-numbers
+returns-else-lists-clause-numbers g c = λ words entries at before.
+    let m0 = g.E.Engine.meaning c.args.engine.now in
+    let m = g.E.Engine.meaning c.positions.engine in
+    let pass = c.args.pass in
+    let w = lent_word c.args.w.now in
+    let f : ℕ → List Place = λ q. open_as c.args.word q (counts_above pass.level m0.patterns w q) in
+    let all = listed_done f c.positions.invariant.listed (listed_in (minima_of c.args.table.now) (counts_above pass.level m0.patterns) c.args.word w) c.positions.p c.in-Some.end c.positions-test.false c.positions.invariant.upto in
+    subst (λ (es : List Place). HaveNumbers pass (uncovered_at pass m0.patterns m0.hopeless) words m.windows (entries ++ es) c.positions.windows.numbers.items) all
+    (c.positions.invariant.numbers words entries at before)
+
+pub returns-else-lists-clause-places : goal.returns-else-lists-clause-places
+returns-else-lists-clause-places g c = c.positions.invariant.places
+
+pub returns-else-lists-clause-took : goal.returns-else-lists-clause-took
+returns-else-lists-clause-took g c =
+    took_less (g.E.Engine.meaning c.args.engine.now).counts (g.E.Engine.meaning c.positions.engine).counts _ _ c.positions.invariant.few c.positions.invariant.took
+
+pub returns-else-lists-clause-signs : goal.returns-else-lists-clause-signs
+returns-else-lists-clause-signs g c = ap (λ (m : Meaning). m.signs) c.positions.invariant.kept

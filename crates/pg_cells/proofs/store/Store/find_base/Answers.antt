@@ -1,7 +1,27 @@
-use Rattle.std.proofs.Common.{◌≡◌, sym, ap, subst, ◌∙◌, true, ◌∷◌}
-use Rattle.pg_cells.specs.Inside.Lists.{row_of}
+use Rattle.std.proofs.Common.{◌≡◌, ◌+◌, ◌<◌, ◌^◌, ◌∷◌, List, length, sym, ap, subst, ◌∙◌, true}
+use Rattle.pg_types.specs.Placement.{IsLeast}
+use Rattle.pg_cells.specs.declared.cell.Cell.{Cell}
+use Rattle.pg_cells.specs.declared.member.Member.{Member}
+use Rattle.pg_cells.specs.Inside.Lists.{Row, lists, row_of}
+use Rattle.pg_cells.specs.Inside.Linked.{AreLinked}
 use Rattle.pg_cells.specs.Inside.Fit.{fits_row, signs_of}
+use Rattle.pg_cells.proofs.ChainSteps.{signs_long}
 use Rattle.pg_cells.proofs.store.Store.find_base.Goals as goal
 
-pub find_base-requires-clause-room : goal.find_base-requires-clause-room
-find_base-requires-clause-room g c = subst (λ r. fits_row r (c.args.sign ∷ signs_of c.args.slots.now) c.args.room ≡ true) (sym (ap row_of c.as_slice.ensures.value ∙ c.self.view_is)) c.requires.room
+pub find_base-requires : goal.find_base-requires
+find_base-requires g c =
+    let seen = ap row_of c.as_slice.ensures.value ∙ c.self.view_is in
+    record {
+      linked = subst (λ (cells : List (Cell g.row.V.Denot)). AreLinked (lists cells)) (sym c.as_slice.ensures.value) c.self.invariant.kept.linked;
+      positive = c.requires.positive;
+      low = c.requires.low;
+      within = subst (λ n. c.args.room + c.args.sign < n) (ap (λ (r : Row (Member g.row.V.Denot)). length r.signs) (sym seen) ∙ signs_long c.as_slice.result.now) c.requires.within;
+      small = subst (λ (cells : List (Cell g.row.V.Denot)). length cells < 2 ^ 32) (sym c.as_slice.ensures.value) c.self.invariant.kept.small;
+      room = subst (λ r. fits_row r (c.args.sign ∷ signs_of c.args.slots.now) c.args.room ≡ true) (sym seen) c.requires.room;
+    }
+
+pub returns : goal.returns
+returns g c = record {
+  least = subst (λ r. IsLeast (fits_row r (c.args.sign ∷ signs_of c.args.slots.now)) c.args.low c.find_base.result) (ap row_of c.as_slice.ensures.value ∙ c.self.view_is) c.find_base.ensures.least;
+  room = c.find_base.ensures.room;
+}

@@ -1,4 +1,8 @@
+use Rattle.std.proofs.Common.{◌≤◌, subst, sym}
+use Rattle.std.proofs.lemmas.Result.{on_ok_weaker}
 use Rattle.pg_cells.specs.Inside.Lists.{row_of}
+use Rattle.pg_cells.specs.Inside.Store.{Extends}
+use Rattle.pg_cells.proofs.ChainSteps.{signs_long}
 use Rattle.pg_cells.proofs.BlockedLaws.{blocked_grow}
 use Rattle.pg_cells.proofs.BoundLaws.{bounds_grow}
 use Rattle.pg_cells.proofs.StoreSteps.{kept_extended}
@@ -11,3 +15,12 @@ invariant_of-self g c =
       bounds = bounds_grow (row_of c.self.inside.cells.items) (row_of c.grow_cells.new.cells.items) c.self.inside.lows.items c.self.inside.freed c.self.inside.dropped c.self.invariant.bounds c.grow_cells.ensures.extends;
       blocked = blocked_grow (row_of c.self.inside.cells.items) (row_of c.grow_cells.new.cells.items) c.self.inside.placed c.self.inside.sought c.self.invariant.blocked c.grow_cells.ensures.extends;
     }
+
+pub grow_cells-requires : goal.grow_cells-requires
+grow_cells-requires g c = record { linked = c.self.invariant.kept.linked; small = c.self.invariant.kept.small }
+
+pub returns : goal.returns
+returns g c = record {
+  extends = subst (λ r. Extends r (row_of c.grow_cells.new.cells.items)) c.self.view_is c.grow_cells.ensures.extends;
+  length = on_ok_weaker c.grow_cells.result (λ long. subst (λ n. c.args.count ≤ n) (sym (signs_long c.grow_cells.new.cells.items)) long) c.grow_cells.ensures.length;
+}

@@ -4,11 +4,16 @@ use Rattle.pg_cells.specs.Inside.Lists.{Lists, Row, row_of}
 use Rattle.pg_cells.specs.Inside.Blocked.{AreBlocked}
 use Rattle.pg_cells.specs.Inside.Writes.{SetsBase}
 use Rattle.pg_cells.specs.declared.member.Member.{Member}
+use Rattle.pg_cells.proofs.ChainSteps.{signs_long}
 use Rattle.pg_cells.proofs.RowWrites.{row_base}
 use Rattle.pg_cells.proofs.BlockedLaws.{blocked_base}
 use Rattle.pg_cells.proofs.BoundLaws.{bounds_base}
 use Rattle.pg_cells.proofs.StoreSteps.{given_back, kept_write}
 use Rattle.pg_cells.proofs.store.Store.set_base.Goals as goal
+
+pub set_base-requires : goal.set_base-requires
+set_base-requires g c =
+    subst (λ n. c.args.cell < n) (ap (λ (r : Row (Member g.row.V.Denot)). length r.signs) (sym (ap row_of c.as_mut_slice.ensures.value ∙ c.self.view_is)) ∙ signs_long c.as_mut_slice.result.now) c.requires
 
 pub invariant_of-self : goal.invariant_of-self
 invariant_of-self g c =

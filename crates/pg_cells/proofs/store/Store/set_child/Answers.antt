@@ -1,12 +1,22 @@
-use Rattle.std.proofs.Common.{◌≡◌, sym, ap, subst, ◌∙◌, length, arith, set, take, drop, ◌++◌}
-use Rattle.pg_cells.specs.Inside.Lists.{Lists, lists, row_of, sign_at, with_child}
+use Rattle.std.proofs.Common.{◌≡◌, ◌<◌, sym, ap, subst, ◌∙◌, length, arith, set, take, drop, ◌++◌}
+use Rattle.pg_cells.specs.Inside.Lists.{Row, Lists, lists, row_of, sign_at, with_child}
 use Rattle.pg_cells.specs.Inside.Writes.{SetsChild}
 use Rattle.pg_cells.specs.declared.member.Member.{Member}
+use Rattle.pg_cells.proofs.ChainSteps.{taken_in_row, child_fits}
 use Rattle.pg_cells.proofs.RowWrites.{row_child}
 use Rattle.pg_cells.proofs.BlockedLaws.{blocked_child}
 use Rattle.pg_cells.proofs.BoundLaws.{bounds_child}
 use Rattle.pg_cells.proofs.StoreSteps.{given_back, kept_child}
 use Rattle.pg_cells.proofs.store.Store.set_child.Goals as goal
+
+pub set_child-requires : goal.set_child-requires
+set_child-requires g c =
+    let taken = taken_in_row c.as_mut_slice.result.now c.args.self.now c.args.cell (ap row_of c.as_mut_slice.ensures.value ∙ c.self.view_is) c.requires.taken in
+    record {
+      cell = taken.0;
+      taken = taken.1;
+      child = child_fits c.self.inside.cells.items c.args.child (subst (λ (r : Row (Member g.row.V.Denot)). c.args.child < length r.signs) (sym c.self.view_is) c.requires.child) c.self.invariant.kept.small;
+    }
 
 pub invariant_of-self : goal.invariant_of-self
 invariant_of-self g c =

@@ -2,11 +2,17 @@ use Rattle.std.proofs.Common.{◌≡◌, sym, ap, subst, ◌∙◌, length, arit
 use Rattle.pg_cells.specs.Inside.Lists.{Lists, lists, row_of, pair_of, sign_at, with_value}
 use Rattle.pg_cells.specs.Inside.Writes.{SetsValue}
 use Rattle.pg_cells.specs.declared.member.Member.{Member}
+use Rattle.pg_cells.proofs.ChainSteps.{taken_in_row}
 use Rattle.pg_cells.proofs.RowWrites.{row_value}
 use Rattle.pg_cells.proofs.BlockedLaws.{blocked_value}
 use Rattle.pg_cells.proofs.BoundLaws.{bounds_value}
 use Rattle.pg_cells.proofs.StoreSteps.{given_back, kept_value}
 use Rattle.pg_cells.proofs.store.Store.set_value.Goals as goal
+
+pub set_value-requires : goal.set_value-requires
+set_value-requires g c =
+    let taken = taken_in_row c.as_mut_slice.result.now c.args.self.now c.args.cell (ap row_of c.as_mut_slice.ensures.value ∙ c.self.view_is) c.requires in
+    record { cell = taken.0; taken = taken.1 }
 
 pub invariant_of-self : goal.invariant_of-self
 invariant_of-self g c =
