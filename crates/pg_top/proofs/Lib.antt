@@ -1,3 +1,4 @@
+pub mod Results
 pub mod Parts
 pub mod Fronts
 pub mod Selections

@@ -24,6 +24,10 @@ abbrev pub AreAccepted : Held → List Reading → Type 0
 AreAccepted files [] = Unit {0}
 AreAccepted files (r ∷ rs) = IsAccepted files r × AreAccepted files rs
 
+pub none_accepted : (held : Option FileMap) → IfSome held (λ files. AreAccepted (file_at files) [])
+none_accepted None = tt
+none_accepted (Some files) = tt
+
 goes_on : (ends : List ℕ → Option Outcome) (file : Option (List ℕ)) (rest : Option Outcome) → option_map ends file ≡ Some None → option_map_or (λ bytes. option_or (ends bytes) rest) file (Some Unknown) ≡ rest
 goes_on ends None rest accepted = cc
 goes_on ends (Some bytes) rest accepted = let none : ends bytes ≡ None = cc in ap (λ end. option_or end rest) none
@@ -203,6 +207,10 @@ pub wanted_after : (reads : List Reading) (s0 s1 : FilesShown) → 0 < length re
 wanted_after reads s0 s1 some calls accepted = record { place = length reads - 1; read = reads_all reads s0 s1 some calls accepted; why = tt }
 
 -- files that are told are kept in two steps
+pub kept_self : (a : Option FileMap) → KeepsHeld a a
+kept_self None = tt
+kept_self (Some files) = refl
+
 pub kept_on : (a b c : Option FileMap) → KeepsHeld a b → KeepsHeld b c → KeepsHeld a c
 kept_on a b None k l = tt
 kept_on a b (Some files) k l = subst (λ held. IfSome held (λ files. a ≡ Some files)) l k

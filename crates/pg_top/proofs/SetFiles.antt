@@ -1,5 +1,5 @@
 -- Parameter files that are read one after the other: what they mean, and a stop at one of them.
-use Rattle.std.proofs.Common.{◌≡◌, ℕ, ◌+◌, ◌<◌, ◌≤◌, List, [], ◌∷◌, ◌++◌, length, map, take, drop, get_or, Option, Some, Ok, String, IfSome, refl, sym, ap, ◌∙◌, subst, arith}
+use Rattle.std.proofs.Common.{◌≡◌, ℕ, ◌+◌, ◌<◌, ◌≤◌, List, [], ◌∷◌, ◌++◌, length, map, take, drop, get_or, Option, None, Some, Ok, String, IfSome, refl, sym, ap, ◌∙◌, subst, arith}
 use Rattle.std.specs.Prelude.{string_bytes}
 use Rattle.std.specs.declared.alloc.Global.{Global}
 use Rattle.std.proofs.lemmas.List.{append_assoc, length-map, length-take-le, map-append, take_all, take_more, take-append-drop}
@@ -100,3 +100,12 @@ module _ (names : List (String Global)) (i : ℕ) (name : String Global) (is : n
 pub all_sets_read : (names : List (String Global)) (i : ℕ) (s0 s1 : FilesShown) → length names ≤ i → MakesCalls s0 s1 (map Reads (words_of (take i names))) → MakesCalls s0 s1 (read_calls (set_files 1 (words_of names)))
 all_sets_read names i s0 s1 far calls =
     calls_are (map Reads (words_of (take i names))) (read_calls (set_files 1 (words_of names))) s0 s1 (ap (λ (ns : List (String Global)). map Reads (words_of ns)) (take_all i names far) ∙ sym (sets_read 1 (words_of names))) calls
+
+-- none is read so far
+pub no_sets : (held : Option FileMap) → IfSome held (λ files. HasSets (file_at files) [] [])
+no_sets None = tt
+no_sets (Some files) = refl
+
+-- all are accepted
+pub all_sets_taken : (names : List (String Global)) (i : ℕ) (held : Option FileMap) (sets : List Parameters) → length names ≤ i → IfSome held (λ files. HasSets (file_at files) (words_of (take i names)) sets) → IfSome held (λ files. HasSets (file_at files) (words_of names) sets)
+all_sets_taken names i held sets far taken = subst (λ (ns : List (String Global)). IfSome held (λ files. HasSets (file_at files) (words_of ns) sets)) (take_all i names far) taken

@@ -40,7 +40,8 @@ DoesAll old new status before after Unknown = ⊥
 DoesAll old new status before after (Ends wanted writing lines) =
     (status ≡ wanted) × (after ≡ after_all before writing) × Puts old.1 new.1 lines
 
--- an answer but a fault and want of memory is that of the outcome, and all of that was done
+-- an answer that is neither a fault nor a lack of memory is that of the outcome, and all of the
+-- outcome was done
 abbrev pub IsAnswered : Option Request → Status → Moment → Moment → Type 0
 IsAnswered asked Fault old new = Unit {0}
 IsAnswered asked Memory old new = Unit {0}
@@ -48,7 +49,7 @@ IsAnswered asked status old new =
     OfFiles old new (λ before after. DoesAll old new status before after
     (outcome (file_at before) asked))
 
--- the lines of a `sample` that is done were put. This is so of files that tell nothing too
+-- the lines of a `sample` that is done were put. This also holds where the files tell nothing
 abbrev pub IsSampled : Option Request → Status → Moment → Moment → Type 0
 IsSampled (Some (ToSample seed count)) Done old new = Puts old.1 new.1 (sample_lines seed count)
 IsSampled asked status old new = Unit {0}
@@ -64,7 +65,7 @@ IsAnswerOf status Unknown = ⊥
 IsAnswerOf status (Ends wanted writing lines) = status ≡ wanted
 
 -- the answer where no fault rose: usage where the words are no command, else that of the outcome,
--- or want of memory
+-- or that memory was short
 abbrev pub IsComplete : Option Request → Status → Moment → Moment → Type 0
 IsComplete None status old new = status ≡ Usage
 IsComplete (Some request) status old new =

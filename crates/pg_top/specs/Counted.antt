@@ -79,12 +79,13 @@ PutsCounted (Unread name) status.Fault old new = PutsFault old new
 PutsCounted stop answer old new = ⊥
 
 -- the puts of a command that reads and writes nothing: its lines are put at once, and nothing where
--- memory is wanted
+-- memory is short
 abbrev pub LinesCounted : Status → SinkShown → SinkShown → Type 0
 LinesCounted status.Memory old new = MakesPuts old new 0
 LinesCounted answer old new = MakesPuts old new 1
 
--- a file ended the call, and its line was put at once
+-- a file ended the call, or the command did after it had read all of them, and one line was put at
+-- once
 abbrev pub IsEndedCounted : Request → Moment → Moment → Type 0
 IsEndedCounted request old new =
     (place : ℕ) × ReadsUpTo (reads_of request) place old.0 new.0
@@ -96,13 +97,13 @@ IsWholeCounted request old new =
     MakesCalls old.0 new.0 (read_calls (reads_of request) ++ write_calls (writes_of request))
     × MakesPuts old.1 new.1 1
 
--- memory was wanted, before the first read or behind the last of some, and nothing was put
+-- memory was short, before the first read or after some reads, and nothing was put
 abbrev pub IsWantCounted : Request → Moment → Moment → Type 0
 IsWantCounted request old new =
     (MakesNone old.0 new.0 ⊎ ((place : ℕ) × ReadsUpTo (reads_of request) place old.0 new.0))
     × MakesPuts old.1 new.1 0
 
--- the calls of an answer that is an outcome's
+-- the calls of an answer that comes from the outcome
 abbrev pub IsEndCounted : Request → Status → Moment → Moment → Type 0
 IsEndCounted request status.Done old new = IsWholeCounted request old new
 IsEndCounted request status.Yes old new = IsWholeCounted request old new
@@ -110,7 +111,7 @@ IsEndCounted request status.No old new = IsEndedCounted request old new
 IsEndCounted request status.Refused old new = IsEndedCounted request old new
 IsEndCounted request answer old new = ⊥
 
--- the calls of each answer but a fault, whose calls stand with it
+-- the calls of each answer but a fault, whose own clauses tell its calls
 abbrev pub IsCounted : Request → Status → Moment → Moment → Type 0
 IsCounted request status.Memory old new = IsWantCounted request old new
 IsCounted request status.Fault old new = Unit {0}

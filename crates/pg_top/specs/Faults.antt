@@ -63,8 +63,7 @@ pub record IsPutFault (request : Request) (old new : Moment) : Type 0 where
   pub part : OfFiles old new (λ before after.
       DoesPart old new wanted before after (outcome_of (file_at before) request))
 
--- what stands after a fault. Of words that are no command it is that the usage line could not be
--- put
+-- what stands after a fault. Where the words are no command, the usage line could not be put
 abbrev pub IsFault : Option Request → Moment → Moment → Type 0
 IsFault None old new = KeepsFiles old new × PutRose old.1 new.1 × PutsPart old.1 new.1 usage_line
 IsFault (Some request) old new =

@@ -7,7 +7,7 @@ use Rattle.pg_outside.specs.Faults.{Rose}
 abbrev pub Moment : Type 0
 Moment = FilesShown × SinkShown
 
--- where files are told after the call they were told before it, and this is so of both
+-- where files are told after the call, they were told before it, and P holds of both
 abbrev pub OfFiles : Moment → Moment → (FileMap → FileMap → Type 0) → Type 0
 OfFiles old new P = IfSome new.0.held (λ after. MatchOption old.0.held ⊥ (λ before. P before after))
 

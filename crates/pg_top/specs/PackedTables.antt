@@ -59,7 +59,7 @@ packing_reads patterns translate =
     ∷ file_under translate input.Patterns patterns start
     ∷ []
 
--- what it writes and prints: the table under its name, where that is not too long
+-- what `pack` writes and prints: the table under its name, where the table is not too long
 abbrev pub packed : List ℕ → Alphabet → Patterns → Outcome
 packed name t P =
     if nat_lt TABLE_MAX (length (packed_text t P))
@@ -78,7 +78,8 @@ totals_reads dict translate name =
     ∷ file_under translate input.Table name packed_table
     ∷ []
 
--- what it prints: the line of the totals of the words by a packed table, and that of the rates
+-- what `totals` prints: the line of the totals of the words by a packed table, and that of the
+-- rates
 abbrev pub totals_lines : Alphabet → List Word → List ℕ → List ℕ
 totals_lines t words b = ending_text (table_totals (minima_of t) words b)
 

@@ -1,4 +1,4 @@
--- What is promised of a command that is done, without how it goes about it.
+-- What a command that is done promises, without its steps.
 use Rattle.std.specs.Prelude.{◌≡◌, ℕ, ◌-◌, ◌≤◌, List, [], ◌∷◌, length, Option, Some, Ok, slice_index, All, Contains}
 use Rattle.pg_types.specs.declared.limits.TheConstants.{FILE_MAX}
 use Rattle.pg_outside.specs.Content.{file_at}
@@ -54,9 +54,9 @@ pub record PackKeeps (files : Held) (patterns translate name : List ℕ) : Type 
 abbrev pub ReadsBack : Alphabet → Patterns → Type 0
 ReadsBack t P = length (pattern_text t P) ≤ FILE_MAX → start t (pattern_text t P) ≡ Ok P
 
--- `prune` writes the text of patterns that are entries of those it read, and is read as them again.
--- They break alike with those it read, at each position in reach of each word, and none of them can
--- go alone
+-- `prune` writes the text of patterns that are entries of those it read, and the text is read as
+-- these patterns again. They break alike with those it read, at each position in reach of each
+-- word, and none of them can go alone
 pub record PruneKeeps (files : Held) (p : PruneRequest) : Type 0 where
   pub kept : Patterns
   pub report : List ℕ
@@ -86,7 +86,7 @@ pub record SweepNames (files : Held) (s : SweepRequest) : Type 0 where
       (winner_line winner (slice_index (set_costs files s) (winner - 1)))
   pub wins : IsWinner (set_costs files s) winner
 
--- where it is done, this was kept
+-- where a command is done, its promise was kept
 abbrev pub IsPromised : Option Request → Status → Moment → Moment → Type 0
 IsPromised (Some (ToPack patterns translate name)) status old new =
     status ≡ Done → OfFiles old new

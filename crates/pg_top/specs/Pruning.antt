@@ -19,7 +19,7 @@ use Rattle.pg_top.specs.Selecting.{table_named}
 use Rattle.pg_top.specs.declared.answers.Status.TheVariants.{Done}
 use Rattle.pg_top.specs.declared.inputs.Input.TheVariants as input
 
--- what is read, in its order
+-- what `prune` reads, in its order
 abbrev pub prune_reads : PruneRequest → List Reading
 prune_reads p =
     input_file input.Translate p.translate (λ files. table)
@@ -34,11 +34,11 @@ pruned_files p t found =
     ∷ (p.report, prune_report t found)
     ∷ []
 
--- what pruning that comes to this prints
+-- the line that `prune` prints where pruning finds this
 abbrev pub line_of_pruned : Found → List ℕ
 line_of_pruned found = pruned_line found.rounds found.removed (length found.patterns)
 
--- what it writes and prints
+-- what `prune` writes and prints where pruning finds this
 abbrev pub prune_ends : PruneRequest → Alphabet → Found → Outcome
 prune_ends p t found = Ends Done (pruned_files p t found) (line_of_pruned found)
 

@@ -23,7 +23,7 @@ pub record Made : Type 0 where
   pub text : List ℕ
   pub state : ℕ
 
--- the letters of a syllable: its consonant, its vowel, and the consonant that may close it
+-- the letters of a syllable: its consonant, its vowel, and the consonant that may end it
 abbrev pub consonants : List ℕ
 consonants = codes "bdfgklmnprst"
 
@@ -33,8 +33,8 @@ vowels = codes "aeiou"
 abbrev pub closings : List ℕ
 closings = codes "nrs"
 
--- the end of a syllable, behind the draw that says whether it is closed: a consonant where that
--- draw is 0
+-- the end of a syllable, behind the draw that says whether it ends with a consonant: a consonant
+-- where that draw is 0, else nothing
 unfoldable pub ending : ℕ → Made
 ending x =
     if drawn 4 x == 0
@@ -117,6 +117,6 @@ abbrev pub selection_lines : Inputs → List ℕ
 selection_lines i = printed_part (selected_report i)
     ++ done_line (selected_text i) (selected_account i).totals
 
--- what is printed
+-- the lines that `sample` prints
 abbrev pub sample_lines : ℕ → ℕ → List ℕ
 sample_lines seed count = selection_lines (sample_inputs seed count)

@@ -18,11 +18,11 @@ use Rattle.pg_top.specs.declared.reading.Inputs.{Inputs}
 abbrev pub table_named : List ℕ → Held → Alphabet
 table_named name files = meant table default_alphabet files name
 
--- that of the files of a selection
+-- the table of the files of a selection
 abbrev pub table_in : Held → FileNames → Alphabet
 table_in files n = table_named n.translate files
 
--- what they give a selection: the table, the parameters, the starting patterns and the words
+-- what the files give a selection: the table, the parameters, the starting patterns and the words
 abbrev pub inputs_in : Held → FileNames → Inputs
 inputs_in files n = record {
   table = table_in files n;
@@ -31,7 +31,7 @@ inputs_in files n = record {
   dictionary = meant (words (table_in files n)) [] files n.dict;
 }
 
--- what is read, in its order
+-- what `generate` reads, in its order
 abbrev pub inputs_of : FileNames → List Reading
 inputs_of n =
     input_file input.Translate n.translate (λ files. table)
@@ -40,7 +40,7 @@ inputs_of n =
     ∷ input_file input.Dictionary n.dict (λ files. words (table_in files n))
     ∷ []
 
--- the files that are held are accepted as these
+-- the files that are held are accepted as these inputs
 pub record HasInputs (files : Held) (n : FileNames) (i : Inputs) : Type 0 where
   pub table : read_as table files n.translate ≡ Some (Ok i.table)
   pub params : read_as parameters files n.params ≡ Some (Ok i.params)

@@ -39,7 +39,7 @@ accepted_set set = Some (Ok set)
 abbrev pub HasSets : Held → List (List ℕ) → List Parameters → Type 0
 HasSets files names sets = map (read_as parameters files) names ≡ map accepted_set sets
 
--- what is read, in its order
+-- what `sweep` reads, in its order
 abbrev pub sweep_reads : SweepRequest → List Reading
 sweep_reads s =
     input_file input.Translate s.translate (λ files. table)

@@ -35,7 +35,8 @@ abbrev pub WroteAll : FilesShown → FilesShown → Writing → Type 0
 WroteAll old new ws = IfSome new.held
     (λ after. MatchOption old.held ⊥ (λ before. after ≡ after_all before ws))
 
--- the write at a place failed: its write faults rose, and where files are told, they stand there
+-- the write at a place failed: its write faults rose, and where files are told, writing stopped at
+-- its name
 pub record StoppedAt (old new : FilesShown) (ws : Writing) (place : ℕ) : Type 0 where
   pub write : List ℕ × List ℕ
   pub there : slice_get ws place ≡ Some write

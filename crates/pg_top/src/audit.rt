@@ -37,7 +37,7 @@ use std::alloc::{AllocError, Global};
 /// The line where all given files are right.
 const YES: &[u8] = b"yes\n";
 
-/// How many bytes more than it should have are read of a given file.
+/// How many bytes longer than the right one a given file may be, and still be read as a whole.
 const MORE: usize = 256;
 
 /// A given file, and the text that it should be.
@@ -47,7 +47,7 @@ pub struct Wanted<'a> {
     pub given: Given,
     /// Its name.
     pub name: &'a str,
-    /// The text.
+    /// The text that it should be.
     pub text: Vec<u8>,
 }
 
@@ -136,7 +136,9 @@ fn make_wanted<'a, W: Watch>(
     watch.selects(names.patterns, &inputs.params, &inputs.start);
     let engine = PlainEngine::new(alloc, inputs.table.letters() + 1, &inputs.start)?;
     let mut engine = Watched::new(engine, &inputs.params, watch);
-    run_wanted(alloc, names, inputs, &mut engine)
+    let wanted = run_wanted(alloc, names, inputs, &mut engine);
+    drop(engine);
+    wanted
 }
 
 /// Does the run over an engine that was just made, and builds the texts that the given files should
@@ -231,7 +233,7 @@ fn compare_file<'a, F: Files, W: Watch>(
     Ok(verdict)
 }
 
-/// The given file at a place.
+/// The given file with the number `i`, counted from 0.
 fn wanted_at<'a, 'b>(wanted: &'b [Wanted<'a>], i: usize) -> &'b Wanted<'a>
     requires { i < length wanted.now }
     ensures { slice_get wanted.now i ≡ Some result.now }
@@ -283,9 +285,10 @@ pub fn audit_files<'a, F: Files, W: Watch>(
         (F.shown files.old) (F.shown files.new)) }
 {
     let inputs = read_inputs(alloc, names, files, watch)?;
-    let wanted = make_wanted(alloc, names, &inputs, watch)?;
-    let verdict = compare_all(alloc, &wanted, files, watch)?;
-    Ok(verdict)
+    let wanted = make_wanted(alloc, names, &inputs, watch);
+    drop(inputs);
+    let wanted = wanted?;
+    compare_all(alloc, &wanted, files, watch)
 }
 
 /// Puts the line of a verdict, and gives its answer.

@@ -16,7 +16,7 @@ pub enum Given {
     Report,
 }
 
-/// As what a file is read.
+/// What a file is read as.
 #[derive(Clone, Copy)]
 pub enum Input {
     /// The translate file.

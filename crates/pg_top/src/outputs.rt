@@ -1,5 +1,5 @@
 //! What `generate` writes and prints.
-ghost use Rattle.std.specs.Prelude.{◌≡◌, ◌++◌, IfOk, OnOk, Some};
+ghost use Rattle.std.specs.Prelude.{◌≡◌, ◌++◌, [], ◌∷◌, IfOk, OnOk, Some};
 ghost use Rattle.pg_driver.specs.Told.{account_of, TellsCells};
 ghost use Rattle.pg_packed.specs.Starts.{pattern_families};
 ghost use Rattle.pg_patterns.specs.Values.{SignsUpTo};
@@ -8,7 +8,7 @@ ghost use Rattle.pg_words.specs.Commands.{name_now, texts_of};
 ghost use Rattle.pg_top.specs.PrintedLines.{work_line};
 ghost use Rattle.pg_words.specs.Requests.{if_asked};
 ghost use Rattle.pg_top.specs.Selecting.{selected_files, selected_lines};
-ghost use Rattle.pg_top.specs.Selection.{signs_of, HasSigns, selected, selected_list, selected_cells, selected_cells_text, selected_text, selected_account, passes_begun, last_layout as last_layout_of};
+ghost use Rattle.pg_top.specs.Selection.{signs_of, HasSigns, selected, selected_list, selected_cells, selected_cells_text, selected_text, selected_report, selected_account, passes_begun, last_layout as last_layout_of};
 ghost use Rattle.pg_top.specs.Writings.{writing_of};
 
 use crate::printed::{done_line, push_work};
@@ -89,7 +89,7 @@ fn push_end(lines: &mut Vec<u8>, run: &Run, inputs: &Inputs) -> Result<(), Alloc
     push_work(lines, run.begun(), &layout)
 }
 
-/// The printed lines, for this pattern file.
+/// The printed lines of a run that writes this pattern file.
 fn make_lines(
     alloc: Global,
     patterns: &[u8],
@@ -105,6 +105,73 @@ fn make_lines(
     let mut lines = done_line(alloc, patterns, &run.totals())?;
     push_end(&mut lines, run, inputs)?;
     Ok(lines)
+}
+
+/// Adds the pattern file to an empty list, and gives the printed lines.
+fn push_patterns<'a>(
+    alloc: Global,
+    files: &mut Vec<Output<'a>>,
+    name: &'a str,
+    run: &Run,
+    inputs: &Inputs,
+) -> Result<Vec<u8>, AllocError>
+    requires empty { files.old.items ≡ [] }
+    requires selected { run.now.patterns ≡ selected inputs.now }
+    requires pattern_signs { SignsUpTo (signs_of inputs.now) run.now.patterns }
+    requires account { account_of run.now ≡ selected_account inputs.now }
+    requires begun { run.now.begun ≡ passes_begun inputs.now }
+    requires cells { TellsCells (Some (selected_cells inputs.now)) run.now }
+    ensures file { OnOk result
+        (writing_of files.new.items ≡ (name.now, selected_text inputs.now) ∷ []) }
+    ensures lines { IfOk result (λ lines. lines.items ≡ selected_lines inputs.now) }
+{
+    let text = run.patterns().text(alloc, &inputs.table)?;
+    let lines = make_lines(alloc, &text, run, inputs)?;
+    files.push(Output { name, text })?;
+    Ok(lines)
+}
+
+/// Adds the report.
+fn push_report<'a>(
+    alloc: Global,
+    files: &mut Vec<Output<'a>>,
+    name: &'a str,
+    run: &Run,
+    inputs: &Inputs,
+) -> Result<(), AllocError>
+    requires signs { HasSigns inputs.now }
+    requires account { account_of run.now ≡ selected_account inputs.now }
+    ensures { OnOk result (writing_of files.new.items
+        ≡ writing_of files.old.items ++ (name.now, selected_report inputs.now) ∷ []) }
+{
+    let text = report_text(alloc, inputs.start.largest(), &inputs.params, run)?;
+    files.push(Output { name, text })?;
+    Ok(())
+}
+
+/// Adds the files behind the pattern file: the hyphenated list and the cells file, where they are
+/// asked for, and the report.
+fn push_others<'a, E: Engine>(
+    alloc: Global,
+    files: &mut Vec<Output<'a>>,
+    names: &Names<'a>,
+    inputs: &Inputs,
+    engine: &E,
+    run: &Run,
+) -> Result<(), AllocError>
+    requires files { writing_of files.old.items
+        ≡ (names.now.output.now, selected_text inputs.now) ∷ [] }
+    requires signs { HasSigns inputs.now }
+    requires greatest { (E.meaning engine.now).signs ≡ signs_of inputs.now }
+    requires patterns { (E.meaning engine.now).patterns ≡ selected inputs.now }
+    requires account { account_of run.now ≡ selected_account inputs.now }
+    requires cells { TellsCells (Some (selected_cells inputs.now)) run.now }
+    ensures { OnOk result
+        (writing_of files.new.items ≡ selected_files (texts_of names.now) inputs.now) }
+{
+    push_pattmp(alloc, files, names.pattmp, engine, inputs)?;
+    push_cells(alloc, files, names.cells, run, inputs)?;
+    push_report(alloc, files, names.report, run, inputs)
 }
 
 /// Builds all that is written and printed, after the run over an engine.
@@ -127,20 +194,9 @@ fn make_files<'a, E: Engine>(
         writing_of made.files.items ≡ selected_files (texts_of names.now) inputs.now) }
     ensures lines { IfOk result (λ made. made.lines.items ≡ selected_lines inputs.now) }
 {
-    let patterns = run.patterns().text(alloc, &inputs.table)?;
-    let lines = make_lines(alloc, &patterns, run, inputs)?;
     let mut files = Vec::new(alloc);
-    files.push(Output {
-        name: names.output,
-        text: patterns,
-    })?;
-    push_pattmp(alloc, &mut files, names.pattmp, engine, inputs)?;
-    push_cells(alloc, &mut files, names.cells, run, inputs)?;
-    let report = report_text(alloc, inputs.start.largest(), &inputs.params, run)?;
-    files.push(Output {
-        name: names.report,
-        text: report,
-    })?;
+    let lines = push_patterns(alloc, &mut files, names.output, run, inputs)?;
+    push_others(alloc, &mut files, names, inputs, engine, run)?;
     Ok(Outputs { files, lines })
 }
 
@@ -160,7 +216,9 @@ pub fn make_outputs<'a, W: Watch>(
     watch.selects(names.patterns, &inputs.params, &inputs.start);
     let engine = PackedEngine::new(alloc, inputs.table.letters() + 1, &inputs.start)?;
     let mut engine = Watched::new(engine, &inputs.params, watch);
-    run_files(alloc, names, inputs, &mut engine)
+    let outputs = run_files(alloc, names, inputs, &mut engine);
+    drop(engine);
+    outputs
 }
 
 /// Does the run over an engine that was just made, and builds all that `generate` writes and

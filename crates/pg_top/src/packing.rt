@@ -67,7 +67,7 @@ fn read_source<'a, F: Files, W: Watch>(
     })
 }
 
-/// Why `pack` stops where no table is made, which the observer is told.
+/// Why `pack` stops where no table is made. The observer is told of a refusal.
 fn table_stop<'a, W: Watch>(error: TableError, name: &str, letters: &Table, watch: &W) -> Stop<'a>
     ensures { result ≡ stop_of_table error }
 {
@@ -168,6 +168,7 @@ pub fn pack_files<'a, F: Files, W: Watch>(
         (F.shown files.old) (F.shown files.new)) }
 {
     let source = read_source(alloc, patterns, translate, files, watch)?;
-    let outputs = make_table(alloc, table, &source, watch)?;
-    Ok(outputs)
+    let outputs = make_table(alloc, table, &source, watch);
+    drop(source);
+    Ok(outputs?)
 }

@@ -149,8 +149,7 @@ fn make_prune<'a, W: Watch>(
         &inputs.patterns,
         &Told { watch },
     )?;
-    let outputs = write_pruned(alloc, names, &inputs.table, &pruned)?;
-    Ok(outputs)
+    write_pruned(alloc, names, &inputs.table, &pruned)
 }
 
 /// Reads what `prune` reads, and builds all that it writes and prints.
@@ -175,6 +174,7 @@ pub fn prune_files<'a, F: Files, W: Watch>(
         (StopsCommand (ToPrune (prune_of names.now)) (F.shown files.old) (F.shown files.new)) }
 {
     let inputs = read_prune(alloc, names, files, watch)?;
-    let outputs = make_prune(alloc, names, &inputs, watch)?;
-    Ok(outputs)
+    let outputs = make_prune(alloc, names, &inputs, watch);
+    drop(inputs);
+    Ok(outputs?)
 }

@@ -41,7 +41,7 @@ pub struct Inputs {
     pub dictionary: Dictionary,
 }
 
-/// Reads a file of at most `limit` bytes, or of a longer one the first bytes, one more than these.
+/// Reads a file as a whole, or its first `limit + 1` bytes where it is longer than `limit` bytes.
 pub fn read_front<'a, F: Files, W: Watch>(
     alloc: Global,
     name: &'a str,
@@ -69,7 +69,7 @@ pub fn read_front<'a, F: Files, W: Watch>(
     }
 }
 
-/// Why a command stops at an input whose reader failed, which the observer is told.
+/// Why a command stops at an input whose reader failed. The observer is told of a refusal.
 fn stop<'a, W: Watch>(
     input: Input,
     error: ReadingError,

@@ -7,10 +7,10 @@ use std::alloc::{AllocError, Global};
 /// The consonants with which a syllable begins.
 const CONSONANTS: &[u8] = b"bdfgklmnprst";
 
-/// Its vowels.
+/// The vowels of a syllable.
 const VOWELS: &[u8] = b"aeiou";
 
-/// The consonants with which it may end.
+/// The consonants with which a syllable may end.
 const CLOSINGS: &[u8] = b"nrs";
 
 /// Numbers, each drawn from the one before.
@@ -89,7 +89,7 @@ fn push_word(text: &mut Vec<u8>, draws: &mut Draws) -> Result<(), AllocError>
 /// The dictionary of `sample`: `count` words, at most 100,000, from the seed.
 ///
 /// Each word has two to four syllables with a hyphen between two. A syllable is a consonant, a
-/// vowel, and in one of four cases a closing consonant. All are drawn by a linear congruential
+/// vowel, and in one of four cases a final consonant. All are drawn by a linear congruential
 /// generator modulo 2^31, of which the higher bits are used.
 pub fn sample_text(alloc: Global, seed: u32, count: u32) -> Result<Vec<u8>, AllocError>
     requires seed { seed < 2 ^ 31 }

@@ -139,7 +139,9 @@ fn run_lines<W: Watch>(alloc: Global, inputs: &Inputs, watch: &W) -> Result<Vec<
 {
     let engine = PackedEngine::new(alloc, inputs.table.letters() + 1, &inputs.start)?;
     let mut engine = Watched::new(engine, &inputs.params, watch);
-    lines_by(alloc, inputs, &mut engine)
+    let lines = lines_by(alloc, inputs, &mut engine);
+    drop(engine);
+    lines
 }
 
 /// Does the run over an engine that was just made, and builds the printed lines.

@@ -38,8 +38,8 @@ pub fn select<E: Engine>(alloc: Global, engine: &mut E, inputs: &Inputs) -> Resu
     Ok(run)
 }
 
-/// The layout after the last level, or where no level was run that before the first, if the run
-/// tells layouts.
+/// The layout after the last level, or the one at the start where no level was run. It is `None`
+/// where the run tells no layouts.
 pub fn last_layout(run: &Run) -> Option<Layout>
     ensures { result ≡ last_told run.now }
 {

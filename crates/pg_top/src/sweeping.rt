@@ -2,6 +2,7 @@
 ghost use Rattle.std.specs.Prelude.{◌≡◌, ◌≤◌, ◌∷◌, [], length, IfOk, IfErr, IfSome};
 ghost use Rattle.pg_outside.specs.Content.{KeepsHeld, file_at};
 ghost use Rattle.pg_outside.specs.Faults.{NoneFell};
+ghost use Rattle.pg_sweep.specs.Files.{sweep_file};
 ghost use Rattle.pg_top.specs.Calls.{outcome_of, reads_of, writes_of};
 ghost use Rattle.pg_words.specs.Commands.{sweep_of, KeepsSweepLimits};
 ghost use Rattle.pg_top.specs.Counted.{MakesCalls, read_calls};
@@ -40,7 +41,7 @@ struct Packed<'a, W> {
     /// The first of the sets.
     first: &'a Params,
     folds: u8,
-    /// The places of the set and of the fold that come next.
+    /// The set and the fold that come next, both counted from 0.
     next: Cell<(usize, u8)>,
     watch: &'a W,
 }
@@ -137,6 +138,28 @@ fn sweep_line(alloc: Global, found: &Sweep) -> Result<Vec<u8>, AllocError>
     winner_line(alloc, winner, found.rows()[winner - 1].cost)
 }
 
+/// What `sweep` writes and prints, where the sweep comes to this.
+fn write_sweep<'a>(
+    alloc: Global,
+    words: &SweepWords<'a>,
+    found: &Sweep,
+) -> Result<Outputs<'a>, AllocError>
+    ensures files { IfOk result (λ made.
+        writing_of made.files.items
+        ≡ (words.now.output.now, sweep_file words.now.folds found.now.rows found.now.winner)
+        ∷ []) }
+    ensures lines { IfOk result (λ made. made.lines.items ≡ line_of_sweep found.now) }
+{
+    let text = sweep_text(alloc, words.folds, found)?;
+    let lines = sweep_line(alloc, found)?;
+    let mut files = Vec::new(alloc);
+    files.push(Output {
+        name: words.output,
+        text,
+    })?;
+    Ok(Outputs { files, lines })
+}
+
 /// Does the sweep, and builds all that `sweep` writes and prints.
 fn make_sweep<'a, W: Watch>(
     alloc: Global,
@@ -171,18 +194,11 @@ fn make_sweep<'a, W: Watch>(
         words.bad,
         words.missed,
     )?;
-    let text = sweep_text(alloc, words.folds, &found)?;
-    let lines = sweep_line(alloc, &found)?;
-    let mut files = Vec::new(alloc);
-    files.push(Output {
-        name: words.output,
-        text,
-    })?;
-    Ok(Outputs { files, lines })
+    write_sweep(alloc, words, &found)
 }
 
-/// Tells the observer of the set whose first level is the least: where it is above the values of
-/// the starting patterns, that of each set is.
+/// Tells the observer of the set whose first level is the lowest. Where that level is above the
+/// values of the starting patterns, the first level of each set is.
 fn tell_lowest<W: Watch>(name: &str, sets: &[Params], start: &PatternSet, watch: &W)
     requires { 1 ≤ length sets.now }
 {
@@ -219,6 +235,7 @@ pub fn sweep_files<'a, F: Files, W: Watch>(
 {
     let inputs = read_sweep(alloc, words, files, watch)?;
     tell_lowest(words.patterns, &inputs.sets, &inputs.start, watch);
-    let outputs = make_sweep(alloc, words, &inputs, watch)?;
-    Ok(outputs)
+    let outputs = make_sweep(alloc, words, &inputs, watch);
+    drop(inputs);
+    Ok(outputs?)
 }

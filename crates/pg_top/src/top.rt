@@ -54,8 +54,9 @@ fn prepare<'a, F: Files, W: Watch>(
         (read_calls (reads_of (ToGenerate (texts_of names.now))))) }
 {
     let inputs = read_inputs(alloc, names, files, watch)?;
-    let outputs = make_outputs(alloc, names, &inputs, watch)?;
-    Ok(outputs)
+    let outputs = make_outputs(alloc, names, &inputs, watch);
+    drop(inputs);
+    Ok(outputs?)
 }
 
 /// Writes the files and then puts the lines.
@@ -295,8 +296,8 @@ fn call<F: Files, O: Sink, W: Watch>(
 /// fold, writes the table of what they come to, and prints which file is the cheapest.
 ///
 /// The first refusal ends a call, and so does the first fault. All lines of an answer are put at
-/// once, as the last step, but those of a fault, of which the front, the name and the end are put
-/// each by itself.
+/// once, as the last step. Only the line of a fault is put in three parts: the front, the name and
+/// the end.
 ///
 /// - `Usage` comes exactly where the words are no command, unless the line cannot be put.
 /// - `Refused` comes only where an input is refused, the first in the order of reading, or where the
@@ -305,7 +306,8 @@ fn call<F: Files, O: Sink, W: Watch>(
 ///   one that it writes, or the faults of `out` rose.
 /// - `Memory` may always come where the words are a command; nothing was written and nothing put
 ///   then.
-/// - `Yes` and `No`: all given files are what they should be, or the line that is not was named.
+/// - `Yes` comes where all given files are what they should be, and `No` where a line is not; that
+///   line was named.
 /// - `Done`: all that was asked for was written whole.
 ///
 /// After all answers but `Done` and `Fault` the files are as they were. Where the words are no

@@ -121,6 +121,8 @@ pub fn total_files<'a, F: Files, W: Watch>(
 {
     let letters = read_table(alloc, translate, files, watch)?;
     let dictionary = read_dictionary(alloc, &letters, dict, files, watch)?;
-    let lines = total_by(alloc, &letters, &dictionary, table, files, watch)?;
-    Ok(lines)
+    let lines = total_by(alloc, &letters, &dictionary, table, files, watch);
+    drop(dictionary);
+    drop(letters);
+    Ok(lines?)
 }

@@ -16,7 +16,7 @@ pub struct Output<'a> {
     pub text: Vec<u8>,
 }
 
-/// The file at a place.
+/// The file with the number `i`, counted from 0.
 pub fn output_at<'a, 'b>(outputs: &'b [Output<'a>], i: usize) -> &'b Output<'a>
     requires { i < length outputs.now }
     ensures { slice_get outputs.now i ≡ Some result.now }
@@ -24,8 +24,8 @@ pub fn output_at<'a, 'b>(outputs: &'b [Output<'a>], i: usize) -> &'b Output<'a>
     &outputs[i]
 }
 
-/// Writes files one after the other, and stops at the first that fails, of which it gives the
-/// place.
+/// Writes files one after the other, and stops at the first that fails. It gives the number of that
+/// file, counted from 0.
 pub fn write_all<F: Files, W: Watch>(
     files: &mut F,
     outputs: &[Output<'_>],

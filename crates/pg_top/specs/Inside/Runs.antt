@@ -3,6 +3,6 @@ use Rattle.std.specs.Prelude.{Option, fold}
 use Rattle.pg_types.specs.declared.marks.Layout.{Layout}
 use Rattle.pg_driver.specs.Sound.{Finished}
 
--- the layout after its last level, and where there is no level that before it
+-- the layout after the last level of a run; where it has no level, the layout at its start
 abbrev pub last_told : Finished → Option Layout
 last_told r = fold (λ _ l. l.layout) r.first_layout r.levels

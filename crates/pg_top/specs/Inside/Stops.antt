@@ -19,7 +19,7 @@ use Rattle.pg_top.specs.declared.inputs.Input.{Input}
 use Rattle.pg_top.specs.declared.inputs.Stop.{Stop}
 use Rattle.pg_top.specs.declared.inputs.Stop.TheVariants.{Refused, Unread, Memory}
 
--- why reading one file stopped: it is refused, its read faults rose, or memory was wanted
+-- why reading one file stopped: it is refused, its read faults rose, or memory was short
 abbrev pub StopsAt : Reading → FilesShown → FilesShown → Stop → Type 0
 StopsAt r old new (Refused input refusal) = IfSome new.held (λ files.
     option_map (r.ends (file_at files)) (file_at files r.name)
@@ -29,7 +29,7 @@ StopsAt r old new (Unread name) = (name.now ≡ r.name)
 StopsAt r old new Memory = Unit {0}
 
 -- why reading files stopped at a place of the order: the file there is refused, it could not be
--- read, or memory was wanted
+-- read, or memory was short
 abbrev pub StopsWith : List Reading → ℕ → FilesShown → FilesShown → Stop → Type 0
 StopsWith reads place old new (Refused input refusal) = IfSome new.held (λ files.
     first_end (file_at files) (take (place + 1) reads) ≡ Some (refuses input refusal))
@@ -38,14 +38,14 @@ StopsWith reads place old new (Unread name) =
     × Rose (old.read_faults name.now) (new.read_faults name.now)
 StopsWith reads place old new Memory = Unit {0}
 
--- reading files stopped: those up to a place were read once each, and so it stopped there
+-- reading files stopped: those up to a place were read once each, and this is why it stopped there
 pub record StopsReading (reads : List Reading) (old new : FilesShown) (stop : Stop) : Type 0 where
   pub place : ℕ
   pub read : ReadsUpTo reads place old new
   pub why : StopsWith reads place old new stop
 
 -- why a command stopped once it had read up to a place: it is refused, by the file there or by all
--- of them, the file there could not be read, or memory was wanted
+-- of them, the file there could not be read, or memory was short
 abbrev pub StopsCommandWith : Request → ℕ → FilesShown → FilesShown → Stop → Type 0
 StopsCommandWith request place old new (Refused input refusal) = IfSome new.held (λ files.
     (outcome_of (file_at files) request ≡ refuses input refusal)
@@ -56,19 +56,20 @@ StopsCommandWith request place old new (Unread name) =
     × Rose (old.read_faults name.now) (new.read_faults name.now)
 StopsCommandWith request place old new Memory = Unit {0}
 
--- a command stopped before it wrote: the files up to a place were read once each, and so it stopped
+-- a command stopped before it wrote: the files up to a place were read once each, and this is why
+-- it stopped
 pub record StopsCommand (request : Request) (old new : FilesShown) (stop : Stop) : Type 0 where
   pub place : ℕ
   pub read : ReadsUpTo (reads_of request) place old new
   pub why : StopsCommandWith request place old new stop
 
--- why making what a command comes to stopped: it is refused, or memory was wanted
+-- why a command stopped while it built its texts: it is refused, or memory was short
 abbrev pub StopsMaking : Outcome → Stop → Type 0
 StopsMaking outcome (Refused input refusal) = outcome ≡ refuses input refusal
 StopsMaking outcome (Unread name) = ⊥
 StopsMaking outcome Memory = Unit {0}
 
--- why reading the first bytes of a file stopped: its read faults rose, or memory was wanted
+-- why reading the first bytes of a file stopped: its read faults rose, or memory was short
 abbrev pub StopsFront : List ℕ → FilesShown → FilesShown → Stop → Type 0
 StopsFront name old new (Refused input refusal) = ⊥
 StopsFront name old new (Unread at) = (at.now ≡ name)
@@ -86,7 +87,7 @@ PutsAnswer line wanted answer old new =
     ((answer ≡ wanted) × Puts old new line) ⊎
     ((answer ≡ status.Fault) × PutRose old new × PutsPart old new line)
 
--- nothing was put for want of memory, or the lines of a command that is done were
+-- the lines of a command that is done were put, or nothing was put since memory was short
 abbrev pub PutsLines : List ℕ → Status → SinkShown → SinkShown → Type 0
 PutsLines lines answer old new =
     ((answer ≡ status.Memory) × Puts old new []) ⊎ PutsAnswer lines status.Done answer old new

@@ -1,4 +1,4 @@
--- Given files as they are compared, and what that gives.
+-- Given files as they are compared, and what the comparison gives.
 use Rattle.std.specs.Prelude.{◌≡◌, ℕ, ◌+◌, ◌<◌, List, [], map, length, take, Option, None, Some, IfSome, MatchOption, unwrap_or, ◌⊎◌}
 use Rattle.std.specs.Option.{option_map}
 use Rattle.pg_audit.specs.Differences.{first_false}
@@ -25,7 +25,7 @@ wanted_file w = record {
 abbrev pub wanted_files : List Wanted → List Reading
 wanted_files ws = map wanted_file ws
 
--- the outcome where a line is false, none where all are right
+-- the outcome where a line is false, and none where all lines are right
 abbrev pub end_of : Verdict → Option Outcome
 end_of Equal = None
 end_of (False line) = Some (Ends No [] line.items)
@@ -34,7 +34,7 @@ end_of (False line) = Some (Ends No [] line.items)
 abbrev pub outcome_by : Verdict → Outcome
 outcome_by verdict = unwrap_or (end_of verdict) (Ends Yes [] yes_line)
 
--- how far files were read where this was found: all of them, or those up to the one with the false
+-- how far the files were read where this was found: all of them, or up to the one with the false
 -- line
 abbrev pub ReadsToFind : List Reading → Verdict → FilesShown → FilesShown → Type 0
 ReadsToFind reads Equal old new = MakesCalls old new (read_calls reads)
@@ -43,8 +43,8 @@ ReadsToFind reads (False line) old new =
     × IfSome new.held (λ files. first_end (file_at files) (take (place + 1) reads)
     ≡ Some (Ends No [] line.items))
 
--- these bytes are the file. Where it is longer than this size by more than `more`, they are its
--- first size + more + 1 bytes
+-- these bytes are the whole file, or they are its first size + more + 1 bytes where the file is
+-- longer than size + more bytes
 abbrev pub IsFrontOf : Option (List ℕ) → ℕ → ℕ → List ℕ → Type 0
 IsFrontOf file size more bytes = MatchOption file ⊥ (λ whole.
     (bytes ≡ whole) ⊎ ((size + more < length whole) × (bytes ≡ take (size + (more + 1)) whole)))

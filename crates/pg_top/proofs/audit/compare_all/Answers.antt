@@ -1,4 +1,5 @@
-use Rattle.std.proofs.Common.{◌≡◌, Some, IfSome, [], take, ap, subst, arith, rules}
+use Rattle.std.proofs.Common.{◌≡◌, Some, IfSome, [], take, ap, subst, arith}
+use Rattle.std.proofs.lemmas.Result.{err_from_is_err_and}
 use Rattle.std.specs.Option.{option_map}
 use Rattle.pg_outside.specs.Content.{FilesShown, file_at}
 use Rattle.pg_top.specs.Outcomes.{Ends}
@@ -9,13 +10,13 @@ use Rattle.pg_top.specs.declared.audit.Verdict.{Verdict}
 use Rattle.pg_top.proofs.CountedCalls.{no_calls}
 use Rattle.pg_top.proofs.Faults.{none_fell}
 use Rattle.pg_top.proofs.Judgements.{accepted_more, called_there, read_there, false_ends, false_found, stopped_there, all_right, all_found}
-use Rattle.pg_top.proofs.Orders.{AreAccepted, held_later, kept_on}
+use Rattle.pg_top.proofs.Orders.{AreAccepted, none_accepted, held_later, kept_self, kept_on}
 use Rattle.pg_top.proofs.audit.compare_all.Goals as goal
 
 pub files-init : goal.files-init
 files-init g c =
-    let calls = no_calls (g.F.Files.shown c.args.files.now) in
-    search rules
+    let s : FilesShown = g.F.Files.shown c.args.files.now in
+    record { held = kept_self s.held; reads = λ name. omega arith; calls = no_calls s; right = none_accepted s.held }
 
 pub returns-in_err-verdict-clause-stopped : goal.returns-in_err-verdict-clause-stopped
 returns-in_err-verdict-clause-stopped g c =
@@ -24,8 +25,8 @@ returns-in_err-verdict-clause-stopped g c =
     let s1 : FilesShown = g.F.Files.shown c.files.files in
     let s2 : FilesShown = g.F.Files.shown c.compare_file.new.files in
     let right = held_later s1.held s2.held (λ files. AreAccepted (file_at files) (take c.files.i (wanted_files ws))) c.compare_file.ensures.held c.files.invariant.right in
-    let h = stopped_there ws c.files.i c.wanted_at.result.now c.wanted_at.ensures s0 s1 s2 c.in_err-verdict.field-0.0 c.files.invariant.reads (called_there ws c.files.i c.wanted_at.result.now c.wanted_at.ensures s0 s1 s2 c.files.invariant.calls c.compare_file.ensures.calls) right c.in_err-verdict.ensures.stopped in
-    search rules
+    let err = err_from_is_err_and c.from_residual.result c.from_residual.ensures.1 in
+    rw (err.1, err.2) (stopped_there ws c.files.i c.wanted_at.result.now c.wanted_at.ensures s0 s1 s2 c.in_err-verdict.field-0.0 c.files.invariant.reads (called_there ws c.files.i c.wanted_at.result.now c.wanted_at.ensures s0 s1 s2 c.files.invariant.calls c.compare_file.ensures.calls) right c.in_err-verdict.ensures.stopped)
 
 pub returns-in-False-clause-ok : goal.returns-in-False-clause-ok
 returns-in-False-clause-ok g c =
@@ -69,3 +70,18 @@ returns-in-False-clause-counted g c =
 
 pub returns-clause-counted : goal.returns-clause-counted
 returns-clause-counted g c = all_found c.args.wanted.now c.files.i (g.F.Files.shown c.args.files.now) (g.F.Files.shown c.files.files) (omega arith) c.files.invariant.calls
+
+pub returns-in_err-verdict-clause-held : goal.returns-in_err-verdict-clause-held
+returns-in_err-verdict-clause-held g c = kept_on (g.F.Files.shown c.args.files.now).held (g.F.Files.shown c.files.files).held (g.F.Files.shown c.compare_file.new.files).held c.files.invariant.held c.compare_file.ensures.held
+
+pub returns-in-False-clause-held : goal.returns-in-False-clause-held
+returns-in-False-clause-held g c = kept_on (g.F.Files.shown c.args.files.now).held (g.F.Files.shown c.files.files).held (g.F.Files.shown c.compare_file.new.files).held c.files.invariant.held c.compare_file.ensures.held
+
+pub returns-clause-held : goal.returns-clause-held
+returns-clause-held g c = c.files.invariant.held
+
+pub returns-in_err-verdict-clause-ok : goal.returns-in_err-verdict-clause-ok
+returns-in_err-verdict-clause-ok g c = rw (err_from_is_err_and c.from_residual.result c.from_residual.ensures.1).1 tt
+
+pub returns-in_err-verdict-clause-counted : goal.returns-in_err-verdict-clause-counted
+returns-in_err-verdict-clause-counted g c = rw (err_from_is_err_and c.from_residual.result c.from_residual.ensures.1).1 tt

@@ -1,4 +1,5 @@
-use Rattle.std.proofs.Common.{◌≡◌, ◌∙◌, Some, IfSome, ℕ, length, ap, sym, subst, rules}
+use Rattle.std.proofs.Common.{◌≡◌, ◌∙◌, Some, IfSome, ℕ, length, ap, sym, subst}
+use Rattle.std.proofs.lemmas.Result.{err_from_is_err_and}
 use Rattle.std.specs.Option.{option_map}
 use Rattle.pg_audit.specs.Differences.{first_false}
 use Rattle.pg_outside.specs.Content.{FilesShown, file_at}
@@ -23,5 +24,10 @@ returns-clause-ok g c =
 
 pub returns-in_err-bytes-clause-stopped : goal.returns-in_err-bytes-clause-stopped
 returns-in_err-bytes-clause-stopped g c =
-    let h = front_stop (wanted_file c.args.wanted.now) (g.F.Files.shown c.args.files.now) (g.F.Files.shown c.read_given.new.files) c.in_err-bytes.field-0.0 c.in_err-bytes.ensures.stopped in
-    search rules
+    let err = err_from_is_err_and c.from_residual.result c.from_residual.ensures.1 in
+    rw (err.1, err.2) (front_stop (wanted_file c.args.wanted.now) (g.F.Files.shown c.args.files.now) (g.F.Files.shown c.read_given.new.files) c.in_err-bytes.field-0.0 c.in_err-bytes.ensures.stopped)
+
+pub returns-in_err-verdict-clause-stopped : goal.returns-in_err-verdict-clause-stopped
+returns-in_err-verdict-clause-stopped g c =
+    let err = err_from_is_err_and c.from_residual-in_err-verdict.result c.from_residual-in_err-verdict.ensures.1 in
+    rw (err.1, err.2) tt

@@ -4,7 +4,7 @@ use Rattle.pg_select.specs.Meanings.{Meaning}
 use Rattle.pg_packed.specs.Inside.Engines.{meaning_of}
 use Rattle.pg_top.proofs.outputs.make_outputs.Goals as goal
 
-pub run_files-requires-clause-families : goal.run_files-requires-clause-families
-run_files-requires-clause-families g c =
+pub run_files-outputs-requires-clause-families : goal.run_files-outputs-requires-clause-families
+run_files-outputs-requires-clause-families g c =
     ap (λ (m : Meaning). m.families) (ap meaning_of c.new-engine.ensures ∙ c.in_ok-engine.ensures)
     ∙ ap (λ n. Some (pattern_families (n + 1) c.args.inputs.now.start)) c.letters.ensures.value

@@ -1,4 +1,5 @@
-use Rattle.std.proofs.Common.{◌≡◌, ◌∙◌, rules}
+use Rattle.std.proofs.Common.{◌≡◌, ◌∙◌}
+use Rattle.std.proofs.lemmas.Result.{err_from_is_err_and}
 use Rattle.pg_outside.specs.Content.{file_at}
 use Rattle.pg_top.specs.Calls.{outcome_of}
 use Rattle.pg_top.specs.Outcomes.{Ends}
@@ -19,18 +20,18 @@ returns-clause-ok g c =
     let n = c.args.table.now in
     let s = c.in_ok-source.source in
     mapped (g.F.Files.shown c.read_source.new.files).held (λ files. HasSource (file_at files) p t s)
-    (λ files. outcome_of (file_at files) (ToPack p t n) ≡ Ends Done (writing_of c.in_ok-outputs.outputs.files.items) c.in_ok-outputs.outputs.lines.items)
+    (λ files. outcome_of (file_at files) (ToPack p t n) ≡ Ends Done (writing_of c.in_ok-outputs.field-0.files.items) c.in_ok-outputs.field-0.lines.items)
     (λ files h. pack_outcome p t n s files h ∙ c.in_ok-outputs.ensures.made) c.in_ok-source.ensures.ok
 
 pub returns-in_err-source-clause-stopped : goal.returns-in_err-source-clause-stopped
 returns-in_err-source-clause-stopped g c =
-    let h = stops_reading (ToPack c.args.patterns.now c.args.translate.now c.args.table.now) (g.F.Files.shown c.args.files.now) (g.F.Files.shown c.read_source.new.files) c.in_err-source.field-0.0 c.in_err-source.ensures.stopped in
-    search rules
+    let err = err_from_is_err_and c.from_residual.result c.from_residual.ensures.1 in
+    rw (err.1, err.2) (stops_reading (ToPack c.args.patterns.now c.args.translate.now c.args.table.now) (g.F.Files.shown c.args.files.now) (g.F.Files.shown c.read_source.new.files) c.in_err-source.field-0.0 c.in_err-source.ensures.stopped)
 
 pub returns-in_err-outputs-clause-stopped : goal.returns-in_err-outputs-clause-stopped
 returns-in_err-outputs-clause-stopped g c =
-    let h = stopped_making c.args.patterns.now c.args.translate.now c.args.table.now c.in_ok-source.source (g.F.Files.shown c.args.files.now) (g.F.Files.shown c.read_source.new.files) c.in_err-outputs.field-0.0 c.in_ok-source.ensures.counted c.in_ok-source.ensures.ok c.in_err-outputs.ensures.stopped in
-    search rules
+    let err = err_from_is_err_and c.from_residual-in_err-outputs.result c.from_residual-in_err-outputs.ensures.1 in
+    rw (err.1, err.2) (stopped_making c.args.patterns.now c.args.translate.now c.args.table.now c.in_ok-source.source (g.F.Files.shown c.args.files.now) (g.F.Files.shown c.read_source.new.files) c.in_err-outputs.field-0.0 c.in_ok-source.ensures.counted c.in_ok-source.ensures.ok c.in_err-outputs.ensures.stopped)
 
 pub returns-clause-kept : goal.returns-clause-kept
 returns-clause-kept g c =
@@ -38,6 +39,6 @@ returns-clause-kept g c =
     let t = c.args.translate.now in
     let n = c.args.table.now in
     let s = c.in_ok-source.source in
-    let made = c.in_ok-outputs.outputs in
+    let made = c.in_ok-outputs.field-0 in
     mapped (g.F.Files.shown c.read_source.new.files).held (λ files. HasSource (file_at files) p t s) (λ files. PackKeeps (file_at files) p t n)
     (λ files h. pack_keeps p t n s (writing_of made.files.items) made.lines.items files c.in_ok-outputs.ensures.made c.in_ok-outputs.ensures.table c.in_ok-outputs.ensures.accepted c.in_ok-outputs.ensures.gives h) c.in_ok-source.ensures.ok

@@ -1,4 +1,5 @@
-use Rattle.std.proofs.Common.{◌≡◌, ◌∙◌, arith, rules}
+use Rattle.std.proofs.Common.{◌≡◌, ◌∙◌, arith}
+use Rattle.std.proofs.lemmas.Result.{err_from_is_err_and}
 use Rattle.pg_outside.specs.Content.{file_at}
 use Rattle.pg_top.specs.Calls.{outcome_of}
 use Rattle.pg_top.specs.Outcomes.{Ends}
@@ -19,13 +20,13 @@ returns-clause-ok g c =
     let p : PruneRequest = prune_of c.args.names.now in
     let i = c.in_ok-inputs.inputs in
     mapped (g.F.Files.shown c.read_prune.new.files).held (λ files. HasPrune (file_at files) p i)
-    (λ files. outcome_of (file_at files) (ToPrune p) ≡ Ends Done (writing_of c.in_ok-outputs.outputs.files.items) c.in_ok-outputs.outputs.lines.items)
+    (λ files. outcome_of (file_at files) (ToPrune p) ≡ Ends Done (writing_of c.in_ok-outputs.field-0.files.items) c.in_ok-outputs.field-0.lines.items)
     (λ files h. prune_outcome p i files h ∙ c.in_ok-outputs.ensures.made) c.in_ok-inputs.ensures.ok
 
 pub returns-in_err-inputs-clause-stopped : goal.returns-in_err-inputs-clause-stopped
 returns-in_err-inputs-clause-stopped g c =
-    let h = stops_reading (ToPrune (prune_of c.args.names.now)) (g.F.Files.shown c.args.files.now) (g.F.Files.shown c.read_prune.new.files) c.in_err-inputs.field-0.0 c.in_err-inputs.ensures.stopped in
-    search rules
+    let err = err_from_is_err_and c.from_residual.result c.from_residual.ensures.1 in
+    rw (err.1, err.2) (stops_reading (ToPrune (prune_of c.args.names.now)) (g.F.Files.shown c.args.files.now) (g.F.Files.shown c.read_prune.new.files) c.in_err-inputs.field-0.0 c.in_err-inputs.ensures.stopped)
 
 pub returns-in_err-outputs-clause-stopped : goal.returns-in_err-outputs-clause-stopped
 returns-in_err-outputs-clause-stopped g c =
@@ -34,8 +35,8 @@ returns-in_err-outputs-clause-stopped g c =
     let s0 = g.F.Files.shown c.args.files.now in
     let s1 = g.F.Files.shown c.read_prune.new.files in
     let accepted = mapped s1.held (λ files. HasPrune (file_at files) p i) (λ files. AreAccepted (file_at files) (prune_reads p)) (prune_accepted p i) c.in_ok-inputs.ensures.ok in
-    let h = stops_reading (ToPrune p) s0 s1 Memory (wanted_after (prune_reads p) s0 s1 (omega arith) c.in_ok-inputs.ensures.counted accepted) in
-    search rules
+    let err = err_from_is_err_and c.from_residual-in_err-outputs.result c.from_residual-in_err-outputs.ensures.1 in
+    rw (err.1, err.2) (stops_reading (ToPrune p) s0 s1 Memory (wanted_after (prune_reads p) s0 s1 (omega arith) c.in_ok-inputs.ensures.counted accepted))
 
 pub returns-clause-kept : goal.returns-clause-kept
 returns-clause-kept g c =

@@ -1,8 +1,11 @@
 use Rattle.std.proofs.Common.{◌≡◌, Ok, subst}
+use Rattle.std.proofs.lemmas.Result.{err_from_is_err_and}
 use Rattle.pg_types.specs.Reading.{Fails}
 use Rattle.pg_dict.specs.Words.{words}
 use Rattle.pg_top.specs.declared.inputs.Input.TheVariants.{Dictionary}
 use Rattle.pg_top.proofs.Fronts.{read_by_front, stopped_by_front, words-front}
+use Rattle.pg_top.specs.Readings.{input_file}
+use Rattle.pg_top.proofs.GivenFronts.{front_stop}
 use Rattle.pg_top.proofs.reading.read_dictionary.Goals as goal
 
 pub returns-in-Ok-clause-ok : goal.returns-in-Ok-clause-ok
@@ -10,3 +13,8 @@ returns-in-Ok-clause-ok g c = read_by_front (words c.args.table.now) (words-fron
 
 pub returns-clause-stopped : goal.returns-clause-stopped
 returns-clause-stopped g c = rw c.stop.ensures (stopped_by_front (words c.args.table.now) (words-front c.args.table.now) Dictionary c.args.name.now c.in_ok-bytes.bytes.items (g.F.Files.shown c.args.files.now) (g.F.Files.shown c.read_front.new.files) c.in-Err.error c.in_ok-bytes.ensures.front (subst (λ bytes. Fails c.in-Err.error (words c.args.table.now bytes)) c.deref.ensures.value c.in-Err.ensures.words))
+
+pub returns-in_err-bytes-clause-stopped : goal.returns-in_err-bytes-clause-stopped
+returns-in_err-bytes-clause-stopped g c =
+    let err = err_from_is_err_and c.from_residual.result c.from_residual.ensures.1 in
+    rw (err.1, err.2) (front_stop (input_file Dictionary c.args.name.now (λ _. words c.args.table.now)) (g.F.Files.shown c.args.files.now) (g.F.Files.shown c.read_front.new.files) c.in_err-bytes.field-0.0 c.in_err-bytes.ensures.stopped)

@@ -1,4 +1,4 @@
-use Rattle.std.proofs.Common.{Err, ap}
+use Rattle.std.proofs.Common.{Err, refl, ap}
 use Rattle.pg_top.proofs.Fronts.{front_of_held, front_of_cut_held}
 use Rattle.pg_top.proofs.reading.read_front.Goals as goal
 
@@ -7,3 +7,18 @@ returns-in-Ok-clause-front g c = front_of_held (g.F.Files.shown c.read.new.self)
 
 pub returns-in-Err-TooLong-clause-front : goal.returns-in-Err-TooLong-clause-front
 returns-in-Err-TooLong-clause-front g c = front_of_cut_held (g.F.Files.shown c.read.new.self).held c.args.name.now c.read.new.into.items c.args.limit (c.in-Err-TooLong.ensures.cut_file (ap Err c.in-Err-TooLong.field-0-is))
+
+pub returns-in-Err-Failed-clause-held : goal.returns-in-Err-Failed-clause-held
+returns-in-Err-Failed-clause-held g c = c.read.ensures.held
+
+pub returns-in-Err-Failed-clause-reads : goal.returns-in-Err-Failed-clause-reads
+returns-in-Err-Failed-clause-reads g c = c.read.ensures.reads
+
+pub returns-in-Err-Failed-clause-writes : goal.returns-in-Err-Failed-clause-writes
+returns-in-Err-Failed-clause-writes g c = c.read.ensures.writes
+
+pub returns-in-Err-Failed-clause-calls : goal.returns-in-Err-Failed-clause-calls
+returns-in-Err-Failed-clause-calls g c = c.read.ensures.calls
+
+pub returns-in-Err-Failed-clause-stopped : goal.returns-in-Err-Failed-clause-stopped
+returns-in-Err-Failed-clause-stopped g c = (refl, c.in-Err-Failed.ensures.failed (ap Err c.in-Err-Failed.field-0-is))

@@ -1,11 +1,12 @@
-use Rattle.std.proofs.Common.{◌++◌, ◌∷◌, [], List, ◌∙◌, sym, ap}
+use Rattle.std.proofs.Common.{◌∙◌, refl, sym, ap}
+use Rattle.std.proofs.lemmas.Result.{IfOk-weaker}
 use Rattle.pg_sweep.specs.Sweeps.{Terms, Prices, rows_of}
 use Rattle.pg_words.specs.Commands.{sweep_of}
 use Rattle.pg_top.specs.Outcomes.{Ends}
 use Rattle.pg_top.specs.Inside.SweepInputs.{terms_of}
-use Rattle.pg_top.specs.Writings.{writing_of}
+use Rattle.pg_top.specs.Writings.{written_names}
 use Rattle.pg_top.specs.declared.answers.Status.TheVariants.{Done}
-use Rattle.pg_top.specs.declared.writes.Output.{Output}
+use Rattle.pg_top.proofs.Results.{ok_by_two}
 use Rattle.pg_top.proofs.SweepTexts.{sweep_made}
 use Rattle.pg_top.proofs.sweeping.make_sweep.Goals as goal
 
@@ -15,8 +16,10 @@ returns-clause-made g c =
     let terms : Terms = terms_of c.args.words.now.folds c.args.inputs.now in
     let prices : Prices = record { bad = s.bad; missed = s.missed } in
     let sets = c.args.inputs.now.sets.items in
-    let output : Output = record { name = c.args.words.now.output; text = c.in_ok-text.text } in
     let rows = c.in_ok-found.ensures.rows ∙ ap (rows_of terms prices) c.deref-2.ensures.value in
-    let files = ap writing_of (c.in_ok-push.ensures.items ∙ ap (λ (xs : List Output). xs ++ output ∷ []) c.new-files.ensures.items) in
-    sweep_made s terms sets c.in_ok-found.found c.in_ok-text.text.items c.in_ok-lines.lines.items rows c.in_ok-found.ensures.winner c.in_ok-text.ensures c.in_ok-lines.ensures
-    ∙ (λ k. Ends Done (sym files k) c.in_ok-lines.lines.items)
+    ok_by_two c.write_sweep.result _ _ _
+    (λ made files lines. sweep_made s terms sets c.in_ok-found.found _ _ rows c.in_ok-found.ensures.winner refl lines ∙ (λ k. Ends Done (sym files k) made.lines.items))
+    c.write_sweep.ensures.files c.write_sweep.ensures.lines
+
+pub returns-clause-named : goal.returns-clause-named
+returns-clause-named g c = IfOk-weaker c.write_sweep.result _ _ (λ made files. ap written_names files) c.write_sweep.ensures.files

@@ -1,4 +1,5 @@
-use Rattle.std.proofs.Common.{◌≡◌, ◌∙◌, sym, ap, rules}
+use Rattle.std.proofs.Common.{◌≡◌, ◌∙◌, sym, ap}
+use Rattle.std.proofs.lemmas.Result.{err_from_is_err_and}
 use Rattle.pg_outside.specs.Content.{file_at}
 use Rattle.pg_top.specs.Calls.{outcome_of}
 use Rattle.pg_words.specs.Commands.{texts_of}
@@ -17,7 +18,7 @@ returns-clause-ok g c =
     let n = texts_of c.args.names.now in
     let i = c.in_ok-inputs.inputs in
     mapped (g.F.Files.shown c.read_inputs.new.files).held (λ files. HasInputs (file_at files) n i)
-    (λ files. outcome_of (file_at files) (ToGenerate n) ≡ Ends Done (writing_of c.in_ok-outputs.outputs.files.items) c.in_ok-outputs.outputs.lines.items)
+    (λ files. outcome_of (file_at files) (ToGenerate n) ≡ Ends Done (writing_of c.in_ok-outputs.field-0.files.items) c.in_ok-outputs.field-0.lines.items)
     (λ files h. outcome_generated n i files h ∙ (λ k. Ends Done (sym c.in_ok-outputs.ensures.files k) (sym c.in_ok-outputs.ensures.lines k))) c.in_ok-inputs.ensures.ok
 
 pub returns-clause-named : goal.returns-clause-named
@@ -26,5 +27,10 @@ returns-clause-named g c =
 
 pub returns-in_err-outputs-clause-stopped : goal.returns-in_err-outputs-clause-stopped
 returns-in_err-outputs-clause-stopped g c =
-    let h = inputs_wanted (texts_of c.args.names.now) c.in_ok-inputs.inputs (g.F.Files.shown c.args.files.now) (g.F.Files.shown c.read_inputs.new.files) c.in_ok-inputs.ensures.counted c.in_ok-inputs.ensures.ok in
-    search rules
+    let err = err_from_is_err_and c.from_residual-in_err-outputs.result c.from_residual-in_err-outputs.ensures.1 in
+    rw (err.1, err.2) (inputs_wanted (texts_of c.args.names.now) c.in_ok-inputs.inputs (g.F.Files.shown c.args.files.now) (g.F.Files.shown c.read_inputs.new.files) c.in_ok-inputs.ensures.counted c.in_ok-inputs.ensures.ok)
+
+pub returns-in_err-inputs-clause-stopped : goal.returns-in_err-inputs-clause-stopped
+returns-in_err-inputs-clause-stopped g c =
+    let err = err_from_is_err_and c.from_residual.result c.from_residual.ensures.1 in
+    rw (err.1, err.2) c.in_err-inputs.ensures.stopped

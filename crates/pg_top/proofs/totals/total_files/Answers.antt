@@ -1,4 +1,5 @@
-use Rattle.std.proofs.Common.{◌∷◌, [], IfSome, rules}
+use Rattle.std.proofs.Common.{◌∷◌, [], IfSome}
+use Rattle.std.proofs.lemmas.Result.{err_from_is_err_and}
 use Rattle.pg_dict.specs.Words.{words}
 use Rattle.pg_outside.specs.Content.{FilesShown}
 use Rattle.pg_outside.specs.FilesCalls.{Reads}
@@ -10,6 +11,7 @@ use Rattle.pg_top.specs.declared.inputs.Input.TheVariants as input
 use Rattle.pg_top.proofs.Calls.{stops_reading}
 use Rattle.pg_top.proofs.CountedCalls.{calls_on}
 use Rattle.pg_top.proofs.Faults.{none_fell}
+use Rattle.pg_top.proofs.Orders.{kept_on}
 use Rattle.pg_top.proofs.PackedOrder.{HasWords, words_read, totals_told, stopped_table}
 use Rattle.pg_top.proofs.UnderTable.{stopped_first, stopped_second}
 use Rattle.pg_top.proofs.totals.total_files.Goals as goal
@@ -20,10 +22,10 @@ returns-clause-ok g c =
     let t = c.args.translate.now in
     let s1 : FilesShown = g.F.Files.shown c.read_table.new.files in
     let s2 : FilesShown = g.F.Files.shown c.read_dictionary.new.files in
-    let s3 : FilesShown = g.F.Files.shown c.total_by.new.files in
+    let s3 : FilesShown = g.F.Files.shown c.total_by-lines.new.files in
     let letters = c.in_ok-letters.letters in
     let ws = c.in_ok-dictionary.dictionary in
-    totals_told d t c.args.table.now letters ws c.in_ok-lines.lines.items s2.held s3.held c.total_by.ensures.held
+    totals_told d t c.args.table.now letters ws c.in_ok-lines.field-0.items s2.held s3.held c.total_by-lines.ensures.held
     (words_read d t letters ws s1.held s2.held c.read_dictionary.ensures.held c.in_ok-letters.ensures.ok c.in_ok-dictionary.ensures.ok) c.in_ok-lines.ensures.ok
 
 pub returns-in_err-letters-clause-stopped : goal.returns-in_err-letters-clause-stopped
@@ -34,8 +36,8 @@ returns-in_err-letters-clause-stopped g c =
     let s0 : FilesShown = g.F.Files.shown c.args.files.now in
     let s1 : FilesShown = g.F.Files.shown c.read_table.new.files in
     let reading = stopped_first (input_file input.Translate t (λ _. table)) (file_under t input.Dictionary d words ∷ file_under t input.Table n packed_table ∷ []) s0 s1 c.in_err-letters.field-0.0 c.read_table.ensures.calls c.in_err-letters.ensures.stopped in
-    let h = stops_reading (ToTotals d t n) s0 s1 c.in_err-letters.field-0.0 reading in
-    search rules
+    let err = err_from_is_err_and c.from_residual.result c.from_residual.ensures.1 in
+    rw (err.1, err.2) (stops_reading (ToTotals d t n) s0 s1 c.in_err-letters.field-0.0 reading)
 
 pub returns-in_err-dictionary-clause-stopped : goal.returns-in_err-dictionary-clause-stopped
 returns-in_err-dictionary-clause-stopped g c =
@@ -47,8 +49,8 @@ returns-in_err-dictionary-clause-stopped g c =
     let s2 : FilesShown = g.F.Files.shown c.read_dictionary.new.files in
     let letters = c.in_ok-letters.letters in
     let reading = stopped_second t letters words input.Dictionary d (file_under t input.Table n packed_table ∷ []) s0 s1 s2 c.in_err-dictionary.field-0.0 c.read_table.ensures.reads (calls_on (Reads t ∷ []) (Reads d ∷ []) s0 s1 s2 c.read_table.ensures.calls c.read_dictionary.ensures.calls) c.read_dictionary.ensures.held c.in_ok-letters.ensures.ok c.in_err-dictionary.ensures.stopped in
-    let h = stops_reading (ToTotals d t n) s0 s2 c.in_err-dictionary.field-0.0 reading in
-    search rules
+    let err = err_from_is_err_and c.from_residual-in_err-dictionary.result c.from_residual-in_err-dictionary.ensures.1 in
+    rw (err.1, err.2) (stops_reading (ToTotals d t n) s0 s2 c.in_err-dictionary.field-0.0 reading)
 
 pub returns-in_err-lines-clause-stopped : goal.returns-in_err-lines-clause-stopped
 returns-in_err-lines-clause-stopped g c =
@@ -58,13 +60,13 @@ returns-in_err-lines-clause-stopped g c =
     let s0 : FilesShown = g.F.Files.shown c.args.files.now in
     let s1 : FilesShown = g.F.Files.shown c.read_table.new.files in
     let s2 : FilesShown = g.F.Files.shown c.read_dictionary.new.files in
-    let s3 : FilesShown = g.F.Files.shown c.total_by.new.files in
+    let s3 : FilesShown = g.F.Files.shown c.total_by-lines.new.files in
     let letters = c.in_ok-letters.letters in
     let ws = c.in_ok-dictionary.dictionary in
     let two : IfSome s2.held (HasWords d t letters ws) = words_read d t letters ws s1.held s2.held c.read_dictionary.ensures.held c.in_ok-letters.ensures.ok c.in_ok-dictionary.ensures.ok in
-    let reading = stopped_table d t n letters ws s0 s2 s3 c.in_err-lines.field-0.0 (none_fell s0.read_faults s1.read_faults s2.read_faults c.read_table.ensures.reads c.read_dictionary.ensures.reads) (calls_on (Reads t ∷ Reads d ∷ []) (Reads n ∷ []) s0 s2 s3 (calls_on (Reads t ∷ []) (Reads d ∷ []) s0 s1 s2 c.read_table.ensures.calls c.read_dictionary.ensures.calls) c.total_by.ensures.calls) c.total_by.ensures.held two c.in_err-lines.ensures.stopped in
-    let h = stops_reading (ToTotals d t n) s0 s3 c.in_err-lines.field-0.0 reading in
-    search rules
+    let reading = stopped_table d t n letters ws s0 s2 s3 c.in_err-lines.field-0.0 (none_fell s0.read_faults s1.read_faults s2.read_faults c.read_table.ensures.reads c.read_dictionary.ensures.reads) (calls_on (Reads t ∷ Reads d ∷ []) (Reads n ∷ []) s0 s2 s3 (calls_on (Reads t ∷ []) (Reads d ∷ []) s0 s1 s2 c.read_table.ensures.calls c.read_dictionary.ensures.calls) c.total_by-lines.ensures.calls) c.total_by-lines.ensures.held two c.in_err-lines.ensures.stopped in
+    let err = err_from_is_err_and c.from_residual-in_err-lines.result c.from_residual-in_err-lines.ensures.1 in
+    rw (err.1, err.2) (stops_reading (ToTotals d t n) s0 s3 c.in_err-lines.field-0.0 reading)
 
 pub returns-clause-counted : goal.returns-clause-counted
 returns-clause-counted g c =
@@ -74,4 +76,27 @@ returns-clause-counted g c =
     let s0 : FilesShown = g.F.Files.shown c.args.files.now in
     let s1 : FilesShown = g.F.Files.shown c.read_table.new.files in
     let s2 : FilesShown = g.F.Files.shown c.read_dictionary.new.files in
-    calls_on (Reads t ∷ Reads d ∷ []) (Reads n ∷ []) s0 s2 (g.F.Files.shown c.total_by.new.files) (calls_on (Reads t ∷ []) (Reads d ∷ []) s0 s1 s2 c.read_table.ensures.calls c.read_dictionary.ensures.calls) c.total_by.ensures.calls
+    calls_on (Reads t ∷ Reads d ∷ []) (Reads n ∷ []) s0 s2 (g.F.Files.shown c.total_by-lines.new.files) (calls_on (Reads t ∷ []) (Reads d ∷ []) s0 s1 s2 c.read_table.ensures.calls c.read_dictionary.ensures.calls) c.total_by-lines.ensures.calls
+
+pub returns-in_err-dictionary-clause-held : goal.returns-in_err-dictionary-clause-held
+returns-in_err-dictionary-clause-held g c =
+    let s0 : FilesShown = g.F.Files.shown c.args.files.now in
+    let s1 : FilesShown = g.F.Files.shown c.read_table.new.files in
+    let s2 : FilesShown = g.F.Files.shown c.read_dictionary.new.files in
+    kept_on s0.held s1.held s2.held c.read_table.ensures.held c.read_dictionary.ensures.held
+
+pub returns-in_err-lines-clause-held : goal.returns-in_err-lines-clause-held
+returns-in_err-lines-clause-held g c =
+    let s0 : FilesShown = g.F.Files.shown c.args.files.now in
+    let s1 : FilesShown = g.F.Files.shown c.read_table.new.files in
+    let s2 : FilesShown = g.F.Files.shown c.read_dictionary.new.files in
+    let s3 : FilesShown = g.F.Files.shown c.total_by-lines.new.files in
+    kept_on s0.held s2.held s3.held (kept_on s0.held s1.held s2.held c.read_table.ensures.held c.read_dictionary.ensures.held) c.total_by-lines.ensures.held
+
+pub returns-clause-held : goal.returns-clause-held
+returns-clause-held g c =
+    let s0 : FilesShown = g.F.Files.shown c.args.files.now in
+    let s1 : FilesShown = g.F.Files.shown c.read_table.new.files in
+    let s2 : FilesShown = g.F.Files.shown c.read_dictionary.new.files in
+    let s3 : FilesShown = g.F.Files.shown c.total_by-lines.new.files in
+    kept_on s0.held s2.held s3.held (kept_on s0.held s1.held s2.held c.read_table.ensures.held c.read_dictionary.ensures.held) c.total_by-lines.ensures.held

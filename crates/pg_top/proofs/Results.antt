@@ -1,0 +1,10 @@
+-- What is known of a result, by what is known of it.
+use Rattle.std.proofs.Common.{Result, Ok, Err, IfOk, IfErr}
+
+pub ok_by_two : {T E : Type 0} (r : Result T E) (P Q R : T → Type 0) → ((x : T) → P x → Q x → R x) → IfOk r P → IfOk r Q → IfOk r R
+ok_by_two (Ok x) P Q R f p q = f x p q
+ok_by_two (Err y) P Q R f p q = tt
+
+pub err_by : {T E : Type 0} (r : Result T E) (P Q : E → Type 0) → ((y : E) → P y → Q y) → IfErr r P → IfErr r Q
+err_by (Ok x) P Q f p = tt
+err_by (Err y) P Q f p = f y p
