@@ -25,7 +25,11 @@ pub(crate) fn first_char(bytes: &[u8]) -> Option<char> {
 /// The bytes of the character with which bytes begin, or the first of them where they do not begin
 /// with one.
 pub(crate) fn first_bytes(bytes: &[u8]) -> &[u8] {
-    up_to(bytes, first_char(bytes).map_or(1, |c| c.len_utf8()))
+    let len = match first_char(bytes) {
+        Some(c) => c.len_utf8(),
+        None => 1,
+    };
+    up_to(bytes, len)
 }
 
 /// Whether a text is a spelling of a letter.
@@ -51,4 +55,25 @@ pub(crate) fn small_of(c: char) -> Option<char> {
         return None;
     }
     Some(small)
+}
+
+/// Whether a head has a digit where the minima are due, so that the marks behind them are meant as
+/// such.
+pub(crate) fn has_minima(head: &[u8]) -> bool {
+    for byte in up_to(head, 4) {
+        if byte.is_ascii_digit() {
+            return true;
+        }
+    }
+    false
+}
+
+/// Whether there is no byte but blanks.
+pub(crate) fn is_blank(bytes: &[u8]) -> bool {
+    for byte in bytes {
+        if *byte != b' ' {
+            return false;
+        }
+    }
+    true
 }

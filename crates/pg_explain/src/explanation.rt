@@ -11,7 +11,7 @@ use crate::wrong::Wrong;
 use pg_visible::Text;
 use std::alloc::{AllocError, Global};
 
-/// What is said where memory was short. It takes none.
+/// What is said where memory was short. To say it takes no memory.
 pub const MEMORY: &[u8] = b"there was not enough memory; no file was written\n";
 
 /// Appends an explanation.

@@ -1,4 +1,4 @@
-//! Status 4: a file could not be read or written, or a line not be printed.
+//! Status 4: a file could not be read or written, or a line could not be printed.
 
 use crate::wrong::{Before, Deed, Fault};
 use pg_visible::Part::{Say, Show};

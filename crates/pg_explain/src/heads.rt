@@ -1,34 +1,30 @@
 //! The head of a refused translate file.
 
-use crate::chars::up_to;
+use crate::chars::{is_blank, up_to};
 use pg_visible::Part::{Byte, Count, Say, Show};
 use pg_visible::{Spot, Text};
 use std::alloc::AllocError;
 
-/// Appends why the minimum that begins at a place is none.
+/// Appends why the bytes that begin at a place are no minimum.
 pub(crate) fn push_minimum(text: &mut Text, name: &str, spot: &Spot<'_>) -> Result<(), AllocError> {
-    let is_left = spot.column < 3;
-    let side: &[u8] = if is_left { b"left" } else { b"right" };
-    let other: &[u8] = if is_left { b"right" } else { b"left" };
-    let columns: &[u8] = if is_left {
-        b"columns 1 and 2"
-    } else {
-        b"columns 3 and 4"
-    };
+    if spot.column < 3 {
+        return push_side(text, name, spot, b"columns 1 and 2", b"left", b"right");
+    }
+    push_side(text, name, spot, b"columns 3 and 4", b"right", b"left")
+}
+
+/// Appends why the minimum of a side is none.
+fn push_side(
+    text: &mut Text,
+    name: &str,
+    spot: &Spot<'_>,
+    columns: &'static [u8],
+    side: &'static [u8],
+    other: &'static [u8],
+) -> Result<(), AllocError> {
     let pair = up_to(spot.rest(), 2);
-    if pair.iter().all(|byte| *byte == b' ') {
-        return text.place(
-            name,
-            spot,
-            &[
-                Say(columns),
-                Say(b" are blank, and the "),
-                Say(side),
-                Say(b" minimum is due there, 1 to 99, since the "),
-                Say(other),
-                Say(b" one is given"),
-            ],
-        );
+    if is_blank(pair) {
+        return push_blank_side(text, name, spot, columns, side, other);
     }
     text.place(
         name,
@@ -44,6 +40,29 @@ pub(crate) fn push_minimum(text: &mut Text, name: &str, spot: &Spot<'_>) -> Resu
     )
 }
 
+/// Appends that the minimum of a side is blank.
+fn push_blank_side(
+    text: &mut Text,
+    name: &str,
+    spot: &Spot<'_>,
+    columns: &'static [u8],
+    side: &'static [u8],
+    other: &'static [u8],
+) -> Result<(), AllocError> {
+    text.place(
+        name,
+        spot,
+        &[
+            Say(columns),
+            Say(b" are blank, and the "),
+            Say(side),
+            Say(b" minimum is due there, 1 to 99, since the "),
+            Say(other),
+            Say(b" one is given"),
+        ],
+    )
+}
+
 /// What the mark in a column means, and the byte that a blank there means.
 fn mark_in(column: usize) -> (&'static [u8], u8) {
     match column {
@@ -54,7 +73,7 @@ fn mark_in(column: usize) -> (&'static [u8], u8) {
     }
 }
 
-/// The mark in a column of a head.
+/// The mark in a column of a head; a blank means a default.
 fn mark_byte(head: &[u8], column: usize) -> u8 {
     match head.get(column.saturating_sub(1)) {
         Some(byte) if *byte != b' ' => *byte,
@@ -65,42 +84,54 @@ fn mark_byte(head: &[u8], column: usize) -> u8 {
 /// The first column before this one that has the same mark.
 fn same_mark(head: &[u8], column: usize) -> Option<usize> {
     let mark = mark_byte(head, column);
-    (5..column.min(8)).find(|earlier| mark_byte(head, *earlier) == mark)
+    for earlier in 5..column.min(8) {
+        if mark_byte(head, earlier) == mark {
+            return Some(earlier);
+        }
+    }
+    None
 }
 
-/// Appends why the mark in a column is none.
-pub(crate) fn push_mark(text: &mut Text, name: &str, spot: &Spot<'_>) -> Result<(), AllocError> {
-    let (meaning, _) = mark_in(spot.column);
-    let mark = Byte(mark_byte(spot.text, spot.column));
-    let is_blank = up_to(spot.rest(), 1).iter().all(|byte| *byte == b' ');
-    let blank: &[u8] = if is_blank {
+/// Appends that the mark in a column is that of another too.
+fn push_same_mark(
+    text: &mut Text,
+    name: &str,
+    spot: &Spot<'_>,
+    column: usize,
+) -> Result<(), AllocError> {
+    let blank: &[u8] = if is_blank(up_to(spot.rest(), 1)) {
         b", as a blank means it"
     } else {
         b""
     };
-    match same_mark(spot.text, spot.column) {
-        Some(column) => text.place(
-            name,
-            spot,
-            &[
-                mark,
-                Say(b" is the mark of "),
-                Say(meaning),
-                Say(blank),
-                Say(b", and that of column "),
-                Count(column),
-                Say(b" too: the four marks differ"),
-            ],
-        ),
-        None => text.place(
-            name,
-            spot,
-            &[
-                mark,
-                Say(b" is no mark of "),
-                Say(meaning),
-                Say(b": a mark is no digit, TAB, CR or {"),
-            ],
-        ),
+    text.place(
+        name,
+        spot,
+        &[
+            Byte(mark_byte(spot.text, spot.column)),
+            Say(b" is the mark of "),
+            Say(mark_in(spot.column).0),
+            Say(blank),
+            Say(b", and that of column "),
+            Count(column),
+            Say(b" too: the four marks differ"),
+        ],
+    )
+}
+
+/// Appends why the mark in a column is none.
+pub(crate) fn push_mark(text: &mut Text, name: &str, spot: &Spot<'_>) -> Result<(), AllocError> {
+    if let Some(column) = same_mark(spot.text, spot.column) {
+        return push_same_mark(text, name, spot, column);
     }
+    text.place(
+        name,
+        spot,
+        &[
+            Byte(mark_byte(spot.text, spot.column)),
+            Say(b" is no mark of "),
+            Say(mark_in(spot.column).0),
+            Say(b": a mark is no digit, TAB, CR or {"),
+        ],
+    )
 }

@@ -61,7 +61,7 @@ fn char_cause(letters: &Letters<'_>, c: char) -> Option<Cause> {
     }
 }
 
-/// Why the bytes that begin no item are none.
+/// Why the refused bytes begin no item.
 fn cause_of(letters: &Letters<'_>, kind: Kind, rest: &[u8]) -> Option<Cause> {
     if kind != Kind::DictionaryCharacter && kind != Kind::PatternCharacter {
         return None;
@@ -76,7 +76,7 @@ fn cause_of(letters: &Letters<'_>, kind: Kind, rest: &[u8]) -> Option<Cause> {
     }
 }
 
-/// Appends that a byte is Latin-1, and what the table has.
+/// Appends which character a byte is in Latin-1, and that the table has it in UTF-8, where it does.
 fn push_latin1<'a>(
     text: &mut Text,
     refused: &Refused<'a>,
@@ -139,6 +139,41 @@ fn push_new_letter<'a>(
     ])
 }
 
+/// Appends that a character has another encoding than the table.
+fn push_utf8<'a>(text: &mut Text, letters: &Letters<'a>, c: &'a [u8]) -> Result<(), AllocError> {
+    text.line(&[
+        Show(c),
+        Say(b" is UTF-8 here and one byte of Latin-1 in "),
+        Show(letters.name.as_bytes()),
+        Say(b": both files need one encoding"),
+    ])
+}
+
+/// Appends which mark is the one of a hyphen.
+fn push_hyphen(text: &mut Text, letters: &Letters<'_>) -> Result<(), AllocError> {
+    text.line(&[
+        Say(b"this is a hyphen of Unicode; the mark of a hyphen is "),
+        Byte(letters.table.mark_byte(Mark::Missed)),
+    ])
+}
+
+/// Appends how an accent could be part of its letter.
+fn push_accent(text: &mut Text, letters: &Letters<'_>) -> Result<(), AllocError> {
+    text.line(&[
+        Say(b"this accent is a character of its own behind its letter: "),
+        Say(b"compose the file to NFC, or spell the letter so in "),
+        Show(letters.name.as_bytes()),
+    ])
+}
+
+/// Appends that a mark stands in a pattern.
+fn push_dictionary_mark(text: &mut Text, c: &[u8]) -> Result<(), AllocError> {
+    text.line(&[
+        Show(c),
+        Say(b" is a mark of dictionaries; patterns have digits"),
+    ])
+}
+
 /// Appends why the bytes that begin no item are none, where they show it.
 pub(crate) fn push_letter_cause<'a>(
     text: &mut Text,
@@ -146,33 +181,15 @@ pub(crate) fn push_letter_cause<'a>(
     letters: &Letters<'a>,
     rest: &'a [u8],
 ) -> Result<(), AllocError> {
-    let Some(cause) = cause_of(letters, refused.refusal.kind, rest) else {
-        return Ok(());
-    };
     let c = first_bytes(rest);
-    let table = Show(letters.name.as_bytes());
-    match cause {
-        Cause::Latin1(meant) => push_latin1(text, refused, letters, meant, c),
-        Cause::Capital(small) => push_capital(text, letters, small, c),
-        Cause::NewLetter => push_new_letter(text, letters, c),
-        Cause::Utf8 => text.line(&[
-            Show(c),
-            Say(b" is UTF-8 here and one byte of Latin-1 in "),
-            table,
-            Say(b": both files need one encoding"),
-        ]),
-        Cause::Hyphen => text.line(&[
-            Say(b"this is a hyphen of Unicode; the mark of a hyphen is "),
-            Byte(letters.table.mark_byte(Mark::Missed)),
-        ]),
-        Cause::Accent => text.line(&[
-            Say(b"this accent is a character of its own behind its letter: "),
-            Say(b"compose the file to NFC, or spell the letter so in "),
-            table,
-        ]),
-        Cause::Mark => text.line(&[
-            Show(c),
-            Say(b" is a mark of dictionaries; patterns have digits"),
-        ]),
+    match cause_of(letters, refused.refusal.kind, rest) {
+        Some(Cause::Latin1(meant)) => push_latin1(text, refused, letters, meant, c),
+        Some(Cause::Capital(small)) => push_capital(text, letters, small, c),
+        Some(Cause::NewLetter) => push_new_letter(text, letters, c),
+        Some(Cause::Utf8) => push_utf8(text, letters, c),
+        Some(Cause::Hyphen) => push_hyphen(text, letters),
+        Some(Cause::Accent) => push_accent(text, letters),
+        Some(Cause::Mark) => push_dictionary_mark(text, c),
+        None => Ok(()),
     }
 }

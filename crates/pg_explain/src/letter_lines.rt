@@ -10,8 +10,23 @@ use std::alloc::AllocError;
 
 /// A letter line without the blanks at its end.
 fn without_blanks(line: &[u8]) -> &[u8] {
-    let blanks = line.iter().rev().take_while(|byte| **byte == b' ').count();
-    up_to(line, line.len().saturating_sub(blanks))
+    let mut end = 0;
+    for (place, byte) in line.iter().enumerate() {
+        if *byte != b' ' {
+            end = place.saturating_add(1);
+        }
+    }
+    up_to(line, end)
+}
+
+/// The bytes before the first delimiter.
+fn before_delimiter(bytes: &[u8], delimiter: u8) -> &[u8] {
+    for (place, byte) in bytes.iter().enumerate() {
+        if *byte == delimiter {
+            return up_to(bytes, place);
+        }
+    }
+    bytes
 }
 
 /// The spelling that begins at a place, up to the next delimiter of its line.
@@ -19,17 +34,12 @@ fn spelling_at<'a>(spot: &Spot<'a>) -> &'a [u8] {
     let line = without_blanks(spot.text);
     let rest = behind(line, spot.offset());
     match line.first() {
-        Some(delimiter) => up_to(
-            rest,
-            rest.iter()
-                .position(|byte| byte == delimiter)
-                .unwrap_or(rest.len()),
-        ),
+        Some(delimiter) => before_delimiter(rest, *delimiter),
         None => rest,
     }
 }
 
-/// Why a spelling is none.
+/// Why the bytes in place of a spelling are none.
 fn fault_of(spelling: &[u8]) -> &'static [u8] {
     if spelling.contains(&b' ') {
         return b" holds a blank";
@@ -60,7 +70,7 @@ pub(crate) fn push_delimiter(text: &mut Text, line: &[u8]) -> Result<(), AllocEr
     }
 }
 
-/// Appends why the spelling at a place is none.
+/// Appends why the bytes at a place are no spelling.
 pub(crate) fn push_spelling(
     text: &mut Text,
     name: &str,
@@ -92,17 +102,26 @@ pub(crate) fn push_spelling(
     )
 }
 
-/// Whether of two spellings one begins the other, and they are not two equal ones of one letter.
+/// Whether one of two spellings begins with the other. Two equal spellings of one letter do not
+/// clash.
 fn clashes(one: &[u8], other: &[u8], is_same_letter: bool) -> bool {
     (one.starts_with(other) || other.starts_with(one)) && !(is_same_letter && one == other)
 }
 
 /// The first spelling of a letter line that clashes with this one.
 fn clash_in<'a>(line: &'a [u8], spelling: &[u8], is_same_letter: bool) -> Option<&'a [u8]> {
-    let (delimiter, rest) = without_blanks(line).split_first()?;
-    rest.split(|byte| byte == delimiter)
-        .take_while(|piece| !piece.is_empty())
-        .find(|piece| clashes(piece, spelling, is_same_letter))
+    let (delimiter, mut rest) = without_blanks(line).split_first()?;
+    for _ in 0..line.len() {
+        let piece = before_delimiter(rest, *delimiter);
+        if piece.is_empty() {
+            break;
+        }
+        if clashes(piece, spelling, is_same_letter) {
+            return Some(piece);
+        }
+        rest = behind(rest, piece.len().saturating_add(1));
+    }
+    None
 }
 
 /// The first spelling of the letter lines up to this one that clashes with this spelling, and the

@@ -1,5 +1,6 @@
 //! How many more lines of a refused file would be refused.
 
+use crate::chars::has_minima;
 use crate::parameters::push_more_items;
 use crate::wrong::Refused;
 use pg_dict::Dictionary;
@@ -7,7 +8,7 @@ use pg_patterns::PatternSet;
 use pg_translate::Table;
 use pg_types::{Kind, ReadingError, Refusal};
 use pg_visible::Part::{Count, Say, Show};
-use pg_visible::Text;
+use pg_visible::{Spot, Text};
 use std::alloc::{AllocError, Global};
 
 /// How many lines or items are counted at most.
@@ -54,7 +55,7 @@ pub(crate) fn push_count(
     ])
 }
 
-/// How many lines behind the refused one are refused for themselves, up to a hundred.
+/// How many lines behind the refused one are refused by themselves, up to a hundred.
 fn refused_behind(
     alloc: Global,
     refused: &Refused<'_>,
@@ -76,29 +77,34 @@ fn refused_behind(
     Ok(more)
 }
 
-/// Whether a head has a digit where the minima are due, so that the marks behind them are meant as
-/// such.
-fn has_minima(head: &[u8]) -> bool {
-    head.iter().take(4).any(|byte| byte.is_ascii_digit())
+/// How many bytes of a line of a translate file are blanked: the minima of a head, or all.
+fn blank_len(file: &[u8], refusal: &Refusal) -> usize {
+    let head = Spot::new(file, refusal.line as usize, 1).text;
+    if refusal.kind == Kind::BadMinima && has_minima(head) {
+        return 4;
+    }
+    usize::MAX
 }
 
 /// Blanks what is refused out of a translate file: the minima of a head, or a whole line.
 fn blank_out(file: &mut [u8], refusal: &Refusal) {
-    let place = (refusal.line as usize).saturating_sub(1);
-    if let Some(line) = file.split_mut(|byte| *byte == b'\n').nth(place) {
-        let len = if refusal.kind == Kind::BadMinima && has_minima(line) {
-            line.len().min(4)
-        } else {
-            line.len()
-        };
-        if let Some(front) = line.get_mut(..len) {
-            front.fill(b' ');
+    let number = refusal.line as usize;
+    let len = blank_len(file, refusal);
+    let mut line = 1_usize;
+    let mut column = 0_usize;
+    for byte in file.iter_mut() {
+        if *byte == b'\n' {
+            line = line.saturating_add(1);
+            column = 0;
+        } else if line == number && column < len {
+            *byte = b' ';
+            column = column.saturating_add(1);
         }
     }
 }
 
 /// How many lines behind its head have to be blank, besides what is refused, until a translate file
-/// is accepted, and whether these are all. The count ends at this number.
+/// is accepted, and whether these are all. The count ends at `most`.
 fn refused_besides(
     alloc: Global,
     file: &mut [u8],

@@ -1,4 +1,4 @@
-//! Status 0: what is worth a word although nothing is wrong.
+//! Status 0: what is said although nothing is wrong.
 
 use pg_types::next_line;
 use pg_visible::Part::{Count, Say, Show};
@@ -55,10 +55,15 @@ pub(crate) fn push_low_start(
 
 /// Where what follows the first blank or TAB of a line begins, where something does.
 fn behind_blank(line: &[u8]) -> Option<usize> {
-    let blank = line.iter().position(|byte| matches!(byte, b' ' | b'\t'))?;
-    let rest = line.get(blank..)?;
-    let more = rest.iter().position(|byte| !matches!(byte, b' ' | b'\t'))?;
-    Some(blank.saturating_add(more))
+    let mut is_behind = false;
+    for (place, byte) in line.iter().enumerate() {
+        let is_blank = *byte == b' ' || *byte == b'\t';
+        if is_behind && !is_blank {
+            return Some(place);
+        }
+        is_behind |= is_blank;
+    }
+    None
 }
 
 /// The first line with something behind its first blank, and how many lines have that.

@@ -8,7 +8,7 @@ use pg_visible::Part::{Count, Say, Show};
 use pg_visible::{Spot, Text};
 use std::alloc::AllocError;
 
-/// More items than a file of parameters may have.
+/// A number of items that is greater than that of any accepted parameters file.
 const ITEMS_MAX: usize = 100;
 
 /// Whether a byte stands between items.
@@ -16,25 +16,78 @@ fn is_separator(byte: u8) -> bool {
     matches!(byte, b' ' | b'\t' | b'\r' | b'\n')
 }
 
+/// How many separators stand before the next item.
+fn separators_in(rest: &[u8]) -> usize {
+    for (place, byte) in rest.iter().enumerate() {
+        if !is_separator(*byte) {
+            return place;
+        }
+    }
+    rest.len()
+}
+
 /// The bytes from the next item on.
 fn from_item(rest: &[u8]) -> &[u8] {
-    let start = rest.iter().position(|byte| !is_separator(*byte));
-    behind(rest, start.unwrap_or(rest.len()))
+    behind(rest, separators_in(rest))
+}
+
+/// How many bytes the item has with which bytes begin.
+fn item_len(rest: &[u8]) -> usize {
+    for (place, byte) in rest.iter().enumerate() {
+        if is_separator(*byte) {
+            return place;
+        }
+    }
+    rest.len()
 }
 
 /// The item with which bytes begin.
 fn first_item(rest: &[u8]) -> &[u8] {
-    let end = rest.iter().position(|byte| is_separator(*byte));
-    up_to(rest, end.unwrap_or(rest.len()))
+    up_to(rest, item_len(rest))
+}
+
+/// The next item, and the bytes behind it.
+fn next_item(bytes: &[u8]) -> Option<(&[u8], &[u8])> {
+    let rest = from_item(bytes);
+    let item = first_item(rest);
+    if item.is_empty() {
+        return None;
+    }
+    Some((item, behind(rest, item.len())))
 }
 
 /// The bytes from the item with this number on, counted from 1.
 fn from_item_at(bytes: &[u8], item: usize) -> &[u8] {
     let mut rest = from_item(bytes);
     for _ in 1..item.min(ITEMS_MAX) {
-        rest = from_item(behind(rest, first_item(rest).len()));
+        rest = from_item(behind(rest, item_len(rest)));
     }
     rest
+}
+
+/// How many bytes there are up to the end of the last item.
+fn items_end(bytes: &[u8]) -> usize {
+    let mut end = 0;
+    for (place, byte) in bytes.iter().enumerate() {
+        if !is_separator(*byte) {
+            end = place.saturating_add(1);
+        }
+    }
+    end
+}
+
+/// The line and the column behind bytes.
+fn place_behind(before: &[u8]) -> (usize, usize) {
+    let mut line = 1_usize;
+    let mut column = 1_usize;
+    for byte in before {
+        column = column.saturating_add(1);
+        if *byte == b'\n' {
+            line = line.saturating_add(1);
+            column = 1;
+        }
+    }
+    (line, column)
 }
 
 /// The place of the item with this number, counted from 1; where there is none, that behind the
@@ -42,25 +95,24 @@ fn from_item_at(bytes: &[u8], item: usize) -> &[u8] {
 pub(crate) fn item_spot(bytes: &[u8], item: usize) -> Spot<'_> {
     let rest = from_item_at(bytes, item);
     let at = if rest.is_empty() {
-        let end = bytes.iter().rposition(|byte| !is_separator(*byte));
-        end.map_or(0, |end| end.saturating_add(1))
+        items_end(bytes)
     } else {
         bytes.len().saturating_sub(rest.len())
     };
-    let before = up_to(bytes, at);
-    let feeds = before.iter().filter(|byte| **byte == b'\n').count();
-    let since = before
-        .iter()
-        .rev()
-        .take_while(|byte| **byte != b'\n')
-        .count();
-    Spot::new(bytes, feeds.saturating_add(1), since.saturating_add(1))
+    let (line, column) = place_behind(up_to(bytes, at));
+    Spot::new(bytes, line, column)
 }
 
 /// How many items there are.
 fn items_in(bytes: &[u8]) -> usize {
-    let items = bytes.split(|byte| is_separator(*byte));
-    items.filter(|item| !item.is_empty()).count()
+    let mut rest = bytes;
+    for count in 0..bytes.len() {
+        match next_item(rest) {
+            Some((_, after)) => rest = after,
+            None => return count,
+        }
+    }
+    bytes.len()
 }
 
 /// The number that an item is; 0 where it is none.
@@ -95,7 +147,8 @@ fn name_of(item: usize) -> &'static [u8] {
     }
 }
 
-/// The least and the greatest number that may stand at an item, behind one that is this number.
+/// The least and the greatest number that may stand at an item, where the item before it is the
+/// number `before`.
 fn range_of(item: usize, before: usize) -> (usize, usize) {
     let longest = usize::from(LENGTH_MAX);
     match item.saturating_sub(3) % 5 {
@@ -106,7 +159,7 @@ fn range_of(item: usize, before: usize) -> (usize, usize) {
     }
 }
 
-/// Appends an item between what is said of it, and what is due there.
+/// Appends an item, with `words` before it and `after` behind it, and what is due there.
 fn push_due(
     text: &mut Text,
     refused: &Refused<'_>,
@@ -148,7 +201,7 @@ fn push_due(
     )
 }
 
-/// How many levels a file has by its first two items.
+/// How many levels a file should have by its first two items.
 fn levels_of(bytes: &[u8]) -> usize {
     number_at(bytes, 2)
         .saturating_add(1)
@@ -160,7 +213,7 @@ fn numbers_of(levels: usize) -> usize {
     levels.saturating_mul(5).saturating_add(2)
 }
 
-/// What stands between a number of levels and how many numbers they take.
+/// The words between a number of levels and how many numbers they take.
 fn take(levels: usize) -> &'static [u8] {
     if levels == 1 {
         b" level takes "
@@ -208,27 +261,35 @@ fn is_answer(item: &[u8]) -> bool {
     matches!(item, b"y" | b"Y" | b"n" | b"N")
 }
 
+/// Whether an item may stand at a place behind one that is this number. The file should have so
+/// many numbers; none where its levels are not known.
+fn is_due(numbers: Option<usize>, place: usize, item: &[u8], before: usize) -> bool {
+    let (least, most) = range_of(place, before);
+    let number = number_of(item);
+    let is_number = least <= number && number <= most;
+    match numbers {
+        Some(numbers) if numbers < place => {
+            place == numbers.saturating_add(1) && is_answer(item)
+        }
+        Some(_) => is_number,
+        None => is_number || (place % 5 == 3 && is_answer(item)),
+    }
+}
+
 /// How many items behind the one with this number would be refused too, each judged by its place.
-/// The file should have so many numbers; none where its levels are not known.
 fn refused_behind(bytes: &[u8], item: usize, numbers: Option<usize>) -> usize {
-    let items = bytes.split(|byte| is_separator(*byte));
+    let mut rest = bytes;
     let mut before = 0;
     let mut more = 0_usize;
-    for (i, text) in items.filter(|text| !text.is_empty()).enumerate() {
-        let place = i.saturating_add(1);
-        let number = number_of(text);
-        let (least, most) = range_of(place, before);
-        let is_number = least <= number && number <= most;
-        let is_due = match numbers {
-            Some(numbers) if numbers < place => place == numbers.saturating_add(1)
-                && is_answer(text),
-            Some(_) => is_number,
-            None => is_number || (place % 5 == 3 && is_answer(text)),
+    for place in 1..bytes.len().saturating_add(1) {
+        let Some((text, after)) = next_item(rest) else {
+            break;
         };
-        if item < place && !is_due {
+        if item < place && !is_due(numbers, place, text, before) {
             more = more.saturating_add(1);
         }
-        before = number;
+        before = number_of(text);
+        rest = after;
     }
     more.min(MORE_MAX)
 }

@@ -63,18 +63,24 @@ fn push_reason<'a>(
     }
 }
 
-/// Appends where and why a file is refused: the place and what is due there, the line with a caret
-/// below the place, a cause where the bytes show one, and how many more lines would be refused.
+/// Appends the line of a refusal with a caret, its cause where the bytes show one, and how many more
+/// lines would be refused.
+fn push_place(text: &mut Text, refused: &Refused<'_>, spot: &Spot<'_>) -> Result<(), AllocError> {
+    text.excerpt(spot)?;
+    if refused.refusal.kind == Kind::BadSpelling {
+        push_delimiter(text, spot.text)?;
+    }
+    push_cause(text, refused, spot)?;
+    push_more(text, refused)
+}
+
+/// Appends where and why a file is refused: the place and what is due there, and where it has one,
+/// the line with a caret below the place and what follows that.
 pub(crate) fn push_refused(text: &mut Text, refused: &Refused<'_>) -> Result<(), AllocError> {
     let spot = spot_of(refused);
     push_reason(text, refused, &spot)?;
     if refused.refusal.line == 0 {
         return Ok(());
     }
-    text.excerpt(&spot)?;
-    if refused.refusal.kind == Kind::BadSpelling {
-        push_delimiter(text, spot.text)?;
-    }
-    push_cause(text, refused, &spot)?;
-    push_more(text, refused)
+    push_place(text, refused, &spot)
 }

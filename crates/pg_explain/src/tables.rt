@@ -7,20 +7,20 @@ use pg_visible::Part::{Count, Say, Show};
 use pg_visible::Text;
 use std::alloc::AllocError;
 
-/// The bytes of the head, of a cell and of a record.
+/// How many bytes the head, a cell and a record have.
 const HEAD_LEN: usize = 16;
 
 const CELL_LEN: usize = 10;
 
 const RECORD_LEN: usize = 6;
 
-/// The number of so many bytes at a place, the first byte the greatest.
+/// The number that `len` bytes at a place are, with the most significant byte first.
 fn number(bytes: &[u8], at: usize, len: usize) -> usize {
-    up_to(behind(bytes, at), len)
-        .iter()
-        .fold(0, |value: usize, byte| {
-            value.saturating_mul(256).saturating_add(usize::from(*byte))
-        })
+    let mut value = 0_usize;
+    for byte in up_to(behind(bytes, at), len) {
+        value = value.saturating_mul(256).saturating_add(usize::from(*byte));
+    }
+    value
 }
 
 /// The numbers of a table's head.
@@ -130,7 +130,7 @@ fn push_numbers(text: &mut Text, name: &str, bytes: &[u8]) -> Result<(), AllocEr
 }
 
 /// Appends which rule of packed tables a file breaks first. Its cells lead to one another, so
-/// nothing behind that is judged.
+/// nothing behind the first fault is judged.
 pub(crate) fn push_bad_table(text: &mut Text, refused: &Refused<'_>) -> Result<(), AllocError> {
     let name = refused.name;
     let bytes = refused.bytes;

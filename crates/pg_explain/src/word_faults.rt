@@ -1,35 +1,51 @@
 //! Which word of a command is wrong.
 
-use crate::forms::{Range, Role, Slot, Verb};
+use crate::forms::{Behind, Command, Range, Role, Slot};
+use pg_visible::Part::{self, Count, Show};
 
 /// The most parameter files of `sweep`.
 const SETS_MAX: usize = 16;
 
-/// What is wrong with a word, or where one is missing.
+/// What is wrong with a word, or where one is missing: up to three words, and what is said behind each.
 #[derive(Clone, Copy)]
-pub(crate) enum Fault<'a> {
-    /// The word for this is missing.
-    Missing(&'static str),
-    /// The word for this is empty.
-    Empty(&'static str),
-    /// An option stands where this is due.
-    Early(&'a str, &'static str),
-    /// A word with two dashes stands where the name for this is due.
-    Dashes(&'a str, &'static str),
-    /// The number for this is out of its range.
-    Number(&'static str, &'a str, Range),
-    /// A word stands where an option or nothing is due.
-    Extra(&'a str),
-    /// The name behind an option is missing.
-    Unnamed(&'a str),
-    /// An option stands twice.
-    Twice(&'a str),
-    /// The command does not take this option.
-    Option(&'a str),
-    /// So many parameter files are too many.
-    Sets(usize),
-    /// Two words that have to differ are this name.
-    Same(&'a str, &'a str, &'a str),
+pub(crate) struct Fault<'a> {
+    pub word: Part<'a>,
+    pub is: &'static [u8],
+    pub other: &'a str,
+    pub behind: &'static [u8],
+    pub third: &'a str,
+    pub end: &'static [u8],
+}
+
+/// What is wrong with one word.
+fn of_part<'a>(word: Part<'a>, is: &'static [u8]) -> Fault<'a> {
+    Fault {
+        word,
+        is,
+        other: "",
+        behind: b"",
+        third: "",
+        end: b"",
+    }
+}
+
+/// What is wrong with one word.
+fn of_word<'a>(word: &'a str, is: &'static [u8]) -> Fault<'a> {
+    of_part(Show(word.as_bytes()), is)
+}
+
+/// What is wrong with one word beside another.
+fn of_two<'a>(
+    word: &'a str,
+    is: &'static [u8],
+    other: &'a str,
+    behind: &'static [u8],
+) -> Fault<'a> {
+    Fault {
+        other,
+        behind,
+        ..of_word(word, is)
+    }
 }
 
 /// Whether a word is an option of some command.
@@ -37,23 +53,35 @@ fn is_option(word: &str) -> bool {
     word == "--pattmp" || word == "--cells"
 }
 
-/// What is wrong with a word as a name.
-fn name_fault<'a>(name: &'static str, word: &'a str) -> Option<Fault<'a>> {
-    if word.is_empty() {
-        Some(Fault::Empty(name))
-    } else if is_option(word) {
-        Some(Fault::Early(word, name))
-    } else if word.starts_with("--") {
-        Some(Fault::Dashes(word, name))
-    } else {
-        None
+/// Whether options may stand behind the names of a command.
+fn has_options(command: &Command) -> bool {
+    matches!(command.behind, Behind::WrittenFiles | Behind::ReadFiles)
+}
+
+/// What is said of an option or another word with two dashes that stands where a name is due.
+fn dashes_fault<'a>(name: &'static str, word: &'a str, is_early: bool) -> Fault<'a> {
+    if is_early {
+        let is = b" belongs behind the six names, and stands where ";
+        return of_two(word, is, name, b" is due");
     }
+    let behind = b" is due, and no name begins with two dashes";
+    of_two(word, b" stands where ", name, behind)
+}
+
+/// What is wrong with a word as a name. An option is early where it may stand behind that.
+fn name_fault<'a>(name: &'static str, word: &'a str, has_options: bool) -> Option<Fault<'a>> {
+    if word.is_empty() {
+        return Some(of_word(name, b" is empty, and has to be a name"));
+    }
+    if word.starts_with("--") {
+        return Some(dashes_fault(name, word, has_options && is_option(word)));
+    }
+    None
 }
 
 /// Whether a word is a number in a range.
 fn is_within(word: &str, range: &Range) -> bool {
-    let is_number = !word.is_empty() && word.as_bytes().iter().all(|b| b.is_ascii_digit());
-    if !is_number || word.len() > range.digits {
+    if word.is_empty() || word.starts_with('+') || word.len() > range.digits {
         return false;
     }
     match word.parse::<u64>() {
@@ -62,153 +90,221 @@ fn is_within(word: &str, range: &Range) -> bool {
     }
 }
 
+/// What is wrong with a word as a number in a range.
+fn number_fault<'a>(name: &'static str, word: &'a str, range: &Range) -> Option<Fault<'a>> {
+    if is_within(word, range) {
+        return None;
+    }
+    let is_long = word.len() > range.digits;
+    let due = if is_long { range.digits_due } else { range.due };
+    Some(of_two(name, b" is ", word, due))
+}
+
 /// What is wrong with the word for a slot.
-fn slot_fault<'a>(slot: &Slot, word: Option<&'a String>) -> Option<Fault<'a>> {
-    let Some(word) = word else {
-        return Some(Fault::Missing(slot.name));
-    };
+fn slot_fault<'a>(slot: &Slot, word: &'a str, has_options: bool) -> Option<Fault<'a>> {
     match slot.role {
-        Role::Input | Role::Output => name_fault(slot.name, word.as_str()),
-        Role::Number(range) if !is_within(word.as_str(), &range) => {
-            Some(Fault::Number(slot.name, word.as_str(), range))
-        }
-        Role::Number(_) => None,
+        Role::Input | Role::Output => name_fault(slot.name, word, has_options),
+        Role::Number(range) => number_fault(slot.name, word, &range),
     }
 }
 
-/// How many words each call of a command has.
-fn slot_count(verb: Verb) -> usize {
-    (0..8)
-        .take_while(|place| verb.slot(*place).is_some())
-        .count()
-}
-
 /// The first word that is wrong of those that each call of a command has.
-fn slots_fault(verb: Verb, words: &[String]) -> Option<Fault<'_>> {
-    for place in 0..slot_count(verb) {
-        let slot = verb.slot(place)?;
-        if let Some(fault) = slot_fault(&slot, words.get(place)) {
-            return Some(fault);
+fn slots_fault<'a>(command: &Command, words: &'a [String]) -> Option<Fault<'a>> {
+    for (place, slot) in command.slots.iter().enumerate() {
+        let Some(word) = words.get(place) else {
+            return Some(of_word(slot.name, b" is missing"));
+        };
+        let fault = slot_fault(slot, word.as_str(), has_options(command));
+        if fault.is_some() {
+            return fault;
         }
     }
     None
 }
 
-/// What is wrong with an option and its name; `first` is the option before it.
-fn option_fault<'a>(
-    verb: Verb,
-    first: Option<&str>,
-    option: &'a str,
-    name: Option<&'a String>,
-) -> Option<Fault<'a>> {
+/// What is said of a word that is no option here, or once more the same.
+fn option_words(command: &Command, option: &str, is_first: bool) -> Option<&'static [u8]> {
     if !is_option(option) {
-        return Some(Fault::Extra(option));
+        return Some(b" is one word too many");
     }
-    if verb == Verb::Audit && option == "--cells" {
-        return Some(Fault::Option(option));
+    if matches!(command.behind, Behind::ReadFiles) && option == "--cells" {
+        return Some(b" is no option of this command");
     }
-    if first == Some(option) {
-        return Some(Fault::Twice(option));
-    }
-    match name {
-        None => Some(Fault::Unnamed(option)),
-        Some(name) => name_fault("FILE", name.as_str()),
+    if is_first {
+        None
+    } else {
+        Some(b" stands twice")
     }
 }
 
-/// What is wrong with the words behind the six names.
-fn options_fault(verb: Verb, words: &[String]) -> Option<Fault<'_>> {
-    let first = words.first()?.as_str();
-    if let Some(fault) = option_fault(verb, None, first, words.get(1)) {
-        return Some(fault);
+/// Whether a word is none of these.
+fn is_new(words: &[String], word: &str) -> bool {
+    for other in words {
+        if other.as_str() == word {
+            return false;
+        }
     }
-    let second = words.get(2)?.as_str();
-    if let Some(fault) = option_fault(verb, Some(first), second, words.get(3)) {
-        return Some(fault);
+    true
+}
+
+/// What is wrong with the option at a place of the words behind the six names, or with its name.
+fn option_fault<'a>(command: &Command, words: &'a [String], place: usize) -> Option<Fault<'a>> {
+    let option = words.get(place)?.as_str();
+    let before = words.get(..place).unwrap_or(&[]);
+    if let Some(is) = option_words(command, option, is_new(before, option)) {
+        return Some(of_word(option, is));
     }
-    let third = words.get(4)?.as_str();
-    if is_option(third) {
-        Some(Fault::Twice(third))
-    } else {
-        Some(Fault::Extra(third))
+    match words.get(place.saturating_add(1)) {
+        None => Some(of_two("FILE", b" is missing behind ", option, b"")),
+        Some(name) => name_fault("FILE", name.as_str(), false),
     }
+}
+
+/// What is wrong with the words behind the six names: an option and its name, and so on.
+fn options_fault<'a>(command: &Command, words: &'a [String]) -> Option<Fault<'a>> {
+    for place in 0..words.len() {
+        if place % 2 == 0 {
+            let fault = option_fault(command, words, place);
+            if fault.is_some() {
+                return fault;
+            }
+        }
+    }
+    None
 }
 
 /// What is wrong with the names of parameter files.
 fn sets_fault(words: &[String]) -> Option<Fault<'_>> {
     if words.is_empty() {
-        return Some(Fault::Missing("PARAMS"));
+        return Some(of_word("PARAMS", b" is missing"));
     }
     if words.len() > SETS_MAX {
-        return Some(Fault::Sets(words.len()));
+        let is = b" parameter files are given, and 16 is the most";
+        return Some(of_part(Count(words.len()), is));
     }
-    words
-        .iter()
-        .find_map(|word| name_fault("PARAMS", word.as_str()))
+    set_fault(words)
 }
 
-/// What is wrong with the words behind those that each call has.
-fn rest_fault(verb: Verb, words: &[String]) -> Option<Fault<'_>> {
-    match verb {
-        Verb::Generate | Verb::Audit => options_fault(verb, words),
-        Verb::Sweep => sets_fault(words),
-        Verb::Sample | Verb::Pack | Verb::Totals | Verb::Prune => {
-            Some(Fault::Extra(words.first()?.as_str()))
-        }
-    }
-}
-
-/// How the word at a place is called, whether it is the name of an output, and whether it is a name
-/// at all.
-fn called<'a>(verb: Verb, words: &'a [String], place: usize) -> (&'a str, bool, bool) {
-    match verb.slot(place) {
-        Some(slot) => match slot.role {
-            Role::Input => (slot.name, false, true),
-            Role::Output => (slot.name, true, true),
-            Role::Number(_) => (slot.name, false, false),
-        },
-        None if verb == Verb::Sweep => ("a parameter file", false, true),
-        None => match words.get(place.saturating_sub(1)) {
-            Some(option) if is_option(option.as_str()) => {
-                let is_written = verb == Verb::Generate;
-                (option.as_str(), is_written, true)
-            }
-            _ => ("", false, false),
-        },
-    }
-}
-
-/// The words before a place that are equal to the one there and have to differ from it.
-fn same_before<'a>(verb: Verb, words: &'a [String], place: usize) -> Option<Fault<'a>> {
-    let word = words.get(place)?.as_str();
-    let (name, is_written, is_name) = called(verb, words, place);
-    for before in 0..place {
-        let (other, is_other_written, is_other_name) = called(verb, words, before);
-        let is_same = words.get(before)?.as_str() == word;
-        if is_same && is_name && is_other_name && (is_written || is_other_written) {
-            return Some(if is_other_written {
-                Fault::Same(other, name, word)
-            } else {
-                Fault::Same(name, other, word)
-            });
+/// What is wrong with the first of the names of parameter files that is wrong.
+fn set_fault(words: &[String]) -> Option<Fault<'_>> {
+    for word in words {
+        let fault = name_fault("PARAMS", word.as_str(), false);
+        if fault.is_some() {
+            return fault;
         }
     }
     None
 }
 
-/// The first two words that are equal and have to differ.
-fn same_fault(verb: Verb, words: &[String]) -> Option<Fault<'_>> {
-    (0..words.len()).find_map(|place| same_before(verb, words, place))
+/// What is wrong with the words behind those that each call has.
+fn rest_fault<'a>(command: &Command, words: &'a [String]) -> Option<Fault<'a>> {
+    match command.behind {
+        Behind::Nothing => Some(of_word(words.first()?.as_str(), b" is one word too many")),
+        Behind::WrittenFiles | Behind::ReadFiles => options_fault(command, words),
+        Behind::Sets => sets_fault(words),
+    }
+}
+
+/// How a name of a file is called, and whether the file is written.
+#[derive(Clone, Copy)]
+struct FileName<'a> {
+    name: &'a str,
+    is_written: bool,
+}
+
+/// How the word of a slot is called, where it is the name of a file.
+fn name_of_slot(slot: &Slot) -> Option<FileName<'static>> {
+    let is_written = match slot.role {
+        Role::Input => false,
+        Role::Output => true,
+        Role::Number(_) => return None,
+    };
+    Some(FileName {
+        name: slot.name,
+        is_written,
+    })
+}
+
+/// How the word at a place is called, where it is the name of a file.
+fn name_at<'a>(command: &Command, words: &'a [String], place: usize) -> Option<FileName<'a>> {
+    if let Some(slot) = command.slots.get(place) {
+        return name_of_slot(slot);
+    }
+    if matches!(command.behind, Behind::Sets) {
+        return Some(FileName {
+            name: "a parameter file",
+            is_written: false,
+        });
+    }
+    let name = words.get(place.saturating_sub(1))?.as_str();
+    if !is_option(name) {
+        return None;
+    }
+    Some(FileName {
+        name,
+        is_written: matches!(command.behind, Behind::WrittenFiles),
+    })
+}
+
+/// What is wrong with two places that have the same word.
+fn same_fault<'a>(
+    command: &Command,
+    words: &'a [String],
+    before: usize,
+    place: usize,
+) -> Option<Fault<'a>> {
+    let one = name_at(command, words, place)?;
+    let other = name_at(command, words, before)?;
+    if !one.is_written && !other.is_written {
+        return None;
+    }
+    let (first, second) = if other.is_written {
+        (other.name, one.name)
+    } else {
+        (one.name, other.name)
+    };
+    Some(Fault {
+        third: words.get(place)?.as_str(),
+        end: b", and what is written has one of its own",
+        ..of_two(first, b" and ", second, b" are one name, ")
+    })
+}
+
+/// What is wrong with the first word before a place that is equal to the one there and has to differ from it.
+fn same_before<'a>(command: &Command, words: &'a [String], place: usize) -> Option<Fault<'a>> {
+    let word = words.get(place)?.as_str();
+    for (before, other) in words.iter().enumerate().take(place) {
+        if other.as_str() == word {
+            let fault = same_fault(command, words, before, place);
+            if fault.is_some() {
+                return fault;
+            }
+        }
+    }
+    None
+}
+
+/// What is wrong with the first two words that are equal and have to differ.
+fn pair_fault<'a>(command: &Command, words: &'a [String]) -> Option<Fault<'a>> {
+    for place in 0..words.len() {
+        let fault = same_before(command, words, place);
+        if fault.is_some() {
+            return fault;
+        }
+    }
+    None
 }
 
 /// The first thing that is wrong with the words behind a command.
-pub(crate) fn fault_of(verb: Verb, words: &[String]) -> Option<Fault<'_>> {
-    if let Some(fault) = slots_fault(verb, words) {
-        return Some(fault);
+pub(crate) fn fault_of<'a>(command: &Command, words: &'a [String]) -> Option<Fault<'a>> {
+    let fault = slots_fault(command, words);
+    if fault.is_some() {
+        return fault;
     }
-    let rest = words.get(slot_count(verb)..).unwrap_or(&[]);
-    match rest_fault(verb, rest) {
-        Some(fault) => Some(fault),
-        None => same_fault(verb, words),
+    let rest = words.get(command.slots.len()..).unwrap_or(&[]);
+    let fault = rest_fault(command, rest);
+    if fault.is_some() {
+        return fault;
     }
+    pair_fault(command, words)
 }

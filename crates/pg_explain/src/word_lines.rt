@@ -7,7 +7,7 @@ use pg_visible::Part::{Hex, Say, Show};
 use pg_visible::{Spot, Text, is_invisible};
 use std::alloc::AllocError;
 
-/// Of what a byte begins no letter.
+/// The letters that a byte does not begin: a to z, or those of a named translate file.
 fn letters_of<'a>(refused: &Refused<'a>) -> &'a str {
     match &refused.letters {
         Some(letters) if letters.is_no_file() => "a to z",
@@ -78,15 +78,24 @@ pub(crate) fn push_long_word(
     text.place(name, spot, &[Say(words)])
 }
 
+/// How many bytes a weight has with which bytes begin, 1 where it does not end.
+fn weight_len(rest: &[u8]) -> usize {
+    for (place, byte) in rest.iter().enumerate() {
+        if *byte == b'}' {
+            return place.saturating_add(1);
+        }
+    }
+    1
+}
+
 /// Appends that a brace begins no weight.
 pub(crate) fn push_weight(text: &mut Text, name: &str, spot: &Spot<'_>) -> Result<(), AllocError> {
     let rest = spot.rest();
-    let size = rest.iter().position(|byte| *byte == b'}');
     text.place(
         name,
         spot,
         &[
-            Show(up_to(rest, size.map_or(1, |size| size.saturating_add(1)))),
+            Show(up_to(rest, weight_len(rest))),
             Say(
                 b" is no weight: a weight is {, one to four digits with a value from 1 to 9,999, and }",
             ),

@@ -3,14 +3,14 @@
 use pg_translate::Table;
 use pg_types::Refusal;
 
-/// What went otherwise than it should, or is worth a word although it went well.
+/// What went wrong, or what is said of a call that went well.
 #[derive(Clone, Copy)]
 pub enum Wrong<'a> {
     /// The words behind the program's name are no command.
     Words(&'a [String]),
     /// A file is refused.
     Refused(Refused<'a>),
-    /// A file could not be read or written, or a line not be printed.
+    /// A file could not be read or written, or a line could not be printed.
     Fault(Fault<'a>),
     /// A line of an audited file is false.
     False(FalseLine<'a>),
@@ -79,7 +79,7 @@ impl Letters<'_> {
 }
 
 /// What is done with a file.
-#[derive(Clone, Copy, Debug, PartialEq, Eq)]
+#[derive(Clone, Copy)]
 pub enum Deed {
     /// It is read.
     Reading,
@@ -94,7 +94,7 @@ pub enum Deed {
 pub struct Fault<'a> {
     /// What failed.
     pub deed: Deed,
-    /// The name of the file as it was given. Nobody looks at it where lines could not be printed.
+    /// The name of the file as it was given. It is not read where lines could not be printed.
     pub name: &'a str,
     /// The system's own reason; empty where it gave none.
     pub reason: &'a str,
