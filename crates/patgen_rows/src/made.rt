@@ -1,12 +1,13 @@
 //! Pieces that are made from numbers: the dictionary of `sample`, letters, words over them, and the cells of a root.
-use crate::problem::Problem;
 use pg_top::sample_text;
 use std::alloc::{AllocError, Global};
+use std::io;
 
 /// The letters of ASCII that spell a letter of a made translate file.
 const ALPHABET: [u8; 52] = *b"abcdefghijklmnopqrstuvwxyzABCDEFGHIJKLMNOPQRSTUVWXYZ";
 
-/// Letters that are spelled alike: by so many of the first letters of the alphabet, in their order.
+/// The spellings of the letters of a made file. Each has `len` bytes, out of the first `alphabet`
+/// bytes of `ALPHABET`, and they stand in the order of the letters' numbers.
 #[derive(Clone, Copy)]
 struct Spellings {
     len: u32,
@@ -27,48 +28,43 @@ impl Spellings {
     }
 }
 
-/// Numbers that are drawn from a seed, as `sample` draws them.
-#[derive(Drop)]
-struct Draws {
-    state: u32,
+/// The next number below `most` of those that are drawn from a seed, as `sample` draws them.
+fn draw(state: &mut u32, most: u32) -> u32 {
+    let next = (1_103_515_245 * u64::from(*state) + 12_345) % 2_147_483_648;
+    *state = next as u32;
+    (*state / 65_536).checked_rem(most).unwrap_or(0)
 }
 
-impl Draws {
-    /// The next number, below `most`.
-    fn draw(&mut self, most: u32) -> u32 {
-        let next = (1_103_515_245 * u64::from(self.state) + 12_345) % 2_147_483_648;
-        self.state = next as u32;
-        (self.state / 65_536).checked_rem(most).unwrap_or(0)
+/// The numbers of a line, which a blank parts: there are `count`, and 0 stands behind them.
+fn numbers_of(line: &str, count: usize) -> io::Result<[u32; 5]> {
+    let mut numbers = [0; 5];
+    let mut found = 0_usize;
+    for word in line.split(' ') {
+        match (numbers.get_mut(found), word.parse()) {
+            (Some(number), Ok(value)) => *number = value,
+            _ => return Err(io::Error::other("a number is none")),
+        }
+        found = found.saturating_add(1);
     }
-}
-
-/// The numbers of a line, which a blank parts: there are `N`.
-fn numbers_of<const N: usize>(line: &str) -> Result<[u32; N], Problem> {
-    let mut numbers = [0; N];
-    let mut words = line.split(' ');
-    for number in numbers.iter_mut() {
-        let word = words.next().ok_or(Problem::BadNumber)?;
-        *number = word.parse().map_err(|_| Problem::BadNumber)?;
-    }
-    if words.next().is_some() {
-        return Err(Problem::BadNumber);
+    if found != count {
+        return Err(io::Error::other("other numbers are due"));
     }
     Ok(numbers)
 }
 
 /// `sample SEED COUNT`: the dictionary of `sample`.
-pub(crate) fn push_sample(alloc: Global, bytes: &mut Vec<u8>, line: &str) -> Result<(), Problem> {
-    let [seed, count] = numbers_of::<2>(line)?;
+pub(crate) fn push_sample(alloc: Global, bytes: &mut Vec<u8>, line: &str) -> io::Result<()> {
+    let [seed, count, ..] = numbers_of(line, 2)?;
     if seed >= 2_147_483_648 || count > 100_000 {
-        return Err(Problem::BadNumber);
+        return Err(io::Error::other("sample takes no such numbers"));
     }
     bytes.extend_from_slice(&sample_text(alloc, seed, count)?)?;
     Ok(())
 }
 
 /// `letters COUNT LEN ALPHABET`: lines of a translate file.
-pub(crate) fn push_letters(bytes: &mut Vec<u8>, line: &str) -> Result<(), Problem> {
-    let [count, len, alphabet] = numbers_of::<3>(line)?;
+pub(crate) fn push_letters(bytes: &mut Vec<u8>, line: &str) -> io::Result<()> {
+    let [count, len, alphabet, ..] = numbers_of(line, 3)?;
     let spellings = Spellings { len, alphabet };
     for number in 0..count {
         bytes.push(b' ')?;
@@ -79,12 +75,12 @@ pub(crate) fn push_letters(bytes: &mut Vec<u8>, line: &str) -> Result<(), Proble
 }
 
 /// `words SEED COUNT LETTERS LEN ALPHABET`: words over so many letters.
-pub(crate) fn push_words(bytes: &mut Vec<u8>, line: &str) -> Result<(), Problem> {
-    let [seed, count, letters, len, alphabet] = numbers_of::<5>(line)?;
+pub(crate) fn push_words(bytes: &mut Vec<u8>, line: &str) -> io::Result<()> {
+    let [seed, count, letters, len, alphabet] = numbers_of(line, 5)?;
     let spellings = Spellings { len, alphabet };
-    let mut draws = Draws { state: seed };
+    let mut state = seed;
     for _ in 0..count {
-        push_word(bytes, &mut draws, letters, spellings)?;
+        push_word(bytes, &mut state, letters, spellings)?;
     }
     Ok(())
 }
@@ -92,15 +88,15 @@ pub(crate) fn push_words(bytes: &mut Vec<u8>, line: &str) -> Result<(), Problem>
 /// Appends a word of two to eight letters. A hyphen parts two letters whose numbers add up to a multiple of three.
 fn push_word(
     bytes: &mut Vec<u8>,
-    draws: &mut Draws,
+    state: &mut u32,
     letters: u32,
     spellings: Spellings,
 ) -> Result<(), AllocError> {
-    let more = draws.draw(7).saturating_add(1);
-    let mut before = draws.draw(letters);
+    let more = draw(state, 7).saturating_add(1);
+    let mut before = draw(state, letters);
     spellings.push(bytes, before)?;
     for _ in 0..more {
-        let number = draws.draw(letters);
+        let number = draw(state, letters);
         if before.saturating_add(number) % 3 == 0 {
             bytes.push(b'-')?;
         }
@@ -112,8 +108,8 @@ fn push_word(
 }
 
 /// `cells SIGNS`: the unused cell 0 of a packed table and those of its root, which has so many signs and no child.
-pub(crate) fn push_cells(bytes: &mut Vec<u8>, line: &str) -> Result<(), Problem> {
-    let [signs] = numbers_of::<1>(line)?;
+pub(crate) fn push_cells(bytes: &mut Vec<u8>, line: &str) -> io::Result<()> {
+    let [signs, ..] = numbers_of(line, 1)?;
     for sign in 0..=signs {
         let [_, _, high, low] = sign.to_be_bytes();
         bytes.extend_from_slice(&[high, low, 0, 0, 0, 0, 0, 0, 0, 0])?;

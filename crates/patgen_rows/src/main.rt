@@ -1,58 +1,32 @@
-//! Whole calls of the program over files in memory: each row of each table that the words name, with what is wanted of
-//! it.
+//! Whole calls of the program over files in memory, and explanations of what went wrong: each row of each table that
+//! the words name, with what is wanted of it.
 //!
 //! It prints a line for each table, and above it what is wrong with a call of a row. The status is 0 where all is as
-//! wanted. A table of which a line cannot be read is wrong, and none of its rows is done.
+//! wanted. A table is wrong too where a line of it cannot be read or done, and what stands behind that is not done.
 #![tactic(auto)]
 
-mod cases;
+mod asked;
+mod case;
 mod changes;
 mod compare;
-mod contents;
 mod made;
-mod problem;
-mod row;
+mod pieces;
 mod table;
 mod trial;
 
 use std::process::ExitCode;
 use std::rt::{Env, Files};
 use std::{env, fs, io};
-use table::Table;
 use trial::Trial;
 
-/// Does the rows of a table: whether all goes as wanted.
-fn try_rows<R: AllocGlobal + Print>(rt: &R, name: &str, table: &Table<'_>) -> io::Result<bool> {
-    let trial = Trial {
-        rt,
-        alloc: rt.alloc(),
-        name,
-        table,
-    };
-    let tally = trial.try_rows()?;
-    let rows = table.rows.len();
-    println!(rt;
-        "{name}: {rows} rows, {} calls, {} wrong",
-        tally.calls, tally.wrong
-    )?;
-    Ok(tally.wrong == 0)
-}
-
-/// Does the rows of the table in a text: whether it is one and all goes as wanted.
-fn try_text<R: AllocGlobal + Print>(rt: &R, name: &str, text: &str) -> io::Result<bool> {
-    match Table::read(rt.alloc(), text) {
-        Ok(table) => try_rows(rt, name, &table),
-        Err(error) => {
-            println!(rt; "{name}: {error}")?;
-            Ok(false)
-        }
-    }
-}
-
-/// Reads a table and does its rows: whether it is one and all goes as wanted.
+/// Reads a table and does its rows: whether all goes as wanted.
 fn try_table<R: Files + AllocGlobal + Print>(rt: &R, name: &str) -> io::Result<bool> {
     let text = fs::read_to_string(rt, name)?;
-    try_text(rt, name, text.as_str())
+    let mut trial = Trial::new(rt.alloc(), name);
+    trial.try_text(text.as_str())?;
+    let (told, rows, calls, wrong) = (&trial.told, trial.rows, trial.calls, trial.wrong);
+    println!(rt; "{told}{name}: {rows} rows, {calls} calls, {wrong} wrong")?;
+    Ok(wrong == 0)
 }
 
 /// Tries each table that the words name: whether all go as wanted.

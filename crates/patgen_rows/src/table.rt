@@ -1,374 +1,265 @@
-//! Reading a table.
-use crate::contents::{ContentId, Contents};
-use crate::problem::{Problem, TableError};
-use crate::row::{Before, Call, Fault, NamedContent, Printed, Row, Want};
-use pg_top::Status;
-use std::alloc::{AllocError, Global};
+//! Reading a table. The file FORMAT says what its lines mean.
+use crate::pieces::{cut_times, push_simple, push_times};
+use std::alloc::Global;
+use std::io;
 
-/// A table: its contents, the files of all its rows, and the rows.
+/// A line of a table.
+#[derive(Clone, Copy)]
+pub(crate) struct Line<'a> {
+    /// Its number, counted from 1.
+    pub number: usize,
+    /// The word with which it begins.
+    pub word: &'a str,
+    /// What stands between the word and the colon.
+    pub name: &'a str,
+    /// What stands behind the colon.
+    pub rest: &'a str,
+    /// The place of its content among all of the table.
+    content: usize,
+}
+
+/// The content of a line, and its name if it has one.
+#[derive(Drop)]
+struct Content<'a> {
+    name: &'a str,
+    bytes: Vec<u8>,
+}
+
+/// A call of the program, and the lines that say what is wanted of it.
+#[derive(Drop)]
+pub(crate) struct Call<'a> {
+    pub line: Line<'a>,
+    /// Whether it is made on the files that the call above left, and not on those of the row.
+    pub is_behind: bool,
+    pub wants: Vec<Line<'a>>,
+}
+
+/// The call that a line begins below another one. Of one with the word `also` the same is wanted as of that.
+fn call_below<'a>(alloc: Global, line: Line<'a>, above: Option<&Call<'a>>) -> io::Result<Call<'a>> {
+    let is_behind = line.word == "then";
+    match above {
+        Some(above) if line.word == "also" => Ok(Call {
+            line,
+            is_behind: above.is_behind,
+            wants: above.wants.to_vec(alloc)?,
+        }),
+        None if line.word != "call" => Err(io::Error::other("the line stands below no call")),
+        _ => Ok(Call {
+            line,
+            is_behind,
+            wants: Vec::new(alloc),
+        }),
+    }
+}
+
+/// A row: the lines above its calls, and the calls.
+#[derive(Drop)]
+pub(crate) struct Row<'a> {
+    /// The line that begins it. Its title stands behind the colon.
+    pub line: Line<'a>,
+    pub lines: Vec<Line<'a>>,
+    pub calls: Vec<Call<'a>>,
+}
+
+impl Line<'_> {
+    /// Whether the first piece of a content may stand behind the colon.
+    fn has_piece(&self) -> bool {
+        WITH_PIECE.contains(&self.word) && self.name != "end of"
+    }
+}
+
+impl<'a> Row<'a> {
+    /// The line above the calls that begins with this word.
+    pub fn find(&self, word: &str) -> Option<&Line<'a>> {
+        self.lines.iter().find(|line| line.word == word)
+    }
+
+    /// Whether it is without a file of the table.
+    pub fn is_without(&self, name: &str) -> bool {
+        self.lines
+            .iter()
+            .any(|line| line.word == "missing" && line.rest == name)
+    }
+}
+
+/// A table.
 #[derive(Drop)]
 pub(crate) struct Table<'a> {
-    pub contents: Contents<'a>,
-    pub files: Vec<NamedContent<'a>>,
+    pub alloc: Global,
+    contents: Vec<Content<'a>>,
+    /// Whether pieces may stand below the last line.
+    is_open: bool,
+    /// The lines above the first row.
+    pub shared: Vec<Line<'a>>,
     pub rows: Vec<Row<'a>>,
 }
 
+/// The words whose lines have a content, of which the first piece may stand behind the colon.
+const WITH_PIECE: [&str; 5] = ["content", "file", "after", "begins", "prints"];
+
+/// The words whose lines have a content, of which all pieces stand below.
+const ABOVE_PIECES: [&str; 9] = [
+    "says",
+    "letters",
+    "dict",
+    "patterns",
+    "params",
+    "translate",
+    "refused",
+    "found",
+    "wanted",
+];
+
 impl<'a> Table<'a> {
-    /// Reads a table. The file FORMAT says what its lines mean.
-    pub fn read(alloc: Global, text: &'a str) -> Result<Table<'a>, TableError> {
-        let mut reader = Reader::new(alloc);
-        match reader.read_lines(text) {
-            Ok(()) => Ok(reader.table),
+    /// Reads a table. Where it fails, `number` is that of the line that is wrong.
+    pub fn read(alloc: Global, text: &'a str, number: &mut usize) -> io::Result<Table<'a>> {
+        let mut table = Table {
+            alloc,
+            contents: Vec::new(alloc),
+            is_open: false,
+            shared: Vec::new(alloc),
+            rows: Vec::new(alloc),
+        };
+        match table.read_lines(text, number) {
+            Ok(()) => Ok(table),
             Err(error) => Err(error),
         }
     }
-}
 
-/// A table of which some lines were read.
-#[derive(Drop)]
-struct Reader<'a> {
-    alloc: Global,
-    table: Table<'a>,
-    /// Whether the line above is one of a content.
-    is_in_content: bool,
-}
-
-/// The words with which a piece of a content begins that is made from numbers or names.
-const MADE: [&str; 6] = [
-    "bytes ", "sample ", "letters ", "words ", "cells ", "joined ",
-];
-
-/// Whether a line is a piece of a content.
-fn is_piece(line: &str) -> bool {
-    line.starts_with(['>', '+', '='])
-        || line.starts_with(|c: char| c.is_ascii_digit())
-        || MADE.iter().any(|word| line.starts_with(*word))
-}
-
-impl<'a> Reader<'a> {
-    /// No line so far.
-    fn new(alloc: Global) -> Reader<'a> {
-        let table = Table {
-            contents: Contents::new(alloc),
-            files: Vec::new(alloc),
-            rows: Vec::new(alloc),
-        };
-        Reader {
-            alloc,
-            table,
-            is_in_content: false,
-        }
-    }
-
-    /// Reads all lines of a table.
-    fn read_lines(&mut self, text: &'a str) -> Result<(), TableError> {
-        let mut line = 0_usize;
-        for content in text.lines() {
-            line = line.saturating_add(1);
-            if let Err(problem) = self.read_line(line, content) {
-                return Err(TableError { line, problem });
+    /// Reads all lines.
+    fn read_lines(&mut self, text: &'a str, number: &mut usize) -> io::Result<()> {
+        for line in text.lines() {
+            *number = number.saturating_add(1);
+            if !line.is_empty() && !line.starts_with('#') {
+                self.read_line(line, *number)?;
             }
         }
-        match self.end_row() {
-            Ok(()) => Ok(()),
-            Err(problem) => Err(TableError { line, problem }),
-        }
+        Ok(())
     }
 
-    /// Reads the line of this number.
-    fn read_line(&mut self, number: usize, line: &'a str) -> Result<(), Problem> {
-        if line.is_empty() || line.starts_with('#') {
+    /// Reads a line that is not empty.
+    fn read_line(&mut self, line: &'a str, number: usize) -> io::Result<()> {
+        if self.read_piece(line)? {
             return Ok(());
         }
-        if is_piece(line) {
-            return self.read_piece(line);
-        }
-        self.is_in_content = false;
-        let (key, rest) = line.split_once(':').ok_or(Problem::NoWord)?;
-        let rest = rest.strip_prefix(' ').unwrap_or(rest);
-        match key.split_once(' ') {
-            None => self.read_word(number, key, rest),
-            Some((word, name)) => self.read_named(word, name, rest),
-        }
-    }
-
-    /// Reads a piece of a content.
-    fn read_piece(&mut self, piece: &str) -> Result<(), Problem> {
-        if !self.is_in_content {
-            return Err(Problem::PieceAlone);
-        }
-        self.table.contents.push_piece(piece)
-    }
-
-    /// Begins a content, whose first piece may stand on the same line. A name there is the content of this name itself.
-    fn read_content(&mut self, rest: &str) -> Result<ContentId, Problem> {
-        if let Some(name) = rest.strip_prefix("= ") {
-            return self.table.contents.find(name).ok_or(Problem::NoContent);
-        }
-        let content = self.table.contents.begin()?;
-        self.is_in_content = true;
-        if !rest.is_empty() {
-            self.table.contents.push_piece(rest)?;
-        }
-        Ok(content)
-    }
-
-    /// Reads a line that begins with one word.
-    fn read_word(&mut self, number: usize, word: &str, rest: &'a str) -> Result<(), Problem> {
-        match word {
-            "row" => self.begin_row(rest),
-            "call" => self.begin_call(number, Before::Given, rest),
-            "then" => self.begin_call(number, Before::Left, rest),
-            "also" => self.repeat_call(number, rest),
-            "prints" => self.read_printed("", rest),
-            "status" => self.want(Want::Status(status_of(rest)?)),
-            "calls" => self.want_counted(Want::Calls(number_of(rest)?)),
-            "puts" => self.want(Want::Puts(number_of(rest)?)),
-            "any" => self.read_any(rest),
-            "changes" => self.read_changes(rest),
-            "missing" => self.read_missing(rest),
-            "same" => self.read_same(rest),
-            _ => Err(Problem::NoWord),
-        }
-    }
-
-    /// Reads a line that begins with a word and a name or second word.
-    fn read_named(&mut self, word: &str, name: &'a str, rest: &'a str) -> Result<(), Problem> {
-        match (word, name) {
-            ("content", _) => {
-                let content = self.read_content(rest)?;
-                self.table.contents.name(name, content)
-            }
-            ("file", _) => self.read_file(name, rest),
-            ("after", _) => {
-                let content = self.read_content(rest)?;
-                self.want(Want::After(NamedContent { name, content }))
-            }
-            ("begins", _) => {
-                let content = self.read_content(rest)?;
-                self.want(Want::Begins(NamedContent { name, content }))
-            }
-            ("prints", _) => self.read_printed(name, rest),
-            ("fails", "call") => self.want_counted(Want::FailingCall(fault_of(rest)?)),
-            ("fails", "put") => self.want(Want::FailingPut(fault_of(rest)?)),
-            _ => Err(Problem::NoWord),
-        }
-    }
-
-    /// Reads a file that the calls are given: those of one row, or above the first row those of all.
-    fn read_file(&mut self, name: &'a str, rest: &str) -> Result<(), Problem> {
-        let content = self.read_content(rest)?;
-        let named = NamedContent { name, content };
-        match self.table.rows.last_mut() {
-            None => self.table.files.push(named)?,
-            Some(row) if row.calls.is_empty() => row.files.push(named)?,
-            Some(_) => return Err(Problem::LateFile),
-        }
-        Ok(())
-    }
-
-    /// Reads the name of the file of which each change is tried.
-    fn read_changes(&mut self, name: &'a str) -> Result<(), Problem> {
-        let is_shared = is_given(&self.table.files, name);
-        let row = self.row()?;
-        if !row.calls.is_empty() {
-            return Err(Problem::LateFile);
-        }
-        if !is_shared && !is_given(&row.files, name) {
-            return Err(Problem::NoFile);
-        }
-        row.changed = Some(name);
-        Ok(())
-    }
-
-    /// Reads the name of a file of the table that a row is without.
-    fn read_missing(&mut self, name: &'a str) -> Result<(), Problem> {
-        let is_shared = is_given(&self.table.files, name);
-        let row = self.row()?;
-        if !row.calls.is_empty() {
-            return Err(Problem::LateFile);
-        }
-        if !is_shared {
-            return Err(Problem::NoFile);
-        }
-        row.missing.push(name)?;
-        Ok(())
-    }
-
-    /// Reads the names of two files that hold the same.
-    fn read_same(&mut self, names: &'a str) -> Result<(), Problem> {
-        let (one, other) = names.split_once(' ').ok_or(Problem::NoFile)?;
-        self.want(Want::Same(one, other))
-    }
-
-    /// Reads something that is wanted of what is printed.
-    fn read_printed(&mut self, how: &str, rest: &'a str) -> Result<(), Problem> {
-        let want = match how {
-            "" => Want::Printed(Printed::Whole(self.read_content(rest)?)),
-            "beginning" => Want::Printed(Printed::Beginning(self.read_content(rest)?)),
-            "ending" => Want::Printed(Printed::Ending(self.read_content(rest)?)),
-            "at line" => Want::Printed(Printed::AtLine(self.read_content(rest)?)),
-            "end of" => Want::Ended(rest),
-            "again" if rest.is_empty() => Want::Printed(Printed::Again),
-            "anything" if rest.is_empty() => Want::Printed(Printed::Anything),
-            _ => return Err(Problem::NoWord),
+        let Some((front, rest)) = line.split_once(':') else {
+            return Err(io::Error::other("the line begins with no word of a table"));
         };
-        self.want(want)
+        let rest = rest.strip_prefix(' ').unwrap_or(rest);
+        let (word, name) = front.split_once(' ').unwrap_or((front, ""));
+        let line = Line {
+            number,
+            word,
+            name,
+            rest,
+            content: self.contents.len(),
+        };
+        self.begin_content(&line)?;
+        self.add(line)
     }
 
-    /// Reads the names of the files that may hold anything.
-    fn read_any(&mut self, names: &'a str) -> Result<(), Problem> {
-        for name in names.split(' ') {
-            self.want(Want::Any(name))?;
+    /// Reads a piece of the last content; false where the line is none.
+    fn read_piece(&mut self, line: &str) -> io::Result<bool> {
+        let (times, simple) = cut_times(line);
+        let mut piece = Vec::new(self.alloc);
+        let is_piece = push_simple(self, &mut piece, simple)?;
+        if is_piece {
+            self.append(times, &piece)?;
         }
+        Ok(is_piece)
+    }
+
+    /// Appends bytes so many times to the last content.
+    fn append(&mut self, times: usize, piece: &[u8]) -> io::Result<()> {
+        match self.contents.last_mut() {
+            Some(content) if self.is_open => Ok(push_times(&mut content.bytes, times, piece)?),
+            _ => Err(io::Error::other("the piece stands below no content")),
+        }
+    }
+
+    /// Begins the content of a line, whose first piece may stand behind the colon.
+    fn begin_content(&mut self, line: &Line<'a>) -> io::Result<()> {
+        let name = if line.word == "content" {
+            line.name
+        } else {
+            ""
+        };
+        let bytes = Vec::new(self.alloc);
+        self.contents.push(Content { name, bytes })?;
+        if line.has_piece() {
+            self.is_open = true;
+            return self.read_first(line.rest);
+        }
+        self.is_open = ABOVE_PIECES.contains(&line.word);
         Ok(())
+    }
+
+    /// Reads the first piece of a content, if there is one.
+    fn read_first(&mut self, piece: &str) -> io::Result<()> {
+        if piece.is_empty() || self.read_piece(piece)? {
+            return Ok(());
+        }
+        Err(io::Error::other("the line has no piece of a content"))
+    }
+
+    /// Adds a line to the row or call that it belongs to, or begins one.
+    fn add(&mut self, line: Line<'a>) -> io::Result<()> {
+        match line.word {
+            "row" => self.begin_row(line),
+            "call" | "also" | "then" => self.begin_call(line),
+            "content" => Ok(()),
+            _ => self.add_below(line),
+        }
     }
 
     /// Begins a row.
-    fn begin_row(&mut self, title: &'a str) -> Result<(), Problem> {
-        self.end_row()?;
+    fn begin_row(&mut self, line: Line<'a>) -> io::Result<()> {
         let alloc = self.alloc;
-        self.table.rows.push(Row {
-            title,
-            files: Vec::new(alloc),
-            missing: Vec::new(alloc),
-            changed: None,
+        self.rows.push(Row {
+            line,
+            lines: Vec::new(alloc),
             calls: Vec::new(alloc),
         })?;
         Ok(())
     }
 
-    /// Ends a row, if there is one: it has a call.
-    fn end_row(&mut self) -> Result<(), Problem> {
-        match self.table.rows.last() {
-            Some(row) if row.calls.is_empty() => Err(Problem::EmptyRow),
-            Some(_) => self.end_call(),
-            None => Ok(()),
-        }
-    }
-
-    /// Ends a call, if there is one in this row: something is wanted of its status and of what is printed.
-    fn end_call(&mut self) -> Result<(), Problem> {
-        let Some(call) = self.row()?.calls.last() else {
-            return Ok(());
+    /// Begins a call.
+    fn begin_call(&mut self, line: Line<'a>) -> io::Result<()> {
+        let Some(row) = self.rows.last_mut() else {
+            return Err(io::Error::other("the line stands in no row"));
         };
-        if !call.wants.iter().any(|want| want.is_status()) {
-            return Err(Problem::NoStatus);
-        }
-        if !call.wants.iter().any(|want| want.is_of_prints()) {
-            return Err(Problem::NoPrints);
+        let call = call_below(self.alloc, line, row.calls.last())?;
+        row.calls.push(call)?;
+        Ok(())
+    }
+
+    /// Adds a line to the last call, to the row that has none yet, or to those above the first row.
+    fn add_below(&mut self, line: Line<'a>) -> io::Result<()> {
+        match self.rows.last_mut() {
+            None => self.shared.push(line)?,
+            Some(row) => match row.calls.last_mut() {
+                None => row.lines.push(line)?,
+                Some(call) => call.wants.push(line)?,
+            },
         }
         Ok(())
     }
 
-    /// Begins a call of which nothing is wanted yet.
-    fn begin_call(&mut self, line: usize, before: Before, words: &str) -> Result<(), Problem> {
-        self.end_call()?;
-        if before == Before::Left {
-            self.call()?;
+    /// The content of a line.
+    pub fn content(&self, line: &Line<'_>) -> &[u8] {
+        match self.contents.get(line.content) {
+            Some(content) => content.bytes.as_slice(),
+            None => &[],
         }
-        self.push_call(line, before, words, &[])
     }
 
-    /// Begins a call of which the same is wanted as of the one above.
-    fn repeat_call(&mut self, line: usize, words: &str) -> Result<(), Problem> {
-        self.end_call()?;
-        let alloc = self.alloc;
-        let above = self.row()?.calls.last().ok_or(Problem::NoCall)?;
-        let before = above.before;
-        let wants = above.wants.to_vec(alloc)?;
-        self.push_call(line, before, words, &wants)
-    }
-
-    /// Begins a call of which this is wanted.
-    fn push_call(
-        &mut self,
-        line: usize,
-        before: Before,
-        words: &str,
-        wants: &[Want<'a>],
-    ) -> Result<(), Problem> {
-        let call = Call {
-            line,
-            before,
-            words: words_of(self.alloc, words)?,
-            wants: wants.to_vec(self.alloc)?,
-        };
-        self.row()?.calls.push(call)?;
-        Ok(())
-    }
-
-    /// The last row.
-    fn row(&mut self) -> Result<&mut Row<'a>, Problem> {
-        self.table.rows.last_mut().ok_or(Problem::NoRow)
-    }
-
-    /// The last call.
-    fn call(&mut self) -> Result<&mut Call<'a>, Problem> {
-        self.row()?.calls.last_mut().ok_or(Problem::NoCall)
-    }
-
-    /// Notes something that is wanted of the last call.
-    fn want(&mut self, want: Want<'a>) -> Result<(), Problem> {
-        self.call()?.wants.push(want)?;
-        Ok(())
-    }
-
-    /// The same, of a call whose calls on the files are counted.
-    fn want_counted(&mut self, want: Want<'a>) -> Result<(), Problem> {
-        if self.call()?.before == Before::Left {
-            return Err(Problem::LateCount);
+    /// The content of this name.
+    pub fn named(&self, name: &str) -> io::Result<&[u8]> {
+        for content in self.contents.iter() {
+            if content.name == name {
+                return Ok(content.bytes.as_slice());
+            }
         }
-        self.want(want)
-    }
-}
-
-/// Whether one of these files has this name.
-fn is_given(files: &[NamedContent<'_>], name: &str) -> bool {
-    files.iter().any(|file| file.name == name)
-}
-
-/// The words of a line, which a blank parts. Two quotes are an empty word.
-fn words_of(alloc: Global, line: &str) -> Result<Vec<String>, AllocError> {
-    let mut words = Vec::new(alloc);
-    if line.is_empty() {
-        return Ok(words);
-    }
-    for word in line.split(' ') {
-        let word = if word == "''" { "" } else { word };
-        words.push(String::from_str(alloc, word)?)?;
-    }
-    Ok(words)
-}
-
-fn number_of(text: &str) -> Result<u64, Problem> {
-    text.parse().map_err(|_| Problem::BadNumber)
-}
-
-/// A fault: its number, and how many bytes it keeps, if it keeps some.
-fn fault_of(text: &str) -> Result<Fault, Problem> {
-    let Some((number, keep)) = text.split_once(" keeps ") else {
-        let number = number_of(text)?;
-        return Ok(Fault { number, keep: None });
-    };
-    let number = number_of(number)?;
-    let keep = keep.parse().map_err(|_| Problem::BadNumber)?;
-    Ok(Fault {
-        number,
-        keep: Some(keep),
-    })
-}
-
-/// The status of this name.
-fn status_of(name: &str) -> Result<Status, Problem> {
-    match name {
-        "Done" => Ok(Status::Done),
-        "Yes" => Ok(Status::Yes),
-        "No" => Ok(Status::No),
-        "Usage" => Ok(Status::Usage),
-        "Refused" => Ok(Status::Refused),
-        "Fault" => Ok(Status::Fault),
-        "Memory" => Ok(Status::Memory),
-        _ => Err(Problem::BadStatus),
+        Err(io::Error::other("no content of this name stands above"))
     }
 }

@@ -1,136 +1,167 @@
 //! The rows of a table, done in turn.
-use crate::cases::{Case, Outcome};
-use crate::changes::{Change, changes_of};
-use crate::compare::{Around, differences};
-use crate::row::{Before, Call, Row};
-use crate::table::Table;
-use std::alloc::Global;
+use crate::asked::compare_explanation;
+use crate::case::Case;
+use crate::changes::Change;
+use crate::compare::compare_call;
+use crate::table::{Call, Row, Table};
+use std::alloc::{AllocError, Global};
 use std::io;
 
-/// How many calls were made, and how many of them went otherwise than wanted.
-#[derive(Clone, Copy)]
-pub(crate) struct Tally {
+/// What was done of a table.
+#[derive(Drop)]
+pub(crate) struct Trial<'n> {
+    alloc: Global,
+    name: &'n str,
+    /// How many rows there are, how many calls were made, and how many of them went otherwise than wanted.
+    pub rows: usize,
     pub calls: usize,
     pub wrong: usize,
+    /// The number of the line that was read or done last.
+    line: usize,
+    /// What was wrong with them.
+    pub told: String,
 }
 
-impl Tally {
-    /// Counts a call.
-    fn count(&mut self, is_right: bool) {
-        self.calls = self.calls.saturating_add(1);
-        if !is_right {
-            self.wrong = self.wrong.saturating_add(1);
+impl<'n> Trial<'n> {
+    /// No call so far.
+    pub fn new(alloc: Global, name: &'n str) -> Trial<'n> {
+        Trial {
+            alloc,
+            name,
+            rows: 0,
+            calls: 0,
+            wrong: 0,
+            line: 0,
+            told: String::new(alloc),
         }
     }
-}
 
-/// A table whose rows are done, its name, and where what is wrong is printed.
-#[derive(Clone, Copy)]
-pub(crate) struct Trial<'a, R: Print> {
-    pub rt: &'a R,
-    pub alloc: Global,
-    pub name: &'a str,
-    pub table: &'a Table<'a>,
-}
-
-impl<'a, R: Print> Trial<'a, R> {
-    /// Does all rows, and prints what is wrong.
-    pub fn try_rows(&self) -> io::Result<Tally> {
-        let mut tally = Tally { calls: 0, wrong: 0 };
-        for row in self.table.rows.iter() {
-            self.try_row(row, &mut tally)?;
+    /// Reads a table and does its rows. Where a line cannot be read or done, that is wrong, and nothing behind it is done.
+    pub fn try_text(&mut self, text: &str) -> Result<(), AllocError> {
+        match self.read_and_try(text) {
+            Ok(()) => Ok(()),
+            Err(error) => self.tell(&error),
         }
-        Ok(tally)
     }
 
-    /// Does the calls of a row once, or once for each change of a file.
-    fn try_row(&self, row: &'a Row<'a>, tally: &mut Tally) -> io::Result<()> {
-        match row.changed {
-            None => self.try_calls(row, None, tally),
-            Some(name) => {
-                let changes = self.changes(row, name)?;
-                self.try_changes(row, &changes, tally)
+    /// Tells why a line cannot be read or done.
+    fn tell(&mut self, error: &io::Error) -> Result<(), AllocError> {
+        self.wrong = self.wrong.saturating_add(1);
+        let (name, line) = (self.name, self.line);
+        writeln!(self.told, "{name} line {line}: {error}")
+    }
+
+    /// Reads a table and does its rows.
+    fn read_and_try(&mut self, text: &str) -> io::Result<()> {
+        let table = Table::read(self.alloc, text, &mut self.line)?;
+        self.try_rows(&table)
+    }
+
+    /// Does all rows.
+    fn try_rows(&mut self, table: &Table<'_>) -> io::Result<()> {
+        self.rows = table.rows.len();
+        for row in table.rows.iter() {
+            self.try_row(&*table, &*row)?;
+        }
+        Ok(())
+    }
+
+    /// Does the calls of a row once, or once for each change of a file. A row without a call asks for an explanation.
+    fn try_row<'a>(&mut self, table: &'a Table<'a>, row: &'a Row<'a>) -> io::Result<()> {
+        if row.calls.is_empty() {
+            return self.try_explanation(table, row);
+        }
+        match row.find("changes") {
+            None => self.try_calls(table, row, None),
+            Some(line) => {
+                let changes = changes_in(self.alloc, table, row, line.rest)?;
+                self.try_changes(table, row, &changes)
             }
         }
-    }
-
-    /// The changes of a file of a row.
-    fn changes(&self, row: &'a Row<'a>, name: &'a str) -> io::Result<Vec<Change<'a>>> {
-        let case = Case::new(self.alloc, self.table, row, None)?;
-        let bytes = case.files.bytes(name).unwrap_or(&[]);
-        Ok(changes_of(self.alloc, name, bytes)?)
     }
 
     /// Does the calls of a row once for each change of a file.
-    fn try_changes(
-        &self,
+    fn try_changes<'a>(
+        &mut self,
+        table: &'a Table<'a>,
         row: &'a Row<'a>,
         changes: &'a [Change<'a>],
-        tally: &mut Tally,
     ) -> io::Result<()> {
         for change in changes {
-            self.try_calls(row, Some(change), tally)?;
+            self.try_calls(table, row, Some(change))?;
         }
         Ok(())
     }
 
-    /// Does the calls of a row in turn, and prints what is wrong.
-    fn try_calls(
-        &self,
+    /// Does the calls of a row in turn.
+    fn try_calls<'a>(
+        &mut self,
+        table: &'a Table<'a>,
         row: &'a Row<'a>,
         change: Option<&'a Change<'a>>,
-        tally: &mut Tally,
     ) -> io::Result<()> {
-        let mut left = None;
-        let mut above = Vec::new(self.alloc);
-        for call in row.calls.iter() {
-            if call.before == Before::Given {
-                left = None;
-            }
-            let mut case = match left {
-                Some(case) => case,
-                None => Case::new(self.alloc, self.table, row, change)?,
-            };
-            let line = change.map_or(0, |change| change.line);
-            self.try_call(row, call, line, &mut case, &mut above, tally)?;
-            left = Some(case);
-        }
-        Ok(())
+        let mut case = Case::new(self.alloc, table)?;
+        self.try_each(&mut case, row, change)
     }
 
-    /// Does a call of a row, of which this line is changed, if one is. `above` is what the call above
-    /// printed, and then what this one does.
-    fn try_call(
-        &self,
-        row: &Row<'_>,
-        call: &Call<'a>,
-        line: usize,
+    /// The same from files to files.
+    fn try_each<'a>(
+        &mut self,
         case: &mut Case<'a>,
-        above: &mut Vec<u8>,
-        tally: &mut Tally,
+        row: &'a Row<'a>,
+        change: Option<&'a Change<'a>>,
     ) -> io::Result<()> {
-        let outcome = case.call(call)?;
-        let around = Around { above, line };
-        let is_right = self.compare(row, call, case, &outcome, &around)?;
-        tally.count(is_right);
-        *above = outcome.printed;
+        for call in row.calls.iter() {
+            self.line = call.line.number;
+            if !call.is_behind {
+                case.begin(row, change)?;
+            }
+            self.try_call(case, row, call)?;
+        }
         Ok(())
     }
 
-    /// Whether a call went as wanted. Prints what is wrong.
-    fn compare(
-        &self,
-        row: &Row<'_>,
-        call: &Call<'_>,
-        case: &Case<'_>,
-        outcome: &Outcome,
-        around: &Around<'_>,
-    ) -> io::Result<bool> {
-        let text = differences(self.alloc, &call.wants, case, outcome, around)?;
-        if text.is_empty() {
-            return Ok(true);
-        }
-        print!(self.rt; "{} line {}, {}:\n{text}", self.name, call.line, row.title)?;
-        Ok(false)
+    /// Does a call of a row.
+    fn try_call<'a>(
+        &mut self,
+        case: &mut Case<'a>,
+        row: &Row<'a>,
+        call: &Call<'a>,
+    ) -> io::Result<()> {
+        let mut text = String::new(self.alloc);
+        case.call(call)?;
+        compare_call(&mut text, case, call)?;
+        Ok(self.count(row, text.as_str())?)
     }
+
+    /// Compares the explanation that a row asks for.
+    fn try_explanation(&mut self, table: &Table<'_>, row: &Row<'_>) -> io::Result<()> {
+        self.line = row.line.number;
+        let mut text = String::new(self.alloc);
+        compare_explanation(self.alloc, &mut text, table, row)?;
+        Ok(self.count(row, text.as_str())?)
+    }
+
+    /// Counts a call, and tells what is wrong with it.
+    fn count(&mut self, row: &Row<'_>, text: &str) -> Result<(), AllocError> {
+        self.calls = self.calls.saturating_add(1);
+        if text.is_empty() {
+            return Ok(());
+        }
+        self.wrong = self.wrong.saturating_add(1);
+        let (name, line, title) = (self.name, self.line, row.line.rest);
+        write!(self.told, "{name} line {line}, {title}:\n{text}")
+    }
+}
+
+/// The changes of a file of a row.
+fn changes_in<'a>(
+    alloc: Global,
+    table: &'a Table<'a>,
+    row: &'a Row<'a>,
+    name: &'a str,
+) -> io::Result<Vec<Change<'a>>> {
+    let mut case = Case::new(alloc, table)?;
+    case.begin(row, None)?;
+    case.changes(name)
 }
