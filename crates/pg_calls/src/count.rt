@@ -58,22 +58,28 @@ fn compare(rt: &impl Abort, counts: &CountTrie, windows: &[([Sign; 2], Option<(u
     }
 }
 
+/// Counts in two passes, of which the second is left.
+fn count_twice(counts: &mut CountTrie) -> Result<(), Fail>
+    requires { counts.old.signs ≡ 4 }
+{
+    count(counts, &[(4, 1, true, 9)])?;
+    count(
+        counts,
+        &[(3, 2, true, 3), (2, 3, false, 2), (3, 2, false, 1)],
+    )
+}
+
+/// The windows of the second pass, and the end.
+const WINDOWS: &[([Sign; 2], Option<(u64, u64)>)] = &[
+    ([2, 3], Some((0, 2))),
+    ([3, 2], Some((3, 1))),
+    ([3, 2], None),
+];
+
 #[test]
 fn counts_in_order_of_signs(rt: HostRuntime) -> Result<(), Fail> {
     let mut counts = CountTrie::new(rt.alloc(), 4)?;
-    count(&mut counts, &[(4, 1, true, 9)])?;
-    count(
-        &mut counts,
-        &[(3, 2, true, 3), (2, 3, false, 2), (3, 2, false, 1)],
-    )?;
-    compare(
-        &rt,
-        &counts,
-        &[
-            ([2, 3], Some((0, 2))),
-            ([3, 2], Some((3, 1))),
-            ([3, 2], None),
-        ],
-    );
+    count_twice(&mut counts)?;
+    compare(&rt, &counts, WINDOWS);
     Ok(())
 }

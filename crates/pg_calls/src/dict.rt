@@ -15,7 +15,7 @@ fn push_words(text: &mut String, dictionary: &Dictionary) -> Result<(), AllocErr
     Ok(())
 }
 
-/// All of that.
+/// All these lines as one text.
 fn lines_of(alloc: Global, dictionary: &Dictionary) -> Result<String, AllocError> {
     let mut text = String::new(alloc);
     push_words(&mut text, dictionary)?;

@@ -38,14 +38,14 @@ fn values<E: Engine>(e: &E) -> [u8; 2]
     [state.value(2), state.value(3)]
 }
 
-/// Those of the plain engine.
+/// The values of the plain engine.
 fn plain(alloc: Global, start: &PatternSet) -> Result<[u8; 2], AllocError>
     requires { SignsUpTo 4 start.now }
 {
     Ok(values(&PlainEngine::new(alloc, 4, start)?))
 }
 
-/// Those of the packed engine.
+/// The values of the packed engine.
 fn packed(alloc: Global, start: &PatternSet) -> Result<[u8; 2], AllocError>
     requires { SignsUpTo 4 start.now }
 {

@@ -120,7 +120,7 @@ impl Families {
         }
     }
 
-    // One sign more in a family, in its place where the cell is unused.
+    // Adds a sign to a family, in place where its cell is unused.
     fn add(&mut self, family: usize, sign: Sign) -> Result<(), AllocError> {
         let base = self.base(family);
         let cell = cell_at(base, sign);
@@ -172,7 +172,7 @@ impl Families {
         usize::MAX
     }
 
-    // Whether another family has a base.
+    // Whether a family other than this one has the base.
     fn is_base(&self, base: usize, family: usize) -> bool {
         for used in &self.list {
             if used.family != family && used.cell == cell_at(base, used.sign) {

@@ -39,16 +39,21 @@ fn take_step(
     Ok(())
 }
 
-/// Compares the top, the number of taken cells and each cell with its family.
-fn compare(rt: &impl Abort, cells: &Cells<u32, 4>, families: &Families, taken: &[usize]) {
-    assert_eq!(rt; cells.taken(), taken.len());
-    assert_eq!(rt; cells.top(), taken.last().copied().unwrap_or(0));
+/// Compares each cell with its family.
+fn compare_cells(rt: &impl Abort, cells: &Cells<u32, 4>, families: &Families) {
     for used in families.list() {
         if used.cell != 0 {
             let parent = families.parent(used.family);
             assert_eq!(rt; cell_below(cells, parent, used.sign), Some(used.cell));
         }
     }
+}
+
+/// Compares the number of taken cells, the top and each cell with its family.
+fn compare(rt: &impl Abort, cells: &Cells<u32, 4>, families: &Families, taken: &[usize]) {
+    let top = taken.last().copied().unwrap_or(0);
+    assert_eq!(rt; (cells.taken(), cells.top()), (taken.len(), top));
+    compare_cells(rt, cells, families);
 }
 
 /// Takes steps in a table with so many signs, and compares after each. Gives the number of taken cells.

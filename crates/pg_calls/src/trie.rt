@@ -4,7 +4,7 @@ ghost use Rattle.std.specs.Prelude.{◌≡◌, IfOk, OnOk};
 use pg_patterns::{Entry, PatternSet};
 use pg_trie::{HOPELESS, PatternTrie};
 use pg_types::{Layout, PATTERN_SIGNS_MAX, Sign};
-use std::alloc::Global;
+use std::alloc::{AllocError, Global};
 use std::process::Abort;
 use std::test::Fail;
 
@@ -24,76 +24,87 @@ fn enter(trie: &mut PatternTrie, signs: &[Sign], dot: u8, value: u8) -> Result<(
     Ok(())
 }
 
-/// The trie of the strings with their dots and values.
-fn trie_of(alloc: Global, entries: &[(&[Sign], u8, u8)]) -> Result<PatternTrie, Fail>
-    ensures { IfOk result (λ t. t.signs ≡ 4) }
+/// Enters the strings with their dots and values, and takes the mark out.
+fn enter_all(trie: &mut PatternTrie, entries: &[(&[Sign], u8, u8)]) -> Result<(), Fail>
+    requires { trie.old.signs ≡ 4 }
+    ensures { OnOk result (trie.new.signs ≡ 4) }
 {
-    let mut trie = PatternTrie::new(alloc, 4)?;
     for (signs, dot, value) in entries {
-        enter(&mut trie, signs, *dot, *value)?;
+        enter(trie, signs, *dot, *value)?;
     }
-    Ok(trie)
-}
-
-/// The same, without the mark.
-fn deleted(alloc: Global, entries: &[(&[Sign], u8, u8)]) -> Result<PatternTrie, Fail>
-    ensures { IfOk result (λ t. t.signs ≡ 4) }
-{
-    let mut trie = trie_of(alloc, entries)?;
     trie.delete_hopeless()?;
-    Ok(trie)
-}
-
-/// Compares an entry with the value 1 at the dot 1 of a and b.
-fn compare_entry(rt: &impl Abort, entry: Entry) {
-    assert_eq!(rt; entry.signs, [2, 3].as_slice());
-    assert_eq!(rt; (entry.dot, entry.value), (1, 1));
-}
-
-/// The same of the one entry of a set.
-fn compare_patterns(rt: &impl Abort, patterns: &PatternSet) -> Result<(), Fail> {
-    if patterns.len() != 1 {
-        return Err(Fail::new("one entry"));
-    }
-    compare_entry(rt, patterns.entry(0));
     Ok(())
 }
 
-/// The same of the one record of a trie, and of its patterns.
+/// The trie of the strings with their dots and values, without the mark.
+fn deleted(alloc: Global, entries: &[(&[Sign], u8, u8)]) -> Result<PatternTrie, Fail>
+    ensures { IfOk result (λ t. t.signs ≡ 4) }
+{
+    let mut trie = PatternTrie::new(alloc, 4)?;
+    enter_all(&mut trie, entries)?;
+    Ok(trie)
+}
+
+/// Compares what a trie says of its cells and records.
+fn compare_layout(rt: &impl Abort, trie: &PatternTrie, cells: u64, tails: u64) {
+    let layout = Layout {
+        taken: cells,
+        top: cells,
+        tails,
+    };
+    assert_eq!(rt; trie.layout(), layout);
+}
+
+/// An entry in one line: its signs, its dot and its value.
+fn line_of(alloc: Global, entry: Entry) -> Result<String, AllocError> {
+    format!(in alloc; "{:?} {} {}", entry.signs, entry.dot, entry.value)
+}
+
+/// The one entry of a set in one line.
+fn line_of_one(alloc: Global, patterns: &PatternSet) -> Result<String, Fail> {
+    if patterns.len() != 1 {
+        return Err(Fail::new("one entry"));
+    }
+    Ok(line_of(alloc, patterns.entry(0))?)
+}
+
+/// Compares the one record of a trie with the value 1 at the dot 1, and its one pattern with that of a and b.
 fn compare_record(rt: &impl Abort, alloc: Global, trie: &PatternTrie) -> Result<(), Fail> {
     // The value is the one record that is left, so no mark is.
-    if trie.outputs().len() != 1 {
+    if trie.outputs().len() != 1 || trie.outputs().first(1) != Some((1, 1, 0)) {
         return Err(Fail::new("one record"));
     }
-    assert_eq!(rt; trie.outputs().first(1), Some((1, 1, 0)));
-    compare_patterns(rt, &trie.copy(alloc)?)
+    let line = line_of_one(alloc, &trie.copy(alloc)?)?;
+    assert_eq!(rt; line.as_str(), "[2, 3] 1 1");
+    Ok(())
+}
+
+/// Compares the trie of a mark beside a value.
+fn compare_mark(rt: &impl Abort, alloc: Global, trie: &PatternTrie) -> Result<(), Fail> {
+    compare_record(rt, alloc, trie)?;
+    compare_layout(rt, trie, 5, 1);
+    Ok(())
 }
 
 #[test]
 fn a_mark_beside_a_value(rt: HostRuntime) -> Result<(), Fail> {
     let trie = deleted(rt.alloc(), &[(&[2, 3], 1, 1), (&[2, 3], 1, HOPELESS)])?;
-    compare_record(&rt, rt.alloc(), &trie)?;
-    let layout = Layout {
-        taken: 5,
-        top: 5,
-        tails: 1,
-    };
-    assert_eq!(rt; trie.layout(), layout);
-    Ok(())
+    compare_mark(&rt, rt.alloc(), &trie)
 }
+
+/// Compares the trie of tails that are shared.
+fn compare_tails(rt: &impl Abort, trie: &PatternTrie)
+    requires { trie.now.signs ≡ 4 }
+{
+    compare_layout(rt, trie, 6, 2);
+    assert_eq!(rt; (trie.step(None, 2), trie.outputs().len()), (Some(2), 2));
+}
+
+/// Entries whose tails are shared.
+const SHARED: &[(&[Sign], u8, u8)] = &[(&[2, 3], 0, 1), (&[2, 3], 1, 2), (&[4, 3], 1, 2)];
 
 #[test]
 fn tails_are_shared(rt: HostRuntime) -> Result<(), Fail> {
-    let trie = deleted(
-        rt.alloc(),
-        &[(&[2, 3], 0, 1), (&[2, 3], 1, 2), (&[4, 3], 1, 2)],
-    )?;
-    let layout = Layout {
-        taken: 6,
-        top: 6,
-        tails: 2,
-    };
-    assert_eq!(rt; trie.layout(), layout);
-    assert_eq!(rt; (trie.step(None, 2), trie.outputs().len()), (Some(2), 2));
+    compare_tails(&rt, &deleted(rt.alloc(), SHARED)?);
     Ok(())
 }

@@ -5,14 +5,13 @@ ghost use Rattle.pg_dict.specs.Word.{SignsAtMost};
 
 use crate::runs::{Inputs, packed_run, plain_run, read_inputs};
 use pg_driver::{LevelRecord, PassRecord, Run};
-use pg_patterns::PatternSet;
+use pg_patterns::{Entry, PatternSet};
 use std::alloc::{AllocError, Global};
 use std::process::Abort;
 use std::test::Fail;
 
 /// Compares records of passes without their layouts.
 fn compare_passes(rt: &impl Abort, packed: &[PassRecord], plain: &[PassRecord]) {
-    assert_eq!(rt; packed.len(), plain.len());
     for (one, other) in packed.iter().zip(plain) {
         let alone = PassRecord {
             layout: None,
@@ -24,7 +23,6 @@ fn compare_passes(rt: &impl Abort, packed: &[PassRecord], plain: &[PassRecord]) 
 
 /// Compares records of levels without their layouts.
 fn compare_levels(rt: &impl Abort, packed: &[LevelRecord], plain: &[LevelRecord]) {
-    assert_eq!(rt; packed.len(), plain.len());
     for (one, other) in packed.iter().zip(plain) {
         let alone = LevelRecord {
             layout: None,
@@ -34,23 +32,35 @@ fn compare_levels(rt: &impl Abort, packed: &[LevelRecord], plain: &[LevelRecord]
     }
 }
 
+/// Whether two entries are the same.
+fn is_same(one: Entry<'_>, other: Entry<'_>) -> bool {
+    one.signs == other.signs && one.dot == other.dot && one.value == other.value
+}
+
 /// Compares patterns.
 fn compare_patterns(rt: &impl Abort, packed: &PatternSet, plain: &PatternSet) {
-    assert_eq!(rt; packed.len(), plain.len());
     for i in 0..packed.len().min(plain.len()) {
-        let (one, other) = (packed.entry(i), plain.entry(i));
-        assert_eq!(rt; one.signs, other.signs);
-        assert_eq!(rt; (one.dot, one.value), (other.dot, other.value));
+        assert!(rt; is_same(packed.entry(i), plain.entry(i)), "the entry {i}");
     }
+}
+
+/// How many patterns, records of passes and records of levels a run has, and how many passes it began.
+fn counts_of(run: &Run) -> [u64; 4] {
+    [
+        run.patterns().len() as u64,
+        run.passes().len() as u64,
+        run.levels().len() as u64,
+        run.begun(),
+    ]
 }
 
 /// Compares runs without their layouts.
 fn compare(rt: &impl Abort, packed: &Run, plain: &Run) {
+    assert_eq!(rt; counts_of(packed), counts_of(plain));
+    assert_eq!(rt; packed.totals(), plain.totals());
     compare_patterns(rt, packed.patterns(), plain.patterns());
     compare_passes(rt, packed.passes(), plain.passes());
     compare_levels(rt, packed.levels(), plain.levels());
-    assert_eq!(rt; packed.totals(), plain.totals());
-    assert_eq!(rt; packed.begun(), plain.begun());
 }
 
 /// Does the run over the packed engine, and compares it with this one.

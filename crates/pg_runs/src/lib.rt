@@ -1,6 +1,6 @@
 //! What no table of rows can say: runs of the driver beside a run that skips no pass, and over both
 //! engines; the windows that a pass counts; a call of the program over files that never fail; calls
-//! over a disk each call of which stops the program or fails; and the status of each answer. All
+//! over a disk that stops or fails at each of its calls in turn; and the status of each answer. All
 //! other calls are rows of patgen_rows.
 #![tactic(auto)]
 

@@ -1,5 +1,5 @@
-//! A run that skips no pass, over the calls of an engine: a second statement of what a run is. Its sums saturate, and stay far
-//! below that.
+//! A run that skips no pass, over the calls of an engine: a second statement of what a run is. Its
+//! sums saturate, but stay far below the limit.
 ghost use Rattle.pg_types.specs.Limits.{begun_before_pass};
 ghost use Rattle.std.specs.Prelude.{◌≡◌, ◌+◌, ◌*◌, ◌<◌, ◌≤◌, ◌^◌, [], true, length, OnOk, vec_len};
 ghost use Rattle.pg_types.specs.declared.limits.TheConstants.{LEVEL_MAX, WEIGHT_MAX, WORD_LETTERS_MAX};
@@ -374,7 +374,7 @@ fn run_passes<E: Engine>(
     Ok(chosen)
 }
 
-/// Does the run of the levels, of which each has lengths of at most 4.
+/// Does the run of the levels. Each level has lengths of at most 4.
 pub(crate) fn run_plainly<E: Engine>(
     alloc: Global,
     engine: &mut E,

@@ -3,6 +3,7 @@ use crate::quiet_calls::run_quietly;
 use pg_outside::{QuietFiles, QuietSink};
 use pg_top::Status;
 use std::alloc::{AllocError, Global};
+use std::process::Abort;
 use std::test::Fail;
 
 /// The files of a run whose three passes find the one pattern that two words need.
@@ -26,7 +27,7 @@ fn quiet_files(alloc: Global) -> Result<QuietFiles, AllocError> {
     Ok(files)
 }
 
-/// The words of a line, which a blank parts.
+/// The words of a line, with a blank between two.
 pub(crate) fn words(alloc: Global, line: &str) -> Result<Vec<String>, AllocError> {
     let mut words = Vec::new(alloc);
     for word in line.split(' ') {
@@ -35,14 +36,29 @@ pub(crate) fn words(alloc: Global, line: &str) -> Result<Vec<String>, AllocError
     Ok(words)
 }
 
-#[test]
-fn files_that_never_fail(rt: HostRuntime) -> Result<(), Fail> {
-    let words = words(rt.alloc(), "generate D P O T A R")?;
-    let mut files = quiet_files(rt.alloc())?;
-    let mut out = QuietSink::new(rt.alloc(), 200)?;
-    let status = run_quietly(rt.alloc(), &words, &mut files, &mut out);
-    assert_eq!(rt; status, Status::Done);
+/// Compares what the call wrote and printed.
+fn compare(rt: &impl Abort, files: &QuietFiles, out: &QuietSink) {
     assert_eq!(rt; files.bytes("O"), Some(b"ab1\n".as_slice()));
     assert_eq!(rt; out.bytes(), Some(PRINTED));
+}
+
+/// Does the call over these files and this sink, and compares what comes of it.
+fn run_and_compare(
+    rt: &impl Abort,
+    alloc: Global,
+    files: &mut QuietFiles,
+    out: &mut QuietSink,
+) -> Result<(), AllocError> {
+    let words = words(alloc, "generate D P O T A R")?;
+    assert_eq!(rt; run_quietly(alloc, &words, files, out), Status::Done);
+    compare(rt, files, out);
+    Ok(())
+}
+
+#[test]
+fn files_that_never_fail(rt: HostRuntime) -> Result<(), Fail> {
+    let mut files = quiet_files(rt.alloc())?;
+    let mut out = QuietSink::new(rt.alloc(), 200)?;
+    run_and_compare(&rt, rt.alloc(), &mut files, &mut out)?;
     Ok(())
 }

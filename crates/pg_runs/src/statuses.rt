@@ -6,6 +6,7 @@ use pg_messages::Told;
 use pg_outside::{MemoryFiles, MemorySink};
 use std::alloc::{AllocError, Global};
 use std::process::ExitCode;
+use std::rt::Clock;
 use std::test::Fail;
 use std::{fs, io};
 
@@ -38,17 +39,37 @@ fn given(alloc: Global) -> Result<MemoryFiles, AllocError> {
     Ok(files)
 }
 
+/// The status for these words, or the reason why there are none, over these files.
+fn status_over<C: Clock>(
+    clock: &C,
+    words: Result<Vec<String>, NoWords>,
+    files: &mut MemoryFiles,
+    out: &mut MemorySink,
+    alloc: Global,
+) -> u8 {
+    let told = Told::new(alloc, clock, io::sink(), false);
+    status_of(alloc, words, files, out, &told)
+}
+
+/// The status for the words of a line.
+fn status_of_line<C: Clock>(clock: &C, alloc: Global, line: &str) -> Result<u8, AllocError> {
+    let mut out = MemorySink::new(alloc, 200)?;
+    let mut files = given(alloc)?;
+    let words = words(alloc, line)?;
+    Ok(status_over(clock, Ok(words), &mut files, &mut out, alloc))
+}
+
+/// The status where there are no words.
+fn status_of_none<C: Clock>(clock: &C, alloc: Global, reason: NoWords) -> Result<u8, AllocError> {
+    let mut out = MemorySink::new(alloc, 200)?;
+    let mut files = given(alloc)?;
+    Ok(status_over(clock, Err(reason), &mut files, &mut out, alloc))
+}
+
 #[test]
 fn the_status_of_each_answer(rt: HostRuntime) -> Result<(), Fail> {
     for (line, status) in CALLS {
-        let told = Told::new(rt.alloc(), &rt, io::sink(), false);
-        let mut out = MemorySink::new(rt.alloc(), 200)?;
-        let mut files = given(rt.alloc())?;
-        let words = words(rt.alloc(), line)?;
-        assert_eq!(rt;
-            status_of(rt.alloc(), Ok(words), &mut files, &mut out, &told),
-            status
-        );
+        assert_eq!(rt; status_of_line(&rt, rt.alloc(), line)?, status);
     }
     Ok(())
 }
@@ -56,13 +77,7 @@ fn the_status_of_each_answer(rt: HostRuntime) -> Result<(), Fail> {
 #[test]
 fn the_status_where_there_are_no_words(rt: HostRuntime) -> Result<(), Fail> {
     for (reason, status) in [(NoWords::Memory, 5), (NoWords::Unreadable, 6)] {
-        let told = Told::new(rt.alloc(), &rt, io::sink(), false);
-        let mut out = MemorySink::new(rt.alloc(), 200)?;
-        let mut files = given(rt.alloc())?;
-        assert_eq!(rt;
-            status_of(rt.alloc(), Err(reason), &mut files, &mut out, &told),
-            status
-        );
+        assert_eq!(rt; status_of_none(&rt, rt.alloc(), reason)?, status);
     }
     Ok(())
 }

@@ -5,6 +5,7 @@ use pg_outside::{DiskFiles, MemorySink};
 use pg_told_disk::ToldDisk;
 use pg_top::{Status, run};
 use std::alloc::{AllocError, Global};
+use std::process::Abort;
 use std::test::Fail;
 
 /// What stands on the disk: the files of a run whose three passes find the one pattern that two
@@ -187,15 +188,43 @@ fn holds(disk: &ToldDisk, name: &str, bytes: &[u8]) -> bool {
     }
 }
 
+/// Compares the answer of a call over files with this one.
+fn compare_answer(
+    rt: &impl Abort,
+    alloc: Global,
+    line: &str,
+    files: &mut DiskFiles<ToldDisk>,
+    answer: Status,
+) -> Result<(), AllocError> {
+    assert_eq!(rt; answer_of(alloc, line, files)?, answer);
+    Ok(())
+}
+
+/// Compares the two files that a call over files wrote.
+fn compare_written(rt: &impl Abort, disk: &ToldDisk) {
+    assert!(rt; holds(disk, "O", b"ab1\n") && holds(disk, "M", b"ab*c\nab*a\n"));
+}
+
+/// Does a call and one on the files that it leaves, and compares what comes of them.
+fn call_twice(
+    rt: &impl Abort,
+    alloc: Global,
+    files: &mut DiskFiles<ToldDisk>,
+) -> Result<(), AllocError> {
+    compare_answer(rt, alloc, CALLS[0].0, files, Status::Done)?;
+    compare_written(rt, files.system());
+    compare_answer(
+        rt,
+        alloc,
+        "audit D P O T A R --pattmp M",
+        files,
+        Status::Yes,
+    )
+}
+
 #[test]
 fn files_that_are_told(rt: HostRuntime) -> Result<(), Fail> {
     let alloc = rt.alloc();
-    let mut files = DiskFiles::new(alloc, plain_disk(alloc)?);
-    let made = answer_of(alloc, CALLS[0].0, &mut files)?;
-    assert_eq!(rt; made, Status::Done);
-    assert!(rt; holds(files.system(), "O", b"ab1\n"));
-    assert!(rt; holds(files.system(), "M", b"ab*c\nab*a\n"));
-    let judged = answer_of(alloc, "audit D P O T A R --pattmp M", &mut files)?;
-    assert_eq!(rt; judged, Status::Yes);
+    call_twice(&rt, alloc, &mut DiskFiles::new(alloc, plain_disk(alloc)?))?;
     Ok(())
 }
