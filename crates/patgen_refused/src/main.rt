@@ -1,5 +1,5 @@
-//! The program `patgen` once more, for a run of eleven words, the last of which names a file that
-//! is refused: the line and the status are what is looked at.
+//! The program `patgen` once more, for a run with eleven words. The last word names a file that is
+//! refused. The line and the status of the run are looked at.
 #![tactic(auto)]
 
 use pg_main::run_words;

@@ -47,6 +47,6 @@ shown n d = record { line = d.line; found = take n d.found }
 abbrev pub first_false_shown : ℕ → List ℕ → List ℕ → Option Difference
 first_false_shown n given wanted = option_map (shown n) (first_false given wanted)
 
--- the first part of a given file, which has n bytes more than the wanted one
+-- the first part of a given file: n bytes more than the wanted file has
 abbrev pub first_part : ℕ → List ℕ → List ℕ → List ℕ
 first_part n given wanted = take (length wanted + n) given

@@ -24,7 +24,7 @@ abbrev pub line_there : List ℕ → FoundLine
 line_there line = if nat_lt 200 (length (without_feed line)) then Begins (take 200 line)
     else if has_feed line then Ended (without_feed line) else Unended line
 
--- the found line
+-- what was found: the line, or that there is none
 abbrev pub found_line : List ℕ → FoundLine
 found_line [] = Missing
 found_line (b ∷ bs) = line_there (b ∷ bs)

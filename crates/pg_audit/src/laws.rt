@@ -3,7 +3,7 @@ ghost use Rattle.std.specs.Prelude.{◌≡◌, ℕ, ◌+◌, ◌<◌, ◌≤◌,
 ghost use Rattle.pg_audit.specs.Differences.{first_false_shown, first_part};
 ghost use Rattle.pg_audit.specs.FoundLines.{first_false_printed};
 
-/// Of a given file that is longer than the wanted one by more than `more` bytes, the first part has
+/// Where a given file is longer than the wanted one by more than `more` bytes, its first part has
 /// the same false line as the whole: the same number, and the same first bytes of the line found.
 /// The part is longer than the wanted file by `more + 1` bytes, and this many bytes of the line are
 /// the same. Where they are at least 202, the same is printed.

@@ -79,7 +79,7 @@ pub fn least(
     None
 }
 
-// The same among the strings that go on by the sign, whose string has the cell.
+// The same among the strings that go on by the sign `s`. The string with `s` added has the cell.
 #[cycle(least)]
 fn least_at(
     cells: &Tallied,

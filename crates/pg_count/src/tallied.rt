@@ -18,7 +18,7 @@ use pg_types::Sign;
 use std::alloc::{AllocError, Global};
 use std::marker::Model;
 
-/// Each family of the windows is placed near the top, since their layout is told to no one.
+/// Each family of the windows is placed near the top, since no report tells their layout.
 const FEW_SIGNS: usize = 0;
 
 /// The cells of a pass stay for the next one where they are at most so many times its counted

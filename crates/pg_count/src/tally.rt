@@ -6,7 +6,7 @@ ghost use Rattle.pg_count.specs.Inside.Tallied.{tally_of};
 use pg_types::Weight;
 use std::alloc::AllocError;
 
-/// In a cell it says that the string was never counted: tallies are numbered from 1 on.
+/// This number in a cell says that the string was never counted: tallies are numbered from 1 on.
 pub const NOT_COUNTED: u32 = 0;
 
 /// The number of each tally is below this one.

@@ -3,7 +3,7 @@ use Rattle.std.specs.Prelude.{ℕ, Bool, true, false, List, [], ◌++◌, map}
 use Rattle.pg_types.specs.declared.marks.Mark.{Mark}
 use Rattle.pg_types.specs.declared.marks.Mark.TheVariants.{Nothing, Error, Missed, Found, DontCare}
 
--- a sign, and of the position before it the hyphen, weight and care
+-- a sign, with the hyphen, weight and care of the position before it
 pub record PositionedSign : Type 0 where
   pub sign : ℕ
   pub hyphen : Bool

@@ -3,7 +3,7 @@ use Rattle.std.specs.Prelude.{◌≡◌, ℕ, ◌+◌, ◌-◌, ◌<◌, ◌≤�
 use Rattle.pg_types.specs.declared.limits.TheConstants.{EDGE, WEIGHT_MAX, WORD_LETTERS_MAX}
 use Rattle.pg_dict.specs.PositionedSigns.{PositionedSign}
 
--- a word: its signs, of each position its hyphen, weight and care, and its own weight
+-- a word: its signs; the hyphen, weight and care of each position; and its own weight
 pub record Word : Type 0 where
   pub signs : List ℕ
   pub hyphens : List Bool

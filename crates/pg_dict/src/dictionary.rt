@@ -80,7 +80,7 @@ impl Dictionary {
         self.store.words.len()
     }
 
-    /// The word at place `i`, counted from 0.
+    /// The word with the number `i`, counted from 0.
     pub fn word(&self, i: usize) -> WordRef<'_>
         requires { i < length self.now }
         ensures lent { slice_get self.now i ≡ Some (lent_word result) }

@@ -41,8 +41,8 @@ pub fn items_are_lines(table: &Table)
     keeps_rules(table);
 }
 
-/// A file of lines that give words, each below the word weight that the line before it hands on, is
-/// the list of these words.
+/// A file of lines that give words, each read under the word weight that the line before it hands
+/// on, is read as the list of these words.
 pub fn files_are_read(table: &Table)
     ensures { (texts : List (List ℕ)) (all : List Word) → AllByRecursion IsLine texts
         → LinesGive table.now 1 texts all → length (file_of texts) ≤ FILE_MAX

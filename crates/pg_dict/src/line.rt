@@ -11,13 +11,13 @@ use pg_types::{Kind, Refusal, Weight};
 /// its word weight.
 #[derive(Clone, Copy)]
 pub(crate) struct Line<'t> {
-    /// The table.
+    /// The table by which the line is read.
     pub table: &'t Table,
     /// The number of the line, from 1.
     pub number: u32,
     /// The number of its bytes.
     pub size: usize,
-    /// The word weight.
+    /// The word weight of the line.
     pub weight: Weight,
     pub ghost short: { size ≤ FILE_MAX },
     pub ghost small: { weight ≤ WEIGHT_MAX },

@@ -14,9 +14,9 @@ use std::alloc::{AllocError, Global};
 /// Where a word lies in the store, and its weight.
 #[derive(Clone, Copy)]
 pub(crate) struct Stored {
-    /// The place of its first sign.
+    /// The index of its first sign.
     pub start: usize,
-    /// The place behind its last sign.
+    /// The index behind its last sign.
     pub end: usize,
     /// The weight of the word.
     pub weight: Weight,
@@ -27,7 +27,7 @@ pub(crate) struct Stored {
 pub(crate) struct Store {
     /// The signs of all words, one word after the other.
     pub signs: Vec<Sign>,
-    /// Whether the position before the sign at the same place has a hyphen.
+    /// Whether the position before the sign at the same index has a hyphen.
     pub hyphens: Vec<bool>,
     /// The weight of that position.
     pub weights: Vec<Weight>,

@@ -15,7 +15,7 @@ pub struct WordRef<'a> {
     pub hyphens: &'a [bool],
     /// The weight of position `p`.
     pub weights: &'a [Weight],
-    /// The weight of the word, which each position has that has no weight of its own.
+    /// The weight of the word. Each position without a weight of its own has this one.
     pub weight: Weight,
     /// Whether position `p` counts: false exactly where it is marked don't-care.
     pub cares: &'a [bool],

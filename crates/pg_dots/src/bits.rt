@@ -22,7 +22,7 @@ pub fn clear(row: &mut [u64], i: usize)
     row[i / NUMBER_BITS] &= !(1 << (i % NUMBER_BITS));
 }
 
-/// The place of the lowest clear bit of a number; 64 where all are set.
+/// The index of the lowest clear bit of a number; 64 where all are set.
 fn lowest_clear(number: u64) -> usize
     ensures within { result ≤ 64 }
     ensures clear { result < 64 → bit_at number result ≡ 0 }
@@ -44,7 +44,7 @@ fn with_low(number: u64, k: usize) -> u64
     number | ((1 << k) - 1)
 }
 
-/// The place of the first clear bit of a row from its number `start` on. Numbers of which each bit
+/// The index of the first clear bit of a row from its number `start` on. Numbers of which each bit
 /// is set are passed over as a whole.
 fn next_clear_from(row: &[u64], start: usize) -> usize
     requires start { start ≤ length row.now }
@@ -60,7 +60,7 @@ fn next_clear_from(row: &[u64], start: usize) -> usize
     row.len() * NUMBER_BITS
 }
 
-/// The place of the first clear bit of a row from bit `from` on; the end of the row where there is
+/// The index of the first clear bit of a row from bit `from` on; the end of the row where there is
 /// none.
 pub fn next_clear(row: &[u64], from: usize) -> usize
     requires from { from ≤ 64 * length row.now }

@@ -18,7 +18,7 @@ const WRITTEN: [(&str, Option<&[u8]>); 7] = [
     ("patgen-new-0", None),
 ];
 
-/// The names of files that no write of these touches.
+/// The names of files that no write of these touches, and what the files hold.
 const OTHERS: [(&str, &[u8]); 4] = [
     ("hard", b"old\n"),
     ("D", b"a-b\n"),
@@ -96,7 +96,7 @@ fn is_tidy(disk: &ToldDisk, name: &str) -> bool {
         .all(|own| *own == name || holds(disk, own, None))
 }
 
-/// Writes the name over a disk that fails at a call, or at it and each later one.
+/// Writes the file of this name over a disk that fails at a call, or at it and each later one.
 fn written(
     alloc: Global,
     name: &str,
@@ -114,7 +114,7 @@ fn written(
     Ok((is_written, files))
 }
 
-/// How many calls a write takes, where it goes well.
+/// How many calls a write takes where it goes well, else 0.
 fn calls_of(alloc: Global, name: &str) -> Result<u64, AllocError> {
     let (is_written, files) = written(alloc, name, 0, false)?;
     let disk = files.system();

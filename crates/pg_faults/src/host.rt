@@ -28,8 +28,8 @@ const NOT_WRITTEN: [&str; 10] = [
     "/dev/full",
 ];
 
-/// Names that are written, and a name that leads to each file then. D is replaced, then a file is
-/// made, then one behind a link, and a device is written in place.
+/// Names that are written, and for each a name whose file then holds the new bytes. D is replaced,
+/// then a file is made, then one behind a link, and a device is written in place.
 const WRITTEN: [(&str, &str); 7] = [
     ("D", "soft"),
     ("./D", "D"),
@@ -64,14 +64,14 @@ fn outcomes<R: rt::Files + AllocGlobal>(rt: &R, read: &str, name: &str) -> [bool
     ]
 }
 
-/// Whether the file of this name is not written once D was read, and D stays.
+/// Whether the file of this name is not written once D was read, and D and `patgen-new-0` stay.
 fn is_not_written<R: rt::Files + AllocGlobal>(rt: &R, name: &str) -> bool {
     outcomes(rt, "D", name) == [true, false]
         && holds(rt, "D", b"a-b\n")
         && holds(rt, "patgen-new-0", b"x")
 }
 
-/// Whether the file of this name is written, and the other name leads to it.
+/// Whether the file of this name is written, and the other name then leads to the new bytes.
 fn is_written<R: rt::Files + AllocGlobal>(rt: &R, name: &str, other: &str) -> bool {
     outcomes(rt, "patgen-new-0", name) == [true, true] && holds(rt, other, b"a1b\n")
 }
@@ -98,7 +98,7 @@ fn real_files(rt: HostRuntime) -> Result<(), Fail> {
     Ok(())
 }
 
-/// Writes a file that is there and one that is not in this folder, where it may not be written to.
+/// Writes, in a folder that may not be written to, a file that is there and one that is not.
 fn written_within(rt: &(impl rt::Files + AllocGlobal)) -> io::Result<[[bool; 2]; 2]> {
     permit(rt, "folder", 0o500)?;
     let both = [outcomes(rt, "D", "folder/O"), outcomes(rt, "D", "folder/N")];

@@ -116,7 +116,7 @@ impl<F: OpenFile + Drop> OpenFile for Scripted<'_, F> {
     }
 }
 
-/// The files of a system, whose opened files read and write as the list says, and one step of which
+/// The files of a system. The opened files read and write as the list says, and the broken step
 /// fails.
 #[derive(Drop)]
 pub struct ScriptedSystem<'a, R: rt::Files> {

@@ -8,7 +8,7 @@ use std::{fs, rt};
 /// What is written.
 const LINE: &[u8] = b"a1b\n";
 
-/// How the reads of D go, how its read does, and what it gives.
+/// How the calls that read D go, how its whole read then goes, and what it gives.
 const READS: [(&[Call], Result<(), ReadError>, &[u8]); 5] = [
     (&[], Ok(()), b"a-b\n"),
     (&[Call::Takes(1), Call::Takes(2)], Ok(()), b"a-b\n"),
@@ -63,7 +63,7 @@ fn is_written_by(alloc: Global, system: impl rt::Files + Drop) -> bool {
         .is_ok()
 }
 
-/// Whether D is read so over a system whose reads go so.
+/// Whether a read of D over a system whose calls go so ends as wanted, with these bytes.
 fn reads_so<R: rt::Files + AllocGlobal>(
     rt: &R,
     calls: &[Call],
@@ -80,7 +80,8 @@ fn reads_so<R: rt::Files + AllocGlobal>(
     result == wanted && into.as_slice() == bytes
 }
 
-/// Whether a write over a system whose calls go so leaves these bytes, and says so.
+/// Whether a write over a system whose calls go so leaves these bytes and no new file, and goes
+/// well exactly where they are the whole line.
 fn leaves<R: rt::Files + AllocGlobal>(
     rt: &R,
     calls: &[Call],

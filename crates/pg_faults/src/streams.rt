@@ -19,14 +19,15 @@ const PUTS: [(&[Call], &[u8]); 5] = [
     (&[Call::Takes(3), Call::Takes(0)], b"a1b"),
 ];
 
-/// Whether a put of a line into S, whose writes go so, leaves these bytes, and says so.
+/// Whether a put of a line into S, whose writes go so, leaves these bytes, and goes well exactly
+/// where they are the whole line.
 fn puts_so<R: rt::Files + AllocGlobal>(rt: &R, calls: &[Call], bytes: &[u8]) -> io::Result<bool> {
     let mut sink = HostSink::new(Scripted::new(fs::create(rt, "S")?, calls));
     let is_ok = sink.put(LINE).is_ok();
     Ok(is_ok == (bytes == LINE) && holds(rt, "S", bytes))
 }
 
-/// Whether one put stands behind the other, and a file that is read alone takes none.
+/// Whether one put stands behind the other, and a file that was opened only to be read takes none.
 fn puts_on<R: rt::Files + AllocGlobal>(rt: &R) -> io::Result<bool> {
     let mut sink = HostSink::new(fs::create(rt, "S")?);
     let both = [sink.put(b"done: ").is_ok(), sink.put(b"1\n").is_ok()];

@@ -35,9 +35,9 @@ pub fn raise_by_list(
     }
 }
 
-/// Raises by one value or mark: a value raises that of the position of its dot, and either covers
-/// the window there where it is at least the level, as the mark always is, and the string stands in
-/// the window.
+/// Raises by one value or mark. A value raises the value of the position of its dot. A value or
+/// mark covers the window there where it is at least the level, as the mark always is, and the
+/// string stands in the window.
 fn raise_at(value: u8, dot: u8, start: usize, len: usize, pass: &Pass, out: &mut WordState)
     requires start { start ≤ WORD_LETTERS_MAX + 2 }
     requires len { len ≤ WORD_LETTERS_MAX + 2 }

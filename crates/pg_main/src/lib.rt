@@ -24,7 +24,7 @@ use std::{env, io, rt};
 /// Why there are no words.
 #[derive(Clone, Copy, Debug, PartialEq, Eq)]
 pub enum NoWords {
-    /// They found no memory.
+    /// There was not enough memory for them.
     Memory,
     /// The system did not give them.
     Unreadable,
@@ -44,13 +44,13 @@ pub fn words_after_name(alloc: Global, arguments: Args) -> Result<Vec<String>, N
     }
 }
 
-/// The exit code of a program that was handed these words, or was not for this reason.
+/// The exit code of a program that was handed these words, or that got none for this reason.
 ///
 /// It is that of the answer of a call of `run` on these words: 0 where all went well, 1 for a file
 /// that is not the wanted one, 2 where the words are no command, 3 for a refused file, 4 for a file
-/// that could not be read or written, and 5 where memory was wanted. Where there are no words, it
-/// is 5 if they found no memory and 6 if the system gave none, and neither `files` nor `out` was
-/// called. The observer is told of the call and of its answer.
+/// that could not be read or written, and 5 where memory was short. Where there are no words, it is
+/// 5 if there was no memory for them and 6 if the system gave none, and neither `files` nor `out`
+/// was called. The observer is told of the call and of its answer.
 pub fn status_of<F: Files, O: Sink, L: Listen>(
     alloc: Global,
     words: Result<Vec<String>, NoWords>,
@@ -100,9 +100,9 @@ pub fn words_of(alloc: Global, arguments: io::Result<Args>) -> Result<Vec<String
 
 /// Does what the arguments ask for, and gives the exit code.
 ///
-/// It is that of the answer of a call of `run` on all words after the program's name, 5 where these
-/// find no memory or the system found none, and 6 where it does not give them. The observer is told
-/// of the call and of its answer.
+/// It is that of the answer of a call of `run` on all words after the program's name, 5 where there
+/// is no memory for these words, here or in the system, and 6 where the system does not give them.
+/// The observer is told of the call and of its answer.
 pub fn exit_of<F: Files, O: Sink, L: Listen>(
     alloc: Global,
     arguments: io::Result<Args>,

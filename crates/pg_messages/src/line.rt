@@ -86,7 +86,7 @@ fn push_step(line: &mut Vec<u8>, step: &Step, name: &[u8]) -> Result<(), AllocEr
 }
 
 /// The line that says where the call of a command is: the command, the seconds gone, the run of a
-/// sweep, and the step with the name of its file. Of a line that is longer than a row the first
+/// sweep, and the step with the name of its file. Where the line is longer than a row, its first
 /// bytes are given.
 ///
 /// # Errors

@@ -14,7 +14,7 @@ const FIRST: u64 = 1_000;
 /// How many milliseconds the line stands at least before another takes its place.
 const NEXT: u64 = 100;
 
-/// Takes what stands in the row of the cursor away.
+/// Takes away what stands in the row of the cursor.
 const CLEAR: &[u8] = b"\r\x1b[K";
 
 /// Whether the line is shown now: a second after the start, and a tenth of a second after it was
@@ -40,8 +40,7 @@ pub fn is_shown(choice: Option<&str>, is_terminal: bool) -> bool
     }
 }
 
-/// Standard error, on which a line may be shown. What is written to it may fail, which changes
-/// nothing.
+/// Standard error, on which a line may be shown. A write to it may fail, and that changes nothing.
 #[derive(Drop)]
 pub struct Screen<'a, C, E: Drop> {
     clock: &'a C,

@@ -47,7 +47,7 @@ pub struct Told<'a, C, E: Drop> {
     letters: RefCell<String>,
     /// Why a file is refused, or a given one is not the wanted one.
     reason: RefCell<Vec<u8>>,
-    /// What is worth a look though all went well.
+    /// What is said although all went well.
     notes: RefCell<Vec<u8>>,
 }
 
@@ -75,7 +75,7 @@ fn has_part(dictionary: &Dictionary, letters: &Table) -> bool {
     false
 }
 
-/// A name with its control bytes made visible, of which the first are given.
+/// The first bytes of a name, with its control bytes made visible.
 fn shown_name(alloc: Global, name: &str) -> Vec<u8> {
     match visible(alloc, name.as_bytes(), NAME) {
         Ok(name) => name,
@@ -184,7 +184,7 @@ impl<'a, C: Clock, E: Write + Drop> Told<'a, C, E> {
         }
     }
 
-    /// Puts on standard error that memory was short. It takes none.
+    /// Puts on standard error that memory was short. It takes no memory.
     pub fn put_memory(&self) {
         self.put(MEMORY);
     }
@@ -194,9 +194,9 @@ impl<'a, C: Clock, E: Write + Drop> Told<'a, C, E> {
         self.fault.set(true);
     }
 
-    /// Puts on standard error why a file could not be read or written, or a line not put, if the
-    /// answer was such a fault: the reason of the system, and what was done before with the same
-    /// file.
+    /// Puts on standard error why a file could not be read or written, or a line could not be put,
+    /// if the answer was such a fault: the reason of the system, and what was done before with the
+    /// same file.
     pub fn put_fault<S: SameFile>(&self, reasons: &Reasons<'_>, same: &S) {
         if !self.fault.get() {
             return;
@@ -208,23 +208,23 @@ impl<'a, C: Clock, E: Write + Drop> Told<'a, C, E> {
     }
 }
 
-/// Why the last calls of the system failed, as it says it. A reason is empty where no such call
-/// failed, and where the system gave none.
+/// Why the last calls of the system that failed did, as the system says it. A reason is empty where
+/// no such call failed, and where the system gave none.
 #[derive(Clone, Copy, Debug)]
 pub struct Reasons<'a> {
-    /// That of the last call on files.
+    /// The reason of the last call on files that failed.
     pub files: &'a str,
-    /// That of the last put.
+    /// The reason of the last put that failed.
     pub puts: &'a str,
 }
 
 /// Tells whether two names are of one file.
 pub trait SameFile {
-    /// Whether they are.
+    /// Whether the two names are of one file.
     fn is_same(&self, one: &str, other: &str) -> bool;
 }
 
-/// The fault of the last of these calls, or of a put where that did not fail.
+/// The fault of the last of these calls where it failed, else that of a put.
 fn fault_of<'b, S: SameFile>(
     calls: &'b [Call],
     failed: bool,
@@ -247,7 +247,7 @@ fn fault_of<'b, S: SameFile>(
     }
 }
 
-/// The first of these calls that was on the file of another one.
+/// The first of the earlier calls that was on the file of the last one.
 fn before_of<'b, S: SameFile>(earlier: &'b [Call], last: &Call, same: &S) -> Option<Before<'b>> {
     'calls: for call in earlier {
         if same.is_same(&call.name, &last.name) {

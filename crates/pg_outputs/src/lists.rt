@@ -9,14 +9,15 @@ use indexmap::IndexSet;
 use std::alloc::{AllocError, Global};
 use std::marker::Model;
 
-/// The latest record is known for so many dots.
+/// For so many dots, from 0 on, the latest record is kept apart.
 const DOTS: usize = 16;
 
 /// Lists of (value, dot) that share their ends. Head 0 is the empty list, and head `h` is the
 /// record at index `h - 1`.
 ///
 /// Most lists that are made in a pass are equal to one that was just made. So the index of the
-/// record that was given last is kept for each dot, and such a list is found without hashing.
+/// record that was given last is kept for each dot, and such a list is found without hashing. Dots
+/// that differ by a multiple of 16 share one index.
 #[derive(Drop)]
 pub struct Outputs {
     records: IndexSet<Record>,

@@ -5,7 +5,7 @@
 pub struct Record {
     /// The value at the dot.
     pub value: u8,
-    /// The dot, counted from the start of the string.
+    /// How many signs of the string stand before the dot.
     pub dot: u8,
     /// The head of the rest of the list, 0 where there is none.
     pub next: u64,

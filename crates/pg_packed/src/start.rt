@@ -23,8 +23,8 @@ fn entered(alloc: Global, signs: u16, start: &PatternSet) -> Result<PatternTrie,
     Ok(trie)
 }
 
-/// The trie of the patterns, which were entered in their order. It has no record but those that
-/// they need.
+/// The trie of the patterns, which were entered in their order. It has only the records that they
+/// need.
 pub fn trie_of(alloc: Global, signs: u16, start: &PatternSet) -> Result<PatternTrie, AllocError>
     requires signs { (1 ≤ signs) × (signs ≤ SIGNS_MAX) }
     requires known { SignsUpTo signs start.now }

@@ -26,7 +26,7 @@ pub dotted_total : IsTotalOrder dotted_cmp
 dotted_total = then_total (on_total (λ k. k.0) nat_list_cmp_total)
     (on_total (λ k. k.1) nat_cmp_total)
 
--- only the same places tie in the order
+-- two places are equal in the order exactly where they are the same
 pub dotted_ties : (a b : List ℕ × ℕ) → same_dotted a b ≡ eq_by_cmp dotted_cmp a b
 dotted_ties a b = both_tied _ _ _ _ (texts_ties a.0 b.0) (unsigned_ties a.1 b.1)
 

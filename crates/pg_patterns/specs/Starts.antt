@@ -9,7 +9,7 @@ use Rattle.pg_translate.specs.Alphabets.{Alphabet}
 use Rattle.pg_patterns.specs.Values.{map_of_entries}
 use Rattle.pg_patterns.specs.Lines.{entries_of_line}
 
--- the entries of these lines, of which the first has a number
+-- the entries of these lines, the first of which has this number
 abbrev pub entries_from : Alphabet → ℕ → List (List ℕ) → Result (List ((List ℕ × ℕ) × ℕ)) Refusal
 entries_from t line [] = Ok []
 entries_from t line (text ∷ texts) = both_parts (entries_of_line t line text)

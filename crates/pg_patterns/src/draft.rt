@@ -7,10 +7,10 @@ use pg_types::{PATTERN_SIGNS_MAX, Sign};
 use std::alloc::AllocError;
 use std::marker::Model;
 
-/// The most dots that a line may have between its signs.
+/// The most dots of a line that have a sign behind them.
 const DOTS_MAX: usize = PATTERN_SIGNS_MAX;
 
-/// The signs of a line, the digits at the dots between them, and the last digit behind the last
+/// The signs of a line, the digits at the dots before them, and the last digit behind the last
 /// sign.
 #[derive(Drop)]
 pub struct LineDraft {

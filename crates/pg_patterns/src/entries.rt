@@ -39,7 +39,7 @@ pub fn is_entry_of(entries: &[(DottedSigns, u8)], at: usize, place: &DottedSigns
     at < entries.len() && *place == entries[at].0
 }
 
-/// Raises the value of `place` to `value`.
+/// Raises the value of `place` to at least `value`.
 pub fn raise_in(
     entries: &mut Vec<(DottedSigns, u8)>,
     place: DottedSigns,

@@ -15,10 +15,11 @@ use pg_types::{PATTERN_SIGNS_MAX, Sign};
 use std::collections::BTreeMap;
 use std::ops::Bound;
 
-/// Raises the values and covers of a word by each entry whose signs stand in it: the value of the
-/// position of its dot to its own, and it covers the window of that position where it stands in it
-/// and covers at the level of the pass. It takes no memory. From each place on it looks up each
-/// string of the word in the map, up to the first with which no longer string of the map begins.
+/// Raises the values and covers of a word by each entry whose signs stand in it. An entry raises
+/// the value of the position of its dot to its own. It covers the window of that position where its
+/// signs stand in the window and it covers at the level of the pass. The walk takes no memory. From
+/// each sign on it looks up each string of the word in the map, up to the first with which no
+/// longer string of the map begins.
 pub fn walk<F: PlaceEntry>(
     map: &BTreeMap<DottedSigns, F>,
     w: &[Sign],

@@ -36,8 +36,8 @@ pub record Rounds : Type 0 where
   pub patterns : Patterns
   pub count : ℕ
 
--- rounds on from the map Q, until one takes out nothing, which is counted too. So many entries at
--- most are in Q, and a round takes out nothing of a map that has none
+-- further rounds from the map Q, until one takes out nothing; that round is counted too. Q has at
+-- most so many entries, and a round takes nothing out of a map without entries
 abbrev pub rounds_from : List WordPlace → Patterns → ℕ → ℕ → Patterns → Rounds
 rounds_from places P count zero Q = record { patterns = Q; count = count + 1 }
 rounds_from places P count (suc most) Q =
@@ -61,8 +61,8 @@ abbrev pub need_list : Option WordPlace → List Need
 need_list None = []
 need_list (Some x) = need_at x ∷ []
 
--- the needs of the entries from `rest` on, behind the entries `before`: of each the first place at
--- which the map without it does not break alike with the map
+-- the needs of the entries from `rest` on, behind the entries `before`: for each, the first place
+-- at which the map without it does not break alike with the map
 abbrev pub needs_from : List WordPlace → Patterns → Patterns → List Need
 needs_from places before [] = []
 needs_from places before (e ∷ rest) =

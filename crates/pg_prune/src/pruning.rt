@@ -20,14 +20,14 @@ use pg_patterns::PatternSet;
 use pg_translate::Table;
 use std::alloc::{AllocError, Global};
 
-/// Takes the entries out of `patterns` that change no break of the words, in rounds, and finds for
+/// Takes the entries that change no break of the words out of `patterns`, in rounds, and finds for
 /// each entry that stays the first position that needs it.
 ///
 /// Values are compared at all positions in reach of the words that take part, also where a position
 /// is marked don't-care. An entry goes where each of these values stays odd, or even, without it.
 /// Rounds through the entries, in the order of signs and then of dots, are made until one takes out
 /// nothing. A round costs about the number of places at which its entries stand. The only error is
-/// want of memory.
+/// a lack of memory.
 pub fn prune(
     alloc: Global,
     dictionary: &Dictionary,
@@ -71,7 +71,7 @@ pub fn prune_watched<W: Rounds>(
     Ok(found)
 }
 
-/// The same, said by the definition alone.
+/// Does what `prune_watched` does. Its contract names only the definition.
 fn find<W: Rounds>(
     alloc: Global,
     dictionary: &Dictionary,

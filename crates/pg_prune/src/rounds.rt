@@ -49,8 +49,8 @@ fn take_off(holders: &mut [Holders], places: &[usize], value: u8)
     }
 }
 
-/// The first of the places of an entry that needs it, as it would not stay odd, or even, without
-/// it; none where the entry can go.
+/// The first of an entry's places that needs the entry: the value there would not stay odd, or
+/// even, without it. None where the entry can go.
 fn first_need(holders: &[Holders], places: &[usize], value: u8) -> Option<usize>
     requires { (turn : Turn) × IsHeld turn holders.now places.now value }
     ensures { (turn : Turn) → IsHeld turn holders.now places.now value
@@ -106,7 +106,8 @@ fn keep_or_take_off(holders: &mut [Holders], places: &[usize], value: u8) -> boo
     is_needed
 }
 
-/// A round through the entries with the numbers `kept`: those that stay.
+/// Makes a round through the entries with the numbers `kept`, and gives the numbers of those that
+/// stay.
 pub(crate) fn round(
     alloc: Global,
     patterns: &PatternSet,
@@ -150,7 +151,7 @@ fn numbers(alloc: Global, count: usize) -> Result<Vec<usize>, AllocError>
     Ok(numbers)
 }
 
-/// Rounds, until one takes out nothing. The observer is told of each.
+/// Makes rounds until one takes out nothing. The observer is told of each.
 pub(crate) fn all_rounds<W: Rounds>(
     alloc: Global,
     patterns: &PatternSet,

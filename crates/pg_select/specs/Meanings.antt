@@ -32,7 +32,7 @@ pub record Meaning : Type 0 where
   pub begun : ℕ
   pub tidy : Bool
 
--- what every engine keeps: its patterns are a map of patterns, so that they stand in order and each
+-- what every engine keeps: its patterns are a map of patterns, so they stand in order and each
 -- value is 1 to 9; its hopeless places and its counts stand in order; and no sign is above the
 -- greatest
 pub record IsKept (m : Meaning) : Type 0 where
@@ -104,8 +104,8 @@ after_give_up m u tidy =
       tidy = tidy;
     }
 
--- a level ended: nothing is hopeless, and the families lose the cells of strings that are no prefix
--- of a pattern's
+-- a level ended: nothing is hopeless, and the families lose the cells of strings of several signs
+-- that are no prefix of a pattern's
 abbrev pub after_end_level : Meaning → Meaning
 after_end_level m = record m {
   hopeless = [];

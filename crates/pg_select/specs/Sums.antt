@@ -21,7 +21,7 @@ marks_by m value w = map
     ))
     (positions m.left m.right (length w.signs))
 
--- and by the patterns
+-- the same by the patterns
 abbrev pub marks_in : Minima → Patterns → Word → List (Mark × ℕ)
 marks_in m P w = marks_by m (value_at P w.signs) w
 
@@ -72,10 +72,10 @@ with_marks t marks = record {
   missed = t.missed + weight_of is_missed marks;
 }
 
--- totals have become new ones by at most so many positions
+-- at most n positions more turned the old totals into the new ones
 abbrev pub TookRoomFor : Totals → Totals → ℕ → Type 0
 TookRoomFor old new n = sum_of new ≤ sum_of old + WEIGHT_MAX * n
 
--- totals have room for so many positions more of the longest dictionary
+-- totals have room for n more positions, in a dictionary of the greatest size
 abbrev pub HasRoomFor : Totals → ℕ → Type 0
 HasRoomFor t n = sum_of t + WEIGHT_MAX * n ≤ WEIGHT_MAX * FILE_MAX

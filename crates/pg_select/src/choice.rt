@@ -10,7 +10,7 @@ use pg_types::{LevelParams, Mark};
 /// What becomes of a candidate at the end of its pass.
 #[derive(Clone, Copy, Debug, PartialEq, Eq)]
 pub enum Choice {
-    /// It can reach the threshold no more, and covers longer windows to the end of the level.
+    /// It cannot reach the threshold, and covers longer windows to the end of the level.
     Hopeless,
     /// It becomes a pattern of the level.
     Chosen,

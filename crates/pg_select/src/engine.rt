@@ -15,9 +15,9 @@ use std::alloc::{AllocError, Global};
 /// What the levels and passes of a run are made over: patterns that give values to positions,
 /// hopeless places that cover longer windows, and the counts of the windows of a pass.
 ///
-/// A run begins each pass, hyphenates each word once in it, counts the windows of its positions,
-/// and walks over the windows that are counted to choose some and to give up others. What a call
-/// does not name stays as it was.
+/// A run begins each pass, counts the windows of the positions that count, and chooses some of the
+/// counted windows and gives up others. It hyphenates each word once at the start of a level, or
+/// once in each pass of the level. What a call does not name stays as it was.
 pub trait Engine {
     ghost meaning: { Self → Meaning };
 
@@ -36,8 +36,8 @@ pub trait Engine {
         ensures { meaning self.new ≡ after_begin_pass (meaning self.old) level len dot };
 
     /// The value of each position of a word, and for each position whose window of the pass fits in
-    /// the word whether that is covered. Of the cover of other positions nothing is said. It takes
-    /// no memory.
+    /// the word, whether that window is covered. Nothing is said of the cover of other positions.
+    /// It takes no memory.
     fn hyphenate(&self, w: WordRef<'_>, out: &mut WordState)
         requires len { length w.signs.now ≤ WORD_LETTERS_MAX + 2 }
         requires signs { SignsWithin (meaning self.now).signs w.signs.now }

@@ -37,7 +37,7 @@ abbrev pub fold_totals : Terms → Parameters → ℕ → Totals
 fold_totals s set fold = totals_by (left_out s fold)
     (final_patterns s.start (trace (rest s fold) set s.start))
 
--- totals together
+-- the sums of several totals
 abbrev pub summed : List Totals → Totals
 summed ts = record {
   good = sum_by (λ (t : Totals). t.good) ts;
@@ -49,7 +49,7 @@ summed ts = record {
 abbrev pub totals_of_folds : Terms → Parameters → ℕ → Totals
 totals_of_folds s set count = summed (map (fold_totals s set) (range_with_len 0 count))
 
--- the row of totals: what they cost stands beside them
+-- the row with these totals, and what they cost
 abbrev pub row_with : Prices → Totals → SweepRow
 row_with prices totals =
     record { totals = totals; cost = prices.bad * totals.bad + prices.missed * totals.missed }

@@ -11,7 +11,7 @@ use pg_types::Totals;
 pub struct SweepRow {
     /// The totals of the words that were left out.
     pub totals: Totals,
-    /// The bad and the missed, each times what a unit of it costs.
+    /// The bad and the missed sum, each times what a unit of it costs.
     pub cost: u64,
 }
 

@@ -33,7 +33,7 @@ fn priced(totals: Totals, bad: u32, missed: u32) -> SweepRow
 /// fold, and adds up the totals of the words that were left out. `bad` and `missed` are what a unit
 /// of each costs, 1 to 1,000.
 ///
-/// One engine is alive at a time. The only error is want of memory.
+/// One engine is alive at a time. The only error is a lack of memory.
 pub fn sweep<K: Maker>(
     alloc: Global,
     maker: &K,

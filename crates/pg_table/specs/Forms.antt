@@ -72,7 +72,8 @@ is_sound_cell h at c = (nat_lt h.signs at || nat_eq c.sign at)
     && (not (nat_eq c.sign 0) || (nat_eq c.child 0 && nat_eq c.head 0))
     && nat_le c.sign h.signs && nat_lt c.child h.cells && nat_le c.head h.records
 
--- a record may stand at its place: its value is 1 to 9, its dot is at most 32, and it leads back
+-- a record may stand at its place: its value is 1 to 9, its dot is at most 32, and it leads to an
+-- earlier record or to none
 abbrev pub is_sound_record : ℕ → Record → Bool
 is_sound_record i r = nat_le 1 r.value && nat_le r.value LEVEL_MAX
     && nat_le r.dot PATTERN_SIGNS_MAX && nat_le r.next i

@@ -1,4 +1,4 @@
--- Numbers of two and of four bytes, the greatest byte first.
+-- Numbers of two and of four bytes, with the most significant byte first.
 use Rattle.std.specs.Prelude.{ℕ, ◌+◌, ◌*◌, ◌/◌, ◌%◌, List, [], ◌∷◌, ◌++◌, slice_index}
 
 -- the number of the two bytes from i on

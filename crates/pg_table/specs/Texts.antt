@@ -19,8 +19,8 @@ layout n P = entered_families n (map (λ e. e.0.0) P)
 abbrev pub with_list : List (List (ℕ × ℕ)) → List (ℕ × ℕ) → List (List (ℕ × ℕ))
 with_list lists l = if list_any (pointwise same_pair l) lists then lists else lists ++ l ∷ []
 
--- the lists that get a record, each once, as they are first met: string by string, of each the ends
--- of its list of (dot, value) from the shortest on
+-- the lists that get a record, each once, as they are first met: string by string, the ends of the
+-- string's list of (dot, value), from the shortest on
 abbrev pub recorded : List ((List ℕ × ℕ) × ℕ) → List (List (ℕ × ℕ))
 recorded P = fold with_list [] (flat_map (λ q. reverse (suffixes (outputs_of P q))) (strings_of P))
 

@@ -1,4 +1,4 @@
-//! Numbers in a packed table, the greatest byte first.
+//! Numbers in a packed table, with the most significant byte first.
 ghost use Rattle.std.specs.Prelude.{◌≡◌, ◌+◌, ◌≤◌, ◌++◌, length, OnOk};
 ghost use Rattle.pg_table.specs.Numbers.{u16_at, u32_at, u16_bytes, u32_bytes};
 

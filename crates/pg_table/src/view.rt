@@ -15,7 +15,7 @@ use pg_select::WordState;
 use pg_types::Sign;
 use std::marker::Model;
 
-/// A packed table, whose bytes it lends.
+/// A packed table in borrowed bytes.
 #[derive(Drop)]
 pub struct TableView<'a> {
     bytes: &'a [u8],

@@ -3,9 +3,9 @@
 /// A change. A file's number is how many changes were before it was made.
 #[derive(Drop)]
 pub(crate) enum Change {
-    /// A file was made under this name, which is regular or not.
+    /// A file was made under this name. The flag tells whether it is regular.
     Made(String, bool),
-    /// The first name was given to the file of the second, which keeps it.
+    /// The first name was given to the file of the second name. The file keeps both names.
     Shared(String, String),
     GotMode(u64, u32),
     Wrote(u64, Vec<u8>),

@@ -73,7 +73,7 @@ pub(crate) fn real_of<'a>(links: &'a [Link], name: &'a str) -> &'a str
     }
 }
 
-/// The text of a link, seen from which it says what it is to say.
+/// The text of the link with this name, where the text says the name that the link is to say.
 pub(crate) fn text_of(alloc: Global, name: &str, link: &Link) -> Option<String>
     ensures text { IfSome result (λ text. string_bytes text ≡ string_bytes link.now.text) }
     ensures said { IfSome result (λ text.

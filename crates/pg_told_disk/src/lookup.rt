@@ -109,7 +109,7 @@ pub(crate) fn bytes_of(alloc: Global, log: &[Change], number: u64) -> Result<Vec
     }
 }
 
-/// Whether a file of these permissions may be written by who has it.
+/// Whether a file of these permissions may be written by its owner.
 pub(crate) fn lets_write(mode: u32) -> bool
     ensures { result ≡ lets_write mode }
 {

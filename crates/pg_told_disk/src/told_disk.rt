@@ -82,7 +82,7 @@ impl Failing {
 }
 
 impl ToldDisk {
-    /// An empty disk, no call of which fails.
+    /// An empty disk. None of its calls fails.
     pub fn new(alloc: Global) -> ToldDisk
         ensures links { result.links.items ≡ [] }
         ensures log { result.log.items ≡ [] }
@@ -127,7 +127,7 @@ impl ToldDisk {
         Ok(())
     }
 
-    /// Gives the file of the old name another one.
+    /// Gives the file of the old name another name.
     ///
     /// # Errors
     /// Where there is not enough memory.
@@ -138,7 +138,7 @@ impl ToldDisk {
         Ok(())
     }
 
-    /// Makes a link with this text, under a name that is none.
+    /// Makes a link with this text, under a name that is no link so far.
     ///
     /// # Errors
     /// Where there is not enough memory.

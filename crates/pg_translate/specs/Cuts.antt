@@ -24,7 +24,8 @@ with_item column token c =
       rest = c.rest;
     }
 
--- the cut at a column: that behind the item that begins there, or nothing where none does
+-- the cut at a column: the item that begins there and the cut behind it; no item where none begins
+-- there
 abbrev pub cut_at : ℕ → List ℕ → Option (Token × ℕ) → (ℕ → Cut) → Cut
 cut_at column text None behind = record { items = []; column = column; rest = text }
 cut_at column text (Some item) behind = with_item column item.0 (behind (item.1 - 1))

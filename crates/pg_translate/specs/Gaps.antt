@@ -32,7 +32,7 @@ gaps items = slice_split is_sign_item items
 abbrev pub inner_gaps : List Token → List (List Token)
 inner_gaps items = slice_range (gaps items) 1 (length (gaps items) - 1)
 
--- a digit
+-- the digit that an item is
 abbrev pub digit_of : Token → Option ℕ
 digit_of (Letter sign) = None
 digit_of (Digit digit) = Some digit
@@ -40,7 +40,7 @@ digit_of (Weight weight) = None
 digit_of (Marked mark) = None
 digit_of Edge = None
 
--- a number is a digit or a weight in braces
+-- the number that an item is: a digit or a weight in braces
 abbrev pub number_of : Token → Option ℕ
 number_of (Letter sign) = None
 number_of (Digit digit) = Some digit
@@ -48,7 +48,7 @@ number_of (Weight weight) = Some weight
 number_of (Marked mark) = None
 number_of Edge = None
 
--- a mark
+-- the mark that an item is
 abbrev pub mark_of : Token → Option Mark
 mark_of (Letter sign) = None
 mark_of (Digit digit) = None

@@ -79,7 +79,7 @@ mark_checks_from column earlier (mark ∷ marks) =
     check (mark_fails earlier mark) BadMark 1 column
     ++ mark_checks_from (column + 1) (mark ∷ earlier) marks
 
--- the checks of the marks, of which the first stands in column 5
+-- the checks of the marks, the first of which stands in column 5
 abbrev pub mark_checks : List ℕ → List Refusal
 mark_checks marks = mark_checks_from 5 [] marks
 
@@ -190,7 +190,7 @@ checks size head letter_lines =
     check (nat_lt FILE_MAX size) TranslateTooLong 0 0
     ++ (head_checks head ++ spelling_checks (marks_of head) [] (spellings_from 2 1 letter_lines))
 
--- what a head and letter lines say
+-- the table that a head and letter lines say
 abbrev pub alphabet_of : List ℕ → List (List ℕ) → Alphabet
 alphabet_of head letter_lines = record {
   left = left_minimum head;

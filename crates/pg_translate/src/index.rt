@@ -211,7 +211,7 @@ impl Index {
         Ok(())
     }
 
-    /// Adds the letter a, b and so on with this number, counted from 0, and its capital.
+    /// Adds a small letter of ASCII by its number, counted from 0 for a, and its capital.
     fn add_default(&mut self, n: u8) -> Result<(), AllocError>
         requires number { n < 26 }
         requires sound { IsIndex self.old }

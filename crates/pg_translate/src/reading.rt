@@ -89,7 +89,7 @@ fn add_spelling(
     Ok(())
 }
 
-/// The place of the first delimiter.
+/// The index of the first delimiter.
 fn find_delimiter(delimiter: u8, rest: &[u8]) -> Option<usize>
     ensures { result ≡ position (λ b. b == delimiter) rest.now }
 {
@@ -97,7 +97,7 @@ fn find_delimiter(delimiter: u8, rest: &[u8]) -> Option<usize>
 }
 
 /// The first piece of what is left of a letter line behind its delimiter, and what follows it; none
-/// where the piece is empty, at which the pieces end.
+/// where the piece is empty: the pieces end there.
 fn next_piece(delimiter: u8, rest: &[u8]) -> Option<(&[u8], &[u8])>
     ensures pieces { MatchOption result (table.pieces_of delimiter rest.now ≡ [])
         (λ p. table.pieces_of delimiter rest.now ≡ p.0.now ∷ table.pieces_of delimiter p.1.now) }

@@ -62,7 +62,7 @@ impl Table {
     }
 
     /// The table of a translate file, or the first place at which its rules refuse it. A file of no
-    /// bytes means the default table. Want of memory is an error of its own.
+    /// bytes means the default table. A lack of memory is an error of its own.
     pub fn read(alloc: Global, bytes: &[u8]) -> Result<Table, ReadingError>
         ensures { Gives (λ t. t) result (table bytes.now) }
     {

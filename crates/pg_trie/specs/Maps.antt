@@ -1,5 +1,5 @@
--- What a pattern trie is seen as: two maps from places, the families of its strings, and the
--- records of its lists.
+-- A pattern trie as two maps from places, the families of its strings, and the records of its
+-- lists.
 use Rattle.std.specs.Prelude.{◌≡◌, ℕ, ◌≤◌, nat_lt, nat_le, if◌then◌else◌, Bool, true, ◌&&◌, T, List, [], ◌∷◌, length, Option, None, Some}
 use Rattle.std.specs.List.{flat_map, list_all}
 use Rattle.std.specs.FinMap.Entries.{is_sorted}
@@ -26,7 +26,7 @@ pub record Maps : Type 0 where
 abbrev pub as_value : ℕ → Option ℕ
 as_value v = if nat_lt v HOPELESS then Some v else None
 
--- what it adds to the map of hopeless marks
+-- what an entry of a list adds to the map of hopeless marks
 abbrev pub as_mark : ℕ → Option (Unit {0})
 as_mark v = if nat_lt v HOPELESS then None else Some (tt {0})
 

@@ -11,7 +11,7 @@ use crate::mark::FEW_SIGNS;
 use pg_cells::{Cells, step};
 use pg_types::{PATTERN_SIGNS_MAX, Sign};
 
-// Takes the cell of a string of several signs away, where it has no list and no string goes on from
+// Takes away the cell of a string of several signs, where it has no list and no string goes on from
 // it.
 fn remove_blank(cells: &mut Cells<Head, FEW_SIGNS>, parent: usize, cell: usize, s: Sign)
     requires held { AreValuedFamilies cells.old }
@@ -25,8 +25,8 @@ fn remove_blank(cells: &mut Cells<Head, FEW_SIGNS>, parent: usize, cell: usize, 
     }
 }
 
-// Takes the cells of all strings away that go on from the cell's string and have no list, where no
-// string goes on from them that stays. A string below it has at most so many signs more.
+// Takes away the cells of all strings that go on from the cell's string and have no list, where no
+// string that stays goes on from them. A string below it has at most so many signs more.
 fn prune_below(cells: &mut Cells<Head, FEW_SIGNS>, cell: usize, more: usize)
     requires held { AreValuedFamilies cells.old }
     requires short { AreShort cells.old }
@@ -47,8 +47,8 @@ fn prune_below(cells: &mut Cells<Head, FEW_SIGNS>, cell: usize, more: usize)
     }
 }
 
-/// Takes the cells of all strings away that have several signs and no list, where no string goes on
-/// from them that stays.
+/// Takes away the cells of all strings that have several signs and no list, where no string that
+/// stays goes on from them.
 pub fn prune(cells: &mut Cells<Head, FEW_SIGNS>)
     requires held { AreValuedFamilies cells.old }
     requires short { AreShort cells.old }

@@ -34,7 +34,7 @@ fn fresh_head(outputs: &Outputs, head: u64, fresh: &mut Outputs) -> Result<u64, 
     }
 }
 
-// The heads of the empty list, one more than so many.
+// The head of the empty list, `count + 1` times.
 fn no_heads(alloc: Global, count: u64) -> Result<Vec<u32>, AllocError>
     ensures { IfOk result (λ heads. length heads.items ≡ count + 1) }
 {
@@ -67,8 +67,8 @@ fn renew_cell(
     Ok(())
 }
 
-/// The new heads of the strings' values by their old heads, among new records. There is no record
-/// but those of their ends.
+/// The new heads of the strings' values by their old heads, among new records. The new records are
+/// only those of the ends of these lists.
 pub fn fresh_heads(
     alloc: Global,
     cells: &Cells<Head, FEW_SIGNS>,

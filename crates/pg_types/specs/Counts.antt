@@ -9,7 +9,7 @@ use Rattle.std.specs.FinMap.Entries.{put, find}
 abbrev pub Counts : Type 0
 Counts = List (List ℕ × (ℕ × ℕ))
 
--- the sums of a window that is counted, and none of another
+-- the sums of a window, or none where it is not counted
 abbrev pub counted_sums : Counts → List ℕ → Option (ℕ × ℕ)
 counted_sums counts u = find (slice_cmp nat_cmp) u counts
 

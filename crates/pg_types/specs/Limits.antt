@@ -14,8 +14,8 @@ length_passes = LENGTH_MAX + 1
 abbrev pub level_passes : ℕ
 level_passes = LENGTH_MAX * length_passes
 
--- every sum of weights of positions is below this: the longest dictionary has FILE_MAX letters,
--- each of at most WEIGHT_MAX
+-- every sum of weights of positions is below this: the longest dictionary has FILE_MAX letters and
+-- no more positions in reach, each with a weight of at most WEIGHT_MAX
 abbrev pub sums_limit : ℕ
 sums_limit = 2 ^ 40
 
@@ -23,9 +23,9 @@ sums_limit = 2 ^ 40
 abbrev pub counts_limit : ℕ
 counts_limit = 2 ^ 60
 
--- an engine may have begun fewer passes than the first of these before a run, and than the second
--- before a pass. The passes of a run, which are at most level_passes for each level, fit between
--- them
+-- before a run an engine has begun fewer passes than the first of these numbers, and before a pass
+-- fewer than the second. The passes of a run fit between them: they are at most level_passes for
+-- each level
 abbrev pub begun_before_run : ℕ
 begun_before_run = 2 ^ 59
 

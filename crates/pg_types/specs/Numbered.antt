@@ -18,7 +18,7 @@ HasNumber windows u n = slice_get windows n ≡ Some u
 abbrev pub AreInOrder : Windows → Counts → List ℕ → Type 0
 AreInOrder windows counts ns = map (slice_get windows) ns ≡ map (λ e. Some e.0) counts
 
--- what has a number is what is counted, and it has one number
+-- the windows with a number are those that are counted, and each has one number
 pub record AreNumbered (windows : Windows) (counts : Counts) : Type 0 where
   pub size : length windows ≡ length counts
   pub counted : (u : List ℕ) (n : ℕ) → HasNumber windows u n → is_counted counts u ≡ true

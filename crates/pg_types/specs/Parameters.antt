@@ -43,7 +43,7 @@ number_from n digits = if list_all is_ascii_digit digits then Some (fold with_di
 abbrev pub number : List ℕ → Option ℕ
 number item = number_from 0 item
 
--- the number at a place of a list of items, 0 where there is none
+-- the number that the item with the index k is, counted from 0; 0 where it is none, or is not there
 abbrev pub number_at : List (List ℕ) → ℕ → ℕ
 number_at xs k = unwrap_or (option_and_then number (slice_get xs k)) 0
 
@@ -75,7 +75,7 @@ level_of xs = record {
 abbrev pub level_count : ℕ → ℕ → ℕ
 level_count start finish = min finish LEVEL_MAX + 1 - start
 
--- the items of the level at a place, counted from 0: each level has five
+-- the items from the level with the index i on, counted from 0: each level has five
 abbrev pub level_items : List (List ℕ) → ℕ → List (List ℕ)
 level_items xs i = drop (5 * i) xs
 

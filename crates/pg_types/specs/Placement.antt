@@ -67,7 +67,8 @@ abbrev pub fits_at : Families → List ℕ → ℕ → Bool
 fits_at fs signs b = not (is_base fs b) && list_all (λ s. not (is_used fs (b + s))) signs
 
 -- how far below the greatest used cell the search begins for a family of more than few signs, in a
--- table of n signs. No patterns are placed with few 0, so it is near there
+-- table of n signs. Patterns are never placed with few 0, and there the search begins near that
+-- cell
 abbrev pub far_from_top : ℕ → ℕ → ℕ
 far_from_top few n = if nat_eq few 0 then near_below else max far_below n
 

@@ -4,7 +4,7 @@ use Rattle.pg_types.specs.declared.refusals.Refusal.{Refusal}
 use Rattle.pg_types.specs.declared.refusals.ReadingError.{ReadingError}
 use Rattle.pg_types.specs.declared.refusals.ReadingError.TheVariants.{Refused, Memory}
 
--- a reader's refusal is that of the definition; want of memory is free
+-- a reader's refusal is that of the definition; a lack of memory may always come
 abbrev pub Fails : {Y : Type 0} → ReadingError → Result Y Refusal → Type 0
 Fails (Refused r) reading = reading ≡ Err r
 Fails Memory reading = Unit {0}

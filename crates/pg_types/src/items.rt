@@ -11,7 +11,7 @@ use crate::refusals::{Kind, Refusal};
 /// What a number that is greater than every range is cut to, so that its digits cannot overflow.
 const TOO_GREAT: u32 = COST_MAX + 1;
 
-/// More items than any file's numbers are.
+/// A number of items that is greater than that of any accepted file.
 const PLACE_MAX: u32 = 100;
 
 /// Whether the byte stands between items.
@@ -28,7 +28,7 @@ fn separators_len(rest: &[u8]) -> usize
     first_item_byte(rest).unwrap_or(rest.len())
 }
 
-/// Where the first byte stands that is no separator.
+/// Where the first byte that is no separator stands.
 fn first_item_byte(rest: &[u8]) -> Option<usize>
     ensures { result ≡ position (λ b. not (is_separator_byte b)) rest.now }
 {
@@ -167,7 +167,8 @@ impl<'a> Items<'a> {
         })
     }
 
-    /// Tells whether at most one answer of patgen's last question is left: `y`, `Y`, `n` or `N`.
+    /// Refuses the first item too many. Only one answer of patgen's last question may be left: `y`,
+    /// `Y`, `n` or `N`.
     pub fn end(&self) -> Result<(), Refusal>
         requires { self.now.place ≤ PLACE_MAX }
         ensures passed { OnOk result (surplus self.now.place (items self.now.rest.now) ≡ None) }

@@ -18,11 +18,12 @@ pub struct LevelParams {
     pub pat_start: u8,
     /// The greatest length of a window, `pat_start` to [`LENGTH_MAX`](crate::LENGTH_MAX).
     pub pat_finish: u8,
-    /// What a good position counts, 1 to [`COST_MAX`](crate::COST_MAX).
+    /// The good weight: what a good position counts, 1 to [`COST_MAX`](crate::COST_MAX).
     pub good_wt: u32,
-    /// What a bad position counts, 1 to [`COST_MAX`](crate::COST_MAX).
+    /// The bad weight: what a bad position counts, 1 to [`COST_MAX`](crate::COST_MAX).
     pub bad_wt: u32,
-    /// What the weighted difference has to reach, 1 to [`COST_MAX`](crate::COST_MAX).
+    /// The threshold: what the weighted difference has to reach, 1 to
+    /// [`COST_MAX`](crate::COST_MAX).
     pub thresh: u32,
 }
 
@@ -73,7 +74,7 @@ impl Params {
         self.levels.len()
     }
 
-    /// What the level at place `i` of those that are run is given, counted from 0.
+    /// What the level with the number `i` of those that are run is given. They are counted from 0.
     pub fn level(&self, i: usize) -> &LevelParams
         requires { i < length self.now.levels }
         ensures value { slice_get self.now.levels i ≡ Some result.now }

@@ -21,7 +21,7 @@ pub enum Kind {
     /// A spelling is a proper prefix of another, has another as proper prefix, or belongs to two
     /// letters.
     SpellingClash,
-    /// A letter too many.
+    /// A translate file has a letter too many.
     TooManyLetters,
     /// A number is due in a parameters file, and the item is none.
     BadNumber,
@@ -117,11 +117,11 @@ impl Kind {
 
 /// Where and why a file is refused. Lines and columns count from 1, and columns count bytes.
 ///
-/// Of a parameters file `line` is the number of the item and `column` is 0. Of a file that is too
-/// long, and of a packed table file, both are 0.
+/// For a parameters file, `line` is the number of the item and `column` is 0. For a file that is
+/// too long, and for a packed table file, both are 0.
 #[derive(Clone, Copy, Debug, PartialEq, Eq)]
 pub struct Refusal {
-    /// Why.
+    /// Why the file is refused.
     pub kind: Kind,
     /// The line, or the item of a parameters file.
     pub line: u32,

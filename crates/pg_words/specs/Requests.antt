@@ -5,8 +5,8 @@ use Rattle.std.specs.Option.{option_and_then, option_map, option_map_or, is_none
 use Rattle.std.specs.Str.{bytes_eq}
 use Rattle.pg_types.specs.Parameters.{number_from}
 
--- the names of the files of `generate` and `audit`, each as its bytes; those of the hyphenated list
--- and of the cells file where they are asked for
+-- the names of the files of `generate` and `audit`, each as its bytes. Those of the hyphenated list
+-- and of the cells file are there where they are asked for
 pub record FileNames : Type 0 where
   pub dict : List ℕ
   pub patterns : List ℕ
@@ -86,7 +86,7 @@ with_option n option name =
     if bytes_eq option (codes "--pattmp") then Some (record n { pattmp = Some name })
     else (if bytes_eq option (codes "--cells") then Some (record n { cells = Some name }) else None)
 
--- the names with those of the options, of which each may stand once
+-- the names with those of the options. Each option may stand once
 abbrev pub with_options : FileNames → List (List ℕ) → Option FileNames
 with_options n [] = Some n
 with_options n (option ∷ name ∷ []) = with_option n option name

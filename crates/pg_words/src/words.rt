@@ -83,8 +83,8 @@ fn is_report_distinct(names: &Names<'_>) -> bool
     differs_from_inputs(names.report, names)
 }
 
-/// Whether the name of the cells file, where it is asked for, differs from those of the report and
-/// the inputs.
+/// Whether the names of the cells file, where it is asked for, and of the report differ from each
+/// other and from the names of all inputs.
 fn is_cells_distinct(names: &Names<'_>) -> bool
     ensures { result ≡ outputs_differ
         (if_asked (texts_of names.now).cells (λ name. name) ++ (texts_of names.now).report ∷ [])
@@ -98,8 +98,8 @@ fn is_cells_distinct(names: &Names<'_>) -> bool
     }
 }
 
-/// Whether the name of the hyphenated list, where it is asked for, differs from those of the
-/// outputs after it and of the inputs.
+/// Whether the names of the hyphenated list, of the cells file, each where it is asked for, and of
+/// the report differ from each other and from the names of all inputs.
 fn is_pattmp_distinct(names: &Names<'_>) -> bool
     ensures { result ≡ outputs_differ
         (if_asked (texts_of names.now).pattmp (λ name. name)
@@ -166,7 +166,7 @@ fn with_both<'a>(names: Names<'a>, words: &'a [String]) -> Option<Names<'a>>
     }
 }
 
-/// The names with those of the options, of which each may stand once.
+/// The names with those of the options. Each option may stand once.
 fn with_options<'a>(names: Names<'a>, words: &'a [String]) -> Option<Names<'a>>
     ensures { option_map texts_of result
         ≡ with_options_of (texts_of names.entry) (words_of words.now) }
@@ -396,7 +396,7 @@ fn is_taken(dict: &str, patterns: &str, output: &str, translate: &str, params: &
         && differs_from_all(output, params)
 }
 
-/// The word at a place.
+/// The word with the number `i`, counted from 0.
 fn word_at(words: &[String], i: usize) -> &str
     requires { i < length words.now }
     ensures { result.now ≡ slice_index_or (words_of words.now) i [] }

@@ -1,4 +1,4 @@
--- What a count trie is seen as, and how that stands in its cells.
+-- A count trie as its counts and windows, and how these stand in its cells.
 use Rattle.std.specs.Prelude.{◌≡◌, ℕ, ◌≤◌, Bool, true, T, List, length, unwrap_or, Option, None}
 use Rattle.std.specs.List.{filter_map}
 use Rattle.std.specs.Option.{option_map}
@@ -20,7 +20,7 @@ pub record Counting : Type 0 where
   pub counts : Counts
   pub windows : Windows
 
--- what is always true of it
+-- what is always true of a count trie
 pub record IsCounting (c : Counting) : Type 0 where
   pub some : 1 ≤ c.len
   pub len : c.len ≤ LENGTH_MAX

@@ -13,7 +13,7 @@ NoneAt tallies p bound k s = (q : List ℕ) (sums : ℕ × ℕ)
     → length (s ∷ q) ≡ k → sums_at tallies (p ++ s ∷ q) ≡ Some sums
     → slice_cmp nat_cmp bound (s ∷ q) ≡ Less → ⊥
 
--- none goes on from p by k signs
+-- no counted string above the bound goes on from p by k signs
 abbrev pub NoneAbove : Tallies → List ℕ → List ℕ → ℕ → Type 0
 NoneAbove tallies p bound k = (s : ℕ) → NoneAt tallies p bound k s
 
@@ -32,7 +32,7 @@ pub record LeastFrom (tallies : Tallies) (p bound : List ℕ)
 abbrev pub LeastAbove : Tallies → List ℕ → List ℕ → List ℕ → ℕ × ℕ → Type 0
 LeastAbove tallies p bound path sums = (s : ℕ) → LeastFrom tallies p bound s path sums
 
--- no path of its length that begins with s is less, and it begins so
+-- the same, and the path begins with s
 pub record LeastAt (tallies : Tallies) (p bound : List ℕ)
     (s : ℕ) (path : List ℕ) (sums : ℕ × ℕ) : Type 0 where
   pub tail : List ℕ

@@ -21,8 +21,7 @@ with_word words (Err r) = Err r
 abbrev pub entries_of : Store → ℕ → Entries
 entries_of s weight = record { words = stored_words s; weight = weight }
 
--- each word more of a store leaves room for its two edges: the signs grow by no more than the bytes
--- that were read
+-- the signs of a store grow by at most the n bytes that were read, and two edges for each word more
 abbrev pub GrowsBy : ℕ → Store → Store → Type 0
 GrowsBy n old new = length new.signs.items + 2 * length old.words.items ≤ length old.signs.items
     + n + 2 * length new.words.items

@@ -1,4 +1,4 @@
--- The word that is lent.
+-- A word that its dictionary lends.
 use Rattle.pg_dict.specs.Word.{Word}
 use Rattle.pg_dict.specs.declared.word.WordRef.{WordRef}
 

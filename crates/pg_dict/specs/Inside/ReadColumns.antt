@@ -14,9 +14,9 @@ use Rattle.pg_dict.specs.declared.line.Line.{Line}
 use Rattle.pg_dict.specs.PositionedSigns.{Columns, with_signs}
 use Rattle.pg_dict.specs.Inside.Running.{signs_behind}
 
--- the columns when the rest of a word is read: its weight, its line and the line's size; the last
--- mark and number behind the letter before; how many letters may still come; the columns so far;
--- the rest of the line
+-- the columns after the rest of a word is read. Given are the weight of the word, its line and the
+-- line's size; the last mark and number behind the letter before; how many letters may still come;
+-- the columns so far; and the rest of the line
 abbrev pub columns_after : Alphabet → ℕ → ℕ → ℕ → Mark
     → ℕ → ℕ → Columns → List ℕ → Result Columns Refusal
 columns_after t weight line size mark number room done rest =
@@ -24,13 +24,13 @@ columns_after t weight line size mark number room done rest =
     unless (refusal_with_room Dictionary line room c)
     (with_signs done (signs_behind weight mark number (tokens_of c)))
 
--- the columns when a line is read on from where its reading stands in a word
+-- the columns after a line is read on from where its reading stands in a word
 abbrev pub columns_from : Line → At → Columns → Result Columns Refusal
 columns_from l at now =
     columns_after l.table.now l.weight l.number l.size at.position.mark at.position.weight at.room
     now at.rest.now
 
--- the columns when the rest of a line is read right behind the first letter of its word
+-- the columns after the rest of a line is read, from right behind the first letter of its word
 abbrev pub columns_behind : Line → List ℕ → Columns → Result Columns Refusal
 columns_behind l rest now = columns_after l.table.now l.weight l.number l.size Nothing l.weight
     (WORD_LETTERS_MAX - 1) now rest

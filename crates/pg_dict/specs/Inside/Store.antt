@@ -16,7 +16,7 @@ columns_of s = record {
   cares = s.cares.items;
 }
 
--- the word that lies at a place of the columns
+-- the word that lies in the columns from the start to the end that are stored for it
 abbrev pub word_at : Columns → Stored → Word
 word_at c w = record {
   signs = slice_range c.signs w.start w.end;

@@ -11,7 +11,7 @@ use Rattle.pg_dict.specs.PositionedSigns.{PositionedSign, positioned_sign, sets_
 use Rattle.pg_dict.specs.Word.{Word}
 use Rattle.pg_dict.specs.Words.{line_reading}
 
--- a letter behind the first, and of the position before it the mark and the weight
+-- a letter behind the first, with the mark and the weight of the position before it
 pub record Written : Type 0 where
   pub mark : Mark
   pub weight : ℕ

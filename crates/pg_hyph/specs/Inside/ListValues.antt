@@ -20,7 +20,7 @@ value_given v = if nat_lt v HOPELESS then v else 0
 abbrev pub value_by : ℕ → ℕ × ℕ → ℕ
 value_by n x = value_given x.0
 
--- 1 where it covers the window of that position: it is at least the level, as a mark always is, and
--- its string stands in the window
+-- 1 where a record covers the window of that position: its value is at least the level, as a mark
+-- always is, and its string stands in the window
 abbrev pub cover_by : Pass → ℕ → ℕ × ℕ → ℕ
 cover_by pass n x = bit (nat_le pass.level x.0 && is_within pass.len pass.dot n x.1)

@@ -1,4 +1,4 @@
--- What of a line of a pattern file was read so far.
+-- What was read so far of a line of a pattern file.
 use Rattle.std.specs.Prelude.{◌≡◌, ℕ, ◌-◌, ◌<◌, ◌≤◌, List, [], ◌∷◌, ◌++◌, length, fold, Option, Result, Ok}
 use Rattle.std.specs.List.{All}
 use Rattle.pg_types.specs.declared.limits.TheConstants.{EDGE, LEVEL_MAX, PATTERN_SIGNS_MAX}
@@ -11,8 +11,8 @@ use Rattle.pg_translate.specs.Cuts.{Cut, cut_rest, tokens_of}
 use Rattle.pg_translate.specs.LineRefusals.{refusal_with_room, of_line}
 use Rattle.pg_patterns.specs.Lines.{digit_at_dot, entries_at}
 
--- the signs, the dots between them with their digits, and the last digit behind the last sign,
--- where 0 is none
+-- the signs, the dots before them with their digits, and the last digit behind the last sign, where
+-- 0 is none
 pub record Draft : Type 0 where
   pub signs : List ℕ
   pub digits : List (ℕ × ℕ)
@@ -25,15 +25,15 @@ no_draft = record { signs = []; digits = []; digit = 0 }
 abbrev pub all_digits : Draft → List (ℕ × ℕ)
 all_digits d = d.digits ++ digit_at_dot (length d.signs) d.digit
 
--- one sign more
+-- the draft with one sign more
 abbrev pub draft_with_sign : Draft → ℕ → Draft
 draft_with_sign d sign = record { signs = d.signs ++ sign ∷ []; digits = all_digits d; digit = 0 }
 
--- a digit in place of the last at this dot
+-- the draft with this digit in place of the last one behind its last sign
 abbrev pub draft_with_digit : Draft → ℕ → Draft
 draft_with_digit d digit = record { signs = d.signs; digits = d.digits; digit = digit }
 
--- one item more
+-- the draft with one item more
 abbrev pub with_token : Draft → Token → Draft
 with_token d (Letter sign) = draft_with_sign d sign
 with_token d (Digit digit) = draft_with_digit d digit
@@ -49,14 +49,14 @@ draft_entries d = entries_at d.signs (all_digits d)
 abbrev pub refusal_after : ℕ → ℕ → Cut → Option Refusal
 refusal_after n line c = refusal_with_room Patterns line (PATTERN_SIGNS_MAX - n) c
 
--- a line read on from a draft, where this is left of its size
+-- the draft when a line of this size is read on from a draft, where `rest` is left of the line
 abbrev pub draft_left : Alphabet → ℕ → ℕ → Draft → List ℕ → Result Draft Refusal
 draft_left t line size d rest =
     let c = cut_rest t Patterns size rest in
     unless (refusal_after (length d.signs) line c) (fold with_token d (tokens_of c))
 
--- an item was taken: the line read on from the new draft and rest is that read on from the old
--- ones, and less is left
+-- an item was taken: reading on from the new draft and rest gives the same as reading on from the
+-- old ones, and less is left
 abbrev pub ReadsOn : (Draft → List ℕ → Result Draft Refusal)
     → Draft → List ℕ → Draft → List ℕ → Type 0
 ReadsOn read old rest new after = (read old rest ≡ read new after) × (length after < length rest)
@@ -65,7 +65,7 @@ ReadsOn read old rest new after = (read old rest ≡ read new after) × (length 
 abbrev pub EndsWith : (Draft → List ℕ → Result Draft Refusal) → Draft → List ℕ → Draft → Type 0
 EndsWith read old rest new = (read old rest ≡ Ok old) × (new ≡ old)
 
--- a line read whole
+-- the draft of a whole line
 abbrev pub line_draft : Alphabet → ℕ → List ℕ → Result Draft Refusal
 line_draft t line text = of_line (fold with_token no_draft) t Patterns line text
 

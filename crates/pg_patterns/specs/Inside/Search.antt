@@ -1,4 +1,4 @@
--- Words of the search for a place in a list of entries in order.
+-- What the search for a place in a list of entries in order speaks of.
 use Rattle.std.specs.Prelude.{◌≡◌, ℕ, ◌<◌, ◌≤◌, Bool, true, false, if◌then◌else◌, List, [], ◌∷◌, length, slice_index_or, Option, None, Some}
 use Rattle.std.specs.declared.cmp.Ordering.{Ordering}
 use Rattle.std.specs.Ordering.{is_gt, nat_cmp, ordering_then}
@@ -13,8 +13,7 @@ abbrev pub begins_with : List ℕ × ℕ → List ((List ℕ × ℕ) × ℕ) →
 begins_with k [] = false
 begins_with k (e ∷ es) = same_dotted k e.0
 
--- of two entries the one comes first whose place does, and of one place the one with the greater
--- value
+-- entries stand in the order of their places, and entries of one place by falling value
 abbrev pub entry_cmp : (List ℕ × ℕ) × ℕ → (List ℕ × ℕ) × ℕ → Ordering
 entry_cmp e f = ordering_then (dotted_cmp e.0 f.0) (nat_cmp f.1 e.1)
 

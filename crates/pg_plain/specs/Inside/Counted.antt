@@ -1,5 +1,5 @@
--- What the counted windows are seen as, and how that stands in a map from windows to their numbers
--- and a list of sums by number.
+-- The counted windows, and how they stand in a map from windows to their numbers and in a list of
+-- sums by number.
 use Rattle.std.specs.Prelude.{◌≡◌, ℕ, ◌≤◌, Bool, T, List, map, length, slice_index_or}
 use Rattle.std.specs.Ordering.{nat_cmp}
 use Rattle.std.specs.Cmp.Lexicographic.{slice_cmp}

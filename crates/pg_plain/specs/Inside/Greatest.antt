@@ -25,8 +25,8 @@ RaisesBy number test es before after = Raises (greatest_at number test es) befor
 abbrev pub entry_value : {X : Type 0} → (X → ℕ) → (List ℕ × ℕ) × X → ℕ
 entry_value given e = given e.1
 
--- 1 where it covers the window of that position in a pass: it covers at the level, and its string
--- stands in the window
+-- 1 where an entry covers the window of that position in a pass: it covers at the level, and its
+-- string stands in the window
 abbrev pub entry_cover : {X : Type 0} → (ℕ → X → Bool) → Pass → (List ℕ × ℕ) × X → ℕ
 entry_cover covers_at pass e =
     bit (covers_at pass.level e.1 && is_within pass.len pass.dot (length e.0.0) e.0.1)

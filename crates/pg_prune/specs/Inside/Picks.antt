@@ -33,8 +33,8 @@ pub record RoundStart (places : List WordPlace) (P : Patterns)
   pub tallied : IsTallied places (picked P kept) holders
   pub alike : break_alike places P (picked P kept) ≡ true
 
--- after it: those with the numbers `stay` are the entries that the round leaves, and the holders
--- are theirs
+-- after a round: the entries with the numbers `stay` are those that the round leaves, and the
+-- holders are theirs
 pub record RoundDone (places : List WordPlace) (P : Patterns)
     (stands : List (List ℕ)) (holders : List (List ℕ)) (kept stay : List ℕ) : Type 0 where
   pub next : RoundStart places P stands holders stay

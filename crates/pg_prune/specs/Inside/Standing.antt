@@ -18,6 +18,6 @@ stands e x = applies x.signs x.position e.0
 abbrev pub standing : List WordPlace → (List ℕ × ℕ) × ℕ → List ℕ
 standing places e = numbers_of (stands e) 0 places
 
--- those of each entry of a map
+-- these numbers for each entry of a map
 abbrev pub all_standing : List WordPlace → Patterns → List (List ℕ)
 all_standing places P = map (standing places) P

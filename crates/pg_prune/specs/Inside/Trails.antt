@@ -13,7 +13,7 @@ use Rattle.pg_prune.specs.declared.trail.Start.{Start}
 abbrev pub signs_of : List Word → ℕ → List ℕ
 signs_of ws i = option_map_or (λ (w : Word). w.signs) (slice_get ws i) []
 
--- how many positions these ends have between them
+-- how many positions there are from the first of these ends to the last, both included
 abbrev pub width_of : Option (ℕ × ℕ) → ℕ
 width_of r = option_map_or (λ ends. ends.1 + 1 - ends.0) r 0
 

@@ -31,7 +31,7 @@ abbrev pub CandidatesAreCounted : Type 0
 CandidatesAreCounted = (counted : List CountedPosition) (u : List ℕ)
     → list_any (same_signs u) (candidates counted) ≡ list_any (λ s. same_signs u s.window) counted
 
--- the entry of the counts that a candidate is
+-- a candidate as an entry of the counts
 abbrev pub entry_of : Candidate → List ℕ × (ℕ × ℕ)
 entry_of c = (c.window, (c.good, c.bad))
 
@@ -67,7 +67,7 @@ abbrev pub TotalsAreSmall : Type 0
 TotalsAreSmall = (m : Minima) (words : List Word) (P : Patterns) → 1 ≤ m.left → AreFew words
     → (totals m words P).good + (totals m words P).bad + (totals m words P).missed < sums_limit
 
--- the weights of all that a pass counts in them are below the limit of sums together
+-- the weights of all that a pass counts in such words are together below the limit of sums
 abbrev pub CountedAreLight : Type 0
 CountedAreLight = (m : Minima) (words : List Word) (pass : Pass) (P : Patterns) (H : Hopeless)
     → 1 ≤ m.left
@@ -85,7 +85,7 @@ CandidatesAreLow = (m : Minima) (words : List Word) (pass : Pass) (P : Patterns)
     → All (λ u. value_of P (u, pass.dot) < pass.level)
     (candidates (counted_positions m words pass P H))
 
--- so it gets exactly the level where it is chosen
+-- so a candidate that is chosen gets exactly the level as its value
 abbrev pub ChosenGetLevel : Type 0
 ChosenGetLevel = (m : Minima) (words : List Word) (pass : Pass) (P : Patterns) (H : Hopeless)
     → 1 ≤ pass.level
@@ -97,7 +97,7 @@ abbrev pub OthersStay : Type 0
 OthersStay = (P : Patterns) (j k : List ℕ × ℕ) (v : ℕ) → same_dotted k j ≡ false
     → value_of (raise P j v) k ≡ value_of P k
 
--- and no value of a place falls
+-- a raise lowers the value of no place
 abbrev pub NoneFalls : Type 0
 NoneFalls = (P : Patterns) (j k : List ℕ × ℕ) (v : ℕ) → value_of P k ≤ value_of (raise P j v) k
 
@@ -120,7 +120,7 @@ abbrev pub RaisedCovers : Type 0
 RaisedCovers = (level : ℕ) (P : Patterns) (H : Hopeless) (k : List ℕ × ℕ) (u : List ℕ) (d : ℕ)
     → covered level (raise P k level) H u d ≡ (applies u d k || covered level P H u d)
 
--- and so does a place that is made hopeless
+-- a place that is made hopeless covers exactly the same windows
 abbrev pub HopelessCovers : Type 0
 HopelessCovers = (level : ℕ) (P : Patterns) (H : Hopeless) (k : List ℕ × ℕ) (u : List ℕ) (d : ℕ)
     → covered level P (put dotted_cmp k (tt {0}) H) u d ≡ (applies u d k || covered level P H u d)
@@ -153,7 +153,7 @@ abbrev pub LaterRaised : Type 0
 LaterRaised = (level : ℕ) (P : Patterns) (H : Hopeless) (k : List ℕ × ℕ)
     → Later level P H (raise P k level) H
 
--- and so does a place that is made hopeless
+-- a place that is made hopeless leads to a later point
 abbrev pub LaterHopeless : Type 0
 LaterHopeless = (level : ℕ) (P : Patterns) (H : Hopeless) (k : List ℕ × ℕ)
     → Later level P H P (put dotted_cmp k (tt {0}) H)
@@ -170,17 +170,17 @@ CountedBack = (pass : Pass) (P P' : Patterns) (H H' : Hopeless) (w : Word) (p : 
     → Later pass.level P H P' H' → counted_at pass P' H' w p ≡ Some good
     → counted_at pass P H w p ≡ Some good
 
--- a pass is closed where it counts nothing
+-- a pass counts nothing
 abbrev pub IsClosed : Minima → List Word → Pass → Patterns → Hopeless → Type 0
 IsClosed m words pass P H = counted_positions m words pass P H ≡ []
 
--- a pass that is closed is closed later in the level
+-- a pass that counts nothing counts nothing later in the level
 abbrev pub ClosedLater : Type 0
 ClosedLater = (m : Minima) (words : List Word) (pass : Pass) (P P' : Patterns) (H H' : Hopeless)
     → Later pass.level P H P' H' → IsClosed m words pass P H → IsClosed m words pass P' H'
 
--- the pass whose windows have one sign more behind them, and that whose windows have one more
--- before them
+-- the pass whose windows have one sign more behind them, and the pass whose windows have one sign
+-- more before them
 abbrev pub longer_behind : Pass → Pass
 longer_behind pass = record pass { len = pass.len + 1 }
 
@@ -194,7 +194,7 @@ CountedShorter = (pass : Pass) (P : Patterns) (H : Hopeless) (w : Word) (p : ℕ
     → (counted_at (longer_behind pass) P H w p ≡ Some good → counted_at pass P H w p ≡ Some good)
     × (counted_at (longer_before pass) P H w p ≡ Some good → counted_at pass P H w p ≡ Some good)
 
--- where a pass is closed, the two that are longer by a sign are
+-- where a pass counts nothing, the two passes that are longer by a sign count nothing
 abbrev pub ClosedLonger : Type 0
 ClosedLonger = (m : Minima) (words : List Word) (pass : Pass) (P : Patterns) (H : Hopeless)
     → IsClosed m words pass P H
@@ -213,7 +213,7 @@ abbrev pub LaterAfterPass : Type 0
 LaterAfterPass = (level dot : ℕ) (P : Patterns) (H : Hopeless) (raised hopeless : List Candidate)
     → Later level P H (raised_all level dot P raised) (hopeless_all dot H hopeless)
 
--- a pass whose candidates are all covered later is closed then
+-- a pass whose candidates are all covered later counts nothing then
 abbrev pub ClosedWhenCovered : Type 0
 ClosedWhenCovered = (m : Minima) (words : List Word)
     (pass : Pass) (P P' : Patterns) (H H' : Hopeless)
@@ -222,7 +222,8 @@ ClosedWhenCovered = (m : Minima) (words : List Word)
     (candidates (counted_positions m words pass P H)) ≡ true
     → IsClosed m words pass P' H'
 
--- a pass that left no candidate, as each was chosen or made hopeless, is closed from its end
+-- a pass that left no candidate, as each was chosen or made hopeless, counts nothing from its end
+-- on
 abbrev pub ClosedAtEnd : Type 0
 ClosedAtEnd = (m : Minima) (words : List Word) (pass : Pass) (P : Patterns) (H : Hopeless)
     (raised hopeless : Candidate → Bool)

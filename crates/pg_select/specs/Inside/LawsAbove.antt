@@ -1,5 +1,5 @@
--- The laws of positions whose value is above the level: a pass counts them as others, but no choice
--- changes their value.
+-- The laws of positions whose value is above the level: a pass counts them like others, but no
+-- choice changes their value.
 use Rattle.std.specs.Prelude.{◌≡◌, ℕ, ◌-◌, ◌≤◌, nat_lt, Bool, not, ◌&&◌, if◌then◌else◌, List, [], ◌∷◌, length, sum_by, Option, None, MatchBool}
 use Rattle.std.specs.List.{flat_map}
 use Rattle.std.specs.Option.{option_map_or}
@@ -51,7 +51,7 @@ AboveStay = (m : Minima) (words : List Word) (pass : Pass) (P : Patterns) (H : H
     → counts_above pass.level (patterns_after_pass m words pass P H raised) w p
     ≡ counts_above pass.level P w p
 
--- of sums that are raised a part stays, and the rest moves in the totals
+-- a part of the raised sums changes no total, and the rest moves in the totals
 pub record MovesAllBut (odd : Bool) (old new : Totals)
     (good bad good_stays bad_stays : ℕ) : Type 0 where
   pub good_within : good_stays ≤ good
@@ -59,7 +59,7 @@ pub record MovesAllBut (odd : Bool) (old new : Totals)
   pub totals : MatchBool odd (FindsMore old new (good - good_stays) (bad - bad_stays))
       (PreventsMore old new (good - good_stays) (bad - bad_stays))
 
--- a pass moves in the totals what it raised, but the positions whose value is above the level
+-- a pass moves in the totals what it raised, except the positions whose value is above the level
 abbrev pub TotalsAfterAbove : Type 0
 TotalsAfterAbove = (m : Minima) (words : List Word) (pass : Pass) (P : Patterns) (H : Hopeless)
     (raised : Candidate → Bool)

@@ -19,7 +19,7 @@ is_good level w p = if is_odd level then slice_index_or w.hyphens p false
 abbrev pub pass_at : ℕ → ℕ → ℕ → Pass
 pass_at level len dot = record { level = level; len = len; dot = dot }
 
--- what counts at a position of which these dots are closed
+-- what counts at a position where these dots are closed
 abbrev pub counted_with : ℕ → Word → ℕ → ℕ → ℕ → Bool → Option Bool
 counted_with level w p len dot closed = if fits w.signs p len dot && not closed
     then Some (is_good level w p) else None
@@ -37,7 +37,8 @@ Tells level len P H w p closed = (d : ℕ) → d ≤ LENGTH_MAX
 abbrev pub IsDone : ℕ → ℕ → Patterns → Hopeless → Word → ℕ → Type 0
 IsDone level len P H w p = (d : ℕ) → d ≤ len → counted_at (pass_at level len d) P H w p ≡ None
 
--- what begins open: a position that counts by its status, with no dot closed
+-- a position that counts by its status begins with no dot closed; at the next length, a dot is
+-- closed where it or the dot before it was
 abbrev pub TellsAtStart : Type 0
 TellsAtStart = (level len : ℕ) (P : Patterns) (w : Word) (p : ℕ) (good : Bool) → IsBelow level P
     → counts_as level (status_at P w p) ≡ Some good → Tells level len P [] w p (λ _. false)
@@ -68,14 +69,14 @@ abbrev pub DoneByStatus : Type 0
 DoneByStatus = (level len : ℕ) (P : Patterns) (H : Hopeless) (w : Word) (p : ℕ)
     → counts_as level (status_at P w p) ≡ None → IsDone level len P H w p
 
--- and so is one of which each dot whose window fits is closed
+-- a position is done where each dot whose window fits is closed
 abbrev pub DoneWhenClosed : Type 0
 DoneWhenClosed = (level len : ℕ) (P : Patterns) (H : Hopeless)
     (w : Word) (p : ℕ) (closed : ℕ → Bool)
     → len ≤ LENGTH_MAX → ((d : ℕ) → d ≤ len → fits w.signs p len d ≡ true → closed d ≡ true)
     → Tells level len P H w p closed → IsDone level len P H w p
 
--- what is done is done at the next length, and after a pass
+-- a position that is done is done at the next length too, and after a pass
 abbrev pub DoneLonger : Type 0
 DoneLonger = (level len : ℕ) (P : Patterns) (H : Hopeless) (w : Word) (p : ℕ)
     → IsDone level len P H w p
@@ -95,7 +96,7 @@ RaisedStop = (m : Minima) (words : List Word) (pass : Pass) (P : Patterns) (H : 
     → is_candidate_at m words pass P H raised w.signs p ≡ true
     → counts_as pass.level (status_at (patterns_after_pass m words pass P H raised) w p) ≡ None
 
--- one whose window was made hopeless is covered at the dot
+-- a position whose window was made hopeless is covered at the dot
 abbrev pub HopelessStop : Type 0
 HopelessStop = (m : Minima) (words : List Word) (pass : Pass) (P : Patterns) (H : Hopeless)
     (raised hopeless : Candidate → Bool) (w : Word) (p : ℕ)
@@ -105,8 +106,8 @@ HopelessStop = (m : Minima) (words : List Word) (pass : Pass) (P : Patterns) (H 
     (hopeless_after_pass m words pass P H hopeless) (window w.signs p pass.len pass.dot) pass.dot
     ≡ true
 
--- one whose window was neither, or that counts by its status and was not counted in the pass, keeps
--- its status and all covers of the length
+-- a position whose window was neither, or that counts by its status and was not counted in the
+-- pass, keeps its status and all covers of the length
 pub record Stays (level len : ℕ) (P : Patterns) (H : Hopeless)
     (P' : Patterns) (H' : Hopeless) (w : Word)
     (p : ℕ) : Type 0 where

@@ -21,7 +21,7 @@ pub record CoversUpTo (level len : ℕ) (P : Patterns) (H : Hopeless) : Type 0 w
   pub patterns : list_all (λ e. not (nat_le level e.1) || nat_le (length e.0.0) len) P ≡ true
   pub hopeless : list_all (λ e. nat_le (length e.0.0) len) H ≡ true
 
--- so it is with a greater length, and at a level's start with any
+-- the same holds for a greater length, and at a level's start for every length
 abbrev pub CoversUpToLonger : Type 0
 CoversUpToLonger = (level len : ℕ) (P : Patterns) (H : Hopeless) → CoversUpTo level len P H
     → CoversUpTo level (len + 1) P H
@@ -38,7 +38,7 @@ LengthStep = (level len : ℕ) (P : Patterns) (H : Hopeless) (w : List ℕ) (p d
     ≡ (covered level P H (window w p len d) d
     || (nat_le 1 d && covered level P H (window w p len (d - 1)) (d - 1)))
 
--- so it is where the greatest value is less
+-- where the greatest value is less than the level, no value is as great as the level
 abbrev pub BelowByLargest : Type 0
 BelowByLargest = (level : ℕ) (P : Patterns) → largest P < level → IsBelow level P
 
@@ -51,18 +51,19 @@ NothingCovered = (level : ℕ) (P : Patterns) (u : List ℕ) (d : ℕ)
 abbrev pub IsUpTo : ℕ → Patterns → Type 0
 IsUpTo level P = list_all (λ e. nat_le e.1 level) P ≡ true
 
--- so it is with the greatest value, and at a level's start
+-- no value is greater than the greatest one; and none is greater than the level where none is as
+-- great as it
 abbrev pub UpToLargest : Type 0
 UpToLargest = (P : Patterns) → IsUpTo (largest P) P
 
 abbrev pub UpToAtStart : Type 0
 UpToAtStart = (level : ℕ) (P : Patterns) → IsBelow level P → IsUpTo level P
 
--- where none is greater, none is as great as the next level
+-- where no value is greater than the level, none is as great as the next level
 abbrev pub NextIsBelow : Type 0
 NextIsBelow = (level : ℕ) (P : Patterns) → IsUpTo level P → IsBelow (level + 1) P
 
--- the candidate that a window is
+-- a window as a candidate
 abbrev pub candidate_at : List CountedPosition → List ℕ → Candidate
 candidate_at counted u = record { window = u; good = good_of counted u; bad = bad_of counted u }
 
@@ -95,7 +96,7 @@ UpToAfter = (m : Minima) (words : List Word) (pass : Pass) (P : Patterns) (H : H
     (raised : Candidate → Bool) (n : ℕ) → pass.level ≤ n → IsUpTo n P
     → IsUpTo n (patterns_after_pass m words pass P H raised)
 
--- and to no string that covers and is longer than its windows
+-- a pass leads to no string that covers and is longer than its windows
 abbrev pub CoversUpToAfter : Type 0
 CoversUpToAfter = (m : Minima) (words : List Word) (pass : Pass) (P : Patterns) (H : Hopeless)
     (raised hopeless : Candidate → Bool) → CoversUpTo pass.level pass.len P H
@@ -111,8 +112,8 @@ ValuesAfter = (m : Minima) (words : List Word) (pass : Pass) (P : Patterns) (H :
     then pass.level else 0)
     (value_at P w p)
 
--- and of the windows of its length it covers those that it raises or makes hopeless, with its dot,
--- and no others
+-- of the windows of its length, a pass newly covers those that it raises or makes hopeless, with
+-- its dot, and no others
 abbrev pub CoversAfter : Type 0
 CoversAfter = (m : Minima) (words : List Word) (pass : Pass) (P : Patterns) (H : Hopeless)
     (raised hopeless : Candidate → Bool) (w : List ℕ) (p d : ℕ) → fits w p pass.len d ≡ true

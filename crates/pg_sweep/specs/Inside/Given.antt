@@ -22,7 +22,7 @@ abbrev pub HasSigns : Given → Type 0
 HasSigns g = SignsAtMost (letters_of g.table.now + 1) g.dictionary.now
     × SignsUpTo (letters_of g.table.now + 1) g.start.now
 
--- the totals of this many folds
+-- totals are no greater than those of this many folds can be
 abbrev pub IsSmallFor : ℕ → Totals → Type 0
 IsSmallFor folds t = (t.good ≤ folds * sums_limit)
     × (t.bad ≤ folds * sums_limit) × (t.missed ≤ folds * sums_limit)

@@ -10,12 +10,12 @@ use Rattle.pg_table.specs.Lookups.{table_entry, table_value, table_totals}
 abbrev pub HasEntries : List ℕ → List ((List ℕ × ℕ) × ℕ) → Type 0
 HasEntries b P = (q : List ℕ) (d : ℕ) → table_entry b q d ≡ value_of P (q, d)
 
--- then they give each position of each word the value of the patterns
+-- bytes that do so give each position of each word the value of the patterns
 abbrev pub ValuesArePacked : Type 0
 ValuesArePacked = (P : List ((List ℕ × ℕ) × ℕ)) (b : List ℕ)
     → IsPatternMap P → HasEntries b P → (w : List ℕ) (p : ℕ) → table_value b w p ≡ value_at P w p
 
--- and each word list the totals of the patterns
+-- bytes that do so give each word list the totals of the patterns
 abbrev pub TotalsArePacked : Type 0
 TotalsArePacked = (P : List ((List ℕ × ℕ) × ℕ)) (b : List ℕ)
     → IsPatternMap P → HasEntries b P → (m : Minima) (words : List Word)

@@ -13,7 +13,7 @@ IsUncovered s = (p : ℕ) → p < WORD_LETTERS_MAX + 2 → covers_of s p ≡ 0
 abbrev pub by_value : ℕ → ℕ → ℕ × ℕ → ℕ → ℕ
 by_value start n x p = if nat_le x.1 n && nat_eq (start + x.1) p then x.0 else 0
 
--- what their whole list gives
+-- what the whole list of these n signs gives to position p
 abbrev pub by_record_list : ℕ → ℕ → List (ℕ × ℕ) → ℕ → ℕ
 by_record_list start n xs p = if nat_le start p && nat_le (p - start) n
     then value_in_list (p - start) xs else 0

@@ -1,4 +1,4 @@
--- Each change makes of the disk what the call that it stands for says.
+-- Each change does to the disk what the call that it stands for says.
 use Rattle.std.proofs.Common.{◌≡◌, ◌≢◌, ⊎_elim, ℕ, suc, ◌+◌, ◌<◌, List, [], ◌∷◌, ◌++◌, length, Bool, true, false, cond, nat_eq, Option, Some, None, String, Vec, string_bytes, refl, sym, ap, ◌∙◌, arith, eq-eqb, append-nil}
 use Rattle.std.specs.Option.{option_map, is_some}
 use Rattle.std.specs.Str.{bytes_eq}
@@ -263,7 +263,7 @@ made links log own unlinked none = record {
         (cond b [] (bytes_in log m)) (cond b false (stored_in log m)))
         (cond b (Some 420) (mode_in log m))) (number_no m (length log) differs)
 
--- a node and its parts
+-- where only the file of one number changed, it was set and all else is as before
 set_file : (log log2 : List Change) (n : ℕ) (node after : Node) (links : List Link)
     → (disk_in links log2).links ≡ (disk_in links log).links
     → names_in log2 ≡ names_in log

@@ -113,7 +113,7 @@ stored_in (Removed own ∷ older) number = stored_in older number
 stored_in (Refused own ∷ older) number = stored_in older number
 stored_in (Stayed ∷ older) number = stored_in older number
 
--- whether a file of these permissions may be written by who has it
+-- whether a file of these permissions may be written by its owner
 abbrev pub lets_write : ℕ → Bool
 lets_write mode = nat_eq (mode / 128 % 2) 1
 

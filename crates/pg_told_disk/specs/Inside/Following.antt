@@ -1,4 +1,4 @@
--- What a name stands for is what the name that its link says stands for.
+-- A link stands for what the name that it says stands for.
 use Rattle.std.proofs.Common.{◌≡◌, ℕ, List, [], ◌∷◌, Bool, true, false, cond, Option, Some, None, string_bytes, refl, sym, ap, subst, ◌∙◌}
 use Rattle.std.specs.Option.{is_some}
 use Rattle.std.specs.Str.{bytes_eq}
@@ -44,7 +44,8 @@ pub not_link : (links : List Link) (q : List ℕ) → is_some (link_in links q) 
     → real_in links q ≡ q
 not_link links q unlinked = direct links q (not_some (link_in links q) unlinked)
 
--- the first link, where no earlier one has its name
+-- what the latest link says stands for what its name stands for, where no earlier link has this
+-- name
 newest : (link : Link) (older : List Link) (q : List ℕ) → link_in older q ≡ None
     → q ≡ string_bytes link.name
     → real_in (link ∷ older) (string_bytes link.said) ≡ real_in (link ∷ older) q

@@ -10,7 +10,7 @@ either : (b : Bool) (x y : Bool) → x ≡ true → y ≡ true → cond b x y �
 either true x y one other = one
 either false x y one other = other
 
--- where each file that was made is regular, so is each
+-- where each file that was made is regular, the file of each number is
 pub regular_in : (log : List Change) (n : ℕ) → is_regular_in log ≡ true → kind_in log n ≡ true
 regular_in [] n all = refl
 regular_in (Made own regular ∷ older) n all =

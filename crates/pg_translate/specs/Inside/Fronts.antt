@@ -37,12 +37,12 @@ abbrev pub front_at : Index → ℕ → Option Front
 front_at index code = if nat_lt code 512 then slice_index_or index.heads (code - 256) None
     else get nat_eq index.longer code
 
--- what a text is to a spelling
+-- which front of a spelling a text is: the whole, a proper one, or none
 abbrev pub front_of : ℕ × List ℕ → List ℕ → Option Front
 front_of spelling text = if starts_with nat_eq spelling.1 text
     then Some (if length text == length spelling.1 then Whole spelling.0 else Inside) else None
 
--- what a text is to the spellings
+-- which front of the spellings a text is
 abbrev pub front_in : List (ℕ × List ℕ) → List ℕ → Option Front
 front_in [] text = None
 front_in (spelling ∷ spellings) text = option_or (front_in spellings text) (front_of spelling text)

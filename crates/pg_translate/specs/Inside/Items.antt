@@ -45,7 +45,7 @@ IsItem t Patterns (Marked mark) text = ⊥
 IsItem t Dictionary Edge text = ⊥
 IsItem t Patterns Edge text = text ≡ codes "."
 
--- each is an item
+-- each text of the list is its item
 abbrev pub AreItems : Alphabet → Place → List (Token × List ℕ) → Type 0
 AreItems t place items = AllByRecursion (λ item. IsItem t place item.0 item.1) items
 

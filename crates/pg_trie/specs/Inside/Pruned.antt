@@ -87,7 +87,7 @@ pub record PrunesTo (old new : ValuedFamilies ℕ) (q : List ℕ) (s : ℕ) : Ty
       → (x : ℕ) (more : List ℕ) → (s ≡ 0) ⊎ (x < s)
       → keep (q ++ x ∷ more) ≡ false → find (slice_cmp nat_cmp) (q ++ x ∷ more) new.values ≡ None
 
--- of all that go on from q
+-- the same for all strings that go on from q
 abbrev pub PrunesBelow : ValuedFamilies ℕ → ValuedFamilies ℕ → List ℕ → Type 0
 PrunesBelow old new q = PrunesTo old new q 0
 

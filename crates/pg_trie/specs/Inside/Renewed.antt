@@ -40,7 +40,7 @@ pub record AreFreshTo (cells : ValuedFamilies ℕ) (records : List Record)
       → (q : List ℕ) × (old : ℕ) × (find (slice_cmp nat_cmp) q cells.values ≡ Some old)
       × IsEnd (list_of fresh h) (values_in (list_of records old))
 
--- all strings' heads
+-- the same for the heads of all strings
 abbrev pub AreFresh : ValuedFamilies ℕ → List Record → List Record → List ℕ → Type 0
 AreFresh cells records fresh heads = (n : ℕ) × AreFreshTo cells records n fresh heads
     × ((q : List ℕ) (cell : ℕ) → cell_of cells.families q ≡ Some cell → cell < n)

@@ -22,7 +22,7 @@ pub record IsString (h : ValuedFamilies ℕ) (q : List ℕ) : Type 0 where
 abbrev pub StandsFrom : List (List ℕ × ℕ) → ℕ → List ℕ → Type 0
 StandsFrom items i q = (j : ℕ) × (i ≤ j) × (slice_get items j ≡ Some (q, 0))
 
--- the strings of a family, of those with a sign below m, are put behind the others
+-- the strings of the family below p whose last sign is below m are put behind the others
 pub record PutsBelow (h : ValuedFamilies ℕ) (p : List ℕ)
     (m : ℕ) (old new : List (List ℕ × ℕ)) : Type 0 where
   pub keeps : (j : ℕ) (k : List ℕ × ℕ) → slice_get old j ≡ Some k → slice_get new j ≡ Some k
