@@ -17,7 +17,8 @@ fn count_window(
 ) -> Result<(), Fail>
     requires signs { counts.old.signs ≡ 4 }
     requires len { counts.old.len ≡ 2 }
-    requires room { (u : List ℕ) → ((sums_of counts.old.counts u).0 ≤ 1000) × ((sums_of counts.old.counts u).1 ≤ 1000) }
+    requires room { (u : List ℕ) →
+        ((sums_of counts.old.counts u).0 ≤ 1000) × ((sums_of counts.old.counts u).1 ≤ 1000) }
     ensures signs { counts.new.signs ≡ 4 }
     ensures len { counts.new.len ≡ 2 }
     ensures room { (n : ℕ) → ((u : List ℕ) →

@@ -13,16 +13,20 @@ pub record ValuedFamilies (V : Type 0) : Type 0 where
   pub families : Families
   pub values : List (List ℕ × V)
 
+-- how proofs store a family: its base, and its signs
 abbrev pub family_code : Coded Family
 family_code = code_by (ℕ × List ℕ) (coded× coded_ℕ (coded_list coded_ℕ))
     (λ f. (f.base, f.signs)) (λ p. record { base = p.0; signs = p.1 }) (λ _. refl)
 
+-- how proofs store families: each with its prefix
 abbrev pub families_code : Coded Families
 families_code = coded_list (coded× (coded_list coded_ℕ) family_code)
 
+-- how proofs store values: each with its string
 abbrev pub values_code : {V : Type 0} → Coded V → Coded (List (List ℕ × V))
 values_code code = coded_list (coded× (coded_list coded_ℕ) code)
 
+-- how proofs store them: the number of signs, the families, and the values
 abbrev pub valued_families_code : {V : Type 0} → Coded V → Coded (ValuedFamilies V)
 valued_families_code {V} code =
     code_by (ℕ × (Families × List (List ℕ × V)))
@@ -36,6 +40,7 @@ pub record Trie (V : Type 0) : Type 0 where
   pub families : Families
   pub values : List (List ℕ × V)
 
+-- how proofs store a trie: the families, and the values
 abbrev pub trie_code : {V : Type 0} → Coded V → Coded (Trie V)
 trie_code {V} code =
     code_by (Families × List (List ℕ × V)) (coded× families_code (values_code code))

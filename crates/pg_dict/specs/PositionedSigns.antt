@@ -38,6 +38,7 @@ pub record Columns : Type 0 where
   pub weights : List ℕ
   pub cares : List Bool
 
+-- columns without any sign
 abbrev pub no_columns : Columns
 no_columns = record { signs = []; hyphens = []; weights = []; cares = [] }
 

@@ -29,28 +29,31 @@ known_of m = record { patterns = m.patterns; hopeless = m.hopeless }
 abbrev pub run_from : Alphabet → List Word → Parameters → Meaning → Trace
 run_from t words parameters m = trace (over t words) parameters m.patterns
 
--- its final patterns, what is told of it, how many of its passes are begun, and where families are
--- told, those at its end and what is told of the cells
+-- the final patterns of that run
 abbrev pub patterns_from : Alphabet → List Word → Parameters → Meaning → Patterns
 patterns_from t words parameters m = final_patterns m.patterns (run_from t words parameters m)
 
+-- what is told of that run
 abbrev pub account_from : Alphabet → List Word → Parameters → Meaning → Account
 account_from t words parameters m = account (over t words) m.patterns
     (run_from t words parameters m)
 
+-- how many passes of that run are begun
 abbrev pub begun_from : Alphabet → List Word → Parameters → Meaning → ℕ
 begun_from t words parameters m = begun (run_from t words parameters m)
 
+-- the families at the end of that run, where families are told
 abbrev pub families_from : Alphabet → List Word → Parameters → Meaning → Option Families
 families_from t words parameters m =
     option_map (λ fs. final_families m.signs fs (run_from t words parameters m)) m.families
 
+-- what is told of the cells of that run, where families are told
 abbrev pub cells_from : Alphabet → List Word → Parameters → Meaning → Option CellsAccount
 cells_from t words parameters m =
     option_map (λ fs. cells_account m.signs fs m.patterns
     (run_from t words parameters m)) m.families
 
--- the line of a record of a pass, and of a record of a level
+-- the line of a record of a pass
 abbrev pub line_of : PassRecord → PassLine
 line_of r = record {
   pass = record { level = r.level; len = r.len; dot = r.dot };
@@ -62,6 +65,7 @@ line_of r = record {
   bad = r.bad;
 }
 
+-- the line of a record of a level
 abbrev pub level_line_of : LevelRecord → LevelLine
 level_line_of r = record { level = r.level; chosen = r.chosen; after = r.after }
 
@@ -73,12 +77,12 @@ account_of r = record {
   totals = r.totals;
 }
 
--- what a record of a pass tells of the cells, where it has a layout, and what a record of a level
--- tells. Of the tails after a pass nothing is said
+-- what a record of a pass tells of the cells, where it has a layout; nothing is said of the tails
 abbrev pub layout_told : PassRecord → Option (Pass × ℕ × ℕ)
 layout_told r = option_map
     (λ l. (record { level = r.level; len = r.len; dot = r.dot }, l.taken, l.top)) r.layout
 
+-- what a record of a level tells of the cells, where it has a layout
 abbrev pub level_layout_told : LevelRecord → Option (ℕ × Layout)
 level_layout_told r = option_map (λ l. (r.level, l)) r.layout
 

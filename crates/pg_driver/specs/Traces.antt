@@ -49,26 +49,30 @@ Trace = List LevelTrace
 abbrev pub choice_of : LevelParams → Candidate → Choice
 choice_of params c = choice params c.good c.bad
 
+-- whether a candidate with this choice is chosen
 abbrev pub is_chosen : Choice → Bool
 is_chosen Chosen = true
 is_chosen other = false
 
+-- whether a candidate with this choice is hopeless
 abbrev pub is_hopeless : Choice → Bool
 is_hopeless Hopeless = true
 is_hopeless other = false
 
+-- whether a candidate with this choice is left to longer patterns
 abbrev pub is_left : Choice → Bool
 is_left Left = true
 is_left other = false
 
--- of candidates, those that are chosen, those that are hopeless, and both of these together, in
--- their order
+-- the candidates that are chosen, in their order
 abbrev pub chosen_of : LevelParams → List Candidate → List Candidate
 chosen_of params cs = filter (λ c. is_chosen (choice_of params c)) cs
 
+-- the candidates that are hopeless, in their order
 abbrev pub hopeless_of : LevelParams → List Candidate → List Candidate
 hopeless_of params cs = filter (λ c. is_hopeless (choice_of params c)) cs
 
+-- the candidates that are chosen or hopeless, in their order
 abbrev pub entered_of : LevelParams → List Candidate → List Candidate
 entered_of params cs = filter (λ c. not (is_left (choice_of params c))) cs
 

@@ -16,12 +16,15 @@ dotted_cmp a b = ordering_then (slice_cmp nat_cmp a.0 b.0) (nat_cmp a.1 b.1)
 abbrev pub same_dotted : List ℕ × ℕ → List ℕ × ℕ → Bool
 same_dotted a b = pointwise nat_eq a.0 b.0 && nat_eq a.1 b.1
 
+-- to be the same place is an equivalence
 pub dotted_equiv : IsEquivalence same_dotted
 dotted_equiv = and_equiv (on_equiv (λ k. k.0) nat_list_eq_equiv) (on_equiv (λ k. k.1) nat_eq_equiv)
 
+-- so it is a partial equivalence
 pub dotted_partial_equiv : IsPartialEquivalence same_dotted
 dotted_partial_equiv = partial_equiv_from_equiv dotted_equiv
 
+-- the order of places is total
 pub dotted_total : IsTotalOrder dotted_cmp
 dotted_total = then_total (on_total (λ k. k.0) nat_list_cmp_total)
     (on_total (λ k. k.1) nat_cmp_total)
@@ -30,14 +33,17 @@ dotted_total = then_total (on_total (λ k. k.0) nat_list_cmp_total)
 pub dotted_ties : (a b : List ℕ × ℕ) → same_dotted a b ≡ eq_by_cmp dotted_cmp a b
 dotted_ties a b = both_tied _ _ _ _ (texts_ties a.0 b.0) (unsigned_ties a.1 b.1)
 
+-- the order of places is a partial order too, which calls the same places equal
 pub dotted_partial_order : IsPartialOrder same_dotted (λ a b. Some (dotted_cmp a b))
 dotted_partial_order = po dotted_total dotted_ties
 
+-- where one comparison and then another come out equal, each of them is equal
 both_equal : (r s : Ordering) → ordering_then r s ≡ Equal → (r ≡ Equal) × (s ≡ Equal)
 both_equal Less s e = absurd (subst (λ r. T (is_eq r)) (sym e) tt)
 both_equal Equal s e = (refl, e)
 both_equal Greater s e = absurd (subst (λ r. T (is_eq r)) (sym e) tt)
 
+-- places that the order calls equal are one place
 pub dotted_exact : (a b : List ℕ × ℕ) → dotted_cmp a b ≡ Equal → a ≡ b
 dotted_exact a b e =
     let parts = both_equal (slice_cmp nat_cmp a.0 b.0) (nat_cmp a.1 b.1) e in

@@ -19,7 +19,7 @@ abbrev pub NoneCanGo : Minima → List Word → Patterns → Patterns → Type 0
 NoneCanGo m words P Q = (before : Patterns) (e : (List ℕ × ℕ) × ℕ) (behind : Patterns)
     → Q ≡ before ++ e ∷ behind → ¬ BreakAlike m words P (before ++ behind)
 
--- each entry has a need, and no need is at a position before the first letter
+-- each entry has a need, and each need is at a position behind the first edge
 pub record HasNeeds (f : Found) : Type 0 where
   pub each : length f.needs ≡ length f.patterns
   pub positions : All (λ (n : Need). 1 ≤ n.position) f.needs

@@ -76,10 +76,11 @@ with_window windows s = put (slice_cmp nat_cmp) s.window (tt {0}) windows
 abbrev pub candidates : List CountedPosition → List (List ℕ)
 candidates counted = map (λ e. e.0) (fold with_window [] counted)
 
--- the sum of the weights of the good positions, and that of the bad ones, whose window is u
+-- the sum of the weights of the good positions whose window is u
 abbrev pub good_of : List CountedPosition → List ℕ → ℕ
 good_of counted u = sum_by (λ s. if same_signs u s.window && s.good then s.weight else 0) counted
 
+-- the sum of the weights of the bad positions whose window is u
 abbrev pub bad_of : List CountedPosition → List ℕ → ℕ
 bad_of counted u = sum_by (λ s. if same_signs u s.window && not s.good then s.weight else 0) counted
 

@@ -39,9 +39,10 @@ Raises by before after = (p : ℕ) → p < WORD_LETTERS_MAX + 2 → after p ≡ 
 abbrev pub RaisesAt : ℕ → ℕ → (ℕ → ℕ) → (ℕ → ℕ) → Type 0
 RaisesAt at n before after = Raises (λ p. if nat_eq at p then n else 0) before after
 
--- the values of a word's positions were raised to at least those of `by`, and its covers likewise
+-- the value of each position of a word became that of `by`, where that is greater
 abbrev pub RaisesValues : (ℕ → ℕ) → Positions → Positions → Type 0
 RaisesValues by old new = Raises by (values_of old) (values_of new)
 
+-- the same of the covers: 1 where the window of a position is covered, else 0
 abbrev pub RaisesCovers : (ℕ → ℕ) → Positions → Positions → Type 0
 RaisesCovers by old new = Raises by (covers_of old) (covers_of new)

@@ -25,14 +25,17 @@ marks_by m value w = map
 abbrev pub marks_in : Minima → Patterns → Word → List (Mark × ℕ)
 marks_in m P w = marks_by m (value_at P w.signs) w
 
+-- whether the mark is Found: a hyphen at which the patterns break
 abbrev pub is_found : Mark → Bool
 is_found Found = true
 is_found other = false
 
+-- whether the mark is Error: no hyphen, but the patterns break there
 abbrev pub is_error : Mark → Bool
 is_error Error = true
 is_error other = false
 
+-- whether the mark is Missed: a hyphen at which the patterns do not break
 abbrev pub is_missed : Mark → Bool
 is_missed Missed = true
 is_missed other = false

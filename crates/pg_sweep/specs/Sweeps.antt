@@ -25,10 +25,11 @@ pub record Prices : Type 0 where
   pub bad : ℕ
   pub missed : ℕ
 
--- the words of a fold, and all other words
+-- the words of a fold, under the minima of the table
 abbrev pub left_out : Terms → ℕ → Source
 left_out s fold = over s.table (part_of s.folds fold true s.words)
 
+-- all words but those of a fold, under the minima of the table
 abbrev pub rest : Terms → ℕ → Source
 rest s fold = over s.table (part_of s.folds fold false s.words)
 
@@ -54,10 +55,11 @@ abbrev pub row_with : Prices → Totals → SweepRow
 row_with prices totals =
     record { totals = totals; cost = prices.bad * totals.bad + prices.missed * totals.missed }
 
--- the row of a set, and the rows of all sets
+-- the row of a set
 abbrev pub row_of : Terms → Prices → Parameters → SweepRow
 row_of s prices set = row_with prices (totals_of_folds s set s.folds)
 
+-- the rows of sets, in their order
 abbrev pub rows_of : Terms → Prices → List Parameters → List SweepRow
 rows_of s prices sets = map (row_of s prices) sets
 

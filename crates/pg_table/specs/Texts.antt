@@ -52,6 +52,7 @@ abbrev pub cell_for : Families → (List ℕ → ℕ) → List ℕ → Cell
 cell_for fs heads q =
     record { sign = last_sign q; child = unwrap_or (base_of fs q) 0; head = heads q }
 
+-- a cell that no string has
 abbrev pub unused_cell : Cell
 unused_cell = record { sign = 0; child = 0; head = 0 }
 
@@ -60,9 +61,11 @@ abbrev pub cell_of_table : Families → (List ℕ → ℕ) → ℕ → Cell
 cell_of_table fs heads at = option_map_or (cell_for fs heads)
     (find (has_cell fs at) (strings_with_cells fs)) unused_cell
 
+-- a cell in bytes: two for its sign, and four each for the child and the head
 abbrev pub cell_bytes : Cell → List ℕ
 cell_bytes c = u16_bytes c.sign ++ u32_bytes c.child ++ u32_bytes c.head
 
+-- a record in bytes: one each for the value and the dot, and four for the next record
 abbrev pub record_bytes : Record → List ℕ
 record_bytes r = r.value ∷ r.dot ∷ u32_bytes r.next
 
@@ -75,6 +78,7 @@ abbrev pub table_cells : ℕ → List ((List ℕ × ℕ) × ℕ) → List Cell
 table_cells n P = map (cell_of_table (layout n P) (head_in P))
     (range_with_len 0 (top (layout n P) + 1))
 
+-- the records of the lists that get one, in the order of these lists
 abbrev pub table_records : List ((List ℕ × ℕ) × ℕ) → List Record
 table_records P = map (record_of (recorded P)) (recorded P)
 

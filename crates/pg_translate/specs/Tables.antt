@@ -51,10 +51,11 @@ pair_fails pair other = if is_blank_pair pair then not (is_blank_pair other)
 abbrev pub minimum : ℕ × ℕ → ℕ → ℕ
 minimum pair default = if is_blank_pair pair then default else pair_value pair.0 pair.1
 
--- the left minimum of a head, and the right one
+-- the left minimum of a head
 abbrev pub left_minimum : List ℕ → ℕ
 left_minimum head = minimum (pair_at head 1) DEFAULT_LEFT
 
+-- the right minimum of a head
 abbrev pub right_minimum : List ℕ → ℕ
 right_minimum head = minimum (pair_at head 3) DEFAULT_RIGHT
 
@@ -135,11 +136,11 @@ spellings_at line column letter (piece ∷ pieces) =
     record { line = line; column = column; letter = letter; text = piece } ∷ spellings_at line
     (column + (length piece + 1)) letter pieces
 
--- the spellings of a letter in a line of this number, from what follows the delimiter at the line's
--- begin, and from the whole line
+-- the spellings of a letter in a line of this number, from what follows the line's first delimiter
 abbrev pub spellings_behind : ℕ → ℕ → ℕ → List ℕ → List ListedSpelling
 spellings_behind line letter delimiter text = spellings_at line 2 letter (pieces_of delimiter text)
 
+-- the spellings of a letter in a line of this number, from the whole line
 abbrev pub spellings_of_line : ℕ → ℕ → List ℕ → List ListedSpelling
 spellings_of_line line letter text = spellings_at line 2 letter (line_pieces text)
 

@@ -6,6 +6,7 @@ use Rattle.std.specs.Ordering.{nat_cmp, is_lt}
 use Rattle.std.specs.Cmp.Lexicographic.{slice_cmp}
 use Rattle.std.specs.FinMap.Entries.{put, find}
 
+-- the windows that a pass counts, in the order of signs, each with its sums of good and of bad
 abbrev pub Counts : Type 0
 Counts = List (List ℕ × (ℕ × ℕ))
 

@@ -7,10 +7,11 @@ use Rattle.pg_types.specs.declared.limits.TheConstants.{LENGTH_MAX, LEVEL_MAX}
 abbrev pub items_end : ℕ
 items_end = 2 + 5 * LEVEL_MAX + 1
 
--- the most passes of a length, one for each dot, and of a level, one for each length and dot
+-- the most passes of a length: one for each dot
 abbrev pub length_passes : ℕ
 length_passes = LENGTH_MAX + 1
 
+-- the most passes of a level: one for each length and dot
 abbrev pub level_passes : ℕ
 level_passes = LENGTH_MAX * length_passes
 
@@ -23,11 +24,10 @@ sums_limit = 2 ^ 40
 abbrev pub counts_limit : ℕ
 counts_limit = 2 ^ 60
 
--- before a run an engine has begun fewer passes than the first of these numbers, and before a pass
--- fewer than the second. The passes of a run fit between them: they are at most level_passes for
--- each level
+-- before a run an engine has begun fewer passes than this
 abbrev pub begun_before_run : ℕ
 begun_before_run = 2 ^ 59
 
+-- before a pass an engine has begun fewer than this; the passes of a run fit in between
 abbrev pub begun_before_pass : ℕ
 begun_before_pass = 2 ^ 60

@@ -3,6 +3,7 @@
 use Rattle.std.specs.Prelude.{◌≡◌, ℕ, true, if◌then◌else◌, List, [], ◌∷◌, ◌++◌, length, map, slice_get, Some}
 use Rattle.pg_types.specs.Counts.{Counts, is_counted}
 
+-- the windows that a pass counts, in the order in which they were first counted
 abbrev pub Windows : Type 0
 Windows = List (List ℕ)
 

@@ -52,6 +52,7 @@ pub record Demand : Type 0 where
   pub least : ℕ
   pub greatest : ℕ
 
+-- the demand of a number from the least to the greatest
 abbrev pub between : ℕ → ℕ → Demand
 between least greatest = record { least = least; greatest = greatest }
 

@@ -14,6 +14,7 @@ pub record Family : Type 0 where
   pub base : ℕ
   pub signs : List ℕ
 
+-- the families, each with its prefix, in the order of the prefixes
 abbrev pub Families : Type 0
 Families = List (List ℕ × Family)
 
@@ -56,9 +57,11 @@ taken fs = length (used_cells fs)
 abbrev pub top : Families → ℕ
 top fs = fold max 0 (used_cells fs)
 
+-- whether some family has this cell
 abbrev pub is_used : Families → ℕ → Bool
 is_used fs cell = list_any (nat_eq cell) (used_cells fs)
 
+-- whether some family has the base b
 abbrev pub is_base : Families → ℕ → Bool
 is_base fs b = list_any (λ e. nat_eq b e.1.base) fs
 

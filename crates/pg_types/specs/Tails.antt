@@ -14,6 +14,7 @@ abbrev pub suffixes : List (ℕ × ℕ) → List (List (ℕ × ℕ))
 suffixes [] = []
 suffixes (x ∷ xs) = (x ∷ xs) ∷ suffixes xs
 
+-- whether two pairs of a dot and a value are equal
 abbrev pub same_pair : ℕ × ℕ → ℕ × ℕ → Bool
 same_pair x y = nat_eq x.0 y.0 && nat_eq x.1 y.1
 

@@ -66,11 +66,11 @@ outputs_differ [] inputs = true
 outputs_differ (output ∷ outputs) inputs = differs_from output (outputs ++ inputs)
     && outputs_differ outputs inputs
 
--- the names of the inputs of `generate`, and those of its outputs in the order in which they are
--- written
+-- the names of the inputs of `generate`
 abbrev pub input_names : FileNames → List (List ℕ)
 input_names n = n.dict ∷ n.patterns ∷ n.translate ∷ n.params ∷ []
 
+-- the names of the outputs of `generate`, in the order in which they are written
 abbrev pub output_names : FileNames → List (List ℕ)
 output_names n = n.output ∷ if_asked n.pattmp (λ name. name)
     ++ if_asked n.cells (λ name. name) ++ n.report ∷ []
@@ -161,6 +161,7 @@ is_prune_taken p =
     list_all is_name (p.dict ∷ p.patterns ∷ p.output ∷ p.translate ∷ p.report ∷ [])
     && outputs_differ (p.output ∷ p.report ∷ []) (p.dict ∷ p.patterns ∷ p.translate ∷ [])
 
+-- `prune` with these names, where it takes them
 abbrev pub to_prune : PruneRequest → Option Request
 to_prune p = if is_prune_taken p then Some (ToPrune p) else None
 

@@ -9,6 +9,7 @@ use Rattle.std.specs.FinMap.Entries.{is_sorted}
 use Rattle.pg_types.specs.Placement.{Family, family_at, cell_of, base_of}
 use Rattle.pg_cells.specs.ValuedFamilies.{ValuedFamilies}
 
+-- what is always true of the families and the values of the cells
 pub record AreValuedFamilies {V : Type 0} (h : ValuedFamilies V) : Type 0 where
   -- the families and the values stand in the order of their strings
   pub sorted : T (is_sorted (slice_cmp nat_cmp) h.families)

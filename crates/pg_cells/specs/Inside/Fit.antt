@@ -4,6 +4,7 @@ use Rattle.std.specs.List.{list_all, find}
 use Rattle.pg_cells.specs.declared.fit.Slot.{Slot}
 use Rattle.pg_cells.specs.Inside.Lists.{Row, sign_at, base_at}
 
+-- the signs of slots, in their order
 abbrev pub signs_of : {V : Type 0} → List (Slot V) → List ℕ
 signs_of slots = map (λ s. s.sign) slots
 
@@ -11,5 +12,6 @@ signs_of slots = map (λ s. s.sign) slots
 abbrev pub slot_of : {V : Type 0} → List (Slot V) → ℕ → Option (Slot V)
 slot_of slots x = find (λ k. nat_eq k.sign x) slots
 
+-- whether signs may stand at base b: no family has it, and none of their cells is taken
 abbrev pub fits_row : {V : Type 0} → Row V → List ℕ → ℕ → Bool
 fits_row r signs b = not (base_at r b) && list_all (λ s. nat_eq (sign_at r (b + s)) 0) signs

@@ -47,6 +47,7 @@ module _ {V : Type 0} where
     pub flagged : (b : ℕ) → base_at r b ≡ true
         → (p : List ℕ) × (f : Family) × (F p ≡ Some f) × (f.base ≡ b)
 
+  -- the value in a cell of the row; none where no cell is given, or the row has no such cell
   abbrev pub value_in : Row V → Option ℕ → Option V
   value_in r None = None
   value_in r (Some cell) = slice_get r.values cell

@@ -13,6 +13,7 @@ pub record Linked (S B A : ℕ → ℕ) : Type 0 where
   pub last_ok : S (B 0) ≡ 0
   pub last_most : (j : ℕ) → S j ≡ 0 → j ≤ B 0
 
+-- the free cells of a row are linked, each with the one before it and the one after it
 abbrev pub AreLinked : {V : Type 0} → Lists V → Type 0
 AreLinked ls = Linked (λ j. get_or ls.row.signs j 1)
     (λ j. get_or ls.befores j 0) (λ j. get_or ls.afters j 0)

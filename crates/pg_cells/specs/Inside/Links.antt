@@ -34,11 +34,13 @@ module _ {V : Type 0} where
     pub there : (b ≡ 0) ⊎ (goes_on values q b ≡ true)
     pub most : (z : ℕ) → z < s → goes_on values q z ≡ true → z ≤ b
 
+  -- the values when `to` is the first sign below q, where q has a value; else as before
   abbrev pub with_first : Option (Member V) → ℕ → List ℕ
       → List (List ℕ × Member V) → List (List ℕ × Member V)
   with_first None to q values = values
   with_first (Some m) to q values = put (slice_cmp nat_cmp) q (record m { first = to }) values
 
+  -- the values when `to` follows q's last sign in its family, where q has a value; else as before
   abbrev pub with_next : Option (Member V) → ℕ → List ℕ
       → List (List ℕ × Member V) → List (List ℕ × Member V)
   with_next None to q values = values

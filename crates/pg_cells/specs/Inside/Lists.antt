@@ -23,6 +23,7 @@ abbrev pub pair_of : ℕ → ℕ → ℕ
 pair_of high low = high * HALF_COUNT + low
 
 module _ {V : Type 0} where
+  -- the sign in a cell; 0 in a free cell, and past the end
   abbrev pub sign_at : Row V → ℕ → ℕ
   sign_at r cell = get_or r.signs cell 0
 
@@ -30,18 +31,23 @@ module _ {V : Type 0} where
   abbrev pub IsFree : Row V → ℕ → Type 0
   IsFree r cell = get_or r.signs cell 1 ≡ 0
 
+  -- the base of the child family of a cell; 0 for none, and past the end
   abbrev pub child_at : Row V → ℕ → ℕ
   child_at r cell = get_or r.children cell 0
 
+  -- whether an index is the base of a family; it is not past the end
   abbrev pub base_at : Row V → ℕ → Bool
   base_at r cell = get_or r.bases cell false
 
+  -- the free cell before a free cell; 0 past the end
   abbrev pub before_at : Lists V → ℕ → ℕ
   before_at ls cell = get_or ls.befores cell 0
 
+  -- the free cell after a free cell, where 0 ends the list; 0 past the end
   abbrev pub after_at : Lists V → ℕ → ℕ
   after_at ls cell = get_or ls.afters cell 0
 
+  -- the base of the child family; a free cell has none, since its link is to a free cell
   abbrev pub child_seen : Cell V → ℕ
   child_seen c = if nat_eq c.sign 0 then 0 else c.link
 
@@ -64,6 +70,7 @@ module _ {V : Type 0} where
   abbrev pub before_seen : Cell V → ℕ
   before_seen c = pair_of c.next c.first
 
+  -- the row of these cells: what the families see of them
   abbrev pub row_of : List (Cell V) → Row (Member V)
   row_of cells = record {
     signs = map (λ c. c.sign) cells;
@@ -72,6 +79,7 @@ module _ {V : Type 0} where
     bases = map (λ c. c.is_base) cells;
   }
 
+  -- the row of these cells, and the links of the free ones
   abbrev pub lists : List (Cell V) → Lists (Member V)
   lists cells = record {
     row = row_of cells;
@@ -79,6 +87,7 @@ module _ {V : Type 0} where
     afters = map (λ c. c.link) cells;
   }
 
+  -- with the free cell before a free cell
   abbrev pub with_befores : Lists V → ℕ → ℕ → Lists V
   with_befores ls cell before = record ls { befores = set ls.befores cell before }
 
@@ -90,9 +99,11 @@ module _ {V : Type 0} where
   abbrev pub with_child : Row V → ℕ → ℕ → Row V
   with_child r cell child = record r { children = set r.children cell child }
 
+  -- with the value of a cell
   abbrev pub with_value : Row V → ℕ → V → Row V
   with_value r cell value = record r { values = set r.values cell value }
 
+  -- with the flag of an index, which says whether it is the base of a family
   abbrev pub with_base : Row V → ℕ → Bool → Row V
   with_base r cell flag = record r { bases = set r.bases cell flag }
 

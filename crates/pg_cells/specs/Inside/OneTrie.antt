@@ -15,12 +15,13 @@ use Rattle.pg_cells.specs.Inside.Lists.{Row, child_at}
 use Rattle.pg_cells.specs.ValuedFamilies.{Trie, trie_code}
 use Rattle.pg_cells.specs.Inside.Layouts.{IsLayout, IsTrie, standing, value_in}
 
--- a string is empty, or has a last sign
+-- a string has a last sign, and a front before it
 pub record HasLast (p : List ℕ) : Type 0 where
   pub front : List ℕ
   pub last : ℕ
   pub whole : p ≡ front ++ last ∷ []
 
+-- a string is empty, or has a last sign
 pub last_of : (p : List ℕ) → (p ≡ []) ⊎ HasLast p
 last_of [] = inl refl
 last_of (x ∷ xs) = inr (elim (last_of xs) [
@@ -61,6 +62,7 @@ module _ {V : Type 0} (n : ℕ) (r : Row V) where
           let same : down.0 ≡ f = λ t. record { base = bases t; signs = signs t } in
           ap G h.whole ∙ down.1 ∙ ap Some same
 
+  -- two placements in one row have the same families
   same_found : (F G : List ℕ → Option Family) → IsLayout n r F
       → IsLayout n r G → (p : List ℕ) → F p ≡ G p
   same_found F G a b p = by (F p) (G p) refl refl
@@ -70,6 +72,7 @@ module _ {V : Type 0} (n : ℕ) (r : Row V) where
       by (Some f) y e d = e ∙ sym (found_too F G a b (length p) p f (omega arith) e)
       by None (Some g) e d = found_too G F b a (length p) p g (omega arith) d ∙ sym d
 
+  -- two tries that one row holds are the same
   pub same_trie : (t u : Trie V) → IsTrie n r t → IsTrie n r u → t ≡ u
   same_trie t u a b =
       let families : t.families ≡ u.families =
@@ -86,6 +89,7 @@ module _ {V : Type 0} (n : ℕ) (r : Row V) where
 abbrev pub Kept : {V : Type 0} → ℕ → Row V → Type 0
 Kept {V} n r = (t : Trie V) × ∥ IsTrie n r t ∥₁
 
+-- a row holds one trie at most, so that a ghost field may keep it
 pub Kept-prop : {V : Type 0} → Coded V → (n : ℕ) (r : Row V) → IsProp (Kept n r)
 Kept-prop {V} code n r a b =
     Σ_prop_path (λ t. ∥∥₁_prop)

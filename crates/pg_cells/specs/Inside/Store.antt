@@ -8,11 +8,13 @@ use Rattle.pg_cells.specs.Inside.Linked.{AreLinked}
 use Rattle.pg_cells.specs.Inside.Blocked.{AreBlocked}
 use Rattle.pg_cells.specs.Inside.Bounds.{AreBounds}
 
+-- how proofs store a value with its links: the value, the next sign and the first sign
 abbrev pub member_code : {V : Type 0} → Coded V → Coded (Member V)
 member_code {V} code = code_by (V × (ℕ × ℕ)) (coded× code (coded× coded_ℕ coded_ℕ))
     (λ m. (m.value, (m.next, m.first))) (λ p. record { value = p.0; next = p.1.0; first = p.1.1 })
     (λ _. refl)
 
+-- how proofs store a row: its signs, children, values and bases
 abbrev pub row_code : {V : Type 0} → Coded V → Coded (Row V)
 row_code {V} code =
     code_by
@@ -40,12 +42,14 @@ module _ {V : Type 0} where
   taken_in r = how_many r.signs
 
 module _ {V : Type 0} where
+  -- the free cells are linked, `top` is the greatest taken cell, and `taken` cells are taken
   pub record IsKept (cells : List (Cell V)) (top taken : ℕ) : Type 0 where
     pub linked : AreLinked (lists cells)
     pub small : length cells < 2 ^ 32
     pub greatest : IsTop (row_of cells).signs top
     pub count : taken ≡ taken_in (row_of cells)
 
+  -- the same, with the bounds below which no base is free, and the bases that can't take a family
   pub record IsStore (cells : List (Cell V)) (top taken : ℕ)
       (lows : List ℕ) (freed dropped placed sought : ℕ) : Type 0 where
     pub kept : IsKept cells top taken

@@ -16,8 +16,7 @@ module _ {V : Type 0} where
   abbrev pub EndsBefore : List (List ℕ × V) → List ℕ → Type 0
   EndsBefore values q = (more : List ℕ) → find (slice_cmp nat_cmp) (q ++ more) values ≡ None
 
-  -- where the string q with the sign s has a cell, nothing changes; else it gets a cell and the
-  -- value
+  -- where a cell is given, nothing changes; else the string q with sign s gets one and the value
   abbrev pub StepsBy : ℕ → Option ℕ → ValuedFamilies V → ValuedFamilies V → List ℕ → ℕ → V → Type 0
   StepsBy few None old new q s v = new
       ≡ record old {
@@ -26,6 +25,7 @@ module _ {V : Type 0} where
       }
   StepsBy few (Some cell) old new q s v = new ≡ old
 
+  -- where the string q with sign s has a cell, nothing changes; else it gets one and the value
   abbrev pub Steps : ℕ → ValuedFamilies V → ValuedFamilies V → List ℕ → ℕ → V → Type 0
   Steps few old new q s v = StepsBy few (cell_of old.families (q ++ s ∷ [])) old new q s v
 

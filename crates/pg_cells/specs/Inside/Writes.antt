@@ -12,6 +12,7 @@ module _ {V : Type 0} where
     pub bases : (b : ℕ) → base_at new b ≡ base_at old b
     pub size : length new.signs ≡ length old.signs
 
+  -- a cell was taken, with this sign, value and child, and nothing else changed
   pub record Takes (old new : Row V) (cell sign : ℕ) (value : V) (child : ℕ) : Type 0 where
     pub elsewhere : Elsewhere old new cell
     pub sign_is : sign_at new cell ≡ sign
@@ -19,12 +20,14 @@ module _ {V : Type 0} where
     pub value_is : slice_get new.values cell ≡ Some value
     pub count : taken_in new ≡ taken_in old + 1
 
+  -- a cell was given up: it has no sign and no child, and the other cells are as before
   pub record Frees (old new : Row V) (cell : ℕ) : Type 0 where
     pub elsewhere : Elsewhere old new cell
     pub sign_is : sign_at new cell ≡ 0
     pub child_is : child_at new cell ≡ 0
     pub count : taken_in new + 1 ≡ taken_in old
 
+  -- the child of a cell was set, and nothing else changed
   pub record SetsChild (old new : Row V) (cell child : ℕ) : Type 0 where
     pub elsewhere : Elsewhere old new cell
     pub sign_is : sign_at new cell ≡ sign_at old cell
@@ -32,6 +35,7 @@ module _ {V : Type 0} where
     pub value_is : slice_get new.values cell ≡ slice_get old.values cell
     pub count : taken_in new ≡ taken_in old
 
+  -- the value of a cell was set, and nothing else changed
   pub record SetsValue (old new : Row V) (cell : ℕ) (value : V) : Type 0 where
     pub elsewhere : Elsewhere old new cell
     pub sign_is : sign_at new cell ≡ sign_at old cell
@@ -39,6 +43,7 @@ module _ {V : Type 0} where
     pub value_is : slice_get new.values cell ≡ Some value
     pub count : taken_in new ≡ taken_in old
 
+  -- the flag of an index was set, and nothing else changed
   pub record SetsBase (old new : Row V) (base : ℕ) (flag : Bool) : Type 0 where
     pub signs : (j : ℕ) → sign_at new j ≡ sign_at old j
     pub children : (j : ℕ) → child_at new j ≡ child_at old j

@@ -54,9 +54,11 @@ tally_in tallies q = unwrap_or (find (slice_cmp nat_cmp) q tallies) None
 abbrev pub seen_in : {Y : Type 0} → (Tally → Y) → Tallies → List (List ℕ × Y)
 seen_in see tallies = filter_map (λ e. option_map (λ t. (e.0, see t)) e.1) tallies
 
+-- the sums in a tally
 abbrev pub sums_seen : Tally → ℕ × ℕ
 sums_seen t = t.1
 
+-- the number in a tally
 abbrev pub number_seen : Tally → ℕ
 number_seen t = t.0
 

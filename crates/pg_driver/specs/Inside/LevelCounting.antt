@@ -1,6 +1,6 @@
 -- How the windows of a level are counted: what its way to count knows before a pass, and what it
 -- makes of the choices after it.
-use Rattle.std.specs.Prelude.{◌≡◌, ℕ, ◌-◌, ◌≤◌, ◌<◌, Bool, true, List, filter, length, map, sum_by, All, MatchBool}
+use Rattle.std.specs.Prelude.{◌≡◌, ℕ, ◌-◌, ◌≤◌, ◌<◌, Bool, true, List, length, sum_by, All, MatchBool}
 use Rattle.pg_types.specs.declared.limits.TheConstants.{FILE_MAX, LENGTH_MAX}
 use Rattle.pg_types.specs.declared.marks.Totals.{Totals}
 use Rattle.pg_types.specs.declared.parameters.LevelParams.{LevelParams}
@@ -52,11 +52,12 @@ abbrev pub IsCounted : Counting → Type 0
 IsCounted (Open o) = Unit {0}
 IsCounted (EachWord e) = e.is_counted ≡ true
 
--- carried totals are those by the patterns, and small
+-- the totals that a way to count carries
 abbrev pub totals_in : Counting → Totals
 totals_in (Open o) = o.totals
 totals_in (EachWord e) = e.totals
 
+-- the totals that it carries are those by the patterns, and small
 abbrev pub TellsTotals : Source → Patterns → Counting → Type 0
 TellsTotals source P c = (totals_in c ≡ totals_by source P) × IsSmall (totals_in c)
 
@@ -101,6 +102,7 @@ pub record CanMove (odd : Bool) (totals : Totals) (n : Choices) (stays : Kept) :
   pub bad : stays.bad ≤ n.bad
   pub rest : CanCarry odd totals (n.good - stays.good) (n.bad - stays.bad)
 
+-- the totals that are carried are large enough for what the choices of a pass take away
 abbrev pub CanGoOn : LevelParams → Pass → Counts → List Word → Choices → Counting → Type 0
 CanGoOn params pass counts words n (Open o) = CanCarry (is_odd pass.level) o.totals n.good n.bad
 CanGoOn params pass counts words n (EachWord e) =
@@ -123,6 +125,7 @@ pub record IsAfterWords (odd : Bool) (n : Choices)
   pub counted : new.is_counted ≡ old.is_counted
   pub totals : Carries odd old.totals new.totals (n.good - stays.good) (n.bad - stays.bad)
 
+-- what the choices of a pass make of a way to count, which stays of its kind
 abbrev pub GoesOnAfter : LevelParams → Pass → Counts
     → List Word → Choices → Counting → Counting → Type 0
 GoesOnAfter params pass counts words n (Open o) (Open p) =

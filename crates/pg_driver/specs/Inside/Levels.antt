@@ -75,6 +75,7 @@ pub record Point : Type 0 where
   pub records : Recorded
   pub flags : ClosedDots
 
+-- the point with this engine, these records and these flags
 abbrev pub point : Meaning → Recorded → ClosedDots → Point
 point m r flags = record { engine = m; records = r; flags = flags }
 
@@ -126,13 +127,13 @@ pub record DidLevel (source : Source) (l : LevelTrace)
       (λ fs. level_layout old.signs fs l) old.families ∷ []
   pub begun : s.begun ≡ r.begun + length (begun_among l.passes)
 
--- what the passes of a run tell of the cells, and what its levels tell: no layout where no families
--- are told
+-- what the passes of a run tell of the cells: no layout where no families are told
 abbrev pub run_layouts : ℕ → Option Families → Trace → List (Option (Pass × ℕ × ℕ))
 run_layouts signs None run = map (λ _. None) (flat_map (λ l. filter has_candidate l.passes) run)
 run_layouts signs (Some fs) run =
     map Some (flat_map (λ e. pass_layouts signs e.1 e.0.passes) (levels_with_families signs fs run))
 
+-- what the levels of a run tell of the cells: no layout where no families are told
 abbrev pub level_layouts : ℕ → Option Families → Trace → List (Option (ℕ × Layout))
 level_layouts signs None run = map (λ _. None) run
 level_layouts signs (Some fs) run =

@@ -11,12 +11,12 @@ use Rattle.pg_driver.specs.declared.pass_windows.Place.{Place}
 abbrev pub open_as : ℕ → ℕ → Option Bool → List Place
 open_as n p good = option_map_or (λ _. record { word = n; at = p } ∷ []) good []
 
--- the positions in reach of a word that count as `counts` says, and those of words that are
--- numbered from n on
+-- the positions in reach of the word with the number n that count as `counts` says
 abbrev pub listed_in : Minima → (Word → ℕ → Option Bool) → ℕ → Word → List Place
 listed_in m counts n w = flat_map (λ p. open_as n p (counts w p))
     (positions m.left m.right (length w.signs))
 
+-- such positions of words, which are numbered from n on
 abbrev pub listed_from : Minima → (Word → ℕ → Option Bool) → ℕ → List Word → List Place
 listed_from m counts n [] = []
 listed_from m counts n (w ∷ words) = listed_in m counts n w ++ listed_from m counts (n + 1) words

@@ -19,13 +19,14 @@ numbered_positions m n (w ∷ words) = map (λ p. (n, p)) (positions m.left m.ri
 abbrev pub open_with : (ℕ → ℕ → Option Bool) → ℕ × ℕ → List Place
 open_with listed s = option_map_or (λ _. record { word = s.0; at = s.1 } ∷ []) (listed s.0 s.1) []
 
--- what a pass counts at an open position
+-- what a pass counts at an open position of a word
 abbrev pub counted_in : ℕ → ℕ → ℕ → Word → ℕ → List CountedPosition
 counted_in level len dot w p =
     option_map_or (λ good.
     record { window = window w.signs p len dot; good = good; weight = position_weight w p } ∷ [])
     (counted_with level w p len dot false) []
 
+-- what a pass counts at an open position that is given with the number of its word
 abbrev pub counted_of : ℕ → ℕ → ℕ → List Word → Place → List CountedPosition
 counted_of level len dot words e = option_map_or
     (λ w. counted_in level len dot w e.at) (slice_get words e.word) []

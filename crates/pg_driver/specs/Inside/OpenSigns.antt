@@ -77,7 +77,7 @@ closed_by closed dot (Some Left) d = closed d
 closed_by closed dot (Some Chosen) d = true
 closed_by closed dot (Some GivenUp) d = closed d || nat_eq d dot
 
--- the closed dots after a pass: of a position of a word, and of a sign of words
+-- the closed dots of a position of a word after a pass
 abbrev pub closed_in : LevelParams → Pass → Counts → Word → ℕ → (ℕ → Bool) → ℕ → Bool
 closed_in level pass counts w p closed d =
     if closed pass.dot then closed d
@@ -86,6 +86,7 @@ closed_in level pass counts w p closed d =
     (counted_sums counts (window w.signs p pass.len pass.dot)) (closed d)
     else closed_by closed pass.dot None d)
 
+-- the closed dots of a sign after a pass, where signs are counted through all words
 abbrev pub closed_after : LevelParams → Pass → Counts → List Word → (ℕ → ℕ → Bool) → ℕ → ℕ → Bool
 closed_after level pass counts words closed d s =
     let e = place_from 0 words s in

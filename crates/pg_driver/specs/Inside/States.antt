@@ -17,6 +17,7 @@ pub record State : Type 0 where
   pub known : Known
   pub families : Option Families
 
+-- the state of an engine
 abbrev pub state_of : Meaning → State
 state_of m = record { known = known_of m; families = m.families }
 

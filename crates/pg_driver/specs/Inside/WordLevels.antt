@@ -43,10 +43,11 @@ was_chosen params counts u =
     option_map_or (λ sums. is_chosen (choice params sums.0 sums.1))
     (find (slice_cmp nat_cmp) u counts) false
 
--- the weight of a good position, and of a bad one, whose window was chosen
+-- the weight of a position that is good and whose window was chosen; 0 for any other
 abbrev pub good_kept : LevelParams → Counts → CountedPosition → ℕ
 good_kept params counts s = if s.good && was_chosen params counts s.window then s.weight else 0
 
+-- the weight of a position that is bad and whose window was chosen; 0 for any other
 abbrev pub bad_kept : LevelParams → Counts → CountedPosition → ℕ
 bad_kept params counts s = if not s.good && was_chosen params counts s.window then s.weight else 0
 

@@ -18,6 +18,7 @@ pub record Draft : Type 0 where
   pub digits : List (ℕ × ℕ)
   pub digit : ℕ
 
+-- the draft of a line of which nothing was read yet
 abbrev pub no_draft : Draft
 no_draft = record { signs = []; digits = []; digit = 0 }
 

@@ -15,8 +15,7 @@ abbrev pub greatest_at : {X : Type 0} → ((List ℕ × ℕ) × X → ℕ)
     → (ℕ → List ℕ × ℕ → Bool) → List ((List ℕ × ℕ) × X) → ℕ → ℕ
 greatest_at number test es p = greatest number (test p) es
 
--- the numbers of a word's positions were raised by the entries whose places pass the test of the
--- position
+-- each position's number was raised to the greatest of the entries whose places pass its test
 abbrev pub RaisesBy : {X : Type 0} → ((List ℕ × ℕ) × X → ℕ)
     → (ℕ → List ℕ × ℕ → Bool) → List ((List ℕ × ℕ) × X) → (ℕ → ℕ) → (ℕ → ℕ) → Type 0
 RaisesBy number test es before after = Raises (greatest_at number test es) before after

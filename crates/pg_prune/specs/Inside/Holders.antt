@@ -19,13 +19,15 @@ greatest_value_from best v [] = best
 greatest_value_from best v (n ∷ ns) =
     greatest_value_from (if nat_lt 0 n then v + 1 else best) (v + 1) ns
 
+-- the greatest value that some entry gives, by how many give 1, 2 and so on; 0 for none
 abbrev pub greatest_value : List ℕ → ℕ
 greatest_value counts = greatest_value_from 0 0 counts
 
--- one entry more, or less, with this value
+-- the numbers when one entry more has this value
 abbrev pub with_one : List ℕ → ℕ → List ℕ
 with_one counts v = slice_set counts (v - 1) (slice_index counts (v - 1) + 1)
 
+-- the numbers when one entry less has this value
 abbrev pub less_one : List ℕ → ℕ → List ℕ
 less_one counts v = slice_set counts (v - 1) (slice_index counts (v - 1) - 1)
 

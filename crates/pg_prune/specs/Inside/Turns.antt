@@ -14,10 +14,11 @@ pub record Turn : Type 0 where
   pub entry : (List ℕ × ℕ) × ℕ
   pub behind : Patterns
 
--- the map with the entry, and without it
+-- the map with the entry
 abbrev pub with_entry : Turn → Patterns
 with_entry t = t.before ++ t.entry ∷ t.behind
 
+-- the map without the entry
 abbrev pub without_entry : Turn → Patterns
 without_entry t = t.before ++ t.behind
 

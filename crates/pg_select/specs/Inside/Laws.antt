@@ -179,11 +179,11 @@ abbrev pub ClosedLater : Type 0
 ClosedLater = (m : Minima) (words : List Word) (pass : Pass) (P P' : Patterns) (H H' : Hopeless)
     → Later pass.level P H P' H' → IsClosed m words pass P H → IsClosed m words pass P' H'
 
--- the pass whose windows have one sign more behind them, and the pass whose windows have one sign
--- more before them
+-- the pass whose windows have one sign more behind them
 abbrev pub longer_behind : Pass → Pass
 longer_behind pass = record pass { len = pass.len + 1 }
 
+-- the pass whose windows have one sign more before them
 abbrev pub longer_before : Pass → Pass
 longer_before pass = record pass { len = pass.len + 1; dot = pass.dot + 1 }
 

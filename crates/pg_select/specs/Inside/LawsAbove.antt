@@ -19,7 +19,7 @@ abbrev pub counts_above : ℕ → Patterns → Word → ℕ → Option Bool
 counts_above level P w p = if nat_lt level (value_at P w.signs p)
     then counts_as level (status_at P w p) else None
 
--- the positions that count so, each with its window of a pass, where that fits
+-- a position that counts so, with its window of a pass; nothing where that does not fit
 abbrev pub above_at : Pass → Patterns → Word → ℕ → List CountedPosition
 above_at pass P w p = option_map_or
     (λ good. record {
@@ -29,17 +29,20 @@ above_at pass P w p = option_map_or
     } ∷ [])
     (if fits w.signs p pass.len pass.dot then counts_above pass.level P w p else None) []
 
+-- such positions of a word, of those in reach
 abbrev pub above_in : Minima → Pass → Patterns → Word → List CountedPosition
 above_in m pass P w = flat_map (above_at pass P w) (positions m.left m.right (length w.signs))
 
+-- such positions of all words
 abbrev pub above_positions : Minima → List Word → Pass → Patterns → List CountedPosition
 above_positions m words pass P = flat_map (above_in m pass P) words
 
--- the weights of the good ones, and of the bad ones, among them whose windows a pass raised
+-- the sum of the weights of those that are good and whose windows a pass raised
 abbrev pub good_above : (Candidate → Bool) → List CountedPosition → List CountedPosition → ℕ
 good_above raised counted above = sum_by
     (λ s. if s.good && is_candidate raised counted s.window then s.weight else 0) above
 
+-- the sum of the weights of those that are bad and whose windows a pass raised
 abbrev pub bad_above : (Candidate → Bool) → List CountedPosition → List CountedPosition → ℕ
 bad_above raised counted above = sum_by
     (λ s. if not s.good && is_candidate raised counted s.window then s.weight else 0) above

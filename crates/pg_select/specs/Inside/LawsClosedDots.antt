@@ -37,12 +37,12 @@ Tells level len P H w p closed = (d : ℕ) → d ≤ LENGTH_MAX
 abbrev pub IsDone : ℕ → ℕ → Patterns → Hopeless → Word → ℕ → Type 0
 IsDone level len P H w p = (d : ℕ) → d ≤ len → counted_at (pass_at level len d) P H w p ≡ None
 
--- a position that counts by its status begins with no dot closed; at the next length, a dot is
--- closed where it or the dot before it was
+-- a position that counts by its status begins a level with no dot closed
 abbrev pub TellsAtStart : Type 0
 TellsAtStart = (level len : ℕ) (P : Patterns) (w : Word) (p : ℕ) (good : Bool) → IsBelow level P
     → counts_as level (status_at P w p) ≡ Some good → Tells level len P [] w p (λ _. false)
 
+-- at the next length, a dot of a position is closed where it or the dot before it was
 abbrev pub TellsLonger : Type 0
 TellsLonger = (level len : ℕ) (P : Patterns) (H : Hopeless) (w : Word) (p : ℕ) (closed : ℕ → Bool)
     → CoversUpTo level len P H → Tells level len P H w p closed
@@ -53,6 +53,7 @@ abbrev pub closed_after : (ℕ → Bool) → ℕ → Bool → Bool → Bool → 
 closed_after closed dot fit raised hopeless d = if fit && not (closed dot)
     then raised || (closed d || (nat_eq d dot && hopeless)) else closed d
 
+-- after a pass, the closed dots of a position are those that `closed_after` gives
 abbrev pub TellsAfter : Type 0
 TellsAfter = (m : Minima) (words : List Word) (pass : Pass) (P : Patterns) (H : Hopeless)
     (raised hopeless : Candidate → Bool) (w : Word) (p : ℕ) (closed : ℕ → Bool)
@@ -76,12 +77,13 @@ DoneWhenClosed = (level len : ℕ) (P : Patterns) (H : Hopeless)
     → len ≤ LENGTH_MAX → ((d : ℕ) → d ≤ len → fits w.signs p len d ≡ true → closed d ≡ true)
     → Tells level len P H w p closed → IsDone level len P H w p
 
--- a position that is done is done at the next length too, and after a pass
+-- a position that is done at a length is done at the next length
 abbrev pub DoneLonger : Type 0
 DoneLonger = (level len : ℕ) (P : Patterns) (H : Hopeless) (w : Word) (p : ℕ)
     → IsDone level len P H w p
     → IsDone level (len + 1) P H w p
 
+-- a position that is done at a length is still done after a pass of this length
 abbrev pub DoneAfter : Type 0
 DoneAfter = (m : Minima) (words : List Word) (pass : Pass) (P : Patterns) (H : Hopeless)
     (raised hopeless : Candidate → Bool) (w : Word) (p : ℕ) → IsDone pass.level pass.len P H w p
@@ -106,8 +108,7 @@ HopelessStop = (m : Minima) (words : List Word) (pass : Pass) (P : Patterns) (H 
     (hopeless_after_pass m words pass P H hopeless) (window w.signs p pass.len pass.dot) pass.dot
     ≡ true
 
--- a position whose window was neither, or that counts by its status and was not counted in the
--- pass, keeps its status and all covers of the length
+-- a position keeps its status and all covers of a length
 pub record Stays (level len : ℕ) (P : Patterns) (H : Hopeless)
     (P' : Patterns) (H' : Hopeless) (w : Word)
     (p : ℕ) : Type 0 where
@@ -116,6 +117,7 @@ pub record Stays (level len : ℕ) (P : Patterns) (H : Hopeless)
       → covered level P' H' (window w.signs p len d) d
       ≡ covered level P H (window w.signs p len d) d
 
+-- a position whose window was neither raised nor made hopeless keeps its status and covers
 abbrev pub LeftStay : Type 0
 LeftStay = (m : Minima) (words : List Word) (pass : Pass) (P : Patterns) (H : Hopeless)
     (raised hopeless : Candidate → Bool) (w : Word) (p : ℕ)
@@ -124,6 +126,7 @@ LeftStay = (m : Minima) (words : List Word) (pass : Pass) (P : Patterns) (H : Ho
     → Stays pass.level pass.len P H (patterns_after_pass m words pass P H raised)
     (hopeless_after_pass m words pass P H hopeless) w p
 
+-- a position that counts by its status and was not counted in the pass keeps them too
 abbrev pub UncountedStay : Type 0
 UncountedStay = (m : Minima) (words : List Word) (pass : Pass) (P : Patterns) (H : Hopeless)
     (raised hopeless : Candidate → Bool) (w : Word) (p : ℕ) (good : Bool)

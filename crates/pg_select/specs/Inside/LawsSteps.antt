@@ -21,11 +21,12 @@ pub record CoversUpTo (level len : ℕ) (P : Patterns) (H : Hopeless) : Type 0 w
   pub patterns : list_all (λ e. not (nat_le level e.1) || nat_le (length e.0.0) len) P ≡ true
   pub hopeless : list_all (λ e. nat_le (length e.0.0) len) H ≡ true
 
--- the same holds for a greater length, and at a level's start for every length
+-- where no string that covers is longer than a length, none is longer than the next length
 abbrev pub CoversUpToLonger : Type 0
 CoversUpToLonger = (level len : ℕ) (P : Patterns) (H : Hopeless) → CoversUpTo level len P H
     → CoversUpTo level (len + 1) P H
 
+-- at a level's start no string covers, and so none is longer than a length
 abbrev pub CoversUpToAtStart : Type 0
 CoversUpToAtStart = (level len : ℕ) (P : Patterns) → IsBelow level P → CoversUpTo level len P []
 
@@ -51,11 +52,11 @@ NothingCovered = (level : ℕ) (P : Patterns) (u : List ℕ) (d : ℕ)
 abbrev pub IsUpTo : ℕ → Patterns → Type 0
 IsUpTo level P = list_all (λ e. nat_le e.1 level) P ≡ true
 
--- no value is greater than the greatest one; and none is greater than the level where none is as
--- great as it
+-- no value is greater than the greatest one
 abbrev pub UpToLargest : Type 0
 UpToLargest = (P : Patterns) → IsUpTo (largest P) P
 
+-- where no value is as great as the level, none is greater
 abbrev pub UpToAtStart : Type 0
 UpToAtStart = (level : ℕ) (P : Patterns) → IsBelow level P → IsUpTo level P
 
@@ -78,13 +79,13 @@ abbrev pub is_candidate_at : Minima → List Word → Pass
 is_candidate_at m words pass P H test w p = is_candidate test (counted_positions m words pass P H)
     (window w p pass.len pass.dot)
 
--- the patterns and the hopeless places after a pass that raised the candidates of one test and made
--- those of another hopeless
+-- the patterns after a pass that raised the candidates which meet a test
 abbrev pub patterns_after_pass : Minima → List Word
     → Pass → Patterns → Hopeless → (Candidate → Bool) → Patterns
 patterns_after_pass m words pass P H raised = raised_all pass.level pass.dot P
     (filter raised (tally (counted_positions m words pass P H)))
 
+-- the hopeless places after a pass that made the candidates which meet a test hopeless
 abbrev pub hopeless_after_pass : Minima → List Word
     → Pass → Patterns → Hopeless → (Candidate → Bool) → Hopeless
 hopeless_after_pass m words pass P H hopeless = hopeless_all pass.dot H
@@ -131,10 +132,11 @@ CountedAreUncovered = (m : Minima) (words : List Word)
     → list_any (λ s. same_signs u s.window) (counted_positions m words pass P H) ≡ true
     → (length u ≡ pass.len) × (covered pass.level P H u pass.dot ≡ false)
 
--- the sums of the good weights, and of the bad ones, of the candidates that a pass raised
+-- the sum of the good weights of the candidates that a pass raised
 abbrev pub good_raised : (Candidate → Bool) → List CountedPosition → ℕ
 good_raised raised counted = sum_by (λ c. c.good) (filter raised (tally counted))
 
+-- the sum of the bad weights of the candidates that a pass raised
 abbrev pub bad_raised : (Candidate → Bool) → List CountedPosition → ℕ
 bad_raised raised counted = sum_by (λ c. c.bad) (filter raised (tally counted))
 
@@ -152,6 +154,7 @@ pub record PreventsMore (old new : Totals) (good bad : ℕ) : Type 0 where
   pub errors : new.bad + good ≡ old.bad
   pub missed : new.missed ≡ old.missed + bad
 
+-- where no value is above the level, a pass moves in the totals what it raised
 abbrev pub TotalsAfter : Type 0
 TotalsAfter = (m : Minima) (words : List Word) (pass : Pass) (P : Patterns) (H : Hopeless)
     (raised : Candidate → Bool) → IsUpTo pass.level P

@@ -17,11 +17,12 @@ pub record HasLayouts (r : Finished) : Type 0 where
 abbrev pub layout_there : Option Layout → Layout
 layout_there layout = unwrap_or layout (record { taken = 0; top = 0; tails = 0 })
 
--- what a record of a pass tells of the cells, and a record of a level
+-- what a record of a pass tells of the cells
 abbrev pub pass_told : PassRecord → Pass × ℕ × ℕ
 pass_told r = let l = layout_there r.layout in
     (record { level = r.level; len = r.len; dot = r.dot }, l.taken, l.top)
 
+-- what a record of a level tells of the cells
 abbrev pub level_told : LevelRecord → ℕ × Layout
 level_told r = (r.level, layout_there r.layout)
 

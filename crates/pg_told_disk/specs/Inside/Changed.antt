@@ -18,27 +18,33 @@ use Rattle.pg_told_disk.specs.declared.change.Change.{Change}
 use Rattle.pg_told_disk.specs.declared.change.Change.TheVariants.{Made, Shared, GotMode, Wrote, Stored, Renamed, Removed, Refused, Stayed}
 use Rattle.pg_told_disk.specs.declared.links.Link.{Link}
 
+-- a name under which a file was put leads to it; any other leads to what it did before
 get_put : (m : NameMap) (k q : List ℕ) (v : FileId)
     → fin.get (fin.insert m k v) q ≡ cond (bytes_eq q k) (Some v) (fin.get m q)
 get_put m k q v = fin.get-insert nat_list_cmp_total m k v q ∙ grind (arith, is_eq-slice_cmp q k)
 
+-- a name that was taken away leads to nothing; any other leads to what it did before
 get_cut : (m : NameMap) (k q : List ℕ) → fin.get (fin.remove m k) q
     ≡ cond (bytes_eq q k) None (fin.get m q)
 get_cut m k q = fin.get-remove nat_list_cmp_total m k q ∙ grind (arith, is_eq-slice_cmp q k)
 
+-- a name that was given a file or none leads to that; any other leads to what it did before
 get_given : (o : Option ℕ) (m : NameMap) (to q : List ℕ)
     → fin.get (given o m to) q ≡ cond (bytes_eq q to) (option_map id_of o) (fin.get m q)
 get_given None m to q = get_cut m to q
 get_given (Some n) m to q = get_put m to q (id_of n)
 
+-- to choose between two numbers is to choose between their files
 map_cond : (b : Bool) (x y : Option ℕ) → cond b (option_map id_of x) (option_map id_of y)
     ≡ option_map id_of (cond b x y)
 map_cond true x y = refl
 map_cond false x y = refl
 
+-- an option that holds a file is not empty
 none_id : (id : FileId) → None ≡ Some id → ⊥
 none_id id e = cc
 
+-- two files are equal where the options that hold them are
 some_id : (one other : FileId) → Some one ≡ Some other → one ≡ other
 some_id one other e = cc
 
@@ -48,6 +54,7 @@ pub of_ids : (o : Option ℕ) (id : FileId) → option_map id_of o ≡ Some id
 of_ids None id e = absurd (none_id id e)
 of_ids (Some n) id e = (n, refl, sym (some_id (id_of n) id e))
 
+-- a number that leads to the file of n is n
 pub of_id : (o : Option ℕ) (n : ℕ) → option_map id_of o ≡ Some (id_of n) → o ≡ Some n
 of_id o n e =
     let f = of_ids o (id_of n) e in
@@ -87,28 +94,35 @@ get_names (Stored number ∷ older) q = get_names older q
 get_names (Refused own ∷ older) q = get_names older q
 get_names (Stayed ∷ older) q = get_names older q
 
+-- an option that holds a number is not empty
 none_some : (n : ℕ) → None ≡ Some n → ⊥
 none_some n e = cc
 
+-- two numbers are equal where the options that hold them are
 some_same : (m n : ℕ) → Some m ≡ Some n → m ≡ n
 some_same m n e = cc
 
+-- a chosen number is at most k, where it is k or was at most k before
 below_of_some : (b : Bool) (k n : ℕ) (o : Option ℕ)
     → cond b (Some k) o ≡ Some n → (o ≡ Some n → n < k + 1) → n < k + 1
 below_of_some true k n o is older = let same : k ≡ n = some_same k n is in omega arith
 below_of_some false k n o is older = older is
 
+-- what follows where either option holds n follows where the chosen one does
 of_cond : (b : Bool) (n : ℕ) (p o : Option ℕ) (P : Type 0)
     → cond b p o ≡ Some n → (p ≡ Some n → P) → (o ≡ Some n → P) → P
 of_cond true n p o P is f g = f is
 of_cond false n p o P is f g = g is
 
+-- what is below k is below k + 1
 more : (n k : ℕ) → n < k → n < k + 1
 more n k lt = omega arith
 
+-- the same, where k + 1 is written as suc k
 later : (n k : ℕ) → n < k → n < suc k
 later n k lt = omega arith
 
+-- what is below k + 1 is below suc k
 later_one : (n k : ℕ) → n < k + 1 → n < suc k
 later_one n k lt = omega arith
 
@@ -143,9 +157,11 @@ number_below (Stored number ∷ older) q n is = later n (length older) (number_b
 number_below (Refused own ∷ older) q n is = later n (length older) (number_below older q n is)
 number_below (Stayed ∷ older) q n is = later n (length older) (number_below older q n is)
 
+-- no number is below itself
 not_below : (n : ℕ) → n < n → ⊥
 not_below n lt = omega arith
 
+-- a file on device 1 with this number is the file of this number
 file_id : (id : FileId) (n : ℕ) → id.device ≡ 1 → id.inode ≡ n → id ≡ id_of n
 file_id id n device inode = ap (λ (d : ℕ). at d id.inode) device ∙ ap (λ (i : ℕ). at 1 i) inode
   where
@@ -175,9 +191,11 @@ id_real : (links : List Link) (log : List Change) (q r : List ℕ) → real_in l
 id_real links log q r is = id_in links log q
     ∙ ap (λ (p : List ℕ). option_map id_of (number_in log p)) is
 
+-- where there is no number there is no file
 pub id_none : (o : Option ℕ) → o ≡ None → option_map id_of o ≡ None
 id_none o is = ap (λ (p : Option ℕ). option_map id_of p) is
 
+-- equal numbers have equal files
 pub id_same : (o p : Option ℕ) → o ≡ p → option_map id_of o ≡ option_map id_of p
 id_same o p is = ap (λ (p : Option ℕ). option_map id_of p) is
 
@@ -218,6 +236,7 @@ of_node log n node is = by_mode (mode_in log n) refl is
     by_mode None has e = absurd (none_node e)
     by_mode (Some mode) has e = (mode, has, some_node _ e)
 
+-- the change Made makes a new file, which is empty, where the name is no link and leads to no file
 pub made : (links : List Link) (log : List Change) (own : String Global)
     → is_some (link_in links (string_bytes own)) ≡ false
     → number_in log (string_bytes own) ≡ None
@@ -279,6 +298,7 @@ set_file log log2 n node after links same names refused file others = record {
   others = λ other apart. other_file log log2 n others other apart;
 }
 
+-- the change GotMode gives the file these permissions
 pub got_mode : (links : List Link) (log : List Change) (n mode : ℕ)
     → disk.GotMode (id_of n) mode (disk_in links log) (disk_in links (GotMode n mode ∷ log))
 got_mode links log n mode = λ node is.
@@ -294,6 +314,7 @@ got_mode links log n mode = λ node is.
       refl,
     )
 
+-- the change Stored lets the device have the file
 pub stored : (links : List Link) (log : List Change) (n : ℕ)
     → disk.Stored (id_of n) (disk_in links log) (disk_in links (Stored n ∷ log))
 stored links log n = λ node is.
@@ -305,6 +326,7 @@ stored links log n = λ node is.
     (λ m differs. ap (λ (b : Bool). option_map (node_with (kind_in log m) (bytes_in log m)
     (cond b true (stored_in log m))) (mode_in log m)) (number_no m n differs))
 
+-- the change Wrote puts these bytes behind those of the file
 pub wrote : (links : List Link) (log : List Change) (n : ℕ) (bytes : Vec ℕ Global)
     → disk.Wrote (id_of n) bytes.items (disk_in links log) (disk_in links (Wrote n bytes ∷ log))
 wrote links log n bytes = λ node is.
@@ -321,6 +343,7 @@ wrote links log n bytes = λ node is.
       sym (ap (λ (k : Node). k.bytes ++ bytes.items) parts.2),
     )
 
+-- the change Stayed alters nothing, and so nothing but this file
 pub stayed : (links : List Link) (log : List Change) (id : FileId)
     → disk.Disturbed id (disk_in links log) (disk_in links (Stayed ∷ log))
 stayed links log id = λ node is. (
@@ -334,6 +357,7 @@ stayed links log id = λ node is. (
   },
 )
 
+-- the change Stayed writes a first part of these bytes, with none of them
 pub stayed_part : (links : List Link) (log : List Change) (id : FileId) (bytes : List ℕ)
     → disk.WrotePart id bytes (disk_in links log) (disk_in links (Stayed ∷ log))
 stayed_part links log id bytes = (
@@ -347,6 +371,7 @@ stayed_part links log id bytes = (
   ),
 )
 
+-- the change Refused adds the name to those that the system refused to remove
 pub refused : (links : List Link) (log : List Change) (own : String Global)
     → disk.Refused (string_bytes own) (disk_in links log) (disk_in links (Refused own ∷ log))
 refused links log own = record {
@@ -356,6 +381,7 @@ refused links log own = record {
   refused = refl;
 }
 
+-- the change Removed takes the name away, where it is no link
 pub removed : (links : List Link) (log : List Change) (own : String Global)
     → disk.RemovedName (string_bytes own) (disk_in links log) (disk_in links (Removed own ∷ log))
 removed links log own = λ unlinked.
@@ -370,6 +396,7 @@ removed links log own = λ unlinked.
       refused = refl;
     }
 
+-- the change Renamed gives the file of the one name the other, where no name is a link
 pub renamed : (links : List Link) (log : List Change) (from to : String Global)
     → disk.Renamed (string_bytes from) (string_bytes to)
     (disk_in links log) (disk_in links (Renamed from to ∷ log))

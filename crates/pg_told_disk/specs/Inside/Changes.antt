@@ -38,6 +38,7 @@ abbrev pub given : Option ℕ → NameMap → List ℕ → NameMap
 given None names to = fin.remove names to
 given (Some number) names to = fin.insert names to (id_of number)
 
+-- the names after the changes, each with the file that it leads to
 abbrev pub names_in : List Change → NameMap
 names_in [] = fin.empty
 names_in (Made own regular ∷ older) =
@@ -163,6 +164,7 @@ is_regular_in (Stayed ∷ older) = is_regular_in older
 abbrev pub file_in : List Change → FileId → Option Node
 file_in log id = cond (nat_eq id.device 1) (node_in log id.inode) None
 
+-- the disk with these links, after these changes
 abbrev pub disk_in : List Link → List Change → Disk
 disk_in links log = record {
   links = links_in links (is_regular_in log);
@@ -171,10 +173,12 @@ disk_in links log = record {
   refused = refused_in log;
 }
 
+-- the disks before each change, the latest first
 abbrev pub past_in : List Link → List Change → List Disk
 past_in links [] = []
 past_in links (change ∷ older) = disk_in links older ∷ past_in links older
 
+-- the disk after these changes, and the disks before
 abbrev pub told_in : List Link → List Change → Told
 told_in links log = record { now = disk_in links log; past = past_in links log }
 

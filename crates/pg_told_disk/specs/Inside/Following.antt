@@ -8,12 +8,15 @@ use Rattle.pg_told_disk.specs.Inside.Linked.{or_this, link_in, followed_by, real
 use Rattle.pg_told_disk.specs.declared.links.Link.{Link}
 use Rattle.std.proofs.lemmas.Slice.Eq.{bytes_eq-Decides}
 
+-- an option that holds a link is not empty
 no_link : (link : Link) → Some link ≡ None → ⊥
 no_link link e = cc
 
+-- the same, with its sides exchanged
 none_link : (link : Link) → None ≡ Some link → ⊥
 none_link link e = cc
 
+-- two links are equal where the options that hold them are
 one_link : (link other : Link) → Some link ≡ Some other → link ≡ other
 one_link link other e = cc
 
@@ -35,6 +38,7 @@ direct (link ∷ older) q none =
     ap (λ (r : List ℕ). followed_by r (real_in older (string_bytes link.said)) link)
     (direct older q both.0) ∙ cond_no _ _ _ both.1
 
+-- where the test finds no link there is none
 not_some : (o : Option Link) → is_some o ≡ false → o ≡ None
 not_some None e = refl
 not_some (Some link) e = absurd (false≢true (sym e))

@@ -39,6 +39,7 @@ abbrev pub has_no_link : List Link → Bool
 has_no_link [] = true
 has_no_link (link ∷ older) = false
 
+-- these links as a disk has them; it is plain where there are none and the flag is set
 abbrev pub links_in : List Link → Bool → Links
 links_in links is_plain = record {
   real = real_in links;

@@ -6,6 +6,7 @@ use Rattle.pg_told_disk.specs.Inside.Changes.{number_in, mode_in, kind_in, is_re
 use Rattle.pg_told_disk.specs.declared.change.Change.{Change}
 use Rattle.pg_told_disk.specs.declared.change.Change.TheVariants.{Made, Shared, GotMode, Wrote, Stored, Renamed, Removed, Refused, Stayed}
 
+-- a choice between two flags that are true is true
 either : (b : Bool) (x y : Bool) → x ≡ true → y ≡ true → cond b x y ≡ true
 either true x y one other = one
 either false x y one other = other
@@ -31,26 +32,32 @@ pub record Has (log : List Change) (n : ℕ) : Type 0 where
   pub mode : ℕ
   pub there : mode_in log n ≡ Some mode
 
+-- a file still has permissions after a change that may have set them
 keep_has : (log older : List Change) (n : ℕ) (b : Bool) (mode : ℕ)
     → mode_in log n ≡ cond b (Some mode) (mode_in older n) → Has older n → Has log n
 keep_has log older n true mode is has = record { mode = mode; there = is }
 keep_has log older n false mode is has = record { mode = has.mode; there = is ∙ has.there }
 
+-- a file still has permissions after a change that did not set them
 same_has : (log older : List Change) (n : ℕ) → mode_in log n ≡ mode_in older n
     → Has older n → Has log n
 same_has log older n is has = record { mode = has.mode; there = is ∙ has.there }
 
+-- two numbers are equal where the options that hold them are
 some_number : (m n : ℕ) → Some m ≡ Some n → m ≡ n
 some_number m n e = cc
 
+-- an option that holds a number is not empty
 none_number : (n : ℕ) → None ≡ Some n → ⊥
 none_number n e = cc
 
+-- what follows where either option holds n follows where the chosen one does
 of_cond : (b : Bool) (n : ℕ) (p o : Option ℕ) (P : Type 0)
     → cond b p o ≡ Some n → (p ≡ Some n → P) → (o ≡ Some n → P) → P
 of_cond true n p o P is f g = f is
 of_cond false n p o P is f g = g is
 
+-- the test of two numbers says yes where they are equal
 eqb_same : (n m : ℕ) → m ≡ n → nat_eq n m ≡ true
 eqb_same n m e = eq-eqb n m (sym e)
 

@@ -14,6 +14,7 @@ use Rattle.pg_outside.specs.declared.disk.system.FileId.{FileId}
 use Rattle.pg_told_disk.specs.declared.change.Change.{Change}
 use Rattle.pg_told_disk.specs.declared.links.Link.{Link}
 
+-- where a disk in memory is said to be plain, it has no links and only regular files
 plain_in : (links : List Link) (log : List Change) → KnowsPlain (disk_in links log)
 plain_in (link ∷ links) log = λ plain. absurd (false≢true plain)
 plain_in [] log = λ plain. record {
@@ -31,12 +32,14 @@ plain_in [] log = λ plain. record {
       );
 }
 
+-- where the disk is told, two names that are no links stand for one only if they are one
 pub new_names_where : (is_told : Bool) (links : List Link) (log : List Change)
     → Now (told_where is_told links log) KnowsNewNames
 new_names_where true links log = λ own name is_new direct own_direct one.
     sym (not_link links own own_direct) ∙ one ∙ not_link links name direct
 new_names_where false links log = tt
 
+-- where the disk is told and said to be plain, it has no links and only regular files
 pub plain_where : (is_told : Bool) (links : List Link) (log : List Change)
     → Now (told_where is_told links log) KnowsPlain
 plain_where true links log = plain_in links log

@@ -6,6 +6,7 @@ use Rattle.std.specs.Cmp.Lexicographic.{slice_cmp}
 use Rattle.std.specs.FinMap.Entries.{find}
 use Rattle.pg_types.specs.Numbered.{Windows}
 
+-- strings with their numbers, in the order of the strings
 abbrev pub Numbers : Type 0
 Numbers = List (List ℕ × ℕ)
 
