@@ -1,8 +1,9 @@
 -- What a write by name does to a disk, from what the calls say of the name that it leads to.
-use Rattle.std.proofs.Common.{◌≡◌, inl, inr, ⊎_elim, ℕ, List, [], ◌∷◌, ◌++◌, true, false, Option, Some, None, IfSome, Result, Ok, Err, OnOk, refl, sym, ap, subst, ◌∙◌}
+use Rattle.std.proofs.Common.{◌≡◌, inl, inr, ⊎_elim, ℕ, List, [], ◌∷◌, ◌++◌, true, false, Option, Some, None, IfSome, Result, Ok, Err, OnOk, OnErr, refl, sym, ap, subst, ◌∙◌, arith}
 use Rattle.std.specs.FinMap as fin
+use Rattle.std.proofs.lemmas.Grind.{common_steps}
 use Rattle.pg_outside.specs.Inside.Disk.{Node, Disk, Told, AreOne, Keeps, Now, LeadsTo, LeadsToNone, IsOpened, IsWritable, IsStat, Wrote, WrotePart, id_at, node_at, node_of}
-use Rattle.pg_outside.specs.Inside.DiskWrites.{IsIn, IsPlain, IsDevice, IsProtected, MayWrite, AtWrite, AfterWrite, AfterFailure, IsSeen, IsOld, IsPlaceOf, AllTaken, IsFull, StandsFor, mode_of, mode_at}
+use Rattle.pg_outside.specs.Inside.DiskWrites.{IsIn, KeepsAll, IsPlain, IsDevice, IsProtected, MayWrite, AtWrite, AfterWrite, AfterFailure, IsSeen, IsOld, IsPlaceOf, AllTaken, IsFull, StandsFor, mode_of, mode_at}
 use Rattle.pg_outside.specs.Inside.Moments.{Runs, WhereDirect, AtMoment, IsBeside, IsWritten, IsAsBefore, IsSame, HasRest}
 use Rattle.pg_outside.specs.declared.disk.system.FileId.{FileId}
 use Rattle.pg_outside.specs.declared.disk.system.Seen.{Seen}
@@ -217,11 +218,23 @@ replaces_one real name bytes kept after mode n a b c ab leads grown bc =
     (λ x y f p. at_one real name bytes kept x y f.one (at_may real bytes kept mode x y f.may (p f.direct)))
     (λ x y f p. after_one real name bytes kept after x y f.one (after_may real bytes kept after mode n x y f.may grown (p f.direct))))
 
-pub replaces_found : {T E : Type 0} (result : Result T E) (real name bytes : List ℕ) (kept after : List FileId) (mode : Option ℕ) (a b c : Option Told) → Keeps a b → Now b (Leads real name kept mode)
-    → OnOk result ((n : FileId) × (after ≡ kept ++ n ∷ []) × Runs b c (WhereDirect real (AtMoment real bytes mode)) (WhereDirect real (IsWritten real bytes mode n)))
-    → OnOk result (Runs a c (AtWrite name bytes kept) (AfterWrite name bytes kept after))
-replaces_found (Ok value) real name bytes kept after mode a b c ab leads run = replaces_one real name bytes kept after mode run.0 a b c ab leads run.1 run.2
-replaces_found (Err error) real name bytes kept after mode a b c ab leads run = tt
+keeps_one_more : (kept : List FileId) (n id : FileId) → IsIn id kept → IsIn id (kept ++ n ∷ [])
+keeps_one_more kept n id is = grind (arith, common_steps)
+
+pub replaces_found : {T E : Type 0} (result : Result T E) (real name bytes : List ℕ) (kept after : List FileId) (mode : Option ℕ) (a b c : Option Told) (before between later : ℕ) → between ≡ before → Keeps a b → Now b (Leads real name kept mode)
+    → OnOk result ((later ≡ between) × (n : FileId) × (after ≡ kept ++ n ∷ []) × Runs b c (WhereDirect real (AtMoment real bytes mode)) (WhereDirect real (IsWritten real bytes mode n)))
+    → OnOk result ((later ≡ before) × KeepsAll kept after × Runs a c (AtWrite name bytes kept) (AfterWrite name bytes kept after))
+replaces_found (Ok value) real name bytes kept after mode a b c before between later same ab leads run = (
+  run.0 ∙ same,
+  λ id is. subst (λ (l : List FileId). IsIn id l) (sym run.2) (keeps_one_more kept run.1 id is),
+  replaces_one real name bytes kept after mode run.1 a b c ab leads run.2 run.3,
+)
+replaces_found (Err error) real name bytes kept after mode a b c before between later same ab leads run = tt
+
+-- the files that were kept in mind still are, whether the write is done or not
+pub kept_either : {T E : Type 0} (result : Result T E) (kept after : List FileId) → OnOk result (KeepsAll kept after) → OnErr result (after ≡ kept) → KeepsAll kept after
+kept_either (Ok value) kept after ok err = ok
+kept_either (Err error) kept after ok err = λ id is. subst (λ (l : List FileId). IsIn id l) (sym err) is
 
 pub replace_found_fails : (real name bytes : List ℕ) (kept : List FileId) (mode : Option ℕ) (a b c : Option Told) → Keeps a b → Now b (Leads real name kept mode)
     → Runs b c (WhereDirect real (AtMoment real bytes mode)) (WhereDirect real (IsAsBefore real)) → Runs a c (AtWrite name bytes kept) (AfterFailure name bytes)

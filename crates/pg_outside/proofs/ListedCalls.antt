@@ -1,5 +1,5 @@
 -- A scan of the plans finds what the map of the listed calls holds.
-use Rattle.std.proofs.Common.{◌≡◌, ℕ, List, [], ◌∷◌, map, refl, ◌∙◌, sym, arith}
+use Rattle.std.proofs.Common.{◌≡◌, ℕ, List, [], ◌∷◌, map, Option, Some, None, IsSome, refl, ◌∙◌, sym, arith}
 use Rattle.std.specs.Prelude.{find, ◌==◌}
 use Rattle.std.specs.Option.{option_map}
 use Rattle.std.specs.Ordering.{nat_cmp}
@@ -16,3 +16,14 @@ kept_found (plan ∷ plans) number = grind (arith, common_steps, kept_found plan
 -- what the plan of a call keeps, where it is listed
 pub kept_of : (plans : List Plan) (number : ℕ) → option_map (λ plan. plan.keep) (find (λ plan. plan.call == number) plans) ≡ fin.get (listed_calls plans) number
 kept_of plans number = kept_found plans number ∙ sym (fin.get-from_entries nat_cmp_total (map planned plans) number)
+
+-- a call without a plan is not listed
+pub not_listed : {A B : Type 0} (f : A → B) (plan : Option A) (next : Option B) → option_map f plan ≡ next → plan ≡ None → IsSome next → ⊥
+not_listed f plan next is none listed = grind (arith, common_steps)
+
+-- a call with a plan is listed
+pub not_unlisted : {A B : Type 0} (f : A → B) (plan : Option A) (next : Option B) (a : A) → option_map f plan ≡ next → plan ≡ Some a → next ≡ None → ⊥
+not_unlisted f plan next a is some none = grind (arith, common_steps)
+
+pub not_kept : {A B : Type 0} (f : A → B) (plan : Option A) (next : Option B) (b : B) → option_map f plan ≡ next → plan ≡ None → next ≡ Some b → ⊥
+not_kept f plan next b is none some = grind (arith, common_steps)

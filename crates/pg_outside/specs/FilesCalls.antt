@@ -7,18 +7,21 @@ pub data FilesCall : Type 0 where
   Reads : List ℕ → FilesCall
   Writes : List ℕ → FilesCall
 
--- how proofs store them: whether it is a write, and the name
+-- the parts of a call: whether it is a write, and the name
 abbrev to_parts : FilesCall → Bool × List ℕ
 to_parts (Reads name) = (false, name)
 to_parts (Writes name) = (true, name)
 
+-- the call with these parts
 abbrev from_parts : Bool × List ℕ → FilesCall
 from_parts parts = cond parts.0 (Writes parts.1) (Reads parts.1)
 
+-- a call is the call with its parts
 pub from_parts-to_parts : (call : FilesCall) → from_parts (to_parts call) ≡ call
 from_parts-to_parts (Reads name) = refl
 from_parts-to_parts (Writes name) = refl
 
+-- how proofs store calls: each by its parts
 abbrev pub calls_code : Coded (List FilesCall)
 calls_code = coded_list
     (code_by (Bool × List ℕ)

@@ -1,6 +1,7 @@
 -- What only contracts between layers and proofs need.
 pub mod CallLogs
 pub mod Calls
+pub mod Causes
 pub mod Disk
 pub mod DiskHeld
 pub mod DiskReads

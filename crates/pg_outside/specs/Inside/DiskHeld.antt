@@ -6,6 +6,7 @@ use Rattle.pg_outside.specs.Inside.Disk.{Node, Disk, Told}
 use Rattle.pg_outside.specs.FilesCalls.{FilesCall}
 use Rattle.pg_outside.specs.declared.disk.files.DiskFiles.{DiskFiles}
 
+-- the bytes of a file; no bytes where there is no file
 abbrev pub bytes_of : Option Node → List ℕ
 bytes_of None = []
 bytes_of (Some node) = node.bytes
@@ -24,10 +25,12 @@ has_none (name ∷ names) = false
 abbrev pub is_shown : Disk → Bool
 is_shown disk = disk.links.is_plain && has_none disk.refused
 
+-- the bytes of each name of a disk that is told, where its files are told too
 abbrev pub held_of : Option Told → Option FileMap
 held_of None = None
 held_of (Some told) = cond (is_shown told.now) (Some (file_map told.now)) None
 
+-- the count of the faults of reads and writes, of all names together
 abbrev pub disk_faults : {S File : Type 0} → DiskFiles S File → ℕ
 disk_faults files = files.failed
 

@@ -23,6 +23,7 @@ KeepsAll old new = (id : FileId) → IsIn id old → IsIn id new
 abbrev pub IsPlain : List ℕ → Disk → Type 0
 IsPlain name disk = IfSome (node_at disk name) (λ node. node.is_regular ≡ true)
 
+-- the permissions of a file, if there is one
 abbrev pub mode_of : Option Node → Option ℕ
 mode_of None = None
 mode_of (Some node) = Some node.mode

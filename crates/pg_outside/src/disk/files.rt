@@ -3,6 +3,7 @@
 ghost use Rattle.std.specs.Prelude.{◌≡◌, ℕ, ◌+◌, ◌-◌, ◌^◌, ◌<◌, ◌≤◌, List, [], ◌∷◌, ◌++◌, length, true, Option, OnOk, OnErr, IfOk, IfErr, IfSome, IsErrOf, ◌⊎◌, vec_len, vec_capacity};
 ghost use Rattle.pg_outside.specs.Faults.{next_count, Rose};
 ghost use Rattle.pg_outside.specs.FilesCalls.{Reads, Writes};
+ghost use Rattle.pg_outside.specs.Inside.Causes.{Because};
 ghost use Rattle.pg_outside.specs.Inside.Disk.{Keeps, Now, IsOpened, IsWritable};
 ghost use Rattle.pg_outside.specs.Inside.Moments.{Runs, WhereDirect, AtMoment, IsWritten, IsAsBefore};
 ghost use Rattle.pg_outside.specs.Inside.DiskWrites.{IsIn, KeepsAll, KeepsOnly, IsContent, IsContentCut, IsNoted, IsOld, IsPlaceOf, IsDeep, IsFull, AllTaken, WasKept, AtWrite, AfterWrite, AfterFailure};
@@ -65,6 +66,193 @@ fn mode_of_found(found: Option<FileId>, old: Option<Seen>) -> Result<Option<u32>
     }
 }
 
+/// Reads the file of this name, and keeps in mind which file it is.
+fn read_named<S: System>(
+    system: &mut S,
+    kept: &mut Vec<FileId>,
+    name: &str,
+    limit: usize,
+    into: &mut Vec<u8>,
+) -> Result<(), ReadError>
+    requires empty { into.old.items ≡ [] }
+    requires limit { limit < 2 ^ 64 - 1 }
+    ensures same { Keeps (S.told system.old) (S.told system.new)
+        × KeepsAll kept.old.items kept.new.items
+        × Now (S.told system.new) (KeepsOnly name.now kept.old.items kept.new.items) }
+    ensures all { OnOk result ((S.failures system.new ≡ S.failures system.old)
+        × (length into.new.items ≤ limit)
+        × Now (S.told system.new) (IsContent name.now into.new.items)
+        × Now (S.told system.new) (IsNoted name.now kept.new.items)) }
+    ensures front { IsErrOf result ReadError.TooLong → (length into.new.items ≡ limit + 1)
+        × Now (S.told system.new) (IsContentCut name.now limit into.new.items)
+        × Now (S.told system.new) (IsNoted name.now kept.new.items) }
+    ensures failed { IsErrOf result ReadError.Failed
+        → Rose (S.failures system.old) (S.failures system.new) }
+{
+    let Ok(mut file) = system.open(name) else {
+        return Err(ReadError::Failed);
+    };
+    let Ok(seen) = system.stat(&file) else {
+        return Err(ReadError::Failed);
+    };
+    keep_regular(kept, seen)?;
+    read_within(system, &mut file, limit, into)
+}
+
+/// Keeps in mind which new file this is, for which there is room.
+fn keep_new(kept: &mut Vec<FileId>, id: FileId)
+    requires { vec_len kept.old < vec_capacity kept.old }
+    ensures { kept.new.items ≡ kept.old.items ++ id ∷ [] }
+{
+    if kept.push(id).is_err() {
+        unreachable!();
+    }
+}
+
+/// Lets a new file take this name, which is no link, and keeps in mind which file that is.
+fn replace_kept<S: System>(
+    alloc: Global,
+    system: &mut S,
+    kept: &mut Vec<FileId>,
+    name: &str,
+    mode: Option<u32>,
+    bytes: &[u8],
+) -> Result<(), WriteError>
+    requires { vec_len kept.old < vec_capacity kept.old }
+    ensures ok { OnOk result ((S.failures system.new ≡ S.failures system.old)
+        × (id : FileId) × (kept.new.items ≡ kept.old.items ++ id ∷ [])
+        × Runs (S.told system.old) (S.told system.new)
+        (WhereDirect name.now (AtMoment name.now bytes.now mode))
+        (WhereDirect name.now (IsWritten name.now bytes.now mode id))) }
+    ensures err { OnErr result ((kept.new.items ≡ kept.old.items)
+        × Runs (S.told system.old) (S.told system.new)
+        (WhereDirect name.now (AtMoment name.now bytes.now mode))
+        (WhereDirect name.now (IsAsBefore name.now))) }
+    ensures cause { IfErr result (Because (Rose (S.failures system.old) (S.failures system.new))
+        ⊥ ⊥ (Keeps (S.told system.old) (S.told system.new)
+        × Now (S.told system.new) (AllTaken name.now))) }
+{
+    let id = replace(alloc, system, name, mode, bytes)?;
+    keep_new(kept, id);
+    Ok(())
+}
+
+/// Writes the regular file of this name, which was seen, or makes one where the name leads to none.
+/// It was neither read nor written.
+fn write_regular<S: System>(
+    alloc: Global,
+    system: &mut S,
+    kept: &mut Vec<FileId>,
+    name: &str,
+    old: Option<Seen>,
+    bytes: &[u8],
+) -> Result<(), WriteError>
+    requires room { vec_len kept.old < vec_capacity kept.old }
+    requires old { Now (S.told system.old) (IsOld name.now old) }
+    requires regular { IfSome old (λ seen. seen.is_regular ≡ true) }
+    requires free { IfSome old (λ seen. IsIn seen.id kept.old.items → ⊥) }
+    ensures ok { OnOk result ((S.failures system.new ≡ S.failures system.old)
+        × KeepsAll kept.old.items kept.new.items
+        × Runs (S.told system.old) (S.told system.new)
+        (AtWrite name.now bytes.now kept.old.items)
+        (AfterWrite name.now bytes.now kept.old.items kept.new.items)) }
+    ensures err { OnErr result ((kept.new.items ≡ kept.old.items)
+        × Runs (S.told system.old) (S.told system.new)
+        (AtWrite name.now bytes.now kept.old.items) (AfterFailure name.now bytes.now)) }
+    ensures cause { IfErr result (Because (Rose (S.failures system.old) (S.failures system.new))
+        ⊥ (Now (S.told system.new) (IsDeep name.now)) (Now (S.told system.new) (IsFull name.now))) }
+{
+    let found = find(alloc, system, name)?;
+    let mode = mode_of_found(found.file, old)?;
+    replace_kept(alloc, system, kept, found.name.as_str(), mode, bytes)
+}
+
+/// Writes the file of this name, which was opened.
+fn write_opened<S: System>(
+    alloc: Global,
+    system: &mut S,
+    kept: &mut Vec<FileId>,
+    file: &mut S::File,
+    name: &str,
+    bytes: &[u8],
+) -> Result<(), WriteError>
+    requires room { vec_len kept.old < vec_capacity kept.old }
+    requires opened { Now (S.told system.old) (IsOpened name.now (S.id file.old)) }
+    requires writable { Now (S.told system.old) (IsWritable (S.id file.old)) }
+    ensures ok { OnOk result ((S.failures system.new ≡ S.failures system.old)
+        × KeepsAll kept.old.items kept.new.items
+        × Runs (S.told system.old) (S.told system.new)
+        (AtWrite name.now bytes.now kept.old.items)
+        (AfterWrite name.now bytes.now kept.old.items kept.new.items)) }
+    ensures err { OnErr result ((kept.new.items ≡ kept.old.items)
+        × Runs (S.told system.old) (S.told system.new)
+        (AtWrite name.now bytes.now kept.old.items) (AfterFailure name.now bytes.now)) }
+    ensures cause { IfErr result (Because (Rose (S.failures system.old) (S.failures system.new))
+        (Now (S.told system.new) (WasKept name.now kept.old.items))
+        (Now (S.told system.new) (IsDeep name.now)) (Now (S.told system.new) (IsFull name.now))) }
+{
+    let seen = system.stat(file)?;
+    if !seen.is_regular {
+        write_all(system, file, bytes)?;
+        return Ok(());
+    }
+    if kept.contains(&seen.id) {
+        return Err(WriteError::Kept);
+    }
+    write_regular(alloc, system, kept, name, Some(seen), bytes)
+}
+
+/// Writes the file of this name: a regular file is replaced, and any other is written in place.
+fn write_named<S: System>(
+    alloc: Global,
+    system: &mut S,
+    kept: &mut Vec<FileId>,
+    name: &str,
+    bytes: &[u8],
+) -> Result<(), WriteError>
+    ensures ok { OnOk result ((S.failures system.new ≡ S.failures system.old)
+        × KeepsAll kept.old.items kept.new.items
+        × Runs (S.told system.old) (S.told system.new)
+        (AtWrite name.now bytes.now kept.old.items)
+        (AfterWrite name.now bytes.now kept.old.items kept.new.items)) }
+    ensures err { OnErr result ((kept.new.items ≡ kept.old.items)
+        × Runs (S.told system.old) (S.told system.new)
+        (AtWrite name.now bytes.now kept.old.items) (AfterFailure name.now bytes.now)) }
+    ensures cause { IfErr result (Because (Rose (S.failures system.old) (S.failures system.new))
+        (Now (S.told system.new) (WasKept name.now kept.old.items))
+        (Now (S.told system.new) (IsDeep name.now)) (Now (S.told system.new) (IsFull name.now))) }
+{
+    kept.reserve(1)?;
+    match system.open_to_write(name)? {
+        None => write_regular(alloc, system, kept, name, None, bytes),
+        Some(mut file) => write_opened(alloc, system, kept, &mut file, name, bytes),
+    }
+}
+
+/// Counts a write that failed.
+fn count_write(failed: &mut u64, outcome: &Result<(), WriteError>)
+    ensures later { failed.old ≤ failed.new }
+    ensures err { OnErr outcome.now (failed.new ≡ next_count failed.old) }
+    ensures ok { OnOk outcome.now (failed.new ≡ failed.old) }
+{
+    if outcome.is_err() {
+        *failed = failed.saturating_add(1);
+    }
+}
+
+/// Counts a read that failed.
+fn count_read(failed: &mut u64, outcome: &Result<(), ReadError>)
+    ensures later { failed.old ≤ failed.new }
+    ensures failed { IsErrOf outcome.now ReadError.Failed → failed.new ≡ next_count failed.old }
+    ensures ok { OnOk outcome.now (failed.new ≡ failed.old) }
+    ensures long { IsErrOf outcome.now ReadError.TooLong → failed.new ≡ failed.old }
+    ensures memory { IsErrOf outcome.now ReadError.Memory → failed.new ≡ failed.old }
+{
+    if let Err(ReadError::Failed) = outcome {
+        *failed = failed.saturating_add(1);
+    }
+}
+
 impl<S: System + Drop> DiskFiles<S> {
     ghost use Rattle.pg_outside.specs.Inside.DiskHeld.{disk_faults, disk_calls};
 
@@ -89,189 +277,6 @@ impl<S: System + Drop> DiskFiles<S> {
         ensures { result.now ≡ self.now.system }
     {
         &self.system
-    }
-
-    /// Reads the file of this name, and keeps in mind which file it is.
-    fn read_named(&mut self, name: &str, limit: usize, into: &mut Vec<u8>) -> Result<(), ReadError>
-        requires empty { into.old.items ≡ [] }
-        requires limit { limit < 2 ^ 64 - 1 }
-        ensures same { Keeps (S.told self.old.system) (S.told self.new.system) }
-        ensures kept { KeepsAll self.old.kept.items self.new.kept.items }
-        ensures faults { disk_faults self.new ≡ disk_faults self.old }
-        ensures calls { disk_calls self.new ≡ disk_calls self.old }
-        ensures fits { OnOk result (length into.new.items ≤ limit) }
-        ensures cut { IsErrOf result ReadError.TooLong → length into.new.items ≡ limit + 1 }
-        ensures file { OnOk result
-            (Now (S.told self.new.system) (IsContent name.now into.new.items)) }
-        ensures cut_file { IsErrOf result ReadError.TooLong
-            → Now (S.told self.new.system) (IsContentCut name.now limit into.new.items) }
-        ensures noted { OnOk result
-            (Now (S.told self.new.system) (IsNoted name.now self.new.kept.items)) }
-        ensures cut_noted { IsErrOf result ReadError.TooLong
-            → Now (S.told self.new.system) (IsNoted name.now self.new.kept.items) }
-        ensures only { Now (S.told self.new.system)
-            (KeepsOnly name.now self.old.kept.items self.new.kept.items) }
-        ensures ok_failures { OnOk result
-            (S.failures self.new.system ≡ S.failures self.old.system) }
-        ensures failed { IsErrOf result ReadError.Failed
-            → Rose (S.failures self.old.system) (S.failures self.new.system) }
-    {
-        let Ok(mut file) = self.system.open(name) else {
-            return Err(ReadError::Failed);
-        };
-        let Ok(seen) = self.system.stat(&file) else {
-            return Err(ReadError::Failed);
-        };
-        keep_regular(&mut self.kept, seen)?;
-        read_within(&mut self.system, &mut file, limit, into)
-    }
-
-    /// Lets a new file take this name, which is no link, and keeps in mind which file that is.
-    fn replace_kept(
-        &mut self,
-        name: &str,
-        mode: Option<u32>,
-        bytes: &[u8],
-    ) -> Result<(), WriteError>
-        requires { vec_len self.old.kept < vec_capacity self.old.kept }
-        ensures ok { OnOk result
-            ((id : FileId) × (self.new.kept.items ≡ self.old.kept.items ++ id ∷ [])
-            × Runs (S.told self.old.system) (S.told self.new.system)
-            (WhereDirect name.now (AtMoment name.now bytes.now mode))
-            (WhereDirect name.now (IsWritten name.now bytes.now mode id))) }
-        ensures err { OnErr result (Runs (S.told self.old.system) (S.told self.new.system)
-            (WhereDirect name.now (AtMoment name.now bytes.now mode))
-            (WhereDirect name.now (IsAsBefore name.now))) }
-        ensures kept { KeepsAll self.old.kept.items self.new.kept.items }
-        ensures err_kept { OnErr result (self.new.kept.items ≡ self.old.kept.items) }
-        ensures faults { disk_faults self.new ≡ disk_faults self.old }
-        ensures calls { disk_calls self.new ≡ disk_calls self.old }
-        ensures later { S.failures self.old.system ≤ S.failures self.new.system }
-        ensures ok_failures { OnOk result
-            (S.failures self.new.system ≡ S.failures self.old.system) }
-        ensures failed { IsErrOf result WriteError.Failed
-            → Rose (S.failures self.old.system) (S.failures self.new.system) }
-        ensures taken { IsErrOf result WriteError.Taken
-            → Now (S.told self.new.system) (AllTaken name.now) }
-        ensures taken_same { IsErrOf result WriteError.Taken
-            → Keeps (S.told self.old.system) (S.told self.new.system) }
-        ensures not_kept { IsErrOf result WriteError.Kept → ⊥ }
-        ensures not_unfollowed { IsErrOf result WriteError.Unfollowed → ⊥ }
-    {
-        let id = replace(self.alloc, &mut self.system, name, mode, bytes)?;
-        if self.kept.push(id).is_err() {
-            unreachable!();
-        }
-        Ok(())
-    }
-
-    /// Writes the regular file of this name, which was seen, or makes one where the name leads to
-    /// none. It was neither read nor written.
-    fn write_regular(
-        &mut self,
-        name: &str,
-        old: Option<Seen>,
-        bytes: &[u8],
-    ) -> Result<(), WriteError>
-        requires room { vec_len self.old.kept < vec_capacity self.old.kept }
-        requires old { Now (S.told self.old.system) (IsOld name.now old) }
-        requires regular { IfSome old (λ seen. seen.is_regular ≡ true) }
-        requires free { IfSome old (λ seen. IsIn seen.id self.old.kept.items → ⊥) }
-        ensures ok { OnOk result (Runs (S.told self.old.system) (S.told self.new.system)
-            (AtWrite name.now bytes.now self.old.kept.items)
-            (AfterWrite name.now bytes.now self.old.kept.items self.new.kept.items)) }
-        ensures err { OnErr result (Runs (S.told self.old.system) (S.told self.new.system)
-            (AtWrite name.now bytes.now self.old.kept.items) (AfterFailure name.now bytes.now)) }
-        ensures kept { KeepsAll self.old.kept.items self.new.kept.items }
-        ensures err_kept { OnErr result (self.new.kept.items ≡ self.old.kept.items) }
-        ensures faults { disk_faults self.new ≡ disk_faults self.old }
-        ensures calls { disk_calls self.new ≡ disk_calls self.old }
-        ensures later { S.failures self.old.system ≤ S.failures self.new.system }
-        ensures ok_failures { OnOk result
-            (S.failures self.new.system ≡ S.failures self.old.system) }
-        ensures failed { IsErrOf result WriteError.Failed
-            → Rose (S.failures self.old.system) (S.failures self.new.system) }
-        ensures unfollowed { IsErrOf result WriteError.Unfollowed
-            → Now (S.told self.new.system) (IsDeep name.now) }
-        ensures taken { IsErrOf result WriteError.Taken
-            → Now (S.told self.new.system) (IsFull name.now) }
-        ensures not_kept { IsErrOf result WriteError.Kept → ⊥ }
-    {
-        let found = find(self.alloc, &mut self.system, name)?;
-        let mode = mode_of_found(found.file, old)?;
-        self.replace_kept(found.name.as_str(), mode, bytes)
-    }
-
-    /// Writes the file of this name, which was opened.
-    fn write_opened(
-        &mut self,
-        mut file: S::File,
-        name: &str,
-        bytes: &[u8],
-    ) -> Result<(), WriteError>
-        requires room { vec_len self.old.kept < vec_capacity self.old.kept }
-        requires opened { Now (S.told self.old.system) (IsOpened name.now (S.id file)) }
-        requires writable { Now (S.told self.old.system) (IsWritable (S.id file)) }
-        ensures ok { OnOk result (Runs (S.told self.old.system) (S.told self.new.system)
-            (AtWrite name.now bytes.now self.old.kept.items)
-            (AfterWrite name.now bytes.now self.old.kept.items self.new.kept.items)) }
-        ensures err { OnErr result (Runs (S.told self.old.system) (S.told self.new.system)
-            (AtWrite name.now bytes.now self.old.kept.items) (AfterFailure name.now bytes.now)) }
-        ensures kept { KeepsAll self.old.kept.items self.new.kept.items }
-        ensures err_kept { OnErr result (self.new.kept.items ≡ self.old.kept.items) }
-        ensures faults { disk_faults self.new ≡ disk_faults self.old }
-        ensures calls { disk_calls self.new ≡ disk_calls self.old }
-        ensures later { S.failures self.old.system ≤ S.failures self.new.system }
-        ensures ok_failures { OnOk result
-            (S.failures self.new.system ≡ S.failures self.old.system) }
-        ensures failed { IsErrOf result WriteError.Failed
-            → Rose (S.failures self.old.system) (S.failures self.new.system) }
-        ensures unfollowed { IsErrOf result WriteError.Unfollowed
-            → Now (S.told self.new.system) (IsDeep name.now) }
-        ensures taken { IsErrOf result WriteError.Taken
-            → Now (S.told self.new.system) (IsFull name.now) }
-        ensures protected { IsErrOf result WriteError.Kept
-            → Now (S.told self.new.system) (WasKept name.now self.old.kept.items) }
-    {
-        let seen = self.system.stat(&file)?;
-        if !seen.is_regular {
-            write_all(&mut self.system, &mut file, bytes)?;
-            return Ok(());
-        }
-        if self.kept.contains(&seen.id) {
-            return Err(WriteError::Kept);
-        }
-        self.write_regular(name, Some(seen), bytes)
-    }
-
-    /// Writes the file of this name: a regular file is replaced, and any other is written in place.
-    fn write_named(&mut self, name: &str, bytes: &[u8]) -> Result<(), WriteError>
-        ensures ok { OnOk result (Runs (S.told self.old.system) (S.told self.new.system)
-            (AtWrite name.now bytes.now self.old.kept.items)
-            (AfterWrite name.now bytes.now self.old.kept.items self.new.kept.items)) }
-        ensures err { OnErr result (Runs (S.told self.old.system) (S.told self.new.system)
-            (AtWrite name.now bytes.now self.old.kept.items) (AfterFailure name.now bytes.now)) }
-        ensures kept { KeepsAll self.old.kept.items self.new.kept.items }
-        ensures err_kept { OnErr result (self.new.kept.items ≡ self.old.kept.items) }
-        ensures faults { disk_faults self.new ≡ disk_faults self.old }
-        ensures calls { disk_calls self.new ≡ disk_calls self.old }
-        ensures later { S.failures self.old.system ≤ S.failures self.new.system }
-        ensures ok_failures { OnOk result
-            (S.failures self.new.system ≡ S.failures self.old.system) }
-        ensures failed { IsErrOf result WriteError.Failed
-            → Rose (S.failures self.old.system) (S.failures self.new.system) }
-        ensures unfollowed { IsErrOf result WriteError.Unfollowed
-            → Now (S.told self.new.system) (IsDeep name.now) }
-        ensures taken { IsErrOf result WriteError.Taken
-            → Now (S.told self.new.system) (IsFull name.now) }
-        ensures protected { IsErrOf result WriteError.Kept
-            → Now (S.told self.new.system) (WasKept name.now self.old.kept.items) }
-    {
-        self.kept.reserve(1)?;
-        match self.system.open_to_write(name)? {
-            None => self.write_regular(name, None, bytes),
-            Some(file) => self.write_opened(file, name, bytes),
-        }
     }
 
     /// Sets the file of this name to `bytes`.
@@ -316,10 +321,8 @@ impl<S: System + Drop> DiskFiles<S> {
         ensures calls { disk_calls self.new ≡ disk_calls self.old ++ Writes name.now ∷ [] }
     {
         self.calls = self.calls.and(&Call::Write(name));
-        let result = self.write_named(name, bytes);
-        if result.is_err() {
-            self.failed = self.failed.saturating_add(1);
-        }
+        let result = write_named(self.alloc, &mut self.system, &mut self.kept, name, bytes);
+        count_write(&mut self.failed, &result);
         result
     }
 }
@@ -396,10 +399,8 @@ impl<S: System + Drop> Files for DiskFiles<S> {
             → disk_faults self.new ≡ disk_faults self.old }
     {
         self.calls = self.calls.and(&Call::Read(name));
-        let result = self.read_named(name, limit, into);
-        if let Err(ReadError::Failed) = result {
-            self.failed = self.failed.saturating_add(1);
-        }
+        let result = read_named(&mut self.system, &mut self.kept, name, limit, into);
+        count_read(&mut self.failed, &result);
         result
     }
 

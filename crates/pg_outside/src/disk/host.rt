@@ -92,37 +92,35 @@ impl<R: rt::Files + Drop> HostSystem<R> {
     {
         self.reason
     }
+}
 
-    /// Keeps why a call failed, unless it is this reason, which is an answer.
-    fn keep<T>(&mut self, outcome: &io::Result<T>, answer: Option<ErrorKind>)
-        ensures { self.new.failures ≡ self.old.failures }
-    {
-        if let Err(error) = outcome {
-            if answer != Some(error.kind()) {
-                self.reason = Some(*error);
-            }
+/// Keeps why a call failed, unless it is this reason, which is an answer.
+fn keep<T>(reason: &mut Option<io::Error>, outcome: &io::Result<T>, answer: Option<ErrorKind>) {
+    if let Err(error) = outcome {
+        if answer != Some(error.kind()) {
+            *reason = Some(*error);
         }
     }
+}
 
-    /// Counts a call where it failed.
-    fn count<T>(&mut self, outcome: Result<T, CallFailed>) -> Result<T, CallFailed>
-        ensures same { result ≡ outcome }
-        ensures later { self.old.failures ≤ self.new.failures }
-        ensures ok_failures { OnOk result (self.new.failures ≡ self.old.failures) }
-        ensures failed { OnErr result (Rose self.old.failures self.new.failures) }
-    {
-        if outcome.is_err() {
-            self.count_failure();
-        }
-        outcome
+/// Counts a call where it failed.
+fn count<T>(failures: &mut u64, outcome: Result<T, CallFailed>) -> Result<T, CallFailed>
+    ensures same { result ≡ outcome }
+    ensures later { failures.old ≤ failures.new }
+    ensures ok_failures { OnOk result (failures.new ≡ failures.old) }
+    ensures failed { OnErr result (Rose failures.old failures.new) }
+{
+    if outcome.is_err() {
+        count_failure(failures);
     }
+    outcome
+}
 
-    fn count_failure(&mut self)
-        ensures later { self.old.failures ≤ self.new.failures }
-        ensures rose { self.new.failures ≡ next_count self.old.failures }
-    {
-        self.failures = self.failures.saturating_add(1);
-    }
+fn count_failure(failures: &mut u64)
+    ensures later { failures.old ≤ failures.new }
+    ensures rose { failures.new ≡ next_count failures.old }
+{
+    *failures = failures.saturating_add(1);
 }
 
 impl<R: rt::Files + Drop> System for HostSystem<R> {
@@ -142,16 +140,16 @@ impl<R: rt::Files + Drop> System for HostSystem<R> {
 
     fn look(&mut self, name: &str) -> Result<Entry, CallFailed> {
         let metadata = fs::symlink_metadata(&self.system, name);
-        self.keep(&metadata, Some(ErrorKind::NotFound));
+        keep(&mut self.reason, &metadata, Some(ErrorKind::NotFound));
         let entry = entry_of(metadata);
-        self.count(entry)
+        count(&mut self.failures, entry)
     }
 
     fn read_link(&mut self, alloc: Global, name: &str) -> Result<String, CallFailed> {
         let path = self.system.read_link(alloc, name);
-        self.keep(&path, None);
+        keep(&mut self.reason, &path, None);
         let text = text_of(alloc, path);
-        self.count(text)
+        count(&mut self.failures, text)
     }
 
     fn open(&mut self, name: &str) -> Result<R::File, CallFailed> {
@@ -159,23 +157,23 @@ impl<R: rt::Files + Drop> System for HostSystem<R> {
             Ok(file) => Ok(file),
             Err(error) => {
                 self.reason = Some(error);
-                self.count(Err(CallFailed))
+                count(&mut self.failures, Err(CallFailed))
             }
         }
     }
 
     fn open_to_write(&mut self, name: &str) -> Result<Option<R::File>, CallFailed> {
         let file = OpenOptions::new().write(true).open(&self.system, name);
-        self.keep(&file, Some(ErrorKind::NotFound));
+        keep(&mut self.reason, &file, Some(ErrorKind::NotFound));
         let outcome = opened(file, ErrorKind::NotFound);
-        self.count(outcome)
+        count(&mut self.failures, outcome)
     }
 
     fn stat(&mut self, file: &R::File) -> Result<Seen, CallFailed> {
         let metadata = file.metadata();
-        self.keep(&metadata, None);
+        keep(&mut self.reason, &metadata, None);
         let seen = seen_of(metadata);
-        self.count(seen)
+        count(&mut self.failures, seen)
     }
 
     fn read_some(&mut self, file: &mut R::File, buffer: &mut [u8]) -> Result<usize, CallFailed> {
@@ -183,57 +181,57 @@ impl<R: rt::Files + Drop> System for HostSystem<R> {
             Ok(count) => Ok(count),
             Err(error) => {
                 self.reason = Some(error);
-                self.count(Err(CallFailed))
+                count(&mut self.failures, Err(CallFailed))
             }
         }
     }
 
     fn make(&mut self, name: &str) -> Result<Option<R::File>, CallFailed> {
         let file = File::create_new(&self.system, name);
-        self.keep(&file, Some(ErrorKind::AlreadyExists));
+        keep(&mut self.reason, &file, Some(ErrorKind::AlreadyExists));
         let outcome = opened(file, ErrorKind::AlreadyExists);
-        self.count(outcome)
+        count(&mut self.failures, outcome)
     }
 
     fn set_mode(&mut self, file: &mut R::File, mode: u32) -> Result<(), CallFailed> {
         let outcome = file.set_permissions(Permissions::from_mode(mode));
-        self.keep(&outcome, None);
+        keep(&mut self.reason, &outcome, None);
         let outcome = done(outcome);
-        self.count(outcome)
+        count(&mut self.failures, outcome)
     }
 
     fn write_some(&mut self, file: &mut R::File, bytes: &[u8]) -> Result<usize, CallFailed> {
         match write_some(file, bytes) {
             Ok(0) => {
-                self.count_failure();
+                count_failure(&mut self.failures);
                 Ok(0)
             }
             Ok(count) => Ok(count),
             Err(error) => {
                 self.reason = Some(error);
-                self.count(Err(CallFailed))
+                count(&mut self.failures, Err(CallFailed))
             }
         }
     }
 
     fn sync(&mut self, file: &mut R::File) -> Result<(), CallFailed> {
         let outcome = file.sync_all();
-        self.keep(&outcome, None);
+        keep(&mut self.reason, &outcome, None);
         let outcome = done(outcome);
-        self.count(outcome)
+        count(&mut self.failures, outcome)
     }
 
     fn rename(&mut self, from: &str, to: &str) -> Result<(), CallFailed> {
         let outcome = fs::rename(&self.system, from, to);
-        self.keep(&outcome, None);
+        keep(&mut self.reason, &outcome, None);
         let outcome = done(outcome);
-        self.count(outcome)
+        count(&mut self.failures, outcome)
     }
 
     fn remove(&mut self, name: &str) -> Result<(), CallFailed> {
         let outcome = fs::remove_file(&self.system, name);
-        self.keep(&outcome, None);
+        keep(&mut self.reason, &outcome, None);
         let outcome = done(outcome);
-        self.count(outcome)
+        count(&mut self.failures, outcome)
     }
 }

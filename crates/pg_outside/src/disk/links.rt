@@ -1,6 +1,7 @@
 //! The folder of a name, and what a name stands for once its links are followed.
-ghost use Rattle.std.specs.Prelude.{◌≡◌, ◌≤◌, OnOk, IfOk, IsErrOf, string_bytes};
+ghost use Rattle.std.specs.Prelude.{◌≡◌, IfOk, IfErr, string_bytes};
 ghost use Rattle.pg_outside.specs.Faults.{Rose};
+ghost use Rattle.pg_outside.specs.Inside.Causes.{Because};
 ghost use Rattle.pg_outside.specs.Inside.Disk.{Keeps, Now};
 ghost use Rattle.pg_outside.specs.Inside.NewNames.{IsFolderOf, IsJoined};
 ghost use Rattle.pg_outside.specs.Inside.DiskWrites.{IsDeep, StandsFor};
@@ -57,16 +58,10 @@ pub(crate) fn find<S: System>(
     name: &str,
 ) -> Result<Found, WriteError>
     ensures same { Keeps (S.told system.old) (S.told system.new) }
-    ensures found { IfOk result (λ found. Now (S.told system.new)
-        (StandsFor (string_bytes found.name) found.file name.now)) }
-    ensures later { S.failures system.old ≤ S.failures system.new }
-    ensures ok_failures { OnOk result (S.failures system.new ≡ S.failures system.old) }
-    ensures failed { IsErrOf result WriteError.Failed
-        → Rose (S.failures system.old) (S.failures system.new) }
-    ensures unfollowed { IsErrOf result WriteError.Unfollowed
-        → Now (S.told system.new) (IsDeep name.now) }
-    ensures not_kept { IsErrOf result WriteError.Kept → ⊥ }
-    ensures not_taken { IsErrOf result WriteError.Taken → ⊥ }
+    ensures found { IfOk result (λ found. (S.failures system.new ≡ S.failures system.old)
+        × Now (S.told system.new) (StandsFor (string_bytes found.name) found.file name.now)) }
+    ensures cause { IfErr result (Because (Rose (S.failures system.old) (S.failures system.new))
+        ⊥ (Now (S.told system.new) (IsDeep name.now)) ⊥) }
 {
     let mut real = String::from_str(alloc, name)?;
     for _ in 0..NAMES {

@@ -1,6 +1,7 @@
 //! A new file takes the place of an old one as a whole, or not at all.
-ghost use Rattle.std.specs.Prelude.{◌≡◌, ◌≢◌, ◌≤◌, OnOk, OnErr, IfOk, IsErrOf, string_bytes};
+ghost use Rattle.std.specs.Prelude.{◌≡◌, ◌≢◌, OnOk, OnErr, IfOk, IfErr, string_bytes};
 ghost use Rattle.pg_outside.specs.Faults.{Rose};
+ghost use Rattle.pg_outside.specs.Inside.Causes.{Because};
 ghost use Rattle.pg_outside.specs.Inside.Disk.{Keeps, Steps, Now, Made, Wrote, WrotePart, Disturbed};
 ghost use Rattle.pg_outside.specs.Inside.Moments.{Runs, HasMode, Filled, PlacedAs, InPlacing, WhereDirect, AtMoment, IsWritten, IsAsBefore};
 ghost use Rattle.pg_outside.specs.Inside.NewNames.{IsNewName};
@@ -35,13 +36,9 @@ fn make_beside<S: System>(
     ensures err { OnErr result (Keeps (S.told system.old) (S.told system.new)) }
     ensures own { IfOk result (λ made. IsNewName (string_bytes made.own) name.now) }
     ensures apart { IfOk result (λ made. string_bytes made.own ≢ name.now) }
-    ensures later { S.failures system.old ≤ S.failures system.new }
     ensures ok_failures { OnOk result (S.failures system.new ≡ S.failures system.old) }
-    ensures failed { IsErrOf result WriteError.Failed
-        → Rose (S.failures system.old) (S.failures system.new) }
-    ensures taken { IsErrOf result WriteError.Taken → Now (S.told system.new) (AllTaken name.now) }
-    ensures not_kept { IsErrOf result WriteError.Kept → ⊥ }
-    ensures not_unfollowed { IsErrOf result WriteError.Unfollowed → ⊥ }
+    ensures cause { IfErr result (Because (Rose (S.failures system.old) (S.failures system.new))
+        ⊥ ⊥ (Now (S.told system.new) (AllTaken name.now))) }
 {
     let folder = folder_of(name);
     for number in 0..NEW_NAMES {
@@ -63,13 +60,12 @@ pub(crate) fn write_all<S: System>(
     bytes: &[u8],
 ) -> Result<(), CallFailed>
     ensures file { S.id file.new ≡ S.id file.old }
-    ensures ok { OnOk result (Runs (S.told system.old) (S.told system.new)
+    ensures ok { OnOk result ((S.failures system.new ≡ S.failures system.old)
+        × Runs (S.told system.old) (S.told system.new)
         (WrotePart (S.id file.old) bytes.now) (Wrote (S.id file.old) bytes.now)) }
-    ensures err { OnErr result (Runs (S.told system.old) (S.told system.new)
+    ensures err { OnErr result (Rose (S.failures system.old) (S.failures system.new)
+        × Runs (S.told system.old) (S.told system.new)
         (WrotePart (S.id file.old) bytes.now) (WrotePart (S.id file.old) bytes.now)) }
-    ensures later { S.failures system.old ≤ S.failures system.new }
-    ensures ok_failures { OnOk result (S.failures system.new ≡ S.failures system.old) }
-    ensures failed { OnErr result (Rose (S.failures system.old) (S.failures system.new)) }
 {
     let mut rest = bytes;
     while !rest.is_empty() {
@@ -89,13 +85,12 @@ fn keep_mode<S: System>(
     mode: Option<u32>,
 ) -> Result<(), CallFailed>
     ensures file { S.id file.new ≡ S.id file.old }
-    ensures ok { OnOk result (Runs (S.told system.old) (S.told system.new)
+    ensures ok { OnOk result ((S.failures system.new ≡ S.failures system.old)
+        × Runs (S.told system.old) (S.told system.new)
         (Disturbed (S.id file.old)) (HasMode (S.id file.old) mode)) }
-    ensures err { OnErr result (Runs (S.told system.old) (S.told system.new)
+    ensures err { OnErr result (Rose (S.failures system.old) (S.failures system.new)
+        × Runs (S.told system.old) (S.told system.new)
         (Disturbed (S.id file.old)) (Disturbed (S.id file.old))) }
-    ensures later { S.failures system.old ≤ S.failures system.new }
-    ensures ok_failures { OnOk result (S.failures system.new ≡ S.failures system.old) }
-    ensures failed { OnErr result (Rose (S.failures system.old) (S.failures system.new)) }
 {
     match mode {
         Some(mode) => system.set_mode(file, mode),
@@ -112,13 +107,12 @@ fn fill<S: System>(
     bytes: &[u8],
 ) -> Result<(), CallFailed>
     ensures file { S.id file.new ≡ S.id file.old }
-    ensures ok { OnOk result (Runs (S.told system.old) (S.told system.new)
+    ensures ok { OnOk result ((S.failures system.new ≡ S.failures system.old)
+        × Runs (S.told system.old) (S.told system.new)
         (Disturbed (S.id file.old)) (Filled (S.id file.old) mode bytes.now)) }
-    ensures err { OnErr result (Runs (S.told system.old) (S.told system.new)
+    ensures err { OnErr result (Rose (S.failures system.old) (S.failures system.new)
+        × Runs (S.told system.old) (S.told system.new)
         (Disturbed (S.id file.old)) (Disturbed (S.id file.old))) }
-    ensures later { S.failures system.old ≤ S.failures system.new }
-    ensures ok_failures { OnOk result (S.failures system.new ≡ S.failures system.old) }
-    ensures failed { OnErr result (Rose (S.failures system.old) (S.failures system.new)) }
 {
     keep_mode(system, file, mode)?;
     write_all(system, file, bytes)?;
@@ -134,14 +128,13 @@ fn place<S: System>(
     bytes: &[u8],
 ) -> Result<FileId, CallFailed>
     ensures own { string_bytes new.new.own ≡ string_bytes new.old.own }
-    ensures ok { IfOk result (λ id. Runs (S.told system.old) (S.told system.new)
+    ensures ok { IfOk result (λ id. (S.failures system.new ≡ S.failures system.old)
+        × Runs (S.told system.old) (S.told system.new)
         (InPlacing (string_bytes new.old.own) name.now (S.id new.old.file) mode bytes.now)
         (PlacedAs (string_bytes new.old.own) name.now (S.id new.old.file) mode bytes.now id)) }
-    ensures err { OnErr result (Runs (S.told system.old) (S.told system.new)
+    ensures err { OnErr result (Rose (S.failures system.old) (S.failures system.new)
+        × Runs (S.told system.old) (S.told system.new)
         (Disturbed (S.id new.old.file)) (Disturbed (S.id new.old.file))) }
-    ensures later { S.failures system.old ≤ S.failures system.new }
-    ensures ok_failures { OnOk result (S.failures system.new ≡ S.failures system.old) }
-    ensures failed { OnErr result (Rose (S.failures system.old) (S.failures system.new)) }
 {
     fill(system, &mut new.file, mode, bytes)?;
     let seen = system.stat(&new.file)?;
@@ -162,21 +155,16 @@ pub(crate) fn replace<S: System>(
     mode: Option<u32>,
     bytes: &[u8],
 ) -> Result<FileId, WriteError>
-    ensures ok { IfOk result (λ id. Runs (S.told system.old) (S.told system.new)
+    ensures ok { IfOk result (λ id. (S.failures system.new ≡ S.failures system.old)
+        × Runs (S.told system.old) (S.told system.new)
         (WhereDirect name.now (AtMoment name.now bytes.now mode))
         (WhereDirect name.now (IsWritten name.now bytes.now mode id))) }
     ensures err { OnErr result (Runs (S.told system.old) (S.told system.new)
         (WhereDirect name.now (AtMoment name.now bytes.now mode))
         (WhereDirect name.now (IsAsBefore name.now))) }
-    ensures later { S.failures system.old ≤ S.failures system.new }
-    ensures ok_failures { OnOk result (S.failures system.new ≡ S.failures system.old) }
-    ensures failed { IsErrOf result WriteError.Failed
-        → Rose (S.failures system.old) (S.failures system.new) }
-    ensures taken { IsErrOf result WriteError.Taken → Now (S.told system.new) (AllTaken name.now) }
-    ensures taken_same { IsErrOf result WriteError.Taken
-        → Keeps (S.told system.old) (S.told system.new) }
-    ensures not_kept { IsErrOf result WriteError.Kept → ⊥ }
-    ensures not_unfollowed { IsErrOf result WriteError.Unfollowed → ⊥ }
+    ensures cause { IfErr result (Because (Rose (S.failures system.old) (S.failures system.new))
+        ⊥ ⊥ (Keeps (S.told system.old) (S.told system.new)
+        × Now (S.told system.new) (AllTaken name.now))) }
 {
     let mut new = make_beside(alloc, system, name)?;
     match place(system, &mut new, name, mode, bytes) {

@@ -1,5 +1,5 @@
 //! A file is read to its end, up to a limit.
-ghost use Rattle.std.specs.Prelude.{◌≡◌, ◌+◌, ◌-◌, ◌^◌, ◌<◌, ◌≤◌, [], length, OnOk, IfOk, IsErrOf};
+ghost use Rattle.std.specs.Prelude.{◌≡◌, ◌+◌, ◌-◌, ◌^◌, ◌<◌, ◌≤◌, [], length, OnOk, IsErrOf};
 ghost use Rattle.pg_outside.specs.Faults.{Rose};
 ghost use Rattle.pg_outside.specs.Inside.Disk.{Keeps, Now};
 ghost use Rattle.pg_outside.specs.Inside.DiskReads.{IsAllOf, IsFrontOf};
@@ -21,13 +21,11 @@ pub(crate) fn read_within<S: System>(
     requires limit { limit < 2 ^ 64 - 1 }
     requires start { S.at file.old ≡ 0 }
     ensures same { Keeps (S.told system.old) (S.told system.new) }
-    ensures fits { OnOk result (length into.new.items ≤ limit) }
-    ensures cut { IsErrOf result ReadError.TooLong → length into.new.items ≡ limit + 1 }
-    ensures all { OnOk result (Now (S.told system.new) (IsAllOf (S.id file.old) into.new.items)) }
-    ensures front { IsErrOf result ReadError.TooLong
-        → Now (S.told system.new) (IsFrontOf (S.id file.old) limit into.new.items) }
-    ensures later { S.failures system.old ≤ S.failures system.new }
-    ensures ok_failures { OnOk result (S.failures system.new ≡ S.failures system.old) }
+    ensures all { OnOk result ((S.failures system.new ≡ S.failures system.old)
+        × (length into.new.items ≤ limit)
+        × Now (S.told system.new) (IsAllOf (S.id file.old) into.new.items)) }
+    ensures front { IsErrOf result ReadError.TooLong → (length into.new.items ≡ limit + 1)
+        × Now (S.told system.new) (IsFrontOf (S.id file.old) limit into.new.items) }
     ensures failed { IsErrOf result ReadError.Failed
         → Rose (S.failures system.old) (S.failures system.new) }
 {

@@ -1,8 +1,9 @@
-use Rattle.pg_outside.proofs.Results.{on_err}
 use Rattle.std.proofs.Common.{◌≡◌, ◌∙◌, None, refl, sym, string_bytes, arith}
 use Rattle.std.proofs.lemmas.Grind.{common_steps}
 use Rattle.std.proofs.lemmas.Slice.Eq.{bytes_eq-Decides}
 use Rattle.pg_outside.specs.Inside.NewNames.{new_name}
+use Rattle.pg_outside.proofs.Causes.{rose_since, failed_on, memory_on}
+use Rattle.pg_outside.proofs.Results.{on_err}
 use Rattle.pg_outside.proofs.NewNameLoop.{is_named, none_tried, skipped, taken, all_taken}
 use Rattle.pg_outside.proofs.Runs.{keeps_self, keeps_both, keeps_steps}
 use Rattle.pg_outside.proofs.disk.new_file.make_beside.Goals as goal
@@ -25,8 +26,14 @@ returns-in-Some-clause-own g c = record {
   is = is_named _ _ _ c.in_ok-own.ensures.ok;
 }
 
-pub returns-clause-taken : goal.returns-clause-taken
-returns-clause-taken g c = λ _. all_taken _ _ _ _ c.folder_of-folder.ensures (omega arith) c.loop-number.invariant.tried
+pub returns-clause-cause : goal.returns-clause-cause
+returns-clause-cause g c = all_taken _ _ _ _ c.folder_of-folder.ensures (omega arith) c.loop-number.invariant.tried
+
+pub returns-in_err-own-clause-cause : goal.returns-in_err-own-clause-cause
+returns-in_err-own-clause-cause g c = memory_on c.from_residual.result _ _ _ _ c.from_residual.ensures.1
+
+pub returns-in_err-file-clause-cause : goal.returns-in_err-file-clause-cause
+returns-in_err-file-clause-cause g c = failed_on c.from_residual-in_err-file.result _ _ _ _ c.from_residual-in_err-file.ensures.1 (rose_since _ _ _ c.loop-number.invariant.failures c.in_err-file.ensures.failed)
 
 pub loop-number-preserved : goal.loop-number-preserved
 loop-number-preserved g c =

@@ -1,3 +1,4 @@
+use Rattle.pg_outside.proofs.Causes.{rose_since}
 use Rattle.pg_outside.proofs.Results.{no_value}
 use Rattle.pg_outside.proofs.Runs.{keeps_both}
 use Rattle.std.proofs.Common.{refl, ◌∙◌, ◌≡◌, ◌<◌, ◌≤◌, ◌+◌, ◌++◌, length, take, drop, arith}
@@ -7,8 +8,11 @@ use Rattle.pg_outside.proofs.disk.read.read_within.Goals as goal
 
 pub returns-in-Ok-eq0-clause-all : goal.returns-in-Ok-eq0-clause-all
 returns-in-Ok-eq0-clause-all g c =
-    let room : 0 < length (take c.min-most.result c.loop-piece.piece) = grind (arith, common_steps) in
-    reads_end _ _ _ _ _ _ _ _ _ _ _ _ c.loop-piece.invariant.read c.read_some.ensures.same c.in-Ok-eq0.ensures.bytes c.in-Ok-eq0.field-0-test room
+    let room : 0 < length (take c.min-most.result c.loop-piece.piece) = grind (arith, common_steps) in (
+      c.in-Ok-eq0.ensures.ok_failures ∙ c.loop-piece.invariant.failures,
+      omega arith,
+      reads_end _ _ _ _ _ _ _ _ _ _ _ _ c.loop-piece.invariant.read c.read_some.ensures.same c.in-Ok-eq0.ensures.bytes c.in-Ok-eq0.field-0-test room,
+    )
 
 pub loop-piece-preserved : goal.loop-piece-preserved
 loop-piece-preserved g c =
@@ -23,7 +27,8 @@ loop-piece-preserved g c =
 pub returns-clause-front : goal.returns-clause-front
 returns-clause-front g c =
     let past : c.args.limit < length c.loop-piece.into.items = omega arith in
-    λ long. reads_past _ _ _ _ _ _ _ c.loop-piece.invariant.read past
+    let within = c.loop-piece.invariant.read.within in
+    λ long. (omega arith, reads_past _ _ _ _ _ _ _ c.loop-piece.invariant.read past)
 
 pub returns-in-Ok-eq0-clause-same : goal.returns-in-Ok-eq0-clause-same
 returns-in-Ok-eq0-clause-same g c = keeps_both _ _ _ c.loop-piece.invariant.read.keeps c.read_some.ensures.same
@@ -43,5 +48,5 @@ loop-piece-init g c = record { read = reads_none _ _ _ _ _ c.requires.start c.re
 pub returns-in-Err-clause-all : goal.returns-in-Err-clause-all
 returns-in-Err-clause-all g c = tt
 
-pub returns-in-Err-clause-ok_failures : goal.returns-in-Err-clause-ok_failures
-returns-in-Err-clause-ok_failures g c = tt
+pub returns-in-Err-clause-failed : goal.returns-in-Err-clause-failed
+returns-in-Err-clause-failed g c = λ _. rose_since _ _ _ c.loop-piece.invariant.failures c.in-Err.ensures.failed
