@@ -9,6 +9,7 @@ pub mod CountedCalls
 pub mod CountedPuts
 pub mod CountedEnds
 pub mod UnderTable
+pub mod ListOrder
 pub mod InputOrder
 pub mod PackedOrder
 pub mod PackedTexts

@@ -1,5 +1,5 @@
 -- What `prune` reads, and what it comes to.
-use Rattle.std.proofs.Common.{◌≡◌, List, [], ◌∷◌, Option, Some, Ok, IfSome, sym, subst, ap, ◌∙◌}
+use Rattle.std.proofs.Common.{◌≡◌, List, [], ◌∷◌, Option, IfSome, sym, subst, ap, ◌∙◌}
 use Rattle.std.specs.Prelude.{unwrap_or}
 use Rattle.pg_outside.specs.Content.{FileMap, FilesShown, KeepsHeld, file_at}
 use Rattle.pg_outside.specs.Faults.{NoneFell}
@@ -11,7 +11,7 @@ use Rattle.pg_dict.specs.Words.{words}
 use Rattle.pg_patterns.specs.Starts.{start}
 use Rattle.pg_select.specs.Windows.{Patterns}
 use Rattle.pg_top.specs.Calls.{outcome_of, finished}
-use Rattle.pg_top.specs.Counted.{MakesCalls, read_calls}
+use Rattle.pg_top.specs.Counted.{MakesCalls}
 use Rattle.pg_top.specs.PackedTables.{file_under}
 use Rattle.pg_top.specs.Inside.PruneInputs.{HasPrune}
 use Rattle.pg_prune.specs.Prunes.{pruned}
@@ -20,15 +20,17 @@ use Rattle.pg_prune.proofs.PrunedLaws.{pruned_part, pruned_alike, pruned_least}
 use Rattle.pg_select.specs.CountedPositions.{minima_of}
 use Rattle.pg_top.specs.Promises.{words_under, patterns_under, ReadsBack, PruneKeeps}
 use Rattle.pg_top.specs.Pruning.{prune_reads, pruned_by, line_of_pruned}
-use Rattle.pg_top.specs.Readings.{Reading, read_as, input_file}
+use Rattle.pg_top.specs.Readings.{Reading, input_file}
 use Rattle.pg_words.specs.Requests.{PruneRequest, ToPrune}
 use Rattle.pg_top.specs.Selecting.{table_named}
+use Rattle.pg_top.specs.Inside.Lists.{lists_under, HasLists}
 use Rattle.pg_top.specs.Inside.Stops.{StopsAt, StopsReading}
 use Rattle.pg_top.specs.declared.inputs.Input.TheVariants as input
 use Rattle.pg_top.specs.declared.inputs.Stop.{Stop}
 use Rattle.pg_top.specs.declared.pruning.PruneInputs.{PruneInputs}
-use Rattle.pg_top.proofs.Orders.{AreAccepted, accepted_all, both, held_later, mapped, stopped_behind}
-use Rattle.pg_top.proofs.UnderTable.{HasTable, is_table, table_accepted, accepted_under, means_under, stopped_first, stopped_second, stopped_under}
+use Rattle.pg_top.proofs.ListOrder.{lists_accepted}
+use Rattle.pg_top.proofs.Orders.{AreAccepted, accepted_all, both, held_later, mapped, stopped_after}
+use Rattle.pg_top.proofs.UnderTable.{HasTable, is_table, table_accepted, means_under, stopped_first}
 
 module _ (p : PruneRequest) where
   abbrev translate_file : Reading
@@ -45,42 +47,23 @@ module _ (p : PruneRequest) where
   stopped_table s0 s1 stop calls stops = stopped_first translate_file (patterns_file ∷ dictionary_file ∷ []) s0 s1 stop calls stops
 
   module _ (t : Alphabet) where
-    -- a stop at the patterns
-    pub stopped_patterns : (s0 s1 s2 : FilesShown) (stop : Stop) → NoneFell s0.read_faults s1.read_faults → MakesCalls s0 s2 (Reads p.translate ∷ Reads p.patterns ∷ []) → KeepsHeld s1.held s2.held → IfSome s1.held (HasTable p.translate t) → StopsAt (input_file input.Patterns p.patterns (λ _. start t)) s1 s2 stop → StopsReading (prune_reads p) s0 s2 stop
-    stopped_patterns s0 s1 s2 stop fell calls keeps one stops = stopped_second p.translate t start input.Patterns p.patterns (dictionary_file ∷ []) s0 s1 s2 stop fell calls keeps one stops
+    -- a stop at the patterns or at the dictionary
+    pub stopped_lists : (s0 s1 s2 : FilesShown) (stop : Stop) → NoneFell s0.read_faults s1.read_faults → MakesCalls s0 s1 (Reads p.translate ∷ []) → KeepsHeld s1.held s2.held → IfSome s1.held (HasTable p.translate t) → StopsReading (lists_under p.translate p.patterns p.dict) s1 s2 stop → StopsReading (prune_reads p) s0 s2 stop
+    stopped_lists s0 s1 s2 stop fell calls keeps one stops =
+        stopped_after (translate_file ∷ []) (lists_under p.translate p.patterns p.dict) s0 s1 s2 stop fell calls
+        (mapped s2.held (HasTable p.translate t) (λ files. AreAccepted (file_at files) (translate_file ∷ [])) (λ files h. (table_accepted p.translate t files h, tt)) (held_later s1.held s2.held (HasTable p.translate t) keeps one)) stops
 
-    module _ (P : Patterns) where
-      -- what is known once the patterns are read
-      abbrev pub HasPatterns : FileMap → Type 0
-      HasPatterns files = HasTable p.translate t files × (read_as (start t) (file_at files) p.patterns ≡ Some (Ok P))
-
-      patterns_accepted : (files : FileMap) → HasPatterns files → AreAccepted (file_at files) (translate_file ∷ patterns_file ∷ [])
-      patterns_accepted files h = (table_accepted p.translate t files h.0, (accepted_under p.translate t start input.Patterns p.patterns P files h.0 h.1, tt))
-
-      pub patterns_read : (h1 h2 : Option FileMap) → KeepsHeld h1 h2 → IfSome h1 (HasTable p.translate t) → IfSome h2 (λ files. read_as (start t) (file_at files) p.patterns ≡ Some (Ok P)) → IfSome h2 HasPatterns
-      patterns_read h1 h2 keeps one more = both h2 (HasTable p.translate t) (λ files. read_as (start t) (file_at files) p.patterns ≡ Some (Ok P)) (held_later h1 h2 (HasTable p.translate t) keeps one) more
-
-      -- a stop at the dictionary
-      pub stopped_words : (s0 s2 s3 : FilesShown) (stop : Stop) → NoneFell s0.read_faults s2.read_faults → MakesCalls s0 s3 (read_calls (prune_reads p)) → KeepsHeld s2.held s3.held → IfSome s2.held HasPatterns → StopsAt (input_file input.Dictionary p.dict (λ _. words t)) s2 s3 stop → StopsReading (prune_reads p) s0 s3 stop
-      stopped_words s0 s2 s3 stop fell calls keeps two stops =
-          let later : IfSome s3.held HasPatterns = held_later s2.held s3.held HasPatterns keeps two in
-          stopped_behind (translate_file ∷ patterns_file ∷ []) dictionary_file [] s0 s2 s3 stop fell calls
-          (mapped s3.held HasPatterns (λ files. AreAccepted (file_at files) (translate_file ∷ patterns_file ∷ [])) patterns_accepted later)
-          (stopped_under p.translate t words input.Dictionary p.dict s2 s3 stop (mapped s3.held HasPatterns (HasTable p.translate t) (λ files h. h.0) later) stops)
-
-      -- once all are read
-      pub all_read : (ws : List Word) (h2 h3 : Option FileMap) → KeepsHeld h2 h3 → IfSome h2 HasPatterns → IfSome h3 (λ files. read_as (words t) (file_at files) p.dict ≡ Some (Ok ws))
-          → IfSome h3 (λ files. HasPrune (file_at files) p (record { table = t; patterns = P; dictionary = ws }))
-      all_read ws h2 h3 keeps two more =
-          mapped h3 (λ files. HasPatterns files × (read_as (words t) (file_at files) p.dict ≡ Some (Ok ws))) (λ files. HasPrune (file_at files) p (record { table = t; patterns = P; dictionary = ws }))
-          (λ files h. record { table = h.0.0; patterns = h.0.1; words = h.1 })
-          (both h3 HasPatterns (λ files. read_as (words t) (file_at files) p.dict ≡ Some (Ok ws)) (held_later h2 h3 HasPatterns keeps two) more)
+    -- once all are read
+    pub all_read : (P : Patterns) (ws : List Word) (h1 h2 : Option FileMap) → KeepsHeld h1 h2 → IfSome h1 (HasTable p.translate t) → IfSome h2 (λ files. HasLists (file_at files) t p.patterns p.dict P ws)
+        → IfSome h2 (λ files. HasPrune (file_at files) p (record { table = t; patterns = P; dictionary = ws }))
+    all_read P ws h1 h2 keeps one more =
+        mapped h2 (λ files. HasTable p.translate t files × HasLists (file_at files) t p.patterns p.dict P ws) (λ files. HasPrune (file_at files) p (record { table = t; patterns = P; dictionary = ws }))
+        (λ files h. record { table = h.0; patterns = h.1.start; words = h.1.words })
+        (both h2 (HasTable p.translate t) (λ files. HasLists (file_at files) t p.patterns p.dict P ws) (held_later h1 h2 (HasTable p.translate t) keeps one) more)
 
 -- they are accepted
 pub prune_accepted : (p : PruneRequest) (i : PruneInputs) (files : FileMap) → HasPrune (file_at files) p i → AreAccepted (file_at files) (prune_reads p)
-prune_accepted p i files h =
-    let front : AreAccepted (file_at files) (translate_file p ∷ patterns_file p ∷ []) = patterns_accepted p i.table i.patterns files (h.table, h.patterns) in
-    (front.0, (front.1.0, (accepted_under p.translate i.table words input.Dictionary p.dict i.dictionary files h.table h.words, tt)))
+prune_accepted p i files h = (table_accepted p.translate i.table files h.table, lists_accepted p.translate p.patterns p.dict i.table i.patterns i.dictionary files h.table (record { start = h.patterns; words = h.words }))
 
 -- then it comes to what pruning writes and prints
 pub prune_outcome : (p : PruneRequest) (i : PruneInputs) (files : FileMap) → HasPrune (file_at files) p i → outcome_of (file_at files) (ToPrune p) ≡ pruned_by p i.table i.dictionary i.patterns

@@ -1,5 +1,5 @@
 -- What the driver gives over a new engine is the selection.
-use Rattle.std.proofs.Common.{◌≡◌, ℕ, List, [], ◌∷◌, Option, None, Some, fold, map, refl, ap, subst, arith}
+use Rattle.std.proofs.Common.{◌≡◌, ℕ, List, [], ◌∷◌, Option, None, Some, fold, map, refl, ap, subst}
 use Rattle.std.specs.Option.{option_map}
 use Rattle.pg_types.specs.declared.marks.Layout.{Layout}
 use Rattle.pg_types.specs.Placement.{Families}

@@ -1,7 +1,7 @@
 -- What `sweep` reads, and what it comes to.
-use Rattle.std.proofs.Common.{◌≡◌, List, [], ◌∷◌, ◌++◌, Option, Some, Ok, IfSome, sym, ap, ◌∙◌, subst}
+use Rattle.std.proofs.Common.{◌≡◌, List, [], ◌∷◌, ◌++◌, Option, IfSome, sym, ap, ◌∙◌}
 use Rattle.std.specs.Prelude.{unwrap_or}
-use Rattle.std.proofs.lemmas.List.{append_assoc, map-append}
+use Rattle.std.proofs.lemmas.List.{map-append}
 use Rattle.pg_types.specs.Parameters.{Parameters}
 use Rattle.pg_outside.specs.Content.{FileMap, FilesShown, KeepsHeld, file_at}
 use Rattle.pg_outside.specs.Faults.{NoneFell}
@@ -16,16 +16,18 @@ use Rattle.pg_sweep.specs.Sweeps.{Terms}
 use Rattle.pg_top.specs.Calls.{outcome_of, finished}
 use Rattle.pg_top.specs.Counted.{MakesCalls, read_call, read_calls}
 use Rattle.pg_top.specs.PackedTables.{file_under}
-use Rattle.pg_top.specs.Readings.{Reading, read_as, input_file}
+use Rattle.pg_top.specs.Readings.{Reading, input_file}
 use Rattle.pg_words.specs.Requests.{SweepRequest, ToSweep}
+use Rattle.pg_top.specs.Inside.Lists.{lists_under, HasLists}
 use Rattle.pg_top.specs.Inside.Stops.{StopsAt, StopsReading}
 use Rattle.pg_top.specs.Sweeping.{set_files, sweep_reads, HasSets, HasSweep, swept}
 use Rattle.pg_top.specs.declared.inputs.Input.TheVariants as input
 use Rattle.pg_top.specs.declared.inputs.Stop.{Stop}
-use Rattle.pg_top.proofs.Orders.{AreAccepted, accepted_all, accepted_and, accepted_both, both, held_later, mapped, stopped_after, stopped_behind, stopped_in_front}
+use Rattle.pg_top.proofs.ListOrder.{lists_accepted}
+use Rattle.pg_top.proofs.Orders.{AreAccepted, accepted_all, accepted_both, both, held_later, mapped, stopped_after, stopped_in_front}
 use Rattle.pg_top.proofs.CountedCalls.{calls_on, calls_are}
 use Rattle.pg_top.proofs.SetFiles.{sets_accepted, sets_mean}
-use Rattle.pg_top.proofs.UnderTable.{HasTable, is_table, table_accepted, accepted_under, means_under, stopped_first, stopped_under}
+use Rattle.pg_top.proofs.UnderTable.{HasTable, is_table, table_accepted, means_under, stopped_first}
 
 module _ (s : SweepRequest) where
   abbrev translate_file : Reading
@@ -37,30 +39,18 @@ module _ (s : SweepRequest) where
   abbrev dictionary_file : Reading
   dictionary_file = file_under s.translate input.Dictionary s.dict words
 
-  -- the files that are read before the patterns, and before the dictionary
+  -- the files that are read before the patterns
   abbrev set_front : List Reading
   set_front = translate_file ∷ set_files 1 s.params
-
-  abbrev patterns_front : List Reading
-  patterns_front = set_front ++ patterns_file ∷ []
-
-  reads_by_dictionary : patterns_front ++ dictionary_file ∷ [] ≡ sweep_reads s
-  reads_by_dictionary = append_assoc set_front (patterns_file ∷ []) (dictionary_file ∷ [])
 
   -- the calls until all sets are read, and until all is read
   pub front_calls : (s0 s1 s2 : FilesShown) → MakesCalls s0 s1 (Reads s.translate ∷ []) → MakesCalls s1 s2 (read_calls (set_files 1 s.params)) → MakesCalls s0 s2 (read_calls set_front)
   front_calls s0 s1 s2 one more = calls_on (Reads s.translate ∷ []) (read_calls (set_files 1 s.params)) s0 s1 s2 one more
 
-  pub all_calls : (s0 s2 s3 s4 : FilesShown) → MakesCalls s0 s2 (read_calls set_front) → MakesCalls s2 s3 (Reads s.patterns ∷ []) → MakesCalls s3 s4 (Reads s.dict ∷ []) → MakesCalls s0 s4 (read_calls (sweep_reads s))
-  all_calls s0 s2 s3 s4 front third fourth =
-      calls_are (read_calls set_front ++ Reads s.patterns ∷ Reads s.dict ∷ []) (read_calls (sweep_reads s)) s0 s4 (sym (map-append read_call set_front (patterns_file ∷ dictionary_file ∷ [])))
-      (calls_on (read_calls set_front) (Reads s.patterns ∷ Reads s.dict ∷ []) s0 s2 s4 front (calls_on (Reads s.patterns ∷ []) (Reads s.dict ∷ []) s2 s3 s4 third fourth))
-
-  -- those until the dictionary is read
-  words_calls : (s0 s2 s3 s4 : FilesShown) → MakesCalls s0 s2 (read_calls set_front) → MakesCalls s2 s3 (Reads s.patterns ∷ []) → MakesCalls s3 s4 (Reads s.dict ∷ []) → MakesCalls s0 s4 (read_calls patterns_front ++ Reads s.dict ∷ [])
-  words_calls s0 s2 s3 s4 front third fourth =
-      calls_on (read_calls patterns_front) (Reads s.dict ∷ []) s0 s3 s4
-      (calls_are (read_calls set_front ++ Reads s.patterns ∷ []) (read_calls patterns_front) s0 s3 (sym (map-append read_call set_front (patterns_file ∷ []))) (calls_on (read_calls set_front) (Reads s.patterns ∷ []) s0 s2 s3 front third)) fourth
+  pub all_calls : (s0 s2 s3 : FilesShown) → MakesCalls s0 s2 (read_calls set_front) → MakesCalls s2 s3 (Reads s.patterns ∷ Reads s.dict ∷ []) → MakesCalls s0 s3 (read_calls (sweep_reads s))
+  all_calls s0 s2 s3 front more =
+      calls_are (read_calls set_front ++ Reads s.patterns ∷ Reads s.dict ∷ []) (read_calls (sweep_reads s)) s0 s3 (sym (map-append read_call set_front (patterns_file ∷ dictionary_file ∷ [])))
+      (calls_on (read_calls set_front) (Reads s.patterns ∷ Reads s.dict ∷ []) s0 s2 s3 front more)
 
   -- a stop at the translate file
   pub stopped_table : (s0 s1 : FilesShown) (stop : Stop) → MakesCalls s0 s1 (Reads s.translate ∷ []) → StopsAt translate_file s0 s1 stop → StopsReading (sweep_reads s) s0 s1 stop
@@ -85,48 +75,25 @@ module _ (s : SweepRequest) where
       pub front_read : (h1 h2 : Option FileMap) → KeepsHeld h1 h2 → IfSome h1 (HasTable s.translate t) → IfSome h2 (λ files. HasSets (file_at files) s.params sets) → IfSome h2 HasFront
       front_read h1 h2 keeps one more = both h2 (HasTable s.translate t) (λ files. HasSets (file_at files) s.params sets) (held_later h1 h2 (HasTable s.translate t) keeps one) more
 
-      -- a stop at the patterns
-      pub stopped_patterns : (s0 s2 s3 : FilesShown) (stop : Stop) → NoneFell s0.read_faults s2.read_faults → MakesCalls s0 s2 (read_calls set_front) → MakesCalls s2 s3 (Reads s.patterns ∷ []) → KeepsHeld s2.held s3.held → IfSome s2.held HasFront → StopsAt (input_file input.Patterns s.patterns (λ _. start t)) s2 s3 stop → StopsReading (sweep_reads s) s0 s3 stop
-      stopped_patterns s0 s2 s3 stop fell front third keeps two stops =
-          let later : IfSome s3.held HasFront = held_later s2.held s3.held HasFront keeps two in
-          stopped_behind set_front patterns_file (dictionary_file ∷ []) s0 s2 s3 stop fell (calls_on (read_calls set_front) (Reads s.patterns ∷ []) s0 s2 s3 front third)
-          (mapped s3.held HasFront (λ files. AreAccepted (file_at files) set_front) front_accepted later)
-          (stopped_under s.translate t start input.Patterns s.patterns s2 s3 stop (mapped s3.held HasFront (HasTable s.translate t) (λ files h. h.0) later) stops)
+      -- a stop at the patterns or at the dictionary
+      pub stopped_lists : (s0 s2 s3 : FilesShown) (stop : Stop) → NoneFell s0.read_faults s2.read_faults → MakesCalls s0 s2 (read_calls set_front) → KeepsHeld s2.held s3.held → IfSome s2.held HasFront → StopsReading (lists_under s.translate s.patterns s.dict) s2 s3 stop → StopsReading (sweep_reads s) s0 s3 stop
+      stopped_lists s0 s2 s3 stop fell front keeps two stops =
+          stopped_after set_front (lists_under s.translate s.patterns s.dict) s0 s2 s3 stop fell front
+          (mapped s3.held HasFront (λ files. AreAccepted (file_at files) set_front) front_accepted (held_later s2.held s3.held HasFront keeps two)) stops
 
-      module _ (P : Patterns) where
-        -- once the patterns are read
-        abbrev pub HasStart : FileMap → Type 0
-        HasStart files = HasFront files × (read_as (start t) (file_at files) s.patterns ≡ Some (Ok P))
-
-        start_accepted : (files : FileMap) → HasStart files → AreAccepted (file_at files) patterns_front
-        start_accepted files h = accepted_and (file_at files) set_front patterns_file (front_accepted files h.0) (accepted_under s.translate t start input.Patterns s.patterns P files h.0.0 h.1)
-
-        pub start_read : (h2 h3 : Option FileMap) → KeepsHeld h2 h3 → IfSome h2 HasFront → IfSome h3 (λ files. read_as (start t) (file_at files) s.patterns ≡ Some (Ok P)) → IfSome h3 HasStart
-        start_read h2 h3 keeps two more = both h3 HasFront (λ files. read_as (start t) (file_at files) s.patterns ≡ Some (Ok P)) (held_later h2 h3 HasFront keeps two) more
-
-        -- a stop at the dictionary
-        pub stopped_words : (s0 s2 s3 s4 : FilesShown) (stop : Stop) → NoneFell s0.read_faults s3.read_faults → MakesCalls s0 s2 (read_calls set_front) → MakesCalls s2 s3 (Reads s.patterns ∷ []) → MakesCalls s3 s4 (Reads s.dict ∷ []) → KeepsHeld s3.held s4.held → IfSome s3.held HasStart → StopsAt (input_file input.Dictionary s.dict (λ _. words t)) s3 s4 stop → StopsReading (sweep_reads s) s0 s4 stop
-        stopped_words s0 s2 s3 s4 stop fell front third fourth keeps three stops =
-            let later : IfSome s4.held HasStart = held_later s3.held s4.held HasStart keeps three in
-            subst (λ (reads : List Reading). StopsReading reads s0 s4 stop) reads_by_dictionary
-            (stopped_behind patterns_front dictionary_file [] s0 s3 s4 stop fell (words_calls s0 s2 s3 s4 front third fourth)
-            (mapped s4.held HasStart (λ files. AreAccepted (file_at files) patterns_front) start_accepted later)
-            (stopped_under s.translate t words input.Dictionary s.dict s3 s4 stop (mapped s4.held HasStart (HasTable s.translate t) (λ files h. h.0.0) later) stops))
-
-        -- once all are read
-        pub all_read : (ws : List Word) (h3 h4 : Option FileMap) → KeepsHeld h3 h4 → IfSome h3 HasStart → IfSome h4 (λ files. read_as (words t) (file_at files) s.dict ≡ Some (Ok ws))
-            → IfSome h4 (λ files. HasSweep (file_at files) s (record { table = t; words = ws; start = P; folds = s.folds }) sets)
-        all_read ws h3 h4 keeps three more =
-            mapped h4 (λ files. HasStart files × (read_as (words t) (file_at files) s.dict ≡ Some (Ok ws))) (λ files. HasSweep (file_at files) s (record { table = t; words = ws; start = P; folds = s.folds }) sets)
-            (λ files h. record { table = h.0.0.0; sets = h.0.0.1; start = h.0.1; words = h.1; folds = λ _. s.folds })
-            (both h4 HasStart (λ files. read_as (words t) (file_at files) s.dict ≡ Some (Ok ws)) (held_later h3 h4 HasStart keeps three) more)
+      -- once all are read
+      pub all_read : (P : Patterns) (ws : List Word) (h2 h3 : Option FileMap) → KeepsHeld h2 h3 → IfSome h2 HasFront → IfSome h3 (λ files. HasLists (file_at files) t s.patterns s.dict P ws)
+          → IfSome h3 (λ files. HasSweep (file_at files) s (record { table = t; words = ws; start = P; folds = s.folds }) sets)
+      all_read P ws h2 h3 keeps two more =
+          mapped h3 (λ files. HasFront files × HasLists (file_at files) t s.patterns s.dict P ws) (λ files. HasSweep (file_at files) s (record { table = t; words = ws; start = P; folds = s.folds }) sets)
+          (λ files h. record { table = h.0.0; sets = h.0.1; start = h.1.start; words = h.1.words; folds = λ _. s.folds })
+          (both h3 HasFront (λ files. HasLists (file_at files) t s.patterns s.dict P ws) (held_later h2 h3 HasFront keeps two) more)
 
 -- they are accepted
 pub sweep_accepted : (s : SweepRequest) (terms : Terms) (sets : List Parameters) (files : FileMap) → HasSweep (file_at files) s terms sets → AreAccepted (file_at files) (sweep_reads s)
 sweep_accepted s terms sets files h =
     let front : AreAccepted (file_at files) (set_front s) = front_accepted s terms.table sets files (h.table, h.sets) in
-    let rest : AreAccepted (file_at files) (patterns_file s ∷ dictionary_file s ∷ []) =
-    (accepted_under s.translate terms.table start input.Patterns s.patterns terms.start files h.table h.start, (accepted_under s.translate terms.table words input.Dictionary s.dict terms.words files h.table h.words, tt)) in
+    let rest : AreAccepted (file_at files) (patterns_file s ∷ dictionary_file s ∷ []) = lists_accepted s.translate s.patterns s.dict terms.table terms.start terms.words files h.table (record { start = h.start; words = h.words }) in
     accepted_both (file_at files) (set_front s) (patterns_file s ∷ dictionary_file s ∷ []) front rest
 
 -- then it comes to what the sweep writes and prints

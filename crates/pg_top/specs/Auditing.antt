@@ -38,5 +38,6 @@ given_names n =
     (given.Patterns, n.output) ∷ if_asked n.pattmp (λ name. (given.Pattmp, name))
     ++ (given.Report, n.report) ∷ []
 
+-- the given files in their order, each of which ends the call where a line of it is false
 abbrev pub given_files : (Held → Inputs) → FileNames → List Reading
 given_files inputs n = map (given_file inputs) (given_names n)

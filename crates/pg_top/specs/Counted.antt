@@ -25,13 +25,15 @@ MakesCalls old new calls = new.calls ≡ old.calls ++ calls
 abbrev pub MakesNone : FilesShown → FilesShown → Type 0
 MakesNone old new = new.calls ≡ old.calls
 
--- the call that reads a file, those that read files, and those that write files of these names
+-- the call that reads a file
 abbrev pub read_call : Reading → FilesCall
 read_call r = Reads r.name
 
+-- the calls that read files, in their order
 abbrev pub read_calls : List Reading → List FilesCall
 read_calls reads = map read_call reads
 
+-- the calls that write files of these names, in their order
 abbrev pub write_calls : List (List ℕ) → List FilesCall
 write_calls names = map Writes names
 
@@ -45,29 +47,29 @@ PutsFault old new = (puts : ℕ) × (1 ≤ puts) × (puts ≤ 3) × MakesPuts ol
 
 -- the files up to a place of the order were read once each, and no other; none before it ends the
 -- call
-pub record ReadsUpTo (reads : List Reading) (place : ℕ) (old new : FilesShown) : Type 0 where
-  pub within : place < length reads
-  pub calls : MakesCalls old new (read_calls (take (place + 1) reads))
-  pub before_it : IfSome new.held (λ files. first_end (file_at files) (take place reads) ≡ None)
+pub record ReadsUpTo (reads : List Reading) (at : ℕ) (old new : FilesShown) : Type 0 where
+  pub within : at < length reads
+  pub calls : MakesCalls old new (read_calls (take (at + 1) reads))
+  pub before_it : IfSome new.held (λ files. first_end (file_at files) (take at reads) ≡ None)
 
 -- the file at a place of the order could not be read
-pub record IsUnreadAt (reads : List Reading) (place : ℕ) (old new : FilesShown) : Type 0 where
+pub record IsUnreadAt (reads : List Reading) (at : ℕ) (old new : FilesShown) : Type 0 where
   pub reading : Reading
-  pub there : slice_get reads place ≡ Some reading
+  pub there : slice_get reads at ≡ Some reading
   pub rose : Rose (old.read_faults reading.name) (new.read_faults reading.name)
 
 -- the file at a place of the order could not be written
-pub record IsUnwrittenAt (names : List (List ℕ)) (place : ℕ) (old new : FilesShown) : Type 0 where
+pub record IsUnwrittenAt (names : List (List ℕ)) (at : ℕ) (old new : FilesShown) : Type 0 where
   pub name : List ℕ
-  pub there : slice_get names place ≡ Some name
+  pub there : slice_get names at ≡ Some name
   pub rose : Rose (old.write_faults name) (new.write_faults name)
 
 -- the file at a place of the order is the one that ends the call; or all were read up to this
 -- place, and none ends it
 abbrev pub EndsAt : Request → ℕ → Held → Type 0
-EndsAt request place files =
-    (first_end files (take (place + 1) (reads_of request)) ≡ Some (outcome_of files request))
-    ⊎ ((place + 1 ≡ length (reads_of request)) × (first_end files (reads_of request) ≡ None))
+EndsAt request at files =
+    (first_end files (take (at + 1) (reads_of request)) ≡ Some (outcome_of files request))
+    ⊎ ((at + 1 ≡ length (reads_of request)) × (first_end files (reads_of request) ≡ None))
 
 -- the puts of a command that stopped before it wrote: a refusal is one line, and the line of a
 -- fault has three parts
@@ -88,8 +90,8 @@ LinesCounted answer old new = MakesPuts old new 1
 -- once
 abbrev pub IsEndedCounted : Request → Moment → Moment → Type 0
 IsEndedCounted request old new =
-    (place : ℕ) × ReadsUpTo (reads_of request) place old.0 new.0
-    × IfSome new.0.held (λ files. EndsAt request place (file_at files)) × MakesPuts old.1 new.1 1
+    (at : ℕ) × ReadsUpTo (reads_of request) at old.0 new.0
+    × IfSome new.0.held (λ files. EndsAt request at (file_at files)) × MakesPuts old.1 new.1 1
 
 -- each file was read once, then each written once, and the lines were put at once
 abbrev pub IsWholeCounted : Request → Moment → Moment → Type 0
@@ -100,7 +102,7 @@ IsWholeCounted request old new =
 -- memory was short, before the first read or after some reads, and nothing was put
 abbrev pub IsWantCounted : Request → Moment → Moment → Type 0
 IsWantCounted request old new =
-    (MakesNone old.0 new.0 ⊎ ((place : ℕ) × ReadsUpTo (reads_of request) place old.0 new.0))
+    (MakesNone old.0 new.0 ⊎ ((at : ℕ) × ReadsUpTo (reads_of request) at old.0 new.0))
     × MakesPuts old.1 new.1 0
 
 -- the calls of an answer that comes from the outcome

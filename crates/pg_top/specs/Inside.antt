@@ -5,3 +5,4 @@ pub mod Sources
 pub mod PruneInputs
 pub mod SweepInputs
 pub mod Verdicts
+pub mod Lists

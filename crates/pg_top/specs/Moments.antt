@@ -15,20 +15,23 @@ OfFiles old new P = IfSome new.0.held (λ after. MatchOption old.0.held ⊥ (λ 
 abbrev pub KeepsFiles : Moment → Moment → Type 0
 KeepsFiles old new = KeepsHeld old.0.held new.0.held
 
--- this text was put, or a prefix of it
+-- where the bytes of the sink are told, this text was put
 abbrev pub Puts : SinkShown → SinkShown → List ℕ → Type 0
 Puts old new text = WasPut old.text new.text text
 
+-- where the bytes of the sink are told, a prefix of this text was put
 abbrev pub PutsPart : SinkShown → SinkShown → List ℕ → Type 0
 PutsPart old new text = WasPartPut old.text new.text text
 
--- the read faults of a name rose, the write faults of a name, or the faults of the sink
+-- the read faults of a name rose
 abbrev pub ReadRose : Moment → Moment → List ℕ → Type 0
 ReadRose old new name = Rose (old.0.read_faults name) (new.0.read_faults name)
 
+-- the write faults of a name rose
 abbrev pub WriteRose : Moment → Moment → List ℕ → Type 0
 WriteRose old new name = Rose (old.0.write_faults name) (new.0.write_faults name)
 
+-- the faults of the sink rose
 abbrev pub PutRose : SinkShown → SinkShown → Type 0
 PutRose old new = Rose old.faults new.faults
 

@@ -66,6 +66,7 @@ packed name t P =
     then refuses input.Table (table_refused TableTooLong)
     else Ends Done ((name, packed_text t P) ∷ []) (packed_line (pattern_text t P) (packed_text t P))
 
+-- what `pack` writes and prints, by the files that are held
 abbrev pub packed_in : Held → List ℕ → List ℕ → List ℕ → Outcome
 packed_in files patterns translate name =
     packed name (table_named translate files) (meant_under translate start [] files patterns)
@@ -83,6 +84,7 @@ totals_reads dict translate name =
 abbrev pub totals_lines : Alphabet → List Word → List ℕ → List ℕ
 totals_lines t words b = ending_text (table_totals (minima_of t) words b)
 
+-- what `totals` prints, by the files that are held
 abbrev pub totalled_in : Held → List ℕ → List ℕ → List ℕ → Outcome
 totalled_in files dict translate name =
     Ends Done []

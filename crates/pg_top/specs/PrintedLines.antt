@@ -89,9 +89,10 @@ no_line given l =
     codes "no: " ++ word_of (input.Given given) ++ codes " line "
     ++ decimal l.0 ++ found_text l.1 ++ codes "\n"
 
--- where the file of a name could not be read, or not be written
+-- where the file of a name could not be read
 abbrev pub reading_line : List ℕ → List ℕ
 reading_line name = codes "fault: reading " ++ name ++ codes "\n"
 
+-- where the file of a name could not be written
 abbrev pub writing_line : List ℕ → List ℕ
 writing_line name = codes "fault: writing " ++ name ++ codes "\n"

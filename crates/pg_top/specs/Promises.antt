@@ -27,10 +27,11 @@ use Rattle.pg_top.specs.Sweeping.{terms_in, sets_in, swept_rows}
 use Rattle.pg_top.specs.declared.answers.Status.{Status}
 use Rattle.pg_top.specs.declared.answers.Status.TheVariants.{Done}
 
--- the patterns and the words of files, under the table of a translate file
+-- the patterns of a pattern file, under the table of a translate file
 abbrev pub patterns_under : Held → List ℕ → List ℕ → Patterns
 patterns_under files translate name = meant_under translate start [] files name
 
+-- the words of a dictionary, under the table of a translate file
 abbrev pub words_under : Held → List ℕ → List ℕ → List Word
 words_under files translate name = meant_under translate words [] files name
 

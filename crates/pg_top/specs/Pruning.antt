@@ -46,6 +46,7 @@ prune_ends p t found = Ends Done (pruned_files p t found) (line_of_pruned found)
 abbrev pub pruned_by : PruneRequest → Alphabet → List Word → Patterns → Outcome
 pruned_by p t ws P = prune_ends p t (pruned (minima_of t) ws P)
 
+-- what `prune` writes and prints, by the files that are held
 abbrev pub pruned_in : Held → PruneRequest → Outcome
 pruned_in files p =
     pruned_by p (table_named p.translate files) (meant_under p.translate words [] files p.dict)

@@ -23,13 +23,15 @@ pub record Made : Type 0 where
   pub text : List ℕ
   pub state : ℕ
 
--- the letters of a syllable: its consonant, its vowel, and the consonant that may end it
+-- the consonants that a syllable begins with
 abbrev pub consonants : List ℕ
 consonants = codes "bdfgklmnprst"
 
+-- the vowels of syllables
 abbrev pub vowels : List ℕ
 vowels = codes "aeiou"
 
+-- the consonants that a syllable may end with
 abbrev pub closings : List ℕ
 closings = codes "nrs"
 

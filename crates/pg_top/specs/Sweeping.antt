@@ -18,11 +18,11 @@ use Rattle.pg_top.specs.Selecting.{table_named}
 use Rattle.pg_top.specs.declared.answers.Status.TheVariants.{Done}
 use Rattle.pg_top.specs.declared.inputs.Input.TheVariants as input
 
--- the parameter file with this number, and such files one after the other, the first of which has
--- this number
+-- the parameter file with this number, as it is read
 abbrev pub set_file : ℕ → List ℕ → Reading
 set_file number name = input_file (input.Set number) name (λ files. parameters)
 
+-- parameter files one after the other, the first of which has this number
 abbrev pub set_files : ℕ → List (List ℕ) → List Reading
 set_files number [] = []
 set_files number (name ∷ names) = set_file number name ∷ set_files (number + 1) names
@@ -48,7 +48,7 @@ sweep_reads s =
     ∷ file_under s.translate input.Dictionary s.dict words
     ∷ []
 
--- what the runs share, and the sets of parameters, by the files that are held
+-- what the runs of a sweep share, by the files that are held
 abbrev pub terms_in : Held → SweepRequest → Terms
 terms_in files s = record {
   table = table_named s.translate files;
@@ -57,6 +57,7 @@ terms_in files s = record {
   folds = s.folds;
 }
 
+-- the sets of parameters, by the files that are held
 abbrev pub sets_in : Held → SweepRequest → List Parameters
 sets_in files s = map (set_named files) s.params
 
@@ -80,8 +81,10 @@ sweep_ends s rows =
     Ends Done ((s.output, sweep_file s.folds rows winner) ∷ [])
     (winner_line winner (slice_index (costs_of rows) (winner - 1)))
 
+-- what a sweep of these sets writes and prints
 abbrev pub swept : SweepRequest → Terms → List Parameters → Outcome
 swept s terms sets = sweep_ends s (swept_rows s terms sets)
 
+-- what `sweep` writes and prints, by the files that are held
 abbrev pub swept_in : Held → SweepRequest → Outcome
 swept_in files s = swept s (terms_in files s) (sets_in files s)

@@ -23,10 +23,11 @@ IsPartWritten before after (w ∷ ws) name =
     ((w.0 ≡ name) × HasPart before after w.0 w.1) ⊎ IsPartWritten
     (fin.insert before w.0 w.1) after ws name
 
--- a file that is to be written as its name and its text
+-- a file that is to be written, as its name and its text
 abbrev pub named_text : Output → List ℕ × List ℕ
 named_text output = (output.name.now, output.text.items)
 
+-- files that are to be written in their order, each as its name and its text
 abbrev pub writing_of : List Output → Writing
 writing_of outputs = map named_text outputs
 
@@ -37,9 +38,9 @@ WroteAll old new ws = IfSome new.held
 
 -- the write at a place failed: its write faults rose, and where files are told, writing stopped at
 -- its name
-pub record StoppedAt (old new : FilesShown) (ws : Writing) (place : ℕ) : Type 0 where
+pub record StoppedAt (old new : FilesShown) (ws : Writing) (at : ℕ) : Type 0 where
   pub write : List ℕ × List ℕ
-  pub there : slice_get ws place ≡ Some write
+  pub there : slice_get ws at ≡ Some write
   pub rose : Rose (old.write_faults write.0) (new.write_faults write.0)
   pub part : IfSome new.held
       (λ after. MatchOption old.held ⊥ (λ before. IsPartWritten before after ws write.0))

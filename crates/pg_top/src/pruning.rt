@@ -20,7 +20,7 @@ ghost use Rattle.pg_top.specs.declared.answers.Status.TheVariants.{Done};
 use crate::inputs::Stop;
 use crate::outputs::Outputs;
 use crate::printed::pruned_line;
-use crate::reading::{read_dictionary, read_start, read_table};
+use crate::reading::{read_lists, read_table};
 use crate::writes::Output;
 use pg_dict::Dictionary;
 use pg_outside::Files;
@@ -86,8 +86,14 @@ fn read_prune<'a, F: Files, W: Watch>(
         (read_calls (prune_reads (prune_of names.now)))) }
 {
     let table = read_table(alloc, names.translate, files, watch)?;
-    let patterns = read_start(alloc, &table, names.patterns, files, watch)?;
-    let dictionary = read_dictionary(alloc, &table, names.dict, files, watch)?;
+    let (patterns, dictionary) = read_lists(
+        alloc,
+        &table,
+        names.patterns,
+        names.dict,
+        files,
+        watch,
+    )?;
     Ok(PruneInputs {
         table,
         patterns,

@@ -1,5 +1,5 @@
 //! The readers of the input files.
-ghost use Rattle.std.specs.Prelude.{◌≡◌, ◌+◌, ◌-◌, ◌<◌, ◌^◌, [], ◌∷◌, take, IfOk, IfErr, IfSome, Some, Ok, Err};
+ghost use Rattle.std.specs.Prelude.{◌≡◌, ◌+◌, ◌-◌, ◌<◌, ◌^◌, ℕ, List, [], ◌∷◌, take, IfOk, IfErr, IfSome, Some, Ok, Err};
 ghost use Rattle.std.specs.Option.{option_map};
 ghost use Rattle.pg_types.specs.Parameters.{parameters};
 ghost use Rattle.pg_outside.specs.Content.{KeepsHeld, file_at};
@@ -16,6 +16,7 @@ ghost use Rattle.pg_top.specs.Counted.{MakesCalls, read_calls};
 ghost use Rattle.pg_top.specs.Readings.{read_as, input_file};
 ghost use Rattle.pg_top.specs.Selecting.{inputs_of, HasInputs};
 ghost use Rattle.pg_top.specs.Selection.{HasSigns};
+ghost use Rattle.pg_top.specs.Inside.Lists.{lists_under, HasLists};
 ghost use Rattle.pg_top.specs.Inside.Stops.{stop_of, StopsFront, StopsAt, StopsReading};
 
 use crate::inputs::{Input, Stop};
@@ -208,6 +209,35 @@ pub fn read_dictionary<'a, F: Files, W: Watch>(
     }
 }
 
+/// Reads the starting patterns and then the dictionary, both under a table.
+pub fn read_lists<'a, F: Files, W: Watch>(
+    alloc: Global,
+    table: &Table,
+    patterns: &'a str,
+    dict: &'a str,
+    files: &mut F,
+    watch: &W,
+) -> Result<(PatternSet, Dictionary), Stop<'a>>
+    ensures held { KeepsHeld (F.shown files.old).held (F.shown files.new).held }
+    ensures reads { NoneFell (F.shown files.old).read_faults (F.shown files.new).read_faults }
+    ensures writes { NoneFell (F.shown files.old).write_faults (F.shown files.new).write_faults }
+    ensures ok { IfOk result (λ lists. IfSome (F.shown files.new).held (λ files.
+        HasLists (file_at files) table.now patterns.now dict.now lists.0 lists.1)) }
+    ensures signs { IfOk result (λ lists. SignsUpTo (letters_of table.now + 1) lists.0
+        × SignsAtMost (letters_of table.now + 1) lists.1) }
+    ensures counted { IfOk result (λ _. MakesCalls (F.shown files.old) (F.shown files.new)
+        (Reads patterns.now ∷ Reads dict.now ∷ [])) }
+    ensures stopped { (translate : List ℕ)
+        → IfSome (F.shown files.old).held
+        (λ files. read_as table_of_file (file_at files) translate ≡ Some (Ok table.now))
+        → IfErr result (StopsReading (lists_under translate patterns.now dict.now)
+        (F.shown files.old) (F.shown files.new)) }
+{
+    let start = read_start(alloc, table, patterns, files, watch)?;
+    let dictionary = read_dictionary(alloc, table, dict, files, watch)?;
+    Ok((start, dictionary))
+}
+
 /// Reads what `generate` reads, in its order, up to the first refusal or fault.
 pub fn read_inputs<'a, F: Files, W: Watch>(
     alloc: Global,
@@ -229,8 +259,7 @@ pub fn read_inputs<'a, F: Files, W: Watch>(
 {
     let table = read_table(alloc, names.translate, files, watch)?;
     let params = read_parameters(alloc, Input::Parameters, names.params, files, watch)?;
-    let start = read_start(alloc, &table, names.patterns, files, watch)?;
-    let dictionary = read_dictionary(alloc, &table, names.dict, files, watch)?;
+    let (start, dictionary) = read_lists(alloc, &table, names.patterns, names.dict, files, watch)?;
     Ok(Inputs {
         table,
         params,

@@ -18,7 +18,7 @@ ghost use Rattle.pg_top.specs.declared.answers.Status.TheVariants.{Done};
 use crate::inputs::Stop;
 use crate::outputs::Outputs;
 use crate::printed::winner_line;
-use crate::reading::{read_dictionary, read_start, read_table};
+use crate::reading::{read_lists, read_table};
 use crate::sets::read_sets;
 use crate::writes::Output;
 use pg_dict::Dictionary;
@@ -120,8 +120,7 @@ fn read_sweep<'a, F: Files, W: Watch>(
 {
     let table = read_table(alloc, words.translate, files, watch)?;
     let sets = read_sets(alloc, words.params, files, watch)?;
-    let start = read_start(alloc, &table, words.patterns, files, watch)?;
-    let dictionary = read_dictionary(alloc, &table, words.dict, files, watch)?;
+    let (start, dictionary) = read_lists(alloc, &table, words.patterns, words.dict, files, watch)?;
     Ok(SweepInputs {
         table,
         sets,

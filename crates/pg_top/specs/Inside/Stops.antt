@@ -31,12 +31,12 @@ StopsAt r old new Memory = Unit {0}
 -- why reading files stopped at a place of the order: the file there is refused, it could not be
 -- read, or memory was short
 abbrev pub StopsWith : List Reading → ℕ → FilesShown → FilesShown → Stop → Type 0
-StopsWith reads place old new (Refused input refusal) = IfSome new.held (λ files.
-    first_end (file_at files) (take (place + 1) reads) ≡ Some (refuses input refusal))
-StopsWith reads place old new (Unread name) =
-    (reading : Reading) × (slice_get reads place ≡ Some reading) × (reading.name ≡ name.now)
+StopsWith reads at old new (Refused input refusal) = IfSome new.held (λ files.
+    first_end (file_at files) (take (at + 1) reads) ≡ Some (refuses input refusal))
+StopsWith reads at old new (Unread name) =
+    (reading : Reading) × (slice_get reads at ≡ Some reading) × (reading.name ≡ name.now)
     × Rose (old.read_faults name.now) (new.read_faults name.now)
-StopsWith reads place old new Memory = Unit {0}
+StopsWith reads at old new Memory = Unit {0}
 
 -- reading files stopped: those up to a place were read once each, and this is why it stopped there
 pub record StopsReading (reads : List Reading) (old new : FilesShown) (stop : Stop) : Type 0 where
@@ -47,14 +47,14 @@ pub record StopsReading (reads : List Reading) (old new : FilesShown) (stop : St
 -- why a command stopped once it had read up to a place: it is refused, by the file there or by all
 -- of them, the file there could not be read, or memory was short
 abbrev pub StopsCommandWith : Request → ℕ → FilesShown → FilesShown → Stop → Type 0
-StopsCommandWith request place old new (Refused input refusal) = IfSome new.held (λ files.
+StopsCommandWith request at old new (Refused input refusal) = IfSome new.held (λ files.
     (outcome_of (file_at files) request ≡ refuses input refusal)
-    × EndsAt request place (file_at files))
-StopsCommandWith request place old new (Unread name) =
-    (reading : Reading) × (slice_get (reads_of request) place ≡ Some reading)
+    × EndsAt request at (file_at files))
+StopsCommandWith request at old new (Unread name) =
+    (reading : Reading) × (slice_get (reads_of request) at ≡ Some reading)
     × (reading.name ≡ name.now)
     × Rose (old.read_faults name.now) (new.read_faults name.now)
-StopsCommandWith request place old new Memory = Unit {0}
+StopsCommandWith request at old new Memory = Unit {0}
 
 -- a command stopped before it wrote: the files up to a place were read once each, and this is why
 -- it stopped
@@ -107,7 +107,7 @@ abbrev pub Finishes : Writing → List ℕ → Status → Moment → Moment → 
 Finishes writing lines answer old new =
     (WroteAll old.0 new.0 writing × PutsAnswer lines status.Done answer old.1 new.1
     × MakesCalls old.0 new.0 (write_calls (written_names writing)) × MakesPuts old.1 new.1 1)
-    ⊎ ((answer ≡ status.Fault) × (place : ℕ) × (stopped : StoppedAt old.0 new.0 writing place)
+    ⊎ ((answer ≡ status.Fault) × (at : ℕ) × (stopped : StoppedAt old.0 new.0 writing at)
     × PutOrRose old.1 new.1 (writing_line stopped.write.0)
-    × MakesCalls old.0 new.0 (write_calls (take (place + 1) (written_names writing)))
+    × MakesCalls old.0 new.0 (write_calls (take (at + 1) (written_names writing)))
     × PutsFault old.1 new.1)

@@ -22,6 +22,7 @@ wanted_file w = record {
   ends = λ files bytes. option_map (denies w.given) (first_false bytes w.text.items);
 }
 
+-- given files in their order, as they are read and compared
 abbrev pub wanted_files : List Wanted → List Reading
 wanted_files ws = map wanted_file ws
 
@@ -39,8 +40,8 @@ outcome_by verdict = unwrap_or (end_of verdict) (Ends Yes [] yes_line)
 abbrev pub ReadsToFind : List Reading → Verdict → FilesShown → FilesShown → Type 0
 ReadsToFind reads Equal old new = MakesCalls old new (read_calls reads)
 ReadsToFind reads (False line) old new =
-    (place : ℕ) × ReadsUpTo reads place old new
-    × IfSome new.held (λ files. first_end (file_at files) (take (place + 1) reads)
+    (at : ℕ) × ReadsUpTo reads at old new
+    × IfSome new.held (λ files. first_end (file_at files) (take (at + 1) reads)
     ≡ Some (Ends No [] line.items))
 
 -- these bytes are the whole file, or they are its first size + more + 1 bytes where the file is

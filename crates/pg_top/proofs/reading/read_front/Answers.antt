@@ -22,3 +22,27 @@ returns-in-Err-Failed-clause-calls g c = c.read.ensures.calls
 
 pub returns-in-Err-Failed-clause-stopped : goal.returns-in-Err-Failed-clause-stopped
 returns-in-Err-Failed-clause-stopped g c = (refl, c.in-Err-Failed.ensures.failed (ap Err c.in-Err-Failed.field-0-is))
+
+pub returns-in-Ok-clause-held : goal.returns-in-Ok-clause-held
+returns-in-Ok-clause-held g c = c.read.ensures.held
+
+pub returns-in-Ok-clause-reads : goal.returns-in-Ok-clause-reads
+returns-in-Ok-clause-reads g c = c.read.ensures.reads
+
+pub returns-in-Ok-clause-writes : goal.returns-in-Ok-clause-writes
+returns-in-Ok-clause-writes g c = c.read.ensures.writes
+
+pub returns-in-Ok-clause-calls : goal.returns-in-Ok-clause-calls
+returns-in-Ok-clause-calls g c = c.read.ensures.calls
+
+pub returns-in-Err-TooLong-clause-held : goal.returns-in-Err-TooLong-clause-held
+returns-in-Err-TooLong-clause-held g c = c.read.ensures.held
+
+pub returns-in-Err-TooLong-clause-reads : goal.returns-in-Err-TooLong-clause-reads
+returns-in-Err-TooLong-clause-reads g c = c.read.ensures.reads
+
+pub returns-in-Err-TooLong-clause-writes : goal.returns-in-Err-TooLong-clause-writes
+returns-in-Err-TooLong-clause-writes g c = c.read.ensures.writes
+
+pub returns-in-Err-TooLong-clause-calls : goal.returns-in-Err-TooLong-clause-calls
+returns-in-Err-TooLong-clause-calls g c = c.read.ensures.calls

@@ -1,4 +1,4 @@
-use Rattle.std.proofs.Common.{IfSome, [], ◌∷◌}
+use Rattle.std.proofs.Common.{[], ◌∷◌}
 use Rattle.std.proofs.lemmas.Result.{err_from_is_err_and}
 use Rattle.pg_outside.specs.Content.{FilesShown}
 use Rattle.pg_outside.specs.FilesCalls.{Reads}
@@ -6,20 +6,20 @@ use Rattle.pg_words.specs.Commands.{texts_of}
 use Rattle.pg_words.specs.Requests.{FileNames}
 use Rattle.pg_top.proofs.Faults.{none_fell}
 use Rattle.pg_top.proofs.CountedCalls.{calls_on}
-use Rattle.pg_top.proofs.InputOrder.{HasTwo, HasThree, two_read, three_read, all_read, stopped_1, stopped_2, stopped_3, stopped_4}
-use Rattle.pg_top.proofs.Orders.{kept_on}
+use Rattle.pg_top.proofs.InputOrder.{two_read, all_read, stopped_1, stopped_2, stopped_lists}
+use Rattle.pg_top.proofs.Orders.{held_later, kept_on}
+use Rattle.pg_top.proofs.UnderTable.{HasTable}
 use Rattle.pg_top.proofs.reading.read_inputs.Goals as goal
 
 pub returns-clause-ok : goal.returns-clause-ok
 returns-clause-ok g c =
+    let s0 : FilesShown = g.F.Files.shown c.args.files.now in
     let s1 : FilesShown = g.F.Files.shown c.read_table.new.files in
     let s2 : FilesShown = g.F.Files.shown c.read_parameters.new.files in
-    let s3 : FilesShown = g.F.Files.shown c.read_start.new.files in
-    let s4 : FilesShown = g.F.Files.shown c.read_dictionary.new.files in
+    let s3 : FilesShown = g.F.Files.shown c.read_lists.new.files in
     let n : FileNames = texts_of c.args.names.now in
-    all_read n c.in_ok-table.table c.in_ok-params.params c.in_ok-start.start c.in_ok-dictionary.dictionary s3.held s4.held c.read_dictionary.ensures.held
-    (three_read n c.in_ok-table.table c.in_ok-params.params c.in_ok-start.start s2.held s3.held c.read_start.ensures.held
-    (two_read n c.in_ok-table.table c.in_ok-params.params s1.held s2.held c.read_parameters.ensures.held c.in_ok-table.ensures.ok c.in_ok-params.ensures.ok) c.in_ok-start.ensures.ok) c.in_ok-dictionary.ensures.ok
+    all_read n c.in_ok-table.table c.in_ok-params.params c.in_ok-start.start c.in_ok-start.dictionary s2.held s3.held c.read_lists.ensures.held
+    (two_read n c.in_ok-table.table c.in_ok-params.params s1.held s2.held c.read_parameters.ensures.held c.in_ok-table.ensures.ok c.in_ok-params.ensures.ok) c.in_ok-start.ensures.ok
 
 pub returns-in_err-table-clause-stopped : goal.returns-in_err-table-clause-stopped
 returns-in_err-table-clause-stopped g c =
@@ -40,40 +40,25 @@ returns-in_err-start-clause-stopped g c =
     let s0 : FilesShown = g.F.Files.shown c.args.files.now in
     let s1 : FilesShown = g.F.Files.shown c.read_table.new.files in
     let s2 : FilesShown = g.F.Files.shown c.read_parameters.new.files in
-    let s3 : FilesShown = g.F.Files.shown c.read_start.new.files in
+    let s3 : FilesShown = g.F.Files.shown c.read_lists.new.files in
     let n : FileNames = texts_of c.args.names.now in
-    let two : IfSome s2.held (HasTwo n c.in_ok-table.table c.in_ok-params.params) = two_read n c.in_ok-table.table c.in_ok-params.params s1.held s2.held c.read_parameters.ensures.held c.in_ok-table.ensures.ok c.in_ok-params.ensures.ok in
+    let t = c.in_ok-table.table in
     let err = err_from_is_err_and c.from_residual-in_err-start.result c.from_residual-in_err-start.ensures.1 in
-    rw (err.1, err.2) (stopped_3 n c.in_ok-table.table c.in_ok-params.params s0 s2 s3 c.in_err-start.field-0.0 (none_fell s0.read_faults s1.read_faults s2.read_faults c.read_table.ensures.reads c.read_parameters.ensures.reads) (calls_on (Reads n.translate ∷ Reads n.params ∷ []) (Reads n.patterns ∷ []) s0 s2 s3 (calls_on (Reads n.translate ∷ []) (Reads n.params ∷ []) s0 s1 s2 c.read_table.ensures.calls c.read_parameters.ensures.calls) c.read_start.ensures.calls) c.read_start.ensures.held two c.in_err-start.ensures.stopped)
-
-pub returns-in_err-dictionary-clause-stopped : goal.returns-in_err-dictionary-clause-stopped
-returns-in_err-dictionary-clause-stopped g c =
-    let s0 : FilesShown = g.F.Files.shown c.args.files.now in
-    let s1 : FilesShown = g.F.Files.shown c.read_table.new.files in
-    let s2 : FilesShown = g.F.Files.shown c.read_parameters.new.files in
-    let s3 : FilesShown = g.F.Files.shown c.read_start.new.files in
-    let s4 : FilesShown = g.F.Files.shown c.read_dictionary.new.files in
-    let n : FileNames = texts_of c.args.names.now in
-    let three : IfSome s3.held (HasThree n c.in_ok-table.table c.in_ok-params.params c.in_ok-start.start) =
-    three_read n c.in_ok-table.table c.in_ok-params.params c.in_ok-start.start s2.held s3.held c.read_start.ensures.held
-    (two_read n c.in_ok-table.table c.in_ok-params.params s1.held s2.held c.read_parameters.ensures.held c.in_ok-table.ensures.ok c.in_ok-params.ensures.ok) c.in_ok-start.ensures.ok in
-    let fell = none_fell s0.read_faults s2.read_faults s3.read_faults (none_fell s0.read_faults s1.read_faults s2.read_faults c.read_table.ensures.reads c.read_parameters.ensures.reads) c.read_start.ensures.reads in
-    let calls = calls_on (Reads n.translate ∷ Reads n.params ∷ Reads n.patterns ∷ []) (Reads n.dict ∷ []) s0 s3 s4 (calls_on (Reads n.translate ∷ Reads n.params ∷ []) (Reads n.patterns ∷ []) s0 s2 s3 (calls_on (Reads n.translate ∷ []) (Reads n.params ∷ []) s0 s1 s2 c.read_table.ensures.calls c.read_parameters.ensures.calls) c.read_start.ensures.calls) c.read_dictionary.ensures.calls in
-    let err = err_from_is_err_and c.from_residual-in_err-dictionary.result c.from_residual-in_err-dictionary.ensures.1 in
-    rw (err.1, err.2) (stopped_4 n c.in_ok-table.table c.in_ok-params.params c.in_ok-start.start s0 s3 s4 c.in_err-dictionary.field-0.0 fell calls c.read_dictionary.ensures.held three c.in_err-dictionary.ensures.stopped)
+    let table = held_later s1.held s2.held (HasTable n.translate t) c.read_parameters.ensures.held c.in_ok-table.ensures.ok in
+    rw (err.1, err.2) (stopped_lists n t c.in_ok-params.params s0 s2 s3 c.in_err-start.field-0.0 (none_fell s0.read_faults s1.read_faults s2.read_faults c.read_table.ensures.reads c.read_parameters.ensures.reads) (calls_on (Reads n.translate ∷ []) (Reads n.params ∷ []) s0 s1 s2 c.read_table.ensures.calls c.read_parameters.ensures.calls) c.read_lists.ensures.held
+    (two_read n c.in_ok-table.table c.in_ok-params.params s1.held s2.held c.read_parameters.ensures.held c.in_ok-table.ensures.ok c.in_ok-params.ensures.ok) (c.in_err-start.ensures.stopped n.translate table))
 
 pub returns-clause-counted : goal.returns-clause-counted
 returns-clause-counted g c =
-    let n : FileNames = texts_of c.args.names.now in
     let s0 : FilesShown = g.F.Files.shown c.args.files.now in
     let s1 : FilesShown = g.F.Files.shown c.read_table.new.files in
     let s2 : FilesShown = g.F.Files.shown c.read_parameters.new.files in
-    let s3 : FilesShown = g.F.Files.shown c.read_start.new.files in
-    let s4 : FilesShown = g.F.Files.shown c.read_dictionary.new.files in
-    calls_on (Reads n.translate ∷ Reads n.params ∷ Reads n.patterns ∷ []) (Reads n.dict ∷ []) s0 s3 s4 (calls_on (Reads n.translate ∷ Reads n.params ∷ []) (Reads n.patterns ∷ []) s0 s2 s3 (calls_on (Reads n.translate ∷ []) (Reads n.params ∷ []) s0 s1 s2 c.read_table.ensures.calls c.read_parameters.ensures.calls) c.read_start.ensures.calls) c.read_dictionary.ensures.calls
+    let s3 : FilesShown = g.F.Files.shown c.read_lists.new.files in
+    let n : FileNames = texts_of c.args.names.now in
+    calls_on (Reads n.translate ∷ Reads n.params ∷ []) (Reads n.patterns ∷ Reads n.dict ∷ []) s0 s2 s3 (calls_on (Reads n.translate ∷ []) (Reads n.params ∷ []) s0 s1 s2 c.read_table.ensures.calls c.read_parameters.ensures.calls) c.in_ok-start.ensures.counted
 
 pub returns-clause-signs : goal.returns-clause-signs
-returns-clause-signs g c = record { words = c.in_ok-dictionary.ensures.signs; start = c.in_ok-start.ensures.known }
+returns-clause-signs g c = record { words = c.in_ok-start.ensures.signs.1; start = c.in_ok-start.ensures.signs.0 }
 
 pub returns-in_err-table-clause-held : goal.returns-in_err-table-clause-held
 returns-in_err-table-clause-held g c = c.read_table.ensures.held
@@ -83,15 +68,6 @@ returns-in_err-table-clause-reads g c = c.read_table.ensures.reads
 
 pub returns-in_err-table-clause-writes : goal.returns-in_err-table-clause-writes
 returns-in_err-table-clause-writes g c = c.read_table.ensures.writes
-
-pub returns-in_err-table-clause-ok : goal.returns-in_err-table-clause-ok
-returns-in_err-table-clause-ok g c = rw (err_from_is_err_and c.from_residual.result c.from_residual.ensures.1).1 tt
-
-pub returns-in_err-table-clause-signs : goal.returns-in_err-table-clause-signs
-returns-in_err-table-clause-signs g c = rw (err_from_is_err_and c.from_residual.result c.from_residual.ensures.1).1 tt
-
-pub returns-in_err-table-clause-counted : goal.returns-in_err-table-clause-counted
-returns-in_err-table-clause-counted g c = rw (err_from_is_err_and c.from_residual.result c.from_residual.ensures.1).1 tt
 
 pub returns-in_err-params-clause-held : goal.returns-in_err-params-clause-held
 returns-in_err-params-clause-held g c =
@@ -114,6 +90,63 @@ returns-in_err-params-clause-writes g c =
     let s2 : FilesShown = g.F.Files.shown c.read_parameters.new.files in
     none_fell s0.write_faults s1.write_faults s2.write_faults c.read_table.ensures.writes c.read_parameters.ensures.writes
 
+pub returns-in_err-start-clause-held : goal.returns-in_err-start-clause-held
+returns-in_err-start-clause-held g c =
+    let s0 : FilesShown = g.F.Files.shown c.args.files.now in
+    let s1 : FilesShown = g.F.Files.shown c.read_table.new.files in
+    let s2 : FilesShown = g.F.Files.shown c.read_parameters.new.files in
+    let s3 : FilesShown = g.F.Files.shown c.read_lists.new.files in
+    kept_on s0.held s2.held s3.held (kept_on s0.held s1.held s2.held c.read_table.ensures.held c.read_parameters.ensures.held) c.read_lists.ensures.held
+
+pub returns-in_err-start-clause-reads : goal.returns-in_err-start-clause-reads
+returns-in_err-start-clause-reads g c =
+    let s0 : FilesShown = g.F.Files.shown c.args.files.now in
+    let s1 : FilesShown = g.F.Files.shown c.read_table.new.files in
+    let s2 : FilesShown = g.F.Files.shown c.read_parameters.new.files in
+    let s3 : FilesShown = g.F.Files.shown c.read_lists.new.files in
+    none_fell s0.read_faults s2.read_faults s3.read_faults (none_fell s0.read_faults s1.read_faults s2.read_faults c.read_table.ensures.reads c.read_parameters.ensures.reads) c.read_lists.ensures.reads
+
+pub returns-in_err-start-clause-writes : goal.returns-in_err-start-clause-writes
+returns-in_err-start-clause-writes g c =
+    let s0 : FilesShown = g.F.Files.shown c.args.files.now in
+    let s1 : FilesShown = g.F.Files.shown c.read_table.new.files in
+    let s2 : FilesShown = g.F.Files.shown c.read_parameters.new.files in
+    let s3 : FilesShown = g.F.Files.shown c.read_lists.new.files in
+    none_fell s0.write_faults s2.write_faults s3.write_faults (none_fell s0.write_faults s1.write_faults s2.write_faults c.read_table.ensures.writes c.read_parameters.ensures.writes) c.read_lists.ensures.writes
+
+pub returns-clause-held : goal.returns-clause-held
+returns-clause-held g c =
+    let s0 : FilesShown = g.F.Files.shown c.args.files.now in
+    let s1 : FilesShown = g.F.Files.shown c.read_table.new.files in
+    let s2 : FilesShown = g.F.Files.shown c.read_parameters.new.files in
+    let s3 : FilesShown = g.F.Files.shown c.read_lists.new.files in
+    kept_on s0.held s2.held s3.held (kept_on s0.held s1.held s2.held c.read_table.ensures.held c.read_parameters.ensures.held) c.read_lists.ensures.held
+
+pub returns-clause-reads : goal.returns-clause-reads
+returns-clause-reads g c =
+    let s0 : FilesShown = g.F.Files.shown c.args.files.now in
+    let s1 : FilesShown = g.F.Files.shown c.read_table.new.files in
+    let s2 : FilesShown = g.F.Files.shown c.read_parameters.new.files in
+    let s3 : FilesShown = g.F.Files.shown c.read_lists.new.files in
+    none_fell s0.read_faults s2.read_faults s3.read_faults (none_fell s0.read_faults s1.read_faults s2.read_faults c.read_table.ensures.reads c.read_parameters.ensures.reads) c.read_lists.ensures.reads
+
+pub returns-clause-writes : goal.returns-clause-writes
+returns-clause-writes g c =
+    let s0 : FilesShown = g.F.Files.shown c.args.files.now in
+    let s1 : FilesShown = g.F.Files.shown c.read_table.new.files in
+    let s2 : FilesShown = g.F.Files.shown c.read_parameters.new.files in
+    let s3 : FilesShown = g.F.Files.shown c.read_lists.new.files in
+    none_fell s0.write_faults s2.write_faults s3.write_faults (none_fell s0.write_faults s1.write_faults s2.write_faults c.read_table.ensures.writes c.read_parameters.ensures.writes) c.read_lists.ensures.writes
+
+pub returns-in_err-table-clause-ok : goal.returns-in_err-table-clause-ok
+returns-in_err-table-clause-ok g c = rw (err_from_is_err_and c.from_residual.result c.from_residual.ensures.1).1 tt
+
+pub returns-in_err-table-clause-signs : goal.returns-in_err-table-clause-signs
+returns-in_err-table-clause-signs g c = rw (err_from_is_err_and c.from_residual.result c.from_residual.ensures.1).1 tt
+
+pub returns-in_err-table-clause-counted : goal.returns-in_err-table-clause-counted
+returns-in_err-table-clause-counted g c = rw (err_from_is_err_and c.from_residual.result c.from_residual.ensures.1).1 tt
+
 pub returns-in_err-params-clause-ok : goal.returns-in_err-params-clause-ok
 returns-in_err-params-clause-ok g c = rw (err_from_is_err_and c.from_residual-in_err-params.result c.from_residual-in_err-params.ensures.1).1 tt
 
@@ -123,30 +156,6 @@ returns-in_err-params-clause-signs g c = rw (err_from_is_err_and c.from_residual
 pub returns-in_err-params-clause-counted : goal.returns-in_err-params-clause-counted
 returns-in_err-params-clause-counted g c = rw (err_from_is_err_and c.from_residual-in_err-params.result c.from_residual-in_err-params.ensures.1).1 tt
 
-pub returns-in_err-start-clause-held : goal.returns-in_err-start-clause-held
-returns-in_err-start-clause-held g c =
-    let s0 : FilesShown = g.F.Files.shown c.args.files.now in
-    let s1 : FilesShown = g.F.Files.shown c.read_table.new.files in
-    let s2 : FilesShown = g.F.Files.shown c.read_parameters.new.files in
-    let s3 : FilesShown = g.F.Files.shown c.read_start.new.files in
-    kept_on s0.held s2.held s3.held (kept_on s0.held s1.held s2.held c.read_table.ensures.held c.read_parameters.ensures.held) c.read_start.ensures.held
-
-pub returns-in_err-start-clause-reads : goal.returns-in_err-start-clause-reads
-returns-in_err-start-clause-reads g c =
-    let s0 : FilesShown = g.F.Files.shown c.args.files.now in
-    let s1 : FilesShown = g.F.Files.shown c.read_table.new.files in
-    let s2 : FilesShown = g.F.Files.shown c.read_parameters.new.files in
-    let s3 : FilesShown = g.F.Files.shown c.read_start.new.files in
-    none_fell s0.read_faults s2.read_faults s3.read_faults (none_fell s0.read_faults s1.read_faults s2.read_faults c.read_table.ensures.reads c.read_parameters.ensures.reads) c.read_start.ensures.reads
-
-pub returns-in_err-start-clause-writes : goal.returns-in_err-start-clause-writes
-returns-in_err-start-clause-writes g c =
-    let s0 : FilesShown = g.F.Files.shown c.args.files.now in
-    let s1 : FilesShown = g.F.Files.shown c.read_table.new.files in
-    let s2 : FilesShown = g.F.Files.shown c.read_parameters.new.files in
-    let s3 : FilesShown = g.F.Files.shown c.read_start.new.files in
-    none_fell s0.write_faults s2.write_faults s3.write_faults (none_fell s0.write_faults s1.write_faults s2.write_faults c.read_table.ensures.writes c.read_parameters.ensures.writes) c.read_start.ensures.writes
-
 pub returns-in_err-start-clause-ok : goal.returns-in_err-start-clause-ok
 returns-in_err-start-clause-ok g c = rw (err_from_is_err_and c.from_residual-in_err-start.result c.from_residual-in_err-start.ensures.1).1 tt
 
@@ -155,66 +164,3 @@ returns-in_err-start-clause-signs g c = rw (err_from_is_err_and c.from_residual-
 
 pub returns-in_err-start-clause-counted : goal.returns-in_err-start-clause-counted
 returns-in_err-start-clause-counted g c = rw (err_from_is_err_and c.from_residual-in_err-start.result c.from_residual-in_err-start.ensures.1).1 tt
-
-pub returns-in_err-dictionary-clause-held : goal.returns-in_err-dictionary-clause-held
-returns-in_err-dictionary-clause-held g c =
-    let s0 : FilesShown = g.F.Files.shown c.args.files.now in
-    let s1 : FilesShown = g.F.Files.shown c.read_table.new.files in
-    let s2 : FilesShown = g.F.Files.shown c.read_parameters.new.files in
-    let s3 : FilesShown = g.F.Files.shown c.read_start.new.files in
-    let s4 : FilesShown = g.F.Files.shown c.read_dictionary.new.files in
-    kept_on s0.held s3.held s4.held (kept_on s0.held s2.held s3.held (kept_on s0.held s1.held s2.held c.read_table.ensures.held c.read_parameters.ensures.held) c.read_start.ensures.held) c.read_dictionary.ensures.held
-
-pub returns-in_err-dictionary-clause-reads : goal.returns-in_err-dictionary-clause-reads
-returns-in_err-dictionary-clause-reads g c =
-    let s0 : FilesShown = g.F.Files.shown c.args.files.now in
-    let s1 : FilesShown = g.F.Files.shown c.read_table.new.files in
-    let s2 : FilesShown = g.F.Files.shown c.read_parameters.new.files in
-    let s3 : FilesShown = g.F.Files.shown c.read_start.new.files in
-    let s4 : FilesShown = g.F.Files.shown c.read_dictionary.new.files in
-    none_fell s0.read_faults s3.read_faults s4.read_faults (none_fell s0.read_faults s2.read_faults s3.read_faults (none_fell s0.read_faults s1.read_faults s2.read_faults c.read_table.ensures.reads c.read_parameters.ensures.reads) c.read_start.ensures.reads) c.read_dictionary.ensures.reads
-
-pub returns-in_err-dictionary-clause-writes : goal.returns-in_err-dictionary-clause-writes
-returns-in_err-dictionary-clause-writes g c =
-    let s0 : FilesShown = g.F.Files.shown c.args.files.now in
-    let s1 : FilesShown = g.F.Files.shown c.read_table.new.files in
-    let s2 : FilesShown = g.F.Files.shown c.read_parameters.new.files in
-    let s3 : FilesShown = g.F.Files.shown c.read_start.new.files in
-    let s4 : FilesShown = g.F.Files.shown c.read_dictionary.new.files in
-    none_fell s0.write_faults s3.write_faults s4.write_faults (none_fell s0.write_faults s2.write_faults s3.write_faults (none_fell s0.write_faults s1.write_faults s2.write_faults c.read_table.ensures.writes c.read_parameters.ensures.writes) c.read_start.ensures.writes) c.read_dictionary.ensures.writes
-
-pub returns-in_err-dictionary-clause-ok : goal.returns-in_err-dictionary-clause-ok
-returns-in_err-dictionary-clause-ok g c = rw (err_from_is_err_and c.from_residual-in_err-dictionary.result c.from_residual-in_err-dictionary.ensures.1).1 tt
-
-pub returns-in_err-dictionary-clause-signs : goal.returns-in_err-dictionary-clause-signs
-returns-in_err-dictionary-clause-signs g c = rw (err_from_is_err_and c.from_residual-in_err-dictionary.result c.from_residual-in_err-dictionary.ensures.1).1 tt
-
-pub returns-in_err-dictionary-clause-counted : goal.returns-in_err-dictionary-clause-counted
-returns-in_err-dictionary-clause-counted g c = rw (err_from_is_err_and c.from_residual-in_err-dictionary.result c.from_residual-in_err-dictionary.ensures.1).1 tt
-
-pub returns-clause-held : goal.returns-clause-held
-returns-clause-held g c =
-    let s0 : FilesShown = g.F.Files.shown c.args.files.now in
-    let s1 : FilesShown = g.F.Files.shown c.read_table.new.files in
-    let s2 : FilesShown = g.F.Files.shown c.read_parameters.new.files in
-    let s3 : FilesShown = g.F.Files.shown c.read_start.new.files in
-    let s4 : FilesShown = g.F.Files.shown c.read_dictionary.new.files in
-    kept_on s0.held s3.held s4.held (kept_on s0.held s2.held s3.held (kept_on s0.held s1.held s2.held c.read_table.ensures.held c.read_parameters.ensures.held) c.read_start.ensures.held) c.read_dictionary.ensures.held
-
-pub returns-clause-reads : goal.returns-clause-reads
-returns-clause-reads g c =
-    let s0 : FilesShown = g.F.Files.shown c.args.files.now in
-    let s1 : FilesShown = g.F.Files.shown c.read_table.new.files in
-    let s2 : FilesShown = g.F.Files.shown c.read_parameters.new.files in
-    let s3 : FilesShown = g.F.Files.shown c.read_start.new.files in
-    let s4 : FilesShown = g.F.Files.shown c.read_dictionary.new.files in
-    none_fell s0.read_faults s3.read_faults s4.read_faults (none_fell s0.read_faults s2.read_faults s3.read_faults (none_fell s0.read_faults s1.read_faults s2.read_faults c.read_table.ensures.reads c.read_parameters.ensures.reads) c.read_start.ensures.reads) c.read_dictionary.ensures.reads
-
-pub returns-clause-writes : goal.returns-clause-writes
-returns-clause-writes g c =
-    let s0 : FilesShown = g.F.Files.shown c.args.files.now in
-    let s1 : FilesShown = g.F.Files.shown c.read_table.new.files in
-    let s2 : FilesShown = g.F.Files.shown c.read_parameters.new.files in
-    let s3 : FilesShown = g.F.Files.shown c.read_start.new.files in
-    let s4 : FilesShown = g.F.Files.shown c.read_dictionary.new.files in
-    none_fell s0.write_faults s3.write_faults s4.write_faults (none_fell s0.write_faults s2.write_faults s3.write_faults (none_fell s0.write_faults s1.write_faults s2.write_faults c.read_table.ensures.writes c.read_parameters.ensures.writes) c.read_start.ensures.writes) c.read_dictionary.ensures.writes

@@ -1,4 +1,4 @@
-use Rattle.std.proofs.Common.{◌≡◌, arith}
+use Rattle.std.proofs.Common.{arith}
 use Rattle.pg_top.specs.Writings.{writing_of, written_names}
 use Rattle.pg_top.proofs.CountedCalls.{no_calls, write_more}
 use Rattle.pg_top.proofs.Faults.{none_fell}

@@ -1,0 +1,23 @@
+-- The starting patterns and the dictionary, which are read one after the other under a table.
+use Rattle.std.specs.Prelude.{◌≡◌, ℕ, List, [], ◌∷◌, Some, Ok}
+use Rattle.pg_translate.specs.Alphabets.{Alphabet}
+use Rattle.pg_dict.specs.Word.{Word}
+use Rattle.pg_dict.specs.Words.{words}
+use Rattle.pg_patterns.specs.Starts.{start}
+use Rattle.pg_select.specs.Windows.{Patterns}
+use Rattle.pg_top.specs.PackedTables.{file_under}
+use Rattle.pg_top.specs.Readings.{Held, Reading, read_as}
+use Rattle.pg_top.specs.declared.inputs.Input.TheVariants as input
+
+-- the files of these names in their order, under the table of the translate file
+abbrev pub lists_under : List ℕ → List ℕ → List ℕ → List Reading
+lists_under translate patterns dict =
+    file_under translate input.Patterns patterns start
+    ∷ file_under translate input.Dictionary dict words
+    ∷ []
+
+-- the files that are held are accepted under a table as these patterns and words
+pub record HasLists (files : Held) (t : Alphabet) (patterns dict : List ℕ)
+    (P : Patterns) (ws : List Word) : Type 0 where
+  pub start : read_as (start t) files patterns ≡ Some (Ok P)
+  pub words : read_as (words t) files dict ≡ Some (Ok ws)
