@@ -13,7 +13,7 @@ use Rattle.pg_dict.specs.declared.store.Store.{Store}
 use Rattle.pg_dict.specs.declared.store.Stored.{Stored}
 use Rattle.pg_dict.specs.Word.{Word, letter_count, IsPlainAt, IsWord, SignsAtMost}
 use Rattle.pg_dict.proofs.WordTests.{is_plain_at, decides, has_lengths, has_signs, has_weights, has_plain, is_word}
-use Rattle.pg_dict.specs.Inside.Store.{columns_of, word_at, stored_words, all_signs, is_sign_up_to, IsDictionary}
+use Rattle.pg_dict.specs.Inside.Store.{columns_of, word_at, stored_words, all_signs, lies_within, is_sign_up_to, IsSound, IsDictionary}
 
 -- a number that passes the tests of all elements
 pub all_at_most : (n : ℕ) (xs : List ℕ) → list_all (λ x. nat_le x n) xs ≡ true → All (λ x. x ≤ n) xs
@@ -131,11 +131,17 @@ word_in ws i w each at =
     let here : slice_index_or ws i w ≡ w = get_or_from_slice_get ws i w w at in
     subst IsWord here (each i w (slice_get_within ws i w at))
 
--- the word that is lent
-pub word_lent : (s : Store) (now : List Word) (i : ℕ) (w : Stored) (signs : List ℕ) (hyphens : List Bool) (weights : List ℕ) (cares : List Bool) → IsDictionary s → stored_words s ≡ now → i < length now → w ≡ slice_index_or s.words.items i w → signs ≡ s.signs.items → hyphens ≡ s.hyphens.items → weights ≡ s.weights.items → cares ≡ s.cares.items
-    → IsWord (record { signs = slice_range signs w.start w.end; hyphens = slice_range hyphens w.start w.end; weights = slice_range weights w.start w.end; cares = slice_range cares w.start w.end; weight = w.weight })
-word_lent s now i w signs hyphens weights cares is view inside at is_signs is_hyphens is_weights is_cares =
+-- the word with a number, as it lies in the store
+pub word_stored : (s : Store) (now : List Word) (i : ℕ) (w : Stored) → stored_words s ≡ now → i < length now → w ≡ slice_index_or s.words.items i w → slice_get now i ≡ Some (word_at (columns_of s) w)
+word_stored s now i w view inside at =
     let size : length now ≡ length s.words.items = ap (λ (ws : List Word). length ws) (sym view) ∙ length-map s.words.items (word_at (columns_of s)) in
     let stored : slice_get s.words.items i ≡ Some w = slice_get_read s.words.items (length s.words.items) i w refl (omega arith) at in
-    let word : slice_get (stored_words s) i ≡ Some (word_at (columns_of s) w) = slice_get-map (word_at (columns_of s)) s.words.items i ∙ ap (option_map (word_at (columns_of s))) stored in
-    rw (is_signs, is_hyphens, is_weights, is_cares) (word_in (stored_words s) i (word_at (columns_of s) w) is.sound.words word)
+    subst (λ (ws : List Word). slice_get ws i ≡ Some (word_at (columns_of s) w)) view (slice_get-map (word_at (columns_of s)) s.words.items i ∙ ap (option_map (word_at (columns_of s))) stored)
+
+-- it lies within the columns
+pub word_within : (s : Store) (now : List Word) (i : ℕ) (w : Stored) → IsSound s → stored_words s ≡ now → i < length now → w ≡ slice_index_or s.words.items i w → (w.start ≤ w.end) × (w.end ≤ length s.signs.items)
+word_within s now i w sound view inside at =
+    let size : length now ≡ length s.words.items = ap (λ (ws : List Word). length ws) (sym view) ∙ length-map s.words.items (word_at (columns_of s)) in
+    let pass : lies_within (length s.signs.items) w ≡ true = subst (λ (x : Stored). lies_within (length s.signs.items) x ≡ true) (sym at) (AllPass-from_list_all (lies_within (length s.signs.items)) s.words.items sound.within i w (omega arith)) in
+    let parts = and_parts (nat_le w.start w.end) (nat_le w.end (length s.signs.items)) pass in
+    (leb-true w.start w.end parts.0, leb-true w.end (length s.signs.items) parts.1)

@@ -87,13 +87,7 @@ impl Dictionary {
         ensures word { IsWord (lent_word result) }
     {
         let word = self.store.words[i];
-        WordRef {
-            signs: &self.store.signs[word.start..word.end],
-            hyphens: &self.store.hyphens[word.start..word.end],
-            weights: &self.store.weights[word.start..word.end],
-            weight: word.weight,
-            cares: &self.store.cares[word.start..word.end],
-        }
+        self.store.lend(word)
     }
 
     /// The signs of all words, edges included, joined in the order of the words: one slice of the

@@ -3,6 +3,8 @@ ghost use Rattle.std.specs.Prelude.{◌≡◌, ◌<◌, ◌≤◌, ◌+◌, ◌-
 ghost use Rattle.pg_dict.specs.Inside.ReadColumns.{columns_behind};
 ghost use Rattle.pg_dict.specs.Inside.Store.{columns_of, IsFit};
 ghost use Rattle.pg_types.specs.Reading.{Gives};
+ghost use Rattle.pg_types.specs.declared.limits.TheConstants.{WEIGHT_MAX};
+ghost use Rattle.pg_types.specs.declared.marks.Mark.TheVariants.{Nothing};
 ghost use Rattle.pg_translate.specs.Alphabets.{letters_of};
 ghost use Rattle.pg_dict.specs.Inside.Steps.{IsStep, AddsSigns};
 
@@ -21,6 +23,23 @@ pub(crate) struct At<'a> {
     pub room: usize,
     /// The rest of the line.
     pub rest: &'a [u8],
+}
+
+impl<'a> At<'a> {
+    /// Right behind the first letter of a word of this weight.
+    fn behind_the_first(weight: Weight, rest: &'a [u8]) -> At<'a>
+        requires { weight ≤ WEIGHT_MAX }
+        ensures mark { result.position.mark ≡ Nothing }
+        ensures weight { result.position.weight ≡ weight }
+        ensures room { result.room ≡ WORD_LETTERS_MAX - 1 }
+        ensures rest { result.rest.now ≡ rest.now }
+    {
+        At {
+            position: Position::plain(weight),
+            room: WORD_LETTERS_MAX - 1,
+            rest,
+        }
+    }
 }
 
 impl Line<'_> {
@@ -90,11 +109,7 @@ impl Line<'_> {
             (length store.new.signs.items ≤ n + WORD_LETTERS_MAX)
             × (length store.new.signs.items ≤ n + length rest.now + 1)) }
     {
-        let mut at = At {
-            position: Position::plain(self.weight),
-            room: WORD_LETTERS_MAX - 1,
-            rest,
-        };
+        let mut at = At::behind_the_first(self.weight, rest);
         'items: while let Some(next) = self.take(store, at)? {
             at = next;
         }

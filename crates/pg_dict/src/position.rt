@@ -1,6 +1,7 @@
 //! What stands between two letters.
 ghost use Rattle.std.specs.Prelude.{◌≡◌, ◌≤◌};
 ghost use Rattle.pg_types.specs.declared.limits.TheConstants.{WEIGHT_MAX};
+ghost use Rattle.pg_dict.specs.PositionedSigns.{sets_hyphen, keeps_care};
 
 use pg_types::{Mark, Weight};
 
@@ -48,5 +49,19 @@ impl Position {
             mark,
             weight: self.weight,
         }
+    }
+
+    /// Whether the position has a hyphen: the last mark at it is missed or found.
+    pub(crate) fn has_hyphen(self) -> bool
+        ensures { result ≡ sets_hyphen self.mark }
+    {
+        matches!(self.mark, Mark::Missed | Mark::Found)
+    }
+
+    /// Whether the position counts: the last mark at it is not don't-care.
+    pub(crate) fn counts(self) -> bool
+        ensures { result ≡ keeps_care self.mark }
+    {
+        !matches!(self.mark, Mark::DontCare)
     }
 }

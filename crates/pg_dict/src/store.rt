@@ -1,14 +1,14 @@
 //! The store: the signs of all words in one vector, and beside each sign the hyphen, weight and
 //! care of the position before it.
-ghost use Rattle.std.specs.Prelude.{◌≡◌, ◌+◌, [], ◌∷◌, ◌++◌, length, OnOk};
+ghost use Rattle.std.specs.Prelude.{◌≡◌, ◌≤◌, ◌+◌, [], ◌∷◌, ◌++◌, length, OnOk};
 ghost use Rattle.pg_dict.specs.PositionedSigns.{with_signs, no_columns, positioned_sign};
-ghost use Rattle.pg_dict.specs.Inside.Store.{columns_of, stored_words, IsSound};
+ghost use Rattle.pg_dict.specs.Inside.Store.{columns_of, word_at, stored_words, IsSound};
 ghost use Rattle.pg_dict.specs.Word.{IsWord};
 ghost use Rattle.pg_dict.specs.Inside.Lent.{lent_word};
 
 use crate::position::Position;
 use crate::word::WordRef;
-use pg_types::{Mark, Sign, Weight};
+use pg_types::{Sign, Weight};
 use std::alloc::{AllocError, Global};
 
 /// Where a word lies in the store, and its weight.
@@ -52,6 +52,22 @@ impl Store {
         }
     }
 
+    /// Lends a word that lies in the columns.
+    pub(crate) fn lend(&self, stored: Stored) -> WordRef<'_>
+        requires sound { IsSound self.now }
+        requires begins { stored.start ≤ stored.end }
+        requires ends { stored.end ≤ length self.now.signs.items }
+        ensures { lent_word result ≡ word_at (columns_of self.now) stored }
+    {
+        WordRef {
+            signs: &self.signs[stored.start..stored.end],
+            hyphens: &self.hyphens[stored.start..stored.end],
+            weights: &self.weights[stored.start..stored.end],
+            weight: stored.weight,
+            cares: &self.cares[stored.start..stored.end],
+        }
+    }
+
     /// Adds a sign, and the position before it. After an error nothing is said of the columns.
     pub(crate) fn push(&mut self, position: Position, sign: Sign) -> Result<(), AllocError>
         ensures ok { OnOk result (columns_of self.new
@@ -60,10 +76,9 @@ impl Store {
         ensures words { self.new.words.items ≡ self.old.words.items }
     {
         self.signs.push(sign)?;
-        self.hyphens
-            .push(matches!(position.mark, Mark::Missed | Mark::Found))?;
+        self.hyphens.push(position.has_hyphen())?;
         self.weights.push(position.weight)?;
-        self.cares.push(!matches!(position.mark, Mark::DontCare))?;
+        self.cares.push(position.counts())?;
         Ok(())
     }
 

@@ -1,17 +1,12 @@
 -- A pass of the trace over the open positions of its level, and what values are up to in a level of it.
-use Rattle.std.proofs.Common.{◌≡◌, ℕ, ◌≤◌, ◌<◌, ◌+◌, ◌-◌, max, nat_le, true, refl, List, [], ◌∷◌, length, map, fold, sym, ap, subst, ◌∙◌, arith}
+use Rattle.std.proofs.Common.{◌≡◌, ℕ, ◌≤◌, ◌<◌, ◌+◌, ◌-◌, max, nat_le, true, refl, List, [], ◌∷◌, map, sym, subst, ◌∙◌, arith}
 use Rattle.std.specs.List.{flat_map, list_all, range_with_len, sum_by}
 use Rattle.std.proofs.lemmas.Bool.{and_parts, and_from, leb-true, le-leb}
 use Rattle.std.proofs.lemmas.List.Folds.{list_all-append}
-use Rattle.pg_types.specs.declared.limits.TheConstants.{LENGTH_MAX, FILE_MAX}
 use Rattle.pg_types.specs.declared.parameters.LevelParams.{LevelParams}
-use Rattle.pg_types.specs.Counts.{Counts}
-use Rattle.pg_dict.specs.Word.{letter_count}
 use Rattle.pg_patterns.specs.Values.{largest}
 use Rattle.pg_select.specs.declared.pass.Pass.{Pass}
 use Rattle.pg_select.specs.Inside.LawsSteps.{IsBelow, IsUpTo}
-use Rattle.pg_select.specs.Meanings.{Meaning, after_begin_pass, with_position}
-use Rattle.pg_select.specs.CountedPositions.{counted_positions}
 use Rattle.pg_select.specs.Statuses.{is_odd}
 use Rattle.pg_select.specs.Windows.{Patterns}
 use Rattle.pg_select.proofs.LawsBounds.{next_is_below, up_to_largest, up_to_more, up_to_raised}

@@ -1,5 +1,5 @@
 //! The reader of a pattern file.
-ghost use Rattle.std.specs.Prelude.{◌≡◌, ◌+◌, ◌<◌, ◌≤◌, ◌^◌, true, length, Err, IfOk, MatchOption, MatchResult};
+ghost use Rattle.std.specs.Prelude.{◌≡◌, ◌+◌, ◌-◌, ◌<◌, ◌≤◌, ◌^◌, true, length, Err, IfOk, MatchOption, MatchResult};
 ghost use Rattle.std.specs.List.{list_all};
 ghost use Rattle.pg_types.specs.Lines.{lines};
 ghost use Rattle.pg_types.specs.Reading.{Gives};
@@ -52,6 +52,15 @@ fn read_line(table: &Table, line: u32, text: &[u8]) -> Result<LineDraft, Refusal
     Ok(draft)
 }
 
+/// The column at which `rest` begins, of a line of `size` bytes.
+fn column_of(size: usize, rest: &[u8]) -> u32
+    requires size { size ≤ FILE_MAX }
+    requires rest { length rest.now ≤ size }
+    ensures { result ≡ size - length rest.now + 1 }
+{
+    (size - rest.len() + 1) as u32
+}
+
 /// Takes the first item of `rest`, of a line of `size` bytes, into the draft, and gives what
 /// follows it; none where the line ends.
 fn take_item<'a>(
@@ -70,7 +79,7 @@ fn take_item<'a>(
         (λ r. read draft.old rest.now ≡ Err r) }
     ensures kept { IfOk result (λ _. IsDraft (letters_of table.now + 1) draft.new) }
 {
-    let column = (size - rest.len() + 1) as u32;
+    let column = column_of(size, rest);
     match table.item(Place::Patterns, rest) {
         Item::Letter(sign, after) => {
             add_sign(draft, sign, line, column)?;

@@ -28,9 +28,10 @@ pub fn decide(good: u64, bad: u64, p: &LevelParams) -> Choice
 {
     let worth = good * u64::from(p.good_wt);
     let threshold = u64::from(p.thresh);
+    let needed = threshold + bad * u64::from(p.bad_wt);
     if worth < threshold {
         Choice::Hopeless
-    } else if worth >= threshold + bad * u64::from(p.bad_wt) {
+    } else if worth >= needed {
         Choice::Chosen
     } else {
         Choice::Left

@@ -1,5 +1,6 @@
 //! Totals and their rates.
 ghost use Rattle.std.specs.Prelude.{◌≡◌, ◌++◌, ◌+◌, ◌*◌, ◌/◌, ◌<◌, OnOk};
+ghost use Rattle.pg_types.specs.Limits.{sums_limit};
 ghost use Rattle.pg_driver.specs.Sound.{IsSmall};
 ghost use Rattle.pg_texts.specs.ReportTexts.{totals_text, hundredths, rate_text, ending_text};
 
@@ -26,6 +27,15 @@ fn push_hundredths(text: &mut Vec<u8>, front: &[u8], n: u64) -> Result<(), Alloc
     push_number(text, b"", n % 10)
 }
 
+/// A share of a whole in hundredths of a percent, cut.
+fn rate(share: u64, whole: u64) -> u64
+    requires small { share < sums_limit }
+    requires some { 0 < whole }
+    ensures { result ≡ 10000 * share / whole }
+{
+    10_000 * share / whole
+}
+
 /// Appends the line of rates: the shares of the hyphens in reach in percent, cut after two digits.
 /// There is none where no hyphen is in reach.
 fn push_rates(text: &mut Vec<u8>, totals: &Totals) -> Result<(), AllocError>
@@ -37,9 +47,9 @@ fn push_rates(text: &mut Vec<u8>, totals: &Totals) -> Result<(), AllocError>
     if whole == 0 {
         return Ok(());
     }
-    push_hundredths(text, b"rate: ", 10_000 * good / whole)?;
-    push_hundredths(text, b" % good, ", 10_000 * bad / whole)?;
-    push_hundredths(text, b" % bad, ", 10_000 * missed / whole)?;
+    push_hundredths(text, b"rate: ", rate(good, whole))?;
+    push_hundredths(text, b" % good, ", rate(bad, whole))?;
+    push_hundredths(text, b" % bad, ", rate(missed, whole))?;
     text.extend_from_slice(b" % missed\n")
 }
 

@@ -173,9 +173,27 @@ fn check_marks(error: u8, missed: u8, found: u8, dont_care: u8) -> Result<(), Re
 }
 
 impl Head {
-    ghost use Rattle.std.specs.Prelude.{◌≡◌, IfOk, MatchResult, Err};
+    ghost use Rattle.std.specs.Prelude.{◌≡◌, ◌∷◌, [], IfOk, MatchResult, Err};
     ghost use Rattle.pg_translate.specs.Inside.Heads.{IsHead, IsSoundHead, head_marks};
     ghost use Rattle.pg_translate.specs.Tables as table;
+
+    /// The default minima and marks.
+    pub(crate) fn defaults() -> Head
+        ensures left { result.left ≡ DEFAULT_LEFT }
+        ensures right { result.right ≡ DEFAULT_RIGHT }
+        ensures marks { head_marks result
+            ≡ DEFAULT_ERROR ∷ DEFAULT_MISSED ∷ DEFAULT_FOUND ∷ DEFAULT_DONT_CARE ∷ [] }
+        ensures sound { IsSoundHead result }
+    {
+        Head {
+            left: DEFAULT_LEFT,
+            right: DEFAULT_RIGHT,
+            error: DEFAULT_ERROR,
+            missed: DEFAULT_MISSED,
+            found: DEFAULT_FOUND,
+            dont_care: DEFAULT_DONT_CARE,
+        }
+    }
 
     /// The minima and marks of a head, or the refusal of the first that fails. A blank means a
     /// default.

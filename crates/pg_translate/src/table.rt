@@ -1,14 +1,11 @@
 //! The table of a translate file.
-ghost use Rattle.std.specs.Prelude.{◌≡◌, IfOk};
+ghost use Rattle.std.specs.Prelude.{◌≡◌, ◌==◌, IfOk};
 ghost use Rattle.pg_translate.specs.Alphabets.{Alphabet};
 ghost use Rattle.pg_translate.specs.Inside.Sound.{IsTable, alphabet_in};
 
 pub mod laws;
 
-use crate::head::{
-    DEFAULT_DONT_CARE, DEFAULT_ERROR, DEFAULT_FOUND, DEFAULT_LEFT, DEFAULT_MISSED, DEFAULT_RIGHT,
-    Head, MINIMUM_MAX,
-};
+use crate::head::{Head, MINIMUM_MAX};
 use crate::index::Index;
 use crate::items::{Item, Place};
 use crate::reading::{read_letters, refused};
@@ -23,6 +20,14 @@ use std::marker::Model;
 pub struct Table {
     head: Head,
     index: Index,
+}
+
+/// Whether a byte of a pattern line is the edge: a dot.
+#[inline]
+fn is_edge(byte: u8) -> bool
+    ensures { result ≡ (byte == 46) }
+{
+    byte == b'.'
 }
 
 impl Model for Table {
@@ -49,14 +54,7 @@ impl Table {
     pub fn default_letters(alloc: Global) -> Result<Table, AllocError>
         ensures { IfOk result (λ table. table ≡ default_alphabet) }
     {
-        let head = Head {
-            left: DEFAULT_LEFT,
-            right: DEFAULT_RIGHT,
-            error: DEFAULT_ERROR,
-            missed: DEFAULT_MISSED,
-            found: DEFAULT_FOUND,
-            dont_care: DEFAULT_DONT_CARE,
-        };
+        let head = Head::defaults();
         let index = Index::default_letters(alloc)?;
         Ok(Table { head, index })
     }
@@ -209,7 +207,7 @@ impl Table {
                 }
             }
             Place::Patterns => {
-                if byte == b'.' {
+                if is_edge(byte) {
                     return Item::Edge(&rest[1..]);
                 }
             }

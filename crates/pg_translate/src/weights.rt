@@ -1,5 +1,5 @@
 //! Weights in braces.
-ghost use Rattle.std.specs.Prelude.{◌≡◌, ◌<◌, ◌≤◌, length, MatchOption, IfSome, Some, None};
+ghost use Rattle.std.specs.Prelude.{◌≡◌, ◌<◌, ◌≤◌, nat_lt, length, MatchOption, IfSome, Some, None};
 ghost use Rattle.pg_translate.specs.Tokens.{weight_at};
 ghost use Rattle.pg_translate.specs.Tokens as token;
 
@@ -7,6 +7,13 @@ use pg_types::{WEIGHT_MAX, Weight};
 
 /// The most digits of a weight in braces.
 const WEIGHT_DIGITS_MAX: usize = 4;
+
+/// Whether the value of a weight's digits is one: it is not 0.
+fn is_weight(value: Weight) -> bool
+    ensures { result ≡ nat_lt 0 value }
+{
+    value > 0
+}
 
 /// The weight in braces that begins `text`, with the size of its own text: a brace, one to four
 /// digits whose value is not 0, and a brace.
@@ -25,7 +32,7 @@ pub(crate) fn weight_of(text: &[u8]) -> Option<(Weight, usize)>
         value = value * 10 + (text[size] - b'0') as Weight;
         size += 1;
     }
-    if size < text.len() && text[size] == b'}' && value > 0 {
+    if size < text.len() && text[size] == b'}' && is_weight(value) {
         Some((value, size + 1))
     } else {
         None

@@ -1,5 +1,5 @@
 //! The parameters of a run, and the reader of the file that holds them.
-ghost use Rattle.std.specs.Prelude.{◌≡◌, ◌<◌, ◌≤◌, ◌+◌, ◌-◌, ◌*◌, length, map, drop, slice_get, IfOk, IfErr, OnOk, All};
+ghost use Rattle.std.specs.Prelude.{◌≡◌, ◌<◌, ◌≤◌, ◌+◌, ◌-◌, ◌*◌, nat_lt, length, map, drop, slice_get, IfOk, IfErr, OnOk, All};
 ghost use Rattle.pg_types.specs.Inside.ItemSteps.{levels_refusal};
 ghost use Rattle.pg_types.specs.Limits.{items_end};
 ghost use Rattle.pg_types.specs.Reading.{Gives, FailsBy};
@@ -93,7 +93,7 @@ impl Params {
 pub fn read_params(alloc: Global, bytes: &[u8]) -> Result<Params, ReadingError>
     ensures { Gives (λ p. p) result (parameters bytes.now) }
 {
-    if bytes.len() > FILE_MAX {
+    if is_too_long(bytes) {
         return Err(ReadingError::Refused(Refusal {
             kind: Kind::ParametersTooLong,
             line: 0,
@@ -103,13 +103,28 @@ pub fn read_params(alloc: Global, bytes: &[u8]) -> Result<Params, ReadingError>
     let mut items = Items::new(bytes);
     let start = items.small_number(1, LEVEL_MAX)?;
     let finish = items.small_number(1, LEVEL_MAX)?;
-    let levels = read_levels(alloc, &mut items, (finish + 1).saturating_sub(start))?;
+    let levels = read_levels(alloc, &mut items, levels_between(start, finish))?;
     items.end()?;
     Ok(Params {
         start,
         finish,
         levels,
     })
+}
+
+/// Whether a file has more bytes than may be read.
+fn is_too_long(bytes: &[u8]) -> bool
+    ensures { result ≡ nat_lt FILE_MAX (length bytes.now) }
+{
+    bytes.len() > FILE_MAX
+}
+
+/// How many levels are run from the first to the last.
+fn levels_between(start: u8, finish: u8) -> u8
+    requires { finish ≤ LEVEL_MAX }
+    ensures { result ≡ finish + 1 - start }
+{
+    (finish + 1).saturating_sub(start)
 }
 
 /// Reads what each of `count` levels is given.

@@ -1,10 +1,9 @@
-use Rattle.std.proofs.Common.{◌≡◌, ◌≢◌, ℕ, ◌+◌, ◌-◌, ◌<◌, ◌≤◌, [], ◌∷◌, List, Bool, true, false, Option, Some, length, drop, get_or, slice_get, inl, inr, refl, sym, ap, subst, ◌∙◌, arith}
+use Rattle.std.proofs.Common.{◌≡◌, ℕ, ◌+◌, ◌<◌, ◌≤◌, [], ◌∷◌, Bool, true, false, Some, length, drop, get_or, slice_get, inl, inr, sym, ap, ◌∙◌, arith}
 use Rattle.std.proofs.lemmas.Bool.{cases_eq, cases_lt}
 use Rattle.std.proofs.lemmas.List.{drop_more, drop_all}
 use Rattle.std.proofs.lemmas.Option.{slice_get-get_or}
 use Rattle.pg_dots.specs.Inside.Dots.{is_closed, places as places_in}
-use Rattle.pg_select.specs.declared.choice.Choice.{Choice}
-use Rattle.pg_driver.specs.Inside.OpenSigns.{ClosesBy, closed_by, open_signs}
+use Rattle.pg_driver.specs.Inside.OpenSigns.{closed_by, open_signs}
 use Rattle.pg_driver.proofs.OpenSigns.{all_shut, open_first, open_skip, open_there}
 use Rattle.pg_driver.proofs.open_passes.close_dots.Goals as goal
 use Rattle.pg_driver.proofs.open_passes.close_dots.Goals.{After-next_open-sign}

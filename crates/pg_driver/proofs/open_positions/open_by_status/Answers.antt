@@ -1,1 +1,0 @@
-use Rattle.pg_driver.proofs.open_positions.open_by_status.Goals as goal

@@ -1,6 +1,6 @@
-use Rattle.std.proofs.Common.{◌≡◌, ◌+◌, ◌-◌, ◌<◌, ◌≤◌, ℕ, List, Bool, Some, true, false, not, ◌&&◌, slice_get, drop, length, inl, inr, refl, ap, sym, subst, ◌∙◌, arith, rules}
+use Rattle.std.proofs.Common.{◌≡◌, ◌+◌, ◌-◌, ◌<◌, ◌≤◌, ℕ, List, Bool, Some, true, false, not, ◌&&◌, slice_get, drop, length, inl, inr, refl, ap, sym, ◌∙◌, arith, rules}
 use Rattle.std.specs.List.{flat_map}
-use Rattle.std.proofs.lemmas.Bool.{cases_eq, cases_lt}
+use Rattle.std.proofs.lemmas.Bool.{cases_lt}
 use Rattle.std.proofs.lemmas.Option.{slice_get_within}
 use Rattle.pg_dots.specs.Inside.Dots.{is_closed, places as places_in}
 use Rattle.pg_dict.specs.Inside.Lent.{lent_word}
@@ -9,7 +9,7 @@ use Rattle.pg_select.specs.CountedPositions.{minima_of}
 use Rattle.pg_dict.specs.Word.{Word}
 use Rattle.pg_select.specs.Sums.{marks_in, with_marks}
 use Rattle.pg_select.proofs.MarkSteps.{marks_word}
-use Rattle.pg_driver.specs.Inside.OpenSigns.{is_open_first, sign_count, start_of}
+use Rattle.pg_driver.specs.Inside.OpenSigns.{is_open_first, start_of}
 use Rattle.pg_driver.proofs.OpenFirst.{opens_before, opens_behind}
 use Rattle.pg_driver.proofs.OpenSigns.{sign_within, signs_few, start_before, start_next, start_past, start_zero}
 use Rattle.pg_driver.proofs.WordSteps.{drop_place, letters_left, signs_within}

@@ -1,6 +1,18 @@
+use Rattle.std.proofs.Common.{refl, arith}
 use Rattle.std.proofs.lemmas.Result.{err_from_is_err_and}
 use Rattle.pg_translate.proofs.Readings.{pieces_more, pieces_fail}
 use Rattle.pg_translate.proofs.reading.add_pieces.Goals as goal
+
+pub pieces-init : goal.pieces-init
+pieces-init c = record {
+  answer = refl;
+  spellings = refl;
+  sound = c.requires.sound;
+  low = omega arith;
+  high = omega arith;
+  few = omega arith;
+  room = omega arith;
+}
 
 pub returns-in_err-add_spelling-clause-answer : goal.returns-in_err-add_spelling-clause-answer
 returns-in_err-add_spelling-clause-answer c =

@@ -1,5 +1,5 @@
-use Rattle.std.proofs.Common.{◌≡◌, ◌≤◌, ◌<◌, ℕ, List, Bool, length, refl, sym, ap, subst, ◌∙◌}
-use Rattle.pg_dots.specs.Inside.Dots.{is_closed, places as places_in}
+use Rattle.std.proofs.Common.{◌≡◌, ◌<◌, ℕ, List, Bool, length, sym, ap, subst}
+use Rattle.pg_dots.specs.Inside.Dots.{is_closed}
 use Rattle.pg_select.specs.declared.choice.Choice.{Choice}
 use Rattle.pg_driver.specs.declared.counting.Counting.{Counting}
 use Rattle.pg_driver.specs.declared.counting.Counting.TheVariants.{Open}

@@ -1,5 +1,4 @@
 use Rattle.std.proofs.Common.{refl, subst, ap, ◌∙◌}
-use Rattle.pg_select.specs.CountedPositions.{CountedPosition}
 use Rattle.pg_driver.specs.declared.open_positions.OpenLevel.{OpenLevel}
 use Rattle.pg_driver.specs.Inside.Counting.{counting}
 use Rattle.pg_driver.specs.Inside.LevelCounting.{IsOpenAt, IsReady}

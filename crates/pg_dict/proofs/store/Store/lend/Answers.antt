@@ -1,0 +1,4 @@
+use Rattle.pg_dict.proofs.store.Store.lend.Goals as goal
+
+pub returns : goal.returns
+returns c = cc

@@ -1,0 +1,6 @@
+use Rattle.std.proofs.Common.{arith}
+use Rattle.std.proofs.lemmas.Grind.{common_steps}
+use Rattle.pg_texts.proofs.cells.push_layout.Goals as goal
+
+pub returns : goal.returns
+returns c = grind (arith, common_steps)
