@@ -20,6 +20,7 @@ pub mod LayoutLaws
 pub mod LinkLaws
 pub mod LinkedLists
 pub mod LinkedSteps
+pub mod LoneStore
 pub mod MoveSteps
 pub mod MovedTrie
 pub mod OneSign

@@ -179,6 +179,35 @@ pub fn is_alone(before: Sign, after: Sign) -> bool
     before == 0 && after == 0
 }
 
+// Makes `to` the first sign of the family below the parent's string.
+fn set_first<V: Copy, const FEW: usize>(cells: &mut Placed<V, FEW>, parent: usize, to: Sign)
+    requires { (q : List ℕ) × (cell_of cells.old.families q ≡ Some parent) }
+    ensures linked { (q : List ℕ) → cell_of cells.old.families q ≡ Some parent →
+        cells.new ≡ with_link cells.old q 0 to }
+    ensures kept { AreValuedFamilies cells.new }
+{
+    let member = cells.value(parent);
+    cells.set_value(
+        parent,
+        Member {
+            first: to,
+            ..member
+        },
+    );
+}
+
+// Makes `to` the sign behind that of the cell.
+fn set_next<V: Copy, const FEW: usize>(cells: &mut Placed<V, FEW>, cell: usize, to: Sign)
+    requires { (q : List ℕ) × (cell_of cells.old.families q ≡ Some cell) }
+    ensures linked { (q : List ℕ) (s : ℕ) → s ≢ 0 →
+        cell_of cells.old.families (q ++ s ∷ []) ≡ Some cell →
+        cells.new ≡ with_link cells.old q s to }
+    ensures kept { AreValuedFamilies cells.new }
+{
+    let member = cells.value(cell);
+    cells.set_value(cell, Member { next: to, ..member });
+}
+
 /// Links the sign `to` behind `s` in the family below the parent's string, as the first one for 0.
 pub fn link<V: Copy, const FEW: usize>(cells: &mut Placed<V, FEW>, parent: usize, s: Sign, to: Sign)
     requires held { AreValuedFamilies cells.old }
@@ -189,14 +218,7 @@ pub fn link<V: Copy, const FEW: usize>(cells: &mut Placed<V, FEW>, parent: usize
     ensures kept { AreValuedFamilies cells.new }
 {
     if s == 0 {
-        let member = cells.value(parent);
-        cells.set_value(
-            parent,
-            Member {
-                first: to,
-                ..member
-            },
-        );
+        set_first(cells, parent, to);
         return;
     }
     let base = cells.child(parent);
@@ -204,7 +226,6 @@ pub fn link<V: Copy, const FEW: usize>(cells: &mut Placed<V, FEW>, parent: usize
         return;
     }
     if let Some(cell) = cells.find(base, s) {
-        let member = cells.value(cell);
-        cells.set_value(cell, Member { next: to, ..member });
+        set_next(cells, cell, to);
     }
 }

@@ -21,8 +21,8 @@ pub fn give_up<V: Copy>(store: &mut Store<V>, base: usize, slots: &[Slot<Member<
         (0 < x) × (sign_at store.old (base + x) ≢ 0) }
     ensures { GivesUp store.old store.new base slots.now }
 {
-    for slot in slots {
-        store.free(base + slot.sign as usize);
+    for held in slots {
+        store.free(base + held.sign as usize);
     }
 }
 

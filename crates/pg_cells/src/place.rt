@@ -84,10 +84,9 @@ fn least_base<V: Copy>(
     let bound = store.bound(sign);
     let from = low.max(tried);
     let base = store.find_base(slots, sign, from.max(bound), room);
-    if 0 < slots.len() || bound.max(1) < low {
-        return base;
+    if slots.is_empty() && low <= bound.max(1) {
+        store.raise_bound(sign, base);
     }
-    store.raise_bound(sign, base);
     base
 }
 

@@ -1,8 +1,9 @@
 //! The list of a string that stands in a word.
-ghost use Rattle.std.specs.Prelude.{◌≡◌, ◌+◌, ◌≤◌, length};
+ghost use Rattle.std.specs.Prelude.{◌≡◌, ◌+◌, ◌≤◌, ◌&&◌, nat_le, length};
 ghost use Rattle.pg_types.specs.declared.limits.TheConstants.{WORD_LETTERS_MAX};
 ghost use Rattle.pg_trie.specs.Inside.Lists.{list_of};
 ghost use Rattle.pg_select.specs.Positions.{RaisesValues, RaisesCovers, RaisesAt, values_of, covers_of};
+ghost use Rattle.pg_select.specs.Windows.{is_within};
 ghost use Rattle.pg_hyph.specs.Inside.ListValues.{value_given, value_by, cover_by};
 ghost use Rattle.pg_hyph.specs.Inside.Walks.{by_list};
 
@@ -46,8 +47,18 @@ fn raise_at(value: u8, dot: u8, start: usize, len: usize, pass: &Pass, out: &mut
     ensures covers { RaisesAt (start + dot) (cover_by pass.now len (value, dot)) (covers_of out.old)
         (covers_of out.new) }
 {
-    let covered = pass.level <= value && pass.has_within(len, dot);
+    let covered = is_covering(value, dot, len, pass);
     out.raise(start + usize::from(dot), given(value), covered);
+}
+
+/// Whether a value or mark covers the window at its dot.
+fn is_covering(value: u8, dot: u8, len: usize, pass: &Pass) -> bool
+    requires { len ≤ WORD_LETTERS_MAX + 2 }
+    ensures { result ≡ (nat_le pass.now.level value
+        && is_within pass.now.len pass.now.dot len dot) }
+{
+    let is_high = pass.level <= value;
+    is_high && pass.has_within(len, dot)
 }
 
 /// The value itself, and 0 for a mark.

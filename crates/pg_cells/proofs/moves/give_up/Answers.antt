@@ -7,24 +7,24 @@ use Rattle.pg_cells.proofs.moves.give_up.Goals as goal
 
 pub free-requires-clause-cell : goal.free-requires-clause-cell
 free-requires-clause-cell g c =
-    let here = slot_here c.args.slots.now c.loop-slot.slot-index c.slot-item.result c.slot-item.is c.loop-slot-test.true c.requires.distinct in
-    let h = c.requires.taken c.slot-item.result.sign c.slot-item.result here.1 in omega (arith, h.0)
+    let here = slot_here c.args.slots.now c.loop-held.held-index c.held-item.result c.held-item.is c.loop-held-test.true c.requires.distinct in
+    let h = c.requires.taken c.held-item.result.sign c.held-item.result here.1 in omega (arith, h.0)
 
 pub free-requires-clause-taken : goal.free-requires-clause-taken
 free-requires-clause-taken g c z =
-    let here = slot_here c.args.slots.now c.loop-slot.slot-index c.slot-item.result c.slot-item.is c.loop-slot-test.true c.requires.distinct in
-    let h = c.requires.taken c.slot-item.result.sign c.slot-item.result here.1 in
-    h.1 (sym (c.loop-slot.invariant.others.signs (c.args.base + c.slot-item.result.sign) (outside_here c.args.base (take c.loop-slot.slot-index c.args.slots.now) c.slot-item.result.sign here.0)) ∙ z)
+    let here = slot_here c.args.slots.now c.loop-held.held-index c.held-item.result c.held-item.is c.loop-held-test.true c.requires.distinct in
+    let h = c.requires.taken c.held-item.result.sign c.held-item.result here.1 in
+    h.1 (sym (c.loop-held.invariant.others.signs (c.args.base + c.held-item.result.sign) (outside_here c.args.base (take c.loop-held.held-index c.args.slots.now) c.held-item.result.sign here.0)) ∙ z)
 
-pub loop-slot-preserved : goal.loop-slot-preserved
-loop-slot-preserved g c =
-    let here = slot_here c.args.slots.now c.loop-slot.slot-index c.slot-item.result c.slot-item.is c.loop-slot-test.true c.requires.distinct in
+pub loop-held-preserved : goal.loop-held-preserved
+loop-held-preserved g c =
+    let here = slot_here c.args.slots.now c.loop-held.held-index c.held-item.result c.held-item.is c.loop-held-test.true c.requires.distinct in
     subst (GivesUp c.args.store.now c.free.new.self c.args.base) (sym here.2)
-    (gives_more c.args.store.now c.loop-slot.store c.free.new.self c.args.base (take c.loop-slot.slot-index c.args.slots.now) c.slot-item.result here.0 c.loop-slot.invariant c.free.ensures)
+    (gives_more c.args.store.now c.loop-held.store c.free.new.self c.args.base (take c.loop-held.held-index c.args.slots.now) c.held-item.result here.0 c.loop-held.invariant c.free.ensures)
 
-pub loop-slot-init : goal.loop-slot-init
-loop-slot-init g c = gives_none c.args.store.now c.args.base
+pub loop-held-init : goal.loop-held-init
+loop-held-init g c = gives_none c.args.store.now c.args.base
 
 pub returns : goal.returns
 returns g c =
-    subst (GivesUp c.args.store.now c.loop-slot.store c.args.base) (take_all c.loop-slot.slot-index c.args.slots.now (omega arith)) c.loop-slot.invariant
+    subst (GivesUp c.args.store.now c.loop-held.store c.args.base) (take_all c.loop-held.held-index c.args.slots.now (omega arith)) c.loop-held.invariant

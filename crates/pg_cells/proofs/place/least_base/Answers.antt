@@ -17,8 +17,8 @@ raise_bound-requires-clause-none g c =
     let r = c.args.store.now in
     let base = c.find_base-base.result in
     let up : 0 < c.max-from.result = omega (arith, c.max-from.ensures, c.requires.low.0) in
-    let none : length c.args.slots.now ≡ 0 = let no = c.if-slots-gt0.false in omega arith in
-    let low : c.args.low ≤ max c.bound-bound.result 1 = let no = c.if-max-low.false in let is = c.max-else-slots-gt0.ensures in omega arith in
+    let none : length c.args.slots.now ≡ 0 = grind (arith, c.is_empty.ensures, c.if-is_empty.true) in
+    let low : c.args.low ≤ max c.bound-bound.result 1 = let yes = c.if-low-max.true in let is = c.max-then-is_empty.ensures in omega arith in
     let bounded = subst (λ from. IsLeast (fits_row r (c.args.sign ∷ signs_of c.args.slots.now)) from base) c.max.ensures c.find_base-base.ensures.least in
     let tried = least_from r c.args.sign (signs_of c.args.slots.now) c.max-from.result c.bound-bound.result base up c.bound-bound.ensures bounded in
     let least = least_tried r (c.args.sign ∷ signs_of c.args.slots.now) c.args.low c.args.tried c.requires.tried base
@@ -26,8 +26,18 @@ raise_bound-requires-clause-none g c =
     none_below r c.args.sign c.args.low c.bound-bound.result base low c.bound-bound.ensures
     (subst (λ slots. IsLeast (fits_row r (c.args.sign ∷ signs_of slots)) c.args.low base) (no_elements c.args.slots.now none) least)
 
-pub returns-clause-least : goal.returns-clause-least
-returns-clause-least g c =
+pub returns-then-low-max-clause-least : goal.returns-then-low-max-clause-least
+returns-then-low-max-clause-least g c =
+    let r = c.args.store.now in
+    let base = c.find_base-base.result in
+    let up : 0 < c.max-from.result = omega (arith, c.max-from.ensures, c.requires.low.0) in
+    let bounded = subst (λ from. IsLeast (fits_row r (c.args.sign ∷ signs_of c.args.slots.now)) from base) c.max.ensures c.find_base-base.ensures.least in
+    let tried = least_from r c.args.sign (signs_of c.args.slots.now) c.max-from.result c.bound-bound.result base up c.bound-bound.ensures bounded in
+    least_tried r (c.args.sign ∷ signs_of c.args.slots.now) c.args.low c.args.tried c.requires.tried base
+    (subst (λ from. IsLeast (fits_row r (c.args.sign ∷ signs_of c.args.slots.now)) from base) c.max-from.ensures tried)
+
+pub returns-else-is_empty-clause-least : goal.returns-else-is_empty-clause-least
+returns-else-is_empty-clause-least g c =
     let r = c.args.store.now in
     let base = c.find_base-base.result in
     let up : 0 < c.max-from.result = omega (arith, c.max-from.ensures, c.requires.low.0) in

@@ -1,8 +1,9 @@
-use Rattle.std.proofs.Common.{◌≡◌, ℕ, [], ◌∷◌, ◌++◌, Some, inr, refl, ap, sym, subst, ◌∙◌}
+use Rattle.std.proofs.Common.{◌≡◌, ℕ, [], ◌∷◌, ◌++◌, Some, inl, inr, refl, ap, sym, subst, ◌∙◌, arith}
 use Rattle.pg_types.specs.Placement.{cell_of}
 use Rattle.pg_cells.specs.ValuedFamilies.{ValuedFamilies}
 use Rattle.pg_cells.proofs.LinkLaws.{some_string}
 use Rattle.pg_trie.proofs.prune.remove_blank.Goals as goal
+use Rattle.pg_trie.proofs.prune.remove_blank.Goals.{else-number-eq0-via-then-number-eq0+else-child-eq0, else-number-eq0-via-else-number-eq0}
 
 pub returns-then-child-eq0 : goal.returns-then-child-eq0
 returns-then-child-eq0 c q e =
@@ -22,4 +23,21 @@ returns-then-child-eq0 c q e =
         values = ap (λ (h : ValuedFamilies ℕ). h.values) (c.remove.ensures.held q e);
       });
       cells = c.remove.ensures.cells q e;
+    }
+
+pub returns-else-number-eq0 : goal.returns-else-number-eq0
+returns-else-number-eq0 c q e =
+    let same : c.requires.cell.0 ≡ q = c.requires.held.apart c.requires.cell.0 q c.args.parent c.requires.cell.1.0 e in
+    let at : cell_of c.args.cells.now.families (q ++ c.args.s ∷ []) ≡ Some c.args.cell = subst (λ p. cell_of c.args.cells.now.families (p ++ c.args.s ∷ []) ≡ Some c.args.cell) same c.requires.cell.1.1 in
+    record {
+      held = c.requires.held;
+      signs = refl;
+      either = inl (
+        refl,
+        inr (inr (elim c.else-number-eq0.branch [
+          | else-number-eq0-via-then-number-eq0+else-child-eq0 w ↦ inr (w.child.ensures.some (q ++ c.args.s ∷ []) at (omega (arith, w.if-child-eq0.false)))
+          | else-number-eq0-via-else-number-eq0 w ↦ inl (c.value.result, c.value.ensures (q ++ c.args.s ∷ []) at, λ z. w.if-number-eq0.false (c.number.ensures ∙ z))
+        ])),
+      );
+      cells = λ r other. refl;
     }

@@ -5,7 +5,7 @@ use Rattle.pg_outputs.proofs.ListLaws.{list_of-zero}
 use Rattle.pg_trie.specs.declared.mark.TheConstants.{HOPELESS}
 use Rattle.pg_trie.specs.Inside.Renewed.{values_in, AreNeeded}
 use Rattle.pg_trie.proofs.Listing.{on_value}
-use Rattle.pg_trie.proofs.Renewing.{needed_value, needed_mark}
+use Rattle.pg_trie.proofs.Renewing.{mark_left, needed_value, needed_mark}
 use Rattle.pg_trie.proofs.renew.+fresh_head.Goals as goal
 
 pub returns-in_default-clause-list : goal.returns-in_default-clause-list
@@ -19,6 +19,11 @@ returns-then-value-lt-HOPELESS-clause-needed t c =
     (lt-ltb c.in-Some.value HOPELESS c.if-value-lt-HOPELESS.true) c.in_ok-rest.ensures.needed c.in_ok-rest.ensures.list c.cons.ensures.grows
     (λ i at. (c.cons.ensures.there i at).1)
     (λ lacks. (let added = c.cons.ensures.added lacks in rw e at added).1))
+
+pub returns-else-value-lt-HOPELESS-clause-list : goal.returns-else-value-lt-HOPELESS-clause-list
+returns-else-value-lt-HOPELESS-clause-list t c =
+    c.in_ok-rest.ensures.list ∙ sym (ap values_in c.in-Some.ensures.list
+    ∙ mark_left c.in-Some.value c.in-Some.dot (list_of c.args.outputs.now c.in-Some.next) (le-ltb c.in-Some.value HOPELESS c.if-value-lt-HOPELESS.false))
 
 pub returns-else-value-lt-HOPELESS-clause-needed : goal.returns-else-value-lt-HOPELESS-clause-needed
 returns-else-value-lt-HOPELESS-clause-needed t c =

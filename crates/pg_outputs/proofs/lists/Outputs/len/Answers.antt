@@ -1,8 +1,11 @@
-use Rattle.std.proofs.Common.{subst}
+use Rattle.std.proofs.Common.{subst, rules}
 use Rattle.pg_outputs.specs.Lists.{OneHeadEach}
 use Rattle.pg_outputs.specs.Inside.Records.{AreShared}
 use Rattle.pg_outputs.proofs.ListLaws.{one_head_each}
 use Rattle.pg_outputs.proofs.lists.Outputs.len.Goals as goal
+
+pub returns-clause-len : goal.returns-clause-len
+returns-clause-len c = search rules
 
 pub returns-clause-one_head : goal.returns-clause-one_head
 returns-clause-one_head c = subst OneHeadEach c.self.view_is (one_head_each _ c.self.invariant)

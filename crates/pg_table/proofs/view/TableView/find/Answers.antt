@@ -1,4 +1,4 @@
-use Rattle.std.proofs.Common.{◌≡◌, ◌+◌, ap, subst, ◌∙◌, arith}
+use Rattle.std.proofs.Common.{◌≡◌, ◌+◌, ap, subst, ◌∙◌, arith, rules}
 use Rattle.pg_table.specs.declared.head.Head.{Head}
 use Rattle.pg_table.specs.declared.cell.Cell.{Cell}
 use Rattle.pg_table.specs.Forms.{head_of, cell_at}
@@ -25,3 +25,6 @@ returns-then-cell-s-clause-within c =
     let child : c.read-cell.result.child ≡ (cell_at c.args.self.now (c.args.base + c.from.result)).child = ap (λ (x : Cell). x.child) cell in
     let head : c.read-cell.result.head ≡ (cell_at c.args.self.now (c.args.base + c.from.result)).head = ap (λ (x : Cell). x.head) cell in
     (omega (arith, sound.child, child), omega (arith, sound.head, head))
+
+pub returns-else-cell-s-clause-cell : goal.returns-else-cell-s-clause-cell
+returns-else-cell-s-clause-cell c = search rules

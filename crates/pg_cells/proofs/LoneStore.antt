@@ -1,0 +1,46 @@
+-- One free cell is a store.
+use Rattle.std.proofs.Common.{◌≡◌, ℕ, List, [], ◌∷◌, refl, get_or, zero, suc, arith, false}
+use Rattle.pg_cells.specs.declared.cell.Cell.{Cell}
+use Rattle.pg_cells.specs.Inside.Lists.{lists, row_of}
+use Rattle.pg_cells.specs.Inside.Linked.{AreLinked}
+use Rattle.pg_cells.specs.Inside.Store.{IsStore}
+use Rattle.pg_cells.proofs.BlockedLaws.{blocked_none}
+
+only_free : (i : ℕ) → ◌≡◌ {A = ℕ} (get_or (0 ∷ []) i 1) 0 → i ≡ 0
+only_free zero e = refl
+only_free (suc i) e = absurd (omega arith)
+
+all_zero : (i : ℕ) → ◌≡◌ {A = ℕ} (get_or (0 ∷ []) i 0) 0
+all_zero zero = refl
+all_zero (suc i) = refl
+
+module _ {V : Type 0} (value : V) where
+  abbrev pub free_cell : Cell V
+  free_cell = record { value = value; link = 0; next = 0; first = 0; sign = 0; is_base = false }
+
+  lone_linked : AreLinked (lists (free_cell ∷ []))
+  lone_linked = record {
+    head = refl;
+    after_ok = λ i e up. absurd (up (all_zero i));
+    after_least = λ i j e lt f. absurd (let at = only_free j f in omega arith);
+    before_ok = λ i up e. absurd (let at = only_free i e in omega arith);
+    before_most = λ i j up e lt f. absurd (let at = only_free i e in omega arith);
+    last_ok = refl;
+    last_most = λ j e. let at = only_free j e in omega arith;
+  }
+
+  pub lone_store : (lows : List ℕ) → IsStore (free_cell ∷ []) 0 0 lows 0 0 0 0
+  lone_store lows = record {
+    kept = record {
+      linked = lone_linked;
+      small = omega arith;
+      greatest = record {
+        most = λ i taken. absurd (taken (all_zero i));
+        within = omega arith;
+        used = λ up. absurd (omega arith);
+      };
+      count = refl;
+    };
+    bounds = λ sign base up below. absurd (let under = below.under_base in omega arith);
+    blocked = blocked_none (row_of (free_cell ∷ [])) 0 0 (omega arith);
+  }
