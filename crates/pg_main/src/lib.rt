@@ -98,6 +98,13 @@ pub fn words_of(alloc: Global, arguments: io::Result<Args>) -> Result<Vec<String
     }
 }
 
+/// The exit code that is this number.
+fn code_from(status: u8) -> ExitCode
+    ensures { exit_status result ≡ status }
+{
+    ExitCode::from(status)
+}
+
 /// Does what the arguments ask for, and gives the exit code.
 ///
 /// It is that of the answer of a call of `run` on all words after the program's name, 5 where there
@@ -119,7 +126,7 @@ pub fn exit_of<F: Files, O: Sink, L: Listen>(
     ensures most { exit_status result ≤ 6 }
 {
     let words = words_of(alloc, arguments);
-    ExitCode::from(status_of(alloc, words, files, out, listen))
+    code_from(status_of(alloc, words, files, out, listen))
 }
 
 /// The system's reason as it prints it; empty where it gave none, and where memory is short.

@@ -1,8 +1,11 @@
-use Rattle.std.proofs.Common.{arith}
+use Rattle.std.proofs.Common.{refl, arith}
 use Rattle.pg_sweep.specs.Sweeps.{fold_totals}
 use Rattle.pg_sweep.specs.Inside.Given.{terms}
 use Rattle.pg_sweep.proofs.Steps.{totals_step}
 use Rattle.pg_sweep.proofs.folds.totals_of_set.Goals as goal
+
+pub folds-init : goal.folds-init
+folds-init g c = record { sums = refl; small = (omega arith, omega arith, omega arith) }
 
 pub folds-preserved : goal.folds-preserved
 folds-preserved g c = record {
