@@ -94,7 +94,7 @@ const PRICE: Role = Role::Number(Range {
 });
 
 /// All commands.
-pub(crate) const COMMANDS: [Command; 7] = [
+pub(crate) const COMMANDS: &[Command] = &[
     Command {
         word: "generate",
         words: b"generate DICT PATTERNS OUT TRANSLATE PARAMS REPORT [--pattmp FILE] [--cells FILE]",
@@ -211,7 +211,7 @@ pub(crate) const COMMANDS: [Command; 7] = [
 ];
 
 /// The command of this word.
-pub(crate) fn command_of(word: &str) -> Option<Command> {
+pub(crate) fn command_of(word: &str) -> Option<&'static Command> {
     for command in COMMANDS {
         if command.word == word {
             return Some(command);

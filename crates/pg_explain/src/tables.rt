@@ -86,21 +86,37 @@ impl Head {
     }
 }
 
+/// The first cell that breaks a rule, and which.
+fn first_cell_fault(head: &Head, bytes: &[u8]) -> Option<(usize, &'static [u8])> {
+    for cell in 0..head.cells {
+        if let Some(fault) = head.cell_fault(bytes, cell) {
+            return Some((cell, fault));
+        }
+    }
+    None
+}
+
+/// The first record that breaks a rule, and which. Records are counted from 0 here.
+fn first_record_fault(head: &Head, bytes: &[u8]) -> Option<(usize, &'static [u8])> {
+    for record in 0..head.records {
+        if let Some(fault) = head.record_fault(bytes, record) {
+            return Some((record, fault));
+        }
+    }
+    None
+}
+
 /// Appends that a cell or record breaks a rule, where one does.
 fn push_parts(text: &mut Text, name: &str, bytes: &[u8], head: &Head) -> Result<(), AllocError> {
     let name = Show(name.as_bytes());
-    for cell in 0..head.cells {
-        if let Some(fault) = head.cell_fault(bytes, cell) {
-            let front = Say(b" is no packed table: its cell ");
-            return text.line(&[name, front, Count(cell), Say(b" "), Say(fault)]);
-        }
+    if let Some((cell, fault)) = first_cell_fault(head, bytes) {
+        let front = Say(b" is no packed table: its cell ");
+        return text.line(&[name, front, Count(cell), Say(b" "), Say(fault)]);
     }
-    for record in 0..head.records {
-        if let Some(fault) = head.record_fault(bytes, record) {
-            let front = Say(b" is no packed table: its record ");
-            let number = Count(record.saturating_add(1));
-            return text.line(&[name, front, number, Say(b" "), Say(fault)]);
-        }
+    if let Some((record, fault)) = first_record_fault(head, bytes) {
+        let front = Say(b" is no packed table: its record ");
+        let number = Count(record.saturating_add(1));
+        return text.line(&[name, front, number, Say(b" "), Say(fault)]);
     }
     text.line(&[name, Say(b" is no packed table")])
 }

@@ -246,39 +246,55 @@ fn name_at<'a>(command: &Command, words: &'a [String], place: usize) -> Option<F
     })
 }
 
-/// What is wrong with two places that have the same word.
+/// What is wrong with two places that have the same word, as their files are called.
+fn of_one_name<'a>(first: &'a str, second: &'a str, word: &'a str) -> Fault<'a> {
+    Fault {
+        third: word,
+        end: b", and what is written has one of its own",
+        ..of_two(first, b" and ", second, b" are one name, ")
+    }
+}
+
+/// What is wrong with two places that have this word, where one of them is the name of a file that
+/// is written.
 fn same_fault<'a>(
     command: &Command,
     words: &'a [String],
     before: usize,
     place: usize,
+    word: &'a str,
 ) -> Option<Fault<'a>> {
     let one = name_at(command, words, place)?;
     let other = name_at(command, words, before)?;
-    if !one.is_written && !other.is_written {
+    if other.is_written {
+        Some(of_one_name(other.name, one.name, word))
+    } else if one.is_written {
+        Some(of_one_name(one.name, other.name, word))
+    } else {
+        None
+    }
+}
+
+/// What is wrong with two places, where their words are equal and have to differ.
+fn fault_at<'a>(
+    command: &Command,
+    words: &'a [String],
+    before: usize,
+    place: usize,
+) -> Option<Fault<'a>> {
+    let word = words.get(place)?.as_str();
+    if words.get(before)?.as_str() != word {
         return None;
     }
-    let (first, second) = if other.is_written {
-        (other.name, one.name)
-    } else {
-        (one.name, other.name)
-    };
-    Some(Fault {
-        third: words.get(place)?.as_str(),
-        end: b", and what is written has one of its own",
-        ..of_two(first, b" and ", second, b" are one name, ")
-    })
+    same_fault(command, words, before, place, word)
 }
 
 /// What is wrong with the first word before a place that is equal to the one there and has to differ from it.
 fn same_before<'a>(command: &Command, words: &'a [String], place: usize) -> Option<Fault<'a>> {
-    let word = words.get(place)?.as_str();
-    for (before, other) in words.iter().enumerate().take(place) {
-        if other.as_str() == word {
-            let fault = same_fault(command, words, before, place);
-            if fault.is_some() {
-                return fault;
-            }
+    for before in 0..place {
+        let fault = fault_at(command, words, before, place);
+        if fault.is_some() {
+            return fault;
         }
     }
     None

@@ -25,13 +25,18 @@ fn push_form(text: &mut Text, command: &Command) -> Result<(), AllocError> {
     text.line(&[Say(b"    patgen "), Say(command.words)])
 }
 
+/// Appends the words of all commands.
+fn push_forms(text: &mut Text) -> Result<(), AllocError> {
+    for command in COMMANDS {
+        push_form(text, command)?;
+    }
+    Ok(())
+}
+
 /// Appends that a word is no command, and the words of all commands.
 fn push_no_command(text: &mut Text, word: &str, is: &'static [u8]) -> Result<(), AllocError> {
     text.line(&[Show(word.as_bytes()), Say(is)])?;
-    for command in COMMANDS {
-        push_form(text, &command)?;
-    }
-    Ok(())
+    push_forms(text)
 }
 
 /// Appends which word behind that of a command is wrong, and what is due there.
@@ -48,7 +53,7 @@ pub(crate) fn push_words(text: &mut Text, words: &[String]) -> Result<(), AllocE
         return push_no_command(text, "", b"a command is missing; the commands are");
     };
     match command_of(first.as_str()) {
-        Some(command) => push_command(text, &command, rest),
+        Some(command) => push_command(text, command, rest),
         None => push_no_command(text, first.as_str(), b" is no command; the commands are"),
     }
 }

@@ -7,7 +7,7 @@ use std::process::Abort;
 use std::test::Fail;
 
 /// The files of a run whose three passes find the one pattern that two words need.
-const INPUTS: [(&str, &[u8]); 4] = [
+const INPUTS: &[(&str, &[u8])] = &[
     ("T", b" 1 1\n a\n b\n c\n"),
     ("A", b"1 1 2 2 1 1 2"),
     ("P", b""),
@@ -18,12 +18,18 @@ const INPUTS: [(&str, &[u8]); 4] = [
 const PRINTED: &[u8] =
     b"done: 1 patterns, 2 good, 0 bad, 0 missed\nwork: 3 passes, 5 taken, top 9, 1 tails\n";
 
-/// The files.
-fn quiet_files(alloc: Global) -> Result<QuietFiles, AllocError> {
-    let mut files = QuietFiles::new(alloc);
+/// Adds the files.
+fn add_inputs(files: &mut QuietFiles) -> Result<(), AllocError> {
     for (name, bytes) in INPUTS {
         files.add(name, bytes, 0)?;
     }
+    Ok(())
+}
+
+/// The files.
+fn quiet_files(alloc: Global) -> Result<QuietFiles, AllocError> {
+    let mut files = QuietFiles::new(alloc);
+    add_inputs(&mut files)?;
     Ok(files)
 }
 
@@ -36,10 +42,15 @@ pub(crate) fn words(alloc: Global, line: &str) -> Result<Vec<String>, AllocError
     Ok(words)
 }
 
+/// Compares the bytes that were found, if any, with these.
+fn compare_bytes(rt: &impl Abort, found: Option<&[u8]>, wanted: &[u8]) {
+    assert_eq!(rt; found, Some(wanted));
+}
+
 /// Compares what the call wrote and printed.
 fn compare(rt: &impl Abort, files: &QuietFiles, out: &QuietSink) {
-    assert_eq!(rt; files.bytes("O"), Some(b"ab1\n".as_slice()));
-    assert_eq!(rt; out.bytes(), Some(PRINTED));
+    compare_bytes(rt, files.bytes("O"), b"ab1\n");
+    compare_bytes(rt, out.bytes(), PRINTED);
 }
 
 /// Does the call over these files and this sink, and compares what comes of it.
@@ -48,7 +59,7 @@ fn run_and_compare(
     alloc: Global,
     files: &mut QuietFiles,
     out: &mut QuietSink,
-) -> Result<(), AllocError> {
+) -> Result<(), Fail> {
     let words = words(alloc, "generate D P O T A R")?;
     assert_eq!(rt; run_quietly(alloc, &words, files, out), Status::Done);
     compare(rt, files, out);
@@ -59,6 +70,5 @@ fn run_and_compare(
 fn files_that_never_fail(rt: HostRuntime) -> Result<(), Fail> {
     let mut files = quiet_files(rt.alloc())?;
     let mut out = QuietSink::new(rt.alloc(), 200)?;
-    run_and_compare(&rt, rt.alloc(), &mut files, &mut out)?;
-    Ok(())
+    run_and_compare(&rt, rt.alloc(), &mut files, &mut out)
 }

@@ -12,7 +12,7 @@ use std::{fs, io};
 
 /// What the calls are given: the files of a small run, another pattern file than it writes, and a
 /// dictionary with a letter that the table lacks.
-const FILES: [(&str, &[u8]); 6] = [
+const FILES: &[(&str, &[u8])] = &[
     ("T", b" 1 1\n a\n b\n c\n"),
     ("A", b"1 1 2 2 1 1 2"),
     ("P", b""),
@@ -22,7 +22,7 @@ const FILES: [(&str, &[u8]); 6] = [
 ];
 
 /// The words of a call, and its status.
-const CALLS: [(&str, u8); 5] = [
+const CALLS: &[(&str, u8)] = &[
     ("generate D P O T A R", 0),
     ("audit D P other T A R", 1),
     ("generate D", 2),
@@ -30,12 +30,18 @@ const CALLS: [(&str, u8); 5] = [
     ("generate missing P O T A R", 4),
 ];
 
-/// The files of a call.
-fn given(alloc: Global) -> Result<MemoryFiles, AllocError> {
-    let mut files = MemoryFiles::new(alloc);
+/// Adds the files of a call.
+fn add_files(files: &mut MemoryFiles) -> Result<(), AllocError> {
     for (name, bytes) in FILES {
         files.add(name, bytes, 0)?;
     }
+    Ok(())
+}
+
+/// The files of a call.
+fn given(alloc: Global) -> Result<MemoryFiles, AllocError> {
+    let mut files = MemoryFiles::new(alloc);
+    add_files(&mut files)?;
     Ok(files)
 }
 
@@ -51,40 +57,41 @@ fn status_over<C: Clock>(
     status_of(alloc, words, files, out, &told)
 }
 
-/// The status for the words of a line.
-fn status_of_line<C: Clock>(clock: &C, alloc: Global, line: &str) -> Result<u8, AllocError> {
+/// The status for these words, or the reason why there are none.
+fn status_for<C: Clock>(
+    clock: &C,
+    alloc: Global,
+    words: Result<Vec<String>, NoWords>,
+) -> Result<u8, AllocError> {
     let mut out = MemorySink::new(alloc, 200)?;
     let mut files = given(alloc)?;
-    let words = words(alloc, line)?;
-    Ok(status_over(clock, Ok(words), &mut files, &mut out, alloc))
+    Ok(status_over(clock, words, &mut files, &mut out, alloc))
 }
 
-/// The status where there are no words.
-fn status_of_none<C: Clock>(clock: &C, alloc: Global, reason: NoWords) -> Result<u8, AllocError> {
-    let mut out = MemorySink::new(alloc, 200)?;
-    let mut files = given(alloc)?;
-    Ok(status_over(clock, Err(reason), &mut files, &mut out, alloc))
+/// The status for the words of a line.
+fn status_of_line<C: Clock>(clock: &C, alloc: Global, line: &str) -> Result<u8, AllocError> {
+    let words = words(alloc, line)?;
+    status_for(clock, alloc, Ok(words))
 }
 
 #[test]
 fn the_status_of_each_answer(rt: HostRuntime) -> Result<(), Fail> {
     for (line, status) in CALLS {
-        assert_eq!(rt; status_of_line(&rt, rt.alloc(), line)?, status);
+        assert_eq!(rt; status_of_line(&rt, rt.alloc(), line)?, *status);
     }
     Ok(())
 }
 
 #[test]
 fn the_status_where_there_are_no_words(rt: HostRuntime) -> Result<(), Fail> {
-    for (reason, status) in [(NoWords::Memory, 5), (NoWords::Unreadable, 6)] {
-        assert_eq!(rt; status_of_none(&rt, rt.alloc(), reason)?, status);
-    }
+    assert_eq!(rt; status_for(&rt, rt.alloc(), Err(NoWords::Memory))?, 5);
+    assert_eq!(rt; status_for(&rt, rt.alloc(), Err(NoWords::Unreadable))?, 6);
     Ok(())
 }
 
 /// The arguments of a program behind its name, and its status. The files are real ones: `A` has
 /// parameters, and `O` a pattern where there is to be none.
-const PROGRAMS: [(&[&[u8]], u8); 6] = [
+const PROGRAMS: &[(&[&[u8]], u8)] = &[
     (&[b"sample", b"1", b"10"], 0),
     (
         &[
@@ -121,7 +128,7 @@ fn the_status_of_the_program(rt: HostRuntime) -> Result<(), Fail> {
     fs::write(&rt, "O", b"a1b\n")?;
     for (words, status) in PROGRAMS {
         let given = Given { system: &rt, words };
-        assert!(rt; run_words(&given, io::sink(), Nowhere) == ExitCode::from(status));
+        assert!(rt; run_words(&given, io::sink(), Nowhere) == ExitCode::from(*status));
     }
     Ok(())
 }

@@ -10,7 +10,7 @@ use std::test::Fail;
 
 /// What stands on the disk: the files of a run whose three passes find the one pattern that two
 /// words need, and old files, one of them the one that the run writes.
-const FILES: [(&str, &[u8]); 7] = [
+const FILES: &[(&str, &[u8])] = &[
     ("T", b" 1 1\n a\n b\n c\n"),
     ("A", b"1 1 2 2 1 1 2"),
     ("P", b""),
@@ -28,17 +28,23 @@ const OTHERS: [&str; 6] = ["T", "A", "P", "D", "twin", "good"];
 
 /// Calls and their answers. The first writes four files: one through a link, one beside another
 /// name of the old file, and two that are not there. The second writes none.
-const CALLS: [(&str, Status); 2] = [
+const CALLS: &[(&str, Status)] = &[
     ("generate D P O T A R --pattmp M --cells C", Status::Done),
     ("audit D P good T A R", Status::No),
 ];
 
-/// A disk of these files alone. It has no link, so what files over it hold is told.
-fn plain_disk(alloc: Global) -> Result<ToldDisk, AllocError> {
-    let mut disk = ToldDisk::new(alloc);
+/// Adds these files to a disk.
+fn add_files(disk: &mut ToldDisk) -> Result<(), AllocError> {
     for (name, bytes) in FILES {
         disk.add(name, bytes, 0o644)?;
     }
+    Ok(())
+}
+
+/// A disk of these files alone. It has no link, so what files over it hold is told.
+fn plain_disk(alloc: Global) -> Result<ToldDisk, AllocError> {
+    let mut disk = ToldDisk::new(alloc);
+    add_files(&mut disk)?;
     Ok(disk)
 }
 
@@ -164,7 +170,7 @@ fn generate_and_audit(rt: HostRuntime) -> Result<(), Fail> {
     let alloc = rt.alloc();
     let before = disk(alloc)?;
     for (line, answer) in CALLS {
-        assert!(rt; goes_well(alloc, line, answer, &before)?, "{line}");
+        assert!(rt; goes_well(alloc, line, *answer, &before)?, "{line}");
     }
     Ok(())
 }

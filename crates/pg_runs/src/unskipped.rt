@@ -44,7 +44,7 @@ fn compare_passes(
     alloc: Global,
     run: &[PassRecord],
     plain: &[PassRecord],
-) -> Result<(), AllocError> {
+) -> Result<(), Fail> {
     let passes = with_candidates(alloc, plain)?;
     assert_eq!(rt; run, passes.as_slice());
     Ok(())
@@ -64,7 +64,7 @@ fn compare_counts(rt: &impl Abort, run: &Run, plain: &PlainRun) {
 }
 
 /// Compares the run of the driver with the one that skips no pass.
-fn compare(rt: &impl Abort, alloc: Global, run: &Run, plain: &PlainRun) -> Result<(), AllocError> {
+fn compare(rt: &impl Abort, alloc: Global, run: &Run, plain: &PlainRun) -> Result<(), Fail> {
     compare_levels(rt, run, plain);
     compare_counts(rt, run, plain);
     compare_passes(rt, alloc, run.passes(), plain.passes.as_slice())
@@ -76,7 +76,7 @@ fn compare_with(
     alloc: Global,
     inputs: &Inputs,
     plain: &PlainRun,
-) -> Result<(), AllocError>
+) -> Result<(), Fail>
     requires { SignsAtMost (letters_of inputs.now.table + 1) inputs.now.dictionary }
 {
     let run = packed_run(alloc, inputs)?;
@@ -88,12 +88,17 @@ fn compare_runs(rt: &impl Abort, alloc: Global, inputs: &Inputs) -> Result<(), F
     requires { SignsAtMost (letters_of inputs.now.table + 1) inputs.now.dictionary }
 {
     let plain = unskipped_run(alloc, inputs)?;
-    compare_with(rt, alloc, inputs, &plain)?;
-    Ok(())
+    compare_with(rt, alloc, inputs, &plain)
+}
+
+/// Does both runs over a list of so many words, and compares them.
+fn compare_list(rt: &impl Abort, alloc: Global, count: u32, parameters: &[u8]) -> Result<(), Fail> {
+    let inputs = read_inputs(alloc, count, parameters)?;
+    compare_runs(rt, alloc, &inputs)
 }
 
 /// How many words a list has, and the parameters.
-const RUNS: [(u32, &[u8]); 2] = [
+const RUNS: &[(u32, &[u8])] = &[
     (100_000, b"1 2 1 3 1 2 20 2 4 2 1 8"),
     (2_000, b"1 2 1 3 3 1 9 3 4 3 2 5"),
 ];
@@ -101,8 +106,7 @@ const RUNS: [(u32, &[u8]); 2] = [
 #[test]
 fn the_same_run_without_skipping(rt: HostRuntime) -> Result<(), Fail> {
     for (count, parameters) in RUNS {
-        let inputs = read_inputs(rt.alloc(), count, parameters)?;
-        compare_runs(&rt, rt.alloc(), &inputs)?;
+        compare_list(&rt, rt.alloc(), *count, parameters)?;
     }
     Ok(())
 }
