@@ -22,7 +22,8 @@ fn count_window(
     ensures signs { counts.new.signs ≡ 4 }
     ensures len { counts.new.len ≡ 2 }
     ensures room { (n : ℕ) → ((u : List ℕ) →
-        ((sums_of counts.old.counts u).0 ≤ n) × ((sums_of counts.old.counts u).1 ≤ n)) → (u : List ℕ) →
+        ((sums_of counts.old.counts u).0 ≤ n) × ((sums_of counts.old.counts u).1 ≤ n))
+        → (u : List ℕ) →
         ((sums_of counts.new.counts u).0 ≤ n + 9) × ((sums_of counts.new.counts u).1 ≤ n + 9) }
 {
     if first < 1 || 4 < first || second < 1 || 4 < second || 9 < weight {

@@ -104,7 +104,8 @@ pass_made source params known pass = record {
   pass = pass;
   params = params;
   before = known;
-  candidates = tally (counted_positions source.minima source.words pass known.patterns known.hopeless);
+  candidates = tally
+      (counted_positions source.minima source.words pass known.patterns known.hopeless);
 }
 
 -- passes that are made one after the other: each begins with what is known after the one before it

@@ -79,7 +79,8 @@ impl WordLevel {
         ensures counted { OnOk result (self.new.is_counted ≡ true) }
         ensures numbers { OnOk result
             (HaveNumbers pass (is_counted_at pass (E.meaning engine.new).counts)
-            dictionary.now (E.meaning engine.new).windows self.new.above.items windows.new.numbers.items) }
+            dictionary.now (E.meaning engine.new).windows
+            self.new.above.items windows.new.numbers.items) }
         ensures places { OnOk result (ArePlaces pass dictionary.now (E.meaning engine.new).windows
             windows.new.places.items) }
         ensures signs { (E.meaning engine.new).signs ≡ (E.meaning engine.old).signs }

@@ -89,7 +89,8 @@ pub record IsAt (source : Source) (number len : ℕ)
     (start : LevelStart) (ps : List PassTrace) (at : Point) : Type 0 where
   pub signs : at.engine.signs ≡ start.engine.signs
   pub state : state_of at.engine ≡ state_at_end start.engine.signs (state_of start.engine) ps
-  pub records : AreRecorded source start.engine.signs start.engine.families ps start.records at.records
+  pub records : AreRecorded source start.engine.signs start.engine.families ps
+      start.records at.records
   pub short : list_all (λ p. nat_le p.pass.len len) ps ≡ true
   pub tells : Tells number len at.flags ps
   pub closed : AreClosed source number ps (known_of at.engine)
