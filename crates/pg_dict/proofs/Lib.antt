@@ -12,3 +12,4 @@ pub mod Running
 pub mod WordLaws
 pub mod LineLaws
 pub mod Parts
+pub mod SiteRows

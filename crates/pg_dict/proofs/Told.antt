@@ -11,6 +11,7 @@ use Rattle.std.proofs.lemmas.Option.{slice_get-get_or, get_or_from_slice_get, sl
 use Rattle.pg_types.specs.declared.limits.TheConstants.{EDGE, FILE_MAX, WEIGHT_MAX, WORD_LETTERS_MAX}
 use Rattle.pg_dict.specs.declared.store.Store.{Store}
 use Rattle.pg_dict.specs.declared.store.Stored.{Stored}
+use Rattle.pg_dict.specs.declared.sites.Site.{Site}
 use Rattle.pg_dict.specs.Word.{Word, letter_count, IsPlainAt, IsWord, SignsAtMost}
 use Rattle.pg_dict.proofs.WordTests.{is_plain_at, decides, has_lengths, has_signs, has_weights, has_plain, is_word}
 use Rattle.pg_dict.specs.Inside.Store.{columns_of, word_at, stored_words, all_signs, lies_within, is_sign_up_to, IsSound, IsDictionary}
@@ -118,8 +119,8 @@ signs_at_most n ws pass k d within i e inside =
     leb-true _ n (and_parts _ _ (AllPass-from_list_all (is_sign_up_to n) w.signs here i e inside)).1
 
 -- so there are at most as many letters as bytes of the longest file
-pub few_letters : (s : Store) → IsDictionary s → sum_by letter_count (stored_words s) ≤ FILE_MAX
-few_letters s is =
+pub few_letters : (s : Store) (row : List Site) → IsDictionary s row → sum_by letter_count (stored_words s) ≤ FILE_MAX
+few_letters s row is =
     let sum : sum_by letter_count (stored_words s) + 2 * length (stored_words s) ≡ length (all_signs (stored_words s)) = letters_sum (stored_words s) is.sound.words in
     let signs : length s.signs.items ≡ length (all_signs (stored_words s)) = ap (λ (xs : List ℕ). length xs) is.sound.joined in
     let words : length (stored_words s) ≡ length s.words.items = length-map s.words.items (word_at (columns_of s)) in

@@ -1,5 +1,6 @@
 -- What only contracts between layers and proofs need.
 pub mod Running
+pub mod Sites
 pub mod Store
 pub mod ReadColumns
 pub mod Steps

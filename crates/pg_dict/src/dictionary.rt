@@ -1,14 +1,16 @@
 //! The dictionary.
-ghost use Rattle.std.specs.Prelude.{◌≡◌, ◌<◌, ◌≤◌, ◌+◌, length, Some, slice_get, IfOk, sum_by, All};
+ghost use Rattle.std.specs.Prelude.{◌≡◌, ◌<◌, ◌≤◌, ◌+◌, ◌*◌, length, Some, slice_get, IfOk, sum_by, All};
 ghost use Rattle.pg_types.specs.Reading.{Gives};
 ghost use Rattle.pg_translate.specs.Alphabets as alphabet;
 ghost use Rattle.pg_dict.specs.Word.{letter_count, IsWord, SignsAtMost};
 ghost use Rattle.pg_dict.specs.Words.{words};
-ghost use Rattle.pg_dict.specs.Inside.Store.{all_signs};
+ghost use Rattle.pg_dict.specs.Inside.Sites.{all_sites};
+ghost use Rattle.pg_dict.specs.Inside.Store.{all_signs, stored_words, IsSound};
 ghost use Rattle.pg_dict.specs.Inside.Lent.{lent_word};
 ghost use Rattle.pg_dict.specs.Parts.{is_in_part, part_of};
 
 use crate::entries::read_line;
+use crate::sites::{Site, sites_of};
 use crate::store::Store;
 use crate::word::WordRef;
 use pg_translate::Table;
@@ -17,13 +19,15 @@ use pg_types::{FILE_MAX, Kind, ReadingError, Refusal, Sign, next_line};
 use std::alloc::{AllocError, Global};
 use std::marker::Model;
 
-/// The words of a dictionary file, in its order. All of them lie in one store.
+/// The words of a dictionary file, in its order. All of them lie in one store, and what stands at
+/// their signs in one row.
 ///
 /// Every word has 3 to 102 signs, each at least 1, and weights of at most
 /// [`WEIGHT_MAX`](pg_types::WEIGHT_MAX). Together the words have at most 2^26 letters.
 #[derive(Drop)]
 pub struct Dictionary {
     store: Store,
+    sites: Vec<Site>,
 }
 
 impl Model for Dictionary {
@@ -36,7 +40,7 @@ impl Model for Dictionary {
 
     ghost view = { λ d. stored_words d.store };
 
-    ghost invariant = { λ d. IsDictionary d.store };
+    ghost invariant = { λ d. IsDictionary d.store d.sites.items };
 }
 
 impl Dictionary {
@@ -68,7 +72,8 @@ impl Dictionary {
             number += 1;
             rest = after;
         }
-        Ok(Dictionary { store })
+        let dictionary = with_sites(alloc, store)?;
+        Ok(dictionary)
     }
 
     /// The number of words.
@@ -98,6 +103,13 @@ impl Dictionary {
         self.store.signs.as_slice()
     }
 
+    /// What stands at each sign of all words, in the order of `all_signs`. It takes no memory.
+    pub fn all_sites(&self) -> &[Site]
+        ensures { result.now ≡ all_sites self.now }
+    {
+        self.sites.as_slice()
+    }
+
     /// The words of a fold where `inside`, else all other words, in their order. Words are counted
     /// from 0, and a fold has the words whose number leaves the remainder `fold` when it is divided
     /// by `folds`. Each word keeps its weight.
@@ -118,8 +130,18 @@ impl Dictionary {
                 store.push_word(&word)?;
             }
         }
-        Ok(Dictionary { store })
+        with_sites(alloc, store)
     }
+}
+
+/// A dictionary of the words of a store.
+fn with_sites(alloc: Global, store: Store) -> Result<Dictionary, AllocError>
+    requires sound { IsSound store }
+    requires few { length store.signs.items ≤ FILE_MAX + 2 * length store.words.items }
+    ensures { IfOk result (λ dictionary. dictionary ≡ stored_words store) }
+{
+    let sites = sites_of(alloc, &store)?;
+    Ok(Dictionary { store, sites })
 }
 
 /// Whether the word with the number `i` is in the fold where `inside`, and out of it else.

@@ -8,8 +8,10 @@ mod letters;
 mod line;
 mod line_start;
 mod position;
+mod sites;
 mod store;
 pub mod word;
 
 pub use dictionary::Dictionary;
+pub use sites::Site;
 pub use word::WordRef;

@@ -4,6 +4,8 @@ use Rattle.std.specs.List.{list_all, flat_map}
 use Rattle.pg_types.specs.declared.limits.TheConstants.{FILE_MAX}
 use Rattle.pg_dict.specs.Word.{Word, IsWord, is_weight}
 use Rattle.pg_dict.specs.PositionedSigns.{Columns}
+use Rattle.pg_dict.specs.Inside.Sites.{all_sites}
+use Rattle.pg_dict.specs.declared.sites.Site.{Site}
 use Rattle.pg_dict.specs.declared.store.Store.{Store}
 use Rattle.pg_dict.specs.declared.store.Stored.{Stored}
 
@@ -47,10 +49,12 @@ pub record IsSound (s : Store) : Type 0 where
   pub joined : s.signs.items ≡ all_signs (stored_words s)
   pub words : All IsWord (stored_words s)
 
--- a letter takes a byte of the file, and each word has two edges
-pub record IsDictionary (s : Store) : Type 0 where
+-- a letter takes a byte of the file, and each word has two edges; and the row is what stands at
+-- the signs of the words
+pub record IsDictionary (s : Store) (row : List Site) : Type 0 where
   pub sound : IsSound s
   pub few : length s.signs.items ≤ FILE_MAX + 2 * length s.words.items
+  pub sites : row ≡ all_sites (stored_words s)
 
 -- whether a number is a sign up to this
 abbrev pub is_sign_up_to : ℕ → ℕ → Bool

@@ -5,4 +5,4 @@ pub returns-clause-words : goal.returns-clause-words
 returns-clause-words c = rw (← c.self.view_is) c.self.invariant.sound.words
 
 pub returns-clause-letters : goal.returns-clause-letters
-returns-clause-letters c = rw (← c.self.view_is) (few_letters _ c.self.invariant)
+returns-clause-letters c = rw (← c.self.view_is) (few_letters _ _ c.self.invariant)

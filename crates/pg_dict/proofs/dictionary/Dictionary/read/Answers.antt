@@ -6,7 +6,7 @@ use Rattle.pg_types.specs.Reading.{Fails}
 use Rattle.pg_types.specs.Lines.{lines}
 use Rattle.pg_translate.specs.Alphabets.{letters_of}
 use Rattle.pg_dict.specs.PositionedSigns.{Columns}
-use Rattle.pg_dict.specs.Word.{Word}
+use Rattle.pg_dict.specs.Word.{Word, SignsAtMost}
 use Rattle.pg_dict.specs.Inside.Store.{stored_words, is_sign_up_to}
 use Rattle.pg_dict.proofs.Sizes.{size_of, size_of-cons, size_of-lines}
 use Rattle.pg_dict.proofs.Lines.{next_read, next_refused, words_short, starts, starts_sound, starts_fit}
@@ -49,4 +49,6 @@ lines-preserved c =
     }
 
 pub returns-clause-signs : goal.returns-clause-signs
-returns-clause-signs c = signs_at_most (letters_of c.args.table.now + 1) (stored_words c.lines.store) (ap (list_all (is_sign_up_to (letters_of c.args.table.now + 1))) (sym c.lines.invariant.sound.joined) ∙ c.lines.invariant.fit.signs)
+returns-clause-signs c =
+    subst (SignsAtMost (letters_of c.args.table.now + 1)) (sym c.in_ok-dictionary.ensures)
+    (signs_at_most (letters_of c.args.table.now + 1) (stored_words c.lines.store) (ap (list_all (is_sign_up_to (letters_of c.args.table.now + 1))) (sym c.lines.invariant.sound.joined) ∙ c.lines.invariant.fit.signs))
