@@ -30,16 +30,11 @@ use Rattle.pg_driver.specs.declared.pass_windows.TheConstants.{NOT_COUNTED}
 use Rattle.pg_driver.specs.Inside.Counting.{IsRead, counting, windows_after}
 use Rattle.pg_driver.specs.Inside.OpenLevels.{open_as}
 use Rattle.pg_driver.specs.Inside.OpenPositions.{counted_in}
-use Rattle.pg_driver.specs.Inside.PassWindows.{AreFates, ArePlaces, GetsNumber, HaveNumbers, IsNumbered, is_counted_at, uncovered_at}
+use Rattle.pg_driver.specs.Inside.PassWindows.{AreFates, GetsNumber, HaveNumbers, IsNumbered, is_counted_at, uncovered_at}
 use Rattle.pg_driver.specs.Traces.{is_chosen}
 use Rattle.pg_driver.specs.Inside.WordLevels.{bad_kept, good_kept, kept_by, was_chosen, window_of, with_kept}
-use Rattle.pg_driver.proofs.NumberSteps.{fate_there, have_more, place_more, still_have}
+use Rattle.pg_driver.proofs.NumberSteps.{fate_there, have_more, still_have}
 use Rattle.pg_driver.proofs.OpenLevels.{found_is}
-
--- what a position adds to the windows, where it counts
-pub window_counted : (ws : Windows) (counts : Counts) (pass : Pass) (P : Patterns) (H : Hopeless) (w : Word) (p : ℕ) (good : Bool) → counted_at pass P H w p ≡ Some good → windows_after ws counts (counted_positions_at pass P H w p) ≡ with_window ws counts (window w.signs p pass.len pass.dot)
-window_counted ws counts pass P H w p good is =
-    ap (λ (o : Option Bool). windows_after ws counts (option_map_or (λ (g : Bool). record { window = window w.signs p pass.len pass.dot; good = g; weight = position_weight w p } ∷ []) o [])) is
 
 -- a position of a level that counts by its status has its number
 pub numbered_by : (pass : Pass) (P : Patterns) (H : Hopeless) (words : List Word) (ws : Windows) (w : Word) (word p n : ℕ) → slice_get words word ≡ Some w → is_some (counts_as pass.level (status_at P w p)) ≡ true
@@ -83,33 +78,6 @@ above_found m w found level p mark read within is =
     let value : get_or found.values p 0 ≡ value_at m.patterns w.signs p = read.values p within in
     let same : mark ≡ status_at m.patterns w p = is ∙ ap (status (slice_index_or w.hyphens p false) (slice_index_or w.cares p true)) value in
     λ i. is_some (cond (nat_lt level (value i)) (counts_as level (same i)) None)
-
--- the places after a position
-pub place_noted : (pass : Pass) (P : Patterns) (H : Hopeless) (words : List Word) (m n : Meaning) (places more : List Place) (w : Word) (word p number : ℕ)
-    → n ≡ counting m (counted_positions_at pass P H w p) → AreNumbered n.windows n.counts → length m.counts ≤ FILE_MAX → slice_get words word ≡ Some w → GetsNumber (counted_at pass P H w p) n.windows (window w.signs p pass.len pass.dot) number
-    → more ≡ cond (nat_eq number (length places)) (places ++ record { word = word; at = p } ∷ []) places → ArePlaces pass words m.windows places → ArePlaces pass words n.windows more
-place_noted pass P H words m n places more w word p number is numbered few at gets noted are = by (counted_at pass P H w p) refl gets
-  where
-    seen : Option Bool → List CountedPosition
-    seen o = option_map_or (λ (good : Bool). record { window = window w.signs p pass.len pass.dot; good = good; weight = position_weight w p } ∷ []) o []
-
-    fit : (f x : Bool) (o : Option Bool) (good : Bool) → cond (f && x) o None ≡ Some good → f ≡ true
-    fit true x o good some = refl
-    fit false x o good some = absurd (let clash : None ≡ Some good = some in cc)
-
-    by : (o : Option Bool) → counted_at pass P H w p ≡ o → GetsNumber o n.windows (window w.signs p pass.len pass.dot) number → ArePlaces pass words n.windows more
-    by None none gets =
-        let same : n ≡ m = is ∙ ap (λ (o : Option Bool). counting m (seen o)) none in
-        let windows : n.windows ≡ m.windows = ap (λ (x : Meaning). x.windows) same in
-        let counts : n.counts ≡ m.counts = ap (λ (x : Meaning). x.counts) same in
-        let other : number ≢ length places = (let size = are.size in let all = numbered.size in omega (arith, gets, ap (λ (cs : Counts). length cs) counts, ap (λ (ws : Windows). length ws) windows)) in
-        let kept : more ≡ places = noted ∙ ap (λ (b : Bool). cond b (places ++ record { word = word; at = p } ∷ []) places) (ne_eqb number (length places) other) in
-        subst (λ (ws : Windows). ArePlaces pass words ws more) (sym windows) (subst (ArePlaces pass words m.windows) (sym kept) are)
-    by (Some good) some gets =
-        place_more pass words m.windows n.windows m.counts n.counts places more (record { word = word; at = p }) w number are numbered at
-        (fit (fits w.signs p pass.len pass.dot) (not (covered pass.level P H (window w.signs p pass.len pass.dot) pass.dot)) (counts_as pass.level (status_at P w p)) good some)
-        (ap (λ (x : Meaning). x.windows) is ∙ window_counted m.windows m.counts pass P H w p good some)
-        gets noted
 
 -- the numbers after a position
 pub number_noted : (pass : Pass) (P : Patterns) (H : Hopeless) (words : List Word) (m n : Meaning) (seen : List CountedPosition) (entries : List Place) (ns more : List ℕ) (w : Word) (word p number : ℕ)

@@ -18,6 +18,7 @@ pub mod OpenPositions
 pub mod OpenPlaces
 pub mod OpenSteps
 pub mod OpenSigns
+pub mod FlatSigns
 pub mod OpenCounted
 pub mod OpenCloses
 pub mod OpenFirst

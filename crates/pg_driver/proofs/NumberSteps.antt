@@ -1,5 +1,5 @@
 -- Steps of a pass by the numbers of its windows.
-use Rattle.std.proofs.Common.{◌≡◌, ◌≢◌, ℕ, zero, suc, ◌≤◌, ◌<◌, Bool, true, false, cond, nat_eq, ◌&&◌, T, List, [], ◌∷◌, ◌++◌, filter, length, map, slice_get, is_some, Option, Some, None, inl, inr, refl, sym, ap, subst, ◌∙◌, arith, length-append}
+use Rattle.std.proofs.Common.{◌≡◌, ◌≢◌, ℕ, zero, suc, ◌+◌, ◌≤◌, ◌<◌, Bool, true, false, cond, nat_eq, ◌&&◌, T, List, [], ◌∷◌, ◌++◌, filter, length, map, slice_get, is_some, Option, Some, None, inl, inr, refl, sym, ap, subst, ◌∙◌, arith, length-append}
 use Rattle.std.specs.List.{list_all}
 use Rattle.std.specs.Option.{option_map, option_map_or}
 use Rattle.std.specs.Ordering.{is_eq, eq_by_cmp, ordering_reverse}
@@ -17,6 +17,7 @@ use Rattle.pg_types.specs.Signs.{is_sign}
 use Rattle.pg_types.specs.Counts.{Counts, SignsWithin, counted_sums, is_counted}
 use Rattle.pg_types.specs.Numbered.{Windows, HasNumber, AreNumbered, with_window}
 use Rattle.pg_dict.specs.Word.{Word}
+use Rattle.pg_dict.specs.Inside.Store.{all_signs}
 use Rattle.pg_select.specs.declared.choice.Choice.{Choice}
 use Rattle.pg_select.specs.declared.pass.Pass.{Pass}
 use Rattle.pg_select.specs.Choices.{choice}
@@ -24,7 +25,7 @@ use Rattle.pg_select.specs.Statuses.{position_weight}
 use Rattle.pg_select.specs.Inside.LawsClosedDots.{is_good}
 use Rattle.pg_select.specs.Windows.{window, fits}
 use Rattle.pg_driver.specs.declared.pass_windows.Place.{Place}
-use Rattle.pg_driver.specs.Inside.PassWindows.{IsNumbered, HaveNumbers, AreFates, IsPlace, ArePlaces, IsPart}
+use Rattle.pg_driver.specs.Inside.PassWindows.{IsNumbered, HaveNumbers, AreFates, IsPlace, ArePlaces, IsPart, window_from}
 use Rattle.pg_select.specs.CountedPositions.{CountedPosition}
 use Rattle.pg_select.specs.Meanings.{Meaning, with_position}
 use Rattle.pg_driver.specs.Inside.Counting.{counting, windows_after}
@@ -153,41 +154,39 @@ window_in ws counts level len dot w p fit = by (fits w.signs p len dot) fit
     by false e = absurd (let wrong : false ≡ true = e in cc)
 
 -- a place more, where the window is new
-pub place_more : (pass : Pass) (words : List Word) (ws after : Windows) (counts now : Counts) (places more : List Place) (place : Place) (w : Word) (n : ℕ)
-    → ArePlaces pass words ws places → AreNumbered after now → slice_get words place.word ≡ Some w → fits w.signs place.at pass.len pass.dot ≡ true
-    → after ≡ with_window ws counts (window w.signs place.at pass.len pass.dot) → HasNumber after (window w.signs place.at pass.len pass.dot) n
-    → more ≡ cond (nat_eq n (length places)) (places ++ place ∷ []) places → ArePlaces pass words after more
-place_more pass words ws after counts now places more place w n are numbered there fit grown at is = elim (cases_Bool (is_counted counts (window w.signs place.at pass.len pass.dot))) [ inl old ↦ was old | inr new ↦ came new ]
+pub place_more : (pass : Pass) (words : List Word) (ws after : Windows) (counts now : Counts) (places more : List ℕ) (first n : ℕ)
+    → ArePlaces pass words ws places → AreNumbered after now → first + pass.len ≤ length (all_signs words)
+    → after ≡ with_window ws counts (window_from pass words first) → HasNumber after (window_from pass words first) n
+    → more ≡ cond (nat_eq n (length places)) (places ++ first ∷ []) places → ArePlaces pass words after more
+place_more pass words ws after counts now places more first n are numbered inside grown at is = elim (cases_Bool (is_counted counts (window_from pass words first))) [ inl old ↦ was old | inr new ↦ came new ]
   where
-    was : is_counted counts (window w.signs place.at pass.len pass.dot) ≡ true → ArePlaces pass words after more
+    was : is_counted counts (window_from pass words first) ≡ true → ArePlaces pass words after more
     was old =
-        let same : after ≡ ws = grown ∙ ap (λ b. cond b ws (ws ++ (window w.signs place.at pass.len pass.dot) ∷ [])) old in
-        let lt : n < length ws = slice_get_within ws n (window w.signs place.at pass.len pass.dot) (subst (λ (x : Windows). HasNumber x (window w.signs place.at pass.len pass.dot) n) same at) in
+        let same : after ≡ ws = grown ∙ ap (λ b. cond b ws (ws ++ (window_from pass words first) ∷ [])) old in
+        let lt : n < length ws = slice_get_within ws n (window_from pass words first) (subst (λ (x : Windows). HasNumber x (window_from pass words first) n) same at) in
         let other : n ≢ length places = (let size = are.size in omega arith) in
-        let kept : more ≡ places = is ∙ ap (λ b. cond b (places ++ place ∷ []) places) (ne_eqb n (length places) other) in
+        let kept : more ≡ places = is ∙ ap (λ b. cond b (places ++ first ∷ []) places) (ne_eqb n (length places) other) in
         subst (λ (x : Windows). ArePlaces pass words x more) (sym same) (subst (ArePlaces pass words ws) (sym kept) are)
 
-    came : is_counted counts (window w.signs place.at pass.len pass.dot) ≡ false → ArePlaces pass words after more
+    came : is_counted counts (window_from pass words first) ≡ false → ArePlaces pass words after more
     came new =
-        let longer : after ≡ ws ++ (window w.signs place.at pass.len pass.dot) ∷ [] = grown ∙ ap (λ b. cond b ws (ws ++ (window w.signs place.at pass.len pass.dot) ∷ [])) new in
-        let last : HasNumber after (window w.signs place.at pass.len pass.dot) (length ws) = subst (λ (x : Windows). HasNumber x (window w.signs place.at pass.len pass.dot) (length ws)) (sym longer) (get_seam ws (window w.signs place.at pass.len pass.dot) (length ws) refl) in
-        let next : n ≡ length places = (let size = are.size in let once = numbered.once (window w.signs place.at pass.len pass.dot) n (length ws) at last in omega arith) in
-        let added : more ≡ places ++ place ∷ [] = is ∙ ap (λ b. cond b (places ++ place ∷ []) places) (eq-eqb n (length places) next) in
+        let longer : after ≡ ws ++ (window_from pass words first) ∷ [] = grown ∙ ap (λ b. cond b ws (ws ++ (window_from pass words first) ∷ [])) new in
+        let last : HasNumber after (window_from pass words first) (length ws) = subst (λ (x : Windows). HasNumber x (window_from pass words first) (length ws)) (sym longer) (get_seam ws (window_from pass words first) (length ws) refl) in
+        let next : n ≡ length places = (let size = are.size in let once = numbered.once (window_from pass words first) n (length ws) at last in omega arith) in
+        let added : more ≡ places ++ first ∷ [] = is ∙ ap (λ b. cond b (places ++ first ∷ []) places) (eq-eqb n (length places) next) in
         subst (ArePlaces pass words after) (sym added) (record {
-          size = (let size = are.size in omega (arith, length-append places (place ∷ []), ap length longer, length-append ws ((window w.signs place.at pass.len pass.dot) ∷ [])));
+          size = (let size = are.size in omega (arith, length-append places (first ∷ []), ap length longer, length-append ws ((window_from pass words first) ∷ [])));
           each = λ k q e. elim (cases_lt k (length places)) [
             | inl lt ↦
-                let old = are.each k q (get_back places place k q lt e) in
+                let old = are.each k q (get_back places first k q lt e) in
                 record {
-                  word = old.word;
-                  there = old.there;
-                  fit = old.fit;
-                  number = subst (λ (x : Windows). HasNumber x (window old.word.signs q.at pass.len pass.dot) k) (sym longer) (get_left ws ((window w.signs place.at pass.len pass.dot) ∷ []) k (window old.word.signs q.at pass.len pass.dot) old.number);
+                  within = old.within;
+                  number = subst (λ (x : Windows). HasNumber x (window_from pass words q) k) (sym longer) (get_left ws ((window_from pass words first) ∷ []) k (window_from pass words q) old.number);
                 }
             | inr le ↦
-                let here = get_last places place k q e (λ lt. omega arith) in
-                let number : HasNumber after (window w.signs place.at pass.len pass.dot) k = (let p = here.1 in let size = are.size in subst (HasNumber after (window w.signs place.at pass.len pass.dot)) (let z : length ws ≡ k = omega arith in z) last) in
-                subst (λ (p : Place). IsPlace pass words after k p) (sym here.0) (record { word = w; there = there; fit = fit; number = number })
+                let here = get_last places first k q e (λ lt. omega arith) in
+                let number : HasNumber after (window_from pass words first) k = (let p = here.1 in let size = are.size in subst (HasNumber after (window_from pass words first)) (let z : length ws ≡ k = omega arith in z) last) in
+                subst (IsPlace pass words after k) (sym here.0) (record { within = inside; number = number })
           ];
         })
 

@@ -11,7 +11,7 @@ ghost use Rattle.pg_driver.specs.Inside.Counting.{HasRoom};
 ghost use Rattle.pg_types.specs.Limits.{sums_limit};
 ghost use Rattle.pg_driver.specs.Inside.Choosing.{with_candidates, no_choices, candidate_of, HasChosen};
 
-use crate::pass_windows::{Place, go_to};
+use crate::pass_windows::go_to;
 use pg_dict::Dictionary;
 use pg_select::{Choice, Engine, Pass};
 use pg_types::{Cursor, LevelParams};
@@ -84,14 +84,14 @@ fn choose_one<E: Engine>(
     params: &LevelParams,
     pass: Pass,
     number: u32,
-    place: Place,
+    first: u32,
     fate: Choice,
     at: &mut Cursor,
     choices: &mut Choices,
 ) -> Result<(), AllocError>
     requires ranges { IsPass pass }
     requires level { IsLevel params.now }
-    requires place { IsPlace pass dictionary.now (E.meaning engine.old).windows number place }
+    requires place { IsPlace pass dictionary.now (E.meaning engine.old).windows number first }
     requires fate { (u : List ℕ) (sums : ℕ × ℕ) → IsCandidate (E.meaning engine.old) number u sums
         → fate ≡ choice params.now sums.0 sums.1 }
     requires sums { (u : List ℕ) (sums : ℕ × ℕ) → IsCandidate (E.meaning engine.old) number u sums
@@ -114,7 +114,7 @@ fn choose_one<E: Engine>(
         return Ok(());
     }
     let (good, bad) = engine.sums_of(number);
-    go_to(engine, dictionary, pass, number, place, at);
+    go_to(engine, dictionary, pass, number, first, at);
     choose_at(engine, params, at, good, bad, fate, choices)
 }
 
@@ -125,7 +125,7 @@ pub fn choose_all<E: Engine>(
     dictionary: &Dictionary,
     params: &LevelParams,
     pass: Pass,
-    places: &[Place],
+    places: &[u32],
     fates: &[Choice],
     order: &[u32],
 ) -> Result<Choices, AllocError>
@@ -156,7 +156,7 @@ pub fn choose_all<E: Engine>(
     };
     'candidates: for number in order {
         let n = *number;
-        let place = places[n as usize];
+        let first = places[n as usize];
         let fate = fates[n as usize];
         choose_one(
             engine,
@@ -164,7 +164,7 @@ pub fn choose_all<E: Engine>(
             params,
             pass,
             n,
-            place,
+            first,
             fate,
             &mut at,
             &mut choices,

@@ -68,18 +68,21 @@ fn count_at<E: Engine>(
 }
 
 /// Counts the window at a position at which the dot of the pass is open, where it fits in the word,
-/// and gives its number. Where it is counted for the first time, its place is noted.
+/// and gives its number. Where it is counted for the first time, its place is noted. The signs of
+/// the position's word begin at `start`.
 fn count_position<E: Engine>(
     engine: &mut E,
     dictionary: &Dictionary,
     pass: Pass,
     position: Place,
-    places: &mut Vec<Place>,
+    start: usize,
+    places: &mut Vec<u32>,
 ) -> Result<u32, AllocError>
     requires ranges { IsPass pass }
     requires pass { (E.meaning engine.old).pass ≡ pass }
     requires signs { SignsAtMost (E.meaning engine.old).signs dictionary.now }
     requires placed { IsPlaced dictionary.now position }
+    requires start { start ≡ start_of dictionary.now position.word }
     requires room { HasRoom (E.meaning engine.old).counts 1 }
     requires places { ArePlaces pass dictionary.now
         (E.meaning engine.old).windows places.old.items }
@@ -94,13 +97,15 @@ fn count_position<E: Engine>(
         places.new.items) }
     ensures signs { (E.meaning engine.new).signs ≡ (E.meaning engine.old).signs }
 {
+    let _words = dictionary.len();
     let w = dictionary.word(position.word as usize);
     let p = usize::from(position.at);
     match count_at(engine, pass, &w, p)? {
         None => Ok(NOT_COUNTED),
         Some(number) => {
             engine.kept();
-            note_place(places, number, position)?;
+            let first = start + p - usize::from(pass.dot);
+            note_place(places, number, first as u32)?;
             Ok(number)
         }
     }
@@ -113,7 +118,7 @@ pub fn count_open<E: Engine>(
     dictionary: &Dictionary,
     pass: Pass,
     dots: &OpenDots,
-    places: &mut Vec<Place>,
+    places: &mut Vec<u32>,
     numbers: &mut Vec<u32>,
 ) -> Result<(), AllocError>
     requires ranges { IsPass pass }
@@ -145,7 +150,7 @@ pub fn count_open<E: Engine>(
     'signs: while next < end {
         at = go_on(dictionary, at, next);
         let position = position_at(dictionary, at, next);
-        let number = count_position(engine, dictionary, pass, position, places)?;
+        let number = count_position(engine, dictionary, pass, position, at.start, places)?;
         numbers.push(number)?;
         next = dots.next_open(pass.dot, next + 1);
     }
@@ -161,6 +166,7 @@ fn position_at(dictionary: &Dictionary, at: WordStart, sign: usize) -> Place
         → sign < at.start + length w.signs }
     ensures position { result ≡ place_from 0 dictionary.now sign }
     ensures placed { IsPlaced dictionary.now result }
+    ensures word { result.word ≡ at.word }
 {
     let _words = dictionary.len();
     let _w = dictionary.word(at.word);

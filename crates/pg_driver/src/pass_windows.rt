@@ -30,8 +30,9 @@ pub struct Place {
 /// What a pass keeps of its windows. The memory stays from pass to pass.
 #[derive(Drop)]
 pub struct PassWindows {
-    /// Where each window was first counted, by its number.
-    pub places: Vec<Place>,
+    /// Where each window was first counted, by its number: the number of its first sign among the
+    /// signs of all words.
+    pub places: Vec<u32>,
     /// The number of the window of each position that is kept, in the order of these positions.
     pub numbers: Vec<u32>,
     /// The numbers in the order of signs.
@@ -90,14 +91,14 @@ impl PassWindows {
     }
 }
 
-/// Notes the place of a window where its number is the next one.
-pub fn note_place(places: &mut Vec<Place>, number: u32, place: Place) -> Result<(), AllocError>
+/// Notes the first sign of a window where its number is the next one.
+pub fn note_place(places: &mut Vec<u32>, number: u32, first: u32) -> Result<(), AllocError>
     ensures { OnOk result (places.new.items
-        ≡ (if number == length places.old.items then places.old.items ++ place ∷ []
+        ≡ (if number == length places.old.items then places.old.items ++ first ∷ []
         else places.old.items)) }
 {
     if number as usize == places.len() {
-        places.push(place)?;
+        places.push(first)?;
     }
     Ok(())
 }
@@ -139,21 +140,21 @@ fn decide_one<E: Engine>(engine: &E, params: &LevelParams, number: u32) -> Choic
     decide(good, bad, params)
 }
 
-/// Moves the cursor to the window at a place.
+/// Moves the cursor to the window of a pass that begins at a sign.
 pub fn go_to<E: Engine>(
     engine: &E,
     dictionary: &Dictionary,
     pass: Pass,
     number: u32,
-    place: Place,
+    first: u32,
     at: &mut Cursor,
 )
     requires ranges { IsPass pass }
-    requires place { IsPlace pass dictionary.now (E.meaning engine.now).windows number place }
+    requires place { IsPlace pass dictionary.now (E.meaning engine.now).windows number first }
     ensures { HasNumber (E.meaning engine.now).windows at.new number }
 {
     engine.kept();
-    let w = dictionary.word(place.word as usize);
-    let from = usize::from(place.at) - usize::from(pass.dot);
-    at.set(&w.signs[from..from + usize::from(pass.len)]);
+    let signs = dictionary.all_signs();
+    let from = first as usize;
+    at.set(&signs[from..from + usize::from(pass.len)]);
 }

@@ -1,7 +1,7 @@
 //! The walk over the words in a pass that hyphenates each of them.
-ghost use Rattle.std.specs.Prelude.{◌≡◌, ◌≤◌, ◌<◌, ◌+◌, ◌*◌, ◌++◌, ◌&&◌, [], not, false, if◌then◌else◌, None, Some, List, length, slice_get, slice_index_or, IfOk, OnOk, OnErr};
+ghost use Rattle.std.specs.Prelude.{◌≡◌, ◌≤◌, ◌<◌, ◌+◌, ◌*◌, ◌++◌, ◌&&◌, [], not, false, if◌then◌else◌, None, Some, ℕ, List, length, slice_get, slice_index_or, IfOk, OnOk};
 ghost use Rattle.pg_types.specs.Counts.{SignsWithin};
-ghost use Rattle.pg_types.specs.declared.limits.TheConstants.{WORD_LETTERS_MAX};
+ghost use Rattle.pg_types.specs.declared.limits.TheConstants.{FILE_MAX, WORD_LETTERS_MAX};
 ghost use Rattle.pg_dict.specs.Word.{IsWord, SignsAtMost, Word, letter_count};
 ghost use Rattle.pg_dict.specs.Inside.Lent.{lent_word};
 ghost use Rattle.pg_select.specs.CountedPositions.{counted_at, counted_positions_at, counted_positions, counted_positions_in, counts_as as counts_as_of, minima_of};
@@ -12,6 +12,7 @@ ghost use Rattle.pg_select.specs.Windows.{fits as fits_in, window as window_of_w
 ghost use Rattle.pg_driver.specs.Inside.Counting.{counting, HasRoom, TookRoom, IsRead};
 ghost use Rattle.pg_driver.specs.declared.pass_windows.Place.{Place};
 ghost use Rattle.pg_driver.specs.Inside.OpenLevels.{listed_in, listed_from, open_as};
+ghost use Rattle.pg_driver.specs.Inside.OpenSigns.{start_of};
 ghost use Rattle.pg_driver.specs.Inside.PassWindows.{ArePlaces, GetsNumber, HaveNumbers, uncovered_at};
 ghost use Rattle.pg_driver.specs.Sound.{IsSmall};
 ghost use Rattle.pg_driver.specs.Inside.States.{IsPass};
@@ -44,19 +45,23 @@ fn counted(pass: Pass, w: &WordRef<'_>, found: &WordState, p: usize, mark: Mark)
 }
 
 /// Counts the window at position `p` of a word, which has this status, where it counts in the pass,
-/// and gives its number; `NOT_COUNTED` where it does not count.
+/// and gives its number; `NOT_COUNTED` where it does not count. Where the window is counted for the
+/// first time, its first sign is noted. The signs of the word begin at `start`.
 fn count_at<E: Engine>(
     engine: &mut E,
     pass: Pass,
+    start: usize,
     w: &WordRef<'_>,
     found: &WordState,
     p: usize,
     mark: Mark,
+    places: &mut Vec<u32>,
 ) -> Result<u32, AllocError>
     requires ranges { IsPass pass }
     requires pass { (E.meaning engine.old).pass ≡ pass }
     requires read { IsRead (E.meaning engine.old) (lent_word w.now) found.now }
     requires within { p < length w.now.signs.now }
+    requires few { start + length w.now.signs.now ≤ 3 * FILE_MAX }
     requires mark { mark ≡ status_at (E.meaning engine.old).patterns (lent_word w.now) p }
     requires room { HasRoom (E.meaning engine.old).counts 1 }
     ensures ok { OnOk result (E.meaning engine.new
@@ -67,7 +72,11 @@ fn count_at<E: Engine>(
         (counted_at pass (E.meaning engine.old).patterns
         (E.meaning engine.old).hopeless (lent_word w.now) p)
         (E.meaning engine.new).windows (window_of_word w.now.signs.now p pass.len pass.dot) n) }
-    ensures err { OnErr result (E.meaning engine.new ≡ E.meaning engine.old) }
+    ensures places { OnOk result ((words : List Word) (n : ℕ)
+        → slice_get words n ≡ Some (lent_word w.now) → start ≡ start_of words n
+        → ArePlaces pass words (E.meaning engine.old).windows places.old.items
+        → ArePlaces pass words (E.meaning engine.new).windows places.new.items) }
+    ensures signs { (E.meaning engine.new).signs ≡ (E.meaning engine.old).signs }
 {
     let Some(good) = counted(pass, w, found, p, mark) else {
         return Ok(NOT_COUNTED);
@@ -75,16 +84,19 @@ fn count_at<E: Engine>(
     let from = p - usize::from(pass.dot);
     let window = &w.signs[from..from + usize::from(pass.len)];
     let number = engine.count_numbered(window, good, w.weights[p])?;
+    engine.kept();
+    note_place(places, number, (start + from) as u32)?;
     Ok(number)
 }
 
 /// Counts position `p` of a word, and adds it to the totals. Where its window is counted for the
 /// first time, its place is noted. Where its value is above the level and it counts by its status,
-/// the number of its window is noted.
+/// the number of its window is noted. The signs of the word begin at `start`.
 fn count_position<E: Engine>(
     engine: &mut E,
     pass: Pass,
     word: u32,
+    start: usize,
     w: &WordRef<'_>,
     found: &WordState,
     p: usize,
@@ -95,6 +107,7 @@ fn count_position<E: Engine>(
     requires pass { (E.meaning engine.old).pass ≡ pass }
     requires read { IsRead (E.meaning engine.old) (lent_word w.now) found.now }
     requires within { p < length w.now.signs.now }
+    requires few { start + length w.now.signs.now ≤ 3 * FILE_MAX }
     requires room { HasRoom (E.meaning engine.old).counts 1 }
     requires room_for { HasRoomFor sums.old 1 }
     ensures ok { OnOk result (E.meaning engine.new
@@ -117,16 +130,14 @@ fn count_position<E: Engine>(
         windows.new.numbers.items) }
     ensures places { OnOk result
         ((words : List Word) → slice_get words word ≡ Some (lent_word w.now)
+        → start ≡ start_of words word
         → ArePlaces pass words (E.meaning engine.old).windows windows.old.places.items
         → ArePlaces pass words (E.meaning engine.new).windows windows.new.places.items) }
     ensures signs { (E.meaning engine.new).signs ≡ (E.meaning engine.old).signs }
 {
     let mark = mark_at(w, found, p);
     *sums = add_mark(*sums, mark, w.weights[p]);
-    let number = count_at(engine, pass, w, found, p, mark)?;
-    engine.kept();
-    let place = Place { word, at: p as u8 };
-    note_place(&mut windows.places, number, place)?;
+    let number = count_at(engine, pass, start, w, found, p, mark, &mut windows.places)?;
     if is_above(pass.level, found, p, mark) {
         windows.numbers.push(number)?;
     }
@@ -135,12 +146,13 @@ fn count_position<E: Engine>(
 
 /// Counts the positions of a word, and adds them to the totals. Those that count and have a value
 /// above the level have the numbers of their windows noted, and where `lists` says so they are
-/// listed. What `found` holds does not matter.
+/// listed. The signs of the word begin at `start`. What `found` holds does not matter.
 fn count_word<E: Engine>(
     engine: &mut E,
     table: &Table,
     pass: Pass,
     word: u32,
+    start: usize,
     w: &WordRef<'_>,
     found: &mut WordState,
     sums: &mut Totals,
@@ -152,6 +164,7 @@ fn count_word<E: Engine>(
     requires pass { (E.meaning engine.old).pass ≡ pass }
     requires word { IsWord (lent_word w.now) }
     requires signs { SignsWithin (E.meaning engine.old).signs w.now.signs.now }
+    requires few { start + length w.now.signs.now ≤ 3 * FILE_MAX }
     requires room { HasRoom (E.meaning engine.old).counts (letter_count (lent_word w.now)) }
     requires room_for { HasRoomFor sums.old (letter_count (lent_word w.now)) }
     ensures ok { OnOk result (E.meaning engine.new
@@ -177,6 +190,7 @@ fn count_word<E: Engine>(
         windows.new.numbers.items) }
     ensures places { OnOk result
         ((words : List Word) → slice_get words word ≡ Some (lent_word w.now)
+        → start ≡ start_of words word
         → ArePlaces pass words (E.meaning engine.old).windows windows.old.places.items
         → ArePlaces pass words (E.meaning engine.new).windows windows.new.places.items) }
     ensures took { OnOk result (TookRoom (E.meaning engine.old).counts (E.meaning engine.new).counts
@@ -190,7 +204,7 @@ fn count_word<E: Engine>(
     };
     engine.hyphenate(*w, found);
     'positions: for p in first..end {
-        count_position(engine, pass, word, w, found, p, sums, windows)?;
+        count_position(engine, pass, word, start, w, found, p, sums, windows)?;
     }
     if lists {
         list_above(table, pass.level, word, w, found, above)?;
@@ -241,19 +255,13 @@ pub fn count_words<E: Engine>(
 {
     let mut found = WordState::new();
     let mut sums = no_totals();
+    let mut start = 0;
     'words: for i in 0..dictionary.len() {
+        let w = dictionary.word(i);
         count_word(
-            engine,
-            table,
-            pass,
-            i as u32,
-            &dictionary.word(i),
-            &mut found,
-            &mut sums,
-            lists,
-            above,
-            windows,
+            engine, table, pass, i as u32, start, &w, &mut found, &mut sums, lists, above, windows,
         )?;
+        start += w.signs.len();
     }
     Ok(sums)
 }

@@ -1,9 +1,10 @@
 -- The windows of a pass by their numbers, as the pass keeps them.
-use Rattle.std.specs.Prelude.{◌≡◌, ℕ, Bool, true, false, not, ◌&&◌, List, length, slice_get, Option, None, Some}
+use Rattle.std.specs.Prelude.{◌≡◌, ℕ, ◌+◌, ◌≤◌, Bool, true, false, not, ◌&&◌, List, length, take, drop, slice_get, Option, None, Some}
 use Rattle.pg_types.specs.declared.parameters.LevelParams.{LevelParams}
 use Rattle.pg_types.specs.Counts.{Counts, counted_sums, is_counted}
 use Rattle.pg_types.specs.Numbered.{Windows, HasNumber}
 use Rattle.pg_dict.specs.Word.{Word}
+use Rattle.pg_dict.specs.Inside.Store.{all_signs}
 use Rattle.pg_select.specs.declared.pass.Pass.{Pass}
 use Rattle.pg_select.specs.declared.choice.Choice.{Choice}
 use Rattle.pg_select.specs.Choices.{choice}
@@ -55,20 +56,20 @@ pub record AreFates (params : LevelParams) (counts : Counts) (ws : Windows) (fat
       → counted_sums counts u ≡ Some sums
       → slice_get fates n ≡ Some (choice params sums.0 sums.1)
 
--- a window of the pass stands at the place, and has the number
-pub record IsPlace (pass : Pass) (words : List Word) (ws : Windows) (n : ℕ) (place : Place)
-    : Type 0 where
-  pub word : Word
-  pub there : slice_get words place.word ≡ Some word
-  pub fit : fits word.signs place.at pass.len pass.dot ≡ true
-  pub number : HasNumber ws (window word.signs place.at pass.len pass.dot) n
+-- the window of a pass whose first sign has this number among the signs of all words
+abbrev pub window_from : Pass → List Word → ℕ → List ℕ
+window_from pass words first = take pass.len (drop first (all_signs words))
 
--- the places where the windows of a pass were first counted, by number
-pub record ArePlaces (pass : Pass) (words : List Word) (ws : Windows) (places : List Place)
+-- a window of the pass begins at this sign, and has the number
+pub record IsPlace (pass : Pass) (words : List Word) (ws : Windows) (n first : ℕ) : Type 0 where
+  pub within : first + pass.len ≤ length (all_signs words)
+  pub number : HasNumber ws (window_from pass words first) n
+
+-- the first signs of the windows of a pass, by the number of the window
+pub record ArePlaces (pass : Pass) (words : List Word) (ws : Windows) (places : List ℕ)
     : Type 0 where
   pub size : length places ≡ length ws
-  pub each : (n : ℕ) (place : Place) → slice_get places n ≡ Some place
-      → IsPlace pass words ws n place
+  pub each : (n first : ℕ) → slice_get places n ≡ Some first → IsPlace pass words ws n first
 
 -- each of the entries is one of the counts
 abbrev pub IsPart : Counts → Counts → Type 0

@@ -72,8 +72,8 @@ choose_one-requires-clause-place g c =
     let a : Ahead m0.windows m0.counts n more inv.rest = ahead m0.windows m0.counts n more inv.rest (sym (ap (map (slice_get m0.windows)) (drop_more c.args.order.now k 0 c.candidates-test.true)) ∙ inv.ahead) inv.part in
     let there : n < length m0.windows = slice_get_within m0.windows n a.entry.0 a.number in
     let within : n < length c.args.places.now = omega (arith, c.requires.places.size, there) in
-    subst (λ (ws : List (List ℕ)). IsPlace c.args.pass c.args.dictionary.now ws n (get_or c.args.places.now n (record { word = 0; at = 0 }))) (sym windows)
-    (c.requires.places.each n (get_or c.args.places.now n (record { word = 0; at = 0 })) (slice_get-get_or c.args.places.now n (record { word = 0; at = 0 }) within))
+    subst (λ (ws : List (List ℕ)). IsPlace c.args.pass c.args.dictionary.now ws n (get_or c.args.places.now n 0)) (sym windows)
+    (c.requires.places.each n (get_or c.args.places.now n 0) (slice_get-get_or c.args.places.now n 0 within))
 
 pub choose_one-requires-clause-fate : goal.choose_one-requires-clause-fate
 choose_one-requires-clause-fate g c = λ u sums it.

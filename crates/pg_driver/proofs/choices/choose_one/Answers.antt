@@ -1,6 +1,6 @@
 use Rattle.std.proofs.Common.{sym, ◌∙◌}
 use Rattle.std.proofs.lemmas.Option.{slice_get_within}
-use Rattle.pg_select.specs.Windows.{window}
+use Rattle.pg_driver.specs.Inside.PassWindows.{window_from}
 use Rattle.pg_driver.proofs.ChoiceSteps.{left_alone}
 use Rattle.pg_driver.proofs.choices.choose_one.Goals as goal
 
@@ -10,8 +10,7 @@ returns-in-Left-clause-choices g c = λ u sums it.
 
 pub sums_of-good-requires : goal.sums_of-good-requires
 sums_of-good-requires g c =
-    let place = c.requires.place in
-    slice_get_within (g.E.Engine.meaning c.args.engine.now).windows c.args.number (window place.word.signs c.args.place.at c.args.pass.len c.args.pass.dot) place.number
+    slice_get_within (g.E.Engine.meaning c.args.engine.now).windows c.args.number (window_from c.args.pass c.args.dictionary.now c.args.first) c.requires.place.number
 
 pub choose_at-requires-clause-fate : goal.choose_at-requires-clause-fate
 choose_at-requires-clause-fate g c =

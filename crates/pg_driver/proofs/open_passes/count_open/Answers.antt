@@ -8,7 +8,7 @@ use Rattle.pg_driver.proofs.Rooms.{room_left, room_less}
 use Rattle.pg_driver.proofs.Walks.{counted_step, kept_on}
 use Rattle.pg_driver.specs.declared.pass_windows.Place.{Place}
 use Rattle.pg_driver.specs.Inside.OpenPositions.{counted_of}
-use Rattle.pg_driver.specs.Inside.OpenSigns.{open_signs, place_from, sign_count}
+use Rattle.pg_driver.specs.Inside.OpenSigns.{open_signs, place_from, sign_count, start_of}
 use Rattle.pg_driver.proofs.NumberSteps.{have_more, still_have}
 use Rattle.pg_driver.proofs.OpenSigns.{open_first, open_skip, open_upto, start_zero, upto_all, upto_open, upto_skip}
 use Rattle.pg_driver.proofs.open_passes.count_open.Goals as goal
@@ -38,6 +38,9 @@ signs-init g c =
       free = later.fails;
       beyond = λ i from before. later.passes i (omega arith) before;
     }
+
+pub count_position-requires-clause-start : goal.count_position-requires-clause-start
+count_position-requires-clause-start g c = c.go_on-at.ensures.start ∙ ap (start_of c.args.dictionary.now) (sym c.position_at-position.ensures.word)
 
 pub count_position-requires-clause-room : goal.count_position-requires-clause-room
 count_position-requires-clause-room g c =

@@ -2,9 +2,7 @@ use Rattle.std.proofs.Common.{◌≡◌, true, is_some, cond, Bool, List, ℕ, �
 use Rattle.pg_dict.specs.Inside.Lent.{lent_word}
 use Rattle.pg_select.specs.CountedPositions.{counted_positions_at}
 use Rattle.pg_select.specs.Inside.LawsAbove.{counts_above}
-use Rattle.pg_select.specs.declared.pass.Pass.{Pass}
-use Rattle.pg_driver.specs.Inside.Counting.{counting}
-use Rattle.pg_driver.proofs.AboveNumbers.{above_found, number_noted, place_noted}
+use Rattle.pg_driver.proofs.AboveNumbers.{above_found, number_noted}
 use Rattle.pg_driver.proofs.words.count_position.Goals as goal
 
 pub returns-in_ok-push-clause-numbers : goal.returns-in_ok-push-clause-numbers
@@ -31,19 +29,7 @@ returns-else-is_above-clause-numbers g c = λ words entries at have.
     (ap (λ (b : Bool). cond b (ns ++ c.in_ok-number.number ∷ []) ns) (sym above)) have
 
 pub returns-in_ok-push-clause-places : goal.returns-in_ok-push-clause-places
-returns-in_ok-push-clause-places g c = λ words at are.
-    let m = g.E.Engine.meaning c.args.engine.now in
-    let n = g.E.Engine.meaning c.count_at.new.engine in
-    let w = lent_word c.args.w.now in
-    let pass = c.args.pass in
-    let counted = c.in_ok-number.ensures.ok ∙ ap (λ (x : Pass). counting m (counted_positions_at x m.patterns m.hopeless w c.args.p)) c.requires.pass in
-    place_noted pass m.patterns m.hopeless words m n c.args.windows.now.places.items c.note_place.new.places.items w c.args.word c.args.p c.in_ok-number.number counted c.kept.ensures.numbered (omega (arith, c.requires.room.few)) at c.in_ok-number.ensures.number c.in_ok-note_place.ensures are
+returns-in_ok-push-clause-places g c = λ words at begins are. c.in_ok-number.ensures.places words c.args.word at begins are
 
 pub returns-else-is_above-clause-places : goal.returns-else-is_above-clause-places
-returns-else-is_above-clause-places g c = λ words at are.
-    let m = g.E.Engine.meaning c.args.engine.now in
-    let n = g.E.Engine.meaning c.count_at.new.engine in
-    let w = lent_word c.args.w.now in
-    let pass = c.args.pass in
-    let counted = c.in_ok-number.ensures.ok ∙ ap (λ (x : Pass). counting m (counted_positions_at x m.patterns m.hopeless w c.args.p)) c.requires.pass in
-    place_noted pass m.patterns m.hopeless words m n c.args.windows.now.places.items c.note_place.new.places.items w c.args.word c.args.p c.in_ok-number.number counted c.kept.ensures.numbered (omega (arith, c.requires.room.few)) at c.in_ok-number.ensures.number c.in_ok-note_place.ensures are
+returns-else-is_above-clause-places g c = λ words at begins are. c.in_ok-number.ensures.places words c.args.word at begins are

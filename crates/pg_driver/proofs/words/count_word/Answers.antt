@@ -67,7 +67,7 @@ positions-preserved g c =
           let then = c.in_ok-count_position.ensures.numbers words (entries ++ c.positions.invariant.listed) at now in
           subst (λ (es : List Place). HaveNumbers pass (uncovered_at pass m0.patterns m0.hopeless) words n.windows es c.count_position.new.windows.numbers.items) (append_assoc entries c.positions.invariant.listed (f c.positions.p))
           (subst (λ (x : Meaning). HaveNumbers pass (uncovered_at pass x.patterns x.hopeless) words n.windows ((entries ++ c.positions.invariant.listed) ++ open_as c.args.word c.positions.p (counts_above pass.level x.patterns w c.positions.p)) c.count_position.new.windows.numbers.items) kept then);
-      places = λ words at before. c.in_ok-count_position.ensures.places words at (c.positions.invariant.places words at before);
+      places = λ words at begins before. c.in_ok-count_position.ensures.places words at begins (c.positions.invariant.places words at begins before);
     }
 
 pub returns-in_ok-list_above-clause-above : goal.returns-in_ok-list_above-clause-above

@@ -6,6 +6,7 @@ use Rattle.pg_select.specs.CountedPositions.{counted_positions_at, counted_posit
 use Rattle.pg_select.specs.Inside.LawsAbove.{counts_above}
 use Rattle.pg_driver.specs.declared.pass_windows.Place.{Place}
 use Rattle.pg_driver.specs.Inside.OpenLevels.{listed_in, open_as}
+use Rattle.pg_driver.specs.Inside.OpenSigns.{start_of}
 use Rattle.pg_driver.specs.Inside.PassWindows.{ArePlaces, HaveNumbers, uncovered_at}
 use Rattle.pg_select.specs.Sums.{marks_in, with_marks, TookRoomFor}
 use Rattle.pg_driver.specs.Inside.Counting.{counting, TookRoom}
@@ -28,5 +29,5 @@ invariant-positions g l =
       upto : (listed ++ flat_map (λ (p : ℕ). open_as l.word p (counts_above l.pass.level m0.patterns (lent_word l.w) p)) (range_with_len l.p (l.end - l.p))) ≡ listed_in (minima_of l.table) (counts_above l.pass.level m0.patterns) l.word (lent_word l.w);
       numbers : (words : List Word) (entries : List Place) → slice_get words l.word ≡ Some (lent_word l.w) → HaveNumbers l.pass (uncovered_at l.pass m0.patterns m0.hopeless) words m0.windows entries l.fn.windows.numbers.items
           → HaveNumbers l.pass (uncovered_at l.pass m0.patterns m0.hopeless) words m.windows (entries ++ listed) l.windows.numbers.items;
-      places : (words : List Word) → slice_get words l.word ≡ Some (lent_word l.w) → ArePlaces l.pass words m0.windows l.fn.windows.places.items → ArePlaces l.pass words m.windows l.windows.places.items;
+      places : (words : List Word) → slice_get words l.word ≡ Some (lent_word l.w) → l.start ≡ start_of words l.word → ArePlaces l.pass words m0.windows l.fn.windows.places.items → ArePlaces l.pass words m.windows l.windows.places.items;
     }

@@ -1,20 +1,21 @@
-use Rattle.std.proofs.Common.{◌+◌, ◌++◌, ℕ, List, drop, refl, ap, subst, sym, ◌∙◌, arith}
+use Rattle.std.proofs.Common.{◌≡◌, ◌+◌, ◌++◌, ℕ, None, Some, List, [], drop, length, refl, ap, subst, sym, ◌∙◌, arith, rules}
 use Rattle.std.specs.List.{flat_map, sum_by}
 use Rattle.pg_dict.specs.Inside.Lent.{lent_word}
 use Rattle.pg_dict.specs.Word.{Word, letter_count}
-use Rattle.pg_types.specs.Counts.{SignsWithin}
+use Rattle.pg_types.specs.Counts.{Counts, SignsWithin}
 use Rattle.pg_select.specs.Meanings.{Meaning}
 use Rattle.pg_select.specs.CountedPositions.{counted_positions, counted_positions_in, minima_of}
 use Rattle.pg_select.specs.Sums.{marks_in, with_marks}
-use Rattle.pg_driver.specs.Inside.Counting.{counting}
+use Rattle.pg_driver.specs.Inside.Counting.{HasRoom, counting}
 use Rattle.pg_select.proofs.MarkSteps.{marks_word}
 use Rattle.pg_driver.specs.Inside.OpenLevels.{listed_in}
 use Rattle.pg_select.specs.Inside.LawsAbove.{counts_above}
 use Rattle.pg_driver.specs.declared.pass_windows.Place.{Place}
 use Rattle.pg_driver.specs.Inside.PassWindows.{HaveNumbers, uncovered_at}
 use Rattle.pg_driver.specs.Inside.WordLevels.{listing}
+use Rattle.pg_driver.proofs.OpenSigns.{signs_few, start_before, start_next, start_past, start_zero}
 use Rattle.pg_driver.proofs.OpenSteps.{few_words, word_added}
-use Rattle.pg_driver.proofs.Rooms.{room_left, room_less}
+use Rattle.pg_driver.proofs.Rooms.{room_left, room_less, room_none}
 use Rattle.pg_driver.proofs.Walks.{kept_on, word_step}
 use Rattle.pg_driver.proofs.WordSteps.{drop_place, letters_left, signs_within}
 use Rattle.pg_driver.proofs.words.count_words.Goals as goal
@@ -25,14 +26,43 @@ overflow_cast-i g c = omega (arith, few_words c.args.dictionary.now c.len-i-end.
 pub count_word-requires-clause-signs : goal.count_word-requires-clause-signs
 count_word-requires-clause-signs g c =
     let signs = ap (λ (m : Meaning). m.signs) c.words.invariant.kept in
-    let P : ℕ → Type 0 = λ n. SignsWithin n c.word.result.signs.now in
-    subst P (sym signs) (signs_within _ c.args.dictionary.now c.words.i (lent_word c.word.result) c.word.ensures.lent c.requires.signs c.word.ensures.word)
+    let P : ℕ → Type 0 = λ n. SignsWithin n c.word-w.result.signs.now in
+    subst P (sym signs) (signs_within _ c.args.dictionary.now c.words.i (lent_word c.word-w.result) c.word-w.ensures.lent c.requires.signs c.word-w.ensures.word)
+
+pub count_word-requires-clause-few : goal.count_word-requires-clause-few
+count_word-requires-clause-few g c =
+    let words = c.args.dictionary.now in
+    let behind = start_before words c.words.i (length words) (lent_word c.word-w.result) c.word-w.ensures.lent (omega (arith, c.words-test.true, c.len-i-end.ensures.len)) in
+    let whole = start_past words (length words) (omega arith) in
+    omega (arith, behind, whole, c.words.invariant.starts, signs_few words c.len-i-end.ensures.words, c.len-i-end.ensures.letters)
+
+pub overflow_add-start : goal.overflow_add-start
+overflow_add-start g c =
+    let words = c.args.dictionary.now in
+    let behind = start_before words c.words.i (length words) (lent_word c.word-w.result) c.word-w.ensures.lent (omega (arith, c.words-test.true, c.len-i-end.ensures.len)) in
+    let whole = start_past words (length words) (omega arith) in
+    omega (arith, behind, whole, c.words.invariant.starts, signs_few words c.len-i-end.ensures.words, c.len-i-end.ensures.letters)
 
 pub count_word-requires-clause-room : goal.count_word-requires-clause-room
-count_word-requires-clause-room g c = room_less _ _ _ c.words.invariant.room (omega (arith, letters_left c.args.dictionary.now c.words.i (lent_word c.word.result) c.word.ensures.lent))
+count_word-requires-clause-room g c = room_less _ _ _ c.words.invariant.room (omega (arith, letters_left c.args.dictionary.now c.words.i (lent_word c.word-w.result) c.word-w.ensures.lent))
 
 pub count_word-requires-clause-room_for : goal.count_word-requires-clause-room_for
-count_word-requires-clause-room_for g c = omega (arith, letters_left c.args.dictionary.now c.words.i (lent_word c.word.result) c.word.ensures.lent, c.words.invariant.room_for)
+count_word-requires-clause-room_for g c = omega (arith, letters_left c.args.dictionary.now c.words.i (lent_word c.word-w.result) c.word-w.ensures.lent, c.words.invariant.room_for)
+
+pub words-init : goal.words-init
+words-init g c = record {
+  kept = refl;
+  whole = refl;
+  room = subst (λ (cs : Counts). HasRoom cs (sum_by letter_count c.args.dictionary.now)) (sym c.requires.fresh) (room_none (sum_by letter_count c.args.dictionary.now) c.len-i-end.ensures.letters);
+  sums = search rules;
+  above = search rules;
+  room_for = search rules;
+  listed = [];
+  upto = refl;
+  numbers = record { size = ap length c.requires.numbers; each = λ k e n at to. absurd (let no : None ≡ Some e = at in cc) };
+  places = c.requires.places;
+  starts = start_zero c.args.dictionary.now;
+}
 
 pub words-preserved : goal.words-preserved
 words-preserved g c =
@@ -41,11 +71,11 @@ words-preserved g c =
     let n = g.E.Engine.meaning c.count_word.new.engine in
     let pass = c.args.pass in
     let minima = minima_of c.args.table.now in
-    let w = lent_word c.word.result in
+    let w = lent_word c.word-w.result in
     let rest = drop (c.words.i + 1) c.args.dictionary.now in
     let kept = c.words.invariant.kept in
-    let place = drop_place c.args.dictionary.now c.words.i w c.word.ensures.lent in
-    let letters = letters_left c.args.dictionary.now c.words.i w c.word.ensures.lent in
+    let place = drop_place c.args.dictionary.now c.words.i w c.word-w.ensures.lent in
+    let letters = letters_left c.args.dictionary.now c.words.i w c.word-w.ensures.lent in
     let here : List Place = listed_in minima (counts_above pass.level m0.patterns) c.words.i w in
     let sums = c.in_ok-count_word.ensures.sums ∙ ap (λ (x : Meaning). with_marks c.words.sums (marks_in minima x.patterns w)) kept in
     record {
@@ -54,15 +84,16 @@ words-preserved g c =
       room = room_left m.counts _ (sum_by letter_count (drop c.words.i c.args.dictionary.now)) (letter_count w) (sum_by letter_count rest) c.words.invariant.room c.in_ok-count_word.ensures.took (omega (arith, letters));
       sums = marks_word c.words.sums _ _ minima m0.patterns w rest sums (ap (λ (ws : List Word). with_marks c.words.sums (flat_map (marks_in minima m0.patterns) ws)) (sym place) ∙ c.words.invariant.sums);
       above =
-          word_added minima (listing c.args.lists c.args.pass.level m0.patterns) c.words.above.items c.count_word.new.above.items _ c.args.dictionary.now c.words.i w c.word.ensures.lent
+          word_added minima (listing c.args.lists c.args.pass.level m0.patterns) c.words.above.items c.count_word.new.above.items _ c.args.dictionary.now c.words.i w c.word-w.ensures.lent
           (c.in_ok-count_word.ensures.above ∙ ap (λ (x : Meaning). c.words.above.items ++ listed_in minima (listing c.args.lists c.args.pass.level x.patterns) c.words.i w) kept) c.words.invariant.above;
       room_for = omega (arith, letters, c.words.invariant.room_for, c.in_ok-count_word.ensures.took_for);
       listed = c.words.invariant.listed ++ here;
-      upto = word_added minima (counts_above pass.level m0.patterns) c.words.invariant.listed (c.words.invariant.listed ++ here) _ c.args.dictionary.now c.words.i w c.word.ensures.lent refl c.words.invariant.upto;
+      upto = word_added minima (counts_above pass.level m0.patterns) c.words.invariant.listed (c.words.invariant.listed ++ here) _ c.args.dictionary.now c.words.i w c.word-w.ensures.lent refl c.words.invariant.upto;
       numbers =
           let now : HaveNumbers pass (uncovered_at pass m.patterns m.hopeless) c.args.dictionary.now m.windows c.words.invariant.listed c.words.windows.numbers.items =
           subst (λ (x : Meaning). HaveNumbers pass (uncovered_at pass x.patterns x.hopeless) c.args.dictionary.now m.windows c.words.invariant.listed c.words.windows.numbers.items) (sym kept) c.words.invariant.numbers in
           subst (λ (x : Meaning). HaveNumbers pass (uncovered_at pass x.patterns x.hopeless) c.args.dictionary.now n.windows (c.words.invariant.listed ++ listed_in minima (counts_above pass.level x.patterns) c.words.i w) c.count_word.new.windows.numbers.items) kept
-          (c.in_ok-count_word.ensures.numbers c.args.dictionary.now c.words.invariant.listed c.word.ensures.lent now);
-      places = c.in_ok-count_word.ensures.places c.args.dictionary.now c.word.ensures.lent c.words.invariant.places;
+          (c.in_ok-count_word.ensures.numbers c.args.dictionary.now c.words.invariant.listed c.word-w.ensures.lent now);
+      places = c.in_ok-count_word.ensures.places c.args.dictionary.now c.word-w.ensures.lent c.words.invariant.starts c.words.invariant.places;
+      starts = ap (λ k. k + length w.signs) c.words.invariant.starts ∙ sym (start_next c.args.dictionary.now c.words.i w c.word-w.ensures.lent);
     }

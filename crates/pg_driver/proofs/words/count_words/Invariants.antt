@@ -5,6 +5,7 @@ use Rattle.pg_select.specs.CountedPositions.{counted_positions, minima_of}
 use Rattle.pg_select.specs.Sums.{marks_in, totals, with_marks, HasRoomFor}
 use Rattle.pg_driver.specs.Inside.Counting.{counting, HasRoom}
 use Rattle.pg_driver.specs.Inside.OpenLevels.{listed_from}
+use Rattle.pg_driver.specs.Inside.OpenSigns.{start_of}
 use Rattle.pg_select.specs.Inside.LawsAbove.{counts_above}
 use Rattle.pg_driver.specs.declared.pass_windows.Place.{Place}
 use Rattle.pg_driver.specs.Inside.PassWindows.{ArePlaces, HaveNumbers, uncovered_at}
@@ -27,4 +28,5 @@ invariant-words g l =
       upto : (listed ++ listed_from (minima_of l.table) (counts_above l.pass.level m0.patterns) l.i (drop l.i l.dictionary)) ≡ listed_from (minima_of l.table) (counts_above l.pass.level m0.patterns) 0 l.dictionary;
       numbers : HaveNumbers l.pass (uncovered_at l.pass m0.patterns m0.hopeless) l.dictionary m.windows listed l.windows.numbers.items;
       places : ArePlaces l.pass l.dictionary m.windows l.windows.places.items;
+      starts : l.start ≡ start_of l.dictionary l.i;
     }
