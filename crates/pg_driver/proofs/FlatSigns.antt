@@ -1,13 +1,28 @@
--- Windows in the row of the signs of all words.
-use Rattle.std.proofs.Common.{◌≡◌, ℕ, zero, suc, ◌+◌, ◌-◌, ◌≤◌, ◌<◌, nat_le, Bool, true, false, cond, ◌&&◌, List, [], ◌∷◌, ◌++◌, length, take, drop, slice_get, Option, Some, None, refl, sym, ap, ◌∙◌, arith, length-drop}
+-- Windows in the row of the signs of all words, and the row of their sites.
+use Rattle.std.proofs.Common.{◌≡◌, ℕ, zero, suc, ◌+◌, ◌-◌, ◌≤◌, ◌<◌, nat_le, Bool, true, false, cond, ◌&&◌, List, [], ◌∷◌, ◌++◌, length, take, drop, get_or, slice_get, Option, Some, None, refl, sym, ap, subst, ◌∙◌, arith, length-append, length-drop}
+use Rattle.std.specs.List.{range_with_len}
+use Rattle.std.specs.Option.{option_map, option_map_or}
 use Rattle.std.proofs.lemmas.Bool.{and_parts, leb-true}
-use Rattle.std.proofs.lemmas.List.{drop-append-le, drop-drop, drop_at, take-append-le}
-use Rattle.std.proofs.lemmas.Option.{slice_get_within}
+use Rattle.std.proofs.lemmas.List.{drop-append-le, drop-drop, drop_at, length-map, take-append-le}
+use Rattle.std.proofs.lemmas.List.FromFn.{length-range_with_len}
+use Rattle.std.proofs.lemmas.Option.{get_or_from_slice_get, slice_get_within, slice_get-map}
+use Rattle.pg_types.specs.Numbered.{HasNumber, Windows}
+use Rattle.pg_dict.specs.declared.sites.Site.{Site}
+use Rattle.pg_dict.specs.Inside.Sites.{all_sites, site_of, sites_in}
 use Rattle.pg_dict.specs.Inside.Store.{all_signs}
 use Rattle.pg_dict.specs.Word.{Word}
+use Rattle.pg_select.specs.declared.pass.Pass.{Pass}
+use Rattle.pg_select.specs.Inside.LawsClosedDots.{is_good}
+use Rattle.pg_select.specs.Meanings.{Meaning, after_count}
+use Rattle.pg_select.specs.Statuses.{position_weight}
 use Rattle.pg_select.specs.Windows.{window, fits}
-use Rattle.pg_driver.specs.Inside.OpenSigns.{start_of}
-use Rattle.pg_driver.proofs.OpenSigns.{start_before, start_past}
+use Rattle.pg_driver.specs.declared.pass_windows.TheConstants.{NOT_COUNTED}
+use Rattle.pg_driver.specs.Inside.Counting.{counting}
+use Rattle.pg_driver.specs.Inside.OpenPositions.{counted_in, counted_of}
+use Rattle.pg_driver.specs.Inside.OpenSigns.{sign_count, start_of}
+use Rattle.pg_driver.specs.Inside.PassWindows.{IsNumbered, counts_at}
+use Rattle.pg_driver.proofs.NumberSteps.{get_left, get_right}
+use Rattle.pg_driver.proofs.OpenSigns.{IsSignOf, range_get, sign_of, start_before, start_past}
 
 -- a part of a word stands in the row of all signs behind the word's start
 pub flat_part : (words : List Word) (n a k : ℕ) (w : Word) → slice_get words n ≡ Some w → a + k ≤ length w.signs → take k (drop (start_of words n + a) (all_signs words)) ≡ take k (drop a w.signs)
@@ -50,3 +65,96 @@ flat_inside words n p len dot first w at fit is =
 pub fit_of : (f x : Bool) (o : Option Bool) (good : Bool) → cond (f && x) o None ≡ Some good → f ≡ true
 fit_of true x o good some = refl
 fit_of false x o good some = absurd (let clash : None ≡ Some good = some in cc)
+
+-- the sites of a word
+sites_len : (w : Word) → length (sites_in w) ≡ length w.signs
+sites_len w = length-map (range_with_len 0 (length w.signs)) (site_of w) ∙ length-range_with_len 0 (length w.signs)
+
+site_in : (w : Word) (p : ℕ) → p < length w.signs → slice_get (sites_in w) p ≡ Some (site_of w p)
+site_in w p low =
+    let at : 0 + p ≡ p = omega arith in
+    slice_get-map (site_of w) (range_with_len 0 (length w.signs)) p
+    ∙ ap (option_map (site_of w)) (range_get 0 (length w.signs) p low ∙ ap (λ (n : ℕ). Some n) at)
+
+-- there is a site for each sign of all words
+pub sites_count : (words : List Word) → length (all_sites words) ≡ sign_count words
+sites_count [] = refl
+sites_count (w ∷ words) = omega (arith, length-append (sites_in w) (all_sites words), sites_len w, length-append w.signs (all_signs words), sites_count words)
+
+-- and it tells of the sign's place in its word
+pub site_there : (words : List Word) (n p : ℕ) (w : Word) → slice_get words n ≡ Some w → p < length w.signs → slice_get (all_sites words) (start_of words n + p) ≡ Some (site_of w p)
+site_there [] n p w at low = absurd (let no : None ≡ Some w = at in cc)
+site_there (v ∷ words) zero p w at low =
+    let same : v ≡ w = (let both : Some v ≡ Some w = at in cc) in
+    let size : length v.signs ≡ length w.signs = ap (λ (u : Word). length u.signs) same in
+    let sign : zero + p ≡ p = omega arith in
+    ap (slice_get (sites_in v ++ all_sites words)) sign
+    ∙ get_left (sites_in v) (all_sites words) p (site_of v p) (site_in v p (omega arith))
+    ∙ ap (λ (u : Word). Some (site_of u p)) same
+site_there (v ∷ words) (suc n) p w at low =
+    let sign : length v.signs + start_of words n + p ≡ length (sites_in v) + (start_of words n + p) = omega (arith, sites_len v) in
+    ap (slice_get (sites_in v ++ all_sites words)) sign
+    ∙ get_right (sites_in v) (all_sites words) (start_of words n + p)
+    ∙ site_there words n p w at low
+
+-- a sign of words, and its site
+pub record IsSiteOf (words : List Word) (sign : ℕ) (site : Site) : Type 0 where
+  pub of : IsSignOf words sign
+  pub is : site ≡ site_of of.word of.at
+
+pub site_at : (words : List Word) (sites : List Site) (sign : ℕ) (d : Site) → sites ≡ all_sites words → sign < sign_count words → IsSiteOf words sign (get_or sites sign d)
+site_at words sites sign d are low =
+    let of = sign_of words sign low in
+    record {
+      of = of;
+      is =
+          get_or_from_slice_get sites sign (site_of of.word of.at) d
+          (ap (λ (xs : List Site). slice_get xs sign) are ∙ ap (slice_get (all_sites words)) (sym of.is) ∙ site_there words of.number of.at of.word of.there of.within);
+    }
+
+-- what a pass counts at a position of a word where its window fits
+module _ (m : Meaning) (level len dot : ℕ) (words : List Word) (n p : ℕ) (w : Word) (at : slice_get words n ≡ Some w) where
+  pub counted_there : counting m (counted_of level len dot words (record { word = n; at = p })) ≡ counting m (counted_in level len dot w p)
+  counted_there = ap (λ (o : Option Word). counting m (option_map_or (λ (v : Word). counted_in level len dot v p) o [])) at
+
+  pub counted_fit : (u : List ℕ) (good : Bool) (weight : ℕ) → fits w.signs p len dot ≡ true → u ≡ window w.signs p len dot → good ≡ is_good level w p → weight ≡ position_weight w p
+      → after_count m u good weight ≡ counting m (counted_of level len dot words (record { word = n; at = p }))
+  counted_fit u good weight fit u_is good_is weight_is =
+      (λ i. after_count m (u_is i) (good_is i) (weight_is i)) ∙ sym (by (fits w.signs p len dot) fit) ∙ sym counted_there
+    where
+      by : (b : Bool) → b ≡ true → counting m (option_map_or (λ good. record { window = window w.signs p len dot; good = good; weight = position_weight w p } ∷ []) (cond (b && true) (Some (is_good level w p)) None) []) ≡ after_count m (window w.signs p len dot) (is_good level w p) (position_weight w p)
+      by true e = refl
+      by false e = absurd (let wrong : false ≡ true = e in cc)
+
+  -- and where it does not
+  pub counted_none : fits w.signs p len dot ≡ false → counting m (counted_of level len dot words (record { word = n; at = p })) ≡ m
+  counted_none other = counted_there ∙ by (fits w.signs p len dot) other
+    where
+      by : (b : Bool) → b ≡ false → counting m (option_map_or (λ good. record { window = window w.signs p len dot; good = good; weight = position_weight w p } ∷ []) (cond (b && true) (Some (is_good level w p)) None) []) ≡ m
+      by true e = absurd (let wrong : true ≡ false = e in cc)
+      by false e = refl
+
+-- the number of such a position
+module _ (pass : Pass) (words : List Word) (ws : Windows) (n p : ℕ) (w : Word) (k : ℕ) (at : slice_get words n ≡ Some w) where
+  pub numbered_fit : fits w.signs p pass.len pass.dot ≡ true → HasNumber ws (window w.signs p pass.len pass.dot) k → IsNumbered pass (counts_at pass) words ws (record { word = n; at = p }) k
+  numbered_fit fit has = record {
+    counted = λ v to is. (
+        let both : Some w ≡ Some v = sym at ∙ to in
+        let same : w ≡ v = cc in
+        subst (λ (x : Word). HasNumber ws (window x.signs p pass.len pass.dot) k) same has);
+    uncounted = λ v to is. absurd (
+        let both : Some w ≡ Some v = sym at ∙ to in
+        let same : w ≡ v = cc in
+        let wrong : true ≡ false = sym fit ∙ ap (λ (x : Word). fits x.signs p pass.len pass.dot) same ∙ is in
+        cc);
+  }
+
+  pub numbered_none : fits w.signs p pass.len pass.dot ≡ false → k ≡ NOT_COUNTED → IsNumbered pass (counts_at pass) words ws (record { word = n; at = p }) k
+  numbered_none other is = record {
+    counted = λ v to fit. absurd (
+        let both : Some w ≡ Some v = sym at ∙ to in
+        let same : w ≡ v = cc in
+        let wrong : false ≡ true = sym other ∙ ap (λ (x : Word). fits x.signs p pass.len pass.dot) same ∙ fit in
+        cc);
+    uncounted = λ v to no. is;
+  }

@@ -102,11 +102,15 @@ only_one ws counts n u s v t first sums second others =
     let told : Some t ≡ Some s = sym others ∙ ap (counted_sums counts) same ∙ sums in
     cc
 
--- elements before the seam of a list with one more, and the one at it
+-- elements before and behind the seam of two lists, and the one at the seam of a list with one more
 pub get_left : {A : Type 0} (xs ys : List A) (k : ℕ) (x : A) → slice_get xs k ≡ Some x → slice_get (xs ++ ys) k ≡ Some x
 get_left [] ys k x e = absurd (let no : None ≡ Some x = e in cc)
 get_left (y ∷ xs) ys zero x e = e
 get_left (y ∷ xs) ys (suc k) x e = get_left xs ys k x e
+
+pub get_right : {A : Type 0} (xs ys : List A) (k : ℕ) → slice_get (xs ++ ys) (length xs + k) ≡ slice_get ys k
+get_right [] ys k = let at : zero + k ≡ k = omega arith in ap (slice_get ys) at
+get_right (x ∷ xs) ys k = let at : suc (length xs) + k ≡ suc (length xs + k) = omega arith in ap (slice_get (x ∷ (xs ++ ys))) at ∙ get_right xs ys k
 
 pub get_seam : {A : Type 0} (xs : List A) (x : A) (k : ℕ) → k ≡ length xs → slice_get (xs ++ x ∷ []) k ≡ Some x
 get_seam [] x zero e = refl

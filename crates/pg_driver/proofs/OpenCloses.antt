@@ -18,7 +18,7 @@ use Rattle.pg_driver.specs.declared.pass_windows.TheConstants.{NOT_COUNTED}
 use Rattle.pg_driver.specs.Inside.OpenSigns.{ClosesBy, closed_after, closed_by, closed_in, open_places, open_signs, place_from, sign_count}
 use Rattle.pg_driver.specs.Inside.PassWindows.{AreFates, HaveNumbers, IsNumbered, counts_at}
 use Rattle.pg_driver.proofs.NumberSteps.{filter_from}
-use Rattle.pg_driver.proofs.OpenSigns.{IsSignOf, place_at, range_get, sign_of}
+use Rattle.pg_driver.proofs.OpenSigns.{IsSignOf, place_of, range_get, sign_of}
 
 get_map : {X Y : Type 0} (f : X → Y) (xs : List X) (k : ℕ) (x : X) → slice_get xs k ≡ Some x → slice_get (map f xs) k ≡ Some (f x)
 get_map f [] k x at = absurd (let no : None ≡ Some x = at in cc)
@@ -81,8 +81,7 @@ module _ (params : LevelParams) (counts : Counts) (ws : Windows) (fates : List C
       closes_sign : (k s n : ℕ) → slice_get (open_signs (old pass.dot) 0 (sign_count words)) k ≡ Some s → slice_get ns k ≡ Some n → (d : ℕ) → IsSignOf words s → old pass.dot s ≡ false
           → closed_by (λ c. old c s) pass.dot (slice_get fates n) d ≡ closed_after params pass counts words old d s
       closes_sign k s n at to d of free =
-          let place : place_from 0 words s ≡ record { word = of.number; at = of.at } =
-          ap (place_from 0 words) (sym of.is) ∙ place_at 0 words of.number of.at of.word of.there of.within ∙ (let z : 0 + of.number ≡ of.number = omega arith in ap (λ (m : ℕ). record { word = m; at = of.at }) z) in
+          let place = place_of words s of in
           let numbered = subst (λ (e : Place). IsNumbered pass (counts_at pass) words ws e n) place (have.each k (place_from 0 words s) n (get_map (place_from 0 words) (open_signs (old pass.dot) 0 (sign_count words)) k s at) to) in
           closes_at of.number of.at s n of.word of.there free numbered d
           ∙ sym (ap (λ (e : Place). option_map_or (λ (w : Word). closed_in params pass counts w e.at (λ c. old c s) d) (slice_get words e.word) (old d s)) place

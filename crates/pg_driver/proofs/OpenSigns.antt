@@ -214,3 +214,9 @@ sign_of (w ∷ words) s low = elim (cases_lt s (length w.signs)) [
         is = (let is = rest.is in let z : length w.signs + start_of words rest.number + rest.at ≡ s = omega arith in z);
       }
 ]
+
+-- and has its place there
+pub place_of : (words : List Word) (s : ℕ) (of : IsSignOf words s) → place_from 0 words s ≡ record { word = of.number; at = of.at }
+place_of words s of =
+    let zero_plus : 0 + of.number ≡ of.number = omega arith in
+    ap (place_from 0 words) (sym of.is) ∙ place_at 0 words of.number of.at of.word of.there of.within ∙ ap (λ (n : ℕ). record { word = n; at = of.at }) zero_plus

@@ -17,7 +17,6 @@ mod records;
 mod run;
 mod sums;
 mod word_level;
-mod word_start;
 mod words;
 
 pub use levels::generate;

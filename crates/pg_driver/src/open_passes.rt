@@ -1,24 +1,18 @@
 //! A pass over the open positions of its level: the counting of its windows, and the closing of
 //! dots after its choices.
-ghost use Rattle.std.specs.Prelude.{◌≡◌, ◌≢◌, ◌≤◌, ◌<◌, ◌+◌, not, false, true, if◌then◌else◌, [], ℕ, Bool, length, slice_get, Some, IfOk, OnOk, OnErr, MatchOption};
+ghost use Rattle.std.specs.Prelude.{◌≡◌, ◌≢◌, ◌≤◌, ◌<◌, not, if◌then◌else◌, [], ℕ, Bool, length, slice_get, IfOk, OnOk};
 ghost use Rattle.std.specs.List.{flat_map};
 ghost use Rattle.pg_dots.specs.Inside.Dots.{is_closed, places as places_in};
-ghost use Rattle.pg_types.specs.Counts.{SignsWithin};
-ghost use Rattle.pg_types.specs.Numbered.{HasNumber};
-ghost use Rattle.pg_dict.specs.Word.{IsWord, SignsAtMost, Word};
-ghost use Rattle.pg_dict.specs.Inside.Lent.{lent_word};
+ghost use Rattle.pg_dict.specs.Word.{SignsAtMost};
 ghost use Rattle.pg_select.specs.Statuses.{is_odd};
-ghost use Rattle.pg_select.specs.Windows.{window, fits as fits_in};
 ghost use Rattle.pg_driver.specs.Inside.Counting.{counting, HasRoom, TookRoom};
 ghost use Rattle.pg_driver.specs.Inside.States.{IsPass};
-ghost use Rattle.pg_driver.specs.Inside.OpenSigns.{ClosesBy, closed_by, open_places, open_signs, place_from, sign_count, start_of};
-ghost use Rattle.pg_driver.specs.Inside.OpenPositions.{counted_in, counted_of, IsPlaced};
+ghost use Rattle.pg_driver.specs.Inside.OpenSigns.{ClosesBy, closed_by, open_places, open_signs, place_from, sign_count};
+ghost use Rattle.pg_driver.specs.Inside.OpenPositions.{counted_of};
 ghost use Rattle.pg_driver.specs.Inside.PassWindows.{ArePlaces, HaveNumbers, IsNumbered, counts_at};
 
-use crate::marks::fits;
-use crate::pass_windows::{NOT_COUNTED, Place, note_place};
-use crate::word_start::{WordStart, go_on};
-use pg_dict::{Dictionary, WordRef};
+use crate::pass_windows::{NOT_COUNTED, note_place};
+use pg_dict::Dictionary;
 use pg_dots::OpenDots;
 use pg_select::{Choice, Engine, Pass};
 use std::alloc::AllocError;
@@ -30,85 +24,49 @@ pub fn is_good(level: u8, hyphen: bool) -> bool
     hyphen == (level % 2 == 1)
 }
 
-/// Counts the window at position `p` of a word, where it fits in the word, and gives its number;
-/// `None` where it does not fit.
-fn count_at<E: Engine>(
-    engine: &mut E,
-    pass: Pass,
-    w: &WordRef<'_>,
-    p: usize,
-) -> Result<Option<u32>, AllocError>
-    requires ranges { IsPass pass }
-    requires pass { (E.meaning engine.old).pass ≡ pass }
-    requires word { IsWord (lent_word w.now) }
-    requires signs { SignsWithin (E.meaning engine.old).signs w.now.signs.now }
-    requires within { p < length w.now.signs.now }
-    requires room { HasRoom (E.meaning engine.old).counts 1 }
-    ensures ok { OnOk result (E.meaning engine.new
-        ≡ counting (E.meaning engine.old)
-        (counted_in pass.level pass.len pass.dot (lent_word w.now) p)) }
-    ensures number { IfOk result
-        (λ o. MatchOption o (fits_in w.now.signs.now p pass.len pass.dot ≡ false)
-        (λ n. (fits_in w.now.signs.now p pass.len pass.dot ≡ true)
-        × HasNumber (E.meaning engine.new).windows
-        (window w.now.signs.now p pass.len pass.dot) n)) }
-    ensures err { OnErr result (E.meaning engine.new ≡ E.meaning engine.old) }
-{
-    if fits(pass, w.signs.len(), p) {
-        let from = p - usize::from(pass.dot);
-        let window = &w.signs[from..from + usize::from(pass.len)];
-        let number = engine.count_numbered(
-            window,
-            is_good(pass.level, w.hyphens[p]),
-            w.weights[p],
-        )?;
-        return Ok(Some(number));
-    }
-    Ok(None)
-}
-
-/// Counts the window at a position at which the dot of the pass is open, where it fits in the word,
-/// and gives its number. Where it is counted for the first time, its place is noted. The signs of
-/// the position's word begin at `start`.
-fn count_position<E: Engine>(
+/// Counts the window at a sign at which the dot of the pass is open, where it fits in the sign's
+/// word, and gives its number. Where it is counted for the first time, its place is noted. No word
+/// is looked up.
+fn count_sign<E: Engine>(
     engine: &mut E,
     dictionary: &Dictionary,
     pass: Pass,
-    position: Place,
-    start: usize,
+    sign: usize,
     places: &mut Vec<u32>,
 ) -> Result<u32, AllocError>
     requires ranges { IsPass pass }
     requires pass { (E.meaning engine.old).pass ≡ pass }
     requires signs { SignsAtMost (E.meaning engine.old).signs dictionary.now }
-    requires placed { IsPlaced dictionary.now position }
-    requires start { start ≡ start_of dictionary.now position.word }
+    requires within { sign < sign_count dictionary.now }
     requires room { HasRoom (E.meaning engine.old).counts 1 }
     requires places { ArePlaces pass dictionary.now
         (E.meaning engine.old).windows places.old.items }
     ensures ok { OnOk result (E.meaning engine.new
         ≡ counting (E.meaning engine.old)
-        (counted_of pass.level pass.len pass.dot dictionary.now position)) }
+        (counted_of pass.level pass.len pass.dot dictionary.now
+        (place_from 0 dictionary.now sign))) }
     ensures took { OnOk result
         (TookRoom (E.meaning engine.old).counts (E.meaning engine.new).counts 1) }
     ensures number { IfOk result (λ n. IsNumbered pass (counts_at pass) dictionary.now
-        (E.meaning engine.new).windows position n) }
+        (E.meaning engine.new).windows (place_from 0 dictionary.now sign) n) }
     ensures places { OnOk result (ArePlaces pass dictionary.now (E.meaning engine.new).windows
         places.new.items) }
     ensures signs { (E.meaning engine.new).signs ≡ (E.meaning engine.old).signs }
 {
     let _words = dictionary.len();
-    let w = dictionary.word(position.word as usize);
-    let p = usize::from(position.at);
-    match count_at(engine, pass, &w, p)? {
-        None => Ok(NOT_COUNTED),
-        Some(number) => {
-            engine.kept();
-            let first = start + p - usize::from(pass.dot);
-            note_place(places, number, first as u32)?;
-            Ok(number)
-        }
+    let sites = dictionary.all_sites();
+    let site = sites[sign];
+    if !site.has_around(pass.dot, pass.len) {
+        return Ok(NOT_COUNTED);
     }
+    let signs = dictionary.all_signs();
+    let first = sign - usize::from(pass.dot);
+    let window = &signs[first..first + usize::from(pass.len)];
+    let good = is_good(pass.level, site.has_hyphen());
+    let number = engine.count_numbered(window, good, site.weight)?;
+    engine.kept();
+    note_place(places, number, first as u32)?;
+    Ok(number)
 }
 
 /// Counts the windows of a pass that has begun at the positions at which its dot is open. Each of
@@ -145,35 +103,13 @@ pub fn count_open<E: Engine>(
 {
     let signs = dictionary.all_signs();
     let end = signs.len();
-    let mut at = WordStart { word: 0, start: 0 };
     let mut next = dots.next_open(pass.dot, 0);
     'signs: while next < end {
-        at = go_on(dictionary, at, next);
-        let position = position_at(dictionary, at, next);
-        let number = count_position(engine, dictionary, pass, position, at.start, places)?;
+        let number = count_sign(engine, dictionary, pass, next, places)?;
         numbers.push(number)?;
         next = dots.next_open(pass.dot, next + 1);
     }
     Ok(())
-}
-
-/// The position of a sign, which stands in the word.
-fn position_at(dictionary: &Dictionary, at: WordStart, sign: usize) -> Place
-    requires start { at.start ≡ start_of dictionary.now at.word }
-    requires word { at.word < length dictionary.now }
-    requires behind { at.start ≤ sign }
-    requires inside { (w : Word) → slice_get dictionary.now at.word ≡ Some w
-        → sign < at.start + length w.signs }
-    ensures position { result ≡ place_from 0 dictionary.now sign }
-    ensures placed { IsPlaced dictionary.now result }
-    ensures word { result.word ≡ at.word }
-{
-    let _words = dictionary.len();
-    let _w = dictionary.word(at.word);
-    Place {
-        word: at.word as u32,
-        at: (sign - at.start) as u8,
-    }
 }
 
 /// What became of the window with this number; `None` for `NOT_COUNTED`.

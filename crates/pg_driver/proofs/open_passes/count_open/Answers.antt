@@ -3,14 +3,14 @@ use Rattle.std.specs.List.{flat_map}
 use Rattle.std.proofs.lemmas.List.{map-append}
 use Rattle.pg_dots.specs.Inside.Dots.{is_closed}
 use Rattle.pg_driver.specs.Inside.Counting.{counting, HasRoom}
-use Rattle.pg_driver.specs.Inside.PassWindows.{HaveNumbers, IsNumbered, counts_at}
+use Rattle.pg_driver.specs.Inside.PassWindows.{HaveNumbers, counts_at}
 use Rattle.pg_driver.proofs.Rooms.{room_left, room_less}
 use Rattle.pg_driver.proofs.Walks.{counted_step, kept_on}
 use Rattle.pg_driver.specs.declared.pass_windows.Place.{Place}
 use Rattle.pg_driver.specs.Inside.OpenPositions.{counted_of}
-use Rattle.pg_driver.specs.Inside.OpenSigns.{open_signs, place_from, sign_count, start_of}
+use Rattle.pg_driver.specs.Inside.OpenSigns.{open_signs, place_from, sign_count}
 use Rattle.pg_driver.proofs.NumberSteps.{have_more, still_have}
-use Rattle.pg_driver.proofs.OpenSigns.{open_first, open_skip, open_upto, start_zero, upto_all, upto_open, upto_skip}
+use Rattle.pg_driver.proofs.OpenSigns.{open_first, open_skip, open_upto, upto_all, upto_open, upto_skip}
 use Rattle.pg_driver.proofs.open_passes.count_open.Goals as goal
 
 pub signs-init : goal.signs-init
@@ -32,18 +32,18 @@ signs-init g c =
           subst (λ (xs : List ℕ). HaveNumbers pass (counts_at pass) words m0.windows (map (place_from 0 words) xs) c.args.numbers.now.items) none
           (subst (HaveNumbers pass (counts_at pass) words m0.windows []) (sym c.requires.none) (record { size = refl; each = λ k e n at to. absurd (let no : None ≡ Some e = at in cc) }));
       room = subst (λ (xs : List ℕ). HasRoom m0.counts (length xs)) skipped c.requires.room;
-      start = start_zero words;
-      behind = omega arith;
       inside = later.within;
       free = later.fails;
       beyond = λ i from before. later.passes i (omega arith) before;
     }
 
-pub count_position-requires-clause-start : goal.count_position-requires-clause-start
-count_position-requires-clause-start g c = c.go_on-at.ensures.start ∙ ap (start_of c.args.dictionary.now) (sym c.position_at-position.ensures.word)
+pub count_sign-requires-clause-within : goal.count_sign-requires-clause-within
+count_sign-requires-clause-within g c =
+    let all = ap (λ (xs : List ℕ). length xs) c.all_signs-signs.ensures in
+    omega (arith, c.signs-test.true)
 
-pub count_position-requires-clause-room : goal.count_position-requires-clause-room
-count_position-requires-clause-room g c =
+pub count_sign-requires-clause-room : goal.count_sign-requires-clause-room
+count_sign-requires-clause-room g c =
     let words = c.args.dictionary.now in
     let closed : ℕ → Bool = is_closed c.args.dots.now c.args.pass.dot in
     let total = sign_count words in
@@ -57,7 +57,7 @@ pub signs-preserved : goal.signs-preserved
 signs-preserved g c =
     let m0 = g.E.Engine.meaning c.args.engine.now in
     let m = g.E.Engine.meaning c.signs.engine in
-    let after = g.E.Engine.meaning c.count_position.new.engine in
+    let after = g.E.Engine.meaning c.count_sign.new.engine in
     let words = c.args.dictionary.now in
     let pass = c.args.pass in
     let f = counted_of pass.level pass.len pass.dot words in
@@ -72,9 +72,8 @@ signs-preserved g c =
     let low : s < total = omega (arith, c.signs-test.true) in
     let free : closed s ≡ false = inv.free (omega (arith, c.requires.size)) in
     let step : open_signs closed s total ≡ s ∷ open_signs closed t total = open_first closed total s low free ∙ ap (λ (xs : List ℕ). s ∷ xs) (open_skip closed total (s + 1) t later.after later.passes) in
-    let ok : after ≡ counting m (f (place s)) = c.in_ok-number.ensures.ok ∙ ap (λ (e : Place). counting m (f e)) c.position_at-position.ensures.position in
+    let ok : after ≡ counting m (f (place s)) = c.in_ok-number.ensures.ok in
     let front : map place (open_upto closed s) ++ place s ∷ [] ≡ map place (open_upto closed t) = sym (ap (map place) (sym (upto_skip closed (s + 1) t later.after later.passes) ∙ upto_open closed s free) ∙ map-append place (open_upto closed s) (s ∷ [])) in
-    let number : IsNumbered pass (counts_at pass) words after.windows (place s) c.in_ok-number.number = subst (λ (e : Place). IsNumbered pass (counts_at pass) words after.windows e c.in_ok-number.number) c.position_at-position.ensures.position c.in_ok-number.ensures.number in
     record {
       kept = kept_on m0 m after (f (place s)) inv.kept ok;
       whole = counted_step f m after _ (place s) (map place (open_signs closed t total)) ok (ap (λ (xs : List ℕ). counting m (flat_map f (map place xs))) (sym step) ∙ inv.whole);
@@ -83,10 +82,8 @@ signs-preserved g c =
           subst (λ (es : List Place). HaveNumbers pass (counts_at pass) words after.windows es c.push.new.self.items) front
           (subst (HaveNumbers pass (counts_at pass) words after.windows (map place (open_upto closed s) ++ place s ∷ [])) (sym c.in_ok-push.ensures.items)
           (have_more pass (counts_at pass) words after.windows (map place (open_upto closed s)) c.signs.numbers.items (place s) c.in_ok-number.number
-          (still_have pass (counts_at pass) words m after (f (place s)) (map place (open_upto closed s)) c.signs.numbers.items ok inv.numbered) number));
+          (still_have pass (counts_at pass) words m after (f (place s)) (map place (open_upto closed s)) c.signs.numbers.items ok inv.numbered) c.in_ok-number.ensures.number));
       room = room_left m.counts after.counts (length (open_signs closed s total)) 1 (length (open_signs closed t total)) inv.room c.in_ok-number.ensures.took (omega (arith, ap (λ (xs : List ℕ). length xs) step));
-      start = c.go_on-at.ensures.start;
-      behind = omega (arith, c.go_on-at.ensures.behind, later.after);
       inside = later.within;
       free = later.fails;
       beyond = λ i from before. later.passes i (omega arith) before;

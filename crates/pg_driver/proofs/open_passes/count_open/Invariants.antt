@@ -5,7 +5,7 @@ use Rattle.pg_driver.proofs.OpenSigns.{open_upto}
 use Rattle.pg_driver.proofs.Walks.{KeepsButCounts}
 use Rattle.pg_driver.specs.Inside.Counting.{counting, HasRoom}
 use Rattle.pg_driver.specs.Inside.OpenPositions.{counted_of}
-use Rattle.pg_driver.specs.Inside.OpenSigns.{open_places, open_signs, place_from, sign_count, start_of}
+use Rattle.pg_driver.specs.Inside.OpenSigns.{open_places, open_signs, place_from, sign_count}
 use Rattle.pg_driver.specs.Inside.PassWindows.{ArePlaces, HaveNumbers, counts_at}
 use Rattle.pg_driver.proofs.open_passes.count_open.Given as goal
 
@@ -21,8 +21,6 @@ invariant-signs g l =
       placed : ArePlaces l.pass words m.windows l.places.items;
       numbered : HaveNumbers l.pass (counts_at l.pass) words m.windows (map (place_from 0 words) (open_upto closed l.next)) l.numbers.items;
       room : HasRoom m.counts (length (open_signs closed l.next (sign_count words)));
-      start : l.at.start ≡ start_of words l.at.word;
-      behind : l.at.start ≤ l.next;
       inside : l.next ≤ places_in l.dots;
       free : l.next < places_in l.dots → closed l.next ≡ false;
       beyond : (i : ℕ) → sign_count words ≤ i → i < l.next → closed i ≡ true;

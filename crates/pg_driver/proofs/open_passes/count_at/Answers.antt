@@ -1,7 +1,0 @@
-use Rattle.pg_dict.specs.Inside.Lent.{lent_word}
-use Rattle.pg_select.proofs.MarkSteps.{weight_small}
-use Rattle.pg_driver.proofs.Rooms.{room_small}
-use Rattle.pg_driver.proofs.open_passes.count_at.Goals as goal
-
-pub count_numbered-requires-clause-small : goal.count_numbered-requires-clause-small
-count_numbered-requires-clause-small g c = room_small _ _ c.is_good.result _ c.requires.room (weight_small (lent_word c.args.w.now) c.args.p c.requires.word c.requires.within)

@@ -1,0 +1,195 @@
+use Rattle.std.proofs.Common.{◌≡◌, ℕ, ◌+◌, ◌-◌, ◌≤◌, List, Bool, true, false, cond, not, length, take, drop, get_or, refl, sym, ap, subst, ◌∙◌, arith}
+use Rattle.std.proofs.lemmas.List.Elements.{All-drop, All-take}
+use Rattle.pg_types.specs.declared.limits.TheConstants.{WEIGHT_MAX}
+use Rattle.pg_types.specs.Counts.{SignsWithin}
+use Rattle.pg_types.specs.Numbered.{HasNumber, with_window}
+use Rattle.pg_dict.specs.declared.sites.Site.{Site}
+use Rattle.pg_dict.proofs.Told.{word_in}
+use Rattle.pg_select.proofs.MarkSteps.{weight_small}
+use Rattle.pg_select.specs.Meanings.{Meaning}
+use Rattle.pg_select.specs.Statuses.{is_odd}
+use Rattle.pg_select.specs.Windows.{fits, window}
+use Rattle.pg_driver.specs.declared.pass_windows.Place.{Place}
+use Rattle.pg_driver.specs.declared.pass_windows.TheConstants.{NOT_COUNTED}
+use Rattle.pg_driver.specs.Inside.Counting.{counting}
+use Rattle.pg_driver.specs.Inside.OpenPositions.{counted_of}
+use Rattle.pg_driver.specs.Inside.OpenSigns.{start_of}
+use Rattle.pg_driver.specs.Inside.PassWindows.{IsNumbered, counts_at, window_from}
+use Rattle.pg_driver.proofs.FlatSigns.{counted_fit, counted_none, counted_there, fit_within, flat_inside, flat_window, numbered_fit, numbered_none, site_at, sites_count}
+use Rattle.pg_driver.proofs.NumberSteps.{place_more}
+use Rattle.pg_driver.proofs.OpenSigns.{place_of, signs_few}
+use Rattle.pg_driver.proofs.OpenSteps.{took_entry}
+use Rattle.pg_driver.proofs.Rooms.{room_small}
+use Rattle.pg_driver.proofs.WordSteps.{signs_within}
+use Rattle.pg_driver.proofs.open_passes.count_sign.Goals as goal
+
+pub bounds-sites-sign : goal.bounds-sites-sign
+bounds-sites-sign g c =
+    omega (arith, ap (λ (xs : List Site). length xs) c.all_sites-sites.ensures, sites_count c.args.dictionary.now, c.requires.within)
+
+pub offset_bounds-sites-sign : goal.offset_bounds-sites-sign
+offset_bounds-sites-sign g c =
+    omega (arith, c.requires.within, signs_few c.args.dictionary.now c.len-words.ensures.words, c.len-words.ensures.letters)
+
+pub returns-then-not-has_around-clause-ok : goal.returns-then-not-has_around-clause-ok
+returns-then-not-has_around-clause-ok g c =
+    let m = g.E.Engine.meaning c.args.engine.now in
+    let words = c.args.dictionary.now in
+    let pass = c.args.pass in
+    let s = site_at words c.all_sites-sites.result.now c.args.sign (record { weight = 0; before = 0; left = 0 }) c.all_sites-sites.ensures c.requires.within in
+    let w = s.of.word in
+    let p = s.of.at in
+    let other : fits w.signs p pass.len pass.dot ≡ false = sym (c.has_around.ensures w p s.of.within s.is) ∙ c.if-not-has_around.true in
+    sym (ap (λ (e : Place). counting m (counted_of pass.level pass.len pass.dot words e)) (place_of words c.args.sign s.of) ∙ counted_none m pass.level pass.len pass.dot words s.of.number p w s.of.there other)
+
+pub returns-then-not-has_around-clause-number : goal.returns-then-not-has_around-clause-number
+returns-then-not-has_around-clause-number g c =
+    let m = g.E.Engine.meaning c.args.engine.now in
+    let words = c.args.dictionary.now in
+    let pass = c.args.pass in
+    let s = site_at words c.all_sites-sites.result.now c.args.sign (record { weight = 0; before = 0; left = 0 }) c.all_sites-sites.ensures c.requires.within in
+    let w = s.of.word in
+    let p = s.of.at in
+    let other : fits w.signs p pass.len pass.dot ≡ false = sym (c.has_around.ensures w p s.of.within s.is) ∙ c.if-not-has_around.true in
+    subst (λ (e : Place). IsNumbered pass (counts_at pass) words m.windows e NOT_COUNTED) (sym (place_of words c.args.sign s.of)) (numbered_none pass words m.windows s.of.number p w NOT_COUNTED s.of.there other refl)
+
+pub overflow_sub-first : goal.overflow_sub-first
+overflow_sub-first g c =
+    let words = c.args.dictionary.now in
+    let pass = c.args.pass in
+    let s = site_at words c.all_sites-sites.result.now c.args.sign (record { weight = 0; before = 0; left = 0 }) c.all_sites-sites.ensures c.requires.within in
+    let w = s.of.word in
+    let p = s.of.at in
+    let fit : fits w.signs p pass.len pass.dot ≡ true = sym (c.has_around.ensures w p s.of.within s.is) ∙ c.if-not-has_around.false in
+    omega (arith, c.from.ensures, s.of.is, (fit_within (length w.signs) p pass.len pass.dot fit).0)
+
+pub slice_bounds-window-end : goal.slice_bounds-window-end
+slice_bounds-window-end g c =
+    let words = c.args.dictionary.now in
+    let pass = c.args.pass in
+    let s = site_at words c.all_sites-sites.result.now c.args.sign (record { weight = 0; before = 0; left = 0 }) c.all_sites-sites.ensures c.requires.within in
+    let w = s.of.word in
+    let p = s.of.at in
+    let fit : fits w.signs p pass.len pass.dot ≡ true = sym (c.has_around.ensures w p s.of.within s.is) ∙ c.if-not-has_around.false in
+    let first = c.args.sign - c.from.result in
+    let begins : first ≡ start_of words s.of.number + (p - pass.dot) = omega (arith, c.from.ensures, s.of.is, (fit_within (length w.signs) p pass.len pass.dot fit).0) in
+    omega (arith, flat_inside words s.of.number p pass.len pass.dot first w s.of.there fit begins, c.from-2.ensures, ap (λ (xs : List ℕ). length xs) c.all_signs-signs.ensures)
+
+pub count_numbered-requires-clause-signs : goal.count_numbered-requires-clause-signs
+count_numbered-requires-clause-signs g c =
+    let m = g.E.Engine.meaning c.args.engine.now in
+    let words = c.args.dictionary.now in
+    let pass = c.args.pass in
+    let s = site_at words c.all_sites-sites.result.now c.args.sign (record { weight = 0; before = 0; left = 0 }) c.all_sites-sites.ensures c.requires.within in
+    let w = s.of.word in
+    let p = s.of.at in
+    let fit : fits w.signs p pass.len pass.dot ≡ true = sym (c.has_around.ensures w p s.of.within s.is) ∙ c.if-not-has_around.false in
+    let first = c.args.sign - c.from.result in
+    let begins : first ≡ start_of words s.of.number + (p - pass.dot) = omega (arith, c.from.ensures, s.of.is, (fit_within (length w.signs) p pass.len pass.dot fit).0) in
+    let long : first + c.from-2.result - first ≡ pass.len = omega (arith, c.from-2.ensures) in
+    let lent : take (first + c.from-2.result - first) (drop first c.all_signs-signs.result.now) ≡ window w.signs p pass.len pass.dot =
+    (λ i. take (long i) (drop first (c.all_signs-signs.ensures i))) ∙ flat_window words s.of.number p pass.len pass.dot first w s.of.there fit begins in
+    let word = word_in words s.of.number w c.len-words.ensures.words s.of.there in
+    let signs = signs_within m.signs words s.of.number w s.of.there c.requires.signs word in
+    subst (SignsWithin m.signs) (sym lent) (All-take (λ x. (1 ≤ x) × (x ≤ m.signs)) pass.len (drop (p - pass.dot) w.signs) (All-drop (λ x. (1 ≤ x) × (x ≤ m.signs)) (p - pass.dot) w.signs signs))
+
+pub count_numbered-requires-clause-weight : goal.count_numbered-requires-clause-weight
+count_numbered-requires-clause-weight g c =
+    let words = c.args.dictionary.now in
+    let pass = c.args.pass in
+    let s = site_at words c.all_sites-sites.result.now c.args.sign (record { weight = 0; before = 0; left = 0 }) c.all_sites-sites.ensures c.requires.within in
+    let w = s.of.word in
+    let p = s.of.at in
+    let word = word_in words s.of.number w c.len-words.ensures.words s.of.there in
+    subst (λ (x : Site). x.weight ≤ WEIGHT_MAX) (sym s.is) (weight_small w p word s.of.within)
+
+pub count_numbered-requires-clause-small : goal.count_numbered-requires-clause-small
+count_numbered-requires-clause-small g c =
+    let words = c.args.dictionary.now in
+    let pass = c.args.pass in
+    let s = site_at words c.all_sites-sites.result.now c.args.sign (record { weight = 0; before = 0; left = 0 }) c.all_sites-sites.ensures c.requires.within in
+    let w = s.of.word in
+    let p = s.of.at in
+    let word = word_in words s.of.number w c.len-words.ensures.words s.of.there in
+    room_small _ _ _ _ c.requires.room (subst (λ (x : Site). x.weight ≤ WEIGHT_MAX) (sym s.is) (weight_small w p word s.of.within))
+
+pub overflow_cast-first : goal.overflow_cast-first
+overflow_cast-first g c =
+    omega (arith, c.requires.within, signs_few c.args.dictionary.now c.len-words.ensures.words, c.len-words.ensures.letters)
+
+pub returns-clause-ok : goal.returns-clause-ok
+returns-clause-ok g c =
+    let m = g.E.Engine.meaning c.args.engine.now in
+    let words = c.args.dictionary.now in
+    let pass = c.args.pass in
+    let s = site_at words c.all_sites-sites.result.now c.args.sign (record { weight = 0; before = 0; left = 0 }) c.all_sites-sites.ensures c.requires.within in
+    let w = s.of.word in
+    let p = s.of.at in
+    let fit : fits w.signs p pass.len pass.dot ≡ true = sym (c.has_around.ensures w p s.of.within s.is) ∙ c.if-not-has_around.false in
+    let first = c.args.sign - c.from.result in
+    let begins : first ≡ start_of words s.of.number + (p - pass.dot) = omega (arith, c.from.ensures, s.of.is, (fit_within (length w.signs) p pass.len pass.dot fit).0) in
+    let long : first + c.from-2.result - first ≡ pass.len = omega (arith, c.from-2.ensures) in
+    let lent : take (first + c.from-2.result - first) (drop first c.all_signs-signs.result.now) ≡ window w.signs p pass.len pass.dot =
+    (λ i. take (long i) (drop first (c.all_signs-signs.ensures i))) ∙ flat_window words s.of.number p pass.len pass.dot first w s.of.there fit begins in
+    let hyphens = ap (λ (b : Bool). cond (is_odd pass.level) b (not b)) (c.has_hyphen.ensures w p s.is) in
+    let ok = c.in_ok-number.ensures.ok ∙ counted_fit m pass.level pass.len pass.dot words s.of.number p w s.of.there (take (first + c.from-2.result - first) (drop first c.all_signs-signs.result.now)) c.is_good-good.result (get_or c.all_sites-sites.result.now c.args.sign (record { weight = 0; before = 0; left = 0 })).weight fit lent (c.is_good-good.ensures ∙ hyphens) (ap (λ (x : Site). x.weight) s.is) in
+    ok ∙ sym (ap (λ (e : Place). counting m (counted_of pass.level pass.len pass.dot words e)) (place_of words c.args.sign s.of))
+
+pub returns-clause-took : goal.returns-clause-took
+returns-clause-took g c =
+    let m = g.E.Engine.meaning c.args.engine.now in
+    let after = g.E.Engine.meaning c.count_numbered.new.self in
+    let words = c.args.dictionary.now in
+    let pass = c.args.pass in
+    let s = site_at words c.all_sites-sites.result.now c.args.sign (record { weight = 0; before = 0; left = 0 }) c.all_sites-sites.ensures c.requires.within in
+    let w = s.of.word in
+    let p = s.of.at in
+    let fit : fits w.signs p pass.len pass.dot ≡ true = sym (c.has_around.ensures w p s.of.within s.is) ∙ c.if-not-has_around.false in
+    let first = c.args.sign - c.from.result in
+    let begins : first ≡ start_of words s.of.number + (p - pass.dot) = omega (arith, c.from.ensures, s.of.is, (fit_within (length w.signs) p pass.len pass.dot fit).0) in
+    let long : first + c.from-2.result - first ≡ pass.len = omega (arith, c.from-2.ensures) in
+    let lent : take (first + c.from-2.result - first) (drop first c.all_signs-signs.result.now) ≡ window w.signs p pass.len pass.dot =
+    (λ i. take (long i) (drop first (c.all_signs-signs.ensures i))) ∙ flat_window words s.of.number p pass.len pass.dot first w s.of.there fit begins in
+    let hyphens = ap (λ (b : Bool). cond (is_odd pass.level) b (not b)) (c.has_hyphen.ensures w p s.is) in
+    let ok = c.in_ok-number.ensures.ok ∙ counted_fit m pass.level pass.len pass.dot words s.of.number p w s.of.there (take (first + c.from-2.result - first) (drop first c.all_signs-signs.result.now)) c.is_good-good.result (get_or c.all_sites-sites.result.now c.args.sign (record { weight = 0; before = 0; left = 0 })).weight fit lent (c.is_good-good.ensures ∙ hyphens) (ap (λ (x : Site). x.weight) s.is) in
+    let word = word_in words s.of.number w c.len-words.ensures.words s.of.there in
+    took_entry m after pass.level pass.len pass.dot w p 1 c.requires.ranges.len_low word s.of.within c.requires.room (ok ∙ counted_there m pass.level pass.len pass.dot words s.of.number p w s.of.there)
+
+pub returns-clause-number : goal.returns-clause-number
+returns-clause-number g c =
+    let after = g.E.Engine.meaning c.count_numbered.new.self in
+    let words = c.args.dictionary.now in
+    let pass = c.args.pass in
+    let s = site_at words c.all_sites-sites.result.now c.args.sign (record { weight = 0; before = 0; left = 0 }) c.all_sites-sites.ensures c.requires.within in
+    let w = s.of.word in
+    let p = s.of.at in
+    let fit : fits w.signs p pass.len pass.dot ≡ true = sym (c.has_around.ensures w p s.of.within s.is) ∙ c.if-not-has_around.false in
+    let first = c.args.sign - c.from.result in
+    let begins : first ≡ start_of words s.of.number + (p - pass.dot) = omega (arith, c.from.ensures, s.of.is, (fit_within (length w.signs) p pass.len pass.dot fit).0) in
+    let long : first + c.from-2.result - first ≡ pass.len = omega (arith, c.from-2.ensures) in
+    let lent : take (first + c.from-2.result - first) (drop first c.all_signs-signs.result.now) ≡ window w.signs p pass.len pass.dot =
+    (λ i. take (long i) (drop first (c.all_signs-signs.ensures i))) ∙ flat_window words s.of.number p pass.len pass.dot first w s.of.there fit begins in
+    let number = c.in_ok-number.number in
+    subst (λ (e : Place). IsNumbered pass (counts_at pass) words after.windows e number) (sym (place_of words c.args.sign s.of))
+    (numbered_fit pass words after.windows s.of.number p w number s.of.there fit (subst (λ (u : List ℕ). HasNumber after.windows u number) lent c.in_ok-number.ensures.number))
+
+pub returns-clause-places : goal.returns-clause-places
+returns-clause-places g c =
+    let m = g.E.Engine.meaning c.args.engine.now in
+    let after = g.E.Engine.meaning c.count_numbered.new.self in
+    let words = c.args.dictionary.now in
+    let pass = c.args.pass in
+    let s = site_at words c.all_sites-sites.result.now c.args.sign (record { weight = 0; before = 0; left = 0 }) c.all_sites-sites.ensures c.requires.within in
+    let w = s.of.word in
+    let p = s.of.at in
+    let fit : fits w.signs p pass.len pass.dot ≡ true = sym (c.has_around.ensures w p s.of.within s.is) ∙ c.if-not-has_around.false in
+    let first = c.args.sign - c.from.result in
+    let begins : first ≡ start_of words s.of.number + (p - pass.dot) = omega (arith, c.from.ensures, s.of.is, (fit_within (length w.signs) p pass.len pass.dot fit).0) in
+    let long : first + c.from-2.result - first ≡ pass.len = omega (arith, c.from-2.ensures) in
+    let lent : take (first + c.from-2.result - first) (drop first c.all_signs-signs.result.now) ≡ window_from pass words first = λ i. take (long i) (drop first (c.all_signs-signs.ensures i)) in
+    place_more pass words m.windows after.windows m.counts after.counts c.args.places.now.items c.note_place.new.places.items first c.in_ok-number.number
+    c.requires.places c.kept.ensures.numbered
+    (flat_inside words s.of.number p pass.len pass.dot first w s.of.there fit begins)
+    (ap (λ (x : Meaning). x.windows) c.in_ok-number.ensures.ok ∙ ap (with_window m.windows m.counts) lent)
+    (subst (λ (u : List ℕ). HasNumber after.windows u c.in_ok-number.number) lent c.in_ok-number.ensures.number)
+    c.in_ok-note_place.ensures
