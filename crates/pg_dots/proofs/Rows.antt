@@ -3,9 +3,7 @@ use Rattle.std.proofs.Common.{◌≡◌, ◌≢◌, ℕ, zero, suc, ◌+◌, ◌
 use Rattle.std.specs.Int.{bit_at, bit_not}
 use Rattle.std.proofs.lemmas.Bool.{eq-eqb, ne_eqb, cases_eq, cases_lt, le-leb, lt-leb}
 use Rattle.std.proofs.lemmas.List.{get_or-set_same, get_or-set_other, get_or-take, get_or-drop}
-use Rattle.std.proofs.lemmas.Nat.Bits.{bit_at_or, bit_at-lt, bit_at_set_same, bit_at_set_other, bit_at_clear_same, bit_at_clear_other, bit_at_ones, bit_at_ones_above}
-use Rattle.std.proofs.Math.Pow.{pow-lt}
-use Rattle.std.proofs.Math.Nat.{mod-eq_of_lt}
+use Rattle.std.proofs.lemmas.Nat.Bits.{bit_at_or, bit_at-lt, bit_at_set_same, bit_at_set_other, bit_at_clear_same, bit_at_clear_other}
 use Rattle.pg_dots.specs.Inside.Bits.{has_bit}
 
 -- whether one of two bits is set
@@ -161,28 +159,6 @@ taken_in old new width j is = elim (cases_lt (j / 64) (2 * width)) [
         ∙ ap (λ k. nat_eq (bit_at (get_or old (j / 64) 0) (j % 64)) 1 || nat_eq (bit_at (get_or old k 0) (j % 64)) 1) number
         ∙ ap (λ k. nat_eq (bit_at (get_or old (j / 64) 0) (j % 64)) 1 || nat_eq (bit_at (get_or old ((j - 64 * width) / 64) 0) k) 1) bit
         ∙ sym (ap (λ b. has_bit old j || (b && has_bit old (j - 64 * width))) some)
-
--- a power below the greatest number
-pub one_shifted : (k : ℕ) → k < 64 → 1 * 2 ^ k % 2 ^ 64 ≡ 2 ^ k
-one_shifted k small =
-    let one : 1 * 2 ^ k ≡ 2 ^ k = omega arith in
-    ap (λ n. n % 2 ^ 64) one ∙ mod-eq_of_lt (pow-lt small)
-
--- a number with its low bits set
-pub low_set : (n k i : ℕ) → k < 64 → i < k → bit_at (bit_or n (1 * 2 ^ k % 2 ^ 64 - 1)) i ≡ 1
-low_set n k i small within =
-    let below : bit_at n i < 2 = bit_at-lt n i in
-    ap (λ x. bit_at (bit_or n (x - 1)) i) (one_shifted k small) ∙ bit_at_or n (2 ^ k - 1) i ∙ ap (max (bit_at n i)) (bit_at_ones k i within) ∙ greatest (bit_at n i) below
-  where
-    greatest : (x : ℕ) → x < 2 → max x 1 ≡ 1
-    greatest x below = omega arith
-
-pub high_kept : (n k i : ℕ) → k < 64 → k ≤ i → bit_at (bit_or n (1 * 2 ^ k % 2 ^ 64 - 1)) i ≡ bit_at n i
-high_kept n k i small above =
-    ap (λ x. bit_at (bit_or n (x - 1)) i) (one_shifted k small) ∙ bit_at_or n (2 ^ k - 1) i ∙ ap (max (bit_at n i)) (bit_at_ones_above k i above) ∙ plain (bit_at n i)
-  where
-    plain : (x : ℕ) → max x 0 ≡ x
-    plain x = omega arith
 
 -- a bit of a number of a row
 pub number_bit : (row : List ℕ) (k i : ℕ) → 64 * k ≤ i → i < 64 * k + 64 → has_bit row i ≡ nat_eq (bit_at (get_or row k 0) (i - 64 * k)) 1

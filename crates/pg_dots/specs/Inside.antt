@@ -1,3 +1,4 @@
 -- What only contracts between layers and proofs need.
 pub mod Bits
+pub mod Walks
 pub mod Dots

@@ -3,5 +3,7 @@
 
 mod bits;
 mod open_dots;
+mod walk;
 
 pub use open_dots::OpenDots;
+pub use walk::Walk;

@@ -3,7 +3,8 @@ ghost use Rattle.std.specs.Prelude.{◌≡◌, ◌≤◌, ◌<◌, ◌*◌, ◌+
 ghost use Rattle.pg_dots.specs.Inside.Bits.{has_bit};
 ghost use Rattle.pg_types.specs.declared.limits.TheConstants.{LENGTH_MAX};
 
-use crate::bits::{NUMBER_BITS, clear, next_clear, set, take_in_before};
+use crate::bits::{NUMBER_BITS, clear, set, take_in_before};
+use crate::walk::Walk;
 use pg_types::LENGTH_MAX;
 use std::alloc::{AllocError, Global};
 
@@ -25,6 +26,7 @@ pub struct OpenDots {
     /// The rows, one after the other: first that of the dots that are not reached, then those of
     /// the dots.
     bits: Vec<u64>,
+    ghost some: { 0 < width },
     ghost narrow: { width ≤ 2 ^ 32 },
     ghost few: { reached ≤ 16 },
     ghost rows: { length bits.items ≡ (reached + 1) * width },
@@ -32,7 +34,8 @@ pub struct OpenDots {
 
 impl OpenDots {
     ghost use Rattle.pg_dots.specs.Inside.Bits.{IsNext};
-    ghost use Rattle.pg_dots.specs.Inside.Dots.{is_closed, places};
+    ghost use Rattle.pg_dots.specs.Inside.Dots.{is_closed, places, HasWalk};
+    ghost use Rattle.pg_dots.specs.Inside.Walks.{IsAhead};
 
     /// Each dot is closed at each of `size` positions, and no dot is reached.
     pub fn closed(alloc: Global, size: usize) -> Result<OpenDots, AllocError>
@@ -89,15 +92,38 @@ impl OpenDots {
         Ok(())
     }
 
-    /// The first position from `from` on at which a dot is open; the end of all positions where
-    /// there is none.
-    pub fn next_open(&self, dot: u8, from: usize) -> usize
+    /// A walk over the positions at which a dot is open, before the first of them.
+    pub fn walk(&self, dot: u8) -> Walk
         requires dot { dot < self.now.reached }
-        requires from { from ≤ places self.now }
-        ensures { IsNext (is_closed self.now dot) (places self.now) from result }
+        ensures within { HasWalk self.now result }
+        ensures ahead { IsAhead (is_closed self.now dot) result 0 }
+    {
+        Walk::start(self.row(dot))
+    }
+
+    /// The next position of a walk over those at which a dot is open; the end of all positions where
+    /// there is none.
+    pub fn next_open(&self, dot: u8, walk: &mut Walk) -> usize
+        requires dot { dot < self.now.reached }
+        requires within { HasWalk self.now walk.old }
+        ensures within { HasWalk self.now walk.new }
+        ensures next { (from : ℕ) → IsAhead (is_closed self.now dot) walk.old from
+            → IsNext (is_closed self.now dot) (places self.now) from result }
+        ensures ahead { (from : ℕ) → IsAhead (is_closed self.now dot) walk.old from
+            → result < places self.now → IsAhead (is_closed self.now dot) walk.new (result + 1) }
+    {
+        walk.next(self.row(dot))
+    }
+
+    /// The row of a dot.
+    fn row(&self, dot: u8) -> &[u64]
+        requires dot { dot < self.now.reached }
+        ensures size { length result.now ≡ self.now.width }
+        ensures bits { (i : ℕ) → i < places self.now
+            → has_bit result.now i ≡ is_closed self.now dot i }
     {
         let start = (usize::from(dot) + 1) * self.width;
-        next_clear(&self.bits[start..start + self.width], from)
+        &self.bits[start..start + self.width]
     }
 
     /// Closes a dot at a position.

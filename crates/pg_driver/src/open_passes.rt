@@ -103,11 +103,12 @@ pub fn count_open<E: Engine>(
 {
     let signs = dictionary.all_signs();
     let end = signs.len();
-    let mut next = dots.next_open(pass.dot, 0);
+    let mut walk = dots.walk(pass.dot);
+    let mut next = dots.next_open(pass.dot, &mut walk);
     'signs: while next < end {
         let number = count_sign(engine, dictionary, pass, next, places)?;
         numbers.push(number)?;
-        next = dots.next_open(pass.dot, next + 1);
+        next = dots.next_open(pass.dot, &mut walk);
     }
     Ok(())
 }
@@ -150,10 +151,9 @@ pub fn close_dots(dot: u8, fates: &[Choice], numbers: &[u32], end: usize, dots: 
         (open_signs (is_closed dots.old dot) 0 end) numbers.now
         → (d s : ℕ) → s < end → is_closed dots.new d s ≡ after d s }
 {
-    let mut next = 0;
+    let mut walk = dots.walk(dot);
     'numbers: for number in numbers {
-        let sign = dots.next_open(dot, next);
+        let sign = dots.next_open(dot, &mut walk);
         close_at(dots, dot, sign, fate_of(fates, *number));
-        next = sign + 1;
     }
 }

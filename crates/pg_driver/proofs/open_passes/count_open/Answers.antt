@@ -21,7 +21,7 @@ signs-init g c =
     let closed : ℕ → Bool = is_closed c.args.dots.now pass.dot in
     let total = sign_count words in
     let next = c.next_open-next.result in
-    let later = c.next_open-next.ensures in
+    let later = c.next_open-next.ensures.next 0 c.walk-walk.ensures.ahead in
     let skipped : open_signs closed 0 total ≡ open_signs closed next total = open_skip closed total 0 next later.after later.passes in
     let none : [] ≡ open_upto closed next = upto_skip closed 0 next later.after later.passes in
     record {
@@ -34,6 +34,8 @@ signs-init g c =
       room = subst (λ (xs : List ℕ). HasRoom m0.counts (length xs)) skipped c.requires.room;
       inside = later.within;
       free = later.fails;
+      at = c.next_open-next.ensures.within;
+      ahead = c.next_open-next.ensures.ahead 0 c.walk-walk.ensures.ahead;
       beyond = λ i from before. later.passes i (omega arith) before;
     }
 
@@ -67,7 +69,8 @@ signs-preserved g c =
     let inv = c.signs.invariant in
     let s = c.signs.next in
     let t = c.next_open-next-in-signs.result in
-    let later = c.next_open-next-in-signs.ensures in
+    let ahead = inv.ahead (omega (arith, c.signs-test.true, c.requires.size, ap (λ (xs : List ℕ). length xs) c.all_signs-signs.ensures)) in
+    let later = c.next_open-next-in-signs.ensures.next (s + 1) ahead in
     let all = ap (λ (xs : List ℕ). length xs) c.all_signs-signs.ensures in
     let low : s < total = omega (arith, c.signs-test.true) in
     let free : closed s ≡ false = inv.free (omega (arith, c.requires.size)) in
@@ -86,8 +89,16 @@ signs-preserved g c =
       room = room_left m.counts after.counts (length (open_signs closed s total)) 1 (length (open_signs closed t total)) inv.room c.in_ok-number.ensures.took (omega (arith, ap (λ (xs : List ℕ). length xs) step));
       inside = later.within;
       free = later.fails;
+      at = c.next_open-next-in-signs.ensures.within;
+      ahead = c.next_open-next-in-signs.ensures.ahead (s + 1) ahead;
       beyond = λ i from before. later.passes i (omega arith) before;
     }
+
+pub signs-smaller : goal.signs-smaller
+signs-smaller g c =
+    let ahead = c.signs.invariant.ahead (omega (arith, c.signs-test.true, c.requires.size, ap (λ (xs : List ℕ). length xs) c.all_signs-signs.ensures)) in
+    let later = c.next_open-next-in-signs.ensures.next (c.signs.next + 1) ahead in
+    omega (arith, c.signs-test.true, later.after)
 
 pub returns-clause-numbers : goal.returns-clause-numbers
 returns-clause-numbers g c =

@@ -1,6 +1,7 @@
-use Rattle.std.proofs.Common.{◌≡◌, ℕ, ◌-◌, ◌≤◌, ◌<◌, true, false, length, map}
+use Rattle.std.proofs.Common.{◌≡◌, ℕ, ◌+◌, ◌-◌, ◌≤◌, ◌<◌, true, false, length, map}
 use Rattle.std.specs.List.{flat_map}
-use Rattle.pg_dots.specs.Inside.Dots.{is_closed, places as places_in}
+use Rattle.pg_dots.specs.Inside.Dots.{HasWalk, is_closed, places as places_in}
+use Rattle.pg_dots.specs.Inside.Walks.{IsAhead}
 use Rattle.pg_driver.proofs.OpenSigns.{open_upto}
 use Rattle.pg_driver.proofs.Walks.{KeepsButCounts}
 use Rattle.pg_driver.specs.Inside.Counting.{counting, HasRoom}
@@ -23,6 +24,8 @@ invariant-signs g l =
       room : HasRoom m.counts (length (open_signs closed l.next (sign_count words)));
       inside : l.next ≤ places_in l.dots;
       free : l.next < places_in l.dots → closed l.next ≡ false;
+      at : HasWalk l.dots l.walk;
+      ahead : l.next < places_in l.dots → IsAhead closed l.walk (l.next + 1);
       beyond : (i : ℕ) → sign_count words ≤ i → i < l.next → closed i ≡ true;
     }
 

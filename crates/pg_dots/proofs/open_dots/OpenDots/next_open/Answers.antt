@@ -1,29 +1,29 @@
-use Rattle.std.proofs.Common.{◌≡◌, ℕ, ◌+◌, ◌-◌, ◌*◌, ◌<◌, ◌≤◌, List, length, take, drop, sym, ap, ◌∙◌, arith, length-drop}
-use Rattle.std.proofs.Math.Nat.{mul-le-mul_left}
-use Rattle.std.proofs.lemmas.List.{length-take-le}
-use Rattle.pg_dots.specs.Inside.Bits.{has_bit, IsNext}
+use Rattle.std.proofs.Common.{◌*◌, sym, ◌∙◌, arith}
+use Rattle.pg_dots.specs.Inside.Bits.{has_bit}
 use Rattle.pg_dots.specs.Inside.Dots.{is_closed}
-use Rattle.pg_dots.proofs.Places.{row_part}
+use Rattle.pg_dots.specs.Inside.Walks.{IsAhead}
+use Rattle.pg_dots.proofs.Walks.{ahead_kept}
 use Rattle.pg_dots.proofs.open_dots.OpenDots.next_open.Goals as goal
 
-pub returns : goal.returns
-unfolding is_closed
-returns c =
+pub returns-clause-next : goal.returns-clause-next
+returns-clause-next c = λ from begun.
     let o = c.args.self.now in
-    let start = (c.from.result + 1) * o.width in
-    let size = start + o.width - start in
-    let wide : size ≡ o.width = omega arith in
-    let begins : start ≡ (c.args.dot + 1) * o.width = (let same : o.width * c.from.result ≡ o.width * c.args.dot = ap (λ k. o.width * k) c.from.ensures in omega arith) in
-    let rows : o.width * (c.args.dot + 1) ≤ o.width * o.reached = mul-le-mul_left o.width (let z : c.args.dot + 1 ≤ o.reached = omega (arith, c.requires.dot) in z) in
-    let whole : List ℕ = c.deref.result.now in
-    let same : whole ≡ o.bits.items = c.deref.ensures.value in
-    let part : length (take size (drop start whole)) ≡ o.width = length-take-le size (drop start whole) (let left = length-drop start whole in let all = ap length same in omega (arith, o.rows)) ∙ wide in
-    let bit = λ (i : ℕ) (within : i < 64 * o.width). ap (λ (bits : List ℕ). has_bit (take size (drop start bits)) i) same ∙ row_part o.bits.items o.width o.reached c.args.dot start size i c.requires.dot within begins wide in
-    let next : IsNext (has_bit (take size (drop start whole))) (64 * length (take size (drop start whole))) c.args.from c.next_clear.result = c.next_clear.ensures in
-    let inside : c.next_clear.result ≤ 64 * o.width = omega (arith, next.within, part) in
+    let row = c.row.result.now in
+    let bits = c.row.ensures.bits in
+    let ahead : IsAhead (has_bit row) c.args.walk.now from = ahead_kept (is_closed o c.args.dot) (has_bit row) c.args.walk.now from (64 * o.width) (omega (arith, c.requires.within)) (λ i behind low. bits i low) begun in
+    let next = c.next.ensures.next from ahead in
     record {
       after = next.after;
-      within = inside;
-      fails = λ less. sym (bit c.next_clear.result less) ∙ next.fails (omega (arith, part));
-      passes = λ i from before. sym (bit i (omega arith)) ∙ next.passes i from before;
+      within = omega (arith, next.within, c.row.ensures.size);
+      fails = λ less. sym (bits c.next.result less) ∙ next.fails (omega (arith, c.row.ensures.size));
+      passes = λ i behind before. sym (bits i (omega (arith, next.within, c.row.ensures.size))) ∙ next.passes i behind before;
     }
+
+pub returns-clause-ahead : goal.returns-clause-ahead
+returns-clause-ahead c = λ from begun less.
+    let o = c.args.self.now in
+    let row = c.row.result.now in
+    let bits = c.row.ensures.bits in
+    let ahead : IsAhead (has_bit row) c.args.walk.now from = ahead_kept (is_closed o c.args.dot) (has_bit row) c.args.walk.now from (64 * o.width) (omega (arith, c.requires.within)) (λ i behind low. bits i low) begun in
+    let then = c.next.ensures.ahead from ahead (omega (arith, c.row.ensures.size)) in
+    ahead_kept (has_bit row) (is_closed o c.args.dot) c.next.new.self _ (64 * o.width) (omega (arith, c.next.ensures.within, c.row.ensures.size)) (λ i behind low. sym (bits i low)) then

@@ -16,6 +16,7 @@ pub invariant_of-self-2 : goal.invariant_of-self-2
 invariant_of-self-2 c =
     let o = c.args.self.now in
     record {
+      some = o.some;
       narrow = o.narrow;
       few = omega arith;
       rows = ap length c.in_ok-push_first.ensures.ok ∙ length-append o.bits.items (take o.width o.bits.items) ∙ (let size = length-take-le o.width o.bits.items (omega (arith, o.rows)) in omega (arith, o.rows));

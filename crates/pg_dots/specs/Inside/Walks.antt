@@ -1,0 +1,14 @@
+-- How far a walk over the clear bits of a row has come.
+use Rattle.std.specs.Prelude.{◌≡◌, ℕ, ◌+◌, ◌-◌, ◌*◌, ◌<◌, ◌≤◌, Bool, true, false}
+use Rattle.std.specs.Int.{bit_at}
+use Rattle.pg_dots.specs.declared.walk.Walk.{Walk}
+
+-- the bits that a walk has ahead are the places from a place on at which a test fails: those of the
+-- walk's number, and all behind it
+pub record IsAhead (test : ℕ → Bool) (w : Walk) (from : ℕ) : Type 0 where
+  pub upto : from ≤ 64 * w.at + 64
+  pub passed : (i : ℕ) → from ≤ i → i < 64 * w.at → test i ≡ true
+  pub clear : (b : ℕ) → b < 64 → bit_at w.ahead b ≡ 1
+      → (from ≤ 64 * w.at + b) × (test (64 * w.at + b) ≡ false)
+  pub others : (i : ℕ) → from ≤ i → 64 * w.at ≤ i → i < 64 * w.at + 64
+      → bit_at w.ahead (i - 64 * w.at) ≡ 0 → test i ≡ true
