@@ -1,4 +1,4 @@
-use Rattle.std.proofs.Common.{◌≡◌, ℕ, ◌+◌, ◌-◌, List, take, drop, ap, ◌∙◌, arith}
+use Rattle.std.proofs.Common.{◌≡◌, ◌+◌, ◌-◌, take, drop, ◌∙◌, arith}
 use Rattle.std.specs.List.{list_all}
 use Rattle.pg_types.specs.Signs.{is_sign}
 use Rattle.pg_driver.specs.Inside.PassWindows.{window_from}

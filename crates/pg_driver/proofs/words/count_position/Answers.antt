@@ -1,4 +1,4 @@
-use Rattle.std.proofs.Common.{◌≡◌, true, is_some, cond, Bool, List, ℕ, ◌++◌, ◌∷◌, [], sym, ap, ◌∙◌, arith}
+use Rattle.std.proofs.Common.{◌≡◌, true, is_some, cond, Bool, List, ℕ, ◌++◌, ◌∷◌, [], sym, ap, ◌∙◌}
 use Rattle.pg_dict.specs.Inside.Lent.{lent_word}
 use Rattle.pg_select.specs.CountedPositions.{counted_positions_at}
 use Rattle.pg_select.specs.Inside.LawsAbove.{counts_above}
