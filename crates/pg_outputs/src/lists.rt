@@ -1,27 +1,35 @@
 //! The lists, kept as records that they share.
-ghost use Rattle.std.specs.Prelude.{◌≡◌, ℕ, true, ◌+◌, ◌-◌, ◌<◌, ◌≤◌, ◌↔◌, ◌≢◌, ◌⊎◌, List, [], ◌∷◌, ◌++◌, length, slice_get, Some, None, Ok, IsNone, IfSome, IfOk, OnOk, OnErr, MatchOption};
-ghost use Rattle.indexmap.specs.IndexSet.{index_set_len};
+ghost use Rattle.std.specs.Prelude.{◌≡◌, ℕ, true, ◌+◌, ◌-◌, ◌<◌, ◌≤◌, ◌↔◌, ◌≢◌, ◌⊎◌, List, [], ◌∷◌, ◌++◌, length, slice_get, Some, None, Ok, false, IsNone, IfSome, IfOk, OnOk, OnErr, MatchOption};
+ghost use Rattle.indexmap.specs.IndexSet.{index_set_len, insert_key, insert_index, contains};
 ghost use Rattle.pg_outputs.specs.Lists.{list_of, Grows, OneHeadEach, IsRecordOf, Lacks};
 ghost use Rattle.pg_outputs.specs.Inside.Records.{AreShared};
+ghost use Rattle.pg_outputs.specs.declared.lists.TheConstants.{PLACES};
 
 use crate::records::Record;
 use indexmap::IndexSet;
 use std::alloc::{AllocError, Global};
 use std::marker::Model;
 
-/// For so many dots, from 0 on, the latest record is kept apart.
+/// For so many dots, from 0 on, the latest records are kept apart.
 const DOTS: usize = 16;
+
+/// For each dot so many records are kept apart, by their value and next.
+const ROWS: usize = 16;
+
+/// The number of records that are kept apart.
+const PLACES: usize = DOTS * ROWS;
 
 /// Lists of (value, dot) that share their ends. Head 0 is the empty list, and head `h` is the
 /// record at index `h - 1`.
 ///
-/// Most lists that are made in a pass are equal to one that was just made. So the index of the
-/// record that was given last is kept for each dot, and such a list is found without hashing. Dots
-/// that differ by a multiple of 16 share one index.
+/// Most lists that are made in a pass are equal to one that was made before. So the index of the
+/// record that was given last is kept for each dot and each sum of value and next, and such a list
+/// is found without hashing. Dots that differ by a multiple of 16 share one index, and so do sums
+/// that differ by a multiple of 16.
 #[derive(Drop)]
 pub struct Outputs {
     records: IndexSet<Record>,
-    latest: [usize; DOTS],
+    latest: [usize; PLACES],
 }
 
 impl Model for Outputs {
@@ -44,7 +52,7 @@ impl Outputs {
     {
         Outputs {
             records: IndexSet::new(alloc),
-            latest: [0; DOTS],
+            latest: [0; PLACES],
         }
     }
 
@@ -72,12 +80,12 @@ impl Outputs {
         ensures err { OnErr result (self.new ≡ self.old) }
     {
         let record = Record { value, dot, next };
-        let place = usize::from(dot) % DOTS;
+        let place = place_of(&record);
         let latest = self.latest[place];
         if has_at(&self.records, latest, &record) {
             return Ok(head_at(&self.records, latest));
         }
-        let (index, _) = self.records.insert_full(record)?;
+        let index = insert(&mut self.records, record)?;
         self.latest[place] = index;
         Ok(head_at(&self.records, index))
     }
@@ -106,6 +114,31 @@ impl Outputs {
     {
         self.records.len() as u64
     }
+}
+
+// The index of a record, which is put behind the others where it is not among them. It hashes the
+// record, and few calls come to that.
+#[cold]
+fn insert(records: &mut IndexSet<Record>, wanted: Record) -> Result<usize, AllocError>
+    ensures keys { OnOk result
+        (records.new.keys ≡ insert_key ⟦<Record as PartialEq>⟧.eq records.old.keys wanted) }
+    ensures index { IfOk result
+        (λ index. index ≡ insert_index ⟦<Record as PartialEq>⟧.eq records.old wanted) }
+    ensures within { IfOk result (λ index. index < index_set_len records.new) }
+    ensures err { OnErr result (records.new.keys ≡ records.old.keys) }
+    ensures absent { OnErr result
+        (contains ⟦<Record as PartialEq>⟧.eq records.old wanted ≡ false) }
+{
+    let (index, _) = records.insert_full(wanted)?;
+    Ok(index)
+}
+
+// The place at which the index of the latest record like this one is kept.
+fn place_of(record: &Record) -> usize
+    ensures { result < PLACES }
+{
+    let row = (usize::from(record.value) + record.next as usize % ROWS) % ROWS;
+    row * DOTS + usize::from(record.dot) % DOTS
 }
 
 // The head of the record at an index. A set has less than 2^63 records, so the sum fits.
