@@ -1,16 +1,12 @@
 -- How what is counted stands in the tallies of the strings that have a cell.
-use Rattle.std.proofs.Common.{◌≡◌, ℕ, ◌≤◌, inl, inr, true, false, cond, T, List, [], ◌∷◌, map, length, unwrap_or, is_some, Option, None, Some, refl, sym, ◌∙◌, ap, subst, arith}
+use Rattle.std.proofs.Common.{◌≡◌, ◌≢◌, ℕ, ◌+◌, ◌⊎◌, inl, inr, true, false, cond, T, List, [], ◌∷◌, map, length, unwrap_or, is_some, Option, None, Some, refl, sym, ◌∙◌, ap}
 use Rattle.std.specs.Option.{option_map}
 use Rattle.std.specs.Ordering.{is_lt}
-use Rattle.std.specs.FinMap.Entries.{find, put, is_sorted, below_all}
-use Rattle.pg_cells.specs.Inside.Walks.{AddsBlanks}
-use Rattle.pg_cells.proofs.StringMaps.{order, same_string, equal_or_not, same_maps, find_put_same, find_put_other, sorted_put, find_below, head_below, tail_sorted}
-use Rattle.pg_types.specs.Counts.{SignsWithin, is_counted, sums_of}
-use Rattle.pg_types.specs.Numbered.{AreNumbered, HasNumber}
-use Rattle.pg_types.specs.Inside.Numbers.{AreNumbers, by_number}
-use Rattle.pg_count.specs.Inside.Counting.{Counting, IsCounting, Tally, Tallies, tally_in, seen_in, sums_seen, number_seen, counts_in, numbers_in}
-use Rattle.pg_types.proofs.Numbering.{number_of, numbered_found, length_by_number}
-use Rattle.std.proofs.lemmas.List.{length-map}
+use Rattle.std.specs.Cmp.Lexicographic.{nat_list_cmp_total}
+use Rattle.std.specs.FinMap.Entries.{find, put, is_sorted, below_all, length-put}
+use Rattle.pg_types.proofs.StringEntries.{put_from}
+use Rattle.pg_cells.proofs.StringMaps.{order, same_string, equal_or_not, same_maps, find_put_same, find_put_other, find_without_same, find_without_other, sorted_put, sorted_without, without_key, find_below, head_below, tail_sorted}
+use Rattle.pg_count.specs.Inside.Counting.{Tally, Tallies, tally_in, seen_in}
 use Rattle.pg_types.proofs.BoolFacts.{both_halves, first_half, second_half}
 
 module _ {Y : Type 0} (see : Tally → Y) where
@@ -80,19 +76,45 @@ module _ {Y : Type 0} (see : Tally → Y) where
         | inr other ↦ find_put_other q u (see t) (seen_in see ts) other.0
       ])
 
-  -- strings that are not counted change nothing
-  pub seen_blanks : (w : List ℕ) (old new : Tallies) → T (is_sorted order old) → T (is_sorted order new) → AddsBlanks w None old new → seen_in see new ≡ seen_in see old
-  seen_blanks w old new g h adds =
-      same_maps (seen_in see new) (seen_in see old) (sorted_seen new h) (sorted_seen old g) (λ q.
-      find_seen new h q ∙ ap (option_map see) (by q (find order q old) refl) ∙ sym (find_seen old g q))
+  -- a new string that is not counted changes nothing
+  pub seen_blank : (ts : Tallies) (q : List ℕ) → T (is_sorted order ts) → find order q ts ≡ None → seen_in see (put order q None ts) ≡ seen_in see ts
+  seen_blank ts q h none =
+      let sorted = sorted_put q None ts h in
+      same_maps (seen_in see (put order q None ts)) (seen_in see ts) (sorted_seen (put order q None ts) sorted) (sorted_seen ts h) (λ p.
+      find_seen (put order q None ts) sorted p ∙ ap (option_map see) (by p (equal_or_not p q)) ∙ sym (find_seen ts h p))
     where
-      by_new : (q : List ℕ) → find order q old ≡ None → (o : Option (Option Tally)) → find order q new ≡ o → unwrap_or o None ≡ None
-      by_new q none None is = refl
-      by_new q none (Some tally) is = (adds.blanks q tally none is).0
+      by : (p : List ℕ) → ((p ≡ q) × (same_string p q ≡ true)) ⊎ ((p ≢ q) × (same_string p q ≡ false)) → tally_in (put order q None ts) p ≡ tally_in ts p
+      by p (inl same) =
+          ap (λ r. tally_in (put order q None ts) r) same.0 ∙ ap (λ o. unwrap_or o None) (find_put_same q None ts)
+          ∙ sym (ap (λ r. tally_in ts r) same.0 ∙ ap (λ o. unwrap_or o None) none)
+      by p (inr other) = ap (λ o. unwrap_or o None) (find_put_other p q None ts other.0)
 
-      by : (q : List ℕ) (o : Option (Option Tally)) → find order q old ≡ o → tally_in new q ≡ tally_in old q
-      by q None is = by_new q is (find order q new) refl ∙ sym (ap (λ o. unwrap_or o None) is)
-      by q (Some tally) is = ap (λ o. unwrap_or o None) (adds.keeps q tally is) ∙ sym (ap (λ o. unwrap_or o None) is)
+  -- where a tally goes over to a new string, there are as many
+  pub seen_moved : (ts : Tallies) (q p : List ℕ) (t : Tally) → T (is_sorted order ts) → find order q ts ≡ Some (Some t) → find order p ts ≡ None → p ≢ q
+      → length (seen_in see (put order q None (put order p (Some t) ts))) ≡ length (seen_in see ts)
+  seen_moved ts q p t h there none apart =
+      let mid = put order p (Some t) ts in
+      let new = put order q None mid in
+      let sorted = sorted_put q None mid (sorted_put p (Some t) ts h) in
+      let old = seen_in see ts in
+      let rest = without_key q old in
+      let sorted_old = sorted_seen ts h in
+      let sorted_rest = sorted_without q old sorted_old in
+      let was : old ≡ put order q (see t) rest = put_from q (see t) rest old sorted_rest sorted_old (seen_there ts h q (Some t) there) (λ r n. sym (find_without_other r q old n)) in
+      let is : seen_in see new ≡ put order p (see t) rest = put_from p (see t) rest (seen_in see new) sorted_rest (sorted_seen new sorted)
+      (seen_there new sorted p (Some t) (find_put_other p q None mid apart ∙ find_put_same p (Some t) ts)) (λ r n. find_seen new sorted r ∙ ap (option_map see) refl ∙ by r n (equal_or_not r q)) in
+      let off : find order p rest ≡ None = find_without_other p q old apart ∙ find_seen ts h p ∙ ap (λ o. option_map see (unwrap_or o None)) none in
+      ap length is ∙ length-put order nat_list_cmp_total p (see t) rest sorted_rest ∙ ap (λ o. cond (is_some o) (length rest) (length rest + 1)) off
+      ∙ sym (ap length was ∙ length-put order nat_list_cmp_total q (see t) rest sorted_rest ∙ ap (λ o. cond (is_some o) (length rest) (length rest + 1)) (find_without_same q old))
+    where
+      by : (r : List ℕ) → r ≢ p → ((r ≡ q) × (same_string r q ≡ true)) ⊎ ((r ≢ q) × (same_string r q ≡ false))
+          → option_map see (tally_in (put order q None (put order p (Some t) ts)) r) ≡ find order r (without_key q (seen_in see ts))
+      by r n (inl same) =
+          ap (λ x. option_map see (tally_in (put order q None (put order p (Some t) ts)) x)) same.0 ∙ ap (λ o. option_map see (unwrap_or o None)) (find_put_same q None (put order p (Some t) ts))
+          ∙ sym (ap (λ x. find order x (without_key q (seen_in see ts))) same.0 ∙ find_without_same q (seen_in see ts))
+      by r n (inr other) =
+          ap (λ o. option_map see (unwrap_or o None)) (find_put_other r q None (put order p (Some t) ts) other.0 ∙ find_put_other r p (Some t) ts n)
+          ∙ sym (find_without_other r q (seen_in see ts) other.0 ∙ find_seen ts h r)
 
   -- the root alone counts nothing
   pub seen_root : (xs : List ℕ) → seen_in see (map (λ x. (x ∷ [], None)) xs) ≡ []
@@ -126,53 +148,3 @@ tally_there see ts q y h at = by (find order q ts) refl
     by None is = absurd (let no : None ≡ Some y = told None is in cc)
     by (Some None) is = absurd (let no : None ≡ Some y = told (Some None) is in cc)
     by (Some (Some t)) is = (t, is, (let same : Some (see t) ≡ Some y = told (Some (Some t)) is in cc))
-
--- the sums of a string that has a cell
-pub sums_told : (ts : Tallies) (u : List ℕ) (tally : Option Tally) → T (is_sorted order ts) → find order u ts ≡ Some tally → sums_of (counts_in ts) u ≡ unwrap_or (option_map sums_seen tally) (0, 0)
-sums_told ts u tally h there = ap (λ o. unwrap_or o (0, 0)) (seen_there sums_seen ts h u tally there)
-
--- a string without a cell is not counted
-pub not_counted : (ts : Tallies) (u : List ℕ) → T (is_sorted order ts) → find order u ts ≡ None → is_counted (counts_in ts) u ≡ true → ⊥
-not_counted ts u h none counted =
-    let no : is_counted (counts_in ts) u ≡ false = ap is_some (find_seen sums_seen ts h u ∙ ap (λ o. option_map sums_seen (unwrap_or o None)) none) in
-    let wrong : true ≡ false = sym counted ∙ no in
-    cc
-
--- where nothing is counted
-pub counting_none : (signs len : ℕ) → 1 ≤ len → len ≤ 15 → IsCounting (record { signs = signs; len = len; counts = []; windows = [] })
-counting_none signs len some most = record { some = some; len = most; sorted = tt; windows = λ u h. cc; signs = λ u h. absurd (let wrong : false ≡ true = h in cc) }
-
--- a window more
-pub counting_put : (c : Counting) → IsCounting c → (u : List ℕ) (sums : ℕ × ℕ) (ws : List (List ℕ)) → length u ≡ c.len → SignsWithin c.signs u → IsCounting (record c { counts = put order u sums c.counts; windows = ws })
-counting_put c is u sums ws size within = record {
-  some = is.some;
-  len = is.len;
-  sorted = sorted_put u sums c.counts is.sorted;
-  windows = λ q h. elim (equal_or_not q u) [
-    | inl same ↦ ap length same.0 ∙ size
-    | inr other ↦ is.windows q (ap is_some (sym (find_put_other q u sums c.counts other.0)) ∙ h)
-  ];
-  signs = λ q h. elim (equal_or_not q u) [
-    | inl same ↦ subst (SignsWithin c.signs) (sym same.0) within
-    | inr other ↦ is.signs q (ap is_some (sym (find_put_other q u sums c.counts other.0)) ∙ h)
-  ];
-}
-
--- the windows by number are those that are counted
-pub are_numbered : (ts : Tallies) → T (is_sorted order ts) → AreNumbers (numbers_in ts) → AreNumbered (by_number (numbers_in ts)) (counts_in ts)
-are_numbered ts h are = record {
-  size = omega (arith, length_by_number (numbers_in ts), ap length (seen_strings sums_seen number_seen ts), length-map (counts_in ts) (λ e. Some e.0), length-map (numbers_in ts) (λ e. Some e.0));
-  counted = λ u n at. (let t = tally_there number_seen ts u n h (numbered_found (numbers_in ts) (sorted_seen number_seen ts h) are u n at) in ap is_some (seen_there sums_seen ts h u (Some t.0) t.1));
-  numbered = λ u is. by u (find order u (counts_in ts)) refl is;
-  once = λ u n m at to. (
-      let a = numbered_found (numbers_in ts) (sorted_seen number_seen ts h) are u n at in
-      let b = numbered_found (numbers_in ts) (sorted_seen number_seen ts h) are u m to in
-      let both : Some n ≡ Some m = sym a ∙ b in
-      cc);
-}
-  where
-    by : (u : List ℕ) (o : Option (ℕ × ℕ)) → find order u (counts_in ts) ≡ o → is_some (find order u (counts_in ts)) ≡ true → (n : ℕ) × HasNumber (by_number (numbers_in ts)) u n
-    by u None e is = absurd (let wrong : false ≡ true = sym (ap is_some e) ∙ is in cc)
-    by u (Some s) e is =
-        let t = tally_there sums_seen ts u s h e in
-        (t.0.0, number_of (numbers_in ts) (sorted_seen number_seen ts h) are u t.0.0 (seen_there number_seen ts h u (Some t.0) t.1))

@@ -1,48 +1,36 @@
--- What is told by number, and in order.
-use Rattle.std.proofs.Common.{◌≡◌, ℕ, ◌+◌, ◌<◌, List, [], map, length, Option, Some, is_some, sym, ◌∙◌, ap, subst, arith}
+-- What is told in order.
+use Rattle.std.proofs.Common.{◌≡◌, ℕ, List, [], ◌∷◌, ◌++◌, map, Option, None, Some, sym, ◌∙◌, ap, T, refl}
 use Rattle.std.specs.List.{slice_get}
-use Rattle.std.specs.FinMap.Entries.{find}
+use Rattle.std.specs.FinMap.Entries.{find, is_sorted}
 use Rattle.pg_cells.specs.ValuedFamilies.{ValuedFamilies}
-use Rattle.pg_cells.proofs.StringMaps.{order}
-use Rattle.pg_types.specs.Counts.{counted_sums}
-use Rattle.pg_types.specs.Numbered.{HasNumber, AreInOrder}
-use Rattle.pg_types.specs.Inside.Numbers.{by_number}
-use Rattle.pg_count.specs.Inside.Counting.{Counting, AreCounting, Tally, counting_of, numbers_in, sums_seen, number_seen}
-use Rattle.pg_count.specs.Inside.Under.{AreLong, numbers_under}
-use Rattle.pg_count.proofs.Counted.{sorted_seen, seen_there, seen_strings, tally_there}
-use Rattle.pg_types.proofs.Numbering.{numbered_found, length_by_number, in_order}
+use Rattle.pg_types.proofs.Numbering.{behind, first_at}
+use Rattle.pg_types.proofs.StringEntries.{order, tail_sorted}
+use Rattle.pg_types.specs.Numbered.{Windows, AreInOrder}
+use Rattle.pg_count.specs.Inside.Counting.{Tally, Tallies, counting_of, seen_in, number_seen, sums_seen, window_at, wholes}
+use Rattle.pg_count.specs.Inside.Leaves.{AreLeaves}
+use Rattle.pg_count.specs.Inside.Under.{numbers_under}
 use Rattle.pg_count.proofs.Walking.{under_all}
+use Rattle.pg_count.proofs.Wholes.{window_of}
 
-module _ (c : Counting) (cells : ValuedFamilies (Option Tally)) (len : ℕ) (is : counting_of cells len ≡ c) (kept : AreCounting cells len) where
-  -- the string that has a number
-  pub there_by_number : (n : ℕ) → n < length c.windows → (q : List ℕ) × (was : ℕ × ℕ) × (find order q cells.values ≡ Some (Some (n, was)))
-  there_by_number n lt =
-      let size : length (by_number (numbers_in cells.values)) ≡ length c.windows = ap (λ (d : Counting). length d.windows) is in
-      let u = kept.numbers.each n (omega (arith, length_by_number (numbers_in cells.values))) in
-      let t = tally_there number_seen cells.values u.0 n kept.held.ordered u.1 in
-      (u.0, t.0.1, t.1 ∙ ap (λ k. Some (Some (k, t.0.1))) t.2)
+-- the numbers of the counted strings, and the windows with these numbers
+abbrev numbers_of : Tallies → List ℕ
+numbers_of ts = map (λ (e : List ℕ × ℕ). e.1) (seen_in number_seen ts)
 
-  -- its sums
-  pub sums_by_number : (n : ℕ) (sums : ℕ × ℕ) → ((q : List ℕ) (was : ℕ × ℕ) → find order q cells.values ≡ Some (Some (n, was)) → sums ≡ was) → (u : List ℕ) → HasNumber c.windows u n → counted_sums c.counts u ≡ Some sums
-  sums_by_number n sums told u at =
-      let here : HasNumber (by_number (numbers_in cells.values)) u n = subst (λ (d : Counting). HasNumber d.windows u n) (sym is) at in
-      let found = numbered_found (numbers_in cells.values) (sorted_seen number_seen cells.values kept.held.ordered) kept.numbers u n here in
-      let t = tally_there number_seen cells.values u n kept.held.ordered found in
-      let there : find order u cells.values ≡ Some (Some (n, t.0.1)) = t.1 ∙ ap (λ k. Some (Some (k, t.0.1))) t.2 in
-      ap (λ (d : Counting). counted_sums d.counts u) (sym is)
-      ∙ seen_there sums_seen cells.values kept.held.ordered u (Some (n, t.0.1)) there
-      ∙ ap Some (sym (told u t.0.1 there))
+abbrev windows_of : Windows → Tallies → List (Option (List ℕ))
+windows_of windows ts = map (λ (e : List ℕ × (ℕ × ℕ)). Some e.0) (map (λ (e : List ℕ × Tally). (e.0, sums_seen e.1)) (wholes windows ts))
 
-  pub long_windows : AreLong cells.values (0 + len)
-  long_windows u n at =
-      let t = tally_there number_seen cells.values u n kept.held.ordered at in
-      let counted = ap is_some (seen_there sums_seen cells.values kept.held.ordered u (Some t.0) t.1) in
-      let size = kept.counting.windows u counted in
-      omega arith
+-- in the order of the strings, they are those of the windows
+in_turn : (windows : Windows) (ts : Tallies) → T (is_sorted order ts) → ((q : List ℕ) (t : Tally) → find order q ts ≡ Some (Some t) → slice_get windows t.0 ≡ Some (window_at windows t.0))
+    → map (slice_get windows) (numbers_of ts) ≡ windows_of windows ts
+in_turn windows [] h there = refl
+in_turn windows (e ∷ es) h there =
+    by e.1 refl (in_turn windows es (tail_sorted e es h) (λ q t at. there q t (behind e es q (Some t) h at)))
+  where
+    by : (o : Option Tally) → e.1 ≡ o → map (slice_get windows) (numbers_of es) ≡ windows_of windows es → map (slice_get windows) (numbers_of ((e.0, o) ∷ es)) ≡ windows_of windows ((e.0, o) ∷ es)
+    by None is rest = rest
+    by (Some t) is rest = λ i. there e.0 t (first_at e es ∙ ap Some is) i ∷ rest i
 
-  pub ordered_numbers : AreInOrder c.windows c.counts (numbers_under [] cells.values)
-  ordered_numbers =
-      subst (λ (d : Counting). AreInOrder d.windows d.counts (numbers_under [] cells.values)) is
-      (ap (map (slice_get (by_number (numbers_in cells.values)))) (under_all cells kept.held)
-      ∙ in_order (numbers_in cells.values) (sorted_seen number_seen cells.values kept.held.ordered) kept.numbers
-      ∙ seen_strings number_seen sums_seen cells.values)
+pub ordered_numbers : (h : ValuedFamilies (Option Tally)) (windows : Windows) (len : ℕ) → AreLeaves h windows len → AreInOrder windows (counting_of h windows len).counts (numbers_under [] h.values)
+ordered_numbers h windows len are =
+    ap (map (slice_get windows)) (under_all h are.held)
+    ∙ in_turn windows h.values are.held.ordered (λ q t at. (let f = are.front q t at in f.1 ∙ ap Some (sym (window_of windows (q ++ f.0) t.0 f.1))))

@@ -1,7 +1,8 @@
 -- Cells whose values are seen through a function: the strings, their order and their families are the same.
-use Rattle.std.proofs.Common.{◌≡◌, ℕ, inl, inr, cond, List, [], ◌∷◌, ◌++◌, map, Option, None, Some, refl, sym, ◌∙◌, ap}
+use Rattle.std.proofs.Common.{◌≡◌, ℕ, inl, inr, cond, List, [], ◌∷◌, ◌++◌, map, length, Option, None, Some, refl, sym, ◌∙◌, ap}
 use Rattle.std.specs.Option.{option_map, is_some}
 use Rattle.std.specs.FinMap.{find}
+use Rattle.pg_types.specs.Placement.{cell_of}
 use Rattle.pg_cells.specs.ValuedFamilies.{ValuedFamilies}
 use Rattle.pg_cells.specs.Inside.AreValuedFamilies.{AreValuedFamilies}
 use Rattle.pg_cells.specs.Inside.Members.{goes_on}
@@ -16,13 +17,6 @@ module _ {X Y : Type 0} (f : X → Y) where
       by : (o : Option X) → is_some o ≡ is_some (option_map f o)
       by None = refl
       by (Some x) = refl
-
-  pub unmapped_none : (q : List ℕ) (es : List (List ℕ × X)) → find order q (mapped f es) ≡ None → find order q es ≡ None
-  unmapped_none q es e = by (find order q es) refl
-    where
-      by : (o : Option X) → find order q es ≡ o → find order q es ≡ None
-      by None d = d
-      by (Some x) d = absurd (let no : None ≡ Some (f x) = sym e ∙ found_mapped f q x es d in cc)
 
   pub root_mapped : (x : X) (xs : List ℕ) → mapped f (map (λ s. (s ∷ [], x)) xs) ≡ map (λ s. (s ∷ [], f x)) xs
   root_mapped x [] = refl
@@ -46,6 +40,14 @@ module _ {X Y : Type 0} (f : X → Y) where
     members = is.members;
   }
 
+-- a string with no cell has no value
+pub no_value : {X : Type 0} (h : ValuedFamilies X) → AreValuedFamilies h → (q : List ℕ) → cell_of h.families q ≡ None → find order q h.values ≡ None
+no_value {X} h is q none = by (find order q h.values) refl
+  where
+    by : (o : Option X) → find order q h.values ≡ o → find order q h.values ≡ None
+    by None e = e
+    by (Some x) e = absurd (let cell = is.celled q x e in let wrong : None ≡ Some cell.0 = sym none ∙ cell.1 in cc)
+
 -- what is found in a root has the root's value
 pub root_blank : {X : Type 0} (q : List ℕ) (m x : X) (xs : List ℕ) → find order q (map (λ s. (s ∷ [], m)) xs) ≡ Some x → x ≡ m
 root_blank q m x [] e = absurd (let no : None ≡ Some x = e in cc)
@@ -54,4 +56,12 @@ root_blank q m x (s ∷ ss) e = elim (equal_or_not q (s ∷ [])) [
       let found : Some m ≡ Some x = sym (ap (λ b. cond b (Some m) (find order q (map (λ s. (s ∷ [], m)) ss))) h.1) ∙ e in
       cc
   | inr h ↦ root_blank q m x ss (sym (ap (λ b. cond b (Some m) (find order q (map (λ s. (s ∷ [], m)) ss))) h.1) ∙ e)
+]
+
+-- and has one sign
+pub root_strings : {X : Type 0} (q : List ℕ) (m x : X) (xs : List ℕ) → find order q (map (λ s. (s ∷ [], m)) xs) ≡ Some x → length q ≡ 1
+root_strings q m x [] e = absurd (let no : None ≡ Some x = e in cc)
+root_strings q m x (s ∷ ss) e = elim (equal_or_not q (s ∷ [])) [
+  | inl h ↦ ap length h.0
+  | inr h ↦ root_strings q m x ss (sym (ap (λ b. cond b (Some m) (find order q (map (λ s. (s ∷ [], m)) ss))) h.1) ∙ e)
 ]

@@ -9,16 +9,19 @@ use Rattle.std.specs.FinMap.{find, put}
 use Rattle.pg_cells.specs.ValuedFamilies.{ValuedFamilies}
 use Rattle.pg_cells.specs.Inside.AreValuedFamilies.{AreValuedFamilies}
 use Rattle.pg_cells.specs.Inside.Root.{root_held}
-use Rattle.pg_cells.specs.Inside.Walks.{AddsBlanks}
 use Rattle.pg_cells.proofs.StringMaps.{order, equal_or_not, find_put_same, find_put_other}
 use Rattle.pg_count.specs.declared.tally.TheConstants.{NOT_COUNTED, NUMBERS_END}
 use Rattle.std.specs.Option.{option_map, is_some}
 use Rattle.std.specs.FinMap.Entries.{length-put}
 use Rattle.std.specs.Cmp.Lexicographic.{nat_list_cmp_total}
 use Rattle.pg_count.specs.Inside.Counting.{Tally, seen_in, sums_seen, number_seen, counts_in, numbers_in}
-use Rattle.pg_count.proofs.Counted.{seen_there, seen_put, seen_again, seen_blanks, sorted_seen}
+use Rattle.pg_count.proofs.Counted.{seen_there, seen_put, seen_again, seen_blank, seen_moved, sorted_seen}
+use Rattle.pg_count.specs.Inside.Leaves.{Adds, PushesDown}
+use Rattle.pg_count.proofs.Fronts.{found_put}
+use Rattle.pg_types.proofs.StringEntries.{find_mapped}
+use Rattle.pg_cells.proofs.PlacedFamily.{not_longer}
 use Rattle.pg_count.specs.Inside.Tallied.{tally_of, told, AreTold}
-use Rattle.pg_count.proofs.Mapped.{mapped, found_mapped, none_mapped, unmapped, unmapped_none, sorted_mapped, root_mapped, valued_families_mapped, put_from, root_blank}
+use Rattle.pg_count.proofs.Mapped.{mapped, found_mapped, none_mapped, unmapped, sorted_mapped, root_mapped, valued_families_mapped, put_from, root_blank}
 
 abbrev Sums : Type 0
 Sums = List (ℕ × ℕ)
@@ -115,39 +118,107 @@ module _ (n : ℕ) (h : ValuedFamilies ℕ) (root : h ≡ root_held n NOT_COUNTE
       let blank = root_blank q NOT_COUNTED k (range_with_len 1 n) (ap (λ (g : ValuedFamilies ℕ). find order q g.values) (sym root) ∙ e) in
       omega arith
 
--- a string was entered
-module _ (w : List ℕ) (old new : ValuedFamilies ℕ) (first : ℕ) (tallies : Sums) (are : AreTold old first tallies) (adds : AddsBlanks w NOT_COUNTED old.values new.values) where
-  pub entered_told : AddsBlanks w None (told old first tallies).values (told new first tallies).values
-  entered_told = record {
-    keeps = λ q v e. (let x = unmapped (tally_of first tallies) q v old.values e in found_mapped (tally_of first tallies) q x.0 new.values (adds.keeps q x.0 x.1) ∙ ap Some (sym x.2));
-    blanks = λ q v e d. (
-        let x = unmapped (tally_of first tallies) q v new.values d in
-        let b = adds.blanks q x.0 (unmapped_none (tally_of first tallies) q old.values e) x.1 in
-        (x.2 ∙ ap (tally_of first tallies) b.0 ∙ older_none first tallies NOT_COUNTED are.positive, b.1, b.2));
-  }
+-- a number was put into the cell of a string
+pub told_put : (h g : ValuedFamilies ℕ) (first : ℕ) (tallies : Sums) (q : List ℕ) (k : ℕ) → AreValuedFamilies h → AreValuedFamilies g → g.values ≡ put order q k h.values
+    → (told g first tallies).values ≡ put order q (tally_of first tallies k) (told h first tallies).values
+told_put h g first tallies q k held new values =
+    put_from q (tally_of first tallies k) (told h first tallies).values (told g first tallies).values (held_told h first tallies held).ordered (held_told g first tallies new).ordered
+    (found_mapped (tally_of first tallies) q k g.values (ap (find order q) values ∙ find_put_same q k h.values)) (λ p n.
+    find_mapped (tally_of first tallies) p g.values ∙ ap (option_map (tally_of first tallies)) (ap (find order p) values ∙ find_put_other p q k h.values n) ∙ sym (find_mapped (tally_of first tallies) p h.values))
 
-  -- a number that is not that of the uncounted was there
-  was_there : (q : List ℕ) (k : ℕ) → find order q new.values ≡ Some k → (k ≡ NOT_COUNTED) ⊎ (find order q old.values ≡ Some k)
-  was_there q k e = by (find order q old.values) refl
-    where
-      by : (o : Option ℕ) → find order q old.values ≡ o → (k ≡ NOT_COUNTED) ⊎ (find order q old.values ≡ Some k)
-      by None d = inl (adds.blanks q k d e).0
-      by (Some m) d = inr (d ∙ sym (adds.keeps q m d) ∙ e)
+-- the string q with the sign s got a cell
+module _ (h g : ValuedFamilies ℕ) (first : ℕ) (tallies : Sums) (are : AreTold h first tallies) (q : List ℕ) (s : ℕ) (signs : g.signs ≡ h.signs) (values : g.values ≡ put order (q ++ s ∷ []) NOT_COUNTED h.values) (held : AreValuedFamilies g)
+    (none : find order (q ++ s ∷ []) h.values ≡ None) where
+  added_values : (told g first tallies).values ≡ put order (q ++ s ∷ []) None (told h first tallies).values
+  added_values = told_put h g first tallies (q ++ s ∷ []) NOT_COUNTED are.held held values ∙ ap (λ o. put order (q ++ s ∷ []) o (told h first tallies).values) (older_none first tallies NOT_COUNTED are.positive)
 
-  counted_there : (q : List ℕ) (k : ℕ) → find order q new.values ≡ Some k → first ≤ k → find order q old.values ≡ Some k
-  counted_there q k e le = elim (was_there q k e) [
-    | inl z ↦ absurd (let positive = are.positive in omega arith)
-    | inr d ↦ d
+  added_size : length (numbers_in (told g first tallies).values) ≡ length (numbers_in (told h first tallies).values)
+  added_size =
+      ap (λ ts. length (numbers_in ts)) added_values
+      ∙ ap length (seen_blank number_seen (told h first tallies).values (q ++ s ∷ []) (held_told h first tallies are.held).ordered (none_mapped (tally_of first tallies) (q ++ s ∷ []) h.values none))
+
+  pub added_told : Adds (told h first tallies) (told g first tallies) q s
+  added_told = record { held = held_told g first tallies held; signs = signs; values = added_values; size = added_size }
+
+  added_which : (p : List ℕ) (k : ℕ) → find order p g.values ≡ Some k → (k ≡ NOT_COUNTED) ⊎ (find order p h.values ≡ Some k)
+  added_which p k at = elim (found_put p (q ++ s ∷ []) NOT_COUNTED k h.values (sym (ap (find order p) values) ∙ at)) [
+    | inl new ↦ inl (sym new.1)
+    | inr old ↦ inr old.1
   ]
 
-  pub entered_are : AreValuedFamilies new → AreTold new first tallies
-  entered_are held = record {
+  added_new : (p : List ℕ) (k : ℕ) → find order p g.values ≡ Some k → first ≤ k → find order p h.values ≡ Some k
+  added_new p k at le = elim (added_which p k at) [
+    | inl new ↦ absurd (let positive = are.positive in omega arith)
+    | inr old ↦ old
+  ]
+
+  pub added_are : AreTold g first tallies
+  added_are = record {
     held = held;
     positive = are.positive;
     few = are.few;
-    numbers = λ q k e. elim (was_there q k e) [ inl z ↦ (let positive = are.positive in omega arith) | inr d ↦ are.numbers q k d ];
-    apart = λ q p k e d le. are.apart q p k (counted_there q k e le) (counted_there p k d le) le;
-    size = ap length (seen_blanks number_seen w (told old first tallies).values (told new first tallies).values (held_told old first tallies are.held).ordered (held_told new first tallies held).ordered entered_told) ∙ are.size;
+    numbers = λ p k at. elim (added_which p k at) [ inl new ↦ (let positive = are.positive in omega arith) | inr old ↦ are.numbers p k old ];
+    apart = λ p r k at to le. are.apart p r k (added_new p k at le) (added_new r k to le) le;
+    size = added_size ∙ are.size;
+  }
+
+-- the string q with the sign s got a cell, and the number of q
+module _ (h mid g : ValuedFamilies ℕ) (first : ℕ) (tallies : Sums) (are : AreTold h first tallies) (q : List ℕ) (s k : ℕ) (t : Tally) (signs : g.signs ≡ h.signs) (added : mid.values ≡ put order (q ++ s ∷ []) k h.values) (between : AreValuedFamilies mid)
+    (values : g.values ≡ put order q NOT_COUNTED mid.values) (held : AreValuedFamilies g) (at : find order q h.values ≡ Some k) (none : find order (q ++ s ∷ []) h.values ≡ None) (there : find order q (told h first tallies).values ≡ Some (Some t)) where
+  pushed_tally : tally_of first tallies k ≡ Some t
+  pushed_tally = let both : Some (tally_of first tallies k) ≡ Some (Some t) = sym (found_mapped (tally_of first tallies) q k h.values at) ∙ there in cc
+
+  pushed_values : (told g first tallies).values ≡ put order q None (put order (q ++ s ∷ []) (Some t) (told h first tallies).values)
+  pushed_values =
+      told_put mid g first tallies q NOT_COUNTED between held values ∙ ap (λ o. put order q o (told mid first tallies).values) (older_none first tallies NOT_COUNTED are.positive)
+      ∙ ap (put order q None) (told_put h mid first tallies (q ++ s ∷ []) k are.held between added ∙ ap (λ o. put order (q ++ s ∷ []) o (told h first tallies).values) pushed_tally)
+
+  pushed_size : length (numbers_in (told g first tallies).values) ≡ length (numbers_in (told h first tallies).values)
+  pushed_size =
+      ap (λ ts. length (numbers_in ts)) pushed_values
+      ∙ seen_moved number_seen (told h first tallies).values q (q ++ s ∷ []) t (held_told h first tallies are.held).ordered there (none_mapped (tally_of first tallies) (q ++ s ∷ []) h.values none) (not_longer q s)
+
+  pub pushed_told : PushesDown (told h first tallies) (told g first tallies) q s t
+  pushed_told = record { held = held_told g first tallies held; signs = signs; values = pushed_values; size = pushed_size }
+
+  pushed_which : (p : List ℕ) (m : ℕ) → find order p g.values ≡ Some m → (m ≡ NOT_COUNTED) ⊎ (((p ≡ q ++ s ∷ []) × (m ≡ k)) ⊎ ((p ≢ q) × (find order p h.values ≡ Some m)))
+  pushed_which p m e = elim (found_put p q NOT_COUNTED m mid.values (sym (ap (find order p) values) ∙ e)) [
+    | inl up ↦ inl (sym up.1)
+    | inr off ↦ elim (found_put p (q ++ s ∷ []) k m h.values (sym (ap (find order p) added) ∙ off.1)) [
+      | inl down ↦ inr (inl (down.0, sym down.1))
+      | inr old ↦ inr (inr (off.0, old.1))
+    ]
+  ]
+
+  pub pushed_are : AreTold g first tallies
+  pushed_are = record {
+    held = held;
+    positive = are.positive;
+    few = are.few;
+    numbers = λ p m e. elim (pushed_which p m e) [
+      | inl up ↦ (let positive = are.positive in omega arith)
+      | inr rest ↦ elim rest [
+        | inl down ↦ (let lt = are.numbers q k at in let is = down.1 in omega arith)
+        | inr old ↦ are.numbers p m old.1
+      ]
+    ];
+    apart = λ p r m e d le. elim (pushed_which p m e) [
+      | inl up ↦ absurd (let positive = are.positive in omega arith)
+      | inr rest ↦ elim (pushed_which r m d) [
+        | inl up ↦ absurd (let positive = are.positive in omega arith)
+        | inr also ↦ elim rest [
+          | inl down ↦ elim also [
+            | inl too ↦ down.0 ∙ sym too.0
+            | inr old ↦ absurd (old.0 (are.apart r q m old.1 (at ∙ ap Some (sym down.1)) le))
+          ]
+          | inr old ↦ elim also [
+            | inl too ↦ absurd (old.0 (are.apart p q m old.1 (at ∙ ap Some (sym too.1)) le))
+            | inr same ↦ are.apart p r m old.1 same.1 le
+          ]
+        ]
+      ]
+    ];
+    size = pushed_size ∙ are.size;
   }
 
 -- another element stays

@@ -9,17 +9,17 @@ use Rattle.std.specs.declared.cmp.Ordering.TheVariants.{Less, Equal}
 use Rattle.std.specs.Ordering.{nat_cmp, ordering_then, is_lt}
 use Rattle.std.specs.FinMap.{slice_cmp-IsAntisymmetric, nat_cmp-IsAntisymmetric}
 use Rattle.std.specs.FinMap.Entries.{find, is_sorted, below_all, where_key, find-where_key, is_sorted-where_key}
-use Rattle.pg_types.specs.Placement.{cell_of}
+use Rattle.pg_types.specs.Placement.{base_of, cell_of}
 use Rattle.pg_types.proofs.BoolFacts.{first_half, second_half, less_from, and_first, and_second}
 use Rattle.pg_cells.specs.ValuedFamilies.{ValuedFamilies}
 use Rattle.pg_cells.specs.Inside.AreValuedFamilies.{AreValuedFamilies}
 use Rattle.pg_cells.specs.Inside.Members.{IsNextSign, goes_on}
-use Rattle.pg_cells.specs.Inside.Walks.{EndsBefore}
 use Rattle.pg_cells.proofs.LinkLaws.{cell_goes}
 use Rattle.pg_cells.proofs.StringMaps.{order, equal_or_not, same_maps, head_below, tail_sorted}
 use Rattle.pg_types.specs.Inside.Numbers.{Numbers}
 use Rattle.pg_count.specs.Inside.Counting.{Tally, number_seen, numbers_in}
-use Rattle.pg_count.specs.Inside.Under.{is_under, is_before, is_passed, numbers_where, numbers_under, AreLong}
+use Rattle.pg_count.specs.Inside.Leaves.{AreLast, AreShort, IsLast}
+use Rattle.pg_count.specs.Inside.Under.{is_under, is_before, is_passed, numbers_where, numbers_under}
 use Rattle.pg_count.proofs.Counted.{sorted_seen, seen_there, tally_there}
 
 find_where : (P : List ℕ → Bool) (q : List ℕ) (M : Numbers) → find order q (where_key order P M) ≡ cond (P q) (find order q M) None
@@ -97,6 +97,14 @@ where_split P Q R (e ∷ es) h either less =
         ap (λ l. e ∷ l) (rest ∙ ap (λ l. l ++ where_key order Q es) none) ∙ sym (ap (λ l. l ++ e ∷ where_key order Q es) none)
     by rest false p false q = rest
 
+-- where no string is longer than q, none goes on from it
+pub short_last : (h : ValuedFamilies (Option Tally)) (q : List ℕ) → AreShort h.values (length q) → IsLast h.values q
+short_last h q short x more = by (find order ((q ++ x ∷ []) ++ more) h.values) refl
+  where
+    by : (o : Option (Option Tally)) → find order ((q ++ x ∷ []) ++ more) h.values ≡ o → find order ((q ++ x ∷ []) ++ more) h.values ≡ None
+    by None e = e
+    by (Some o) e = absurd (let l = short ((q ++ x ∷ []) ++ more) o e in let m = length-append (q ++ x ∷ []) more in let k = length-append q (x ∷ []) in omega arith)
+
 -- what the tests say of a string that goes on from p
 pub under_parts : (p r : List ℕ) → is_under p r ≡ true → (q : List ℕ) × (r ≡ p ++ q)
 under_parts [] r is = (r, refl)
@@ -169,8 +177,9 @@ module _ (h : ValuedFamilies (Option Tally)) (held : AreValuedFamilies h) where
   sorted : T (is_sorted order (numbers_in h.values))
   sorted = sorted_seen number_seen h.values held.ordered
 
-  module _ (p : List ℕ) (k : ℕ) (long : AreLong h.values (length p + k)) (some : 0 < k) where
-    -- a counted string that begins with p goes on by a sign of the family below p
+  module _ (p : List ℕ) (bare : (n : ℕ) → find order p (numbers_in h.values) ≡ Some n → ⊥) where
+    -- a counted string that begins with p, which is not counted, goes on by a sign of the family
+    -- below p
     goes : (r : List ℕ) (n : ℕ) → find order r (numbers_in h.values) ≡ Some n → is_under p r ≡ true → (x : ℕ) × (q : List ℕ) × (r ≡ p ++ x ∷ q) × (goes_on h.values p x ≡ true) × (1 ≤ x)
     goes r n at under = let parts = under_parts p r under in by parts.0 parts.1
       where
@@ -183,7 +192,7 @@ module _ (h : ValuedFamilies (Option Tally)) (held : AreValuedFamilies h) where
             absurd (let wrong : None ≡ Some cell.0 = sym (held.closed p x q e) ∙ ap (cell_of h.families) (sym way) ∙ cell.1 in cc)
 
         by : (q : List ℕ) → r ≡ p ++ q → (x : ℕ) × (q : List ℕ) × (r ≡ p ++ x ∷ q) × (goes_on h.values p x ≡ true) × (1 ≤ x)
-        by [] is = absurd (let size = long r n at in let l = ap length is ∙ length-append p [] in omega arith)
+        by [] is = absurd (bare n (ap (λ q. find order q (numbers_in h.values)) (sym (is ∙ append-nil p)) ∙ at))
         by (x ∷ q) is = let parts = on x q is (cell_of h.families (p ++ x ∷ [])) refl in (x, q, is, parts.0, parts.1)
 
     -- where the walk goes on to the next sign, what it has behind it are the strings whose next sign is not above the one before
@@ -244,28 +253,26 @@ module _ (h : ValuedFamilies (Option Tally)) (held : AreValuedFamilies h) where
     pub passed_end : (y : ℕ) → y ≡ 0 → numbers_where (is_passed p y) (numbers_in h.values) ≡ numbers_under p h.values
     passed_end y z = ap (λ s. numbers_where (is_passed p s) (numbers_in h.values)) z
 
-  -- where no string goes on from q, and q is not long enough
-  pub under_none : (q : List ℕ) (k : ℕ) → AreLong h.values (length q + k) → 0 < k → ((x : ℕ) → EndsBefore h.values (q ++ x ∷ [])) → numbers_under q h.values ≡ []
-  under_none q k long some ends = ap (map (λ e. e.1)) (where_none (is_under q) (numbers_in h.values) sorted by)
-    where
-      by : (r : List ℕ) (n : ℕ) → find order r (numbers_in h.values) ≡ Some n → is_under q r ≡ false
-      by r n at = elim (cases_Bool (is_under q r)) [
-        | inr off ↦ off
-        | inl under ↦
-            let g = goes q k long some r n at under in
-            let t = tally_there number_seen h.values r n held.ordered at in
-            let way : r ≡ (q ++ g.0 ∷ []) ++ g.1 = g.2 ∙ sym (append_assoc q (g.0 ∷ []) g.1) in
-            absurd (let wrong : None ≡ Some (Some t.0) = sym (ends g.0 g.1) ∙ ap (λ x. find order x h.values) (sym way) ∙ t.1 in cc)
-      ]
+  -- a counted string is not one with a family below it
+  pub open_base : AreLast h.values → (p : List ℕ) (base : ℕ) → base_of h.families p ≡ Some base → (n : ℕ) → find order p (numbers_in h.values) ≡ Some n → ⊥
+  open_base last p base is n at =
+      let t = tally_there number_seen h.values p n held.ordered at in
+      let x = held.filled p base is in
+      let v = held.valued (p ++ x.0 ∷ []) x.1 x.2 in
+      let wrong : None ≡ Some v.0 = sym (last p t.0 t.1 x.0 []) ∙ ap (λ q. find order q h.values) (append-nil (p ++ x.0 ∷ [])) ∙ v.1 in
+      cc
 
-  -- where q is long enough
-  module _ (q : List ℕ) (long : AreLong h.values (length q)) where
+  -- where no string goes on from q
+  module _ (q : List ℕ) (last : IsLast h.values q) where
     alone : (u : List ℕ) (m : ℕ) → find order u (numbers_in h.values) ≡ Some m → is_under q u ≡ true → u ≡ q
     alone u m at under = let parts = under_parts q u under in by parts.0 parts.1
       where
         by : (r : List ℕ) → u ≡ q ++ r → u ≡ q
         by [] is = is ∙ append-nil q
-        by (x ∷ r) is = absurd (let size = long u m at in let l = ap length is ∙ length-append q (x ∷ r) in omega arith)
+        by (x ∷ r) is =
+            let t = tally_there number_seen h.values u m held.ordered at in
+            let way : u ≡ (q ++ x ∷ []) ++ r = is ∙ sym (append_assoc q (x ∷ []) r) in
+            absurd (let wrong : None ≡ Some (Some t.0) = sym (last x r) ∙ ap (λ z. find order z h.values) (sym way) ∙ t.1 in cc)
 
     pub under_one : (n : ℕ) (sums : ℕ × ℕ) → find order q h.values ≡ Some (Some (n, sums)) → numbers_under q h.values ≡ n ∷ []
     under_one n sums at =

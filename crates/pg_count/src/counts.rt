@@ -5,22 +5,26 @@ ghost use Rattle.pg_types.specs.Counts.{AreSmall, SignsWithin, counted_sums, sum
 ghost use Rattle.pg_types.specs.Numbered.{AreInOrder, AreNumbered, HasNumber};
 ghost use Rattle.pg_count.specs.Inside.Counting.{IsCounting, counted_more};
 
-use crate::least::least;
-use crate::sums::sums_in;
+use crate::leaf::count_new;
+use crate::least::least_above;
 use crate::tallied::Tallied;
 use crate::tally::add_weight;
 use crate::walk::walk;
-use pg_types::{Cursor, EDGE, LENGTH_MAX, Sign, Weight};
+use crate::way::{find_counted, way_of};
+use pg_types::{Cursor, EDGE, Sign, Weight};
 use std::alloc::{AllocError, Global};
 use std::marker::Model;
 
 /// The windows that are counted in a pass, each with its sums of good and bad weights.
 ///
-/// A window's signs lead from cell to cell. The last cell has a number, by which the window's two
-/// sums are found in a list. The memory of the cells and of the sums stays for later passes.
+/// A window's signs lead from cell to cell, as far as another window begins alike. The last cell
+/// has the window's number, by which its signs and its two sums are found in lists. So the cells
+/// keep only what branches, and whether the rest of a window is the same is told by its signs. The
+/// memory of the cells and of the lists stays for later passes.
 #[derive(Drop)]
 pub struct CountTrie {
     cells: Tallied,
+    windows: Vec<Cursor>,
     len: u8,
 }
 
@@ -29,11 +33,12 @@ impl Model for CountTrie {
 
     ghost Value = { Counting };
 
-    ghost use Rattle.pg_count.specs.Inside.Counting.{counting_of, AreCounting};
+    ghost use Rattle.pg_count.specs.Inside.Counting.{counting_of};
+    ghost use Rattle.pg_count.specs.Inside.Leaves.{AreCounting};
 
-    ghost view = { λ t. counting_of t.cells t.len };
+    ghost view = { λ t. counting_of t.cells t.windows.items t.len };
 
-    ghost invariant = { λ t. AreCounting t.cells t.len };
+    ghost invariant = { λ t. AreCounting t.cells t.windows.items t.len };
 }
 
 impl CountTrie {
@@ -44,7 +49,11 @@ impl CountTrie {
             (λ counts. counts ≡ record { signs = signs; len = 1; counts = []; windows = [] }) }
     {
         let cells = Tallied::new(alloc, signs)?;
-        Ok(CountTrie { cells, len: 1 })
+        Ok(CountTrie {
+            cells,
+            windows: Vec::new(alloc),
+            len: 1,
+        })
     }
 
     /// Begins a pass with windows of so many signs: no window is counted. It takes no memory.
@@ -56,6 +65,7 @@ impl CountTrie {
         ensures { self.new ≡ record self.old { len = len; counts = []; windows = [] } }
     {
         self.cells.clear(len == self.len);
+        self.windows.clear();
         self.len = len;
     }
 
@@ -100,14 +110,15 @@ impl CountTrie {
         ensures there { is_counted self.old.counts window.now ≡ true → IsOk result }
         ensures err { OnErr result (self.new ≡ self.old) }
     {
-        let cell = self.cells.enter(window)?;
-        match self.cells.tally(cell) {
+        let way = way_of(&self.cells, window);
+        match find_counted(&self.cells, self.windows.as_slice(), way, window) {
             Some((number, sums)) => {
                 self.cells.set_sums(number, add_weight(sums, good, weight));
                 Ok(number)
             }
             None => {
-                let number = self.cells.count(cell, add_weight((0, 0), good, weight))?;
+                let sums = add_weight((0, 0), good, weight);
+                let number = count_new(&mut self.cells, &mut self.windows, way, window, sums)?;
                 Ok(number)
             }
         }
@@ -120,7 +131,9 @@ impl CountTrie {
         requires signs { SignsWithin self.now.signs window.now }
         ensures { result ≡ counted_sums self.now.counts window.now }
     {
-        sums_in(&self.cells, window)
+        let way = way_of(&self.cells, window);
+        let (_, sums) = find_counted(&self.cells, self.windows.as_slice(), way, window)?;
+        Some(sums)
     }
 
     /// The good and the bad sum of the window with the number. It takes no memory.
@@ -151,17 +164,8 @@ impl CountTrie {
             × (at.new ≡ at.old)) (λ sums. above at.old self.now.counts
             ≡ (at.new, sums) ∷ above at.new self.now.counts) }
     {
-        if self.cells.has_none() {
-            return None;
-        }
-        let mut room = [0; LENGTH_MAX as usize];
-        let path = &mut room[..usize::from(self.len)];
-        match least(&self.cells, 0, EDGE, at.signs(), path) {
-            None => None,
-            Some(sums) => {
-                at.set(path);
-                Some(sums)
-            }
-        }
+        let number = least_above(self.windows.as_slice(), at)?;
+        at.set(self.windows[number as usize].signs());
+        Some(self.cells.sums(number))
     }
 }

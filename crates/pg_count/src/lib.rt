@@ -2,12 +2,12 @@
 //! cells.
 #![tactic(auto)]
 
-mod bound;
 mod counts;
+mod leaf;
 mod least;
-mod sums;
 mod tallied;
 mod tally;
 mod walk;
+mod way;
 
 pub use counts::CountTrie;

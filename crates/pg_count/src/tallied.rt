@@ -1,5 +1,5 @@
 //! The cells of strings of which some are counted.
-ghost use Rattle.std.specs.Prelude.{◌≡◌, ◌<◌, ◌≤◌, ◌==◌, true, ℕ, List, [], ◌∷◌, ◌++◌, length, All, IsTrue, ◌↔◌, Some, None, IfOk, OnOk, OnErr, if◌then◌else◌};
+ghost use Rattle.std.specs.Prelude.{◌≡◌, ◌+◌, ◌<◌, ◌≤◌, ◌==◌, ◌⊎◌, true, ℕ, List, [], ◌∷◌, ◌++◌, length, IsTrue, ◌↔◌, Some, None, IfOk, OnOk, OnErr, if◌then◌else◌};
 ghost use Rattle.std.specs.FinMap.{find, put};
 ghost use Rattle.std.specs.Cmp.Lexicographic.{slice_cmp};
 ghost use Rattle.std.specs.Ordering.{nat_cmp};
@@ -8,8 +8,9 @@ ghost use Rattle.pg_types.specs.Placement.{cell_of, base_of};
 ghost use Rattle.pg_cells.specs.Inside.AreValuedFamilies.{AreValuedFamilies};
 ghost use Rattle.pg_cells.specs.Inside.Members.{IsNextSign};
 ghost use Rattle.pg_cells.specs.Inside.Root.{root_held};
-ghost use Rattle.pg_cells.specs.Inside.Walks.{IsAt, EndsBefore, AddsBlanks};
-ghost use Rattle.pg_count.specs.Inside.Counting.{counts_in, numbers_in};
+ghost use Rattle.pg_cells.specs.Inside.Walks.{IsAt, EndsBefore};
+ghost use Rattle.pg_count.specs.Inside.Counting.{Tally, counts_in, numbers_in};
+ghost use Rattle.pg_count.specs.Inside.Leaves.{Adds, AreShort, PushesDown};
 ghost use Rattle.pg_count.specs.declared.tally.TheConstants.{NUMBERS_END};
 
 use crate::tally::{NOT_COUNTED, NUMBERS_END, push_tally, set_tally, sums_at, tally_at};
@@ -83,6 +84,8 @@ impl Tallied {
         ensures signs { self.new.signs ≡ self.old.signs }
         ensures none { counts_in self.new.values ≡ [] }
         ensures kept { AreValuedFamilies self.new }
+        ensures short { (k : ℕ) → 1 ≤ k → (alike ≡ true → AreShort self.old.values k)
+            → AreShort self.new.values k }
     {
         let next = self.first + self.tallies.len() as u32;
         let keeps = alike
@@ -181,20 +184,43 @@ impl Tallied {
         sums_at(self.tallies.as_slice(), number)
     }
 
-    /// Gives each prefix of the string a cell, and answers the cell of the string. What is counted
-    /// stays.
-    ///
-    /// Refused: a shorter prefix is entered in its place. The string had no cell.
-    pub fn enter(&mut self, signs: &[Sign]) -> Result<usize, AllocError>
-        requires some { 0 < length signs.now }
-        requires signs { All (λ s. (1 ≤ s) × (s ≤ self.old.signs)) signs.now }
-        ensures cell { IfOk result (λ cell. cell_of self.new.families signs.now ≡ Some cell) }
-        ensures blanks { AddsBlanks signs.now None self.old.values self.new.values }
-        ensures held { AreValuedFamilies self.new }
-        ensures signs { self.new.signs ≡ self.old.signs }
-        ensures err { OnErr result (find (slice_cmp nat_cmp) signs.now self.old.values ≡ None) }
+    /// Adds the sign to the family below the parent's string, and gives its cell. The string with
+    /// the sign is not counted. The number of a cell of this family that was got before may then be
+    /// that of another string's cell. Refused: nothing changes.
+    pub fn add(&mut self, parent: usize, s: Sign) -> Result<usize, AllocError>
+        requires parent { (q : List ℕ) × ((cell_of self.old.families q ≡ Some parent)
+            × (cell_of self.old.families (q ++ s ∷ []) ≡ None)) }
+        requires sign { (1 ≤ s) × (s ≤ self.old.signs) }
+        ensures held { (q : List ℕ) → cell_of self.old.families q ≡ Some parent
+            → OnOk result (Adds self.old self.new q s) }
+        ensures cell { (q : List ℕ) → cell_of self.old.families q ≡ Some parent →
+            IfOk result (λ cell. cell_of self.new.families (q ++ s ∷ []) ≡ Some cell) }
+        ensures err { OnErr result (self.new ≡ self.old) }
     {
-        pg_cells::enter(&mut self.cells, signs, NOT_COUNTED)
+        let cell = self.cells.add(parent, s, NOT_COUNTED)?;
+        Ok(cell)
+    }
+
+    /// Adds the sign to the family below the string of the cell, which is counted, and gives its
+    /// cell. The number and the sums go over to the string with the sign. Refused: nothing changes.
+    pub fn push_down(&mut self, cell: usize, s: Sign) -> Result<usize, AllocError>
+        requires cell { (q : List ℕ) × (t : Tally) × ((cell_of self.old.families q ≡ Some cell)
+            × (find (slice_cmp nat_cmp) q self.old.values ≡ Some (Some t))
+            × (cell_of self.old.families (q ++ s ∷ []) ≡ None)) }
+        requires sign { (1 ≤ s) × (s ≤ self.old.signs) }
+        ensures held { (q : List ℕ) (t : Tally) → cell_of self.old.families q ≡ Some cell
+            → find (slice_cmp nat_cmp) q self.old.values ≡ Some (Some t)
+            → OnOk result (PushesDown self.old self.new q s t) }
+        ensures cell { (q : List ℕ) → cell_of self.old.families q ≡ Some cell →
+            IfOk result (λ below. cell_of self.new.families (q ++ s ∷ []) ≡ Some below) }
+        ensures there { (q : List ℕ) → cell_of self.old.families q ≡ Some cell →
+            OnOk result (cell_of self.new.families q ≡ Some cell) }
+        ensures err { OnErr result (self.new ≡ self.old) }
+    {
+        let number = self.cells.value(cell);
+        let below = self.cells.add(cell, s, number)?;
+        self.cells.set_value(cell, NOT_COUNTED);
+        Ok(below)
     }
 
     /// Sets the sums of the string with the number.
@@ -208,6 +234,7 @@ impl Tallied {
                   put (slice_cmp nat_cmp) q (Some (number, sums)) self.old.values;
             } }
         ensures kept { AreValuedFamilies self.new }
+        ensures size { length (numbers_in self.new.values) ≡ length (numbers_in self.old.values) }
     {
         set_tally(&mut self.tallies, number, sums);
     }
@@ -225,6 +252,8 @@ impl Tallied {
                   (Some (length (numbers_in self.old.values), sums)) self.old.values;
             }) }
         ensures kept { AreValuedFamilies self.new }
+        ensures size { OnOk result (length (numbers_in self.new.values)
+            ≡ length (numbers_in self.old.values) + 1) }
         ensures err { OnErr result (self.new ≡ self.old) }
     {
         let number = self.tallies.len() as u32;
@@ -248,6 +277,9 @@ fn first_after(cells: &mut Cells<u32, FEW_SIGNS>, next: u32, keeps: bool) -> u32
     ensures few { result ≤ NUMBERS_END }
     ensures past { (q : List ℕ) (k : ℕ) → find (slice_cmp nat_cmp) q cells.new.values ≡ Some k
         → k < result }
+    ensures strings { (q : List ℕ) (k : ℕ) → find (slice_cmp nat_cmp) q cells.new.values ≡ Some k
+        → (length q ≡ 1) ⊎ ((keeps ≡ true)
+        × (find (slice_cmp nat_cmp) q cells.old.values ≡ Some k)) }
 {
     if keeps {
         return next;

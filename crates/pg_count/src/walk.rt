@@ -1,17 +1,18 @@
 //! The walk over the counted strings, in the order of signs.
-ghost use Rattle.std.specs.Prelude.{◌≡◌, ◌+◌, ◌<◌, ℕ, List, [], ◌++◌, length, Some, OnOk};
+ghost use Rattle.std.specs.Prelude.{◌≡◌, ◌+◌, ◌<◌, ℕ, List, ◌++◌, length, Some, OnOk};
 ghost use Rattle.pg_types.specs.Placement.{base_of, cell_of};
 ghost use Rattle.pg_cells.specs.Inside.AreValuedFamilies.{AreValuedFamilies};
 ghost use Rattle.pg_cells.specs.Inside.Members.{IsNextSign};
-ghost use Rattle.pg_count.specs.Inside.Under.{AreLong, numbers_under};
+ghost use Rattle.pg_count.specs.Inside.Leaves.{AreLast, AreShort, IsLast};
+ghost use Rattle.pg_count.specs.Inside.Under.{numbers_under};
 
 use crate::tallied::Tallied;
 use pg_types::Sign;
 use std::alloc::AllocError;
 
 /// Appends the numbers of the counted strings that begin with the string of the family with the
-/// base and the first sign, and have so many more signs, in the order of signs. It goes along the
-/// signs of the families.
+/// base and the first sign, and have at most so many more signs, in the order of signs. It goes
+/// along the signs of the families.
 #[cycle(walk)]
 pub fn walk(
     cells: &Tallied,
@@ -23,9 +24,10 @@ pub fn walk(
     requires held { AreValuedFamilies cells.now }
     requires base { (p : List ℕ) × ((base_of cells.now.families p ≡ Some base)
         × IsNextSign cells.now.values p 0 first) }
+    requires last { AreLast cells.now.values }
     requires some { 0 < more }
     ensures { (p : List ℕ) → base_of cells.now.families p ≡ Some base
-        → AreLong cells.now.values (length p + more) →
+        → AreShort cells.now.values (length p + more) →
         OnOk result (out.new.items ≡ out.old.items ++ numbers_under p cells.now.values) }
 {
     let mut s = first;
@@ -44,8 +46,9 @@ pub fn walk(
 fn walk_at(cells: &Tallied, cell: usize, more: u8, out: &mut Vec<u32>) -> Result<(), AllocError>
     requires held { AreValuedFamilies cells.now }
     requires cell { (q : List ℕ) × (cell_of cells.now.families q ≡ Some cell) }
+    requires last { AreLast cells.now.values }
     ensures { (q : List ℕ) → cell_of cells.now.families q ≡ Some cell
-        → AreLong cells.now.values (length q + more) →
+        → AreShort cells.now.values (length q + more) →
         OnOk result (out.new.items ≡ out.old.items ++ numbers_under q cells.now.values) }
 {
     if more == 0 {
@@ -53,7 +56,7 @@ fn walk_at(cells: &Tallied, cell: usize, more: u8, out: &mut Vec<u32>) -> Result
     }
     let below = cells.child(cell);
     if below == 0 {
-        return Ok(());
+        return last_at(cells, cell, out);
     }
     walk(cells, below, cells.first_sign(cell), more, out)
 }
@@ -63,7 +66,7 @@ fn last_at(cells: &Tallied, cell: usize, out: &mut Vec<u32>) -> Result<(), Alloc
     requires cell { (q : List ℕ) × (cell_of cells.now.families q ≡ Some cell) }
     requires held { AreValuedFamilies cells.now }
     ensures { (q : List ℕ) → cell_of cells.now.families q ≡ Some cell
-        → AreLong cells.now.values (length q) →
+        → IsLast cells.now.values q →
         OnOk result (out.new.items ≡ out.old.items ++ numbers_under q cells.now.values) }
 {
     if let Some((number, _)) = cells.tally(cell) {

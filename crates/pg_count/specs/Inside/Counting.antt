@@ -1,5 +1,5 @@
 -- A count trie as its counts and windows, and how these stand in its cells.
-use Rattle.std.specs.Prelude.{◌≡◌, ℕ, ◌≤◌, Bool, true, T, List, length, unwrap_or, Option, None}
+use Rattle.std.specs.Prelude.{◌≡◌, ℕ, ◌≤◌, Bool, true, T, List, [], map, length, get_or, unwrap_or, Option, None}
 use Rattle.std.specs.List.{filter_map}
 use Rattle.std.specs.Option.{option_map}
 use Rattle.std.specs.Ordering.{nat_cmp}
@@ -7,10 +7,9 @@ use Rattle.std.specs.Cmp.Lexicographic.{slice_cmp}
 use Rattle.std.specs.FinMap.Entries.{find, is_sorted}
 use Rattle.pg_types.specs.declared.limits.TheConstants.{LENGTH_MAX}
 use Rattle.pg_cells.specs.ValuedFamilies.{ValuedFamilies}
-use Rattle.pg_cells.specs.Inside.AreValuedFamilies.{AreValuedFamilies}
 use Rattle.pg_types.specs.Counts.{Counts, SignsWithin, is_counted, with_count}
 use Rattle.pg_types.specs.Numbered.{Windows, with_window}
-use Rattle.pg_types.specs.Inside.Numbers.{Numbers, AreNumbers, by_number}
+use Rattle.pg_types.specs.Inside.Numbers.{Numbers}
 
 -- the number of signs of the table; how many signs a window has; the counts of the windows; and the
 -- windows in the order of their numbers
@@ -62,10 +61,6 @@ sums_seen t = t.1
 abbrev pub number_seen : Tally → ℕ
 number_seen t = t.0
 
--- the sums of a string that is counted
-abbrev pub sums_at : Tallies → List ℕ → Option (ℕ × ℕ)
-sums_at tallies q = option_map sums_seen (tally_in tallies q)
-
 -- the strings that are counted, with their sums
 abbrev pub counts_in : Tallies → Counts
 counts_in tallies = seen_in sums_seen tallies
@@ -74,18 +69,21 @@ counts_in tallies = seen_in sums_seen tallies
 abbrev pub numbers_in : Tallies → Numbers
 numbers_in tallies = seen_in number_seen tallies
 
--- a count trie by its cells
-abbrev pub counting_of : ValuedFamilies (Option Tally) → ℕ → Counting
-counting_of cells len =
+-- the window with a number
+abbrev pub window_at : Windows → ℕ → List ℕ
+window_at windows n = get_or windows n []
+
+-- the counted windows, each with its tally: a window is counted in the cell of a string with which
+-- it begins
+abbrev pub wholes : Windows → Tallies → List (List ℕ × Tally)
+wholes windows tallies = map (λ e. (window_at windows e.1.0, e.1)) (seen_in (λ t. t) tallies)
+
+-- a count trie by its cells and the windows by number
+abbrev pub counting_of : ValuedFamilies (Option Tally) → Windows → ℕ → Counting
+counting_of cells windows len =
     record {
       signs = cells.signs;
       len = len;
-      counts = counts_in cells.values;
-      windows = by_number (numbers_in cells.values);
+      counts = map (λ e. (e.0, sums_seen e.1)) (wholes windows cells.values);
+      windows = windows;
     }
-
--- what is always true of the cells
-pub record AreCounting (cells : ValuedFamilies (Option Tally)) (len : ℕ) : Type 0 where
-  pub held : AreValuedFamilies cells
-  pub counting : IsCounting (counting_of cells len)
-  pub numbers : AreNumbers (numbers_in cells.values)

@@ -1,8 +1,8 @@
 -- The counted strings that begin with a string, and of them those whose next sign is below one.
-use Rattle.std.specs.Prelude.{◌≡◌, ℕ, Bool, true, false, nat_eq, nat_lt, ◌&&◌, if◌then◌else◌, List, [], ◌∷◌, map, length, Some}
+use Rattle.std.specs.Prelude.{ℕ, Bool, true, false, nat_eq, nat_lt, ◌&&◌, if◌then◌else◌, List, [], ◌∷◌, map}
 use Rattle.std.specs.Ordering.{nat_cmp}
 use Rattle.std.specs.Cmp.Lexicographic.{slice_cmp}
-use Rattle.std.specs.FinMap.Entries.{find, where_key}
+use Rattle.std.specs.FinMap.Entries.{where_key}
 use Rattle.pg_types.specs.Inside.Numbers.{Numbers}
 use Rattle.pg_count.specs.Inside.Counting.{Tallies, numbers_in}
 
@@ -30,8 +30,3 @@ numbers_where test numbers = map (λ e. e.1) (where_key (slice_cmp nat_cmp) test
 -- the numbers of the counted strings that begin with p
 abbrev pub numbers_under : List ℕ → Tallies → List ℕ
 numbers_under p tallies = numbers_where (is_under p) (numbers_in tallies)
-
--- each counted string has so many signs
-abbrev pub AreLong : Tallies → ℕ → Type 0
-AreLong tallies k = (u : List ℕ) (n : ℕ) → find (slice_cmp nat_cmp) u (numbers_in tallies) ≡ Some n
-    → length u ≡ k

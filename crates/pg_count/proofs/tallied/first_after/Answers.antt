@@ -1,4 +1,9 @@
-use Rattle.std.proofs.Common.{ℕ, ap}
+use Rattle.std.proofs.Common.{ℕ, inl, ap, sym, ◌∙◌}
+use Rattle.std.specs.FinMap.{find}
+use Rattle.std.specs.List.{range_with_len}
+use Rattle.pg_cells.proofs.StringMaps.{order}
+use Rattle.pg_count.specs.declared.tally.TheConstants.{NOT_COUNTED}
+use Rattle.pg_count.proofs.Mapped.{root_strings}
 use Rattle.pg_cells.specs.ValuedFamilies.{ValuedFamilies}
 use Rattle.pg_count.proofs.Telling.{root_past}
 use Rattle.pg_count.proofs.tallied.first_after.Goals as goal
@@ -11,3 +16,6 @@ returns-clause-past c = root_past c.args.cells.now.signs c.reset.new.self c.rese
 
 pub returns-clause-signs : goal.returns-clause-signs
 returns-clause-signs c = ap (λ (h : ValuedFamilies ℕ). h.signs) c.reset.ensures.held
+
+pub returns-clause-strings : goal.returns-clause-strings
+returns-clause-strings c q k at = inl (root_strings q NOT_COUNTED k (range_with_len 1 c.args.cells.now.signs) (ap (λ (h : ValuedFamilies ℕ). find order q h.values) (sym c.reset.ensures.held) ∙ at))

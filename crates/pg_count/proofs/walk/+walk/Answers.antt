@@ -1,11 +1,11 @@
-use Rattle.std.proofs.Common.{◌≡◌, ◌≢◌, ℕ, ◌<◌, List, [], ◌∷◌, ◌++◌, Some, ap, sym, subst, ◌∙◌, arith, length-append}
+use Rattle.std.proofs.Common.{◌≡◌, ◌≢◌, ℕ, List, [], ◌∷◌, ◌++◌, Some, ap, sym, subst, ◌∙◌, arith, length-append}
 use Rattle.std.proofs.lemmas.List.{append_assoc, append-nil}
 use Rattle.pg_types.specs.Placement.{base_of}
 use Rattle.pg_cells.specs.Inside.Members.{IsNextSign}
 use Rattle.pg_cells.proofs.LinkLaws.{goes_cell}
 use Rattle.pg_count.specs.Inside.Counting.{numbers_in}
 use Rattle.pg_count.specs.Inside.Under.{is_passed, numbers_where, numbers_under}
-use Rattle.pg_count.proofs.Walking.{passed_first, passed_next, passed_end, under_none}
+use Rattle.pg_count.proofs.Walking.{open_base, short_last, passed_first, passed_next, passed_end}
 use Rattle.pg_count.proofs.walk.+walk.Goals as goal
 
 pub walk-loop-s-init : goal.walk-loop-s-init
@@ -16,7 +16,7 @@ walk-loop-s-init t c =
       there = λ p at up. ((next p at).found up).1;
       passed = λ p at long.
           sym (append-nil c.args.out.now.items)
-          ∙ ap (λ l. c.args.out.now.items ++ l) (sym (passed_first c.args.cells.now c.requires.held p c.args.more long c.requires.some c.args.first (next p at)));
+          ∙ ap (λ l. c.args.out.now.items ++ l) (sym (passed_first c.args.cells.now c.requires.held p (open_base c.args.cells.now c.requires.held c.requires.last p c.args.base at) c.args.first (next p at)));
     }
 
 pub walk-find-requires : goal.walk-find-requires
@@ -30,7 +30,7 @@ pub walk-walk_at-requires : goal.walk-walk_at-requires
 walk-walk_at-requires t c =
     let some = c.requires.some in (
       omega arith,
-      (c.requires.held, (c.requires.base.0 ++ c.loop-s.s ∷ [], sym (c.in-Some.ensures.cell c.requires.base.0 c.requires.base.1.0))),
+      (c.requires.held, ((c.requires.base.0 ++ c.loop-s.s ∷ [], sym (c.in-Some.ensures.cell c.requires.base.0 c.requires.base.1.0)), c.requires.last)),
     )
 
 pub walk-next_sign-s-requires : goal.walk-next_sign-s-requires
@@ -49,16 +49,16 @@ walk-loop-s-preserved t c =
           (λ u n found. (let size = long u n found in let more = length-append p (c.loop-s.s ∷ []) in omega arith))
           ∙ ap (λ l. l ++ numbers_under (p ++ c.loop-s.s ∷ []) c.args.cells.now.values) (c.loop-s.invariant.passed p at long)
           ∙ append_assoc c.args.out.now.items (numbers_where (is_passed p c.loop-s.s) (numbers_in c.args.cells.now.values)) (numbers_under (p ++ c.loop-s.s ∷ []) c.args.cells.now.values)
-          ∙ ap (λ l. c.args.out.now.items ++ l) (sym (passed_next c.args.cells.now c.requires.held p c.args.more long c.requires.some c.loop-s.s c.next_sign-s.result other (next p at)));
+          ∙ ap (λ l. c.args.out.now.items ++ l) (sym (passed_next c.args.cells.now c.requires.held p (open_base c.args.cells.now c.requires.held c.requires.last p c.args.base at) c.loop-s.s c.next_sign-s.result other (next p at)));
     }
 
 pub walk-returns : goal.walk-returns
 walk-returns t c = λ p at long.
     let end : c.loop-s.s ≡ 0 = omega arith in
-    c.loop-s.invariant.passed p at long ∙ ap (λ l. c.args.out.now.items ++ l) (passed_end c.args.cells.now c.requires.held p c.args.more long c.requires.some c.loop-s.s end)
+    c.loop-s.invariant.passed p at long ∙ ap (λ l. c.args.out.now.items ++ l) (passed_end c.args.cells.now c.requires.held p (open_base c.args.cells.now c.requires.held c.requires.last p c.args.base at) c.loop-s.s end)
+
+pub walk_at-returns-then-more-eq0 : goal.walk_at-returns-then-more-eq0
+walk_at-returns-then-more-eq0 t c = λ q at short. c.last_at.ensures q at (short_last c.args.cells.now q (λ p o there. (let l = short p o there in omega arith)))
 
 pub walk_at-returns-then-below-eq0 : goal.walk_at-returns-then-below-eq0
-walk_at-returns-then-below-eq0 t c = λ q at long.
-    let some : 0 < c.args.more = omega arith in
-    sym (append-nil c.args.out.now.items)
-    ∙ ap (λ l. c.args.out.now.items ++ l) (sym (under_none c.args.cells.now c.requires.held q c.args.more long some (λ x. c.child-below.ensures.none q at c.if-below-eq0.true x)))
+walk_at-returns-then-below-eq0 t c = λ q at short. c.last_at-then-below-eq0.ensures q at (c.child-below.ensures.none q at c.if-below-eq0.true)

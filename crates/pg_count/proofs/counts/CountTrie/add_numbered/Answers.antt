@@ -1,159 +1,86 @@
-use Rattle.std.proofs.Common.{Some, None, ap, sym, subst, ◌∙◌}
+use Rattle.std.proofs.Common.{ℕ, Option, take, length, unwrap_or, refl, ap, sym, subst, ◌∙◌}
 use Rattle.std.proofs.lemmas.Result.{err_from_is_err_and}
-use Rattle.pg_count.specs.Inside.Counting.{AreCounting, counting_of}
-use Rattle.pg_count.proofs.Adding.{Enters, absent, entered, entered_kept, small, blank_there, added, added_kept, added_number, counted_new, new_kept, new_number}
+use Rattle.std.specs.List.{slice_get}
+use Rattle.pg_types.proofs.Numbering.{get_seam}
+use Rattle.pg_types.specs.Counts.{AreSmall, counted_sums, is_counted, with_weight}
+use Rattle.pg_types.specs.Numbered.{HasNumber}
+use Rattle.pg_cells.specs.ValuedFamilies.{ValuedFamilies}
+use Rattle.pg_count.specs.Inside.Counting.{Counting, Tally, counted_more, counting_of}
+use Rattle.pg_count.specs.Inside.Leaves.{AreLeaves}
+use Rattle.pg_count.proofs.Adding.{counted_again, counted_new}
+use Rattle.pg_count.proofs.Leaves.{again_leaves, again_sets}
+use Rattle.pg_count.proofs.Wholes.{counted_back, counts_there, kept_counting}
 use Rattle.pg_count.proofs.counts.CountTrie.add_numbered.Goals as goal
-
-pub invariant_of-self : goal.invariant_of-self
-invariant_of-self c =
-    let e : Enters c.args.self.now c.self.inside.cells c.enter.new.self c.self.inside.len c.args.window.now = record {
-      is = c.self.view_is;
-      kept = c.self.invariant;
-      held = c.in_err-cell.ensures.held;
-      signs = c.in_err-cell.ensures.signs;
-      adds = c.in_err-cell.ensures.blanks;
-    } in
-    entered_kept c.args.self.now c.self.inside.cells c.enter.new.self c.self.inside.len c.args.window.now e
-
-pub returns-in_err-cell-clause-there : goal.returns-in_err-cell-clause-there
-returns-in_err-cell-clause-there c = λ counted.
-    absurd (absent c.args.self.now c.self.inside.cells c.self.inside.len c.args.window.now c.self.view_is c.self.invariant c.in_err-cell.ensures.err counted)
-
-pub returns-in_err-cell-clause-err : goal.returns-in_err-cell-clause-err
-returns-in_err-cell-clause-err c =
-    let err = err_from_is_err_and c.from_residual.result c.from_residual.ensures.1 in
-    let e : Enters c.args.self.now c.self.inside.cells c.enter.new.self c.self.inside.len c.args.window.now = record {
-      is = c.self.view_is;
-      kept = c.self.invariant;
-      held = c.in_err-cell.ensures.held;
-      signs = c.in_err-cell.ensures.signs;
-      adds = c.in_err-cell.ensures.blanks;
-    } in
-    rw (err.1) (entered c.args.self.now c.self.inside.cells c.enter.new.self c.self.inside.len c.args.window.now e)
 
 pub add_weight-requires : goal.add_weight-requires
 add_weight-requires c =
-    let e : Enters c.args.self.now c.self.inside.cells c.enter.new.self c.self.inside.len c.args.window.now = record {
-      is = c.self.view_is;
-      kept = c.self.invariant;
-      held = c.in_ok-cell.ensures.held;
-      signs = c.in_ok-cell.ensures.signs;
-      adds = c.in_ok-cell.ensures.blanks;
-    } in
-    small c.args.self.now c.self.inside.cells c.enter.new.self c.self.inside.len c.args.window.now e (Some (c.in-Some.number, c.in-Some.sums)) c.args.good c.args.weight (c.in-Some.ensures c.args.window.now c.in_ok-cell.ensures.cell) c.requires.small
+    let u = c.args.window.now in
+    let ws = c.self.inside.windows.items in
+    let some = c.in-Some.ensures.some in
+    let at = subst (λ l. HasNumber l u c.in-Some.number) c.as_slice.ensures.value some.1 in
+    let found = sym (ap (λ (d : Counting). counted_sums d.counts u) c.self.view_is) ∙ counts_there c.self.inside.cells ws c.self.inside.len c.self.invariant.leaves u (c.in-Some.number, c.in-Some.sums) (take c.way_of-way.result.at u, some.0) at in
+    subst (λ (o : Option (ℕ × ℕ)). AreSmall (with_weight (unwrap_or o (0, 0)) c.args.good c.args.weight)) found c.requires.small
 
-pub set_sums-requires : goal.set_sums-requires
-set_sums-requires c = (c.args.window.now, c.in-Some.sums, c.in-Some.ensures c.args.window.now c.in_ok-cell.ensures.cell)
-
-pub invariant_of-self-in-Some : goal.invariant_of-self-in-Some
-invariant_of-self-in-Some c =
-    let e : Enters c.args.self.now c.self.inside.cells c.enter.new.self c.self.inside.len c.args.window.now = record {
-      is = c.self.view_is;
-      kept = c.self.invariant;
-      held = c.in_ok-cell.ensures.held;
-      signs = c.in_ok-cell.ensures.signs;
-      adds = c.in_ok-cell.ensures.blanks;
-    } in
-    added_kept c.args.self.now c.self.inside.cells c.enter.new.self c.self.inside.len c.args.window.now e c.set_sums.new.self c.in-Some.number c.in-Some.sums c.add_weight.result c.args.good c.args.weight (c.in-Some.ensures c.args.window.now c.in_ok-cell.ensures.cell) c.add_weight.ensures (c.set_sums.ensures.held c.args.window.now c.in-Some.sums (c.in-Some.ensures c.args.window.now c.in_ok-cell.ensures.cell)) c.set_sums.ensures.kept c.requires.len c.requires.signs
+pub invariant_of-self : goal.invariant_of-self
+invariant_of-self c =
+    let q = take c.way_of-way.result.at c.args.window.now in
+    let there = c.in-Some.ensures.some.0 in
+    let set = c.set_sums.ensures.held q c.in-Some.sums there in
+    record {
+      leaves =
+          again_leaves c.self.inside.cells c.set_sums.new.self c.self.inside.windows.items c.self.inside.len c.self.invariant.leaves q c.in-Some.number c.in-Some.sums c.add_weight.result c.set_sums.ensures.kept
+          (ap (λ (h : ValuedFamilies (Option Tally)). h.signs) set) (ap (λ (h : ValuedFamilies (Option Tally)). h.values) set) c.set_sums.ensures.size there;
+      some = c.self.invariant.some;
+      most = c.self.invariant.most;
+      few = c.self.invariant.few;
+    }
 
 pub returns-in-Some-clause-ok : goal.returns-in-Some-clause-ok
 returns-in-Some-clause-ok c =
-    let e : Enters c.args.self.now c.self.inside.cells c.enter.new.self c.self.inside.len c.args.window.now = record {
-      is = c.self.view_is;
-      kept = c.self.invariant;
-      held = c.in_ok-cell.ensures.held;
-      signs = c.in_ok-cell.ensures.signs;
-      adds = c.in_ok-cell.ensures.blanks;
-    } in
-    added c.args.self.now c.self.inside.cells c.enter.new.self c.self.inside.len c.args.window.now e c.set_sums.new.self c.in-Some.number c.in-Some.sums c.add_weight.result c.args.good c.args.weight (c.in-Some.ensures c.args.window.now c.in_ok-cell.ensures.cell) c.add_weight.ensures (c.set_sums.ensures.held c.args.window.now c.in-Some.sums (c.in-Some.ensures c.args.window.now c.in_ok-cell.ensures.cell))
-
-pub returns-in-Some-clause-number : goal.returns-in-Some-clause-number
-returns-in-Some-clause-number c =
-    let e : Enters c.args.self.now c.self.inside.cells c.enter.new.self c.self.inside.len c.args.window.now = record {
-      is = c.self.view_is;
-      kept = c.self.invariant;
-      held = c.in_ok-cell.ensures.held;
-      signs = c.in_ok-cell.ensures.signs;
-      adds = c.in_ok-cell.ensures.blanks;
-    } in
-    added_number c.args.self.now c.self.inside.cells c.enter.new.self c.self.inside.len c.args.window.now e c.set_sums.new.self c.in-Some.number c.in-Some.sums c.add_weight.result c.args.good c.args.weight (c.in-Some.ensures c.args.window.now c.in_ok-cell.ensures.cell) c.add_weight.ensures (c.set_sums.ensures.held c.args.window.now c.in-Some.sums (c.in-Some.ensures c.args.window.now c.in_ok-cell.ensures.cell))
-    (added_kept c.args.self.now c.self.inside.cells c.enter.new.self c.self.inside.len c.args.window.now e c.set_sums.new.self c.in-Some.number c.in-Some.sums c.add_weight.result c.args.good c.args.weight (c.in-Some.ensures c.args.window.now c.in_ok-cell.ensures.cell) c.add_weight.ensures (c.set_sums.ensures.held c.args.window.now c.in-Some.sums (c.in-Some.ensures c.args.window.now c.in_ok-cell.ensures.cell)) c.set_sums.ensures.kept c.requires.len c.requires.signs)
-
-pub add_weight-requires-in-None : goal.add_weight-requires-in-None
-add_weight-requires-in-None c =
-    let e : Enters c.args.self.now c.self.inside.cells c.enter.new.self c.self.inside.len c.args.window.now = record {
-      is = c.self.view_is;
-      kept = c.self.invariant;
-      held = c.in_ok-cell.ensures.held;
-      signs = c.in_ok-cell.ensures.signs;
-      adds = c.in_ok-cell.ensures.blanks;
-    } in
-    small c.args.self.now c.self.inside.cells c.enter.new.self c.self.inside.len c.args.window.now e None c.args.good c.args.weight (c.in-None.ensures c.args.window.now c.in_ok-cell.ensures.cell) c.requires.small
-
-pub invariant_of-self-in_err-number-in-None : goal.invariant_of-self-in_err-number-in-None
-invariant_of-self-in_err-number-in-None c =
-    let e : Enters c.args.self.now c.self.inside.cells c.enter.new.self c.self.inside.len c.args.window.now = record {
-      is = c.self.view_is;
-      kept = c.self.invariant;
-      held = c.in_ok-cell.ensures.held;
-      signs = c.in_ok-cell.ensures.signs;
-      adds = c.in_ok-cell.ensures.blanks;
-    } in
-    subst (λ cells. AreCounting cells c.self.inside.len) (sym c.in_err-number-in-None.ensures.err) (entered_kept c.args.self.now c.self.inside.cells c.enter.new.self c.self.inside.len c.args.window.now e)
+    let u = c.args.window.now in
+    let ws = c.self.inside.windows.items in
+    let len = c.self.inside.len in
+    let h = c.self.inside.cells in
+    let g = c.set_sums.new.self in
+    let q = take c.way_of-way.result.at u in
+    let there = c.in-Some.ensures.some.0 in
+    let at = subst (λ l. HasNumber l u c.in-Some.number) c.as_slice.ensures.value c.in-Some.ensures.some.1 in
+    let set = c.set_sums.ensures.held q c.in-Some.sums there in
+    let signs = ap (λ (h : ValuedFamilies (Option Tally)). h.signs) set in
+    let values = ap (λ (h : ValuedFamilies (Option Tally)). h.values) set in
+    let new = again_leaves h g ws len c.self.invariant.leaves q c.in-Some.number c.in-Some.sums c.add_weight.result c.set_sums.ensures.kept signs values c.set_sums.ensures.size there in
+    let sets = again_sets h g ws len c.self.invariant.leaves q c.in-Some.number c.in-Some.sums c.add_weight.result c.set_sums.ensures.kept signs values c.set_sums.ensures.size there in
+    counted_again h g ws len c.self.invariant.leaves new u c.in-Some.number c.in-Some.sums c.add_weight.result c.args.good c.args.weight signs at (q, there) c.add_weight.ensures sets
+    ∙ ap (λ (d : Counting). counted_more d u c.args.good c.args.weight) c.self.view_is
 
 pub returns-in_err-number-in-None-clause-there : goal.returns-in_err-number-in-None-clause-there
 returns-in_err-number-in-None-clause-there c = λ counted.
-    let e : Enters c.args.self.now c.self.inside.cells c.enter.new.self c.self.inside.len c.args.window.now = record {
-      is = c.self.view_is;
-      kept = c.self.invariant;
-      held = c.in_ok-cell.ensures.held;
-      signs = c.in_ok-cell.ensures.signs;
-      adds = c.in_ok-cell.ensures.blanks;
-    } in
-    absurd (blank_there c.args.self.now c.self.inside.cells c.enter.new.self c.self.inside.len c.args.window.now e (c.in-None.ensures c.args.window.now c.in_ok-cell.ensures.cell) counted)
+    let u = c.args.window.now in
+    let t = counted_back c.self.inside.cells c.self.inside.windows.items c.self.inside.len c.self.invariant.leaves u (ap (λ (d : Counting). is_counted d.counts u) c.self.view_is ∙ counted) in
+    absurd (c.in-None.ensures.none refl t.0.0 (subst (λ l. HasNumber l u t.0.0) (sym c.as_slice.ensures.value) t.1.1))
 
 pub returns-in_err-number-in-None-clause-err : goal.returns-in_err-number-in-None-clause-err
 returns-in_err-number-in-None-clause-err c =
-    let err = err_from_is_err_and c.from_residual-in_err-number-in-None.result c.from_residual-in_err-number-in-None.ensures.1 in
-    let e : Enters c.args.self.now c.self.inside.cells c.enter.new.self c.self.inside.len c.args.window.now = record {
-      is = c.self.view_is;
-      kept = c.self.invariant;
-      held = c.in_ok-cell.ensures.held;
-      signs = c.in_ok-cell.ensures.signs;
-      adds = c.in_ok-cell.ensures.blanks;
-    } in
-    rw (err.1) (ap (λ cells. counting_of cells c.self.inside.len) c.in_err-number-in-None.ensures.err ∙ entered c.args.self.now c.self.inside.cells c.enter.new.self c.self.inside.len c.args.window.now e)
-
-pub invariant_of-self-in-None : goal.invariant_of-self-in-None
-invariant_of-self-in-None c =
-    let e : Enters c.args.self.now c.self.inside.cells c.enter.new.self c.self.inside.len c.args.window.now = record {
-      is = c.self.view_is;
-      kept = c.self.invariant;
-      held = c.in_ok-cell.ensures.held;
-      signs = c.in_ok-cell.ensures.signs;
-      adds = c.in_ok-cell.ensures.blanks;
-    } in
-    new_kept c.args.self.now c.self.inside.cells c.enter.new.self c.self.inside.len c.args.window.now e c.count.new.self c.add_weight-in-None.result c.args.good c.args.weight (c.in-None.ensures c.args.window.now c.in_ok-cell.ensures.cell) c.add_weight-in-None.ensures (c.in_ok-number-in-None.ensures.held c.args.window.now c.in_ok-cell.ensures.cell) c.in_ok-number-in-None.ensures.kept c.requires.len c.requires.signs
+    let err = err_from_is_err_and c.from_residual.result c.from_residual.ensures.1 in
+    let ws = c.self.inside.windows.items in
+    let len = c.self.inside.len in
+    let h = c.self.inside.cells in
+    let g = c.count_new.new.cells in
+    let ensures = c.in_err-number-in-None.ensures in
+    let new = subst (AreLeaves g ws) (c.requires.len ∙ sym (ap (λ (d : Counting). d.len) c.self.view_is)) (subst (λ l. AreLeaves g l (length c.args.window.now)) ensures.err ensures.leaves) in
+    rw (err.1) (ap (λ l. counting_of g l len) ensures.err ∙ kept_counting h g ws len c.self.invariant.leaves new ensures.signs ensures.keeps ∙ c.self.view_is)
 
 pub returns-in_ok-number-in-None-clause-ok : goal.returns-in_ok-number-in-None-clause-ok
 returns-in_ok-number-in-None-clause-ok c =
-    let e : Enters c.args.self.now c.self.inside.cells c.enter.new.self c.self.inside.len c.args.window.now = record {
-      is = c.self.view_is;
-      kept = c.self.invariant;
-      held = c.in_ok-cell.ensures.held;
-      signs = c.in_ok-cell.ensures.signs;
-      adds = c.in_ok-cell.ensures.blanks;
-    } in
-    counted_new c.args.self.now c.self.inside.cells c.enter.new.self c.self.inside.len c.args.window.now e c.count.new.self c.add_weight-in-None.result c.args.good c.args.weight (c.in-None.ensures c.args.window.now c.in_ok-cell.ensures.cell) c.add_weight-in-None.ensures (c.in_ok-number-in-None.ensures.held c.args.window.now c.in_ok-cell.ensures.cell)
+    let u = c.args.window.now in
+    let ws = c.self.inside.windows.items in
+    let ensures = c.in_ok-number-in-None.ensures in
+    let new = subst (AreLeaves c.count_new.new.cells c.count_new.new.windows.items) (c.requires.len ∙ sym (ap (λ (d : Counting). d.len) c.self.view_is)) ensures.leaves in
+    let none = λ (n : ℕ) (at : HasNumber ws u n). c.in-None.ensures.none refl n (subst (λ l. HasNumber l u n) (sym c.as_slice.ensures.value) at) in
+    counted_new c.self.inside.cells c.count_new.new.cells ws c.count_new.new.windows.items c.self.inside.len c.self.invariant.leaves new u c.add_weight-sums.result c.args.good c.args.weight ensures.signs none ensures.windows c.add_weight-sums.ensures ensures.sets
+    ∙ ap (λ (d : Counting). counted_more d u c.args.good c.args.weight) c.self.view_is
 
 pub returns-in_ok-number-in-None-clause-number : goal.returns-in_ok-number-in-None-clause-number
 returns-in_ok-number-in-None-clause-number c =
-    let e : Enters c.args.self.now c.self.inside.cells c.enter.new.self c.self.inside.len c.args.window.now = record {
-      is = c.self.view_is;
-      kept = c.self.invariant;
-      held = c.in_ok-cell.ensures.held;
-      signs = c.in_ok-cell.ensures.signs;
-      adds = c.in_ok-cell.ensures.blanks;
-    } in
-    new_number c.args.self.now c.self.inside.cells c.enter.new.self c.self.inside.len c.args.window.now e c.count.new.self c.add_weight-in-None.result c.args.good c.args.weight (c.in-None.ensures c.args.window.now c.in_ok-cell.ensures.cell) c.add_weight-in-None.ensures (c.in_ok-number-in-None.ensures.held c.args.window.now c.in_ok-cell.ensures.cell)
-    (new_kept c.args.self.now c.self.inside.cells c.enter.new.self c.self.inside.len c.args.window.now e c.count.new.self c.add_weight-in-None.result c.args.good c.args.weight (c.in-None.ensures c.args.window.now c.in_ok-cell.ensures.cell) c.add_weight-in-None.ensures (c.in_ok-number-in-None.ensures.held c.args.window.now c.in_ok-cell.ensures.cell) c.in_ok-number-in-None.ensures.kept c.requires.len c.requires.signs) c.in_ok-number-in-None.number c.in_ok-number-in-None.ensures.number
+    let ensures = c.in_ok-number-in-None.ensures in
+    ap (λ ws. slice_get ws c.in_ok-number-in-None.number) ensures.windows ∙ get_seam c.self.inside.windows.items c.args.window.now c.in_ok-number-in-None.number ensures.number

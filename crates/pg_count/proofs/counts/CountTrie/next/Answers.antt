@@ -1,26 +1,35 @@
-use Rattle.std.proofs.Common.{◌≡◌, ℕ, [], length, take, replicate, refl, arith, length-take}
-use Rattle.pg_cells.proofs.LinkLaws.{root_first}
-use Rattle.pg_count.proofs.Nexting.{none_next, least_next}
+use Rattle.std.proofs.Common.{◌≡◌, ℕ, List, ◌∷◌, length, None, refl, ap, sym, subst, ◌∙◌, arith}
+use Rattle.std.proofs.lemmas.Option.{get_or_from_slice_get, slice_get_within}
+use Rattle.pg_types.specs.Counts.{above}
+use Rattle.pg_count.specs.Inside.Counting.{Counting}
+use Rattle.pg_count.specs.Inside.Leaves.{IsLeastAbove, LeastUpTo}
+use Rattle.pg_count.proofs.Nearest.{none_above, least_is}
 use Rattle.pg_count.proofs.counts.CountTrie.next.Goals as goal
 
-pub least-requires-clause-base : goal.least-requires-clause-base
-least-requires-clause-base c = ([], (c.self.invariant.held.root, root_first c.self.inside.cells c.self.invariant.held))
+pub least_above-requires : goal.least_above-requires
+least_above-requires c = record { few = (let few = c.self.invariant.few in let same = ap length c.as_slice.ensures.value in omega arith) }
 
-pub set-requires-clause-signs : goal.set-requires-clause-signs
-set-requires-clause-signs c = (c.in-Some.ensures [] c.self.invariant.held.root 0).are_signs
-
-pub returns-in-None : goal.returns-in-None
-returns-in-None c =
-    let most = c.self.invariant.counting.len in
-    let size : length (take c.from.result (replicate 15 0)) ≡ c.self.inside.len = omega (arith, length-take {A = ℕ} c.from.result (replicate 15 0)) in (
-      none_next c.args.self.now c.self.inside.cells c.self.inside.len c.args.at.now c.signs.result.now (length (take c.from.result (replicate 15 0))) c.self.view_is c.self.invariant c.signs.ensures.value size
-          (c.in-None.ensures [] c.self.invariant.held.root),
+pub returns-in_err-number : goal.returns-in_err-number
+returns-in_err-number c =
+    let none = subst (λ ws. LeastUpTo ws (length ws) c.args.at.now None) c.as_slice.ensures.value c.in_err-number.ensures in
+    rw c.from_residual.ensures (
+      ap (λ (d : Counting). above c.args.at.now d.counts) (sym c.self.view_is) ∙ none_above c.self.inside.cells c.self.inside.windows.items c.self.inside.len c.self.invariant.leaves c.args.at.now none,
       refl,
     )
 
-pub returns-in-Some : goal.returns-in-Some
-returns-in-Some c =
-    let most = c.self.invariant.counting.len in
-    let size : length c.least.new.path ≡ c.self.inside.len = omega (arith, length-take {A = ℕ} c.from.result (replicate 15 0)) in
-    least_next c.args.self.now c.self.inside.cells c.self.inside.len c.args.at.now c.signs.result.now c.least.new.path c.set.new.self c.in-Some.sums c.self.view_is c.self.invariant c.signs.ensures.value size c.set.ensures
-    (c.in-Some.ensures [] c.self.invariant.held.root)
+pub index-requires : goal.index-requires
+index-requires c =
+    let l = c.in_ok-number.ensures in
+    let lt = slice_get_within c.as_slice.result.now c.in_ok-number.number l.window l.there in
+    let size = c.as_slice.ensures.len in
+    omega arith
+
+pub returns : goal.returns
+returns c =
+    let ws = c.self.inside.windows.items in
+    let l = subst (λ ws. IsLeastAbove ws (length ws) c.args.at.now c.in_ok-number.number) c.as_slice.ensures.value c.in_ok-number.ensures in
+    let same : c.set.new.self ≡ l.window = c.set.ensures ∙ c.signs.ensures.value ∙ c.index.ensures ∙ get_or_from_slice_get ws c.in_ok-number.number l.window c.index.result.now l.there in
+    ap (λ (d : Counting). above c.args.at.now d.counts) (sym c.self.view_is)
+    ∙ least_is c.self.inside.cells ws c.self.inside.len c.self.invariant.leaves c.args.at.now c.in_ok-number.number l c.sums.result c.sums.ensures
+    ∙ ap (λ (d : Counting). (l.window, c.sums.result) ∷ above l.window d.counts) c.self.view_is
+    ∙ ap (λ (u : List ℕ). (u, c.sums.result) ∷ above u c.args.self.now.counts) (sym same)

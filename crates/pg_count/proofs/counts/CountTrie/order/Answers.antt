@@ -1,22 +1,28 @@
-use Rattle.std.proofs.Common.{◌≡◌, [], Some, map, ap, sym, ◌∙◌}
+use Rattle.std.proofs.Common.{◌≡◌, ℕ, List, [], Some, map, arith, ap, sym, subst, ◌∙◌}
 use Rattle.std.proofs.lemmas.List.{append-nil}
-use Rattle.pg_count.specs.Inside.Counting.{Counting}
+use Rattle.pg_types.specs.Numbered.{AreInOrder}
 use Rattle.pg_cells.proofs.LinkLaws.{root_first}
+use Rattle.pg_count.specs.Inside.Counting.{Counting, Tally, sums_seen, window_at}
 use Rattle.pg_count.specs.Inside.Under.{numbers_under}
-use Rattle.pg_count.proofs.Looking.{long_windows, ordered_numbers}
+use Rattle.pg_count.proofs.Counted.{none_seen}
+use Rattle.pg_count.proofs.Looking.{ordered_numbers}
 use Rattle.pg_count.proofs.counts.CountTrie.order.Goals as goal
 
 pub walk-requires-clause-base : goal.walk-requires-clause-base
-walk-requires-clause-base c = ([], (c.self.invariant.held.root, root_first c.self.inside.cells c.self.invariant.held))
+walk-requires-clause-base c = ([], (c.self.invariant.leaves.held.root, root_first c.self.inside.cells c.self.invariant.leaves.held))
 
 pub returns-in_ok-walk : goal.returns-in_ok-walk
 returns-in_ok-walk c = (
   numbers_under [] c.self.inside.cells.values,
-  c.in_ok-walk.ensures [] c.self.invariant.held.root (long_windows c.args.self.now c.self.inside.cells c.self.inside.len c.self.view_is c.self.invariant),
-  ordered_numbers c.args.self.now c.self.inside.cells c.self.inside.len c.self.view_is c.self.invariant,
+  c.in_ok-walk.ensures [] c.self.invariant.leaves.held.root (λ q o at. (let l = c.self.invariant.leaves.short q o at in omega arith)),
+  subst (λ (d : Counting). AreInOrder d.windows d.counts (numbers_under [] c.self.inside.cells.values)) c.self.view_is
+      (ordered_numbers c.self.inside.cells c.self.inside.windows.items c.self.inside.len c.self.invariant.leaves),
 )
 
 pub returns-else-not-has_none : goal.returns-else-not-has_none
 returns-else-not-has_none c =
-    let none : c.args.self.now.counts ≡ [] = sym (ap (λ (d : Counting). d.counts) c.self.view_is) ∙ c.has_none.ensures.0 c.if-not-has_none.false in
-    ([], sym (append-nil c.args.out.now.items), sym (ap (map (λ e. Some e.0)) none))
+    let none = none_seen sums_seen (λ t. t) c.self.inside.cells.values (c.has_none.ensures.0 c.if-not-has_none.false) in
+    let counts : c.args.self.now.counts ≡ [] =
+    sym (ap (λ (d : Counting). d.counts) c.self.view_is)
+    ∙ ap (λ (es : List (List ℕ × Tally)). map (λ (e : List ℕ × Tally). (e.0, sums_seen e.1)) (map (λ (e : List ℕ × Tally). (window_at c.self.inside.windows.items e.1.0, e.1)) es)) none in
+    ([], sym (append-nil c.args.out.now.items), sym (ap (map (λ (e : List ℕ × (ℕ × ℕ)). Some e.0)) counts))

@@ -1,7 +1,11 @@
-use Rattle.std.proofs.Common.{Option, ap, ◌∙◌}
+use Rattle.std.proofs.Common.{◌≡◌, inl, inr, true, Option, ap, sym, subst, arith, ◌∙◌}
+use Rattle.pg_count.specs.Inside.Leaves.{AreShort}
+use Rattle.pg_count.specs.Inside.Tallied.{tally_of}
+use Rattle.pg_count.proofs.Mapped.{found_mapped, unmapped}
 use Rattle.pg_count.specs.Inside.Counting.{Tally}
 use Rattle.pg_cells.specs.ValuedFamilies.{ValuedFamilies}
 use Rattle.pg_count.proofs.Telling.{held_told, cleared_kept, none_counted}
+use Rattle.pg_count.proofs.tallied.Tallied.clear.Goals.{then-alike, else-alike, then-next-le-LATEST_FIRST+then-has_none, then-next-le-LATEST_FIRST+else-has_none, else-next-le-LATEST_FIRST}
 use Rattle.pg_count.proofs.tallied.Tallied.clear.Goals as goal
 
 pub invariant_of-self : goal.invariant_of-self
@@ -15,3 +19,22 @@ returns-clause-none c = none_counted c.first_after-self-inside.new.cells c.first
 
 pub returns-clause-kept : goal.returns-clause-kept
 returns-clause-kept c = held_told c.first_after-self-inside.new.cells c.first_after-self-inside.result c.clear.new.self.items c.first_after-self-inside.ensures.held
+
+pub returns-clause-short : goal.returns-clause-short
+returns-clause-short c k some short q o at =
+    let first = c.first_after-self-inside.result in
+    let alike : c.if-next-le-LATEST_FIRST.keeps ≡ true → c.args.alike ≡ true = λ keeps. elim c.if-alike.branch [
+      | then-alike w ↦ w.if-alike.true
+      | else-alike w ↦ elim c.if-next-le-LATEST_FIRST.branch [
+        | then-next-le-LATEST_FIRST+then-has_none v ↦ absurd (let a = w.t-10-is in let b = v.if-next-le-LATEST_FIRST.true in cc)
+        | then-next-le-LATEST_FIRST+else-has_none v ↦ absurd (let a = w.t-10-is in let b = v.if-next-le-LATEST_FIRST.true in cc)
+        | else-next-le-LATEST_FIRST v ↦ absurd (let a = v.keeps-is in cc)
+      ]
+    ] in
+    let x = unmapped (tally_of first c.clear.new.self.items) q o c.first_after-self-inside.new.cells.values at in
+    elim (c.first_after-self-inside.ensures.strings q x.0 x.1) [
+      | inl one ↦ omega (arith, one)
+      | inr was ↦ (
+          let old = subst (λ (h : ValuedFamilies (Option Tally)). AreShort h.values k) (sym c.self.view_is) (short (alike was.0)) in
+          old q (tally_of c.self.inside.first c.self.inside.tallies.items x.0) (found_mapped (tally_of c.self.inside.first c.self.inside.tallies.items) q x.0 c.self.inside.cells.values was.1))
+    ]

@@ -1,4 +1,5 @@
-use Rattle.std.proofs.Common.{◌≡◌, Option, Some, None, ap, sym, subst, length, ◌∙◌}
+use Rattle.std.proofs.lemmas.List.{length_push}
+use Rattle.std.proofs.Common.{◌≡◌, ◌+◌, Option, Some, None, ap, sym, subst, length, ◌∙◌}
 use Rattle.std.specs.FinMap.{find, put}
 use Rattle.pg_types.specs.Placement.{cell_of}
 use Rattle.pg_cells.specs.ValuedFamilies.{ValuedFamilies}
@@ -32,3 +33,14 @@ returns-clause-held c q e =
 
 pub returns-clause-kept : goal.returns-clause-kept
 returns-clause-kept c = held_told c.set_value.new.self c.self.inside.first c.push_tally.new.tallies.items c.set_value.ensures.kept
+
+pub returns-clause-size : goal.returns-clause-size
+returns-clause-size c =
+    let q = c.requires.0 in
+    let at = subst (λ (h : ValuedFamilies (Option Tally)). cell_of h.families q ≡ Some c.args.cell) (sym c.self.view_is) c.requires.1.0 in
+    let blank = subst (λ (h : ValuedFamilies (Option Tally)). find order q h.values ≡ Some None) (sym c.self.view_is) c.requires.1.1 in
+    let are =
+    count_are c.self.inside.cells c.set_value.new.self c.self.inside.first c.self.inside.tallies.items c.push_tally.new.tallies.items c.self.invariant q c.args.sums c.in_ok-in_cell.ensures.items c.in_ok-in_cell.ensures.few
+    (c.set_value.ensures.held q at ∙ ap (λ n. record c.self.inside.cells { values = put order q n c.self.inside.cells.values }) c.in_ok-in_cell.ensures.number) c.set_value.ensures.kept blank in
+    are.size ∙ ap length c.in_ok-in_cell.ensures.items ∙ length_push c.self.inside.tallies.items c.args.sums ∙ ap (λ k. k + 1) (sym c.self.invariant.size)
+    ∙ ap (λ (h : ValuedFamilies (Option Tally)). length (numbers_in h.values) + 1) c.self.view_is

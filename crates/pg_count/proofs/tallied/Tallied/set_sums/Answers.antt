@@ -1,9 +1,10 @@
-use Rattle.std.proofs.Common.{◌≡◌, Option, Some, ap, sym, subst, ◌∙◌}
+use Rattle.std.proofs.Common.{◌≡◌, Option, Some, length, ap, sym, subst, ◌∙◌}
+use Rattle.std.proofs.lemmas.List.{length-set}
 use Rattle.std.specs.FinMap.{find, put}
 use Rattle.std.proofs.lemmas.Option.{slice_get_within}
 use Rattle.pg_cells.specs.ValuedFamilies.{ValuedFamilies}
 use Rattle.pg_cells.proofs.StringMaps.{order}
-use Rattle.pg_count.specs.Inside.Counting.{Tally}
+use Rattle.pg_count.specs.Inside.Counting.{Tally, numbers_in}
 use Rattle.pg_count.specs.Inside.Tallied.{told, AreTold}
 use Rattle.pg_count.proofs.Telling.{held_told, in_cell, numbered_are, numbered_told}
 use Rattle.pg_count.proofs.tallied.Tallied.set_sums.Goals as goal
@@ -29,3 +30,10 @@ returns-clause-held c q was e =
 
 pub returns-clause-kept : goal.returns-clause-kept
 returns-clause-kept c = held_told c.self.inside.cells c.self.inside.first c.set_tally.new.tallies.items c.self.invariant.held
+
+pub returns-clause-size : goal.returns-clause-size
+returns-clause-size c =
+    let at = subst (λ (h : ValuedFamilies (Option Tally)). find order c.requires.0 h.values ≡ Some (Some (c.args.number, c.requires.1))) (sym c.self.view_is) c.requires.2 in
+    let are = numbered_are c.self.inside.cells c.self.inside.first c.self.inside.tallies.items c.self.invariant c.requires.0 c.args.number c.requires.1 c.args.sums at in
+    ap (λ ts. length (numbers_in (told c.self.inside.cells c.self.inside.first ts).values)) c.set_tally.ensures ∙ are.size ∙ length-set c.self.inside.tallies.items c.args.number c.args.sums ∙ sym c.self.invariant.size
+    ∙ ap (λ (h : ValuedFamilies (Option Tally)). length (numbers_in h.values)) c.self.view_is

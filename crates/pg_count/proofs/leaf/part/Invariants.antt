@@ -1,0 +1,23 @@
+use Rattle.std.proofs.Common.{◌≡◌, ℕ, ◌-◌, ◌<◌, ◌≤◌, length, take, Some}
+use Rattle.std.specs.FinMap.{find}
+use Rattle.pg_types.specs.Numbered.{HasNumber}
+use Rattle.pg_types.specs.Placement.{cell_of}
+use Rattle.pg_types.proofs.StringEntries.{order}
+use Rattle.pg_count.specs.Inside.Leaves.{AreLeaves, Keeps}
+use Rattle.pg_count.proofs.leaf.part.Given as goal
+
+abbrev pub invariant-alike : goal.invariant-alike
+invariant-alike l = record {
+  some : 1 ≤ l.at;
+  less : l.at < length l.window;
+  same : take l.at l.other ≡ take l.at l.window;
+  there : cell_of l.cells.families (take l.at l.window) ≡ Some l.cell;
+  tally : (sums : ℕ × ℕ) × (find order (take l.at l.window) l.cells.values ≡ Some (Some (l.number, sums)));
+  leaves : AreLeaves l.cells l.windows (length l.window);
+  keeps : Keeps l.initial.cells.values l.cells.values;
+  signs : l.cells.signs ≡ l.initial.cells.signs;
+  row : HasNumber l.windows l.other l.number;
+}
+
+abbrev pub decreases-alike : goal.decreases-alike
+decreases-alike l = length l.window - l.at

@@ -1,0 +1,130 @@
+//! The cell of a window that is counted for the first time.
+ghost use Rattle.std.specs.Prelude.{◌≡◌, ℕ, ◌+◌, ◌<◌, ◌≤◌, ◌^◌, [], ◌∷◌, ◌++◌, length, take, None, Some, IfOk, OnOk, OnErr};
+ghost use Rattle.std.specs.FinMap.{find};
+ghost use Rattle.std.specs.Cmp.Lexicographic.{slice_cmp};
+ghost use Rattle.std.specs.Ordering.{nat_cmp};
+ghost use Rattle.pg_types.specs.Counts.{SignsWithin};
+ghost use Rattle.pg_types.specs.Numbered.{HasNumber, Windows};
+ghost use Rattle.pg_types.specs.declared.limits.TheConstants.{LENGTH_MAX};
+ghost use Rattle.pg_count.specs.Inside.Leaves.{AreLeaves, IsFree, IsWay, Keeps, Sets};
+
+use crate::tallied::Tallied;
+use crate::way::Way;
+use pg_types::{Cursor, Sign};
+use std::alloc::AllocError;
+
+// Pushes the tally with the number down from the end of a window's way, sign by sign, until the
+// window goes on by another sign than the window with the number. It answers the way of the
+// window then. Refused: the tally may have been pushed down in part.
+fn part(
+    cells: &mut Tallied,
+    windows: &[Cursor],
+    number: u32,
+    way: Way,
+    window: &[Sign],
+) -> Result<Way, AllocError>
+    requires leaves { AreLeaves cells.old windows.now (length window.now) }
+    requires way { IsWay cells.old window.now way.at way.cell }
+    requires tally { (sums : ℕ × ℕ) × (find (slice_cmp nat_cmp) (take way.at window.now)
+        cells.old.values ≡ Some (Some (number, sums))) }
+    requires new { (n : ℕ) → HasNumber windows.now window.now n → ⊥ }
+    ensures leaves { AreLeaves cells.new windows.now (length window.now) }
+    ensures keeps { Keeps cells.old.values cells.new.values }
+    ensures signs { cells.new.signs ≡ cells.old.signs }
+    ensures way { IfOk result (λ end. (IsWay cells.new window.now end.at end.cell)
+        × (end.at < length window.now) × (find (slice_cmp nat_cmp) (take end.at window.now)
+        cells.new.values ≡ Some None)) }
+{
+    let other = windows[number as usize].signs();
+    let mut cell = way.cell;
+    let mut at = way.at;
+    'alike: while other[at] == window[at] {
+        cell = cells.push_down(cell, other[at])?;
+        at += 1;
+    }
+    cells.push_down(cell, other[at])?;
+    Ok(Way { cell, at })
+}
+
+// Adds the next sign of a window at the end of its way, where no string is counted, and gives its
+// cell. Refused: nothing changes.
+fn add_next(cells: &mut Tallied, way: Way, window: &[Sign]) -> Result<usize, AllocError>
+    requires leaves { (windows : Windows) × AreLeaves cells.old windows (length window.now) }
+    requires way { IsWay cells.old window.now way.at way.cell }
+    requires less { way.at < length window.now }
+    requires blank { find (slice_cmp nat_cmp) (take way.at window.now) cells.old.values
+        ≡ Some None }
+    requires signs { SignsWithin cells.old.signs window.now }
+    ensures leaves { (windows : Windows) → AreLeaves cells.old windows (length window.now)
+        → AreLeaves cells.new windows (length window.now) }
+    ensures keeps { Keeps cells.old.values cells.new.values }
+    ensures signs { cells.new.signs ≡ cells.old.signs }
+    ensures free { IfOk result (λ cell. IsFree cells.new window.now cell) }
+{
+    let cell = cells.add(way.cell, window[way.at])?;
+    Ok(cell)
+}
+
+// A cell for a window that is not counted, at the end of its way or behind it. Refused: the cells
+// may have changed, but not what is counted.
+fn leaf(
+    cells: &mut Tallied,
+    windows: &[Cursor],
+    way: Way,
+    window: &[Sign],
+) -> Result<usize, AllocError>
+    requires leaves { AreLeaves cells.old windows.now (length window.now) }
+    requires way { IsWay cells.old window.now way.at way.cell }
+    requires signs { SignsWithin cells.old.signs window.now }
+    requires new { (n : ℕ) → HasNumber windows.now window.now n → ⊥ }
+    ensures leaves { AreLeaves cells.new windows.now (length window.now) }
+    ensures keeps { Keeps cells.old.values cells.new.values }
+    ensures signs { cells.new.signs ≡ cells.old.signs }
+    ensures free { IfOk result (λ cell. IsFree cells.new window.now cell) }
+{
+    if let Some((number, _)) = cells.tally(way.cell) {
+        let end = part(cells, windows, number, way, window)?;
+        return add_next(cells, end, window);
+    }
+    if way.at == window.len() || cells.child(way.cell) == 0 {
+        return Ok(way.cell);
+    }
+    add_next(cells, way, window)
+}
+
+/// Counts a window that is not counted, with the sums, and gives its number, which is the next one.
+/// Refused: the cells may have changed, but not what is counted.
+pub fn count_new(
+    cells: &mut Tallied,
+    windows: &mut Vec<Cursor>,
+    way: Way,
+    window: &[Sign],
+    sums: (u64, u64),
+) -> Result<u32, AllocError>
+    requires leaves { AreLeaves cells.old windows.old.items (length window.now) }
+    requires way { IsWay cells.old window.now way.at way.cell }
+    requires len { length window.now ≤ LENGTH_MAX }
+    requires signs { SignsWithin cells.old.signs window.now }
+    requires new { (n : ℕ) → HasNumber windows.old.items window.now n → ⊥ }
+    ensures leaves { AreLeaves cells.new windows.new.items (length window.now) }
+    ensures signs { cells.new.signs ≡ cells.old.signs }
+    ensures number { IfOk result (λ number. number ≡ length windows.old.items) }
+    ensures windows { OnOk result (windows.new.items ≡ windows.old.items ++ window.now ∷ []) }
+    ensures few { OnOk result (length windows.new.items ≤ 2 ^ 32) }
+    ensures sets { OnOk result
+        (Sets cells.old.values cells.new.values (length windows.old.items, sums)) }
+    ensures keeps { OnErr result (Keeps cells.old.values cells.new.values) }
+    ensures err { OnErr result (windows.new.items ≡ windows.old.items) }
+{
+    let cell = leaf(cells, windows.as_slice(), way, window)?;
+    let mut signs = Cursor::start();
+    signs.set(window);
+    windows.push(signs)?;
+    match cells.count(cell, sums) {
+        Ok(number) => Ok(number),
+        Err(_) => {
+            let _window = windows.pop();
+            Err(AllocError)
+        }
+    }
+}

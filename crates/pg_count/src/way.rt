@@ -1,0 +1,60 @@
+//! The way of a window's signs, from cell to cell.
+ghost use Rattle.std.specs.Prelude.{◌≡◌, ℕ, ◌<◌, length, take, None, Some, IfSome};
+ghost use Rattle.std.specs.FinMap.{find};
+ghost use Rattle.std.specs.Cmp.Lexicographic.{slice_cmp};
+ghost use Rattle.std.specs.Ordering.{nat_cmp};
+ghost use Rattle.pg_types.specs.Counts.{SignsWithin};
+ghost use Rattle.pg_types.specs.Numbered.{HasNumber};
+ghost use Rattle.pg_count.specs.Inside.Leaves.{AreLeaves, IsWay};
+
+use crate::tallied::Tallied;
+use pg_types::{Cursor, Sign};
+
+/// How far the signs of a string lead.
+#[derive(Clone, Copy)]
+pub struct Way {
+    /// The cell to which they lead.
+    pub cell: usize,
+    /// So many of them lead there.
+    pub at: usize,
+}
+
+/// The way of a string's signs, up to the first sign that no string with a cell goes on by.
+pub fn way_of(cells: &Tallied, signs: &[Sign]) -> Way
+    requires some { 0 < length signs.now }
+    requires signs { SignsWithin cells.now.signs signs.now }
+    ensures { IsWay cells.now signs.now result.at result.cell }
+{
+    let _held = cells.signs();
+    let mut cell = signs[0] as usize;
+    let mut at = 1;
+    'signs: while at < signs.len() {
+        let Some(next) = cells.step(Some(cell), signs[at]) else {
+            return Way { cell, at };
+        };
+        cell = next;
+        at += 1;
+    }
+    Way { cell, at }
+}
+
+/// The number and the sums of a window at the end of its way, or `None` where it is not counted.
+pub fn find_counted(
+    cells: &Tallied,
+    windows: &[Cursor],
+    way: Way,
+    window: &[Sign],
+) -> Option<(u32, (u64, u64))>
+    requires leaves { AreLeaves cells.now windows.now (length window.now) }
+    requires way { IsWay cells.now window.now way.at way.cell }
+    ensures some { IfSome result (λ t. (find (slice_cmp nat_cmp) (take way.at window.now)
+        cells.now.values ≡ Some (Some t)) × HasNumber windows.now window.now t.0) }
+    ensures none { result ≡ None → (n : ℕ) → HasNumber windows.now window.now n → ⊥ }
+{
+    let (number, sums) = cells.tally(way.cell)?;
+    if windows[number as usize].signs() == window {
+        Some((number, sums))
+    } else {
+        None
+    }
+}
