@@ -1,6 +1,6 @@
 -- The end of a window's way, and whether the window is counted there.
-use Rattle.std.proofs.Common.{◌≡◌, ℕ, ◌+◌, ◌<◌, inl, inr, List, [], ◌∷◌, ◌++◌, length, take, drop, get_or, Option, None, Some, refl, sym, ◌∙◌, ap, arith, length-append}
-use Rattle.std.proofs.lemmas.List.{append_assoc, append_cancel_left, append-nil, take-append-drop, drop_more, length-take-le}
+use Rattle.std.proofs.Common.{◌≡◌, ℕ, ◌+◌, ◌<◌, inl, inr, List, [], ◌∷◌, ◌++◌, length, take, drop, get_or, Option, None, Some, refl, sym, ◌∙◌, ap, arith, length-append, subst}
+use Rattle.std.proofs.lemmas.List.{append_assoc, append_cancel_left, append-nil, take-append-drop, take_all, drop_more, length-take-le, nil_from_length}
 use Rattle.std.specs.FinMap.Entries.{find}
 use Rattle.pg_types.specs.Numbered.{Windows, HasNumber}
 use Rattle.pg_types.specs.Placement.{cell_of}
@@ -39,6 +39,16 @@ module _ (h : ValuedFamilies (Option Tally)) (windows : Windows) (u : List ℕ) 
 
   front_size : length (take at u) ≡ at
   front_size = length-take-le at u way.within
+
+  -- where all its signs lead there, the string at its end is the window with its number
+  pub whole_row : at ≡ length u → (t : Tally) → find order (take at u) h.values ≡ Some (Some t) → HasNumber windows u t.0
+  whole_row whole t there =
+      let f = are.front (take at u) t there in
+      let long = (are.long (take at u ++ f.0) t.0 f.1).0 in
+      let parts = length-append (take at u) f.0 in
+      let size = front_size in
+      let nil = nil_from_length f.0 (omega arith) in
+      subst (λ v. HasNumber windows v t.0) (ap (λ r. take at u ++ r) nil ∙ append-nil (take at u) ∙ take_all at u (omega arith)) f.1
 
   -- where the window has a number, the string at its end has its tally
   pub at_end : (n : ℕ) → HasNumber windows u n → (sums : ℕ × ℕ) × (find order (take at u) h.values ≡ Some (Some (n, sums)))

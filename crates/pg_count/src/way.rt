@@ -52,7 +52,7 @@ pub fn find_counted(
     ensures none { result ≡ None → (n : ℕ) → HasNumber windows.now window.now n → ⊥ }
 {
     let (number, sums) = cells.tally(way.cell)?;
-    if windows[number as usize].signs() == window {
+    if way.at == window.len() || windows[number as usize].signs() == window {
         Some((number, sums))
     } else {
         None
