@@ -15,7 +15,7 @@ use Rattle.pg_top.specs.Outcomes.{Ends, Writing, refuses}
 use Rattle.pg_top.specs.PrintedLines.{usage_line, refused_line, reading_line, writing_line}
 use Rattle.pg_top.specs.Readings.{first_end}
 use Rattle.pg_words.specs.Requests.{Request, ToGenerate, ToAudit, ToSample, ToPack, ToTotals, ToPrune, ToSweep}
-use Rattle.pg_top.specs.SampleTexts.{sample_lines}
+use Rattle.pg_top.specs.sample.Sampled.{sample_lines}
 use Rattle.pg_top.specs.Inside.Stops.{StopsWith, StopsReading, StopsCommandWith, StopsCommand, PutsAnswer, PutsLines, PutsStop, Finishes}
 use Rattle.pg_top.specs.Writings.{written_names, after_all, IsPartWritten, WroteAll, StoppedAt}
 use Rattle.pg_top.specs.declared.answers.Status.{Status}
@@ -49,8 +49,8 @@ pub may_fault : (request : Request) → MayAnswer (Some request) Fault
 may_fault (ToGenerate n) = tt
 may_fault (ToAudit n) = tt
 may_fault (ToSample seed count) = tt
-may_fault (ToPack patterns translate table) = tt
-may_fault (ToTotals dict translate table) = tt
+may_fault (ToPack p) = tt
+may_fault (ToTotals p) = tt
 may_fault (ToPrune p) = tt
 may_fault (ToSweep s) = tt
 
@@ -58,8 +58,8 @@ pub may_want : (request : Request) → MayAnswer (Some request) Memory
 may_want (ToGenerate n) = tt
 may_want (ToAudit n) = tt
 may_want (ToSample seed count) = tt
-may_want (ToPack patterns translate table) = tt
-may_want (ToTotals dict translate table) = tt
+may_want (ToPack p) = tt
+may_want (ToTotals p) = tt
 may_want (ToPrune p) = tt
 may_want (ToSweep s) = tt
 

@@ -21,10 +21,13 @@ use Rattle.pg_translate.specs.LineRefusals.{refused as refused_in}
 use Rattle.pg_dict.specs.Words.{words, words_from}
 use Rattle.pg_patterns.specs.Starts.{start, entries_from, joined_entries}
 use Rattle.pg_top.specs.Outcomes.{refuses, unless_accepted}
-use Rattle.pg_top.specs.PackedTables.{packed_table, table_refused}
-use Rattle.pg_top.specs.Readings.{read_as, input_file}
-use Rattle.pg_top.specs.Inside.Stops.{StopsAt, stop_of}
+use Rattle.pg_top.specs.totals.Totalled.{packed_table}
+use Rattle.pg_top.specs.pack.Packed.{table_refused}
+use Rattle.pg_top.specs.Readings.{Reading, read_as, input_file}
+use Rattle.pg_top.specs.Inside.Stops.{StopsAt, StopsFront, stop_of}
 use Rattle.pg_top.specs.declared.inputs.Input.{Input}
+use Rattle.pg_top.specs.declared.inputs.Stop.{Stop}
+use Rattle.pg_top.specs.declared.inputs.Stop.TheVariants.{Refused, Unread, Memory}
 use Rattle.pg_top.proofs.Orders.{mapped}
 
 -- the first bytes of a text, one more than a number
@@ -141,3 +144,9 @@ stopped_up_to n parse front input name bytes old new reader.Memory e failed = tt
 
 pub stopped_by_front : {Y : Type 0} (parse : List ℕ → Result Y Refusal) → IsReadByFront parse → (input : Input) (name bytes : List ℕ) (old new : FilesShown) (error : ReadingError) → IfSome new.held (λ files. option_map (take (FILE_MAX + 1)) (file_at files name) ≡ Some bytes) → Fails error (parse bytes) → StopsAt (input_file input name (λ _. parse)) old new (stop_of input error)
 stopped_by_front parse front input name bytes old new error e failed = stopped_up_to FILE_MAX parse front input name bytes old new error e failed
+
+-- a stop at the first bytes of a file is a stop at the file
+pub front_stop : (r : Reading) (old new : FilesShown) (stop : Stop) → StopsFront r.name old new stop → StopsAt r old new stop
+front_stop r old new (Refused input refusal) stops = absurd stops
+front_stop r old new (Unread name) stops = (stops.0, stops.1)
+front_stop r old new Memory stops = tt

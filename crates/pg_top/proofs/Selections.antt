@@ -18,7 +18,7 @@ use Rattle.pg_texts.specs.PattmpTexts.{pattmp_text}
 use Rattle.pg_texts.specs.ReportTexts.{report_text}
 use Rattle.pg_top.specs.Inside.Runs.{last_told}
 use Rattle.pg_top.specs.Selection.{signs_of, selection, selected, selected_account, passes_begun, selected_cells_from, selected_cells, selected_text, selected_list, selected_cells_text, selected_report, last_layout}
-use Rattle.pg_top.specs.declared.reading.Inputs.{Inputs}
+use Rattle.pg_top.specs.declared.selection.Inputs.{Inputs}
 
 -- the engine was just made with the starting patterns of the inputs
 abbrev IsNew : Inputs → Meaning → Type 0

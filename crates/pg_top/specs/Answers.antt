@@ -7,7 +7,7 @@ use Rattle.pg_top.specs.Moments.{Moment, OfFiles, KeepsFiles, Puts}
 use Rattle.pg_top.specs.Outcomes.{Outcome, Unknown, Ends}
 use Rattle.pg_top.specs.PrintedLines.{usage_line}
 use Rattle.pg_words.specs.Requests.{Request, ToGenerate, ToAudit, ToSample, ToPack, ToTotals, ToPrune, ToSweep}
-use Rattle.pg_top.specs.SampleTexts.{sample_lines}
+use Rattle.pg_top.specs.sample.Sampled.{sample_lines}
 use Rattle.pg_top.specs.Writings.{after_all}
 use Rattle.pg_top.specs.declared.answers.Status.{Status}
 use Rattle.pg_top.specs.declared.answers.Status.TheVariants.{Done, Yes, No, Usage, Refused, Fault, Memory}
@@ -22,10 +22,10 @@ MayAnswer (Some (ToAudit n)) Yes = Unit {0}
 MayAnswer (Some (ToAudit n)) No = Unit {0}
 MayAnswer (Some (ToAudit n)) Refused = Unit {0}
 MayAnswer (Some (ToSample seed count)) Done = Unit {0}
-MayAnswer (Some (ToPack patterns translate table)) Done = Unit {0}
-MayAnswer (Some (ToPack patterns translate table)) Refused = Unit {0}
-MayAnswer (Some (ToTotals dict translate table)) Done = Unit {0}
-MayAnswer (Some (ToTotals dict translate table)) Refused = Unit {0}
+MayAnswer (Some (ToPack p)) Done = Unit {0}
+MayAnswer (Some (ToPack p)) Refused = Unit {0}
+MayAnswer (Some (ToTotals p)) Done = Unit {0}
+MayAnswer (Some (ToTotals p)) Refused = Unit {0}
 MayAnswer (Some (ToPrune p)) Done = Unit {0}
 MayAnswer (Some (ToPrune p)) Refused = Unit {0}
 MayAnswer (Some (ToSweep s)) Done = Unit {0}

@@ -1,16 +1,17 @@
 -- What a command reads and writes, and what a call comes to.
 use Rattle.std.specs.Prelude.{ℕ, List, [], ◌∷◌, ◌++◌, Option, Bool, true, false, None, Some, unwrap_or}
 use Rattle.std.specs.Option.{option_map_or}
-use Rattle.pg_top.specs.Auditing.{given_files}
+use Rattle.pg_top.specs.audit.Audited.{given_files, yes_line}
 use Rattle.pg_top.specs.Outcomes.{Outcome, Ends}
-use Rattle.pg_top.specs.PackedTables.{packing_reads, packed_in, totals_reads, totalled_in}
-use Rattle.pg_top.specs.PrintedLines.{usage_line, yes_line}
-use Rattle.pg_top.specs.Pruning.{prune_reads, pruned_in}
+use Rattle.pg_top.specs.pack.Packed.{packing_reads, packed_in}
+use Rattle.pg_top.specs.totals.Totalled.{totals_reads, totalled_in}
+use Rattle.pg_top.specs.PrintedLines.{usage_line}
+use Rattle.pg_top.specs.prune.Pruned.{prune_reads, pruned_in}
 use Rattle.pg_top.specs.Readings.{Held, Reading, first_end}
 use Rattle.pg_words.specs.Requests.{Request, ToGenerate, ToAudit, ToSample, ToPack, ToTotals, ToPrune, ToSweep, output_names}
-use Rattle.pg_top.specs.SampleTexts.{sample_lines}
-use Rattle.pg_top.specs.Selecting.{inputs_of, inputs_in, generated}
-use Rattle.pg_top.specs.Sweeping.{sweep_reads, swept_in}
+use Rattle.pg_top.specs.sample.Sampled.{sample_lines}
+use Rattle.pg_top.specs.generate.Generated.{inputs_of, inputs_in, generated}
+use Rattle.pg_top.specs.sweep.Swept.{sweep_reads, swept_in}
 use Rattle.pg_top.specs.declared.answers.Status.TheVariants.{Done, Usage, Yes}
 
 -- what a command reads, in its order
@@ -18,8 +19,8 @@ abbrev pub reads_of : Request → List Reading
 reads_of (ToGenerate n) = inputs_of n
 reads_of (ToSample seed count) = []
 reads_of (ToAudit n) = inputs_of n ++ given_files (λ files. inputs_in files n) n
-reads_of (ToPack patterns translate table) = packing_reads patterns translate
-reads_of (ToTotals dict translate table) = totals_reads dict translate table
+reads_of (ToPack p) = packing_reads p
+reads_of (ToTotals p) = totals_reads p
 reads_of (ToPrune p) = prune_reads p
 reads_of (ToSweep s) = sweep_reads s
 
@@ -28,8 +29,8 @@ abbrev pub writes_of : Request → List (List ℕ)
 writes_of (ToGenerate n) = output_names n
 writes_of (ToAudit n) = []
 writes_of (ToSample seed count) = []
-writes_of (ToPack patterns translate table) = table ∷ []
-writes_of (ToTotals dict translate table) = []
+writes_of (ToPack p) = p.table ∷ []
+writes_of (ToTotals p) = []
 writes_of (ToPrune p) = p.output ∷ p.report ∷ []
 writes_of (ToSweep s) = s.output ∷ []
 
@@ -38,8 +39,8 @@ abbrev pub finished : Held → Request → Outcome
 finished files (ToGenerate n) = generated n (inputs_in files n)
 finished files (ToAudit n) = Ends Yes [] yes_line
 finished files (ToSample seed count) = Ends Done [] (sample_lines seed count)
-finished files (ToPack patterns translate table) = packed_in files patterns translate table
-finished files (ToTotals dict translate table) = totalled_in files dict translate table
+finished files (ToPack p) = packed_in files p
+finished files (ToTotals p) = totalled_in files p
 finished files (ToPrune p) = pruned_in files p
 finished files (ToSweep s) = swept_in files s
 
@@ -58,7 +59,7 @@ has_files None = false
 has_files (Some (ToGenerate n)) = true
 has_files (Some (ToAudit n)) = true
 has_files (Some (ToSample seed count)) = false
-has_files (Some (ToPack patterns translate table)) = true
-has_files (Some (ToTotals dict translate table)) = true
+has_files (Some (ToPack p)) = true
+has_files (Some (ToTotals p)) = true
 has_files (Some (ToPrune p)) = true
 has_files (Some (ToSweep s)) = true

@@ -1,16 +1,12 @@
--- The lines that are printed.
+-- The lines that more than one command prints.
 use Rattle.std.specs.Prelude.{ℕ, ◌==◌, if◌then◌else◌, List, [], ◌++◌, length, codes, decimal}
 use Rattle.pg_types.specs.Lines.{lines}
 use Rattle.pg_types.specs.Refusals.{kind_number, name_of}
-use Rattle.pg_types.specs.declared.marks.Layout.{Layout}
 use Rattle.pg_types.specs.declared.marks.Totals.{Totals}
 use Rattle.pg_types.specs.declared.refusals.Refusal.{Refusal}
-use Rattle.pg_audit.specs.FoundLines.{FoundLine, Missing, Begins, Ended, Unended}
-use Rattle.pg_texts.specs.CellsTexts.{layout_text}
 use Rattle.pg_texts.specs.ReportTexts.{totals_text}
 use Rattle.pg_top.specs.declared.inputs.Input.{Input}
 use Rattle.pg_top.specs.declared.inputs.Input.TheVariants as input
-use Rattle.pg_top.specs.declared.inputs.Given.{Given}
 use Rattle.pg_top.specs.declared.inputs.Given.TheVariants as given
 
 -- where words are no command
@@ -22,30 +18,6 @@ abbrev pub done_line : List ℕ → Totals → List ℕ
 done_line patterns t =
     codes "done: " ++ decimal (length (lines patterns))
     ++ codes " patterns, " ++ totals_text t ++ codes "\n"
-
--- where `generate` is done: how many passes were begun, and the layout at the end
-abbrev pub work_line : ℕ → Layout → List ℕ
-work_line passes layout = codes "work: " ++ decimal passes
-    ++ codes " passes, " ++ layout_text layout
-
--- where `pack` is done: how many lines the pattern file has, and how many bytes the table
-abbrev pub packed_line : List ℕ → List ℕ → List ℕ
-packed_line patterns table =
-    codes "packed: " ++ decimal (length (lines patterns))
-    ++ codes " patterns, " ++ decimal (length table)
-    ++ codes " bytes\n"
-
--- where `prune` is done: how many rounds were made, and how many entries were taken out and stay
-abbrev pub pruned_line : ℕ → ℕ → ℕ → List ℕ
-pruned_line rounds removed kept =
-    codes "done: " ++ decimal rounds ++ codes " rounds, "
-    ++ decimal removed ++ codes " removed, " ++ decimal kept
-    ++ codes " kept\n"
-
--- where `sweep` is done: the number of the cheapest set of parameters, and what it costs
-abbrev pub winner_line : ℕ → ℕ → List ℕ
-winner_line winner cost = codes "winner: set " ++ decimal winner
-    ++ codes ", cost " ++ decimal cost ++ codes "\n"
 
 -- the words for a file in a line of refusal or of `no`
 abbrev pub word_of : Input → List ℕ
@@ -71,23 +43,6 @@ refused_line input r =
     codes "refused: " ++ word_of input ++ codes " "
     ++ decimal (kind_number r.kind) ++ codes " " ++ name_of r.kind
     ++ (if r.line == 0 then [] else place_of input r) ++ codes "\n"
-
--- where `audit` finds all given files right
-abbrev pub yes_line : List ℕ
-yes_line = codes "yes\n"
-
--- what stands in place of a line that is due
-abbrev pub found_text : FoundLine → List ℕ
-found_text Missing = codes " is missing"
-found_text (Begins front) = codes " begins " ++ front
-found_text (Ended line) = codes " found " ++ line
-found_text (Unended line) = codes " found " ++ line ++ codes " and the file ends"
-
--- where a line of a given file is false: its number, and what stands there
-abbrev pub no_line : Given → ℕ × FoundLine → List ℕ
-no_line given l =
-    codes "no: " ++ word_of (input.Given given) ++ codes " line "
-    ++ decimal l.0 ++ found_text l.1 ++ codes "\n"
 
 -- where the file of a name could not be read
 abbrev pub reading_line : List ℕ → List ℕ

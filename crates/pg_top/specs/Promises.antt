@@ -18,12 +18,10 @@ use Rattle.pg_sweep.specs.Winners.{IsWinner}
 use Rattle.pg_top.specs.Calls.{outcome_of}
 use Rattle.pg_top.specs.Moments.{Moment, OfFiles}
 use Rattle.pg_top.specs.Outcomes.{Ends}
-use Rattle.pg_top.specs.PackedTables.{meant_under, packed_table}
-use Rattle.pg_top.specs.PrintedLines.{winner_line}
-use Rattle.pg_top.specs.Readings.{Held}
-use Rattle.pg_words.specs.Requests.{Request, PruneRequest, SweepRequest, ToPack, ToPrune, ToSweep}
-use Rattle.pg_top.specs.Selecting.{table_named}
-use Rattle.pg_top.specs.Sweeping.{terms_in, sets_in, swept_rows}
+use Rattle.pg_top.specs.Readings.{meant_under, Held, table_named}
+use Rattle.pg_top.specs.totals.Totalled.{packed_table}
+use Rattle.pg_top.specs.sweep.Swept.{winner_line, terms_in, sets_in, swept_rows}
+use Rattle.pg_words.specs.Requests.{Request, PackRequest, PruneRequest, SweepRequest, ToPack, ToPrune, ToSweep}
 use Rattle.pg_top.specs.declared.answers.Status.{Status}
 use Rattle.pg_top.specs.declared.answers.Status.TheVariants.{Done}
 
@@ -43,13 +41,12 @@ pub record GivesValues (bytes : List ℕ) (P : Patterns) : Type 0 where
 
 -- `pack` writes bytes that `totals` accepts under the same translate file, and that give the values
 -- of the patterns
-pub record PackKeeps (files : Held) (patterns translate name : List ℕ) : Type 0 where
+pub record PackKeeps (files : Held) (p : PackRequest) : Type 0 where
   pub bytes : List ℕ
   pub lines : List ℕ
-  pub comes : outcome_of files (ToPack patterns translate name)
-      ≡ Ends Done ((name, bytes) ∷ []) lines
-  pub accepted : packed_table (table_named translate files) bytes ≡ Ok bytes
-  pub gives : GivesValues bytes (patterns_under files translate patterns)
+  pub comes : outcome_of files (ToPack p) ≡ Ends Done ((p.table, bytes) ∷ []) lines
+  pub accepted : packed_table (table_named p.translate files) bytes ≡ Ok bytes
+  pub gives : GivesValues bytes (patterns_under files p.translate p.patterns)
 
 -- the text of patterns is read as these patterns, where it is no longer than a pattern file may be
 abbrev pub ReadsBack : Alphabet → Patterns → Type 0
@@ -89,9 +86,8 @@ pub record SweepNames (files : Held) (s : SweepRequest) : Type 0 where
 
 -- where a command is done, its promise was kept
 abbrev pub IsPromised : Option Request → Status → Moment → Moment → Type 0
-IsPromised (Some (ToPack patterns translate name)) status old new =
-    status ≡ Done → OfFiles old new
-    (λ before after. PackKeeps (file_at before) patterns translate name)
+IsPromised (Some (ToPack p)) status old new =
+    status ≡ Done → OfFiles old new (λ before after. PackKeeps (file_at before) p)
 IsPromised (Some (ToPrune p)) status old new =
     status ≡ Done → OfFiles old new (λ before after. PruneKeeps (file_at before) p)
 IsPromised (Some (ToSweep s)) status old new =

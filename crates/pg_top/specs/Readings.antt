@@ -3,6 +3,8 @@ use Rattle.std.specs.Prelude.{ℕ, List, [], ◌∷◌, Option, None, Some, Resu
 use Rattle.std.specs.Option.{option_map, option_map_or, option_or}
 use Rattle.std.specs.Result.{result_unwrap_or}
 use Rattle.pg_types.specs.declared.refusals.Refusal.{Refusal}
+use Rattle.pg_translate.specs.Alphabets.{Alphabet}
+use Rattle.pg_translate.specs.Tables.{table, default_alphabet}
 use Rattle.pg_top.specs.Outcomes.{Outcome, Unknown, unless_accepted}
 use Rattle.pg_top.specs.declared.inputs.Input.{Input}
 
@@ -37,3 +39,19 @@ first_end files [] = None
 first_end files (r ∷ rs) =
     option_map_or (λ bytes. option_or (r.ends files bytes) (first_end files rs))
     (files r.name) (Some Unknown)
+
+-- the table of a translate file that is held
+abbrev pub table_named : List ℕ → Held → Alphabet
+table_named name files = meant table default_alphabet files name
+
+-- a file that is read under the table of the translate file of a name
+abbrev pub file_under : {Y : Type 0} → List ℕ → Input
+    → List ℕ → (Alphabet → List ℕ → Result Y Refusal) → Reading
+file_under translate input name parse =
+    input_file input name (λ files. parse (table_named translate files))
+
+-- what such a file means
+abbrev pub meant_under : {Y : Type 0} → List ℕ → (Alphabet → List ℕ → Result Y Refusal)
+    → Y → Held → List ℕ → Y
+meant_under translate parse other files name =
+    meant (parse (table_named translate files)) other files name

@@ -4,19 +4,16 @@
 
 pub mod answers;
 mod audit;
+mod generate;
 pub mod inputs;
-mod no_lines;
-mod outputs;
-mod packing;
+mod pack;
 mod printed;
-mod pruning;
+mod prune;
 mod puts;
 mod reading;
 mod sample;
-mod samples;
 mod selection;
-mod sets;
-mod sweeping;
+mod sweep;
 mod top;
 mod totals;
 pub mod writes;

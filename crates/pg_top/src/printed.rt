@@ -1,11 +1,11 @@
-//! The lines that are printed.
-ghost use Rattle.std.specs.Prelude.{◌≡◌, ◌++◌, ◌==◌, [], if◌then◌else◌, length, decimal, OnOk, IfOk};
+//! The lines that are printed by more than one command.
+ghost use Rattle.std.specs.Prelude.{◌≡◌, ◌++◌, [], length, decimal, OnOk, IfOk};
 ghost use Rattle.pg_types.specs.Lines.{lines};
-ghost use Rattle.pg_top.specs.PrintedLines.{done_line as done_line_of, packed_line as packed_line_of, pruned_line as pruned_line_of, refused_line as refused_line_of, winner_line as winner_line_of, word_of, place_of, work_line};
+ghost use Rattle.pg_top.specs.PrintedLines.{done_line as done_line_of, refused_line as refused_line_of, word_of, place_of};
 
 use crate::inputs::{Given, Input};
 use itoa::Buffer;
-use pg_types::{Layout, Refusal, Totals, next_line};
+use pg_types::{Refusal, Totals, next_line};
 use std::alloc::{AllocError, Global};
 
 /// What is printed where words are no command.
@@ -27,7 +27,7 @@ pub fn push_number(line: &mut Vec<u8>, text: &[u8], number: u64) -> Result<(), A
 }
 
 /// How many lines a text has.
-fn count_lines(text: &[u8]) -> usize
+pub fn count_lines(text: &[u8]) -> usize
     ensures { result ≡ length (lines text.now) }
 {
     let mut count = 0;
@@ -59,66 +59,6 @@ fn begin_done(line: &mut Vec<u8>, patterns: &[u8], totals: &Totals) -> Result<()
     push_number(line, b" good, ", totals.bad)?;
     push_number(line, b" bad, ", totals.missed)?;
     line.extend_from_slice(b" missed\n")
-}
-
-/// The line where `pack` is done: how many lines the pattern file has, and how many bytes the
-/// table.
-pub fn packed_line(alloc: Global, patterns: &[u8], table: &[u8]) -> Result<Vec<u8>, AllocError>
-    ensures { IfOk result (λ line. line.items ≡ packed_line_of patterns.now table.now) }
-{
-    let mut line = Vec::new(alloc);
-    push_number(&mut line, b"packed: ", count_lines(patterns) as u64)?;
-    push_number(&mut line, b" patterns, ", table.len() as u64)?;
-    line.extend_from_slice(b" bytes\n")?;
-    Ok(line)
-}
-
-/// The line where `prune` is done: how many rounds were made, and how many entries were taken out
-/// and stay.
-pub fn pruned_line(
-    alloc: Global,
-    rounds: u64,
-    removed: u64,
-    kept: u64,
-) -> Result<Vec<u8>, AllocError>
-    ensures { IfOk result (λ line. line.items ≡ pruned_line_of rounds removed kept) }
-{
-    let mut line = Vec::new(alloc);
-    begin_pruned(&mut line, rounds, removed, kept)?;
-    Ok(line)
-}
-
-/// Puts that line into an empty text.
-fn begin_pruned(line: &mut Vec<u8>, rounds: u64, removed: u64, kept: u64) -> Result<(), AllocError>
-    requires { line.old.items ≡ [] }
-    ensures { OnOk result (line.new.items ≡ pruned_line_of rounds removed kept) }
-{
-    push_number(line, b"done: ", rounds)?;
-    push_number(line, b" rounds, ", removed)?;
-    push_number(line, b" removed, ", kept)?;
-    line.extend_from_slice(b" kept\n")
-}
-
-/// The line where `sweep` is done: the number of the cheapest set of parameters, and what it costs.
-pub fn winner_line(alloc: Global, winner: usize, cost: u64) -> Result<Vec<u8>, AllocError>
-    ensures { IfOk result (λ line. line.items ≡ winner_line_of winner cost) }
-{
-    let mut line = Vec::new(alloc);
-    push_number(&mut line, b"winner: set ", winner as u64)?;
-    push_number(&mut line, b", cost ", cost)?;
-    line.extend_from_slice(b"\n")?;
-    Ok(line)
-}
-
-/// Appends the line of how many passes were begun and of a layout.
-pub fn push_work(lines: &mut Vec<u8>, passes: u64, layout: &Layout) -> Result<(), AllocError>
-    ensures { OnOk result (lines.new.items ≡ lines.old.items ++ work_line passes layout.now) }
-{
-    push_number(lines, b"work: ", passes)?;
-    push_number(lines, b" passes, ", layout.taken)?;
-    push_number(lines, b" taken, top ", layout.top)?;
-    push_number(lines, b", ", layout.tails)?;
-    lines.extend_from_slice(b" tails\n")
 }
 
 /// Appends the words for a file in a line of refusal or of `no`.

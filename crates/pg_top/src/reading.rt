@@ -1,5 +1,5 @@
 //! The readers of the input files.
-ghost use Rattle.std.specs.Prelude.{◌≡◌, ◌+◌, ◌-◌, ◌<◌, ◌^◌, ℕ, List, [], ◌∷◌, take, IfOk, IfErr, IfSome, Some, Ok, Err};
+ghost use Rattle.std.specs.Prelude.{◌≡◌, ◌+◌, ◌-◌, ◌<◌, ◌^◌, ℕ, List, [], ◌∷◌, take, IfOk, IfErr, IfSome, Some, Ok};
 ghost use Rattle.std.specs.Option.{option_map};
 ghost use Rattle.pg_types.specs.Parameters.{parameters};
 ghost use Rattle.pg_outside.specs.Content.{KeepsHeld, file_at};
@@ -11,11 +11,8 @@ ghost use Rattle.pg_dict.specs.Word.{SignsAtMost};
 ghost use Rattle.pg_dict.specs.Words.{words};
 ghost use Rattle.pg_patterns.specs.Starts.{start};
 ghost use Rattle.pg_patterns.specs.Values.{SignsUpTo};
-ghost use Rattle.pg_words.specs.Commands.{texts_of};
-ghost use Rattle.pg_top.specs.Counted.{MakesCalls, read_calls};
+ghost use Rattle.pg_top.specs.Counted.{MakesCalls};
 ghost use Rattle.pg_top.specs.Readings.{read_as, input_file};
-ghost use Rattle.pg_top.specs.Selecting.{inputs_of, HasInputs};
-ghost use Rattle.pg_top.specs.Selection.{HasSigns};
 ghost use Rattle.pg_top.specs.Inside.Lists.{lists_under, HasLists};
 ghost use Rattle.pg_top.specs.Inside.Stops.{stop_of, StopsFront, StopsAt, StopsReading};
 
@@ -26,21 +23,7 @@ use pg_patterns::PatternSet;
 use pg_translate::Table;
 use pg_types::{FILE_MAX, Params, ReadingError, read_params};
 use pg_watch::{Refused, Watch};
-use pg_words::Names;
 use std::alloc::Global;
-
-/// What `generate` reads.
-#[derive(Drop)]
-pub struct Inputs {
-    /// The table of the translate file.
-    pub table: Table,
-    /// The parameters.
-    pub params: Params,
-    /// The starting patterns.
-    pub start: PatternSet,
-    /// The words.
-    pub dictionary: Dictionary,
-}
 
 /// Reads a file as a whole, or its first `limit + 1` bytes where it is longer than `limit` bytes.
 pub fn read_front<'a, F: Files, W: Watch>(
@@ -236,34 +219,4 @@ pub fn read_lists<'a, F: Files, W: Watch>(
     let start = read_start(alloc, table, patterns, files, watch)?;
     let dictionary = read_dictionary(alloc, table, dict, files, watch)?;
     Ok((start, dictionary))
-}
-
-/// Reads what `generate` reads, in its order, up to the first refusal or fault.
-pub fn read_inputs<'a, F: Files, W: Watch>(
-    alloc: Global,
-    names: &Names<'a>,
-    files: &mut F,
-    watch: &W,
-) -> Result<Inputs, Stop<'a>>
-    ensures held { KeepsHeld (F.shown files.old).held (F.shown files.new).held }
-    ensures reads { NoneFell (F.shown files.old).read_faults (F.shown files.new).read_faults }
-    ensures writes { NoneFell (F.shown files.old).write_faults (F.shown files.new).write_faults }
-    ensures ok { IfOk result (λ inputs. IfSome (F.shown files.new).held (λ files.
-        HasInputs (file_at files) (texts_of names.now) inputs)) }
-    ensures signs { IfOk result HasSigns }
-    ensures stopped { IfErr result
-        (StopsReading (inputs_of (texts_of names.now)) (F.shown files.old) (F.shown files.new)) }
-    ensures counted { IfOk result (λ _.
-        MakesCalls (F.shown files.old) (F.shown files.new)
-        (read_calls (inputs_of (texts_of names.now)))) }
-{
-    let table = read_table(alloc, names.translate, files, watch)?;
-    let params = read_parameters(alloc, Input::Parameters, names.params, files, watch)?;
-    let (start, dictionary) = read_lists(alloc, &table, names.patterns, names.dict, files, watch)?;
-    Ok(Inputs {
-        table,
-        params,
-        start,
-        dictionary,
-    })
 }

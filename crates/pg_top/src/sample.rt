@@ -1,106 +1,195 @@
-//! The dictionary of `sample`: words made from a number.
-ghost use Rattle.std.specs.Prelude.{◌≡◌, ◌≤◌, ◌<◌, ◌^◌, ◌++◌, IfOk, OnOk};
-ghost use Rattle.pg_top.specs.SampleTexts.{next_state, ending, syllable as syllable_of, further, word as word_of_state, sample_text as text_of};
+//! `sample`: the selection on a dictionary that is made from a number.
+ghost use Rattle.std.specs.Prelude.{◌≡◌, ◌+◌, ◌≤◌, ◌<◌, ◌^◌, ◌++◌, IfOk, OnOk};
+ghost use Rattle.pg_translate.specs.Alphabets.{letters_of};
+ghost use Rattle.pg_translate.specs.Tables.{default_alphabet};
+ghost use Rattle.pg_dict.specs.Word.{SignsAtMost};
+ghost use Rattle.pg_driver.specs.Told.{account_of};
+ghost use Rattle.pg_patterns.specs.Values.{SignsUpTo};
+ghost use Rattle.pg_select.specs.Meanings.{new_engine};
+ghost use Rattle.pg_top.specs.Counted.{LinesCounted};
+ghost use Rattle.pg_top.specs.sample.Sampled.{is_printed as is_printed_line, printed_part, sample_inputs, sample_lines as lines_of, sample_parameters, selection_lines};
+ghost use Rattle.pg_top.specs.Selection.{signs_of, HasSigns, selected, selected_account};
+ghost use Rattle.pg_top.specs.Inside.Stops.{PutsLines};
 
+mod words;
+
+use crate::answers::Status;
+use crate::printed::done_line;
+use crate::puts::answer;
+use crate::selection::{Inputs, select};
+use pg_dict::Dictionary;
+use pg_driver::Run;
+use pg_outside::Sink;
+use pg_packed::PackedEngine;
+use pg_patterns::PatternSet;
+use pg_select::Engine;
+use pg_texts::report_text;
+use pg_translate::Table;
+use pg_translate::laws::keeps_rules;
+use pg_types::{Params, ReadingError, next_line, read_params};
+use pg_watch::{Watch, Watched};
 use std::alloc::{AllocError, Global};
+pub use words::sample_text;
 
-/// The consonants with which a syllable begins.
-const CONSONANTS: &[u8] = b"bdfgklmnprst";
+/// Two levels, with lengths 1 to 3 and 2 to 4.
+const PARAMETERS: &[u8] = b"1 2 1 3 1 2 20 2 4 2 1 8";
 
-/// The vowels of a syllable.
-const VOWELS: &[u8] = b"aeiou";
-
-/// The consonants with which a syllable may end.
-const CLOSINGS: &[u8] = b"nrs";
-
-/// Numbers, each drawn from the one before.
-#[derive(Drop)]
-struct Draws {
-    state: u32,
-    ghost small: { state < 2 ^ 31 },
-}
-
-impl Draws {
-    ghost use Rattle.std.specs.Prelude.{◌≡◌, ◌<◌};
-    ghost use Rattle.pg_top.specs.SampleTexts.{next_state, drawn};
-
-    /// Draws a number below `most`.
-    fn draw(&mut self, most: u32) -> u32
-        requires { 0 < most }
-        ensures state { self.new.state ≡ next_state self.old.state }
-        ensures drawn { result ≡ drawn most self.new.state }
-        ensures below { result < most }
-    {
-        self.state = ((1_103_515_245 * u64::from(self.state) + 12_345) % (1 << 31)) as u32;
-        self.state / 65_536 % most
+/// The error of a reader that refuses nothing.
+fn only_memory(error: ReadingError) -> AllocError
+    requires { error ≡ ReadingError.Memory }
+{
+    match error {
+        ReadingError::Memory => AllocError,
+        ReadingError::Refused(_) => unreachable!(),
     }
 }
 
-/// Appends the end of a syllable, a consonant or nothing.
-#[tactic(auto, unfolding(crate::specs::SampleTexts::ending))]
-fn push_ending(text: &mut Vec<u8>, draws: &mut Draws) -> Result<(), AllocError>
-    ensures text { OnOk result
-        (text.new.items ≡ text.old.items ++ (ending (next_state draws.old.state)).text) }
-    ensures state { OnOk result (draws.new.state ≡ (ending (next_state draws.old.state)).state) }
+/// The parameters of the selection.
+fn sample_params(alloc: Global) -> Result<Params, AllocError>
+    ensures { IfOk result (λ params. params ≡ sample_parameters) }
 {
-    if draws.draw(4) == 0 {
-        text.push(CLOSINGS[draws.draw(3) as usize])?;
+    match read_params(alloc, PARAMETERS) {
+        Ok(params) => Ok(params),
+        Err(error) => Err(only_memory(error)),
     }
-    Ok(())
 }
 
-/// Appends a syllable.
-#[tactic(auto, unfolding(crate::specs::SampleTexts::syllable))]
-fn push_syllable(text: &mut Vec<u8>, draws: &mut Draws) -> Result<(), AllocError>
-    ensures text { OnOk result
-        (text.new.items ≡ text.old.items ++ (syllable_of draws.old.state).text) }
-    ensures state { OnOk result (draws.new.state ≡ (syllable_of draws.old.state).state) }
-{
-    text.push(CONSONANTS[draws.draw(12) as usize])?;
-    text.push(VOWELS[draws.draw(5) as usize])?;
-    push_ending(text, draws)
-}
-
-/// Appends further syllables, each behind a hyphen.
-fn push_further(text: &mut Vec<u8>, draws: &mut Draws, count: u32) -> Result<(), AllocError>
-    ensures text { OnOk result
-        (text.new.items ≡ text.old.items ++ (further count draws.old.state).text) }
-    ensures state { OnOk result (draws.new.state ≡ (further count draws.old.state).state) }
-{
-    'syllables: for i in 0..count {
-        text.push(b'-')?;
-        push_syllable(text, draws)?;
-    }
-    Ok(())
-}
-
-/// Appends a word.
-#[tactic(auto, unfolding(crate::specs::SampleTexts::word))]
-fn push_word(text: &mut Vec<u8>, draws: &mut Draws) -> Result<(), AllocError>
-    ensures text { OnOk result
-        (text.new.items ≡ text.old.items ++ (word_of_state draws.old.state).text) }
-    ensures state { OnOk result (draws.new.state ≡ (word_of_state draws.old.state).state) }
-{
-    let more = draws.draw(3) + 1;
-    push_syllable(text, draws)?;
-    push_further(text, draws, more)
-}
-
-/// The dictionary of `sample`: `count` words, at most 100,000, from the seed.
-///
-/// Each word has two to four syllables with a hyphen between two. A syllable is a consonant, a
-/// vowel, and in one of four cases a final consonant. All are drawn by a linear congruential
-/// generator modulo 2^31, of which the higher bits are used.
-pub fn sample_text(alloc: Global, seed: u32, count: u32) -> Result<Vec<u8>, AllocError>
+/// Makes the dictionary and reads it under the default table.
+fn sample_dictionary(
+    alloc: Global,
+    table: &Table,
+    seed: u32,
+    count: u32,
+) -> Result<Dictionary, AllocError>
+    requires table { table.now ≡ default_alphabet }
     requires seed { seed < 2 ^ 31 }
     requires count { count ≤ 100000 }
-    ensures { IfOk result (λ text. text.items ≡ text_of seed count) }
+    ensures words { IfOk result (λ dictionary. dictionary ≡ (sample_inputs seed count).dictionary) }
+    ensures signs { IfOk result (SignsAtMost (letters_of table.now + 1)) }
 {
-    let mut text = Vec::new(alloc);
-    let mut draws = Draws { state: seed };
-    'words: for i in 0..count {
-        push_word(&mut text, &mut draws)?;
-        text.push(b'\n')?;
+    let text = sample_text(alloc, seed, count)?;
+    keeps_rules(table);
+    match Dictionary::read(alloc, table, &text) {
+        Ok(dictionary) => Ok(dictionary),
+        Err(error) => Err(only_memory(error)),
     }
-    Ok(text)
+}
+
+/// What the selection is made of.
+fn make_inputs(alloc: Global, seed: u32, count: u32) -> Result<Inputs, AllocError>
+    requires seed { seed < 2 ^ 31 }
+    requires count { count ≤ 100000 }
+    ensures inputs { IfOk result (λ inputs. inputs ≡ sample_inputs seed count) }
+    ensures signs { IfOk result HasSigns }
+{
+    let table = Table::default_letters(alloc)?;
+    let params = sample_params(alloc)?;
+    let dictionary = sample_dictionary(alloc, &table, seed, count)?;
+    Ok(Inputs {
+        table,
+        params,
+        start: PatternSet::empty(alloc),
+        dictionary,
+    })
+}
+
+/// Whether a line of the report is printed.
+fn is_printed(line: &[u8]) -> bool
+    ensures { result ≡ is_printed_line line.now }
+{
+    line.starts_with(b"level") || line.starts_with(b"total") || line.starts_with(b"rate")
+}
+
+/// Appends the lines of a report that are printed.
+fn push_printed(lines: &mut Vec<u8>, report: &[u8]) -> Result<(), AllocError>
+    ensures { OnOk result (lines.new.items ≡ lines.old.items ++ printed_part report.now) }
+{
+    let mut rest = report;
+    'lines: while let Some((line, after)) = next_line(rest) {
+        if is_printed(line) {
+            lines.extend_from_slice(line)?;
+            lines.extend_from_slice(b"\n")?;
+        }
+        rest = after;
+    }
+    Ok(())
+}
+
+/// The printed lines, after the run.
+fn lines_after(alloc: Global, inputs: &Inputs, run: &Run) -> Result<Vec<u8>, AllocError>
+    requires signs { HasSigns inputs.now }
+    requires selected { run.now.patterns ≡ selected inputs.now }
+    requires pattern_signs { SignsUpTo (signs_of inputs.now) run.now.patterns }
+    requires account { account_of run.now ≡ selected_account inputs.now }
+    ensures { IfOk result (λ lines. lines.items ≡ selection_lines inputs.now) }
+{
+    let patterns = run.patterns().text(alloc, &inputs.table)?;
+    let report = report_text(alloc, inputs.start.largest(), &inputs.params, run)?;
+    let done = done_line(alloc, &patterns, &run.totals())?;
+    let mut lines = Vec::new(alloc);
+    push_printed(&mut lines, &report)?;
+    lines.extend_from_slice(&done)?;
+    Ok(lines)
+}
+
+/// Does the run of the inputs over the packed engine, and builds the printed lines. The observer is
+/// told of the passes.
+fn run_lines<W: Watch>(alloc: Global, inputs: &Inputs, watch: &W) -> Result<Vec<u8>, AllocError>
+    requires { HasSigns inputs.now }
+    ensures { IfOk result (λ lines. lines.items ≡ selection_lines inputs.now) }
+{
+    let engine = PackedEngine::new(alloc, inputs.table.letters() + 1, &inputs.start)?;
+    let mut engine = Watched::new(engine, &inputs.params, watch);
+    let lines = lines_by(alloc, inputs, &mut engine);
+    drop(engine);
+    lines
+}
+
+/// Does the run over an engine that was just made, and builds the printed lines.
+fn lines_by<E: Engine>(
+    alloc: Global,
+    inputs: &Inputs,
+    engine: &mut E,
+) -> Result<Vec<u8>, AllocError>
+    requires new { E.meaning engine.old
+        ≡ new_engine (signs_of inputs.now) inputs.now.start (E.meaning engine.old).families }
+    requires signs { HasSigns inputs.now }
+    ensures { IfOk result (λ lines. lines.items ≡ selection_lines inputs.now) }
+{
+    let run = select(alloc, engine, inputs)?;
+    lines_after(alloc, inputs, &run)
+}
+
+/// The printed lines.
+fn sample_lines<W: Watch>(
+    alloc: Global,
+    seed: u32,
+    count: u32,
+    watch: &W,
+) -> Result<Vec<u8>, AllocError>
+    requires seed { seed < 2 ^ 31 }
+    requires count { count ≤ 100000 }
+    ensures { IfOk result (λ lines. lines.items ≡ lines_of seed count) }
+{
+    let inputs = make_inputs(alloc, seed, count)?;
+    run_lines(alloc, &inputs, watch)
+}
+
+/// Does the selection and prints what it tells. It reads and writes no file, and refuses nothing.
+pub fn sample<O: Sink, W: Watch>(
+    alloc: Global,
+    seed: u32,
+    count: u32,
+    out: &mut O,
+    watch: &W,
+) -> Status
+    requires seed { seed < 2 ^ 31 }
+    requires count { count ≤ 100000 }
+    ensures put { PutsLines (lines_of seed count) result (O.shown out.old) (O.shown out.new) }
+    ensures counted { LinesCounted result (O.shown out.old) (O.shown out.new) }
+{
+    match sample_lines(alloc, seed, count, watch) {
+        Ok(lines) => answer(out, &lines, Status::Done, watch),
+        Err(AllocError) => Status::Memory,
+    }
 }

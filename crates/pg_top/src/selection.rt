@@ -1,17 +1,33 @@
-//! The selection of patterns, and what is told of its run.
-ghost use Rattle.std.specs.Prelude.{◌≡◌, IfOk, IsSome};
+//! The selection of patterns: what it is made of, and what is told of its run.
+ghost use Rattle.std.specs.Prelude.{◌≡◌, IfOk};
 ghost use Rattle.std.specs.Option.{option_map};
+ghost use Rattle.pg_patterns.specs.Starts.{start};
+ghost use Rattle.pg_patterns.specs.Values.{SignsUpTo};
+ghost use Rattle.pg_top.specs.Selection.{HasSigns, signs_of, selected, selected_account, passes_begun, selected_cells_from};
 ghost use Rattle.pg_select.specs.Meanings.{new_engine};
 ghost use Rattle.pg_driver.specs.Told.{account_of, TellsCells};
 ghost use Rattle.pg_top.specs.Inside.Runs.{last_told};
-ghost use Rattle.pg_top.specs.Selection.{signs_of, HasSigns, selected, selected_account, passes_begun, selected_cells_from};
-ghost use Rattle.pg_patterns.specs.Values.{SignsUpTo};
 
-use crate::reading::Inputs;
+use pg_dict::Dictionary;
 use pg_driver::{Run, generate};
+use pg_patterns::PatternSet;
 use pg_select::Engine;
-use pg_types::Layout;
+use pg_translate::Table;
+use pg_types::{Layout, Params};
 use std::alloc::{AllocError, Global};
+
+/// What a selection is made of: what `generate` and `audit` read.
+#[derive(Drop)]
+pub struct Inputs {
+    /// The table of the translate file.
+    pub table: Table,
+    /// The parameters.
+    pub params: Params,
+    /// The starting patterns.
+    pub start: PatternSet,
+    /// The words.
+    pub dictionary: Dictionary,
+}
 
 /// Does the run of the inputs over an engine that was just made with their starting patterns.
 pub fn select<E: Engine>(alloc: Global, engine: &mut E, inputs: &Inputs) -> Result<Run, AllocError>

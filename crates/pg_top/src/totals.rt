@@ -1,128 +1,76 @@
 //! `totals`: the totals of a dictionary by a packed table.
-ghost use Rattle.std.specs.Prelude.{◌≡◌, ◌+◌, IfOk, IfErr, IfSome, Some, [], ◌∷◌};
-ghost use Rattle.pg_dict.specs.Word.{SignsAtMost};
-ghost use Rattle.pg_driver.specs.Sound.{IsSmall};
+ghost use Rattle.std.specs.Prelude.{◌≡◌, IfOk, IfErr, IfSome, Some, []};
 ghost use Rattle.pg_outside.specs.Content.{KeepsHeld, file_at};
-ghost use Rattle.pg_outside.specs.FilesCalls.{Reads};
-ghost use Rattle.pg_texts.specs.ReportTexts.{ending_text};
-ghost use Rattle.pg_translate.specs.Alphabets.{letters_of};
 ghost use Rattle.pg_top.specs.Calls.{outcome_of, reads_of};
-ghost use Rattle.pg_top.specs.Counted.{MakesCalls, read_calls};
+ghost use Rattle.pg_top.specs.Counted.{MakesCalls, read_calls, IsCounted};
 ghost use Rattle.pg_top.specs.Outcomes.{Ends};
 ghost use Rattle.pg_top.specs.declared.answers.Status.TheVariants.{Done};
-ghost use Rattle.pg_top.specs.PackedTables.{packed_table, table_refused};
-ghost use Rattle.pg_top.specs.Readings.{input_file};
 ghost use Rattle.pg_words.specs.Requests.{ToTotals};
-ghost use Rattle.pg_top.specs.Inside.Sources.{IsTotalled};
-ghost use Rattle.pg_top.specs.Inside.Stops.{StopsAt, StopsCommand};
+ghost use Rattle.pg_top.specs.Inside.Stops.{StopsCommand};
+ghost use Rattle.pg_top.specs.totals.Inside.Inputs.{totals_of};
+ghost use Rattle.pg_top.specs.Answers.{IsCall};
 
-use crate::inputs::{Input, Stop};
-use crate::reading::{read_dictionary, read_front, read_table};
-use pg_dict::Dictionary;
-use pg_outside::Files;
-use pg_table::{TABLE_MAX, TableView, table_totals};
-use pg_texts::push_ending;
-use pg_translate::Table;
-use pg_types::{Kind, Refusal, Totals};
-use pg_watch::{Refused, Watch};
-use std::alloc::{AllocError, Global};
+mod table;
 
-/// The refusal of a packed table, which has no place.
-fn refused(kind: Kind) -> Refusal
-    ensures { result ≡ table_refused kind }
-{
-    Refusal {
-        kind,
-        line: 0,
-        column: 0,
-    }
-}
+use crate::answers::Status;
+use crate::inputs::Stop;
+use crate::puts::{answer, put_stop};
+use crate::reading::{read_dictionary, read_table};
+use crate::totals::table::total_by;
+use pg_outside::{Files, Sink};
+use pg_watch::Watch;
+use std::alloc::Global;
 
-/// The packed table in these bytes for the letters of a table, or why it is refused.
-fn open_table<'a>(bytes: &'a [u8], table: &Table) -> Result<TableView<'a>, Refusal>
-    ensures { result ≡ packed_table table.now bytes.now }
-{
-    if bytes.len() > TABLE_MAX {
-        return Err(refused(Kind::TableTooLong));
-    }
-    let Some(view) = TableView::read(bytes) else {
-        return Err(refused(Kind::BadTable));
-    };
-    if view.signs() == table.letters() + 1 {
-        Ok(view)
-    } else {
-        Err(refused(Kind::OtherTable))
-    }
-}
-
-/// The line of totals, and that of the rates.
-fn total_lines(alloc: Global, totals: &Totals) -> Result<Vec<u8>, AllocError>
-    requires { IsSmall totals.now }
-    ensures { IfOk result (λ lines. lines.items ≡ ending_text totals.now) }
-{
-    let mut lines = Vec::new(alloc);
-    push_ending(&mut lines, totals)?;
-    Ok(lines)
-}
-
-/// Reads a packed table and gives the lines of the totals of the words by it.
-fn total_by<'a, F: Files, W: Watch>(
-    alloc: Global,
-    table: &Table,
-    dictionary: &Dictionary,
-    name: &'a str,
-    files: &mut F,
-    watch: &W,
-) -> Result<Vec<u8>, Stop<'a>>
-    requires { SignsAtMost (letters_of table.now + 1) dictionary.now }
-    ensures held { KeepsHeld (F.shown files.old).held (F.shown files.new).held }
-    ensures calls { MakesCalls (F.shown files.old) (F.shown files.new) (Reads name.now ∷ []) }
-    ensures ok { IfOk result (λ lines. IfSome (F.shown files.new).held (λ files.
-        IsTotalled table.now dictionary.now (file_at files) name.now lines.items)) }
-    ensures stopped { IfErr result
-        (StopsAt (input_file Input.Table name.now (λ _. packed_table table.now))
-        (F.shown files.old) (F.shown files.new)) }
-{
-    let bytes = read_front(alloc, name, TABLE_MAX, files, watch)?;
-    match open_table(&bytes, table) {
-        Ok(view) => {
-            let lines = total_lines(alloc, &table_totals(&view, dictionary, table))?;
-            Ok(lines)
-        }
-        Err(refusal) => {
-            watch.refuses(&Refused {
-                name,
-                bytes: &bytes,
-                refusal,
-                letters: Some(table),
-            });
-            Err(Stop::Refused(Input::Table, refusal))
-        }
-    }
+/// The names that `totals` is given.
+#[derive(Clone, Copy)]
+pub struct TotalsNames<'a> {
+    /// The dictionary.
+    pub dict: &'a str,
+    /// The translate file.
+    pub translate: &'a str,
+    /// The packed table.
+    pub table: &'a str,
 }
 
 /// Reads what `totals` reads, and gives the lines that it prints.
 pub fn total_files<'a, F: Files, W: Watch>(
     alloc: Global,
-    dict: &'a str,
-    translate: &'a str,
-    table: &'a str,
+    names: &TotalsNames<'a>,
     files: &mut F,
     watch: &W,
 ) -> Result<Vec<u8>, Stop<'a>>
     ensures held { KeepsHeld (F.shown files.old).held (F.shown files.new).held }
     ensures ok { IfOk result (λ lines. IfSome (F.shown files.new).held (λ files.
-        outcome_of (file_at files) (ToTotals dict.now translate.now table.now)
+        outcome_of (file_at files) (ToTotals (totals_of names.now))
         ≡ Ends Done [] lines.items)) }
     ensures counted { IfOk result (λ _. MakesCalls (F.shown files.old) (F.shown files.new)
-        (read_calls (reads_of (ToTotals dict.now translate.now table.now)))) }
-    ensures stopped { IfErr result (StopsCommand (ToTotals dict.now translate.now table.now)
+        (read_calls (reads_of (ToTotals (totals_of names.now))))) }
+    ensures stopped { IfErr result (StopsCommand (ToTotals (totals_of names.now))
         (F.shown files.old) (F.shown files.new)) }
 {
-    let letters = read_table(alloc, translate, files, watch)?;
-    let dictionary = read_dictionary(alloc, &letters, dict, files, watch)?;
-    let lines = total_by(alloc, &letters, &dictionary, table, files, watch);
+    let letters = read_table(alloc, names.translate, files, watch)?;
+    let dictionary = read_dictionary(alloc, &letters, names.dict, files, watch)?;
+    let lines = total_by(alloc, &letters, &dictionary, names.table, files, watch);
     drop(dictionary);
     drop(letters);
     Ok(lines?)
+}
+
+/// Prints the totals of a dictionary by a packed table.
+pub fn totals<F: Files, O: Sink, W: Watch>(
+    alloc: Global,
+    names: &TotalsNames<'_>,
+    files: &mut F,
+    out: &mut O,
+    watch: &W,
+) -> Status
+    ensures call { IsCall (Some (ToTotals (totals_of names.now))) result
+        (F.shown files.old, O.shown out.old) (F.shown files.new, O.shown out.new) }
+    ensures counted { IsCounted (ToTotals (totals_of names.now)) result
+        (F.shown files.old, O.shown out.old) (F.shown files.new, O.shown out.new) }
+{
+    match total_files(alloc, names, files, watch) {
+        Ok(lines) => answer(out, &lines, Status::Done, watch),
+        Err(stop) => put_stop(alloc, out, &stop, watch),
+    }
 }

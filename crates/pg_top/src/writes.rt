@@ -1,10 +1,14 @@
-//! Files that are written one after the other.
+//! What a command writes and prints, and how it ends.
 ghost use Rattle.std.specs.Prelude.{◌≡◌, ◌+◌, ◌<◌, OnOk, IfErr, length, take, slice_get, Some};
 ghost use Rattle.pg_outside.specs.Faults.{NoneFell};
 ghost use Rattle.pg_top.specs.Counted.{MakesCalls, write_calls};
 ghost use Rattle.pg_top.specs.Writings.{writing_of, written_names, WroteAll, StoppedAt};
+ghost use Rattle.pg_top.specs.Inside.Stops.{Finishes};
 
-use pg_outside::{Failed, Files};
+use crate::answers::Status;
+use crate::printed::WRITING;
+use crate::puts::{answer, put_fault};
+use pg_outside::{Failed, Files, Sink};
 use pg_watch::Watch;
 
 /// A file that is to be written.
@@ -14,6 +18,15 @@ pub struct Output<'a> {
     pub name: &'a str,
     /// The text.
     pub text: Vec<u8>,
+}
+
+/// What a command writes and prints.
+#[derive(Drop)]
+pub struct Outputs<'a> {
+    /// The files, in the order in which they are written.
+    pub files: Vec<Output<'a>>,
+    /// The printed lines.
+    pub lines: Vec<u8>,
 }
 
 /// The file with the number `i`, counted from 0.
@@ -53,4 +66,20 @@ pub fn write_all<F: Files, W: Watch>(
         }
     }
     Ok(())
+}
+
+/// Writes the files and then puts the lines.
+pub fn finish<F: Files, O: Sink, W: Watch>(
+    files: &mut F,
+    out: &mut O,
+    outputs: &Outputs<'_>,
+    watch: &W,
+) -> Status
+    ensures { Finishes (writing_of outputs.now.files.items) outputs.now.lines.items result
+        (F.shown files.old, O.shown out.old) (F.shown files.new, O.shown out.new) }
+{
+    match write_all(files, &outputs.files, watch) {
+        Ok(()) => answer(out, &outputs.lines, Status::Done, watch),
+        Err(place) => put_fault(out, WRITING, output_at(&outputs.files, place).name, watch),
+    }
 }

@@ -48,8 +48,10 @@ abbrev pub asked_by : Command → Request
 asked_by (Generate names) = ToGenerate (texts_of names)
 asked_by (Audit names) = ToAudit (texts_of names)
 asked_by (Sample seed count) = ToSample seed count
-asked_by (Pack patterns translate table) = ToPack patterns.now translate.now table.now
-asked_by (Totals dict translate table) = ToTotals dict.now translate.now table.now
+asked_by (Pack patterns translate table) =
+    ToPack (record { patterns = patterns.now; translate = translate.now; table = table.now })
+asked_by (Totals dict translate table) =
+    ToTotals (record { dict = dict.now; translate = translate.now; table = table.now })
 asked_by (Prune dict patterns output translate report) = ToPrune (record {
   dict = dict.now;
   patterns = patterns.now;

@@ -29,6 +29,18 @@ pub record SweepRequest : Type 0 where
   pub missed : ℕ
   pub params : List (List ℕ)
 
+-- what `pack` is asked for: the names of its files
+pub record PackRequest : Type 0 where
+  pub patterns : List ℕ
+  pub translate : List ℕ
+  pub table : List ℕ
+
+-- what `totals` is asked for: the names of its files
+pub record TotalsRequest : Type 0 where
+  pub dict : List ℕ
+  pub translate : List ℕ
+  pub table : List ℕ
+
 -- what `prune` is asked for: the names of its files
 pub record PruneRequest : Type 0 where
   pub dict : List ℕ
@@ -37,14 +49,13 @@ pub record PruneRequest : Type 0 where
   pub translate : List ℕ
   pub report : List ℕ
 
--- what words ask for. `pack` has the names of the patterns, of the translate file and of the table,
--- and `totals` those of the dictionary, of the translate file and of the table
+-- what words ask for; `sample` has its number and how many words it makes
 pub data Request : Type 0 where
   ToGenerate : FileNames → Request
   ToAudit : FileNames → Request
   ToSample : ℕ → ℕ → Request
-  ToPack : List ℕ → List ℕ → List ℕ → Request
-  ToTotals : List ℕ → List ℕ → List ℕ → Request
+  ToPack : PackRequest → Request
+  ToTotals : TotalsRequest → Request
   ToPrune : PruneRequest → Request
   ToSweep : SweepRequest → Request
 
@@ -145,14 +156,15 @@ abbrev pub pack_in : List (List ℕ) → Option Request
 pack_in (patterns ∷ translate ∷ table ∷ []) =
     if list_all is_name (patterns ∷ translate ∷ table ∷ [])
     && outputs_differ (table ∷ []) (patterns ∷ translate ∷ [])
-    then Some (ToPack patterns translate table) else None
+    then Some (ToPack (record { patterns = patterns; translate = translate; table = table }))
+    else None
 pack_in words = None
 
 -- `totals DICT TRANSLATE TABLE`, whose names may be equal
 abbrev pub totals_in : List (List ℕ) → Option Request
 totals_in (dict ∷ translate ∷ table ∷ []) =
-    if list_all is_name (dict ∷ translate ∷ table ∷ []) then Some (ToTotals dict translate table)
-    else None
+    if list_all is_name (dict ∷ translate ∷ table ∷ [])
+    then Some (ToTotals (record { dict = dict; translate = translate; table = table })) else None
 totals_in words = None
 
 -- whether `prune` takes these names: the two outputs differ from each other and from all inputs

@@ -5,8 +5,7 @@ use Rattle.pg_dict.specs.Word.{Word}
 use Rattle.pg_dict.specs.Words.{words}
 use Rattle.pg_patterns.specs.Starts.{start}
 use Rattle.pg_select.specs.Windows.{Patterns}
-use Rattle.pg_top.specs.PackedTables.{file_under}
-use Rattle.pg_top.specs.Readings.{Held, Reading, read_as}
+use Rattle.pg_top.specs.Readings.{file_under, Held, Reading, read_as}
 use Rattle.pg_top.specs.declared.inputs.Input.TheVariants as input
 
 -- the files of these names in their order, under the table of the translate file

@@ -1,16 +1,16 @@
 use Rattle.std.proofs.Common.{◌≡◌}
 use Rattle.std.proofs.lemmas.Result.{IfOk-weaker, err_from_is_err_and}
 use Rattle.pg_outside.specs.Content.{FilesShown, file_at}
-use Rattle.pg_top.specs.Auditing.{given_files}
+use Rattle.pg_top.specs.audit.Audited.{given_files}
 use Rattle.pg_top.specs.Calls.{outcome_of}
 use Rattle.pg_words.specs.Commands.{texts_of}
 use Rattle.pg_top.specs.Readings.{first_end}
 use Rattle.pg_words.specs.Requests.{FileNames, ToAudit}
-use Rattle.pg_top.specs.Selecting.{inputs_of, inputs_in, HasInputs}
-use Rattle.pg_top.specs.Inside.Verdicts.{wanted_files, end_of, outcome_by}
+use Rattle.pg_top.specs.generate.Generated.{inputs_of, inputs_in, HasInputs}
+use Rattle.pg_top.specs.audit.Inside.Verdicts.{wanted_files, end_of, outcome_by}
 use Rattle.pg_top.specs.declared.inputs.Stop.TheVariants.{Memory}
-use Rattle.pg_top.proofs.InputOrder.{inputs_wanted}
-use Rattle.pg_top.proofs.Judgements.{outcome_audited, stopped_given, found_given}
+use Rattle.pg_top.proofs.generate.InputOrder.{inputs_wanted}
+use Rattle.pg_top.proofs.audit.Judgements.{outcome_audited, stopped_given, found_given}
 use Rattle.pg_top.proofs.Orders.{mapped, both, held_later, stopped_in_front}
 use Rattle.pg_top.proofs.Results.{err_by}
 use Rattle.pg_top.proofs.audit.audit_files.Goals as goal

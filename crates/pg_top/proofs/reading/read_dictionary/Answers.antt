@@ -3,9 +3,8 @@ use Rattle.std.proofs.lemmas.Result.{err_from_is_err_and}
 use Rattle.pg_types.specs.Reading.{Fails}
 use Rattle.pg_dict.specs.Words.{words}
 use Rattle.pg_top.specs.declared.inputs.Input.TheVariants.{Dictionary}
-use Rattle.pg_top.proofs.Fronts.{read_by_front, stopped_by_front, words-front}
+use Rattle.pg_top.proofs.Fronts.{read_by_front, stopped_by_front, words-front, front_stop}
 use Rattle.pg_top.specs.Readings.{input_file}
-use Rattle.pg_top.proofs.GivenFronts.{front_stop}
 use Rattle.pg_top.proofs.reading.read_dictionary.Goals as goal
 
 pub returns-in-Ok-clause-ok : goal.returns-in-Ok-clause-ok

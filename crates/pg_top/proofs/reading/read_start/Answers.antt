@@ -3,9 +3,8 @@ use Rattle.std.proofs.lemmas.Result.{err_from_is_err_and}
 use Rattle.pg_types.specs.Reading.{Fails}
 use Rattle.pg_patterns.specs.Starts.{start}
 use Rattle.pg_top.specs.declared.inputs.Input.TheVariants.{Patterns}
-use Rattle.pg_top.proofs.Fronts.{read_by_front, stopped_by_front, start-front}
+use Rattle.pg_top.proofs.Fronts.{read_by_front, stopped_by_front, start-front, front_stop}
 use Rattle.pg_top.specs.Readings.{input_file}
-use Rattle.pg_top.proofs.GivenFronts.{front_stop}
 use Rattle.pg_top.proofs.reading.read_start.Goals as goal
 
 pub returns-in-Ok-clause-ok : goal.returns-in-Ok-clause-ok

@@ -1,0 +1,3 @@
+pub mod FoundTexts
+pub mod GivenFronts
+pub mod Judgements

@@ -1,0 +1,106 @@
+-- The inputs of `generate`: what is read of each, and a stop at each.
+use Rattle.std.proofs.Common.{◌≡◌, ℕ, List, [], ◌∷◌, Option, Some, Ok, IfSome, ap, ◌∙◌, arith}
+use Rattle.std.specs.Prelude.{unwrap_or}
+use Rattle.pg_types.specs.Parameters.{Parameters, parameters}
+use Rattle.pg_outside.specs.Content.{FileMap, FilesShown, KeepsHeld, file_at}
+use Rattle.pg_outside.specs.Faults.{NoneFell}
+use Rattle.pg_outside.specs.FilesCalls.{Reads}
+use Rattle.pg_translate.specs.Alphabets.{Alphabet}
+use Rattle.pg_translate.specs.Tables.{table}
+use Rattle.pg_dict.specs.Word.{Word}
+use Rattle.pg_dict.specs.Words.{words}
+use Rattle.pg_patterns.specs.Starts.{start}
+use Rattle.pg_top.specs.Calls.{outcome_of, finished}
+use Rattle.pg_top.specs.Readings.{Reading, read_as, input_file}
+use Rattle.pg_words.specs.Requests.{FileNames, ToGenerate}
+use Rattle.pg_top.specs.generate.Generated.{table_in, inputs_in, inputs_of, generated, HasInputs}
+use Rattle.pg_top.specs.Inside.Lists.{lists_under, HasLists}
+use Rattle.pg_top.specs.Inside.Stops.{StopsAt, StopsReading}
+use Rattle.pg_top.specs.declared.inputs.Input.TheVariants as input
+use Rattle.pg_top.specs.declared.selection.Inputs.{Inputs}
+use Rattle.pg_top.specs.declared.inputs.Stop.{Stop}
+use Rattle.pg_top.specs.declared.inputs.Stop.TheVariants.{Memory}
+use Rattle.pg_top.specs.Counted.{MakesCalls, read_calls}
+use Rattle.pg_top.proofs.ListOrder.{lists_accepted}
+use Rattle.pg_top.proofs.Orders.{AreAccepted, accepted_all, mapped, both, held_later, stopped_after, stopped_behind, wanted_after}
+use Rattle.pg_top.proofs.UnderTable.{accepted, means, HasTable as HasTableNamed, is_table, table_accepted, means_under, stopped_first}
+
+-- the inputs
+abbrev translate_input : FileNames → Reading
+translate_input n = input_file input.Translate n.translate (λ _. table)
+
+abbrev parameters_input : FileNames → Reading
+parameters_input n = input_file input.Parameters n.params (λ _. parameters)
+
+abbrev patterns_input : FileNames → Reading
+patterns_input n = input_file input.Patterns n.patterns (λ files. start (table_in files n))
+
+abbrev dictionary_input : FileNames → Reading
+dictionary_input n = input_file input.Dictionary n.dict (λ files. words (table_in files n))
+
+-- what is known once the table is read
+module _ (n : FileNames) (t : Alphabet) where
+  abbrev pub HasTable : FileMap → Type 0
+  HasTable files = HasTableNamed n.translate t files
+
+  module _ (p : Parameters) where
+    -- what is known once two inputs are read
+    abbrev pub HasTwo : FileMap → Type 0
+    HasTwo files = HasTable files × (read_as parameters (file_at files) n.params ≡ Some (Ok p))
+
+    two_accepted : (files : FileMap) → HasTwo files → AreAccepted (file_at files) (translate_input n ∷ parameters_input n ∷ [])
+    two_accepted files h = (table_accepted n.translate t files h.0, (accepted input.Parameters parameters (file_at files n.params) p h.1, tt))
+
+    module _ (S : List ((List ℕ × ℕ) × ℕ)) (ws : List Word) where
+      abbrev all : Inputs
+      all = record { table = t; params = p; start = S; dictionary = ws }
+
+      -- once all are read they are accepted
+      pub inputs_accepted : (files : FileMap) → HasInputs (file_at files) n all → AreAccepted (file_at files) (inputs_of n)
+      inputs_accepted files h =
+          let two : AreAccepted (file_at files) (translate_input n ∷ parameters_input n ∷ []) = two_accepted files (h.table, h.params) in
+          (two.0, (two.1.0, lists_accepted n.translate n.patterns n.dict t S ws files h.table (record { start = h.start; words = h.words })))
+
+      -- and this is what is given
+      pub given : (files : FileMap) → HasInputs (file_at files) n all → inputs_in (file_at files) n ≡ all
+      given files h =
+          let is_t : table_in (file_at files) n ≡ t = is_table n.translate t files h.table in
+          let is_p : (inputs_in (file_at files) n).params ≡ p = means parameters _ (file_at files) n.params p h.params in
+          let is_S : (inputs_in (file_at files) n).start ≡ S = means_under n.translate t start [] n.patterns S files h.table h.start in
+          let is_ws : (inputs_in (file_at files) n).dictionary ≡ ws = means_under n.translate t words [] n.dict ws files h.table h.words in
+          (λ i. record { table = is_t i; params = is_p i; start = is_S i; dictionary = is_ws i })
+
+-- where all are read the outcome of `generate` is what it writes and prints
+pub outcome_generated : (n : FileNames) (i : Inputs) (files : FileMap) → HasInputs (file_at files) n i → outcome_of (file_at files) (ToGenerate n) ≡ generated n i
+outcome_generated n i files h =
+    ap (λ end. unwrap_or end (finished (file_at files) (ToGenerate n))) (accepted_all (file_at files) (inputs_of n) (inputs_accepted n i.table i.params i.start i.dictionary files h))
+    ∙ ap (generated n) (given n i.table i.params i.start i.dictionary files h)
+
+-- one input is read after the other, and the files stay as they are
+pub two_read : (n : FileNames) (t : Alphabet) (p : Parameters) (h1 h2 : Option FileMap) → KeepsHeld h1 h2 → IfSome h1 (HasTable n t) → IfSome h2 (λ files. read_as parameters (file_at files) n.params ≡ Some (Ok p)) → IfSome h2 (HasTwo n t p)
+two_read n t p h1 h2 keeps one more = both h2 (HasTable n t) (λ files. read_as parameters (file_at files) n.params ≡ Some (Ok p)) (held_later h1 h2 (HasTable n t) keeps one) more
+
+pub all_read : (n : FileNames) (t : Alphabet) (p : Parameters) (S : List ((List ℕ × ℕ) × ℕ)) (ws : List Word) (h2 h3 : Option FileMap) → KeepsHeld h2 h3 → IfSome h2 (HasTwo n t p) → IfSome h3 (λ files. HasLists (file_at files) t n.patterns n.dict S ws) → IfSome h3 (λ files. HasInputs (file_at files) n (record { table = t; params = p; start = S; dictionary = ws }))
+all_read n t p S ws h2 h3 keeps two more =
+    mapped h3 (λ files. HasTwo n t p files × HasLists (file_at files) t n.patterns n.dict S ws) (λ files. HasInputs (file_at files) n (record { table = t; params = p; start = S; dictionary = ws })) (λ files h. record { table = h.0.0; params = h.0.1; start = h.1.start; words = h.1.words })
+    (both h3 (HasTwo n t p) (λ files. HasLists (file_at files) t n.patterns n.dict S ws) (held_later h2 h3 (HasTwo n t p) keeps two) more)
+
+-- a stop at the first input, at the second, and at one of the last two
+pub stopped_1 : (n : FileNames) (s0 s1 : FilesShown) (stop : Stop) → MakesCalls s0 s1 (Reads n.translate ∷ []) → StopsAt (translate_input n) s0 s1 stop → StopsReading (inputs_of n) s0 s1 stop
+stopped_1 n s0 s1 stop calls stops = stopped_first (translate_input n) (parameters_input n ∷ patterns_input n ∷ dictionary_input n ∷ []) s0 s1 stop calls stops
+
+pub stopped_2 : (n : FileNames) (t : Alphabet) (s0 s1 s2 : FilesShown) (stop : Stop) → NoneFell s0.read_faults s1.read_faults → MakesCalls s0 s2 (Reads n.translate ∷ Reads n.params ∷ []) → KeepsHeld s1.held s2.held → IfSome s1.held (HasTable n t) → StopsAt (parameters_input n) s1 s2 stop → StopsReading (inputs_of n) s0 s2 stop
+stopped_2 n t s0 s1 s2 stop fell calls keeps one stops =
+    stopped_behind (translate_input n ∷ []) (parameters_input n) (patterns_input n ∷ dictionary_input n ∷ []) s0 s1 s2 stop fell calls
+    (mapped s2.held (HasTable n t) (λ files. AreAccepted (file_at files) (translate_input n ∷ [])) (λ files h. (table_accepted n.translate t files h, tt)) (held_later s1.held s2.held (HasTable n t) keeps one)) stops
+
+pub stopped_lists : (n : FileNames) (t : Alphabet) (p : Parameters) (s0 s2 s3 : FilesShown) (stop : Stop) → NoneFell s0.read_faults s2.read_faults → MakesCalls s0 s2 (Reads n.translate ∷ Reads n.params ∷ []) → KeepsHeld s2.held s3.held → IfSome s2.held (HasTwo n t p) → StopsReading (lists_under n.translate n.patterns n.dict) s2 s3 stop → StopsReading (inputs_of n) s0 s3 stop
+stopped_lists n t p s0 s2 s3 stop fell calls keeps two stops =
+    stopped_after (translate_input n ∷ parameters_input n ∷ []) (lists_under n.translate n.patterns n.dict) s0 s2 s3 stop fell calls
+    (mapped s3.held (HasTwo n t p) (λ files. AreAccepted (file_at files) (translate_input n ∷ parameters_input n ∷ [])) (two_accepted n t p) (held_later s2.held s3.held (HasTwo n t p) keeps two)) stops
+
+-- all were read, and then memory was wanted
+pub inputs_wanted : (n : FileNames) (i : Inputs) (s0 s1 : FilesShown) → MakesCalls s0 s1 (read_calls (inputs_of n)) → IfSome s1.held (λ files. HasInputs (file_at files) n i) → StopsReading (inputs_of n) s0 s1 Memory
+inputs_wanted n i s0 s1 calls read =
+    wanted_after (inputs_of n) s0 s1 (omega arith) calls
+    (mapped s1.held (λ files. HasInputs (file_at files) n i) (λ files. AreAccepted (file_at files) (inputs_of n)) (λ files h. inputs_accepted n i.table i.params i.start i.dictionary files h) read)

@@ -1,0 +1,20 @@
+use Rattle.std.proofs.Common.{◌≡◌, ◌∙◌, ◌++◌, ◌∷◌, [], List, ℕ, ap}
+use Rattle.pg_top.specs.Selection.{selected_text}
+use Rattle.pg_top.specs.Writings.{writing_of}
+use Rattle.pg_top.specs.declared.writes.Output.{Output}
+use Rattle.pg_top.proofs.Selections.{text_selected}
+use Rattle.pg_top.proofs.generate.outputs.push_patterns.Goals as goal
+
+pub make_lines-requires-clause-text : goal.make_lines-requires-clause-text
+make_lines-requires-clause-text c =
+    c.deref.ensures.value ∙ c.in_ok-text.ensures.text ∙ text_selected c.args.inputs.now c.patterns.result.now (c.patterns.ensures ∙ c.requires.selected)
+
+pub returns : goal.returns
+returns c =
+    let i = c.args.inputs.now in
+    let output : Output = record { name = c.args.name; text = c.in_ok-text.text } in
+    let text : c.in_ok-text.text.items ≡ selected_text i = c.in_ok-text.ensures.text ∙ text_selected i c.patterns.result.now (c.patterns.ensures ∙ c.requires.selected) in
+    record {
+      file = ap writing_of (c.in_ok-push.ensures.items ∙ ap (λ (xs : List Output). xs ++ output ∷ []) c.requires.empty) ∙ ap (λ (t : List ℕ). (c.args.name.now, t) ∷ []) text;
+      lines = c.in_ok-lines.ensures;
+    }

@@ -1,0 +1,3 @@
+pub mod PackOrder
+pub mod PackedTexts
+pub mod PackedHeads

@@ -1,0 +1,68 @@
+-- What `pack` reads, and what it comes to.
+use Rattle.std.proofs.Common.{◌≡◌, ℕ, inr, List, [], ◌∷◌, Option, Some, Ok, IfSome, refl, sym, ap, ◌∙◌, subst, arith}
+use Rattle.std.specs.Prelude.{unwrap_or}
+use Rattle.pg_outside.specs.Content.{FileMap, FilesShown, KeepsHeld, file_at}
+use Rattle.pg_translate.specs.Alphabets.{Alphabet}
+use Rattle.pg_patterns.specs.Starts.{start}
+use Rattle.pg_select.specs.Windows.{Patterns}
+use Rattle.pg_words.specs.Requests.{PackRequest, ToPack}
+use Rattle.pg_top.specs.Calls.{outcome_of, finished}
+use Rattle.pg_top.specs.Counted.{MakesCalls, read_calls, EndsAt}
+use Rattle.pg_top.specs.Outcomes.{Ends, Writing, refuses}
+use Rattle.pg_top.specs.Promises.{GivesValues, PackKeeps}
+use Rattle.pg_top.specs.Readings.{read_as}
+use Rattle.pg_top.specs.pack.Packed.{packing_reads, packed, packed_text}
+use Rattle.pg_top.specs.totals.Totalled.{packed_table}
+use Rattle.pg_top.specs.pack.Inside.Inputs.{HasSource}
+use Rattle.pg_top.specs.Inside.Stops.{StopsCommandWith, StopsCommand, StopsMaking}
+use Rattle.pg_top.specs.declared.answers.Status.TheVariants.{Done}
+use Rattle.pg_top.specs.declared.inputs.Input.TheVariants as input
+use Rattle.pg_top.specs.declared.inputs.Stop.{Stop}
+use Rattle.pg_top.specs.declared.inputs.Stop.TheVariants.{Refused, Unread, Memory}
+use Rattle.pg_top.specs.declared.pack.inputs.Source.{Source}
+use Rattle.pg_top.proofs.Orders.{AreAccepted, accepted_all, mapped, both, held_later, reads_all}
+use Rattle.pg_top.proofs.UnderTable.{HasTable, is_table, table_accepted, accepted_under, means_under}
+
+-- both files of `pack` are read, one after the other
+pub source_read : (p : PackRequest) (t : Alphabet) (P : Patterns) (h1 h2 : Option FileMap) → KeepsHeld h1 h2 → IfSome h1 (HasTable p.translate t) → IfSome h2 (λ files. read_as (start t) (file_at files) p.patterns ≡ Some (Ok P))
+    → IfSome h2 (λ files. HasSource (file_at files) p (record { table = t; patterns = P }))
+source_read p t P h1 h2 keeps one more =
+    mapped h2 (λ files. HasTable p.translate t files × (read_as (start t) (file_at files) p.patterns ≡ Some (Ok P))) (λ files. HasSource (file_at files) p (record { table = t; patterns = P })) (λ files h. record { table = h.0; patterns = h.1 })
+    (both h2 (HasTable p.translate t) (λ files. read_as (start t) (file_at files) p.patterns ≡ Some (Ok P)) (held_later h1 h2 (HasTable p.translate t) keeps one) more)
+
+-- and are accepted
+pack_accepted : (p : PackRequest) (s : Source) (files : FileMap) → HasSource (file_at files) p s → AreAccepted (file_at files) (packing_reads p)
+pack_accepted p s files h = (table_accepted p.translate s.table files h.table, (accepted_under p.translate s.table start input.Patterns p.patterns s.patterns files h.table h.patterns, tt))
+
+-- then it comes to the table of the patterns
+pub pack_outcome : (p : PackRequest) (s : Source) (files : FileMap) → HasSource (file_at files) p s → outcome_of (file_at files) (ToPack p) ≡ packed p.table s.table s.patterns
+pack_outcome p s files h =
+    let is_t = is_table p.translate s.table files h.table in
+    let is_P = means_under p.translate s.table start [] p.patterns s.patterns files h.table h.patterns in
+    ap (λ end. unwrap_or end (finished (file_at files) (ToPack p))) (accepted_all (file_at files) (packing_reads p) (pack_accepted p s files h))
+    ∙ (λ k. packed p.table (is_t k) (is_P k))
+
+-- what it promises
+pub pack_keeps : (p : PackRequest) (s : Source) (writing : Writing) (lines : List ℕ) (files : FileMap) → packed p.table s.table s.patterns ≡ Ends Done writing lines → writing ≡ (p.table, packed_text s.table s.patterns) ∷ [] → packed_table s.table (packed_text s.table s.patterns) ≡ Ok (packed_text s.table s.patterns) → GivesValues (packed_text s.table s.patterns) s.patterns → HasSource (file_at files) p s → PackKeeps (file_at files) p
+pack_keeps p s writing lines files made table accepted gives h = record {
+  bytes = packed_text s.table s.patterns;
+  lines = lines;
+  comes = pack_outcome p s files h ∙ made ∙ ap (λ (w : Writing). Ends Done w lines) table;
+  accepted = subst (λ (t : Alphabet). packed_table t (packed_text s.table s.patterns) ≡ Ok (packed_text s.table s.patterns)) (sym (is_table p.translate s.table files h.table)) accepted;
+  gives = subst (λ (P : Patterns). GivesValues (packed_text s.table s.patterns) P) (sym (means_under p.translate s.table start [] p.patterns s.patterns files h.table h.patterns)) gives;
+}
+
+-- a stop at making the table
+pub stopped_making : (p : PackRequest) (s : Source) (s0 s1 : FilesShown) (why : Stop) → MakesCalls s0 s1 (read_calls (packing_reads p)) → IfSome s1.held (λ files. HasSource (file_at files) p s) → StopsMaking (packed p.table s.table s.patterns) why → StopsCommand (ToPack p) s0 s1 why
+stopped_making p s s0 s1 why calls h making = record {
+  place = 1;
+  read = reads_all (packing_reads p) s0 s1 (omega arith) calls (mapped s1.held (λ files. HasSource (file_at files) p s) (λ files. AreAccepted (file_at files) (packing_reads p)) (pack_accepted p s) h);
+  why = why_made why making;
+}
+  where
+    why_made : (why : Stop) → StopsMaking (packed p.table s.table s.patterns) why → StopsCommandWith (ToPack p) 1 s0 s1 why
+    why_made (Refused at refusal) is =
+        mapped s1.held (λ files. HasSource (file_at files) p s) (λ files. (outcome_of (file_at files) (ToPack p) ≡ refuses at refusal) × EndsAt (ToPack p) 1 (file_at files))
+        (λ files k. (pack_outcome p s files k ∙ is, inr (refl, accepted_all (file_at files) (packing_reads p) (pack_accepted p s files k)))) h
+    why_made (Unread at) is = absurd is
+    why_made Memory is = tt

@@ -1,0 +1,30 @@
+-- The table that `pack` writes, and why it makes none.
+use Rattle.std.proofs.Common.{◌≡◌, ℕ, ◌<◌, ◌≤◌, List, [], ◌∷◌, length, cond, refl, ap}
+use Rattle.std.proofs.lemmas.Bool.{le-ltb, lt-ltb}
+use Rattle.pg_types.specs.declared.refusals.Kind.TheVariants.{TableTooLong}
+use Rattle.pg_translate.specs.Alphabets.{Alphabet}
+use Rattle.pg_patterns.specs.Texts.{pattern_text}
+use Rattle.pg_select.specs.Windows.{Patterns}
+use Rattle.pg_table.specs.declared.error.TableError.{TableError}
+use Rattle.pg_table.specs.declared.error.TableError.TheVariants as table_error
+use Rattle.pg_table.specs.declared.limits.TheConstants.{TABLE_MAX}
+use Rattle.pg_top.specs.Outcomes.{Ends, refuses}
+use Rattle.pg_top.specs.pack.Packed.{packed, packed_text, table_refused, packed_line}
+use Rattle.pg_top.specs.pack.Inside.Inputs.{stop_of_table}
+use Rattle.pg_top.specs.Inside.Stops.{StopsMaking}
+use Rattle.pg_top.specs.declared.answers.Status.TheVariants.{Done}
+use Rattle.pg_top.specs.declared.inputs.Input.TheVariants as input
+
+module _ (name : List ℕ) (t : Alphabet) (P : Patterns) where
+  -- a table that is not too long is written
+  pub packed_short : length (packed_text t P) ≤ TABLE_MAX → packed name t P ≡ Ends Done ((name, packed_text t P) ∷ []) (packed_line (pattern_text t P) (packed_text t P))
+  packed_short short = ap (λ long. cond long (refuses input.Table (table_refused TableTooLong)) (Ends Done ((name, packed_text t P) ∷ []) (packed_line (pattern_text t P) (packed_text t P)))) (le-ltb TABLE_MAX (length (packed_text t P)) short)
+
+  -- and one that is too long is refused
+  packed_long : TABLE_MAX < length (packed_text t P) → packed name t P ≡ refuses input.Table (table_refused TableTooLong)
+  packed_long long = ap (λ long. cond long (refuses input.Table (table_refused TableTooLong)) (Ends Done ((name, packed_text t P) ∷ []) (packed_line (pattern_text t P) (packed_text t P)))) (lt-ltb TABLE_MAX (length (packed_text t P)) long)
+
+  -- why no table is made
+  pub stops_making : (error : TableError) → (error ≡ table_error.TooLong → TABLE_MAX < length (packed_text t P)) → StopsMaking (packed name t P) (stop_of_table error)
+  stops_making table_error.TooLong long = packed_long (long refl)
+  stops_making table_error.Memory long = tt

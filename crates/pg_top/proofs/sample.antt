@@ -1,0 +1,3 @@
+pub mod SampleWords
+pub mod SampleReads
+pub mod SampleSteps

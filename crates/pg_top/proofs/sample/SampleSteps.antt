@@ -1,0 +1,28 @@
+-- The loops that make the dictionary of `sample`: what is made so far, with the rest behind it, is the whole.
+use Rattle.std.proofs.Common.{◌≡◌, ℕ, suc, ◌+◌, ◌-◌, ◌<◌, List, [], ◌∷◌, ◌++◌, sym, ap, ◌∙◌, append_assoc, arith}
+use Rattle.pg_top.specs.sample.Sampled.{Made, syllable, further, word, sample_text}
+
+-- a syllable more
+further_next : (count i x : ℕ) → i < count → further (count - i) x ≡ further (suc (count - (i + 1))) x
+further_next count i x more = let same : count - i ≡ suc (count - (i + 1)) = omega arith in ap (λ n. further n x) same
+
+pub syllable_more : (count i x : ℕ) (so_far whole : List ℕ) → i < count → so_far ++ (further (count - i) x).text ≡ whole → ((so_far ++ 45 ∷ []) ++ (syllable x).text) ++ (further (count - (i + 1)) (syllable x).state).text ≡ whole
+syllable_more count i x so_far whole more is =
+    append_assoc (so_far ++ 45 ∷ []) (syllable x).text (further (count - (i + 1)) (syllable x).state).text
+    ∙ append_assoc so_far (45 ∷ []) ((syllable x).text ++ (further (count - (i + 1)) (syllable x).state).text)
+    ∙ ap (λ (m : Made). so_far ++ m.text) (sym (further_next count i x more))
+    ∙ is
+
+pub state_more : (count i x whole : ℕ) → i < count → (further (count - i) x).state ≡ whole → (further (count - (i + 1)) (syllable x).state).state ≡ whole
+state_more count i x whole more is = ap (λ (m : Made). m.state) (sym (further_next count i x more)) ∙ is
+
+-- a word more
+sample_next : (count i x : ℕ) → i < count → sample_text x (count - i) ≡ sample_text x (suc (count - (i + 1)))
+sample_next count i x more = let same : count - i ≡ suc (count - (i + 1)) = omega arith in ap (λ n. sample_text x n) same
+
+pub word_more : (count i x : ℕ) (so_far whole : List ℕ) → i < count → so_far ++ sample_text x (count - i) ≡ whole → ((so_far ++ (word x).text) ++ 10 ∷ []) ++ sample_text (word x).state (count - (i + 1)) ≡ whole
+word_more count i x so_far whole more is =
+    ap (λ front. front ++ sample_text (word x).state (count - (i + 1))) (append_assoc so_far (word x).text (10 ∷ []))
+    ∙ append_assoc so_far ((word x).text ++ 10 ∷ []) (sample_text (word x).state (count - (i + 1)))
+    ∙ ap (λ rest. so_far ++ rest) (sym (sample_next count i x more))
+    ∙ is

@@ -1,8 +1,0 @@
-use Rattle.std.proofs.Common.{◌≡◌, ◌-◌, ◌++◌}
-use Rattle.pg_top.specs.SampleTexts.{sample_text}
-use Rattle.pg_top.proofs.sample.sample_text.Given as goal
-
-abbrev pub invariant-words : goal.invariant-words
-invariant-words l = record {
-  text : l.text.items ++ sample_text l.draws.state (l.count - l.i) ≡ sample_text l.seed l.count;
-}

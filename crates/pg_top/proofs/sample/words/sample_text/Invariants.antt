@@ -1,0 +1,8 @@
+use Rattle.std.proofs.Common.{◌≡◌, ◌-◌, ◌++◌}
+use Rattle.pg_top.specs.sample.Sampled.{sample_text}
+use Rattle.pg_top.proofs.sample.words.sample_text.Given as goal
+
+abbrev pub invariant-words : goal.invariant-words
+invariant-words l = record {
+  text : l.text.items ++ sample_text l.draws.state (l.count - l.i) ≡ sample_text l.seed l.count;
+}

@@ -1,0 +1,3 @@
+pub mod SetFiles
+pub mod SweepOrder
+pub mod SweepTexts

@@ -1,0 +1,40 @@
+-- What a sweep writes and prints.
+use Rattle.std.proofs.Common.{◌≡◌, ℕ, ◌-◌, ◌≤◌, List, [], ◌∷◌, length, None, sym, ap, ◌∙◌, arith}
+use Rattle.std.specs.Prelude.{slice_index, unwrap_or}
+use Rattle.std.proofs.lemmas.List.{length-map}
+use Rattle.pg_types.specs.Parameters.{Parameters}
+use Rattle.pg_sweep.specs.Files.{sweep_file}
+use Rattle.pg_sweep.specs.Sweeps.{Terms, Found, row_of, rows_of, costs_of}
+use Rattle.pg_sweep.specs.Winners.{winner_of}
+use Rattle.pg_sweep.specs.declared.rows.SweepRow.{SweepRow}
+use Rattle.pg_sweep.proofs.Winners.{winner_wins}
+use Rattle.pg_top.specs.Calls.{finished}
+use Rattle.pg_top.specs.Outcomes.{Ends}
+use Rattle.pg_top.specs.sweep.Swept.{winner_line, set_named, sweep_reads, terms_in, sets_in, swept_rows, sweep_ends, swept}
+use Rattle.pg_top.specs.Promises.{set_costs, SweepNames}
+use Rattle.pg_top.specs.Readings.{Held, first_end}
+use Rattle.pg_words.specs.Requests.{SweepRequest, ToSweep}
+use Rattle.pg_top.specs.sweep.Inside.Inputs.{line_of_sweep}
+use Rattle.pg_top.specs.declared.answers.Status.TheVariants.{Done}
+
+-- it is made of what was found
+pub sweep_made : (s : SweepRequest) (terms : Terms) (sets : List Parameters) (found : Found) (text line : List ℕ) → found.rows ≡ rows_of terms (record { bad = s.bad; missed = s.missed }) sets → found.winner ≡ winner_of (costs_of found.rows) → text ≡ sweep_file s.folds found.rows found.winner → line ≡ line_of_sweep found
+    → swept s terms sets ≡ Ends Done ((s.output, text) ∷ []) line
+unfolding swept_rows
+sweep_made s terms sets found text line rows winner is_text is_line =
+    ap (sweep_ends s) (sym rows)
+    ∙ ap (λ (w : ℕ). Ends Done ((s.output, sweep_file s.folds found.rows w) ∷ []) (winner_line w (slice_index (costs_of found.rows) (w - 1)))) (sym winner)
+    ∙ (λ k. Ends Done ((s.output, sym is_text k) ∷ []) (sym is_line k))
+
+-- what it promises, where no file ends the call
+pub sweep_names : (s : SweepRequest) (files : Held) → first_end files (sweep_reads s) ≡ None → 1 ≤ length s.params → SweepNames files s
+unfolding swept_rows
+sweep_names s files none some = record {
+  winner = winner_of (set_costs files s);
+  text = sweep_file s.folds (swept_rows s (terms_in files s) (sets_in files s)) (winner_of (set_costs files s));
+  comes = ap (λ end. unwrap_or end (finished files (ToSweep s))) none;
+  wins = winner_wins (set_costs files s) (many (set_costs files s) (length-map (swept_rows s (terms_in files s) (sets_in files s)) (λ (r : SweepRow). r.cost) ∙ length-map (sets_in files s) (row_of (terms_in files s) (record { bad = s.bad; missed = s.missed })) ∙ length-map s.params (set_named files)));
+}
+  where
+    many : (costs : List ℕ) → length costs ≡ length s.params → 1 ≤ length costs
+    many costs same = omega (arith, some)

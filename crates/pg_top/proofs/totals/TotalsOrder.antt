@@ -1,0 +1,73 @@
+-- What `totals` reads, and what it comes to.
+use Rattle.std.proofs.Common.{◌≡◌, ℕ, ◌+◌, Bool, true, false, not, List, [], ◌∷◌, length, Option, Some, Result, Ok, Err, IfSome, nat_lt, nat_eq, cond, refl, sym, ap, ◌∙◌}
+use Rattle.std.specs.Prelude.{unwrap_or}
+use Rattle.std.proofs.lemmas.Bool.{eqb-true}
+use Rattle.pg_types.specs.declared.refusals.Kind.TheVariants.{TableTooLong, BadTable, OtherTable}
+use Rattle.pg_types.specs.declared.refusals.Refusal.{Refusal}
+use Rattle.pg_outside.specs.Content.{FileMap, FilesShown, KeepsHeld, file_at}
+use Rattle.pg_outside.specs.Faults.{NoneFell}
+use Rattle.pg_translate.specs.Alphabets.{Alphabet, letters_of}
+use Rattle.pg_translate.specs.Tables.{table}
+use Rattle.pg_dict.specs.Word.{Word}
+use Rattle.pg_dict.specs.Words.{words}
+use Rattle.pg_table.specs.declared.limits.TheConstants.{TABLE_MAX}
+use Rattle.pg_table.specs.Forms.{head_of, is_well_formed}
+use Rattle.pg_words.specs.Requests.{TotalsRequest, ToTotals}
+use Rattle.pg_top.specs.Calls.{outcome_of, finished}
+use Rattle.pg_top.specs.Counted.{MakesCalls, read_calls}
+use Rattle.pg_top.specs.Outcomes.{Ends}
+use Rattle.pg_top.specs.Readings.{Reading, read_as, input_file, file_under}
+use Rattle.pg_top.specs.pack.Packed.{table_refused}
+use Rattle.pg_top.specs.totals.Totalled.{packed_table, totals_reads, totals_lines}
+use Rattle.pg_top.specs.totals.Inside.Inputs.{IsTotalled}
+use Rattle.pg_top.specs.Inside.Stops.{StopsAt, StopsReading}
+use Rattle.pg_top.specs.declared.answers.Status.TheVariants.{Done}
+use Rattle.pg_top.specs.declared.inputs.Input.TheVariants as input
+use Rattle.pg_top.specs.declared.inputs.Stop.{Stop}
+use Rattle.pg_top.proofs.Orders.{AreAccepted, accepted_all, mapped, both, held_later, stopped_behind}
+use Rattle.pg_top.proofs.UnderTable.{HasTable, is_table, table_accepted, accepted_under, means_under, stopped_under}
+
+-- what is known once two files of `totals` are read
+abbrev pub HasWords : TotalsRequest → Alphabet → List Word → FileMap → Type 0
+HasWords p t ws files = HasTable p.translate t files × (read_as (words t) (file_at files) p.dict ≡ Some (Ok ws))
+
+pub words_read : (p : TotalsRequest) (t : Alphabet) (ws : List Word) (h1 h2 : Option FileMap) → KeepsHeld h1 h2 → IfSome h1 (HasTable p.translate t) → IfSome h2 (λ files. read_as (words t) (file_at files) p.dict ≡ Some (Ok ws)) → IfSome h2 (HasWords p t ws)
+words_read p t ws h1 h2 keeps one more = both h2 (HasTable p.translate t) (λ files. read_as (words t) (file_at files) p.dict ≡ Some (Ok ws)) (held_later h1 h2 (HasTable p.translate t) keeps one) more
+
+-- once all are read it comes to the lines of the totals
+pub totals_outcome : (p : TotalsRequest) (t : Alphabet) (ws : List Word) (lines : List ℕ) (files : FileMap) → HasWords p t ws files → IsTotalled t ws (file_at files) p.table lines → outcome_of (file_at files) (ToTotals p) ≡ Ends Done [] lines
+totals_outcome p t ws lines files h is =
+    let b : List ℕ = is.0 in
+    let accepted : AreAccepted (file_at files) (totals_reads p) = (table_accepted p.translate t files h.0, (accepted_under p.translate t words input.Dictionary p.dict ws files h.0 h.1, (accepted_under p.translate t packed_table input.Table p.table b files h.0 is.1, tt))) in
+    let is_t = is_table p.translate t files h.0 in
+    let is_ws = means_under p.translate t words [] p.dict ws files h.0 h.1 in
+    let is_b = means_under p.translate t packed_table [] p.table b files h.0 is.1 in
+    ap (λ end. unwrap_or end (finished (file_at files) (ToTotals p))) (accepted_all (file_at files) (totals_reads p) accepted)
+    ∙ (λ k. Ends Done [] (totals_lines (is_t k) (is_ws k) (is_b k)))
+    ∙ ap (Ends Done []) (sym is.2)
+
+pub totals_told : (p : TotalsRequest) (t : Alphabet) (ws : List Word) (lines : List ℕ) (h2 h3 : Option FileMap) → KeepsHeld h2 h3 → IfSome h2 (HasWords p t ws) → IfSome h3 (λ files. IsTotalled t ws (file_at files) p.table lines) → IfSome h3 (λ files. outcome_of (file_at files) (ToTotals p) ≡ Ends Done [] lines)
+totals_told p t ws lines h2 h3 keeps two more =
+    mapped h3 (λ files. HasWords p t ws files × IsTotalled t ws (file_at files) p.table lines) (λ files. outcome_of (file_at files) (ToTotals p) ≡ Ends Done [] lines) (λ files h. totals_outcome p t ws lines files h.0 h.1)
+    (both h3 (HasWords p t ws) (λ files. IsTotalled t ws (file_at files) p.table lines) (held_later h2 h3 (HasWords p t ws) keeps two) more)
+
+-- a stop at the packed table
+pub stopped_table : (p : TotalsRequest) (t : Alphabet) (ws : List Word) (s0 s2 s3 : FilesShown) (why : Stop) → NoneFell s0.read_faults s2.read_faults → MakesCalls s0 s3 (read_calls (totals_reads p)) → KeepsHeld s2.held s3.held → IfSome s2.held (HasWords p t ws) → StopsAt (input_file input.Table p.table (λ _. packed_table t)) s2 s3 why → StopsReading (totals_reads p) s0 s3 why
+stopped_table p t ws s0 s2 s3 why fell calls keeps two stops =
+    let later : IfSome s3.held (HasWords p t ws) = held_later s2.held s3.held (HasWords p t ws) keeps two in
+    let front : List Reading = input_file input.Translate p.translate (λ _. table) ∷ file_under p.translate input.Dictionary p.dict words ∷ [] in
+    stopped_behind front (file_under p.translate input.Table p.table packed_table) [] s0 s2 s3 why fell calls
+    (mapped s3.held (HasWords p t ws) (λ files. AreAccepted (file_at files) front) (λ files h. (table_accepted p.translate t files h.0, (accepted_under p.translate t words input.Dictionary p.dict ws files h.0 h.1, tt))) later)
+    (stopped_under p.translate t packed_table input.Table p.table s2 s3 why (mapped s3.held (HasWords p t ws) (HasTable p.translate t) (λ files h. h.0) later) stops)
+
+-- a table that is accepted has the greatest sign of the letters
+accepted_signs : (long sound same : Bool) (bytes b : List ℕ) → cond {A = Result (List ℕ) Refusal} long (Err (table_refused TableTooLong)) (cond (not sound) (Err (table_refused BadTable)) (cond same (Ok bytes) (Err (table_refused OtherTable)))) ≡ Ok b → (same ≡ true) × (bytes ≡ b)
+accepted_signs true sound same bytes b is = absurd (cc)
+accepted_signs false false same bytes b is = absurd (cc)
+accepted_signs false true false bytes b is = absurd (cc)
+accepted_signs false true true bytes b is = let same : bytes ≡ b = cc in (refl, same)
+
+pub table_signs : (t : Alphabet) (bytes b : List ℕ) → packed_table t bytes ≡ Ok b → (head_of b).signs ≡ letters_of t + 1
+table_signs t bytes b is =
+    let h = accepted_signs (nat_lt TABLE_MAX (length bytes)) (is_well_formed bytes) (nat_eq (head_of bytes).signs (letters_of t + 1)) bytes b is in
+    ap (λ x. (head_of x).signs) (sym h.1) ∙ eqb-true (head_of bytes).signs (letters_of t + 1) h.0

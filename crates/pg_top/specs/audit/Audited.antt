@@ -1,0 +1,61 @@
+-- What `audit` compares, and what it says.
+use Rattle.std.specs.Prelude.{ℕ, List, [], ◌∷◌, ◌++◌, map, codes, decimal}
+use Rattle.std.specs.Option.{option_map}
+use Rattle.pg_audit.specs.Differences.{Difference, first_false}
+use Rattle.pg_audit.specs.FoundLines.{FoundLine, Missing, Begins, Ended, Unended, printed_of}
+use Rattle.pg_top.specs.Outcomes.{Outcome, Ends}
+use Rattle.pg_top.specs.PrintedLines.{word_of}
+use Rattle.pg_top.specs.Readings.{Held, Reading}
+use Rattle.pg_words.specs.Requests.{FileNames, if_asked}
+use Rattle.pg_top.specs.Selection.{selected_text, selected_list, selected_report}
+use Rattle.pg_top.specs.declared.answers.Status.TheVariants.{No}
+use Rattle.pg_top.specs.declared.inputs.Given.{Given}
+use Rattle.pg_top.specs.declared.inputs.Given.TheVariants as given
+use Rattle.pg_top.specs.declared.inputs.Input.TheVariants as input
+use Rattle.pg_top.specs.declared.selection.Inputs.{Inputs}
+
+-- where `audit` finds all given files right
+abbrev pub yes_line : List ℕ
+yes_line = codes "yes\n"
+
+-- what stands in place of a line that is due
+abbrev pub found_text : FoundLine → List ℕ
+found_text Missing = codes " is missing"
+found_text (Begins front) = codes " begins " ++ front
+found_text (Ended line) = codes " found " ++ line
+found_text (Unended line) = codes " found " ++ line ++ codes " and the file ends"
+
+-- where a line of a given file is false: its number, and what stands there
+abbrev pub no_line : Given → ℕ × FoundLine → List ℕ
+no_line given l =
+    codes "no: " ++ word_of (input.Given given) ++ codes " line "
+    ++ decimal l.0 ++ found_text l.1 ++ codes "\n"
+
+-- the text that a given file is to be
+abbrev pub wanted_text : Inputs → Given → List ℕ
+wanted_text i given.Patterns = selected_text i
+wanted_text i given.Pattmp = selected_list i
+wanted_text i given.Report = selected_report i
+
+-- the outcome where a line of a given file is false
+abbrev pub denies : Given → Difference → Outcome
+denies given difference = Ends No [] (no_line given (printed_of difference))
+
+-- a given file, which ends the call where a line of it is false
+abbrev pub given_file : (Held → Inputs) → Given × List ℕ → Reading
+given_file inputs g = record {
+  name = g.1;
+  ends = λ files bytes. option_map (denies g.0)
+      (first_false bytes (wanted_text (inputs files) g.0));
+}
+
+-- the given files in their order, each with its name: the pattern file, the hyphenated list where
+-- it is asked for, and the report
+abbrev pub given_names : FileNames → List (Given × List ℕ)
+given_names n =
+    (given.Patterns, n.output) ∷ if_asked n.pattmp (λ name. (given.Pattmp, name))
+    ++ (given.Report, n.report) ∷ []
+
+-- the given files in their order, each of which ends the call where a line of it is false
+abbrev pub given_files : (Held → Inputs) → FileNames → List Reading
+given_files inputs n = map (given_file inputs) (given_names n)

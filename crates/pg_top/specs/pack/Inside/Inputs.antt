@@ -1,0 +1,33 @@
+-- What `pack` is given and has read, and why it makes no table.
+use Rattle.std.specs.Prelude.{◌≡◌, Some, Ok}
+use Rattle.pg_types.specs.declared.refusals.Kind.TheVariants.{TableTooLong}
+use Rattle.pg_translate.specs.Tables.{table}
+use Rattle.pg_patterns.specs.Starts.{start}
+use Rattle.pg_table.specs.declared.error.TableError.{TableError}
+use Rattle.pg_table.specs.declared.error.TableError.TheVariants as table_error
+use Rattle.pg_words.specs.Requests.{PackRequest}
+use Rattle.pg_top.specs.pack.Packed.{table_refused}
+use Rattle.pg_top.specs.Readings.{Held, read_as}
+use Rattle.pg_top.specs.declared.inputs.Input.TheVariants as input
+use Rattle.pg_top.specs.declared.inputs.Stop.{Stop}
+use Rattle.pg_top.specs.declared.inputs.Stop.TheVariants as stop
+use Rattle.pg_top.specs.declared.pack.PackNames.{PackNames}
+use Rattle.pg_top.specs.declared.pack.inputs.Source.{Source}
+
+-- the names as their bytes
+abbrev pub pack_of : PackNames → PackRequest
+pack_of n = record {
+  patterns = n.patterns.now;
+  translate = n.translate.now;
+  table = n.table.now;
+}
+
+-- the files that are held are accepted as these
+pub record HasSource (files : Held) (p : PackRequest) (s : Source) : Type 0 where
+  pub table : read_as table files p.translate ≡ Some (Ok s.table)
+  pub patterns : read_as (start s.table) files p.patterns ≡ Some (Ok s.patterns)
+
+-- why `pack` stops where no table is made
+abbrev pub stop_of_table : TableError → Stop
+stop_of_table table_error.TooLong = stop.Refused input.Table (table_refused TableTooLong)
+stop_of_table table_error.Memory = stop.Memory

@@ -1,0 +1,124 @@
+-- The dictionary of `sample`, as a text made from a number, and what the command prints.
+use Rattle.std.specs.Prelude.{ℕ, zero, suc, ◌+◌, ◌*◌, ◌/◌, ◌%◌, ◌^◌, ◌==◌, Bool, ◌||◌, nat_eq, if◌then◌else◌, List, [], ◌∷◌, ◌++◌, filter, flat_map, slice_index, codes}
+use Rattle.std.specs.List.{starts_with}
+use Rattle.std.specs.Result.{result_unwrap_or}
+use Rattle.pg_types.specs.Lines.{lines}
+use Rattle.pg_types.specs.Parameters.{Parameters}
+use Rattle.pg_translate.specs.Tables.{default_alphabet}
+use Rattle.pg_dict.specs.Words.{words}
+use Rattle.pg_top.specs.PrintedLines.{done_line}
+use Rattle.pg_top.specs.Selection.{selected_text, selected_report, selected_account}
+use Rattle.pg_top.specs.declared.selection.Inputs.{Inputs}
+
+-- the state after a draw
+abbrev pub next_state : ℕ → ℕ
+next_state x = (1103515245 * x + 12345) % 2 ^ 31
+
+-- the number below m that is drawn with this state
+abbrev pub drawn : ℕ → ℕ → ℕ
+drawn m x = x / 65536 % m
+
+-- a text that was made, and the state behind it
+pub record Made : Type 0 where
+  pub text : List ℕ
+  pub state : ℕ
+
+-- the consonants that a syllable begins with
+abbrev pub consonants : List ℕ
+consonants = codes "bdfgklmnprst"
+
+-- the vowels of syllables
+abbrev pub vowels : List ℕ
+vowels = codes "aeiou"
+
+-- the consonants that a syllable may end with
+abbrev pub closings : List ℕ
+closings = codes "nrs"
+
+-- the end of a syllable, behind the draw that says whether it ends with a consonant: a consonant
+-- where that draw is 0, else nothing
+unfoldable pub ending : ℕ → Made
+ending x =
+    if drawn 4 x == 0
+    then (record {
+      text = slice_index closings (drawn 3 (next_state x)) ∷ [];
+      state = next_state x;
+    })
+    else (record { text = []; state = x })
+
+-- a syllable: a consonant, a vowel, and its end
+unfoldable pub syllable : ℕ → Made
+syllable x =
+    let c = next_state x in
+    let v = next_state c in
+    let end = ending (next_state v) in
+    record {
+      text = slice_index consonants (drawn 12 c) ∷ slice_index vowels
+          (drawn 5 v) ∷ end.text;
+      state = end.state;
+    }
+
+-- so many further syllables, each behind a hyphen
+abbrev pub further : ℕ → ℕ → Made
+further zero x = record { text = []; state = x }
+further (suc n) x =
+    let one = syllable x in
+    let more = further n one.state in
+    record { text = 45 ∷ (one.text ++ more.text); state = more.state }
+
+-- a word of 2 to 4 syllables
+unfoldable pub word : ℕ → Made
+word x =
+    let size = next_state x in
+    let first = syllable size in
+    let more = further (drawn 3 size + 1) first.state in
+    record { text = first.text ++ more.text; state = more.state }
+
+-- so many words, one after the other
+abbrev pub words_made : ℕ → ℕ → List (List ℕ)
+words_made zero x = []
+words_made (suc n) x = (word x).text ∷ words_made n (word x).state
+
+-- the dictionary: so many words from the seed, each with its line's end
+abbrev pub sample_text : ℕ → ℕ → List ℕ
+sample_text seed count = flat_map (λ text. text ++ 10 ∷ []) (words_made count seed)
+
+-- two levels, the first with lengths 1 to 3 and the second with lengths 2 to 4
+abbrev pub sample_parameters : Parameters
+sample_parameters = record {
+  start = 1;
+  finish = 2;
+  levels =
+      record { pat_start = 1; pat_finish = 3; good_wt = 1; bad_wt = 2; thresh = 20 }
+      ∷ record { pat_start = 2; pat_finish = 4; good_wt = 2; bad_wt = 1; thresh = 8 }
+      ∷ [];
+}
+
+-- the selection: the default table, no starting patterns, and the words of the dictionary
+unfoldable pub sample_inputs : ℕ → ℕ → Inputs
+sample_inputs seed count = record {
+  table = default_alphabet;
+  params = sample_parameters;
+  start = [];
+  dictionary = result_unwrap_or (words default_alphabet (sample_text seed count)) [];
+}
+
+-- whether a line of the report is printed: that of a level, of the totals or of the rates
+abbrev pub is_printed : List ℕ → Bool
+is_printed line =
+    starts_with nat_eq line (codes "level")
+    || starts_with nat_eq line (codes "total")
+    || starts_with nat_eq line (codes "rate")
+
+-- these lines of a report, each with its line's end
+abbrev pub printed_part : List ℕ → List ℕ
+printed_part report = flat_map (λ line. line ++ 10 ∷ []) (filter is_printed (lines report))
+
+-- what is printed of a selection: these lines, and the Done line
+abbrev pub selection_lines : Inputs → List ℕ
+selection_lines i = printed_part (selected_report i)
+    ++ done_line (selected_text i) (selected_account i).totals
+
+-- the lines that `sample` prints
+abbrev pub sample_lines : ℕ → ℕ → List ℕ
+sample_lines seed count = selection_lines (sample_inputs seed count)

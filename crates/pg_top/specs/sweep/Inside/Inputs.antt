@@ -1,0 +1,22 @@
+-- What `sweep` has read, and what is printed of a sweep.
+use Rattle.std.specs.Prelude.{ℕ, ◌+◌, ◌-◌, List, slice_index}
+use Rattle.pg_translate.specs.Alphabets.{letters_of}
+use Rattle.pg_dict.specs.Word.{SignsAtMost}
+use Rattle.pg_patterns.specs.Values.{SignsUpTo}
+use Rattle.pg_sweep.specs.Sweeps.{Terms, Found, costs_of}
+use Rattle.pg_top.specs.sweep.Swept.{winner_line}
+use Rattle.pg_top.specs.declared.sweep.inputs.SweepInputs.{SweepInputs}
+
+-- what the runs of a sweep with so many folds share
+abbrev pub terms_of : ℕ → SweepInputs → Terms
+terms_of folds i = record { table = i.table; words = i.dictionary; start = i.start; folds = folds }
+
+-- the words and the starting patterns have no greater sign than the table
+pub record HasSigns (i : SweepInputs) : Type 0 where
+  pub words : SignsAtMost (letters_of i.table + 1) i.dictionary
+  pub start : SignsUpTo (letters_of i.table + 1) i.start
+
+-- the line of a sweep
+abbrev pub line_of_sweep : Found → List ℕ
+line_of_sweep found = winner_line found.winner
+    (slice_index (costs_of found.rows) (found.winner - 1))

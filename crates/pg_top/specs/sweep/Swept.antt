@@ -1,0 +1,92 @@
+-- What `sweep` reads, writes and prints.
+use Rattle.std.specs.Prelude.{◌≡◌, ℕ, ◌+◌, ◌-◌, List, [], ◌∷◌, ◌++◌, map, slice_index, codes, decimal, Option, Some, Result, Ok}
+use Rattle.pg_types.specs.Parameters.{Parameters, parameters}
+use Rattle.pg_types.specs.declared.refusals.Refusal.{Refusal}
+use Rattle.pg_translate.specs.Tables.{table}
+use Rattle.pg_dict.specs.Words.{words}
+use Rattle.pg_patterns.specs.Starts.{start}
+use Rattle.pg_sweep.specs.Files.{sweep_file}
+use Rattle.pg_sweep.specs.Sweeps.{Terms, rows_of, costs_of}
+use Rattle.pg_sweep.specs.Winners.{winner_of}
+use Rattle.pg_sweep.specs.declared.rows.SweepRow.{SweepRow}
+use Rattle.pg_top.specs.Outcomes.{Outcome, Ends}
+use Rattle.pg_top.specs.Readings.{file_under, meant_under, Held, Reading, read_as, meant, input_file, table_named}
+use Rattle.pg_words.specs.Requests.{SweepRequest}
+use Rattle.pg_top.specs.declared.answers.Status.TheVariants.{Done}
+use Rattle.pg_top.specs.declared.inputs.Input.TheVariants as input
+
+-- the parameter file with this number, as it is read
+abbrev pub set_file : ℕ → List ℕ → Reading
+set_file number name = input_file (input.Set number) name (λ files. parameters)
+
+-- parameter files one after the other, the first of which has this number
+abbrev pub set_files : ℕ → List (List ℕ) → List Reading
+set_files number [] = []
+set_files number (name ∷ names) = set_file number name ∷ set_files (number + 1) names
+
+-- what such a file means
+abbrev pub set_named : Held → List ℕ → Parameters
+set_named files name = meant parameters (record { start = 1; finish = 1; levels = [] }) files name
+
+-- a file that is accepted as this set of parameters, as it is read
+abbrev pub accepted_set : Parameters → Option (Result Parameters Refusal)
+accepted_set set = Some (Ok set)
+
+-- the files of these names are accepted as these sets
+abbrev pub HasSets : Held → List (List ℕ) → List Parameters → Type 0
+HasSets files names sets = map (read_as parameters files) names ≡ map accepted_set sets
+
+-- what `sweep` reads, in its order
+abbrev pub sweep_reads : SweepRequest → List Reading
+sweep_reads s =
+    input_file input.Translate s.translate (λ files. table)
+    ∷ set_files 1 s.params
+    ++ file_under s.translate input.Patterns s.patterns start
+    ∷ file_under s.translate input.Dictionary s.dict words
+    ∷ []
+
+-- what the runs of a sweep share, by the files that are held
+abbrev pub terms_in : Held → SweepRequest → Terms
+terms_in files s = record {
+  table = table_named s.translate files;
+  words = meant_under s.translate words [] files s.dict;
+  start = meant_under s.translate start [] files s.patterns;
+  folds = s.folds;
+}
+
+-- the sets of parameters, by the files that are held
+abbrev pub sets_in : Held → SweepRequest → List Parameters
+sets_in files s = map (set_named files) s.params
+
+-- the files that are held are accepted as these terms and sets
+pub record HasSweep (files : Held) (s : SweepRequest)
+    (terms : Terms) (params : List Parameters) : Type 0 where
+  pub table : read_as table files s.translate ≡ Some (Ok terms.table)
+  pub sets : HasSets files s.params params
+  pub start : read_as (start terms.table) files s.patterns ≡ Some (Ok terms.start)
+  pub words : read_as (words terms.table) files s.dict ≡ Some (Ok terms.words)
+  pub folds : terms.folds ≡ s.folds
+
+-- the rows of the sets
+unfoldable pub swept_rows : SweepRequest → Terms → List Parameters → List SweepRow
+swept_rows s terms sets = rows_of terms (record { bad = s.bad; missed = s.missed }) sets
+
+-- where `sweep` is done: the number of the cheapest set of parameters, and what it costs
+abbrev pub winner_line : ℕ → ℕ → List ℕ
+winner_line winner cost = codes "winner: set " ++ decimal winner
+    ++ codes ", cost " ++ decimal cost ++ codes "\n"
+
+-- what a sweep with these rows writes and prints: its file, and which set wins
+abbrev pub sweep_ends : SweepRequest → List SweepRow → Outcome
+sweep_ends s rows =
+    let winner = winner_of (costs_of rows) in
+    Ends Done ((s.output, sweep_file s.folds rows winner) ∷ [])
+    (winner_line winner (slice_index (costs_of rows) (winner - 1)))
+
+-- what a sweep of these sets writes and prints
+abbrev pub swept : SweepRequest → Terms → List Parameters → Outcome
+swept s terms sets = sweep_ends s (swept_rows s terms sets)
+
+-- what `sweep` writes and prints, by the files that are held
+abbrev pub swept_in : Held → SweepRequest → Outcome
+swept_in files s = swept s (terms_in files s) (sets_in files s)

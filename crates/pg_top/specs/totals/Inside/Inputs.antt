@@ -1,0 +1,19 @@
+-- What `totals` is given, and what it reads of a packed table.
+use Rattle.std.specs.Prelude.{◌≡◌, ℕ, List, Some, Ok}
+use Rattle.pg_translate.specs.Alphabets.{Alphabet}
+use Rattle.pg_dict.specs.Word.{Word}
+use Rattle.pg_words.specs.Requests.{TotalsRequest}
+use Rattle.pg_top.specs.Readings.{Held, read_as}
+use Rattle.pg_top.specs.totals.Totalled.{packed_table, totals_lines}
+use Rattle.pg_top.specs.declared.totals.TotalsNames.{TotalsNames}
+
+-- the names as their bytes
+abbrev pub totals_of : TotalsNames → TotalsRequest
+totals_of n = record { dict = n.dict.now; translate = n.translate.now; table = n.table.now }
+
+-- the file of this name is accepted as a packed table, by which the totals of the words have these
+-- lines
+abbrev pub IsTotalled : Alphabet → List Word → Held → List ℕ → List ℕ → Type 0
+IsTotalled t words files name lines =
+    (b : List ℕ) × (read_as (packed_table t) files name ≡ Some (Ok b))
+    × (lines ≡ totals_lines t words b)

@@ -1,0 +1,140 @@
+//! Given files, read and compared one after the other.
+ghost use Rattle.std.specs.Prelude.{◌≡◌, [], ◌∷◌, ◌+◌, ◌-◌, ◌^◌, ◌<◌, length, slice_get, IfOk, IfErr, IfSome, Some};
+ghost use Rattle.std.specs.Option.{option_map};
+ghost use Rattle.pg_audit.specs.Differences.{first_false};
+ghost use Rattle.pg_outside.specs.Content.{KeepsHeld, file_at};
+ghost use Rattle.pg_outside.specs.Faults.{NoneFell};
+ghost use Rattle.pg_outside.specs.FilesCalls.{Reads};
+ghost use Rattle.pg_top.specs.audit.Audited.{denies};
+ghost use Rattle.pg_top.specs.Counted.{MakesCalls};
+ghost use Rattle.pg_top.specs.Readings.{first_end};
+ghost use Rattle.pg_top.specs.Inside.Stops.{StopsFront, StopsAt, StopsReading};
+ghost use Rattle.pg_top.specs.audit.Inside.Verdicts.{wanted_file, wanted_files, end_of, ReadsToFind, IsFrontOf};
+
+use crate::audit::no_lines::no_line;
+use crate::audit::wanted::Wanted;
+use crate::inputs::Stop;
+use pg_audit::compare;
+use pg_outside::{Files, ReadError};
+use pg_watch::Watch;
+use std::alloc::{AllocError, Global};
+
+/// How many bytes longer than the right one a given file may be, and still be read as a whole.
+const MORE: usize = 256;
+
+/// What comparing given files gives.
+#[derive(Drop)]
+pub enum Verdict {
+    /// Each line is right.
+    Equal,
+    /// A line is false, as this printed line says.
+    False(Vec<u8>),
+}
+
+/// Reads a given file. The right one has this size. Of a file that is longer by more than `MORE`
+/// bytes, only the first `size + MORE + 1` bytes are kept: they have the same first false line.
+fn read_given<'a, F: Files, W: Watch>(
+    alloc: Global,
+    name: &'a str,
+    size: usize,
+    files: &mut F,
+    watch: &W,
+) -> Result<Vec<u8>, Stop<'a>>
+    requires { size + MORE < 2 ^ 64 - 1 }
+    ensures held { KeepsHeld (F.shown files.old).held (F.shown files.new).held }
+    ensures reads { NoneFell (F.shown files.old).read_faults (F.shown files.new).read_faults }
+    ensures calls { MakesCalls (F.shown files.old) (F.shown files.new) (Reads name.now ∷ []) }
+    ensures front { IfOk result (λ bytes.
+        IfSome (F.shown files.new).held
+        (λ files. IsFrontOf (file_at files name.now) size MORE bytes.items)) }
+    ensures stopped { IfErr result (StopsFront name.now (F.shown files.old) (F.shown files.new)) }
+{
+    watch.reads(name);
+    let mut bytes = Vec::new(alloc);
+    match files.read(alloc, name, size + MORE, &mut bytes) {
+        Ok(()) => Ok(bytes),
+        Err(ReadError::TooLong) => Ok(bytes),
+        Err(ReadError::Failed) => Err(Stop::Unread(name)),
+        Err(ReadError::Memory) => Err(Stop::Memory),
+    }
+}
+
+/// What comparing a given file, or a long one's first bytes, with its text gives. The observer is
+/// told of a false line.
+fn judge<W: Watch>(
+    alloc: Global,
+    bytes: &[u8],
+    wanted: &Wanted<'_>,
+    text: &[u8],
+    watch: &W,
+) -> Result<Verdict, AllocError>
+    ensures { IfOk result
+        (λ verdict. end_of verdict
+        ≡ option_map (denies wanted.now.given) (first_false bytes.now text.now)) }
+{
+    match compare(bytes, text) {
+        None => Ok(Verdict::Equal),
+        Some(line) => {
+            watch.false_line(wanted.name, &line, text);
+            Ok(Verdict::False(no_line(alloc, wanted.given, &line)?))
+        }
+    }
+}
+
+/// Reads a given file and compares it with its text.
+fn compare_file<'a, F: Files, W: Watch>(
+    alloc: Global,
+    wanted: &Wanted<'a>,
+    files: &mut F,
+    watch: &W,
+) -> Result<Verdict, Stop<'a>>
+    ensures held { KeepsHeld (F.shown files.old).held (F.shown files.new).held }
+    ensures reads { NoneFell (F.shown files.old).read_faults (F.shown files.new).read_faults }
+    ensures calls { MakesCalls (F.shown files.old)
+        (F.shown files.new) (Reads wanted.now.name.now ∷ []) }
+    ensures ok { IfOk result (λ verdict. IfSome (F.shown files.new).held (λ files.
+        option_map ((wanted_file wanted.now).ends (file_at files))
+        (file_at files wanted.now.name.now)
+        ≡ Some (end_of verdict))) }
+    ensures stopped { IfErr result
+        (StopsAt (wanted_file wanted.now) (F.shown files.old) (F.shown files.new)) }
+{
+    let text = wanted.text.as_slice();
+    let bytes = read_given(alloc, wanted.name, text.len(), files, watch)?;
+    let verdict = judge(alloc, &bytes, wanted, text, watch)?;
+    Ok(verdict)
+}
+
+/// The given file with the number `i`, counted from 0.
+fn wanted_at<'a, 'b>(wanted: &'b [Wanted<'a>], i: usize) -> &'b Wanted<'a>
+    requires { i < length wanted.now }
+    ensures { slice_get wanted.now i ≡ Some result.now }
+{
+    &wanted[i]
+}
+
+/// Compares files one after the other, up to the first that has a false line.
+pub fn compare_all<'a, F: Files, W: Watch>(
+    alloc: Global,
+    wanted: &[Wanted<'a>],
+    files: &mut F,
+    watch: &W,
+) -> Result<Verdict, Stop<'a>>
+    ensures held { KeepsHeld (F.shown files.old).held (F.shown files.new).held }
+    ensures ok { IfOk result (λ verdict. IfSome (F.shown files.new).held (λ files.
+        first_end (file_at files) (wanted_files wanted.now) ≡ end_of verdict)) }
+    ensures counted { IfOk result (λ verdict.
+        ReadsToFind (wanted_files wanted.now) verdict (F.shown files.old) (F.shown files.new)) }
+    ensures stopped { IfErr result
+        (StopsReading (wanted_files wanted.now) (F.shown files.old) (F.shown files.new)) }
+{
+    let count = wanted.len();
+    'files: for i in 0..count {
+        let verdict = compare_file(alloc, wanted_at(wanted, i), files, watch)?;
+        match verdict {
+            Verdict::Equal => {}
+            Verdict::False(line) => return Ok(Verdict::False(line)),
+        }
+    }
+    Ok(Verdict::Equal)
+}

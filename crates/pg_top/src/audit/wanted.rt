@@ -1,0 +1,130 @@
+//! The texts that given files should be.
+ghost use Rattle.std.specs.Prelude.{◌≡◌, ◌++◌, ◌+◌, IfOk, OnOk};
+ghost use Rattle.pg_driver.specs.Told.{account_of};
+ghost use Rattle.pg_patterns.specs.Values.{SignsUpTo};
+ghost use Rattle.pg_select.specs.Meanings.{new_engine};
+ghost use Rattle.pg_top.specs.audit.Audited.{given_file, given_files};
+ghost use Rattle.pg_words.specs.Commands.{name_now, texts_of};
+ghost use Rattle.pg_words.specs.Requests.{if_asked};
+ghost use Rattle.pg_top.specs.Selection.{signs_of, HasSigns, selected, selected_account};
+ghost use Rattle.pg_top.specs.audit.Inside.Verdicts.{wanted_files};
+
+use crate::inputs::Given;
+use crate::selection::{Inputs, select};
+use pg_driver::Run;
+use pg_plain::PlainEngine;
+use pg_select::Engine;
+use pg_texts::{pattmp_text, report_text};
+use pg_watch::{Watch, Watched};
+use pg_words::Names;
+use std::alloc::{AllocError, Global};
+
+/// A given file, and the text that it should be.
+#[derive(Drop)]
+pub struct Wanted<'a> {
+    /// Which file it is.
+    pub given: Given,
+    /// Its name.
+    pub name: &'a str,
+    /// The text that it should be.
+    pub text: Vec<u8>,
+}
+
+/// Adds the hyphenated list by the patterns of an engine, where it is asked for.
+fn push_pattmp<'a, E: Engine>(
+    alloc: Global,
+    wanted: &mut Vec<Wanted<'a>>,
+    name: Option<&'a str>,
+    engine: &E,
+    inputs: &Inputs,
+) -> Result<(), AllocError>
+    requires signs { HasSigns inputs.now }
+    requires greatest { (E.meaning engine.now).signs ≡ signs_of inputs.now }
+    requires patterns { (E.meaning engine.now).patterns ≡ selected inputs.now }
+    ensures { OnOk result (wanted_files wanted.new.items ≡
+        wanted_files wanted.old.items
+        ++ if_asked (name_now name.entry)
+        (λ name. given_file (λ _. inputs.now) (Given.Pattmp, name))) }
+{
+    if let Some(name) = name {
+        let text = pattmp_text(alloc, engine, &inputs.dictionary, &inputs.table)?;
+        wanted.push(Wanted {
+            given: Given::Pattmp,
+            name,
+            text,
+        })?;
+    }
+    Ok(())
+}
+
+/// Builds the texts that the given files should be, in their order, after the run over an engine.
+fn wanted_after<'a, E: Engine>(
+    alloc: Global,
+    names: &Names<'a>,
+    inputs: &Inputs,
+    engine: &E,
+    run: &Run,
+) -> Result<Vec<Wanted<'a>>, AllocError>
+    requires signs { HasSigns inputs.now }
+    requires greatest { (E.meaning engine.now).signs ≡ signs_of inputs.now }
+    requires patterns { (E.meaning engine.now).patterns ≡ selected inputs.now }
+    requires selected { run.now.patterns ≡ selected inputs.now }
+    requires pattern_signs { SignsUpTo (signs_of inputs.now) run.now.patterns }
+    requires account { account_of run.now ≡ selected_account inputs.now }
+    ensures { IfOk result (λ wanted.
+        wanted_files wanted.items ≡ given_files (λ _. inputs.now) (texts_of names.now)) }
+{
+    let patterns = run.patterns().text(alloc, &inputs.table)?;
+    let report = report_text(alloc, inputs.start.largest(), &inputs.params, run)?;
+    let mut wanted = Vec::new(alloc);
+    wanted.push(Wanted {
+        given: Given::Patterns,
+        name: names.output,
+        text: patterns,
+    })?;
+    push_pattmp(alloc, &mut wanted, names.pattmp, engine, inputs)?;
+    wanted.push(Wanted {
+        given: Given::Report,
+        name: names.report,
+        text: report,
+    })?;
+    Ok(wanted)
+}
+
+/// Does the run of the inputs over the plain engine, and builds the texts that the given files
+/// should be, in their order.
+pub fn make_wanted<'a, W: Watch>(
+    alloc: Global,
+    names: &Names<'a>,
+    inputs: &Inputs,
+    watch: &W,
+) -> Result<Vec<Wanted<'a>>, AllocError>
+    requires { HasSigns inputs.now }
+    ensures { IfOk result (λ wanted.
+        wanted_files wanted.items ≡ given_files (λ _. inputs.now) (texts_of names.now)) }
+{
+    watch.selects(names.patterns, &inputs.params, &inputs.start);
+    let engine = PlainEngine::new(alloc, inputs.table.letters() + 1, &inputs.start)?;
+    let mut engine = Watched::new(engine, &inputs.params, watch);
+    let wanted = run_wanted(alloc, names, inputs, &mut engine);
+    drop(engine);
+    wanted
+}
+
+/// Does the run over an engine that was just made, and builds the texts that the given files should
+/// be, in their order.
+fn run_wanted<'a, E: Engine>(
+    alloc: Global,
+    names: &Names<'a>,
+    inputs: &Inputs,
+    engine: &mut E,
+) -> Result<Vec<Wanted<'a>>, AllocError>
+    requires new { E.meaning engine.old
+        ≡ new_engine (signs_of inputs.now) inputs.now.start (E.meaning engine.old).families }
+    requires signs { HasSigns inputs.now }
+    ensures { IfOk result (λ wanted.
+        wanted_files wanted.items ≡ given_files (λ _. inputs.now) (texts_of names.now)) }
+{
+    let run = select(alloc, engine, inputs)?;
+    wanted_after(alloc, names, inputs, engine, &run)
+}

@@ -1,0 +1,245 @@
+//! What `generate` writes and prints.
+ghost use Rattle.std.specs.Prelude.{◌≡◌, ◌++◌, [], ◌∷◌, IfOk, OnOk, Some};
+ghost use Rattle.pg_driver.specs.Told.{account_of, TellsCells};
+ghost use Rattle.pg_packed.specs.Starts.{pattern_families};
+ghost use Rattle.pg_patterns.specs.Values.{SignsUpTo};
+ghost use Rattle.pg_select.specs.Meanings.{new_engine};
+ghost use Rattle.pg_words.specs.Commands.{name_now, texts_of};
+ghost use Rattle.pg_top.specs.generate.Generated.{work_line, selected_files, selected_lines};
+ghost use Rattle.pg_words.specs.Requests.{if_asked};
+ghost use Rattle.pg_top.specs.Selection.{signs_of, HasSigns, selected, selected_list, selected_cells, selected_cells_text, selected_text, selected_report, selected_account, passes_begun, last_layout as last_layout_of};
+ghost use Rattle.pg_top.specs.Writings.{writing_of};
+ghost use Rattle.pg_types.specs.Lines.{lines};
+
+use crate::printed::{done_line, push_number};
+use crate::selection::{Inputs, last_layout, select};
+use crate::writes::{Output, Outputs};
+use pg_driver::Run;
+use pg_packed::PackedEngine;
+use pg_select::Engine;
+use pg_texts::{cells_text, pattmp_text, report_text};
+use pg_types::Layout;
+use pg_watch::{Watch, Watched};
+use pg_words::Names;
+use std::alloc::{AllocError, Global};
+
+/// Adds the hyphenated list by the patterns of an engine, where it is asked for.
+fn push_pattmp<'a, E: Engine>(
+    alloc: Global,
+    files: &mut Vec<Output<'a>>,
+    name: Option<&'a str>,
+    engine: &E,
+    inputs: &Inputs,
+) -> Result<(), AllocError>
+    requires signs { HasSigns inputs.now }
+    requires greatest { (E.meaning engine.now).signs ≡ signs_of inputs.now }
+    requires patterns { (E.meaning engine.now).patterns ≡ selected inputs.now }
+    ensures { OnOk result (writing_of files.new.items ≡
+        writing_of files.old.items ++ if_asked (name_now name.entry)
+        (λ name. (name, selected_list inputs.now))) }
+{
+    if let Some(name) = name {
+        let text = pattmp_text(alloc, engine, &inputs.dictionary, &inputs.table)?;
+        files.push(Output { name, text })?;
+    }
+    Ok(())
+}
+
+/// Adds the cells file, where it is asked for.
+fn push_cells<'a>(
+    alloc: Global,
+    files: &mut Vec<Output<'a>>,
+    name: Option<&'a str>,
+    run: &Run,
+    inputs: &Inputs,
+) -> Result<(), AllocError>
+    requires { TellsCells (Some (selected_cells inputs.now)) run.now }
+    ensures { OnOk result (writing_of files.new.items ≡
+        writing_of files.old.items
+        ++ if_asked (name_now name.entry) (λ name. (name, selected_cells_text inputs.now))) }
+{
+    if let Some(name) = name {
+        let text = cells_text(alloc, run)?;
+        files.push(Output { name, text })?;
+    }
+    Ok(())
+}
+
+/// Appends the line of how many passes were begun and of a layout.
+pub fn push_work(lines: &mut Vec<u8>, passes: u64, layout: &Layout) -> Result<(), AllocError>
+    ensures { OnOk result (lines.new.items ≡ lines.old.items ++ work_line passes layout.now) }
+{
+    push_number(lines, b"work: ", passes)?;
+    push_number(lines, b" passes, ", layout.taken)?;
+    push_number(lines, b" taken, top ", layout.top)?;
+    push_number(lines, b", ", layout.tails)?;
+    lines.extend_from_slice(b" tails\n")
+}
+
+/// Appends the work line of a run.
+fn push_end(lines: &mut Vec<u8>, run: &Run, inputs: &Inputs) -> Result<(), AllocError>
+    requires begun { run.now.begun ≡ passes_begun inputs.now }
+    requires cells { TellsCells (Some (selected_cells inputs.now)) run.now }
+    ensures { OnOk result (lines.new.items ≡
+        lines.old.items ++ work_line (passes_begun inputs.now)
+        (last_layout_of (selected_cells inputs.now))) }
+{
+    let layout = match last_layout(run) {
+        Some(layout) => layout,
+        None => unreachable!(),
+    };
+    push_work(lines, run.begun(), &layout)
+}
+
+/// The printed lines of a run that writes this pattern file.
+fn make_lines(
+    alloc: Global,
+    patterns: &[u8],
+    run: &Run,
+    inputs: &Inputs,
+) -> Result<Vec<u8>, AllocError>
+    requires text { patterns.now ≡ selected_text inputs.now }
+    requires account { account_of run.now ≡ selected_account inputs.now }
+    requires begun { run.now.begun ≡ passes_begun inputs.now }
+    requires cells { TellsCells (Some (selected_cells inputs.now)) run.now }
+    ensures { IfOk result (λ lines. lines.items ≡ selected_lines inputs.now) }
+{
+    let mut lines = done_line(alloc, patterns, &run.totals())?;
+    push_end(&mut lines, run, inputs)?;
+    Ok(lines)
+}
+
+/// Adds the pattern file to an empty list, and gives the printed lines.
+fn push_patterns<'a>(
+    alloc: Global,
+    files: &mut Vec<Output<'a>>,
+    name: &'a str,
+    run: &Run,
+    inputs: &Inputs,
+) -> Result<Vec<u8>, AllocError>
+    requires empty { files.old.items ≡ [] }
+    requires selected { run.now.patterns ≡ selected inputs.now }
+    requires pattern_signs { SignsUpTo (signs_of inputs.now) run.now.patterns }
+    requires account { account_of run.now ≡ selected_account inputs.now }
+    requires begun { run.now.begun ≡ passes_begun inputs.now }
+    requires cells { TellsCells (Some (selected_cells inputs.now)) run.now }
+    ensures file { OnOk result
+        (writing_of files.new.items ≡ (name.now, selected_text inputs.now) ∷ []) }
+    ensures lines { IfOk result (λ lines. lines.items ≡ selected_lines inputs.now) }
+{
+    let text = run.patterns().text(alloc, &inputs.table)?;
+    let lines = make_lines(alloc, &text, run, inputs)?;
+    files.push(Output { name, text })?;
+    Ok(lines)
+}
+
+/// Adds the report.
+fn push_report<'a>(
+    alloc: Global,
+    files: &mut Vec<Output<'a>>,
+    name: &'a str,
+    run: &Run,
+    inputs: &Inputs,
+) -> Result<(), AllocError>
+    requires signs { HasSigns inputs.now }
+    requires account { account_of run.now ≡ selected_account inputs.now }
+    ensures { OnOk result (writing_of files.new.items
+        ≡ writing_of files.old.items ++ (name.now, selected_report inputs.now) ∷ []) }
+{
+    let text = report_text(alloc, inputs.start.largest(), &inputs.params, run)?;
+    files.push(Output { name, text })?;
+    Ok(())
+}
+
+/// Adds the files behind the pattern file: the hyphenated list and the cells file, where they are
+/// asked for, and the report.
+fn push_others<'a, E: Engine>(
+    alloc: Global,
+    files: &mut Vec<Output<'a>>,
+    names: &Names<'a>,
+    inputs: &Inputs,
+    engine: &E,
+    run: &Run,
+) -> Result<(), AllocError>
+    requires files { writing_of files.old.items
+        ≡ (names.now.output.now, selected_text inputs.now) ∷ [] }
+    requires signs { HasSigns inputs.now }
+    requires greatest { (E.meaning engine.now).signs ≡ signs_of inputs.now }
+    requires patterns { (E.meaning engine.now).patterns ≡ selected inputs.now }
+    requires account { account_of run.now ≡ selected_account inputs.now }
+    requires cells { TellsCells (Some (selected_cells inputs.now)) run.now }
+    ensures { OnOk result
+        (writing_of files.new.items ≡ selected_files (texts_of names.now) inputs.now) }
+{
+    push_pattmp(alloc, files, names.pattmp, engine, inputs)?;
+    push_cells(alloc, files, names.cells, run, inputs)?;
+    push_report(alloc, files, names.report, run, inputs)
+}
+
+/// Builds all that is written and printed, after the run over an engine.
+fn make_files<'a, E: Engine>(
+    alloc: Global,
+    names: &Names<'a>,
+    inputs: &Inputs,
+    engine: &E,
+    run: &Run,
+) -> Result<Outputs<'a>, AllocError>
+    requires signs { HasSigns inputs.now }
+    requires greatest { (E.meaning engine.now).signs ≡ signs_of inputs.now }
+    requires patterns { (E.meaning engine.now).patterns ≡ selected inputs.now }
+    requires selected { run.now.patterns ≡ selected inputs.now }
+    requires pattern_signs { SignsUpTo (signs_of inputs.now) run.now.patterns }
+    requires account { account_of run.now ≡ selected_account inputs.now }
+    requires begun { run.now.begun ≡ passes_begun inputs.now }
+    requires cells { TellsCells (Some (selected_cells inputs.now)) run.now }
+    ensures files { IfOk result (λ made.
+        writing_of made.files.items ≡ selected_files (texts_of names.now) inputs.now) }
+    ensures lines { IfOk result (λ made. made.lines.items ≡ selected_lines inputs.now) }
+{
+    let mut files = Vec::new(alloc);
+    let lines = push_patterns(alloc, &mut files, names.output, run, inputs)?;
+    push_others(alloc, &mut files, names, inputs, engine, run)?;
+    Ok(Outputs { files, lines })
+}
+
+/// Does the run of the inputs over the packed engine, and builds all that `generate` writes and
+/// prints. The observer is told of the passes.
+pub fn make_outputs<'a, W: Watch>(
+    alloc: Global,
+    names: &Names<'a>,
+    inputs: &Inputs,
+    watch: &W,
+) -> Result<Outputs<'a>, AllocError>
+    requires { HasSigns inputs.now }
+    ensures files { IfOk result (λ made.
+        writing_of made.files.items ≡ selected_files (texts_of names.now) inputs.now) }
+    ensures lines { IfOk result (λ made. made.lines.items ≡ selected_lines inputs.now) }
+{
+    watch.selects(names.patterns, &inputs.params, &inputs.start);
+    let engine = PackedEngine::new(alloc, inputs.table.letters() + 1, &inputs.start)?;
+    let mut engine = Watched::new(engine, &inputs.params, watch);
+    let outputs = run_files(alloc, names, inputs, &mut engine);
+    drop(engine);
+    outputs
+}
+
+/// Does the run over an engine that was just made, and builds all that `generate` writes and
+/// prints.
+fn run_files<'a, E: Engine>(
+    alloc: Global,
+    names: &Names<'a>,
+    inputs: &Inputs,
+    engine: &mut E,
+) -> Result<Outputs<'a>, AllocError>
+    requires new { E.meaning engine.old
+        ≡ new_engine (signs_of inputs.now) inputs.now.start (E.meaning engine.old).families }
+    requires families { (E.meaning engine.old).families
+        ≡ Some (pattern_families (signs_of inputs.now) inputs.now.start) }
+    requires signs { HasSigns inputs.now }
+    ensures files { IfOk result (λ made.
+        writing_of made.files.items ≡ selected_files (texts_of names.now) inputs.now) }
+    ensures lines { IfOk result (λ made. made.lines.items ≡ selected_lines inputs.now) }
+{
+    let run = select(alloc, engine, inputs)?;
+    make_files(alloc, names, inputs, engine, &run)
+}

@@ -1,0 +1,86 @@
+//! `pack`: patterns as a packed table.
+ghost use Rattle.std.specs.Prelude.{◌≡◌, IfOk, IfErr, IfSome, Some};
+ghost use Rattle.pg_outside.specs.Content.{KeepsHeld, file_at};
+ghost use Rattle.pg_outside.specs.Faults.{NoneFell};
+ghost use Rattle.pg_top.specs.Calls.{outcome_of, reads_of, writes_of};
+ghost use Rattle.pg_top.specs.Counted.{MakesCalls, read_calls, IsCounted};
+ghost use Rattle.pg_top.specs.Outcomes.{Ends};
+ghost use Rattle.pg_top.specs.declared.answers.Status.TheVariants.{Done};
+ghost use Rattle.pg_top.specs.Promises.{PackKeeps, IsPromised};
+ghost use Rattle.pg_words.specs.Requests.{ToPack};
+ghost use Rattle.pg_top.specs.Inside.Stops.{StopsCommand};
+ghost use Rattle.pg_top.specs.pack.Inside.Inputs.{pack_of};
+ghost use Rattle.pg_top.specs.Writings.{written_names, writing_of};
+ghost use Rattle.pg_top.specs.Answers.{IsCall};
+
+mod inputs;
+mod outputs;
+
+use crate::answers::Status;
+use crate::inputs::Stop;
+use crate::pack::inputs::read_source;
+use crate::pack::outputs::make_table;
+use crate::puts::put_stop;
+use crate::writes::{Outputs, finish};
+use pg_outside::{Files, Sink};
+use pg_watch::Watch;
+use std::alloc::Global;
+
+/// The names that `pack` is given.
+#[derive(Clone, Copy)]
+pub struct PackNames<'a> {
+    /// The patterns.
+    pub patterns: &'a str,
+    /// The translate file.
+    pub translate: &'a str,
+    /// Where the table is written.
+    pub table: &'a str,
+}
+
+/// Reads what `pack` reads, and builds all that it writes and prints.
+pub fn pack_files<'a, F: Files, W: Watch>(
+    alloc: Global,
+    names: &PackNames<'a>,
+    files: &mut F,
+    watch: &W,
+) -> Result<Outputs<'a>, Stop<'a>>
+    ensures held { KeepsHeld (F.shown files.old).held (F.shown files.new).held }
+    ensures writes { NoneFell (F.shown files.old).write_faults (F.shown files.new).write_faults }
+    ensures ok { IfOk result (λ made. IfSome (F.shown files.new).held (λ files.
+        outcome_of (file_at files) (ToPack (pack_of names.now))
+        ≡ Ends Done (writing_of made.files.items) made.lines.items)) }
+    ensures named { IfOk result (λ made. written_names (writing_of made.files.items)
+        ≡ writes_of (ToPack (pack_of names.now))) }
+    ensures kept { IfOk result (λ _. IfSome (F.shown files.new).held (λ files.
+        PackKeeps (file_at files) (pack_of names.now))) }
+    ensures counted { IfOk result (λ _. MakesCalls (F.shown files.old) (F.shown files.new)
+        (read_calls (reads_of (ToPack (pack_of names.now))))) }
+    ensures stopped { IfErr result (StopsCommand (ToPack (pack_of names.now))
+        (F.shown files.old) (F.shown files.new)) }
+{
+    let source = read_source(alloc, names, files, watch)?;
+    let outputs = make_table(alloc, names.table, &source, watch);
+    drop(source);
+    Ok(outputs?)
+}
+
+/// Writes the packed table of patterns.
+pub fn pack<F: Files, O: Sink, W: Watch>(
+    alloc: Global,
+    names: &PackNames<'_>,
+    files: &mut F,
+    out: &mut O,
+    watch: &W,
+) -> Status
+    ensures call { IsCall (Some (ToPack (pack_of names.now))) result
+        (F.shown files.old, O.shown out.old) (F.shown files.new, O.shown out.new) }
+    ensures counted { IsCounted (ToPack (pack_of names.now)) result
+        (F.shown files.old, O.shown out.old) (F.shown files.new, O.shown out.new) }
+    ensures promised { IsPromised (Some (ToPack (pack_of names.now))) result
+        (F.shown files.old, O.shown out.old) (F.shown files.new, O.shown out.new) }
+{
+    match pack_files(alloc, names, files, watch) {
+        Ok(outputs) => finish(files, out, &outputs, watch),
+        Err(stop) => put_stop(alloc, out, &stop, watch),
+    }
+}

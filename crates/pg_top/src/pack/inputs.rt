@@ -1,0 +1,52 @@
+//! What `pack` reads.
+ghost use Rattle.std.specs.Prelude.{◌+◌, IfOk, IfErr, IfSome};
+ghost use Rattle.pg_outside.specs.Content.{KeepsHeld, file_at};
+ghost use Rattle.pg_outside.specs.Faults.{NoneFell};
+ghost use Rattle.pg_patterns.specs.Values.{SignsUpTo};
+ghost use Rattle.pg_translate.specs.Alphabets.{letters_of};
+ghost use Rattle.pg_top.specs.Counted.{MakesCalls, read_calls};
+ghost use Rattle.pg_top.specs.pack.Packed.{packing_reads};
+ghost use Rattle.pg_top.specs.pack.Inside.Inputs.{pack_of, HasSource};
+ghost use Rattle.pg_top.specs.Inside.Stops.{StopsReading};
+
+use crate::inputs::Stop;
+use crate::pack::PackNames;
+use crate::reading::{read_start, read_table};
+use pg_outside::Files;
+use pg_patterns::PatternSet;
+use pg_translate::Table;
+use pg_watch::Watch;
+use std::alloc::Global;
+
+/// What `pack` reads.
+#[derive(Drop)]
+pub struct Source {
+    /// The table of the translate file.
+    pub table: Table,
+    /// The patterns.
+    pub patterns: PatternSet,
+}
+
+/// Reads what `pack` reads, in its order, up to the first refusal or fault.
+pub fn read_source<'a, F: Files, W: Watch>(
+    alloc: Global,
+    names: &PackNames<'a>,
+    files: &mut F,
+    watch: &W,
+) -> Result<Source, Stop<'a>>
+    ensures held { KeepsHeld (F.shown files.old).held (F.shown files.new).held }
+    ensures writes { NoneFell (F.shown files.old).write_faults (F.shown files.new).write_faults }
+    ensures ok { IfOk result (λ source. IfSome (F.shown files.new).held (λ files.
+        HasSource (file_at files) (pack_of names.now) source)) }
+    ensures known { IfOk result
+        (λ source. SignsUpTo (letters_of source.table + 1) source.patterns) }
+    ensures stopped { IfErr result
+        (StopsReading (packing_reads (pack_of names.now))
+        (F.shown files.old) (F.shown files.new)) }
+    ensures counted { IfOk result (λ _. MakesCalls (F.shown files.old) (F.shown files.new)
+        (read_calls (packing_reads (pack_of names.now)))) }
+{
+    let table = read_table(alloc, names.translate, files, watch)?;
+    let patterns = read_start(alloc, &table, names.patterns, files, watch)?;
+    Ok(Source { table, patterns })
+}

@@ -1,0 +1,62 @@
+//! What `prune` reads.
+ghost use Rattle.std.specs.Prelude.{IfOk, IfErr, IfSome};
+ghost use Rattle.pg_outside.specs.Content.{KeepsHeld, file_at};
+ghost use Rattle.pg_outside.specs.Faults.{NoneFell};
+ghost use Rattle.pg_top.specs.Counted.{MakesCalls, read_calls};
+ghost use Rattle.pg_top.specs.prune.Inside.Inputs.{prune_of, HasPrune, HasKnownSigns};
+ghost use Rattle.pg_top.specs.prune.Pruned.{prune_reads};
+ghost use Rattle.pg_top.specs.Inside.Stops.{StopsReading};
+
+use crate::inputs::Stop;
+use crate::prune::PruneNames;
+use crate::reading::{read_lists, read_table};
+use pg_dict::Dictionary;
+use pg_outside::Files;
+use pg_patterns::PatternSet;
+use pg_translate::Table;
+use pg_watch::Watch;
+use std::alloc::Global;
+
+/// What `prune` reads.
+#[derive(Drop)]
+pub struct PruneInputs {
+    /// The table of the translate file.
+    pub table: Table,
+    /// The patterns.
+    pub patterns: PatternSet,
+    /// The words.
+    pub dictionary: Dictionary,
+}
+
+/// Reads what `prune` reads, in its order, up to the first refusal or fault.
+pub fn read_prune<'a, F: Files, W: Watch>(
+    alloc: Global,
+    names: &PruneNames<'a>,
+    files: &mut F,
+    watch: &W,
+) -> Result<PruneInputs, Stop<'a>>
+    ensures held { KeepsHeld (F.shown files.old).held (F.shown files.new).held }
+    ensures writes { NoneFell (F.shown files.old).write_faults (F.shown files.new).write_faults }
+    ensures ok { IfOk result (λ inputs. IfSome (F.shown files.new).held (λ files.
+        HasPrune (file_at files) (prune_of names.now) inputs)) }
+    ensures known { IfOk result HasKnownSigns }
+    ensures stopped { IfErr result
+        (StopsReading (prune_reads (prune_of names.now)) (F.shown files.old) (F.shown files.new)) }
+    ensures counted { IfOk result (λ _. MakesCalls (F.shown files.old) (F.shown files.new)
+        (read_calls (prune_reads (prune_of names.now)))) }
+{
+    let table = read_table(alloc, names.translate, files, watch)?;
+    let (patterns, dictionary) = read_lists(
+        alloc,
+        &table,
+        names.patterns,
+        names.dict,
+        files,
+        watch,
+    )?;
+    Ok(PruneInputs {
+        table,
+        patterns,
+        dictionary,
+    })
+}

@@ -1,0 +1,117 @@
+//! What `prune` writes and prints.
+ghost use Rattle.std.specs.Prelude.{◌≡◌, ◌+◌, ◌∷◌, [], IfOk, OnOk};
+ghost use Rattle.pg_patterns.specs.Values.{SignsUpTo};
+ghost use Rattle.pg_translate.specs.Alphabets.{letters_of};
+ghost use Rattle.pg_prune.specs.Prunes.{pruned as pruned_found};
+ghost use Rattle.pg_select.specs.CountedPositions.{minima_of};
+ghost use Rattle.pg_top.specs.Promises.{ReadsBack};
+ghost use Rattle.pg_top.specs.Outcomes.{Ends};
+ghost use Rattle.pg_top.specs.prune.Inside.Inputs.{prune_of, HasKnownSigns};
+ghost use Rattle.pg_top.specs.prune.Pruned.{pruned_files, line_of_pruned, pruned_by, pruned_line as pruned_line_of};
+ghost use Rattle.pg_top.specs.Writings.{written_names, writing_of};
+ghost use Rattle.pg_top.specs.declared.answers.Status.TheVariants.{Done};
+ghost use Rattle.pg_types.specs.Lines.{lines};
+
+use crate::printed::push_number;
+use crate::prune::PruneNames;
+use crate::prune::inputs::PruneInputs;
+use crate::writes::{Output, Outputs};
+use pg_prune::{Pruned, Rounds, prune_text, prune_watched};
+use pg_translate::Table;
+use pg_watch::Watch;
+use std::alloc::{AllocError, Global};
+
+/// Tells an observer of a call where a round begins.
+#[derive(Drop)]
+struct Told<'a, W> {
+    watch: &'a W,
+}
+
+impl<'a, W: Watch> Rounds for Told<'a, W> {
+    fn begins(&self, round: u64) {
+        self.watch.round(round);
+    }
+}
+
+/// The line where `prune` is done: how many rounds were made, and how many entries were taken out
+/// and stay.
+pub fn pruned_line(
+    alloc: Global,
+    rounds: u64,
+    removed: u64,
+    kept: u64,
+) -> Result<Vec<u8>, AllocError>
+    ensures { IfOk result (λ line. line.items ≡ pruned_line_of rounds removed kept) }
+{
+    let mut line = Vec::new(alloc);
+    begin_pruned(&mut line, rounds, removed, kept)?;
+    Ok(line)
+}
+
+/// Puts that line into an empty text.
+fn begin_pruned(line: &mut Vec<u8>, rounds: u64, removed: u64, kept: u64) -> Result<(), AllocError>
+    requires { line.old.items ≡ [] }
+    ensures { OnOk result (line.new.items ≡ pruned_line_of rounds removed kept) }
+{
+    push_number(line, b"done: ", rounds)?;
+    push_number(line, b" rounds, ", removed)?;
+    push_number(line, b" removed, ", kept)?;
+    line.extend_from_slice(b" kept\n")
+}
+
+/// What `prune` writes and prints, where pruning comes to this.
+fn write_pruned<'a>(
+    alloc: Global,
+    names: &PruneNames<'a>,
+    table: &Table,
+    pruned: &Pruned,
+) -> Result<Outputs<'a>, AllocError>
+    requires { SignsUpTo (letters_of table.now + 1) pruned.now.patterns }
+    ensures files { IfOk result (λ made.
+        writing_of made.files.items ≡ pruned_files (prune_of names.now) table.now pruned.now) }
+    ensures lines { IfOk result (λ made. made.lines.items ≡ line_of_pruned pruned.now) }
+    ensures reads_back { IfOk result (λ _. ReadsBack table.now pruned.now.patterns) }
+{
+    let kept = pruned.patterns();
+    let text = kept.text(alloc, table)?;
+    let report = prune_text(alloc, table, pruned)?;
+    let lines = pruned_line(alloc, pruned.rounds(), pruned.removed(), kept.len() as u64)?;
+    let mut files = Vec::new(alloc);
+    files.push(Output {
+        name: names.output,
+        text,
+    })?;
+    files.push(Output {
+        name: names.report,
+        text: report,
+    })?;
+    Ok(Outputs { files, lines })
+}
+
+/// Prunes, and builds all that `prune` writes and prints.
+pub fn make_prune<'a, W: Watch>(
+    alloc: Global,
+    names: &PruneNames<'a>,
+    inputs: &PruneInputs,
+    watch: &W,
+) -> Result<Outputs<'a>, AllocError>
+    requires { HasKnownSigns inputs.now }
+    ensures made { IfOk result (λ made.
+        pruned_by (prune_of names.now) inputs.now.table inputs.now.dictionary inputs.now.patterns
+        ≡ Ends Done (writing_of made.files.items) made.lines.items) }
+    ensures named { IfOk result (λ made.
+        written_names (writing_of made.files.items)
+        ≡ names.now.output.now ∷ names.now.report.now ∷ []) }
+    ensures reads_back { IfOk result (λ _. ReadsBack inputs.now.table
+        (pruned_found (minima_of inputs.now.table)
+        inputs.now.dictionary inputs.now.patterns).patterns) }
+{
+    let pruned = prune_watched(
+        alloc,
+        &inputs.dictionary,
+        &inputs.table,
+        &inputs.patterns,
+        &Told { watch },
+    )?;
+    write_pruned(alloc, names, &inputs.table, &pruned)
+}

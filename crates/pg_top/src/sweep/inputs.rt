@@ -1,0 +1,66 @@
+//! What `sweep` reads.
+ghost use Rattle.std.specs.Prelude.{◌≤◌, length, IfOk, IfErr, IfSome};
+ghost use Rattle.pg_outside.specs.Content.{KeepsHeld, file_at};
+ghost use Rattle.pg_outside.specs.Faults.{NoneFell};
+ghost use Rattle.pg_words.specs.Commands.{sweep_of, KeepsSweepLimits};
+ghost use Rattle.pg_top.specs.Counted.{MakesCalls, read_calls};
+ghost use Rattle.pg_top.specs.Inside.Stops.{StopsReading};
+ghost use Rattle.pg_top.specs.sweep.Inside.Inputs.{terms_of, HasSigns};
+ghost use Rattle.pg_top.specs.sweep.Swept.{sweep_reads, HasSweep};
+
+use crate::inputs::Stop;
+use crate::reading::{read_lists, read_table};
+use crate::sweep::sets::read_sets;
+use pg_dict::Dictionary;
+use pg_outside::Files;
+use pg_patterns::PatternSet;
+use pg_translate::Table;
+use pg_types::Params;
+use pg_watch::Watch;
+use pg_words::SweepWords;
+use std::alloc::Global;
+
+/// What `sweep` reads.
+#[derive(Drop)]
+pub struct SweepInputs {
+    /// The table of the translate file.
+    pub table: Table,
+    /// The sets of parameters.
+    pub sets: Vec<Params>,
+    /// The starting patterns.
+    pub start: PatternSet,
+    /// The words.
+    pub dictionary: Dictionary,
+}
+
+/// Reads what `sweep` reads, in its order, up to the first refusal or fault.
+pub fn read_sweep<'a, F: Files, W: Watch>(
+    alloc: Global,
+    words: &SweepWords<'a>,
+    files: &mut F,
+    watch: &W,
+) -> Result<SweepInputs, Stop<'a>>
+    requires { KeepsSweepLimits words.now }
+    ensures held { KeepsHeld (F.shown files.old).held (F.shown files.new).held }
+    ensures writes { NoneFell (F.shown files.old).write_faults (F.shown files.new).write_faults }
+    ensures ok { IfOk result (λ inputs. IfSome (F.shown files.new).held (λ files.
+        HasSweep (file_at files) (sweep_of words.now)
+        (terms_of words.now.folds inputs) inputs.sets.items)) }
+    ensures signs { IfOk result HasSigns }
+    ensures count { IfOk result
+        (λ inputs. (1 ≤ length inputs.sets.items) × (length inputs.sets.items ≤ 16)) }
+    ensures stopped { IfErr result
+        (StopsReading (sweep_reads (sweep_of words.now)) (F.shown files.old) (F.shown files.new)) }
+    ensures counted { IfOk result (λ _. MakesCalls (F.shown files.old) (F.shown files.new)
+        (read_calls (sweep_reads (sweep_of words.now)))) }
+{
+    let table = read_table(alloc, words.translate, files, watch)?;
+    let sets = read_sets(alloc, words.params, files, watch)?;
+    let (start, dictionary) = read_lists(alloc, &table, words.patterns, words.dict, files, watch)?;
+    Ok(SweepInputs {
+        table,
+        sets,
+        start,
+        dictionary,
+    })
+}

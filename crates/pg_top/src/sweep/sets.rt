@@ -1,0 +1,46 @@
+//! The parameter files of `sweep`, read one after the other.
+ghost use Rattle.std.specs.Prelude.{◌≡◌, ◌≤◌, length, IfOk, IfErr, IfSome};
+ghost use Rattle.pg_outside.specs.Content.{KeepsHeld, file_at};
+ghost use Rattle.pg_outside.specs.Faults.{NoneFell};
+ghost use Rattle.pg_words.specs.Commands.{words_of};
+ghost use Rattle.pg_top.specs.Counted.{MakesCalls, read_calls};
+ghost use Rattle.pg_top.specs.Inside.Stops.{StopsReading};
+ghost use Rattle.pg_top.specs.sweep.Swept.{set_files, HasSets};
+
+use crate::inputs::{Input, Stop};
+use crate::reading::read_parameters;
+use pg_outside::Files;
+use pg_types::Params;
+use pg_watch::Watch;
+use std::alloc::Global;
+
+/// Reads the files of these names one after the other, up to the first refusal or fault.
+pub fn read_sets<'a, F: Files, W: Watch>(
+    alloc: Global,
+    names: &'a [String],
+    files: &mut F,
+    watch: &W,
+) -> Result<Vec<Params>, Stop<'a>>
+    requires { length names.now ≤ 16 }
+    ensures held { KeepsHeld (F.shown files.old).held (F.shown files.new).held }
+    ensures reads { NoneFell (F.shown files.old).read_faults (F.shown files.new).read_faults }
+    ensures writes { NoneFell (F.shown files.old).write_faults (F.shown files.new).write_faults }
+    ensures ok { IfOk result (λ sets. IfSome (F.shown files.new).held (λ files.
+        HasSets (file_at files) (words_of names.now) sets.items)) }
+    ensures count { IfOk result (λ sets. length sets.items ≡ length names.now) }
+    ensures counted { IfOk result (λ _. MakesCalls (F.shown files.old) (F.shown files.new)
+        (read_calls (set_files 1 (words_of names.now)))) }
+    ensures stopped { IfErr result
+        (StopsReading (set_files 1 (words_of names.now)) (F.shown files.old) (F.shown files.new)) }
+{
+    let mut sets = Vec::new(alloc);
+    'sets: for i in 0..names.len() {
+        let name = names[i].as_str();
+        let set = read_parameters(alloc, Input::Set(i as u8 + 1), name, files, watch)?;
+        match sets.push(set) {
+            Ok(()) => {}
+            Err(_) => return Err(Stop::Memory),
+        }
+    }
+    Ok(sets)
+}

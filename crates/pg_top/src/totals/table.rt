@@ -1,0 +1,99 @@
+//! A packed table that is read, and the totals by it.
+ghost use Rattle.std.specs.Prelude.{◌≡◌, ◌+◌, IfOk, IfErr, IfSome, [], ◌∷◌};
+ghost use Rattle.pg_dict.specs.Word.{SignsAtMost};
+ghost use Rattle.pg_driver.specs.Sound.{IsSmall};
+ghost use Rattle.pg_outside.specs.Content.{KeepsHeld, file_at};
+ghost use Rattle.pg_outside.specs.FilesCalls.{Reads};
+ghost use Rattle.pg_texts.specs.ReportTexts.{ending_text};
+ghost use Rattle.pg_translate.specs.Alphabets.{letters_of};
+ghost use Rattle.pg_top.specs.Counted.{MakesCalls};
+ghost use Rattle.pg_top.specs.totals.Totalled.{packed_table};
+ghost use Rattle.pg_top.specs.pack.Packed.{table_refused};
+ghost use Rattle.pg_top.specs.Readings.{input_file};
+ghost use Rattle.pg_top.specs.totals.Inside.Inputs.{IsTotalled};
+ghost use Rattle.pg_top.specs.Inside.Stops.{StopsAt};
+
+use crate::inputs::{Input, Stop};
+use crate::reading::read_front;
+use pg_dict::Dictionary;
+use pg_outside::Files;
+use pg_table::{TABLE_MAX, TableView, table_totals};
+use pg_texts::push_ending;
+use pg_translate::Table;
+use pg_types::{Kind, Refusal, Totals};
+use pg_watch::{Refused, Watch};
+use std::alloc::{AllocError, Global};
+
+/// The refusal of a packed table, which has no place.
+fn refused(kind: Kind) -> Refusal
+    ensures { result ≡ table_refused kind }
+{
+    Refusal {
+        kind,
+        line: 0,
+        column: 0,
+    }
+}
+
+/// The packed table in these bytes for the letters of a table, or why it is refused.
+fn open_table<'a>(bytes: &'a [u8], table: &Table) -> Result<TableView<'a>, Refusal>
+    ensures { result ≡ packed_table table.now bytes.now }
+{
+    if bytes.len() > TABLE_MAX {
+        return Err(refused(Kind::TableTooLong));
+    }
+    let Some(view) = TableView::read(bytes) else {
+        return Err(refused(Kind::BadTable));
+    };
+    if view.signs() == table.letters() + 1 {
+        Ok(view)
+    } else {
+        Err(refused(Kind::OtherTable))
+    }
+}
+
+/// The line of totals, and that of the rates.
+fn total_lines(alloc: Global, totals: &Totals) -> Result<Vec<u8>, AllocError>
+    requires { IsSmall totals.now }
+    ensures { IfOk result (λ lines. lines.items ≡ ending_text totals.now) }
+{
+    let mut lines = Vec::new(alloc);
+    push_ending(&mut lines, totals)?;
+    Ok(lines)
+}
+
+/// Reads a packed table and gives the lines of the totals of the words by it.
+pub fn total_by<'a, F: Files, W: Watch>(
+    alloc: Global,
+    table: &Table,
+    dictionary: &Dictionary,
+    name: &'a str,
+    files: &mut F,
+    watch: &W,
+) -> Result<Vec<u8>, Stop<'a>>
+    requires { SignsAtMost (letters_of table.now + 1) dictionary.now }
+    ensures held { KeepsHeld (F.shown files.old).held (F.shown files.new).held }
+    ensures calls { MakesCalls (F.shown files.old) (F.shown files.new) (Reads name.now ∷ []) }
+    ensures ok { IfOk result (λ lines. IfSome (F.shown files.new).held (λ files.
+        IsTotalled table.now dictionary.now (file_at files) name.now lines.items)) }
+    ensures stopped { IfErr result
+        (StopsAt (input_file Input.Table name.now (λ _. packed_table table.now))
+        (F.shown files.old) (F.shown files.new)) }
+{
+    let bytes = read_front(alloc, name, TABLE_MAX, files, watch)?;
+    match open_table(&bytes, table) {
+        Ok(view) => {
+            let lines = total_lines(alloc, &table_totals(&view, dictionary, table))?;
+            Ok(lines)
+        }
+        Err(refusal) => {
+            watch.refuses(&Refused {
+                name,
+                bytes: &bytes,
+                refusal,
+                letters: Some(table),
+            });
+            Err(Stop::Refused(Input::Table, refusal))
+        }
+    }
+}
