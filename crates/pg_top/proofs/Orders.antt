@@ -9,11 +9,11 @@ use Rattle.pg_outside.specs.Faults.{NoneFell}
 use Rattle.pg_top.specs.Counted.{MakesCalls, read_call, read_calls, ReadsUpTo}
 use Rattle.pg_top.specs.Outcomes.{Outcome, Unknown, refuses}
 use Rattle.pg_top.specs.Readings.{Held, Reading, first_end}
-use Rattle.pg_top.specs.Inside.Stops.{StopsAt, StopsWith, StopsReading}
+use Rattle.pg_top.specs.Inside.Stops.{OnlyReads, StopsAt, StopsWith, StopsReading}
 use Rattle.pg_top.specs.declared.inputs.Stop.{Stop}
 use Rattle.pg_top.specs.declared.inputs.Stop.TheVariants.{Refused, Unread, Memory}
 use Rattle.pg_top.proofs.CountedCalls.{calls_on, calls_are, up_to_all}
-use Rattle.pg_top.proofs.Faults.{rose_since}
+use Rattle.pg_top.proofs.Faults.{rose_since, none_fell}
 
 -- a file that is held and does not end the call, and all files of a list
 abbrev pub IsAccepted : Held → Reading → Type 0
@@ -213,3 +213,14 @@ kept_self (Some files) = refl
 pub kept_on : (a b c : Option FileMap) → KeepsHeld a b → KeepsHeld b c → KeepsHeld a c
 kept_on a b None k l = tt
 kept_on a b (Some files) k l = subst (λ held. IfSome held (λ files. a ≡ Some files)) l k
+
+-- files that are only read, once and then again
+pub only_self : (s : FilesShown) → OnlyReads s s
+only_self s = record { held = kept_self s.held; reads = λ name. omega arith; writes = λ name. omega arith }
+
+pub only_on : (s0 s1 s2 : FilesShown) → OnlyReads s0 s1 → OnlyReads s1 s2 → OnlyReads s0 s2
+only_on s0 s1 s2 first then = record {
+  held = kept_on s0.held s1.held s2.held first.held then.held;
+  reads = none_fell s0.read_faults s1.read_faults s2.read_faults first.reads then.reads;
+  writes = none_fell s0.write_faults s1.write_faults s2.write_faults first.writes then.writes;
+}

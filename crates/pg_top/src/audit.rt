@@ -1,11 +1,11 @@
 //! `audit`: given files, which are compared with those that `generate` would write.
 ghost use Rattle.std.specs.Prelude.{◌≡◌, IfOk, IfErr, IfSome, Some};
-ghost use Rattle.pg_outside.specs.Content.{KeepsHeld, file_at};
+ghost use Rattle.pg_outside.specs.Content.{file_at};
 ghost use Rattle.pg_outside.specs.Faults.{next_count};
 ghost use Rattle.pg_top.specs.Calls.{outcome_of, reads_of};
 ghost use Rattle.pg_words.specs.Commands.{texts_of};
 ghost use Rattle.pg_words.specs.Requests.{ToAudit};
-ghost use Rattle.pg_top.specs.Inside.Stops.{StopsReading};
+ghost use Rattle.pg_top.specs.Inside.Stops.{OnlyReads, StopsReading};
 ghost use Rattle.pg_top.specs.audit.Inside.Verdicts.{outcome_by, ReadsToFind, PutsVerdict};
 ghost use Rattle.pg_top.specs.Answers.{IsCall};
 ghost use Rattle.pg_top.specs.Counted.{IsCounted};
@@ -35,7 +35,7 @@ pub fn audit_files<'a, F: Files, W: Watch>(
     files: &mut F,
     watch: &W,
 ) -> Result<Verdict, Stop<'a>>
-    ensures held { KeepsHeld (F.shown files.old).held (F.shown files.new).held }
+    ensures only { OnlyReads (F.shown files.old) (F.shown files.new) }
     ensures ok { IfOk result (λ verdict. IfSome (F.shown files.new).held (λ files.
         outcome_of (file_at files) (ToAudit (texts_of names.now)) ≡ outcome_by verdict)) }
     ensures counted { IfOk result (λ verdict.

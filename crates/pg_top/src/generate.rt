@@ -1,14 +1,13 @@
 //! `generate`: the patterns that a selection finds, and what is told of them.
 ghost use Rattle.std.specs.Prelude.{◌≡◌, IfOk, IfErr, IfSome, Some};
-ghost use Rattle.pg_outside.specs.Content.{KeepsHeld, file_at};
-ghost use Rattle.pg_outside.specs.Faults.{NoneFell};
+ghost use Rattle.pg_outside.specs.Content.{file_at};
 ghost use Rattle.pg_top.specs.Answers.{IsCall};
 ghost use Rattle.pg_top.specs.Calls.{outcome_of, reads_of, writes_of};
 ghost use Rattle.pg_words.specs.Commands.{texts_of};
 ghost use Rattle.pg_top.specs.Counted.{MakesCalls, read_calls, IsCounted};
 ghost use Rattle.pg_top.specs.Outcomes.{Ends};
 ghost use Rattle.pg_words.specs.Requests.{ToGenerate};
-ghost use Rattle.pg_top.specs.Inside.Stops.{StopsReading};
+ghost use Rattle.pg_top.specs.Inside.Stops.{OnlyReads, StopsReading};
 ghost use Rattle.pg_top.specs.Writings.{written_names, writing_of};
 
 mod inputs;
@@ -32,9 +31,7 @@ fn prepare<'a, F: Files, W: Watch>(
     files: &mut F,
     watch: &W,
 ) -> Result<Outputs<'a>, Stop<'a>>
-    ensures held { KeepsHeld (F.shown files.old).held (F.shown files.new).held }
-    ensures reads { NoneFell (F.shown files.old).read_faults (F.shown files.new).read_faults }
-    ensures writes { NoneFell (F.shown files.old).write_faults (F.shown files.new).write_faults }
+    ensures only { OnlyReads (F.shown files.old) (F.shown files.new) }
     ensures ok { IfOk result (λ made. IfSome (F.shown files.new).held (λ files.
         outcome_of (file_at files) (ToGenerate (texts_of names.now))
         ≡ Ends Status.Done (writing_of made.files.items) made.lines.items)) }

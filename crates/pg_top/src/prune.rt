@@ -1,14 +1,13 @@
 //! `prune`: the patterns that a dictionary needs.
 ghost use Rattle.std.specs.Prelude.{◌≡◌, IfOk, IfErr, IfSome, Some};
-ghost use Rattle.pg_outside.specs.Content.{KeepsHeld, file_at};
-ghost use Rattle.pg_outside.specs.Faults.{NoneFell};
+ghost use Rattle.pg_outside.specs.Content.{file_at};
 ghost use Rattle.pg_top.specs.Calls.{outcome_of, reads_of, writes_of};
 ghost use Rattle.pg_top.specs.Counted.{MakesCalls, read_calls, IsCounted};
 ghost use Rattle.pg_top.specs.Promises.{PruneKeeps, IsPromised};
 ghost use Rattle.pg_top.specs.Outcomes.{Ends};
 ghost use Rattle.pg_top.specs.prune.Inside.Inputs.{prune_of};
 ghost use Rattle.pg_words.specs.Requests.{ToPrune};
-ghost use Rattle.pg_top.specs.Inside.Stops.{StopsCommand};
+ghost use Rattle.pg_top.specs.Inside.Stops.{OnlyReads, StopsCommand};
 ghost use Rattle.pg_top.specs.Writings.{written_names, writing_of};
 ghost use Rattle.pg_top.specs.declared.answers.Status.TheVariants.{Done};
 ghost use Rattle.pg_top.specs.Answers.{IsCall};
@@ -48,8 +47,7 @@ pub fn prune_files<'a, F: Files, W: Watch>(
     files: &mut F,
     watch: &W,
 ) -> Result<Outputs<'a>, Stop<'a>>
-    ensures held { KeepsHeld (F.shown files.old).held (F.shown files.new).held }
-    ensures writes { NoneFell (F.shown files.old).write_faults (F.shown files.new).write_faults }
+    ensures only { OnlyReads (F.shown files.old) (F.shown files.new) }
     ensures ok { IfOk result (λ made. IfSome (F.shown files.new).held (λ files.
         outcome_of (file_at files) (ToPrune (prune_of names.now))
         ≡ Ends Done (writing_of made.files.items) made.lines.items)) }

@@ -2,8 +2,7 @@
 ghost use Rattle.std.specs.Prelude.{◌≡◌, ◌+◌, ◌-◌, ◌<◌, ◌^◌, ℕ, List, [], ◌∷◌, take, IfOk, IfErr, IfSome, Some, Ok};
 ghost use Rattle.std.specs.Option.{option_map};
 ghost use Rattle.pg_types.specs.Parameters.{parameters};
-ghost use Rattle.pg_outside.specs.Content.{KeepsHeld, file_at};
-ghost use Rattle.pg_outside.specs.Faults.{NoneFell};
+ghost use Rattle.pg_outside.specs.Content.{file_at};
 ghost use Rattle.pg_outside.specs.FilesCalls.{Reads};
 ghost use Rattle.pg_translate.specs.Alphabets.{letters_of};
 ghost use Rattle.pg_translate.specs.Tables.{table as table_of_file};
@@ -14,7 +13,7 @@ ghost use Rattle.pg_patterns.specs.Values.{SignsUpTo};
 ghost use Rattle.pg_top.specs.Counted.{MakesCalls};
 ghost use Rattle.pg_top.specs.Readings.{read_as, input_file};
 ghost use Rattle.pg_top.specs.Inside.Lists.{lists_under, HasLists};
-ghost use Rattle.pg_top.specs.Inside.Stops.{stop_of, StopsFront, StopsAt, StopsReading};
+ghost use Rattle.pg_top.specs.Inside.Stops.{OnlyReads, stop_of, StopsFront, StopsAt, StopsReading};
 
 use crate::inputs::{Input, Stop};
 use pg_dict::Dictionary;
@@ -34,9 +33,7 @@ pub fn read_front<'a, F: Files, W: Watch>(
     watch: &W,
 ) -> Result<Vec<u8>, Stop<'a>>
     requires { limit < 2 ^ 64 - 1 }
-    ensures held { KeepsHeld (F.shown files.old).held (F.shown files.new).held }
-    ensures reads { NoneFell (F.shown files.old).read_faults (F.shown files.new).read_faults }
-    ensures writes { NoneFell (F.shown files.old).write_faults (F.shown files.new).write_faults }
+    ensures only { OnlyReads (F.shown files.old) (F.shown files.new) }
     ensures calls { MakesCalls (F.shown files.old) (F.shown files.new) (Reads name.now ∷ []) }
     ensures front { IfOk result (λ bytes.
         IfSome (F.shown files.new).held (λ files.
@@ -85,9 +82,7 @@ pub fn read_table<'a, F: Files, W: Watch>(
     files: &mut F,
     watch: &W,
 ) -> Result<Table, Stop<'a>>
-    ensures held { KeepsHeld (F.shown files.old).held (F.shown files.new).held }
-    ensures reads { NoneFell (F.shown files.old).read_faults (F.shown files.new).read_faults }
-    ensures writes { NoneFell (F.shown files.old).write_faults (F.shown files.new).write_faults }
+    ensures only { OnlyReads (F.shown files.old) (F.shown files.new) }
     ensures calls { MakesCalls (F.shown files.old) (F.shown files.new) (Reads name.now ∷ []) }
     ensures ok { IfOk result (λ table.
         IfSome (F.shown files.new).held (λ files.
@@ -114,9 +109,7 @@ pub fn read_parameters<'a, F: Files, W: Watch>(
     files: &mut F,
     watch: &W,
 ) -> Result<Params, Stop<'a>>
-    ensures held { KeepsHeld (F.shown files.old).held (F.shown files.new).held }
-    ensures reads { NoneFell (F.shown files.old).read_faults (F.shown files.new).read_faults }
-    ensures writes { NoneFell (F.shown files.old).write_faults (F.shown files.new).write_faults }
+    ensures only { OnlyReads (F.shown files.old) (F.shown files.new) }
     ensures calls { MakesCalls (F.shown files.old) (F.shown files.new) (Reads name.now ∷ []) }
     ensures ok { IfOk result (λ params.
         IfSome (F.shown files.new).held
@@ -140,9 +133,7 @@ pub fn read_start<'a, F: Files, W: Watch>(
     files: &mut F,
     watch: &W,
 ) -> Result<PatternSet, Stop<'a>>
-    ensures held { KeepsHeld (F.shown files.old).held (F.shown files.new).held }
-    ensures reads { NoneFell (F.shown files.old).read_faults (F.shown files.new).read_faults }
-    ensures writes { NoneFell (F.shown files.old).write_faults (F.shown files.new).write_faults }
+    ensures only { OnlyReads (F.shown files.old) (F.shown files.new) }
     ensures calls { MakesCalls (F.shown files.old) (F.shown files.new) (Reads name.now ∷ []) }
     ensures ok { IfOk result (λ patterns.
         IfSome (F.shown files.new).held (λ files.
@@ -170,9 +161,7 @@ pub fn read_dictionary<'a, F: Files, W: Watch>(
     files: &mut F,
     watch: &W,
 ) -> Result<Dictionary, Stop<'a>>
-    ensures held { KeepsHeld (F.shown files.old).held (F.shown files.new).held }
-    ensures reads { NoneFell (F.shown files.old).read_faults (F.shown files.new).read_faults }
-    ensures writes { NoneFell (F.shown files.old).write_faults (F.shown files.new).write_faults }
+    ensures only { OnlyReads (F.shown files.old) (F.shown files.new) }
     ensures calls { MakesCalls (F.shown files.old) (F.shown files.new) (Reads name.now ∷ []) }
     ensures ok { IfOk result (λ dictionary.
         IfSome (F.shown files.new).held (λ files.
@@ -201,9 +190,7 @@ pub fn read_lists<'a, F: Files, W: Watch>(
     files: &mut F,
     watch: &W,
 ) -> Result<(PatternSet, Dictionary), Stop<'a>>
-    ensures held { KeepsHeld (F.shown files.old).held (F.shown files.new).held }
-    ensures reads { NoneFell (F.shown files.old).read_faults (F.shown files.new).read_faults }
-    ensures writes { NoneFell (F.shown files.old).write_faults (F.shown files.new).write_faults }
+    ensures only { OnlyReads (F.shown files.old) (F.shown files.new) }
     ensures ok { IfOk result (λ lists. IfSome (F.shown files.new).held (λ files.
         HasLists (file_at files) table.now patterns.now dict.now lists.0 lists.1)) }
     ensures signs { IfOk result (λ lists. SignsUpTo (letters_of table.now + 1) lists.0

@@ -1,14 +1,13 @@
 //! `sweep`: the cheapest of several parameter files.
 ghost use Rattle.std.specs.Prelude.{◌≡◌, ◌≤◌, length, IfOk, IfErr, IfSome, Some};
-ghost use Rattle.pg_outside.specs.Content.{KeepsHeld, file_at};
-ghost use Rattle.pg_outside.specs.Faults.{NoneFell};
+ghost use Rattle.pg_outside.specs.Content.{file_at};
 ghost use Rattle.pg_top.specs.Calls.{outcome_of, reads_of, writes_of};
 ghost use Rattle.pg_words.specs.Commands.{sweep_of, KeepsSweepLimits};
 ghost use Rattle.pg_top.specs.Counted.{MakesCalls, read_calls, IsCounted};
 ghost use Rattle.pg_top.specs.Promises.{SweepNames, IsPromised};
 ghost use Rattle.pg_top.specs.Outcomes.{Ends};
 ghost use Rattle.pg_words.specs.Requests.{ToSweep};
-ghost use Rattle.pg_top.specs.Inside.Stops.{StopsCommand};
+ghost use Rattle.pg_top.specs.Inside.Stops.{OnlyReads, StopsCommand};
 ghost use Rattle.pg_top.specs.Writings.{written_names, writing_of};
 ghost use Rattle.pg_top.specs.declared.answers.Status.TheVariants.{Done};
 ghost use Rattle.pg_top.specs.Answers.{IsCall};
@@ -53,8 +52,7 @@ pub fn sweep_files<'a, F: Files, W: Watch>(
     watch: &W,
 ) -> Result<Outputs<'a>, Stop<'a>>
     requires { KeepsSweepLimits words.now }
-    ensures held { KeepsHeld (F.shown files.old).held (F.shown files.new).held }
-    ensures writes { NoneFell (F.shown files.old).write_faults (F.shown files.new).write_faults }
+    ensures only { OnlyReads (F.shown files.old) (F.shown files.new) }
     ensures ok { IfOk result (λ made. IfSome (F.shown files.new).held (λ files.
         outcome_of (file_at files) (ToSweep (sweep_of words.now))
         ≡ Ends Done (writing_of made.files.items) made.lines.items)) }

@@ -1,12 +1,12 @@
 //! `totals`: the totals of a dictionary by a packed table.
 ghost use Rattle.std.specs.Prelude.{◌≡◌, IfOk, IfErr, IfSome, Some, []};
-ghost use Rattle.pg_outside.specs.Content.{KeepsHeld, file_at};
+ghost use Rattle.pg_outside.specs.Content.{file_at};
 ghost use Rattle.pg_top.specs.Calls.{outcome_of, reads_of};
 ghost use Rattle.pg_top.specs.Counted.{MakesCalls, read_calls, IsCounted};
 ghost use Rattle.pg_top.specs.Outcomes.{Ends};
 ghost use Rattle.pg_top.specs.declared.answers.Status.TheVariants.{Done};
 ghost use Rattle.pg_words.specs.Requests.{ToTotals};
-ghost use Rattle.pg_top.specs.Inside.Stops.{StopsCommand};
+ghost use Rattle.pg_top.specs.Inside.Stops.{OnlyReads, StopsCommand};
 ghost use Rattle.pg_top.specs.totals.Inside.Inputs.{totals_of};
 ghost use Rattle.pg_top.specs.Answers.{IsCall};
 
@@ -39,7 +39,7 @@ pub fn total_files<'a, F: Files, W: Watch>(
     files: &mut F,
     watch: &W,
 ) -> Result<Vec<u8>, Stop<'a>>
-    ensures held { KeepsHeld (F.shown files.old).held (F.shown files.new).held }
+    ensures only { OnlyReads (F.shown files.old) (F.shown files.new) }
     ensures ok { IfOk result (λ lines. IfSome (F.shown files.new).held (λ files.
         outcome_of (file_at files) (ToTotals (totals_of names.now))
         ≡ Ends Done [] lines.items)) }

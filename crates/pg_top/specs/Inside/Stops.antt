@@ -3,8 +3,8 @@ use Rattle.std.specs.Prelude.{◌≡◌, ℕ, ◌+◌, List, [], take, Some, IfS
 use Rattle.std.specs.Option.{option_map}
 use Rattle.pg_types.specs.declared.refusals.ReadingError.{ReadingError}
 use Rattle.pg_types.specs.declared.refusals.ReadingError.TheVariants as reader
-use Rattle.pg_outside.specs.Content.{FilesShown, SinkShown, file_at}
-use Rattle.pg_outside.specs.Faults.{Rose}
+use Rattle.pg_outside.specs.Content.{FilesShown, SinkShown, KeepsHeld, file_at}
+use Rattle.pg_outside.specs.Faults.{Rose, NoneFell}
 use Rattle.pg_top.specs.Calls.{outcome_of, reads_of}
 use Rattle.pg_top.specs.Counted.{MakesCalls, MakesPuts, PutsFault, write_calls, ReadsUpTo, EndsAt}
 use Rattle.pg_top.specs.Moments.{Moment, Puts, PutsPart, PutRose, PutOrRose}
@@ -18,6 +18,12 @@ use Rattle.pg_top.specs.declared.answers.Status.TheVariants as status
 use Rattle.pg_top.specs.declared.inputs.Input.{Input}
 use Rattle.pg_top.specs.declared.inputs.Stop.{Stop}
 use Rattle.pg_top.specs.declared.inputs.Stop.TheVariants.{Refused, Unread, Memory}
+
+-- files were only read: they hold what they held, and no count of faults fell
+pub record OnlyReads (old new : FilesShown) : Type 0 where
+  pub held : KeepsHeld old.held new.held
+  pub reads : NoneFell old.read_faults new.read_faults
+  pub writes : NoneFell old.write_faults new.write_faults
 
 -- why reading one file stopped: it is refused, its read faults rose, or memory was short
 abbrev pub StopsAt : Reading → FilesShown → FilesShown → Stop → Type 0

@@ -2,13 +2,12 @@
 ghost use Rattle.std.specs.Prelude.{◌≡◌, [], ◌∷◌, ◌+◌, ◌-◌, ◌^◌, ◌<◌, length, slice_get, IfOk, IfErr, IfSome, Some};
 ghost use Rattle.std.specs.Option.{option_map};
 ghost use Rattle.pg_audit.specs.Differences.{first_false};
-ghost use Rattle.pg_outside.specs.Content.{KeepsHeld, file_at};
-ghost use Rattle.pg_outside.specs.Faults.{NoneFell};
+ghost use Rattle.pg_outside.specs.Content.{file_at};
 ghost use Rattle.pg_outside.specs.FilesCalls.{Reads};
 ghost use Rattle.pg_top.specs.audit.Audited.{denies};
 ghost use Rattle.pg_top.specs.Counted.{MakesCalls};
 ghost use Rattle.pg_top.specs.Readings.{first_end};
-ghost use Rattle.pg_top.specs.Inside.Stops.{StopsFront, StopsAt, StopsReading};
+ghost use Rattle.pg_top.specs.Inside.Stops.{OnlyReads, StopsFront, StopsAt, StopsReading};
 ghost use Rattle.pg_top.specs.audit.Inside.Verdicts.{wanted_file, wanted_files, end_of, ReadsToFind, IsFrontOf};
 
 use crate::audit::no_lines::no_line;
@@ -41,8 +40,7 @@ fn read_given<'a, F: Files, W: Watch>(
     watch: &W,
 ) -> Result<Vec<u8>, Stop<'a>>
     requires { size + MORE < 2 ^ 64 - 1 }
-    ensures held { KeepsHeld (F.shown files.old).held (F.shown files.new).held }
-    ensures reads { NoneFell (F.shown files.old).read_faults (F.shown files.new).read_faults }
+    ensures only { OnlyReads (F.shown files.old) (F.shown files.new) }
     ensures calls { MakesCalls (F.shown files.old) (F.shown files.new) (Reads name.now ∷ []) }
     ensures front { IfOk result (λ bytes.
         IfSome (F.shown files.new).held
@@ -88,8 +86,7 @@ fn compare_file<'a, F: Files, W: Watch>(
     files: &mut F,
     watch: &W,
 ) -> Result<Verdict, Stop<'a>>
-    ensures held { KeepsHeld (F.shown files.old).held (F.shown files.new).held }
-    ensures reads { NoneFell (F.shown files.old).read_faults (F.shown files.new).read_faults }
+    ensures only { OnlyReads (F.shown files.old) (F.shown files.new) }
     ensures calls { MakesCalls (F.shown files.old)
         (F.shown files.new) (Reads wanted.now.name.now ∷ []) }
     ensures ok { IfOk result (λ verdict. IfSome (F.shown files.new).held (λ files.
@@ -120,7 +117,7 @@ pub fn compare_all<'a, F: Files, W: Watch>(
     files: &mut F,
     watch: &W,
 ) -> Result<Verdict, Stop<'a>>
-    ensures held { KeepsHeld (F.shown files.old).held (F.shown files.new).held }
+    ensures only { OnlyReads (F.shown files.old) (F.shown files.new) }
     ensures ok { IfOk result (λ verdict. IfSome (F.shown files.new).held (λ files.
         first_end (file_at files) (wanted_files wanted.now) ≡ end_of verdict)) }
     ensures counted { IfOk result (λ verdict.

@@ -1,12 +1,11 @@
 //! What `generate` reads.
 ghost use Rattle.std.specs.Prelude.{IfOk, IfErr, IfSome};
-ghost use Rattle.pg_outside.specs.Content.{KeepsHeld, file_at};
-ghost use Rattle.pg_outside.specs.Faults.{NoneFell};
+ghost use Rattle.pg_outside.specs.Content.{file_at};
 ghost use Rattle.pg_words.specs.Commands.{texts_of};
 ghost use Rattle.pg_top.specs.Counted.{MakesCalls, read_calls};
 ghost use Rattle.pg_top.specs.generate.Generated.{inputs_of, HasInputs};
 ghost use Rattle.pg_top.specs.Selection.{HasSigns};
-ghost use Rattle.pg_top.specs.Inside.Stops.{StopsReading};
+ghost use Rattle.pg_top.specs.Inside.Stops.{OnlyReads, StopsReading};
 
 use crate::inputs::{Input, Stop};
 use crate::reading::{read_lists, read_parameters, read_table};
@@ -23,9 +22,7 @@ pub fn read_inputs<'a, F: Files, W: Watch>(
     files: &mut F,
     watch: &W,
 ) -> Result<Inputs, Stop<'a>>
-    ensures held { KeepsHeld (F.shown files.old).held (F.shown files.new).held }
-    ensures reads { NoneFell (F.shown files.old).read_faults (F.shown files.new).read_faults }
-    ensures writes { NoneFell (F.shown files.old).write_faults (F.shown files.new).write_faults }
+    ensures only { OnlyReads (F.shown files.old) (F.shown files.new) }
     ensures ok { IfOk result (λ inputs. IfSome (F.shown files.new).held (λ files.
         HasInputs (file_at files) (texts_of names.now) inputs)) }
     ensures signs { IfOk result HasSigns }

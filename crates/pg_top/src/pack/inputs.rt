@@ -1,13 +1,12 @@
 //! What `pack` reads.
 ghost use Rattle.std.specs.Prelude.{◌+◌, IfOk, IfErr, IfSome};
-ghost use Rattle.pg_outside.specs.Content.{KeepsHeld, file_at};
-ghost use Rattle.pg_outside.specs.Faults.{NoneFell};
+ghost use Rattle.pg_outside.specs.Content.{file_at};
 ghost use Rattle.pg_patterns.specs.Values.{SignsUpTo};
 ghost use Rattle.pg_translate.specs.Alphabets.{letters_of};
 ghost use Rattle.pg_top.specs.Counted.{MakesCalls, read_calls};
 ghost use Rattle.pg_top.specs.pack.Packed.{packing_reads};
 ghost use Rattle.pg_top.specs.pack.Inside.Inputs.{pack_of, HasSource};
-ghost use Rattle.pg_top.specs.Inside.Stops.{StopsReading};
+ghost use Rattle.pg_top.specs.Inside.Stops.{OnlyReads, StopsReading};
 
 use crate::inputs::Stop;
 use crate::pack::PackNames;
@@ -34,8 +33,7 @@ pub fn read_source<'a, F: Files, W: Watch>(
     files: &mut F,
     watch: &W,
 ) -> Result<Source, Stop<'a>>
-    ensures held { KeepsHeld (F.shown files.old).held (F.shown files.new).held }
-    ensures writes { NoneFell (F.shown files.old).write_faults (F.shown files.new).write_faults }
+    ensures only { OnlyReads (F.shown files.old) (F.shown files.new) }
     ensures ok { IfOk result (λ source. IfSome (F.shown files.new).held (λ files.
         HasSource (file_at files) (pack_of names.now) source)) }
     ensures known { IfOk result

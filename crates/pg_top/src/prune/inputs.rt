@@ -1,11 +1,10 @@
 //! What `prune` reads.
 ghost use Rattle.std.specs.Prelude.{IfOk, IfErr, IfSome};
-ghost use Rattle.pg_outside.specs.Content.{KeepsHeld, file_at};
-ghost use Rattle.pg_outside.specs.Faults.{NoneFell};
+ghost use Rattle.pg_outside.specs.Content.{file_at};
 ghost use Rattle.pg_top.specs.Counted.{MakesCalls, read_calls};
 ghost use Rattle.pg_top.specs.prune.Inside.Inputs.{prune_of, HasPrune, HasKnownSigns};
 ghost use Rattle.pg_top.specs.prune.Pruned.{prune_reads};
-ghost use Rattle.pg_top.specs.Inside.Stops.{StopsReading};
+ghost use Rattle.pg_top.specs.Inside.Stops.{OnlyReads, StopsReading};
 
 use crate::inputs::Stop;
 use crate::prune::PruneNames;
@@ -35,8 +34,7 @@ pub fn read_prune<'a, F: Files, W: Watch>(
     files: &mut F,
     watch: &W,
 ) -> Result<PruneInputs, Stop<'a>>
-    ensures held { KeepsHeld (F.shown files.old).held (F.shown files.new).held }
-    ensures writes { NoneFell (F.shown files.old).write_faults (F.shown files.new).write_faults }
+    ensures only { OnlyReads (F.shown files.old) (F.shown files.new) }
     ensures ok { IfOk result (λ inputs. IfSome (F.shown files.new).held (λ files.
         HasPrune (file_at files) (prune_of names.now) inputs)) }
     ensures known { IfOk result HasKnownSigns }

@@ -1,10 +1,9 @@
 //! What `sweep` reads.
 ghost use Rattle.std.specs.Prelude.{◌≤◌, length, IfOk, IfErr, IfSome};
-ghost use Rattle.pg_outside.specs.Content.{KeepsHeld, file_at};
-ghost use Rattle.pg_outside.specs.Faults.{NoneFell};
+ghost use Rattle.pg_outside.specs.Content.{file_at};
 ghost use Rattle.pg_words.specs.Commands.{sweep_of, KeepsSweepLimits};
 ghost use Rattle.pg_top.specs.Counted.{MakesCalls, read_calls};
-ghost use Rattle.pg_top.specs.Inside.Stops.{StopsReading};
+ghost use Rattle.pg_top.specs.Inside.Stops.{OnlyReads, StopsReading};
 ghost use Rattle.pg_top.specs.sweep.Inside.Inputs.{terms_of, HasSigns};
 ghost use Rattle.pg_top.specs.sweep.Swept.{sweep_reads, HasSweep};
 
@@ -41,8 +40,7 @@ pub fn read_sweep<'a, F: Files, W: Watch>(
     watch: &W,
 ) -> Result<SweepInputs, Stop<'a>>
     requires { KeepsSweepLimits words.now }
-    ensures held { KeepsHeld (F.shown files.old).held (F.shown files.new).held }
-    ensures writes { NoneFell (F.shown files.old).write_faults (F.shown files.new).write_faults }
+    ensures only { OnlyReads (F.shown files.old) (F.shown files.new) }
     ensures ok { IfOk result (λ inputs. IfSome (F.shown files.new).held (λ files.
         HasSweep (file_at files) (sweep_of words.now)
         (terms_of words.now.folds inputs) inputs.sets.items)) }

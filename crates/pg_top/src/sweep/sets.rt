@@ -1,10 +1,9 @@
 //! The parameter files of `sweep`, read one after the other.
 ghost use Rattle.std.specs.Prelude.{◌≡◌, ◌≤◌, length, IfOk, IfErr, IfSome};
-ghost use Rattle.pg_outside.specs.Content.{KeepsHeld, file_at};
-ghost use Rattle.pg_outside.specs.Faults.{NoneFell};
+ghost use Rattle.pg_outside.specs.Content.{file_at};
 ghost use Rattle.pg_words.specs.Commands.{words_of};
 ghost use Rattle.pg_top.specs.Counted.{MakesCalls, read_calls};
-ghost use Rattle.pg_top.specs.Inside.Stops.{StopsReading};
+ghost use Rattle.pg_top.specs.Inside.Stops.{OnlyReads, StopsReading};
 ghost use Rattle.pg_top.specs.sweep.Swept.{set_files, HasSets};
 
 use crate::inputs::{Input, Stop};
@@ -22,9 +21,7 @@ pub fn read_sets<'a, F: Files, W: Watch>(
     watch: &W,
 ) -> Result<Vec<Params>, Stop<'a>>
     requires { length names.now ≤ 16 }
-    ensures held { KeepsHeld (F.shown files.old).held (F.shown files.new).held }
-    ensures reads { NoneFell (F.shown files.old).read_faults (F.shown files.new).read_faults }
-    ensures writes { NoneFell (F.shown files.old).write_faults (F.shown files.new).write_faults }
+    ensures only { OnlyReads (F.shown files.old) (F.shown files.new) }
     ensures ok { IfOk result (λ sets. IfSome (F.shown files.new).held (λ files.
         HasSets (file_at files) (words_of names.now) sets.items)) }
     ensures count { IfOk result (λ sets. length sets.items ≡ length names.now) }

@@ -2,7 +2,7 @@
 ghost use Rattle.std.specs.Prelude.{◌≡◌, ◌+◌, IfOk, IfErr, IfSome, [], ◌∷◌};
 ghost use Rattle.pg_dict.specs.Word.{SignsAtMost};
 ghost use Rattle.pg_driver.specs.Sound.{IsSmall};
-ghost use Rattle.pg_outside.specs.Content.{KeepsHeld, file_at};
+ghost use Rattle.pg_outside.specs.Content.{file_at};
 ghost use Rattle.pg_outside.specs.FilesCalls.{Reads};
 ghost use Rattle.pg_texts.specs.ReportTexts.{ending_text};
 ghost use Rattle.pg_translate.specs.Alphabets.{letters_of};
@@ -11,7 +11,7 @@ ghost use Rattle.pg_top.specs.totals.Totalled.{packed_table};
 ghost use Rattle.pg_top.specs.pack.Packed.{table_refused};
 ghost use Rattle.pg_top.specs.Readings.{input_file};
 ghost use Rattle.pg_top.specs.totals.Inside.Inputs.{IsTotalled};
-ghost use Rattle.pg_top.specs.Inside.Stops.{StopsAt};
+ghost use Rattle.pg_top.specs.Inside.Stops.{OnlyReads, StopsAt};
 
 use crate::inputs::{Input, Stop};
 use crate::reading::read_front;
@@ -72,7 +72,7 @@ pub fn total_by<'a, F: Files, W: Watch>(
     watch: &W,
 ) -> Result<Vec<u8>, Stop<'a>>
     requires { SignsAtMost (letters_of table.now + 1) dictionary.now }
-    ensures held { KeepsHeld (F.shown files.old).held (F.shown files.new).held }
+    ensures only { OnlyReads (F.shown files.old) (F.shown files.new) }
     ensures calls { MakesCalls (F.shown files.old) (F.shown files.new) (Reads name.now ∷ []) }
     ensures ok { IfOk result (λ lines. IfSome (F.shown files.new).held (λ files.
         IsTotalled table.now dictionary.now (file_at files) name.now lines.items)) }

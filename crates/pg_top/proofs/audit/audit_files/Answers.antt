@@ -11,7 +11,7 @@ use Rattle.pg_top.specs.audit.Inside.Verdicts.{wanted_files, end_of, outcome_by}
 use Rattle.pg_top.specs.declared.inputs.Stop.TheVariants.{Memory}
 use Rattle.pg_top.proofs.generate.InputOrder.{inputs_wanted}
 use Rattle.pg_top.proofs.audit.Judgements.{outcome_audited, stopped_given, found_given}
-use Rattle.pg_top.proofs.Orders.{mapped, both, held_later, stopped_in_front}
+use Rattle.pg_top.proofs.Orders.{mapped, both, held_later, only_on, stopped_in_front}
 use Rattle.pg_top.proofs.Results.{err_by}
 use Rattle.pg_top.proofs.audit.audit_files.Goals as goal
 
@@ -27,7 +27,7 @@ returns-clause-ok g c =
     (λ verdict found. mapped s3.held (λ files. HasInputs (file_at files) n i × (first_end (file_at files) (wanted_files ws) ≡ end_of verdict)) (λ files. outcome_of (file_at files) (ToAudit n) ≡ outcome_by verdict)
     (λ files h. outcome_audited n i ws verdict files c.in_ok-wanted.ensures h.0 h.1)
     (both s3.held (λ files. HasInputs (file_at files) n i) (λ files. first_end (file_at files) (wanted_files ws) ≡ end_of verdict)
-    (held_later s2.held s3.held (λ files. HasInputs (file_at files) n i) c.compare_all.ensures.held c.in_ok-inputs.ensures.ok) found)) ok
+    (held_later s2.held s3.held (λ files. HasInputs (file_at files) n i) c.compare_all.ensures.only.held c.in_ok-inputs.ensures.ok) found)) ok
 
 pub returns-in_err-inputs-clause-stopped : goal.returns-in_err-inputs-clause-stopped
 returns-in_err-inputs-clause-stopped g c =
@@ -40,7 +40,7 @@ returns-clause-stopped g c =
     let stopped = rw c.deref.ensures.value at c.compare_all.ensures.stopped in
     err_by c.compare_all.result _ _
     (λ stop stops. stopped_given (texts_of c.args.names.now) c.in_ok-inputs.inputs c.in_ok-wanted.wanted.items (g.F.Files.shown c.args.files.now) (g.F.Files.shown c.read_inputs.new.files) (g.F.Files.shown c.compare_all.new.files) stop
-    c.in_ok-wanted.ensures c.read_inputs.ensures.reads c.in_ok-inputs.ensures.counted c.compare_all.ensures.held c.in_ok-inputs.ensures.ok stops) stopped
+    c.in_ok-wanted.ensures c.read_inputs.ensures.only.reads c.in_ok-inputs.ensures.counted c.compare_all.ensures.only.held c.in_ok-inputs.ensures.ok stops) stopped
 
 pub returns-in_err-wanted-clause-stopped : goal.returns-in_err-wanted-clause-stopped
 returns-in_err-wanted-clause-stopped g c =
@@ -55,4 +55,25 @@ returns-clause-counted g c =
     let counted = rw c.deref.ensures.value at c.compare_all.ensures.counted in
     IfOk-weaker c.compare_all.result _ _
     (λ verdict found. found_given (texts_of c.args.names.now) c.in_ok-inputs.inputs c.in_ok-wanted.wanted.items verdict (g.F.Files.shown c.args.files.now) (g.F.Files.shown c.read_inputs.new.files) (g.F.Files.shown c.compare_all.new.files)
-    c.in_ok-wanted.ensures c.in_ok-inputs.ensures.counted c.compare_all.ensures.held c.in_ok-inputs.ensures.ok found) counted
+    c.in_ok-wanted.ensures c.in_ok-inputs.ensures.counted c.compare_all.ensures.only.held c.in_ok-inputs.ensures.ok found) counted
+
+pub returns-in_err-inputs-clause-ok : goal.returns-in_err-inputs-clause-ok
+returns-in_err-inputs-clause-ok g c = rw (err_from_is_err_and c.from_residual.result c.from_residual.ensures.1).1 tt
+
+pub returns-in_err-inputs-clause-counted : goal.returns-in_err-inputs-clause-counted
+returns-in_err-inputs-clause-counted g c = rw (err_from_is_err_and c.from_residual.result c.from_residual.ensures.1).1 tt
+
+pub returns-in_err-inputs-clause-only : goal.returns-in_err-inputs-clause-only
+returns-in_err-inputs-clause-only g c = c.read_inputs.ensures.only
+
+pub returns-in_err-wanted-clause-ok : goal.returns-in_err-wanted-clause-ok
+returns-in_err-wanted-clause-ok g c = rw (err_from_is_err_and c.from_residual-in_err-wanted.result c.from_residual-in_err-wanted.ensures.1).1 tt
+
+pub returns-in_err-wanted-clause-counted : goal.returns-in_err-wanted-clause-counted
+returns-in_err-wanted-clause-counted g c = rw (err_from_is_err_and c.from_residual-in_err-wanted.result c.from_residual-in_err-wanted.ensures.1).1 tt
+
+pub returns-in_err-wanted-clause-only : goal.returns-in_err-wanted-clause-only
+returns-in_err-wanted-clause-only g c = c.read_inputs.ensures.only
+
+pub returns-clause-only : goal.returns-clause-only
+returns-clause-only g c = only_on (g.F.Files.shown c.args.files.now) (g.F.Files.shown c.read_inputs.new.files) (g.F.Files.shown c.compare_all.new.files) c.read_inputs.ensures.only c.compare_all.ensures.only

@@ -34,3 +34,36 @@ pub returns-in_err-inputs-clause-stopped : goal.returns-in_err-inputs-clause-sto
 returns-in_err-inputs-clause-stopped g c =
     let err = err_from_is_err_and c.from_residual.result c.from_residual.ensures.1 in
     rw (err.1, err.2) c.in_err-inputs.ensures.stopped
+
+pub returns-in_err-inputs-clause-ok : goal.returns-in_err-inputs-clause-ok
+returns-in_err-inputs-clause-ok g c = rw (err_from_is_err_and c.from_residual.result c.from_residual.ensures.1).1 tt
+
+pub returns-in_err-inputs-clause-named : goal.returns-in_err-inputs-clause-named
+returns-in_err-inputs-clause-named g c = rw (err_from_is_err_and c.from_residual.result c.from_residual.ensures.1).1 tt
+
+pub returns-in_err-inputs-clause-counted : goal.returns-in_err-inputs-clause-counted
+returns-in_err-inputs-clause-counted g c = rw (err_from_is_err_and c.from_residual.result c.from_residual.ensures.1).1 tt
+
+pub returns-in_err-inputs-clause-only : goal.returns-in_err-inputs-clause-only
+returns-in_err-inputs-clause-only g c = c.read_inputs.ensures.only
+
+pub returns-in_err-outputs-clause-ok : goal.returns-in_err-outputs-clause-ok
+returns-in_err-outputs-clause-ok g c = rw (err_from_is_err_and c.from_residual-in_err-outputs.result c.from_residual-in_err-outputs.ensures.1).1 tt
+
+pub returns-in_err-outputs-clause-named : goal.returns-in_err-outputs-clause-named
+returns-in_err-outputs-clause-named g c = rw (err_from_is_err_and c.from_residual-in_err-outputs.result c.from_residual-in_err-outputs.ensures.1).1 tt
+
+pub returns-in_err-outputs-clause-counted : goal.returns-in_err-outputs-clause-counted
+returns-in_err-outputs-clause-counted g c = rw (err_from_is_err_and c.from_residual-in_err-outputs.result c.from_residual-in_err-outputs.ensures.1).1 tt
+
+pub returns-in_err-outputs-clause-only : goal.returns-in_err-outputs-clause-only
+returns-in_err-outputs-clause-only g c = c.read_inputs.ensures.only
+
+pub returns-clause-only : goal.returns-clause-only
+returns-clause-only g c = c.read_inputs.ensures.only
+
+pub returns-clause-counted : goal.returns-clause-counted
+returns-clause-counted g c = c.in_ok-inputs.ensures.counted
+
+pub returns-clause-stopped : goal.returns-clause-stopped
+returns-clause-stopped g c = tt

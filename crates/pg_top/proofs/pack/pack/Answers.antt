@@ -12,12 +12,12 @@ pub returns-in-Ok-clause-call : goal.returns-in-Ok-clause-call
 returns-in-Ok-clause-call g c =
     finished_call (ToPack (pack_of c.args.names.now)) (writing_of c.in-Ok.outputs.files.items) c.in-Ok.outputs.lines.items
     (g.F.Files.shown c.args.files.now) (g.F.Files.shown c.pack_files.new.files) (g.F.Files.shown c.finish.new.files) (g.O.Sink.shown c.args.out.now) (g.O.Sink.shown c.finish.new.out) c.finish.result
-    tt c.in-Ok.ensures.named c.in-Ok.ensures.held c.in-Ok.ensures.writes c.in-Ok.ensures.ok c.in-Ok.ensures.counted c.finish.ensures
+    tt c.in-Ok.ensures.named c.in-Ok.ensures.only.held c.in-Ok.ensures.only.writes c.in-Ok.ensures.ok c.in-Ok.ensures.counted c.finish.ensures
 
 pub returns-in-Err-clause-call : goal.returns-in-Err-clause-call
 returns-in-Err-clause-call g c =
     stopped_command (ToPack (pack_of c.args.names.now)) (g.F.Files.shown c.args.files.now) (g.F.Files.shown c.pack_files.new.files) (g.O.Sink.shown c.args.out.now) (g.O.Sink.shown c.put_stop.new.out) c.in-Err.stop c.put_stop.result
-    tt c.in-Err.ensures.held c.in-Err.ensures.stopped c.put_stop.ensures.put c.put_stop.ensures.counted
+    tt c.in-Err.ensures.only.held c.in-Err.ensures.stopped c.put_stop.ensures.put c.put_stop.ensures.counted
 
 pub returns-in-Ok-clause-counted : goal.returns-in-Ok-clause-counted
 returns-in-Ok-clause-counted g c =
@@ -34,7 +34,7 @@ pub returns-in-Ok-clause-promised : goal.returns-in-Ok-clause-promised
 returns-in-Ok-clause-promised g c =
     promised (writing_of c.in-Ok.outputs.files.items) c.in-Ok.outputs.lines.items
     (g.F.Files.shown c.args.files.now) (g.F.Files.shown c.pack_files.new.files) (g.F.Files.shown c.finish.new.files) (g.O.Sink.shown c.args.out.now) (g.O.Sink.shown c.finish.new.out) c.finish.result
-    (λ files. PackKeeps (file_at files) (pack_of c.args.names.now)) c.in-Ok.ensures.held c.in-Ok.ensures.kept c.finish.ensures
+    (λ files. PackKeeps (file_at files) (pack_of c.args.names.now)) c.in-Ok.ensures.only.held c.in-Ok.ensures.kept c.finish.ensures
 
 pub returns-in-Err-clause-promised : goal.returns-in-Err-clause-promised
 returns-in-Err-clause-promised g c =

@@ -38,3 +38,45 @@ returns-clause-kept g c =
     let made = c.in_ok-outputs.field-0 in
     mapped (g.F.Files.shown c.read_source.new.files).held (λ files. HasSource (file_at files) p s) (λ files. PackKeeps (file_at files) p)
     (λ files h. pack_keeps p s (writing_of made.files.items) made.lines.items files c.in_ok-outputs.ensures.made c.in_ok-outputs.ensures.table c.in_ok-outputs.ensures.accepted c.in_ok-outputs.ensures.gives h) c.in_ok-source.ensures.ok
+
+pub returns-in_err-source-clause-ok : goal.returns-in_err-source-clause-ok
+returns-in_err-source-clause-ok g c = rw (err_from_is_err_and c.from_residual.result c.from_residual.ensures.1).1 tt
+
+pub returns-in_err-source-clause-named : goal.returns-in_err-source-clause-named
+returns-in_err-source-clause-named g c = rw (err_from_is_err_and c.from_residual.result c.from_residual.ensures.1).1 tt
+
+pub returns-in_err-source-clause-kept : goal.returns-in_err-source-clause-kept
+returns-in_err-source-clause-kept g c = rw (err_from_is_err_and c.from_residual.result c.from_residual.ensures.1).1 tt
+
+pub returns-in_err-source-clause-counted : goal.returns-in_err-source-clause-counted
+returns-in_err-source-clause-counted g c = rw (err_from_is_err_and c.from_residual.result c.from_residual.ensures.1).1 tt
+
+pub returns-in_err-source-clause-only : goal.returns-in_err-source-clause-only
+returns-in_err-source-clause-only g c = c.read_source.ensures.only
+
+pub returns-in_err-outputs-clause-ok : goal.returns-in_err-outputs-clause-ok
+returns-in_err-outputs-clause-ok g c = rw (err_from_is_err_and c.from_residual-in_err-outputs.result c.from_residual-in_err-outputs.ensures.1).1 tt
+
+pub returns-in_err-outputs-clause-named : goal.returns-in_err-outputs-clause-named
+returns-in_err-outputs-clause-named g c = rw (err_from_is_err_and c.from_residual-in_err-outputs.result c.from_residual-in_err-outputs.ensures.1).1 tt
+
+pub returns-in_err-outputs-clause-kept : goal.returns-in_err-outputs-clause-kept
+returns-in_err-outputs-clause-kept g c = rw (err_from_is_err_and c.from_residual-in_err-outputs.result c.from_residual-in_err-outputs.ensures.1).1 tt
+
+pub returns-in_err-outputs-clause-counted : goal.returns-in_err-outputs-clause-counted
+returns-in_err-outputs-clause-counted g c = rw (err_from_is_err_and c.from_residual-in_err-outputs.result c.from_residual-in_err-outputs.ensures.1).1 tt
+
+pub returns-in_err-outputs-clause-only : goal.returns-in_err-outputs-clause-only
+returns-in_err-outputs-clause-only g c = c.read_source.ensures.only
+
+pub returns-clause-only : goal.returns-clause-only
+returns-clause-only g c = c.read_source.ensures.only
+
+pub returns-clause-named : goal.returns-clause-named
+returns-clause-named g c = c.in_ok-outputs.ensures.named
+
+pub returns-clause-counted : goal.returns-clause-counted
+returns-clause-counted g c = c.in_ok-source.ensures.counted
+
+pub returns-clause-stopped : goal.returns-clause-stopped
+returns-clause-stopped g c = tt

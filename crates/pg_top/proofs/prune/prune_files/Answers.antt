@@ -43,3 +43,45 @@ returns-clause-kept g c =
     let p : PruneRequest = prune_of c.args.names.now in
     let i = c.in_ok-inputs.inputs in
     mapped (g.F.Files.shown c.read_prune.new.files).held (λ files. HasPrune (file_at files) p i) (λ files. PruneKeeps (file_at files) p) (λ files h. prune_keeps p i files c.in_ok-outputs.ensures.reads_back h) c.in_ok-inputs.ensures.ok
+
+pub returns-in_err-inputs-clause-ok : goal.returns-in_err-inputs-clause-ok
+returns-in_err-inputs-clause-ok g c = rw (err_from_is_err_and c.from_residual.result c.from_residual.ensures.1).1 tt
+
+pub returns-in_err-inputs-clause-named : goal.returns-in_err-inputs-clause-named
+returns-in_err-inputs-clause-named g c = rw (err_from_is_err_and c.from_residual.result c.from_residual.ensures.1).1 tt
+
+pub returns-in_err-inputs-clause-kept : goal.returns-in_err-inputs-clause-kept
+returns-in_err-inputs-clause-kept g c = rw (err_from_is_err_and c.from_residual.result c.from_residual.ensures.1).1 tt
+
+pub returns-in_err-inputs-clause-counted : goal.returns-in_err-inputs-clause-counted
+returns-in_err-inputs-clause-counted g c = rw (err_from_is_err_and c.from_residual.result c.from_residual.ensures.1).1 tt
+
+pub returns-in_err-inputs-clause-only : goal.returns-in_err-inputs-clause-only
+returns-in_err-inputs-clause-only g c = c.read_prune.ensures.only
+
+pub returns-in_err-outputs-clause-ok : goal.returns-in_err-outputs-clause-ok
+returns-in_err-outputs-clause-ok g c = rw (err_from_is_err_and c.from_residual-in_err-outputs.result c.from_residual-in_err-outputs.ensures.1).1 tt
+
+pub returns-in_err-outputs-clause-named : goal.returns-in_err-outputs-clause-named
+returns-in_err-outputs-clause-named g c = rw (err_from_is_err_and c.from_residual-in_err-outputs.result c.from_residual-in_err-outputs.ensures.1).1 tt
+
+pub returns-in_err-outputs-clause-kept : goal.returns-in_err-outputs-clause-kept
+returns-in_err-outputs-clause-kept g c = rw (err_from_is_err_and c.from_residual-in_err-outputs.result c.from_residual-in_err-outputs.ensures.1).1 tt
+
+pub returns-in_err-outputs-clause-counted : goal.returns-in_err-outputs-clause-counted
+returns-in_err-outputs-clause-counted g c = rw (err_from_is_err_and c.from_residual-in_err-outputs.result c.from_residual-in_err-outputs.ensures.1).1 tt
+
+pub returns-in_err-outputs-clause-only : goal.returns-in_err-outputs-clause-only
+returns-in_err-outputs-clause-only g c = c.read_prune.ensures.only
+
+pub returns-clause-only : goal.returns-clause-only
+returns-clause-only g c = c.read_prune.ensures.only
+
+pub returns-clause-named : goal.returns-clause-named
+returns-clause-named g c = c.in_ok-outputs.ensures.named
+
+pub returns-clause-counted : goal.returns-clause-counted
+returns-clause-counted g c = c.in_ok-inputs.ensures.counted
+
+pub returns-clause-stopped : goal.returns-clause-stopped
+returns-clause-stopped g c = tt

@@ -8,14 +8,8 @@ returns-in-Ok-clause-front g c = front_of_held (g.F.Files.shown c.read.new.self)
 pub returns-in-Err-TooLong-clause-front : goal.returns-in-Err-TooLong-clause-front
 returns-in-Err-TooLong-clause-front g c = front_of_cut_held (g.F.Files.shown c.read.new.self).held c.args.name.now c.read.new.into.items c.args.limit (c.in-Err-TooLong.ensures.cut_file (ap Err c.in-Err-TooLong.field-0-is))
 
-pub returns-in-Err-Failed-clause-held : goal.returns-in-Err-Failed-clause-held
-returns-in-Err-Failed-clause-held g c = c.read.ensures.held
-
-pub returns-in-Err-Failed-clause-reads : goal.returns-in-Err-Failed-clause-reads
-returns-in-Err-Failed-clause-reads g c = c.read.ensures.reads
-
-pub returns-in-Err-Failed-clause-writes : goal.returns-in-Err-Failed-clause-writes
-returns-in-Err-Failed-clause-writes g c = c.read.ensures.writes
+pub returns-in-Err-Failed-clause-only : goal.returns-in-Err-Failed-clause-only
+returns-in-Err-Failed-clause-only g c = record { held = c.read.ensures.held; reads = c.read.ensures.reads; writes = c.read.ensures.writes }
 
 pub returns-in-Err-Failed-clause-calls : goal.returns-in-Err-Failed-clause-calls
 returns-in-Err-Failed-clause-calls g c = c.read.ensures.calls
@@ -23,26 +17,14 @@ returns-in-Err-Failed-clause-calls g c = c.read.ensures.calls
 pub returns-in-Err-Failed-clause-stopped : goal.returns-in-Err-Failed-clause-stopped
 returns-in-Err-Failed-clause-stopped g c = (refl, c.in-Err-Failed.ensures.failed (ap Err c.in-Err-Failed.field-0-is))
 
-pub returns-in-Ok-clause-held : goal.returns-in-Ok-clause-held
-returns-in-Ok-clause-held g c = c.read.ensures.held
-
-pub returns-in-Ok-clause-reads : goal.returns-in-Ok-clause-reads
-returns-in-Ok-clause-reads g c = c.read.ensures.reads
-
-pub returns-in-Ok-clause-writes : goal.returns-in-Ok-clause-writes
-returns-in-Ok-clause-writes g c = c.read.ensures.writes
+pub returns-in-Ok-clause-only : goal.returns-in-Ok-clause-only
+returns-in-Ok-clause-only g c = record { held = c.read.ensures.held; reads = c.read.ensures.reads; writes = c.read.ensures.writes }
 
 pub returns-in-Ok-clause-calls : goal.returns-in-Ok-clause-calls
 returns-in-Ok-clause-calls g c = c.read.ensures.calls
 
-pub returns-in-Err-TooLong-clause-held : goal.returns-in-Err-TooLong-clause-held
-returns-in-Err-TooLong-clause-held g c = c.read.ensures.held
-
-pub returns-in-Err-TooLong-clause-reads : goal.returns-in-Err-TooLong-clause-reads
-returns-in-Err-TooLong-clause-reads g c = c.read.ensures.reads
-
-pub returns-in-Err-TooLong-clause-writes : goal.returns-in-Err-TooLong-clause-writes
-returns-in-Err-TooLong-clause-writes g c = c.read.ensures.writes
+pub returns-in-Err-TooLong-clause-only : goal.returns-in-Err-TooLong-clause-only
+returns-in-Err-TooLong-clause-only g c = record { held = c.read.ensures.held; reads = c.read.ensures.reads; writes = c.read.ensures.writes }
 
 pub returns-in-Err-TooLong-clause-calls : goal.returns-in-Err-TooLong-clause-calls
 returns-in-Err-TooLong-clause-calls g c = c.read.ensures.calls

@@ -3,19 +3,12 @@ use Rattle.std.proofs.lemmas.Result.{err_from_is_err_and}
 use Rattle.pg_outside.specs.Content.{FilesShown}
 use Rattle.pg_outside.specs.FilesCalls.{Reads}
 use Rattle.pg_top.proofs.CountedCalls.{calls_on}
-use Rattle.pg_top.proofs.Faults.{none_fell}
 use Rattle.pg_top.proofs.ListOrder.{stopped_patterns, stopped_words, both_read}
-use Rattle.pg_top.proofs.Orders.{kept_on}
+use Rattle.pg_top.proofs.Orders.{only_on}
 use Rattle.pg_top.proofs.reading.read_lists.Goals as goal
 
-pub returns-in_err-start-clause-held : goal.returns-in_err-start-clause-held
-returns-in_err-start-clause-held g c = c.read_start.ensures.held
-
-pub returns-in_err-start-clause-reads : goal.returns-in_err-start-clause-reads
-returns-in_err-start-clause-reads g c = c.read_start.ensures.reads
-
-pub returns-in_err-start-clause-writes : goal.returns-in_err-start-clause-writes
-returns-in_err-start-clause-writes g c = c.read_start.ensures.writes
+pub returns-in_err-start-clause-only : goal.returns-in_err-start-clause-only
+returns-in_err-start-clause-only g c = c.read_start.ensures.only
 
 pub returns-in_err-start-clause-ok : goal.returns-in_err-start-clause-ok
 returns-in_err-start-clause-ok g c = rw (err_from_is_err_and c.from_residual.result c.from_residual.ensures.1).1 tt
@@ -31,28 +24,14 @@ returns-in_err-start-clause-stopped g c = λ translate table.
     let s0 : FilesShown = g.F.Files.shown c.args.files.now in
     let s1 : FilesShown = g.F.Files.shown c.read_start.new.files in
     let err = err_from_is_err_and c.from_residual.result c.from_residual.ensures.1 in
-    rw (err.1, err.2) (stopped_patterns translate c.args.patterns.now c.args.dict.now c.args.table.now s0 s1 c.in_err-start.field-0.0 c.read_start.ensures.held c.read_start.ensures.calls table c.in_err-start.ensures.stopped)
+    rw (err.1, err.2) (stopped_patterns translate c.args.patterns.now c.args.dict.now c.args.table.now s0 s1 c.in_err-start.field-0.0 c.read_start.ensures.only.held c.read_start.ensures.calls table c.in_err-start.ensures.stopped)
 
-pub returns-in_err-dictionary-clause-held : goal.returns-in_err-dictionary-clause-held
-returns-in_err-dictionary-clause-held g c =
+pub returns-in_err-dictionary-clause-only : goal.returns-in_err-dictionary-clause-only
+returns-in_err-dictionary-clause-only g c =
     let s0 : FilesShown = g.F.Files.shown c.args.files.now in
     let s1 : FilesShown = g.F.Files.shown c.read_start.new.files in
     let s2 : FilesShown = g.F.Files.shown c.read_dictionary.new.files in
-    kept_on s0.held s1.held s2.held c.read_start.ensures.held c.read_dictionary.ensures.held
-
-pub returns-in_err-dictionary-clause-reads : goal.returns-in_err-dictionary-clause-reads
-returns-in_err-dictionary-clause-reads g c =
-    let s0 : FilesShown = g.F.Files.shown c.args.files.now in
-    let s1 : FilesShown = g.F.Files.shown c.read_start.new.files in
-    let s2 : FilesShown = g.F.Files.shown c.read_dictionary.new.files in
-    none_fell s0.read_faults s1.read_faults s2.read_faults c.read_start.ensures.reads c.read_dictionary.ensures.reads
-
-pub returns-in_err-dictionary-clause-writes : goal.returns-in_err-dictionary-clause-writes
-returns-in_err-dictionary-clause-writes g c =
-    let s0 : FilesShown = g.F.Files.shown c.args.files.now in
-    let s1 : FilesShown = g.F.Files.shown c.read_start.new.files in
-    let s2 : FilesShown = g.F.Files.shown c.read_dictionary.new.files in
-    none_fell s0.write_faults s1.write_faults s2.write_faults c.read_start.ensures.writes c.read_dictionary.ensures.writes
+    only_on s0 s1 s2 c.read_start.ensures.only c.read_dictionary.ensures.only
 
 pub returns-in_err-dictionary-clause-ok : goal.returns-in_err-dictionary-clause-ok
 returns-in_err-dictionary-clause-ok g c = rw (err_from_is_err_and c.from_residual-in_err-dictionary.result c.from_residual-in_err-dictionary.ensures.1).1 tt
@@ -69,34 +48,20 @@ returns-in_err-dictionary-clause-stopped g c = λ translate table.
     let s1 : FilesShown = g.F.Files.shown c.read_start.new.files in
     let s2 : FilesShown = g.F.Files.shown c.read_dictionary.new.files in
     let err = err_from_is_err_and c.from_residual-in_err-dictionary.result c.from_residual-in_err-dictionary.ensures.1 in
-    rw (err.1, err.2) (stopped_words translate c.args.patterns.now c.args.dict.now c.args.table.now c.in_ok-start.start s0 s1 s2 c.in_err-dictionary.field-0.0 c.read_start.ensures.reads c.read_start.ensures.held c.read_dictionary.ensures.held c.read_start.ensures.calls c.read_dictionary.ensures.calls table c.in_ok-start.ensures.ok c.in_err-dictionary.ensures.stopped)
+    rw (err.1, err.2) (stopped_words translate c.args.patterns.now c.args.dict.now c.args.table.now c.in_ok-start.start s0 s1 s2 c.in_err-dictionary.field-0.0 c.read_start.ensures.only.reads c.read_start.ensures.only.held c.read_dictionary.ensures.only.held c.read_start.ensures.calls c.read_dictionary.ensures.calls table c.in_ok-start.ensures.ok c.in_err-dictionary.ensures.stopped)
 
-pub returns-clause-held : goal.returns-clause-held
-returns-clause-held g c =
+pub returns-clause-only : goal.returns-clause-only
+returns-clause-only g c =
     let s0 : FilesShown = g.F.Files.shown c.args.files.now in
     let s1 : FilesShown = g.F.Files.shown c.read_start.new.files in
     let s2 : FilesShown = g.F.Files.shown c.read_dictionary.new.files in
-    kept_on s0.held s1.held s2.held c.read_start.ensures.held c.read_dictionary.ensures.held
-
-pub returns-clause-reads : goal.returns-clause-reads
-returns-clause-reads g c =
-    let s0 : FilesShown = g.F.Files.shown c.args.files.now in
-    let s1 : FilesShown = g.F.Files.shown c.read_start.new.files in
-    let s2 : FilesShown = g.F.Files.shown c.read_dictionary.new.files in
-    none_fell s0.read_faults s1.read_faults s2.read_faults c.read_start.ensures.reads c.read_dictionary.ensures.reads
-
-pub returns-clause-writes : goal.returns-clause-writes
-returns-clause-writes g c =
-    let s0 : FilesShown = g.F.Files.shown c.args.files.now in
-    let s1 : FilesShown = g.F.Files.shown c.read_start.new.files in
-    let s2 : FilesShown = g.F.Files.shown c.read_dictionary.new.files in
-    none_fell s0.write_faults s1.write_faults s2.write_faults c.read_start.ensures.writes c.read_dictionary.ensures.writes
+    only_on s0 s1 s2 c.read_start.ensures.only c.read_dictionary.ensures.only
 
 pub returns-clause-ok : goal.returns-clause-ok
 returns-clause-ok g c =
     let s1 : FilesShown = g.F.Files.shown c.read_start.new.files in
     let s2 : FilesShown = g.F.Files.shown c.read_dictionary.new.files in
-    both_read c.args.patterns.now c.args.dict.now c.args.table.now c.in_ok-start.start c.in_ok-dictionary.dictionary s1.held s2.held c.read_dictionary.ensures.held c.in_ok-start.ensures.ok c.in_ok-dictionary.ensures.ok
+    both_read c.args.patterns.now c.args.dict.now c.args.table.now c.in_ok-start.start c.in_ok-dictionary.dictionary s1.held s2.held c.read_dictionary.ensures.only.held c.in_ok-start.ensures.ok c.in_ok-dictionary.ensures.ok
 
 pub returns-clause-signs : goal.returns-clause-signs
 returns-clause-signs g c = (c.in_ok-start.ensures.known, c.in_ok-dictionary.ensures.signs)

@@ -17,38 +17,29 @@ returns-in_err-bytes-clause-stopped g c =
     let err = err_from_is_err_and c.from_residual.result c.from_residual.ensures.1 in
     rw (err.1, err.2) (front_stop (input_file c.args.input c.args.name.now (λ _. parameters)) (g.F.Files.shown c.args.files.now) (g.F.Files.shown c.read_front.new.files) c.in_err-bytes.field-0.0 c.in_err-bytes.ensures.stopped)
 
-pub returns-clause-held : goal.returns-clause-held
-returns-clause-held g c = c.read_front.ensures.held
-
-pub returns-clause-reads : goal.returns-clause-reads
-returns-clause-reads g c = c.read_front.ensures.reads
-
-pub returns-clause-writes : goal.returns-clause-writes
-returns-clause-writes g c = c.read_front.ensures.writes
+pub returns-clause-only : goal.returns-clause-only
+returns-clause-only g c = c.read_front.ensures.only
 
 pub returns-clause-calls : goal.returns-clause-calls
 returns-clause-calls g c = c.read_front.ensures.calls
 
-pub returns-in-Ok-clause-held : goal.returns-in-Ok-clause-held
-returns-in-Ok-clause-held g c = c.read_front.ensures.held
-
-pub returns-in-Ok-clause-reads : goal.returns-in-Ok-clause-reads
-returns-in-Ok-clause-reads g c = c.read_front.ensures.reads
-
-pub returns-in-Ok-clause-writes : goal.returns-in-Ok-clause-writes
-returns-in-Ok-clause-writes g c = c.read_front.ensures.writes
+pub returns-in-Ok-clause-only : goal.returns-in-Ok-clause-only
+returns-in-Ok-clause-only g c = c.read_front.ensures.only
 
 pub returns-in-Ok-clause-calls : goal.returns-in-Ok-clause-calls
 returns-in-Ok-clause-calls g c = c.read_front.ensures.calls
 
-pub returns-in_err-bytes-clause-held : goal.returns-in_err-bytes-clause-held
-returns-in_err-bytes-clause-held g c = c.read_front.ensures.held
-
-pub returns-in_err-bytes-clause-reads : goal.returns-in_err-bytes-clause-reads
-returns-in_err-bytes-clause-reads g c = c.read_front.ensures.reads
-
-pub returns-in_err-bytes-clause-writes : goal.returns-in_err-bytes-clause-writes
-returns-in_err-bytes-clause-writes g c = c.read_front.ensures.writes
+pub returns-in_err-bytes-clause-only : goal.returns-in_err-bytes-clause-only
+returns-in_err-bytes-clause-only g c = c.read_front.ensures.only
 
 pub returns-in_err-bytes-clause-calls : goal.returns-in_err-bytes-clause-calls
 returns-in_err-bytes-clause-calls g c = c.read_front.ensures.calls
+
+pub returns-in_err-bytes-clause-ok : goal.returns-in_err-bytes-clause-ok
+returns-in_err-bytes-clause-ok g c = rw (err_from_is_err_and c.from_residual.result c.from_residual.ensures.1).1 tt
+
+pub returns-clause-ok : goal.returns-clause-ok
+returns-clause-ok g c = tt
+
+pub returns-in-Ok-clause-stopped : goal.returns-in-Ok-clause-stopped
+returns-in-Ok-clause-stopped g c = tt

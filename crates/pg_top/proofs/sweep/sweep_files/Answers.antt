@@ -52,3 +52,45 @@ returns-clause-names g c =
     let some : 1 ≤ length s.params = subst (λ n. 1 ≤ n) (sym (length-map c.args.words.now.params.now string_bytes)) c.requires.params.0 in
     mapped (g.F.Files.shown c.read_sweep.new.files).held (λ files. HasSweep (file_at files) s terms sets) (λ files. SweepNames (file_at files) s)
     (λ files h. sweep_names s (file_at files) (accepted_all (file_at files) (sweep_reads s) (sweep_accepted s terms sets files h)) some) c.in_ok-inputs.ensures.ok
+
+pub returns-in_err-inputs-clause-ok : goal.returns-in_err-inputs-clause-ok
+returns-in_err-inputs-clause-ok g c = rw (err_from_is_err_and c.from_residual.result c.from_residual.ensures.1).1 tt
+
+pub returns-in_err-inputs-clause-named : goal.returns-in_err-inputs-clause-named
+returns-in_err-inputs-clause-named g c = rw (err_from_is_err_and c.from_residual.result c.from_residual.ensures.1).1 tt
+
+pub returns-in_err-inputs-clause-names : goal.returns-in_err-inputs-clause-names
+returns-in_err-inputs-clause-names g c = rw (err_from_is_err_and c.from_residual.result c.from_residual.ensures.1).1 tt
+
+pub returns-in_err-inputs-clause-counted : goal.returns-in_err-inputs-clause-counted
+returns-in_err-inputs-clause-counted g c = rw (err_from_is_err_and c.from_residual.result c.from_residual.ensures.1).1 tt
+
+pub returns-in_err-inputs-clause-only : goal.returns-in_err-inputs-clause-only
+returns-in_err-inputs-clause-only g c = c.read_sweep.ensures.only
+
+pub returns-in_err-outputs-clause-ok : goal.returns-in_err-outputs-clause-ok
+returns-in_err-outputs-clause-ok g c = rw (err_from_is_err_and c.from_residual-in_err-outputs.result c.from_residual-in_err-outputs.ensures.1).1 tt
+
+pub returns-in_err-outputs-clause-named : goal.returns-in_err-outputs-clause-named
+returns-in_err-outputs-clause-named g c = rw (err_from_is_err_and c.from_residual-in_err-outputs.result c.from_residual-in_err-outputs.ensures.1).1 tt
+
+pub returns-in_err-outputs-clause-names : goal.returns-in_err-outputs-clause-names
+returns-in_err-outputs-clause-names g c = rw (err_from_is_err_and c.from_residual-in_err-outputs.result c.from_residual-in_err-outputs.ensures.1).1 tt
+
+pub returns-in_err-outputs-clause-counted : goal.returns-in_err-outputs-clause-counted
+returns-in_err-outputs-clause-counted g c = rw (err_from_is_err_and c.from_residual-in_err-outputs.result c.from_residual-in_err-outputs.ensures.1).1 tt
+
+pub returns-in_err-outputs-clause-only : goal.returns-in_err-outputs-clause-only
+returns-in_err-outputs-clause-only g c = c.read_sweep.ensures.only
+
+pub returns-clause-only : goal.returns-clause-only
+returns-clause-only g c = c.read_sweep.ensures.only
+
+pub returns-clause-named : goal.returns-clause-named
+returns-clause-named g c = c.in_ok-outputs.ensures.named
+
+pub returns-clause-counted : goal.returns-clause-counted
+returns-clause-counted g c = c.in_ok-inputs.ensures.counted
+
+pub returns-clause-stopped : goal.returns-clause-stopped
+returns-clause-stopped g c = tt

@@ -31,3 +31,18 @@ pub returns-in_err-verdict-clause-stopped : goal.returns-in_err-verdict-clause-s
 returns-in_err-verdict-clause-stopped g c =
     let err = err_from_is_err_and c.from_residual-in_err-verdict.result c.from_residual-in_err-verdict.ensures.1 in
     rw (err.1, err.2) tt
+
+pub returns-in_err-bytes-clause-ok : goal.returns-in_err-bytes-clause-ok
+returns-in_err-bytes-clause-ok g c = rw (err_from_is_err_and c.from_residual.result c.from_residual.ensures.1).1 tt
+
+pub returns-in_err-bytes-clause-only : goal.returns-in_err-bytes-clause-only
+returns-in_err-bytes-clause-only g c = c.read_given.ensures.only
+
+pub returns-in_err-verdict-clause-ok : goal.returns-in_err-verdict-clause-ok
+returns-in_err-verdict-clause-ok g c = rw (err_from_is_err_and c.from_residual-in_err-verdict.result c.from_residual-in_err-verdict.ensures.1).1 tt
+
+pub returns-in_err-verdict-clause-only : goal.returns-in_err-verdict-clause-only
+returns-in_err-verdict-clause-only g c = c.read_given.ensures.only
+
+pub returns-clause-only : goal.returns-clause-only
+returns-clause-only g c = c.read_given.ensures.only

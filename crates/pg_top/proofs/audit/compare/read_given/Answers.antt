@@ -11,3 +11,15 @@ returns-in-Err-TooLong-clause-front g c = front_cut (g.F.Files.shown c.read.new.
 
 pub returns-in-Err-Failed-clause-stopped : goal.returns-in-Err-Failed-clause-stopped
 returns-in-Err-Failed-clause-stopped g c = (refl, c.in-Err-Failed.ensures.failed (ap Err c.in-Err-Failed.field-0-is))
+
+pub returns-in-Ok-clause-only : goal.returns-in-Ok-clause-only
+returns-in-Ok-clause-only g c = record { held = c.read.ensures.held; reads = c.read.ensures.reads; writes = c.read.ensures.writes }
+
+pub returns-in-Err-TooLong-clause-only : goal.returns-in-Err-TooLong-clause-only
+returns-in-Err-TooLong-clause-only g c = record { held = c.read.ensures.held; reads = c.read.ensures.reads; writes = c.read.ensures.writes }
+
+pub returns-in-Err-Failed-clause-only : goal.returns-in-Err-Failed-clause-only
+returns-in-Err-Failed-clause-only g c = record { held = c.read.ensures.held; reads = c.read.ensures.reads; writes = c.read.ensures.writes }
+
+pub returns-clause-only : goal.returns-clause-only
+returns-clause-only g c = record { held = c.read.ensures.held; reads = c.read.ensures.reads; writes = c.read.ensures.writes }

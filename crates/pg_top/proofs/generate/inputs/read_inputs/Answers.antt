@@ -7,7 +7,7 @@ use Rattle.pg_words.specs.Requests.{FileNames}
 use Rattle.pg_top.proofs.Faults.{none_fell}
 use Rattle.pg_top.proofs.CountedCalls.{calls_on}
 use Rattle.pg_top.proofs.generate.InputOrder.{two_read, all_read, stopped_1, stopped_2, stopped_lists}
-use Rattle.pg_top.proofs.Orders.{held_later, kept_on}
+use Rattle.pg_top.proofs.Orders.{held_later, only_on}
 use Rattle.pg_top.proofs.UnderTable.{HasTable}
 use Rattle.pg_top.proofs.generate.inputs.read_inputs.Goals as goal
 
@@ -18,8 +18,8 @@ returns-clause-ok g c =
     let s2 : FilesShown = g.F.Files.shown c.read_parameters.new.files in
     let s3 : FilesShown = g.F.Files.shown c.read_lists.new.files in
     let n : FileNames = texts_of c.args.names.now in
-    all_read n c.in_ok-table.table c.in_ok-params.params c.in_ok-start.start c.in_ok-start.dictionary s2.held s3.held c.read_lists.ensures.held
-    (two_read n c.in_ok-table.table c.in_ok-params.params s1.held s2.held c.read_parameters.ensures.held c.in_ok-table.ensures.ok c.in_ok-params.ensures.ok) c.in_ok-start.ensures.ok
+    all_read n c.in_ok-table.table c.in_ok-params.params c.in_ok-start.start c.in_ok-start.dictionary s2.held s3.held c.read_lists.ensures.only.held
+    (two_read n c.in_ok-table.table c.in_ok-params.params s1.held s2.held c.read_parameters.ensures.only.held c.in_ok-table.ensures.ok c.in_ok-params.ensures.ok) c.in_ok-start.ensures.ok
 
 pub returns-in_err-table-clause-stopped : goal.returns-in_err-table-clause-stopped
 returns-in_err-table-clause-stopped g c =
@@ -33,7 +33,7 @@ returns-in_err-params-clause-stopped g c =
     let s2 : FilesShown = g.F.Files.shown c.read_parameters.new.files in
     let n : FileNames = texts_of c.args.names.now in
     let err = err_from_is_err_and c.from_residual-in_err-params.result c.from_residual-in_err-params.ensures.1 in
-    rw (err.1, err.2) (stopped_2 n c.in_ok-table.table s0 s1 s2 c.in_err-params.field-0.0 c.read_table.ensures.reads (calls_on (Reads n.translate ∷ []) (Reads n.params ∷ []) s0 s1 s2 c.read_table.ensures.calls c.read_parameters.ensures.calls) c.read_parameters.ensures.held c.in_ok-table.ensures.ok c.in_err-params.ensures.stopped)
+    rw (err.1, err.2) (stopped_2 n c.in_ok-table.table s0 s1 s2 c.in_err-params.field-0.0 c.read_table.ensures.only.reads (calls_on (Reads n.translate ∷ []) (Reads n.params ∷ []) s0 s1 s2 c.read_table.ensures.calls c.read_parameters.ensures.calls) c.read_parameters.ensures.only.held c.in_ok-table.ensures.ok c.in_err-params.ensures.stopped)
 
 pub returns-in_err-start-clause-stopped : goal.returns-in_err-start-clause-stopped
 returns-in_err-start-clause-stopped g c =
@@ -44,9 +44,9 @@ returns-in_err-start-clause-stopped g c =
     let n : FileNames = texts_of c.args.names.now in
     let t = c.in_ok-table.table in
     let err = err_from_is_err_and c.from_residual-in_err-start.result c.from_residual-in_err-start.ensures.1 in
-    let table = held_later s1.held s2.held (HasTable n.translate t) c.read_parameters.ensures.held c.in_ok-table.ensures.ok in
-    rw (err.1, err.2) (stopped_lists n t c.in_ok-params.params s0 s2 s3 c.in_err-start.field-0.0 (none_fell s0.read_faults s1.read_faults s2.read_faults c.read_table.ensures.reads c.read_parameters.ensures.reads) (calls_on (Reads n.translate ∷ []) (Reads n.params ∷ []) s0 s1 s2 c.read_table.ensures.calls c.read_parameters.ensures.calls) c.read_lists.ensures.held
-    (two_read n c.in_ok-table.table c.in_ok-params.params s1.held s2.held c.read_parameters.ensures.held c.in_ok-table.ensures.ok c.in_ok-params.ensures.ok) (c.in_err-start.ensures.stopped n.translate table))
+    let table = held_later s1.held s2.held (HasTable n.translate t) c.read_parameters.ensures.only.held c.in_ok-table.ensures.ok in
+    rw (err.1, err.2) (stopped_lists n t c.in_ok-params.params s0 s2 s3 c.in_err-start.field-0.0 (none_fell s0.read_faults s1.read_faults s2.read_faults c.read_table.ensures.only.reads c.read_parameters.ensures.only.reads) (calls_on (Reads n.translate ∷ []) (Reads n.params ∷ []) s0 s1 s2 c.read_table.ensures.calls c.read_parameters.ensures.calls) c.read_lists.ensures.only.held
+    (two_read n c.in_ok-table.table c.in_ok-params.params s1.held s2.held c.read_parameters.ensures.only.held c.in_ok-table.ensures.ok c.in_ok-params.ensures.ok) (c.in_err-start.ensures.stopped n.translate table))
 
 pub returns-clause-counted : goal.returns-clause-counted
 returns-clause-counted g c =
@@ -60,83 +60,31 @@ returns-clause-counted g c =
 pub returns-clause-signs : goal.returns-clause-signs
 returns-clause-signs g c = record { words = c.in_ok-start.ensures.signs.1; start = c.in_ok-start.ensures.signs.0 }
 
-pub returns-in_err-table-clause-held : goal.returns-in_err-table-clause-held
-returns-in_err-table-clause-held g c = c.read_table.ensures.held
+pub returns-in_err-table-clause-only : goal.returns-in_err-table-clause-only
+returns-in_err-table-clause-only g c = c.read_table.ensures.only
 
-pub returns-in_err-table-clause-reads : goal.returns-in_err-table-clause-reads
-returns-in_err-table-clause-reads g c = c.read_table.ensures.reads
-
-pub returns-in_err-table-clause-writes : goal.returns-in_err-table-clause-writes
-returns-in_err-table-clause-writes g c = c.read_table.ensures.writes
-
-pub returns-in_err-params-clause-held : goal.returns-in_err-params-clause-held
-returns-in_err-params-clause-held g c =
+pub returns-in_err-params-clause-only : goal.returns-in_err-params-clause-only
+returns-in_err-params-clause-only g c =
     let s0 : FilesShown = g.F.Files.shown c.args.files.now in
     let s1 : FilesShown = g.F.Files.shown c.read_table.new.files in
     let s2 : FilesShown = g.F.Files.shown c.read_parameters.new.files in
-    kept_on s0.held s1.held s2.held c.read_table.ensures.held c.read_parameters.ensures.held
+    only_on s0 s1 s2 c.read_table.ensures.only c.read_parameters.ensures.only
 
-pub returns-in_err-params-clause-reads : goal.returns-in_err-params-clause-reads
-returns-in_err-params-clause-reads g c =
-    let s0 : FilesShown = g.F.Files.shown c.args.files.now in
-    let s1 : FilesShown = g.F.Files.shown c.read_table.new.files in
-    let s2 : FilesShown = g.F.Files.shown c.read_parameters.new.files in
-    none_fell s0.read_faults s1.read_faults s2.read_faults c.read_table.ensures.reads c.read_parameters.ensures.reads
-
-pub returns-in_err-params-clause-writes : goal.returns-in_err-params-clause-writes
-returns-in_err-params-clause-writes g c =
-    let s0 : FilesShown = g.F.Files.shown c.args.files.now in
-    let s1 : FilesShown = g.F.Files.shown c.read_table.new.files in
-    let s2 : FilesShown = g.F.Files.shown c.read_parameters.new.files in
-    none_fell s0.write_faults s1.write_faults s2.write_faults c.read_table.ensures.writes c.read_parameters.ensures.writes
-
-pub returns-in_err-start-clause-held : goal.returns-in_err-start-clause-held
-returns-in_err-start-clause-held g c =
+pub returns-in_err-start-clause-only : goal.returns-in_err-start-clause-only
+returns-in_err-start-clause-only g c =
     let s0 : FilesShown = g.F.Files.shown c.args.files.now in
     let s1 : FilesShown = g.F.Files.shown c.read_table.new.files in
     let s2 : FilesShown = g.F.Files.shown c.read_parameters.new.files in
     let s3 : FilesShown = g.F.Files.shown c.read_lists.new.files in
-    kept_on s0.held s2.held s3.held (kept_on s0.held s1.held s2.held c.read_table.ensures.held c.read_parameters.ensures.held) c.read_lists.ensures.held
+    only_on s0 s2 s3 (only_on s0 s1 s2 c.read_table.ensures.only c.read_parameters.ensures.only) c.read_lists.ensures.only
 
-pub returns-in_err-start-clause-reads : goal.returns-in_err-start-clause-reads
-returns-in_err-start-clause-reads g c =
+pub returns-clause-only : goal.returns-clause-only
+returns-clause-only g c =
     let s0 : FilesShown = g.F.Files.shown c.args.files.now in
     let s1 : FilesShown = g.F.Files.shown c.read_table.new.files in
     let s2 : FilesShown = g.F.Files.shown c.read_parameters.new.files in
     let s3 : FilesShown = g.F.Files.shown c.read_lists.new.files in
-    none_fell s0.read_faults s2.read_faults s3.read_faults (none_fell s0.read_faults s1.read_faults s2.read_faults c.read_table.ensures.reads c.read_parameters.ensures.reads) c.read_lists.ensures.reads
-
-pub returns-in_err-start-clause-writes : goal.returns-in_err-start-clause-writes
-returns-in_err-start-clause-writes g c =
-    let s0 : FilesShown = g.F.Files.shown c.args.files.now in
-    let s1 : FilesShown = g.F.Files.shown c.read_table.new.files in
-    let s2 : FilesShown = g.F.Files.shown c.read_parameters.new.files in
-    let s3 : FilesShown = g.F.Files.shown c.read_lists.new.files in
-    none_fell s0.write_faults s2.write_faults s3.write_faults (none_fell s0.write_faults s1.write_faults s2.write_faults c.read_table.ensures.writes c.read_parameters.ensures.writes) c.read_lists.ensures.writes
-
-pub returns-clause-held : goal.returns-clause-held
-returns-clause-held g c =
-    let s0 : FilesShown = g.F.Files.shown c.args.files.now in
-    let s1 : FilesShown = g.F.Files.shown c.read_table.new.files in
-    let s2 : FilesShown = g.F.Files.shown c.read_parameters.new.files in
-    let s3 : FilesShown = g.F.Files.shown c.read_lists.new.files in
-    kept_on s0.held s2.held s3.held (kept_on s0.held s1.held s2.held c.read_table.ensures.held c.read_parameters.ensures.held) c.read_lists.ensures.held
-
-pub returns-clause-reads : goal.returns-clause-reads
-returns-clause-reads g c =
-    let s0 : FilesShown = g.F.Files.shown c.args.files.now in
-    let s1 : FilesShown = g.F.Files.shown c.read_table.new.files in
-    let s2 : FilesShown = g.F.Files.shown c.read_parameters.new.files in
-    let s3 : FilesShown = g.F.Files.shown c.read_lists.new.files in
-    none_fell s0.read_faults s2.read_faults s3.read_faults (none_fell s0.read_faults s1.read_faults s2.read_faults c.read_table.ensures.reads c.read_parameters.ensures.reads) c.read_lists.ensures.reads
-
-pub returns-clause-writes : goal.returns-clause-writes
-returns-clause-writes g c =
-    let s0 : FilesShown = g.F.Files.shown c.args.files.now in
-    let s1 : FilesShown = g.F.Files.shown c.read_table.new.files in
-    let s2 : FilesShown = g.F.Files.shown c.read_parameters.new.files in
-    let s3 : FilesShown = g.F.Files.shown c.read_lists.new.files in
-    none_fell s0.write_faults s2.write_faults s3.write_faults (none_fell s0.write_faults s1.write_faults s2.write_faults c.read_table.ensures.writes c.read_parameters.ensures.writes) c.read_lists.ensures.writes
+    only_on s0 s2 s3 (only_on s0 s1 s2 c.read_table.ensures.only c.read_parameters.ensures.only) c.read_lists.ensures.only
 
 pub returns-in_err-table-clause-ok : goal.returns-in_err-table-clause-ok
 returns-in_err-table-clause-ok g c = rw (err_from_is_err_and c.from_residual.result c.from_residual.ensures.1).1 tt

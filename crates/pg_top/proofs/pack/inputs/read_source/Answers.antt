@@ -10,13 +10,12 @@ use Rattle.pg_top.specs.declared.inputs.Input.TheVariants.{Translate, Patterns}
 use Rattle.pg_top.proofs.CountedCalls.{calls_on}
 use Rattle.pg_top.proofs.pack.PackOrder.{source_read}
 use Rattle.pg_top.proofs.UnderTable.{stopped_first, stopped_second}
-use Rattle.pg_top.proofs.Orders.{kept_on}
-use Rattle.pg_top.proofs.Faults.{none_fell}
+use Rattle.pg_top.proofs.Orders.{only_on}
 use Rattle.pg_top.proofs.pack.inputs.read_source.Goals as goal
 
 pub returns-clause-ok : goal.returns-clause-ok
 returns-clause-ok g c =
-    source_read (pack_of c.args.names.now) c.in_ok-table.table c.in_ok-patterns.patterns (g.F.Files.shown c.read_table.new.files).held (g.F.Files.shown c.read_start.new.files).held c.read_start.ensures.held c.in_ok-table.ensures.ok c.in_ok-patterns.ensures.ok
+    source_read (pack_of c.args.names.now) c.in_ok-table.table c.in_ok-patterns.patterns (g.F.Files.shown c.read_table.new.files).held (g.F.Files.shown c.read_start.new.files).held c.read_start.ensures.only.held c.in_ok-table.ensures.ok c.in_ok-patterns.ensures.ok
 
 pub returns-in_err-table-clause-stopped : goal.returns-in_err-table-clause-stopped
 returns-in_err-table-clause-stopped g c =
@@ -26,35 +25,48 @@ returns-in_err-table-clause-stopped g c =
 pub returns-in_err-patterns-clause-stopped : goal.returns-in_err-patterns-clause-stopped
 returns-in_err-patterns-clause-stopped g c =
     let err = err_from_is_err_and c.from_residual-in_err-patterns.result c.from_residual-in_err-patterns.ensures.1 in
-    rw (err.1, err.2) (stopped_second c.args.names.now.translate.now c.in_ok-table.table start Patterns c.args.names.now.patterns.now [] (g.F.Files.shown c.args.files.now) (g.F.Files.shown c.read_table.new.files) (g.F.Files.shown c.read_start.new.files) c.in_err-patterns.field-0.0 c.read_table.ensures.reads (calls_on (Reads c.args.names.now.translate.now ∷ []) (Reads c.args.names.now.patterns.now ∷ []) (g.F.Files.shown c.args.files.now) (g.F.Files.shown c.read_table.new.files) (g.F.Files.shown c.read_start.new.files) c.read_table.ensures.calls c.read_start.ensures.calls) c.read_start.ensures.held c.in_ok-table.ensures.ok c.in_err-patterns.ensures.stopped)
+    rw (err.1, err.2) (stopped_second c.args.names.now.translate.now c.in_ok-table.table start Patterns c.args.names.now.patterns.now [] (g.F.Files.shown c.args.files.now) (g.F.Files.shown c.read_table.new.files) (g.F.Files.shown c.read_start.new.files) c.in_err-patterns.field-0.0 c.read_table.ensures.only.reads (calls_on (Reads c.args.names.now.translate.now ∷ []) (Reads c.args.names.now.patterns.now ∷ []) (g.F.Files.shown c.args.files.now) (g.F.Files.shown c.read_table.new.files) (g.F.Files.shown c.read_start.new.files) c.read_table.ensures.calls c.read_start.ensures.calls) c.read_start.ensures.only.held c.in_ok-table.ensures.ok c.in_err-patterns.ensures.stopped)
 
 pub returns-clause-counted : goal.returns-clause-counted
 returns-clause-counted g c = calls_on (Reads c.args.names.now.translate.now ∷ []) (Reads c.args.names.now.patterns.now ∷ []) (g.F.Files.shown c.args.files.now) (g.F.Files.shown c.read_table.new.files) (g.F.Files.shown c.read_start.new.files) c.read_table.ensures.calls c.read_start.ensures.calls
 
-pub returns-in_err-patterns-clause-held : goal.returns-in_err-patterns-clause-held
-returns-in_err-patterns-clause-held g c =
+pub returns-in_err-patterns-clause-only : goal.returns-in_err-patterns-clause-only
+returns-in_err-patterns-clause-only g c =
     let s0 : FilesShown = g.F.Files.shown c.args.files.now in
     let s1 : FilesShown = g.F.Files.shown c.read_table.new.files in
     let s2 : FilesShown = g.F.Files.shown c.read_start.new.files in
-    kept_on s0.held s1.held s2.held c.read_table.ensures.held c.read_start.ensures.held
+    only_on s0 s1 s2 c.read_table.ensures.only c.read_start.ensures.only
 
-pub returns-in_err-patterns-clause-writes : goal.returns-in_err-patterns-clause-writes
-returns-in_err-patterns-clause-writes g c =
+pub returns-clause-only : goal.returns-clause-only
+returns-clause-only g c =
     let s0 : FilesShown = g.F.Files.shown c.args.files.now in
     let s1 : FilesShown = g.F.Files.shown c.read_table.new.files in
     let s2 : FilesShown = g.F.Files.shown c.read_start.new.files in
-    none_fell s0.write_faults s1.write_faults s2.write_faults c.read_table.ensures.writes c.read_start.ensures.writes
+    only_on s0 s1 s2 c.read_table.ensures.only c.read_start.ensures.only
 
-pub returns-clause-held : goal.returns-clause-held
-returns-clause-held g c =
-    let s0 : FilesShown = g.F.Files.shown c.args.files.now in
-    let s1 : FilesShown = g.F.Files.shown c.read_table.new.files in
-    let s2 : FilesShown = g.F.Files.shown c.read_start.new.files in
-    kept_on s0.held s1.held s2.held c.read_table.ensures.held c.read_start.ensures.held
+pub returns-in_err-table-clause-ok : goal.returns-in_err-table-clause-ok
+returns-in_err-table-clause-ok g c = rw (err_from_is_err_and c.from_residual.result c.from_residual.ensures.1).1 tt
 
-pub returns-clause-writes : goal.returns-clause-writes
-returns-clause-writes g c =
-    let s0 : FilesShown = g.F.Files.shown c.args.files.now in
-    let s1 : FilesShown = g.F.Files.shown c.read_table.new.files in
-    let s2 : FilesShown = g.F.Files.shown c.read_start.new.files in
-    none_fell s0.write_faults s1.write_faults s2.write_faults c.read_table.ensures.writes c.read_start.ensures.writes
+pub returns-in_err-table-clause-known : goal.returns-in_err-table-clause-known
+returns-in_err-table-clause-known g c = rw (err_from_is_err_and c.from_residual.result c.from_residual.ensures.1).1 tt
+
+pub returns-in_err-table-clause-counted : goal.returns-in_err-table-clause-counted
+returns-in_err-table-clause-counted g c = rw (err_from_is_err_and c.from_residual.result c.from_residual.ensures.1).1 tt
+
+pub returns-in_err-table-clause-only : goal.returns-in_err-table-clause-only
+returns-in_err-table-clause-only g c = c.read_table.ensures.only
+
+pub returns-in_err-patterns-clause-ok : goal.returns-in_err-patterns-clause-ok
+returns-in_err-patterns-clause-ok g c = rw (err_from_is_err_and c.from_residual-in_err-patterns.result c.from_residual-in_err-patterns.ensures.1).1 tt
+
+pub returns-in_err-patterns-clause-known : goal.returns-in_err-patterns-clause-known
+returns-in_err-patterns-clause-known g c = rw (err_from_is_err_and c.from_residual-in_err-patterns.result c.from_residual-in_err-patterns.ensures.1).1 tt
+
+pub returns-in_err-patterns-clause-counted : goal.returns-in_err-patterns-clause-counted
+returns-in_err-patterns-clause-counted g c = rw (err_from_is_err_and c.from_residual-in_err-patterns.result c.from_residual-in_err-patterns.ensures.1).1 tt
+
+pub returns-clause-known : goal.returns-clause-known
+returns-clause-known g c = c.in_ok-patterns.ensures.known
+
+pub returns-clause-stopped : goal.returns-clause-stopped
+returns-clause-stopped g c = tt

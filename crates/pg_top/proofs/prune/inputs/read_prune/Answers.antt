@@ -5,9 +5,8 @@ use Rattle.pg_outside.specs.FilesCalls.{Reads}
 use Rattle.pg_top.specs.prune.Inside.Inputs.{prune_of}
 use Rattle.pg_words.specs.Requests.{PruneRequest}
 use Rattle.pg_top.proofs.CountedCalls.{calls_on}
-use Rattle.pg_top.proofs.Faults.{none_fell}
 use Rattle.pg_top.proofs.prune.PruneOrder.{all_read, stopped_table, stopped_lists}
-use Rattle.pg_top.proofs.Orders.{kept_on}
+use Rattle.pg_top.proofs.Orders.{only_on}
 use Rattle.pg_top.proofs.prune.inputs.read_prune.Goals as goal
 
 pub returns-clause-ok : goal.returns-clause-ok
@@ -16,7 +15,7 @@ returns-clause-ok g c =
     let s0 : FilesShown = g.F.Files.shown c.args.files.now in
     let s1 : FilesShown = g.F.Files.shown c.read_table.new.files in
     let s2 : FilesShown = g.F.Files.shown c.read_lists.new.files in
-    all_read p c.in_ok-table.table c.in_ok-patterns.patterns c.in_ok-patterns.dictionary s1.held s2.held c.read_lists.ensures.held c.in_ok-table.ensures.ok c.in_ok-patterns.ensures.ok
+    all_read p c.in_ok-table.table c.in_ok-patterns.patterns c.in_ok-patterns.dictionary s1.held s2.held c.read_lists.ensures.only.held c.in_ok-table.ensures.ok c.in_ok-patterns.ensures.ok
 
 pub returns-in_err-table-clause-stopped : goal.returns-in_err-table-clause-stopped
 returns-in_err-table-clause-stopped g c =
@@ -30,7 +29,7 @@ returns-in_err-patterns-clause-stopped g c =
     let s1 : FilesShown = g.F.Files.shown c.read_table.new.files in
     let s2 : FilesShown = g.F.Files.shown c.read_lists.new.files in
     let err = err_from_is_err_and c.from_residual-in_err-patterns.result c.from_residual-in_err-patterns.ensures.1 in
-    rw (err.1, err.2) (stopped_lists p c.in_ok-table.table s0 s1 s2 c.in_err-patterns.field-0.0 c.read_table.ensures.reads c.read_table.ensures.calls c.read_lists.ensures.held c.in_ok-table.ensures.ok (c.in_err-patterns.ensures.stopped p.translate c.in_ok-table.ensures.ok))
+    rw (err.1, err.2) (stopped_lists p c.in_ok-table.table s0 s1 s2 c.in_err-patterns.field-0.0 c.read_table.ensures.only.reads c.read_table.ensures.calls c.read_lists.ensures.only.held c.in_ok-table.ensures.ok (c.in_err-patterns.ensures.stopped p.translate c.in_ok-table.ensures.ok))
 
 pub returns-clause-counted : goal.returns-clause-counted
 returns-clause-counted g c =
@@ -43,39 +42,22 @@ returns-clause-counted g c =
 pub returns-clause-known : goal.returns-clause-known
 returns-clause-known g c = c.in_ok-patterns.ensures.signs.0
 
-pub returns-in_err-table-clause-held : goal.returns-in_err-table-clause-held
-returns-in_err-table-clause-held g c = c.read_table.ensures.held
+pub returns-in_err-table-clause-only : goal.returns-in_err-table-clause-only
+returns-in_err-table-clause-only g c = c.read_table.ensures.only
 
-pub returns-in_err-table-clause-writes : goal.returns-in_err-table-clause-writes
-returns-in_err-table-clause-writes g c = c.read_table.ensures.writes
-
-pub returns-in_err-patterns-clause-held : goal.returns-in_err-patterns-clause-held
-returns-in_err-patterns-clause-held g c =
+pub returns-in_err-patterns-clause-only : goal.returns-in_err-patterns-clause-only
+returns-in_err-patterns-clause-only g c =
     let s0 : FilesShown = g.F.Files.shown c.args.files.now in
     let s1 : FilesShown = g.F.Files.shown c.read_table.new.files in
     let s2 : FilesShown = g.F.Files.shown c.read_lists.new.files in
-    kept_on s0.held s1.held s2.held c.read_table.ensures.held c.read_lists.ensures.held
+    only_on s0 s1 s2 c.read_table.ensures.only c.read_lists.ensures.only
 
-pub returns-in_err-patterns-clause-writes : goal.returns-in_err-patterns-clause-writes
-returns-in_err-patterns-clause-writes g c =
+pub returns-clause-only : goal.returns-clause-only
+returns-clause-only g c =
     let s0 : FilesShown = g.F.Files.shown c.args.files.now in
     let s1 : FilesShown = g.F.Files.shown c.read_table.new.files in
     let s2 : FilesShown = g.F.Files.shown c.read_lists.new.files in
-    none_fell s0.write_faults s1.write_faults s2.write_faults c.read_table.ensures.writes c.read_lists.ensures.writes
-
-pub returns-clause-held : goal.returns-clause-held
-returns-clause-held g c =
-    let s0 : FilesShown = g.F.Files.shown c.args.files.now in
-    let s1 : FilesShown = g.F.Files.shown c.read_table.new.files in
-    let s2 : FilesShown = g.F.Files.shown c.read_lists.new.files in
-    kept_on s0.held s1.held s2.held c.read_table.ensures.held c.read_lists.ensures.held
-
-pub returns-clause-writes : goal.returns-clause-writes
-returns-clause-writes g c =
-    let s0 : FilesShown = g.F.Files.shown c.args.files.now in
-    let s1 : FilesShown = g.F.Files.shown c.read_table.new.files in
-    let s2 : FilesShown = g.F.Files.shown c.read_lists.new.files in
-    none_fell s0.write_faults s1.write_faults s2.write_faults c.read_table.ensures.writes c.read_lists.ensures.writes
+    only_on s0 s1 s2 c.read_table.ensures.only c.read_lists.ensures.only
 
 pub returns-in_err-table-clause-ok : goal.returns-in_err-table-clause-ok
 returns-in_err-table-clause-ok g c = rw (err_from_is_err_and c.from_residual.result c.from_residual.ensures.1).1 tt

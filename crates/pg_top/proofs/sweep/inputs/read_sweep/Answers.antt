@@ -5,7 +5,7 @@ use Rattle.pg_words.specs.Commands.{sweep_of}
 use Rattle.pg_words.specs.Requests.{SweepRequest}
 use Rattle.pg_top.proofs.Faults.{none_fell}
 use Rattle.pg_top.proofs.sweep.SweepOrder.{front_calls, all_calls, front_read, all_read, stopped_table, stopped_sets, stopped_lists}
-use Rattle.pg_top.proofs.Orders.{held_later, kept_on}
+use Rattle.pg_top.proofs.Orders.{held_later, only_on}
 use Rattle.pg_top.proofs.UnderTable.{HasTable}
 use Rattle.pg_top.proofs.sweep.inputs.read_sweep.Goals as goal
 
@@ -18,8 +18,8 @@ returns-clause-ok g c =
     let s3 : FilesShown = g.F.Files.shown c.read_lists.new.files in
     let t = c.in_ok-table.table in
     let sets = c.in_ok-sets.sets.items in
-    all_read s t sets c.in_ok-start.start c.in_ok-start.dictionary s2.held s3.held c.read_lists.ensures.held
-    (front_read s t sets s1.held s2.held c.read_sets.ensures.held c.in_ok-table.ensures.ok c.in_ok-sets.ensures.ok) c.in_ok-start.ensures.ok
+    all_read s t sets c.in_ok-start.start c.in_ok-start.dictionary s2.held s3.held c.read_lists.ensures.only.held
+    (front_read s t sets s1.held s2.held c.read_sets.ensures.only.held c.in_ok-table.ensures.ok c.in_ok-sets.ensures.ok) c.in_ok-start.ensures.ok
 
 pub returns-in_err-table-clause-stopped : goal.returns-in_err-table-clause-stopped
 returns-in_err-table-clause-stopped g c =
@@ -29,7 +29,7 @@ returns-in_err-table-clause-stopped g c =
 pub returns-in_err-sets-clause-stopped : goal.returns-in_err-sets-clause-stopped
 returns-in_err-sets-clause-stopped g c =
     let err = err_from_is_err_and c.from_residual-in_err-sets.result c.from_residual-in_err-sets.ensures.1 in
-    rw (err.1, err.2) (stopped_sets (sweep_of c.args.words.now) c.in_ok-table.table (g.F.Files.shown c.args.files.now) (g.F.Files.shown c.read_table.new.files) (g.F.Files.shown c.read_sets.new.files) c.in_err-sets.field-0.0 c.read_table.ensures.reads c.read_table.ensures.calls c.read_sets.ensures.held c.in_ok-table.ensures.ok c.in_err-sets.ensures.stopped)
+    rw (err.1, err.2) (stopped_sets (sweep_of c.args.words.now) c.in_ok-table.table (g.F.Files.shown c.args.files.now) (g.F.Files.shown c.read_table.new.files) (g.F.Files.shown c.read_sets.new.files) c.in_err-sets.field-0.0 c.read_table.ensures.only.reads c.read_table.ensures.calls c.read_sets.ensures.only.held c.in_ok-table.ensures.ok c.in_err-sets.ensures.stopped)
 
 pub returns-in_err-start-clause-stopped : goal.returns-in_err-start-clause-stopped
 returns-in_err-start-clause-stopped g c =
@@ -41,9 +41,9 @@ returns-in_err-start-clause-stopped g c =
     let t = c.in_ok-table.table in
     let sets = c.in_ok-sets.sets.items in
     let err = err_from_is_err_and c.from_residual-in_err-start.result c.from_residual-in_err-start.ensures.1 in
-    let table = held_later s1.held s2.held (HasTable s.translate t) c.read_sets.ensures.held c.in_ok-table.ensures.ok in
-    rw (err.1, err.2) (stopped_lists s t sets s0 s2 s3 c.in_err-start.field-0.0 (none_fell s0.read_faults s1.read_faults s2.read_faults c.read_table.ensures.reads c.read_sets.ensures.reads) (front_calls s s0 s1 s2 c.read_table.ensures.calls c.in_ok-sets.ensures.counted) c.read_lists.ensures.held
-    (front_read s t sets s1.held s2.held c.read_sets.ensures.held c.in_ok-table.ensures.ok c.in_ok-sets.ensures.ok) (c.in_err-start.ensures.stopped s.translate table))
+    let table = held_later s1.held s2.held (HasTable s.translate t) c.read_sets.ensures.only.held c.in_ok-table.ensures.ok in
+    rw (err.1, err.2) (stopped_lists s t sets s0 s2 s3 c.in_err-start.field-0.0 (none_fell s0.read_faults s1.read_faults s2.read_faults c.read_table.ensures.only.reads c.read_sets.ensures.only.reads) (front_calls s s0 s1 s2 c.read_table.ensures.calls c.in_ok-sets.ensures.counted) c.read_lists.ensures.only.held
+    (front_read s t sets s1.held s2.held c.read_sets.ensures.only.held c.in_ok-table.ensures.ok c.in_ok-sets.ensures.ok) (c.in_err-start.ensures.stopped s.translate table))
 
 pub returns-clause-counted : goal.returns-clause-counted
 returns-clause-counted g c =
@@ -60,57 +60,31 @@ returns-clause-signs g c = record { words = c.in_ok-start.ensures.signs.1; start
 pub returns-clause-count : goal.returns-clause-count
 returns-clause-count g c = subst (λ n. (1 ≤ n) × (n ≤ 16)) (sym c.in_ok-sets.ensures.count) c.requires.params
 
-pub returns-in_err-table-clause-held : goal.returns-in_err-table-clause-held
-returns-in_err-table-clause-held g c = c.read_table.ensures.held
+pub returns-in_err-table-clause-only : goal.returns-in_err-table-clause-only
+returns-in_err-table-clause-only g c = c.read_table.ensures.only
 
-pub returns-in_err-table-clause-writes : goal.returns-in_err-table-clause-writes
-returns-in_err-table-clause-writes g c = c.read_table.ensures.writes
-
-pub returns-in_err-sets-clause-held : goal.returns-in_err-sets-clause-held
-returns-in_err-sets-clause-held g c =
+pub returns-in_err-sets-clause-only : goal.returns-in_err-sets-clause-only
+returns-in_err-sets-clause-only g c =
     let s0 : FilesShown = g.F.Files.shown c.args.files.now in
     let s1 : FilesShown = g.F.Files.shown c.read_table.new.files in
     let s2 : FilesShown = g.F.Files.shown c.read_sets.new.files in
-    kept_on s0.held s1.held s2.held c.read_table.ensures.held c.read_sets.ensures.held
+    only_on s0 s1 s2 c.read_table.ensures.only c.read_sets.ensures.only
 
-pub returns-in_err-sets-clause-writes : goal.returns-in_err-sets-clause-writes
-returns-in_err-sets-clause-writes g c =
-    let s0 : FilesShown = g.F.Files.shown c.args.files.now in
-    let s1 : FilesShown = g.F.Files.shown c.read_table.new.files in
-    let s2 : FilesShown = g.F.Files.shown c.read_sets.new.files in
-    none_fell s0.write_faults s1.write_faults s2.write_faults c.read_table.ensures.writes c.read_sets.ensures.writes
-
-pub returns-in_err-start-clause-held : goal.returns-in_err-start-clause-held
-returns-in_err-start-clause-held g c =
+pub returns-in_err-start-clause-only : goal.returns-in_err-start-clause-only
+returns-in_err-start-clause-only g c =
     let s0 : FilesShown = g.F.Files.shown c.args.files.now in
     let s1 : FilesShown = g.F.Files.shown c.read_table.new.files in
     let s2 : FilesShown = g.F.Files.shown c.read_sets.new.files in
     let s3 : FilesShown = g.F.Files.shown c.read_lists.new.files in
-    kept_on s0.held s2.held s3.held (kept_on s0.held s1.held s2.held c.read_table.ensures.held c.read_sets.ensures.held) c.read_lists.ensures.held
+    only_on s0 s2 s3 (only_on s0 s1 s2 c.read_table.ensures.only c.read_sets.ensures.only) c.read_lists.ensures.only
 
-pub returns-in_err-start-clause-writes : goal.returns-in_err-start-clause-writes
-returns-in_err-start-clause-writes g c =
+pub returns-clause-only : goal.returns-clause-only
+returns-clause-only g c =
     let s0 : FilesShown = g.F.Files.shown c.args.files.now in
     let s1 : FilesShown = g.F.Files.shown c.read_table.new.files in
     let s2 : FilesShown = g.F.Files.shown c.read_sets.new.files in
     let s3 : FilesShown = g.F.Files.shown c.read_lists.new.files in
-    none_fell s0.write_faults s2.write_faults s3.write_faults (none_fell s0.write_faults s1.write_faults s2.write_faults c.read_table.ensures.writes c.read_sets.ensures.writes) c.read_lists.ensures.writes
-
-pub returns-clause-held : goal.returns-clause-held
-returns-clause-held g c =
-    let s0 : FilesShown = g.F.Files.shown c.args.files.now in
-    let s1 : FilesShown = g.F.Files.shown c.read_table.new.files in
-    let s2 : FilesShown = g.F.Files.shown c.read_sets.new.files in
-    let s3 : FilesShown = g.F.Files.shown c.read_lists.new.files in
-    kept_on s0.held s2.held s3.held (kept_on s0.held s1.held s2.held c.read_table.ensures.held c.read_sets.ensures.held) c.read_lists.ensures.held
-
-pub returns-clause-writes : goal.returns-clause-writes
-returns-clause-writes g c =
-    let s0 : FilesShown = g.F.Files.shown c.args.files.now in
-    let s1 : FilesShown = g.F.Files.shown c.read_table.new.files in
-    let s2 : FilesShown = g.F.Files.shown c.read_sets.new.files in
-    let s3 : FilesShown = g.F.Files.shown c.read_lists.new.files in
-    none_fell s0.write_faults s2.write_faults s3.write_faults (none_fell s0.write_faults s1.write_faults s2.write_faults c.read_table.ensures.writes c.read_sets.ensures.writes) c.read_lists.ensures.writes
+    only_on s0 s2 s3 (only_on s0 s1 s2 c.read_table.ensures.only c.read_sets.ensures.only) c.read_lists.ensures.only
 
 pub returns-in_err-table-clause-ok : goal.returns-in_err-table-clause-ok
 returns-in_err-table-clause-ok g c = rw (err_from_is_err_and c.from_residual.result c.from_residual.ensures.1).1 tt

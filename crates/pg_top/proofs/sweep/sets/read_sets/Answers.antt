@@ -6,8 +6,7 @@ use Rattle.pg_words.specs.Commands.{words_of}
 use Rattle.pg_top.specs.sweep.Swept.{HasSets}
 use Rattle.pg_top.specs.declared.inputs.Stop.TheVariants.{Memory}
 use Rattle.pg_top.proofs.CountedCalls.{no_calls}
-use Rattle.pg_top.proofs.Faults.{none_fell}
-use Rattle.pg_top.proofs.Orders.{kept_self, kept_on}
+use Rattle.pg_top.proofs.Orders.{only_on, only_self}
 use Rattle.pg_top.proofs.sweep.SetFiles.{no_sets, all_sets_taken, sets_more, set_read, sets_read_on, stopped_set, all_sets_read}
 use Rattle.pg_top.proofs.sweep.sets.read_sets.Goals as goal
 
@@ -22,11 +21,9 @@ sets-preserved g c =
     let items = c.in-Ok.ensures.items in
     let here = rw c.as_str-name.ensures.value at c.read_parameters.ensures.calls in
     record {
-      held = kept_on s0.held s1.held s2.held c.sets.invariant.held c.read_parameters.ensures.held;
-      reads = none_fell s0.read_faults s1.read_faults s2.read_faults c.sets.invariant.reads c.read_parameters.ensures.reads;
-      writes = none_fell s0.write_faults s1.write_faults s2.write_faults c.sets.invariant.writes c.read_parameters.ensures.writes;
+      only = only_on s0 s1 s2 c.sets.invariant.only c.read_parameters.ensures.only;
       taken = subst (λ (sets : List Parameters). IfSome s2.held (λ files. HasSets (file_at files) (words_of (take (c.sets.i + 1) names)) sets)) (sym items)
-          (sets_more names c.sets.i c.index-names-i.result c.index-names-i.is c.sets-test.true s1.held s2.held c.sets.sets.items set c.read_parameters.ensures.held c.sets.invariant.taken more);
+          (sets_more names c.sets.i c.index-names-i.result c.index-names-i.is c.sets-test.true s1.held s2.held c.sets.sets.items set c.read_parameters.ensures.only.held c.sets.invariant.taken more);
       calls = sets_read_on names c.sets.i c.index-names-i.result c.index-names-i.is c.sets-test.true s0 s1 s2 c.sets.invariant.calls here;
       count = ap length items ∙ length-append c.sets.sets.items (set ∷ []) ∙ ap (λ n. n + 1) c.sets.invariant.count;
     }
@@ -39,7 +36,7 @@ returns-in_err-set-clause-stopped g c =
     let stops = rw c.as_str-name.ensures.value at c.in_err-set.ensures.stopped in
     let here = rw c.as_str-name.ensures.value at c.read_parameters.ensures.calls in
     let err = err_from_is_err_and c.from_residual.result c.from_residual.ensures.1 in
-    rw (err.1, err.2) (stopped_set c.args.names.now c.sets.i c.index-names-i.result c.index-names-i.is c.sets-test.true s0 s1 s2 c.sets.sets.items c.in_err-set.field-0.0 c.sets.invariant.reads (set_read c.args.names.now c.sets.i c.index-names-i.result c.index-names-i.is c.sets-test.true s0 s1 s2 c.sets.invariant.calls here) c.read_parameters.ensures.held c.sets.invariant.taken stops)
+    rw (err.1, err.2) (stopped_set c.args.names.now c.sets.i c.index-names-i.result c.index-names-i.is c.sets-test.true s0 s1 s2 c.sets.sets.items c.in_err-set.field-0.0 c.sets.invariant.only.reads (set_read c.args.names.now c.sets.i c.index-names-i.result c.index-names-i.is c.sets-test.true s0 s1 s2 c.sets.invariant.calls here) c.read_parameters.ensures.only.held c.sets.invariant.taken stops)
 
 pub returns-in-Err-clause-stopped : goal.returns-in-Err-clause-stopped
 returns-in-Err-clause-stopped g c =
@@ -47,7 +44,7 @@ returns-in-Err-clause-stopped g c =
     let s1 : FilesShown = g.F.Files.shown c.sets.files in
     let s2 : FilesShown = g.F.Files.shown c.read_parameters.new.files in
     let here = rw c.as_str-name.ensures.value at c.read_parameters.ensures.calls in
-    stopped_set c.args.names.now c.sets.i c.index-names-i.result c.index-names-i.is c.sets-test.true s0 s1 s2 c.sets.sets.items Memory c.sets.invariant.reads (set_read c.args.names.now c.sets.i c.index-names-i.result c.index-names-i.is c.sets-test.true s0 s1 s2 c.sets.invariant.calls here) c.read_parameters.ensures.held c.sets.invariant.taken tt
+    stopped_set c.args.names.now c.sets.i c.index-names-i.result c.index-names-i.is c.sets-test.true s0 s1 s2 c.sets.sets.items Memory c.sets.invariant.only.reads (set_read c.args.names.now c.sets.i c.index-names-i.result c.index-names-i.is c.sets-test.true s0 s1 s2 c.sets.invariant.calls here) c.read_parameters.ensures.only.held c.sets.invariant.taken tt
 
 pub returns-clause-counted : goal.returns-clause-counted
 returns-clause-counted g c = all_sets_read c.args.names.now c.sets.i (g.F.Files.shown c.args.files.now) (g.F.Files.shown c.sets.files) (omega arith) c.sets.invariant.calls
@@ -57,9 +54,7 @@ sets-init g c =
     let s : FilesShown = g.F.Files.shown c.args.files.now in
     let empty = c.new-sets.ensures.items in
     record {
-      held = kept_self s.held;
-      reads = λ name. omega arith;
-      writes = λ name. omega arith;
+      only = only_self s;
       taken = subst (λ (sets : List Parameters). IfSome s.held (λ files. HasSets (file_at files) [] sets)) (sym empty) (no_sets s.held);
       calls = no_calls s;
       count = ap length empty;
@@ -71,23 +66,11 @@ returns-clause-ok g c = all_sets_taken c.args.names.now c.sets.i (g.F.Files.show
 pub returns-clause-count : goal.returns-clause-count
 returns-clause-count g c = omega arith
 
-pub returns-in_err-set-clause-held : goal.returns-in_err-set-clause-held
-returns-in_err-set-clause-held g c = kept_on (g.F.Files.shown c.args.files.now).held (g.F.Files.shown c.sets.files).held (g.F.Files.shown c.read_parameters.new.files).held c.sets.invariant.held c.read_parameters.ensures.held
+pub returns-in_err-set-clause-only : goal.returns-in_err-set-clause-only
+returns-in_err-set-clause-only g c = only_on (g.F.Files.shown c.args.files.now) (g.F.Files.shown c.sets.files) (g.F.Files.shown c.read_parameters.new.files) c.sets.invariant.only c.read_parameters.ensures.only
 
-pub returns-in_err-set-clause-reads : goal.returns-in_err-set-clause-reads
-returns-in_err-set-clause-reads g c = none_fell (g.F.Files.shown c.args.files.now).read_faults (g.F.Files.shown c.sets.files).read_faults (g.F.Files.shown c.read_parameters.new.files).read_faults c.sets.invariant.reads c.read_parameters.ensures.reads
-
-pub returns-in_err-set-clause-writes : goal.returns-in_err-set-clause-writes
-returns-in_err-set-clause-writes g c = none_fell (g.F.Files.shown c.args.files.now).write_faults (g.F.Files.shown c.sets.files).write_faults (g.F.Files.shown c.read_parameters.new.files).write_faults c.sets.invariant.writes c.read_parameters.ensures.writes
-
-pub returns-in-Err-clause-held : goal.returns-in-Err-clause-held
-returns-in-Err-clause-held g c = kept_on (g.F.Files.shown c.args.files.now).held (g.F.Files.shown c.sets.files).held (g.F.Files.shown c.read_parameters.new.files).held c.sets.invariant.held c.read_parameters.ensures.held
-
-pub returns-in-Err-clause-reads : goal.returns-in-Err-clause-reads
-returns-in-Err-clause-reads g c = none_fell (g.F.Files.shown c.args.files.now).read_faults (g.F.Files.shown c.sets.files).read_faults (g.F.Files.shown c.read_parameters.new.files).read_faults c.sets.invariant.reads c.read_parameters.ensures.reads
-
-pub returns-in-Err-clause-writes : goal.returns-in-Err-clause-writes
-returns-in-Err-clause-writes g c = none_fell (g.F.Files.shown c.args.files.now).write_faults (g.F.Files.shown c.sets.files).write_faults (g.F.Files.shown c.read_parameters.new.files).write_faults c.sets.invariant.writes c.read_parameters.ensures.writes
+pub returns-in-Err-clause-only : goal.returns-in-Err-clause-only
+returns-in-Err-clause-only g c = only_on (g.F.Files.shown c.args.files.now) (g.F.Files.shown c.sets.files) (g.F.Files.shown c.read_parameters.new.files) c.sets.invariant.only c.read_parameters.ensures.only
 
 pub returns-in_err-set-clause-ok : goal.returns-in_err-set-clause-ok
 returns-in_err-set-clause-ok g c = rw (err_from_is_err_and c.from_residual.result c.from_residual.ensures.1).1 tt
@@ -98,11 +81,5 @@ returns-in_err-set-clause-count g c = rw (err_from_is_err_and c.from_residual.re
 pub returns-in_err-set-clause-counted : goal.returns-in_err-set-clause-counted
 returns-in_err-set-clause-counted g c = rw (err_from_is_err_and c.from_residual.result c.from_residual.ensures.1).1 tt
 
-pub returns-clause-held : goal.returns-clause-held
-returns-clause-held g c = c.sets.invariant.held
-
-pub returns-clause-reads : goal.returns-clause-reads
-returns-clause-reads g c = c.sets.invariant.reads
-
-pub returns-clause-writes : goal.returns-clause-writes
-returns-clause-writes g c = c.sets.invariant.writes
+pub returns-clause-only : goal.returns-clause-only
+returns-clause-only g c = c.sets.invariant.only

@@ -1,6 +1,6 @@
 use Rattle.std.proofs.Common.{◌≡◌, length, map, take, IfSome}
-use Rattle.pg_outside.specs.Content.{KeepsHeld, file_at}
-use Rattle.pg_outside.specs.Faults.{NoneFell}
+use Rattle.pg_outside.specs.Content.{file_at}
+use Rattle.pg_top.specs.Inside.Stops.{OnlyReads}
 use Rattle.pg_outside.specs.FilesCalls.{Reads}
 use Rattle.pg_words.specs.Commands.{words_of}
 use Rattle.pg_top.specs.Counted.{MakesCalls}
@@ -12,9 +12,7 @@ invariant-sets g l =
     let s0 = g.F.Files.shown l.fn.files in
     let s = g.F.Files.shown l.files in
     record {
-      held : KeepsHeld s0.held s.held;
-      reads : NoneFell s0.read_faults s.read_faults;
-      writes : NoneFell s0.write_faults s.write_faults;
+      only : OnlyReads s0 s;
       taken : IfSome s.held (λ files. HasSets (file_at files) (words_of (take l.i l.names)) l.sets.items);
       calls : MakesCalls s0 s (map Reads (words_of (take l.i l.names)));
       count : length l.sets.items ≡ l.i;
