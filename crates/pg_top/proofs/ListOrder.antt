@@ -9,7 +9,7 @@ use Rattle.pg_dict.specs.Words.{words}
 use Rattle.pg_patterns.specs.Starts.{start}
 use Rattle.pg_select.specs.Windows.{Patterns}
 use Rattle.pg_top.specs.Counted.{MakesCalls}
-use Rattle.pg_top.specs.Readings.{file_under, Reading, read_as, input_file}
+use Rattle.pg_top.specs.Readings.{read_as, input_file, patterns_file, words_file}
 use Rattle.pg_top.specs.Inside.Lists.{lists_under, HasLists}
 use Rattle.pg_top.specs.Inside.Stops.{StopsAt, StopsReading}
 use Rattle.pg_top.specs.declared.inputs.Input.TheVariants as input
@@ -19,16 +19,10 @@ use Rattle.pg_top.proofs.Orders.{AreAccepted, mapped, both, held_later, stopped_
 use Rattle.pg_top.proofs.UnderTable.{HasTable, accepted_under, stopped_first, stopped_under}
 
 module _ (translate patterns dict : List ℕ) (t : Alphabet) where
-  abbrev patterns_file : Reading
-  patterns_file = file_under translate input.Patterns patterns start
-
-  abbrev dictionary_file : Reading
-  dictionary_file = file_under translate input.Dictionary dict words
-
   -- a stop at the patterns
   pub stopped_patterns : (s0 s1 : FilesShown) (stop : Stop) → KeepsHeld s0.held s1.held → MakesCalls s0 s1 (Reads patterns ∷ []) → IfSome s0.held (HasTable translate t) → StopsAt (input_file input.Patterns patterns (λ _. start t)) s0 s1 stop → StopsReading (lists_under translate patterns dict) s0 s1 stop
   stopped_patterns s0 s1 stop keeps calls table stops =
-      stopped_first patterns_file (dictionary_file ∷ []) s0 s1 stop calls
+      stopped_first (patterns_file translate patterns) (words_file translate dict ∷ []) s0 s1 stop calls
       (stopped_under translate t start input.Patterns patterns s0 s1 stop (held_later s0.held s1.held (HasTable translate t) keeps table) stops)
 
   -- both are accepted under the table
@@ -45,8 +39,8 @@ module _ (translate patterns dict : List ℕ) (t : Alphabet) where
         let before : IfSome s1.held (HasTable translate t) = held_later s0.held s1.held (HasTable translate t) keeps table in
         let later : IfSome s2.held (HasTable translate t) = held_later s1.held s2.held (HasTable translate t) more before in
         let there : IfSome s2.held HasPatterns = held_later s1.held s2.held HasPatterns more read in
-        stopped_behind (patterns_file ∷ []) dictionary_file [] s0 s1 s2 stop fell (calls_on (Reads patterns ∷ []) (Reads dict ∷ []) s0 s1 s2 first second)
-        (mapped s2.held (λ files. HasTable translate t files × HasPatterns files) (λ files. AreAccepted (file_at files) (patterns_file ∷ [])) (λ files h. (accepted_under translate t start input.Patterns patterns P files h.0 h.1, tt)) (both s2.held (HasTable translate t) HasPatterns later there))
+        stopped_behind (patterns_file translate patterns ∷ []) (words_file translate dict) [] s0 s1 s2 stop fell (calls_on (Reads patterns ∷ []) (Reads dict ∷ []) s0 s1 s2 first second)
+        (mapped s2.held (λ files. HasTable translate t files × HasPatterns files) (λ files. AreAccepted (file_at files) (patterns_file translate patterns ∷ [])) (λ files h. (accepted_under translate t start input.Patterns patterns P files h.0 h.1, tt)) (both s2.held (HasTable translate t) HasPatterns later there))
         (stopped_under translate t words input.Dictionary dict s1 s2 stop later stops)
 
 -- once both are read

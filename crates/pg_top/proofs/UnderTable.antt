@@ -10,7 +10,7 @@ use Rattle.pg_translate.specs.Alphabets.{Alphabet}
 use Rattle.pg_translate.specs.Tables.{table, default_alphabet}
 use Rattle.pg_top.specs.Counted.{MakesCalls}
 use Rattle.pg_top.specs.Outcomes.{unless_accepted, refuses}
-use Rattle.pg_top.specs.Readings.{file_under, meant_under, Held, Reading, read_as, meant, input_file, table_named}
+use Rattle.pg_top.specs.Readings.{file_under, meant_under, Held, Reading, read_as, meant, input_file, table_named, translate_file}
 use Rattle.pg_top.specs.Inside.Stops.{StopsAt, StopsReading}
 use Rattle.pg_top.specs.declared.inputs.Input.{Input}
 use Rattle.pg_top.specs.declared.inputs.Input.TheVariants as input
@@ -39,16 +39,13 @@ module _ (translate : List ℕ) (t : Alphabet) where
   abbrev pub HasTable : FileMap → Type 0
   HasTable files = read_as table (file_at files) translate ≡ Some (Ok t)
 
-  abbrev translate_file : Reading
-  translate_file = input_file input.Translate translate (λ _. table)
-
   pub is_table : (files : FileMap) → HasTable files → table_named translate (file_at files) ≡ t
   is_table files h = means table default_alphabet (file_at files) translate t h
 
   pub under_table : {Y : Type 0} (parse : Alphabet → List ℕ → Result Y Refusal) (files : FileMap) (name : List ℕ) (got : Option (Result Y Refusal)) → HasTable files → read_as (parse t) (file_at files) name ≡ got → read_as (parse (table_named translate (file_at files))) (file_at files) name ≡ got
   under_table parse files name got h is = subst (λ (u : Alphabet). read_as (parse u) (file_at files) name ≡ got) (sym (is_table files h)) is
 
-  pub table_accepted : (files : FileMap) → HasTable files → IsAccepted (file_at files) translate_file
+  pub table_accepted : (files : FileMap) → HasTable files → IsAccepted (file_at files) (translate_file translate)
   table_accepted files h = accepted input.Translate table (file_at files translate) t h
 
   pub accepted_under : {Y : Type 0} (parse : Alphabet → List ℕ → Result Y Refusal) (input : Input) (name : List ℕ) (y : Y) (files : FileMap) → HasTable files → read_as (parse t) (file_at files) name ≡ Some (Ok y) → IsAccepted (file_at files) (file_under translate input name parse)
@@ -68,9 +65,9 @@ module _ (translate : List ℕ) (t : Alphabet) where
 
   -- a stop at the file behind the translate file
   pub stopped_second : {Y : Type 0} (parse : Alphabet → List ℕ → Result Y Refusal) (input : Input) (name : List ℕ) (rest : List Reading) (s0 s1 s2 : FilesShown) (stop : Stop) → NoneFell s0.read_faults s1.read_faults → MakesCalls s0 s2 (Reads translate ∷ Reads name ∷ []) → KeepsHeld s1.held s2.held → IfSome s1.held HasTable → StopsAt (input_file input name (λ _. parse t)) s1 s2 stop
-      → StopsReading (translate_file ∷ file_under translate input name parse ∷ rest) s0 s2 stop
+      → StopsReading (translate_file translate ∷ file_under translate input name parse ∷ rest) s0 s2 stop
   stopped_second parse input name rest s0 s1 s2 stop fell calls keeps h stops =
       let later : IfSome s2.held HasTable = held_later s1.held s2.held HasTable keeps h in
-      stopped_behind (translate_file ∷ []) (file_under translate input name parse) rest s0 s1 s2 stop fell calls
-      (mapped s2.held HasTable (λ files. AreAccepted (file_at files) (translate_file ∷ [])) (λ files h. (table_accepted files h, tt)) later)
+      stopped_behind (translate_file translate ∷ []) (file_under translate input name parse) rest s0 s1 s2 stop fell calls
+      (mapped s2.held HasTable (λ files. AreAccepted (file_at files) (translate_file translate ∷ [])) (λ files h. (table_accepted files h, tt)) later)
       (stopped_under parse input name s1 s2 stop later stops)

@@ -3,26 +3,30 @@ use Rattle.std.specs.Prelude.{ℕ, List, [], ◌∷◌, ◌++◌, Option, Bool, 
 use Rattle.std.specs.Option.{option_map_or}
 use Rattle.pg_top.specs.audit.Audited.{given_files, yes_line}
 use Rattle.pg_top.specs.Outcomes.{Outcome, Ends}
-use Rattle.pg_top.specs.pack.Packed.{packing_reads, packed_in}
-use Rattle.pg_top.specs.totals.Totalled.{totals_reads, totalled_in}
+use Rattle.pg_top.specs.pack.Packed.{packed_in}
+use Rattle.pg_top.specs.totals.Totalled.{totalled_in, packed_table}
 use Rattle.pg_top.specs.PrintedLines.{usage_line}
-use Rattle.pg_top.specs.prune.Pruned.{prune_reads, pruned_in}
-use Rattle.pg_top.specs.Readings.{Held, Reading, first_end}
+use Rattle.pg_top.specs.prune.Pruned.{pruned_in}
+use Rattle.pg_top.specs.Readings.{Held, Reading, first_end, translate_file, patterns_file, words_file, file_under}
 use Rattle.pg_words.specs.Requests.{Request, ToGenerate, ToAudit, ToSample, ToPack, ToTotals, ToPrune, ToSweep, output_names}
 use Rattle.pg_top.specs.sample.Sampled.{sample_lines}
 use Rattle.pg_top.specs.generate.Generated.{inputs_of, inputs_in, generated}
-use Rattle.pg_top.specs.sweep.Swept.{sweep_reads, swept_in}
+use Rattle.pg_top.specs.sweep.Swept.{swept_in, set_files}
 use Rattle.pg_top.specs.declared.answers.Status.TheVariants.{Done, Usage, Yes}
+use Rattle.pg_top.specs.declared.inputs.Input.TheVariants as input
 
 -- what a command reads, in its order
 abbrev pub reads_of : Request → List Reading
 reads_of (ToGenerate n) = inputs_of n
 reads_of (ToSample seed count) = []
 reads_of (ToAudit n) = inputs_of n ++ given_files (λ files. inputs_in files n) n
-reads_of (ToPack p) = packing_reads p
-reads_of (ToTotals p) = totals_reads p
-reads_of (ToPrune p) = prune_reads p
-reads_of (ToSweep s) = sweep_reads s
+reads_of (ToPack p) = translate_file p.translate ∷ patterns_file p.translate p.patterns ∷ []
+reads_of (ToTotals p) = translate_file p.translate ∷ words_file p.translate p.dict
+    ∷ file_under p.translate input.Table p.table packed_table ∷ []
+reads_of (ToPrune p) = translate_file p.translate
+    ∷ patterns_file p.translate p.patterns ∷ words_file p.translate p.dict ∷ []
+reads_of (ToSweep s) = translate_file s.translate ∷ set_files 1 s.params
+    ++ patterns_file s.translate s.patterns ∷ words_file s.translate s.dict ∷ []
 
 -- the names that a command writes, in its order
 abbrev pub writes_of : Request → List (List ℕ)

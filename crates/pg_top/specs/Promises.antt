@@ -4,7 +4,6 @@ use Rattle.pg_types.specs.declared.limits.TheConstants.{FILE_MAX}
 use Rattle.pg_outside.specs.Content.{file_at}
 use Rattle.pg_translate.specs.Alphabets.{Alphabet}
 use Rattle.pg_dict.specs.Word.{Word}
-use Rattle.pg_dict.specs.Words.{words}
 use Rattle.pg_patterns.specs.Starts.{start}
 use Rattle.pg_patterns.specs.Texts.{pattern_text}
 use Rattle.pg_patterns.specs.Values.{value_at}
@@ -18,20 +17,12 @@ use Rattle.pg_sweep.specs.Winners.{IsWinner}
 use Rattle.pg_top.specs.Calls.{outcome_of}
 use Rattle.pg_top.specs.Moments.{Moment, OfFiles}
 use Rattle.pg_top.specs.Outcomes.{Ends}
-use Rattle.pg_top.specs.Readings.{meant_under, Held, table_named}
+use Rattle.pg_top.specs.Readings.{Held, table_named, patterns_under, words_under}
 use Rattle.pg_top.specs.totals.Totalled.{packed_table}
 use Rattle.pg_top.specs.sweep.Swept.{winner_line, terms_in, sets_in, swept_rows}
 use Rattle.pg_words.specs.Requests.{Request, PackRequest, PruneRequest, SweepRequest, ToPack, ToPrune, ToSweep}
 use Rattle.pg_top.specs.declared.answers.Status.{Status}
 use Rattle.pg_top.specs.declared.answers.Status.TheVariants.{Done}
-
--- the patterns of a pattern file, under the table of a translate file
-abbrev pub patterns_under : Held → List ℕ → List ℕ → Patterns
-patterns_under files translate name = meant_under translate start [] files name
-
--- the words of a dictionary, under the table of a translate file
-abbrev pub words_under : Held → List ℕ → List ℕ → List Word
-words_under files translate name = meant_under translate words [] files name
 
 -- the bytes of a packed table give each position of each word the value of the patterns, and each
 -- word list their totals

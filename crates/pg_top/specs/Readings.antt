@@ -5,8 +5,13 @@ use Rattle.std.specs.Result.{result_unwrap_or}
 use Rattle.pg_types.specs.declared.refusals.Refusal.{Refusal}
 use Rattle.pg_translate.specs.Alphabets.{Alphabet}
 use Rattle.pg_translate.specs.Tables.{table, default_alphabet}
+use Rattle.pg_dict.specs.Word.{Word}
+use Rattle.pg_dict.specs.Words.{words}
+use Rattle.pg_patterns.specs.Starts.{start}
+use Rattle.pg_select.specs.Windows.{Patterns}
 use Rattle.pg_top.specs.Outcomes.{Outcome, Unknown, unless_accepted}
 use Rattle.pg_top.specs.declared.inputs.Input.{Input}
+use Rattle.pg_top.specs.declared.inputs.Input.TheVariants as input
 
 -- the files that are held: to each name the bytes of its file, none where it is not held
 abbrev pub Held : Type 0
@@ -55,3 +60,23 @@ abbrev pub meant_under : {Y : Type 0} → List ℕ → (Alphabet → List ℕ �
     → Y → Held → List ℕ → Y
 meant_under translate parse other files name =
     meant (parse (table_named translate files)) other files name
+
+-- a translate file that is read
+abbrev pub translate_file : List ℕ → Reading
+translate_file translate = input_file input.Translate translate (λ files. table)
+
+-- a pattern file that is read under the table of a translate file
+abbrev pub patterns_file : List ℕ → List ℕ → Reading
+patterns_file translate name = file_under translate input.Patterns name start
+
+-- a dictionary that is read under the table of a translate file
+abbrev pub words_file : List ℕ → List ℕ → Reading
+words_file translate name = file_under translate input.Dictionary name words
+
+-- the patterns of a pattern file, under the table of a translate file
+abbrev pub patterns_under : Held → List ℕ → List ℕ → Patterns
+patterns_under files translate name = meant_under translate start [] files name
+
+-- the words of a dictionary, under the table of a translate file
+abbrev pub words_under : Held → List ℕ → List ℕ → List Word
+words_under files translate name = meant_under translate words [] files name

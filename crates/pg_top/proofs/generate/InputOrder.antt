@@ -6,12 +6,11 @@ use Rattle.pg_outside.specs.Content.{FileMap, FilesShown, KeepsHeld, file_at}
 use Rattle.pg_outside.specs.Faults.{NoneFell}
 use Rattle.pg_outside.specs.FilesCalls.{Reads}
 use Rattle.pg_translate.specs.Alphabets.{Alphabet}
-use Rattle.pg_translate.specs.Tables.{table}
 use Rattle.pg_dict.specs.Word.{Word}
 use Rattle.pg_dict.specs.Words.{words}
 use Rattle.pg_patterns.specs.Starts.{start}
 use Rattle.pg_top.specs.Calls.{outcome_of, finished}
-use Rattle.pg_top.specs.Readings.{Reading, read_as, input_file}
+use Rattle.pg_top.specs.Readings.{Reading, read_as, input_file, translate_file, patterns_file, words_file}
 use Rattle.pg_words.specs.Requests.{FileNames, ToGenerate}
 use Rattle.pg_top.specs.generate.Generated.{table_in, inputs_in, inputs_of, generated, HasInputs}
 use Rattle.pg_top.specs.Inside.Lists.{lists_under, HasLists}
@@ -25,18 +24,9 @@ use Rattle.pg_top.proofs.ListOrder.{lists_accepted}
 use Rattle.pg_top.proofs.Orders.{AreAccepted, accepted_all, mapped, both, held_later, stopped_after, stopped_behind, wanted_after}
 use Rattle.pg_top.proofs.UnderTable.{accepted, means, HasTable as HasTableNamed, is_table, table_accepted, means_under, stopped_first}
 
--- the inputs
-abbrev translate_input : FileNames → Reading
-translate_input n = input_file input.Translate n.translate (λ _. table)
-
+-- the parameters
 abbrev parameters_input : FileNames → Reading
 parameters_input n = input_file input.Parameters n.params (λ _. parameters)
-
-abbrev patterns_input : FileNames → Reading
-patterns_input n = input_file input.Patterns n.patterns (λ files. start (table_in files n))
-
-abbrev dictionary_input : FileNames → Reading
-dictionary_input n = input_file input.Dictionary n.dict (λ files. words (table_in files n))
 
 -- what is known once the table is read
 module _ (n : FileNames) (t : Alphabet) where
@@ -48,7 +38,7 @@ module _ (n : FileNames) (t : Alphabet) where
     abbrev pub HasTwo : FileMap → Type 0
     HasTwo files = HasTable files × (read_as parameters (file_at files) n.params ≡ Some (Ok p))
 
-    two_accepted : (files : FileMap) → HasTwo files → AreAccepted (file_at files) (translate_input n ∷ parameters_input n ∷ [])
+    two_accepted : (files : FileMap) → HasTwo files → AreAccepted (file_at files) (translate_file n.translate ∷ parameters_input n ∷ [])
     two_accepted files h = (table_accepted n.translate t files h.0, (accepted input.Parameters parameters (file_at files n.params) p h.1, tt))
 
     module _ (S : List ((List ℕ × ℕ) × ℕ)) (ws : List Word) where
@@ -58,7 +48,7 @@ module _ (n : FileNames) (t : Alphabet) where
       -- once all are read they are accepted
       pub inputs_accepted : (files : FileMap) → HasInputs (file_at files) n all → AreAccepted (file_at files) (inputs_of n)
       inputs_accepted files h =
-          let two : AreAccepted (file_at files) (translate_input n ∷ parameters_input n ∷ []) = two_accepted files (h.table, h.params) in
+          let two : AreAccepted (file_at files) (translate_file n.translate ∷ parameters_input n ∷ []) = two_accepted files (h.table, h.params) in
           (two.0, (two.1.0, lists_accepted n.translate n.patterns n.dict t S ws files h.table (record { start = h.start; words = h.words })))
 
       -- and this is what is given
@@ -86,18 +76,18 @@ all_read n t p S ws h2 h3 keeps two more =
     (both h3 (HasTwo n t p) (λ files. HasLists (file_at files) t n.patterns n.dict S ws) (held_later h2 h3 (HasTwo n t p) keeps two) more)
 
 -- a stop at the first input, at the second, and at one of the last two
-pub stopped_1 : (n : FileNames) (s0 s1 : FilesShown) (stop : Stop) → MakesCalls s0 s1 (Reads n.translate ∷ []) → StopsAt (translate_input n) s0 s1 stop → StopsReading (inputs_of n) s0 s1 stop
-stopped_1 n s0 s1 stop calls stops = stopped_first (translate_input n) (parameters_input n ∷ patterns_input n ∷ dictionary_input n ∷ []) s0 s1 stop calls stops
+pub stopped_1 : (n : FileNames) (s0 s1 : FilesShown) (stop : Stop) → MakesCalls s0 s1 (Reads n.translate ∷ []) → StopsAt (translate_file n.translate) s0 s1 stop → StopsReading (inputs_of n) s0 s1 stop
+stopped_1 n s0 s1 stop calls stops = stopped_first (translate_file n.translate) (parameters_input n ∷ patterns_file n.translate n.patterns ∷ words_file n.translate n.dict ∷ []) s0 s1 stop calls stops
 
 pub stopped_2 : (n : FileNames) (t : Alphabet) (s0 s1 s2 : FilesShown) (stop : Stop) → NoneFell s0.read_faults s1.read_faults → MakesCalls s0 s2 (Reads n.translate ∷ Reads n.params ∷ []) → KeepsHeld s1.held s2.held → IfSome s1.held (HasTable n t) → StopsAt (parameters_input n) s1 s2 stop → StopsReading (inputs_of n) s0 s2 stop
 stopped_2 n t s0 s1 s2 stop fell calls keeps one stops =
-    stopped_behind (translate_input n ∷ []) (parameters_input n) (patterns_input n ∷ dictionary_input n ∷ []) s0 s1 s2 stop fell calls
-    (mapped s2.held (HasTable n t) (λ files. AreAccepted (file_at files) (translate_input n ∷ [])) (λ files h. (table_accepted n.translate t files h, tt)) (held_later s1.held s2.held (HasTable n t) keeps one)) stops
+    stopped_behind (translate_file n.translate ∷ []) (parameters_input n) (patterns_file n.translate n.patterns ∷ words_file n.translate n.dict ∷ []) s0 s1 s2 stop fell calls
+    (mapped s2.held (HasTable n t) (λ files. AreAccepted (file_at files) (translate_file n.translate ∷ [])) (λ files h. (table_accepted n.translate t files h, tt)) (held_later s1.held s2.held (HasTable n t) keeps one)) stops
 
 pub stopped_lists : (n : FileNames) (t : Alphabet) (p : Parameters) (s0 s2 s3 : FilesShown) (stop : Stop) → NoneFell s0.read_faults s2.read_faults → MakesCalls s0 s2 (Reads n.translate ∷ Reads n.params ∷ []) → KeepsHeld s2.held s3.held → IfSome s2.held (HasTwo n t p) → StopsReading (lists_under n.translate n.patterns n.dict) s2 s3 stop → StopsReading (inputs_of n) s0 s3 stop
 stopped_lists n t p s0 s2 s3 stop fell calls keeps two stops =
-    stopped_after (translate_input n ∷ parameters_input n ∷ []) (lists_under n.translate n.patterns n.dict) s0 s2 s3 stop fell calls
-    (mapped s3.held (HasTwo n t p) (λ files. AreAccepted (file_at files) (translate_input n ∷ parameters_input n ∷ [])) (two_accepted n t p) (held_later s2.held s3.held (HasTwo n t p) keeps two)) stops
+    stopped_after (translate_file n.translate ∷ parameters_input n ∷ []) (lists_under n.translate n.patterns n.dict) s0 s2 s3 stop fell calls
+    (mapped s3.held (HasTwo n t p) (λ files. AreAccepted (file_at files) (translate_file n.translate ∷ parameters_input n ∷ [])) (two_accepted n t p) (held_later s2.held s3.held (HasTwo n t p) keeps two)) stops
 
 -- all were read, and then memory was wanted
 pub inputs_wanted : (n : FileNames) (i : Inputs) (s0 s1 : FilesShown) → MakesCalls s0 s1 (read_calls (inputs_of n)) → IfSome s1.held (λ files. HasInputs (file_at files) n i) → StopsReading (inputs_of n) s0 s1 Memory

@@ -5,25 +5,23 @@ use Rattle.pg_outside.specs.Content.{FileMap, FilesShown, KeepsHeld, file_at}
 use Rattle.pg_outside.specs.Faults.{NoneFell}
 use Rattle.pg_outside.specs.FilesCalls.{Reads}
 use Rattle.pg_translate.specs.Alphabets.{Alphabet}
-use Rattle.pg_translate.specs.Tables.{table}
 use Rattle.pg_dict.specs.Word.{Word}
 use Rattle.pg_dict.specs.Words.{words}
 use Rattle.pg_patterns.specs.Starts.{start}
 use Rattle.pg_select.specs.Windows.{Patterns}
-use Rattle.pg_top.specs.Calls.{outcome_of, finished}
+use Rattle.pg_top.specs.Calls.{outcome_of, finished, reads_of}
 use Rattle.pg_top.specs.Counted.{MakesCalls}
-use Rattle.pg_top.specs.Readings.{file_under, Reading, input_file, table_named}
+use Rattle.pg_top.specs.Readings.{table_named, translate_file, patterns_file, words_file, patterns_under, words_under}
 use Rattle.pg_top.specs.prune.Inside.Inputs.{HasPrune}
 use Rattle.pg_prune.specs.Prunes.{pruned}
 use Rattle.pg_prune.specs.Reports.{prune_report}
 use Rattle.pg_prune.proofs.PrunedLaws.{pruned_part, pruned_alike, pruned_least}
 use Rattle.pg_select.specs.CountedPositions.{minima_of}
-use Rattle.pg_top.specs.Promises.{words_under, patterns_under, ReadsBack, PruneKeeps}
-use Rattle.pg_top.specs.prune.Pruned.{prune_reads, pruned_by, line_of_pruned}
+use Rattle.pg_top.specs.Promises.{ReadsBack, PruneKeeps}
+use Rattle.pg_top.specs.prune.Pruned.{pruned_by, line_of_pruned}
 use Rattle.pg_words.specs.Requests.{PruneRequest, ToPrune}
 use Rattle.pg_top.specs.Inside.Lists.{lists_under, HasLists}
 use Rattle.pg_top.specs.Inside.Stops.{StopsAt, StopsReading}
-use Rattle.pg_top.specs.declared.inputs.Input.TheVariants as input
 use Rattle.pg_top.specs.declared.inputs.Stop.{Stop}
 use Rattle.pg_top.specs.declared.prune.inputs.PruneInputs.{PruneInputs}
 use Rattle.pg_top.proofs.ListOrder.{lists_accepted}
@@ -31,25 +29,16 @@ use Rattle.pg_top.proofs.Orders.{AreAccepted, accepted_all, both, held_later, ma
 use Rattle.pg_top.proofs.UnderTable.{HasTable, is_table, table_accepted, means_under, stopped_first}
 
 module _ (p : PruneRequest) where
-  abbrev translate_file : Reading
-  translate_file = input_file input.Translate p.translate (λ files. table)
-
-  abbrev patterns_file : Reading
-  patterns_file = file_under p.translate input.Patterns p.patterns start
-
-  abbrev dictionary_file : Reading
-  dictionary_file = file_under p.translate input.Dictionary p.dict words
-
   -- a stop at the translate file
-  pub stopped_table : (s0 s1 : FilesShown) (stop : Stop) → MakesCalls s0 s1 (Reads p.translate ∷ []) → StopsAt translate_file s0 s1 stop → StopsReading (prune_reads p) s0 s1 stop
-  stopped_table s0 s1 stop calls stops = stopped_first translate_file (patterns_file ∷ dictionary_file ∷ []) s0 s1 stop calls stops
+  pub stopped_table : (s0 s1 : FilesShown) (stop : Stop) → MakesCalls s0 s1 (Reads p.translate ∷ []) → StopsAt (translate_file p.translate) s0 s1 stop → StopsReading (reads_of (ToPrune p)) s0 s1 stop
+  stopped_table s0 s1 stop calls stops = stopped_first (translate_file p.translate) (patterns_file p.translate p.patterns ∷ words_file p.translate p.dict ∷ []) s0 s1 stop calls stops
 
   module _ (t : Alphabet) where
     -- a stop at the patterns or at the dictionary
-    pub stopped_lists : (s0 s1 s2 : FilesShown) (stop : Stop) → NoneFell s0.read_faults s1.read_faults → MakesCalls s0 s1 (Reads p.translate ∷ []) → KeepsHeld s1.held s2.held → IfSome s1.held (HasTable p.translate t) → StopsReading (lists_under p.translate p.patterns p.dict) s1 s2 stop → StopsReading (prune_reads p) s0 s2 stop
+    pub stopped_lists : (s0 s1 s2 : FilesShown) (stop : Stop) → NoneFell s0.read_faults s1.read_faults → MakesCalls s0 s1 (Reads p.translate ∷ []) → KeepsHeld s1.held s2.held → IfSome s1.held (HasTable p.translate t) → StopsReading (lists_under p.translate p.patterns p.dict) s1 s2 stop → StopsReading (reads_of (ToPrune p)) s0 s2 stop
     stopped_lists s0 s1 s2 stop fell calls keeps one stops =
-        stopped_after (translate_file ∷ []) (lists_under p.translate p.patterns p.dict) s0 s1 s2 stop fell calls
-        (mapped s2.held (HasTable p.translate t) (λ files. AreAccepted (file_at files) (translate_file ∷ [])) (λ files h. (table_accepted p.translate t files h, tt)) (held_later s1.held s2.held (HasTable p.translate t) keeps one)) stops
+        stopped_after (translate_file p.translate ∷ []) (lists_under p.translate p.patterns p.dict) s0 s1 s2 stop fell calls
+        (mapped s2.held (HasTable p.translate t) (λ files. AreAccepted (file_at files) (translate_file p.translate ∷ [])) (λ files h. (table_accepted p.translate t files h, tt)) (held_later s1.held s2.held (HasTable p.translate t) keeps one)) stops
 
     -- once all are read
     pub all_read : (P : Patterns) (ws : List Word) (h1 h2 : Option FileMap) → KeepsHeld h1 h2 → IfSome h1 (HasTable p.translate t) → IfSome h2 (λ files. HasLists (file_at files) t p.patterns p.dict P ws)
@@ -60,7 +49,7 @@ module _ (p : PruneRequest) where
         (both h2 (HasTable p.translate t) (λ files. HasLists (file_at files) t p.patterns p.dict P ws) (held_later h1 h2 (HasTable p.translate t) keeps one) more)
 
 -- they are accepted
-pub prune_accepted : (p : PruneRequest) (i : PruneInputs) (files : FileMap) → HasPrune (file_at files) p i → AreAccepted (file_at files) (prune_reads p)
+pub prune_accepted : (p : PruneRequest) (i : PruneInputs) (files : FileMap) → HasPrune (file_at files) p i → AreAccepted (file_at files) (reads_of (ToPrune p))
 prune_accepted p i files h = (table_accepted p.translate i.table files h.table, lists_accepted p.translate p.patterns p.dict i.table i.patterns i.dictionary files h.table (record { start = h.patterns; words = h.words }))
 
 -- then it comes to what pruning writes and prints
@@ -72,7 +61,7 @@ prune_outcome p i files h =
     let is_t = is_table p.translate t files h.table in
     let is_P = means_under p.translate t start [] p.patterns P files h.table h.patterns in
     let is_ws = means_under p.translate t words [] p.dict ws files h.table h.words in
-    ap (λ end. unwrap_or end (finished (file_at files) (ToPrune p))) (accepted_all (file_at files) (prune_reads p) (prune_accepted p i files h))
+    ap (λ end. unwrap_or end (finished (file_at files) (ToPrune p))) (accepted_all (file_at files) (reads_of (ToPrune p)) (prune_accepted p i files h))
     ∙ (λ k. pruned_by p (is_t k) (is_ws k) (is_P k))
 
 -- what it promises
@@ -90,7 +79,7 @@ prune_keeps p i files back h =
       kept = (pruned m ws P).patterns;
       report = prune_report (table_named p.translate (file_at files)) (pruned m ws P);
       lines = line_of_pruned (pruned m ws P);
-      comes = ap (λ end. unwrap_or end (finished (file_at files) (ToPrune p))) (accepted_all (file_at files) (prune_reads p) (prune_accepted p i files h));
+      comes = ap (λ end. unwrap_or end (finished (file_at files) (ToPrune p))) (accepted_all (file_at files) (reads_of (ToPrune p)) (prune_accepted p i files h));
       part = pruned_part m ws P;
       reads_back = subst (λ (t : Alphabet). ReadsBack t (pruned (minima_of t) ws P).patterns) (sym is_t) with_ws;
       alike = pruned_alike m ws P;

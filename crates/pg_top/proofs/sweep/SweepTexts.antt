@@ -8,9 +8,9 @@ use Rattle.pg_sweep.specs.Sweeps.{Terms, Found, row_of, rows_of, costs_of}
 use Rattle.pg_sweep.specs.Winners.{winner_of}
 use Rattle.pg_sweep.specs.declared.rows.SweepRow.{SweepRow}
 use Rattle.pg_sweep.proofs.Winners.{winner_wins}
-use Rattle.pg_top.specs.Calls.{finished}
+use Rattle.pg_top.specs.Calls.{finished, reads_of}
 use Rattle.pg_top.specs.Outcomes.{Ends}
-use Rattle.pg_top.specs.sweep.Swept.{winner_line, set_named, sweep_reads, terms_in, sets_in, swept_rows, sweep_ends, swept}
+use Rattle.pg_top.specs.sweep.Swept.{winner_line, set_named, terms_in, sets_in, swept_rows, sweep_ends, swept}
 use Rattle.pg_top.specs.Promises.{set_costs, SweepNames}
 use Rattle.pg_top.specs.Readings.{Held, first_end}
 use Rattle.pg_words.specs.Requests.{SweepRequest, ToSweep}
@@ -27,7 +27,7 @@ sweep_made s terms sets found text line rows winner is_text is_line =
     ∙ (λ k. Ends Done ((s.output, sym is_text k) ∷ []) (sym is_line k))
 
 -- what it promises, where no file ends the call
-pub sweep_names : (s : SweepRequest) (files : Held) → first_end files (sweep_reads s) ≡ None → 1 ≤ length s.params → SweepNames files s
+pub sweep_names : (s : SweepRequest) (files : Held) → first_end files (reads_of (ToSweep s)) ≡ None → 1 ≤ length s.params → SweepNames files s
 unfolding swept_rows
 sweep_names s files none some = record {
   winner = winner_of (set_costs files s);

@@ -13,12 +13,12 @@ use Rattle.pg_dict.specs.Words.{words}
 use Rattle.pg_table.specs.declared.limits.TheConstants.{TABLE_MAX}
 use Rattle.pg_table.specs.Forms.{head_of, is_well_formed}
 use Rattle.pg_words.specs.Requests.{TotalsRequest, ToTotals}
-use Rattle.pg_top.specs.Calls.{outcome_of, finished}
+use Rattle.pg_top.specs.Calls.{outcome_of, finished, reads_of}
 use Rattle.pg_top.specs.Counted.{MakesCalls, read_calls}
 use Rattle.pg_top.specs.Outcomes.{Ends}
 use Rattle.pg_top.specs.Readings.{Reading, read_as, input_file, file_under}
 use Rattle.pg_top.specs.pack.Packed.{table_refused}
-use Rattle.pg_top.specs.totals.Totalled.{packed_table, totals_reads, totals_lines}
+use Rattle.pg_top.specs.totals.Totalled.{packed_table, totals_lines}
 use Rattle.pg_top.specs.totals.Inside.Inputs.{IsTotalled}
 use Rattle.pg_top.specs.Inside.Stops.{StopsAt, StopsReading}
 use Rattle.pg_top.specs.declared.answers.Status.TheVariants.{Done}
@@ -38,11 +38,11 @@ words_read p t ws h1 h2 keeps one more = both h2 (HasTable p.translate t) (λ fi
 pub totals_outcome : (p : TotalsRequest) (t : Alphabet) (ws : List Word) (lines : List ℕ) (files : FileMap) → HasWords p t ws files → IsTotalled t ws (file_at files) p.table lines → outcome_of (file_at files) (ToTotals p) ≡ Ends Done [] lines
 totals_outcome p t ws lines files h is =
     let b : List ℕ = is.0 in
-    let accepted : AreAccepted (file_at files) (totals_reads p) = (table_accepted p.translate t files h.0, (accepted_under p.translate t words input.Dictionary p.dict ws files h.0 h.1, (accepted_under p.translate t packed_table input.Table p.table b files h.0 is.1, tt))) in
+    let accepted : AreAccepted (file_at files) (reads_of (ToTotals p)) = (table_accepted p.translate t files h.0, (accepted_under p.translate t words input.Dictionary p.dict ws files h.0 h.1, (accepted_under p.translate t packed_table input.Table p.table b files h.0 is.1, tt))) in
     let is_t = is_table p.translate t files h.0 in
     let is_ws = means_under p.translate t words [] p.dict ws files h.0 h.1 in
     let is_b = means_under p.translate t packed_table [] p.table b files h.0 is.1 in
-    ap (λ end. unwrap_or end (finished (file_at files) (ToTotals p))) (accepted_all (file_at files) (totals_reads p) accepted)
+    ap (λ end. unwrap_or end (finished (file_at files) (ToTotals p))) (accepted_all (file_at files) (reads_of (ToTotals p)) accepted)
     ∙ (λ k. Ends Done [] (totals_lines (is_t k) (is_ws k) (is_b k)))
     ∙ ap (Ends Done []) (sym is.2)
 
@@ -52,7 +52,7 @@ totals_told p t ws lines h2 h3 keeps two more =
     (both h3 (HasWords p t ws) (λ files. IsTotalled t ws (file_at files) p.table lines) (held_later h2 h3 (HasWords p t ws) keeps two) more)
 
 -- a stop at the packed table
-pub stopped_table : (p : TotalsRequest) (t : Alphabet) (ws : List Word) (s0 s2 s3 : FilesShown) (why : Stop) → NoneFell s0.read_faults s2.read_faults → MakesCalls s0 s3 (read_calls (totals_reads p)) → KeepsHeld s2.held s3.held → IfSome s2.held (HasWords p t ws) → StopsAt (input_file input.Table p.table (λ _. packed_table t)) s2 s3 why → StopsReading (totals_reads p) s0 s3 why
+pub stopped_table : (p : TotalsRequest) (t : Alphabet) (ws : List Word) (s0 s2 s3 : FilesShown) (why : Stop) → NoneFell s0.read_faults s2.read_faults → MakesCalls s0 s3 (read_calls (reads_of (ToTotals p))) → KeepsHeld s2.held s3.held → IfSome s2.held (HasWords p t ws) → StopsAt (input_file input.Table p.table (λ _. packed_table t)) s2 s3 why → StopsReading (reads_of (ToTotals p)) s0 s3 why
 stopped_table p t ws s0 s2 s3 why fell calls keeps two stops =
     let later : IfSome s3.held (HasWords p t ws) = held_later s2.held s3.held (HasWords p t ws) keeps two in
     let front : List Reading = input_file input.Translate p.translate (λ _. table) ∷ file_under p.translate input.Dictionary p.dict words ∷ [] in

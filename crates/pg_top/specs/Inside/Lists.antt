@@ -5,15 +5,12 @@ use Rattle.pg_dict.specs.Word.{Word}
 use Rattle.pg_dict.specs.Words.{words}
 use Rattle.pg_patterns.specs.Starts.{start}
 use Rattle.pg_select.specs.Windows.{Patterns}
-use Rattle.pg_top.specs.Readings.{file_under, Held, Reading, read_as}
-use Rattle.pg_top.specs.declared.inputs.Input.TheVariants as input
+use Rattle.pg_top.specs.Readings.{Held, Reading, read_as, patterns_file, words_file}
 
 -- the files of these names in their order, under the table of the translate file
 abbrev pub lists_under : List ℕ → List ℕ → List ℕ → List Reading
 lists_under translate patterns dict =
-    file_under translate input.Patterns patterns start
-    ∷ file_under translate input.Dictionary dict words
-    ∷ []
+    patterns_file translate patterns ∷ words_file translate dict ∷ []
 
 -- the files that are held are accepted under a table as these patterns and words
 pub record HasLists (files : Held) (t : Alphabet) (patterns dict : List ℕ)

@@ -9,7 +9,7 @@ use Rattle.pg_patterns.specs.Starts.{start}
 use Rattle.pg_texts.specs.CellsTexts.{layout_text}
 use Rattle.pg_top.specs.Outcomes.{Outcome, Ends, Writing}
 use Rattle.pg_top.specs.PrintedLines.{done_line}
-use Rattle.pg_top.specs.Readings.{Held, Reading, read_as, meant, input_file, table_named}
+use Rattle.pg_top.specs.Readings.{Held, Reading, read_as, meant, input_file, table_named, translate_file, patterns_file, words_file}
 use Rattle.pg_words.specs.Requests.{FileNames, if_asked}
 use Rattle.pg_top.specs.Selection.{selected_text, selected_list, selected_cells_text, selected_report, selected_account, selected_cells, passes_begun, last_layout}
 use Rattle.pg_top.specs.declared.answers.Status.TheVariants.{Done}
@@ -32,11 +32,8 @@ inputs_in files n = record {
 -- what `generate` reads, in its order
 abbrev pub inputs_of : FileNames → List Reading
 inputs_of n =
-    input_file input.Translate n.translate (λ files. table)
-    ∷ input_file input.Parameters n.params (λ files. parameters)
-    ∷ input_file input.Patterns n.patterns (λ files. start (table_in files n))
-    ∷ input_file input.Dictionary n.dict (λ files. words (table_in files n))
-    ∷ []
+    translate_file n.translate ∷ input_file input.Parameters n.params (λ files. parameters)
+    ∷ patterns_file n.translate n.patterns ∷ words_file n.translate n.dict ∷ []
 
 -- the files that are held are accepted as these inputs
 pub record HasInputs (files : Held) (n : FileNames) (i : Inputs) : Type 0 where

@@ -13,7 +13,7 @@ use Rattle.pg_table.specs.declared.limits.TheConstants.{TABLE_MAX}
 use Rattle.pg_table.specs.Texts.{table_text}
 use Rattle.pg_words.specs.Requests.{PackRequest}
 use Rattle.pg_top.specs.Outcomes.{Outcome, Ends, refuses}
-use Rattle.pg_top.specs.Readings.{Held, Reading, input_file, table_named, file_under, meant_under}
+use Rattle.pg_top.specs.Readings.{Held, table_named, meant_under}
 use Rattle.pg_top.specs.declared.answers.Status.TheVariants.{Done}
 use Rattle.pg_top.specs.declared.inputs.Input.TheVariants as input
 
@@ -31,13 +31,6 @@ table_refused kind = record { kind = kind; line = 0; column = 0 }
 -- the packed table of patterns for the letters of a table
 abbrev pub packed_text : Alphabet → Patterns → List ℕ
 packed_text t P = table_text (letters_of t + 1) P
-
--- what `pack` reads
-abbrev pub packing_reads : PackRequest → List Reading
-packing_reads p =
-    input_file input.Translate p.translate (λ files. table)
-    ∷ file_under p.translate input.Patterns p.patterns start
-    ∷ []
 
 -- what `pack` writes and prints: the table under its name, where the table is not too long
 abbrev pub packed : List ℕ → Alphabet → Patterns → Outcome

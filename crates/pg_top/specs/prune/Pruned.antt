@@ -1,7 +1,6 @@
 -- What `prune` reads, writes and prints.
 use Rattle.std.specs.Prelude.{ℕ, List, [], ◌∷◌, ◌++◌, length, codes, decimal}
 use Rattle.pg_translate.specs.Alphabets.{Alphabet}
-use Rattle.pg_translate.specs.Tables.{table}
 use Rattle.pg_dict.specs.Word.{Word}
 use Rattle.pg_dict.specs.Words.{words}
 use Rattle.pg_patterns.specs.Starts.{start}
@@ -11,18 +10,9 @@ use Rattle.pg_select.specs.Windows.{Patterns}
 use Rattle.pg_prune.specs.Prunes.{Found, pruned}
 use Rattle.pg_prune.specs.Reports.{prune_report}
 use Rattle.pg_top.specs.Outcomes.{Outcome, Ends, Writing}
-use Rattle.pg_top.specs.Readings.{file_under, meant_under, Held, Reading, input_file, table_named}
+use Rattle.pg_top.specs.Readings.{meant_under, Held, table_named}
 use Rattle.pg_words.specs.Requests.{PruneRequest}
 use Rattle.pg_top.specs.declared.answers.Status.TheVariants.{Done}
-use Rattle.pg_top.specs.declared.inputs.Input.TheVariants as input
-
--- what `prune` reads, in its order
-abbrev pub prune_reads : PruneRequest → List Reading
-prune_reads p =
-    input_file input.Translate p.translate (λ files. table)
-    ∷ file_under p.translate input.Patterns p.patterns start
-    ∷ file_under p.translate input.Dictionary p.dict words
-    ∷ []
 
 -- the files that are written: the text of the patterns that stay, and then the report
 abbrev pub pruned_files : PruneRequest → Alphabet → Found → Writing

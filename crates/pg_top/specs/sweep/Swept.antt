@@ -10,7 +10,7 @@ use Rattle.pg_sweep.specs.Sweeps.{Terms, rows_of, costs_of}
 use Rattle.pg_sweep.specs.Winners.{winner_of}
 use Rattle.pg_sweep.specs.declared.rows.SweepRow.{SweepRow}
 use Rattle.pg_top.specs.Outcomes.{Outcome, Ends}
-use Rattle.pg_top.specs.Readings.{file_under, meant_under, Held, Reading, read_as, meant, input_file, table_named}
+use Rattle.pg_top.specs.Readings.{Held, Reading, read_as, meant, input_file, table_named, words_under, patterns_under}
 use Rattle.pg_words.specs.Requests.{SweepRequest}
 use Rattle.pg_top.specs.declared.answers.Status.TheVariants.{Done}
 use Rattle.pg_top.specs.declared.inputs.Input.TheVariants as input
@@ -36,21 +36,12 @@ accepted_set set = Some (Ok set)
 abbrev pub HasSets : Held → List (List ℕ) → List Parameters → Type 0
 HasSets files names sets = map (read_as parameters files) names ≡ map accepted_set sets
 
--- what `sweep` reads, in its order
-abbrev pub sweep_reads : SweepRequest → List Reading
-sweep_reads s =
-    input_file input.Translate s.translate (λ files. table)
-    ∷ set_files 1 s.params
-    ++ file_under s.translate input.Patterns s.patterns start
-    ∷ file_under s.translate input.Dictionary s.dict words
-    ∷ []
-
 -- what the runs of a sweep share, by the files that are held
 abbrev pub terms_in : Held → SweepRequest → Terms
 terms_in files s = record {
   table = table_named s.translate files;
-  words = meant_under s.translate words [] files s.dict;
-  start = meant_under s.translate start [] files s.patterns;
+  words = words_under files s.translate s.dict;
+  start = patterns_under files s.translate s.patterns;
   folds = s.folds;
 }
 

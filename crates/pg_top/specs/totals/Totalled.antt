@@ -1,9 +1,8 @@
 -- What `totals` reads and prints.
-use Rattle.std.specs.Prelude.{ℕ, ◌+◌, not, nat_eq, nat_lt, if◌then◌else◌, List, [], ◌∷◌, length, Result, Ok, Err}
+use Rattle.std.specs.Prelude.{ℕ, ◌+◌, not, nat_eq, nat_lt, if◌then◌else◌, List, [], length, Result, Ok, Err}
 use Rattle.pg_types.specs.declared.refusals.Kind.TheVariants.{TableTooLong, BadTable, OtherTable}
 use Rattle.pg_types.specs.declared.refusals.Refusal.{Refusal}
 use Rattle.pg_translate.specs.Alphabets.{Alphabet, letters_of}
-use Rattle.pg_translate.specs.Tables.{table}
 use Rattle.pg_dict.specs.Word.{Word}
 use Rattle.pg_dict.specs.Words.{words}
 use Rattle.pg_table.specs.declared.limits.TheConstants.{TABLE_MAX}
@@ -14,9 +13,8 @@ use Rattle.pg_texts.specs.ReportTexts.{ending_text}
 use Rattle.pg_words.specs.Requests.{TotalsRequest}
 use Rattle.pg_top.specs.Outcomes.{Outcome, Ends}
 use Rattle.pg_top.specs.pack.Packed.{table_refused}
-use Rattle.pg_top.specs.Readings.{Held, Reading, input_file, table_named, file_under, meant_under}
+use Rattle.pg_top.specs.Readings.{Held, table_named, meant_under}
 use Rattle.pg_top.specs.declared.answers.Status.TheVariants.{Done}
-use Rattle.pg_top.specs.declared.inputs.Input.TheVariants as input
 
 -- the bytes of a packed table for the letters of a table, or why they are refused
 abbrev pub packed_table : Alphabet → List ℕ → Result (List ℕ) Refusal
@@ -25,14 +23,6 @@ packed_table t b =
     else (if not (is_well_formed b) then Err (table_refused BadTable)
     else (if nat_eq (head_of b).signs (letters_of t + 1) then Ok b
     else Err (table_refused OtherTable)))
-
--- what `totals` reads
-abbrev pub totals_reads : TotalsRequest → List Reading
-totals_reads p =
-    input_file input.Translate p.translate (λ files. table)
-    ∷ file_under p.translate input.Dictionary p.dict words
-    ∷ file_under p.translate input.Table p.table packed_table
-    ∷ []
 
 -- what `totals` prints: the line of the totals of the words by a packed table, and that of the
 -- rates

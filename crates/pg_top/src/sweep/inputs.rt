@@ -2,10 +2,12 @@
 ghost use Rattle.std.specs.Prelude.{◌≤◌, length, IfOk, IfErr, IfSome};
 ghost use Rattle.pg_outside.specs.Content.{file_at};
 ghost use Rattle.pg_words.specs.Commands.{sweep_of, KeepsSweepLimits};
+ghost use Rattle.pg_words.specs.Requests.{ToSweep};
+ghost use Rattle.pg_top.specs.Calls.{reads_of};
 ghost use Rattle.pg_top.specs.Counted.{MakesCalls, read_calls};
 ghost use Rattle.pg_top.specs.Inside.Stops.{OnlyReads, StopsReading};
 ghost use Rattle.pg_top.specs.sweep.Inside.Inputs.{terms_of, HasSigns};
-ghost use Rattle.pg_top.specs.sweep.Swept.{sweep_reads, HasSweep};
+ghost use Rattle.pg_top.specs.sweep.Swept.{HasSweep};
 
 use crate::inputs::Stop;
 use crate::reading::{read_lists, read_table};
@@ -48,9 +50,9 @@ pub fn read_sweep<'a, F: Files, W: Watch>(
     ensures count { IfOk result
         (λ inputs. (1 ≤ length inputs.sets.items) × (length inputs.sets.items ≤ 16)) }
     ensures stopped { IfErr result
-        (StopsReading (sweep_reads (sweep_of words.now)) (F.shown files.old) (F.shown files.new)) }
+        (StopsReading (reads_of (ToSweep (sweep_of words.now))) (F.shown files.old) (F.shown files.new)) }
     ensures counted { IfOk result (λ _. MakesCalls (F.shown files.old) (F.shown files.new)
-        (read_calls (sweep_reads (sweep_of words.now)))) }
+        (read_calls (reads_of (ToSweep (sweep_of words.now))))) }
 {
     let table = read_table(alloc, words.translate, files, watch)?;
     let sets = read_sets(alloc, words.params, files, watch)?;

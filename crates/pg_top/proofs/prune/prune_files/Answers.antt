@@ -1,11 +1,10 @@
 use Rattle.std.proofs.Common.{◌≡◌, ◌∙◌, arith}
 use Rattle.std.proofs.lemmas.Result.{err_from_is_err_and}
 use Rattle.pg_outside.specs.Content.{file_at}
-use Rattle.pg_top.specs.Calls.{outcome_of}
+use Rattle.pg_top.specs.Calls.{outcome_of, reads_of}
 use Rattle.pg_top.specs.Outcomes.{Ends}
 use Rattle.pg_top.specs.prune.Inside.Inputs.{prune_of, HasPrune}
 use Rattle.pg_top.specs.Promises.{PruneKeeps}
-use Rattle.pg_top.specs.prune.Pruned.{prune_reads}
 use Rattle.pg_words.specs.Requests.{PruneRequest, ToPrune}
 use Rattle.pg_top.specs.Writings.{writing_of}
 use Rattle.pg_top.specs.declared.answers.Status.TheVariants.{Done}
@@ -34,9 +33,9 @@ returns-in_err-outputs-clause-stopped g c =
     let i = c.in_ok-inputs.inputs in
     let s0 = g.F.Files.shown c.args.files.now in
     let s1 = g.F.Files.shown c.read_prune.new.files in
-    let accepted = mapped s1.held (λ files. HasPrune (file_at files) p i) (λ files. AreAccepted (file_at files) (prune_reads p)) (prune_accepted p i) c.in_ok-inputs.ensures.ok in
+    let accepted = mapped s1.held (λ files. HasPrune (file_at files) p i) (λ files. AreAccepted (file_at files) (reads_of (ToPrune p))) (prune_accepted p i) c.in_ok-inputs.ensures.ok in
     let err = err_from_is_err_and c.from_residual-in_err-outputs.result c.from_residual-in_err-outputs.ensures.1 in
-    rw (err.1, err.2) (stops_reading (ToPrune p) s0 s1 Memory (wanted_after (prune_reads p) s0 s1 (omega arith) c.in_ok-inputs.ensures.counted accepted))
+    rw (err.1, err.2) (stops_reading (ToPrune p) s0 s1 Memory (wanted_after (reads_of (ToPrune p)) s0 s1 (omega arith) c.in_ok-inputs.ensures.counted accepted))
 
 pub returns-clause-kept : goal.returns-clause-kept
 returns-clause-kept g c =

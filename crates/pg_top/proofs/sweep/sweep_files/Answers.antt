@@ -3,13 +3,13 @@ use Rattle.std.proofs.lemmas.Result.{err_from_is_err_and}
 use Rattle.std.specs.Prelude.{string_bytes}
 use Rattle.std.proofs.lemmas.List.{length-map}
 use Rattle.pg_outside.specs.Content.{file_at}
-use Rattle.pg_top.specs.Calls.{outcome_of}
+use Rattle.pg_top.specs.Calls.{outcome_of, reads_of}
 use Rattle.pg_words.specs.Commands.{sweep_of}
 use Rattle.pg_top.specs.Outcomes.{Ends}
 use Rattle.pg_top.specs.Promises.{SweepNames}
 use Rattle.pg_words.specs.Requests.{ToSweep}
 use Rattle.pg_top.specs.sweep.Inside.Inputs.{terms_of}
-use Rattle.pg_top.specs.sweep.Swept.{sweep_reads, HasSweep}
+use Rattle.pg_top.specs.sweep.Swept.{HasSweep}
 use Rattle.pg_top.specs.Writings.{writing_of}
 use Rattle.pg_top.specs.declared.answers.Status.TheVariants.{Done}
 use Rattle.pg_top.specs.declared.inputs.Stop.TheVariants.{Memory}
@@ -40,9 +40,9 @@ returns-in_err-outputs-clause-stopped g c =
     let sets = c.in_ok-inputs.inputs.sets.items in
     let s0 = g.F.Files.shown c.args.files.now in
     let s1 = g.F.Files.shown c.read_sweep.new.files in
-    let accepted = mapped s1.held (λ files. HasSweep (file_at files) s terms sets) (λ files. AreAccepted (file_at files) (sweep_reads s)) (sweep_accepted s terms sets) c.in_ok-inputs.ensures.ok in
+    let accepted = mapped s1.held (λ files. HasSweep (file_at files) s terms sets) (λ files. AreAccepted (file_at files) (reads_of (ToSweep s))) (sweep_accepted s terms sets) c.in_ok-inputs.ensures.ok in
     let err = err_from_is_err_and c.from_residual-in_err-outputs.result c.from_residual-in_err-outputs.ensures.1 in
-    rw (err.1, err.2) (stops_reading (ToSweep s) s0 s1 Memory (wanted_after (sweep_reads s) s0 s1 (omega arith) c.in_ok-inputs.ensures.counted accepted))
+    rw (err.1, err.2) (stops_reading (ToSweep s) s0 s1 Memory (wanted_after (reads_of (ToSweep s)) s0 s1 (omega arith) c.in_ok-inputs.ensures.counted accepted))
 
 pub returns-clause-names : goal.returns-clause-names
 returns-clause-names g c =
@@ -51,7 +51,7 @@ returns-clause-names g c =
     let sets = c.in_ok-inputs.inputs.sets.items in
     let some : 1 ≤ length s.params = subst (λ n. 1 ≤ n) (sym (length-map c.args.words.now.params.now string_bytes)) c.requires.params.0 in
     mapped (g.F.Files.shown c.read_sweep.new.files).held (λ files. HasSweep (file_at files) s terms sets) (λ files. SweepNames (file_at files) s)
-    (λ files h. sweep_names s (file_at files) (accepted_all (file_at files) (sweep_reads s) (sweep_accepted s terms sets files h)) some) c.in_ok-inputs.ensures.ok
+    (λ files h. sweep_names s (file_at files) (accepted_all (file_at files) (reads_of (ToSweep s)) (sweep_accepted s terms sets files h)) some) c.in_ok-inputs.ensures.ok
 
 pub returns-in_err-inputs-clause-ok : goal.returns-in_err-inputs-clause-ok
 returns-in_err-inputs-clause-ok g c = rw (err_from_is_err_and c.from_residual.result c.from_residual.ensures.1).1 tt
