@@ -1,17 +1,21 @@
 -- What a command reads and writes, and what a call comes to.
 use Rattle.std.specs.Prelude.{ℕ, List, [], ◌∷◌, ◌++◌, Option, Bool, true, false, None, Some, unwrap_or}
 use Rattle.std.specs.Option.{option_map_or}
+use Rattle.pg_select.specs.CountedPositions.{minima_of}
+use Rattle.pg_table.specs.Lookups.{table_totals}
+use Rattle.pg_prune.specs.Prunes.{pruned}
+use Rattle.pg_texts.specs.ReportTexts.{ending_text}
+use Rattle.pg_top.specs.pack.Packed.{packed}
+use Rattle.pg_top.specs.prune.Pruned.{prune_ends}
 use Rattle.pg_top.specs.audit.Audited.{given_files, yes_line}
 use Rattle.pg_top.specs.Outcomes.{Outcome, Ends}
-use Rattle.pg_top.specs.pack.Packed.{packed_in}
-use Rattle.pg_top.specs.totals.Totalled.{totalled_in, packed_table}
+use Rattle.pg_top.specs.totals.Totalled.{packed_table}
 use Rattle.pg_top.specs.PrintedLines.{usage_line}
-use Rattle.pg_top.specs.prune.Pruned.{pruned_in}
-use Rattle.pg_top.specs.Readings.{Held, Reading, first_end, translate_file, patterns_file, words_file, file_under}
+use Rattle.pg_top.specs.Readings.{Held, Reading, first_end, translate_file, patterns_file, words_file, file_under, words_under, patterns_under, table_named, meant_under}
 use Rattle.pg_words.specs.Requests.{Request, ToGenerate, ToAudit, ToSample, ToPack, ToTotals, ToPrune, ToSweep, output_names}
 use Rattle.pg_top.specs.sample.Sampled.{sample_lines}
 use Rattle.pg_top.specs.generate.Generated.{inputs_of, inputs_in, generated}
-use Rattle.pg_top.specs.sweep.Swept.{swept_in, set_files}
+use Rattle.pg_top.specs.sweep.Swept.{set_files, sweep_ends, swept_rows, terms_in, sets_in}
 use Rattle.pg_top.specs.declared.answers.Status.TheVariants.{Done, Usage, Yes}
 use Rattle.pg_top.specs.declared.inputs.Input.TheVariants as input
 
@@ -43,10 +47,15 @@ abbrev pub finished : Held → Request → Outcome
 finished files (ToGenerate n) = generated n (inputs_in files n)
 finished files (ToAudit n) = Ends Yes [] yes_line
 finished files (ToSample seed count) = Ends Done [] (sample_lines seed count)
-finished files (ToPack p) = packed_in files p
-finished files (ToTotals p) = totalled_in files p
-finished files (ToPrune p) = pruned_in files p
-finished files (ToSweep s) = swept_in files s
+finished files (ToPack p) =
+    packed p.table (table_named p.translate files) (patterns_under files p.translate p.patterns)
+finished files (ToTotals p) = Ends Done [] (ending_text (table_totals
+    (minima_of (table_named p.translate files)) (words_under files p.translate p.dict)
+    (meant_under p.translate packed_table [] files p.table)))
+finished files (ToPrune p) = let t = table_named p.translate files in
+    prune_ends p t (pruned (minima_of t) (words_under files p.translate p.dict)
+    (patterns_under files p.translate p.patterns))
+finished files (ToSweep s) = sweep_ends s (swept_rows s (terms_in files s) (sets_in files s))
 
 -- the outcome of a command: that of the first file that ends the call, and where none does, what it
 -- writes and prints

@@ -11,9 +11,9 @@ use Rattle.pg_top.specs.Counted.{MakesCalls, read_calls, EndsAt}
 use Rattle.pg_top.specs.Outcomes.{Ends, Writing, refuses}
 use Rattle.pg_top.specs.Promises.{GivesValues, PackKeeps}
 use Rattle.pg_top.specs.Readings.{read_as}
-use Rattle.pg_top.specs.pack.Packed.{packed, packed_text}
+use Rattle.pg_top.specs.pack.Packed.{packed}
 use Rattle.pg_top.specs.totals.Totalled.{packed_table}
-use Rattle.pg_top.specs.pack.Inside.Inputs.{HasSource}
+use Rattle.pg_top.specs.pack.Inside.Inputs.{HasSource, packed_text}
 use Rattle.pg_top.specs.Inside.Stops.{StopsCommandWith, StopsCommand, StopsMaking}
 use Rattle.pg_top.specs.declared.answers.Status.TheVariants.{Done}
 use Rattle.pg_top.specs.declared.inputs.Input.TheVariants as input

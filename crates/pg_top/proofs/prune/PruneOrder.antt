@@ -12,13 +12,12 @@ use Rattle.pg_select.specs.Windows.{Patterns}
 use Rattle.pg_top.specs.Calls.{outcome_of, finished, reads_of}
 use Rattle.pg_top.specs.Counted.{MakesCalls}
 use Rattle.pg_top.specs.Readings.{table_named, translate_file, patterns_file, words_file, patterns_under, words_under}
-use Rattle.pg_top.specs.prune.Inside.Inputs.{HasPrune}
+use Rattle.pg_top.specs.prune.Inside.Inputs.{HasPrune, line_of_pruned, pruned_by}
 use Rattle.pg_prune.specs.Prunes.{pruned}
 use Rattle.pg_prune.specs.Reports.{prune_report}
 use Rattle.pg_prune.proofs.PrunedLaws.{pruned_part, pruned_alike, pruned_least}
 use Rattle.pg_select.specs.CountedPositions.{minima_of}
 use Rattle.pg_top.specs.Promises.{ReadsBack, PruneKeeps}
-use Rattle.pg_top.specs.prune.Pruned.{pruned_by, line_of_pruned}
 use Rattle.pg_words.specs.Requests.{PruneRequest, ToPrune}
 use Rattle.pg_top.specs.Inside.Lists.{lists_under, HasLists}
 use Rattle.pg_top.specs.Inside.Stops.{StopsAt, StopsReading}

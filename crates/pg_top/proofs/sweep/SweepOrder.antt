@@ -12,13 +12,14 @@ use Rattle.pg_dict.specs.Words.{words}
 use Rattle.pg_patterns.specs.Starts.{start}
 use Rattle.pg_select.specs.Windows.{Patterns}
 use Rattle.pg_sweep.specs.Sweeps.{Terms}
+use Rattle.pg_top.specs.sweep.Inside.Inputs.{swept}
 use Rattle.pg_top.specs.Calls.{outcome_of, finished, reads_of}
 use Rattle.pg_top.specs.Counted.{MakesCalls, read_call, read_calls}
 use Rattle.pg_top.specs.Readings.{Reading, translate_file, patterns_file, words_file}
 use Rattle.pg_words.specs.Requests.{SweepRequest, ToSweep}
 use Rattle.pg_top.specs.Inside.Lists.{lists_under, HasLists}
 use Rattle.pg_top.specs.Inside.Stops.{StopsAt, StopsReading}
-use Rattle.pg_top.specs.sweep.Swept.{set_files, HasSets, HasSweep, swept}
+use Rattle.pg_top.specs.sweep.Swept.{set_files, HasSets, HasSweep}
 use Rattle.pg_top.specs.declared.inputs.Stop.{Stop}
 use Rattle.pg_top.proofs.ListOrder.{lists_accepted}
 use Rattle.pg_top.proofs.Orders.{AreAccepted, accepted_all, accepted_both, both, held_later, mapped, stopped_after, stopped_in_front}

@@ -10,11 +10,11 @@ use Rattle.pg_sweep.specs.declared.rows.SweepRow.{SweepRow}
 use Rattle.pg_sweep.proofs.Winners.{winner_wins}
 use Rattle.pg_top.specs.Calls.{finished, reads_of}
 use Rattle.pg_top.specs.Outcomes.{Ends}
-use Rattle.pg_top.specs.sweep.Swept.{winner_line, set_named, terms_in, sets_in, swept_rows, sweep_ends, swept}
+use Rattle.pg_top.specs.sweep.Swept.{winner_line, set_named, terms_in, sets_in, swept_rows, sweep_ends}
 use Rattle.pg_top.specs.Promises.{set_costs, SweepNames}
 use Rattle.pg_top.specs.Readings.{Held, first_end}
 use Rattle.pg_words.specs.Requests.{SweepRequest, ToSweep}
-use Rattle.pg_top.specs.sweep.Inside.Inputs.{line_of_sweep}
+use Rattle.pg_top.specs.sweep.Inside.Inputs.{line_of_sweep, swept}
 use Rattle.pg_top.specs.declared.answers.Status.TheVariants.{Done}
 
 -- it is made of what was found

@@ -18,8 +18,8 @@ use Rattle.pg_top.specs.Counted.{MakesCalls, read_calls}
 use Rattle.pg_top.specs.Outcomes.{Ends}
 use Rattle.pg_top.specs.Readings.{Reading, read_as, input_file, file_under}
 use Rattle.pg_top.specs.pack.Packed.{table_refused}
-use Rattle.pg_top.specs.totals.Totalled.{packed_table, totals_lines}
-use Rattle.pg_top.specs.totals.Inside.Inputs.{IsTotalled}
+use Rattle.pg_top.specs.totals.Totalled.{packed_table}
+use Rattle.pg_top.specs.totals.Inside.Inputs.{IsTotalled, totals_lines}
 use Rattle.pg_top.specs.Inside.Stops.{StopsAt, StopsReading}
 use Rattle.pg_top.specs.declared.answers.Status.TheVariants.{Done}
 use Rattle.pg_top.specs.declared.inputs.Input.TheVariants as input

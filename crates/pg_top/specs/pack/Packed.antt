@@ -6,14 +6,11 @@ use Rattle.pg_types.specs.declared.refusals.Kind.TheVariants.{TableTooLong}
 use Rattle.pg_types.specs.declared.refusals.Refusal.{Refusal}
 use Rattle.pg_translate.specs.Alphabets.{Alphabet, letters_of}
 use Rattle.pg_translate.specs.Tables.{table}
-use Rattle.pg_patterns.specs.Starts.{start}
 use Rattle.pg_patterns.specs.Texts.{pattern_text}
 use Rattle.pg_select.specs.Windows.{Patterns}
 use Rattle.pg_table.specs.declared.limits.TheConstants.{TABLE_MAX}
 use Rattle.pg_table.specs.Texts.{table_text}
-use Rattle.pg_words.specs.Requests.{PackRequest}
 use Rattle.pg_top.specs.Outcomes.{Outcome, Ends, refuses}
-use Rattle.pg_top.specs.Readings.{Held, table_named, meant_under}
 use Rattle.pg_top.specs.declared.answers.Status.TheVariants.{Done}
 use Rattle.pg_top.specs.declared.inputs.Input.TheVariants as input
 
@@ -28,19 +25,8 @@ packed_line patterns table =
 abbrev pub table_refused : Kind → Refusal
 table_refused kind = record { kind = kind; line = 0; column = 0 }
 
--- the packed table of patterns for the letters of a table
-abbrev pub packed_text : Alphabet → Patterns → List ℕ
-packed_text t P = table_text (letters_of t + 1) P
-
 -- what `pack` writes and prints: the table under its name, where the table is not too long
 abbrev pub packed : List ℕ → Alphabet → Patterns → Outcome
-packed name t P =
-    if nat_lt TABLE_MAX (length (packed_text t P))
-    then refuses input.Table (table_refused TableTooLong)
-    else Ends Done ((name, packed_text t P) ∷ []) (packed_line (pattern_text t P) (packed_text t P))
-
--- what `pack` writes and prints, by the files that are held
-abbrev pub packed_in : Held → PackRequest → Outcome
-packed_in files p =
-    packed p.table (table_named p.translate files)
-    (meant_under p.translate start [] files p.patterns)
+packed name t P = let text = table_text (letters_of t + 1) P in
+    if nat_lt TABLE_MAX (length text) then refuses input.Table (table_refused TableTooLong)
+    else Ends Done ((name, text) ∷ []) (packed_line (pattern_text t P) text)

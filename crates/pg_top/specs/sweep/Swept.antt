@@ -73,11 +73,3 @@ sweep_ends s rows =
     let winner = winner_of (costs_of rows) in
     Ends Done ((s.output, sweep_file s.folds rows winner) ∷ [])
     (winner_line winner (slice_index (costs_of rows) (winner - 1)))
-
--- what a sweep of these sets writes and prints
-abbrev pub swept : SweepRequest → Terms → List Parameters → Outcome
-swept s terms sets = sweep_ends s (swept_rows s terms sets)
-
--- what `sweep` writes and prints, by the files that are held
-abbrev pub swept_in : Held → SweepRequest → Outcome
-swept_in files s = swept s (terms_in files s) (sets_in files s)

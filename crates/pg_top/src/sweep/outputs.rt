@@ -1,11 +1,11 @@
 //! What `sweep` writes and prints.
 ghost use Rattle.std.specs.Prelude.{◌≡◌, [], length, IfOk, ◌≤◌, ◌∷◌};
 ghost use Rattle.pg_types.specs.Lines.{lines};
-ghost use Rattle.pg_top.specs.sweep.Swept.{winner_line as winner_line_of, swept};
+ghost use Rattle.pg_top.specs.sweep.Swept.{winner_line as winner_line_of};
 ghost use Rattle.pg_sweep.specs.Files.{sweep_file};
 ghost use Rattle.pg_words.specs.Commands.{sweep_of, KeepsSweepLimits};
 ghost use Rattle.pg_top.specs.Outcomes.{Ends};
-ghost use Rattle.pg_top.specs.sweep.Inside.Inputs.{terms_of, HasSigns, line_of_sweep};
+ghost use Rattle.pg_top.specs.sweep.Inside.Inputs.{terms_of, HasSigns, line_of_sweep, swept};
 ghost use Rattle.pg_top.specs.Writings.{written_names, writing_of};
 ghost use Rattle.pg_top.specs.declared.answers.Status.TheVariants.{Done};
 

@@ -1,8 +1,11 @@
--- What `pack` is given and has read, and why it makes no table.
-use Rattle.std.specs.Prelude.{◌≡◌, Some, Ok}
+-- What `pack` is given and has read, its table, and why it makes none.
+use Rattle.std.specs.Prelude.{◌≡◌, ℕ, ◌+◌, List, Some, Ok}
 use Rattle.pg_types.specs.declared.refusals.Kind.TheVariants.{TableTooLong}
+use Rattle.pg_translate.specs.Alphabets.{Alphabet, letters_of}
 use Rattle.pg_translate.specs.Tables.{table}
 use Rattle.pg_patterns.specs.Starts.{start}
+use Rattle.pg_select.specs.Windows.{Patterns}
+use Rattle.pg_table.specs.Texts.{table_text}
 use Rattle.pg_table.specs.declared.error.TableError.{TableError}
 use Rattle.pg_table.specs.declared.error.TableError.TheVariants as table_error
 use Rattle.pg_words.specs.Requests.{PackRequest}
@@ -21,6 +24,10 @@ pack_of n = record {
   translate = n.translate.now;
   table = n.table.now;
 }
+
+-- the packed table of patterns for the letters of a table
+abbrev pub packed_text : Alphabet → Patterns → List ℕ
+packed_text t P = table_text (letters_of t + 1) P
 
 -- the files that are held are accepted as these
 pub record HasSource (files : Held) (p : PackRequest) (s : Source) : Type 0 where

@@ -1,10 +1,18 @@
--- What `prune` is given and has read.
-use Rattle.std.specs.Prelude.{◌≡◌, ◌+◌, Some, Ok}
-use Rattle.pg_translate.specs.Alphabets.{letters_of}
+-- What `prune` is given and has read, and what it makes of it.
+use Rattle.std.specs.Prelude.{◌≡◌, ℕ, ◌+◌, List, [], ◌∷◌, length, Some, Ok}
+use Rattle.pg_translate.specs.Alphabets.{Alphabet, letters_of}
 use Rattle.pg_translate.specs.Tables.{table}
+use Rattle.pg_dict.specs.Word.{Word}
 use Rattle.pg_dict.specs.Words.{words}
 use Rattle.pg_patterns.specs.Starts.{start}
+use Rattle.pg_patterns.specs.Texts.{pattern_text}
 use Rattle.pg_patterns.specs.Values.{SignsUpTo}
+use Rattle.pg_select.specs.CountedPositions.{minima_of}
+use Rattle.pg_select.specs.Windows.{Patterns}
+use Rattle.pg_prune.specs.Prunes.{Found, pruned}
+use Rattle.pg_prune.specs.Reports.{prune_report}
+use Rattle.pg_top.specs.Outcomes.{Outcome, Writing}
+use Rattle.pg_top.specs.prune.Pruned.{prune_ends, pruned_line}
 use Rattle.pg_top.specs.Readings.{Held, read_as}
 use Rattle.pg_words.specs.Requests.{PruneRequest}
 use Rattle.pg_top.specs.declared.prune.inputs.PruneInputs.{PruneInputs}
@@ -29,3 +37,18 @@ pub record HasPrune (files : Held) (p : PruneRequest) (i : PruneInputs) : Type 0
 -- the patterns have no greater sign than the table
 abbrev pub HasKnownSigns : PruneInputs → Type 0
 HasKnownSigns i = SignsUpTo (letters_of i.table + 1) i.patterns
+
+-- the files that are written: the text of the patterns that stay, and then the report
+abbrev pub pruned_files : PruneRequest → Alphabet → Found → Writing
+pruned_files p t found =
+    (p.output, pattern_text t found.patterns)
+    ∷ (p.report, prune_report t found)
+    ∷ []
+
+-- the line that `prune` prints where pruning finds this
+abbrev pub line_of_pruned : Found → List ℕ
+line_of_pruned found = pruned_line found.rounds found.removed (length found.patterns)
+
+-- what pruning these patterns by these words comes to
+abbrev pub pruned_by : PruneRequest → Alphabet → List Word → Patterns → Outcome
+pruned_by p t ws P = prune_ends p t (pruned (minima_of t) ws P)

@@ -1,10 +1,13 @@
--- What `sweep` has read, and what is printed of a sweep.
+-- What `sweep` has read, and what a sweep writes and prints.
 use Rattle.std.specs.Prelude.{ℕ, ◌+◌, ◌-◌, List, slice_index}
+use Rattle.pg_types.specs.Parameters.{Parameters}
 use Rattle.pg_translate.specs.Alphabets.{letters_of}
 use Rattle.pg_dict.specs.Word.{SignsAtMost}
 use Rattle.pg_patterns.specs.Values.{SignsUpTo}
 use Rattle.pg_sweep.specs.Sweeps.{Terms, Found, costs_of}
-use Rattle.pg_top.specs.sweep.Swept.{winner_line}
+use Rattle.pg_words.specs.Requests.{SweepRequest}
+use Rattle.pg_top.specs.Outcomes.{Outcome}
+use Rattle.pg_top.specs.sweep.Swept.{winner_line, sweep_ends, swept_rows}
 use Rattle.pg_top.specs.declared.sweep.inputs.SweepInputs.{SweepInputs}
 
 -- what the runs of a sweep with so many folds share
@@ -20,3 +23,7 @@ pub record HasSigns (i : SweepInputs) : Type 0 where
 abbrev pub line_of_sweep : Found → List ℕ
 line_of_sweep found = winner_line found.winner
     (slice_index (costs_of found.rows) (found.winner - 1))
+
+-- what a sweep of these sets writes and prints
+abbrev pub swept : SweepRequest → Terms → List Parameters → Outcome
+swept s terms sets = sweep_ends s (swept_rows s terms sets)

@@ -2,14 +2,22 @@
 use Rattle.std.specs.Prelude.{◌≡◌, ℕ, List, Some, Ok}
 use Rattle.pg_translate.specs.Alphabets.{Alphabet}
 use Rattle.pg_dict.specs.Word.{Word}
+use Rattle.pg_select.specs.CountedPositions.{minima_of}
+use Rattle.pg_table.specs.Lookups.{table_totals}
+use Rattle.pg_texts.specs.ReportTexts.{ending_text}
 use Rattle.pg_words.specs.Requests.{TotalsRequest}
 use Rattle.pg_top.specs.Readings.{Held, read_as}
-use Rattle.pg_top.specs.totals.Totalled.{packed_table, totals_lines}
+use Rattle.pg_top.specs.totals.Totalled.{packed_table}
 use Rattle.pg_top.specs.declared.totals.TotalsNames.{TotalsNames}
 
 -- the names as their bytes
 abbrev pub totals_of : TotalsNames → TotalsRequest
 totals_of n = record { dict = n.dict.now; translate = n.translate.now; table = n.table.now }
+
+-- what `totals` prints: the line of the totals of the words by a packed table, and that of the
+-- rates
+abbrev pub totals_lines : Alphabet → List Word → List ℕ → List ℕ
+totals_lines t words b = ending_text (table_totals (minima_of t) words b)
 
 -- the file of this name is accepted as a packed table, by which the totals of the words have these
 -- lines

@@ -4,8 +4,9 @@ use Rattle.pg_table.specs.Forms.{is_well_formed}
 use Rattle.pg_table.specs.Texts.{table_text}
 use Rattle.pg_table.specs.declared.error.TableError.TheVariants as table_error
 use Rattle.pg_table.specs.declared.limits.TheConstants.{TABLE_MAX}
+use Rattle.pg_top.specs.pack.Inside.Inputs.{packed_text}
 use Rattle.pg_top.specs.Outcomes.{Ends}
-use Rattle.pg_top.specs.pack.Packed.{packed_text, packed_line}
+use Rattle.pg_top.specs.pack.Packed.{packed_line}
 use Rattle.pg_top.specs.Writings.{written_names}
 use Rattle.pg_top.specs.declared.answers.Status.TheVariants.{Done}
 use Rattle.pg_table.specs.Inside.Laws.{HasEntries}
