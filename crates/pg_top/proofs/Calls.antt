@@ -6,12 +6,12 @@ use Rattle.std.specs.Option.{option_map}
 use Rattle.pg_types.specs.declared.refusals.Refusal.{Refusal}
 use Rattle.pg_outside.specs.Content.{FileMap, FilesShown, SinkShown, KeepsHeld, file_at}
 use Rattle.pg_outside.specs.Faults.{NoneFell, Rose}
-use Rattle.pg_top.specs.Answers.{MayAnswer, DoesAll, IsAnswered, IsAnswerOf, IsCall}
+use Rattle.pg_top.specs.Answers.{MayAnswer, IsAnswered, IsCall}
 use Rattle.pg_top.specs.Calls.{outcome, outcome_of, finished, reads_of, writes_of}
 use Rattle.pg_top.specs.Counted.{MakesCalls, MakesPuts, read_calls, write_calls, PutsFault, PutsCounted, LinesCounted, ReadsUpTo, IsUnreadAt, EndsAt, IsEndCounted}
-use Rattle.pg_top.specs.Faults.{FilesRose, StopsWriting, DoesPart}
+use Rattle.pg_top.specs.Faults.{FilesRose}
 use Rattle.pg_top.specs.Moments.{Moment, OfFiles, Puts, PutsPart, PutRose, PutOrRose}
-use Rattle.pg_top.specs.Outcomes.{Ends, Writing, refuses}
+use Rattle.pg_top.specs.Outcomes.{Outcome, Ends, Writing, IsKnown, refuses}
 use Rattle.pg_top.specs.PrintedLines.{usage_line, refused_line, reading_line, writing_line}
 use Rattle.pg_top.specs.Readings.{first_end}
 use Rattle.pg_words.specs.Requests.{Request, ToGenerate, ToAudit, ToSample, ToPack, ToTotals, ToPrune, ToSweep}
@@ -27,6 +27,19 @@ use Rattle.pg_top.proofs.CountedCalls.{calls_on, calls_are}
 use Rattle.pg_top.proofs.CountedEnds.{refused_counted, whole_calls, sample_whole}
 use Rattle.pg_top.proofs.Faults.{rose_since}
 use Rattle.pg_top.proofs.Orders.{mapped, end_of_all}
+
+-- an outcome was done by an answer: whole, up to its lines, and up to a write; and its answer alone
+abbrev DoesAll : Moment → Moment → Status → FileMap → FileMap → Outcome → Type 0
+DoesAll old new status before after end = IsKnown end (λ wanted writing lines. (status ≡ wanted) × (after ≡ after_all before writing) × Puts old.1 new.1 lines)
+
+abbrev DoesPart : Moment → Moment → Status → FileMap → FileMap → Outcome → Type 0
+DoesPart old new wanted before after end = IsKnown end (λ status writing lines. (wanted ≡ status) × (after ≡ after_all before writing) × PutsPart old.1 new.1 lines)
+
+abbrev StopsWriting : List ℕ → FileMap → FileMap → Outcome → Type 0
+StopsWriting name before after end = IsKnown end (λ status writing lines. IsPartWritten before after writing name)
+
+abbrev IsAnswerOf : Status → Outcome → Type 0
+IsAnswerOf status end = IsKnown end (λ wanted writing lines. status ≡ wanted)
 
 -- the answers that are those of an outcome
 abbrev pub IsEnd : Status → Type 0

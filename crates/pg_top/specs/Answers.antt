@@ -1,10 +1,10 @@
 -- What each answer of a call says. A call goes from the moment old to the moment new.
 use Rattle.std.specs.Prelude.{◌≡◌, [], Option, None, Some, ◌⊎◌}
-use Rattle.pg_outside.specs.Content.{FileMap, file_at}
+use Rattle.pg_outside.specs.Content.{file_at}
 use Rattle.pg_top.specs.Calls.{outcome, outcome_of}
 use Rattle.pg_top.specs.Faults.{SomeRose, IsFault}
 use Rattle.pg_top.specs.Moments.{Moment, OfFiles, KeepsFiles, Puts}
-use Rattle.pg_top.specs.Outcomes.{Outcome, Unknown, Ends}
+use Rattle.pg_top.specs.Outcomes.{IsKnown}
 use Rattle.pg_top.specs.PrintedLines.{usage_line}
 use Rattle.pg_words.specs.Requests.{Request, ToGenerate, ToAudit, ToSample, ToPack, ToTotals, ToPrune, ToSweep}
 use Rattle.pg_top.specs.sample.Sampled.{sample_lines}
@@ -34,20 +34,15 @@ MayAnswer (Some request) Fault = Unit {0}
 MayAnswer (Some request) Memory = Unit {0}
 MayAnswer asked status = ⊥
 
--- the outcome is this answer; its files were written, and its lines were put
-abbrev pub DoesAll : Moment → Moment → Status → FileMap → FileMap → Outcome → Type 0
-DoesAll old new status before after Unknown = ⊥
-DoesAll old new status before after (Ends wanted writing lines) =
-    (status ≡ wanted) × (after ≡ after_all before writing) × Puts old.1 new.1 lines
-
 -- an answer that is neither a fault nor a lack of memory is that of the outcome, and all of the
 -- outcome was done
 abbrev pub IsAnswered : Option Request → Status → Moment → Moment → Type 0
 IsAnswered asked Fault old new = Unit {0}
 IsAnswered asked Memory old new = Unit {0}
 IsAnswered asked status old new =
-    OfFiles old new (λ before after. DoesAll old new status before after
-    (outcome (file_at before) asked))
+    OfFiles old new (λ before after. IsKnown (outcome (file_at before) asked)
+    (λ wanted writing lines. (status ≡ wanted)
+    × (after ≡ after_all before writing) × Puts old.1 new.1 lines))
 
 -- the lines of a `sample` that is done were put. This also holds where the files tell nothing
 abbrev pub IsSampled : Option Request → Status → Moment → Moment → Type 0
@@ -59,18 +54,13 @@ pub record IsUntouched (old new : Moment) : Type 0 where
   pub files : KeepsFiles old new
   pub out : Puts old.1 new.1 []
 
--- the answer is that of the outcome
-abbrev pub IsAnswerOf : Status → Outcome → Type 0
-IsAnswerOf status Unknown = ⊥
-IsAnswerOf status (Ends wanted writing lines) = status ≡ wanted
-
 -- the answer where no fault rose: usage where the words are no command, else that of the outcome,
 -- or that memory was short
 abbrev pub IsComplete : Option Request → Status → Moment → Moment → Type 0
 IsComplete None status old new = status ≡ Usage
 IsComplete (Some request) status old new =
-    (status ≡ Memory) ⊎ OfFiles old new
-    (λ before after. IsAnswerOf status (outcome_of (file_at before) request))
+    (status ≡ Memory) ⊎ OfFiles old new (λ before after.
+    IsKnown (outcome_of (file_at before) request) (λ wanted writing lines. status ≡ wanted))
 
 -- all that is said of the answer of a call
 pub record IsCall (asked : Option Request) (status : Status) (old new : Moment) : Type 0 where

@@ -69,10 +69,5 @@ outcome files asked = option_map_or (outcome_of files) asked (Ends Usage [] usag
 -- whether a call reads or writes a file
 abbrev pub has_files : Option Request → Bool
 has_files None = false
-has_files (Some (ToGenerate n)) = true
-has_files (Some (ToAudit n)) = true
 has_files (Some (ToSample seed count)) = false
-has_files (Some (ToPack p)) = true
-has_files (Some (ToTotals p)) = true
-has_files (Some (ToPrune p)) = true
-has_files (Some (ToSweep s)) = true
+has_files (Some request) = true

@@ -1,10 +1,10 @@
 -- What stands after a fault. A call goes from the moment old to the moment new.
-use Rattle.std.specs.Prelude.{◌≡◌, ℕ, ◌+◌, List, ◌++◌, Option, None, Some, take, Any, ◌⊎◌}
-use Rattle.pg_outside.specs.Content.{FileMap, file_at}
+use Rattle.std.specs.Prelude.{◌≡◌, ℕ, ◌+◌, ◌++◌, Option, None, Some, take, Any, ◌⊎◌}
+use Rattle.pg_outside.specs.Content.{file_at}
 use Rattle.pg_top.specs.Calls.{outcome_of, reads_of, writes_of}
 use Rattle.pg_top.specs.Counted.{MakesCalls, read_calls, write_calls, ReadsUpTo, IsUnreadAt, IsUnwrittenAt, PutsFault, IsEndCounted}
 use Rattle.pg_top.specs.Moments.{Moment, OfFiles, KeepsFiles, PutsPart, ReadRose, WriteRose, PutRose, PutOrRose}
-use Rattle.pg_top.specs.Outcomes.{Outcome, Unknown, Ends}
+use Rattle.pg_top.specs.Outcomes.{IsKnown}
 use Rattle.pg_top.specs.PrintedLines.{usage_line, reading_line, writing_line}
 use Rattle.pg_words.specs.Requests.{Request}
 use Rattle.pg_top.specs.Writings.{after_all, IsPartWritten}
@@ -32,11 +32,6 @@ pub record IsReadFault (request : Request) (old new : Moment) : Type 0 where
   pub line : PutOrRose old.1 new.1 (reading_line unread.reading.name)
   pub puts : PutsFault old.1 new.1
 
--- the outcome's writes stopped at a name
-abbrev pub StopsWriting : List ℕ → FileMap → FileMap → Outcome → Type 0
-StopsWriting name before after Unknown = ⊥
-StopsWriting name before after (Ends status writing lines) = IsPartWritten before after writing name
-
 -- a file could not be written: all were read, the writes before it are whole, nothing is written
 -- behind it, and the line of its fault was put
 pub record IsWriteFault (request : Request) (old new : Moment) : Type 0 where
@@ -44,24 +39,19 @@ pub record IsWriteFault (request : Request) (old new : Moment) : Type 0 where
   pub unwritten : IsUnwrittenAt (writes_of request) place old.0 new.0
   pub calls : MakesCalls old.0 new.0
       (read_calls (reads_of request) ++ write_calls (take (place + 1) (writes_of request)))
-  pub part : OfFiles old new (λ before after.
-      StopsWriting unwritten.name before after (outcome_of (file_at before) request))
+  pub part : OfFiles old new (λ before after. IsKnown (outcome_of (file_at before) request)
+      (λ status writing lines. IsPartWritten before after writing unwritten.name))
   pub line : PutOrRose old.1 new.1 (writing_line unwritten.name)
   pub puts : PutsFault old.1 new.1
-
--- the outcome is this answer; its writes were made, and a part of its lines was put
-abbrev pub DoesPart : Moment → Moment → Status → FileMap → FileMap → Outcome → Type 0
-DoesPart old new wanted before after Unknown = ⊥
-DoesPart old new wanted before after (Ends status writing lines) =
-    (wanted ≡ status) × (after ≡ after_all before writing) × PutsPart old.1 new.1 lines
 
 -- the lines of an answer could not be put: the calls are those of this answer
 pub record IsPutFault (request : Request) (old new : Moment) : Type 0 where
   pub wanted : Status
   pub counted : IsEndCounted request wanted old new
   pub rose : PutRose old.1 new.1
-  pub part : OfFiles old new (λ before after.
-      DoesPart old new wanted before after (outcome_of (file_at before) request))
+  pub part : OfFiles old new (λ before after. IsKnown (outcome_of (file_at before) request)
+      (λ status writing lines. (wanted ≡ status)
+      × (after ≡ after_all before writing) × PutsPart old.1 new.1 lines))
 
 -- what stands after a fault. Where the words are no command, the usage line could not be put
 abbrev pub IsFault : Option Request → Moment → Moment → Type 0

@@ -16,6 +16,11 @@ pub data Outcome : Type 0 where
   Unknown : Outcome
   Ends : Status → Writing → List ℕ → Outcome
 
+-- the outcome is known, and this is so of its answer, its files and its lines
+abbrev pub IsKnown : Outcome → (Status → Writing → List ℕ → Type 0) → Type 0
+IsKnown Unknown P = ⊥
+IsKnown (Ends status writing lines) P = P status writing lines
+
 -- a file is refused
 abbrev pub refuses : Input → Refusal → Outcome
 refuses input refusal = Ends Refused [] (refused_line input refusal)
