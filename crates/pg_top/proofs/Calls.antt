@@ -1,12 +1,12 @@
 -- What is said of the answer of a command at each of its ends.
-use Rattle.std.proofs.Common.{◌≡◌, ℕ, ◌+◌, List, [], take, Option, None, Some, IfSome, MatchOption, inl, inr, refl, sym, ap, ◌∙◌, subst}
+use Rattle.std.proofs.Common.{◌≡◌, ℕ, ◌+◌, arith, List, [], Contains, take, Option, None, Some, IfSome, MatchOption, inl, inr, refl, sym, ap, ◌∙◌, subst}
 use Rattle.std.specs.Prelude.{slice_get, unwrap_or}
 use Rattle.std.proofs.lemmas.Option.{get_or_from_slice_get, slice_get_within, slice_get-map}
 use Rattle.std.specs.Option.{option_map}
 use Rattle.pg_types.specs.declared.refusals.Refusal.{Refusal}
 use Rattle.pg_outside.specs.Content.{FileMap, FilesShown, SinkShown, KeepsHeld, file_at}
 use Rattle.pg_outside.specs.Faults.{NoneFell, Rose}
-use Rattle.pg_top.specs.Answers.{MayAnswer, IsAnswered, IsCall}
+use Rattle.pg_top.specs.Answers.{answers_to, IsAnswered, IsCall}
 use Rattle.pg_top.specs.Calls.{outcome, outcome_of, finished, reads_of, writes_of}
 use Rattle.pg_top.specs.Counted.{MakesCalls, MakesPuts, read_calls, write_calls, PutsFault, PutsCounted, LinesCounted, ReadsUpTo, IsUnreadAt, EndsAt, IsEndCounted}
 use Rattle.pg_top.specs.Faults.{FilesRose}
@@ -58,23 +58,23 @@ no_memory : (status : Status) → IsEnd status → status ≡ Memory → ⊥
 no_memory status end is = subst IsEnd is end
 
 -- of every command these may be answered
-pub may_fault : (request : Request) → MayAnswer (Some request) Fault
-may_fault (ToGenerate n) = tt
-may_fault (ToAudit n) = tt
-may_fault (ToSample seed count) = tt
-may_fault (ToPack p) = tt
-may_fault (ToTotals p) = tt
-may_fault (ToPrune p) = tt
-may_fault (ToSweep s) = tt
+pub may_fault : (request : Request) → Contains (answers_to (Some request)) Fault
+may_fault (ToGenerate n) = (2, omega arith, refl)
+may_fault (ToAudit n) = (3, omega arith, refl)
+may_fault (ToSample seed count) = (1, omega arith, refl)
+may_fault (ToPack p) = (2, omega arith, refl)
+may_fault (ToTotals p) = (2, omega arith, refl)
+may_fault (ToPrune p) = (2, omega arith, refl)
+may_fault (ToSweep s) = (2, omega arith, refl)
 
-pub may_want : (request : Request) → MayAnswer (Some request) Memory
-may_want (ToGenerate n) = tt
-may_want (ToAudit n) = tt
-may_want (ToSample seed count) = tt
-may_want (ToPack p) = tt
-may_want (ToTotals p) = tt
-may_want (ToPrune p) = tt
-may_want (ToSweep s) = tt
+pub may_want : (request : Request) → Contains (answers_to (Some request)) Memory
+may_want (ToGenerate n) = (3, omega arith, refl)
+may_want (ToAudit n) = (4, omega arith, refl)
+may_want (ToSample seed count) = (2, omega arith, refl)
+may_want (ToPack p) = (3, omega arith, refl)
+may_want (ToTotals p) = (3, omega arith, refl)
+may_want (ToPrune p) = (3, omega arith, refl)
+may_want (ToSweep s) = (3, omega arith, refl)
 
 answered_as : (asked : Option Request) (status : Status) (old new : Moment) → OfFiles old new (λ before after. DoesAll old new status before after (outcome (file_at before) asked)) → IsAnswered asked status old new
 answered_as asked Done old new h = h
@@ -108,7 +108,7 @@ module _ (request : Request) (wanted : Status) (writing : Writing) (lines : List
   Comes files = outcome_of (file_at files) request ≡ Ends wanted writing lines
 
   -- the outcome was done
-  done_call : (s0 s1 s2 : FilesShown) (o0 o1 : SinkShown) → IsEnd wanted → MayAnswer (Some request) wanted → KeepsHeld s0.held s1.held → IfSome s1.held Comes → WroteAll s1 s2 writing → Puts o0 o1 lines → IsCall (Some request) wanted (s0, o0) (s2, o1)
+  done_call : (s0 s1 s2 : FilesShown) (o0 o1 : SinkShown) → IsEnd wanted → Contains (answers_to (Some request)) wanted → KeepsHeld s0.held s1.held → IfSome s1.held Comes → WroteAll s1 s2 writing → Puts o0 o1 lines → IsCall (Some request) wanted (s0, o0) (s2, o1)
   done_call s0 s1 s2 o0 o1 end may keeps told wrote puts = record {
     answers = may;
     usage = λ is. absurd (no_usage wanted end is);
@@ -140,7 +140,7 @@ module _ (request : Request) (wanted : Status) (writing : Writing) (lines : List
   }
 
   -- all was written
-  pub ended_call : (s0 s1 s2 : FilesShown) (o0 o1 : SinkShown) (answer : Status) → IsEnd wanted → MayAnswer (Some request) wanted → IsEndCounted request wanted (s0, o0) (s2, o1) → KeepsHeld s0.held s1.held → IfSome s1.held Comes → WroteAll s1 s2 writing → PutsAnswer lines wanted answer o0 o1 → IsCall (Some request) answer (s0, o0) (s2, o1)
+  pub ended_call : (s0 s1 s2 : FilesShown) (o0 o1 : SinkShown) (answer : Status) → IsEnd wanted → Contains (answers_to (Some request)) wanted → IsEndCounted request wanted (s0, o0) (s2, o1) → KeepsHeld s0.held s1.held → IfSome s1.held Comes → WroteAll s1 s2 writing → PutsAnswer lines wanted answer o0 o1 → IsCall (Some request) answer (s0, o0) (s2, o1)
   ended_call s0 s1 s2 o0 o1 answer end may counted keeps told wrote (inl h) = subst (λ (status : Status). IsCall (Some request) status (s0, o0) (s2, o1)) (sym h.0) (done_call s0 s1 s2 o0 o1 end may keeps told wrote h.1)
   ended_call s0 s1 s2 o0 o1 answer end may counted keeps told wrote (inr h) = subst (λ (status : Status). IsCall (Some request) status (s0, o0) (s2, o1)) (sym h.0) (put_failed s0 s1 s2 o0 o1 counted keeps told wrote h.1 h.2)
 
@@ -159,7 +159,7 @@ module _ (request : Request) (wanted : Status) (writing : Writing) (lines : List
           (subst (StopsWriting stopped.write.0 before after) (sym told) part)
 
 -- an answer with no write
-pub answered_call : (request : Request) (wanted : Status) (lines : List ℕ) (s0 s1 : FilesShown) (o0 o1 : SinkShown) (answer : Status) → IsEnd wanted → MayAnswer (Some request) wanted → IsEndCounted request wanted (s0, o0) (s1, o1) → KeepsHeld s0.held s1.held → IfSome s1.held (λ files. outcome_of (file_at files) request ≡ Ends wanted [] lines) → PutsAnswer lines wanted answer o0 o1 → IsCall (Some request) answer (s0, o0) (s1, o1)
+pub answered_call : (request : Request) (wanted : Status) (lines : List ℕ) (s0 s1 : FilesShown) (o0 o1 : SinkShown) (answer : Status) → IsEnd wanted → Contains (answers_to (Some request)) wanted → IsEndCounted request wanted (s0, o0) (s1, o1) → KeepsHeld s0.held s1.held → IfSome s1.held (λ files. outcome_of (file_at files) request ≡ Ends wanted [] lines) → PutsAnswer lines wanted answer o0 o1 → IsCall (Some request) answer (s0, o0) (s1, o1)
 answered_call request wanted lines s0 s1 o0 o1 answer end may counted keeps told puts = ended_call request wanted [] lines s0 s1 s1 o0 o1 answer end may counted keeps told (nothing_written s1) puts
 
 -- memory was wanted
@@ -195,7 +195,7 @@ refused_puts input refusal line answer o0 o1 (inl is) puts = subst (λ (answer :
 refused_puts input refusal line answer o0 o1 (inr is) puts = subst (λ (answer : Status). PutsCounted (stop.Refused input refusal) answer o0 o1) is.0 puts
 
 -- a command stopped before it wrote
-pub stopped_command : (request : Request) (s0 s1 : FilesShown) (o0 o1 : SinkShown) (why : Stop) (answer : Status) → MayAnswer (Some request) Refused → KeepsHeld s0.held s1.held → StopsCommand request s0 s1 why → PutsStop why answer o0 o1 → PutsCounted why answer o0 o1 → IsCall (Some request) answer (s0, o0) (s1, o1)
+pub stopped_command : (request : Request) (s0 s1 : FilesShown) (o0 o1 : SinkShown) (why : Stop) (answer : Status) → Contains (answers_to (Some request)) Refused → KeepsHeld s0.held s1.held → StopsCommand request s0 s1 why → PutsStop why answer o0 o1 → PutsCounted why answer o0 o1 → IsCall (Some request) answer (s0, o0) (s1, o1)
 stopped_command request s0 s1 o0 o1 (stop.Refused input refusal) answer may keeps stops (inl h) puts = memory_call request s0 s1 o0 o1 answer keeps h.0 h.1
 stopped_command request s0 s1 o0 o1 (stop.Refused input refusal) answer may keeps stops (inr h) puts =
     answered_call request Refused (refused_line input refusal) s0 s1 o0 o1 answer tt may (refused_counted request s0 s1 o0 o1 input refusal stops (refused_puts input refusal (refused_line input refusal) answer o0 o1 h puts)) keeps
@@ -221,7 +221,7 @@ stops_reading request s0 s1 why stops = record { place = stops.place; read = sto
     why_command (stop.Unread name) place stops = stops
     why_command stop.Memory place stops = tt
 
-pub stopped_call : (request : Request) (s0 s1 : FilesShown) (o0 o1 : SinkShown) (why : Stop) (answer : Status) → MayAnswer (Some request) Refused → KeepsHeld s0.held s1.held → StopsReading (reads_of request) s0 s1 why → PutsStop why answer o0 o1 → PutsCounted why answer o0 o1 → IsCall (Some request) answer (s0, o0) (s1, o1)
+pub stopped_call : (request : Request) (s0 s1 : FilesShown) (o0 o1 : SinkShown) (why : Stop) (answer : Status) → Contains (answers_to (Some request)) Refused → KeepsHeld s0.held s1.held → StopsReading (reads_of request) s0 s1 why → PutsStop why answer o0 o1 → PutsCounted why answer o0 o1 → IsCall (Some request) answer (s0, o0) (s1, o1)
 stopped_call request s0 s1 o0 o1 why answer may keeps stops line puts = stopped_command request s0 s1 o0 o1 why answer may keeps (stops_reading request s0 s1 why stops) line puts
 
 -- a file could not be written
@@ -252,7 +252,7 @@ write_failed request writing lines s0 s1 s2 o0 o1 place stopped named keeps fell
     }
 
 -- a command wrote its files and put its lines
-pub finished_call : (request : Request) (writing : Writing) (lines : List ℕ) (s0 s1 s2 : FilesShown) (o0 o1 : SinkShown) (answer : Status) → MayAnswer (Some request) Done → written_names writing ≡ writes_of request → KeepsHeld s0.held s1.held → NoneFell s0.write_faults s1.write_faults → IfSome s1.held (λ files. outcome_of (file_at files) request ≡ Ends Done writing lines)
+pub finished_call : (request : Request) (writing : Writing) (lines : List ℕ) (s0 s1 s2 : FilesShown) (o0 o1 : SinkShown) (answer : Status) → Contains (answers_to (Some request)) Done → written_names writing ≡ writes_of request → KeepsHeld s0.held s1.held → NoneFell s0.write_faults s1.write_faults → IfSome s1.held (λ files. outcome_of (file_at files) request ≡ Ends Done writing lines)
     → MakesCalls s0 s1 (read_calls (reads_of request)) → Finishes writing lines answer (s1, o0) (s2, o1) → IsCall (Some request) answer (s0, o0) (s2, o1)
 finished_call request writing lines s0 s1 s2 o0 o1 answer may named keeps fell told read (inl h) = ended_call request Done writing lines s0 s1 s2 o0 o1 answer tt may (whole_calls request writing s0 s1 s2 named read h.2, h.3) keeps told h.0 h.1
 finished_call request writing lines s0 s1 s2 o0 o1 answer may named keeps fell told read (inr h) = subst (λ (status : Status). IsCall (Some request) status (s0, o0) (s2, o1)) (sym h.0) (write_failed request writing lines s0 s1 s2 o0 o1 h.1 h.2 named keeps fell told read h.4 h.3 h.5)
@@ -260,7 +260,7 @@ finished_call request writing lines s0 s1 s2 o0 o1 answer may named keeps fell t
 -- words that are no command
 pub usage_call : (s : FilesShown) (o0 o1 : SinkShown) (answer : Status) → PutsAnswer usage_line Usage answer o0 o1 → IsCall None answer (s, o0) (s, o1)
 usage_call s o0 o1 answer (inl h) = subst (λ (status : Status). IsCall None status (s, o0) (s, o1)) (sym h.0) (record {
-  answers = tt;
+  answers = (0, omega arith, refl);
   usage = λ _. h.1;
   answered = of_files s s s [] (λ _. Unit {0}) (λ before after. DoesAll (s, o0) (s, o1) Usage before after (outcome (file_at before) None)) (kept s.held) (told s.held) (nothing_written s) (λ before after _ same. (refl, same, h.1));
   memory = λ is. cc;
@@ -277,7 +277,7 @@ usage_call s o0 o1 answer (inl h) = subst (λ (status : Status). IsCall None sta
     kept None = tt
     kept (Some files) = refl
 usage_call s o0 o1 answer (inr h) = subst (λ (status : Status). IsCall None status (s, o0) (s, o1)) (sym h.0) (record {
-  answers = tt;
+  answers = (1, omega arith, refl);
   usage = λ is. cc;
   answered = tt;
   memory = λ is. cc;
@@ -297,7 +297,7 @@ sample_call seed count s o0 o1 answer (inl h) puts = memory_call (ToSample seed 
     kept : (held : Option FileMap) → KeepsHeld held held
     kept None = tt
     kept (Some files) = refl
-sample_call seed count s o0 o1 answer (inr h) puts = answered_call (ToSample seed count) Done (sample_lines seed count) s s o0 o1 answer tt tt (sample_whole seed count s o0 o1 (at_once h)) (kept s.held) (told s.held) h
+sample_call seed count s o0 o1 answer (inr h) puts = answered_call (ToSample seed count) Done (sample_lines seed count) s s o0 o1 answer tt (0, omega arith, refl) (sample_whole seed count s o0 o1 (at_once h)) (kept s.held) (told s.held) h
   where
     at_once : PutsAnswer (sample_lines seed count) Done answer o0 o1 → MakesPuts o0 o1 1
     at_once (inl is) = subst (λ (answer : Status). LinesCounted answer o0 o1) is.0 puts

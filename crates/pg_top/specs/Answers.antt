@@ -1,38 +1,23 @@
 -- What each answer of a call says. A call goes from the moment old to the moment new.
-use Rattle.std.specs.Prelude.{◌≡◌, [], Option, None, Some, ◌⊎◌}
+use Rattle.std.specs.Prelude.{◌≡◌, List, [], ◌∷◌, Contains, Option, None, Some, ◌⊎◌}
 use Rattle.pg_outside.specs.Content.{file_at}
 use Rattle.pg_top.specs.Calls.{outcome, outcome_of}
 use Rattle.pg_top.specs.Faults.{SomeRose, IsFault}
 use Rattle.pg_top.specs.Moments.{Moment, OfFiles, KeepsFiles, Puts}
 use Rattle.pg_top.specs.Outcomes.{IsKnown}
 use Rattle.pg_top.specs.PrintedLines.{usage_line}
-use Rattle.pg_words.specs.Requests.{Request, ToGenerate, ToAudit, ToSample, ToPack, ToTotals, ToPrune, ToSweep}
+use Rattle.pg_words.specs.Requests.{Request, ToAudit, ToSample}
 use Rattle.pg_top.specs.sample.Sampled.{sample_lines}
 use Rattle.pg_top.specs.Writings.{after_all}
 use Rattle.pg_top.specs.declared.answers.Status.{Status}
 use Rattle.pg_top.specs.declared.answers.Status.TheVariants.{Done, Yes, No, Usage, Refused, Fault, Memory}
 
 -- the answers that a call may give
-abbrev pub MayAnswer : Option Request → Status → Type 0
-MayAnswer None Usage = Unit {0}
-MayAnswer None Fault = Unit {0}
-MayAnswer (Some (ToGenerate n)) Done = Unit {0}
-MayAnswer (Some (ToGenerate n)) Refused = Unit {0}
-MayAnswer (Some (ToAudit n)) Yes = Unit {0}
-MayAnswer (Some (ToAudit n)) No = Unit {0}
-MayAnswer (Some (ToAudit n)) Refused = Unit {0}
-MayAnswer (Some (ToSample seed count)) Done = Unit {0}
-MayAnswer (Some (ToPack p)) Done = Unit {0}
-MayAnswer (Some (ToPack p)) Refused = Unit {0}
-MayAnswer (Some (ToTotals p)) Done = Unit {0}
-MayAnswer (Some (ToTotals p)) Refused = Unit {0}
-MayAnswer (Some (ToPrune p)) Done = Unit {0}
-MayAnswer (Some (ToPrune p)) Refused = Unit {0}
-MayAnswer (Some (ToSweep s)) Done = Unit {0}
-MayAnswer (Some (ToSweep s)) Refused = Unit {0}
-MayAnswer (Some request) Fault = Unit {0}
-MayAnswer (Some request) Memory = Unit {0}
-MayAnswer asked status = ⊥
+abbrev pub answers_to : Option Request → List Status
+answers_to None = Usage ∷ Fault ∷ []
+answers_to (Some (ToAudit n)) = Yes ∷ No ∷ Refused ∷ Fault ∷ Memory ∷ []
+answers_to (Some (ToSample seed count)) = Done ∷ Fault ∷ Memory ∷ []
+answers_to (Some request) = Done ∷ Refused ∷ Fault ∷ Memory ∷ []
 
 -- an answer that is neither a fault nor a lack of memory is that of the outcome, and all of the
 -- outcome was done
@@ -64,7 +49,7 @@ IsComplete (Some request) status old new =
 
 -- all that is said of the answer of a call
 pub record IsCall (asked : Option Request) (status : Status) (old new : Moment) : Type 0 where
-  pub answers : MayAnswer asked status
+  pub answers : Contains (answers_to asked) status
   pub usage : status ≡ Usage → Puts old.1 new.1 usage_line
   pub answered : IsAnswered asked status old new
   pub memory : status ≡ Memory → IsUntouched old new

@@ -7,7 +7,8 @@ ghost use Rattle.pg_driver.specs.Told.{account_of};
 ghost use Rattle.pg_patterns.specs.Values.{SignsUpTo};
 ghost use Rattle.pg_select.specs.Meanings.{new_engine};
 ghost use Rattle.pg_top.specs.Counted.{LinesCounted};
-ghost use Rattle.pg_top.specs.sample.Sampled.{is_printed as is_printed_line, printed_part, sample_inputs, sample_lines as lines_of, sample_parameters, selection_lines};
+ghost use Rattle.pg_top.specs.sample.Sampled.{is_printed as is_printed_line, sample_inputs, sample_lines as lines_of, sample_parameters};
+ghost use Rattle.pg_top.specs.sample.Inside.Lines.{printed_part, selection_lines};
 ghost use Rattle.pg_top.specs.Selection.{signs_of, HasSigns, selected, selected_account};
 ghost use Rattle.pg_top.specs.Inside.Stops.{PutsLines};
 

@@ -196,8 +196,8 @@ false_counted n line s0 s1 o0 o1 told found put = (found.0, found.1, ends, put)
 -- the answer of a verdict
 pub verdict_call : (n : FileNames) (verdict : Verdict) (s0 s1 : FilesShown) (o0 o1 : SinkShown) (answer : Status) → KeepsHeld s0.held s1.held → IfSome s1.held (λ files. outcome_of (file_at files) (ToAudit n) ≡ outcome_by verdict) → ReadsToFind (reads_of (ToAudit n)) verdict s0 s1 → PutsVerdict verdict answer o0 o1 → MakesPuts o0 o1 1
     → IsCall (Some (ToAudit n)) answer (s0, o0) (s1, o1)
-verdict_call n Equal s0 s1 o0 o1 answer keeps told read puts put = answered_call (ToAudit n) Yes yes_line s0 s1 o0 o1 answer tt tt (equal_counted n s0 s1 o0 o1 read put) keeps told puts
-verdict_call n (False line) s0 s1 o0 o1 answer keeps told read puts put = answered_call (ToAudit n) No line.items s0 s1 o0 o1 answer tt tt (false_counted n line s0 s1 o0 o1 told read put) keeps told puts
+verdict_call n Equal s0 s1 o0 o1 answer keeps told read puts put = answered_call (ToAudit n) Yes yes_line s0 s1 o0 o1 answer tt (0, omega arith, refl) (equal_counted n s0 s1 o0 o1 read put) keeps told puts
+verdict_call n (False line) s0 s1 o0 o1 answer keeps told read puts put = answered_call (ToAudit n) No line.items s0 s1 o0 o1 answer tt (1, omega arith, refl) (false_counted n line s0 s1 o0 o1 told read put) keeps told puts
 
 -- and its calls
 pub verdict_counted : (n : FileNames) (verdict : Verdict) (s0 s1 : FilesShown) (o0 o1 : SinkShown) (answer : Status) → IfSome s1.held (λ files. outcome_of (file_at files) (ToAudit n) ≡ outcome_by verdict) → ReadsToFind (reads_of (ToAudit n)) verdict s0 s1 → PutsVerdict verdict answer o0 o1 → MakesPuts o0 o1 1 → IsCounted (ToAudit n) answer (s0, o0) (s1, o1)

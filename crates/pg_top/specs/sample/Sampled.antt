@@ -38,39 +38,25 @@ closings = codes "nrs"
 -- the end of a syllable, behind the draw that says whether it ends with a consonant: a consonant
 -- where that draw is 0, else nothing
 unfoldable pub ending : ℕ → Made
-ending x =
-    if drawn 4 x == 0
-    then (record {
-      text = slice_index closings (drawn 3 (next_state x)) ∷ [];
-      state = next_state x;
-    })
-    else (record { text = []; state = x })
+ending x = if drawn 4 x == 0
+    then record { text = slice_index closings (drawn 3 (next_state x)) ∷ []; state = next_state x }
+    else record { text = []; state = x }
 
 -- a syllable: a consonant, a vowel, and its end
 unfoldable pub syllable : ℕ → Made
-syllable x =
-    let c = next_state x in
-    let v = next_state c in
-    let end = ending (next_state v) in
-    record {
-      text = slice_index consonants (drawn 12 c) ∷ slice_index vowels
-          (drawn 5 v) ∷ end.text;
-      state = end.state;
-    }
+syllable x = let c = next_state x in let v = next_state c in let end = ending (next_state v) in
+    let front = slice_index consonants (drawn 12 c) ∷ slice_index vowels (drawn 5 v) ∷ [] in
+    record { text = front ++ end.text; state = end.state }
 
 -- so many further syllables, each behind a hyphen
 abbrev pub further : ℕ → ℕ → Made
 further zero x = record { text = []; state = x }
-further (suc n) x =
-    let one = syllable x in
-    let more = further n one.state in
+further (suc n) x = let one = syllable x in let more = further n one.state in
     record { text = 45 ∷ (one.text ++ more.text); state = more.state }
 
 -- a word of 2 to 4 syllables
 unfoldable pub word : ℕ → Made
-word x =
-    let size = next_state x in
-    let first = syllable size in
+word x = let size = next_state x in let first = syllable size in
     let more = further (drawn 3 size + 1) first.state in
     record { text = first.text ++ more.text; state = more.state }
 
@@ -110,15 +96,9 @@ is_printed line =
     || starts_with nat_eq line (codes "total")
     || starts_with nat_eq line (codes "rate")
 
--- these lines of a report, each with its line's end
-abbrev pub printed_part : List ℕ → List ℕ
-printed_part report = flat_map (λ line. line ++ 10 ∷ []) (filter is_printed (lines report))
-
--- what is printed of a selection: these lines, and the Done line
-abbrev pub selection_lines : Inputs → List ℕ
-selection_lines i = printed_part (selected_report i)
-    ++ done_line (selected_text i) (selected_account i).totals
-
--- the lines that `sample` prints
+-- the lines that `sample` prints: those lines of the report, each with its line's end, and the Done
+-- line
 abbrev pub sample_lines : ℕ → ℕ → List ℕ
-sample_lines seed count = selection_lines (sample_inputs seed count)
+sample_lines seed count = let i = sample_inputs seed count in
+    flat_map (λ line. line ++ 10 ∷ []) (filter is_printed (lines (selected_report i)))
+    ++ done_line (selected_text i) (selected_account i).totals

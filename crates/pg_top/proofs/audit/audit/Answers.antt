@@ -1,3 +1,4 @@
+use Rattle.std.proofs.Common.{arith, refl}
 use Rattle.pg_words.specs.Commands.{texts_of}
 use Rattle.pg_words.specs.Requests.{ToAudit}
 use Rattle.pg_top.proofs.Calls.{stopped_call, stops_reading}
@@ -13,7 +14,7 @@ returns-in-Ok-clause-call g c =
 pub returns-in-Err-clause-call : goal.returns-in-Err-clause-call
 returns-in-Err-clause-call g c =
     stopped_call (ToAudit (texts_of c.args.names.now)) (g.F.Files.shown c.args.files.now) (g.F.Files.shown c.audit_files.new.files) (g.O.Sink.shown c.args.out.now) (g.O.Sink.shown c.put_stop.new.out) c.in-Err.stop c.put_stop.result
-    tt c.in-Err.ensures.only.held c.in-Err.ensures.stopped c.put_stop.ensures.put c.put_stop.ensures.counted
+    (2, omega arith, refl) c.in-Err.ensures.only.held c.in-Err.ensures.stopped c.put_stop.ensures.put c.put_stop.ensures.counted
 
 pub returns-in-Ok-clause-counted : goal.returns-in-Ok-clause-counted
 returns-in-Ok-clause-counted g c =

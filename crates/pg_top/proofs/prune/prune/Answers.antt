@@ -1,3 +1,4 @@
+use Rattle.std.proofs.Common.{arith, refl}
 use Rattle.pg_top.specs.prune.Inside.Inputs.{prune_of}
 use Rattle.pg_words.specs.Requests.{ToPrune}
 use Rattle.pg_top.specs.Writings.{writing_of}
@@ -12,12 +13,12 @@ pub returns-in-Ok-clause-call : goal.returns-in-Ok-clause-call
 returns-in-Ok-clause-call g c =
     finished_call (ToPrune (prune_of c.args.names.now)) (writing_of c.in-Ok.outputs.files.items) c.in-Ok.outputs.lines.items
     (g.F.Files.shown c.args.files.now) (g.F.Files.shown c.prune_files.new.files) (g.F.Files.shown c.finish.new.files) (g.O.Sink.shown c.args.out.now) (g.O.Sink.shown c.finish.new.out) c.finish.result
-    tt c.in-Ok.ensures.named c.in-Ok.ensures.only.held c.in-Ok.ensures.only.writes c.in-Ok.ensures.ok c.in-Ok.ensures.counted c.finish.ensures
+    (0, omega arith, refl) c.in-Ok.ensures.named c.in-Ok.ensures.only.held c.in-Ok.ensures.only.writes c.in-Ok.ensures.ok c.in-Ok.ensures.counted c.finish.ensures
 
 pub returns-in-Err-clause-call : goal.returns-in-Err-clause-call
 returns-in-Err-clause-call g c =
     stopped_command (ToPrune (prune_of c.args.names.now)) (g.F.Files.shown c.args.files.now) (g.F.Files.shown c.prune_files.new.files) (g.O.Sink.shown c.args.out.now) (g.O.Sink.shown c.put_stop.new.out) c.in-Err.stop c.put_stop.result
-    tt c.in-Err.ensures.only.held c.in-Err.ensures.stopped c.put_stop.ensures.put c.put_stop.ensures.counted
+    (1, omega arith, refl) c.in-Err.ensures.only.held c.in-Err.ensures.stopped c.put_stop.ensures.put c.put_stop.ensures.counted
 
 pub returns-in-Ok-clause-counted : goal.returns-in-Ok-clause-counted
 returns-in-Ok-clause-counted g c =

@@ -2,7 +2,7 @@ use Rattle.std.proofs.Common.{◌≡◌, ◌∙◌, ◌++◌, List, ℕ, ap}
 use Rattle.pg_driver.specs.Told.{account_of}
 use Rattle.pg_driver.specs.Accounts.{Account}
 use Rattle.pg_top.specs.PrintedLines.{done_line}
-use Rattle.pg_top.specs.sample.Sampled.{printed_part}
+use Rattle.pg_top.specs.sample.Inside.Lines.{printed_part}
 use Rattle.pg_top.specs.Selection.{selected_text, selected_report, selected_account}
 use Rattle.pg_top.proofs.Selections.{text_selected, report_selected}
 use Rattle.pg_top.proofs.sample.lines_after.Goals as goal

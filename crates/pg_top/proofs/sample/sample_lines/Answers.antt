@@ -1,6 +1,6 @@
 use Rattle.std.proofs.Common.{◌≡◌, subst}
 use Rattle.std.specs.Prelude.{IfOk}
-use Rattle.pg_top.specs.sample.Sampled.{selection_lines}
+use Rattle.pg_top.specs.sample.Inside.Lines.{selection_lines}
 use Rattle.pg_top.specs.declared.selection.Inputs.{Inputs}
 use Rattle.pg_top.proofs.sample.sample_lines.Goals as goal
 
