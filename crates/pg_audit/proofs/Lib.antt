@@ -3,3 +3,4 @@ pub mod FirstPart
 pub mod Least
 pub mod PrintedPart
 mod DifferenceRows
+pub mod FoundTexts

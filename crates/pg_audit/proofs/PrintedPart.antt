@@ -4,7 +4,8 @@ use Rattle.std.proofs.lemmas.Bool.{cases_Bool}
 use Rattle.std.proofs.lemmas.Bool.Decides.{nat_tests}
 use Rattle.std.proofs.lemmas.List.{take_all, length-take}
 use Rattle.pg_audit.specs.Differences.{Difference, first_false, shown}
-use Rattle.pg_audit.specs.FoundLines.{Begins, has_feed, without_feed, found_line, printed_of}
+use Rattle.pg_audit.specs.FoundLines.{has_feed, without_feed}
+use Rattle.pg_audit.specs.Inside.FoundForms.{Begins, found_line, printed_of}
 use Rattle.pg_audit.proofs.FirstPart.{take_within, first_part}
 
 -- a line has at most one byte more than without its line feed

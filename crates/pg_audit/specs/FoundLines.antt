@@ -1,15 +1,6 @@
--- What is printed of a found line.
-use Rattle.std.specs.Prelude.{ℕ, ◌-◌, nat_lt, Bool, if◌then◌else◌, List, [], ◌∷◌, length, take, slice_index, Option, option_map}
+-- What is printed of a line of a given file that is false.
+use Rattle.std.specs.Prelude.{ℕ, ◌-◌, nat_lt, Bool, if◌then◌else◌, List, [], ◌++◌, length, take, slice_index, codes}
 use Rattle.pg_types.specs.Lines.{is_line_feed}
-use Rattle.pg_audit.specs.Differences.{Difference, first_false}
-
--- there is no such line; it has more than 200 bytes, and these are the first 200; it is this line,
--- and its line feed follows; or it is this line, and the file ends
-pub data FoundLine : Type 0 where
-  Missing : FoundLine
-  Begins : List ℕ → FoundLine
-  Ended : List ℕ → FoundLine
-  Unended : List ℕ → FoundLine
 
 -- whether a line has its line feed
 abbrev pub has_feed : List ℕ → Bool
@@ -19,20 +10,10 @@ has_feed line = is_line_feed (slice_index line (length line - 1))
 abbrev pub without_feed : List ℕ → List ℕ
 without_feed line = if has_feed line then take (length line - 1) line else line
 
--- a line that is there
-abbrev pub line_there : List ℕ → FoundLine
-line_there line = if nat_lt 200 (length (without_feed line)) then Begins (take 200 line)
-    else if has_feed line then Ended (without_feed line) else Unended line
-
--- what was found: the line, or that there is none
-abbrev pub found_line : List ℕ → FoundLine
-found_line [] = Missing
-found_line (b ∷ bs) = line_there (b ∷ bs)
-
--- what is printed of a difference: its line's number, and the found line
-abbrev pub printed_of : Difference → ℕ × FoundLine
-printed_of d = (d.line, found_line d.found)
-
--- what is printed of the first false line of a given file
-abbrev pub first_false_printed : List ℕ → List ℕ → Option (ℕ × FoundLine)
-first_false_printed given wanted = option_map printed_of (first_false given wanted)
+-- what stands in place of a line that is due: no line, the first 200 bytes of a line that has more,
+-- or the line, behind which the file may end
+abbrev pub found_text : List ℕ → List ℕ
+found_text [] = codes " is missing"
+found_text line = let bare = without_feed line in
+    if nat_lt 200 (length bare) then codes " begins " ++ take 200 line
+    else codes " found " ++ bare ++ (if has_feed line then [] else codes " and the file ends")

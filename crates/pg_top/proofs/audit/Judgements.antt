@@ -1,21 +1,23 @@
 -- Given files that are compared.
 use Rattle.std.proofs.Common.{◌≡◌, ℕ, ◌+◌, ◌≤◌, List, [], ◌∷◌, ◌++◌, ◌<◌, Vec, length, map, take, drop, Option, None, Some, IfSome, inl, inr, refl, sym, ap, ◌∙◌, subst, arith}
 use Rattle.std.specs.Option.{option_map, option_map_or, option_or}
-use Rattle.std.specs.Prelude.{slice_get, unwrap_or}
+use Rattle.std.specs.Prelude.{slice_get, unwrap_or, codes, decimal}
 use Rattle.std.specs.declared.alloc.Global.{Global}
 use Rattle.std.proofs.lemmas.List.{append-nil, drop_more, take_all, take-map, map-append, take-append-drop, length-map}
 use Rattle.std.proofs.lemmas.Option.{slice_get_within, get_or_from_slice_get, slice_get-map}
 use Rattle.pg_audit.specs.Differences.{Difference, first_false}
-use Rattle.pg_audit.specs.FoundLines.{printed_of}
+use Rattle.pg_audit.specs.Inside.FoundForms.{FoundLine, printed_of}
+use Rattle.pg_audit.proofs.FoundTexts.{text_of, text_by_form}
 use Rattle.pg_audit.proofs.PrintedPart.{part_printed}
 use Rattle.pg_outside.specs.Content.{FileMap, FilesShown, SinkShown, KeepsHeld, file_at}
 use Rattle.pg_outside.specs.Faults.{NoneFell}
 use Rattle.pg_outside.specs.FilesCalls.{Reads}
 use Rattle.pg_top.specs.Answers.{IsCall}
-use Rattle.pg_top.specs.audit.Audited.{denies, given_file, given_names, given_files, no_line, yes_line}
+use Rattle.pg_top.specs.audit.Audited.{denies, given_file, given_names, given_files, yes_line}
 use Rattle.pg_top.specs.Calls.{outcome_of, reads_of}
 use Rattle.pg_top.specs.Counted.{MakesCalls, MakesPuts, read_call, read_calls, ReadsUpTo, EndsAt, IsEndedCounted, IsWholeCounted, IsCounted}
 use Rattle.pg_top.specs.Outcomes.{Outcome, Unknown, Ends, refuses}
+use Rattle.pg_top.specs.PrintedLines.{word_of}
 use Rattle.pg_top.specs.Readings.{Held, Reading, first_end}
 use Rattle.pg_words.specs.Requests.{FileNames, ToAudit, if_asked}
 use Rattle.pg_top.specs.Selection.{selected_text, selected_report}
@@ -29,6 +31,7 @@ use Rattle.pg_top.specs.declared.audit.compare.Verdict.TheVariants.{Equal, False
 use Rattle.pg_top.specs.declared.audit.wanted.Wanted.{Wanted}
 use Rattle.pg_top.specs.declared.inputs.Given.{Given}
 use Rattle.pg_top.specs.declared.inputs.Given.TheVariants as given
+use Rattle.pg_top.specs.declared.inputs.Input.TheVariants as input
 use Rattle.pg_top.specs.declared.inputs.Stop.{Stop}
 use Rattle.pg_top.specs.declared.inputs.Stop.TheVariants.{Refused, Unread, Memory}
 use Rattle.pg_top.specs.declared.selection.Inputs.{Inputs}
@@ -39,9 +42,13 @@ use Rattle.pg_top.proofs.generate.InputOrder.{inputs_accepted, given as given_in
 use Rattle.pg_top.proofs.Orders.{IsAccepted, AreAccepted, accepted_and, accepted_front, accepted_all, end_behind, mapped, both, held_later, stopped_behind, stopped_after, read_after, end_after}
 
 -- what is said of a difference is said by what is printed of it
-denied : (g : Given) (d : Option Difference) → option_map (denies g) d ≡ option_map (λ p. Ends No [] (no_line g p)) (option_map printed_of d)
+said : Given → ℕ × FoundLine → List ℕ
+said g l = codes "no: " ++ word_of (input.Given g) ++ codes " line " ++ decimal l.0 ++ text_of l.1 ++ codes "\n"
+
+denied : (g : Given) (d : Option Difference) → option_map (denies g) d ≡ option_map (λ p. Ends No [] (said g p)) (option_map printed_of d)
+unfolding said
 denied g None = refl
-denied g (Some d) = refl
+denied g (Some d) = ap (λ t. Some (Ends No [] (codes "no: " ++ word_of (input.Given g) ++ codes " line " ++ decimal d.line ++ t ++ codes "\n"))) (text_by_form d.found)
 
 -- a file is judged by its front
 pub judged : (g : Given) (text : List ℕ) (file : Option (List ℕ)) (bytes : List ℕ) → IsFrontOf file (length text) 256 bytes → option_map (λ whole. option_map (denies g) (first_false whole text)) file ≡ Some (option_map (denies g) (first_false bytes text))
@@ -49,7 +56,7 @@ judged g text None bytes front = absurd front
 judged g text (Some whole) bytes (inl same) = ap (λ b. Some (option_map (denies g) (first_false b text))) (sym same)
 judged g text (Some whole) bytes (inr h) =
     let printed : option_map printed_of (first_false bytes text) ≡ option_map printed_of (first_false whole text) = ap (λ b. option_map printed_of (first_false b text)) h.1 ∙ part_printed whole text 256 (omega arith) h.0 in
-    ap Some (denied g (first_false whole text) ∙ ap (option_map (λ p. Ends No [] (no_line g p))) (sym printed) ∙ sym (denied g (first_false bytes text)))
+    ap Some (denied g (first_false whole text) ∙ ap (option_map (λ p. Ends No [] (said g p))) (sym printed) ∙ sym (denied g (first_false bytes text)))
 
 -- a given file with its text
 abbrev pub reading_of : Given → List ℕ → List ℕ → Reading

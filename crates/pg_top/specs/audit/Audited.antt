@@ -2,7 +2,7 @@
 use Rattle.std.specs.Prelude.{ℕ, List, [], ◌∷◌, ◌++◌, map, codes, decimal}
 use Rattle.std.specs.Option.{option_map}
 use Rattle.pg_audit.specs.Differences.{Difference, first_false}
-use Rattle.pg_audit.specs.FoundLines.{FoundLine, Missing, Begins, Ended, Unended, printed_of}
+use Rattle.pg_audit.specs.FoundLines.{found_text}
 use Rattle.pg_top.specs.Outcomes.{Outcome, Ends}
 use Rattle.pg_top.specs.PrintedLines.{word_of}
 use Rattle.pg_top.specs.Readings.{Held, Reading}
@@ -18,18 +18,11 @@ use Rattle.pg_top.specs.declared.selection.Inputs.{Inputs}
 abbrev pub yes_line : List ℕ
 yes_line = codes "yes\n"
 
--- what stands in place of a line that is due
-abbrev pub found_text : FoundLine → List ℕ
-found_text Missing = codes " is missing"
-found_text (Begins front) = codes " begins " ++ front
-found_text (Ended line) = codes " found " ++ line
-found_text (Unended line) = codes " found " ++ line ++ codes " and the file ends"
-
 -- where a line of a given file is false: its number, and what stands there
-abbrev pub no_line : Given → ℕ × FoundLine → List ℕ
-no_line given l =
+abbrev pub no_line : Given → Difference → List ℕ
+no_line given d =
     codes "no: " ++ word_of (input.Given given) ++ codes " line "
-    ++ decimal l.0 ++ found_text l.1 ++ codes "\n"
+    ++ decimal d.line ++ found_text d.found ++ codes "\n"
 
 -- the text that a given file is to be
 abbrev pub wanted_text : Inputs → Given → List ℕ
@@ -39,7 +32,7 @@ wanted_text i given.Report = selected_report i
 
 -- the outcome where a line of a given file is false
 abbrev pub denies : Given → Difference → Outcome
-denies given difference = Ends No [] (no_line given (printed_of difference))
+denies given d = Ends No [] (no_line given d)
 
 -- a given file, which ends the call where a line of it is false
 abbrev pub given_file : (Held → Inputs) → Given × List ℕ → Reading

@@ -1,7 +1,8 @@
 //! The line of `no`.
-ghost use Rattle.std.specs.Prelude.{◌≡◌, ◌++◌, ◌<◌, ◌≤◌, length, IfOk, OnOk};
-ghost use Rattle.pg_audit.specs.FoundLines.{Missing, found_line, has_feed as has_feed_of, line_there, without_feed as line_without_feed};
-ghost use Rattle.pg_top.specs.audit.Audited.{found_text, no_line as no_line_of};
+ghost use Rattle.std.specs.Prelude.{◌≡◌, ◌++◌, ◌<◌, ◌≤◌, length, codes, IfOk, OnOk};
+ghost use Rattle.pg_audit.specs.FoundLines.{found_text, has_feed as has_feed_of, without_feed as line_without_feed};
+ghost use Rattle.pg_top.specs.audit.Audited.{no_line as no_line_of};
+ghost use Rattle.pg_top.specs.audit.Inside.FoundThere.{text_there};
 
 use crate::inputs::{Given, Input};
 use crate::printed::{push_number, push_word};
@@ -35,7 +36,7 @@ fn without_feed(line: &[u8]) -> &[u8]
 /// Appends a line that was found.
 fn push_line(text: &mut Vec<u8>, line: &[u8]) -> Result<(), AllocError>
     requires { 0 < length line.now }
-    ensures { OnOk result (text.new.items ≡ text.old.items ++ found_text (line_there line.now)) }
+    ensures { OnOk result (text.new.items ≡ text.old.items ++ text_there line.now) }
 {
     let found = without_feed(line);
     if found.len() > SHOWN {
@@ -53,14 +54,14 @@ fn push_line(text: &mut Vec<u8>, line: &[u8]) -> Result<(), AllocError>
 
 /// Appends that there is no line.
 fn push_missing(text: &mut Vec<u8>) -> Result<(), AllocError>
-    ensures { OnOk result (text.new.items ≡ text.old.items ++ found_text Missing) }
+    ensures { OnOk result (text.new.items ≡ text.old.items ++ codes " is missing") }
 {
     text.extend_from_slice(b" is missing")
 }
 
 /// Appends what was found, a line or that there is none.
 fn push_found(text: &mut Vec<u8>, found: &[u8]) -> Result<(), AllocError>
-    ensures { OnOk result (text.new.items ≡ text.old.items ++ found_text (found_line found.now)) }
+    ensures { OnOk result (text.new.items ≡ text.old.items ++ found_text found.now) }
 {
     if found.is_empty() {
         push_missing(text)
@@ -72,7 +73,8 @@ fn push_found(text: &mut Vec<u8>, found: &[u8]) -> Result<(), AllocError>
 /// The line that says which line of a given file is false, and what stands there.
 pub fn no_line(alloc: Global, given: Given, line: &FalseLine<'_>) -> Result<Vec<u8>, AllocError>
     ensures { IfOk result
-        (λ text. text.items ≡ no_line_of given (line.now.line, found_line line.now.found.now)) }
+        (λ text. text.items
+        ≡ no_line_of given (record { line = line.now.line; found = line.now.found.now })) }
 {
     let mut text = Vec::from_slice(alloc, b"no: ")?;
     push_word(&mut text, Input::Given(given))?;

@@ -1,0 +1,30 @@
+-- The four forms in which a found line is printed, and what is printed of the first false line.
+use Rattle.std.specs.Prelude.{ℕ, nat_lt, if◌then◌else◌, List, [], ◌∷◌, length, take, Option, option_map}
+use Rattle.pg_audit.specs.Differences.{Difference, first_false}
+use Rattle.pg_audit.specs.FoundLines.{has_feed, without_feed}
+
+-- there is no such line; it has more than 200 bytes, and these are the first 200; it is this line,
+-- and its line feed follows; or it is this line, and the file ends
+pub data FoundLine : Type 0 where
+  Missing : FoundLine
+  Begins : List ℕ → FoundLine
+  Ended : List ℕ → FoundLine
+  Unended : List ℕ → FoundLine
+
+-- a line that is there
+abbrev pub line_there : List ℕ → FoundLine
+line_there line = if nat_lt 200 (length (without_feed line)) then Begins (take 200 line)
+    else if has_feed line then Ended (without_feed line) else Unended line
+
+-- what was found: the line, or that there is none
+abbrev pub found_line : List ℕ → FoundLine
+found_line [] = Missing
+found_line (b ∷ bs) = line_there (b ∷ bs)
+
+-- what is printed of a difference: its line's number, and the found line
+abbrev pub printed_of : Difference → ℕ × FoundLine
+printed_of d = (d.line, found_line d.found)
+
+-- what is printed of the first false line of a given file
+abbrev pub first_false_printed : List ℕ → List ℕ → Option (ℕ × FoundLine)
+first_false_printed given wanted = option_map printed_of (first_false given wanted)
