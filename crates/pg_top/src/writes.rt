@@ -1,5 +1,5 @@
 //! What a command writes and prints, and how it ends.
-ghost use Rattle.std.specs.Prelude.{◌≡◌, ◌+◌, ◌<◌, OnOk, IfErr, length, take, slice_get, Some};
+ghost use Rattle.std.specs.Prelude.{◌≡◌, ◌+◌, ◌<◌, ◌++◌, ◌∷◌, [], OnOk, IfErr, length, take, slice_get, Some};
 ghost use Rattle.pg_outside.specs.Faults.{NoneFell};
 ghost use Rattle.pg_top.specs.Counted.{MakesCalls, write_calls};
 ghost use Rattle.pg_top.specs.Writings.{writing_of, written_names, WroteAll, StoppedAt};
@@ -10,6 +10,7 @@ use crate::printed::WRITING;
 use crate::puts::{answer, put_fault};
 use pg_outside::{Failed, Files, Sink};
 use pg_watch::Watch;
+use std::alloc::AllocError;
 
 /// A file that is to be written.
 #[derive(Drop)]
@@ -27,6 +28,19 @@ pub struct Outputs<'a> {
     pub files: Vec<Output<'a>>,
     /// The printed lines.
     pub lines: Vec<u8>,
+}
+
+/// Adds a file with this name and text.
+pub fn push_file<'a>(
+    files: &mut Vec<Output<'a>>,
+    name: &'a str,
+    text: Vec<u8>,
+) -> Result<(), AllocError>
+    ensures { OnOk result (writing_of files.new.items
+        ≡ writing_of files.old.items ++ (name.now, text.items) ∷ []) }
+{
+    files.push(Output { name, text })?;
+    Ok(())
 }
 
 /// The file with the number `i`, counted from 0.

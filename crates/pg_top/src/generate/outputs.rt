@@ -13,7 +13,7 @@ ghost use Rattle.pg_types.specs.Lines.{lines};
 
 use crate::printed::{done_line, push_number};
 use crate::selection::{Inputs, last_layout, select};
-use crate::writes::{Output, Outputs};
+use crate::writes::{Output, Outputs, push_file};
 use pg_driver::Run;
 use pg_packed::PackedEngine;
 use pg_select::Engine;
@@ -40,7 +40,7 @@ fn push_pattmp<'a, E: Engine>(
 {
     if let Some(name) = name {
         let text = pattmp_text(alloc, engine, &inputs.dictionary, &inputs.table)?;
-        files.push(Output { name, text })?;
+        push_file(files, name, text)?;
     }
     Ok(())
 }
@@ -60,7 +60,7 @@ fn push_cells<'a>(
 {
     if let Some(name) = name {
         let text = cells_text(alloc, run)?;
-        files.push(Output { name, text })?;
+        push_file(files, name, text)?;
     }
     Ok(())
 }
@@ -129,7 +129,7 @@ fn push_patterns<'a>(
 {
     let text = run.patterns().text(alloc, &inputs.table)?;
     let lines = make_lines(alloc, &text, run, inputs)?;
-    files.push(Output { name, text })?;
+    push_file(files, name, text)?;
     Ok(lines)
 }
 
@@ -147,8 +147,7 @@ fn push_report<'a>(
         ≡ writing_of files.old.items ++ (name.now, selected_report inputs.now) ∷ []) }
 {
     let text = report_text(alloc, inputs.start.largest(), &inputs.params, run)?;
-    files.push(Output { name, text })?;
-    Ok(())
+    push_file(files, name, text)
 }
 
 /// Adds the files behind the pattern file: the hyphenated list and the cells file, where they are

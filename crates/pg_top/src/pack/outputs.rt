@@ -16,7 +16,7 @@ ghost use Rattle.pg_types.specs.Lines.{lines};
 use crate::inputs::{Input, Stop};
 use crate::pack::inputs::Source;
 use crate::printed::{count_lines, push_number};
-use crate::writes::{Output, Outputs};
+use crate::writes::{Outputs, push_file};
 use pg_table::{TableError, table_text};
 use pg_translate::Table;
 use pg_types::{Kind, Refusal};
@@ -75,7 +75,7 @@ fn write_table<'a>(
     let patterns = source.patterns.text(alloc, &source.table)?;
     let lines = packed_line(alloc, &patterns, &text)?;
     let mut files = Vec::new(alloc);
-    files.push(Output { name, text })?;
+    push_file(&mut files, name, text)?;
     Ok(Outputs { files, lines })
 }
 

@@ -1,6 +1,8 @@
 //! What `prune` writes and prints.
-ghost use Rattle.std.specs.Prelude.{◌≡◌, ◌+◌, ◌∷◌, [], IfOk, OnOk};
+ghost use Rattle.std.specs.Prelude.{◌≡◌, ◌+◌, ◌∷◌, [], IfOk, OnOk, ◌++◌};
+ghost use Rattle.pg_patterns.specs.Texts.{pattern_text};
 ghost use Rattle.pg_patterns.specs.Values.{SignsUpTo};
+ghost use Rattle.pg_prune.specs.Reports.{prune_report};
 ghost use Rattle.pg_translate.specs.Alphabets.{letters_of};
 ghost use Rattle.pg_prune.specs.Prunes.{pruned as pruned_found};
 ghost use Rattle.pg_select.specs.CountedPositions.{minima_of};
@@ -15,7 +17,7 @@ ghost use Rattle.pg_types.specs.Lines.{lines};
 use crate::printed::push_number;
 use crate::prune::PruneNames;
 use crate::prune::inputs::PruneInputs;
-use crate::writes::{Output, Outputs};
+use crate::writes::{Output, Outputs, push_file};
 use pg_prune::{Pruned, Rounds, prune_text, prune_watched};
 use pg_translate::Table;
 use pg_watch::Watch;
@@ -59,6 +61,39 @@ fn begin_pruned(line: &mut Vec<u8>, rounds: u64, removed: u64, kept: u64) -> Res
     line.extend_from_slice(b" kept\n")
 }
 
+/// Adds the file of the patterns that stay.
+fn push_kept<'a>(
+    alloc: Global,
+    files: &mut Vec<Output<'a>>,
+    name: &'a str,
+    table: &Table,
+    pruned: &Pruned,
+) -> Result<(), AllocError>
+    requires { SignsUpTo (letters_of table.now + 1) pruned.now.patterns }
+    ensures file { OnOk result (writing_of files.new.items ≡ writing_of files.old.items
+        ++ (name.now, pattern_text table.now pruned.now.patterns) ∷ []) }
+    ensures reads_back { OnOk result (ReadsBack table.now pruned.now.patterns) }
+{
+    let text = pruned.patterns().text(alloc, table)?;
+    push_file(files, name, text)
+}
+
+/// Adds the report.
+fn push_needs<'a>(
+    alloc: Global,
+    files: &mut Vec<Output<'a>>,
+    name: &'a str,
+    table: &Table,
+    pruned: &Pruned,
+) -> Result<(), AllocError>
+    requires { SignsUpTo (letters_of table.now + 1) pruned.now.patterns }
+    ensures { OnOk result (writing_of files.new.items
+        ≡ writing_of files.old.items ++ (name.now, prune_report table.now pruned.now) ∷ []) }
+{
+    let report = prune_text(alloc, table, pruned)?;
+    push_file(files, name, report)
+}
+
 /// What `prune` writes and prints, where pruning comes to this.
 fn write_pruned<'a>(
     alloc: Global,
@@ -72,19 +107,11 @@ fn write_pruned<'a>(
     ensures lines { IfOk result (λ made. made.lines.items ≡ line_of_pruned pruned.now) }
     ensures reads_back { IfOk result (λ _. ReadsBack table.now pruned.now.patterns) }
 {
-    let kept = pruned.patterns();
-    let text = kept.text(alloc, table)?;
-    let report = prune_text(alloc, table, pruned)?;
-    let lines = pruned_line(alloc, pruned.rounds(), pruned.removed(), kept.len() as u64)?;
     let mut files = Vec::new(alloc);
-    files.push(Output {
-        name: names.output,
-        text,
-    })?;
-    files.push(Output {
-        name: names.report,
-        text: report,
-    })?;
+    push_kept(alloc, &mut files, names.output, table, pruned)?;
+    push_needs(alloc, &mut files, names.report, table, pruned)?;
+    let kept = pruned.patterns();
+    let lines = pruned_line(alloc, pruned.rounds(), pruned.removed(), kept.len() as u64)?;
     Ok(Outputs { files, lines })
 }
 

@@ -12,7 +12,7 @@ ghost use Rattle.pg_top.specs.declared.answers.Status.TheVariants.{Done};
 use crate::printed::push_number;
 use crate::sweep::engines::Packed;
 use crate::sweep::inputs::SweepInputs;
-use crate::writes::{Output, Outputs};
+use crate::writes::{Outputs, push_file};
 use pg_sweep::{Sweep, sweep, sweep_text};
 use pg_watch::Watch;
 use pg_words::SweepWords;
@@ -52,10 +52,7 @@ fn write_sweep<'a>(
     let text = sweep_text(alloc, words.folds, found)?;
     let lines = sweep_line(alloc, found)?;
     let mut files = Vec::new(alloc);
-    files.push(Output {
-        name: words.output,
-        text,
-    })?;
+    push_file(&mut files, words.output, text)?;
     Ok(Outputs { files, lines })
 }
 
