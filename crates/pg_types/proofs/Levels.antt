@@ -1,13 +1,17 @@
 -- The levels of a parameters file, one after the other.
-use Rattle.std.proofs.Common.{◌≡◌, ℕ, ◌+◌, ◌-◌, ◌*◌, ◌<◌, ◌≤◌, List, [], ◌∷◌, ◌++◌, length, map, drop, Option, Some, Err, refl, ap, sym, subst, ◌∙◌, arith, suc}
+use Rattle.std.proofs.Common.{◌≡◌, ℕ, ◌+◌, ◌-◌, ◌*◌, ◌<◌, ◌≤◌, List, [], ◌∷◌, ◌++◌, length, map, drop, min, Option, Some, Result, Err, nat_lt, refl, ap, sym, subst, ◌∙◌, arith, suc}
+use Rattle.std.specs.Prelude.{if◌then◌else◌}
 use Rattle.std.specs.List.{flat_map, range_with_len}
 use Rattle.std.proofs.lemmas.Bool.{le-ltb}
 use Rattle.std.proofs.lemmas.List.{drop-drop}
 use Rattle.std.proofs.lemmas.List.FromFn.{map-range_with_len_more}
-use Rattle.pg_types.specs.declared.limits.TheConstants.{FILE_MAX}
+use Rattle.pg_types.specs.declared.limits.TheConstants.{FILE_MAX, LEVEL_MAX}
 use Rattle.pg_types.specs.declared.refusals.Refusal.{Refusal}
+use Rattle.pg_types.specs.declared.refusals.Kind.TheVariants.{ParametersTooLong}
+use Rattle.pg_types.specs.Reading.{unless}
 use Rattle.pg_types.specs.declared.parameters.LevelParams.{LevelParams}
-use Rattle.pg_types.specs.Parameters.{Demand, items, level_demands, level_of, level_count, number_at, demands, demands_of_levels, refusal_from, parameters}
+use Rattle.pg_types.specs.Parameters.{items, level_demands, level_of, level_items, number_at, demands, refusal_from, refused_at, Parameters, parameters}
+use Rattle.pg_types.specs.Inside.ItemSteps.{Demand, between, demands_of_levels, levels_of}
 
 -- what the level at a place demands, and what it is
 abbrev pub demands_at : List (List ℕ) → ℕ → List Demand
@@ -50,7 +54,52 @@ read_more all xs i levels levels' level is level_is more read =
 
 -- what the levels of a file demand
 abbrev pub levels_demanded : List (List ℕ) → List Demand
-levels_demanded xs = demands_of_levels (level_count (number_at xs 0) (number_at xs 1)) (drop 2 xs)
+levels_demanded xs = flat_map level_demands (level_items xs)
+
+-- how many levels the items of a file say
+abbrev pub level_count : List (List ℕ) → ℕ
+level_count xs = min (number_at xs 1) LEVEL_MAX + 1 - number_at xs 0
+
+-- behind the first two items, each level has the same items as in the whole file
+level_behind : (xs : List (List ℕ)) (i : ℕ) → drop (2 + 5 * i) xs ≡ drop (5 * i) (drop 2 xs)
+level_behind xs i = sym (drop-drop (5 * i) 2 xs)
+
+demands_behind : (xs : List (List ℕ)) (is : List ℕ) → flat_map level_demands (map (λ i. drop (2 + 5 * i) xs) is) ≡ flat_map (λ i. level_demands (drop (5 * i) (drop 2 xs))) is
+demands_behind xs [] = refl
+demands_behind xs (i ∷ is) =
+    ap (λ (ys : List (List ℕ)). level_demands ys ++ flat_map level_demands (map (λ i. drop (2 + 5 * i) xs) is)) (level_behind xs i)
+    ∙ ap (λ (ds : List Demand). level_demands (drop (5 * i) (drop 2 xs)) ++ ds) (demands_behind xs is)
+
+levels_behind : (xs : List (List ℕ)) (is : List ℕ) → map level_of (map (λ i. drop (2 + 5 * i) xs) is) ≡ map (λ i. level_of (drop (5 * i) (drop 2 xs))) is
+levels_behind xs [] = refl
+levels_behind xs (i ∷ is) =
+    ap (λ (ys : List (List ℕ)). level_of ys ∷ map level_of (map (λ i. drop (2 + 5 * i) xs) is)) (level_behind xs i)
+    ∙ ap (λ (ls : List LevelParams). level_of (drop (5 * i) (drop 2 xs)) ∷ ls) (levels_behind xs is)
+
+-- the levels of a file are those of its items from the third on
+pub demanded_behind : (xs : List (List ℕ)) → levels_demanded xs ≡ demands_of_levels (level_count xs) (drop 2 xs)
+demanded_behind xs = demands_behind xs (range_with_len 0 (level_count xs))
+
+pub read_behind : (xs : List (List ℕ)) → map level_of (level_items xs) ≡ levels_of (level_count xs) (drop 2 xs)
+read_behind xs = levels_behind xs (range_with_len 0 (level_count xs))
+
+-- the parameters that a file holds, or its refusal, by its items from the third on
+abbrev pub read_levels_behind : List ℕ → Result Parameters Refusal
+read_levels_behind bytes =
+    let xs = items bytes in
+    if nat_lt FILE_MAX (length bytes) then Err (refused_at 0 ParametersTooLong)
+    else unless (refusal_from 1 (between 1 LEVEL_MAX ∷ between 1 LEVEL_MAX ∷ demands_of_levels (level_count xs) (drop 2 xs)) xs)
+    (record { start = number_at xs 0; finish = number_at xs 1; levels = levels_of (level_count xs) (drop 2 xs) })
+
+pub read_as : (bytes : List ℕ) → read_levels_behind bytes ≡ parameters bytes
+read_as bytes =
+    let xs = items bytes in
+    sym (λ k. if nat_lt FILE_MAX (length bytes) then Err (refused_at 0 ParametersTooLong)
+    else unless (refusal_from 1 (between 1 LEVEL_MAX ∷ between 1 LEVEL_MAX ∷ demanded_behind xs k) xs)
+    (record { start = number_at xs 0; finish = number_at xs 1; levels = read_behind xs k }))
+
+pub by_reading : (P : Result Parameters Refusal → Type 0) (bytes : List ℕ) → P (read_levels_behind bytes) → P (parameters bytes)
+by_reading P bytes h = subst P (read_as bytes) h
 
 -- a file that is not too long is refused as its items are
 pub whole_refused : (bytes rest : List ℕ) (place : ℕ) (r : Refusal) → length bytes ≤ FILE_MAX → rest ≡ bytes → place ≡ 1 → refusal_from place (demands (items bytes)) (items rest) ≡ Some r → parameters bytes ≡ Err r

@@ -47,20 +47,11 @@ number item = number_from 0 item
 abbrev pub number_at : List (List ℕ) → ℕ → ℕ
 number_at xs k = unwrap_or (option_and_then number (slice_get xs k)) 0
 
--- a demand on an item: it is a number, from the least to the greatest
-pub record Demand : Type 0 where
-  pub least : ℕ
-  pub greatest : ℕ
-
--- the demand of a number from the least to the greatest
-abbrev pub between : ℕ → ℕ → Demand
-between least greatest = record { least = least; greatest = greatest }
-
--- what a level demands of its five items: the lengths, of which the last is at least the first, the
--- two weights and the threshold
-abbrev pub level_demands : List (List ℕ) → List Demand
-level_demands xs = between 1 LENGTH_MAX ∷ between
-    (number_at xs 0) LENGTH_MAX ∷ between 1 COST_MAX ∷ between 1 COST_MAX ∷ between 1 COST_MAX ∷ []
+-- what a level demands of its five items: each is a number from the least to the greatest. These
+-- are the lengths, of which the last is at least the first, the two weights and the threshold
+abbrev pub level_demands : List (List ℕ) → List (ℕ × ℕ)
+level_demands xs = (1, LENGTH_MAX) ∷ (number_at xs 0, LENGTH_MAX)
+    ∷ (1, COST_MAX) ∷ (1, COST_MAX) ∷ (1, COST_MAX) ∷ []
 
 -- the parameters of a level from its five items
 abbrev pub level_of : List (List ℕ) → LevelParams
@@ -72,35 +63,22 @@ level_of xs = record {
   thresh = number_at xs 4;
 }
 
--- how many levels are run
-abbrev pub level_count : ℕ → ℕ → ℕ
-level_count start finish = min finish LEVEL_MAX + 1 - start
-
--- the items from the level with the index i on, counted from 0: each level has five
-abbrev pub level_items : List (List ℕ) → ℕ → List (List ℕ)
-level_items xs i = drop (5 * i) xs
-
--- what so many levels demand of their items
-abbrev pub demands_of_levels : ℕ → List (List ℕ) → List Demand
-demands_of_levels count xs = flat_map (λ i. level_demands (level_items xs i))
-    (range_with_len 0 count)
-
--- so many levels from their items
-abbrev pub levels_of : ℕ → List (List ℕ) → List LevelParams
-levels_of count xs = map (λ i. level_of (level_items xs i)) (range_with_len 0 count)
+-- the items from each level that is run on: behind the first two, each level has five
+abbrev pub level_items : List (List ℕ) → List (List (List ℕ))
+level_items xs = map (λ i. drop (2 + 5 * i) xs)
+    (range_with_len 0 (min (number_at xs 1) LEVEL_MAX + 1 - number_at xs 0))
 
 -- what a file demands of its items: the first and the last level, and then five numbers for each
 -- level that is run
-abbrev pub demands : List (List ℕ) → List Demand
-demands xs = between 1 LEVEL_MAX ∷ between 1 LEVEL_MAX ∷ demands_of_levels
-    (level_count (number_at xs 0) (number_at xs 1)) (drop 2 xs)
+abbrev pub demands : List (List ℕ) → List (ℕ × ℕ)
+demands xs = (1, LEVEL_MAX) ∷ (1, LEVEL_MAX) ∷ flat_map level_demands (level_items xs)
 
 -- the parameters that the items are
 abbrev pub parameters_of : List (List ℕ) → Parameters
 parameters_of xs = record {
   start = number_at xs 0;
   finish = number_at xs 1;
-  levels = levels_of (level_count (number_at xs 0) (number_at xs 1)) (drop 2 xs);
+  levels = map level_of (level_items xs);
 }
 
 -- the refusal of the item with this number
@@ -108,9 +86,9 @@ abbrev pub refused_at : ℕ → Kind → Refusal
 refused_at place kind = record { kind = kind; line = place; column = 0 }
 
 -- how an item fails a demand
-abbrev pub failure : Demand → List ℕ → Option Kind
+abbrev pub failure : ℕ × ℕ → List ℕ → Option Kind
 failure d item = option_map_or
-    (λ n. if nat_le d.least n && nat_le n d.greatest then None else Some OutOfRange)
+    (λ n. if nat_le d.0 n && nat_le n d.1 then None else Some OutOfRange)
     (number item) (Some BadNumber)
 
 -- the answer of a user of patgen to its last question: y, Y, n or N
@@ -118,19 +96,14 @@ abbrev pub is_answer : List ℕ → Bool
 is_answer (b ∷ []) = b == 121 || b == 89 || b == 110 || b == 78
 is_answer item = false
 
--- nothing may follow an answer
-abbrev pub refusal_behind : ℕ → List (List ℕ) → Option Refusal
-refusal_behind place [] = None
-refusal_behind place (x ∷ xs) = Some (refused_at place Extra)
-
--- one answer may follow the numbers
+-- the refusal of the first item behind the numbers, where one answer may stand
 abbrev pub surplus : ℕ → List (List ℕ) → Option Refusal
 surplus place [] = None
-surplus place (x ∷ xs) = if is_answer x then refusal_behind (place + 1) xs
-    else Some (refused_at place Extra)
+surplus place (x ∷ []) = if is_answer x then None else Some (refused_at place Extra)
+surplus place (x ∷ y ∷ xs) = Some (refused_at (if is_answer x then place + 1 else place) Extra)
 
 -- the refusal of the first item that fails its demand, where the first item has the number place
-abbrev pub refusal_from : ℕ → List Demand → List (List ℕ) → Option Refusal
+abbrev pub refusal_from : ℕ → List (ℕ × ℕ) → List (List ℕ) → Option Refusal
 refusal_from place [] xs = surplus place xs
 refusal_from place (d ∷ ds) [] = Some (refused_at place Missing)
 refusal_from place (d ∷ ds) (x ∷ xs) =

@@ -1,9 +1,9 @@
 //! The parameters of a run, and the reader of the file that holds them.
 ghost use Rattle.std.specs.Prelude.{◌≡◌, ◌<◌, ◌≤◌, ◌+◌, ◌-◌, ◌*◌, nat_lt, length, map, drop, slice_get, IfOk, IfErr, OnOk, All};
-ghost use Rattle.pg_types.specs.Inside.ItemSteps.{levels_refusal};
+ghost use Rattle.pg_types.specs.Inside.ItemSteps.{levels_of, levels_refusal};
 ghost use Rattle.pg_types.specs.Limits.{items_end};
 ghost use Rattle.pg_types.specs.Reading.{Gives, FailsBy};
-ghost use Rattle.pg_types.specs.Parameters.{items as items_of, levels_of, surplus, parameters, IsLevel};
+ghost use Rattle.pg_types.specs.Parameters.{items as items_of, surplus, parameters, IsLevel};
 
 use crate::items::Items;
 use crate::limits::{FILE_MAX, LEVEL_MAX};

@@ -1,8 +1,18 @@
 -- What taking items from a parameters file leaves of its refusal.
-use Rattle.std.specs.Prelude.{◌≡◌, ℕ, List, ◌++◌, Option, Some}
+use Rattle.std.specs.Prelude.{◌≡◌, ℕ, ◌*◌, List, ◌++◌, map, drop, Option, Some}
+use Rattle.std.specs.List.{flat_map, range_with_len}
+use Rattle.pg_types.specs.declared.parameters.LevelParams.{LevelParams}
 use Rattle.pg_types.specs.declared.items.Items.{Items}
 use Rattle.pg_types.specs.declared.refusals.Refusal.{Refusal}
-use Rattle.pg_types.specs.Parameters.{Demand, items, demands_of_levels, refusal_from}
+use Rattle.pg_types.specs.Parameters.{items, level_demands, level_of, refusal_from}
+
+-- a demand on an item: it is a number, from the least to the greatest
+abbrev pub Demand : Type 0
+Demand = ℕ × ℕ
+
+-- the demand of a number from the least to the greatest
+abbrev pub between : ℕ → ℕ → Demand
+between least greatest = (least, greatest)
 
 -- the items that are left
 abbrev pub left : Items → List (List ℕ)
@@ -17,6 +27,15 @@ Meets ds old new = (more : List Demand) → refusal_from old.place (ds ++ more) 
 abbrev pub Misses : List Demand → Items → Refusal → Type 0
 Misses ds old refusal = (more : List Demand)
     → refusal_from old.place (ds ++ more) (left old) ≡ Some refusal
+
+-- what so many levels demand of these items
+abbrev pub demands_of_levels : ℕ → List (List ℕ) → List Demand
+demands_of_levels count xs = flat_map (λ i. level_demands (drop (5 * i) xs))
+    (range_with_len 0 count)
+
+-- so many levels from these items
+abbrev pub levels_of : ℕ → List (List ℕ) → List LevelParams
+levels_of count xs = map (λ i. level_of (drop (5 * i) xs)) (range_with_len 0 count)
 
 -- the refusal of the levels of a file, whose items begin with the third
 abbrev pub levels_refusal : ℕ → Items → Option Refusal

@@ -1,6 +1,7 @@
 use Rattle.std.proofs.Common.{◌≡◌, ℕ, ◌+◌, ◌-◌, ◌*◌, drop, All}
 use Rattle.std.specs.List.{flat_map, range_with_len}
-use Rattle.pg_types.specs.Parameters.{items, level_demands, level_items, demands_of_levels, levels_of, refusal_from, IsLevel}
+use Rattle.pg_types.specs.Parameters.{items, level_demands, refusal_from, IsLevel}
+use Rattle.pg_types.specs.Inside.ItemSteps.{demands_of_levels, levels_of}
 use Rattle.pg_types.proofs.parameters.read_levels.Given as goal
 
 abbrev pub invariant-levels : goal.invariant-levels
@@ -9,5 +10,5 @@ invariant-levels l = record {
   place : l.items.place ≡ 3 + 5 * l.i;
   read : l.levels.items ≡ levels_of l.i (items l.fn.items.rest.now);
   ranges : All IsLevel l.levels.items;
-  left : refusal_from l.items.place (flat_map (λ (i : ℕ). level_demands (level_items (items l.fn.items.rest.now) i)) (range_with_len l.i (l.count - l.i))) (items l.items.rest.now) ≡ refusal_from 3 (demands_of_levels l.count (items l.fn.items.rest.now)) (items l.fn.items.rest.now);
+  left : refusal_from l.items.place (flat_map (λ (i : ℕ). level_demands (drop (5 * i) (items l.fn.items.rest.now))) (range_with_len l.i (l.count - l.i))) (items l.items.rest.now) ≡ refusal_from 3 (demands_of_levels l.count (items l.fn.items.rest.now)) (items l.fn.items.rest.now);
 }

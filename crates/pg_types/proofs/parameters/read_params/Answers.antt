@@ -1,10 +1,12 @@
-use Rattle.std.proofs.Common.{◌≡◌, ℕ, ◌≤◌, Bool, false, nat_lt, List, ◌∷◌, ap, sym, length, ◌∙◌}
+use Rattle.std.proofs.Common.{rules, ◌≡◌, ℕ, ◌≤◌, Bool, false, nat_lt, List, ◌∷◌, ap, sym, length, ◌∙◌}
 use Rattle.std.proofs.lemmas.Bool.{ltb-false}
 use Rattle.std.proofs.lemmas.List.FromFn.{length-map-range_with_len}
 use Rattle.std.proofs.lemmas.Result.{err_from_is_err_and}
 use Rattle.pg_types.specs.declared.limits.TheConstants.{FILE_MAX, LEVEL_MAX}
-use Rattle.pg_types.specs.Parameters.{between, items}
-use Rattle.pg_types.proofs.Levels.{levels_demanded, whole_refused}
+use Rattle.pg_types.specs.Parameters.{items}
+use Rattle.pg_types.specs.Reading.{Gives}
+use Rattle.pg_types.specs.Inside.ItemSteps.{between}
+use Rattle.pg_types.proofs.Levels.{levels_demanded, whole_refused, read_as, by_reading}
 use Rattle.pg_types.proofs.parameters.read_params.Goals as goal
 
 -- a file that is not too long
@@ -20,6 +22,15 @@ pub returns-in_err-finish : goal.returns-in_err-finish
 returns-in_err-finish c =
     let p = err_from_is_err_and c.from_residual-in_err-finish.result c.from_residual-in_err-finish.ensures.1 in
     rw (p.1, p.2) (whole_refused c.args.bytes.now _ _ _ (short c.args.bytes.now _ c.is_too_long.ensures c.if-is_too_long.false) c.new-items.ensures.rest c.new-items.ensures.place (c.in_ok-start.ensures.passed (between 1 LEVEL_MAX ∷ levels_demanded (items c.args.bytes.now)) ∙ c.in_err-finish.ensures.refused (levels_demanded (items c.args.bytes.now))))
+
+pub returns-in_err-levels : goal.returns-in_err-levels
+returns-in_err-levels c = by_reading (λ outcome. Gives (λ p. p) c.from_residual-in_err-levels.result outcome) c.args.bytes.now (search rules)
+
+pub returns-in_err-end : goal.returns-in_err-end
+returns-in_err-end c = by_reading (λ outcome. Gives (λ p. p) c.from_residual-in_err-end.result outcome) c.args.bytes.now (search rules)
+
+pub returns : goal.returns
+returns c = sym (read_as c.args.bytes.now) ∙ search rules
 
 pub invariant_of-result : goal.invariant_of-result
 invariant_of-result c = record {
