@@ -11,7 +11,7 @@ use Rattle.pg_dict.specs.Parts.{is_in_part, part_from}
 use Rattle.pg_sweep.specs.declared.rows.SweepRow.{SweepRow}
 use Rattle.pg_sweep.specs.Files.{row_data, rows_data}
 use Rattle.pg_sweep.specs.Sweeps.{costs_of, summed}
-use Rattle.pg_sweep.specs.Winners.{winner_from}
+use Rattle.pg_sweep.specs.Inside.Least.{winner_from}
 
 -- a fact of a list that may begin with an element more
 all_if : {X : Type 0} (P : X → Type 0) (b : Bool) (x : X) (xs : List X) → P x → All P xs → All P (if b then x ∷ xs else xs)

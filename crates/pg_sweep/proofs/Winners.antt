@@ -1,12 +1,17 @@
 -- The first of the least costs wins.
-use Rattle.std.proofs.Common.{◌≡◌, ℕ, ◌+◌, ◌-◌, ◌<◌, ◌≤◌, Bool, true, false, nat_lt, List, [], ◌∷◌, ◌++◌, length, take, refl, ap, sym, subst, ◌∙◌, arith}
+use Rattle.std.proofs.Common.{◌≡◌, ℕ, ◌+◌, ◌-◌, ◌<◌, ◌≤◌, Bool, true, false, nat_lt, nat_le, None, Some, List, [], ◌∷◌, ◌++◌, length, take, refl, ap, sym, subst, ◌∙◌, arith}
 use Rattle.std.specs.Prelude.{slice_index, All, if◌then◌else◌}
 use Rattle.std.proofs.Math.ListN.{get_or-append}
 use Rattle.std.proofs.Math.Seq.{get_or-append_seam, take-append_seam}
-use Rattle.std.proofs.lemmas.List.{append_assoc, append-nil, length-append, take-append-le}
+use Rattle.std.proofs.lemmas.List.{append_assoc, append-nil, length-append, take-append-le, get_or-take, length-take-le}
 use Rattle.std.proofs.lemmas.List.Elements.{All-append, All-cons, All-nil}
-use Rattle.std.proofs.lemmas.Bool.{ltb-true, ltb-false}
-use Rattle.pg_sweep.specs.Winners.{winner_from, winner_of, IsWinner}
+use Rattle.std.proofs.lemmas.Bool.{ltb-true, ltb-false, lt-ltb, lt-leb, le-leb}
+use Rattle.std.proofs.lemmas.List.Folds.{list_all_at}
+use Rattle.std.proofs.lemmas.List.Sums.{list_all-from_AllPass, position_or_len_is}
+use Rattle.std.specs.List.{list_all, position_or_len}
+use Rattle.std.specs.Option.{option_map_or}
+use Rattle.pg_sweep.specs.Winners.{winner_of, IsWinner}
+use Rattle.pg_sweep.specs.Inside.Least.{winner_from, first_least}
 
 -- the best of the costs so far, which are not none
 pub record IsBest (done : List ℕ) (best least : ℕ) : Type 0 where
@@ -68,13 +73,52 @@ goes_on (cost ∷ costs) done best least number here is =
     let rest : IsWinner ((done ++ cost ∷ []) ++ costs) (winner_from best least number (cost ∷ costs)) = goes_on costs (done ++ cost ∷ []) (if nat_lt cost least then number else best) (if nat_lt cost least then cost else least) (number + 1) (omega (arith, here, length-append done (cost ∷ []))) next in
     subst (λ (cs : List ℕ). IsWinner cs (winner_from best least number (cost ∷ costs))) (append_assoc done (cost ∷ []) costs) rest
 
--- the winner of costs wins
-pub winner_wins : (costs : List ℕ) → 1 ≤ length costs → IsWinner costs (winner_of costs)
-winner_wins [] some = absurd (omega (arith, some))
-winner_wins (cost ∷ costs) some = goes_on costs (cost ∷ []) 1 cost 2 refl (record {
+-- the first of the least costs wins
+least_wins : (costs : List ℕ) → 1 ≤ length costs → IsWinner costs (first_least costs)
+least_wins [] some = absurd (omega (arith, some))
+least_wins (cost ∷ costs) some = goes_on costs (cost ∷ []) 1 cost 2 refl (record {
   from_one = omega arith;
   there = omega arith;
   at = refl;
   all = All-cons (λ c. cost ≤ c) cost [] (omega arith) (All-nil (λ c. cost ≤ c));
   before = All-nil (λ c. cost < c);
 })
+
+-- where one wins, it is the first cost that is no greater than any
+first_that : (costs : List ℕ) (number : ℕ) → IsWinner costs number → position_or_len (λ c. list_all (nat_le c) costs) costs ≡ number - 1
+first_that costs number is =
+    let one : 1 ≤ number = is.from_one in
+    let there : number ≤ length costs = is.there in
+    let least : ℕ = slice_index costs (number - 1) in
+    let before : (k : ℕ) → k < number - 1 → list_all (nat_le (slice_index costs k)) costs ≡ false = λ k early.
+    let within : k < length (take (number - 1) costs) = omega (arith, early, there, length-take-le (number - 1) costs (omega (arith, there))) in
+    let more : least < slice_index costs k = subst (λ (c : ℕ). least < c) (get_or-take (number - 1) costs k 0 early) (is.first k 0 within) in
+    list_all_at (nat_le (slice_index costs k)) costs (number - 1) 0 (omega (arith, one, there)) (lt-leb (slice_index costs k) least more) in
+    let at : number - 1 < length costs → list_all (nat_le least) costs ≡ true = λ within. list_all-from_AllPass (nat_le least) costs (λ k d inside. le-leb _ _ (is.least k d inside)) in
+    position_or_len_is (λ c. list_all (nat_le c) costs) costs (number - 1) 0 (omega (arith, there)) before at
+
+winner_is : (costs : List ℕ) (number : ℕ) → IsWinner costs number → winner_of costs ≡ number
+winner_is costs number is =
+    let one : 1 ≤ number = is.from_one in
+    let there : number ≤ length costs = is.there in
+    let place : position_or_len (λ c. list_all (nat_le c) costs) costs ≡ number - 1 = first_that costs number is in
+    let within : nat_lt (number - 1) (length costs) ≡ true = lt-ltb (number - 1) (length costs) (omega (arith, one, there)) in
+    let back : number - 1 + 1 ≡ number = omega (arith, one) in
+    ap (λ (n : ℕ). option_map_or (λ i. i + 1) (if nat_lt n (length costs) then Some n else None) 0) place
+    ∙ ap (λ (b : Bool). option_map_or (λ i. i + 1) (if b then Some (number - 1) else None) 0) within
+    ∙ back
+
+-- the winner is the first of the least costs
+pub winner_agrees : (costs : List ℕ) → 1 ≤ length costs → first_least costs ≡ winner_of costs
+winner_agrees costs some = sym (winner_is costs (first_least costs) (least_wins costs some))
+
+-- the winner of costs wins
+pub winner_wins : (costs : List ℕ) → 1 ≤ length costs → IsWinner costs (winner_of costs)
+winner_wins costs some = subst (λ n. IsWinner costs n) (winner_agrees costs some) (least_wins costs some)
+
+-- the first of equal costs wins, and none of no costs
+two_equal : winner_of (5 ∷ 3 ∷ 4 ∷ 3 ∷ []) ≡ 2
+two_equal = refl
+
+no_costs : winner_of [] ≡ 0
+no_costs = refl

@@ -9,7 +9,7 @@ use Rattle.pg_dict.specs.Parts.{part_of}
 use Rattle.pg_select.specs.Windows.{Patterns}
 use Rattle.pg_driver.specs.Accounts.{totals_by}
 use Rattle.pg_driver.specs.Told.{over}
-use Rattle.pg_driver.specs.Traces.{Source, trace, final_patterns}
+use Rattle.pg_driver.specs.Traces.{trace, final_patterns}
 use Rattle.pg_sweep.specs.declared.rows.SweepRow.{SweepRow}
 
 -- what the runs of a sweep share: the table, the words, the patterns to start with, and the number
@@ -20,23 +20,11 @@ pub record Terms : Type 0 where
   pub start : Patterns
   pub folds : ℕ
 
--- what a unit of bad and a unit of missed cost
-pub record Prices : Type 0 where
-  pub bad : ℕ
-  pub missed : ℕ
-
--- the words of a fold, under the minima of the table
-abbrev pub left_out : Terms → ℕ → Source
-left_out s fold = over s.table (part_of s.folds fold true s.words)
-
--- all words but those of a fold, under the minima of the table
-abbrev pub rest : Terms → ℕ → Source
-rest s fold = over s.table (part_of s.folds fold false s.words)
-
--- the totals of the words of a fold by the patterns that are selected from all other words
+-- the totals of the words of a fold by the patterns that are selected from all other words, all under
+-- the minima of the table
 abbrev pub fold_totals : Terms → Parameters → ℕ → Totals
-fold_totals s set fold = totals_by (left_out s fold)
-    (final_patterns s.start (trace (rest s fold) set s.start))
+fold_totals s set fold = totals_by (over s.table (part_of s.folds fold true s.words))
+    (final_patterns s.start (trace (over s.table (part_of s.folds fold false s.words)) set s.start))
 
 -- the sums of several totals
 abbrev pub summed : List Totals → Totals
@@ -46,22 +34,11 @@ summed ts = record {
   missed = sum_by (λ (t : Totals). t.missed) ts;
 }
 
--- the totals of the first folds together
-abbrev pub totals_of_folds : Terms → Parameters → ℕ → Totals
-totals_of_folds s set count = summed (map (fold_totals s set) (range_with_len 0 count))
-
--- the row with these totals, and what they cost
-abbrev pub row_with : Prices → Totals → SweepRow
-row_with prices totals =
-    record { totals = totals; cost = prices.bad * totals.bad + prices.missed * totals.missed }
-
--- the row of a set
-abbrev pub row_of : Terms → Prices → Parameters → SweepRow
-row_of s prices set = row_with prices (totals_of_folds s set s.folds)
-
--- the rows of sets, in their order
-abbrev pub rows_of : Terms → Prices → List Parameters → List SweepRow
-rows_of s prices sets = map (row_of s prices) sets
+-- the row of a set: the totals of all folds together, and what they cost, where a unit of bad and a
+-- unit of missed cost this
+abbrev pub row_of : Terms → ℕ → ℕ → Parameters → SweepRow
+row_of s bad missed set = let t = summed (map (fold_totals s set) (range_with_len 0 s.folds)) in
+    record { totals = t; cost = bad * t.bad + missed * t.missed }
 
 -- what the rows cost
 abbrev pub costs_of : List SweepRow → List ℕ

@@ -1,18 +1,11 @@
 -- The winner among costs.
-use Rattle.std.specs.Prelude.{ℕ, ◌+◌, ◌-◌, ◌<◌, ◌≤◌, nat_lt, if◌then◌else◌, List, [], ◌∷◌, length, take, slice_index, All}
+use Rattle.std.specs.Prelude.{ℕ, ◌+◌, ◌-◌, ◌<◌, ◌≤◌, nat_le, List, length, take, position, slice_index, All}
+use Rattle.std.specs.List.{list_all}
+use Rattle.std.specs.Option.{option_map_or}
 
--- the winner, where `best` with this cost is the winner of the costs before, and the next cost has
--- the number `number`
-abbrev pub winner_from : ℕ → ℕ → ℕ → List ℕ → ℕ
-winner_from best least number [] = best
-winner_from best least number (cost ∷ costs) =
-    winner_from (if nat_lt cost least then number else best)
-    (if nat_lt cost least then cost else least) (number + 1) costs
-
--- the winner: the least number, counted from 1, whose cost is least
+-- the winner: the number, counted from 1, of the first cost that is no greater than any
 abbrev pub winner_of : List ℕ → ℕ
-winner_of [] = 0
-winner_of (cost ∷ costs) = winner_from 1 cost 2 costs
+winner_of costs = option_map_or (λ i. i + 1) (position (λ c. list_all (nat_le c) costs) costs) 0
 
 -- what a winner is: no cost is less than that with its number, and all costs before it are greater
 pub record IsWinner (costs : List ℕ) (number : ℕ) : Type 0 where

@@ -4,8 +4,8 @@ ghost use Rattle.pg_translate.specs.Alphabets.{letters_of};
 ghost use Rattle.pg_dict.specs.Word.{SignsAtMost};
 ghost use Rattle.pg_patterns.specs.Values.{SignsUpTo};
 ghost use Rattle.pg_driver.specs.Sound.{IsSmall};
-ghost use Rattle.pg_sweep.specs.Sweeps.{fold_totals, totals_of_folds};
-ghost use Rattle.pg_sweep.specs.Inside.Given.{terms, HasSigns, IsSmallFor};
+ghost use Rattle.pg_sweep.specs.Sweeps.{fold_totals};
+ghost use Rattle.pg_sweep.specs.Inside.Given.{terms, totals_of_folds, HasSigns, IsSmallFor};
 
 use crate::maker::Maker;
 use pg_dict::Dictionary;

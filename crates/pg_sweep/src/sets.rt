@@ -1,9 +1,9 @@
 //! The sweep over sets of parameters.
-ghost use Rattle.std.specs.Prelude.{◌≡◌, ◌≤◌, ◌+◌, length, IfOk};
+ghost use Rattle.std.specs.Prelude.{◌≡◌, ◌≤◌, ◌+◌, ◌*◌, length, map, IfOk};
 ghost use Rattle.pg_translate.specs.Alphabets.{letters_of};
 ghost use Rattle.pg_dict.specs.Word.{SignsAtMost};
 ghost use Rattle.pg_patterns.specs.Values.{SignsUpTo};
-ghost use Rattle.pg_sweep.specs.Sweeps.{rows_of, row_with, costs_of};
+ghost use Rattle.pg_sweep.specs.Sweeps.{row_of, costs_of};
 ghost use Rattle.pg_sweep.specs.Winners.{winner_of};
 ghost use Rattle.pg_sweep.specs.Inside.Given.{IsSmallFor};
 
@@ -21,7 +21,8 @@ use std::alloc::{AllocError, Global};
 fn priced(totals: Totals, bad: u32, missed: u32) -> SweepRow
     requires small { IsSmallFor 10 totals }
     requires prices { (bad ≤ 1000) × (missed ≤ 1000) }
-    ensures { result ≡ row_with (record { bad = bad; missed = missed }) totals }
+    ensures { result
+        ≡ record { totals = totals; cost = bad * totals.bad + missed * totals.missed } }
 {
     SweepRow {
         totals,
@@ -51,9 +52,9 @@ pub fn sweep<K: Maker>(
     requires missed { (1 ≤ missed) × (missed ≤ 1000) }
     requires signs { SignsAtMost (letters_of table.now + 1) dictionary.now }
     requires known { SignsUpTo (letters_of table.now + 1) start.now }
-    ensures rows { IfOk result (λ sweep. sweep.rows ≡ rows_of
+    ensures rows { IfOk result (λ sweep. sweep.rows ≡ map (row_of
         (record { table = table.now; words = dictionary.now; start = start.now; folds = folds })
-        (record { bad = bad; missed = missed }) sets.now) }
+        bad missed) sets.now) }
     ensures winner { IfOk result (λ sweep. sweep.winner ≡ winner_of (costs_of sweep.rows)) }
 {
     let given = Given {

@@ -1,11 +1,13 @@
 -- What the runs of a sweep share.
-use Rattle.std.specs.Prelude.{ℕ, ◌+◌, ◌*◌, ◌≤◌}
+use Rattle.std.specs.Prelude.{ℕ, ◌+◌, ◌*◌, ◌≤◌, map}
+use Rattle.std.specs.List.{range_with_len}
+use Rattle.pg_types.specs.Parameters.{Parameters}
 use Rattle.pg_types.specs.declared.marks.Totals.{Totals}
 use Rattle.pg_translate.specs.Alphabets.{letters_of}
 use Rattle.pg_dict.specs.Word.{SignsAtMost}
 use Rattle.pg_patterns.specs.Values.{SignsUpTo}
 use Rattle.pg_types.specs.Limits.{sums_limit}
-use Rattle.pg_sweep.specs.Sweeps.{Terms}
+use Rattle.pg_sweep.specs.Sweeps.{Terms, fold_totals, summed}
 use Rattle.pg_sweep.specs.declared.folds.Given.{Given}
 
 -- the terms of a sweep
@@ -16,6 +18,10 @@ terms g = record {
   start = g.start.now;
   folds = g.folds;
 }
+
+-- the totals of the first folds together
+abbrev pub totals_of_folds : Terms → Parameters → ℕ → Totals
+totals_of_folds s set count = summed (map (fold_totals s set) (range_with_len 0 count))
 
 -- the signs of the words and of the patterns are signs of the table
 abbrev pub HasSigns : Given → Type 0

@@ -1,6 +1,5 @@
 use Rattle.std.proofs.Common.{◌≡◌}
-use Rattle.pg_sweep.specs.Sweeps.{totals_of_folds}
-use Rattle.pg_sweep.specs.Inside.Given.{terms, IsSmallFor}
+use Rattle.pg_sweep.specs.Inside.Given.{terms, totals_of_folds, IsSmallFor}
 use Rattle.pg_sweep.proofs.folds.totals_of_set.Given as goal
 
 abbrev pub invariant-folds : goal.invariant-folds

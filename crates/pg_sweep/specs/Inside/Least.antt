@@ -1,0 +1,15 @@
+-- The winner among costs, found in one walk.
+use Rattle.std.specs.Prelude.{ℕ, ◌+◌, nat_lt, if◌then◌else◌, List, [], ◌∷◌}
+
+-- the winner, where `best` with this cost is the winner of the costs before, and the next cost has
+-- the number `number`
+abbrev pub winner_from : ℕ → ℕ → ℕ → List ℕ → ℕ
+winner_from best least number [] = best
+winner_from best least number (cost ∷ costs) =
+    winner_from (if nat_lt cost least then number else best)
+    (if nat_lt cost least then cost else least) (number + 1) costs
+
+-- the winner: the least number, counted from 1, whose cost is least
+abbrev pub first_least : List ℕ → ℕ
+first_least [] = 0
+first_least (cost ∷ costs) = winner_from 1 cost 2 costs
