@@ -1,10 +1,10 @@
 -- What a sweep writes and prints.
 use Rattle.std.proofs.Common.{◌≡◌, ℕ, ◌-◌, ◌≤◌, List, [], ◌∷◌, length, None, sym, ap, ◌∙◌, arith}
-use Rattle.std.specs.Prelude.{slice_index, unwrap_or}
+use Rattle.std.specs.Prelude.{map, slice_index, unwrap_or}
 use Rattle.std.proofs.lemmas.List.{length-map}
 use Rattle.pg_types.specs.Parameters.{Parameters}
 use Rattle.pg_sweep.specs.Files.{sweep_file}
-use Rattle.pg_sweep.specs.Sweeps.{Terms, Found, row_of, rows_of, costs_of}
+use Rattle.pg_sweep.specs.Sweeps.{Terms, Found, row_of, costs_of}
 use Rattle.pg_sweep.specs.Winners.{winner_of}
 use Rattle.pg_sweep.specs.declared.rows.SweepRow.{SweepRow}
 use Rattle.pg_sweep.proofs.Winners.{winner_wins}
@@ -18,7 +18,7 @@ use Rattle.pg_top.specs.sweep.Inside.Inputs.{line_of_sweep, swept}
 use Rattle.pg_top.specs.declared.answers.Status.TheVariants.{Done}
 
 -- it is made of what was found
-pub sweep_made : (s : SweepRequest) (terms : Terms) (sets : List Parameters) (found : Found) (text line : List ℕ) → found.rows ≡ rows_of terms (record { bad = s.bad; missed = s.missed }) sets → found.winner ≡ winner_of (costs_of found.rows) → text ≡ sweep_file s.folds found.rows found.winner → line ≡ line_of_sweep found
+pub sweep_made : (s : SweepRequest) (terms : Terms) (sets : List Parameters) (found : Found) (text line : List ℕ) → found.rows ≡ map (row_of terms s.bad s.missed) sets → found.winner ≡ winner_of (costs_of found.rows) → text ≡ sweep_file s.folds found.rows found.winner → line ≡ line_of_sweep found
     → swept s terms sets ≡ Ends Done ((s.output, text) ∷ []) line
 unfolding swept_rows
 sweep_made s terms sets found text line rows winner is_text is_line =
@@ -33,7 +33,7 @@ sweep_names s files none some = record {
   winner = winner_of (set_costs files s);
   text = sweep_file s.folds (swept_rows s (terms_in files s) (sets_in files s)) (winner_of (set_costs files s));
   comes = ap (λ end. unwrap_or end (finished files (ToSweep s))) none;
-  wins = winner_wins (set_costs files s) (many (set_costs files s) (length-map (swept_rows s (terms_in files s) (sets_in files s)) (λ (r : SweepRow). r.cost) ∙ length-map (sets_in files s) (row_of (terms_in files s) (record { bad = s.bad; missed = s.missed })) ∙ length-map s.params (set_named files)));
+  wins = winner_wins (set_costs files s) (many (set_costs files s) (length-map (swept_rows s (terms_in files s) (sets_in files s)) (λ (r : SweepRow). r.cost) ∙ length-map (sets_in files s) (row_of (terms_in files s) s.bad s.missed) ∙ length-map s.params (set_named files)));
 }
   where
     many : (costs : List ℕ) → length costs ≡ length s.params → 1 ≤ length costs

@@ -6,7 +6,7 @@ use Rattle.pg_translate.specs.Tables.{table}
 use Rattle.pg_dict.specs.Words.{words}
 use Rattle.pg_patterns.specs.Starts.{start}
 use Rattle.pg_sweep.specs.Files.{sweep_file}
-use Rattle.pg_sweep.specs.Sweeps.{Terms, rows_of, costs_of}
+use Rattle.pg_sweep.specs.Sweeps.{Terms, row_of, costs_of}
 use Rattle.pg_sweep.specs.Winners.{winner_of}
 use Rattle.pg_sweep.specs.declared.rows.SweepRow.{SweepRow}
 use Rattle.pg_top.specs.Outcomes.{Outcome, Ends}
@@ -60,7 +60,7 @@ pub record HasSweep (files : Held) (s : SweepRequest)
 
 -- the rows of the sets
 unfoldable pub swept_rows : SweepRequest → Terms → List Parameters → List SweepRow
-swept_rows s terms sets = rows_of terms (record { bad = s.bad; missed = s.missed }) sets
+swept_rows s terms sets = map (row_of terms s.bad s.missed) sets
 
 -- where `sweep` is done: the number of the cheapest set of parameters, and what it costs
 abbrev pub winner_line : ℕ → ℕ → List ℕ
