@@ -13,7 +13,8 @@ use Rattle.pg_translate.specs.declared.items.Place.TheVariants.{Dictionary, Patt
 use Rattle.pg_translate.specs.Alphabets.{Alphabet}
 use Rattle.pg_translate.specs.Spellings.{is_space, may_begin, begins_well, IsAmong}
 use Rattle.std.specs.Char.{is_ascii_digit}
-use Rattle.pg_translate.specs.Tables.{check, mark_fails, mark_checks_from, mark_checks}
+use Rattle.pg_translate.specs.Tables.{check, mark_fails}
+use Rattle.pg_translate.specs.Inside.Checks.{mark_checks_from, mark_checks}
 use Rattle.pg_translate.specs.Tokens.{Token, Letter, Digit, Weight, Marked, Edge, letter_at, weight_from, mark_at, item_at}
 use Rattle.pg_translate.specs.Inside.Items.{IsItem, IsWeight, IsMark, decimal_value}
 use Rattle.pg_translate.specs.Inside.Rules.{KeepsRules}

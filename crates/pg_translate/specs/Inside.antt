@@ -6,3 +6,4 @@ pub mod Sound
 pub mod Items
 pub mod Rules
 pub mod Heads
+pub mod Checks

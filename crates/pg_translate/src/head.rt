@@ -1,6 +1,7 @@
 //! The head of a translate file: the minima and the mark bytes.
 ghost use Rattle.std.specs.Prelude.{◌≡◌, ◌<◌, ◌≤◌, ◌∷◌, [], true, false, not, List, MatchOption, IfSome, MatchResult, Ok, Err, IfOk, OnOk, ◌+◌};
 ghost use Rattle.pg_translate.specs.Tables as table;
+ghost use Rattle.pg_translate.specs.Inside.Checks as checks;
 
 use crate::reading::is_space;
 use pg_types::{Kind, Refusal};
@@ -51,7 +52,7 @@ fn in_column(head: &[u8], column: usize) -> u8
 /// The value of a digit and a blank, a blank and a digit, or two digits; 0, which is no minimum,
 /// for other pairs.
 fn pair_value(first: u8, second: u8) -> u8
-    ensures value { result ≡ table.pair_value first second }
+    ensures value { result ≡ checks.pair_value first second }
     ensures few { result ≤ MINIMUM_MAX }
 {
     if first.is_ascii_digit() {
@@ -73,7 +74,7 @@ fn pair_value(first: u8, second: u8) -> u8
 fn pair_at(head: &[u8], column: usize) -> (u8, u8)
     requires some { 0 < column }
     requires few { column < 100 }
-    ensures { result ≡ table.pair_at head.now column }
+    ensures { result ≡ checks.pair_at head.now column }
 {
     (in_column(head, column), in_column(head, column + 1))
 }
@@ -83,8 +84,8 @@ fn pair_at(head: &[u8], column: usize) -> (u8, u8)
 fn minimum(pair: (u8, u8), other: (u8, u8), default: u8) -> Option<u8>
     requires some { 0 < default }
     requires few { default ≤ MINIMUM_MAX }
-    ensures value { MatchOption result (table.pair_fails pair other ≡ true)
-        (λ m. (table.pair_fails pair other ≡ false) × (m ≡ table.minimum pair default)) }
+    ensures value { MatchOption result (checks.pair_fails pair other ≡ true)
+        (λ m. (checks.pair_fails pair other ≡ false) × (m ≡ checks.pair_minimum pair default)) }
     ensures range { IfSome result (λ m. (0 < m) × (m ≤ MINIMUM_MAX)) }
 {
     let blank = (b' ', b' ');
@@ -114,9 +115,9 @@ fn mark_fails(earlier: &[u8], mark: u8) -> bool
 /// The two minima of a head, or the refusal of the first pair that fails.
 fn minima(line: &[u8]) -> Result<(u8, u8), Refusal>
     ensures answer { MatchResult result
-        (λ m. (table.minima_checks line.now ≡ []) × (m.0 ≡ table.left_minimum line.now)
-        × (m.1 ≡ table.right_minimum line.now))
-        (λ r. table.first_failure (table.minima_checks line.now) ≡ Err r) }
+        (λ m. (checks.minima_checks line.now ≡ []) × (m.0 ≡ checks.left_minimum line.now)
+        × (m.1 ≡ checks.right_minimum line.now))
+        (λ r. checks.first_failure (checks.minima_checks line.now) ≡ Err r) }
     ensures range { IfOk result
         (λ m. (0 < m.0) × (m.0 ≤ MINIMUM_MAX) × (0 < m.1) × (m.1 ≤ MINIMUM_MAX)) }
 {
@@ -153,8 +154,8 @@ fn bad_mark(column: u32) -> Refusal
 /// that is none.
 fn check_marks(error: u8, missed: u8, found: u8, dont_care: u8) -> Result<(), Refusal>
     ensures { MatchResult result
-        (λ _. table.mark_checks (error ∷ missed ∷ found ∷ dont_care ∷ []) ≡ [])
-        (λ r. table.first_failure (table.mark_checks (error ∷ missed ∷ found ∷ dont_care ∷ []))
+        (λ _. checks.mark_checks (error ∷ missed ∷ found ∷ dont_care ∷ []) ≡ [])
+        (λ r. checks.first_failure (checks.mark_checks (error ∷ missed ∷ found ∷ dont_care ∷ []))
         ≡ Err r) }
 {
     if mark_fails(&[], error) {
@@ -175,7 +176,7 @@ fn check_marks(error: u8, missed: u8, found: u8, dont_care: u8) -> Result<(), Re
 impl Head {
     ghost use Rattle.std.specs.Prelude.{◌≡◌, ◌∷◌, [], IfOk, MatchResult, Err};
     ghost use Rattle.pg_translate.specs.Inside.Heads.{IsHead, IsSoundHead, head_marks};
-    ghost use Rattle.pg_translate.specs.Tables as table;
+    ghost use Rattle.pg_translate.specs.Inside.Checks as checks;
 
     /// The default minima and marks.
     pub(crate) fn defaults() -> Head
@@ -199,7 +200,7 @@ impl Head {
     /// default.
     pub(crate) fn read(line: &[u8]) -> Result<Head, Refusal>
         ensures answer { MatchResult result (IsHead line.now)
-            (λ r. table.first_failure (table.head_checks line.now) ≡ Err r) }
+            (λ r. checks.first_failure (checks.head_checks_by_pairs line.now) ≡ Err r) }
         ensures sound { IfOk result IsSoundHead }
     {
         let (left, right) = minima(line)?;

@@ -7,6 +7,7 @@ ghost use Rattle.pg_translate.specs.Alphabets.{letters_in};
 ghost use Rattle.pg_translate.specs.Inside.Fronts.{pairs, IsIndex};
 ghost use Rattle.pg_translate.specs.Spellings as spelling;
 ghost use Rattle.pg_translate.specs.Tables as table;
+ghost use Rattle.pg_translate.specs.Inside.Checks as checks;
 ghost use Rattle.pg_types.specs.declared.refusals.ReadingError.TheVariants.{Refused};
 
 use crate::index::Index;
@@ -68,7 +69,7 @@ fn add_spelling(
     requires low { letters_in (pairs index.old) ≤ letter }
     requires high { letter ≤ letters_in (pairs index.old) + 1 }
     ensures answer { Gives (λ _. tt) result
-        (table.first_failure (table.spelling_check marks.now (pairs index.old)
+        (checks.first_failure (table.spelling_check marks.now (pairs index.old)
         (record { line = line; column = column; letter = letter; text = text.now }))) }
     ensures spellings { OnOk result
         (pairs index.new ≡ pairs index.old ++ (letter + 1, text.now) ∷ []) }
@@ -99,8 +100,8 @@ fn find_delimiter(delimiter: u8, rest: &[u8]) -> Option<usize>
 /// The first piece of what is left of a letter line behind its delimiter, and what follows it; none
 /// where the piece is empty: the pieces end there.
 fn next_piece(delimiter: u8, rest: &[u8]) -> Option<(&[u8], &[u8])>
-    ensures pieces { MatchOption result (table.pieces_of delimiter rest.now ≡ [])
-        (λ p. table.pieces_of delimiter rest.now ≡ p.0.now ∷ table.pieces_of delimiter p.1.now) }
+    ensures pieces { MatchOption result (checks.pieces_of delimiter rest.now ≡ [])
+        (λ p. checks.pieces_of delimiter rest.now ≡ p.0.now ∷ checks.pieces_of delimiter p.1.now) }
     ensures some { IfSome result (λ p. 0 < length p.0.now) }
     ensures shorter { IfSome result (λ p. length p.0.now + length p.1.now ≤ length rest.now) }
 {
@@ -127,11 +128,11 @@ fn add_pieces(
     requires letters { letter ≤ SIGNS_MAX }
     requires few { length text.now ≤ FILE_MAX }
     ensures answer { Gives (λ _. tt) result
-        (table.spellings_outcome marks.now (pairs index.old)
-        (table.spellings_behind line letter delimiter text.now)) }
+        (checks.spellings_outcome marks.now (pairs index.old)
+        (checks.spellings_behind line letter delimiter text.now)) }
     ensures spellings { OnOk result
         (pairs index.new ≡ pairs index.old ++ map table.spelling_with_sign
-        (table.spellings_behind line letter delimiter text.now)) }
+        (checks.spellings_behind line letter delimiter text.now)) }
     ensures letters { OnOk result (letters_in (pairs index.new) ≤ SIGNS_MAX - 1) }
     ensures sound { OnOk result (IsIndex index.new) }
 {
@@ -147,7 +148,7 @@ fn add_pieces(
 
 /// A line without the blanks at its end.
 fn without_blanks(line: &[u8]) -> &[u8]
-    ensures value { result.now ≡ table.without_blanks line.now }
+    ensures value { result.now ≡ checks.without_blanks line.now }
     ensures within { length result.now ≤ length line.now }
 {
     let mut end = line.len();
@@ -164,11 +165,11 @@ fn add_line(index: &mut Index, marks: &[u8], line: u32, text: &[u8]) -> Result<(
     requires few { length text.now ≤ FILE_MAX }
     ensures answer { Gives (λ _. tt) result
         (let letter = letters_in (pairs index.old) + 1 in
-        table.spellings_outcome marks.now (pairs index.old)
-        (table.spellings_of_line line letter text.now)) }
+        checks.spellings_outcome marks.now (pairs index.old)
+        (checks.spellings_of_line line letter text.now)) }
     ensures spellings { OnOk result
         (pairs index.new ≡ pairs index.old ++ map table.spelling_with_sign
-        (table.spellings_of_line line (letters_in (pairs index.old) + 1) text.now)) }
+        (checks.spellings_of_line line (letters_in (pairs index.old) + 1) text.now)) }
     ensures letters { OnOk result (letters_in (pairs index.new) ≤ SIGNS_MAX - 1) }
     ensures sound { OnOk result (IsIndex index.new) }
 {
@@ -183,8 +184,8 @@ fn add_line(index: &mut Index, marks: &[u8], line: u32, text: &[u8]) -> Result<(
 /// The letters of the lines that follow the head.
 pub(crate) fn read_letters(alloc: Global, marks: &[u8], text: &[u8]) -> Result<Index, ReadingError>
     requires { length text.now ≤ FILE_MAX }
-    ensures answer { let all = table.spellings_from 2 1 (lines text.now) in Gives pairs result
-        (first_refusal (table.spelling_checks marks.now [] all)
+    ensures answer { let all = checks.spellings_from 2 1 (lines text.now) in Gives pairs result
+        (first_refusal (checks.spelling_checks_from marks.now [] all)
         (map table.spelling_with_sign all)) }
     ensures sound { IfOk result IsIndex }
 {

@@ -4,7 +4,7 @@ use Rattle.pg_translate.specs.declared.head.TheConstants.{MINIMUM_MAX}
 use Rattle.pg_types.specs.declared.limits.TheConstants.{SIGNS_MAX}
 use Rattle.pg_translate.specs.Alphabets.{Alphabet, letters_of, first_spelling}
 use Rattle.pg_translate.specs.Spellings.{is_spelling, clash, IsAmong}
-use Rattle.pg_translate.specs.Tables.{mark_checks}
+use Rattle.pg_translate.specs.Inside.Checks.{mark_checks}
 
 -- the rules of the translate file on minima, marks, letters and spellings
 pub record KeepsRules (t : Alphabet) : Type 0 where
