@@ -6,7 +6,8 @@ use Rattle.pg_select.specs.CountedPositions.{Minima}
 use Rattle.pg_select.specs.Windows.{Patterns}
 use Rattle.pg_prune.specs.declared.pruned.Need.{Need}
 use Rattle.pg_prune.specs.Places.{WordPlace, places}
-use Rattle.pg_prune.specs.Prunes.{rounds, needs, pruned, found_by, Found, Rounds}
+use Rattle.pg_prune.specs.Prunes.{rounds, needs, pruned, Found, Rounds}
+use Rattle.pg_prune.specs.Inside.Findings.{found_by}
 use Rattle.pg_prune.specs.Inside.Picks.{picked, RoundStart}
 use Rattle.pg_prune.specs.Inside.Picks.{entry_of}
 

@@ -7,7 +7,8 @@ use Rattle.std.proofs.lemmas.List.Elements.{All-take, All-drop}
 use Rattle.pg_select.specs.Windows.{Patterns}
 use Rattle.pg_prune.specs.declared.pruned.Need.{Need}
 use Rattle.pg_prune.specs.Places.{WordPlace}
-use Rattle.pg_prune.specs.Prunes.{need_at, need_list, needs_from, needs, first_difference}
+use Rattle.pg_prune.specs.Prunes.{need_at, needs_from, needs}
+use Rattle.pg_prune.specs.Inside.Findings.{need_list, first_difference}
 use Rattle.pg_prune.specs.Inside.Turns.{with_entry, without_entry, IsHeld, IsTallied, IsFound}
 use Rattle.pg_prune.specs.Inside.Picks.{picked, RoundStart}
 use Rattle.pg_prune.proofs.TurnSteps.{left_at, none_left}

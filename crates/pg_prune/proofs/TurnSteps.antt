@@ -3,7 +3,8 @@ use Rattle.std.proofs.Common.{◌≡◌, ℕ, zero, suc, ◌+◌, ◌<◌, ◌�
 use Rattle.std.proofs.Math.Seq.{drop-cons}
 use Rattle.std.proofs.lemmas.List.{nil_from_length}
 use Rattle.pg_prune.specs.Places.{WordPlace}
-use Rattle.pg_prune.specs.Prunes.{break_alike_at, first_difference}
+use Rattle.pg_prune.specs.Prunes.{break_alike_at}
+use Rattle.pg_prune.specs.Inside.Findings.{first_difference}
 use Rattle.pg_prune.specs.Inside.Standing.{stands}
 use Rattle.pg_prune.specs.Inside.Holders.{holder_counts}
 use Rattle.pg_prune.specs.Inside.Turns.{Turn, with_entry, without_entry, IsHeld, IsAwaited}

@@ -5,3 +5,4 @@ pub mod Turns
 pub mod Picks
 pub mod Ends
 pub mod Trails
+pub mod Findings

@@ -1,5 +1,6 @@
 -- Pruning: entries that change no break are taken out of patterns, in rounds.
-use Rattle.std.specs.Prelude.{ℕ, ◌+◌, ◌-◌, ◌%◌, Bool, not, nat_eq, if◌then◌else◌, List, [], ◌∷◌, ◌++◌, length, find, Option, None, Some}
+use Rattle.std.specs.Prelude.{ℕ, ◌+◌, ◌-◌, ◌%◌, Bool, not, nat_eq, if◌then◌else◌, List, [], ◌∷◌, ◌++◌, length, find}
+use Rattle.std.specs.Option.{option_map, option_to_list}
 use Rattle.std.proofs.Common.{zero, suc}
 use Rattle.std.specs.List.{list_all}
 use Rattle.pg_dict.specs.Word.{Word}
@@ -52,21 +53,12 @@ rounds places P = rounds_from places P 0 (length P) P
 abbrev pub need_at : WordPlace → Need
 need_at x = record { word = x.word; position = x.position }
 
--- the first place at which two maps do not break alike, where there is one
-abbrev pub first_difference : List WordPlace → Patterns → Patterns → Option WordPlace
-first_difference places P Q = find (λ x. not (break_alike_at P Q x)) places
-
--- a need as a list
-abbrev pub need_list : Option WordPlace → List Need
-need_list None = []
-need_list (Some x) = need_at x ∷ []
-
 -- the needs of the entries from `rest` on, behind the entries `before`: for each, the first place
 -- at which the map without it does not break alike with the map
 abbrev pub needs_from : List WordPlace → Patterns → Patterns → List Need
 needs_from places before [] = []
-needs_from places before (e ∷ rest) =
-    need_list (first_difference places (before ++ e ∷ rest) (before ++ rest))
+needs_from places before (e ∷ rest) = option_to_list (option_map need_at (find
+    (λ x. not (break_alike_at (before ++ e ∷ rest) (before ++ rest) x)) places))
     ++ needs_from places (before ++ e ∷ []) rest
 
 -- the needs of all entries of a map
@@ -81,16 +73,11 @@ pub record Found : Type 0 where
   pub rounds : ℕ
   pub removed : ℕ
 
--- what the rounds come to, where so many entries were there at first
-abbrev pub found_by : List WordPlace → ℕ → Rounds → Found
-found_by places first r =
-    record {
-      patterns = r.patterns;
-      needs = needs places r.patterns;
-      rounds = r.count;
-      removed = first - length r.patterns;
-    }
-
 -- patterns pruned by the words of a dictionary
 unfoldable pub pruned : Minima → List Word → Patterns → Found
-pruned m words P = found_by (places m words) (length P) (rounds (places m words) P)
+pruned m words P = let r = rounds (places m words) P in record {
+  patterns = r.patterns;
+  needs = needs (places m words) r.patterns;
+  rounds = r.count;
+  removed = length P - length r.patterns;
+}

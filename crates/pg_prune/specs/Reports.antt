@@ -1,8 +1,8 @@
 -- The text of what pruning comes to.
-use Rattle.std.specs.Prelude.{ℕ, ◌-◌, List, [], ◌∷◌, ◌++◌, length, take, codes, decimal}
+use Rattle.std.specs.Prelude.{ℕ, ◌-◌, List, [], ◌∷◌, ◌++◌, length, flat_map, take, codes, decimal}
+use Rattle.std.specs.List.{zip}
 use Rattle.pg_translate.specs.Alphabets.{Alphabet}
 use Rattle.pg_patterns.specs.Texts.{pattern_text}
-use Rattle.pg_select.specs.Windows.{Patterns}
 use Rattle.pg_prune.specs.declared.pruned.Need.{Need}
 use Rattle.pg_prune.specs.Prunes.{Found}
 
@@ -20,18 +20,13 @@ keep_line t e n = codes "keep " ++ entry_text t e
     ++ codes ": word " ++ decimal n.word ++ codes " after "
     ++ decimal (n.position - 1) ++ codes " letters\n"
 
--- the lines of entries with their needs
-abbrev pub keep_lines : Alphabet → Patterns → List Need → List ℕ
-keep_lines t [] needs = []
-keep_lines t (e ∷ es) [] = []
-keep_lines t (e ∷ es) (n ∷ ns) = keep_line t e n ++ keep_lines t es ns
-
 -- `rounds: R, removed X, kept Y`
 abbrev pub last_line : Found → List ℕ
 last_line f = codes "rounds: " ++ decimal f.rounds
     ++ codes ", removed " ++ decimal f.removed ++ codes ", kept "
     ++ decimal (length f.patterns) ++ codes "\n"
 
--- the report
+-- the report: the line of each entry with its need, and the last line
 unfoldable pub prune_report : Alphabet → Found → List ℕ
-prune_report t f = keep_lines t f.patterns f.needs ++ last_line f
+prune_report t f =
+    flat_map (λ k. keep_line t k.0 k.1) (zip f.patterns f.needs) ++ last_line f

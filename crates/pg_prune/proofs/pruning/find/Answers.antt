@@ -3,7 +3,6 @@ use Rattle.std.proofs.lemmas.List.{length-map}
 use Rattle.pg_select.specs.CountedPositions.{minima_of}
 use Rattle.pg_prune.specs.Places.{places}
 use Rattle.pg_prune.specs.Prunes.{need_at}
-use Rattle.pg_prune.specs.Inside.Picks.{RoundsStart}
 use Rattle.pg_prune.proofs.pruning.find.Goals as goal
 
 pub settle-requires : goal.settle-requires

@@ -1,5 +1,5 @@
 use Rattle.std.proofs.Common.{◌≡◌, ◌++◌, drop}
-use Rattle.pg_prune.specs.Reports.{keep_lines}
+use Rattle.pg_prune.specs.Inside.Findings.{keep_lines}
 use Rattle.pg_prune.proofs.report.prune_text.Given as goal
 
 abbrev pub invariant-entries : goal.invariant-entries

@@ -1,6 +1,7 @@
 use Rattle.std.proofs.Common.{◌≡◌, ◌<◌, ◌+◌, ◌∙◌, ◌∷◌, ◌++◌, [], length, get_or, take, drop, sym, subst, ap, arith}
 use Rattle.std.proofs.lemmas.List.{length-map, append-nil}
-use Rattle.pg_prune.specs.Prunes.{need_at, need_list, first_difference}
+use Rattle.pg_prune.specs.Prunes.{need_at}
+use Rattle.pg_prune.specs.Inside.Findings.{need_list, first_difference}
 use Rattle.pg_prune.specs.Inside.Standing.{standing}
 use Rattle.pg_prune.specs.Inside.Turns.{with_entry, without_entry}
 use Rattle.pg_prune.proofs.NeedSteps.{NeedsSoFar, needs_begin, needs_step, needs_end, need_turn, need_found}
