@@ -5,7 +5,7 @@ use Rattle.std.specs.List.{list_all}
 use Rattle.std.specs.Prelude.{if◌then◌else◌}
 use Rattle.std.proofs.lemmas.Bool.Decides.{nat_tests}
 use Rattle.pg_types.specs.Parameters.{with_digit, number_from}
-use Rattle.pg_words.specs.Requests.{at_most}
+use Rattle.pg_words.specs.Inside.Taken.{at_most}
 
 -- a digit more
 pub digit_more : (n b : ℕ) (bs : List ℕ) → is_ascii_digit b ≡ true → number_from n (b ∷ bs) ≡ number_from (with_digit n b) bs

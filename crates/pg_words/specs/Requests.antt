@@ -3,7 +3,7 @@ use Rattle.std.specs.Prelude.{ℕ, nat_lt, nat_le, nat_eq, Bool, true, not, ◌&
 use Rattle.std.specs.List.{list_all, starts_with}
 use Rattle.std.specs.Option.{option_and_then, option_map, option_map_or, is_none}
 use Rattle.std.specs.Str.{bytes_eq}
-use Rattle.pg_types.specs.Parameters.{number_from}
+use Rattle.pg_types.specs.Parameters.{number}
 
 -- the names of the files of `generate` and `audit`, each as its bytes. Those of the hyphenated list
 -- and of the cells file are there where they are asked for
@@ -86,10 +86,11 @@ abbrev pub output_names : FileNames → List (List ℕ)
 output_names n = n.output ∷ if_asked n.pattmp (λ name. name)
     ++ if_asked n.cells (λ name. name) ++ n.report ∷ []
 
--- whether `generate` takes these names
-abbrev pub are_taken : FileNames → Bool
-are_taken n = list_all is_name (input_names n ++ output_names n)
-    && outputs_differ (output_names n) (input_names n)
+-- a request, where its names can be names, and each output name differs from the names of the other
+-- outputs and of the inputs
+abbrev pub where_taken : List (List ℕ) → List (List ℕ) → Request → Option Request
+where_taken inputs outputs request = if list_all is_name (inputs ++ outputs)
+    && outputs_differ outputs inputs then Some request else None
 
 -- the names with that of an option
 abbrev pub with_option : FileNames → List ℕ → List ℕ → Option FileNames
@@ -127,90 +128,56 @@ names_in words = None
 
 -- `generate DICT PATTERNS OUT TRANSLATE PARAMS REPORT`, then `--pattmp FILE` and `--cells FILE`
 abbrev pub to_generate : FileNames → Option Request
-to_generate n = if are_taken n then Some (ToGenerate n) else None
+to_generate n = where_taken (input_names n) (output_names n) (ToGenerate n)
 
 -- `audit` with the same names, which may be equal, and then `--pattmp FILE`
 abbrev pub to_audit : FileNames → Option Request
 to_audit n = if list_all is_name (input_names n ++ output_names n) && is_none n.cells
     then Some (ToAudit n) else None
 
--- a number, where it is not greater than this
-abbrev pub at_most : ℕ → Option ℕ → Option ℕ
-at_most most number = option_and_then (λ n. if nat_le n most then Some n else None) number
-
--- the number that a word of 1 to 10 decimal digits is, where it is not greater than this
-abbrev pub number_up_to : ℕ → List ℕ → Option ℕ
-number_up_to most word =
-    if nat_lt 0 (length word) && nat_le (length word) 10 then at_most most (number_from 0 word)
-    else None
+-- the number that a word of at most so many decimal digits is, where it is within these bounds
+abbrev pub number_within : ℕ → ℕ → ℕ → List ℕ → Option ℕ
+number_within digits least most word = if nat_lt 0 (length word) && nat_le (length word) digits
+    then option_and_then (λ n. if nat_le least n && nat_le n most then Some n else None)
+    (number word) else None
 
 -- `sample N COUNT`
 abbrev pub sample_in : List (List ℕ) → Option Request
 sample_in (seed ∷ count ∷ []) =
-    option_and_then (λ s. option_map (ToSample s) (number_up_to 100000 count))
-    (number_up_to 2147483647 seed)
+    option_and_then (λ s. option_map (ToSample s) (number_within 10 0 100000 count))
+    (number_within 10 0 2147483647 seed)
 sample_in words = None
 
 -- `pack PATTERNS TRANSLATE TABLE`, where the table is an output
 abbrev pub pack_in : List (List ℕ) → Option Request
 pack_in (patterns ∷ translate ∷ table ∷ []) =
-    if list_all is_name (patterns ∷ translate ∷ table ∷ [])
-    && outputs_differ (table ∷ []) (patterns ∷ translate ∷ [])
-    then Some (ToPack (record { patterns = patterns; translate = translate; table = table }))
-    else None
+    where_taken (patterns ∷ translate ∷ []) (table ∷ []) (ToPack patterns translate table)
 pack_in words = None
 
 -- `totals DICT TRANSLATE TABLE`, whose names may be equal
 abbrev pub totals_in : List (List ℕ) → Option Request
 totals_in (dict ∷ translate ∷ table ∷ []) =
-    if list_all is_name (dict ∷ translate ∷ table ∷ [])
-    then Some (ToTotals (record { dict = dict; translate = translate; table = table })) else None
+    where_taken (dict ∷ translate ∷ table ∷ []) [] (ToTotals dict translate table)
 totals_in words = None
-
--- whether `prune` takes these names: the two outputs differ from each other and from all inputs
-abbrev pub is_prune_taken : PruneRequest → Bool
-is_prune_taken p =
-    list_all is_name (p.dict ∷ p.patterns ∷ p.output ∷ p.translate ∷ p.report ∷ [])
-    && outputs_differ (p.output ∷ p.report ∷ []) (p.dict ∷ p.patterns ∷ p.translate ∷ [])
-
--- `prune` with these names, where it takes them
-abbrev pub to_prune : PruneRequest → Option Request
-to_prune p = if is_prune_taken p then Some (ToPrune p) else None
 
 -- `prune DICT PATTERNS OUT TRANSLATE REPORT`
 abbrev pub prune_in : List (List ℕ) → Option Request
-prune_in (dict ∷ patterns ∷ output ∷ translate ∷ report ∷ []) = to_prune (record {
-  dict = dict;
-  patterns = patterns;
-  output = output;
-  translate = translate;
-  report = report;
-})
+prune_in (dict ∷ patterns ∷ output ∷ translate ∷ report ∷ []) =
+    where_taken (dict ∷ patterns ∷ translate ∷ []) (output ∷ report ∷ []) (ToPrune (record {
+      dict = dict;
+      patterns = patterns;
+      output = output;
+      translate = translate;
+      report = report;
+    }))
 prune_in words = None
 
--- the number that a word of at most so many decimal digits is, where it is within these bounds
-abbrev pub number_within : ℕ → ℕ → ℕ → List ℕ → Option ℕ
-number_within digits least most word =
-    if nat_le (length word) digits
-    then option_and_then (λ n. if nat_le least n then Some n else None) (number_up_to most word)
-    else None
-
--- whether `sweep` takes these names: 1 to 16 of parameter files, and an output that differs from
--- all other names
-abbrev pub is_sweep_taken : List ℕ → List ℕ → List ℕ → List ℕ → List (List ℕ) → Bool
-is_sweep_taken dict patterns output translate params =
-    nat_lt 0 (length params) && nat_le (length params) 16
-    && list_all is_name (dict ∷ patterns ∷ output ∷ translate ∷ params)
-    && outputs_differ (output ∷ []) (dict ∷ patterns ∷ translate ∷ params)
-
--- `sweep DICT PATTERNS OUT TRANSLATE K BAD MISSED`, then the names of the parameter files
+-- `sweep DICT PATTERNS OUT TRANSLATE K BAD MISSED`, then the names of 1 to 16 parameter files
 abbrev pub sweep_in : List (List ℕ) → Option Request
 sweep_in (dict ∷ patterns ∷ output ∷ translate ∷ k ∷ bad_word ∷ missed_word ∷ params) =
-    if is_sweep_taken dict patterns output translate params
-    then option_and_then
-    (λ folds. option_and_then
-    (λ bad. option_map
-    (λ missed. ToSweep (record {
+    option_and_then (λ folds. option_and_then (λ bad. option_and_then
+    (λ missed. if nat_lt 0 (length params) && nat_le (length params) 16
+    then where_taken (dict ∷ patterns ∷ translate ∷ params) (output ∷ []) (ToSweep (record {
       dict = dict;
       patterns = patterns;
       output = output;
@@ -220,10 +187,9 @@ sweep_in (dict ∷ patterns ∷ output ∷ translate ∷ k ∷ bad_word ∷ miss
       missed = missed;
       params = params;
     }))
-    (number_within 4 1 1000 missed_word))
-    (number_within 4 1 1000 bad_word))
+    else None)
+    (number_within 4 1 1000 missed_word)) (number_within 4 1 1000 bad_word))
     (number_within 2 2 10 k)
-    else None
 sweep_in words = None
 
 -- what words ask for

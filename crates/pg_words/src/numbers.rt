@@ -1,10 +1,8 @@
 //! Numbers in the words of a command.
 ghost use Rattle.std.specs.Prelude.{◌≡◌, ◌≤◌, IfSome};
 ghost use Rattle.pg_types.specs.Parameters.{number_from};
-ghost use Rattle.pg_words.specs.Requests.{at_most, number_up_to, number_within as number_within_of};
-
-/// How many digits a number has at most.
-const DIGITS: usize = 10;
+ghost use Rattle.pg_words.specs.Requests.{number_within as number_within_of};
+ghost use Rattle.pg_words.specs.Inside.Taken.{at_most};
 
 /// The value of decimal digits; none where there is another byte, or the value is greater than
 /// `most`.
@@ -26,26 +24,15 @@ fn digits_value(digits: &[u8], most: u32) -> Option<u32>
     Some(value)
 }
 
-/// The number that a word of 1 to 10 decimal digits is, where it is at most `most`.
-pub fn number(word: &str, most: u32) -> Option<u32>
-    ensures value { result ≡ number_up_to most word.now }
-    ensures within { IfSome result (λ n. n ≤ most) }
-{
-    if word.is_empty() || word.len() > DIGITS {
-        return None;
-    }
-    digits_value(word.as_bytes(), most)
-}
-
-/// The number that a word of at most so many decimal digits is, where it is at least `least` and at
+/// The number that a word of 1 to so many decimal digits is, where it is at least `least` and at
 /// most `most`.
 pub fn number_within(word: &str, digits: usize, least: u32, most: u32) -> Option<u32>
     ensures value { result ≡ number_within_of digits least most word.now }
     ensures within { IfSome result (λ n. (least ≤ n) × (n ≤ most)) }
 {
-    if word.len() > digits {
+    if word.is_empty() || word.len() > digits {
         return None;
     }
-    let number = number(word, most)?;
+    let number = digits_value(word.as_bytes(), most)?;
     if number >= least { Some(number) } else { None }
 }

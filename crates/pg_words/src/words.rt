@@ -2,11 +2,15 @@
 ghost use Rattle.std.specs.Prelude.{◌≡◌, ◌≤◌, ◌<◌, ◌++◌, ◌∷◌, [], length, drop, slice_index_or, IfSome};
 ghost use Rattle.std.specs.List.{list_all};
 ghost use Rattle.std.specs.Option.{option_map, option_and_then};
-ghost use Rattle.pg_words.specs.Requests.{is_name as is_name_word, if_asked, input_names, output_names, differs_from, outputs_differ, with_option as with_option_of, with_options as with_options_of, names_in, to_generate, to_audit, sample_in, pack_in, totals_in, is_prune_taken as is_prune_taken_names, prune_in, is_sweep_taken, sweep_in, request_of};
+ghost use Rattle.pg_words.specs.Requests.{is_name as is_name_word, if_asked, input_names, output_names, differs_from, outputs_differ, with_option as with_option_of, with_options as with_options_of, names_in, to_generate, to_audit, sample_in, pack_in, totals_in, prune_in, sweep_in, request_of};
+ghost use Rattle.pg_words.specs.Inside.Taken.{is_prune_taken as is_prune_taken_names, is_sweep_taken};
 ghost use Rattle.pg_words.specs.Commands.{name_now, texts_of, asked_by, KeepsLimits, words_of};
 
 use crate::commands::{Command, Names, SweepWords};
-use crate::numbers::{number, number_within};
+use crate::numbers::number_within;
+
+/// How many digits a number of `sample` has at most.
+const DIGITS_MAX: usize = 10;
 
 /// The greatest seed of `sample`.
 const SEED_MAX: u32 = 2_147_483_647;
@@ -243,8 +247,8 @@ fn sample(words: &[String]) -> Option<Command<'_>>
     if words.len() != 2 {
         return None;
     }
-    let seed = number(words[0].as_str(), SEED_MAX)?;
-    let count = number(words[1].as_str(), COUNT_MAX)?;
+    let seed = number_within(words[0].as_str(), DIGITS_MAX, 0, SEED_MAX)?;
+    let count = number_within(words[1].as_str(), DIGITS_MAX, 0, COUNT_MAX)?;
     Some(Command::Sample(seed, count))
 }
 
@@ -322,7 +326,7 @@ fn is_prune_taken(dict: &str, patterns: &str, output: &str, translate: &str, rep
       report = report.now;
     }) }
 {
-    are_five_names(dict, patterns, output, translate, report)
+    are_five_names(dict, patterns, translate, output, report)
         && output != report
         && differs_from_three(output, dict, patterns, translate)
         && differs_from_three(report, dict, patterns, translate)
