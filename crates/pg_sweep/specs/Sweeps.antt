@@ -20,8 +20,8 @@ pub record Terms : Type 0 where
   pub start : Patterns
   pub folds : ℕ
 
--- the totals of the words of a fold by the patterns that are selected from all other words, all under
--- the minima of the table
+-- the totals of the words of a fold by the patterns that are selected from all other words, all
+-- under the minima of the table
 abbrev pub fold_totals : Terms → Parameters → ℕ → Totals
 fold_totals s set fold = totals_by (over s.table (part_of s.folds fold true s.words))
     (final_patterns s.start (trace (over s.table (part_of s.folds fold false s.words)) set s.start))

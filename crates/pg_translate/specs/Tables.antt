@@ -22,8 +22,8 @@ check fails kind line column = if fails
 abbrev pub in_column : List ℕ → ℕ → ℕ
 in_column head column = slice_index_or head (column - 1) 32
 
--- the minimum that begins at a column: the number that two bytes write where blanks are left out; 0,
--- which is no minimum, where they write none
+-- the minimum that begins at a column: the number that two bytes write where blanks are left out;
+-- 0, which is no minimum, where they write none
 abbrev pub minimum_at : List ℕ → ℕ → ℕ
 minimum_at head column = unwrap_or (number (filter (λ b. not (b == 32))
     (in_column head column ∷ in_column head (column + 1) ∷ []))) 0
@@ -82,8 +82,8 @@ spellings_at line column letter (piece ∷ pieces) =
     record { line = line; column = column; letter = letter; text = piece } ∷ spellings_at line
     (column + (length piece + 1)) letter pieces
 
--- the spellings of the letter lines, which begin with the second line of the file. The lines that are
--- not skipped are numbered by their letters
+-- the spellings of the letter lines, which begin with the second line of the file. The lines that
+-- are not skipped are numbered by their letters
 abbrev pub spellings_of : List (List ℕ) → List ListedSpelling
 spellings_of texts = flat_map (λ l. spellings_at l.1.0 2 l.0 l.1.1) (enumerate_from 1
     (filter (λ l. nat_lt 0 (length l.1)) (enumerate_from 2 (map line_pieces texts))))

@@ -1,5 +1,5 @@
--- The checks of a translate file, as its reader goes through them: pair by pair, byte by byte and line
--- by line.
+-- The checks of a translate file, as its reader goes through them: pair by pair, byte by byte and
+-- line by line.
 use Rattle.std.specs.Prelude.{ℕ, ◌+◌, ◌-◌, ◌*◌, ◌==◌, Bool, not, ◌&&◌, if◌then◌else◌, List, [], ◌∷◌, ◌++◌, Result, map}
 use Rattle.std.specs.Char.{is_ascii_digit}
 use Rattle.pg_types.specs.declared.refusals.Kind.TheVariants.{BadMinima, BadMark}
@@ -131,7 +131,8 @@ spelling_checks_from marks earlier (s ∷ later) =
 -- fails
 abbrev pub spellings_outcome : List ℕ → List (ℕ × List ℕ)
     → List ListedSpelling → Result (Unit {0}) Refusal
-spellings_outcome marks earlier spellings = first_failure (spelling_checks_from marks earlier spellings)
+spellings_outcome marks earlier spellings =
+    first_failure (spelling_checks_from marks earlier spellings)
 
 -- the table that a head and letter lines say
 abbrev pub alphabet_by_lines : List ℕ → List (List ℕ) → Alphabet
