@@ -18,5 +18,6 @@ pub mod TableCells
 pub mod TableLookups
 pub mod TableRecords
 pub mod TableText
+pub mod Greatest
 pub mod Walks
 pub mod WordSteps

@@ -16,7 +16,9 @@ use Rattle.pg_cells.proofs.StringMaps.{same_from, same_itself}
 use Rattle.pg_select.specs.Statuses.{status, position_weight}
 use Rattle.pg_select.specs.Sums.{totals_of}
 use Rattle.pg_table.specs.Inside.Laws.{HasEntries, ValuesArePacked, TotalsArePacked}
-use Rattle.pg_table.specs.Lookups.{greatest, value_from, table_value, table_entry}
+use Rattle.pg_table.specs.Lookups.{value_from, table_value, table_entry}
+use Rattle.pg_table.specs.Inside.Greatest.{greatest}
+use Rattle.pg_table.proofs.Greatest.{value_as}
 use Rattle.pg_table.proofs.Groups.{Entry}
 
 -- the greatest number is within each bound, and over each number
@@ -104,7 +106,6 @@ module _ (P : List Entry) (b : List ℕ) (sound : IsPatternMap P) (has : HasEntr
 
   -- and each entry that applies gives its value
   entry_within : (k : ℕ) (e : Entry) → slice_get P k ≡ Some e → applies w p e.0 ≡ true → e.1 ≤ table_value b w p
-  unfolding table_value
   entry_within k e at is =
       let parts = and_parts (nat_le e.0.1 p) (stands_at e.0.0 w (p - e.0.1)) is in
       let stands = and_parts (nat_le (p - e.0.1 + length e.0.0) (length w)) (starts_with nat_eq (drop (p - e.0.1) w) e.0.0) parts.1 in
@@ -122,10 +123,10 @@ module _ (P : List Entry) (b : List ℕ) (sound : IsPatternMap P) (has : HasEntr
       best_over (same_dotted e.0) P k e at (and_from (pointwise nat_eq e.0.0 e.0.0) (nat_eq e.0.1 e.0.1) (texts_ties e.0.0 e.0.0 ∙ same_itself e.0.0) (eq-eqb e.0.1 e.0.1 refl)) in
       let strings : value_from b w p i n ≤ greatest (value_from b w p i) (range_with_len 1 PATTERN_SIGNS_MAX) = greatest_over (value_from b w p i) 1 PATTERN_SIGNS_MAX n ranges.some (omega (arith, ranges.few)) in
       let starts = greatest_over (λ j. greatest (value_from b w p j) (range_with_len 1 PATTERN_SIGNS_MAX)) 0 (length w) i (omega arith) (omega (arith, ranges.some)) in
+      let whole = value_as b w p in
       omega arith
 
   value_same : table_value b w p ≡ value_at P w p
-  unfolding table_value
   value_same =
       let low : value_at P w p ≤ table_value b w p = best_within (applies w p) (table_value b w p) P entry_within in
       let high : table_value b w p ≤ value_at P w p = above in
@@ -133,8 +134,11 @@ module _ (P : List Entry) (b : List ℕ) (sound : IsPatternMap P) (has : HasEntr
     where
       above : table_value b w p ≤ value_at P w p
       above =
+          let within : greatest (λ i. greatest (value_from b w p i) (range_with_len 1 PATTERN_SIGNS_MAX)) (range_with_len 0 (length w)) ≤ value_at P w p =
           greatest_within (λ i. greatest (value_from b w p i) (range_with_len 1 PATTERN_SIGNS_MAX)) 0 (length w) (value_at P w p)
-          (λ i low high. greatest_within (value_from b w p i) 1 PATTERN_SIGNS_MAX (value_at P w p) (λ n few many. from_within i n))
+          (λ i low high. greatest_within (value_from b w p i) 1 PATTERN_SIGNS_MAX (value_at P w p) (λ n few many. from_within i n)) in
+          let whole = value_as b w p in
+          omega arith
 
 pub values_are_packed : ValuesArePacked
 values_are_packed P b sound has w p = value_same P b sound has w p

@@ -13,7 +13,7 @@ use Rattle.pg_patterns.proofs.Kept.{value_of_sorted}
 use Rattle.pg_outputs.specs.declared.records.Record.{Record}
 use Rattle.pg_outputs.specs.Lists.{list_of}
 use Rattle.pg_outputs.proofs.ListLaws.{list_of-at, list_of-zero}
-use Rattle.pg_table.specs.Lookups.{value_in_list}
+use Rattle.pg_table.specs.Inside.Greatest.{value_in_list}
 use Rattle.pg_table.specs.Inside.Sharing.{Lists, turned, Shares}
 use Rattle.pg_table.specs.Texts.{head_among, record_of}
 use Rattle.pg_table.proofs.FormLaws.{IsSoundRecord}

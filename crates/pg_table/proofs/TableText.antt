@@ -16,7 +16,9 @@ use Rattle.pg_outputs.specs.Lists.{list_of}
 use Rattle.pg_table.specs.declared.cell.Cell.{Cell}
 use Rattle.pg_table.specs.declared.limits.TheConstants.{TABLE_MAX}
 use Rattle.pg_table.specs.Forms.{is_well_formed}
-use Rattle.pg_table.specs.Lookups.{lookup, table_entry, value_in_list}
+use Rattle.pg_table.specs.Lookups.{lookup, table_entry}
+use Rattle.pg_table.specs.Inside.Greatest.{value_in_list}
+use Rattle.pg_table.proofs.Greatest.{entry_as}
 use Rattle.pg_table.specs.Inside.Packed.{IsPacked, IsEntered}
 use Rattle.pg_table.specs.Inside.Sharing.{turned}
 use Rattle.pg_table.specs.Texts.{recorded, head_in, record_of, cell_of_table, table_cells, table_records, file_of, table_text}
@@ -107,7 +109,7 @@ module _ (n : ℕ) (P : List ((List ℕ × ℕ) × ℕ)) (h : ValuedFamilies ℕ
 
     -- and its values are those of the patterns
     pub text_entries : (q : List ℕ) (d : ℕ) → table_entry (table_text n P) q d ≡ value_of P (q, d)
-    text_entries q d = ap (value_in_list d) (text_lists q) ∙ entry_is P q d sound
+    text_entries q d = entry_as (table_text n P) q d ∙ ap (value_in_list d) (text_lists q) ∙ entry_is P q d sound
 
 -- the length of the file
 pub text_size : (n : ℕ) (P : List ((List ℕ × ℕ) × ℕ)) (h : ValuedFamilies ℕ) (rs : List Record) → IsPatternMap P → IsEntered n P h rs → length (table_text n P) ≡ 16 + 10 * (top h.families + 1) + 6 * length rs

@@ -6,7 +6,9 @@ use Rattle.std.proofs.lemmas.Bool.{cases_Bool, cases_lt, le-leb, lt-leb, lt-ltb,
 use Rattle.std.proofs.lemmas.List.{drop-drop, drop_more}
 use Rattle.pg_types.specs.declared.limits.TheConstants.{PATTERN_SIGNS_MAX}
 use Rattle.pg_table.specs.Forms.{cell_at}
-use Rattle.pg_table.specs.Lookups.{cell_has_sign, list_in, lookup, lookup_from, greatest, value_in_list, value_from, table_value}
+use Rattle.pg_table.specs.Lookups.{cell_has_sign, list_in, lookup, lookup_from, table_entry, value_from, table_value}
+use Rattle.pg_table.specs.Inside.Greatest.{greatest, value_in_list}
+use Rattle.pg_table.proofs.Greatest.{entry_as, value_as}
 use Rattle.pg_table.specs.Inside.Raising.{by_value, by_record_list, by_strings, by_starts}
 
 -- the greatest of numbers that are all 0
@@ -69,9 +71,9 @@ module _ (b w : List ℕ) where
   -- what strings give that have no list
   value_none : (p start n : ℕ) → (start + n ≤ length w → lookup b (take n (drop start w)) ≡ []) → value_from b w p start n ≡ 0
   value_none p start n none = elim (cases_lt (length w) (start + n)) [
-    | inl past ↦ ap (λ t. cond (t && (nat_le start p && nat_le (p - start) n)) (value_in_list (p - start) (lookup b (take n (drop start w)))) 0) (lt-leb (start + n) (length w) past)
+    | inl past ↦ ap (λ t. cond (t && (nat_le start p && nat_le (p - start) n)) (table_entry b (take n (drop start w)) (p - start)) 0) (lt-leb (start + n) (length w) past)
     | inr inside ↦
-        ap (λ l. cond (nat_le (start + n) (length w) && (nat_le start p && nat_le (p - start) n)) (value_in_list (p - start) l) 0) (none inside)
+        ap (λ v. cond (nat_le (start + n) (length w) && (nat_le start p && nat_le (p - start) n)) v 0) (entry_as b (take n (drop start w)) (p - start) ∙ ap (value_in_list (p - start)) (none inside))
         ∙ same (nat_le (start + n) (length w) && (nat_le start p && nat_le (p - start) n)) 0
   ]
     where
@@ -89,6 +91,7 @@ module _ (b w : List ℕ) where
   strings_more p start n few inside =
       let size : PATTERN_SIGNS_MAX + 1 - n ≡ suc (PATTERN_SIGNS_MAX + 1 - (n + 1)) = omega arith in
       ap (λ k. greatest (value_from b w p start) (range_with_len n k)) size
+      ∙ ap (λ v. max (cond (nat_le (start + n) (length w) && (nat_le start p && nat_le (p - start) n)) v 0) (by_strings b w start (n + 1) p)) (entry_as b (take n (drop start w)) (p - start))
       ∙ ap (λ t. max (cond (t && (nat_le start p && nat_le (p - start) n)) (value_in_list (p - start) (lookup b (take n (drop start w)))) 0) (by_strings b w start (n + 1) p)) (le-leb (start + n) (length w) inside)
 
   -- and so for the starts
@@ -164,7 +167,7 @@ all_same x (suc n) (suc p) = all_same x n p
 
 -- what the strings of all starts give is the value
 pub table_value_is : (b w : List ℕ) (p : ℕ) → by_starts b w 0 p ≡ table_value b w p
-unfolding by_starts by_strings table_value
+unfolding by_starts by_strings
 table_value_is b w p =
     let size : length w - 0 ≡ length w = omega arith in
-    ap (λ n. greatest (λ i. greatest (value_from b w p i) (range_with_len 1 PATTERN_SIGNS_MAX)) (range_with_len 0 n)) size
+    ap (λ n. greatest (λ i. greatest (value_from b w p i) (range_with_len 1 PATTERN_SIGNS_MAX)) (range_with_len 0 n)) size ∙ sym (value_as b w p)

@@ -4,3 +4,4 @@ pub mod Packed
 pub mod Raising
 pub mod Rows
 pub mod Sharing
+pub mod Greatest

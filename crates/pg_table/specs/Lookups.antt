@@ -1,6 +1,6 @@
 -- What a packed table file says: the list of a string, its values, the values of the positions of a
 -- word, and the totals.
-use Rattle.std.specs.Prelude.{ℕ, ◌+◌, ◌-◌, Bool, ◌&&◌, nat_eq, nat_lt, nat_le, max, if◌then◌else◌, List, [], ◌∷◌, length, take, drop}
+use Rattle.std.specs.Prelude.{ℕ, ◌+◌, ◌-◌, Bool, ◌&&◌, nat_eq, nat_lt, nat_le, max, if◌then◌else◌, List, [], ◌∷◌, length, map, filter, fold, take, drop}
 use Rattle.std.specs.List.{flat_map, range_with_len}
 use Rattle.pg_types.specs.declared.limits.TheConstants.{PATTERN_SIGNS_MAX}
 use Rattle.pg_types.specs.declared.marks.Mark.{Mark}
@@ -32,19 +32,9 @@ lookup_from b base (s ∷ t ∷ q) = if cell_has_sign b base s && nat_lt 0 (cell
 unfoldable pub lookup : List ℕ → List ℕ → List (ℕ × ℕ)
 lookup b q = lookup_from b 0 q
 
--- the greatest value at the dot in a list, 0 where there is none
-abbrev pub value_in_list : ℕ → List (ℕ × ℕ) → ℕ
-value_in_list d [] = 0
-value_in_list d (x ∷ xs) = max (if nat_eq x.1 d then x.0 else 0) (value_in_list d xs)
-
--- the value of the string q at the dot d, 0 where it has none
+-- the greatest value of the string q at the dot d, 0 where it has none
 abbrev pub table_entry : List ℕ → List ℕ → ℕ → ℕ
-table_entry b q d = value_in_list d (lookup b q)
-
--- the greatest of the numbers that f gives
-abbrev pub greatest : (ℕ → ℕ) → List ℕ → ℕ
-greatest f [] = 0
-greatest f (x ∷ xs) = max (f x) (greatest f xs)
+table_entry b q d = fold max 0 (map (λ x. x.0) (filter (λ x. nat_eq x.1 d) (lookup b q)))
 
 -- the value that the n signs of w from i on give to position p, which is their dot p - i
 abbrev pub value_from : List ℕ → List ℕ → ℕ → ℕ → ℕ → ℕ
@@ -53,9 +43,9 @@ value_from b w p i n = if nat_le (i + n) (length w) && (nat_le i p && nat_le (p 
 
 -- the value of position p of w: the greatest of all strings of 1 to 32 signs that stand in w
 unfoldable pub table_value : List ℕ → List ℕ → ℕ → ℕ
-table_value b w p = greatest
-    (λ i. greatest (value_from b w p i) (range_with_len 1 PATTERN_SIGNS_MAX))
-    (range_with_len 0 (length w))
+table_value b w p = fold max 0 (flat_map
+    (λ i. map (value_from b w p i) (range_with_len 1 PATTERN_SIGNS_MAX))
+    (range_with_len 0 (length w)))
 
 -- the status of each position in reach of a word by the table, and its weight
 abbrev pub table_marks : Minima → List ℕ → Word → List (Mark × ℕ)

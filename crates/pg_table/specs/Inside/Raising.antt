@@ -3,7 +3,8 @@ use Rattle.std.specs.Prelude.{◌≡◌, ℕ, ◌+◌, ◌-◌, ◌<◌, ◌&&�
 use Rattle.std.specs.List.{range_with_len}
 use Rattle.pg_types.specs.declared.limits.TheConstants.{PATTERN_SIGNS_MAX, WORD_LETTERS_MAX}
 use Rattle.pg_select.specs.Positions.{Positions, covers_of}
-use Rattle.pg_table.specs.Lookups.{greatest, value_in_list, value_from}
+use Rattle.pg_table.specs.Lookups.{value_from}
+use Rattle.pg_table.specs.Inside.Greatest.{greatest, value_in_list}
 
 -- no position is covered
 abbrev pub IsUncovered : Positions → Type 0
