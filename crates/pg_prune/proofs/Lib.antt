@@ -1,4 +1,5 @@
 pub mod RoundLaws
+pub mod PlaceForms
 pub mod Told
 pub mod NeedLaws
 pub mod PrunedLaws

@@ -7,7 +7,7 @@ use Rattle.std.proofs.lemmas.Option.{get_or_from_slice_get}
 use Rattle.pg_dict.specs.Word.{Word}
 use Rattle.pg_select.specs.CountedPositions.{Minima}
 use Rattle.pg_prune.specs.declared.pruned.Need.{Need}
-use Rattle.pg_prune.specs.Places.{places_in, places_from}
+use Rattle.pg_prune.specs.Inside.WordPlaces.{places_in, places_from}
 use Rattle.pg_prune.specs.Prunes.{need_at}
 
 -- a position of the word with a number

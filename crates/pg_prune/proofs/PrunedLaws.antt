@@ -1,5 +1,5 @@
 -- What pruning keeps.
-use Rattle.std.proofs.Common.{◌≡◌, ℕ, ◌≤◌, true, false, T, List, [], ◌∷◌, ◌++◌, length, arith, length-append}
+use Rattle.std.proofs.Common.{subst, ◌≡◌, ℕ, ◌≤◌, true, false, T, List, [], ◌∷◌, ◌++◌, length, arith, length-append}
 use Rattle.std.specs.List.{All, Contains, list_all}
 use Rattle.std.specs.FinMap.Entries.{is_sorted, below_all}
 use Rattle.std.proofs.lemmas.List.Elements.{All-cons, All-head, All-tail, All-contains_itself}
@@ -11,10 +11,11 @@ use Rattle.pg_patterns.specs.Values.{IsPatternMap, is_entry}
 use Rattle.pg_select.specs.CountedPositions.{Minima}
 use Rattle.pg_select.specs.Windows.{Patterns}
 use Rattle.pg_prune.specs.Places.{places}
+use Rattle.pg_prune.proofs.PlaceForms.{places_as}
 use Rattle.pg_prune.specs.Prunes.{break_alike, round, rounds, needs, pruned}
 use Rattle.pg_prune.specs.Promises.{BreakAlike, NoneCanGo, HasNeeds}
 use Rattle.pg_prune.proofs.RoundLaws.{rounds_keep, rounds_end, round_stays, NoneGoes}
-use Rattle.pg_prune.proofs.Told.{breaks_told, told_breaks, all_behind}
+use Rattle.pg_prune.proofs.Told.{IsBehind, breaks_told, told_breaks, all_behind}
 use Rattle.pg_prune.proofs.NeedLaws.{alike_self, needs_behind, needs_many}
 
 -- what holds of all entries holds without one of them
@@ -69,10 +70,10 @@ module _ (m : Minima) (ws : List Word) (P : Patterns) where
       cc
 
   pub pruned_needs : HasNeeds (pruned m ws P)
-  unfolding pruned needs places
+  unfolding pruned needs
   pruned_needs = record {
     each = needs_many (places m ws) P [] (pruned m ws P).patterns alike_at_end none_at_end;
-    positions = needs_behind (places m ws) [] (pruned m ws P).patterns (all_behind m 1 ws);
+    positions = needs_behind (places m ws) [] (pruned m ws P).patterns (subst (λ xs. All IsBehind xs) (places_as m ws) (all_behind m 1 ws));
   }
 
   pub pruned_few : length (pruned m ws P).patterns ≤ length P

@@ -1,5 +1,5 @@
 -- Maps that break alike at all places, said word by word and position by position.
-use Rattle.std.proofs.Common.{◌≡◌, ℕ, suc, zero, ◌+◌, ◌-◌, ◌%◌, ◌≤◌, true, List, [], ◌∷◌, map, length, refl, sym, ◌∙◌, arith, nat_le, Option, Some, None}
+use Rattle.std.proofs.Common.{◌≡◌, ℕ, suc, zero, ◌+◌, ◌-◌, ◌%◌, ◌≤◌, true, List, [], ◌∷◌, map, length, refl, sym, ap, ◌∙◌, arith, nat_le, Option, Some, None}
 use Rattle.std.specs.List.{All, list_all, range_with_len}
 use Rattle.std.specs.Option.{option_map_or}
 use Rattle.std.proofs.lemmas.List.Elements.{All-nil, All-cons, All-head, All-tail, All-append}
@@ -11,7 +11,9 @@ use Rattle.pg_dict.specs.Word.{Word}
 use Rattle.pg_patterns.specs.Values.{value_at}
 use Rattle.pg_select.specs.CountedPositions.{Minima}
 use Rattle.pg_select.specs.Windows.{Patterns}
-use Rattle.pg_prune.specs.Places.{WordPlace, places_in, places_from, places}
+use Rattle.pg_prune.specs.Places.{WordPlace, places}
+use Rattle.pg_prune.specs.Inside.WordPlaces.{places_in, places_from}
+use Rattle.pg_prune.proofs.PlaceForms.{places_as}
 use Rattle.pg_prune.specs.Prunes.{break_alike_at, break_alike}
 use Rattle.pg_prune.specs.Promises.{BreakAlike}
 use Rattle.pg_prune.proofs.RoundLaws.{by_test}
@@ -46,12 +48,10 @@ module _ (P Q : Patterns) where
         ∙ and_from _ _ (alike_from number w (positions m.left m.right (length w.signs)) (All-head AlikeWord w ws all)) (from_told (number + 1) ws (All-tail AlikeWord w ws all))
 
     pub breaks_told : (ws : List Word) → break_alike (places m ws) P Q ≡ true → BreakAlike m ws P Q
-    unfolding places
-    breaks_told ws all = told_from 1 ws all
+    breaks_told ws all = told_from 1 ws (ap (list_all (break_alike_at P Q)) (places_as m ws) ∙ all)
 
     pub told_breaks : (ws : List Word) → BreakAlike m ws P Q → break_alike (places m ws) P Q ≡ true
-    unfolding places
-    told_breaks ws all = from_told 1 ws all
+    told_breaks ws all = sym (ap (list_all (break_alike_at P Q)) (places_as m ws)) ∙ from_told 1 ws all
 
 -- every place is behind the first letter
 abbrev pub IsBehind : WordPlace → Type 0

@@ -12,7 +12,9 @@ use Rattle.pg_dict.specs.Word.{Word}
 use Rattle.pg_patterns.specs.Values.{stands_at, applies}
 use Rattle.pg_select.specs.CountedPositions.{Minima}
 use Rattle.pg_select.proofs.Reaches.{Reaches, reach_is}
-use Rattle.pg_prune.specs.Places.{WordPlace, places_in, places_from, places}
+use Rattle.pg_prune.specs.Places.{WordPlace, places}
+use Rattle.pg_prune.specs.Inside.WordPlaces.{places_in, places_from}
+use Rattle.pg_prune.proofs.PlaceForms.{places_as}
 use Rattle.pg_prune.specs.Inside.Standing.{numbers_of, stands, standing}
 use Rattle.pg_prune.specs.declared.trail.Start.{Start}
 use Rattle.pg_prune.specs.Inside.Trails.{width_of, width, start_at, starts_in, starts_from, all_starts, begins_at, starts_of, place_in, place_of}
@@ -185,5 +187,4 @@ module _ (m : Minima) (all : List Word) (u : List ℕ) (v d : ℕ) where
 
   -- the places at which a string stands, by its starts
   pub places_by_starts : filter_map (place_of m all d) (starts_of all (all_starts m all) u) ≡ standing (places m all) ((u, d), v)
-  unfolding places
-  places_by_starts = in_words all 0 0 refl
+  places_by_starts = in_words all 0 0 refl ∙ ap (λ (xs : List WordPlace). standing xs ((u, d), v)) (places_as m all)

@@ -6,3 +6,4 @@ pub mod Picks
 pub mod Ends
 pub mod Trails
 pub mod Findings
+pub mod WordPlaces

@@ -1,5 +1,6 @@
 -- The places at which a word can break: the positions in reach of the words that take part.
-use Rattle.std.specs.Prelude.{ℕ, ◌+◌, List, [], ◌∷◌, ◌++◌, length, map}
+use Rattle.std.specs.Prelude.{ℕ, List, length, map, flat_map}
+use Rattle.std.specs.List.{enumerate_from}
 use Rattle.pg_translate.specs.Reach.{positions}
 use Rattle.pg_dict.specs.Word.{Word}
 use Rattle.pg_select.specs.CountedPositions.{Minima}
@@ -10,16 +11,8 @@ pub record WordPlace : Type 0 where
   pub signs : List ℕ
   pub position : ℕ
 
--- the places of a word with this number: its positions in reach
-abbrev pub places_in : Minima → ℕ → Word → List WordPlace
-places_in m number w = map (λ p. record { word = number; signs = w.signs; position = p })
-    (positions m.left m.right (length w.signs))
-
--- the places of words, the first of which has this number
-abbrev pub places_from : Minima → ℕ → List Word → List WordPlace
-places_from m number [] = []
-places_from m number (w ∷ ws) = places_in m number w ++ places_from m (number + 1) ws
-
--- the places of all words, which are numbered from 1
+-- the places of words, which are numbered from 1: the positions in reach of each
 unfoldable pub places : Minima → List Word → List WordPlace
-places m words = places_from m 1 words
+places m words = flat_map (λ w. map
+    (λ p. record { word = w.0; signs = w.1.signs; position = p })
+    (positions m.left m.right (length w.1.signs))) (enumerate_from 1 words)

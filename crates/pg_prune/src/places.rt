@@ -3,7 +3,8 @@ ghost use Rattle.std.specs.Prelude.{◌≡◌, ◌+◌, ◌++◌, map, IfOk, OnO
 ghost use Rattle.pg_dict.specs.Word.{IsWord};
 ghost use Rattle.pg_dict.specs.Inside.Lent.{lent_word};
 ghost use Rattle.pg_select.specs.CountedPositions.{minima_of};
-ghost use Rattle.pg_prune.specs.Places.{places as places_of, places_in};
+ghost use Rattle.pg_prune.specs.Places.{places as places_of};
+ghost use Rattle.pg_prune.specs.Inside.WordPlaces.{places_in};
 ghost use Rattle.pg_prune.specs.Prunes.{need_at};
 
 use crate::pruned::Need;

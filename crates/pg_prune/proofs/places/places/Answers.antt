@@ -2,14 +2,16 @@ use Rattle.std.proofs.Common.{◌∙◌, ◌++◌, map, ap}
 use Rattle.pg_select.specs.CountedPositions.{minima_of}
 use Rattle.pg_dict.specs.Inside.Lent.{lent_word}
 use Rattle.std.proofs.Common.{arith, ◌<◌, length}
-use Rattle.pg_prune.specs.Places.{places, places_from}
+use Rattle.pg_prune.specs.Inside.WordPlaces.{places_from}
 use Rattle.pg_prune.specs.Prunes.{need_at}
 use Rattle.pg_prune.proofs.PlaceSteps.{word_more}
+use Rattle.pg_prune.proofs.PlaceForms.{places_as}
 use Rattle.pg_prune.proofs.places.places.Goals as goal
 
 pub words-init : goal.words-init
-unfolding places
-words-init c = ap (λ ns. ns ++ map need_at (places_from (minima_of c.args.table.now) 1 c.args.dictionary.now)) c.new-places.ensures.items
+words-init c =
+    ap (λ ns. ns ++ map need_at (places_from (minima_of c.args.table.now) 1 c.args.dictionary.now)) c.new-places.ensures.items
+    ∙ ap (map need_at) (places_as (minima_of c.args.table.now) c.args.dictionary.now)
 
 pub words-preserved : goal.words-preserved
 words-preserved c =

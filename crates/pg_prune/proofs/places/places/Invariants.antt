@@ -1,6 +1,7 @@
 use Rattle.std.proofs.Common.{◌≡◌, ◌++◌, ◌+◌, map, drop}
 use Rattle.pg_select.specs.CountedPositions.{minima_of}
-use Rattle.pg_prune.specs.Places.{places, places_from}
+use Rattle.pg_prune.specs.Places.{places}
+use Rattle.pg_prune.specs.Inside.WordPlaces.{places_from}
 use Rattle.pg_prune.specs.Prunes.{need_at}
 use Rattle.pg_prune.proofs.places.places.Given as goal
 
