@@ -5,7 +5,8 @@ use Rattle.std.proofs.lemmas.Bool.{cases_Bool}
 use Rattle.std.proofs.lemmas.Slice.Eq.{bytes_eq-Decides}
 use Rattle.pg_types.specs.Lines.{is_line_feed}
 use Rattle.pg_audit.specs.Inside.Cut.{first_whole, rest_whole}
-use Rattle.pg_audit.specs.Differences.{difference_from, whole_lines, first_false, shown}
+use Rattle.pg_audit.specs.Differences.{difference_from, whole_lines, first_false}
+use Rattle.pg_audit.specs.Inside.FirstFalse.{shown}
 use Rattle.std.proofs.Math.Seq.{take-nil}
 use Rattle.std.proofs.lemmas.List.{take_all, length-take}
 use Rattle.pg_audit.proofs.Cuts.{whole_length, first_filled, step_other, step_same}

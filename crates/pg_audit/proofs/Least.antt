@@ -6,7 +6,8 @@ use Rattle.std.specs.Str.{bytes_eq}
 use Rattle.std.proofs.lemmas.Bool.{cases_Bool}
 use Rattle.std.proofs.lemmas.Slice.Eq.{bytes_eq-Decides}
 use Rattle.pg_types.specs.Lines.{is_line_feed}
-use Rattle.pg_audit.specs.Differences.{Difference, difference_from, whole_lines, first_false, IsFirstFalse}
+use Rattle.pg_audit.specs.Differences.{Difference, difference_from, whole_lines, first_false}
+use Rattle.pg_audit.specs.Inside.FirstFalse.{IsFirstFalse}
 
 -- the least line, counted from n on, at which two lists of lines differ
 record IsLeast (n : ℕ) (gs ws : List (List ℕ)) (d : Difference) : Type 0 where

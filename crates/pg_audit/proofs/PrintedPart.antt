@@ -3,7 +3,8 @@ use Rattle.std.proofs.Common.{◌≡◌, ℕ, ◌+◌, ◌<◌, ◌≤◌, true,
 use Rattle.std.proofs.lemmas.Bool.{cases_Bool}
 use Rattle.std.proofs.lemmas.Bool.Decides.{nat_tests}
 use Rattle.std.proofs.lemmas.List.{take_all, length-take}
-use Rattle.pg_audit.specs.Differences.{Difference, first_false, shown}
+use Rattle.pg_audit.specs.Differences.{Difference, first_false}
+use Rattle.pg_audit.specs.Inside.FirstFalse.{shown}
 use Rattle.pg_audit.specs.FoundLines.{has_feed, without_feed}
 use Rattle.pg_audit.specs.Inside.FoundForms.{Begins, found_line, printed_of}
 use Rattle.pg_audit.proofs.FirstPart.{take_within, first_part}

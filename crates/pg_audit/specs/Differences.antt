@@ -1,5 +1,5 @@
 -- The first false line of a file.
-use Rattle.std.specs.Prelude.{◌≡◌, ◌≢◌, ℕ, ◌+◌, ◌<◌, if◌then◌else◌, List, [], ◌∷◌, length, take, Option, None, Some, slice_get, unwrap_or, option_map}
+use Rattle.std.specs.Prelude.{ℕ, ◌+◌, if◌then◌else◌, List, [], ◌∷◌, Option, None, Some}
 use Rattle.std.specs.List.{onto_first}
 use Rattle.std.specs.Str.{bytes_eq}
 use Rattle.pg_types.specs.Lines.{is_line_feed}
@@ -28,25 +28,3 @@ difference_from line (given ∷ after) (wanted ∷ rest) = if bytes_eq given wan
 -- the first false line of a given file
 abbrev pub first_false : List ℕ → List ℕ → Option Difference
 first_false given wanted = difference_from 1 (whole_lines given) (whole_lines wanted)
-
--- the line with this number, counted from 0, where a file has it
-abbrev pub line_at : List ℕ → ℕ → Option (List ℕ)
-line_at bytes k = slice_get (whole_lines bytes) k
-
--- the least line at which two files differ, with what the given one has there
-pub record IsFirstFalse (given wanted : List ℕ) (d : Difference) : Type 0 where
-  pub before : (k : ℕ) → k + 1 < d.line → line_at given k ≡ line_at wanted k
-  pub differs : (k : ℕ) → d.line ≡ k + 1 → line_at given k ≢ line_at wanted k
-  pub found : (k : ℕ) → d.line ≡ k + 1 → d.found ≡ unwrap_or (line_at given k) []
-
--- a difference with no more than the first n bytes of its line
-abbrev pub shown : ℕ → Difference → Difference
-shown n d = record { line = d.line; found = take n d.found }
-
--- the first false line of a given file, with no more than its first n bytes
-abbrev pub first_false_shown : ℕ → List ℕ → List ℕ → Option Difference
-first_false_shown n given wanted = option_map (shown n) (first_false given wanted)
-
--- the first part of a given file: n bytes more than the wanted file has
-abbrev pub first_part : ℕ → List ℕ → List ℕ → List ℕ
-first_part n given wanted = take (length wanted + n) given

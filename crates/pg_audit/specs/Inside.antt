@@ -1,3 +1,4 @@
 -- What only contracts between layers and proofs need.
 pub mod Cut
 pub mod FoundForms
+pub mod FirstFalse

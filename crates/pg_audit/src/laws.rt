@@ -1,6 +1,6 @@
 //! Laws on the comparison of files. A call does nothing; its contract is the law.
 ghost use Rattle.std.specs.Prelude.{◌≡◌, ℕ, ◌+◌, ◌<◌, ◌≤◌, List, length};
-ghost use Rattle.pg_audit.specs.Differences.{first_false_shown, first_part};
+ghost use Rattle.pg_audit.specs.Inside.FirstFalse.{first_false_shown, first_part};
 ghost use Rattle.pg_audit.specs.Inside.FoundForms.{first_false_printed};
 
 /// Where a given file is longer than the wanted one by more than `more` bytes, its first part has

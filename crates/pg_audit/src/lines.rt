@@ -1,7 +1,8 @@
 //! The first false line.
 ghost use Rattle.std.specs.Prelude.{◌≡◌, ◌+◌, ◌≤◌, ◌↔◌, [], None, Some, length, IsNone, IfSome, MatchOption};
 ghost use Rattle.pg_types.specs.Lines.{is_line_feed};
-ghost use Rattle.pg_audit.specs.Differences.{whole_lines, first_false, IsFirstFalse};
+ghost use Rattle.pg_audit.specs.Differences.{whole_lines, first_false};
+ghost use Rattle.pg_audit.specs.Inside.FirstFalse.{IsFirstFalse};
 ghost use Rattle.pg_audit.specs.Inside.Cut.{first_whole, rest_whole};
 
 use memchr::memchr;

@@ -1,6 +1,6 @@
 //! Counts of windows of two signs, of the edge 1, a 2, b 3 and c 4.
 ghost use Rattle.std.specs.Prelude.{◌≡◌, ℕ, ◌+◌, ◌<◌, ◌≤◌, List, length};
-ghost use Rattle.pg_types.specs.Counts.{sums_of};
+ghost use Rattle.pg_types.specs.Inside.Counts.{sums_of};
 
 use pg_count::CountTrie;
 use pg_types::{Cursor, Sign, Weight};

@@ -1,6 +1,6 @@
 //! The values that both engines give from the same patterns. The signs are the edge 1, a 2, b 3 and c 4.
 ghost use Rattle.std.specs.Prelude.{◌≡◌, IfOk};
-ghost use Rattle.pg_patterns.specs.Values.{SignsUpTo};
+ghost use Rattle.pg_patterns.specs.Inside.PatternMaps.{SignsUpTo};
 
 use pg_dict::WordRef;
 use pg_packed::PackedEngine;

@@ -1,6 +1,7 @@
 //! Patterns whose values are raised, and the longest pattern.
 ghost use Rattle.std.specs.Prelude.{◌≡◌, true, IfOk, OnOk};
-ghost use Rattle.pg_patterns.specs.Values.{SignsUpTo, is_entry, raise};
+ghost use Rattle.pg_patterns.specs.Values.{raise};
+ghost use Rattle.pg_patterns.specs.Inside.PatternMaps.{SignsUpTo, is_entry};
 
 use pg_patterns::PatternSet;
 use pg_translate::Table;

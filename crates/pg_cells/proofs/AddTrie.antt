@@ -12,7 +12,7 @@ use Rattle.pg_cells.specs.Inside.Store.{Extends}
 use Rattle.pg_cells.specs.Inside.Fit.{signs_of, slot_of}
 use Rattle.pg_cells.specs.Inside.Writes.{Takes}
 use Rattle.pg_cells.specs.Inside.Moves.{Outside, CanPlace, Moved, Collected}
-use Rattle.pg_cells.specs.ValuedFamilies.{Trie}
+use Rattle.pg_cells.specs.Inside.ValuedFamilies.{Trie}
 use Rattle.pg_cells.specs.Inside.Layouts.{IsTrie, standing, value_in}
 use Rattle.pg_cells.specs.Inside.Adding.{added}
 use Rattle.pg_cells.proofs.LinkedLists.{taken_within}

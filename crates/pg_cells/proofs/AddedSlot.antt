@@ -1,7 +1,8 @@
 -- A slot is added to a family: what the steps need, and what they leave.
 use Rattle.std.proofs.Common.{◌≡◌, ◌≢◌, ℕ, ◌+◌, ◌<◌, ◌≤◌, true, false, ◌&&◌, nat_eq, nat_lt, List, [], ◌∷◌, ◌++◌, length, Result, Ok, Err, IfOk, OnOk, OnErr, None, Some, ap, sym, ◌∙◌, subst}
 use Rattle.std.proofs.lemmas.Bool.{and_parts, and_from, ltb-true, lt-ltb, eqb-true, eq-eqb, both_ways}
-use Rattle.pg_types.specs.Placement.{Families, cell_of, joins_at, with_sign}
+use Rattle.pg_types.specs.Placement.{Families, cell_of, with_sign}
+use Rattle.pg_types.specs.Inside.Placing.{joins_at}
 use Rattle.pg_cells.specs.declared.fit.Slot.{Slot}
 use Rattle.pg_cells.specs.Inside.Lists.{Row, sign_at, child_at, IsFree}
 use Rattle.pg_cells.specs.Inside.Store.{Extends}
@@ -10,7 +11,7 @@ use Rattle.pg_cells.specs.Inside.Moves.{CanPlace, Moved, Collected}
 use Rattle.pg_cells.specs.Inside.Members.{ArePassing, has_sign}
 use Rattle.pg_cells.specs.Inside.Adding.{CanAdd, added}
 use Rattle.pg_cells.specs.Inside.Layouts.{IsTrie}
-use Rattle.pg_cells.specs.ValuedFamilies.{Trie, ValuedFamilies}
+use Rattle.pg_cells.specs.Inside.ValuedFamilies.{Trie, ValuedFamilies}
 use Rattle.pg_cells.proofs.AddTrie.{grown, trie_extended, joins_trie, joins_cell, joins_free, settles_can, settles_trie, settles_cell}
 use Rattle.pg_cells.proofs.StringCells.{cells_apart}
 use Rattle.pg_cells.proofs.GivenMembers.{joins_told, given_none, given_some}

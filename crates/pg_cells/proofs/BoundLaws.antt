@@ -3,7 +3,7 @@ use Rattle.std.proofs.Common.{◌≡◌, ◌≢◌, ℕ, ◌+◌, ◌<◌, ◌�
 use Rattle.std.specs.List.{list_all}
 use Rattle.std.proofs.lemmas.Bool.{cases_Bool, cases_eq, cases_lt, eq-eqb, both_ways, and_left, and_from}
 use Rattle.std.proofs.lemmas.List.{get_or-set_same, get_or-set_other}
-use Rattle.pg_types.specs.Placement.{IsLeast}
+use Rattle.pg_types.specs.Inside.Placing.{IsLeast}
 use Rattle.pg_cells.specs.Inside.Lists.{Row, sign_at, base_at}
 use Rattle.pg_cells.specs.Inside.Bounds.{IsBelow, NoneFree, AreBounds}
 use Rattle.pg_cells.specs.Inside.Fit.{fits_row}

@@ -4,14 +4,15 @@ use Rattle.std.proofs.lemmas.Bool.{cases_Bool, cases_eq, eq-eqb, ne_eqb, both_wa
 use Rattle.std.proofs.lemmas.List.{length-map}
 use Rattle.std.specs.List.{list_any, list_all}
 use Rattle.std.specs.FinMap.{is_sorted}
-use Rattle.pg_types.specs.Placement.{Family, Families, family_at, without_family, is_used, is_base, fits_at, lowest_base, least_base, with_one_sign, top, IsLeast}
+use Rattle.pg_types.specs.Placement.{Family, Families, family_at, without_family, is_used, is_base, fits_at, lowest_base, least_base, with_one_sign, top}
+use Rattle.pg_types.specs.Inside.Placing.{IsLeast}
 use Rattle.pg_types.proofs.LeastBase.{lowest_positive}
 use Rattle.pg_cells.specs.declared.fit.Slot.{Slot}
 use Rattle.pg_cells.specs.Inside.Lists.{Row, sign_at, child_at, base_at}
 use Rattle.pg_cells.specs.Inside.Store.{IsTop}
 use Rattle.pg_cells.specs.Inside.Fit.{signs_of, slot_of, fits_row}
 use Rattle.pg_cells.specs.Inside.Moves.{GivesUp, Drops, Outside}
-use Rattle.pg_cells.specs.ValuedFamilies.{Trie}
+use Rattle.pg_cells.specs.Inside.ValuedFamilies.{Trie}
 use Rattle.pg_cells.specs.Inside.Layouts.{IsTrie}
 use Rattle.pg_cells.proofs.StringMaps.{order, find_without_same, find_without_other, sorted_without, equal_or_not}
 use Rattle.pg_cells.proofs.PlacementLaws.{used_cell, cell_used, base_had, had_base, top_is, first_is}

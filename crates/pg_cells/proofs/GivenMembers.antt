@@ -3,11 +3,12 @@ use Rattle.std.proofs.Common.{◌≡◌, ◌≢◌, ℕ, ◌+◌, ◌<◌, ◌�
 use Rattle.std.proofs.lemmas.Bool.{cases_eq, cases_lt, eq-eqb, ne_eqb, eqb-true, both_ways, lt-ltb, false≢true}
 use Rattle.std.proofs.lemmas.List.{same_from_push}
 use Rattle.std.specs.Option.{is_some, option_map}
-use Rattle.pg_types.specs.Placement.{Family, family_at, is_used, cell_of, base_of, joins_at}
+use Rattle.pg_types.specs.Placement.{Family, family_at, is_used, cell_of, base_of}
+use Rattle.pg_types.specs.Inside.Placing.{joins_at}
 use Rattle.pg_cells.specs.Inside.Lists.{Row, sign_at, child_at}
 use Rattle.pg_cells.specs.Inside.Store.{Extends}
 use Rattle.pg_cells.specs.Inside.Writes.{Frees}
-use Rattle.pg_cells.specs.ValuedFamilies.{Trie, ValuedFamilies}
+use Rattle.pg_cells.specs.Inside.ValuedFamilies.{Trie, ValuedFamilies}
 use Rattle.pg_cells.specs.Inside.Layouts.{IsTrie, standing}
 use Rattle.pg_cells.specs.Inside.Members.{IsNext, ArePassing, number_before, has_sign, IsAlone, HasOther}
 use Rattle.pg_cells.proofs.LayoutLaws.{sign_stands, taken_used}

@@ -6,7 +6,7 @@ use Rattle.std.specs.FinMap.{put}
 use Rattle.pg_types.specs.Placement.{Family, Families, family_at, cell_of, with_one_sign}
 use Rattle.pg_cells.specs.Inside.Lists.{Row, sign_at, child_at, base_at}
 use Rattle.pg_cells.specs.Inside.Writes.{Takes}
-use Rattle.pg_cells.specs.ValuedFamilies.{Trie}
+use Rattle.pg_cells.specs.Inside.ValuedFamilies.{Trie}
 use Rattle.pg_cells.specs.Inside.Layouts.{IsTrie, standing, value_in}
 use Rattle.pg_cells.proofs.StringMaps.{order, find_put_same, find_put_other, sorted_put, equal_or_not}
 use Rattle.pg_cells.proofs.PlacementLaws.{taken_put, size_of}

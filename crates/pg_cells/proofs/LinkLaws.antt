@@ -5,7 +5,7 @@ use Rattle.std.proofs.lemmas.List.{append-nil, same_from_push, length_push, get_
 use Rattle.std.specs.Option.{is_some}
 use Rattle.std.specs.FinMap.{find}
 use Rattle.pg_types.specs.Placement.{Families, cell_of, base_of}
-use Rattle.pg_cells.specs.ValuedFamilies.{ValuedFamilies}
+use Rattle.pg_cells.specs.Inside.ValuedFamilies.{ValuedFamilies}
 use Rattle.pg_cells.specs.Inside.AreValuedFamilies.{AreValuedFamilies}
 use Rattle.pg_cells.specs.Inside.Members.{IsNext, goes_on, has_sign, number_before}
 use Rattle.pg_cells.proofs.StringMaps.{order}

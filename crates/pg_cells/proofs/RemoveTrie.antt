@@ -5,11 +5,12 @@ use Rattle.std.proofs.lemmas.List.{same_from_push}
 use Rattle.std.specs.List.{list_any, range_with_len}
 use Rattle.std.specs.Option.{option_map}
 use Rattle.std.specs.FinMap.{put}
-use Rattle.pg_types.specs.Placement.{Family, Families, family_at, without_family, without_sign, cell_of, base_of}
+use Rattle.pg_types.specs.Placement.{Family, Families, family_at, without_family, cell_of, base_of}
+use Rattle.pg_types.specs.Inside.Placing.{without_sign}
 use Rattle.pg_cells.specs.Inside.Lists.{Row, sign_at, child_at}
 use Rattle.pg_cells.specs.Inside.Writes.{Frees, SetsBase}
 use Rattle.pg_cells.specs.Inside.Moves.{Prunes}
-use Rattle.pg_cells.specs.ValuedFamilies.{Trie}
+use Rattle.pg_cells.specs.Inside.ValuedFamilies.{Trie}
 use Rattle.pg_cells.specs.Inside.Layouts.{IsTrie, standing}
 use Rattle.pg_cells.proofs.LinkedLists.{taken_within}
 use Rattle.pg_cells.proofs.StringMaps.{order, without_key}

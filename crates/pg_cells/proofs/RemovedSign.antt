@@ -5,7 +5,7 @@ use Rattle.std.specs.FinMap.{put}
 use Rattle.pg_types.specs.Placement.{Family, Families, family_at, cell_of}
 use Rattle.pg_cells.specs.Inside.Lists.{Row, sign_at, child_at, base_at}
 use Rattle.pg_cells.specs.Inside.Writes.{Frees}
-use Rattle.pg_cells.specs.ValuedFamilies.{Trie}
+use Rattle.pg_cells.specs.Inside.ValuedFamilies.{Trie}
 use Rattle.pg_cells.specs.Inside.Layouts.{IsTrie}
 use Rattle.pg_cells.proofs.StringMaps.{order, without_key, find_put_same, find_put_other, sorted_put, sorted_without, equal_or_not}
 use Rattle.pg_cells.proofs.PlacementLaws.{size_of, taken_put}

@@ -6,7 +6,7 @@ use Rattle.std.specs.Option.{is_some}
 use Rattle.std.specs.FinMap.{find, put, is_sorted}
 use Rattle.pg_types.specs.Placement.{cell_of}
 use Rattle.pg_cells.specs.declared.member.Member.{Member}
-use Rattle.pg_cells.specs.ValuedFamilies.{ValuedFamilies, without_key}
+use Rattle.pg_cells.specs.Inside.ValuedFamilies.{ValuedFamilies, without_key}
 use Rattle.pg_cells.specs.Inside.AreValuedFamilies.{AreValuedFamilies}
 use Rattle.pg_cells.specs.Inside.Links.{AreLinks, IsBefore, with_link}
 use Rattle.pg_cells.specs.Inside.Members.{IsNextSign, goes_on, has_sign, IsAlone, HasOther}

@@ -8,7 +8,7 @@ use Rattle.std.specs.Option.{option_map, is_some}
 use Rattle.std.specs.FinMap.{find}
 use Rattle.pg_types.specs.Placement.{Family, family_at, cell_of, base_of}
 use Rattle.pg_cells.specs.Inside.Lists.{Row, sign_at}
-use Rattle.pg_cells.specs.ValuedFamilies.{Trie}
+use Rattle.pg_cells.specs.Inside.ValuedFamilies.{Trie}
 use Rattle.pg_cells.specs.Inside.AreValuedFamilies.{AreValuedFamilies}
 use Rattle.pg_cells.specs.Inside.Layouts.{IsTrie, value_in}
 use Rattle.pg_cells.specs.Inside.OneTrie.{HasLast, last_of}

@@ -15,3 +15,4 @@ pub mod Root
 pub mod Store
 pub mod Walks
 pub mod Writes
+pub mod ValuedFamilies

@@ -1,2 +1,1 @@
-pub mod ValuedFamilies
 pub mod Inside

@@ -3,8 +3,9 @@ ghost use Rattle.std.specs.Prelude.{◌≡◌, ◌≢◌, ℕ, ◌+◌, ◌<◌,
 ghost use Rattle.std.specs.FinMap.{find, put};
 ghost use Rattle.std.specs.Cmp.Lexicographic.{slice_cmp};
 ghost use Rattle.std.specs.Ordering.{nat_cmp};
-ghost use Rattle.pg_types.specs.Placement.{taken, top, cell_of, base_of, joins_at, with_sign, without_sign};
-ghost use Rattle.pg_cells.specs.ValuedFamilies.{ValuedFamilies, without_key};
+ghost use Rattle.pg_types.specs.Placement.{taken, top, cell_of, base_of, with_sign};
+ghost use Rattle.pg_types.specs.Inside.Placing.{joins_at, without_sign};
+ghost use Rattle.pg_cells.specs.Inside.ValuedFamilies.{ValuedFamilies, without_key};
 ghost use Rattle.pg_cells.specs.Inside.AreValuedFamilies.{AreValuedFamilies};
 ghost use Rattle.pg_cells.specs.declared.member.Member.{Member as MemberOf};
 ghost use Rattle.pg_cells.specs.Inside.Store.{member_code};
@@ -38,7 +39,7 @@ pub struct Placed<V: Copy, const FEW: usize> {
 impl<V: Copy, const FEW: usize> Model for Placed<V, FEW> {
     ghost use Rattle.pg_cells.specs.declared.member.Member.{Member};
     ghost use Rattle.pg_cells.specs.Inside.Store.{member_code};
-    ghost use Rattle.pg_cells.specs.ValuedFamilies.{ValuedFamilies, valued_families_code};
+    ghost use Rattle.pg_cells.specs.Inside.ValuedFamilies.{ValuedFamilies, valued_families_code};
     ghost use Rattle.pg_cells.specs.Inside.Layouts.{AreKept};
 
     ghost Value = { ValuedFamilies (Member V) };

@@ -1,6 +1,6 @@
 //! The search for a base, along the free cells.
 ghost use Rattle.std.specs.Prelude.{◌≡◌, ◌≢◌, ℕ, ◌+◌, ◌<◌, ◌≤◌, ◌^◌, Bool, true, ◌∷◌, length, map};
-ghost use Rattle.pg_types.specs.Placement.{IsLeast};
+ghost use Rattle.pg_types.specs.Inside.Placing.{IsLeast};
 ghost use Rattle.pg_cells.specs.Inside.Lists.{lists, sign_at, base_at};
 ghost use Rattle.pg_cells.specs.Inside.Linked.{AreLinked};
 ghost use Rattle.pg_cells.specs.Inside.Fit.{fits_row, signs_of};

@@ -3,8 +3,9 @@ ghost use Rattle.std.specs.Prelude.{◌≡◌, ◌≢◌, ℕ, ◌+◌, ◌<◌,
 ghost use Rattle.std.specs.FinMap.{find, put};
 ghost use Rattle.std.specs.Cmp.Lexicographic.{slice_cmp};
 ghost use Rattle.std.specs.Ordering.{nat_cmp};
-ghost use Rattle.pg_types.specs.Placement.{taken, top, cell_of, base_of, with_sign, without_sign};
-ghost use Rattle.pg_cells.specs.ValuedFamilies.{ValuedFamilies, without_key};
+ghost use Rattle.pg_types.specs.Placement.{taken, top, cell_of, base_of, with_sign};
+ghost use Rattle.pg_types.specs.Inside.Placing.{without_sign};
+ghost use Rattle.pg_cells.specs.Inside.ValuedFamilies.{ValuedFamilies, without_key};
 ghost use Rattle.pg_cells.specs.Inside.AreValuedFamilies.{AreValuedFamilies};
 ghost use Rattle.pg_cells.specs.Inside.Members.{IsNextSign};
 ghost use Rattle.pg_cells.specs.Inside.Root.{root_held};
@@ -28,7 +29,7 @@ pub struct Cells<V: Copy, const FEW: usize> {
 }
 
 impl<V: Copy, const FEW: usize> Model for Cells<V, FEW> {
-    ghost use Rattle.pg_cells.specs.ValuedFamilies.{ValuedFamilies, valued_families_code};
+    ghost use Rattle.pg_cells.specs.Inside.ValuedFamilies.{ValuedFamilies, valued_families_code};
     ghost use Rattle.pg_cells.specs.Inside.Links.{unlinked, AreLinks};
 
     ghost Value = { ValuedFamilies V };

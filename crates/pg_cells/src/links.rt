@@ -1,7 +1,8 @@
 //! The links from sign to sign of a family. A family's signs are linked in rising order: the string
 //! that they follow has the first one, and each has the next.
 ghost use Rattle.std.specs.Prelude.{◌≡◌, ◌≢◌, ℕ, ◌<◌, ◌≤◌, ◌⊎◌, ◌==◌, ◌&&◌, nat_eq, true, false, length, List, [], ◌∷◌, ◌++◌, Some, None, OnOk, slice_index, if◌then◌else◌};
-ghost use Rattle.pg_types.specs.Placement.{cell_of, base_of, joins_at};
+ghost use Rattle.pg_types.specs.Placement.{cell_of, base_of};
+ghost use Rattle.pg_types.specs.Inside.Placing.{joins_at};
 ghost use Rattle.pg_cells.specs.Inside.AreValuedFamilies.{AreValuedFamilies};
 ghost use Rattle.pg_cells.specs.Inside.Members.{IsNextSign, goes_on, has_sign, ArePassing};
 ghost use Rattle.pg_cells.specs.Inside.Links.{AreLinks, IsBefore, with_link};

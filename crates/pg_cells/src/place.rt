@@ -1,6 +1,7 @@
 //! A family is put at the least base that fits.
 ghost use Rattle.std.specs.Prelude.{◌≡◌, ◌≢◌, ℕ, ◌+◌, ◌<◌, ◌≤◌, ◌^◌, max, true, false, ◌∷◌, length};
-ghost use Rattle.pg_types.specs.Placement.{IsLeast, far_from_top, lowest_base};
+ghost use Rattle.pg_types.specs.Placement.{far_from_top, lowest_base};
+ghost use Rattle.pg_types.specs.Inside.Placing.{IsLeast};
 ghost use Rattle.pg_cells.specs.Inside.Fit.{fits_row, signs_of};
 ghost use Rattle.pg_cells.specs.Inside.Moves.{Drops, Moved, CanPlace};
 

@@ -1,6 +1,6 @@
 //! The store: one vector of cells, whose free ones are linked in rising order.
 ghost use Rattle.std.specs.Prelude.{◌≡◌, ◌≢◌, ℕ, ◌+◌, ◌-◌, ◌<◌, ◌≤◌, ◌^◌, true, ◌∷◌, length, slice_get, Some, IfOk, OnOk, OnErr};
-ghost use Rattle.pg_types.specs.Placement.{IsLeast};
+ghost use Rattle.pg_types.specs.Inside.Placing.{IsLeast};
 ghost use Rattle.pg_cells.specs.Inside.Lists.{lists, row_of, lone, sign_at, child_at, base_at, IsFree};
 ghost use Rattle.pg_cells.specs.Inside.Linked.{AreLinked};
 ghost use Rattle.pg_cells.specs.Inside.Blocked.{AreBlocked};

@@ -2,11 +2,11 @@
 use Rattle.std.proofs.Common.{◌≡◌, ◌≢◌, ℕ, ◌+◌, ◌<◌, ◌≤◌, ◌⊎◌, inl, inr, List, [], ◌∷◌, ◌++◌, length, Option, None, Some, refl, sym, ◌∙◌, ap, subst, arith, length-append}
 use Rattle.std.proofs.lemmas.List.{append_assoc, append-nil}
 use Rattle.std.specs.FinMap.Entries.{find, put}
-use Rattle.pg_types.specs.Counts.{SignsWithin}
-use Rattle.pg_types.specs.Numbered.{Windows, HasNumber}
+use Rattle.pg_types.specs.Inside.Counts.{SignsWithin}
+use Rattle.pg_types.specs.Inside.Numbered.{Windows, HasNumber}
 use Rattle.pg_types.proofs.Numbering.{get_left, get_seam}
 use Rattle.pg_types.proofs.StringEntries.{order, equal_or_not, find_put_same, find_put_other}
-use Rattle.pg_cells.specs.ValuedFamilies.{ValuedFamilies}
+use Rattle.pg_cells.specs.Inside.ValuedFamilies.{ValuedFamilies}
 use Rattle.pg_cells.specs.Inside.AreValuedFamilies.{AreValuedFamilies}
 use Rattle.pg_cells.specs.Inside.Walks.{EndsBefore}
 use Rattle.pg_count.specs.Inside.Counting.{Tally, Tallies, numbers_in}

@@ -2,10 +2,10 @@
 use Rattle.std.proofs.Common.{◌≡◌, ℕ, List, [], ◌∷◌, ◌++◌, map, Option, None, Some, sym, ◌∙◌, ap, T, refl}
 use Rattle.std.specs.List.{slice_get}
 use Rattle.std.specs.FinMap.Entries.{find, is_sorted}
-use Rattle.pg_cells.specs.ValuedFamilies.{ValuedFamilies}
+use Rattle.pg_cells.specs.Inside.ValuedFamilies.{ValuedFamilies}
 use Rattle.pg_types.proofs.Numbering.{behind, first_at}
 use Rattle.pg_types.proofs.StringEntries.{order, tail_sorted}
-use Rattle.pg_types.specs.Numbered.{Windows, AreInOrder}
+use Rattle.pg_types.specs.Inside.Numbered.{Windows, AreInOrder}
 use Rattle.pg_count.specs.Inside.Counting.{Tally, Tallies, counting_of, seen_in, number_seen, sums_seen, window_at, wholes}
 use Rattle.pg_count.specs.Inside.Leaves.{AreLeaves}
 use Rattle.pg_count.specs.Inside.Under.{numbers_under}

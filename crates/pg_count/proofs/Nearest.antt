@@ -8,10 +8,10 @@ use Rattle.std.specs.Cmp.Lexicographic.{nat_list_cmp_total}
 use Rattle.std.specs.declared.cmp.Ordering.{Ordering}
 use Rattle.std.specs.declared.cmp.Ordering.TheVariants.{Less, Equal, Greater}
 use Rattle.std.specs.Ordering.{is_lt}
-use Rattle.pg_types.specs.Counts.{above}
-use Rattle.pg_types.specs.Numbered.{Windows, HasNumber}
+use Rattle.pg_types.specs.Inside.Counts.{above}
+use Rattle.pg_types.specs.Inside.Numbered.{Windows, HasNumber}
 use Rattle.pg_types.proofs.StringEntries.{order}
-use Rattle.pg_cells.specs.ValuedFamilies.{ValuedFamilies}
+use Rattle.pg_cells.specs.Inside.ValuedFamilies.{ValuedFamilies}
 use Rattle.pg_count.specs.Inside.Counting.{Tally}
 use Rattle.pg_count.specs.Inside.Leaves.{AreLeaves, IsLeastAbove, LeastUpTo}
 use Rattle.pg_count.proofs.Above.{above_none, above_least}

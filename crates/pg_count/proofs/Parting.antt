@@ -6,12 +6,12 @@ use Rattle.std.proofs.lemmas.List.{append_cancel_left, take-append-drop, take_al
 use Rattle.std.proofs.lemmas.Option.{get_or_from_slice_get}
 use Rattle.std.specs.FinMap.Entries.{find, put}
 use Rattle.std.specs.List.{list_all}
-use Rattle.pg_types.specs.Signs.{is_sign}
-use Rattle.pg_types.specs.Counts.{SignsWithin}
-use Rattle.pg_types.specs.Numbered.{Windows, HasNumber}
+use Rattle.pg_types.specs.Inside.Signs.{is_sign}
+use Rattle.pg_types.specs.Inside.Counts.{SignsWithin}
+use Rattle.pg_types.specs.Inside.Numbered.{Windows, HasNumber}
 use Rattle.pg_types.specs.Placement.{cell_of}
 use Rattle.pg_types.proofs.StringEntries.{order, find_put_same, find_put_other}
-use Rattle.pg_cells.specs.ValuedFamilies.{ValuedFamilies}
+use Rattle.pg_cells.specs.Inside.ValuedFamilies.{ValuedFamilies}
 use Rattle.pg_cells.specs.Inside.AreValuedFamilies.{AreValuedFamilies}
 use Rattle.pg_cells.specs.Inside.Walks.{EndsBefore}
 use Rattle.pg_count.specs.Inside.Counting.{Tally, numbers_in}

@@ -1,8 +1,8 @@
 //! The windows that are counted in a pass.
 ghost use Rattle.std.specs.Prelude.{◌≡◌, ℕ, ◌≤◌, ◌<◌, true, List, [], ◌∷◌, ◌++◌, length, Some, IfOk, OnOk, OnErr, IsOk, MatchOption};
 ghost use Rattle.pg_types.specs.declared.limits.TheConstants.{LENGTH_MAX, SIGNS_MAX, WEIGHT_MAX};
-ghost use Rattle.pg_types.specs.Counts.{AreSmall, SignsWithin, counted_sums, sums_of, with_weight, is_counted, above};
-ghost use Rattle.pg_types.specs.Numbered.{AreInOrder, AreNumbered, HasNumber};
+ghost use Rattle.pg_types.specs.Inside.Counts.{AreSmall, SignsWithin, counted_sums, sums_of, with_weight, is_counted, above};
+ghost use Rattle.pg_types.specs.Inside.Numbered.{AreInOrder, AreNumbered, HasNumber};
 ghost use Rattle.pg_count.specs.Inside.Counting.{IsCounting, counted_more};
 
 use crate::leaf::count_new;

@@ -47,7 +47,7 @@ pub struct Tallied {
 impl Model for Tallied {
     ghost use Rattle.std.specs.Prelude.{ℕ, Option};
     ghost use Rattle.std.specs.Coded.{coded_option, coded×, coded_ℕ};
-    ghost use Rattle.pg_cells.specs.ValuedFamilies.{ValuedFamilies, valued_families_code};
+    ghost use Rattle.pg_cells.specs.Inside.ValuedFamilies.{ValuedFamilies, valued_families_code};
     ghost use Rattle.pg_count.specs.Inside.Tallied.{told, AreTold};
     ghost use Rattle.pg_count.specs.Inside.Counting.{Tally};
 

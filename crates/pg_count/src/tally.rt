@@ -1,6 +1,6 @@
 //! The sums of good and bad weights of a string, as one tally of a list.
 ghost use Rattle.std.specs.Prelude.{◌≡◌, ◌+◌, ◌<◌, ◌≤◌, ◌++◌, [], ◌∷◌, length, set, slice_get, Some, IfOk, OnOk, OnErr};
-ghost use Rattle.pg_types.specs.Counts.{AreSmall, with_weight};
+ghost use Rattle.pg_types.specs.Inside.Counts.{AreSmall, with_weight};
 ghost use Rattle.pg_count.specs.Inside.Tallied.{tally_of};
 
 use pg_types::Weight;

@@ -3,8 +3,8 @@ ghost use Rattle.std.specs.Prelude.{◌≡◌, ℕ, ◌<◌, length, take, None,
 ghost use Rattle.std.specs.FinMap.{find};
 ghost use Rattle.std.specs.Cmp.Lexicographic.{slice_cmp};
 ghost use Rattle.std.specs.Ordering.{nat_cmp};
-ghost use Rattle.pg_types.specs.Counts.{SignsWithin};
-ghost use Rattle.pg_types.specs.Numbered.{HasNumber};
+ghost use Rattle.pg_types.specs.Inside.Counts.{SignsWithin};
+ghost use Rattle.pg_types.specs.Inside.Numbered.{HasNumber};
 ghost use Rattle.pg_count.specs.Inside.Leaves.{AreLeaves, IsWay};
 
 use crate::tallied::Tallied;

@@ -10,8 +10,9 @@ use Rattle.std.proofs.lemmas.Bool.{and_parts, and_from, leb-true, le-leb}
 use Rattle.pg_types.proofs.BoolFacts.{all_weaker}
 use Rattle.pg_dict.specs.declared.store.Store.{Store}
 use Rattle.pg_dict.specs.declared.store.Stored.{Stored}
-use Rattle.pg_dict.specs.PositionedSigns.{PositionedSign, Columns, with_signs}
-use Rattle.pg_dict.specs.Word.{Word, word_with, IsWord}
+use Rattle.pg_dict.specs.Inside.PositionedSigns.{PositionedSign, Columns, with_signs}
+use Rattle.pg_dict.specs.Word.{Word}
+use Rattle.pg_dict.specs.Inside.SoundWords.{word_with, IsWord}
 use Rattle.pg_dict.specs.Inside.Store.{columns_of, word_at, stored_words, all_signs, lies_within, IsSound}
 
 -- a part of a list stays when the list grows

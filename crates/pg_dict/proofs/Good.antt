@@ -9,8 +9,10 @@ use Rattle.pg_types.specs.declared.marks.Mark.{Mark}
 use Rattle.pg_types.specs.declared.marks.Mark.TheVariants.{Nothing, Error, Missed, Found, DontCare}
 use Rattle.pg_translate.specs.Tokens.{Token, Letter, Digit, Weight, Marked, Edge}
 use Rattle.pg_dict.specs.declared.store.Store.{Store}
-use Rattle.pg_dict.specs.PositionedSigns.{PositionedSign, positioned_sign, sets_hyphen, keeps_care, Columns, with_signs}
-use Rattle.pg_dict.specs.Word.{Word, word_with, is_weight}
+use Rattle.pg_dict.specs.Inside.PositionedSigns.{PositionedSign, positioned_sign, Columns, with_signs}
+use Rattle.pg_dict.specs.Words.{sets_hyphen, keeps_care}
+use Rattle.pg_dict.specs.Word.{Word}
+use Rattle.pg_dict.specs.Inside.SoundWords.{word_with, is_weight}
 use Rattle.pg_dict.proofs.WordTests.{is_word, is_plain_at, decides, has_lengths}
 use Rattle.pg_dict.specs.Inside.Running.{signs_behind, word_signs}
 use Rattle.pg_dict.specs.Inside.Store.{columns_of, is_sign_up_to, IsFit}

@@ -9,15 +9,17 @@ use Rattle.std.proofs.lemmas.List.{append-nil}
 use Rattle.pg_types.specs.declared.refusals.Refusal.{Refusal}
 use Rattle.pg_types.specs.declared.refusals.ReadingError.{ReadingError}
 use Rattle.pg_types.specs.declared.refusals.ReadingError.TheVariants.{Refused, Memory}
-use Rattle.pg_types.specs.Reading.{Fails, both_parts}
+use Rattle.pg_types.specs.Reading.{both_parts}
+use Rattle.pg_types.specs.Inside.Answers.{Fails}
 use Rattle.pg_translate.specs.Alphabets.{Alphabet}
 use Rattle.pg_types.specs.declared.limits.TheConstants.{FILE_MAX}
 use Rattle.pg_types.specs.Lines.{lines}
 use Rattle.pg_dict.specs.declared.store.Store.{Store}
 use Rattle.pg_dict.specs.declared.store.Stored.{Stored}
-use Rattle.pg_dict.specs.PositionedSigns.{Columns, no_columns}
+use Rattle.pg_dict.specs.Inside.PositionedSigns.{Columns, no_columns}
 use Rattle.pg_dict.specs.Inside.Store.{columns_of, word_at, stored_words, all_signs, lies_within, is_sign_up_to, IsSound, IsFit}
-use Rattle.pg_dict.specs.Word.{Word, is_weight, IsWord}
+use Rattle.pg_dict.specs.Word.{Word}
+use Rattle.pg_dict.specs.Inside.SoundWords.{is_weight, IsWord}
 use Rattle.pg_dict.specs.Words.{LineWord, line_reading, on_line, words_from, words}
 use Rattle.pg_dict.specs.Inside.Entries.{Entries, with_word}
 

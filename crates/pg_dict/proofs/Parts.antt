@@ -6,8 +6,9 @@ use Rattle.std.proofs.lemmas.List.{drop_more, append_assoc}
 use Rattle.std.proofs.lemmas.List.Sums.{sum_by-cons}
 use Rattle.std.proofs.lemmas.Option.{slice_get_within, get_or_from_slice_get}
 use Rattle.pg_dict.specs.declared.store.Store.{Store}
-use Rattle.pg_dict.specs.PositionedSigns.{PositionedSign, Columns, with_signs}
-use Rattle.pg_dict.specs.Word.{Word, IsWord, word_with, letter_count}
+use Rattle.pg_dict.specs.Inside.PositionedSigns.{PositionedSign, Columns, with_signs}
+use Rattle.pg_dict.specs.Word.{Word}
+use Rattle.pg_dict.specs.Inside.SoundWords.{IsWord, word_with, letter_count}
 use Rattle.pg_dict.specs.Inside.Store.{columns_of, stored_words, IsSound}
 use Rattle.pg_dict.specs.Parts.{is_in_part, part_from}
 use Rattle.pg_dict.proofs.Adds.{adds_words, adds_sound}

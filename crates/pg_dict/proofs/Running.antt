@@ -12,9 +12,10 @@ use Rattle.pg_translate.specs.LineRefusals.{line_refusal}
 use Rattle.pg_translate.specs.Tokens.{Token, Letter, Digit, Weight, Marked, Edge}
 use Rattle.pg_translate.specs.Gaps.{signs_of, gaps, inner_gaps, number_of, mark_of, last_else, last_number, last_mark}
 use Rattle.pg_translate.proofs.Gaps.{gaps_some}
-use Rattle.pg_dict.specs.PositionedSigns.{PositionedSign, positioned_sign, sets_hyphen, keeps_care}
-use Rattle.pg_dict.specs.Word.{Word, word_with}
-use Rattle.pg_dict.specs.Words.{LineWord, at_positions, word_of_items, word_if, line_word, line_reading}
+use Rattle.pg_dict.specs.Inside.PositionedSigns.{PositionedSign, positioned_sign}
+use Rattle.pg_dict.specs.Word.{Word}
+use Rattle.pg_dict.specs.Inside.SoundWords.{word_with}
+use Rattle.pg_dict.specs.Words.{LineWord, at_positions, word_of_items, word_if, line_word, line_reading, sets_hyphen, keeps_care}
 use Rattle.pg_dict.specs.Inside.LineStarts.{rest_reading}
 use Rattle.pg_dict.specs.Inside.Running.{signs_behind, word_signs, running_word}
 

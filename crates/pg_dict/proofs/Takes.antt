@@ -6,12 +6,14 @@ use Rattle.pg_types.specs.declared.marks.Mark.TheVariants.{Nothing}
 use Rattle.pg_types.specs.Reading.{unless}
 use Rattle.pg_translate.specs.Alphabets.{Alphabet}
 use Rattle.pg_translate.specs.Tokens.{Token, Letter}
-use Rattle.pg_translate.specs.Cuts.{Cut, with_item, tokens_of}
+use Rattle.pg_translate.specs.Cuts.{Cut, tokens_of}
+use Rattle.pg_translate.specs.Inside.Rests.{with_item}
 use Rattle.pg_translate.specs.Inside.Answers.{HasItem}
 use Rattle.pg_translate.specs.declared.items.Place.TheVariants.{Dictionary}
 use Rattle.pg_types.specs.declared.refusals.Refusal.{Refusal}
-use Rattle.pg_dict.specs.PositionedSigns.{PositionedSign, positioned_sign, Columns, with_signs}
-use Rattle.pg_translate.specs.LineRefusals.{refusal_with_room, line_refusal}
+use Rattle.pg_dict.specs.Inside.PositionedSigns.{PositionedSign, positioned_sign, Columns, with_signs}
+use Rattle.pg_translate.specs.LineRefusals.{line_refusal}
+use Rattle.pg_translate.specs.Inside.Refusing.{refusal_with_room}
 use Rattle.pg_translate.proofs.LineSteps.{along}
 use Rattle.pg_dict.specs.Words.{LineWord}
 use Rattle.pg_dict.specs.Inside.Running.{running_word, signs_behind}

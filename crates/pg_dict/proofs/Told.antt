@@ -12,7 +12,8 @@ use Rattle.pg_types.specs.declared.limits.TheConstants.{EDGE, FILE_MAX, WEIGHT_M
 use Rattle.pg_dict.specs.declared.store.Store.{Store}
 use Rattle.pg_dict.specs.declared.store.Stored.{Stored}
 use Rattle.pg_dict.specs.declared.sites.Site.{Site}
-use Rattle.pg_dict.specs.Word.{Word, letter_count, IsPlainAt, IsWord, SignsAtMost}
+use Rattle.pg_dict.specs.Word.{Word}
+use Rattle.pg_dict.specs.Inside.SoundWords.{letter_count, IsPlainAt, IsWord, SignsAtMost}
 use Rattle.pg_dict.proofs.WordTests.{is_plain_at, decides, has_lengths, has_signs, has_weights, has_plain, is_word}
 use Rattle.pg_dict.specs.Inside.Store.{columns_of, word_at, stored_words, all_signs, lies_within, is_sign_up_to, IsSound, IsDictionary}
 

@@ -7,9 +7,10 @@ use Rattle.pg_types.specs.declared.limits.TheConstants.{EDGE}
 use Rattle.pg_types.specs.declared.marks.Mark.{Mark}
 use Rattle.pg_types.specs.declared.marks.Mark.TheVariants.{Nothing, Error, Missed, Found, DontCare}
 use Rattle.pg_translate.specs.Tokens.{Token, Letter, Digit, Weight}
-use Rattle.pg_dict.specs.PositionedSigns.{PositionedSign, positioned_sign, sets_hyphen, keeps_care}
-use Rattle.pg_dict.specs.Word.{Word, word_with, IsWord}
-use Rattle.pg_dict.specs.Words.{line_word}
+use Rattle.pg_dict.specs.Inside.PositionedSigns.{PositionedSign, positioned_sign}
+use Rattle.pg_dict.specs.Word.{Word}
+use Rattle.pg_dict.specs.Inside.SoundWords.{word_with, IsWord}
+use Rattle.pg_dict.specs.Words.{line_word, sets_hyphen, keeps_care}
 use Rattle.pg_dict.specs.Inside.Running.{signs_behind, running_word}
 use Rattle.pg_dict.proofs.Running.{same_word, running_is}
 use Rattle.pg_dict.specs.Inside.Written.{Written, number_token, mark_tokens, weight_tokens, letters_tokens, written_signs, written_letters, between_letters, AreMarksOf, letters_with, word_tokens}

@@ -2,7 +2,8 @@
 use Rattle.std.proofs.Common.{ℕ, ◌+◌, ◌-◌, ◌==◌, nat_le, nat_lt, Bool, true, false, not, ◌&&◌, ◌||◌, List, [], ◌∷◌, length, slice_index, slice_index_or, slice_range}
 use Rattle.std.specs.List.{list_all}
 use Rattle.pg_types.specs.declared.limits.TheConstants.{EDGE, WORD_LETTERS_MAX}
-use Rattle.pg_dict.specs.Word.{Word, is_weight}
+use Rattle.pg_dict.specs.Word.{Word}
+use Rattle.pg_dict.specs.Inside.SoundWords.{is_weight}
 
 abbrev pub is_plain_at : Word → ℕ → Bool
 is_plain_at w p = not (slice_index_or w.hyphens p true) && (slice_index_or w.weights p (w.weight + 1) == w.weight && slice_index_or w.cares p false)

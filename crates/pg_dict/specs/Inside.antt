@@ -8,3 +8,5 @@ pub mod LineStarts
 pub mod Entries
 pub mod Lent
 pub mod Written
+pub mod PositionedSigns
+pub mod SoundWords

@@ -1,4 +1,3 @@
-pub mod PositionedSigns
 pub mod Word
 pub mod Words
 pub mod Parts

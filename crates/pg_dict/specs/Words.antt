@@ -1,5 +1,5 @@
 -- The words of a dictionary file.
-use Rattle.std.specs.Prelude.{ℕ, ◌+◌, nat_lt, true, false, if◌then◌else◌, List, [], ◌∷◌, ◌++◌, length, map, slice_index_or, Option, None, Some, Result, Ok, Err}
+use Rattle.std.specs.Prelude.{ℕ, ◌+◌, nat_lt, true, false, if◌then◌else◌, List, [], ◌∷◌, ◌++◌, length, map, slice_index_or, Option, None, Some, Result, Ok, Err, Bool}
 use Rattle.std.specs.Option.{option_to_list}
 use Rattle.pg_types.specs.declared.limits.TheConstants.{EDGE, FILE_MAX}
 use Rattle.pg_types.specs.declared.refusals.Kind.TheVariants.{DictionaryTooLong}
@@ -11,8 +11,25 @@ use Rattle.pg_translate.specs.Tokens.{Token}
 use Rattle.pg_translate.specs.Gaps.{signs_of, gaps, inner_gaps, last_number, last_mark}
 use Rattle.pg_translate.specs.LineRefusals.{refused, of_line}
 use Rattle.pg_translate.specs.declared.items.Place.TheVariants.{Dictionary}
-use Rattle.pg_dict.specs.PositionedSigns.{sets_hyphen, keeps_care}
 use Rattle.pg_dict.specs.Word.{Word}
+use Rattle.pg_types.specs.declared.marks.Mark.{Mark}
+use Rattle.pg_types.specs.declared.marks.Mark.TheVariants.{Nothing, Error, Missed, Found, DontCare}
+
+-- a position whose last mark is missed or found has a hyphen
+abbrev pub sets_hyphen : Mark → Bool
+sets_hyphen Nothing = false
+sets_hyphen Error = false
+sets_hyphen Missed = true
+sets_hyphen Found = true
+sets_hyphen DontCare = false
+
+-- a position whose last mark is don't-care has no care
+abbrev pub keeps_care : Mark → Bool
+keeps_care Nothing = true
+keeps_care Error = true
+keeps_care Missed = true
+keeps_care Found = true
+keeps_care DontCare = false
 
 -- what a word has at its positions: one thing at the first two and at the last, and between two
 -- letters what their gap gives

@@ -1,8 +1,8 @@
 //! The dictionary.
 ghost use Rattle.std.specs.Prelude.{◌≡◌, ◌<◌, ◌≤◌, ◌+◌, ◌*◌, length, Some, slice_get, IfOk, sum_by, All};
-ghost use Rattle.pg_types.specs.Reading.{Gives};
+ghost use Rattle.pg_types.specs.Inside.Answers.{Gives};
 ghost use Rattle.pg_translate.specs.Alphabets as alphabet;
-ghost use Rattle.pg_dict.specs.Word.{letter_count, IsWord, SignsAtMost};
+ghost use Rattle.pg_dict.specs.Inside.SoundWords.{letter_count, IsWord, SignsAtMost};
 ghost use Rattle.pg_dict.specs.Words.{words};
 ghost use Rattle.pg_dict.specs.Inside.Sites.{all_sites};
 ghost use Rattle.pg_dict.specs.Inside.Store.{all_signs, stored_words, IsSound};

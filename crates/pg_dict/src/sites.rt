@@ -1,7 +1,8 @@
 //! What stands at each sign of all words, in one row: what a walk over the signs asks at each of
 //! them.
 ghost use Rattle.std.specs.Prelude.{◌≡◌, ℕ, ◌+◌, ◌-◌, ◌<◌, ◌&&◌, nat_le, false, ◌++◌, length, slice_index_or, IfOk, OnOk};
-ghost use Rattle.pg_dict.specs.Word.{Word, IsWord};
+ghost use Rattle.pg_dict.specs.Word.{Word};
+ghost use Rattle.pg_dict.specs.Inside.SoundWords.{IsWord};
 ghost use Rattle.pg_dict.specs.Inside.Lent.{lent_word};
 ghost use Rattle.pg_dict.specs.Inside.Sites.{site_of, sites_in, all_sites};
 ghost use Rattle.pg_dict.specs.Inside.Store.{IsSound, stored_words};

@@ -1,9 +1,9 @@
 //! The store: the signs of all words in one vector, and beside each sign the hyphen, weight and
 //! care of the position before it.
 ghost use Rattle.std.specs.Prelude.{◌≡◌, ◌≤◌, ◌+◌, [], ◌∷◌, ◌++◌, length, OnOk};
-ghost use Rattle.pg_dict.specs.PositionedSigns.{with_signs, no_columns, positioned_sign};
+ghost use Rattle.pg_dict.specs.Inside.PositionedSigns.{with_signs, no_columns, positioned_sign};
 ghost use Rattle.pg_dict.specs.Inside.Store.{columns_of, word_at, stored_words, IsSound};
-ghost use Rattle.pg_dict.specs.Word.{IsWord};
+ghost use Rattle.pg_dict.specs.Inside.SoundWords.{IsWord};
 ghost use Rattle.pg_dict.specs.Inside.Lent.{lent_word};
 
 use crate::position::Position;

@@ -4,13 +4,14 @@ use Rattle.std.specs.Bool.{MatchBool}
 use Rattle.std.specs.List.{All, sum_by}
 use Rattle.pg_types.specs.declared.limits.TheConstants.{FILE_MAX}
 use Rattle.pg_types.specs.declared.marks.Totals.{Totals}
-use Rattle.pg_dict.specs.Word.{Word, IsWord, letter_count}
+use Rattle.pg_dict.specs.Word.{Word}
+use Rattle.pg_dict.specs.Inside.SoundWords.{IsWord, letter_count}
 use Rattle.pg_select.specs.CountedPositions.{Minima}
 use Rattle.pg_select.specs.Sums.{totals}
 use Rattle.pg_select.specs.Windows.{Patterns}
 use Rattle.pg_select.proofs.LawsSums.{totals_small}
 use Rattle.pg_driver.specs.Inside.LevelCounting.{Carries}
-use Rattle.pg_driver.specs.Sound.{IsSmall}
+use Rattle.pg_driver.specs.Inside.Sound.{IsSmall}
 
 same_totals : (a b : Totals) → a.good ≡ b.good → a.bad ≡ b.bad → a.missed ≡ b.missed → a ≡ b
 same_totals a b p q r = λ i. record { good = p i; bad = q i; missed = r i }

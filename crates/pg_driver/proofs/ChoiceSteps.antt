@@ -10,8 +10,8 @@ use Rattle.pg_types.specs.declared.parameters.LevelParams.{LevelParams}
 use Rattle.pg_types.specs.Placement.{Families, enter}
 use Rattle.pg_patterns.specs.DottedSigns.{dotted_cmp}
 use Rattle.pg_patterns.specs.Values.{raise}
-use Rattle.pg_types.specs.Counts.{Counts}
-use Rattle.pg_select.specs.Meanings.{Meaning}
+use Rattle.pg_types.specs.Inside.Counts.{Counts}
+use Rattle.pg_select.specs.Inside.Meanings.{Meaning}
 use Rattle.pg_select.specs.declared.choice.Choice.{Choice}
 use Rattle.pg_select.specs.declared.choice.Choice.TheVariants.{Left}
 use Rattle.pg_select.specs.declared.pass.Pass.{Pass}

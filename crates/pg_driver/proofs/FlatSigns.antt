@@ -6,14 +6,14 @@ use Rattle.std.proofs.lemmas.Bool.{and_parts, leb-true}
 use Rattle.std.proofs.lemmas.List.{drop-append-le, drop-drop, drop_at, length-map, take-append-le}
 use Rattle.std.proofs.lemmas.List.FromFn.{length-range_with_len}
 use Rattle.std.proofs.lemmas.Option.{get_or_from_slice_get, slice_get_within, slice_get-map}
-use Rattle.pg_types.specs.Numbered.{HasNumber, Windows}
+use Rattle.pg_types.specs.Inside.Numbered.{HasNumber, Windows}
 use Rattle.pg_dict.specs.declared.sites.Site.{Site}
 use Rattle.pg_dict.specs.Inside.Sites.{all_sites, site_of, sites_in}
 use Rattle.pg_dict.specs.Inside.Store.{all_signs}
 use Rattle.pg_dict.specs.Word.{Word}
 use Rattle.pg_select.specs.declared.pass.Pass.{Pass}
 use Rattle.pg_select.specs.Inside.LawsClosedDots.{is_good}
-use Rattle.pg_select.specs.Meanings.{Meaning, after_count}
+use Rattle.pg_select.specs.Inside.Meanings.{Meaning, after_count}
 use Rattle.pg_select.specs.Statuses.{position_weight}
 use Rattle.pg_select.specs.Windows.{window, fits}
 use Rattle.pg_driver.specs.declared.pass_windows.TheConstants.{NOT_COUNTED}

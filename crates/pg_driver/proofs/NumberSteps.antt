@@ -13,9 +13,9 @@ use Rattle.std.proofs.lemmas.Option.{slice_get_cases, slice_get_within}
 use Rattle.pg_types.proofs.BoolFacts.{first_half, second_half}
 use Rattle.pg_types.proofs.EntryLists.{below_get}
 use Rattle.pg_types.specs.declared.parameters.LevelParams.{LevelParams}
-use Rattle.pg_types.specs.Signs.{is_sign}
-use Rattle.pg_types.specs.Counts.{Counts, SignsWithin, counted_sums, is_counted}
-use Rattle.pg_types.specs.Numbered.{Windows, HasNumber, AreNumbered, with_window}
+use Rattle.pg_types.specs.Inside.Signs.{is_sign}
+use Rattle.pg_types.specs.Inside.Counts.{Counts, SignsWithin, counted_sums, is_counted}
+use Rattle.pg_types.specs.Inside.Numbered.{Windows, HasNumber, AreNumbered, with_window}
 use Rattle.pg_dict.specs.Word.{Word}
 use Rattle.pg_dict.specs.Inside.Store.{all_signs}
 use Rattle.pg_select.specs.declared.choice.Choice.{Choice}
@@ -27,7 +27,7 @@ use Rattle.pg_select.specs.Windows.{window, fits}
 use Rattle.pg_driver.specs.declared.pass_windows.Place.{Place}
 use Rattle.pg_driver.specs.Inside.PassWindows.{IsNumbered, HaveNumbers, AreFates, IsPlace, ArePlaces, IsPart, window_from}
 use Rattle.pg_select.specs.CountedPositions.{CountedPosition}
-use Rattle.pg_select.specs.Meanings.{Meaning, with_position}
+use Rattle.pg_select.specs.Inside.Meanings.{Meaning, with_position}
 use Rattle.pg_driver.specs.Inside.Counting.{counting, windows_after}
 use Rattle.pg_driver.specs.Inside.OpenPositions.{counted_in}
 use Rattle.pg_driver.proofs.Puts.{cmp}

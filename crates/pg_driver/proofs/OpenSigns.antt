@@ -7,7 +7,8 @@ use Rattle.pg_dict.specs.Inside.Store.{all_signs}
 use Rattle.std.specs.List.{All, sum_by}
 use Rattle.std.proofs.lemmas.List.Elements.{All-head, All-tail}
 use Rattle.std.proofs.lemmas.List.Sums.{sum_by-cons}
-use Rattle.pg_dict.specs.Word.{IsWord, Word, letter_count}
+use Rattle.pg_dict.specs.Word.{Word}
+use Rattle.pg_dict.specs.Inside.SoundWords.{IsWord, letter_count}
 use Rattle.pg_select.proofs.Reaches.{range_step}
 use Rattle.pg_driver.specs.Inside.OpenSigns.{open_signs, place_from, sign_count, start_of}
 

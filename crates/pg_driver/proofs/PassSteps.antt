@@ -8,7 +8,7 @@ use Rattle.pg_types.specs.declared.parameters.LevelParams.{LevelParams}
 use Rattle.pg_types.specs.Placement.{Families, taken, top}
 use Rattle.pg_translate.specs.Alphabets.{Alphabet}
 use Rattle.pg_dict.specs.Word.{Word}
-use Rattle.pg_select.specs.Meanings.{Meaning, IsLayout, after_begin_pass, with_position}
+use Rattle.pg_select.specs.Inside.Meanings.{Meaning, IsLayout, after_begin_pass, with_position}
 use Rattle.pg_select.specs.declared.pass.Pass.{Pass}
 use Rattle.pg_select.specs.CountedPositions.{CountedPosition, Candidate, counted_positions, minima_of}
 use Rattle.pg_driver.specs.declared.choices.Choices.{Choices}
@@ -17,8 +17,8 @@ use Rattle.pg_driver.specs.Accounts.{pass_line, totals_by}
 use Rattle.pg_driver.specs.Inside.Choosing.{HasChosen, candidate_of, no_choices, with_candidates}
 use Rattle.pg_driver.specs.Inside.Counting.{counting}
 use Rattle.pg_driver.specs.Inside.States.{DidPass, made_by, state_of, state_after}
-use Rattle.pg_driver.specs.Told.{layout_told, line_of, over}
-use Rattle.pg_driver.specs.Traces.{PassTrace, Source, chosen_of, hopeless_of}
+use Rattle.pg_driver.specs.Inside.Told.{layout_told, line_of}
+use Rattle.pg_driver.specs.Traces.{PassTrace, Source, chosen_of, hopeless_of, over}
 use Rattle.pg_driver.proofs.ChoiceSteps.{state_with}
 use Rattle.pg_driver.proofs.Numbers.{zero_plus}
 use Rattle.pg_driver.proofs.TallyLaw.{tally_is}

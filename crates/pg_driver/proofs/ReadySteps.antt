@@ -4,11 +4,12 @@ use Rattle.std.specs.List.{All, flat_map}
 use Rattle.pg_types.specs.declared.limits.TheConstants.{LENGTH_MAX, FILE_MAX}
 use Rattle.pg_types.specs.declared.marks.Totals.{Totals}
 use Rattle.pg_types.specs.declared.parameters.LevelParams.{LevelParams}
-use Rattle.pg_types.specs.Counts.{Counts}
-use Rattle.pg_dict.specs.Word.{Word, IsWord, letter_count}
+use Rattle.pg_types.specs.Inside.Counts.{Counts}
+use Rattle.pg_dict.specs.Word.{Word}
+use Rattle.pg_dict.specs.Inside.SoundWords.{IsWord, letter_count}
 use Rattle.pg_select.specs.declared.pass.Pass.{Pass}
 use Rattle.pg_select.specs.Inside.LawsSteps.{IsBelow}
-use Rattle.pg_select.specs.Meanings.{Meaning, with_position}
+use Rattle.pg_select.specs.Inside.Meanings.{Meaning, with_position}
 use Rattle.pg_select.specs.CountedPositions.{Candidate, counted_positions}
 use Rattle.pg_select.specs.Statuses.{is_odd}
 use Rattle.pg_select.specs.Windows.{Hopeless, Patterns}
@@ -23,8 +24,8 @@ use Rattle.pg_driver.specs.Inside.LevelCounting.{ArePlaced, CanCarry, CanGoOn, C
 use Rattle.pg_dots.specs.Inside.Dots.{is_closed, places}
 use Rattle.pg_driver.specs.Inside.OpenSigns.{IsThere, is_open_first, open_places, open_signs, sign_count, start_of}
 use Rattle.pg_driver.specs.Inside.OpenPositions.{counted_of}
-use Rattle.pg_driver.specs.Sound.{IsSmall}
-use Rattle.pg_driver.specs.Told.{known_of}
+use Rattle.pg_driver.specs.Inside.Sound.{IsSmall}
+use Rattle.pg_driver.specs.Inside.Told.{known_of}
 use Rattle.pg_driver.specs.Traces.{Known, PassTrace, Source, chosen_in, known_after, pass_made}
 use Rattle.pg_driver.proofs.CarriedTotals.{carried_same, carried_small, carried_within, totals_are_small}
 use Rattle.pg_driver.proofs.Numbers.{zero_plus}

@@ -9,8 +9,8 @@ use Rattle.pg_driver.specs.declared.records.PassRecord.{PassRecord}
 use Rattle.pg_driver.specs.Accounts.{PassLine, begun_among, chosen_by, has_candidate, is_skippable, pass_line}
 use Rattle.pg_driver.specs.Layouts.{after_passes}
 use Rattle.pg_driver.specs.Inside.Levels.{AreRecorded, layouts_in}
-use Rattle.pg_driver.specs.Sound.{Recorded, with_pass}
-use Rattle.pg_driver.specs.Told.{layout_told, line_of}
+use Rattle.pg_driver.specs.Inside.Sound.{Recorded, with_pass}
+use Rattle.pg_driver.specs.Inside.Told.{layout_told, line_of}
 use Rattle.pg_driver.specs.Traces.{PassTrace, Source, chosen_in, chosen_of}
 use Rattle.pg_driver.proofs.Numbers.{plus_zero}
 use Rattle.pg_driver.proofs.TraceSteps.{begun_push, chosen_push, filter_push, layouts_push}

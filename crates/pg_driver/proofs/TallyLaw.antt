@@ -7,8 +7,8 @@ use Rattle.std.specs.FinMap.{slice_cmp-IsAntisymmetric, nat_cmp-IsAntisymmetric}
 use Rattle.std.specs.FinMap.Entries.{find, is_sorted, below_all, find-put, is_sorted-put, same_entries}
 use Rattle.std.proofs.lemmas.List.Sums.{sum_by-cons}
 use Rattle.pg_types.proofs.BoolFacts.{equal_is}
-use Rattle.pg_types.specs.Counts.{Counts, with_weight, sums_of}
-use Rattle.pg_select.specs.Meanings.{with_position}
+use Rattle.pg_types.specs.Inside.Counts.{Counts, with_weight, sums_of}
+use Rattle.pg_select.specs.Inside.Meanings.{with_position}
 use Rattle.pg_select.specs.CountedPositions.{CountedPosition, same_signs, with_window, good_of, bad_of, tally}
 use Rattle.pg_driver.proofs.Puts.{cmp}
 use Rattle.pg_driver.specs.Inside.Choosing.{candidate_of}

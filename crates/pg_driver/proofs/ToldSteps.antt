@@ -7,15 +7,15 @@ use Rattle.pg_types.specs.declared.marks.Layout.{Layout}
 use Rattle.pg_types.specs.declared.marks.Totals.{Totals}
 use Rattle.pg_types.specs.Placement.{Families, taken, top}
 use Rattle.pg_types.specs.Tails.{tails}
-use Rattle.pg_select.specs.Meanings.{IsLayout, Meaning}
+use Rattle.pg_select.specs.Inside.Meanings.{IsLayout, Meaning}
 use Rattle.pg_select.specs.declared.pass.Pass.{Pass}
 use Rattle.pg_driver.specs.declared.records.LevelRecord.{LevelRecord}
 use Rattle.pg_driver.specs.declared.records.PassRecord.{PassRecord}
 use Rattle.pg_driver.specs.Accounts.{account, has_candidate, totals_by}
 use Rattle.pg_driver.specs.Layouts.{cells_account, layout_of}
 use Rattle.pg_driver.specs.Inside.Levels.{DidRun, level_layouts, run_layouts}
-use Rattle.pg_driver.specs.Sound.{Finished, Recorded}
-use Rattle.pg_driver.specs.Told.{TellsCells, account_of, layout_told, level_layout_told}
+use Rattle.pg_driver.specs.Inside.Sound.{Finished, Recorded}
+use Rattle.pg_driver.specs.Inside.Told.{TellsCells, account_of, layout_told, level_layout_told}
 use Rattle.pg_select.specs.Windows.{Patterns}
 use Rattle.pg_driver.specs.Traces.{LevelTrace, Source, Trace, final_patterns}
 

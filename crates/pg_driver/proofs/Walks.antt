@@ -2,18 +2,20 @@
 use Rattle.std.proofs.Common.{◌≡◌, ℕ, ◌+◌, ◌-◌, ◌<◌, ◌≤◌, List, [], ◌∷◌, ◌++◌, length, fold, map, refl, sym, ap, subst, ◌∙◌, append-nil, arith}
 use Rattle.std.specs.List.{flat_map, range_with_len}
 use Rattle.std.proofs.lemmas.List.Sums.{fold-append}
-use Rattle.pg_dict.specs.Word.{Word, IsWord}
-use Rattle.pg_types.specs.Counts.{Counts}
-use Rattle.pg_types.specs.Numbered.{Windows, with_window}
-use Rattle.pg_select.specs.Meanings.{Meaning, with_position}
-use Rattle.pg_select.specs.Positions.{Positions}
-use Rattle.pg_select.specs.CountedPositions.{Minima, CountedPosition, counted_positions_at, counted_positions_in, counted_positions}
+use Rattle.pg_dict.specs.Word.{Word}
+use Rattle.pg_dict.specs.Inside.SoundWords.{IsWord}
+use Rattle.pg_types.specs.Inside.Counts.{Counts}
+use Rattle.pg_types.specs.Inside.Numbered.{Windows, with_window}
+use Rattle.pg_select.specs.Inside.Meanings.{Meaning, with_position}
+use Rattle.pg_select.specs.Inside.Positions.{Positions}
+use Rattle.pg_select.specs.CountedPositions.{Minima, CountedPosition, counted_positions_at, counted_positions}
+use Rattle.pg_select.specs.Inside.WordCounts.{counted_positions_in}
 use Rattle.pg_driver.specs.Inside.Counting.{counting, windows_after, IsRead, HasRoom, TookRoom}
 use Rattle.pg_driver.proofs.Rooms.{room_left, took_position, took_more}
 use Rattle.pg_select.proofs.Reaches.{range_step}
 use Rattle.pg_select.proofs.MarkSteps.{marks_from}
 use Rattle.pg_select.specs.Statuses.{status_at, position_weight}
-use Rattle.pg_select.specs.Sums.{with_marks}
+use Rattle.pg_select.specs.Inside.SumSteps.{with_marks}
 use Rattle.pg_types.specs.declared.marks.Totals.{Totals}
 use Rattle.pg_types.specs.declared.marks.Mark.{Mark}
 

@@ -6,16 +6,17 @@ use Rattle.std.specs.FinMap.Entries.{find}
 use Rattle.pg_types.specs.declared.limits.TheConstants.{FILE_MAX}
 use Rattle.pg_types.specs.declared.marks.Totals.{Totals}
 use Rattle.pg_types.specs.declared.parameters.LevelParams.{LevelParams}
-use Rattle.pg_types.specs.Counts.{Counts}
+use Rattle.pg_types.specs.Inside.Counts.{Counts}
 use Rattle.pg_translate.specs.Reach.{positions}
-use Rattle.pg_dict.specs.Word.{Word, IsWord, letter_count}
+use Rattle.pg_dict.specs.Word.{Word}
+use Rattle.pg_dict.specs.Inside.SoundWords.{IsWord, letter_count}
 use Rattle.pg_select.specs.declared.pass.Pass.{Pass}
 use Rattle.pg_select.specs.Choices.{choice}
 use Rattle.pg_select.specs.CountedPositions.{Minima, CountedPosition, Candidate, counted_positions, counts_as, good_of, bad_of}
 use Rattle.pg_select.specs.Inside.LawsAbove.{above_at, above_positions, bad_above, counts_above, good_above, MovesAllBut}
 use Rattle.pg_select.specs.Inside.LawsClosedDots.{is_good}
 use Rattle.pg_select.specs.Inside.LawsSteps.{bad_raised, good_raised, is_candidate}
-use Rattle.pg_select.specs.Meanings.{with_position}
+use Rattle.pg_select.specs.Inside.Meanings.{with_position}
 use Rattle.pg_select.specs.Statuses.{is_odd, position_weight, status_at}
 use Rattle.pg_select.specs.Windows.{Patterns, fits, window}
 use Rattle.pg_patterns.specs.Values.{value_at}
@@ -30,7 +31,7 @@ use Rattle.pg_driver.specs.Accounts.{totals_by}
 use Rattle.pg_driver.specs.Inside.LevelCounting.{CanMove, Carries, IsAfterWords}
 use Rattle.pg_driver.specs.Inside.OpenLevels.{listed_from, listed_in, open_as}
 use Rattle.pg_driver.specs.Inside.OpenPositions.{IsPlaced, counted_in, open_with}
-use Rattle.pg_driver.specs.Sound.{IsSmall}
+use Rattle.pg_driver.specs.Inside.Sound.{IsSmall}
 use Rattle.pg_driver.specs.Traces.{Known, PassTrace, Source, chosen_in, choice_of, is_chosen, known_after, pass_made}
 use Rattle.pg_driver.specs.Inside.WordLevels.{IsWordsAt, kept_by, listing, was_chosen, window_of}
 use Rattle.pg_driver.proofs.CarriedTotals.{carried_same, carried_small, carried_within, totals_are_small}

@@ -9,3 +9,5 @@ pub mod PassWindows
 pub mod WordLevels
 pub mod LevelCounting
 pub mod Levels
+pub mod Sound
+pub mod Told

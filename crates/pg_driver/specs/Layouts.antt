@@ -30,10 +30,6 @@ at_level_end l fs = kept (strings_in (patterns_after l)) fs
 abbrev pub after_level : ℕ → Families → LevelTrace → Families
 after_level signs fs l = at_level_end l (after_passes signs fs l.passes)
 
--- the families at the end of a run
-abbrev pub final_families : ℕ → Families → Trace → Families
-final_families signs fs run = fold (after_level signs) fs run
-
 -- each pass with the families after it
 abbrev pub passes_with_families : ℕ → Families → List PassTrace → List (PassTrace × Families)
 passes_with_families signs fs [] = []

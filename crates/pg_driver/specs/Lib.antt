@@ -2,6 +2,4 @@ pub mod Dots
 pub mod Traces
 pub mod Accounts
 pub mod Layouts
-pub mod Sound
-pub mod Told
 pub mod Inside

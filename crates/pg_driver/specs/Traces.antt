@@ -13,13 +13,18 @@ use Rattle.pg_select.specs.declared.choice.Choice.TheVariants.{Hopeless, Chosen,
 use Rattle.pg_select.specs.Choices.{choice}
 use Rattle.pg_select.specs.Windows.{Patterns, Hopeless as HopelessPlaces}
 use Rattle.pg_select.specs.declared.pass.Pass.{Pass}
-use Rattle.pg_select.specs.CountedPositions.{Minima, Candidate, counted_positions, tally}
+use Rattle.pg_select.specs.CountedPositions.{Minima, Candidate, counted_positions, tally, minima_of}
 use Rattle.pg_driver.specs.Dots.{order}
+use Rattle.pg_translate.specs.Alphabets.{Alphabet}
 
 -- what a run goes over: the minima of the table, and the words
 pub record Source : Type 0 where
   pub minima : Minima
   pub words : List Word
+
+-- what a run over these words goes over under a table
+abbrev pub over : Alphabet → List Word → Source
+over t words = record { minima = minima_of t; words = words }
 
 -- what is known at a moment: the patterns so far, and the places that are hopeless at this level
 pub record Known : Type 0 where

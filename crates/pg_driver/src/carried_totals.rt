@@ -2,8 +2,8 @@
 ghost use Rattle.std.specs.Prelude.{◌≡◌, ◌≤◌, ◌<◌, ◌^◌, MatchBool};
 ghost use Rattle.pg_select.specs.Inside.LawsSteps.{FindsMore, PreventsMore};
 ghost use Rattle.pg_select.specs.Statuses.{is_odd};
-ghost use Rattle.pg_driver.specs.Sound.{IsSmall};
-ghost use Rattle.pg_types.specs.Limits.{sums_limit};
+ghost use Rattle.pg_driver.specs.Inside.Sound.{IsSmall};
+ghost use Rattle.pg_types.specs.Inside.Limits.{sums_limit};
 
 use pg_types::Totals;
 

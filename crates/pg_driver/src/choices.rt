@@ -1,14 +1,14 @@
 //! The choice among the candidates of a pass.
 ghost use Rattle.std.specs.Prelude.{◌≡◌, ◌≤◌, ◌<◌, ◌+◌, ◌^◌, ◌∷◌, [], ℕ, List, true, map, IfOk, OnOk};
 ghost use Rattle.pg_types.specs.declared.limits.TheConstants.{FILE_MAX};
-ghost use Rattle.pg_types.specs.Parameters.{IsLevel};
-ghost use Rattle.pg_types.specs.Counts.{is_counted};
-ghost use Rattle.pg_types.specs.Numbered.{AreInOrder};
+ghost use Rattle.pg_types.specs.Inside.Ranges.{IsLevel};
+ghost use Rattle.pg_types.specs.Inside.Counts.{is_counted};
+ghost use Rattle.pg_types.specs.Inside.Numbered.{AreInOrder};
 ghost use Rattle.pg_select.specs.Choices.{choice};
 ghost use Rattle.pg_driver.specs.Inside.States.{IsPass};
 ghost use Rattle.pg_driver.specs.Inside.PassWindows.{AreFates, ArePlaces, IsCandidate, IsPlace};
 ghost use Rattle.pg_driver.specs.Inside.Counting.{HasRoom};
-ghost use Rattle.pg_types.specs.Limits.{sums_limit};
+ghost use Rattle.pg_types.specs.Inside.Limits.{sums_limit};
 ghost use Rattle.pg_driver.specs.Inside.Choosing.{with_candidates, no_choices, candidate_of, HasChosen};
 
 use crate::pass_windows::go_to;

@@ -1,6 +1,6 @@
 //! The ways to count the windows of a level.
 ghost use Rattle.std.specs.Prelude.{◌≡◌, ◌≤◌, ◌<◌, ◌+◌, [], ℕ, length, IfOk, OnOk};
-ghost use Rattle.pg_dict.specs.Word.{SignsAtMost};
+ghost use Rattle.pg_dict.specs.Inside.SoundWords.{SignsAtMost};
 ghost use Rattle.pg_select.specs.Inside.LawsSteps.{IsBelow};
 ghost use Rattle.pg_select.specs.CountedPositions.{counted_positions, minima_of};
 ghost use Rattle.pg_driver.specs.Accounts.{totals_by};
@@ -8,10 +8,10 @@ ghost use Rattle.pg_driver.specs.Inside.Counting.{counting, HasRoom};
 ghost use Rattle.pg_driver.specs.declared.pass_windows.TheConstants.{NOT_COUNTED};
 ghost use Rattle.pg_driver.specs.Inside.LevelCounting.{AreNumberedIn, ArePlaced, CanGoOn, GoesOnAfter, IsCounted, IsOverOpen, IsReady, totals_in};
 ghost use Rattle.pg_driver.specs.Inside.PassWindows.{AreFates, ArePlaces};
-ghost use Rattle.pg_driver.specs.Sound.{IsSmall};
+ghost use Rattle.pg_driver.specs.Inside.Sound.{IsSmall};
 ghost use Rattle.pg_driver.specs.Inside.States.{IsPass};
-ghost use Rattle.pg_driver.specs.Told.{known_of, over};
-ghost use Rattle.pg_driver.specs.Traces.{Known, Source};
+ghost use Rattle.pg_driver.specs.Inside.Told.{known_of};
+ghost use Rattle.pg_driver.specs.Traces.{Known, Source, over};
 
 use crate::above_positions::kept_above;
 use crate::carried_totals::totals_after;

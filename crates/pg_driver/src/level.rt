@@ -1,17 +1,17 @@
 //! The passes of a level.
 ghost use Rattle.std.specs.Prelude.{ℕ, ◌≡◌, ◌≤◌, ◌<◌, ◌+◌, ◌-◌, ◌*◌, ◌^◌, ◌∷◌, [], true, IfOk, OnOk};
 ghost use Rattle.pg_types.specs.declared.limits.TheConstants.{FILE_MAX, LENGTH_MAX, LEVEL_MAX};
-ghost use Rattle.pg_types.specs.Parameters.{IsLevel};
-ghost use Rattle.pg_dict.specs.Word.{SignsAtMost};
+ghost use Rattle.pg_types.specs.Inside.Ranges.{IsLevel};
+ghost use Rattle.pg_dict.specs.Inside.SoundWords.{SignsAtMost};
 ghost use Rattle.pg_select.specs.Inside.LawsSteps.{IsBelow};
 ghost use Rattle.pg_driver.specs.Accounts.{totals_by};
 ghost use Rattle.pg_driver.specs.Inside.LevelCounting.{IsCounted, IsReady, TellsTotals};
 ghost use Rattle.pg_driver.specs.Inside.Levels.{AreRecorded, DidLevel, GoesOn, WillCount, all_made_by, point};
-ghost use Rattle.pg_driver.specs.Sound.{IsSmall, IsSoundPass};
-ghost use Rattle.pg_types.specs.Limits.{begun_before_pass, length_passes, level_passes};
+ghost use Rattle.pg_driver.specs.Inside.Sound.{IsSmall, IsSoundPass};
+ghost use Rattle.pg_types.specs.Inside.Limits.{begun_before_pass, length_passes, level_passes};
 ghost use Rattle.pg_driver.specs.Inside.States.{DidPass, IsPass, made_by, state_of, state_at_end};
-ghost use Rattle.pg_driver.specs.Told.{known_of, over};
-ghost use Rattle.pg_driver.specs.Traces.{level_made, passes_of, passes_of_length};
+ghost use Rattle.pg_driver.specs.Inside.Told.{known_of};
+ghost use Rattle.pg_driver.specs.Traces.{level_made, passes_of, passes_of_length, over};
 
 use crate::choices::choose_all;
 use crate::closed::Closed;

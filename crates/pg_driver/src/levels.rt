@@ -1,12 +1,13 @@
 //! The run over all levels.
 ghost use Rattle.std.specs.Prelude.{◌≡◌, ◌≤◌, ◌<◌, ◌+◌, ◌*◌, ◌^◌, [], true, IfOk, OnOk};
 ghost use Rattle.pg_types.specs.declared.limits.TheConstants.{LEVEL_MAX};
-ghost use Rattle.pg_dict.specs.Word.{SignsAtMost};
+ghost use Rattle.pg_dict.specs.Inside.SoundWords.{SignsAtMost};
 ghost use Rattle.pg_driver.specs.Accounts.{totals_by};
 ghost use Rattle.pg_driver.specs.Inside.Levels.{DidRun};
-ghost use Rattle.pg_driver.specs.Sound.{IsSmall};
-ghost use Rattle.pg_types.specs.Limits.{begun_before_run, level_passes};
-ghost use Rattle.pg_driver.specs.Told.{TellsCells, account_from, account_of, begun_from, cells_from, families_from, over, patterns_from, run_from};
+ghost use Rattle.pg_driver.specs.Inside.Sound.{IsSmall};
+ghost use Rattle.pg_types.specs.Inside.Limits.{begun_before_run, level_passes};
+ghost use Rattle.pg_driver.specs.Inside.Told.{TellsCells, account_from, account_of, begun_from, cells_from, families_from, patterns_from, run_from};
+ghost use Rattle.pg_driver.specs.Traces.{over};
 
 use crate::level::run_level;
 use crate::pass_windows::PassWindows;

@@ -3,7 +3,7 @@
 ghost use Rattle.std.specs.Prelude.{◌≡◌, ◌≢◌, ◌≤◌, ◌<◌, not, if◌then◌else◌, [], ℕ, Bool, length, slice_get, IfOk, OnOk};
 ghost use Rattle.std.specs.List.{flat_map};
 ghost use Rattle.pg_dots.specs.Inside.Dots.{is_closed, places as places_in};
-ghost use Rattle.pg_dict.specs.Word.{SignsAtMost};
+ghost use Rattle.pg_dict.specs.Inside.SoundWords.{SignsAtMost};
 ghost use Rattle.pg_select.specs.Statuses.{is_odd};
 ghost use Rattle.pg_driver.specs.Inside.Counting.{counting, HasRoom, TookRoom};
 ghost use Rattle.pg_driver.specs.Inside.States.{IsPass};

@@ -2,12 +2,14 @@
 //! totals stand beside them.
 ghost use Rattle.std.specs.Prelude.{◌≡◌, ◌≤◌, ◌<◌, ◌+◌, ◌-◌, ◌^◌, ◌==◌, ◌&&◌, ℕ, not, length, slice_get, sum_by, Some, All, IfOk, OnOk, is_some};
 ghost use Rattle.pg_types.specs.declared.limits.TheConstants.{FILE_MAX};
-ghost use Rattle.pg_types.specs.Counts.{SignsWithin};
+ghost use Rattle.pg_types.specs.Inside.Counts.{SignsWithin};
 ghost use Rattle.pg_dots.specs.Inside.Dots.{is_closed, places as places_in};
-ghost use Rattle.pg_dict.specs.Word.{IsWord, SignsAtMost, Word, letter_count};
+ghost use Rattle.pg_dict.specs.Word.{Word};
+ghost use Rattle.pg_dict.specs.Inside.SoundWords.{IsWord, SignsAtMost, letter_count};
 ghost use Rattle.pg_dict.specs.Inside.Lent.{lent_word};
 ghost use Rattle.pg_select.specs.CountedPositions.{counts_as as counts_as_of, minima_of};
-ghost use Rattle.pg_select.specs.Sums.{totals as totals_of_words, marks_in, with_marks, HasRoomFor, TookRoomFor};
+ghost use Rattle.pg_select.specs.Sums.{totals as totals_of_words, marks_in};
+ghost use Rattle.pg_select.specs.Inside.SumSteps.{with_marks, HasRoomFor, TookRoomFor};
 ghost use Rattle.pg_driver.specs.Inside.OpenSigns.{is_open_first, sign_count, start_of};
 
 use crate::marks::counts_as;

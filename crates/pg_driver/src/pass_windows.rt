@@ -1,9 +1,9 @@
 //! The windows of a pass by their numbers: where each was first counted, what becomes of it, and
 //! which positions it stands at.
 ghost use Rattle.std.specs.Prelude.{◌≡◌, ◌==◌, ◌<◌, ◌≤◌, ◌++◌, ◌∷◌, [], ℕ, List, if◌then◌else◌, length, Some, OnOk};
-ghost use Rattle.pg_types.specs.Counts.{counted_sums};
-ghost use Rattle.pg_types.specs.Numbered.{HasNumber};
-ghost use Rattle.pg_types.specs.Parameters.{IsLevel};
+ghost use Rattle.pg_types.specs.Inside.Counts.{counted_sums};
+ghost use Rattle.pg_types.specs.Inside.Numbered.{HasNumber};
+ghost use Rattle.pg_types.specs.Inside.Ranges.{IsLevel};
 ghost use Rattle.pg_select.specs.Choices.{choice};
 ghost use Rattle.pg_driver.specs.declared.pass_windows.TheConstants.{NOT_COUNTED};
 ghost use Rattle.pg_driver.specs.Inside.Counting.{HasRoom};
@@ -43,8 +43,8 @@ pub struct PassWindows {
 
 impl PassWindows {
     ghost use Rattle.std.specs.Prelude.{◌≡◌, ◌≤◌, [], length, OnOk};
-    ghost use Rattle.pg_types.specs.Numbered.{AreInOrder};
-    ghost use Rattle.pg_types.specs.Parameters.{IsLevel};
+    ghost use Rattle.pg_types.specs.Inside.Numbered.{AreInOrder};
+    ghost use Rattle.pg_types.specs.Inside.Ranges.{IsLevel};
     ghost use Rattle.pg_driver.specs.declared.pass_windows.TheConstants.{NOT_COUNTED};
     ghost use Rattle.pg_driver.specs.Inside.Counting.{HasRoom};
     ghost use Rattle.pg_driver.specs.Inside.PassWindows.{AreFates};

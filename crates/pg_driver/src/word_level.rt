@@ -1,13 +1,14 @@
 //! A level in which each word is hyphenated in each pass. Its totals are carried from pass to pass.
 ghost use Rattle.std.specs.Prelude.{◌≡◌, [], false, true, IfOk, OnOk};
-ghost use Rattle.pg_dict.specs.Word.{SignsAtMost};
+ghost use Rattle.pg_dict.specs.Inside.SoundWords.{SignsAtMost};
 ghost use Rattle.pg_select.specs.CountedPositions.{counted_positions, minima_of};
 ghost use Rattle.pg_driver.specs.Accounts.{totals_by};
 ghost use Rattle.pg_driver.specs.Inside.Counting.{counting, HasRoom};
 ghost use Rattle.pg_driver.specs.Inside.PassWindows.{ArePlaces, HaveNumbers, is_counted_at};
-ghost use Rattle.pg_driver.specs.Sound.{IsSmall};
+ghost use Rattle.pg_driver.specs.Inside.Sound.{IsSmall};
 ghost use Rattle.pg_driver.specs.Inside.States.{IsPass};
-ghost use Rattle.pg_driver.specs.Told.{known_of, over};
+ghost use Rattle.pg_driver.specs.Inside.Told.{known_of};
+ghost use Rattle.pg_driver.specs.Traces.{over};
 ghost use Rattle.pg_driver.specs.Inside.WordLevels.{IsWordsAt};
 
 use crate::pass_windows::{PassWindows, Place};

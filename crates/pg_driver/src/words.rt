@@ -1,20 +1,23 @@
 //! The walk over the words in a pass that hyphenates each of them.
 ghost use Rattle.std.specs.Prelude.{◌≡◌, ◌≤◌, ◌<◌, ◌+◌, ◌*◌, ◌++◌, ◌&&◌, [], not, false, if◌then◌else◌, None, Some, ℕ, List, length, slice_get, slice_index_or, IfOk, OnOk};
-ghost use Rattle.pg_types.specs.Counts.{SignsWithin};
+ghost use Rattle.pg_types.specs.Inside.Counts.{SignsWithin};
 ghost use Rattle.pg_types.specs.declared.limits.TheConstants.{FILE_MAX, WORD_LETTERS_MAX};
-ghost use Rattle.pg_dict.specs.Word.{IsWord, SignsAtMost, Word, letter_count};
+ghost use Rattle.pg_dict.specs.Word.{Word};
+ghost use Rattle.pg_dict.specs.Inside.SoundWords.{IsWord, SignsAtMost, letter_count};
 ghost use Rattle.pg_dict.specs.Inside.Lent.{lent_word};
-ghost use Rattle.pg_select.specs.CountedPositions.{counted_at, counted_positions_at, counted_positions, counted_positions_in, counts_as as counts_as_of, minima_of};
+ghost use Rattle.pg_select.specs.CountedPositions.{counted_at, counted_positions_at, counted_positions, counts_as as counts_as_of, minima_of};
+ghost use Rattle.pg_select.specs.Inside.WordCounts.{counted_positions_in};
 ghost use Rattle.pg_select.specs.Inside.LawsAbove.{counts_above};
 ghost use Rattle.pg_select.specs.Statuses.{status_at, position_weight};
-ghost use Rattle.pg_select.specs.Sums.{marks_in, totals as totals_of_words, with_mark, with_marks, HasRoomFor, TookRoomFor};
+ghost use Rattle.pg_select.specs.Sums.{marks_in, totals as totals_of_words};
+ghost use Rattle.pg_select.specs.Inside.SumSteps.{with_mark, with_marks, HasRoomFor, TookRoomFor};
 ghost use Rattle.pg_select.specs.Windows.{fits as fits_in, window as window_of_word};
 ghost use Rattle.pg_driver.specs.Inside.Counting.{counting, HasRoom, TookRoom, IsRead};
 ghost use Rattle.pg_driver.specs.declared.pass_windows.Place.{Place};
 ghost use Rattle.pg_driver.specs.Inside.OpenLevels.{listed_in, listed_from, open_as};
 ghost use Rattle.pg_driver.specs.Inside.OpenSigns.{start_of};
 ghost use Rattle.pg_driver.specs.Inside.PassWindows.{ArePlaces, GetsNumber, HaveNumbers, uncovered_at};
-ghost use Rattle.pg_driver.specs.Sound.{IsSmall};
+ghost use Rattle.pg_driver.specs.Inside.Sound.{IsSmall};
 ghost use Rattle.pg_driver.specs.Inside.States.{IsPass};
 ghost use Rattle.pg_driver.specs.Inside.WordLevels.{listing};
 

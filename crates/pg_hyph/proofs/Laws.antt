@@ -4,13 +4,15 @@ use Rattle.std.specs.List.{list_any}
 use Rattle.std.proofs.lemmas.Bool.{and_parts, and_from, or_cases, or_left, or_right, le-leb, leb-true, lt-ltb}
 use Rattle.std.proofs.lemmas.List.{get_or-replicate}
 use Rattle.pg_types.specs.declared.limits.TheConstants.{LEVEL_MAX, WORD_LETTERS_MAX}
-use Rattle.pg_patterns.specs.Values.{applies, value_at, is_entry}
-use Rattle.pg_select.specs.Windows.{window, fits, is_within, covered}
+use Rattle.pg_patterns.specs.Values.{applies, value_at}
+use Rattle.pg_patterns.specs.Inside.PatternMaps.{is_entry}
+use Rattle.pg_select.specs.Windows.{window, fits, covered}
+use Rattle.pg_select.specs.Inside.Within.{is_within}
 use Rattle.pg_trie.specs.declared.mark.TheConstants.{HOPELESS}
 use Rattle.pg_trie.specs.Inside.Lists.{outputs_at}
-use Rattle.pg_trie.specs.Maps.{Maps, AreKept, is_dotted}
+use Rattle.pg_trie.specs.Inside.Maps.{Maps, AreKept, is_dotted}
 use Rattle.pg_select.specs.declared.pass.Pass.{Pass}
-use Rattle.pg_select.specs.Positions.{bit, Raises}
+use Rattle.pg_select.specs.Inside.Positions.{bit, Raises}
 use Rattle.pg_select.proofs.Bits.{same_bits}
 use Rattle.pg_hyph.specs.Inside.ListValues.{value_given, value_by, cover_by}
 use Rattle.pg_hyph.specs.Inside.Walks.{by_starts}

@@ -6,7 +6,8 @@ use Rattle.std.specs.Cmp.{tied_itself}
 use Rattle.std.specs.FinMap.Entries.{find, is_sorted, below_all}
 use Rattle.std.specs.List.{flat_map, range_with_len, list_all, list_any}
 use Rattle.std.proofs.lemmas.Bool.{cases_lt, and_parts, or_cases, or_left, or_right}
-use Rattle.pg_patterns.specs.DottedSigns.{dotted_cmp, dotted_total, dotted_exact}
+use Rattle.pg_patterns.specs.DottedSigns.{dotted_cmp}
+use Rattle.pg_patterns.specs.Inside.PlaceOrder.{dotted_total, dotted_exact}
 use Rattle.pg_patterns.specs.Values.{best}
 use Rattle.pg_types.proofs.BoolFacts.{is_true, first_half, second_half, less_is, equal_is}
 use Rattle.pg_patterns.proofs.Ordered.{find_there}

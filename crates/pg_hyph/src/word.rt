@@ -2,8 +2,8 @@
 ghost use Rattle.std.specs.Prelude.{◌+◌, ◌≤◌, length};
 ghost use Rattle.pg_types.specs.declared.limits.TheConstants.{LEVEL_MAX, LENGTH_MAX, WORD_LETTERS_MAX};
 ghost use Rattle.pg_select.specs.Inside.LawsClosedDots.{pass_at};
-ghost use Rattle.pg_select.specs.Positions.{HasValues, HasCovers};
-ghost use Rattle.pg_types.specs.Counts.{SignsWithin};
+ghost use Rattle.pg_select.specs.Inside.Positions.{HasValues, HasCovers};
+ghost use Rattle.pg_types.specs.Inside.Counts.{SignsWithin};
 
 use crate::walk::walk;
 use pg_dict::WordRef;

@@ -4,7 +4,8 @@ use Rattle.std.proofs.lemmas.List.{get_or_append_left, get_or_push, length_push,
 use Rattle.std.proofs.lemmas.List.Sums.{fold-append}
 use Rattle.std.proofs.lemmas.Option.{slice_get_within, get_or_from_slice_get, slice_get_cases}
 use Rattle.pg_outputs.specs.declared.records.Record.{Record}
-use Rattle.pg_outputs.specs.Lists.{with_record, lists, list_of, Grows, OneHeadEach}
+use Rattle.pg_outputs.specs.Lists.{with_record, lists, list_of}
+use Rattle.pg_outputs.specs.Inside.Heads.{Grows, OneHeadEach}
 use Rattle.pg_outputs.specs.Inside.Records.{AreShared}
 
 -- each step adds one list

@@ -4,7 +4,7 @@ use Rattle.std.proofs.lemmas.Bool.{false≢true}
 use Rattle.std.proofs.lemmas.Bool.Decides.{nat_tests}
 use Rattle.std.specs.List.{list_any, position_or_len}
 use Rattle.pg_outputs.specs.declared.records.Record.{Record}
-use Rattle.pg_outputs.specs.Lists.{Lacks}
+use Rattle.pg_outputs.specs.Inside.Heads.{Lacks}
 use Rattle.pg_outputs.specs.contracts.records.RecordPartialEq.TheImpl.{eq-value}
 use Rattle.pg_outputs.specs.Inside.Records.{AreShared}
 

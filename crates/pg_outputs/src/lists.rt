@@ -1,7 +1,8 @@
 //! The lists, kept as records that they share.
 ghost use Rattle.std.specs.Prelude.{◌≡◌, ℕ, true, ◌+◌, ◌-◌, ◌<◌, ◌≤◌, ◌↔◌, ◌≢◌, ◌⊎◌, List, [], ◌∷◌, ◌++◌, length, slice_get, Some, None, Ok, false, IsNone, IfSome, IfOk, OnOk, OnErr, MatchOption};
 ghost use Rattle.indexmap.specs.IndexSet.{index_set_len, insert_key, insert_index, contains};
-ghost use Rattle.pg_outputs.specs.Lists.{list_of, Grows, OneHeadEach, IsRecordOf, Lacks};
+ghost use Rattle.pg_outputs.specs.Lists.{list_of};
+ghost use Rattle.pg_outputs.specs.Inside.Heads.{Grows, OneHeadEach, IsRecordOf, Lacks};
 ghost use Rattle.pg_outputs.specs.Inside.Records.{AreShared};
 ghost use Rattle.pg_outputs.specs.declared.lists.TheConstants.{PLACES};
 

@@ -1,5 +1,5 @@
 -- What files and sinks hold, told or not, and what a call may change of it.
-use Rattle.std.specs.Prelude.{◌≡◌, ℕ, ◌+◌, ◌<◌, List, ◌++◌, take, length, Option, Some, MatchOption, IfSome, ◌⊎◌}
+use Rattle.std.specs.Prelude.{◌≡◌, ℕ, List, ◌++◌, take, Option, Some, MatchOption, IfSome, ◌⊎◌}
 use Rattle.std.specs.Cmp.Lexicographic.{slice_cmp}
 use Rattle.std.specs.Ordering.{nat_cmp}
 use Rattle.std.specs.FinMap as map
@@ -32,36 +32,10 @@ file_at files name = map.get files name
 abbrev pub KeepsHeld : Option FileMap → Option FileMap → Type 0
 KeepsHeld old new = IfSome new (λ files. old ≡ Some files)
 
--- the file has more bytes than the limit, and these are its first limit + 1 bytes
-abbrev pub IsCut : Option (List ℕ) → ℕ → List ℕ → Type 0
-IsCut file limit front = MatchOption file ⊥
-    (λ bytes. (limit < length bytes) × (front ≡ take (limit + 1) bytes))
-
--- where files are told, the file of this name is these bytes
-abbrev pub IsFile : Option FileMap → List ℕ → List ℕ → Type 0
-IsFile held name bytes = IfSome held (λ files. file_at files name ≡ Some bytes)
-
--- where files are told, the file of this name has more than the limit, and these are its first
--- limit + 1 bytes
-abbrev pub IsFileCut : Option FileMap → List ℕ → ℕ → List ℕ → Type 0
-IsFileCut held name limit front = IfSome held (λ files. IsCut (file_at files name) limit front)
-
--- where files are told after the call, they are those told before it with this file set to these
--- bytes
-abbrev pub WasWritten : Option FileMap → Option FileMap → List ℕ → List ℕ → Type 0
-WasWritten old new name bytes = IfSome new (λ after. MatchOption old ⊥ (λ before.
-    after ≡ map.insert before name bytes))
-
 -- these files are those before, with this file as it was or set to a prefix of these bytes
 abbrev pub HasPart : FileMap → FileMap → List ℕ → List ℕ → Type 0
 HasPart before after name bytes = (after ≡ before)
     ⊎ ((kept : ℕ) × (after ≡ map.insert before name (take kept bytes)))
-
--- where files are told after the call, they were told before it, and this file is as it was or a
--- prefix of these bytes
-abbrev pub WasPartWritten : Option FileMap → Option FileMap → List ℕ → List ℕ → Type 0
-WasPartWritten old new name bytes = IfSome new (λ after. MatchOption old ⊥ (λ before.
-    HasPart before after name bytes))
 
 -- where the sink's bytes are told after the call, they are those told before it and then this text
 abbrev pub WasPut : Option (List ℕ) → Option (List ℕ) → List ℕ → Type 0

@@ -1,4 +1,5 @@
 -- What only contracts between layers and proofs need.
+pub mod CallCodes
 pub mod CallLogs
 pub mod Calls
 pub mod Causes
@@ -11,8 +12,10 @@ pub mod MemoryFiles
 pub mod MemorySink
 pub mod MissingNames
 pub mod Moments
+pub mod NameFaults
 pub mod NewNames
 pub mod QuietFiles
 pub mod QuietSink
 pub mod StoredFile
 pub mod Streams
+pub mod ToldFiles

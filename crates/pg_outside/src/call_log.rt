@@ -2,7 +2,8 @@
 //! memory.
 ghost use Rattle.std.specs.Prelude.{◌≡◌, List, [], ◌∷◌, ◌++◌};
 ghost use Rattle.std.specs.Borrow.{ftrue};
-ghost use Rattle.pg_outside.specs.FilesCalls.{FilesCall, calls_code};
+ghost use Rattle.pg_outside.specs.FilesCalls.{FilesCall};
+ghost use Rattle.pg_outside.specs.Inside.CallCodes.{calls_code};
 
 use std::marker::Model;
 

@@ -2,8 +2,10 @@
 ghost use Rattle.std.specs.Prelude.{◌≡◌, ◌≢◌, ℕ, ◌+◌, ◌-◌, ◌^◌, ◌<◌, ◌≤◌, ◌⊎◌, List, [], ◌∷◌, ◌++◌, take, length, min, Option, Some, None, OnOk, OnErr, IsOk, IsErr, IsSome, IfSome, IfNone, OnSome, IsErrOf};
 ghost use Rattle.std.specs.Option.{option_copied, option_map};
 ghost use Rattle.std.specs.FinMap as fin;
-ghost use Rattle.pg_outside.specs.Content.{file_at, KeepsHeld, IsFile, IsFileCut, WasWritten, WasPartWritten};
-ghost use Rattle.pg_outside.specs.Faults.{next_count, RoseFor, RoseByOneAtMost, NoneFell, SameCounts, SameOthers};
+ghost use Rattle.pg_outside.specs.Content.{file_at, KeepsHeld};
+ghost use Rattle.pg_outside.specs.Inside.ToldFiles.{IsFile, IsFileCut, WasWritten, WasPartWritten};
+ghost use Rattle.pg_outside.specs.Faults.{next_count};
+ghost use Rattle.pg_outside.specs.Inside.NameFaults.{RoseFor, RoseByOneAtMost, NoneFell, SameCounts, SameOthers};
 ghost use Rattle.pg_outside.specs.FilesCalls.{Reads, Writes};
 
 use super::call_log::{Call, CallLog};

@@ -1,7 +1,9 @@
 //! The two traits through which a command reads, writes and prints.
 ghost use Rattle.std.specs.Prelude.{◌≡◌, ℕ, ◌+◌, ◌-◌, ◌^◌, ◌<◌, ◌≤◌, List, [], ◌∷◌, ◌++◌, length, Option, OnOk, OnErr, IfSome, IsErrOf};
-ghost use Rattle.pg_outside.specs.Content.{FilesShown, SinkShown, KeepsHeld, IsFile, IsFileCut, WasWritten, WasPartWritten, WasPut, WasPartPut};
-ghost use Rattle.pg_outside.specs.Faults.{next_count, Rose, RoseFor, NoneFell};
+ghost use Rattle.pg_outside.specs.Content.{FilesShown, SinkShown, KeepsHeld, WasPut, WasPartPut};
+ghost use Rattle.pg_outside.specs.Inside.ToldFiles.{IsFile, IsFileCut, WasWritten, WasPartWritten};
+ghost use Rattle.pg_outside.specs.Faults.{next_count, Rose};
+ghost use Rattle.pg_outside.specs.Inside.NameFaults.{RoseFor, NoneFell};
 ghost use Rattle.pg_outside.specs.FilesCalls.{Reads, Writes};
 
 use std::alloc::{AllocError, Global};

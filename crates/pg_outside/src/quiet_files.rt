@@ -2,8 +2,9 @@
 ghost use Rattle.std.specs.Prelude.{◌≡◌, ◌^◌, ◌-◌, ◌+◌, ◌<◌, ◌≤◌, ℕ, List, [], ◌∷◌, ◌++◌, length, Option, Some, None, Bool, true, false, OnOk, OnErr, IsOk, IsErrOf};
 ghost use Rattle.std.specs.Option.{option_copied};
 ghost use Rattle.std.specs.FinMap as fin;
-ghost use Rattle.pg_outside.specs.Content.{file_at, KeepsHeld, IsFile, IsFileCut, WasWritten, WasPartWritten};
-ghost use Rattle.pg_outside.specs.Faults.{RoseFor, NoneFell, SameCounts};
+ghost use Rattle.pg_outside.specs.Content.{file_at, KeepsHeld};
+ghost use Rattle.pg_outside.specs.Inside.ToldFiles.{IsFile, IsFileCut, WasWritten, WasPartWritten};
+ghost use Rattle.pg_outside.specs.Inside.NameFaults.{RoseFor, NoneFell, SameCounts};
 ghost use Rattle.pg_outside.specs.FilesCalls.{Reads, Writes};
 
 use super::call_log::{Call, CallLog};

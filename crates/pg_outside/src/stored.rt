@@ -2,8 +2,9 @@
 ghost use Rattle.std.specs.Prelude.{◌≡◌, ◌≢◌, ℕ, ◌+◌, ◌-◌, ◌^◌, ◌<◌, ◌≤◌, [], ◌++◌, take, length, max, Option, Some, None, OnOk, OnErr, IsOk, IsSome, IfOk, IfSome, IfNone, IsErrOf, vec_len, vec_capacity, string_bytes, position};
 ghost use Rattle.std.specs.Option.{option_copied};
 ghost use Rattle.std.specs.FinMap as fin;
-ghost use Rattle.pg_outside.specs.Content.{file_at, IsCut};
-ghost use Rattle.pg_outside.specs.Faults.{NoneFell, SameCounts};
+ghost use Rattle.pg_outside.specs.Content.{file_at};
+ghost use Rattle.pg_outside.specs.Inside.ToldFiles.{IsCut};
+ghost use Rattle.pg_outside.specs.Inside.NameFaults.{NoneFell, SameCounts};
 ghost use Rattle.pg_outside.specs.Inside.StoredFile.{has_name, file_map, room_in, IsPlace, IsMissing};
 
 use super::outside::ReadError;

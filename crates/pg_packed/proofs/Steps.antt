@@ -8,11 +8,14 @@ use Rattle.std.specs.Ordering.{is_lt, is_eq, ordering_reverse}
 use Rattle.std.specs.FinMap.Entries.{put, find, is_sorted, below_all, by_order}
 use Rattle.std.specs.List.{All, list_all}
 use Rattle.pg_types.specs.Placement.{root, enter, kept}
-use Rattle.pg_types.specs.Signs.{is_sign}
-use Rattle.pg_patterns.specs.DottedSigns.{dotted_cmp, dotted_total}
-use Rattle.pg_patterns.specs.Values.{raise, IsPatternMap, SignsUpTo}
-use Rattle.pg_trie.specs.Maps.{Maps}
-use Rattle.pg_packed.specs.Starts.{pattern_families, AreEntered}
+use Rattle.pg_types.specs.Inside.Signs.{is_sign}
+use Rattle.pg_patterns.specs.DottedSigns.{dotted_cmp}
+use Rattle.pg_patterns.specs.Inside.PlaceOrder.{dotted_total}
+use Rattle.pg_patterns.specs.Values.{raise}
+use Rattle.pg_patterns.specs.Inside.PatternMaps.{IsPatternMap, SignsUpTo}
+use Rattle.pg_trie.specs.Inside.Maps.{Maps}
+use Rattle.pg_packed.specs.Starts.{pattern_families}
+use Rattle.pg_packed.specs.Inside.Entered.{AreEntered}
 use Rattle.pg_types.proofs.EntryLists.{below_get, put_next}
 use Rattle.pg_packed.proofs.Kept.{kept_entered}
 use Rattle.pg_types.proofs.BoolFacts.{and_first, and_second, some_is, first_half, second_half, less_from}

@@ -1,2 +1,3 @@
 -- What only contracts between layers and proofs need.
 pub mod Engines
+pub mod Entered

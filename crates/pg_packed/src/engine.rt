@@ -35,8 +35,8 @@ pub struct PackedEngine {
 impl PackedEngine {
     ghost use Rattle.std.specs.Prelude.{◌≡◌, ◌≤◌, IfOk};
     ghost use Rattle.pg_types.specs.declared.limits.TheConstants.{SIGNS_MAX};
-    ghost use Rattle.pg_patterns.specs.Values.{SignsUpTo};
-    ghost use Rattle.pg_select.specs.Meanings.{new_engine};
+    ghost use Rattle.pg_patterns.specs.Inside.PatternMaps.{SignsUpTo};
+    ghost use Rattle.pg_select.specs.Inside.Meanings.{new_engine};
     ghost use Rattle.pg_packed.specs.Inside.Engines.{meaning_of};
     ghost use Rattle.pg_packed.specs.Starts.{pattern_families};
 

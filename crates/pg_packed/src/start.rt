@@ -2,8 +2,8 @@
 ghost use Rattle.std.specs.Prelude.{◌≡◌, ◌≤◌, length, IfOk};
 ghost use Rattle.pg_types.specs.declared.limits.TheConstants.{SIGNS_MAX};
 ghost use Rattle.pg_types.specs.Tails.{tails};
-ghost use Rattle.pg_patterns.specs.Values.{SignsUpTo};
-ghost use Rattle.pg_packed.specs.Starts.{AreEntered};
+ghost use Rattle.pg_patterns.specs.Inside.PatternMaps.{SignsUpTo};
+ghost use Rattle.pg_packed.specs.Inside.Entered.{AreEntered};
 
 use pg_patterns::{Entry, PatternSet};
 use pg_trie::PatternTrie;

@@ -11,8 +11,10 @@ use Rattle.std.specs.Cmp.{IsTotalOrder, IsStrictWeakOrder, nat_cmp_total}
 use Rattle.std.specs.FinMap.Entries.{find, is_sorted, below_all}
 use Rattle.std.specs.List.{list_all, All, dedup_from, dedup}
 use Rattle.std.specs.List.Sorted.{IsPermutation, IsSortedBy}
-use Rattle.pg_patterns.specs.DottedSigns.{dotted_cmp, dotted_total, same_dotted, dotted_ties, dotted_exact}
-use Rattle.pg_patterns.specs.Values.{value_of, best, map_of_entries, is_entry, IsPatternMap}
+use Rattle.pg_patterns.specs.DottedSigns.{dotted_cmp}
+use Rattle.pg_patterns.specs.Inside.PlaceOrder.{dotted_total, same_dotted, dotted_ties, dotted_exact}
+use Rattle.pg_patterns.specs.Values.{value_of, best, map_of_entries}
+use Rattle.pg_patterns.specs.Inside.PatternMaps.{is_entry, IsPatternMap}
 use Rattle.pg_patterns.specs.Inside.Search.{entry_cmp}
 use Rattle.pg_types.proofs.BoolFacts.{and_first, and_second, equal_is, less_is, is_true, holds, first_half, second_half}
 use Rattle.pg_patterns.proofs.Joins.{only, same_maps, joined_keeps, value_of_joined, best-IsPermutation}

@@ -5,7 +5,8 @@ use Rattle.std.specs.declared.cmp.Ordering.TheVariants.{Less, Equal, Greater}
 use Rattle.std.specs.FinMap.Entries.{put, by_order}
 use Rattle.std.specs.List.{All}
 use Rattle.pg_patterns.specs.DottedSigns.{dotted_cmp}
-use Rattle.pg_patterns.specs.Values.{SignsUpTo, raise, value_of, map_of_entries}
+use Rattle.pg_patterns.specs.Values.{raise, value_of, map_of_entries}
+use Rattle.pg_patterns.specs.Inside.PatternMaps.{SignsUpTo}
 
 -- the signs of an entry are at most n
 abbrev Known : ℕ → (List ℕ × ℕ) × ℕ → Type 0

@@ -8,12 +8,12 @@ use Rattle.pg_types.specs.declared.limits.TheConstants.{EDGE, PATTERN_SIGNS_MAX}
 use Rattle.pg_types.specs.declared.refusals.Refusal.{Refusal}
 use Rattle.pg_types.specs.Lines.{lines}
 use Rattle.pg_types.specs.Reading.{unless, both_parts}
-use Rattle.pg_types.specs.Signs.{is_sign}
+use Rattle.pg_types.specs.Inside.Signs.{is_sign}
 use Rattle.pg_translate.specs.declared.items.Place.TheVariants.{Patterns}
 use Rattle.pg_translate.specs.Alphabets.{Alphabet}
 use Rattle.pg_translate.specs.Tokens.{Token, Letter, Digit, Weight, Marked, Edge}
 use Rattle.pg_translate.specs.Cuts.{cut, tokens_of}
-use Rattle.pg_patterns.specs.Values.{SignsUpTo, is_entry}
+use Rattle.pg_patterns.specs.Inside.PatternMaps.{SignsUpTo, is_entry}
 use Rattle.pg_translate.specs.Gaps.{signs_of}
 use Rattle.pg_translate.specs.LineRefusals.{line_refusal}
 use Rattle.pg_patterns.specs.Lines.{digit_at_dot, entry_at, entries_at, line_entries, entries_of_line}

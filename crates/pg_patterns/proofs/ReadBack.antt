@@ -9,10 +9,12 @@ use Rattle.std.specs.Option.{option_map_or}
 use Rattle.std.specs.Ordering.{eq_by_cmp}
 use Rattle.pg_types.specs.declared.limits.TheConstants.{EDGE, PATTERN_SIGNS_MAX}
 use Rattle.pg_types.specs.Lines.{lines}
-use Rattle.pg_translate.specs.Alphabets.{Alphabet, letters_of, spelling_of, first_spelling}
+use Rattle.pg_translate.specs.Alphabets.{Alphabet, letters_of, spelling_of}
+use Rattle.pg_translate.specs.Inside.FirstSpellings.{first_spelling}
 use Rattle.pg_translate.specs.Tokens.{Token, Letter, Digit, Edge}
-use Rattle.pg_patterns.specs.DottedSigns.{dotted_cmp, dotted_exact}
-use Rattle.pg_patterns.specs.Values.{is_entry}
+use Rattle.pg_patterns.specs.DottedSigns.{dotted_cmp}
+use Rattle.pg_patterns.specs.Inside.PlaceOrder.{dotted_exact}
+use Rattle.pg_patterns.specs.Inside.PatternMaps.{is_entry}
 use Rattle.pg_translate.specs.Gaps.{sign_of, signs_of}
 use Rattle.pg_patterns.specs.Lines.{digit_at_dot, entries_at, line_entries}
 use Rattle.pg_patterns.proofs.Running.{digits_from, digits_are}

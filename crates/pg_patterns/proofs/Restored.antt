@@ -7,8 +7,10 @@ use Rattle.std.specs.FinMap.Entries.{find}
 use Rattle.std.specs.List.{All, list_any, list_all}
 use Rattle.std.specs.Option.{option_map_or}
 use Rattle.std.specs.Ordering.{eq_by_cmp}
-use Rattle.pg_patterns.specs.DottedSigns.{dotted_cmp, same_dotted, dotted_equiv, dotted_ties, dotted_exact}
-use Rattle.pg_patterns.specs.Values.{IsPatternMap, value_of, best, map_of_entries, is_entry}
+use Rattle.pg_patterns.specs.DottedSigns.{dotted_cmp}
+use Rattle.pg_patterns.specs.Inside.PlaceOrder.{same_dotted, dotted_equiv, dotted_ties, dotted_exact}
+use Rattle.pg_patterns.specs.Values.{value_of, best, map_of_entries}
+use Rattle.pg_patterns.specs.Inside.PatternMaps.{IsPatternMap, is_entry}
 use Rattle.pg_patterns.specs.Lines.{entry_at, entries_at}
 use Rattle.pg_patterns.specs.Texts.{with_string, strings_of}
 use Rattle.pg_types.proofs.BoolFacts.{and_first, equal_is}

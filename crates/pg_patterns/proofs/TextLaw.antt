@@ -9,7 +9,7 @@ use Rattle.pg_types.specs.declared.refusals.Kind.TheVariants.{PatternsTooLong}
 use Rattle.pg_types.specs.Lines.{lines}
 use Rattle.pg_translate.specs.Alphabets.{Alphabet, letters_of}
 use Rattle.pg_translate.specs.Inside.Rules.{KeepsRules}
-use Rattle.pg_patterns.specs.Values.{IsPatternMap, SignsUpTo, is_entry}
+use Rattle.pg_patterns.specs.Inside.PatternMaps.{IsPatternMap, SignsUpTo, is_entry}
 use Rattle.pg_patterns.specs.Starts.{joined_entries, entries_from, start}
 use Rattle.pg_patterns.specs.Texts.{with_string, strings_of, pattern_text}
 use Rattle.pg_types.proofs.BoolFacts.{and_first, and_second}

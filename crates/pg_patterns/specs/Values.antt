@@ -1,10 +1,8 @@
 -- Patterns as a map from places, which are signs with a dot, to values, and the value that they
 -- give to a position of a word.
-use Rattle.std.specs.Prelude.{◌≡◌, ℕ, ◌+◌, ◌-◌, ◌≤◌, Bool, true, ◌&&◌, T, if◌then◌else◌, List, [], ◌∷◌, length, drop, max, fold, unwrap_or, nat_le, nat_eq}
-use Rattle.std.specs.FinMap.Entries.{put, find, is_sorted}
-use Rattle.std.specs.List.{starts_with, list_all, All}
-use Rattle.pg_types.specs.declared.limits.TheConstants.{LEVEL_MAX, PATTERN_SIGNS_MAX}
-use Rattle.pg_types.specs.Signs.{is_sign}
+use Rattle.std.specs.Prelude.{ℕ, ◌+◌, ◌-◌, Bool, true, ◌&&◌, if◌then◌else◌, List, [], ◌∷◌, length, drop, max, fold, unwrap_or, nat_le, nat_eq}
+use Rattle.std.specs.FinMap.Entries.{put, find}
+use Rattle.std.specs.List.{starts_with}
 use Rattle.pg_patterns.specs.DottedSigns.{dotted_cmp}
 
 -- the value of a place, 0 where it has none
@@ -39,18 +37,3 @@ applies w p k = nat_le k.1 p && stands_at k.0 w (p - k.1)
 -- the value of position p of w: the greatest of the entries that apply there
 abbrev pub value_at : List ((List ℕ × ℕ) × ℕ) → List ℕ → ℕ → ℕ
 value_at P w p = best (applies w p) P
-
--- an entry has 1 to 32 signs, each at least 1, its dot is at most their number, and its value is 1
--- to 9
-abbrev pub is_entry : (List ℕ × ℕ) × ℕ → Bool
-is_entry e = nat_le 1 (length e.0.0) && nat_le (length e.0.0) PATTERN_SIGNS_MAX
-    && list_all is_sign e.0.0 && nat_le e.0.1 (length e.0.0) && nat_le 1 e.1 && nat_le e.1 LEVEL_MAX
-
--- places stand in order, each once, and each entry is one of a pattern
-pub record IsPatternMap (P : List ((List ℕ × ℕ) × ℕ)) : Type 0 where
-  pub sorted : T (is_sorted dotted_cmp P)
-  pub sound : list_all is_entry P ≡ true
-
--- every sign is at most n
-abbrev pub SignsUpTo : ℕ → List ((List ℕ × ℕ) × ℕ) → Type 0
-SignsUpTo n P = All (λ e. All (λ s. s ≤ n) e.0.0) P

@@ -57,8 +57,7 @@ impl DottedSigns {
 }
 
 impl PartialEq for DottedSigns {
-    ghost use Rattle.pg_patterns.specs.DottedSigns.{same_dotted};
-    ghost use Rattle.pg_patterns.specs.DottedSigns.{dotted_partial_equiv};
+    ghost use Rattle.pg_patterns.specs.Inside.PlaceOrder.{same_dotted, dotted_partial_equiv};
 
     ghost eq = { same_dotted };
 
@@ -70,7 +69,7 @@ impl PartialEq for DottedSigns {
 }
 
 impl Eq for DottedSigns {
-    ghost use Rattle.pg_patterns.specs.DottedSigns.{dotted_equiv};
+    ghost use Rattle.pg_patterns.specs.Inside.PlaceOrder.{dotted_equiv};
 
     ghost laws = { dotted_equiv };
 }
@@ -78,7 +77,7 @@ impl Eq for DottedSigns {
 impl PartialOrd for DottedSigns {
     ghost use Rattle.std.specs.Prelude.{Some};
     ghost use Rattle.pg_patterns.specs.DottedSigns.{dotted_cmp};
-    ghost use Rattle.pg_patterns.specs.DottedSigns.{dotted_partial_order};
+    ghost use Rattle.pg_patterns.specs.Inside.PlaceOrder.{dotted_partial_order};
 
     ghost partial_cmp = { λ a b. Some (dotted_cmp a b) };
 
@@ -92,7 +91,7 @@ impl PartialOrd for DottedSigns {
 impl Ord for DottedSigns {
     ghost use Rattle.std.specs.Prelude.{refl};
     ghost use Rattle.pg_patterns.specs.DottedSigns.{dotted_cmp};
-    ghost use Rattle.pg_patterns.specs.DottedSigns.{dotted_total, dotted_ties};
+    ghost use Rattle.pg_patterns.specs.Inside.PlaceOrder.{dotted_total, dotted_ties};
 
     ghost cmp = { dotted_cmp };
 

@@ -5,7 +5,8 @@ ghost use Rattle.std.specs.FinMap.Entries.{is_sorted};
 ghost use Rattle.std.specs.List.{list_all};
 ghost use Rattle.std.specs.List.Sorted.{IsPartitionPoint};
 ghost use Rattle.pg_patterns.specs.DottedSigns.{dotted_cmp};
-ghost use Rattle.pg_patterns.specs.Values.{IsPatternMap, is_entry, map_of_entries, raise};
+ghost use Rattle.pg_patterns.specs.Values.{map_of_entries, raise};
+ghost use Rattle.pg_patterns.specs.Inside.PatternMaps.{IsPatternMap, is_entry};
 ghost use Rattle.pg_patterns.specs.Inside.Search.{is_after, begins_with};
 
 use crate::dotted_signs::DottedSigns;

@@ -25,7 +25,7 @@ impl Model for PatternSet {
 
     ghost Value = { List ((List ℕ × ℕ) × ℕ) };
 
-    ghost use Rattle.pg_patterns.specs.Values.{IsPatternMap};
+    ghost use Rattle.pg_patterns.specs.Inside.PatternMaps.{IsPatternMap};
 
     ghost view = { λ s. s.held.items };
 
@@ -48,10 +48,11 @@ impl PatternSet {
     ghost use Rattle.std.specs.FinMap.Entries.{is_sorted};
     ghost use Rattle.std.specs.List.{list_all};
     ghost use Rattle.pg_types.specs.declared.limits.TheConstants.{FILE_MAX, LEVEL_MAX, PATTERN_SIGNS_MAX};
-    ghost use Rattle.pg_types.specs.Reading.{Gives};
-    ghost use Rattle.pg_types.specs.Signs.{is_sign};
+    ghost use Rattle.pg_types.specs.Inside.Answers.{Gives};
+    ghost use Rattle.pg_types.specs.Inside.Signs.{is_sign};
     ghost use Rattle.pg_patterns.specs.DottedSigns.{dotted_cmp};
-    ghost use Rattle.pg_patterns.specs.Values.{IsPatternMap, SignsUpTo, is_entry, raise, map_of_entries, largest};
+    ghost use Rattle.pg_patterns.specs.Values.{raise, map_of_entries, largest};
+    ghost use Rattle.pg_patterns.specs.Inside.PatternMaps.{IsPatternMap, SignsUpTo, is_entry};
     ghost use Rattle.pg_patterns.specs.Starts.{start};
     ghost use Rattle.pg_patterns.specs.Texts.{pattern_text};
     ghost use Rattle.pg_translate.specs.Alphabets.{letters_of};

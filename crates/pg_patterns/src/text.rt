@@ -1,8 +1,8 @@
 //! The text of a pattern file.
 ghost use Rattle.std.specs.Prelude.{◌≡◌, ◌+◌, ◌≤◌, ◌++◌, length, drop, All, OnOk, IfOk, IfSome};
 ghost use Rattle.pg_translate.specs.Alphabets.{letters_of};
-ghost use Rattle.pg_patterns.specs.DottedSigns.{same_dotted};
-ghost use Rattle.pg_patterns.specs.Values.{IsPatternMap, SignsUpTo};
+ghost use Rattle.pg_patterns.specs.Inside.PlaceOrder.{same_dotted};
+ghost use Rattle.pg_patterns.specs.Inside.PatternMaps.{IsPatternMap, SignsUpTo};
 ghost use Rattle.pg_patterns.specs.Inside.Search.{HasRank, first_value};
 ghost use Rattle.pg_patterns.specs.Texts.{value_digit, pattern_line, pattern_text};
 

@@ -5,11 +5,12 @@ use Rattle.std.proofs.lemmas.List.{length-take-le, length-drop, take-take, drop-
 use Rattle.std.specs.Cmp.Lexicographic.{bytes_decides}
 use Rattle.std.specs.List.{starts_with, list_all, list_any}
 use Rattle.pg_types.specs.declared.limits.TheConstants.{WORD_LETTERS_MAX}
-use Rattle.pg_patterns.specs.Values.{stands_at, applies, best, value_at, is_entry}
+use Rattle.pg_patterns.specs.Values.{stands_at, applies, best, value_at}
+use Rattle.pg_patterns.specs.Inside.PatternMaps.{is_entry}
 use Rattle.pg_select.specs.Windows.{Hopeless, window, fits, covered}
 use Rattle.pg_plain.specs.Inside.Strings.{is_string}
-use Rattle.pg_select.specs.Positions.{bit}
-use Rattle.pg_select.specs.Windows.{is_within}
+use Rattle.pg_select.specs.Inside.Positions.{bit}
+use Rattle.pg_select.specs.Inside.Within.{is_within}
 use Rattle.pg_select.proofs.Bits.{same_bits}
 use Rattle.pg_plain.specs.Inside.Greatest.{greatest}
 use Rattle.pg_types.proofs.BoolFacts.{and_first, and_second, all_weaker}

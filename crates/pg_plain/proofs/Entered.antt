@@ -5,9 +5,11 @@ use Rattle.std.proofs.lemmas.List.{append-nil}
 use Rattle.std.specs.BTreeMap.{insert_entry}
 use Rattle.std.specs.FinMap.Entries.{put, find}
 use Rattle.std.specs.List.{list_all}
-use Rattle.pg_types.specs.Signs.{is_sign}
-use Rattle.pg_patterns.specs.DottedSigns.{dotted_cmp, dotted_total, dotted_exact}
-use Rattle.pg_patterns.specs.Values.{raise, value_of, is_entry, IsPatternMap}
+use Rattle.pg_types.specs.Inside.Signs.{is_sign}
+use Rattle.pg_patterns.specs.DottedSigns.{dotted_cmp}
+use Rattle.pg_patterns.specs.Inside.PlaceOrder.{dotted_total, dotted_exact}
+use Rattle.pg_patterns.specs.Values.{raise, value_of}
+use Rattle.pg_patterns.specs.Inside.PatternMaps.{is_entry, IsPatternMap}
 use Rattle.pg_plain.specs.Inside.Strings.{is_string}
 use Rattle.pg_types.proofs.EntryLists.{insert-put, find_good, all_put, put_next}
 use Rattle.pg_types.proofs.BoolFacts.{and_first, and_second}

@@ -2,7 +2,7 @@
 ghost use Rattle.std.specs.Prelude.{◌≡◌, ℕ, ◌≤◌, true, nat_eq, length};
 ghost use Rattle.std.specs.List.{list_all};
 ghost use Rattle.pg_types.specs.declared.limits.TheConstants.{LEVEL_MAX, LENGTH_MAX};
-ghost use Rattle.pg_patterns.specs.Values.{is_entry};
+ghost use Rattle.pg_patterns.specs.Inside.PatternMaps.{is_entry};
 ghost use Rattle.pg_plain.specs.Inside.Strings.{is_string, has_signs_up_to};
 
 use crate::counts::CountedWindows;
@@ -41,8 +41,8 @@ pub struct PlainEngine {
 
 impl PlainEngine {
     ghost use Rattle.std.specs.Prelude.{◌≡◌, IfOk};
-    ghost use Rattle.pg_patterns.specs.Values.{SignsUpTo};
-    ghost use Rattle.pg_select.specs.Meanings.{new_engine};
+    ghost use Rattle.pg_patterns.specs.Inside.PatternMaps.{SignsUpTo};
+    ghost use Rattle.pg_select.specs.Inside.Meanings.{new_engine};
     ghost use Rattle.pg_plain.specs.Inside.Engines.{meaning_of};
 
     /// An engine with the greatest sign `signs` whose patterns are those of `start`. Nothing is

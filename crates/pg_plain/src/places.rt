@@ -3,7 +3,8 @@ ghost use Rattle.std.specs.Prelude.{◌≡◌, ℕ, Bool, true, List, OnOk, OnEr
 ghost use Rattle.std.specs.List.{list_all};
 ghost use Rattle.std.specs.FinMap.Entries.{put};
 ghost use Rattle.pg_patterns.specs.DottedSigns.{dotted_cmp};
-ghost use Rattle.pg_patterns.specs.Values.{raise, value_of, is_entry};
+ghost use Rattle.pg_patterns.specs.Values.{raise, value_of};
+ghost use Rattle.pg_patterns.specs.Inside.PatternMaps.{is_entry};
 
 use pg_patterns::{DottedSigns, Entry, PatternSet};
 use std::alloc::{AllocError, Global};

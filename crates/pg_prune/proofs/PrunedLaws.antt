@@ -7,13 +7,14 @@ use Rattle.std.proofs.lemmas.Bool.{and_from}
 use Rattle.pg_types.proofs.BoolFacts.{and_first, and_second, first_half, second_half, both_halves}
 use Rattle.pg_dict.specs.Word.{Word}
 use Rattle.pg_patterns.specs.DottedSigns.{dotted_cmp}
-use Rattle.pg_patterns.specs.Values.{IsPatternMap, is_entry}
+use Rattle.pg_patterns.specs.Inside.PatternMaps.{IsPatternMap, is_entry}
 use Rattle.pg_select.specs.CountedPositions.{Minima}
 use Rattle.pg_select.specs.Windows.{Patterns}
 use Rattle.pg_prune.specs.Places.{places}
 use Rattle.pg_prune.proofs.PlaceForms.{places_as}
 use Rattle.pg_prune.specs.Prunes.{break_alike, round, rounds, needs, pruned}
-use Rattle.pg_prune.specs.Promises.{BreakAlike, NoneCanGo, HasNeeds}
+use Rattle.pg_prune.specs.Promises.{BreakAlike, NoneCanGo}
+use Rattle.pg_prune.specs.Inside.Needs.{HasNeeds}
 use Rattle.pg_prune.proofs.RoundLaws.{rounds_keep, rounds_end, round_stays, NoneGoes}
 use Rattle.pg_prune.proofs.Told.{IsBehind, breaks_told, told_breaks, all_behind}
 use Rattle.pg_prune.proofs.NeedLaws.{alike_self, needs_behind, needs_many}

@@ -7,3 +7,4 @@ pub mod Ends
 pub mod Trails
 pub mod Findings
 pub mod WordPlaces
+pub mod Needs

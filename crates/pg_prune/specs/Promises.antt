@@ -1,25 +1,17 @@
 -- What pruning keeps, said without its rounds.
-use Rattle.std.specs.Prelude.{◌≡◌, ℕ, ◌%◌, ◌≤◌, List, ◌∷◌, ◌++◌, length, All}
+use Rattle.std.specs.Prelude.{◌≡◌, ℕ, ◌%◌, List, ◌∷◌, ◌++◌, length, All}
 use Rattle.pg_translate.specs.Reach.{positions}
 use Rattle.pg_dict.specs.Word.{Word}
 use Rattle.pg_patterns.specs.Values.{value_at}
 use Rattle.pg_select.specs.CountedPositions.{Minima}
 use Rattle.pg_select.specs.Windows.{Patterns}
-use Rattle.pg_prune.specs.declared.pruned.Need.{Need}
-use Rattle.pg_prune.specs.Prunes.{Found}
 
 -- two maps give each position in reach of each word values that are both odd or both even
 abbrev pub BreakAlike : Minima → List Word → Patterns → Patterns → Type 0
-BreakAlike m words P Q =
-    All (λ (w : Word). All (λ p. value_at P w.signs p % 2 ≡ value_at Q w.signs p % 2)
-    (positions m.left m.right (length w.signs))) words
+BreakAlike m words P Q = All (λ (w : Word). All (λ p. value_at P w.signs p % 2
+    ≡ value_at Q w.signs p % 2) (positions m.left m.right (length w.signs))) words
 
 -- no entry can be taken alone out of Q so that it still breaks alike with P
 abbrev pub NoneCanGo : Minima → List Word → Patterns → Patterns → Type 0
 NoneCanGo m words P Q = (before : Patterns) (e : (List ℕ × ℕ) × ℕ) (behind : Patterns)
     → Q ≡ before ++ e ∷ behind → ¬ BreakAlike m words P (before ++ behind)
-
--- each entry has a need, and each need is at a position behind the first edge
-pub record HasNeeds (f : Found) : Type 0 where
-  pub each : length f.needs ≡ length f.patterns
-  pub positions : All (λ (n : Need). 1 ≤ n.position) f.needs

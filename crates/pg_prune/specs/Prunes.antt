@@ -24,9 +24,8 @@ break_alike places P Q = list_all (break_alike_at P Q) places
 -- the first map P
 abbrev pub round_from : List WordPlace → Patterns → Patterns → Patterns → Patterns
 round_from places P kept [] = kept
-round_from places P kept (e ∷ rest) =
-    if break_alike places P (kept ++ rest) then round_from places P kept rest
-    else round_from places P (kept ++ e ∷ []) rest
+round_from places P kept (e ∷ rest) = if break_alike places P (kept ++ rest)
+    then round_from places P kept rest else round_from places P (kept ++ e ∷ []) rest
 
 -- a round through all entries of the map Q
 unfoldable pub round : List WordPlace → Patterns → Patterns → Patterns

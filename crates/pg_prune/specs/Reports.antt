@@ -16,15 +16,13 @@ entry_text t e = without_last (pattern_text t (e ∷ []))
 
 -- `keep E: word N after L letters`
 abbrev pub keep_line : Alphabet → (List ℕ × ℕ) × ℕ → Need → List ℕ
-keep_line t e n = codes "keep " ++ entry_text t e
-    ++ codes ": word " ++ decimal n.word ++ codes " after "
-    ++ decimal (n.position - 1) ++ codes " letters\n"
+keep_line t e n = codes "keep " ++ entry_text t e ++ codes ": word " ++ decimal n.word
+    ++ codes " after " ++ decimal (n.position - 1) ++ codes " letters\n"
 
 -- `rounds: R, removed X, kept Y`
 abbrev pub last_line : Found → List ℕ
-last_line f = codes "rounds: " ++ decimal f.rounds
-    ++ codes ", removed " ++ decimal f.removed ++ codes ", kept "
-    ++ decimal (length f.patterns) ++ codes "\n"
+last_line f = codes "rounds: " ++ decimal f.rounds ++ codes ", removed " ++ decimal f.removed
+    ++ codes ", kept " ++ decimal (length f.patterns) ++ codes "\n"
 
 -- the report: the line of each entry with its need, and the last line
 unfoldable pub prune_report : Alphabet → Found → List ℕ

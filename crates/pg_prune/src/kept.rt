@@ -1,6 +1,6 @@
 //! The patterns that stay.
 ghost use Rattle.std.specs.Prelude.{◌≡◌, ◌<◌, length, All, IfOk};
-ghost use Rattle.pg_patterns.specs.Values.{IsPatternMap};
+ghost use Rattle.pg_patterns.specs.Inside.PatternMaps.{IsPatternMap};
 ghost use Rattle.pg_prune.specs.Inside.Picks.{picked};
 
 use pg_patterns::{DottedSigns, PatternSet};

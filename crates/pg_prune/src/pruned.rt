@@ -24,7 +24,7 @@ pub struct Pruned {
 
 impl Model for Pruned {
     ghost use Rattle.pg_prune.specs.Prunes.{Found};
-    ghost use Rattle.pg_prune.specs.Promises.{HasNeeds};
+    ghost use Rattle.pg_prune.specs.Inside.Needs.{HasNeeds};
 
     ghost Value = { Found };
 
@@ -45,7 +45,7 @@ impl Model for Pruned {
 
 impl Pruned {
     ghost use Rattle.std.specs.Prelude.{◌≡◌};
-    ghost use Rattle.pg_prune.specs.Promises.{HasNeeds};
+    ghost use Rattle.pg_prune.specs.Inside.Needs.{HasNeeds};
 
     /// What pruning with these patterns, needs and numbers came to.
     pub(crate) fn new(patterns: PatternSet, needs: Vec<Need>, rounds: u64, removed: u64) -> Pruned

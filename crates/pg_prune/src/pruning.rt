@@ -1,13 +1,14 @@
 //! The call that prunes.
 ghost use Rattle.std.specs.Prelude.{◌≡◌, ◌+◌, List, map, IfOk, All, Contains};
 ghost use Rattle.pg_translate.specs.Alphabets.{letters_of};
-ghost use Rattle.pg_patterns.specs.Values.{SignsUpTo};
+ghost use Rattle.pg_patterns.specs.Inside.PatternMaps.{SignsUpTo};
 ghost use Rattle.pg_dict.specs.Word.{Word};
 ghost use Rattle.pg_select.specs.CountedPositions.{Minima, minima_of};
 ghost use Rattle.pg_prune.specs.Places.{places as places_of};
 ghost use Rattle.pg_prune.specs.Prunes.{need_at, pruned};
 ghost use Rattle.pg_prune.specs.Inside.Picks.{RoundsStart};
-ghost use Rattle.pg_prune.specs.Promises.{BreakAlike, NoneCanGo, HasNeeds};
+ghost use Rattle.pg_prune.specs.Promises.{BreakAlike, NoneCanGo};
+ghost use Rattle.pg_prune.specs.Inside.Needs.{HasNeeds};
 
 use crate::gather::gather;
 use crate::holders::Holders;

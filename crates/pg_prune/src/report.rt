@@ -1,7 +1,7 @@
 //! The report of what pruning comes to.
 ghost use Rattle.std.specs.Prelude.{◌≡◌, ◌≤◌, ◌+◌, ◌++◌, [], ◌∷◌, length, ◌<◌, decimal, OnOk, IfOk};
 ghost use Rattle.pg_translate.specs.Alphabets.{letters_of};
-ghost use Rattle.pg_patterns.specs.Values.{SignsUpTo};
+ghost use Rattle.pg_patterns.specs.Inside.PatternMaps.{SignsUpTo};
 ghost use Rattle.pg_prune.specs.Inside.Picks.{entry_of};
 ghost use Rattle.pg_prune.specs.Reports.{entry_text, keep_line, last_line, prune_report};
 

@@ -1,7 +1,7 @@
 //! The windows that a pass counts, with their sums of good and bad weights.
 ghost use Rattle.std.specs.Prelude.{◌<◌};
-ghost use Rattle.pg_types.specs.Limits.{begun_before_pass};
-ghost use Rattle.pg_dict.specs.Word.{SignsAtMost};
+ghost use Rattle.pg_types.specs.Inside.Limits.{begun_before_pass};
+ghost use Rattle.pg_dict.specs.Inside.SoundWords.{SignsAtMost};
 ghost use Rattle.pg_driver.specs.Inside.States.{IsPass};
 
 use crate::plain::count_words;

@@ -1,7 +1,7 @@
 //! The same run from both engines.
 ghost use Rattle.std.specs.Prelude.{◌+◌};
 ghost use Rattle.pg_translate.specs.Alphabets.{letters_of};
-ghost use Rattle.pg_dict.specs.Word.{SignsAtMost};
+ghost use Rattle.pg_dict.specs.Inside.SoundWords.{SignsAtMost};
 
 use crate::runs::{Inputs, packed_run, plain_run, read_inputs};
 use pg_driver::{LevelRecord, PassRecord, Run};

@@ -1,7 +1,7 @@
 //! Runs on the words of `sample`, over either engine.
 ghost use Rattle.std.specs.Prelude.{◌+◌, IfOk};
 ghost use Rattle.pg_translate.specs.Alphabets.{letters_of};
-ghost use Rattle.pg_dict.specs.Word.{SignsAtMost};
+ghost use Rattle.pg_dict.specs.Inside.SoundWords.{SignsAtMost};
 
 use pg_dict::Dictionary;
 use pg_driver::{Run, generate};

@@ -1,7 +1,7 @@
 //! The run of the driver beside a run that skips no pass, both over the packed engine.
 ghost use Rattle.std.specs.Prelude.{◌+◌};
 ghost use Rattle.pg_translate.specs.Alphabets.{letters_of};
-ghost use Rattle.pg_dict.specs.Word.{SignsAtMost};
+ghost use Rattle.pg_dict.specs.Inside.SoundWords.{SignsAtMost};
 
 use crate::plain::{PlainRun, run_plainly};
 use crate::runs::{Inputs, packed_run, read_inputs};

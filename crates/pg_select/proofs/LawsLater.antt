@@ -11,7 +11,8 @@ use Rattle.pg_patterns.specs.Values.{raise, applies, value_at}
 use Rattle.pg_select.specs.Statuses.{is_odd, status, status_at, position_weight}
 use Rattle.pg_select.specs.Windows.{Hopeless, window, fits, covered}
 use Rattle.pg_select.specs.declared.pass.Pass.{Pass}
-use Rattle.pg_select.specs.CountedPositions.{Minima, counts_as, counted_at, counted_positions_at, counted_positions_in, counted_positions}
+use Rattle.pg_select.specs.CountedPositions.{Minima, counts_as, counted_at, counted_positions_at, counted_positions}
+use Rattle.pg_select.specs.Inside.WordCounts.{counted_positions_in}
 use Rattle.pg_select.specs.Inside.Laws.{Later}
 use Rattle.pg_select.proofs.LawsTally.{counted_as}
 use Rattle.pg_select.proofs.LawsValues.{raised_to, covered_raised, covered_hopeless}

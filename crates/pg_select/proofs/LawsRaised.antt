@@ -17,7 +17,8 @@ use Rattle.pg_select.specs.Inside.Laws.{raised_all, hopeless_all}
 use Rattle.pg_select.specs.Statuses.{status_at, position_weight}
 use Rattle.pg_select.specs.Windows.{Hopeless, window, fits, covered, Patterns}
 use Rattle.pg_select.specs.declared.pass.Pass.{Pass}
-use Rattle.pg_select.specs.CountedPositions.{Minima, CountedPosition, Candidate, counts_as, counted_positions_at, counted_positions_in, counted_positions, same_signs, candidates, tally}
+use Rattle.pg_select.specs.CountedPositions.{Minima, CountedPosition, Candidate, counts_as, counted_positions_at, counted_positions, same_signs, candidates, tally}
+use Rattle.pg_select.specs.Inside.WordCounts.{counted_positions_in}
 use Rattle.pg_select.proofs.LawsTally.{same_window, counted_as, is_counted_window, candidates_are_counted}
 use Rattle.pg_select.proofs.LawsValues.{raised_value, covered_raised, covered_hopeless}
 use Rattle.pg_select.proofs.LawsClosed.{is_among}

@@ -14,11 +14,13 @@ use Rattle.pg_types.specs.declared.limits.TheConstants.{WEIGHT_MAX, FILE_MAX}
 use Rattle.pg_types.specs.declared.marks.Mark.{Mark}
 use Rattle.pg_types.specs.declared.marks.Mark.TheVariants.{Nothing, Error, Missed, Found, DontCare}
 use Rattle.pg_translate.specs.Reach.{positions}
-use Rattle.pg_dict.specs.Word.{Word, IsWord, letter_count}
+use Rattle.pg_dict.specs.Word.{Word}
+use Rattle.pg_dict.specs.Inside.SoundWords.{IsWord, letter_count}
 use Rattle.pg_select.specs.Statuses.{status_at, position_weight}
 use Rattle.pg_select.specs.Windows.{Hopeless, window}
 use Rattle.pg_select.specs.declared.pass.Pass.{Pass}
-use Rattle.pg_select.specs.CountedPositions.{Minima, CountedPosition, counted_at, counted_positions_at, counted_positions_in, counted_positions, same_signs, with_window, candidates, good_of, bad_of}
+use Rattle.pg_select.specs.CountedPositions.{Minima, CountedPosition, counted_at, counted_positions_at, counted_positions, same_signs, with_window, candidates, good_of, bad_of}
+use Rattle.pg_select.specs.Inside.WordCounts.{counted_positions_in}
 use Rattle.pg_select.specs.Sums.{is_found, is_error, is_missed, weight_of, marks_in, totals}
 use Rattle.pg_select.specs.Inside.Laws.{AreFew, positions_in}
 use Rattle.pg_select.proofs.LawsTally.{cmp, counted_as, keys_length}

@@ -6,7 +6,8 @@ use Rattle.std.specs.Ordering.{is_eq, eq_by_cmp}
 use Rattle.std.specs.List.{list_any}
 use Rattle.std.specs.FinMap.Entries.{put, find, by_order}
 use Rattle.std.proofs.lemmas.Bool.{le-leb, cases_lt, and_parts}
-use Rattle.pg_patterns.specs.DottedSigns.{dotted_cmp, dotted_exact}
+use Rattle.pg_patterns.specs.DottedSigns.{dotted_cmp}
+use Rattle.pg_patterns.specs.Inside.PlaceOrder.{dotted_exact}
 use Rattle.pg_patterns.specs.Values.{value_of, raise, best, applies, value_at}
 use Rattle.pg_types.proofs.BoolFacts.{equal_is}
 use Rattle.pg_patterns.proofs.Joins.{only}

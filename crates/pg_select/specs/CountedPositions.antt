@@ -39,30 +39,21 @@ counts_as level DontCare = None
 
 -- whether a position counts as good or bad in a pass: its window fits, and is not covered
 abbrev pub counted_at : Pass → Patterns → Hopeless → Word → ℕ → Option Bool
-counted_at pass P H w p =
-    if fits w.signs p pass.len pass.dot
+counted_at pass P H w p = if fits w.signs p pass.len pass.dot
     && not (covered pass.level P H (window w.signs p pass.len pass.dot) pass.dot)
     then counts_as pass.level (status_at P w p) else None
 
 -- what a pass counts at a position
 abbrev pub counted_positions_at : Pass → Patterns → Hopeless → Word → ℕ → List CountedPosition
-counted_positions_at pass P H w p = option_map_or
-    (λ good. record {
-      window = window w.signs p pass.len pass.dot;
-      good = good;
-      weight = position_weight w p;
-    } ∷ [])
+counted_positions_at pass P H w p = let u = window w.signs p pass.len pass.dot in option_map_or
+    (λ good. record { window = u; good = good; weight = position_weight w p } ∷ [])
     (counted_at pass P H w p) []
 
--- what a pass counts in a word: at each position in reach
-abbrev pub counted_positions_in : Minima → Pass → Patterns → Hopeless → Word → List CountedPosition
-counted_positions_in m pass P H w = flat_map (counted_positions_at pass P H w)
-    (positions m.left m.right (length w.signs))
-
--- what a pass counts in all words
+-- what a pass counts in all words: at each position in reach
 abbrev pub counted_positions : Minima → List Word
     → Pass → Patterns → Hopeless → List CountedPosition
-counted_positions m words pass P H = flat_map (counted_positions_in m pass P H) words
+counted_positions m words pass P H = flat_map (λ (w : Word). flat_map
+    (counted_positions_at pass P H w) (positions m.left m.right (length w.signs))) words
 
 -- two windows have the same signs
 abbrev pub same_signs : List ℕ → List ℕ → Bool

@@ -3,3 +3,8 @@ pub mod Laws
 pub mod LawsSteps
 pub mod LawsClosedDots
 pub mod LawsAbove
+pub mod Meanings
+pub mod Positions
+pub mod SumSteps
+pub mod Within
+pub mod WordCounts

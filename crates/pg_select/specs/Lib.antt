@@ -4,6 +4,4 @@ pub mod Windows
 pub mod CountedPositions
 pub mod Sums
 pub mod AnyPositions
-pub mod Positions
-pub mod Meanings
 pub mod Inside

@@ -13,10 +13,8 @@ is_odd n = n % 2 == 1
 
 -- the status of a position with this hyphen, care and value
 abbrev pub status : Bool → Bool → ℕ → Mark
-status hyphen care value = if care
-    then (if hyphen then (if is_odd value then Found else Missed)
-    else (if is_odd value then Error else Nothing))
-    else DontCare
+status hyphen care value = if care then (if hyphen then (if is_odd value then Found else Missed)
+    else (if is_odd value then Error else Nothing)) else DontCare
 
 -- the status of a position in reach, by the patterns
 abbrev pub status_at : Patterns → Word → ℕ → Mark

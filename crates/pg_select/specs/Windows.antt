@@ -19,11 +19,6 @@ window w p len d = take len (drop (p - d) w)
 abbrev pub fits : List ℕ → ℕ → ℕ → ℕ → Bool
 fits w p len d = nat_le d p && nat_le (p - d + len) (length w)
 
--- a string of n signs, which stands in a word with its dot d at the dot of a window, stands in the
--- window
-abbrev pub is_within : ℕ → ℕ → ℕ → ℕ → Bool
-is_within len dot n d = nat_le d dot && nat_le (n + dot) (len + d)
-
 -- at a level, a window with its dot is covered where some string stands in it that has at that dot
 -- a value of at least the level, or is hopeless there
 abbrev pub covered : ℕ → Patterns → Hopeless → List ℕ → ℕ → Bool

@@ -1,7 +1,7 @@
 //! The choice among candidates, and the status of a position.
 ghost use Rattle.std.specs.Prelude.{◌≡◌, ◌<◌, ◌≤◌};
-ghost use Rattle.pg_types.specs.Limits.{sums_limit};
-ghost use Rattle.pg_types.specs.Parameters.{IsLevel};
+ghost use Rattle.pg_types.specs.Inside.Limits.{sums_limit};
+ghost use Rattle.pg_types.specs.Inside.Ranges.{IsLevel};
 ghost use Rattle.pg_select.specs.Choices.{choice};
 ghost use Rattle.pg_select.specs.Statuses.{status as status_of};
 

@@ -1,10 +1,10 @@
 //! The contract of an engine, which holds patterns and counts windows.
 ghost use Rattle.std.specs.Prelude.{◌≡◌, ℕ, ◌≤◌, ◌<◌, ◌+◌, ◌++◌, true, List, length, Some, IfOk, OnOk, OnErr, IsOk};
 ghost use Rattle.pg_types.specs.declared.limits.TheConstants.{LEVEL_MAX, LENGTH_MAX, WEIGHT_MAX, WORD_LETTERS_MAX};
-ghost use Rattle.pg_types.specs.Limits.{begun_before_pass};
-ghost use Rattle.pg_types.specs.Counts.{AreSmall, IsNextAbove, SignsWithin, counted_sums, sums_of, with_weight, is_counted};
-ghost use Rattle.pg_types.specs.Numbered.{AreInOrder, HasNumber};
-ghost use Rattle.pg_select.specs.Meanings.{Meaning, IsKept, KeepsButFamilies, SetsValues, SetsCovers, IsLayout, after_begin_pass, after_count, after_choose, after_give_up, after_end_level};
+ghost use Rattle.pg_types.specs.Inside.Limits.{begun_before_pass};
+ghost use Rattle.pg_types.specs.Inside.Counts.{AreSmall, IsNextAbove, SignsWithin, counted_sums, sums_of, with_weight, is_counted};
+ghost use Rattle.pg_types.specs.Inside.Numbered.{AreInOrder, HasNumber};
+ghost use Rattle.pg_select.specs.Inside.Meanings.{Meaning, IsKept, KeepsButFamilies, SetsValues, SetsCovers, IsLayout, after_begin_pass, after_count, after_choose, after_give_up, after_end_level};
 
 use crate::word_state::WordState;
 use pg_dict::WordRef;

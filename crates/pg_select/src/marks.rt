@@ -3,11 +3,12 @@ ghost use Rattle.std.specs.Prelude.{ℕ, ◌≡◌, ◌<◌, ◌≤◌, ◌+◌,
 ghost use Rattle.std.specs.List.{range_with_len};
 ghost use Rattle.pg_types.specs.declared.limits.TheConstants.{WORD_LETTERS_MAX};
 ghost use Rattle.pg_translate.specs.Reach.{positions as positions_of};
-ghost use Rattle.pg_dict.specs.Word.{IsWord, letter_count};
+ghost use Rattle.pg_dict.specs.Inside.SoundWords.{IsWord, letter_count};
 ghost use Rattle.pg_dict.specs.Inside.Lent.{lent_word};
 ghost use Rattle.pg_select.specs.CountedPositions.{minima_of};
 ghost use Rattle.pg_select.specs.Statuses.{status as status_of};
-ghost use Rattle.pg_select.specs.Sums.{marks_by, with_mark, with_marks, sum_of, HasRoomFor, TookRoomFor};
+ghost use Rattle.pg_select.specs.Sums.{marks_by};
+ghost use Rattle.pg_select.specs.Inside.SumSteps.{with_mark, with_marks, sum_of, HasRoomFor, TookRoomFor};
 
 use crate::choice::status;
 use crate::word_state::WordState;

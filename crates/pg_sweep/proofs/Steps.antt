@@ -6,7 +6,8 @@ use Rattle.std.proofs.lemmas.List.{take_more, drop_more, map-append, drop-map}
 use Rattle.std.proofs.lemmas.List.Elements.{All-cons, All-tail}
 use Rattle.std.proofs.lemmas.List.FromFn.{sum_by-map-range_with_len_more}
 use Rattle.pg_types.specs.declared.marks.Totals.{Totals}
-use Rattle.pg_dict.specs.Word.{Word, SignsAtMost}
+use Rattle.pg_dict.specs.Word.{Word}
+use Rattle.pg_dict.specs.Inside.SoundWords.{SignsAtMost}
 use Rattle.pg_dict.specs.Parts.{is_in_part, part_from}
 use Rattle.pg_sweep.specs.declared.rows.SweepRow.{SweepRow}
 use Rattle.pg_sweep.specs.Files.{row_data, rows_data}

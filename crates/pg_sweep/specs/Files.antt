@@ -7,8 +7,7 @@ use Rattle.pg_sweep.specs.declared.rows.SweepRow.{SweepRow}
 
 -- the object of a row: its members stand in the order of their names
 abbrev pub row_data : ℕ → SweepRow → Data
-row_data set row = object (
-    member (codes "bad") (number (unsigned row.totals.bad)) (
+row_data set row = object (member (codes "bad") (number (unsigned row.totals.bad)) (
     member (codes "cost") (number (unsigned row.cost)) (
     member (codes "good") (number (unsigned row.totals.good)) (
     member (codes "missed") (number (unsigned row.totals.missed)) (
@@ -21,8 +20,7 @@ rows_data set (row ∷ rows) = row_data set row ∷ rows_data (set + 1) rows
 
 -- the object of a sweep
 abbrev pub sweep_data : ℕ → List SweepRow → ℕ → Data
-sweep_data folds rows winner = object (
-    member (codes "folds") (number (unsigned folds)) (
+sweep_data folds rows winner = object (member (codes "folds") (number (unsigned folds)) (
     member (codes "rows") (array (items_of (rows_data 1 rows))) (
     member (codes "winner") (number (unsigned winner)) no_members)))
 

@@ -1,3 +1,4 @@
 -- What only contracts between layers and proofs need.
 pub mod Given
 pub mod Least
+pub mod Found

@@ -8,8 +8,7 @@ use Rattle.pg_dict.specs.Word.{Word}
 use Rattle.pg_dict.specs.Parts.{part_of}
 use Rattle.pg_select.specs.Windows.{Patterns}
 use Rattle.pg_driver.specs.Accounts.{totals_by}
-use Rattle.pg_driver.specs.Told.{over}
-use Rattle.pg_driver.specs.Traces.{trace, final_patterns}
+use Rattle.pg_driver.specs.Traces.{trace, final_patterns, over}
 use Rattle.pg_sweep.specs.declared.rows.SweepRow.{SweepRow}
 
 -- what the runs of a sweep share: the table, the words, the patterns to start with, and the number
@@ -43,8 +42,3 @@ row_of s bad missed set = let t = summed (map (fold_totals s set) (range_with_le
 -- what the rows cost
 abbrev pub costs_of : List SweepRow → List ℕ
 costs_of rows = map (λ (r : SweepRow). r.cost) rows
-
--- what a sweep found: its rows, and the number of the winner
-pub record Found : Type 0 where
-  pub rows : List SweepRow
-  pub winner : ℕ

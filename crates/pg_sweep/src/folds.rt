@@ -1,9 +1,9 @@
 //! The runs of a set of parameters, each without the words of a fold.
 ghost use Rattle.std.specs.Prelude.{◌≡◌, ◌≤◌, ◌<◌, ◌+◌, ◌*◌, IfOk};
 ghost use Rattle.pg_translate.specs.Alphabets.{letters_of};
-ghost use Rattle.pg_dict.specs.Word.{SignsAtMost};
-ghost use Rattle.pg_patterns.specs.Values.{SignsUpTo};
-ghost use Rattle.pg_driver.specs.Sound.{IsSmall};
+ghost use Rattle.pg_dict.specs.Inside.SoundWords.{SignsAtMost};
+ghost use Rattle.pg_patterns.specs.Inside.PatternMaps.{SignsUpTo};
+ghost use Rattle.pg_driver.specs.Inside.Sound.{IsSmall};
 ghost use Rattle.pg_sweep.specs.Sweeps.{fold_totals};
 ghost use Rattle.pg_sweep.specs.Inside.Given.{terms, totals_of_folds, HasSigns, IsSmallFor};
 

@@ -11,7 +11,8 @@ pub struct Sweep {
 }
 
 impl Model for Sweep {
-    ghost use Rattle.pg_sweep.specs.Sweeps.{Found, costs_of};
+    ghost use Rattle.pg_sweep.specs.Sweeps.{costs_of};
+    ghost use Rattle.pg_sweep.specs.Inside.Found.{Found};
     ghost use Rattle.pg_sweep.specs.Winners.{IsWinner};
 
     ghost Value = { Found };

@@ -7,8 +7,8 @@ use std::alloc::{AllocError, Global};
 pub trait Maker {
     ghost use Rattle.std.specs.Prelude.{◌≡◌, ◌≤◌, IfOk};
     ghost use Rattle.pg_types.specs.declared.limits.TheConstants.{SIGNS_MAX};
-    ghost use Rattle.pg_patterns.specs.Values.{SignsUpTo};
-    ghost use Rattle.pg_select.specs.Meanings.{new_engine};
+    ghost use Rattle.pg_patterns.specs.Inside.PatternMaps.{SignsUpTo};
+    ghost use Rattle.pg_select.specs.Inside.Meanings.{new_engine};
 
     /// The engines that it makes.
     type Made: Engine + Drop;

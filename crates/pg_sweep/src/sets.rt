@@ -1,8 +1,8 @@
 //! The sweep over sets of parameters.
 ghost use Rattle.std.specs.Prelude.{◌≡◌, ◌≤◌, ◌+◌, ◌*◌, length, map, IfOk};
 ghost use Rattle.pg_translate.specs.Alphabets.{letters_of};
-ghost use Rattle.pg_dict.specs.Word.{SignsAtMost};
-ghost use Rattle.pg_patterns.specs.Values.{SignsUpTo};
+ghost use Rattle.pg_dict.specs.Inside.SoundWords.{SignsAtMost};
+ghost use Rattle.pg_patterns.specs.Inside.PatternMaps.{SignsUpTo};
 ghost use Rattle.pg_sweep.specs.Sweeps.{row_of, costs_of};
 ghost use Rattle.pg_sweep.specs.Winners.{winner_of};
 ghost use Rattle.pg_sweep.specs.Inside.Given.{IsSmallFor};

@@ -7,7 +7,8 @@ use Rattle.pg_outputs.specs.declared.records.Record.{Record}
 use Rattle.pg_table.specs.declared.cell.Cell.{Cell}
 use Rattle.pg_table.specs.declared.head.Head.{Head}
 use Rattle.pg_table.specs.declared.limits.TheConstants.{TABLE_MAX}
-use Rattle.pg_table.specs.Forms.{file_mark, head_of, cell_at, record_at, read_record, record_start, file_len, fits_head, has_head, is_sound_cell, is_sound_record, is_well_formed}
+use Rattle.pg_table.specs.Forms.{file_mark, head_of, cell_at, record_at, has_head, is_sound_cell, is_sound_record, is_well_formed}
+use Rattle.pg_table.specs.Inside.Extents.{read_record, record_start, file_len, fits_head}
 use Rattle.pg_table.proofs.Ranges.{range_passes, range_tells}
 
 pub record FitsHead (h : Head) (len : ℕ) : Type 0 where

@@ -3,7 +3,7 @@ use Rattle.std.proofs.Common.{◌≡◌, List, ◌∷◌, sym, ap, ◌∙◌, �
 use Rattle.std.specs.List.{flat_map}
 use Rattle.pg_types.specs.declared.marks.Totals.{Totals}
 use Rattle.pg_dict.specs.Word.{Word}
-use Rattle.pg_select.specs.Sums.{with_marks}
+use Rattle.pg_select.specs.Inside.SumSteps.{with_marks}
 use Rattle.pg_select.specs.CountedPositions.{Minima}
 use Rattle.pg_select.proofs.MarkSteps.{marks_append}
 use Rattle.pg_table.specs.Lookups.{table_marks}

@@ -8,8 +8,9 @@ use Rattle.std.proofs.lemmas.Option.{slice_get_within, get_or_from_slice_get}
 use Rattle.pg_types.specs.declared.limits.TheConstants.{PATTERN_SIGNS_MAX}
 use Rattle.pg_dict.specs.Word.{Word}
 use Rattle.pg_translate.specs.Reach.{positions}
-use Rattle.pg_patterns.specs.DottedSigns.{same_dotted}
-use Rattle.pg_patterns.specs.Values.{IsPatternMap, is_entry, best, applies, stands_at, value_at}
+use Rattle.pg_patterns.specs.Inside.PlaceOrder.{same_dotted}
+use Rattle.pg_patterns.specs.Values.{best, applies, stands_at, value_at}
+use Rattle.pg_patterns.specs.Inside.PatternMaps.{IsPatternMap, is_entry}
 use Rattle.pg_patterns.proofs.Kept.{value_of_sorted}
 use Rattle.pg_patterns.proofs.Sound.{entry_bounds, entry_at}
 use Rattle.pg_cells.proofs.StringMaps.{same_from, same_itself}

@@ -6,7 +6,7 @@ use Rattle.std.proofs.lemmas.Bool.{cases_Bool}
 use Rattle.std.proofs.lemmas.List.Elements.{All-nil, All-cons}
 use Rattle.std.proofs.lemmas.List.Sums.{fold-append}
 use Rattle.pg_types.specs.Tails.{outputs_of, suffixes}
-use Rattle.pg_patterns.specs.Values.{is_entry}
+use Rattle.pg_patterns.specs.Inside.PatternMaps.{is_entry}
 use Rattle.pg_patterns.specs.Texts.{strings_of, with_string}
 use Rattle.pg_types.proofs.BoolFacts.{and_first, and_second}
 use Rattle.pg_patterns.proofs.Sound.{entry_bounds}

@@ -7,8 +7,9 @@ use Rattle.std.proofs.lemmas.List.{length-map, same_lists}
 use Rattle.std.proofs.lemmas.Option.{slice_get-map, get_or_from_slice_get, slice_get-get_or}
 use Rattle.pg_types.specs.declared.limits.TheConstants.{LEVEL_MAX, PATTERN_SIGNS_MAX}
 use Rattle.pg_types.specs.Tails.{outputs_of}
-use Rattle.pg_patterns.specs.DottedSigns.{same_dotted}
-use Rattle.pg_patterns.specs.Values.{IsPatternMap, best, value_of}
+use Rattle.pg_patterns.specs.Inside.PlaceOrder.{same_dotted}
+use Rattle.pg_patterns.specs.Values.{best, value_of}
+use Rattle.pg_patterns.specs.Inside.PatternMaps.{IsPatternMap}
 use Rattle.pg_patterns.proofs.Kept.{value_of_sorted}
 use Rattle.pg_outputs.specs.declared.records.Record.{Record}
 use Rattle.pg_outputs.specs.Lists.{list_of}

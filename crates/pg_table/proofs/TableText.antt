@@ -9,8 +9,9 @@ use Rattle.std.proofs.lemmas.Option.{slice_get-map, slice_get-get_or, get_or_fro
 use Rattle.pg_types.specs.declared.limits.TheConstants.{SIGNS_MAX}
 use Rattle.pg_types.specs.Placement.{cell_of, top}
 use Rattle.pg_types.specs.Tails.{outputs_of}
-use Rattle.pg_patterns.specs.Values.{IsPatternMap, value_of}
-use Rattle.pg_cells.specs.ValuedFamilies.{ValuedFamilies}
+use Rattle.pg_patterns.specs.Values.{value_of}
+use Rattle.pg_patterns.specs.Inside.PatternMaps.{IsPatternMap}
+use Rattle.pg_cells.specs.Inside.ValuedFamilies.{ValuedFamilies}
 use Rattle.pg_outputs.specs.declared.records.Record.{Record}
 use Rattle.pg_outputs.specs.Lists.{list_of}
 use Rattle.pg_table.specs.declared.cell.Cell.{Cell}

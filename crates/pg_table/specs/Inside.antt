@@ -5,3 +5,4 @@ pub mod Raising
 pub mod Rows
 pub mod Sharing
 pub mod Greatest
+pub mod Extents

@@ -84,9 +84,8 @@ table_records P = map (record_of (recorded P)) (recorded P)
 
 -- a file with these cells and records
 abbrev pub file_of : ℕ → List Cell → List Record → List ℕ
-file_of n cells records = file_mark ++ u32_bytes n
-    ++ u32_bytes (length cells) ++ u32_bytes (length records)
-    ++ flat_map cell_bytes cells ++ flat_map record_bytes records
+file_of n cells records = file_mark ++ u32_bytes n ++ u32_bytes (length cells)
+    ++ u32_bytes (length records) ++ flat_map cell_bytes cells ++ flat_map record_bytes records
 
 -- the packed table file of the patterns P, where n is the greatest sign
 unfoldable pub table_text : ℕ → List ((List ℕ × ℕ) × ℕ) → List ℕ

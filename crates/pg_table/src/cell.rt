@@ -1,6 +1,7 @@
 //! A cell of a packed table.
 ghost use Rattle.std.specs.Prelude.{◌≡◌, ◌+◌, ◌≤◌, length};
-ghost use Rattle.pg_table.specs.Forms.{cell_start, cell_at, is_sound_cell, file_len};
+ghost use Rattle.pg_table.specs.Forms.{cell_at, is_sound_cell};
+ghost use Rattle.pg_table.specs.Inside.Extents.{cell_start, file_len};
 
 use crate::head::Head;
 use crate::limits::{CELL_LEN, HEAD_LEN};

@@ -1,8 +1,9 @@
 //! The cells and the shared lists of patterns.
 ghost use Rattle.std.specs.Prelude.{◌≡◌, ℕ, ◌<◌, ◌≤◌, List, length, map, slice_get, Some, IfOk};
 ghost use Rattle.pg_types.specs.declared.limits.TheConstants.{SIGNS_MAX};
-ghost use Rattle.pg_patterns.specs.Values.{SignsUpTo};
-ghost use Rattle.pg_outputs.specs.Lists.{list_of, Grows};
+ghost use Rattle.pg_patterns.specs.Inside.PatternMaps.{SignsUpTo};
+ghost use Rattle.pg_outputs.specs.Lists.{list_of};
+ghost use Rattle.pg_outputs.specs.Inside.Heads.{Grows};
 ghost use Rattle.pg_table.specs.Inside.Packed.{IsGroup, IsEntered, pairs};
 ghost use Rattle.pg_table.specs.Inside.Sharing.{Lists, Shares, turned, with_ends};
 

@@ -1,6 +1,7 @@
 //! The head of a packed table.
 ghost use Rattle.std.specs.Prelude.{◌≡◌, true, false, MatchOption};
-ghost use Rattle.pg_table.specs.Forms.{head_of, has_head, fits_head};
+ghost use Rattle.pg_table.specs.Forms.{head_of, has_head};
+ghost use Rattle.pg_table.specs.Inside.Extents.{fits_head};
 
 use crate::limits::{CELL_LEN, HEAD_LEN, RECORD_LEN, TABLE_MAX};
 use crate::numbers::u32_at;

@@ -1,6 +1,7 @@
 //! A record of a packed table.
 ghost use Rattle.std.specs.Prelude.{◌≡◌, ◌+◌, ◌≤◌, length};
-ghost use Rattle.pg_table.specs.Forms.{record_start, read_record, is_sound_record};
+ghost use Rattle.pg_table.specs.Forms.{is_sound_record};
+ghost use Rattle.pg_table.specs.Inside.Extents.{record_start, read_record};
 
 use crate::cell::cell_start;
 use crate::limits::RECORD_LEN;

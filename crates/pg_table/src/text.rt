@@ -3,7 +3,7 @@ ghost use Rattle.std.specs.Prelude.{◌≡◌, ◌+◌, ◌*◌, ◌<◌, ◌≤
 ghost use Rattle.std.specs.List.{flat_map};
 ghost use Rattle.pg_types.specs.declared.limits.TheConstants.{SIGNS_MAX};
 ghost use Rattle.pg_types.specs.Placement.{top};
-ghost use Rattle.pg_patterns.specs.Values.{SignsUpTo};
+ghost use Rattle.pg_patterns.specs.Inside.PatternMaps.{SignsUpTo};
 ghost use Rattle.pg_table.specs.declared.error.TableError.TheVariants.{TooLong};
 ghost use Rattle.pg_table.specs.declared.limits.TheConstants.{TABLE_MAX};
 ghost use Rattle.pg_table.specs.Forms.{is_well_formed};

@@ -1,11 +1,11 @@
 //! The totals of a word list by a packed table.
 ghost use Rattle.std.specs.Prelude.{◌≡◌, ◌<◌, ◌≤◌, ◌+◌, ◌-◌, ◌^◌, [], true, false, length, slice_index, slice_index_or, All, IfSome, IfNone};
-ghost use Rattle.pg_dict.specs.Word.{IsWord, SignsAtMost, letter_count};
+ghost use Rattle.pg_dict.specs.Inside.SoundWords.{IsWord, SignsAtMost, letter_count};
 ghost use Rattle.pg_dict.specs.Inside.Lent.{lent_word};
 ghost use Rattle.pg_table.specs.Forms.{head_of};
 ghost use Rattle.pg_table.specs.Lookups.{table_marks, table_totals};
 ghost use Rattle.pg_select.specs.CountedPositions.{minima_of};
-ghost use Rattle.pg_select.specs.Sums.{sum_of, with_marks, HasRoomFor, TookRoomFor};
+ghost use Rattle.pg_select.specs.Inside.SumSteps.{sum_of, with_marks, HasRoomFor, TookRoomFor};
 
 use crate::view::TableView;
 use pg_dict::{Dictionary, WordRef};

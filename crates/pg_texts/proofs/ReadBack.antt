@@ -9,7 +9,8 @@ use Rattle.pg_types.specs.declared.marks.Mark.{Mark}
 use Rattle.pg_translate.specs.Alphabets.{Alphabet, letters_of}
 use Rattle.pg_translate.specs.Tokens.{Token}
 use Rattle.pg_translate.specs.Inside.Items.{text_of_items}
-use Rattle.pg_dict.specs.Word.{Word, IsWord, SignsAtMost}
+use Rattle.pg_dict.specs.Word.{Word}
+use Rattle.pg_dict.specs.Inside.SoundWords.{IsWord, SignsAtMost}
 use Rattle.pg_dict.specs.Words.{line_reading, line_word, words}
 use Rattle.pg_dict.specs.Inside.Written.{AreMarksOf, word_tokens, letters_among, IsLine, file_of, LinesGive}
 use Rattle.pg_select.specs.Windows.{Patterns}

@@ -13,7 +13,8 @@ use Rattle.pg_translate.specs.Alphabets.{Alphabet, letters_of, spelling_of, mark
 use Rattle.pg_translate.specs.Tokens.{Token, Letter, Digit, Weight, Marked, Edge}
 use Rattle.pg_translate.specs.Inside.Items.{IsItem, text_of_items}
 use Rattle.pg_translate.specs.declared.items.Place.TheVariants.{Dictionary}
-use Rattle.pg_dict.specs.Word.{Word, IsWord}
+use Rattle.pg_dict.specs.Word.{Word}
+use Rattle.pg_dict.specs.Inside.SoundWords.{IsWord}
 use Rattle.pg_dict.specs.Inside.Written.{Written, mark_tokens, weight_tokens, number_token, letters_tokens, written_letters, between_letters, letters_with, word_tokens, letters_among}
 use Rattle.pg_select.specs.Statuses.{position_weight}
 use Rattle.pg_texts.specs.PattmpTexts.{mark_text, weight_text, letter_text, position_text, word_text}

@@ -5,8 +5,9 @@ use Rattle.std.specs.List.{slice_get}
 use Rattle.std.proofs.lemmas.Bool.{cases_Bool}
 use Rattle.std.proofs.lemmas.Simd.{map-map}
 use Rattle.std.proofs.lemmas.Option.{slice_get-get_or, get_or_from_slice_get}
-use Rattle.pg_dict.specs.PositionedSigns.{sets_hyphen, keeps_care}
-use Rattle.pg_dict.specs.Word.{Word, IsWord}
+use Rattle.pg_dict.specs.Words.{sets_hyphen, keeps_care}
+use Rattle.pg_dict.specs.Word.{Word}
+use Rattle.pg_dict.specs.Inside.SoundWords.{IsWord}
 use Rattle.pg_dict.specs.Inside.Written.{AreMarksOf}
 use Rattle.pg_select.specs.Statuses.{status, is_odd}
 use Rattle.pg_translate.specs.Alphabets.{Alphabet}

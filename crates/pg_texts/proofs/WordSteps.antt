@@ -7,8 +7,9 @@ use Rattle.std.proofs.lemmas.Option.{get_or_from_slice_get, slice_get_within}
 use Rattle.pg_types.specs.declared.marks.Mark.{Mark}
 use Rattle.pg_translate.specs.Alphabets.{Alphabet}
 use Rattle.pg_translate.specs.Reach.{reach, positions}
-use Rattle.pg_dict.specs.Word.{Word, IsWord, SignsAtMost}
-use Rattle.pg_types.specs.Counts.{SignsWithin}
+use Rattle.pg_dict.specs.Word.{Word}
+use Rattle.pg_dict.specs.Inside.SoundWords.{IsWord, SignsAtMost}
+use Rattle.pg_types.specs.Inside.Counts.{SignsWithin}
 use Rattle.pg_patterns.specs.Values.{value_at}
 use Rattle.pg_select.specs.Statuses.{status}
 use Rattle.pg_select.specs.Windows.{Patterns}

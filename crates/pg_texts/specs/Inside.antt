@@ -1,3 +1,4 @@
 -- What only contracts between layers and proofs need.
 pub mod Told
 pub mod Found
+pub mod ReadBack

@@ -1,13 +1,11 @@
 -- The text of the hyphenated list.
-use Rattle.std.specs.Prelude.{◌≡◌, ◌≤◌, ℕ, ◌-◌, ◌==◌, nat_lt, Bool, if◌then◌else◌, List, [], ◌∷◌, ◌++◌, length, filter, is_some, slice_index, codes, decimal, Ok}
+use Rattle.std.specs.Prelude.{ℕ, ◌-◌, ◌==◌, nat_lt, Bool, if◌then◌else◌, List, [], ◌∷◌, ◌++◌, length, filter, is_some, slice_index, codes, decimal}
 use Rattle.std.specs.List.{flat_map, range_with_len}
-use Rattle.pg_types.specs.declared.limits.TheConstants.{FILE_MAX}
 use Rattle.pg_types.specs.declared.marks.Mark.{Mark}
 use Rattle.pg_types.specs.declared.marks.Mark.TheVariants.{Nothing}
 use Rattle.pg_translate.specs.Alphabets.{Alphabet, spelling_of, mark_byte_of}
 use Rattle.pg_translate.specs.Reach.{reach}
 use Rattle.pg_dict.specs.Word.{Word}
-use Rattle.pg_dict.specs.Words.{words as words_of}
 use Rattle.pg_select.specs.Statuses.{position_weight}
 use Rattle.pg_select.specs.AnyPositions.{status_of_position}
 use Rattle.pg_select.specs.Windows.{Patterns}
@@ -65,8 +63,3 @@ lines_behind t P weight (w ∷ ws) = weight_text weight w.weight
 -- the list: a line for each word that takes part
 abbrev pub pattmp_text : Alphabet → Patterns → List Word → List ℕ
 pattmp_text t P words = lines_behind t P 1 (words_taking_part t words)
-
--- a text of at most 2^26 bytes is a dictionary file, under the table, of those of the words that
--- take part
-abbrev pub ReadsBack : Alphabet → List Word → List ℕ → Type 0
-ReadsBack t words text = length text ≤ FILE_MAX → words_of t text ≡ Ok (words_taking_part t words)

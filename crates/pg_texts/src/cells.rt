@@ -2,7 +2,7 @@
 ghost use Rattle.std.specs.Prelude.{◌≡◌, ◌++◌, map, All, IsSome, OnOk, IfOk, Some};
 ghost use Rattle.std.specs.List.{flat_map};
 ghost use Rattle.pg_driver.specs.Layouts.{CellsAccount};
-ghost use Rattle.pg_driver.specs.Told.{TellsCells};
+ghost use Rattle.pg_driver.specs.Inside.Told.{TellsCells};
 ghost use Rattle.pg_texts.specs.CellsTexts as cells;
 ghost use Rattle.pg_texts.specs.Inside.Told.{HasLayouts, layout_there, pass_told, level_told, cells_told};
 

@@ -1,9 +1,11 @@
 //! The law that the hyphenated list is read back. A call does nothing; its contract is the law.
 ghost use Rattle.std.specs.Prelude.{◌+◌, List, All};
 ghost use Rattle.pg_translate.specs.Alphabets.{letters_of};
-ghost use Rattle.pg_dict.specs.Word.{Word, IsWord, SignsAtMost};
+ghost use Rattle.pg_dict.specs.Word.{Word};
+ghost use Rattle.pg_dict.specs.Inside.SoundWords.{IsWord, SignsAtMost};
 ghost use Rattle.pg_select.specs.Windows.{Patterns};
-ghost use Rattle.pg_texts.specs.PattmpTexts.{pattmp_text, ReadsBack};
+ghost use Rattle.pg_texts.specs.PattmpTexts.{pattmp_text};
+ghost use Rattle.pg_texts.specs.Inside.ReadBack.{ReadsBack};
 
 use pg_dict::laws::{files_are_read, items_are_lines, lines_are_read, words_are_read};
 use pg_translate::laws::items_are_read;

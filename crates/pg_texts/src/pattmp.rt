@@ -1,8 +1,9 @@
 //! The hyphenated list.
 ghost use Rattle.std.specs.Prelude.{◌≡◌, ◌+◌, IfOk};
 ghost use Rattle.pg_translate.specs.Alphabets.{letters_of};
-ghost use Rattle.pg_dict.specs.Word.{SignsAtMost};
+ghost use Rattle.pg_dict.specs.Inside.SoundWords.{SignsAtMost};
 ghost use Rattle.pg_texts.specs.PattmpTexts as pattmp;
+ghost use Rattle.pg_texts.specs.Inside.ReadBack.{ReadsBack};
 
 use crate::laws::lists_are_read;
 use crate::word::{push_weight, push_word};
@@ -27,7 +28,7 @@ pub fn pattmp_text<E: Engine>(
     requires letters { SignsAtMost (letters_of table.now + 1) dictionary.now }
     ensures text { IfOk result (λ text. text.items
         ≡ pattmp.pattmp_text table.now (E.meaning engine.now).patterns dictionary.now) }
-    ensures read_back { IfOk result (λ text. pattmp.ReadsBack table.now dictionary.now text.items) }
+    ensures read_back { IfOk result (λ text. ReadsBack table.now dictionary.now text.items) }
 {
     lists_are_read(table);
     let mut text = Vec::new(alloc);

@@ -2,7 +2,7 @@
 ghost use Rattle.std.specs.Prelude.{◌≡◌, ◌<◌, ◌≤◌, ◌+◌, ◌-◌, ◌++◌, All, OnOk, length};
 ghost use Rattle.pg_types.specs.declared.limits.TheConstants.{WORD_LETTERS_MAX, WEIGHT_MAX};
 ghost use Rattle.pg_translate.specs.Alphabets.{letters_of};
-ghost use Rattle.pg_dict.specs.Word.{IsWord};
+ghost use Rattle.pg_dict.specs.Inside.SoundWords.{IsWord};
 ghost use Rattle.pg_dict.specs.Inside.Lent.{lent_word};
 ghost use Rattle.pg_texts.specs.PattmpTexts as pattmp;
 ghost use Rattle.pg_texts.specs.Inside.Found.{status_found};

@@ -5,10 +5,12 @@ use Rattle.std.proofs.lemmas.Option.{get_or_from_slice_get, slice_get_within, sl
 use Rattle.std.specs.Option.{option_map}
 use Rattle.pg_types.specs.declared.refusals.Refusal.{Refusal}
 use Rattle.pg_outside.specs.Content.{FileMap, FilesShown, SinkShown, KeepsHeld, file_at}
-use Rattle.pg_outside.specs.Faults.{NoneFell, Rose}
+use Rattle.pg_outside.specs.Faults.{Rose}
+use Rattle.pg_outside.specs.Inside.NameFaults.{NoneFell}
 use Rattle.pg_top.specs.Answers.{answers_to, IsAnswered, IsCall}
 use Rattle.pg_top.specs.Calls.{outcome, outcome_of, finished, reads_of, writes_of}
-use Rattle.pg_top.specs.Counted.{MakesCalls, MakesPuts, read_calls, write_calls, PutsFault, PutsCounted, LinesCounted, ReadsUpTo, IsUnreadAt, EndsAt, IsEndCounted}
+use Rattle.pg_top.specs.Counted.{MakesCalls, MakesPuts, read_calls, write_calls, PutsFault, ReadsUpTo, IsUnreadAt, EndsAt, IsEndCounted}
+use Rattle.pg_top.specs.Inside.PutCounts.{PutsCounted, LinesCounted}
 use Rattle.pg_top.specs.Faults.{FilesRose}
 use Rattle.pg_top.specs.Moments.{Moment, OfFiles, Puts, PutsPart, PutRose, PutOrRose}
 use Rattle.pg_top.specs.Outcomes.{Outcome, Ends, Writing, IsKnown, refuses}
@@ -17,7 +19,8 @@ use Rattle.pg_top.specs.Readings.{first_end}
 use Rattle.pg_words.specs.Requests.{Request, ToGenerate, ToAudit, ToSample, ToPack, ToTotals, ToPrune, ToSweep}
 use Rattle.pg_top.specs.sample.Sampled.{sample_lines}
 use Rattle.pg_top.specs.Inside.Stops.{StopsWith, StopsReading, StopsCommandWith, StopsCommand, PutsAnswer, PutsLines, PutsStop, Finishes}
-use Rattle.pg_top.specs.Writings.{written_names, after_all, IsPartWritten, WroteAll, StoppedAt}
+use Rattle.pg_top.specs.Writings.{after_all, IsPartWritten}
+use Rattle.pg_top.specs.Inside.Written.{written_names, WroteAll, StoppedAt}
 use Rattle.pg_top.specs.declared.answers.Status.{Status}
 use Rattle.pg_top.specs.declared.answers.Status.TheVariants.{Done, Yes, No, Usage, Refused, Fault, Memory}
 use Rattle.pg_top.specs.declared.inputs.Input.{Input}

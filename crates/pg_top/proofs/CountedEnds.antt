@@ -3,11 +3,12 @@ use Rattle.std.proofs.Common.{◌≡◌, ℕ, List, ◌++◌, inl, inr, sym, sub
 use Rattle.pg_types.specs.declared.refusals.Refusal.{Refusal}
 use Rattle.pg_outside.specs.Content.{FilesShown, SinkShown, file_at}
 use Rattle.pg_top.specs.Calls.{reads_of, writes_of, outcome_of}
-use Rattle.pg_top.specs.Counted.{MakesCalls, MakesPuts, read_calls, write_calls, PutsCounted, EndsAt, IsEndedCounted, IsEndCounted, IsCounted}
+use Rattle.pg_top.specs.Counted.{MakesCalls, MakesPuts, read_calls, write_calls, EndsAt, IsEndedCounted, IsEndCounted, IsCounted}
+use Rattle.pg_top.specs.Inside.PutCounts.{PutsCounted}
 use Rattle.pg_top.specs.Outcomes.{Writing, refuses}
 use Rattle.pg_words.specs.Requests.{Request, ToSample}
 use Rattle.pg_top.specs.Inside.Stops.{StopsCommand, PutsAnswer, Finishes}
-use Rattle.pg_top.specs.Writings.{written_names}
+use Rattle.pg_top.specs.Inside.Written.{written_names}
 use Rattle.pg_top.specs.declared.answers.Status.{Status}
 use Rattle.pg_top.specs.declared.answers.Status.TheVariants.{Done, Refused, Fault, Memory}
 use Rattle.pg_top.specs.declared.inputs.Input.{Input}

@@ -3,7 +3,7 @@ use Rattle.std.proofs.Common.{◌≡◌, ℕ, List, inl, inr, sym, subst}
 use Rattle.pg_types.specs.declared.refusals.Refusal.{Refusal}
 use Rattle.pg_outside.specs.Content.{SinkShown}
 use Rattle.pg_outside.specs.Faults.{next_count}
-use Rattle.pg_top.specs.Counted.{PutsCounted, LinesCounted}
+use Rattle.pg_top.specs.Inside.PutCounts.{PutsCounted, LinesCounted}
 use Rattle.pg_top.specs.Inside.Stops.{PutsAnswer}
 use Rattle.pg_top.specs.declared.answers.Status.{Status}
 use Rattle.pg_top.specs.declared.answers.Status.TheVariants as status

@@ -1,6 +1,7 @@
 -- Counts of faults over several calls.
 use Rattle.std.proofs.Common.{ℕ, ◌≤◌, List, arith}
-use Rattle.pg_outside.specs.Faults.{Rose, NoneFell}
+use Rattle.pg_outside.specs.Faults.{Rose}
+use Rattle.pg_outside.specs.Inside.NameFaults.{NoneFell}
 
 -- a count that rose in a later call rose in both together
 pub rose_since : (a b c : ℕ) → a ≤ b → Rose b c → Rose a c

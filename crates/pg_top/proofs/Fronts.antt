@@ -11,8 +11,10 @@ use Rattle.pg_types.specs.declared.refusals.ReadingError.TheVariants as reader
 use Rattle.pg_types.specs.declared.refusals.Kind.TheVariants.{TranslateTooLong, ParametersTooLong, PatternsTooLong, DictionaryTooLong, TableTooLong, BadTable, OtherTable}
 use Rattle.pg_types.specs.Lines.{lines, pieces_at, is_line_feed, without_cr}
 use Rattle.pg_types.specs.Parameters.{parameters, parameters_of, items, demands, refusal_from, refused_at}
-use Rattle.pg_types.specs.Reading.{Fails, unless}
-use Rattle.pg_outside.specs.Content.{FileMap, FilesShown, file_at, IsCut}
+use Rattle.pg_types.specs.Reading.{unless}
+use Rattle.pg_types.specs.Inside.Answers.{Fails}
+use Rattle.pg_outside.specs.Content.{FileMap, FilesShown, file_at}
+use Rattle.pg_outside.specs.Inside.ToldFiles.{IsCut}
 use Rattle.pg_table.specs.declared.limits.TheConstants.{TABLE_MAX}
 use Rattle.pg_table.specs.Forms.{head_of, is_well_formed}
 use Rattle.pg_translate.specs.Alphabets.{Alphabet, letters_of}

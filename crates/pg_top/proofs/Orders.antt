@@ -5,7 +5,7 @@ use Rattle.std.proofs.Math.Seq.{take-append_seam, take-append-add, get_or-append
 use Rattle.std.proofs.lemmas.List.{map-append, take-append-drop, take-append-le, get_or_append_left, get_or-append-add}
 use Rattle.std.proofs.lemmas.Option.{slice_get_read, get_or_from_slice_get}
 use Rattle.pg_outside.specs.Content.{FileMap, FilesShown, KeepsHeld, file_at}
-use Rattle.pg_outside.specs.Faults.{NoneFell}
+use Rattle.pg_outside.specs.Inside.NameFaults.{NoneFell}
 use Rattle.pg_top.specs.Counted.{MakesCalls, read_call, read_calls, ReadsUpTo}
 use Rattle.pg_top.specs.Outcomes.{Outcome, Unknown, refuses}
 use Rattle.pg_top.specs.Readings.{Held, Reading, first_end}

@@ -3,7 +3,7 @@ use Rattle.std.proofs.Common.{◌≡◌, ℕ, List, Option, None, Some, IfSome, 
 use Rattle.pg_outside.specs.Content.{FileMap, FilesShown, SinkShown, KeepsHeld}
 use Rattle.pg_table.specs.Inside.Laws.{HasEntries}
 use Rattle.pg_table.proofs.PackedValues.{values_are_packed, totals_are_packed}
-use Rattle.pg_patterns.specs.Values.{IsPatternMap}
+use Rattle.pg_patterns.specs.Inside.PatternMaps.{IsPatternMap}
 use Rattle.pg_select.specs.Windows.{Patterns}
 use Rattle.pg_top.specs.Moments.{OfFiles}
 use Rattle.pg_top.specs.Outcomes.{Writing}

@@ -3,11 +3,11 @@ use Rattle.std.proofs.Common.{◌≡◌, ℕ, List, [], ◌∷◌, Option, None,
 use Rattle.std.specs.Option.{option_map}
 use Rattle.pg_types.specs.declared.marks.Layout.{Layout}
 use Rattle.pg_types.specs.Placement.{Families}
-use Rattle.pg_select.specs.Meanings.{Meaning, new_engine}
+use Rattle.pg_select.specs.Inside.Meanings.{Meaning, new_engine}
 use Rattle.pg_driver.specs.declared.records.LevelRecord.{LevelRecord}
 use Rattle.pg_driver.specs.Layouts.{CellsAccount}
-use Rattle.pg_driver.specs.Sound.{Finished}
-use Rattle.pg_driver.specs.Told.{patterns_from, account_from, begun_from, cells_from, TellsCells, level_layout_told}
+use Rattle.pg_driver.specs.Inside.Sound.{Finished}
+use Rattle.pg_driver.specs.Inside.Told.{patterns_from, account_from, begun_from, cells_from, TellsCells, level_layout_told}
 use Rattle.pg_driver.specs.Accounts.{Account}
 use Rattle.pg_select.specs.Windows.{Patterns}
 use Rattle.pg_packed.specs.Starts.{pattern_families}

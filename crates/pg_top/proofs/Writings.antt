@@ -4,11 +4,14 @@ use Rattle.std.specs.Prelude.{slice_get}
 use Rattle.std.proofs.lemmas.List.{drop_more, length-map, map-append}
 use Rattle.std.proofs.lemmas.Option.{slice_get_within, get_or_from_slice_get, slice_get-map}
 use Rattle.std.specs.Option.{option_map}
-use Rattle.pg_outside.specs.Content.{FileMap, FilesShown, WasWritten, WasPartWritten}
-use Rattle.pg_outside.specs.Faults.{Rose, NoneFell}
+use Rattle.pg_outside.specs.Content.{FileMap, FilesShown}
+use Rattle.pg_outside.specs.Inside.ToldFiles.{WasWritten, WasPartWritten}
+use Rattle.pg_outside.specs.Faults.{Rose}
+use Rattle.pg_outside.specs.Inside.NameFaults.{NoneFell}
 use Rattle.pg_top.specs.Counted.{MakesCalls, write_calls}
 use Rattle.pg_top.specs.Outcomes.{Writing}
-use Rattle.pg_top.specs.Writings.{after_all, IsPartWritten, named_text, writing_of, written_names, StoppedAt}
+use Rattle.pg_top.specs.Writings.{after_all, IsPartWritten}
+use Rattle.pg_top.specs.Inside.Written.{named_text, writing_of, written_names, StoppedAt}
 use Rattle.pg_top.specs.declared.writes.Output.{Output}
 use Rattle.pg_top.proofs.CountedCalls.{all_writes}
 use Rattle.pg_top.proofs.Faults.{rose_since}

@@ -9,8 +9,6 @@ use Rattle.pg_top.specs.Readings.{Held, Reading, first_end}
 use Rattle.pg_words.specs.Requests.{Request}
 use Rattle.pg_top.specs.declared.answers.Status.{Status}
 use Rattle.pg_top.specs.declared.answers.Status.TheVariants as status
-use Rattle.pg_top.specs.declared.inputs.Stop.{Stop}
-use Rattle.pg_top.specs.declared.inputs.Stop.TheVariants.{Refused, Unread}
 
 -- a count after so many calls more
 abbrev pub after_calls : ℕ → ℕ → ℕ
@@ -70,21 +68,6 @@ abbrev pub EndsAt : Request → ℕ → Held → Type 0
 EndsAt request at files =
     (first_end files (take (at + 1) (reads_of request)) ≡ Some (outcome_of files request))
     ⊎ ((at + 1 ≡ length (reads_of request)) × (first_end files (reads_of request) ≡ None))
-
--- the puts of a command that stopped before it wrote: a refusal is one line, and the line of a
--- fault has three parts
-abbrev pub PutsCounted : Stop → Status → SinkShown → SinkShown → Type 0
-PutsCounted stop status.Memory old new = MakesPuts old new 0
-PutsCounted (Refused input refusal) status.Refused old new = MakesPuts old new 1
-PutsCounted (Refused input refusal) status.Fault old new = MakesPuts old new 1
-PutsCounted (Unread name) status.Fault old new = PutsFault old new
-PutsCounted stop answer old new = ⊥
-
--- the puts of a command that reads and writes nothing: its lines are put at once, and nothing where
--- memory is short
-abbrev pub LinesCounted : Status → SinkShown → SinkShown → Type 0
-LinesCounted status.Memory old new = MakesPuts old new 0
-LinesCounted answer old new = MakesPuts old new 1
 
 -- a file ended the call, or the command did after it had read all of them, and one line was put at
 -- once

@@ -2,3 +2,6 @@
 pub mod Runs
 pub mod Stops
 pub mod Lists
+pub mod PutCounts
+pub mod SelectionSigns
+pub mod Written

@@ -3,7 +3,7 @@ ghost use Rattle.std.specs.Prelude.{◌≡◌, IfOk, IfErr, IfSome, Some};
 ghost use Rattle.pg_outside.specs.Content.{file_at};
 ghost use Rattle.pg_outside.specs.Faults.{next_count};
 ghost use Rattle.pg_top.specs.Calls.{outcome_of, reads_of};
-ghost use Rattle.pg_words.specs.Commands.{texts_of};
+ghost use Rattle.pg_words.specs.Inside.Asked.{texts_of};
 ghost use Rattle.pg_words.specs.Requests.{ToAudit};
 ghost use Rattle.pg_top.specs.Inside.Stops.{OnlyReads, StopsReading};
 ghost use Rattle.pg_top.specs.audit.Inside.Verdicts.{outcome_by, ReadsToFind, PutsVerdict};

@@ -9,7 +9,7 @@ ghost use Rattle.pg_top.specs.Promises.{PackKeeps, IsPromised};
 ghost use Rattle.pg_words.specs.Requests.{ToPack};
 ghost use Rattle.pg_top.specs.Inside.Stops.{OnlyReads, StopsCommand};
 ghost use Rattle.pg_top.specs.pack.Inside.Inputs.{pack_of};
-ghost use Rattle.pg_top.specs.Writings.{written_names, writing_of};
+ghost use Rattle.pg_top.specs.Inside.Written.{written_names, writing_of};
 ghost use Rattle.pg_top.specs.Answers.{IsCall};
 
 mod inputs;

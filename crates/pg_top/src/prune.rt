@@ -8,7 +8,7 @@ ghost use Rattle.pg_top.specs.Outcomes.{Ends};
 ghost use Rattle.pg_top.specs.prune.Inside.Inputs.{prune_of};
 ghost use Rattle.pg_words.specs.Requests.{ToPrune};
 ghost use Rattle.pg_top.specs.Inside.Stops.{OnlyReads, StopsCommand};
-ghost use Rattle.pg_top.specs.Writings.{written_names, writing_of};
+ghost use Rattle.pg_top.specs.Inside.Written.{written_names, writing_of};
 ghost use Rattle.pg_top.specs.declared.answers.Status.TheVariants.{Done};
 ghost use Rattle.pg_top.specs.Answers.{IsCall};
 

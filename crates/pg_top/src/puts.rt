@@ -1,7 +1,8 @@
 //! Lines that are put into a sink.
 ghost use Rattle.std.specs.Prelude.{◌≡◌, ◌≤◌, ◌++◌, ◌∷◌, [], OnOk, OnErr};
 ghost use Rattle.pg_outside.specs.Faults.{Rose, next_count};
-ghost use Rattle.pg_top.specs.Counted.{PutsFault, PutsCounted};
+ghost use Rattle.pg_top.specs.Counted.{PutsFault};
+ghost use Rattle.pg_top.specs.Inside.PutCounts.{PutsCounted};
 ghost use Rattle.pg_top.specs.Moments.{Puts, PutsPart, PutOrRose};
 ghost use Rattle.pg_top.specs.Inside.Stops.{PutsAnswer, PutsStop};
 

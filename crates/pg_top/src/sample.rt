@@ -2,14 +2,15 @@
 ghost use Rattle.std.specs.Prelude.{◌≡◌, ◌+◌, ◌≤◌, ◌<◌, ◌^◌, ◌++◌, IfOk, OnOk};
 ghost use Rattle.pg_translate.specs.Alphabets.{letters_of};
 ghost use Rattle.pg_translate.specs.Tables.{default_alphabet};
-ghost use Rattle.pg_dict.specs.Word.{SignsAtMost};
-ghost use Rattle.pg_driver.specs.Told.{account_of};
-ghost use Rattle.pg_patterns.specs.Values.{SignsUpTo};
-ghost use Rattle.pg_select.specs.Meanings.{new_engine};
-ghost use Rattle.pg_top.specs.Counted.{LinesCounted};
+ghost use Rattle.pg_dict.specs.Inside.SoundWords.{SignsAtMost};
+ghost use Rattle.pg_driver.specs.Inside.Told.{account_of};
+ghost use Rattle.pg_patterns.specs.Inside.PatternMaps.{SignsUpTo};
+ghost use Rattle.pg_select.specs.Inside.Meanings.{new_engine};
+ghost use Rattle.pg_top.specs.Inside.PutCounts.{LinesCounted};
 ghost use Rattle.pg_top.specs.sample.Sampled.{is_printed as is_printed_line, sample_inputs, sample_lines as lines_of, sample_parameters};
 ghost use Rattle.pg_top.specs.sample.Inside.Lines.{printed_part, selection_lines};
-ghost use Rattle.pg_top.specs.Selection.{signs_of, HasSigns, selected, selected_account};
+ghost use Rattle.pg_top.specs.Selection.{signs_of, selected, selected_account};
+ghost use Rattle.pg_top.specs.Inside.SelectionSigns.{HasSigns};
 ghost use Rattle.pg_top.specs.Inside.Stops.{PutsLines};
 
 mod words;

@@ -2,10 +2,11 @@
 ghost use Rattle.std.specs.Prelude.{◌≡◌, IfOk};
 ghost use Rattle.std.specs.Option.{option_map};
 ghost use Rattle.pg_patterns.specs.Starts.{start};
-ghost use Rattle.pg_patterns.specs.Values.{SignsUpTo};
-ghost use Rattle.pg_top.specs.Selection.{HasSigns, signs_of, selected, selected_account, passes_begun, selected_cells_from};
-ghost use Rattle.pg_select.specs.Meanings.{new_engine};
-ghost use Rattle.pg_driver.specs.Told.{account_of, TellsCells};
+ghost use Rattle.pg_patterns.specs.Inside.PatternMaps.{SignsUpTo};
+ghost use Rattle.pg_top.specs.Selection.{signs_of, selected, selected_account, passes_begun, selected_cells_from};
+ghost use Rattle.pg_top.specs.Inside.SelectionSigns.{HasSigns};
+ghost use Rattle.pg_select.specs.Inside.Meanings.{new_engine};
+ghost use Rattle.pg_driver.specs.Inside.Told.{account_of, TellsCells};
 ghost use Rattle.pg_top.specs.Inside.Runs.{last_told};
 
 use pg_dict::Dictionary;

@@ -2,7 +2,8 @@
 ghost use Rattle.std.specs.Prelude.{◌≡◌, Some, false};
 ghost use Rattle.pg_top.specs.Answers.{IsSampled, IsCall};
 ghost use Rattle.pg_top.specs.Calls.{has_files};
-ghost use Rattle.pg_words.specs.Commands.{asked_by, KeepsLimits, asked};
+ghost use Rattle.pg_words.specs.Commands.{asked};
+ghost use Rattle.pg_words.specs.Inside.Asked.{asked_by, KeepsLimits};
 ghost use Rattle.pg_top.specs.Counted.{IsCountedCall};
 ghost use Rattle.pg_top.specs.Promises.{IsPromised};
 ghost use Rattle.pg_top.specs.WholeCalls.{IsRun};

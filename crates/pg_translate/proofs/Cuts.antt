@@ -3,7 +3,8 @@ use Rattle.std.proofs.Common.{◌≡◌, ℕ, ◌+◌, ◌-◌, ◌<◌, ◌≤�
 use Rattle.pg_translate.specs.declared.items.Place.{Place}
 use Rattle.pg_translate.specs.Alphabets.{Alphabet}
 use Rattle.pg_translate.specs.Tokens.{Token, item_at}
-use Rattle.pg_translate.specs.Cuts.{cut_from, with_item}
+use Rattle.pg_translate.specs.Cuts.{cut_from}
+use Rattle.pg_translate.specs.Inside.Rests.{with_item}
 use Rattle.pg_translate.specs.Inside.Answers.{HasItem}
 
 -- the bytes of an item are passed over

@@ -4,7 +4,7 @@ use Rattle.std.proofs.lemmas.Bool.{cases_lt, cases_Bool}
 use Rattle.std.proofs.lemmas.List.{get_or-replicate, get_or_past, length-replicate}
 use Rattle.pg_translate.specs.declared.index.Front.{Front}
 use Rattle.pg_translate.specs.declared.index.Index.{Index}
-use Rattle.pg_translate.specs.Spellings.{IsAmong}
+use Rattle.pg_translate.specs.Inside.Members.{IsAmong}
 use Rattle.pg_translate.specs.Inside.Fronts.{IsIndex, pairs, pair_of, front_code}
 
 -- each element of a list of None is None

@@ -5,8 +5,8 @@ use Rattle.std.proofs.lemmas.Option.{slice_get-map, slice_get-get_or}
 use Rattle.pg_translate.specs.declared.index.Index.{Index}
 use Rattle.pg_translate.specs.declared.spellings.Text.{Text}
 use Rattle.pg_translate.specs.Inside.Texts.{text_of}
-use Rattle.pg_translate.specs.Spellings.{IsAmong}
-use Rattle.pg_translate.specs.Alphabets.{first_of}
+use Rattle.pg_translate.specs.Inside.Members.{IsAmong}
+use Rattle.pg_translate.specs.Inside.FirstSpellings.{first_of}
 use Rattle.pg_translate.specs.Inside.Fronts.{IsIndex, pairs}
 
 -- what is found is among the spellings

@@ -5,7 +5,8 @@ use Rattle.std.specs.Option.{option_or}
 use Rattle.std.proofs.lemmas.Bool.{and_parts, and_cases, or_parts, or_from, or_left, or_right, not-false, eqb-true, true≢false, cases_lt, cases_Bool}
 use Rattle.pg_translate.specs.declared.index.Front.{Front}
 use Rattle.pg_translate.specs.declared.index.Front.TheVariants.{Inside, Whole}
-use Rattle.pg_translate.specs.Spellings.{clash, IsAmong}
+use Rattle.pg_translate.specs.Spellings.{clash}
+use Rattle.pg_translate.specs.Inside.Members.{IsAmong}
 use Rattle.pg_translate.specs.Inside.Fronts.{front_of, front_in}
 use Rattle.pg_translate.proofs.Prefixes.{begins_both, begins_equal}
 

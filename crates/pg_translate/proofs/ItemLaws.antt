@@ -11,7 +11,8 @@ use Rattle.pg_types.specs.declared.refusals.Refusal.{Refusal}
 use Rattle.pg_translate.specs.declared.items.Place.{Place}
 use Rattle.pg_translate.specs.declared.items.Place.TheVariants.{Dictionary, Patterns}
 use Rattle.pg_translate.specs.Alphabets.{Alphabet}
-use Rattle.pg_translate.specs.Spellings.{is_space, may_begin, begins_well, IsAmong}
+use Rattle.pg_translate.specs.Spellings.{is_space, may_begin, begins_well}
+use Rattle.pg_translate.specs.Inside.Members.{IsAmong}
 use Rattle.std.specs.Char.{is_ascii_digit}
 use Rattle.pg_translate.specs.Tables.{check, mark_fails}
 use Rattle.pg_translate.specs.Inside.Checks.{mark_checks_from, mark_checks}

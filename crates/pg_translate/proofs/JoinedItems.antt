@@ -13,10 +13,12 @@ use Rattle.pg_translate.specs.declared.items.Place.TheVariants.{Dictionary, Patt
 use Rattle.pg_translate.specs.Alphabets.{Alphabet}
 use Rattle.pg_translate.specs.Spellings.{begins_well}
 use Rattle.pg_translate.specs.Tokens.{Token, Letter, Digit, Weight, Marked, Edge, item_at}
-use Rattle.pg_translate.specs.Cuts.{Placed, Cut, cut, cut_from, with_item, tokens_of}
+use Rattle.pg_translate.specs.Cuts.{Placed, Cut, cut, cut_from, tokens_of}
+use Rattle.pg_translate.specs.Inside.Rests.{with_item}
 use Rattle.pg_translate.specs.Gaps.{sign_of, signs_of}
 use Rattle.pg_translate.specs.Inside.Items.{IsItem, text_of_items, tokens_in}
-use Rattle.pg_translate.specs.LineRefusals.{refused, signs_max, long_kind, sign_column, sign_columns, stop_refusal, line_refusal, of_line}
+use Rattle.pg_translate.specs.LineRefusals.{refused, signs_max, long_kind, sign_columns, line_refusal, of_line}
+use Rattle.pg_translate.specs.Inside.Refusing.{sign_column, stop_refusal}
 use Rattle.pg_translate.specs.Inside.Rules.{KeepsRules}
 use Rattle.pg_translate.proofs.Cuts.{cut_item}
 use Rattle.pg_translate.proofs.ItemLaws.{item_reads, begins_spelled}

@@ -6,10 +6,12 @@ use Rattle.std.proofs.lemmas.List.{length-drop}
 use Rattle.pg_translate.specs.declared.items.Place.{Place}
 use Rattle.pg_translate.specs.Alphabets.{Alphabet}
 use Rattle.pg_translate.specs.Tokens.{Token}
-use Rattle.pg_translate.specs.Cuts.{Cut, cut_from, cut_rest, with_item}
+use Rattle.pg_translate.specs.Cuts.{Cut, cut_from}
+use Rattle.pg_translate.specs.Inside.Rests.{cut_rest, with_item}
 use Rattle.pg_translate.specs.Inside.Answers.{HasItem}
 use Rattle.pg_translate.specs.Gaps.{sign_of}
-use Rattle.pg_translate.specs.LineRefusals.{refused, long_kind, sign_columns, stop_refusal, refusal_with_room}
+use Rattle.pg_translate.specs.LineRefusals.{refused, long_kind, sign_columns}
+use Rattle.pg_translate.specs.Inside.Refusing.{stop_refusal, refusal_with_room}
 use Rattle.pg_translate.proofs.Cuts.{cut_takes}
 
 -- what follows an item is shorter

@@ -7,9 +7,10 @@ use Rattle.pg_types.specs.declared.refusals.Refusal.{Refusal}
 use Rattle.pg_types.specs.declared.refusals.ReadingError.{ReadingError}
 use Rattle.pg_types.specs.declared.refusals.ReadingError.TheVariants.{Refused, Memory}
 use Rattle.pg_types.specs.Lines.{lines}
-use Rattle.pg_types.specs.Reading.{Fails, first_refusal}
+use Rattle.pg_types.specs.Reading.{first_refusal}
+use Rattle.pg_types.specs.Inside.Answers.{Fails}
 use Rattle.pg_translate.specs.declared.index.Index.{Index}
-use Rattle.pg_translate.specs.Alphabets.{letters_in}
+use Rattle.pg_translate.specs.Inside.FirstSpellings.{letters_in}
 use Rattle.pg_translate.specs.Tables.{ListedSpelling, spelling_with_sign, spelling_check, spellings_at}
 use Rattle.pg_translate.specs.Inside.Checks.{first_failure, spelling_checks_from, spellings_from, with_line_spellings, pieces_in_line, pieces_of}
 use Rattle.pg_translate.specs.Inside.Fronts.{IsIndex, pairs}

@@ -6,8 +6,10 @@ use Rattle.std.proofs.lemmas.List.{length-map}
 use Rattle.std.proofs.lemmas.Option.{slice_get-get_or}
 use Rattle.pg_translate.specs.declared.index.Index.{Index}
 use Rattle.pg_translate.specs.declared.items.Place.{Place}
-use Rattle.pg_translate.specs.Alphabets.{Alphabet, letters_of, letters_in, first_spelling, spelling_of, first_of}
-use Rattle.pg_translate.specs.Spellings.{is_spelling, IsAmong}
+use Rattle.pg_translate.specs.Alphabets.{Alphabet, letters_of, spelling_of}
+use Rattle.pg_translate.specs.Inside.FirstSpellings.{letters_in, first_spelling, first_of}
+use Rattle.pg_translate.specs.Spellings.{is_spelling}
+use Rattle.pg_translate.specs.Inside.Members.{IsAmong}
 use Rattle.pg_translate.specs.Tokens.{Letter}
 use Rattle.pg_translate.specs.Inside.Items.{IsItem}
 use Rattle.pg_translate.specs.Inside.Rules.{KeepsRules}

@@ -4,8 +4,9 @@ use Rattle.std.specs.List.{list_any, starts_with}
 use Rattle.std.proofs.lemmas.Bool.{and_from, and_left, or_from, or_left, or_right, not_from_false, eqb-true, eqb-false, ne_eqb, lt-ltb, true≢false, false_from_ne_true, cases_lt, cases_Bool}
 use Rattle.std.proofs.lemmas.List.{length-take-le, take_all}
 use Rattle.pg_translate.specs.declared.index.Front.TheVariants.{Inside, Whole}
-use Rattle.pg_translate.specs.Alphabets.{letters_in}
-use Rattle.pg_translate.specs.Spellings.{clash, IsAmong}
+use Rattle.pg_translate.specs.Inside.FirstSpellings.{letters_in}
+use Rattle.pg_translate.specs.Spellings.{clash}
+use Rattle.pg_translate.specs.Inside.Members.{IsAmong}
 use Rattle.pg_translate.specs.Tokens.{Letter, letter_at}
 use Rattle.pg_translate.specs.declared.index.Index.{Index}
 use Rattle.pg_translate.specs.Inside.Fronts.{AreBytes, IsIndex, pairs, front_code, front_at, front_in}

@@ -1,5 +1,5 @@
 -- What a table holds, and its parts.
-use Rattle.std.specs.Prelude.{ℕ, ◌-◌, ◌==◌, max, List, [], if◌then◌else◌, find, fold, slice_index, codes, Option, option_map, unwrap_or}
+use Rattle.std.specs.Prelude.{ℕ, ◌-◌, ◌==◌, max, List, [], if◌then◌else◌, find, fold, slice_index, codes, option_map, unwrap_or}
 use Rattle.pg_types.specs.declared.limits.TheConstants.{EDGE}
 use Rattle.pg_types.specs.declared.marks.Mark.{Mark}
 use Rattle.pg_types.specs.declared.marks.Mark.TheVariants.{Nothing, Error, Missed, Found, DontCare}
@@ -12,26 +12,14 @@ pub record Alphabet : Type 0 where
   pub marks : List ℕ
   pub spellings : List (ℕ × List ℕ)
 
--- how many letters spellings have: the greatest sign less that of the edge
-abbrev pub letters_in : List (ℕ × List ℕ) → ℕ
-letters_in spellings = fold (λ n spelling. max n (spelling.0 - 1)) 0 spellings
-
--- the number of letters
+-- the number of letters: the greatest sign less that of the edge
 abbrev pub letters_of : Alphabet → ℕ
-letters_of t = letters_in t.spellings
-
--- the first spelling of a letter, where it has one
-abbrev pub first_of : List (ℕ × List ℕ) → ℕ → Option (List ℕ)
-first_of spellings sign = option_map (λ spelling. spelling.1)
-    (find (λ spelling. spelling.0 == sign) spellings)
-
--- the first spelling of a letter that has one
-abbrev pub first_spelling : List (ℕ × List ℕ) → ℕ → List ℕ
-first_spelling spellings sign = unwrap_or (first_of spellings sign) []
+letters_of t = fold (λ n spelling. max n (spelling.0 - 1)) 0 t.spellings
 
 -- what stands for a sign in a text: the first spelling of a letter, and a dot for the edge
 abbrev pub spelling_of : Alphabet → ℕ → List ℕ
-spelling_of t sign = if sign == EDGE then codes "." else first_spelling t.spellings sign
+spelling_of t sign = if sign == EDGE then codes "." else unwrap_or (option_map
+    (λ spelling. spelling.1) (find (λ spelling. spelling.0 == sign) t.spellings)) []
 
 -- the byte of a mark; a position that is nothing has none
 abbrev pub mark_byte_of : Alphabet → Mark → ℕ

@@ -1,5 +1,5 @@
 -- A line cut into items.
-use Rattle.std.specs.Prelude.{ℕ, zero, suc, ◌+◌, ◌-◌, List, [], ◌∷◌, length, map, Option, None, Some}
+use Rattle.std.specs.Prelude.{ℕ, zero, suc, ◌+◌, ◌-◌, List, [], ◌∷◌, map, Option, None, Some}
 use Rattle.pg_translate.specs.declared.items.Place.{Place}
 use Rattle.pg_translate.specs.Alphabets.{Alphabet}
 use Rattle.pg_translate.specs.Tokens.{Token, item_at}
@@ -15,36 +15,23 @@ pub record Cut : Type 0 where
   pub column : ℕ
   pub rest : List ℕ
 
--- a cut with one item more before it
-abbrev pub with_item : ℕ → Token → Cut → Cut
-with_item column token c =
-    record {
-      items = record { column = column; token = token } ∷ c.items;
-      column = c.column;
-      rest = c.rest;
-    }
-
 -- the cut at a column: the item that begins there and the cut behind it; no item where none begins
 -- there
 abbrev pub cut_at : ℕ → List ℕ → Option (Token × ℕ) → (ℕ → Cut) → Cut
 cut_at column text None behind = record { items = []; column = column; rest = text }
-cut_at column text (Some item) behind = with_item column item.0 (behind (item.1 - 1))
+cut_at column text (Some item) behind = let c = behind (item.1 - 1) in
+    record c { items = record { column = column; token = item.0 } ∷ c.items }
 
 -- the longest cut from a column on, where so many bytes belong to the item before
 abbrev pub cut_from : Alphabet → Place → ℕ → ℕ → List ℕ → Cut
 cut_from t place column skip [] = record { items = []; column = column; rest = [] }
 cut_from t place column (suc skip) (b ∷ bs) = cut_from t place (column + 1) skip bs
-cut_from t place column zero (b ∷ bs) =
-    cut_at column (b ∷ bs) (item_at t place (b ∷ bs))
+cut_from t place column zero (b ∷ bs) = cut_at column (b ∷ bs) (item_at t place (b ∷ bs))
     (λ more. cut_from t place (column + 1) more bs)
 
 -- the longest cut of a line
 abbrev pub cut : Alphabet → Place → List ℕ → Cut
 cut t place line = cut_from t place 1 zero line
-
--- the cut of the rest of a line of this size
-abbrev pub cut_rest : Alphabet → Place → ℕ → List ℕ → Cut
-cut_rest t place size rest = cut_from t place (size - length rest + 1) zero rest
 
 -- what the items of a cut mean
 abbrev pub tokens_of : Cut → List Token

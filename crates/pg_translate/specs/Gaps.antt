@@ -1,5 +1,5 @@
 -- The signs of a line, and its gaps: the items before, between and behind the signs.
-use Rattle.std.specs.Prelude.{ℕ, ◌-◌, Bool, List, length, fold, slice_range, Option, None, Some}
+use Rattle.std.specs.Prelude.{ℕ, ◌-◌, List, length, fold, slice_range, Option, None, Some}
 use Rattle.std.specs.Option.{is_some}
 use Rattle.std.specs.List.{filter_map, slice_split}
 use Rattle.pg_types.specs.declared.limits.TheConstants.{EDGE}
@@ -10,23 +10,17 @@ use Rattle.pg_translate.specs.Tokens.{Token, Letter, Digit, Weight, Marked, Edge
 -- the sign that an item stands for: that of a letter, or of the edge
 abbrev pub sign_of : Token → Option ℕ
 sign_of (Letter sign) = Some sign
-sign_of (Digit digit) = None
-sign_of (Weight weight) = None
-sign_of (Marked mark) = None
 sign_of Edge = Some EDGE
+sign_of item = None
 
 -- the signs of a line
 abbrev pub signs_of : List Token → List ℕ
 signs_of items = filter_map sign_of items
 
--- whether an item stands for a sign
-abbrev pub is_sign_item : Token → Bool
-is_sign_item item = is_some (sign_of item)
-
 -- the gaps of a line: the items before its first sign, between each two signs, and behind its last
 -- sign
 abbrev pub gaps : List Token → List (List Token)
-gaps items = slice_split is_sign_item items
+gaps items = slice_split (λ item. is_some (sign_of item)) items
 
 -- the gaps between two signs: all but the first and the last
 abbrev pub inner_gaps : List Token → List (List Token)
@@ -34,27 +28,19 @@ inner_gaps items = slice_range (gaps items) 1 (length (gaps items) - 1)
 
 -- the digit that an item is
 abbrev pub digit_of : Token → Option ℕ
-digit_of (Letter sign) = None
 digit_of (Digit digit) = Some digit
-digit_of (Weight weight) = None
-digit_of (Marked mark) = None
-digit_of Edge = None
+digit_of item = None
 
 -- the number that an item is: a digit or a weight in braces
 abbrev pub number_of : Token → Option ℕ
-number_of (Letter sign) = None
 number_of (Digit digit) = Some digit
 number_of (Weight weight) = Some weight
-number_of (Marked mark) = None
-number_of Edge = None
+number_of item = None
 
 -- the mark that an item is
 abbrev pub mark_of : Token → Option Mark
-mark_of (Letter sign) = None
-mark_of (Digit digit) = None
-mark_of (Weight weight) = None
 mark_of (Marked mark) = Some mark
-mark_of Edge = None
+mark_of item = None
 
 -- the last of a list, else what is given
 abbrev pub last_else : {X : Type 0} → X → List X → X

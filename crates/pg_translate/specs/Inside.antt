@@ -7,3 +7,7 @@ pub mod Items
 pub mod Rules
 pub mod Heads
 pub mod Checks
+pub mod Members
+pub mod Rests
+pub mod FirstSpellings
+pub mod Refusing

@@ -11,7 +11,7 @@ use Rattle.pg_translate.specs.declared.items.Place.{Place}
 use Rattle.pg_translate.specs.declared.items.Place.TheVariants.{Dictionary, Patterns}
 use Rattle.pg_translate.specs.Alphabets.{Alphabet}
 use Rattle.pg_translate.specs.Tokens.{Token, is_ended}
-use Rattle.pg_translate.specs.Cuts.{Placed, Cut, cut, tokens_of}
+use Rattle.pg_translate.specs.Cuts.{Cut, cut, tokens_of}
 use Rattle.pg_translate.specs.Gaps.{sign_of}
 
 -- a refusal of this line
@@ -33,29 +33,16 @@ abbrev pub bad_kind : Place → List ℕ → Kind
 bad_kind Dictionary text = if slice_index text 0 == 123 then BadWeight else DictionaryCharacter
 bad_kind Patterns text = PatternCharacter
 
--- the column of a sign
-abbrev pub sign_column : Placed → Option ℕ
-sign_column item = option_map (λ _. item.column) (sign_of item.token)
-
 -- the columns of the signs of a line
 abbrev pub sign_columns : Cut → List ℕ
-sign_columns c = filter_map sign_column c.items
+sign_columns c = filter_map (λ i. option_map (λ _. i.column) (sign_of i.token)) c.items
 
--- the refusal where the cut of a line stops, unless that is at its end or before a blank or TAB
-abbrev pub stop_refusal : Place → ℕ → Cut → Option Refusal
-stop_refusal place line c = if is_ended c.rest then None
-    else Some (refused line (bad_kind place c.rest) c.column)
-
--- the refusal of a line in which so many signs may still come: that of the sign too many, else
--- where its cut stops
-abbrev pub refusal_with_room : Place → ℕ → ℕ → Cut → Option Refusal
-refusal_with_room place line room c =
-    option_or (option_map (refused line (long_kind place)) (slice_get (sign_columns c) room))
-    (stop_refusal place line c)
-
--- the refusal of a whole line
+-- the refusal of a line: that of the sign too many, else where its cut stops, unless that is at its
+-- end or before a blank or TAB
 abbrev pub line_refusal : Place → ℕ → Cut → Option Refusal
-line_refusal place line c = refusal_with_room place line (signs_max place) c
+line_refusal place line c = option_or
+    (option_map (refused line (long_kind place)) (slice_get (sign_columns c) (signs_max place)))
+    (if is_ended c.rest then None else Some (refused line (bad_kind place c.rest) c.column))
 
 -- what the items of a line give, or its refusal
 abbrev pub of_line : {X : Type 0} → (List Token → X)

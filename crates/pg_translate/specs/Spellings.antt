@@ -1,5 +1,5 @@
 -- What a spelling may be, and when two spellings clash.
-use Rattle.std.specs.Prelude.{◌≡◌, ◌⊎◌, ℕ, ◌==◌, nat_le, Bool, false, not, ◌&&◌, ◌||◌, List, [], ◌∷◌, length, nat_eq}
+use Rattle.std.specs.Prelude.{ℕ, ◌==◌, nat_le, Bool, false, not, ◌&&◌, ◌||◌, List, [], ◌∷◌, length, nat_eq}
 use Rattle.std.specs.Char.{is_ascii_digit}
 use Rattle.std.specs.List.{list_any, starts_with}
 use Rattle.pg_translate.specs.declared.spellings.TheConstants.{SPELLING_MAX}
@@ -27,8 +27,3 @@ is_spelling marks text = nat_le (length text) SPELLING_MAX
 abbrev pub clash : ℕ × List ℕ → ℕ × List ℕ → Bool
 clash s t = (starts_with nat_eq s.1 t.1 || starts_with nat_eq t.1 s.1)
     && not (s.0 == t.0 && length s.1 == length t.1)
-
--- a spelling is among some
-abbrev pub IsAmong : ℕ × List ℕ → List (ℕ × List ℕ) → Type 0
-IsAmong s [] = ⊥
-IsAmong s (x ∷ xs) = (s ≡ x) ⊎ IsAmong s xs

@@ -95,8 +95,7 @@ spelling_with_sign spelling = (spelling.letter + 1, spelling.text)
 -- the checks of a spelling beside earlier ones: the number of letters, its own form, and its clash
 -- with an earlier one
 abbrev pub spelling_check : List ℕ → List (ℕ × List ℕ) → ListedSpelling → List Refusal
-spelling_check marks earlier s =
-    check (nat_lt (SIGNS_MAX - 1) s.letter) TooManyLetters s.line 1
+spelling_check marks earlier s = check (nat_lt (SIGNS_MAX - 1) s.letter) TooManyLetters s.line 1
     ++ (check (not (is_spelling marks s.text)) BadSpelling s.line s.column
     ++ check (list_any (clash (spelling_with_sign s)) earlier) SpellingClash s.line s.column)
 
@@ -108,8 +107,7 @@ spelling_checks marks all = flat_map (λ s. spelling_check marks
 -- all checks of a translate file of some size, with this head and these letter lines, in their
 -- order
 abbrev pub checks : ℕ → List ℕ → List (List ℕ) → List Refusal
-checks size head letter_lines =
-    check (nat_lt FILE_MAX size) TranslateTooLong 0 0
+checks size head letter_lines = check (nat_lt FILE_MAX size) TranslateTooLong 0 0
     ++ (head_checks head ++ spelling_checks (marks_of head) (spellings_of letter_lines))
 
 -- the table that a head and letter lines say

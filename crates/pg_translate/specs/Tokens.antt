@@ -31,12 +31,10 @@ digit_at (b ∷ bs) = if is_ascii_digit b then Some (Digit (b - 48), 1) else Non
 -- the mark whose byte begins a text
 abbrev pub mark_at : List ℕ → List ℕ → Option (Token × ℕ)
 mark_at marks [] = None
-mark_at marks (b ∷ bs) =
-    if b == slice_index marks 0 then Some (Marked Error, 1)
+mark_at marks (b ∷ bs) = if b == slice_index marks 0 then Some (Marked Error, 1)
     else if b == slice_index marks 1 then Some (Marked Missed, 1)
     else if b == slice_index marks 2 then Some (Marked Found, 1)
-    else if b == slice_index marks 3 then Some (Marked DontCare, 1)
-    else None
+    else if b == slice_index marks 3 then Some (Marked DontCare, 1) else None
 
 -- the end of a weight: the closing brace, where the value is not 0
 abbrev pub weight_end : ℕ → ℕ → ℕ → Option (Token × ℕ)

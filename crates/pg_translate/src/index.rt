@@ -5,7 +5,7 @@ ghost use Rattle.std.specs.List.{list_any, flat_map, range_with_len};
 ghost use Rattle.pg_translate.specs.Tables.{default_letter};
 ghost use Rattle.std.specs.Option.{option_or};
 ghost use Rattle.pg_translate.specs.Spellings.{clash};
-ghost use Rattle.pg_translate.specs.Alphabets.{first_spelling, letters_in};
+ghost use Rattle.pg_translate.specs.Inside.FirstSpellings.{first_spelling, letters_in};
 ghost use Rattle.pg_translate.specs.Tokens.{letter_at};
 ghost use Rattle.pg_translate.specs.Tokens as token;
 ghost use Rattle.pg_translate.specs.Inside.Fronts.{pairs, firsts_of, front_at, front_code, front_of, AreBytes, IsIndex};

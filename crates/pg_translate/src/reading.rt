@@ -2,8 +2,9 @@
 ghost use Rattle.std.specs.Prelude.{◌≡◌, ◌==◌, position, IfOk, ℕ, ◌+◌, ◌-◌, ◌*◌, ◌<◌, ◌≤◌, ◌++◌, ◌∷◌, [], List, length, map, MatchOption, IfSome, OnOk, Ok, Err};
 ghost use Rattle.std.specs.List.{list_any};
 ghost use Rattle.pg_types.specs.Lines.{lines};
-ghost use Rattle.pg_types.specs.Reading.{Gives, first_refusal};
-ghost use Rattle.pg_translate.specs.Alphabets.{letters_in};
+ghost use Rattle.pg_types.specs.Reading.{first_refusal};
+ghost use Rattle.pg_types.specs.Inside.Answers.{Gives};
+ghost use Rattle.pg_translate.specs.Inside.FirstSpellings.{letters_in};
 ghost use Rattle.pg_translate.specs.Inside.Fronts.{pairs, IsIndex};
 ghost use Rattle.pg_translate.specs.Spellings as spelling;
 ghost use Rattle.pg_translate.specs.Tables as table;

@@ -5,19 +5,21 @@ use Rattle.std.specs.Ordering.{eq_by_cmp}
 use Rattle.std.specs.FinMap.Entries.{find, put, is_sorted, find-put, is_sorted-put, same_entries}
 use Rattle.pg_types.specs.declared.limits.TheConstants.{PATTERN_SIGNS_MAX}
 use Rattle.pg_types.specs.Placement.{enter}
-use Rattle.pg_patterns.specs.DottedSigns.{dotted_cmp, dotted_total, dotted_exact}
+use Rattle.pg_patterns.specs.DottedSigns.{dotted_cmp}
+use Rattle.pg_patterns.specs.Inside.PlaceOrder.{dotted_total, dotted_exact}
 use Rattle.pg_patterns.specs.Values.{raise, value_of}
 use Rattle.pg_outputs.specs.declared.records.Record.{Record}
-use Rattle.pg_outputs.specs.Lists.{list_of, Grows}
+use Rattle.pg_outputs.specs.Lists.{list_of}
+use Rattle.pg_outputs.specs.Inside.Heads.{Grows}
 use Rattle.pg_outputs.proofs.ListLaws.{list_of-zero}
-use Rattle.pg_cells.specs.ValuedFamilies.{ValuedFamilies}
+use Rattle.pg_cells.specs.Inside.ValuedFamilies.{ValuedFamilies}
 use Rattle.pg_cells.specs.Inside.AreValuedFamilies.{AreValuedFamilies}
 use Rattle.pg_cells.specs.Inside.Walks.{AddsBlanks}
 use Rattle.pg_cells.proofs.StringMaps.{order, equal_or_not, find_put_same, find_put_other}
 use Rattle.pg_trie.specs.declared.mark.TheConstants.{HOPELESS}
 use Rattle.pg_trie.specs.Inside.IsTrie.{IsTrie, IsListHead}
 use Rattle.pg_trie.specs.Inside.Lists.{entered, Rises, DotsUpTo}
-use Rattle.pg_trie.specs.Maps.{Maps, maps_of, as_value, as_mark, entries}
+use Rattle.pg_trie.specs.Inside.Maps.{Maps, maps_of, as_value, as_mark, entries}
 use Rattle.pg_trie.proofs.Found.{found_in, found_at, find-entries, sorted-entries, same_by_dots, other_place}
 use Rattle.pg_trie.proofs.Rising.{values_rise, marks_rise}
 use Rattle.pg_trie.proofs.Entered.{rises-entered, dots-entered, value-entered, marks_stay, mark-entered, values_stay}

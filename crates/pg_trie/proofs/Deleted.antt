@@ -5,17 +5,19 @@ use Rattle.std.proofs.lemmas.List.{append-nil, length_push}
 use Rattle.std.specs.List.{list_any, starts_with}
 use Rattle.std.specs.FinMap.Entries.{find, same_entries}
 use Rattle.pg_types.specs.Placement.{cell_of, keeps_cell, kept}
-use Rattle.pg_patterns.specs.DottedSigns.{dotted_cmp, dotted_total, dotted_exact}
+use Rattle.pg_patterns.specs.DottedSigns.{dotted_cmp}
+use Rattle.pg_patterns.specs.Inside.PlaceOrder.{dotted_total, dotted_exact}
 use Rattle.pg_outputs.specs.declared.records.Record.{Record}
-use Rattle.pg_outputs.specs.Lists.{list_of, OneHeadEach}
+use Rattle.pg_outputs.specs.Lists.{list_of}
+use Rattle.pg_outputs.specs.Inside.Heads.{OneHeadEach}
 use Rattle.pg_outputs.proofs.ListLaws.{list_of-zero}
-use Rattle.pg_cells.specs.ValuedFamilies.{ValuedFamilies}
+use Rattle.pg_cells.specs.Inside.ValuedFamilies.{ValuedFamilies}
 use Rattle.pg_cells.specs.Inside.AreValuedFamilies.{AreValuedFamilies}
 use Rattle.pg_cells.proofs.StringMaps.{order}
 use Rattle.pg_trie.specs.declared.mark.TheConstants.{HOPELESS}
 use Rattle.pg_trie.specs.Inside.IsTrie.{IsTrie}
 use Rattle.pg_trie.specs.Inside.Lists.{rank, Rises, DotsUpTo}
-use Rattle.pg_trie.specs.Maps.{Maps, maps_of, as_value, as_mark}
+use Rattle.pg_trie.specs.Inside.Maps.{Maps, maps_of, as_value, as_mark}
 use Rattle.pg_trie.specs.Inside.Pruned.{kept_by, IsKeep, Prunes}
 use Rattle.pg_trie.specs.Inside.Renewed.{values_in, AreFresh, Renews}
 use Rattle.pg_trie.proofs.Found.{found_first, found_in, found_at, find-entries}

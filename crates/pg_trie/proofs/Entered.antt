@@ -3,7 +3,7 @@ use Rattle.std.proofs.Common.{◌≡◌, ◌≢◌, ℕ, ◌+◌, ◌*◌, ◌<�
 use Rattle.std.proofs.lemmas.Bool.{ltb-true, ltb-false, lt-ltb, le-ltb, eq-eqb, ne_eqb, eqb-true, cases_Bool, cases_order}
 use Rattle.pg_trie.specs.declared.mark.TheConstants.{HOPELESS}
 use Rattle.pg_trie.specs.Inside.Lists.{rank, entered, Rises, DotsUpTo}
-use Rattle.pg_trie.specs.Maps.{as_value, as_mark}
+use Rattle.pg_trie.specs.Inside.Maps.{as_value, as_mark}
 use Rattle.pg_trie.proofs.Found.{found_first, found_in}
 use Rattle.pg_trie.proofs.Rising.{rank_value, rank_mark, as_value_is, as_mark_is, no_value}
 

@@ -6,17 +6,18 @@ use Rattle.std.proofs.lemmas.Option.{slice_get_within}
 use Rattle.std.specs.Cmp.Lexicographic.{pointwise, texts_ties}
 use Rattle.std.specs.List.{list_all}
 use Rattle.std.specs.FinMap.Entries.{find}
-use Rattle.pg_patterns.specs.DottedSigns.{same_dotted}
-use Rattle.pg_patterns.specs.Values.{is_entry, best, value_of, map_of_entries}
+use Rattle.pg_patterns.specs.Inside.PlaceOrder.{same_dotted}
+use Rattle.pg_patterns.specs.Values.{best, value_of, map_of_entries}
+use Rattle.pg_patterns.specs.Inside.PatternMaps.{is_entry}
 use Rattle.pg_patterns.proofs.Joins.{value_of_joined, joined_keeps, same_maps}
 use Rattle.pg_outputs.specs.declared.records.Record.{Record}
 use Rattle.pg_outputs.specs.Lists.{list_of}
-use Rattle.pg_cells.specs.ValuedFamilies.{ValuedFamilies}
+use Rattle.pg_cells.specs.Inside.ValuedFamilies.{ValuedFamilies}
 use Rattle.pg_cells.proofs.StringMaps.{order, equal_or_not}
 use Rattle.pg_trie.specs.declared.mark.TheConstants.{HOPELESS}
 use Rattle.pg_trie.specs.Inside.IsTrie.{IsTrie, IsListHead}
 use Rattle.pg_trie.specs.Inside.Lists.{rank, Rises}
-use Rattle.pg_trie.specs.Maps.{maps_of, entries_of, with_entry, as_value}
+use Rattle.pg_trie.specs.Inside.Maps.{maps_of, entries_of, with_entry, as_value}
 use Rattle.pg_trie.specs.Inside.Strings.{AreStrings}
 use Rattle.pg_trie.proofs.Found.{found_first, found_in, found_at, find-entries}
 use Rattle.pg_trie.proofs.Rising.{rank_value, as_value_is, no_value}

@@ -8,20 +8,20 @@ use Rattle.std.specs.Cmp.{tied_itself}
 use Rattle.std.specs.List.{list_all, All}
 use Rattle.std.specs.FinMap.Entries.{find, is_sorted}
 use Rattle.pg_types.specs.declared.limits.TheConstants.{PATTERN_SIGNS_MAX}
-use Rattle.pg_types.specs.Signs.{is_sign}
+use Rattle.pg_types.specs.Inside.Signs.{is_sign}
 use Rattle.pg_types.specs.Placement.{cell_of}
-use Rattle.pg_patterns.specs.Values.{is_entry}
+use Rattle.pg_patterns.specs.Inside.PatternMaps.{is_entry}
 use Rattle.pg_types.proofs.BoolFacts.{and_first, and_second}
 use Rattle.pg_patterns.proofs.Sound.{entry_told}
 use Rattle.pg_outputs.specs.declared.records.Record.{Record}
 use Rattle.pg_outputs.specs.Lists.{list_of}
-use Rattle.pg_cells.specs.ValuedFamilies.{ValuedFamilies}
+use Rattle.pg_cells.specs.Inside.ValuedFamilies.{ValuedFamilies}
 use Rattle.pg_cells.specs.Inside.AreValuedFamilies.{AreValuedFamilies}
 use Rattle.pg_cells.proofs.StringMaps.{order, equal_or_not, find_below, head_below, tail_sorted}
 use Rattle.pg_trie.specs.declared.mark.TheConstants.{HOPELESS}
 use Rattle.pg_trie.specs.Inside.IsTrie.{IsTrie}
 use Rattle.pg_trie.specs.Inside.Lists.{rank, Rises, DotsUpTo}
-use Rattle.pg_trie.specs.Maps.{maps_of, entries_of, entries, with_entry, as_value, as_mark, is_dotted, AreKept}
+use Rattle.pg_trie.specs.Inside.Maps.{maps_of, entries_of, entries, with_entry, as_value, as_mark, is_dotted, AreKept}
 use Rattle.pg_trie.proofs.Rising.{as_value_is, as_mark_is}
 use Rattle.pg_trie.proofs.Changes.{sorted_values, sorted_marks}
 

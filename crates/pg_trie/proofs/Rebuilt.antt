@@ -4,7 +4,7 @@ use Rattle.std.proofs.lemmas.Bool.{ltb-false, ne_eqb, eq-eqb, cases_Bool, cases_
 use Rattle.std.specs.List.{flat_map, range_with_len}
 use Rattle.pg_trie.specs.declared.mark.TheConstants.{HOPELESS}
 use Rattle.pg_trie.specs.Inside.Lists.{rank, Rises, DotsUpTo, value_part, mark_part}
-use Rattle.pg_trie.specs.Maps.{as_value, as_mark}
+use Rattle.pg_trie.specs.Inside.Maps.{as_value, as_mark}
 use Rattle.pg_trie.proofs.Found.{found_first, found_in}
 use Rattle.pg_trie.proofs.Rising.{rank_value, rank_mark, as_value_is, as_mark_is, rises_less, no_value, no_mark}
 

@@ -5,10 +5,11 @@ use Rattle.std.proofs.lemmas.List.{length_push}
 use Rattle.std.specs.FinMap.Entries.{find, put}
 use Rattle.pg_types.specs.Placement.{cell_of}
 use Rattle.pg_outputs.specs.declared.records.Record.{Record}
-use Rattle.pg_outputs.specs.Lists.{list_of, Grows, Lacks}
+use Rattle.pg_outputs.specs.Lists.{list_of}
+use Rattle.pg_outputs.specs.Inside.Heads.{Grows, Lacks}
 use Rattle.pg_outputs.proofs.ListLaws.{list_of-new}
 use Rattle.pg_outputs.proofs.RecordLaws.{there_or_new}
-use Rattle.pg_cells.specs.ValuedFamilies.{ValuedFamilies}
+use Rattle.pg_cells.specs.Inside.ValuedFamilies.{ValuedFamilies}
 use Rattle.pg_cells.specs.Inside.AreValuedFamilies.{AreValuedFamilies}
 use Rattle.pg_cells.proofs.StringMaps.{order, same_string, equal_or_not, find_put_same, find_put_other}
 use Rattle.pg_trie.specs.declared.mark.TheConstants.{HOPELESS}

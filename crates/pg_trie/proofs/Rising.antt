@@ -3,7 +3,7 @@ use Rattle.std.proofs.Common.{◌≡◌, ◌≢◌, ℕ, ◌+◌, ◌*◌, ◌<�
 use Rattle.std.proofs.lemmas.Bool.{ne_eqb, cases_Bool}
 use Rattle.pg_trie.specs.declared.mark.TheConstants.{HOPELESS}
 use Rattle.pg_trie.specs.Inside.Lists.{rank, Rises}
-use Rattle.pg_trie.specs.Maps.{as_value, as_mark}
+use Rattle.pg_trie.specs.Inside.Maps.{as_value, as_mark}
 use Rattle.pg_trie.proofs.Found.{found_first, found_in, picks_rise, PicksRise}
 
 pub rank_value : (x : ℕ × ℕ) → nat_lt x.0 HOPELESS ≡ true → rank x ≡ 2 * x.1

@@ -7,13 +7,13 @@ use Rattle.pg_types.specs.Placement.{root}
 use Rattle.pg_outputs.specs.declared.records.Record.{Record}
 use Rattle.pg_outputs.specs.Lists.{list_of}
 use Rattle.pg_outputs.proofs.ListLaws.{list_of-zero}
-use Rattle.pg_cells.specs.ValuedFamilies.{ValuedFamilies}
+use Rattle.pg_cells.specs.Inside.ValuedFamilies.{ValuedFamilies}
 use Rattle.pg_cells.specs.Inside.AreValuedFamilies.{AreValuedFamilies}
 use Rattle.pg_cells.specs.Inside.Root.{root_held}
 use Rattle.pg_cells.proofs.StringMaps.{order, equal_or_not}
 use Rattle.pg_trie.specs.Inside.IsTrie.{IsTrie}
 use Rattle.pg_trie.specs.Inside.Lists.{Rises, DotsUpTo}
-use Rattle.pg_trie.specs.Maps.{maps_of, entries_of, entries, as_value, as_mark}
+use Rattle.pg_trie.specs.Inside.Maps.{maps_of, entries_of, entries, as_value, as_mark}
 
 -- heads 0 of single signs
 abbrev singles : List ℕ → List (List ℕ × ℕ)

@@ -13,13 +13,14 @@ use Rattle.std.specs.FinMap.Entries.{find, is_sorted}
 use Rattle.std.specs.Set.{is_member}
 use Rattle.pg_types.specs.Tails.{outputs_of, suffixes, same_pair, tails}
 use Rattle.pg_outputs.specs.declared.records.Record.{Record}
-use Rattle.pg_outputs.specs.Lists.{list_of, lists, OneHeadEach}
+use Rattle.pg_outputs.specs.Lists.{list_of, lists}
+use Rattle.pg_outputs.specs.Inside.Heads.{OneHeadEach}
 use Rattle.pg_outputs.proofs.ListLaws.{list_of-zero, list_of-append, list_of-new, length-lists}
-use Rattle.pg_cells.specs.ValuedFamilies.{ValuedFamilies}
+use Rattle.pg_cells.specs.Inside.ValuedFamilies.{ValuedFamilies}
 use Rattle.pg_cells.proofs.StringMaps.{order, equal_or_not, find_below, head_below, tail_sorted}
 use Rattle.pg_trie.specs.declared.mark.TheConstants.{HOPELESS}
 use Rattle.pg_trie.specs.Inside.IsTrie.{IsTrie}
-use Rattle.pg_trie.specs.Maps.{maps_of, entries_of, with_entry, entries, as_value}
+use Rattle.pg_trie.specs.Inside.Maps.{maps_of, entries_of, with_entry, entries, as_value}
 use Rattle.pg_trie.specs.Inside.Renewed.{values_in, IsEnd}
 use Rattle.pg_trie.proofs.Rising.{as_value_is}
 use Rattle.pg_trie.proofs.Listing.{get_there}

@@ -2,10 +2,11 @@
 ghost use Rattle.std.specs.Prelude.{◌≡◌, ◌≤◌, ◌++◌, true, length, IfOk, OnOk};
 ghost use Rattle.std.specs.List.{list_all};
 ghost use Rattle.pg_types.specs.declared.limits.TheConstants.{PATTERN_SIGNS_MAX};
-ghost use Rattle.pg_patterns.specs.Values.{is_entry, map_of_entries};
+ghost use Rattle.pg_patterns.specs.Values.{map_of_entries};
+ghost use Rattle.pg_patterns.specs.Inside.PatternMaps.{is_entry};
 ghost use Rattle.pg_outputs.specs.Lists.{list_of};
 ghost use Rattle.pg_trie.specs.Inside.IsTrie.{IsTrie};
-ghost use Rattle.pg_trie.specs.Maps.{maps_of, entries_of, as_value};
+ghost use Rattle.pg_trie.specs.Inside.Maps.{maps_of, entries_of, as_value};
 ghost use Rattle.pg_trie.specs.Inside.Strings.{AreStrings};
 
 use crate::head::Head;

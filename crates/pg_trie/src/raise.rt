@@ -1,6 +1,7 @@
 //! The list of a string with one value or mark more.
 ghost use Rattle.std.specs.Prelude.{◌≡◌, ◌<◌, ◌≤◌, ◌↔◌, length, IfOk, IsTrue};
-ghost use Rattle.pg_outputs.specs.Lists.{list_of, Grows, OneHeadEach};
+ghost use Rattle.pg_outputs.specs.Lists.{list_of};
+ghost use Rattle.pg_outputs.specs.Inside.Heads.{Grows, OneHeadEach};
 ghost use Rattle.pg_trie.specs.Inside.Lists.{rank, entered};
 
 use crate::head::{Head, in_four_bytes};

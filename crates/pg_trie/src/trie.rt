@@ -6,11 +6,12 @@ ghost use Rattle.pg_types.specs.Placement.{cell_of, root, enter, kept, taken, to
 ghost use Rattle.pg_types.specs.Tails.{tails};
 ghost use Rattle.pg_patterns.specs.DottedSigns.{dotted_cmp};
 ghost use Rattle.pg_patterns.specs.Values.{raise};
-ghost use Rattle.pg_outputs.specs.Lists.{list_of, Grows};
+ghost use Rattle.pg_outputs.specs.Lists.{list_of};
+ghost use Rattle.pg_outputs.specs.Inside.Heads.{Grows};
 ghost use Rattle.pg_cells.specs.Inside.Walks.{IsAt};
 ghost use Rattle.pg_trie.specs.declared.mark.TheConstants.{HOPELESS};
 ghost use Rattle.pg_trie.specs.Inside.Lists.{outputs_at};
-ghost use Rattle.pg_trie.specs.Maps.{AreKept};
+ghost use Rattle.pg_trie.specs.Inside.Maps.{AreKept};
 
 use crate::copy::entries;
 use crate::head::Head;
@@ -38,7 +39,7 @@ pub struct PatternTrie {
 }
 
 impl Model for PatternTrie {
-    ghost use Rattle.pg_trie.specs.Maps.{Maps, maps_of};
+    ghost use Rattle.pg_trie.specs.Inside.Maps.{Maps, maps_of};
     ghost use Rattle.pg_trie.specs.Inside.IsTrie.{IsTrie};
 
     ghost Value = { Maps };

@@ -3,7 +3,8 @@ use Rattle.std.proofs.Common.{◌≡◌, ℕ, ◌+◌, ◌-◌, ◌<◌, ◌≤�
 use Rattle.std.proofs.lemmas.Bool.{cases_Bool, cases_eq, false≢true, or_cases, or_left, or_right, and_parts, and_from, eqb-true, eq-eqb, ne_eqb, leb-true}
 use Rattle.std.proofs.lemmas.List.Folds.{list_any-append}
 use Rattle.std.specs.List.{list_any, list_all}
-use Rattle.pg_types.specs.Placement.{Families, cells_of, used_cells, top, is_used, is_base, fits_at, far_from_top, lowest_base, first_from, IsLeast, least_base}
+use Rattle.pg_types.specs.Placement.{Families, used_cells, top, is_used, is_base, fits_at, far_from_top, lowest_base, first_from, least_base}
+use Rattle.pg_types.specs.Inside.Placing.{IsLeast, cells_of}
 
 -- the greatest of a list
 fold_max_ge : (xs : List ℕ) (a : ℕ) → a ≤ fold max a xs

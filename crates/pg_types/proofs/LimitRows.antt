@@ -1,7 +1,7 @@
 -- The limits fit together.
 use Rattle.std.proofs.Common.{ℕ, ◌+◌, ◌*◌, ◌<◌, arith}
 use Rattle.pg_types.specs.declared.limits.TheConstants.{FILE_MAX, WEIGHT_MAX, LEVEL_MAX, COST_MAX}
-use Rattle.pg_types.specs.Limits.{sums_limit, counts_limit, level_passes, begun_before_run, begun_before_pass}
+use Rattle.pg_types.specs.Inside.Limits.{sums_limit, counts_limit, level_passes, begun_before_run, begun_before_pass}
 
 -- the weights of the longest dictionary
 all_weights_fit : WEIGHT_MAX * FILE_MAX < sums_limit

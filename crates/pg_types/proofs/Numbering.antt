@@ -6,7 +6,7 @@ use Rattle.std.specs.Cmp.Lexicographic.{nat_list_cmp_total}
 use Rattle.std.specs.List.{slice_get}
 use Rattle.std.specs.FinMap.Entries.{find, put, is_sorted, length-put}
 use Rattle.pg_types.proofs.StringEntries.{order, same_itself, equal_or_not, find_put_same, find_put_other, find_below, head_below, tail_sorted}
-use Rattle.pg_types.specs.Numbered.{Windows, HasNumber}
+use Rattle.pg_types.specs.Inside.Numbered.{Windows, HasNumber}
 use Rattle.pg_types.specs.Inside.Numbers.{Numbers, AreNumbers, string_with, strings_to, by_number}
 
 -- an element before the seam, and the one at it

@@ -1,11 +1,7 @@
 pub mod Refusals
 pub mod Reading
 pub mod Lines
-pub mod Signs
-pub mod Limits
 pub mod Parameters
-pub mod Counts
-pub mod Numbered
 pub mod Placement
 pub mod Tails
 pub mod Inside

@@ -1,5 +1,5 @@
 -- The parameters of a run, and when a file of them is refused.
-use Rattle.std.specs.Prelude.{◌≡◌, ℕ, ◌+◌, ◌-◌, ◌*◌, ◌≤◌, ◌==◌, ◌||◌, ◌&&◌, nat_lt, nat_le, min, Bool, true, false, if◌then◌else◌, List, [], ◌∷◌, length, map, fold, filter, drop, slice_get, Option, None, Some, unwrap_or, option_and_then, Result, Err, All}
+use Rattle.std.specs.Prelude.{ℕ, ◌+◌, ◌-◌, ◌*◌, ◌==◌, ◌||◌, ◌&&◌, nat_lt, nat_le, min, Bool, true, false, if◌then◌else◌, List, [], ◌∷◌, length, map, fold, filter, drop, slice_get, Option, None, Some, unwrap_or, option_and_then, Result, Err}
 use Rattle.std.specs.List.{list_all, flat_map, range_with_len}
 use Rattle.std.specs.Option.{option_map_or}
 use Rattle.std.specs.Char.{is_ascii_digit}
@@ -106,32 +106,10 @@ surplus place (x ∷ y ∷ xs) = Some (refused_at (if is_answer x then place + 1
 abbrev pub refusal_from : ℕ → List (ℕ × ℕ) → List (List ℕ) → Option Refusal
 refusal_from place [] xs = surplus place xs
 refusal_from place (d ∷ ds) [] = Some (refused_at place Missing)
-refusal_from place (d ∷ ds) (x ∷ xs) =
-    option_map_or (λ kind. Some (refused_at place kind))
+refusal_from place (d ∷ ds) (x ∷ xs) = option_map_or (λ kind. Some (refused_at place kind))
     (failure d x) (refusal_from (place + 1) ds xs)
 
 -- the parameters that a file holds, or its refusal
 abbrev pub parameters : List ℕ → Result Parameters Refusal
 parameters bytes = if nat_lt FILE_MAX (length bytes) then Err (refused_at 0 ParametersTooLong)
     else unless (refusal_from 1 (demands (items bytes)) (items bytes)) (parameters_of (items bytes))
-
--- the ranges that the numbers of a level keep
-pub record IsLevel (level : LevelParams) : Type 0 where
-  pub start_low : 1 ≤ level.pat_start
-  pub start_high : level.pat_start ≤ level.pat_finish
-  pub finish_high : level.pat_finish ≤ LENGTH_MAX
-  pub good_low : 1 ≤ level.good_wt
-  pub good_high : level.good_wt ≤ COST_MAX
-  pub bad_low : 1 ≤ level.bad_wt
-  pub bad_high : level.bad_wt ≤ COST_MAX
-  pub thresh_low : 1 ≤ level.thresh
-  pub thresh_high : level.thresh ≤ COST_MAX
-
--- the ranges that all parameters keep
-pub record IsRun (run : Parameters) : Type 0 where
-  pub start_low : 1 ≤ run.start
-  pub start_high : run.start ≤ LEVEL_MAX
-  pub finish_low : 1 ≤ run.finish
-  pub finish_high : run.finish ≤ LEVEL_MAX
-  pub count : length run.levels ≡ run.finish + 1 - run.start
-  pub levels : All IsLevel run.levels

@@ -1,7 +1,7 @@
 -- Where the families of a trie lie in one row of cells. The signs that follow one prefix are a
 -- family. It has a base, and its sign s has the cell base + s. A placement is the list of the
 -- families in the order of their prefixes.
-use Rattle.std.specs.Prelude.{◌≡◌, ℕ, suc, zero, ◌+◌, ◌-◌, ◌<◌, ◌≤◌, max, Bool, true, false, if◌then◌else◌, not, ◌&&◌, ◌||◌, nat_eq, nat_lt, nat_le, List, [], ◌∷◌, ◌++◌, length, map, filter, fold, Option, Some, None}
+use Rattle.std.specs.Prelude.{ℕ, suc, zero, ◌+◌, ◌-◌, max, Bool, true, false, if◌then◌else◌, not, ◌&&◌, ◌||◌, nat_eq, nat_lt, nat_le, List, [], ◌∷◌, ◌++◌, length, map, filter, fold, Option, Some, None}
 use Rattle.std.specs.List.{flat_map, list_any, list_all, range_with_len, starts_with}
 use Rattle.std.specs.Ordering.{nat_cmp, eq_by_cmp}
 use Rattle.std.specs.Cmp.Lexicographic.{slice_cmp}
@@ -41,13 +41,9 @@ abbrev pub without_family : Families → List ℕ → Families
 without_family fs p = where_key (slice_cmp nat_cmp)
     (λ q. not (eq_by_cmp (slice_cmp nat_cmp) p q)) fs
 
--- the cells of a family
-abbrev pub cells_of : Family → List ℕ
-cells_of f = map (λ s. f.base + s) f.signs
-
 -- the used cells, family by family
 abbrev pub used_cells : Families → List ℕ
-used_cells fs = flat_map (λ e. cells_of e.1) fs
+used_cells fs = flat_map (λ e. map (λ s. e.1.base + s) e.1.signs) fs
 
 -- the number of used cells
 abbrev pub taken : Families → ℕ
@@ -86,12 +82,6 @@ abbrev pub first_from : (ℕ → Bool) → ℕ → ℕ → ℕ
 first_from test zero b = b
 first_from test (suc more) b = elim (test b) [ true ↦ b | false ↦ first_from test more (b + 1) ]
 
--- b is the least number from low on that meets the test
-pub record IsLeast (test : ℕ → Bool) (low b : ℕ) : Type 0 where
-  pub from : low ≤ b
-  pub meets : test b ≡ true
-  pub first : (k : ℕ) → low ≤ k → k < b → test k ≡ false
-
 -- the least base at which the signs may stand. The greatest used cell always serves, since the
 -- family then lies past all others
 abbrev pub least_base : ℕ → ℕ → Families → List ℕ → ℕ
@@ -109,11 +99,6 @@ with_one_sign s [] = s ∷ []
 with_one_sign s (x ∷ xs) = if nat_lt s x then s ∷ x ∷ xs
     else (if nat_eq s x then x ∷ xs else x ∷ with_one_sign s xs)
 
--- whether s joins the family of the prefix p in place: there is a family, and the cell of s is
--- unused
-abbrev pub joins_at : Families → List ℕ → ℕ → Bool
-joins_at fs p s = elim (family_at fs p) [ None ↦ false | Some f ↦ not (is_used fs (f.base + s)) ]
-
 -- the families of a table of n signs with s in the family of the prefix p: a new family is placed
 -- with its one sign; a sign joins in place where its cell is unused; else the family gives up its
 -- cells and its base, and is placed anew with s
@@ -124,17 +109,6 @@ with_sign few n fs p s = elim (family_at fs p) [
     | false ↦ put (slice_cmp nat_cmp) p
         (record { base = f.base; signs = with_one_sign s f.signs }) fs
     | true ↦ placed few n (without_family fs p) p (with_one_sign s f.signs)
-  ]
-]
-
--- the families without s in the family of the prefix p. A family without a sign is gone, and the
--- others keep their bases
-unfoldable pub without_sign : Families → List ℕ → ℕ → Families
-without_sign fs p s = elim (family_at fs p) [
-  | None ↦ fs
-  | Some f ↦ elim (filter (λ x. not (nat_eq s x)) f.signs) [
-    | [] ↦ without_family fs p
-    | x ∷ xs ↦ put (slice_cmp nat_cmp) p (record { base = f.base; signs = x ∷ xs }) fs
   ]
 ]
 

@@ -3,50 +3,35 @@ use Rattle.std.specs.Prelude.{ℕ, List, codes}
 use Rattle.pg_types.specs.declared.refusals.Kind.{Kind}
 use Rattle.pg_types.specs.declared.refusals.Kind.TheVariants.{TranslateTooLong, BadMinima, BadMark, BadSpelling, SpellingClash, TooManyLetters, BadNumber, OutOfRange, Missing, Extra, ParametersTooLong, PatternCharacter, PatternTooLong, PatternsTooLong, DictionaryCharacter, WordTooLong, DictionaryTooLong, BadWeight, TableTooLong, BadTable, OtherTable}
 
--- the number of a refusal: hundreds tell the file, the rest counts the reasons
+-- the number and the name of a refusal. Of the number, hundreds tell the file, and the rest counts
+-- the reasons
+abbrev pub number_and_name : Kind → ℕ × List ℕ
+number_and_name TranslateTooLong = (101, codes "TranslateTooLong")
+number_and_name BadMinima = (102, codes "BadMinima")
+number_and_name BadMark = (103, codes "BadMark")
+number_and_name BadSpelling = (104, codes "BadSpelling")
+number_and_name SpellingClash = (105, codes "SpellingClash")
+number_and_name TooManyLetters = (106, codes "TooManyLetters")
+number_and_name BadNumber = (201, codes "BadNumber")
+number_and_name OutOfRange = (202, codes "OutOfRange")
+number_and_name Missing = (203, codes "Missing")
+number_and_name Extra = (204, codes "Extra")
+number_and_name ParametersTooLong = (205, codes "ParametersTooLong")
+number_and_name PatternCharacter = (301, codes "PatternCharacter")
+number_and_name PatternTooLong = (302, codes "PatternTooLong")
+number_and_name PatternsTooLong = (303, codes "PatternsTooLong")
+number_and_name DictionaryCharacter = (401, codes "DictionaryCharacter")
+number_and_name WordTooLong = (402, codes "WordTooLong")
+number_and_name DictionaryTooLong = (403, codes "DictionaryTooLong")
+number_and_name BadWeight = (404, codes "BadWeight")
+number_and_name TableTooLong = (601, codes "TableTooLong")
+number_and_name BadTable = (602, codes "BadTable")
+number_and_name OtherTable = (603, codes "OtherTable")
+
+-- the number of a refusal
 abbrev pub kind_number : Kind → ℕ
-kind_number TranslateTooLong = 101
-kind_number BadMinima = 102
-kind_number BadMark = 103
-kind_number BadSpelling = 104
-kind_number SpellingClash = 105
-kind_number TooManyLetters = 106
-kind_number BadNumber = 201
-kind_number OutOfRange = 202
-kind_number Missing = 203
-kind_number Extra = 204
-kind_number ParametersTooLong = 205
-kind_number PatternCharacter = 301
-kind_number PatternTooLong = 302
-kind_number PatternsTooLong = 303
-kind_number DictionaryCharacter = 401
-kind_number WordTooLong = 402
-kind_number DictionaryTooLong = 403
-kind_number BadWeight = 404
-kind_number TableTooLong = 601
-kind_number BadTable = 602
-kind_number OtherTable = 603
+kind_number kind = (number_and_name kind).0
 
 -- the name of a refusal
 abbrev pub name_of : Kind → List ℕ
-name_of TranslateTooLong = codes "TranslateTooLong"
-name_of BadMinima = codes "BadMinima"
-name_of BadMark = codes "BadMark"
-name_of BadSpelling = codes "BadSpelling"
-name_of SpellingClash = codes "SpellingClash"
-name_of TooManyLetters = codes "TooManyLetters"
-name_of BadNumber = codes "BadNumber"
-name_of OutOfRange = codes "OutOfRange"
-name_of Missing = codes "Missing"
-name_of Extra = codes "Extra"
-name_of ParametersTooLong = codes "ParametersTooLong"
-name_of PatternCharacter = codes "PatternCharacter"
-name_of PatternTooLong = codes "PatternTooLong"
-name_of PatternsTooLong = codes "PatternsTooLong"
-name_of DictionaryCharacter = codes "DictionaryCharacter"
-name_of WordTooLong = codes "WordTooLong"
-name_of DictionaryTooLong = codes "DictionaryTooLong"
-name_of BadWeight = codes "BadWeight"
-name_of TableTooLong = codes "TableTooLong"
-name_of BadTable = codes "BadTable"
-name_of OtherTable = codes "OtherTable"
+name_of kind = (number_and_name kind).1

@@ -19,7 +19,7 @@ impl Model for Cursor {
     ghost use Rattle.std.specs.Prelude.{◌≡◌, ℕ, ◌≤◌, List, take, true};
     ghost use Rattle.std.specs.List.{list_all};
     ghost use Rattle.pg_types.specs.declared.limits.TheConstants.{LENGTH_MAX};
-    ghost use Rattle.pg_types.specs.Signs.{is_sign};
+    ghost use Rattle.pg_types.specs.Inside.Signs.{is_sign};
 
     ghost Value = { List ℕ };
 
@@ -33,7 +33,7 @@ impl Cursor {
     ghost use Rattle.std.specs.Prelude.{◌≡◌, ◌≤◌, [], true, length};
     ghost use Rattle.std.specs.List.{list_all};
     ghost use Rattle.pg_types.specs.declared.limits.TheConstants.{LENGTH_MAX};
-    ghost use Rattle.pg_types.specs.Signs.{is_sign};
+    ghost use Rattle.pg_types.specs.Inside.Signs.{is_sign};
 
     /// The empty window, which is less than every other.
     pub fn start() -> Cursor

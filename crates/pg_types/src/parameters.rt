@@ -1,9 +1,10 @@
 //! The parameters of a run, and the reader of the file that holds them.
 ghost use Rattle.std.specs.Prelude.{◌≡◌, ◌<◌, ◌≤◌, ◌+◌, ◌-◌, ◌*◌, nat_lt, length, map, drop, slice_get, IfOk, IfErr, OnOk, All};
 ghost use Rattle.pg_types.specs.Inside.ItemSteps.{levels_of, levels_refusal};
-ghost use Rattle.pg_types.specs.Limits.{items_end};
-ghost use Rattle.pg_types.specs.Reading.{Gives, FailsBy};
-ghost use Rattle.pg_types.specs.Parameters.{items as items_of, surplus, parameters, IsLevel};
+ghost use Rattle.pg_types.specs.Inside.Limits.{items_end};
+ghost use Rattle.pg_types.specs.Inside.Answers.{Gives, FailsBy};
+ghost use Rattle.pg_types.specs.Parameters.{items as items_of, surplus, parameters};
+ghost use Rattle.pg_types.specs.Inside.Ranges.{IsLevel};
 
 use crate::items::Items;
 use crate::limits::{FILE_MAX, LEVEL_MAX};
@@ -36,7 +37,8 @@ pub struct Params {
 }
 
 impl Model for Params {
-    ghost use Rattle.pg_types.specs.Parameters.{Parameters, IsRun};
+    ghost use Rattle.pg_types.specs.Parameters.{Parameters};
+    ghost use Rattle.pg_types.specs.Inside.Ranges.{IsRun};
 
     ghost Value = { Parameters };
 

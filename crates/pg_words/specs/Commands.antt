@@ -1,82 +1,11 @@
--- How the definitions see a command.
-use Rattle.std.specs.Prelude.{ℕ, ◌<◌, ◌≤◌, ◌^◌, List, String, length, map, string_bytes, Option}
-use Rattle.std.specs.Option.{option_map}
-use denote.Ref.{Bor}
+-- The words of a call as their bytes, and what they ask for.
+use Rattle.std.specs.Prelude.{ℕ, List, String, map, string_bytes, Option}
 use Rattle.std.specs.declared.alloc.Global.{Global}
-use Rattle.pg_words.specs.Requests.{FileNames, SweepRequest, Request, ToGenerate, ToAudit, ToSample, ToPack, ToTotals, ToPrune, ToSweep, request_of}
-use Rattle.pg_words.specs.declared.commands.Names.{Names}
-use Rattle.pg_words.specs.declared.commands.SweepWords.{SweepWords}
-use Rattle.pg_words.specs.declared.commands.Command.{Command}
-use Rattle.pg_words.specs.declared.commands.Command.TheVariants.{Generate, Audit, Sample, Pack, Totals, Prune, Sweep}
-
--- a name that may be asked for as its bytes
-abbrev pub name_now : Option (Bor (List ℕ)) → Option (List ℕ)
-name_now name = option_map (λ n. n.now) name
-
--- the names as their bytes
-abbrev pub texts_of : Names → FileNames
-texts_of n = record {
-  dict = n.dict.now;
-  patterns = n.patterns.now;
-  output = n.output.now;
-  translate = n.translate.now;
-  params = n.params.now;
-  report = n.report.now;
-  pattmp = name_now n.pattmp;
-  cells = name_now n.cells;
-}
+use Rattle.pg_words.specs.Requests.{Request, request_of}
 
 -- words as their bytes
 abbrev pub words_of : List (String Global) → List (List ℕ)
 words_of words = map string_bytes words
-
--- what `sweep` is asked for, each name as its bytes
-abbrev pub sweep_of : SweepWords → SweepRequest
-sweep_of w = record {
-  dict = w.dict.now;
-  patterns = w.patterns.now;
-  output = w.output.now;
-  translate = w.translate.now;
-  folds = w.folds;
-  bad = w.bad;
-  missed = w.missed;
-  params = words_of w.params.now;
-}
-
--- the command as what it asks for
-abbrev pub asked_by : Command → Request
-asked_by (Generate names) = ToGenerate (texts_of names)
-asked_by (Audit names) = ToAudit (texts_of names)
-asked_by (Sample seed count) = ToSample seed count
-asked_by (Pack patterns translate table) =
-    ToPack (record { patterns = patterns.now; translate = translate.now; table = table.now })
-asked_by (Totals dict translate table) =
-    ToTotals (record { dict = dict.now; translate = translate.now; table = table.now })
-asked_by (Prune dict patterns output translate report) = ToPrune (record {
-  dict = dict.now;
-  patterns = patterns.now;
-  output = output.now;
-  translate = translate.now;
-  report = report.now;
-})
-asked_by (Sweep words) = ToSweep (sweep_of words)
-
--- the numbers of `sweep` are within their limits
-pub record KeepsSweepLimits (w : SweepWords) : Type 0 where
-  pub folds : (2 ≤ w.folds) × (w.folds ≤ 10)
-  pub bad : (1 ≤ w.bad) × (w.bad ≤ 1000)
-  pub missed : (1 ≤ w.missed) × (w.missed ≤ 1000)
-  pub params : (1 ≤ length w.params.now) × (length w.params.now ≤ 16)
-
--- the numbers of `sample` and `sweep` are within their limits
-abbrev pub KeepsLimits : Command → Type 0
-KeepsLimits (Generate names) = Unit {0}
-KeepsLimits (Audit names) = Unit {0}
-KeepsLimits (Sample seed count) = (seed < 2 ^ 31) × (count ≤ 100000)
-KeepsLimits (Pack patterns translate table) = Unit {0}
-KeepsLimits (Totals dict translate table) = Unit {0}
-KeepsLimits (Prune dict patterns output translate report) = Unit {0}
-KeepsLimits (Sweep words) = KeepsSweepLimits words
 
 -- what the words of a call ask for, none where they are no command
 abbrev pub asked : List (String Global) → Option Request

@@ -151,13 +151,15 @@ sample_in words = None
 -- `pack PATTERNS TRANSLATE TABLE`, where the table is an output
 abbrev pub pack_in : List (List ℕ) → Option Request
 pack_in (patterns ∷ translate ∷ table ∷ []) =
-    where_taken (patterns ∷ translate ∷ []) (table ∷ []) (ToPack patterns translate table)
+    where_taken (patterns ∷ translate ∷ []) (table ∷ [])
+    (ToPack (record { patterns = patterns; translate = translate; table = table }))
 pack_in words = None
 
 -- `totals DICT TRANSLATE TABLE`, whose names may be equal
 abbrev pub totals_in : List (List ℕ) → Option Request
 totals_in (dict ∷ translate ∷ table ∷ []) =
-    where_taken (dict ∷ translate ∷ table ∷ []) [] (ToTotals dict translate table)
+    where_taken (dict ∷ translate ∷ table ∷ []) []
+    (ToTotals (record { dict = dict; translate = translate; table = table }))
 totals_in words = None
 
 -- `prune DICT PATTERNS OUT TRANSLATE REPORT`

@@ -3,8 +3,9 @@ use Rattle.std.specs.Prelude.{◌≡◌, ℕ, false, List, [], ◌∷◌, ◌++�
 use Rattle.std.specs.Ordering.{nat_cmp}
 use Rattle.std.specs.Cmp.Lexicographic.{slice_cmp}
 use Rattle.std.specs.FinMap.{put}
-use Rattle.pg_types.specs.Placement.{cell_of, joins_at, with_sign}
-use Rattle.pg_cells.specs.ValuedFamilies.{Trie}
+use Rattle.pg_types.specs.Placement.{cell_of, with_sign}
+use Rattle.pg_types.specs.Inside.Placing.{joins_at}
+use Rattle.pg_cells.specs.Inside.ValuedFamilies.{Trie}
 use Rattle.pg_cells.specs.Inside.Lists.{Row}
 use Rattle.pg_cells.specs.Inside.Layouts.{IsTrie}
 use Rattle.pg_cells.specs.Inside.Members.{ArePassing, has_sign}

@@ -9,7 +9,7 @@ use Rattle.pg_types.specs.Placement.{Family, family_at, cell_of, taken}
 use Rattle.pg_cells.specs.Inside.Lists.{Row, sign_at, child_at, base_at}
 use Rattle.pg_cells.specs.Inside.Store.{taken_in}
 use Rattle.pg_types.specs.declared.limits.TheConstants.{SIGNS_MAX}
-use Rattle.pg_cells.specs.ValuedFamilies.{Trie}
+use Rattle.pg_cells.specs.Inside.ValuedFamilies.{Trie}
 
 module _ {V : Type 0} where
   -- the signs that stand at a base, of a table of n signs

@@ -2,7 +2,8 @@
 use Rattle.std.specs.Prelude.{◌≡◌, ◌≢◌, ℕ, ◌+◌, ◌<◌, ◌≤◌, ◌⊎◌, max, true, false, List, [], ◌∷◌, ◌++◌, length, take, get_or, slice_get, None, Some}
 use Rattle.pg_cells.specs.declared.fit.Slot.{Slot}
 use Rattle.pg_cells.specs.Inside.Lists.{Row, sign_at, child_at, base_at}
-use Rattle.pg_types.specs.Placement.{lowest_base, IsLeast}
+use Rattle.pg_types.specs.Placement.{lowest_base}
+use Rattle.pg_types.specs.Inside.Placing.{IsLeast}
 use Rattle.pg_cells.specs.Inside.Store.{taken_in, IsTop}
 use Rattle.pg_cells.specs.Inside.Writes.{Takes, SetsBase, SetsChild}
 use Rattle.pg_cells.specs.Inside.Fit.{signs_of, slot_of, fits_row}

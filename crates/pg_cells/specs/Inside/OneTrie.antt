@@ -12,7 +12,7 @@ use Rattle.std.specs.Coded.{Coded, Coded-set}
 use mathlib.Core.HLevel.{Σ_prop_path}
 use Rattle.pg_types.specs.Placement.{Family, family_at, cell_of}
 use Rattle.pg_cells.specs.Inside.Lists.{Row, child_at}
-use Rattle.pg_cells.specs.ValuedFamilies.{Trie, trie_code}
+use Rattle.pg_cells.specs.Inside.ValuedFamilies.{Trie, trie_code}
 use Rattle.pg_cells.specs.Inside.Layouts.{IsLayout, IsTrie, standing, value_in}
 
 -- a string has a last sign, and a front before it

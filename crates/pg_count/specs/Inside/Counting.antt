@@ -6,9 +6,9 @@ use Rattle.std.specs.Ordering.{nat_cmp}
 use Rattle.std.specs.Cmp.Lexicographic.{slice_cmp}
 use Rattle.std.specs.FinMap.Entries.{find, is_sorted}
 use Rattle.pg_types.specs.declared.limits.TheConstants.{LENGTH_MAX}
-use Rattle.pg_cells.specs.ValuedFamilies.{ValuedFamilies}
-use Rattle.pg_types.specs.Counts.{Counts, SignsWithin, is_counted, with_count}
-use Rattle.pg_types.specs.Numbered.{Windows, with_window}
+use Rattle.pg_cells.specs.Inside.ValuedFamilies.{ValuedFamilies}
+use Rattle.pg_types.specs.Inside.Counts.{Counts, SignsWithin, is_counted, with_count}
+use Rattle.pg_types.specs.Inside.Numbered.{Windows, with_window}
 use Rattle.pg_types.specs.Inside.Numbers.{Numbers}
 
 -- the number of signs of the table; how many signs a window has; the counts of the windows; and the

@@ -6,10 +6,10 @@ use Rattle.std.specs.declared.cmp.Ordering.TheVariants.{Less}
 use Rattle.std.specs.Ordering.{nat_cmp}
 use Rattle.std.specs.Cmp.Lexicographic.{slice_cmp}
 use Rattle.pg_types.specs.declared.limits.TheConstants.{LENGTH_MAX}
-use Rattle.pg_types.specs.Counts.{SignsWithin}
-use Rattle.pg_types.specs.Numbered.{Windows, HasNumber}
+use Rattle.pg_types.specs.Inside.Counts.{SignsWithin}
+use Rattle.pg_types.specs.Inside.Numbered.{Windows, HasNumber}
 use Rattle.pg_types.specs.Placement.{cell_of}
-use Rattle.pg_cells.specs.ValuedFamilies.{ValuedFamilies}
+use Rattle.pg_cells.specs.Inside.ValuedFamilies.{ValuedFamilies}
 use Rattle.pg_cells.specs.Inside.AreValuedFamilies.{AreValuedFamilies}
 use Rattle.pg_cells.specs.Inside.Walks.{EndsBefore}
 use Rattle.pg_count.specs.Inside.Counting.{Tally, Tallies, numbers_in}

@@ -5,8 +5,10 @@ use Rattle.pg_types.specs.declared.refusals.Refusal.{Refusal}
 use Rattle.pg_types.specs.Reading.{unless}
 use Rattle.pg_translate.specs.Alphabets.{Alphabet, letters_of}
 use Rattle.pg_translate.specs.Tokens.{Letter}
-use Rattle.pg_translate.specs.Cuts.{cut_rest, tokens_of}
-use Rattle.pg_translate.specs.LineRefusals.{refusal_with_room, line_refusal}
+use Rattle.pg_translate.specs.Cuts.{tokens_of}
+use Rattle.pg_translate.specs.Inside.Rests.{cut_rest}
+use Rattle.pg_translate.specs.LineRefusals.{line_refusal}
+use Rattle.pg_translate.specs.Inside.Refusing.{refusal_with_room}
 use Rattle.pg_translate.specs.declared.items.Place.TheVariants.{Dictionary}
 use Rattle.pg_dict.specs.declared.line.Line.{Line}
 use Rattle.pg_dict.specs.declared.line_start.LineStart.{LineStart}

@@ -6,12 +6,13 @@ use Rattle.pg_types.specs.declared.marks.Mark.{Mark}
 use Rattle.pg_types.specs.declared.refusals.Refusal.{Refusal}
 use Rattle.pg_types.specs.Reading.{unless}
 use Rattle.pg_translate.specs.Alphabets.{Alphabet}
-use Rattle.pg_translate.specs.Cuts.{cut_rest, tokens_of}
-use Rattle.pg_translate.specs.LineRefusals.{refusal_with_room}
+use Rattle.pg_translate.specs.Cuts.{tokens_of}
+use Rattle.pg_translate.specs.Inside.Rests.{cut_rest}
+use Rattle.pg_translate.specs.Inside.Refusing.{refusal_with_room}
 use Rattle.pg_translate.specs.declared.items.Place.TheVariants.{Dictionary}
 use Rattle.pg_dict.specs.declared.letters.At.{At}
 use Rattle.pg_dict.specs.declared.line.Line.{Line}
-use Rattle.pg_dict.specs.PositionedSigns.{Columns, with_signs}
+use Rattle.pg_dict.specs.Inside.PositionedSigns.{Columns, with_signs}
 use Rattle.pg_dict.specs.Inside.Running.{signs_behind}
 
 -- the columns after the rest of a word is read. Given are the weight of the word, its line and the

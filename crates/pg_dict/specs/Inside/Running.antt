@@ -5,8 +5,8 @@ use Rattle.pg_types.specs.declared.limits.TheConstants.{EDGE}
 use Rattle.pg_types.specs.declared.marks.Mark.{Mark}
 use Rattle.pg_types.specs.declared.marks.Mark.TheVariants.{Nothing}
 use Rattle.pg_translate.specs.Tokens.{Token, Letter, Digit, Weight, Marked, Edge}
-use Rattle.pg_dict.specs.PositionedSigns.{PositionedSign, positioned_sign}
-use Rattle.pg_dict.specs.Word.{word_with}
+use Rattle.pg_dict.specs.Inside.PositionedSigns.{PositionedSign, positioned_sign}
+use Rattle.pg_dict.specs.Inside.SoundWords.{word_with}
 use Rattle.pg_dict.specs.Words.{LineWord}
 
 -- the signs behind a letter, each with the position before it, up to the last edge: each letter

@@ -1,10 +1,10 @@
 -- The steps of the reading of a word.
 use Rattle.std.specs.Prelude.{◌≡◌, ◌+◌, ◌<◌, ◌≤◌, ℕ, length, Option, None, Some, Result, Ok, Err}
 use Rattle.pg_types.specs.declared.refusals.ReadingError.{ReadingError}
-use Rattle.pg_types.specs.Reading.{Fails}
+use Rattle.pg_types.specs.Inside.Answers.{Fails}
 use Rattle.pg_dict.specs.declared.line.Line.{Line}
 use Rattle.pg_dict.specs.declared.letters.At.{At}
-use Rattle.pg_dict.specs.PositionedSigns.{Columns}
+use Rattle.pg_dict.specs.Inside.PositionedSigns.{Columns}
 use Rattle.pg_dict.specs.Inside.ReadColumns.{columns_from}
 
 -- after an item, the rest of the word still leads to the same columns, and it is shorter; or the

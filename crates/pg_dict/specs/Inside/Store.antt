@@ -2,8 +2,9 @@
 use Rattle.std.specs.Prelude.{◌≡◌, ◌≤◌, ◌+◌, ◌*◌, ℕ, Bool, true, ◌&&◌, nat_le, List, map, length, slice_range, All}
 use Rattle.std.specs.List.{list_all, flat_map}
 use Rattle.pg_types.specs.declared.limits.TheConstants.{FILE_MAX}
-use Rattle.pg_dict.specs.Word.{Word, IsWord, is_weight}
-use Rattle.pg_dict.specs.PositionedSigns.{Columns}
+use Rattle.pg_dict.specs.Word.{Word}
+use Rattle.pg_dict.specs.Inside.SoundWords.{IsWord, is_weight}
+use Rattle.pg_dict.specs.Inside.PositionedSigns.{Columns}
 use Rattle.pg_dict.specs.Inside.Sites.{all_sites}
 use Rattle.pg_dict.specs.declared.sites.Site.{Site}
 use Rattle.pg_dict.specs.declared.store.Store.{Store}

@@ -1,12 +1,12 @@
 -- What the choice among the candidates of a pass makes of an engine, and what it counts.
 use Rattle.std.specs.Prelude.{◌≡◌, ℕ, ◌+◌, List, length, sum_by}
 use Rattle.pg_types.specs.declared.parameters.LevelParams.{LevelParams}
-use Rattle.pg_select.specs.Meanings.{Meaning}
+use Rattle.pg_select.specs.Inside.Meanings.{Meaning}
 use Rattle.pg_select.specs.CountedPositions.{Candidate}
 use Rattle.pg_driver.specs.declared.choices.Choices.{Choices}
 use Rattle.pg_driver.specs.Traces.{PassTrace, chosen_of, hopeless_of}
 use Rattle.pg_driver.specs.Inside.States.{state_of, state_after}
-use Rattle.pg_driver.specs.Told.{known_of}
+use Rattle.pg_driver.specs.Inside.Told.{known_of}
 
 -- an entry of the counts as a candidate
 abbrev pub candidate_of : List ℕ × (ℕ × ℕ) → Candidate

@@ -5,11 +5,12 @@ use Rattle.std.specs.Ordering.{nat_cmp, is_lt}
 use Rattle.std.specs.Cmp.Lexicographic.{slice_cmp}
 use Rattle.std.specs.FinMap.Entries.{is_sorted}
 use Rattle.pg_types.specs.declared.limits.TheConstants.{WEIGHT_MAX, FILE_MAX}
-use Rattle.pg_dict.specs.Word.{Word, IsWord}
-use Rattle.pg_types.specs.Counts.{Counts, SignsWithin}
-use Rattle.pg_types.specs.Numbered.{Windows, with_window}
-use Rattle.pg_select.specs.Meanings.{Meaning, SetsValues, SetsCovers, with_position}
-use Rattle.pg_select.specs.Positions.{Positions}
+use Rattle.pg_dict.specs.Word.{Word}
+use Rattle.pg_dict.specs.Inside.SoundWords.{IsWord}
+use Rattle.pg_types.specs.Inside.Counts.{Counts, SignsWithin}
+use Rattle.pg_types.specs.Inside.Numbered.{Windows, with_window}
+use Rattle.pg_select.specs.Inside.Meanings.{Meaning, SetsValues, SetsCovers, with_position}
+use Rattle.pg_select.specs.Inside.Positions.{Positions}
 use Rattle.pg_select.specs.CountedPositions.{CountedPosition}
 
 -- the windows in the order in which they were first counted, after more positions are counted

@@ -4,9 +4,10 @@ use Rattle.std.specs.Prelude.{◌≡◌, ℕ, ◌-◌, ◌≤◌, ◌<◌, Bool,
 use Rattle.pg_types.specs.declared.limits.TheConstants.{FILE_MAX, LENGTH_MAX}
 use Rattle.pg_types.specs.declared.marks.Totals.{Totals}
 use Rattle.pg_types.specs.declared.parameters.LevelParams.{LevelParams}
-use Rattle.pg_types.specs.Counts.{Counts}
-use Rattle.pg_types.specs.Numbered.{Windows}
-use Rattle.pg_dict.specs.Word.{Word, IsWord, letter_count}
+use Rattle.pg_types.specs.Inside.Counts.{Counts}
+use Rattle.pg_types.specs.Inside.Numbered.{Windows}
+use Rattle.pg_dict.specs.Word.{Word}
+use Rattle.pg_dict.specs.Inside.SoundWords.{IsWord, letter_count}
 use Rattle.pg_select.specs.declared.pass.Pass.{Pass}
 use Rattle.pg_select.specs.Inside.LawsSteps.{FindsMore, PreventsMore}
 use Rattle.pg_select.specs.Statuses.{is_odd}
@@ -22,10 +23,10 @@ use Rattle.pg_dots.specs.Inside.Dots.{is_closed, places}
 use Rattle.pg_driver.specs.Inside.OpenSigns.{IsThere, closed_after, open_places, sign_count}
 use Rattle.pg_driver.specs.Inside.OpenPositions.{IsPlaced}
 use Rattle.pg_driver.specs.Inside.PassWindows.{HaveNumbers, counts_at, is_counted_at}
-use Rattle.pg_driver.specs.Sound.{IsSmall}
+use Rattle.pg_driver.specs.Inside.Sound.{IsSmall}
 use Rattle.pg_driver.specs.Traces.{Known, Source}
 use Rattle.pg_driver.specs.Inside.WordLevels.{IsWordsAt, kept_by}
-use Rattle.pg_types.specs.Limits.{sums_limit}
+use Rattle.pg_types.specs.Inside.Limits.{sums_limit}
 
 -- the dots are closed as they are at a length of a level, and the totals are those by the patterns
 pub record IsOpenAt (source : Source) (level len : ℕ) (known : Known) (o : OpenLevel) : Type 0 where

@@ -6,7 +6,7 @@ use Rattle.pg_types.specs.declared.limits.TheConstants.{LENGTH_MAX}
 use Rattle.pg_types.specs.declared.marks.Layout.{Layout}
 use Rattle.pg_types.specs.declared.parameters.LevelParams.{LevelParams}
 use Rattle.pg_types.specs.Placement.{Families}
-use Rattle.pg_select.specs.Meanings.{Meaning}
+use Rattle.pg_select.specs.Inside.Meanings.{Meaning}
 use Rattle.pg_select.specs.declared.pass.Pass.{Pass}
 use Rattle.pg_select.specs.Inside.Laws.{IsClosed}
 use Rattle.pg_select.specs.Windows.{Patterns}
@@ -14,10 +14,10 @@ use Rattle.pg_driver.specs.declared.counting.Counting.{Counting}
 use Rattle.pg_driver.specs.Inside.LevelCounting.{IsCounted}
 use Rattle.pg_driver.specs.Traces.{Known, Source, PassTrace, LevelTrace, Trace, patterns_after, final_patterns, known_at_end, passes_made, at_start}
 use Rattle.pg_driver.specs.Accounts.{pass_line, pass_lines, has_candidate, chosen_by, level_line, is_skippable, begun_among, begun}
-use Rattle.pg_driver.specs.Layouts.{pass_layouts, after_level, final_families, levels_with_families, level_layout}
-use Rattle.pg_driver.specs.Sound.{Recorded}
+use Rattle.pg_driver.specs.Layouts.{pass_layouts, after_level, levels_with_families, level_layout}
+use Rattle.pg_driver.specs.Inside.Told.{final_families, known_of, line_of, level_line_of, layout_told, level_layout_told}
+use Rattle.pg_driver.specs.Inside.Sound.{Recorded}
 use Rattle.pg_driver.specs.Inside.States.{State, state_of, state_at_end}
-use Rattle.pg_driver.specs.Told.{known_of, line_of, level_line_of, layout_told, level_layout_told}
 
 -- what each pass that has a candidate tells of the cells: no layout where no families are told
 abbrev pub layouts_in : ℕ → Option Families → List PassTrace → List (Option (Pass × ℕ × ℕ))

@@ -1,10 +1,10 @@
 -- What the values and marks of a string's list give at the position of their dot.
 use Rattle.std.specs.Prelude.{ℕ, ◌&&◌, nat_lt, nat_le, if◌then◌else◌, List}
 use Rattle.pg_select.specs.declared.pass.Pass.{Pass}
-use Rattle.pg_select.specs.Positions.{bit}
-use Rattle.pg_select.specs.Windows.{is_within}
+use Rattle.pg_select.specs.Inside.Positions.{bit}
+use Rattle.pg_select.specs.Inside.Within.{is_within}
 use Rattle.pg_trie.specs.Inside.Lists.{outputs_at}
-use Rattle.pg_trie.specs.Maps.{Maps}
+use Rattle.pg_trie.specs.Inside.Maps.{Maps}
 use Rattle.pg_trie.specs.declared.mark.TheConstants.{HOPELESS}
 
 -- the lists of the strings of a trie

@@ -3,7 +3,8 @@ use Rattle.std.specs.Prelude.{◌≡◌, ℕ, ◌+◌, ◌≤◌, List, take, le
 use Rattle.std.specs.FinMap as fin
 use Rattle.pg_outside.specs.Inside.Calls.{ListedCalls, listed_calls}
 use Rattle.pg_outside.specs.Content.{FileMap, file_at}
-use Rattle.pg_outside.specs.Faults.{next_count, EachRose, SameCounts}
+use Rattle.pg_outside.specs.Faults.{next_count}
+use Rattle.pg_outside.specs.Inside.NameFaults.{EachRose, SameCounts}
 use Rattle.pg_outside.specs.FilesCalls.{FilesCall}
 use Rattle.pg_outside.specs.Inside.MissingNames.{times_in}
 use Rattle.pg_outside.specs.Inside.StoredFile.{file_map, room_in}

@@ -3,7 +3,7 @@ use Rattle.std.specs.Prelude.{◌≡◌, ℕ, ◌<◌, List, [], ◌∷◌, ◌+
 use Rattle.std.specs.Str.{bytes_eq}
 use Rattle.std.specs.FinMap as fin
 use Rattle.pg_outside.specs.Content.{FileMap, file_at}
-use Rattle.pg_outside.specs.Faults.{NoneFell, SameCounts}
+use Rattle.pg_outside.specs.Inside.NameFaults.{NoneFell, SameCounts}
 use Rattle.pg_outside.specs.declared.stored.StoredFile.{StoredFile}
 
 -- whether the file has this name

@@ -328,7 +328,8 @@ impl<S: System + Drop> DiskFiles<S> {
 }
 
 impl<S: System + Drop> Files for DiskFiles<S> {
-    ghost use Rattle.pg_outside.specs.Content.{KeepsHeld, IsFile, IsFileCut, WasWritten, WasPartWritten};
+    ghost use Rattle.pg_outside.specs.Content.{KeepsHeld};
+    ghost use Rattle.pg_outside.specs.Inside.ToldFiles.{IsFile, IsFileCut, WasWritten, WasPartWritten};
     ghost use Rattle.pg_outside.specs.Inside.DiskHeld.{held_of, disk_faults, disk_calls};
 
     ghost shown = { λ files. record {

@@ -1,6 +1,6 @@
 -- What a packed engine means.
 use Rattle.std.specs.Prelude.{Some}
-use Rattle.pg_select.specs.Meanings.{Meaning}
+use Rattle.pg_select.specs.Inside.Meanings.{Meaning}
 use Rattle.pg_packed.specs.declared.engine.PackedEngine.{PackedEngine}
 
 -- its maps are those of its tries, and the families of the patterns' trie are told

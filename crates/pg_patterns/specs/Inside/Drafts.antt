@@ -7,8 +7,10 @@ use Rattle.pg_types.specs.Reading.{unless}
 use Rattle.pg_translate.specs.declared.items.Place.TheVariants.{Patterns}
 use Rattle.pg_translate.specs.Alphabets.{Alphabet}
 use Rattle.pg_translate.specs.Tokens.{Token, Letter, Digit, Weight, Marked, Edge}
-use Rattle.pg_translate.specs.Cuts.{Cut, cut_rest, tokens_of}
-use Rattle.pg_translate.specs.LineRefusals.{refusal_with_room, of_line}
+use Rattle.pg_translate.specs.Cuts.{Cut, tokens_of}
+use Rattle.pg_translate.specs.Inside.Rests.{cut_rest}
+use Rattle.pg_translate.specs.LineRefusals.{of_line}
+use Rattle.pg_translate.specs.Inside.Refusing.{refusal_with_room}
 use Rattle.pg_patterns.specs.Lines.{digit_at_dot, entries_at}
 
 -- the signs, the dots before them with their digits, and the last digit behind the last sign, where

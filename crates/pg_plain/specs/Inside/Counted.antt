@@ -4,8 +4,8 @@ use Rattle.std.specs.Prelude.{◌≡◌, ℕ, ◌≤◌, Bool, T, List, map, len
 use Rattle.std.specs.Ordering.{nat_cmp}
 use Rattle.std.specs.Cmp.Lexicographic.{slice_cmp}
 use Rattle.std.specs.FinMap.Entries.{is_sorted}
-use Rattle.pg_types.specs.Counts.{Counts, with_count}
-use Rattle.pg_types.specs.Numbered.{Windows, with_window}
+use Rattle.pg_types.specs.Inside.Counts.{Counts, with_count}
+use Rattle.pg_types.specs.Inside.Numbered.{Windows, with_window}
 use Rattle.pg_types.specs.Inside.Numbers.{Numbers, AreNumbers, by_number}
 use Rattle.pg_plain.specs.declared.counts.TheConstants.{NUMBERS_MAX}
 

@@ -1,6 +1,6 @@
 -- What a plain engine means.
 use Rattle.std.specs.Prelude.{true, None}
-use Rattle.pg_select.specs.Meanings.{Meaning}
+use Rattle.pg_select.specs.Inside.Meanings.{Meaning}
 use Rattle.pg_plain.specs.declared.engine.PlainEngine.{PlainEngine}
 
 -- its maps are the entries in their order, and no families are told

@@ -1,7 +1,7 @@
 -- The turn of an entry in a round.
 use Rattle.std.specs.Prelude.{◌≡◌, ℕ, ◌<◌, true, List, ◌∷◌, ◌++◌, ◌-◌, ◌^◌, length, map, slice_index_or, Option, Some}
 use Rattle.std.specs.List.{list_all}
-use Rattle.pg_patterns.specs.Values.{is_entry}
+use Rattle.pg_patterns.specs.Inside.PatternMaps.{is_entry}
 use Rattle.pg_select.specs.Windows.{Patterns}
 use Rattle.pg_prune.specs.Places.{WordPlace}
 use Rattle.pg_prune.specs.Inside.Standing.{standing}

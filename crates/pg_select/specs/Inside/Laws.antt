@@ -6,13 +6,15 @@ use Rattle.std.specs.declared.cmp.Ordering.TheVariants.{Less}
 use Rattle.std.specs.Ordering.{nat_cmp}
 use Rattle.std.specs.Cmp.Lexicographic.{slice_cmp}
 use Rattle.std.specs.FinMap.Entries.{put}
-use Rattle.pg_types.specs.Limits.{sums_limit}
+use Rattle.pg_types.specs.Inside.Limits.{sums_limit}
 use Rattle.pg_types.specs.declared.limits.TheConstants.{FILE_MAX}
 use Rattle.pg_translate.specs.Reach.{positions}
-use Rattle.pg_dict.specs.Word.{Word, IsWord, letter_count}
-use Rattle.pg_patterns.specs.DottedSigns.{dotted_cmp, same_dotted}
+use Rattle.pg_dict.specs.Word.{Word}
+use Rattle.pg_dict.specs.Inside.SoundWords.{IsWord, letter_count}
+use Rattle.pg_patterns.specs.DottedSigns.{dotted_cmp}
+use Rattle.pg_patterns.specs.Inside.PlaceOrder.{same_dotted}
 use Rattle.pg_patterns.specs.Values.{value_of, raise, applies, value_at}
-use Rattle.pg_select.specs.Meanings.{Meaning, with_position, after_give_up}
+use Rattle.pg_select.specs.Inside.Meanings.{Meaning, with_position, after_give_up}
 use Rattle.pg_select.specs.declared.pass.Pass.{Pass}
 use Rattle.pg_select.specs.CountedPositions.{Minima, CountedPosition, Candidate, counted_positions, same_signs, candidates, good_of, bad_of, tally, counted_at, counts_as}
 use Rattle.pg_select.specs.Statuses.{status_at}

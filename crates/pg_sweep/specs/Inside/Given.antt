@@ -4,9 +4,9 @@ use Rattle.std.specs.List.{range_with_len}
 use Rattle.pg_types.specs.Parameters.{Parameters}
 use Rattle.pg_types.specs.declared.marks.Totals.{Totals}
 use Rattle.pg_translate.specs.Alphabets.{letters_of}
-use Rattle.pg_dict.specs.Word.{SignsAtMost}
-use Rattle.pg_patterns.specs.Values.{SignsUpTo}
-use Rattle.pg_types.specs.Limits.{sums_limit}
+use Rattle.pg_dict.specs.Inside.SoundWords.{SignsAtMost}
+use Rattle.pg_patterns.specs.Inside.PatternMaps.{SignsUpTo}
+use Rattle.pg_types.specs.Inside.Limits.{sums_limit}
 use Rattle.pg_sweep.specs.Sweeps.{Terms, fold_totals, summed}
 use Rattle.pg_sweep.specs.declared.folds.Given.{Given}
 

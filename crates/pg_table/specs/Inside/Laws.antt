@@ -1,7 +1,8 @@
 -- What a table that was packed from patterns means.
 use Rattle.std.specs.Prelude.{◌≡◌, ℕ, List}
 use Rattle.pg_dict.specs.Word.{Word}
-use Rattle.pg_patterns.specs.Values.{IsPatternMap, value_of, value_at}
+use Rattle.pg_patterns.specs.Values.{value_of, value_at}
+use Rattle.pg_patterns.specs.Inside.PatternMaps.{IsPatternMap}
 use Rattle.pg_select.specs.CountedPositions.{Minima}
 use Rattle.pg_select.specs.Sums.{totals}
 use Rattle.pg_table.specs.Lookups.{table_entry, table_value, table_totals}

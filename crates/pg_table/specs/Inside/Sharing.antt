@@ -2,7 +2,8 @@
 use Rattle.std.specs.Prelude.{◌≡◌, ℕ, ◌+◌, List, map, fold, reverse, length, slice_get, Some}
 use Rattle.pg_types.specs.Tails.{suffixes}
 use Rattle.pg_outputs.specs.declared.records.Record.{Record}
-use Rattle.pg_outputs.specs.Lists.{list_of, OneHeadEach}
+use Rattle.pg_outputs.specs.Lists.{list_of}
+use Rattle.pg_outputs.specs.Inside.Heads.{OneHeadEach}
 use Rattle.pg_outputs.specs.Inside.Records.{AreShared}
 use Rattle.pg_table.specs.Texts.{with_list}
 

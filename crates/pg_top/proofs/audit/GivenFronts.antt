@@ -1,6 +1,7 @@
 -- Given files, read whole or by their first bytes.
 use Rattle.std.proofs.Common.{◌≡◌, ℕ, ◌+◌, List, take, Option, None, Some, IfSome, inl, inr, refl, sym, ap, ◌∙◌, subst, arith}
-use Rattle.pg_outside.specs.Content.{FileMap, IsFile, IsFileCut, IsCut, file_at}
+use Rattle.pg_outside.specs.Content.{FileMap, file_at}
+use Rattle.pg_outside.specs.Inside.ToldFiles.{IsFile, IsFileCut, IsCut}
 use Rattle.pg_top.specs.audit.Inside.Verdicts.{IsFrontOf}
 
 -- a file that was read whole

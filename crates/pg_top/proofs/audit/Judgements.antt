@@ -10,7 +10,7 @@ use Rattle.pg_audit.specs.Inside.FoundForms.{FoundLine, printed_of}
 use Rattle.pg_audit.proofs.FoundTexts.{text_of, text_by_form}
 use Rattle.pg_audit.proofs.PrintedPart.{part_printed}
 use Rattle.pg_outside.specs.Content.{FileMap, FilesShown, SinkShown, KeepsHeld, file_at}
-use Rattle.pg_outside.specs.Faults.{NoneFell}
+use Rattle.pg_outside.specs.Inside.NameFaults.{NoneFell}
 use Rattle.pg_outside.specs.FilesCalls.{Reads}
 use Rattle.pg_top.specs.Answers.{IsCall}
 use Rattle.pg_top.specs.audit.Audited.{denies, given_file, given_names, given_files, yes_line}
@@ -21,7 +21,8 @@ use Rattle.pg_top.specs.PrintedLines.{word_of}
 use Rattle.pg_top.specs.Readings.{Held, Reading, first_end}
 use Rattle.pg_words.specs.Requests.{FileNames, ToAudit, if_asked}
 use Rattle.pg_top.specs.Selection.{selected_text, selected_report}
-use Rattle.pg_top.specs.generate.Generated.{HasInputs, inputs_in, inputs_of}
+use Rattle.pg_top.specs.generate.Generated.{inputs_in, inputs_of}
+use Rattle.pg_top.specs.generate.Inside.Accepted.{HasInputs}
 use Rattle.pg_top.specs.Inside.Stops.{StopsAt, StopsWith, StopsReading}
 use Rattle.pg_top.specs.audit.Inside.Verdicts.{wanted_file, wanted_files, end_of, outcome_by, ReadsToFind, IsFrontOf, PutsVerdict}
 use Rattle.pg_top.specs.declared.answers.Status.{Status}

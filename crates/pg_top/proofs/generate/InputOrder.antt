@@ -3,7 +3,7 @@ use Rattle.std.proofs.Common.{◌≡◌, ℕ, List, [], ◌∷◌, Option, Some,
 use Rattle.std.specs.Prelude.{unwrap_or}
 use Rattle.pg_types.specs.Parameters.{Parameters, parameters}
 use Rattle.pg_outside.specs.Content.{FileMap, FilesShown, KeepsHeld, file_at}
-use Rattle.pg_outside.specs.Faults.{NoneFell}
+use Rattle.pg_outside.specs.Inside.NameFaults.{NoneFell}
 use Rattle.pg_outside.specs.FilesCalls.{Reads}
 use Rattle.pg_translate.specs.Alphabets.{Alphabet}
 use Rattle.pg_dict.specs.Word.{Word}
@@ -12,7 +12,8 @@ use Rattle.pg_patterns.specs.Starts.{start}
 use Rattle.pg_top.specs.Calls.{outcome_of, finished}
 use Rattle.pg_top.specs.Readings.{Reading, read_as, input_file, translate_file, patterns_file, words_file}
 use Rattle.pg_words.specs.Requests.{FileNames, ToGenerate}
-use Rattle.pg_top.specs.generate.Generated.{table_in, inputs_in, inputs_of, generated, HasInputs}
+use Rattle.pg_top.specs.generate.Generated.{table_in, inputs_in, inputs_of, generated}
+use Rattle.pg_top.specs.generate.Inside.Accepted.{HasInputs}
 use Rattle.pg_top.specs.Inside.Lists.{lists_under, HasLists}
 use Rattle.pg_top.specs.Inside.Stops.{StopsAt, StopsReading}
 use Rattle.pg_top.specs.declared.inputs.Input.TheVariants as input

@@ -9,7 +9,7 @@ use Rattle.std.proofs.lemmas.List.Folds.{list_all-append}
 use Rattle.pg_types.specs.declared.limits.TheConstants.{FILE_MAX, WORD_LETTERS_MAX}
 use Rattle.pg_types.specs.declared.marks.Mark.TheVariants.{Missed}
 use Rattle.pg_translate.specs.Inside.Rules.{KeepsRules}
-use Rattle.pg_translate.specs.Spellings.{IsAmong}
+use Rattle.pg_translate.specs.Inside.Members.{IsAmong}
 use Rattle.pg_translate.specs.Tables.{default_alphabet, default_letter}
 use Rattle.pg_translate.specs.Tokens.{Token, Letter, Marked}
 use Rattle.pg_translate.specs.Inside.Items.{IsItem, text_of_items}

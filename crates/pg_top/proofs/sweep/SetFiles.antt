@@ -5,13 +5,14 @@ use Rattle.std.specs.declared.alloc.Global.{Global}
 use Rattle.std.proofs.lemmas.List.{append_assoc, length-map, length-take-le, map-append, take_all, take_more, take-append-drop}
 use Rattle.pg_types.specs.Parameters.{Parameters, parameters}
 use Rattle.pg_outside.specs.Content.{FileMap, FilesShown, KeepsHeld, file_at}
-use Rattle.pg_outside.specs.Faults.{NoneFell}
+use Rattle.pg_outside.specs.Inside.NameFaults.{NoneFell}
 use Rattle.pg_outside.specs.FilesCalls.{Reads}
 use Rattle.pg_words.specs.Commands.{words_of}
 use Rattle.pg_top.specs.Counted.{MakesCalls, read_calls}
 use Rattle.pg_top.specs.Readings.{Held, Reading, read_as}
 use Rattle.pg_top.specs.Inside.Stops.{StopsAt, StopsReading}
-use Rattle.pg_top.specs.sweep.Swept.{accepted_set, set_file, set_files, set_named, HasSets}
+use Rattle.pg_top.specs.sweep.Swept.{set_file, set_files, set_named}
+use Rattle.pg_top.specs.sweep.Inside.Accepted.{accepted_set, HasSets}
 use Rattle.pg_top.specs.declared.inputs.Input.TheVariants as input
 use Rattle.pg_top.specs.declared.inputs.Stop.{Stop}
 use Rattle.pg_top.proofs.CountedCalls.{calls_on, calls_are}

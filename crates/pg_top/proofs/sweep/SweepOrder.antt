@@ -4,7 +4,7 @@ use Rattle.std.specs.Prelude.{unwrap_or}
 use Rattle.std.proofs.lemmas.List.{map-append}
 use Rattle.pg_types.specs.Parameters.{Parameters}
 use Rattle.pg_outside.specs.Content.{FileMap, FilesShown, KeepsHeld, file_at}
-use Rattle.pg_outside.specs.Faults.{NoneFell}
+use Rattle.pg_outside.specs.Inside.NameFaults.{NoneFell}
 use Rattle.pg_outside.specs.FilesCalls.{Reads}
 use Rattle.pg_translate.specs.Alphabets.{Alphabet}
 use Rattle.pg_dict.specs.Word.{Word}
@@ -19,7 +19,8 @@ use Rattle.pg_top.specs.Readings.{Reading, translate_file, patterns_file, words_
 use Rattle.pg_words.specs.Requests.{SweepRequest, ToSweep}
 use Rattle.pg_top.specs.Inside.Lists.{lists_under, HasLists}
 use Rattle.pg_top.specs.Inside.Stops.{StopsAt, StopsReading}
-use Rattle.pg_top.specs.sweep.Swept.{set_files, HasSets, HasSweep}
+use Rattle.pg_top.specs.sweep.Swept.{set_files}
+use Rattle.pg_top.specs.sweep.Inside.Accepted.{HasSets, HasSweep}
 use Rattle.pg_top.specs.declared.inputs.Stop.{Stop}
 use Rattle.pg_top.proofs.ListOrder.{lists_accepted}
 use Rattle.pg_top.proofs.Orders.{AreAccepted, accepted_all, accepted_both, both, held_later, mapped, stopped_after, stopped_in_front}

@@ -4,7 +4,8 @@ use Rattle.std.specs.Prelude.{map, slice_index, unwrap_or}
 use Rattle.std.proofs.lemmas.List.{length-map}
 use Rattle.pg_types.specs.Parameters.{Parameters}
 use Rattle.pg_sweep.specs.Files.{sweep_file}
-use Rattle.pg_sweep.specs.Sweeps.{Terms, Found, row_of, costs_of}
+use Rattle.pg_sweep.specs.Sweeps.{Terms, row_of, costs_of}
+use Rattle.pg_sweep.specs.Inside.Found.{Found}
 use Rattle.pg_sweep.specs.Winners.{winner_of}
 use Rattle.pg_sweep.specs.declared.rows.SweepRow.{SweepRow}
 use Rattle.pg_sweep.proofs.Winners.{winner_wins}

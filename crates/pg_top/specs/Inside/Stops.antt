@@ -4,7 +4,8 @@ use Rattle.std.specs.Option.{option_map}
 use Rattle.pg_types.specs.declared.refusals.ReadingError.{ReadingError}
 use Rattle.pg_types.specs.declared.refusals.ReadingError.TheVariants as reader
 use Rattle.pg_outside.specs.Content.{FilesShown, SinkShown, KeepsHeld, file_at}
-use Rattle.pg_outside.specs.Faults.{Rose, NoneFell}
+use Rattle.pg_outside.specs.Faults.{Rose}
+use Rattle.pg_outside.specs.Inside.NameFaults.{NoneFell}
 use Rattle.pg_top.specs.Calls.{outcome_of, reads_of}
 use Rattle.pg_top.specs.Counted.{MakesCalls, MakesPuts, PutsFault, write_calls, ReadsUpTo, EndsAt}
 use Rattle.pg_top.specs.Moments.{Moment, Puts, PutsPart, PutRose, PutOrRose}
@@ -12,7 +13,7 @@ use Rattle.pg_top.specs.Outcomes.{Outcome, Writing, refuses}
 use Rattle.pg_top.specs.PrintedLines.{refused_line, reading_line, writing_line}
 use Rattle.pg_top.specs.Readings.{Reading, first_end}
 use Rattle.pg_words.specs.Requests.{Request}
-use Rattle.pg_top.specs.Writings.{written_names, WroteAll, StoppedAt}
+use Rattle.pg_top.specs.Inside.Written.{written_names, WroteAll, StoppedAt}
 use Rattle.pg_top.specs.declared.answers.Status.{Status}
 use Rattle.pg_top.specs.declared.answers.Status.TheVariants as status
 use Rattle.pg_top.specs.declared.inputs.Input.{Input}

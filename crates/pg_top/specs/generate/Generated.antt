@@ -1,5 +1,5 @@
 -- What `generate` reads, writes and prints.
-use Rattle.std.specs.Prelude.{◌≡◌, ℕ, List, [], ◌∷◌, ◌++◌, Some, Ok, codes, decimal}
+use Rattle.std.specs.Prelude.{ℕ, List, [], ◌∷◌, ◌++◌, codes, decimal}
 use Rattle.pg_types.specs.Parameters.{parameters}
 use Rattle.pg_types.specs.declared.marks.Layout.{Layout}
 use Rattle.pg_translate.specs.Alphabets.{Alphabet}
@@ -9,7 +9,7 @@ use Rattle.pg_patterns.specs.Starts.{start}
 use Rattle.pg_texts.specs.CellsTexts.{layout_text}
 use Rattle.pg_top.specs.Outcomes.{Outcome, Ends, Writing}
 use Rattle.pg_top.specs.PrintedLines.{done_line}
-use Rattle.pg_top.specs.Readings.{Held, Reading, read_as, meant, input_file, table_named, translate_file, patterns_file, words_file}
+use Rattle.pg_top.specs.Readings.{Held, Reading, meant, input_file, table_named, translate_file, patterns_file, words_file}
 use Rattle.pg_words.specs.Requests.{FileNames, if_asked}
 use Rattle.pg_top.specs.Selection.{selected_text, selected_list, selected_cells_text, selected_report, selected_account, selected_cells, passes_begun, last_layout}
 use Rattle.pg_top.specs.declared.answers.Status.TheVariants.{Done}
@@ -34,13 +34,6 @@ abbrev pub inputs_of : FileNames → List Reading
 inputs_of n =
     translate_file n.translate ∷ input_file input.Parameters n.params (λ files. parameters)
     ∷ patterns_file n.translate n.patterns ∷ words_file n.translate n.dict ∷ []
-
--- the files that are held are accepted as these inputs
-pub record HasInputs (files : Held) (n : FileNames) (i : Inputs) : Type 0 where
-  pub table : read_as table files n.translate ≡ Some (Ok i.table)
-  pub params : read_as parameters files n.params ≡ Some (Ok i.params)
-  pub start : read_as (start i.table) files n.patterns ≡ Some (Ok i.start)
-  pub words : read_as (words i.table) files n.dict ≡ Some (Ok i.dictionary)
 
 -- the files that are written: the pattern file, the hyphenated list and the cells file where they
 -- are asked for, and the report

@@ -1,7 +1,6 @@
 -- What `sweep` reads, writes and prints.
-use Rattle.std.specs.Prelude.{◌≡◌, ℕ, ◌+◌, ◌-◌, List, [], ◌∷◌, ◌++◌, map, slice_index, codes, decimal, Option, Some, Result, Ok}
+use Rattle.std.specs.Prelude.{ℕ, ◌+◌, ◌-◌, List, [], ◌∷◌, ◌++◌, map, slice_index, codes, decimal}
 use Rattle.pg_types.specs.Parameters.{Parameters, parameters}
-use Rattle.pg_types.specs.declared.refusals.Refusal.{Refusal}
 use Rattle.pg_translate.specs.Tables.{table}
 use Rattle.pg_dict.specs.Words.{words}
 use Rattle.pg_patterns.specs.Starts.{start}
@@ -10,7 +9,7 @@ use Rattle.pg_sweep.specs.Sweeps.{Terms, row_of, costs_of}
 use Rattle.pg_sweep.specs.Winners.{winner_of}
 use Rattle.pg_sweep.specs.declared.rows.SweepRow.{SweepRow}
 use Rattle.pg_top.specs.Outcomes.{Outcome, Ends}
-use Rattle.pg_top.specs.Readings.{Held, Reading, read_as, meant, input_file, table_named, words_under, patterns_under}
+use Rattle.pg_top.specs.Readings.{Held, Reading, meant, input_file, table_named, words_under, patterns_under}
 use Rattle.pg_words.specs.Requests.{SweepRequest}
 use Rattle.pg_top.specs.declared.answers.Status.TheVariants.{Done}
 use Rattle.pg_top.specs.declared.inputs.Input.TheVariants as input
@@ -28,14 +27,6 @@ set_files number (name ∷ names) = set_file number name ∷ set_files (number +
 abbrev pub set_named : Held → List ℕ → Parameters
 set_named files name = meant parameters (record { start = 1; finish = 1; levels = [] }) files name
 
--- a file that is accepted as this set of parameters, as it is read
-abbrev pub accepted_set : Parameters → Option (Result Parameters Refusal)
-accepted_set set = Some (Ok set)
-
--- the files of these names are accepted as these sets
-abbrev pub HasSets : Held → List (List ℕ) → List Parameters → Type 0
-HasSets files names sets = map (read_as parameters files) names ≡ map accepted_set sets
-
 -- what the runs of a sweep share, by the files that are held
 abbrev pub terms_in : Held → SweepRequest → Terms
 terms_in files s = record {
@@ -48,15 +39,6 @@ terms_in files s = record {
 -- the sets of parameters, by the files that are held
 abbrev pub sets_in : Held → SweepRequest → List Parameters
 sets_in files s = map (set_named files) s.params
-
--- the files that are held are accepted as these terms and sets
-pub record HasSweep (files : Held) (s : SweepRequest)
-    (terms : Terms) (params : List Parameters) : Type 0 where
-  pub table : read_as table files s.translate ≡ Some (Ok terms.table)
-  pub sets : HasSets files s.params params
-  pub start : read_as (start terms.table) files s.patterns ≡ Some (Ok terms.start)
-  pub words : read_as (words terms.table) files s.dict ≡ Some (Ok terms.words)
-  pub folds : terms.folds ≡ s.folds
 
 -- the rows of the sets
 unfoldable pub swept_rows : SweepRequest → Terms → List Parameters → List SweepRow

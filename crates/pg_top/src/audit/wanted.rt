@@ -1,12 +1,13 @@
 //! The texts that given files should be.
 ghost use Rattle.std.specs.Prelude.{◌≡◌, ◌++◌, ◌+◌, IfOk, OnOk};
-ghost use Rattle.pg_driver.specs.Told.{account_of};
-ghost use Rattle.pg_patterns.specs.Values.{SignsUpTo};
-ghost use Rattle.pg_select.specs.Meanings.{new_engine};
+ghost use Rattle.pg_driver.specs.Inside.Told.{account_of};
+ghost use Rattle.pg_patterns.specs.Inside.PatternMaps.{SignsUpTo};
+ghost use Rattle.pg_select.specs.Inside.Meanings.{new_engine};
 ghost use Rattle.pg_top.specs.audit.Audited.{given_file, given_files};
-ghost use Rattle.pg_words.specs.Commands.{name_now, texts_of};
+ghost use Rattle.pg_words.specs.Inside.Asked.{name_now, texts_of};
 ghost use Rattle.pg_words.specs.Requests.{if_asked};
-ghost use Rattle.pg_top.specs.Selection.{signs_of, HasSigns, selected, selected_account};
+ghost use Rattle.pg_top.specs.Selection.{signs_of, selected, selected_account};
+ghost use Rattle.pg_top.specs.Inside.SelectionSigns.{HasSigns};
 ghost use Rattle.pg_top.specs.audit.Inside.Verdicts.{wanted_files};
 
 use crate::inputs::Given;

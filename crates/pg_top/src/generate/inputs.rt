@@ -1,10 +1,11 @@
 //! What `generate` reads.
 ghost use Rattle.std.specs.Prelude.{IfOk, IfErr, IfSome};
 ghost use Rattle.pg_outside.specs.Content.{file_at};
-ghost use Rattle.pg_words.specs.Commands.{texts_of};
+ghost use Rattle.pg_words.specs.Inside.Asked.{texts_of};
 ghost use Rattle.pg_top.specs.Counted.{MakesCalls, read_calls};
-ghost use Rattle.pg_top.specs.generate.Generated.{inputs_of, HasInputs};
-ghost use Rattle.pg_top.specs.Selection.{HasSigns};
+ghost use Rattle.pg_top.specs.generate.Generated.{inputs_of};
+ghost use Rattle.pg_top.specs.generate.Inside.Accepted.{HasInputs};
+ghost use Rattle.pg_top.specs.Inside.SelectionSigns.{HasSigns};
 ghost use Rattle.pg_top.specs.Inside.Stops.{OnlyReads, StopsReading};
 
 use crate::inputs::{Input, Stop};

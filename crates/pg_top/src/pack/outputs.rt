@@ -1,6 +1,6 @@
 //! What `pack` writes and prints.
 ghost use Rattle.std.specs.Prelude.{◌≡◌, ◌+◌, ◌∷◌, [], IfOk, IfErr, Ok};
-ghost use Rattle.pg_patterns.specs.Values.{SignsUpTo};
+ghost use Rattle.pg_patterns.specs.Inside.PatternMaps.{SignsUpTo};
 ghost use Rattle.pg_translate.specs.Alphabets.{letters_of};
 ghost use Rattle.pg_top.specs.Outcomes.{Ends};
 ghost use Rattle.pg_top.specs.declared.answers.Status.TheVariants.{Done};
@@ -10,7 +10,7 @@ ghost use Rattle.pg_top.specs.totals.Totalled.{packed_table};
 ghost use Rattle.pg_top.specs.Promises.{GivesValues};
 ghost use Rattle.pg_top.specs.pack.Inside.Inputs.{stop_of_table, packed_text};
 ghost use Rattle.pg_top.specs.Inside.Stops.{StopsMaking};
-ghost use Rattle.pg_top.specs.Writings.{written_names, writing_of};
+ghost use Rattle.pg_top.specs.Inside.Written.{written_names, writing_of};
 ghost use Rattle.pg_types.specs.Lines.{lines};
 
 use crate::inputs::{Input, Stop};

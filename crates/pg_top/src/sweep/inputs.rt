@@ -1,13 +1,13 @@
 //! What `sweep` reads.
 ghost use Rattle.std.specs.Prelude.{◌≤◌, length, IfOk, IfErr, IfSome};
 ghost use Rattle.pg_outside.specs.Content.{file_at};
-ghost use Rattle.pg_words.specs.Commands.{sweep_of, KeepsSweepLimits};
+ghost use Rattle.pg_words.specs.Inside.Asked.{sweep_of, KeepsSweepLimits};
 ghost use Rattle.pg_words.specs.Requests.{ToSweep};
 ghost use Rattle.pg_top.specs.Calls.{reads_of};
 ghost use Rattle.pg_top.specs.Counted.{MakesCalls, read_calls};
 ghost use Rattle.pg_top.specs.Inside.Stops.{OnlyReads, StopsReading};
 ghost use Rattle.pg_top.specs.sweep.Inside.Inputs.{terms_of, HasSigns};
-ghost use Rattle.pg_top.specs.sweep.Swept.{HasSweep};
+ghost use Rattle.pg_top.specs.sweep.Inside.Accepted.{HasSweep};
 
 use crate::inputs::Stop;
 use crate::reading::{read_lists, read_table};

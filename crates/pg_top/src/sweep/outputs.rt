@@ -3,10 +3,10 @@ ghost use Rattle.std.specs.Prelude.{◌≡◌, [], length, IfOk, ◌≤◌, ◌�
 ghost use Rattle.pg_types.specs.Lines.{lines};
 ghost use Rattle.pg_top.specs.sweep.Swept.{winner_line as winner_line_of};
 ghost use Rattle.pg_sweep.specs.Files.{sweep_file};
-ghost use Rattle.pg_words.specs.Commands.{sweep_of, KeepsSweepLimits};
+ghost use Rattle.pg_words.specs.Inside.Asked.{sweep_of, KeepsSweepLimits};
 ghost use Rattle.pg_top.specs.Outcomes.{Ends};
 ghost use Rattle.pg_top.specs.sweep.Inside.Inputs.{terms_of, HasSigns, line_of_sweep, swept};
-ghost use Rattle.pg_top.specs.Writings.{written_names, writing_of};
+ghost use Rattle.pg_top.specs.Inside.Written.{written_names, writing_of};
 ghost use Rattle.pg_top.specs.declared.answers.Status.TheVariants.{Done};
 
 use crate::printed::push_number;

@@ -4,7 +4,8 @@ ghost use Rattle.pg_outside.specs.Content.{file_at};
 ghost use Rattle.pg_words.specs.Commands.{words_of};
 ghost use Rattle.pg_top.specs.Counted.{MakesCalls, read_calls};
 ghost use Rattle.pg_top.specs.Inside.Stops.{OnlyReads, StopsReading};
-ghost use Rattle.pg_top.specs.sweep.Swept.{set_files, HasSets};
+ghost use Rattle.pg_top.specs.sweep.Swept.{set_files};
+ghost use Rattle.pg_top.specs.sweep.Inside.Accepted.{HasSets};
 
 use crate::inputs::{Input, Stop};
 use crate::reading::read_parameters;

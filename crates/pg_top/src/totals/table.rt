@@ -1,7 +1,7 @@
 //! A packed table that is read, and the totals by it.
 ghost use Rattle.std.specs.Prelude.{◌≡◌, ◌+◌, IfOk, IfErr, IfSome, [], ◌∷◌};
-ghost use Rattle.pg_dict.specs.Word.{SignsAtMost};
-ghost use Rattle.pg_driver.specs.Sound.{IsSmall};
+ghost use Rattle.pg_dict.specs.Inside.SoundWords.{SignsAtMost};
+ghost use Rattle.pg_driver.specs.Inside.Sound.{IsSmall};
 ghost use Rattle.pg_outside.specs.Content.{file_at};
 ghost use Rattle.pg_outside.specs.FilesCalls.{Reads};
 ghost use Rattle.pg_texts.specs.ReportTexts.{ending_text};

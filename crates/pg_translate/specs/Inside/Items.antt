@@ -7,7 +7,7 @@ use Rattle.pg_types.specs.declared.marks.Mark.TheVariants.{Nothing, Error, Misse
 use Rattle.pg_translate.specs.declared.items.Place.{Place}
 use Rattle.pg_translate.specs.declared.items.Place.TheVariants.{Dictionary, Patterns}
 use Rattle.pg_translate.specs.Alphabets.{Alphabet, mark_byte_of}
-use Rattle.pg_translate.specs.Spellings.{IsAmong}
+use Rattle.pg_translate.specs.Inside.Members.{IsAmong}
 use Rattle.std.specs.Char.{is_ascii_digit}
 use Rattle.pg_translate.specs.Tokens.{Token, Letter, Digit, Weight, Marked, Edge}
 use Rattle.pg_translate.specs.Cuts.{Placed, Cut}

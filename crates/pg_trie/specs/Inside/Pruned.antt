@@ -4,8 +4,9 @@ use Rattle.std.specs.List.{flat_map}
 use Rattle.std.specs.Ordering.{nat_cmp}
 use Rattle.std.specs.Cmp.Lexicographic.{slice_cmp}
 use Rattle.std.specs.FinMap.{find}
-use Rattle.pg_types.specs.Placement.{Family, Families, cell_of, without_sign}
-use Rattle.pg_cells.specs.ValuedFamilies.{ValuedFamilies, without_key}
+use Rattle.pg_types.specs.Placement.{Family, Families, cell_of}
+use Rattle.pg_types.specs.Inside.Placing.{without_sign}
+use Rattle.pg_cells.specs.Inside.ValuedFamilies.{ValuedFamilies, without_key}
 use Rattle.pg_cells.specs.Inside.AreValuedFamilies.{AreValuedFamilies}
 use Rattle.pg_cells.specs.Inside.Walks.{EndsBefore}
 

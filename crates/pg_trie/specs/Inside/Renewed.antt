@@ -6,7 +6,7 @@ use Rattle.std.specs.FinMap.{find}
 use Rattle.pg_types.specs.Placement.{cell_of}
 use Rattle.pg_outputs.specs.declared.records.Record.{Record}
 use Rattle.pg_outputs.specs.Lists.{list_of}
-use Rattle.pg_cells.specs.ValuedFamilies.{ValuedFamilies}
+use Rattle.pg_cells.specs.Inside.ValuedFamilies.{ValuedFamilies}
 use Rattle.pg_cells.specs.Inside.AreValuedFamilies.{AreValuedFamilies}
 use Rattle.pg_trie.specs.declared.mark.TheConstants.{HOPELESS}
 

@@ -1,5 +1,5 @@
 use Rattle.std.proofs.Common.{◌<◌, ◌≤◌, ◌≡◌, max, ◌∷◌, length, subst, arith}
-use Rattle.pg_types.specs.Placement.{IsLeast}
+use Rattle.pg_types.specs.Inside.Placing.{IsLeast}
 use Rattle.pg_cells.specs.Inside.Fit.{fits_row, signs_of}
 use Rattle.pg_cells.proofs.BlockedLaws.{tried_within, least_tried}
 use Rattle.pg_cells.proofs.BoundLaws.{bound_within, least_from, none_below, no_elements}

@@ -1,5 +1,5 @@
 use Rattle.std.proofs.Common.{◌≤◌, ◌∷◌, length, ap, subst, arith}
-use Rattle.pg_types.specs.Placement.{IsLeast}
+use Rattle.pg_types.specs.Inside.Placing.{IsLeast}
 use Rattle.pg_cells.specs.declared.member.Member.{Member}
 use Rattle.pg_cells.specs.Inside.Lists.{Row}
 use Rattle.pg_cells.specs.Inside.Fit.{fits_row, signs_of}

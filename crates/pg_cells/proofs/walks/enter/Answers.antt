@@ -1,7 +1,7 @@
 use Rattle.std.proofs.Common.{◌+◌, [], ◌∷◌, ◌++◌, take, get_or, ap, sym, subst, ◌∙◌}
 use Rattle.std.proofs.lemmas.Result.{err_from_is_err_and}
 use Rattle.pg_types.specs.Placement.{cell_of}
-use Rattle.pg_cells.specs.ValuedFamilies.{ValuedFamilies}
+use Rattle.pg_cells.specs.Inside.ValuedFamilies.{ValuedFamilies}
 use Rattle.pg_cells.specs.Inside.Walks.{EndsBefore, Steps}
 use Rattle.pg_cells.proofs.Walking.{within_way, way_sign, way_more, enter_more, front_more, more_added, step_values, step_signs, still_none, not_reached}
 use Rattle.pg_cells.proofs.walks.enter.Goals as goal

@@ -1,7 +1,7 @@
 use Rattle.std.proofs.Common.{◌≡◌, arith, length, sym, subst, ◌∙◌}
 use Rattle.std.proofs.lemmas.Grind.{common_steps}
 use Rattle.pg_count.proofs.Parting.{keeps_sets, new_leaves, new_sets, signs_told}
-use Rattle.pg_types.specs.Counts.{SignsWithin}
+use Rattle.pg_types.specs.Inside.Counts.{SignsWithin}
 use Rattle.pg_count.specs.Inside.Leaves.{AreLeaves}
 use Rattle.pg_count.proofs.leaf.count_new.Goals as goal
 

@@ -4,7 +4,7 @@ use Rattle.std.specs.List.{range_with_len}
 use Rattle.pg_cells.proofs.StringMaps.{order}
 use Rattle.pg_count.specs.declared.tally.TheConstants.{NOT_COUNTED}
 use Rattle.pg_count.proofs.Mapped.{root_strings}
-use Rattle.pg_cells.specs.ValuedFamilies.{ValuedFamilies}
+use Rattle.pg_cells.specs.Inside.ValuedFamilies.{ValuedFamilies}
 use Rattle.pg_count.proofs.Telling.{root_past}
 use Rattle.pg_count.proofs.tallied.first_after.Goals as goal
 

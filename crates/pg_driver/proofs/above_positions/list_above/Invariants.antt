@@ -3,7 +3,7 @@ use Rattle.std.specs.List.{flat_map, range_with_len}
 use Rattle.pg_dict.specs.Inside.Lent.{lent_word}
 use Rattle.pg_select.specs.CountedPositions.{minima_of}
 use Rattle.pg_select.specs.Inside.LawsAbove.{counts_above}
-use Rattle.pg_select.specs.Positions.{HasValues}
+use Rattle.pg_select.specs.Inside.Positions.{HasValues}
 use Rattle.pg_select.specs.Windows.{Patterns}
 use Rattle.pg_driver.specs.Inside.OpenLevels.{listed_in, open_as}
 use Rattle.pg_driver.proofs.above_positions.list_above.Given as goal

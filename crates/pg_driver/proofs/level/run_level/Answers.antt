@@ -1,7 +1,7 @@
 use Rattle.std.proofs.Common.{sym, ap, ◌∙◌}
-use Rattle.pg_select.specs.Meanings.{Meaning}
+use Rattle.pg_select.specs.Inside.Meanings.{Meaning}
 use Rattle.pg_driver.specs.Accounts.{totals_by}
-use Rattle.pg_driver.specs.Told.{over}
+use Rattle.pg_driver.specs.Traces.{over}
 use Rattle.pg_driver.proofs.RunSteps.{did_level}
 use Rattle.pg_driver.proofs.level.run_level.Goals as goal
 

@@ -2,7 +2,7 @@ use Rattle.std.proofs.Common.{◌≡◌, Bool, true, false, ⊎_elim, sym, ◌�
 use Rattle.pg_driver.specs.Inside.LevelCounting.{IsCounted}
 use Rattle.pg_driver.specs.Inside.Levels.{is_set, unset}
 use Rattle.pg_driver.proofs.SkipFlags.{none_set}
-use Rattle.pg_driver.specs.Told.{over}
+use Rattle.pg_driver.specs.Traces.{over}
 use Rattle.pg_driver.proofs.LevelSteps.{done_on, skipped_on}
 use Rattle.pg_driver.proofs.level.run_or_skip.Goals as goal
 

@@ -1,7 +1,8 @@
 use Rattle.std.proofs.Common.{ap, ◌∙◌, sym, subst, arith}
-use Rattle.pg_driver.specs.Sound.{Finished}
+use Rattle.pg_driver.specs.Inside.Sound.{Finished}
 use Rattle.pg_driver.specs.Inside.States.{State}
-use Rattle.pg_driver.specs.Told.{TellsCells, account_of, cells_from, over, run_from}
+use Rattle.pg_driver.specs.Inside.Told.{TellsCells, account_of, cells_from, run_from}
+use Rattle.pg_driver.specs.Traces.{over}
 use Rattle.pg_driver.proofs.ToldSteps.{told_account, told_cells}
 use Rattle.pg_driver.proofs.levels.generate.Goals as goal
 

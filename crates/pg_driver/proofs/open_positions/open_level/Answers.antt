@@ -7,7 +7,8 @@ use Rattle.pg_dict.specs.Inside.Lent.{lent_word}
 use Rattle.pg_driver.proofs.WordSteps.{signs_within}
 use Rattle.pg_select.specs.CountedPositions.{minima_of}
 use Rattle.pg_dict.specs.Word.{Word}
-use Rattle.pg_select.specs.Sums.{marks_in, with_marks}
+use Rattle.pg_select.specs.Sums.{marks_in}
+use Rattle.pg_select.specs.Inside.SumSteps.{with_marks}
 use Rattle.pg_select.proofs.MarkSteps.{marks_word}
 use Rattle.pg_driver.specs.Inside.OpenSigns.{is_open_first, start_of}
 use Rattle.pg_driver.proofs.OpenFirst.{opens_before, opens_behind}

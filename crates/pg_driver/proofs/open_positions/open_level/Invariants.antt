@@ -2,8 +2,10 @@ use Rattle.std.proofs.Common.{◌≡◌, ℕ, ◌≤◌, ◌<◌, ◌+◌, ◌^�
 use Rattle.pg_dots.specs.Inside.Dots.{is_closed, places as places_in}
 use Rattle.pg_select.specs.CountedPositions.{minima_of}
 use Rattle.std.specs.List.{flat_map, sum_by}
-use Rattle.pg_dict.specs.Word.{Word, letter_count}
-use Rattle.pg_select.specs.Sums.{marks_in, totals, with_marks, HasRoomFor}
+use Rattle.pg_dict.specs.Word.{Word}
+use Rattle.pg_dict.specs.Inside.SoundWords.{letter_count}
+use Rattle.pg_select.specs.Sums.{marks_in, totals}
+use Rattle.pg_select.specs.Inside.SumSteps.{with_marks, HasRoomFor}
 use Rattle.pg_driver.specs.Inside.OpenSigns.{is_open_first, sign_count, start_of}
 use Rattle.pg_driver.proofs.open_positions.open_level.Given as goal
 

@@ -2,12 +2,12 @@ use Rattle.std.proofs.Common.{◌≡◌, ◌≤◌, ◌<◌, ◌+◌, ◌-◌, �
 use Rattle.std.specs.List.{slice_index_or}
 use Rattle.pg_types.specs.declared.limits.TheConstants.{WEIGHT_MAX}
 use Rattle.pg_types.specs.declared.marks.Mark.{Mark}
-use Rattle.pg_dict.specs.Word.{letter_count}
+use Rattle.pg_dict.specs.Inside.SoundWords.{letter_count}
 use Rattle.pg_dict.specs.Inside.Lent.{lent_word}
 use Rattle.pg_dots.specs.Inside.Dots.{is_closed}
 use Rattle.pg_select.specs.CountedPositions.{counts_as, minima_of}
 use Rattle.pg_select.specs.Statuses.{status, status_at, position_weight}
-use Rattle.pg_select.specs.Sums.{with_mark, with_marks, sum_of}
+use Rattle.pg_select.specs.Inside.SumSteps.{with_mark, with_marks, sum_of}
 use Rattle.pg_patterns.specs.Values.{value_at}
 use Rattle.pg_select.proofs.MarkSteps.{marks_step, mark_took, weight_small}
 use Rattle.pg_driver.proofs.OpenFirst.{opens_first, opens_last, opens_next}

@@ -1,9 +1,10 @@
 use Rattle.std.proofs.Common.{◌≡◌, ℕ, ◌≤◌, ◌<◌, ◌+◌, ◌-◌, nat_lt, not, ◌&&◌}
 use Rattle.pg_dots.specs.Inside.Dots.{is_closed, places as places_in}
-use Rattle.pg_dict.specs.Word.{letter_count}
+use Rattle.pg_dict.specs.Inside.SoundWords.{letter_count}
 use Rattle.pg_dict.specs.Inside.Lent.{lent_word}
 use Rattle.pg_select.specs.CountedPositions.{minima_of}
-use Rattle.pg_select.specs.Sums.{marks_in, with_marks, TookRoomFor}
+use Rattle.pg_select.specs.Sums.{marks_in}
+use Rattle.pg_select.specs.Inside.SumSteps.{with_marks, TookRoomFor}
 use Rattle.pg_driver.specs.Inside.OpenSigns.{is_open_first}
 use Rattle.pg_select.proofs.MarkSteps.{marks_from}
 use Rattle.pg_driver.proofs.open_positions.open_word.Given as goal

@@ -1,7 +1,7 @@
 use Rattle.std.proofs.Common.{◌≡◌, ◌∷◌, ◌++◌, [], List, ℕ, inl, inr, length, Some, slice_get, sym, ap, subst, ◌∙◌, ◌+◌, arith}
 use Rattle.std.proofs.lemmas.Bool.{cases_lt}
 use Rattle.std.proofs.lemmas.List.{length_push}
-use Rattle.pg_types.specs.Numbered.{HasNumber}
+use Rattle.pg_types.specs.Inside.Numbered.{HasNumber}
 use Rattle.pg_select.specs.Choices.{choice}
 use Rattle.pg_select.specs.declared.choice.Choice.{Choice}
 use Rattle.pg_driver.proofs.NumberSteps.{get_left, get_seam}

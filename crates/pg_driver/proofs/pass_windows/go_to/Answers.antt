@@ -1,6 +1,6 @@
 use Rattle.std.proofs.Common.{◌≡◌, ◌+◌, ◌-◌, take, drop, ◌∙◌, arith}
 use Rattle.std.specs.List.{list_all}
-use Rattle.pg_types.specs.Signs.{is_sign}
+use Rattle.pg_types.specs.Inside.Signs.{is_sign}
 use Rattle.pg_driver.specs.Inside.PassWindows.{window_from}
 use Rattle.pg_driver.proofs.NumberSteps.{are_signs}
 use Rattle.pg_driver.proofs.pass_windows.go_to.Goals as goal

@@ -2,7 +2,8 @@ use Rattle.std.proofs.Common.{◌+◌, List, drop, ap, sym, ◌∙◌, arith}
 use Rattle.std.specs.List.{flat_map}
 use Rattle.pg_dict.specs.Inside.Lent.{lent_word}
 use Rattle.pg_dict.specs.Word.{Word}
-use Rattle.pg_select.specs.Sums.{marks_in, with_marks}
+use Rattle.pg_select.specs.Sums.{marks_in}
+use Rattle.pg_select.specs.Inside.SumSteps.{with_marks}
 use Rattle.pg_select.specs.CountedPositions.{minima_of}
 use Rattle.pg_select.proofs.MarkSteps.{marks_word}
 use Rattle.pg_driver.proofs.WordSteps.{drop_place, letters_left, signs_within}

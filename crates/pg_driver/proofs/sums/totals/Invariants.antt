@@ -1,7 +1,8 @@
 use Rattle.std.proofs.Common.{◌≡◌, drop}
 use Rattle.std.specs.List.{flat_map, sum_by}
-use Rattle.pg_dict.specs.Word.{letter_count}
-use Rattle.pg_select.specs.Sums.{marks_in, totals, with_marks, HasRoomFor}
+use Rattle.pg_dict.specs.Inside.SoundWords.{letter_count}
+use Rattle.pg_select.specs.Sums.{marks_in, totals}
+use Rattle.pg_select.specs.Inside.SumSteps.{with_marks, HasRoomFor}
 use Rattle.pg_select.specs.CountedPositions.{minima_of}
 use Rattle.pg_driver.proofs.sums.totals.Given as goal
 

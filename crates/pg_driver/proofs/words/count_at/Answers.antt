@@ -1,8 +1,8 @@
 use Rattle.std.proofs.Common.{◌≡◌, ℕ, ◌+◌, ◌-◌, List, true, false, not, take, drop, slice_index_or, sym, ap, subst, ◌∙◌, arith}
-use Rattle.pg_types.specs.Numbered.{HasNumber, with_window}
+use Rattle.pg_types.specs.Inside.Numbered.{HasNumber, with_window}
 use Rattle.pg_dict.specs.Inside.Lent.{lent_word}
 use Rattle.pg_select.specs.CountedPositions.{counts_as}
-use Rattle.pg_select.specs.Meanings.{Meaning}
+use Rattle.pg_select.specs.Inside.Meanings.{Meaning}
 use Rattle.pg_select.specs.Windows.{fits, window}
 use Rattle.pg_select.proofs.MarkSteps.{weight_small}
 use Rattle.pg_driver.specs.Inside.OpenSigns.{start_of}

@@ -1,7 +1,7 @@
 use Rattle.std.proofs.Common.{◌≡◌, ℕ, ◌≤◌, ◌<◌, ◌+◌, ◌-◌, ◌++◌, Bool, List, length, refl, sym, ap, subst, ◌∙◌, append-nil, append_assoc, arith}
 use Rattle.pg_dict.specs.Inside.Lent.{lent_word}
-use Rattle.pg_dict.specs.Word.{letter_count}
-use Rattle.pg_select.specs.Meanings.{Meaning}
+use Rattle.pg_dict.specs.Inside.SoundWords.{letter_count}
+use Rattle.pg_select.specs.Inside.Meanings.{Meaning}
 use Rattle.pg_select.specs.declared.pass.Pass.{Pass}
 use Rattle.pg_select.specs.CountedPositions.{counted_positions_at, minima_of}
 use Rattle.pg_driver.specs.declared.pass_windows.Place.{Place}
@@ -14,7 +14,7 @@ use Rattle.pg_driver.proofs.WordLevels.{none_listed_in}
 use Rattle.pg_select.specs.Statuses.{status_at, position_weight}
 use Rattle.pg_types.specs.declared.limits.TheConstants.{WEIGHT_MAX}
 use Rattle.pg_driver.specs.Inside.Counting.{IsRead}
-use Rattle.pg_select.specs.Sums.{with_mark, sum_of}
+use Rattle.pg_select.specs.Inside.SumSteps.{with_mark, sum_of}
 use Rattle.pg_select.proofs.MarkSteps.{marks_step, mark_took, weight_small}
 use Rattle.pg_driver.proofs.Rooms.{room_left, took_less}
 use Rattle.pg_driver.proofs.Walks.{kept_on, read_on, position_step, room_on, counted_done, marks_done, listed_done}

@@ -1,11 +1,14 @@
 use Rattle.std.proofs.Common.{◌≡◌, ◌+◌, ◌++◌, ℕ, None, Some, List, [], drop, length, refl, ap, subst, sym, ◌∙◌, arith, rules}
 use Rattle.std.specs.List.{flat_map, sum_by}
 use Rattle.pg_dict.specs.Inside.Lent.{lent_word}
-use Rattle.pg_dict.specs.Word.{Word, letter_count}
-use Rattle.pg_types.specs.Counts.{Counts, SignsWithin}
-use Rattle.pg_select.specs.Meanings.{Meaning}
-use Rattle.pg_select.specs.CountedPositions.{counted_positions, counted_positions_in, minima_of}
-use Rattle.pg_select.specs.Sums.{marks_in, with_marks}
+use Rattle.pg_dict.specs.Word.{Word}
+use Rattle.pg_dict.specs.Inside.SoundWords.{letter_count}
+use Rattle.pg_types.specs.Inside.Counts.{Counts, SignsWithin}
+use Rattle.pg_select.specs.Inside.Meanings.{Meaning}
+use Rattle.pg_select.specs.CountedPositions.{counted_positions, minima_of}
+use Rattle.pg_select.specs.Inside.WordCounts.{counted_positions_in}
+use Rattle.pg_select.specs.Sums.{marks_in}
+use Rattle.pg_select.specs.Inside.SumSteps.{with_marks}
 use Rattle.pg_driver.specs.Inside.Counting.{HasRoom, counting}
 use Rattle.pg_select.proofs.MarkSteps.{marks_word}
 use Rattle.pg_driver.specs.Inside.OpenLevels.{listed_in}

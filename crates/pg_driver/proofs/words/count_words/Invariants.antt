@@ -1,8 +1,9 @@
 use Rattle.std.proofs.Common.{◌≡◌, ◌++◌, List, drop}
 use Rattle.std.specs.List.{flat_map, sum_by}
-use Rattle.pg_dict.specs.Word.{letter_count}
+use Rattle.pg_dict.specs.Inside.SoundWords.{letter_count}
 use Rattle.pg_select.specs.CountedPositions.{counted_positions, minima_of}
-use Rattle.pg_select.specs.Sums.{marks_in, totals, with_marks, HasRoomFor}
+use Rattle.pg_select.specs.Sums.{marks_in, totals}
+use Rattle.pg_select.specs.Inside.SumSteps.{with_marks, HasRoomFor}
 use Rattle.pg_driver.specs.Inside.Counting.{counting, HasRoom}
 use Rattle.pg_driver.specs.Inside.OpenLevels.{listed_from}
 use Rattle.pg_driver.specs.Inside.OpenSigns.{start_of}

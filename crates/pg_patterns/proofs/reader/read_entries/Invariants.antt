@@ -3,7 +3,7 @@ use Rattle.std.specs.List.{list_all}
 use Rattle.pg_types.specs.Lines.{lines}
 use Rattle.pg_types.specs.declared.limits.TheConstants.{FILE_MAX}
 use Rattle.pg_translate.specs.Alphabets.{letters_of}
-use Rattle.pg_patterns.specs.Values.{SignsUpTo, is_entry}
+use Rattle.pg_patterns.specs.Inside.PatternMaps.{SignsUpTo, is_entry}
 use Rattle.pg_types.specs.Reading.{both_parts}
 use Rattle.pg_patterns.specs.Starts.{entries_from}
 use Rattle.pg_patterns.proofs.reader.read_entries.Given as goal

@@ -1,6 +1,6 @@
 use Rattle.std.proofs.Common.{◌≡◌, true, subst, sym}
 use Rattle.std.specs.List.{list_all}
-use Rattle.pg_patterns.specs.Values.{is_entry}
+use Rattle.pg_patterns.specs.Inside.PatternMaps.{is_entry}
 use Rattle.pg_plain.proofs.Entered.{raised_in, entries_raise, places_in}
 use Rattle.pg_plain.proofs.places.raise_in.Goals as goal
 

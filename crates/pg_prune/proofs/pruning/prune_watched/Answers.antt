@@ -1,10 +1,11 @@
 use Rattle.std.proofs.Common.{◌≤◌, ◌+◌, sym, subst}
 use Rattle.std.specs.List.{All, Contains}
 use Rattle.pg_translate.specs.Alphabets.{letters_of}
-use Rattle.pg_patterns.specs.Values.{SignsUpTo}
+use Rattle.pg_patterns.specs.Inside.PatternMaps.{SignsUpTo}
 use Rattle.pg_select.specs.CountedPositions.{minima_of}
 use Rattle.pg_prune.specs.Prunes.{Found}
-use Rattle.pg_prune.specs.Promises.{BreakAlike, NoneCanGo, HasNeeds}
+use Rattle.pg_prune.specs.Promises.{BreakAlike, NoneCanGo}
+use Rattle.pg_prune.specs.Inside.Needs.{HasNeeds}
 use Rattle.pg_prune.proofs.PrunedLaws.{pruned_all, pruned_part, pruned_alike, pruned_least, pruned_needs}
 use Rattle.pg_prune.proofs.pruning.prune_watched.Goals as goal
 

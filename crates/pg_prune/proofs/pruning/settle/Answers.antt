@@ -1,9 +1,9 @@
 use Rattle.std.proofs.Common.{◌≡◌, ◌≤◌, ◌-◌, ◌∙◌, map, length, ap, sym, subst, arith}
-use Rattle.pg_patterns.specs.Values.{IsPatternMap}
+use Rattle.pg_patterns.specs.Inside.PatternMaps.{IsPatternMap}
 use Rattle.pg_select.specs.Windows.{Patterns}
 use Rattle.pg_prune.specs.Places.{places}
 use Rattle.pg_prune.specs.Prunes.{pruned, needs, rounds, Found}
-use Rattle.pg_prune.specs.Promises.{HasNeeds}
+use Rattle.pg_prune.specs.Inside.Needs.{HasNeeds}
 use Rattle.pg_prune.specs.Inside.Picks.{picked}
 use Rattle.pg_prune.proofs.PrunedLaws.{pruned_map, pruned_needs, pruned_few}
 use Rattle.pg_prune.proofs.Finish.{finish, to_rounds, rounds_patterns, with_kept, picked_few}

@@ -1,6 +1,6 @@
 use Rattle.std.proofs.Common.{◌≡◌, ◌≤◌, ◌+◌, ◌++◌, drop, sum_by, All}
 use Rattle.pg_types.specs.declared.limits.TheConstants.{FILE_MAX}
-use Rattle.pg_dict.specs.Word.{letter_count}
+use Rattle.pg_dict.specs.Inside.SoundWords.{letter_count}
 use Rattle.pg_select.specs.CountedPositions.{minima_of}
 use Rattle.pg_prune.specs.Inside.Trails.{IsStart, starts_from}
 use Rattle.pg_prune.specs.Inside.Trails.{all_starts as all_starts_of}

@@ -1,8 +1,8 @@
 use Rattle.std.proofs.Common.{◌≡◌, ◌≤◌, ◌<◌, ◌+◌, ◌-◌, ℕ, true, false, length, slice_index_or, ap, ◌∙◌, arith}
 use Rattle.pg_dict.specs.Inside.Lent.{lent_word}
-use Rattle.pg_dict.specs.Word.{letter_count}
+use Rattle.pg_dict.specs.Inside.SoundWords.{letter_count}
 use Rattle.pg_select.specs.Statuses.{status, position_weight}
-use Rattle.pg_select.specs.Sums.{with_mark, sum_of}
+use Rattle.pg_select.specs.Inside.SumSteps.{with_mark, sum_of}
 use Rattle.pg_types.specs.declared.marks.Mark.{Mark}
 use Rattle.pg_types.specs.declared.limits.TheConstants.{WEIGHT_MAX}
 use Rattle.pg_select.proofs.MarkSteps.{marks_step_by, mark_took, weight_small}

@@ -1,9 +1,10 @@
 use Rattle.std.proofs.Common.{◌≡◌, ℕ, ◌≤◌, ◌<◌, ◌-◌, length}
 use Rattle.std.specs.List.{slice_index}
-use Rattle.pg_dict.specs.Word.{letter_count}
+use Rattle.pg_dict.specs.Inside.SoundWords.{letter_count}
 use Rattle.pg_dict.specs.Inside.Lent.{lent_word}
 use Rattle.pg_select.specs.CountedPositions.{minima_of}
-use Rattle.pg_select.specs.Sums.{marks_by, with_marks, TookRoomFor}
+use Rattle.pg_select.specs.Sums.{marks_by}
+use Rattle.pg_select.specs.Inside.SumSteps.{with_marks, TookRoomFor}
 use Rattle.pg_select.proofs.MarkSteps.{marks_from_by}
 use Rattle.pg_select.proofs.marks.add_marks.Given as goal
 

@@ -1,7 +1,8 @@
 use Rattle.std.proofs.Common.{◌≡◌, ◌+◌, List, true, false, sym, ◌∙◌, ap, subst, rules}
 use Rattle.pg_translate.specs.Alphabets.{letters_of}
-use Rattle.pg_dict.specs.Word.{Word, SignsAtMost}
-use Rattle.pg_select.specs.Meanings.{Meaning}
+use Rattle.pg_dict.specs.Word.{Word}
+use Rattle.pg_dict.specs.Inside.SoundWords.{SignsAtMost}
+use Rattle.pg_select.specs.Inside.Meanings.{Meaning}
 use Rattle.pg_sweep.proofs.Steps.{part_signs}
 use Rattle.pg_sweep.proofs.folds.totals_of_fold.Goals as goal
 

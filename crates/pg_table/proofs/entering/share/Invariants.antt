@@ -1,5 +1,6 @@
 use Rattle.std.proofs.Common.{◌≡◌, ◌-◌, ◌≤◌, length, map}
-use Rattle.pg_outputs.specs.Lists.{list_of, Grows}
+use Rattle.pg_outputs.specs.Lists.{list_of}
+use Rattle.pg_outputs.specs.Inside.Heads.{Grows}
 use Rattle.pg_table.specs.Inside.Packed.{pairs}
 use Rattle.pg_table.specs.Inside.Sharing.{Lists, Shares, turned, with_ends}
 use Rattle.pg_table.proofs.entering.share.Given as goal

@@ -4,7 +4,7 @@ use Rattle.pg_dict.specs.Inside.Lent.{lent_word}
 use Rattle.pg_dict.specs.Word.{Word}
 use Rattle.pg_table.specs.Lookups.{table_marks}
 use Rattle.pg_select.specs.CountedPositions.{minima_of}
-use Rattle.pg_select.specs.Sums.{with_marks}
+use Rattle.pg_select.specs.Inside.SumSteps.{with_marks}
 use Rattle.pg_table.proofs.MarkSteps.{marks_word}
 use Rattle.pg_table.proofs.WordSteps.{drop_place, letters_left, signs_within}
 use Rattle.pg_table.proofs.totals.table_totals.Goals as goal

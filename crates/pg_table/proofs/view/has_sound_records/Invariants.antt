@@ -1,5 +1,6 @@
 use Rattle.std.proofs.Common.{◌≡◌, ℕ, ◌<◌, true}
-use Rattle.pg_table.specs.Forms.{read_record, record_start, is_sound_record}
+use Rattle.pg_table.specs.Forms.{is_sound_record}
+use Rattle.pg_table.specs.Inside.Extents.{read_record, record_start}
 use Rattle.pg_table.proofs.view.has_sound_records.Given as goal
 
 abbrev pub invariant-loop-i : goal.invariant-loop-i

@@ -1,7 +1,7 @@
 use Rattle.std.proofs.Common.{◌≤◌}
 use Rattle.pg_table.specs.Forms.{head_of}
 use Rattle.pg_table.specs.Lookups.{list_in}
-use Rattle.pg_select.specs.Positions.{values_of}
+use Rattle.pg_select.specs.Inside.Positions.{values_of}
 use Rattle.pg_table.specs.Inside.Raising.{IsUncovered, by_record_list}
 use Rattle.pg_table.proofs.Levels.{Level}
 use Rattle.pg_table.proofs.walk.take_list.Given as goal

@@ -1,4 +1,4 @@
-use Rattle.pg_select.specs.Positions.{values_of}
+use Rattle.pg_select.specs.Inside.Positions.{values_of}
 use Rattle.pg_table.specs.Inside.Raising.{IsUncovered, by_starts}
 use Rattle.pg_table.proofs.Levels.{Level}
 use Rattle.pg_table.proofs.walk.walk.Given as goal

@@ -3,10 +3,11 @@ use Rattle.std.proofs.lemmas.Result.{IfOk-weaker, err_from_is_err_and}
 use Rattle.pg_outside.specs.Content.{FilesShown, file_at}
 use Rattle.pg_top.specs.audit.Audited.{given_files}
 use Rattle.pg_top.specs.Calls.{outcome_of}
-use Rattle.pg_words.specs.Commands.{texts_of}
+use Rattle.pg_words.specs.Inside.Asked.{texts_of}
 use Rattle.pg_top.specs.Readings.{first_end}
 use Rattle.pg_words.specs.Requests.{FileNames, ToAudit}
-use Rattle.pg_top.specs.generate.Generated.{inputs_of, inputs_in, HasInputs}
+use Rattle.pg_top.specs.generate.Generated.{inputs_of, inputs_in}
+use Rattle.pg_top.specs.generate.Inside.Accepted.{HasInputs}
 use Rattle.pg_top.specs.audit.Inside.Verdicts.{wanted_files, end_of, outcome_by}
 use Rattle.pg_top.specs.declared.inputs.Stop.TheVariants.{Memory}
 use Rattle.pg_top.proofs.generate.InputOrder.{inputs_wanted}

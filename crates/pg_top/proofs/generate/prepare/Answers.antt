@@ -2,11 +2,11 @@ use Rattle.std.proofs.Common.{◌≡◌, ◌∙◌, sym, ap}
 use Rattle.std.proofs.lemmas.Result.{err_from_is_err_and}
 use Rattle.pg_outside.specs.Content.{file_at}
 use Rattle.pg_top.specs.Calls.{outcome_of}
-use Rattle.pg_words.specs.Commands.{texts_of}
+use Rattle.pg_words.specs.Inside.Asked.{texts_of}
 use Rattle.pg_top.specs.Outcomes.{Ends}
 use Rattle.pg_words.specs.Requests.{ToGenerate}
-use Rattle.pg_top.specs.generate.Generated.{HasInputs}
-use Rattle.pg_top.specs.Writings.{written_names, writing_of}
+use Rattle.pg_top.specs.generate.Inside.Accepted.{HasInputs}
+use Rattle.pg_top.specs.Inside.Written.{written_names, writing_of}
 use Rattle.pg_top.specs.declared.answers.Status.TheVariants.{Done}
 use Rattle.pg_top.proofs.generate.InputOrder.{outcome_generated, inputs_wanted}
 use Rattle.pg_top.proofs.Orders.{mapped}

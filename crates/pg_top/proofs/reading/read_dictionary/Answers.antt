@@ -1,6 +1,6 @@
 use Rattle.std.proofs.Common.{◌≡◌, Ok, subst}
 use Rattle.std.proofs.lemmas.Result.{err_from_is_err_and}
-use Rattle.pg_types.specs.Reading.{Fails}
+use Rattle.pg_types.specs.Inside.Answers.{Fails}
 use Rattle.pg_dict.specs.Words.{words}
 use Rattle.pg_top.specs.declared.inputs.Input.TheVariants.{Dictionary}
 use Rattle.pg_top.proofs.Fronts.{read_by_front, stopped_by_front, words-front, front_stop}

@@ -1,7 +1,7 @@
 use Rattle.std.proofs.Common.{◌≡◌, Ok, subst}
 use Rattle.std.proofs.lemmas.Result.{err_from_is_err_and}
 use Rattle.pg_types.specs.Parameters.{parameters}
-use Rattle.pg_types.specs.Reading.{Fails}
+use Rattle.pg_types.specs.Inside.Answers.{Fails}
 use Rattle.pg_top.proofs.Fronts.{read_by_front, stopped_by_front, parameters-front, front_stop}
 use Rattle.pg_top.specs.Readings.{input_file}
 use Rattle.pg_top.proofs.reading.read_parameters.Goals as goal

@@ -4,13 +4,13 @@ use Rattle.std.specs.Prelude.{string_bytes}
 use Rattle.std.proofs.lemmas.List.{length-map}
 use Rattle.pg_outside.specs.Content.{file_at}
 use Rattle.pg_top.specs.Calls.{outcome_of, reads_of}
-use Rattle.pg_words.specs.Commands.{sweep_of}
+use Rattle.pg_words.specs.Inside.Asked.{sweep_of}
 use Rattle.pg_top.specs.Outcomes.{Ends}
 use Rattle.pg_top.specs.Promises.{SweepNames}
 use Rattle.pg_words.specs.Requests.{ToSweep}
 use Rattle.pg_top.specs.sweep.Inside.Inputs.{terms_of}
-use Rattle.pg_top.specs.sweep.Swept.{HasSweep}
-use Rattle.pg_top.specs.Writings.{writing_of}
+use Rattle.pg_top.specs.sweep.Inside.Accepted.{HasSweep}
+use Rattle.pg_top.specs.Inside.Written.{writing_of}
 use Rattle.pg_top.specs.declared.answers.Status.TheVariants.{Done}
 use Rattle.pg_top.specs.declared.inputs.Stop.TheVariants.{Memory}
 use Rattle.pg_top.proofs.Calls.{stops_reading}

@@ -6,7 +6,7 @@ use Rattle.pg_dict.specs.Word.{Word}
 use Rattle.pg_dict.specs.Words.{words}
 use Rattle.pg_patterns.specs.Starts.{start}
 use Rattle.pg_patterns.specs.Texts.{pattern_text}
-use Rattle.pg_patterns.specs.Values.{SignsUpTo}
+use Rattle.pg_patterns.specs.Inside.PatternMaps.{SignsUpTo}
 use Rattle.pg_select.specs.CountedPositions.{minima_of}
 use Rattle.pg_select.specs.Windows.{Patterns}
 use Rattle.pg_prune.specs.Prunes.{Found, pruned}

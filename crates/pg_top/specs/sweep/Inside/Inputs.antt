@@ -2,9 +2,10 @@
 use Rattle.std.specs.Prelude.{ℕ, ◌+◌, ◌-◌, List, slice_index}
 use Rattle.pg_types.specs.Parameters.{Parameters}
 use Rattle.pg_translate.specs.Alphabets.{letters_of}
-use Rattle.pg_dict.specs.Word.{SignsAtMost}
-use Rattle.pg_patterns.specs.Values.{SignsUpTo}
-use Rattle.pg_sweep.specs.Sweeps.{Terms, Found, costs_of}
+use Rattle.pg_dict.specs.Inside.SoundWords.{SignsAtMost}
+use Rattle.pg_patterns.specs.Inside.PatternMaps.{SignsUpTo}
+use Rattle.pg_sweep.specs.Sweeps.{Terms, costs_of}
+use Rattle.pg_sweep.specs.Inside.Found.{Found}
 use Rattle.pg_words.specs.Requests.{SweepRequest}
 use Rattle.pg_top.specs.Outcomes.{Outcome}
 use Rattle.pg_top.specs.sweep.Swept.{winner_line, sweep_ends, swept_rows}

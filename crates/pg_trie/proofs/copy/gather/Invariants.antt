@@ -1,4 +1,4 @@
-use Rattle.pg_trie.specs.Maps.{maps_of}
+use Rattle.pg_trie.specs.Inside.Maps.{maps_of}
 use Rattle.pg_trie.proofs.Gathered.{Gathers}
 use Rattle.pg_trie.proofs.copy.gather.Given as goal
 

@@ -1,6 +1,6 @@
 use Rattle.std.proofs.Common.{◌≡◌, ◌≤◌, ◌++◌, length}
 use Rattle.pg_outputs.specs.Lists.{list_of}
-use Rattle.pg_trie.specs.Maps.{entries_of, as_value}
+use Rattle.pg_trie.specs.Inside.Maps.{entries_of, as_value}
 use Rattle.pg_trie.proofs.copy.push_values.Given as goal
 
 abbrev pub invariant-loop-value : goal.invariant-loop-value

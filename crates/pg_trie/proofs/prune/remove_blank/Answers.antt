@@ -1,6 +1,6 @@
 use Rattle.std.proofs.Common.{◌≡◌, ℕ, [], ◌∷◌, ◌++◌, Some, inl, inr, refl, ap, sym, subst, ◌∙◌, arith}
 use Rattle.pg_types.specs.Placement.{cell_of}
-use Rattle.pg_cells.specs.ValuedFamilies.{ValuedFamilies}
+use Rattle.pg_cells.specs.Inside.ValuedFamilies.{ValuedFamilies}
 use Rattle.pg_cells.proofs.LinkLaws.{some_string}
 use Rattle.pg_trie.proofs.prune.remove_blank.Goals as goal
 use Rattle.pg_trie.proofs.prune.remove_blank.Goals.{else-number-eq0-via-then-number-eq0+else-child-eq0, else-number-eq0-via-else-number-eq0}

@@ -1,7 +1,8 @@
 use Rattle.std.proofs.Common.{rules}
 use Rattle.std.proofs.lemmas.Result.{err_from_is_err_and}
 use Rattle.std.proofs.lemmas.List.Elements.{All-push}
-use Rattle.pg_types.specs.Parameters.{items, IsLevel}
+use Rattle.pg_types.specs.Parameters.{items}
+use Rattle.pg_types.specs.Inside.Ranges.{IsLevel}
 use Rattle.pg_types.proofs.Levels.{left_more, left_refused, rest_more, read_more}
 use Rattle.pg_types.proofs.parameters.read_levels.Goals as goal
 

@@ -2,7 +2,7 @@ use Rattle.std.proofs.Common.{◌≡◌, ◌≤◌, [], ◌∷◌, ◌++◌, Som
 use Rattle.std.proofs.lemmas.Result.{on_ok_weaker, on_err_weaker}
 use Rattle.std.specs.FinMap.{put}
 use Rattle.pg_types.specs.Placement.{cell_of, with_sign}
-use Rattle.pg_cells.specs.ValuedFamilies.{Trie, ValuedFamilies}
+use Rattle.pg_cells.specs.Inside.ValuedFamilies.{Trie, ValuedFamilies}
 use Rattle.pg_cells.specs.Inside.AreValuedFamilies.{AreValuedFamilies}
 use Rattle.pg_cells.specs.Inside.Adding.{added}
 use Rattle.pg_cells.specs.Inside.Layouts.{IsTrie, AreKept}

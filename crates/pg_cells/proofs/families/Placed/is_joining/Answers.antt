@@ -1,6 +1,7 @@
 use Rattle.std.proofs.Common.{◌≡◌, ◌≤◌, [], ◌∷◌, ◌++◌, Some, None, ap, sym, subst, ◌∙◌, arith}
-use Rattle.pg_types.specs.Placement.{cell_of, joins_at}
-use Rattle.pg_cells.specs.ValuedFamilies.{ValuedFamilies}
+use Rattle.pg_types.specs.Placement.{cell_of}
+use Rattle.pg_types.specs.Inside.Placing.{joins_at}
+use Rattle.pg_cells.specs.Inside.ValuedFamilies.{ValuedFamilies}
 use Rattle.pg_cells.specs.declared.member.Member.{Member}
 use Rattle.pg_cells.proofs.StringCells.{cells_apart, cell_taken}
 use Rattle.pg_cells.proofs.AddTrie.{child_within}

@@ -1,7 +1,7 @@
 use Rattle.std.proofs.Common.{◌≡◌, [], ◌∷◌, map, ap, sym, subst}
 use Rattle.std.specs.List.{range_with_len}
 use Rattle.pg_types.specs.Placement.{root}
-use Rattle.pg_cells.specs.ValuedFamilies.{Trie, ValuedFamilies}
+use Rattle.pg_cells.specs.Inside.ValuedFamilies.{Trie, ValuedFamilies}
 use Rattle.pg_cells.specs.Inside.AreValuedFamilies.{AreValuedFamilies}
 use Rattle.pg_cells.specs.Inside.Layouts.{AreKept}
 use Rattle.pg_cells.specs.Inside.OneTrie.{Kept, settled, held}

@@ -1,6 +1,7 @@
 use Rattle.std.proofs.Common.{◌≡◌, [], ◌∷◌, ◌++◌, Some, None, ap, sym, subst, ◌∙◌, arith}
-use Rattle.pg_types.specs.Placement.{cell_of, base_of, without_sign}
-use Rattle.pg_cells.specs.ValuedFamilies.{Trie, ValuedFamilies, without_key}
+use Rattle.pg_types.specs.Placement.{cell_of, base_of}
+use Rattle.pg_types.specs.Inside.Placing.{without_sign}
+use Rattle.pg_cells.specs.Inside.ValuedFamilies.{Trie, ValuedFamilies, without_key}
 use Rattle.pg_cells.specs.Inside.AreValuedFamilies.{AreValuedFamilies}
 use Rattle.pg_cells.specs.Inside.Layouts.{AreKept}
 use Rattle.pg_cells.specs.Inside.OneTrie.{Kept, settled, held}

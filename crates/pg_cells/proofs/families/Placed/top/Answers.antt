@@ -1,6 +1,6 @@
 use Rattle.std.proofs.Common.{◌∙◌, ap}
 use Rattle.pg_types.specs.Placement.{top}
-use Rattle.pg_cells.specs.ValuedFamilies.{ValuedFamilies}
+use Rattle.pg_cells.specs.Inside.ValuedFamilies.{ValuedFamilies}
 use Rattle.pg_cells.specs.declared.member.Member.{Member}
 use Rattle.pg_cells.proofs.LayoutLaws.{top_same}
 use Rattle.pg_cells.proofs.families.Placed.top.Goals as goal

@@ -2,9 +2,9 @@ use Rattle.std.proofs.Common.{ℕ, Option, take, length, unwrap_or, refl, ap, sy
 use Rattle.std.proofs.lemmas.Result.{err_from_is_err_and}
 use Rattle.std.specs.List.{slice_get}
 use Rattle.pg_types.proofs.Numbering.{get_seam}
-use Rattle.pg_types.specs.Counts.{AreSmall, counted_sums, is_counted, with_weight}
-use Rattle.pg_types.specs.Numbered.{HasNumber}
-use Rattle.pg_cells.specs.ValuedFamilies.{ValuedFamilies}
+use Rattle.pg_types.specs.Inside.Counts.{AreSmall, counted_sums, is_counted, with_weight}
+use Rattle.pg_types.specs.Inside.Numbered.{HasNumber}
+use Rattle.pg_cells.specs.Inside.ValuedFamilies.{ValuedFamilies}
 use Rattle.pg_count.specs.Inside.Counting.{Counting, Tally, counted_more, counting_of}
 use Rattle.pg_count.specs.Inside.Leaves.{AreLeaves}
 use Rattle.pg_count.proofs.Adding.{counted_again, counted_new}

@@ -1,6 +1,6 @@
 use Rattle.std.proofs.Common.{Option, ap, arith}
 use Rattle.pg_count.specs.Inside.Counting.{Tally}
-use Rattle.pg_cells.specs.ValuedFamilies.{ValuedFamilies}
+use Rattle.pg_cells.specs.Inside.ValuedFamilies.{ValuedFamilies}
 use Rattle.pg_count.proofs.Beginning.{begun, begun_kept, root_none, root_short}
 use Rattle.pg_count.proofs.counts.CountTrie.new.Goals as goal
 

@@ -1,6 +1,6 @@
 use Rattle.std.proofs.Common.{◌≡◌, ℕ, List, ◌∷◌, length, None, refl, ap, sym, subst, ◌∙◌, arith}
 use Rattle.std.proofs.lemmas.Option.{get_or_from_slice_get, slice_get_within}
-use Rattle.pg_types.specs.Counts.{above}
+use Rattle.pg_types.specs.Inside.Counts.{above}
 use Rattle.pg_count.specs.Inside.Counting.{Counting}
 use Rattle.pg_count.specs.Inside.Leaves.{IsLeastAbove, LeastUpTo}
 use Rattle.pg_count.proofs.Nearest.{none_above, least_is}

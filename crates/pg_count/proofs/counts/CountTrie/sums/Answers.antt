@@ -1,6 +1,6 @@
 use Rattle.std.proofs.Common.{take, refl, ap, sym, subst, ◌∙◌}
-use Rattle.pg_types.specs.Counts.{counted_sums}
-use Rattle.pg_types.specs.Numbered.{HasNumber}
+use Rattle.pg_types.specs.Inside.Counts.{counted_sums}
+use Rattle.pg_types.specs.Inside.Numbered.{HasNumber}
 use Rattle.pg_count.specs.Inside.Counting.{Counting}
 use Rattle.pg_count.proofs.Wholes.{counts_there, none_counted}
 use Rattle.pg_count.proofs.counts.CountTrie.sums.Goals as goal

@@ -3,7 +3,7 @@ use Rattle.pg_count.specs.Inside.Leaves.{AreShort}
 use Rattle.pg_count.specs.Inside.Tallied.{tally_of}
 use Rattle.pg_count.proofs.Mapped.{found_mapped, unmapped}
 use Rattle.pg_count.specs.Inside.Counting.{Tally}
-use Rattle.pg_cells.specs.ValuedFamilies.{ValuedFamilies}
+use Rattle.pg_cells.specs.Inside.ValuedFamilies.{ValuedFamilies}
 use Rattle.pg_count.proofs.Telling.{held_told, cleared_kept, none_counted}
 use Rattle.pg_count.proofs.tallied.Tallied.clear.Goals.{then-alike, else-alike, then-next-le-LATEST_FIRST+then-has_none, then-next-le-LATEST_FIRST+else-has_none, else-next-le-LATEST_FIRST}
 use Rattle.pg_count.proofs.tallied.Tallied.clear.Goals as goal

@@ -1,7 +1,7 @@
 use Rattle.std.proofs.Common.{◌≡◌, [], ◌∷◌, ◌++◌, Option, Some, sym, subst}
 use Rattle.pg_types.specs.Placement.{cell_of}
 use Rattle.pg_count.specs.Inside.Counting.{Tally}
-use Rattle.pg_cells.specs.ValuedFamilies.{ValuedFamilies}
+use Rattle.pg_cells.specs.Inside.ValuedFamilies.{ValuedFamilies}
 use Rattle.pg_cells.specs.Inside.Members.{IsNextSign, goes_on}
 use Rattle.pg_cells.proofs.GivenMembers.{next_alike}
 use Rattle.pg_count.specs.Inside.Tallied.{tally_of}

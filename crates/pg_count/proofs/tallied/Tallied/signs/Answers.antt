@@ -1,6 +1,6 @@
 use Rattle.std.proofs.Common.{Option, subst}
 use Rattle.pg_count.specs.Inside.Counting.{Tally}
-use Rattle.pg_cells.specs.ValuedFamilies.{ValuedFamilies}
+use Rattle.pg_cells.specs.Inside.ValuedFamilies.{ValuedFamilies}
 use Rattle.pg_cells.specs.Inside.AreValuedFamilies.{AreValuedFamilies}
 use Rattle.pg_count.proofs.Telling.{held_told}
 use Rattle.pg_count.proofs.tallied.Tallied.signs.Goals as goal

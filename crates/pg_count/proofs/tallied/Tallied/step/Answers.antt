@@ -1,7 +1,7 @@
 use Rattle.std.proofs.Common.{◌≡◌, [], ◌∷◌, ◌++◌, Option, None, sym, subst}
 use Rattle.std.specs.FinMap.{find}
 use Rattle.pg_count.specs.Inside.Counting.{Tally}
-use Rattle.pg_cells.specs.ValuedFamilies.{ValuedFamilies}
+use Rattle.pg_cells.specs.Inside.ValuedFamilies.{ValuedFamilies}
 use Rattle.pg_cells.specs.Inside.Walks.{IsAt}
 use Rattle.pg_cells.proofs.StringMaps.{order}
 use Rattle.pg_count.specs.Inside.Tallied.{tally_of}

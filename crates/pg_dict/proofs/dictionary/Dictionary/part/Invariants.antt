@@ -1,6 +1,6 @@
 use Rattle.std.proofs.Common.{◌≡◌, ◌≤◌, ◌+◌, ◌*◌, ◌++◌, length, drop}
 use Rattle.std.specs.List.{sum_by}
-use Rattle.pg_dict.specs.Word.{letter_count}
+use Rattle.pg_dict.specs.Inside.SoundWords.{letter_count}
 use Rattle.pg_dict.specs.Parts.{part_from, part_of}
 use Rattle.pg_dict.specs.Inside.Store.{stored_words, IsSound}
 use Rattle.pg_dict.proofs.dictionary.Dictionary.part.Given as goal

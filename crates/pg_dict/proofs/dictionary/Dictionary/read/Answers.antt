@@ -2,11 +2,12 @@ use Rattle.std.proofs.Common.{◌≡◌, ◌+◌, List, Result, length, arith, s
 use Rattle.std.specs.List.{list_all}
 use Rattle.std.proofs.lemmas.Result.{err_from_is_err_and}
 use Rattle.pg_types.specs.declared.refusals.Refusal.{Refusal}
-use Rattle.pg_types.specs.Reading.{Fails}
+use Rattle.pg_types.specs.Inside.Answers.{Fails}
 use Rattle.pg_types.specs.Lines.{lines}
 use Rattle.pg_translate.specs.Alphabets.{letters_of}
-use Rattle.pg_dict.specs.PositionedSigns.{Columns}
-use Rattle.pg_dict.specs.Word.{Word, SignsAtMost}
+use Rattle.pg_dict.specs.Inside.PositionedSigns.{Columns}
+use Rattle.pg_dict.specs.Word.{Word}
+use Rattle.pg_dict.specs.Inside.SoundWords.{SignsAtMost}
 use Rattle.pg_dict.specs.Inside.Store.{stored_words, is_sign_up_to}
 use Rattle.pg_dict.proofs.Sizes.{size_of, size_of-cons, size_of-lines}
 use Rattle.pg_dict.proofs.Lines.{next_read, next_refused, words_short, starts, starts_sound, starts_fit}

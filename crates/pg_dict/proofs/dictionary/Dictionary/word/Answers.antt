@@ -1,6 +1,7 @@
 use Rattle.std.proofs.Common.{sym, subst, ap, Some, ◌∙◌}
 use Rattle.std.specs.List.{All}
-use Rattle.pg_dict.specs.Word.{Word, IsWord}
+use Rattle.pg_dict.specs.Word.{Word}
+use Rattle.pg_dict.specs.Inside.SoundWords.{IsWord}
 use Rattle.pg_dict.specs.Inside.Store.{columns_of, word_at}
 use Rattle.pg_dict.proofs.Told.{word_in, word_stored, word_within}
 use Rattle.pg_dict.proofs.dictionary.Dictionary.word.Goals as goal

@@ -2,7 +2,8 @@ use Rattle.std.proofs.Common.{refl, subst, ap, ◌∙◌}
 use Rattle.pg_driver.specs.declared.open_positions.OpenLevel.{OpenLevel}
 use Rattle.pg_driver.specs.Inside.Counting.{counting}
 use Rattle.pg_driver.specs.Inside.LevelCounting.{IsOpenAt, IsReady}
-use Rattle.pg_driver.specs.Told.{known_of, over}
+use Rattle.pg_driver.specs.Inside.Told.{known_of}
+use Rattle.pg_driver.specs.Traces.{over}
 use Rattle.pg_driver.proofs.ReadySteps.{counts_all, has_room, is_small, ready_same}
 use Rattle.pg_driver.proofs.counting.Counting.count.Goals as goal
 

@@ -1,11 +1,12 @@
 use Rattle.std.proofs.Common.{◌≡◌, true, List, fold, refl, sym, ap, subst, ◌∙◌, []}
-use Rattle.pg_types.specs.Counts.{Counts}
+use Rattle.pg_types.specs.Inside.Counts.{Counts}
 use Rattle.pg_select.specs.CountedPositions.{counted_positions, minima_of}
-use Rattle.pg_select.specs.Meanings.{Meaning, with_position}
+use Rattle.pg_select.specs.Inside.Meanings.{Meaning, with_position}
 use Rattle.pg_driver.specs.declared.pass_windows.Place.{Place}
 use Rattle.pg_driver.specs.declared.word_level.WordLevel.{WordLevel}
 use Rattle.pg_driver.specs.Inside.PassWindows.{HaveNumbers, is_counted_at}
-use Rattle.pg_driver.specs.Told.{known_of, over}
+use Rattle.pg_driver.specs.Inside.Told.{known_of}
+use Rattle.pg_driver.specs.Traces.{over}
 use Rattle.pg_driver.specs.Inside.WordLevels.{IsWordsAt}
 use Rattle.pg_driver.proofs.AboveNumbers.{numbered_as_counted}
 use Rattle.pg_driver.proofs.WordLevels.{words_counted}

@@ -1,5 +1,5 @@
 use Rattle.std.proofs.Common.{◌≡◌, ◌+◌, Ok, Some, slice_get, sym, ap, subst, ◌∙◌}
-use Rattle.pg_outputs.specs.Lists.{OneHeadEach}
+use Rattle.pg_outputs.specs.Inside.Heads.{OneHeadEach}
 use Rattle.pg_outputs.proofs.ListLaws.{one_head_each}
 use Rattle.pg_outputs.proofs.RecordLaws.{nowhere}
 use Rattle.pg_outputs.proofs.InsertLaws.{inserted, again}

@@ -1,5 +1,5 @@
 use Rattle.std.proofs.Common.{subst, rules}
-use Rattle.pg_outputs.specs.Lists.{OneHeadEach}
+use Rattle.pg_outputs.specs.Inside.Heads.{OneHeadEach}
 use Rattle.pg_outputs.specs.Inside.Records.{AreShared}
 use Rattle.pg_outputs.proofs.ListLaws.{one_head_each}
 use Rattle.pg_outputs.proofs.lists.Outputs.len.Goals as goal

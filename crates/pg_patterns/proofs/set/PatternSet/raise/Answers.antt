@@ -1,5 +1,5 @@
 use Rattle.std.proofs.Common.{sym, subst}
-use Rattle.pg_patterns.specs.Values.{IsPatternMap}
+use Rattle.pg_patterns.specs.Inside.PatternMaps.{IsPatternMap}
 use Rattle.pg_patterns.proofs.Sound.{EntryBounds, raise_keeps}
 use Rattle.pg_patterns.proofs.set.PatternSet.raise.Goals as goal
 

@@ -1,6 +1,6 @@
 use Rattle.std.proofs.Common.{◌+◌, sym, subst}
 use Rattle.pg_translate.specs.Alphabets.{letters_of}
-use Rattle.pg_patterns.specs.Values.{SignsUpTo}
+use Rattle.pg_patterns.specs.Inside.PatternMaps.{SignsUpTo}
 use Rattle.pg_patterns.proofs.Known.{known_joined}
 use Rattle.pg_patterns.proofs.set.PatternSet.read.Goals as goal
 

@@ -2,8 +2,8 @@ use Rattle.std.proofs.Common.{◌≡◌, ℕ, true, List, [], ◌∷◌, ◌++�
 use Rattle.std.specs.Cmp.Lexicographic.{slice_cmp}
 use Rattle.std.specs.FinMap.Entries.{find}
 use Rattle.std.specs.List.{list_all}
-use Rattle.pg_types.specs.Counts.{AreSmall, sums_of, with_weight, is_counted}
-use Rattle.pg_types.specs.Numbered.{HasNumber}
+use Rattle.pg_types.specs.Inside.Counts.{AreSmall, sums_of, with_weight, is_counted}
+use Rattle.pg_types.specs.Inside.Numbered.{HasNumber}
 use Rattle.pg_types.specs.Inside.Numbers.{by_number}
 use Rattle.pg_plain.specs.Inside.Counted.{Counted, counted_more}
 use Rattle.pg_plain.proofs.Counted.{windows_put}

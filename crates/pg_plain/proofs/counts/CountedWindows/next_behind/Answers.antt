@@ -1,5 +1,5 @@
 use Rattle.std.proofs.Common.{◌≡◌, ℕ, ◌<◌, List, [], ◌∷◌, length, map, ap, refl, sym, ◌∙◌, arith}
-use Rattle.pg_types.specs.Counts.{above}
+use Rattle.pg_types.specs.Inside.Counts.{above}
 use Rattle.pg_plain.specs.Inside.Counted.{Counted, tally_at}
 use Rattle.pg_plain.proofs.Counted.{above_no, next_above, next_found}
 use Rattle.pg_plain.proofs.Counting.{within, tally_read}

@@ -1,6 +1,6 @@
 use Rattle.std.proofs.Common.{◌≡◌, ℕ, List, true, sym, subst}
 use Rattle.std.specs.List.{list_all}
-use Rattle.pg_patterns.specs.Values.{is_entry}
+use Rattle.pg_patterns.specs.Inside.PatternMaps.{is_entry}
 use Rattle.pg_plain.specs.Inside.Strings.{has_signs_up_to}
 use Rattle.pg_plain.proofs.Known.{patterns_told}
 use Rattle.pg_plain.proofs.engine.PlainEngine.new.Goals as goal

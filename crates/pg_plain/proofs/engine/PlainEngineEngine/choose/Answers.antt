@@ -1,5 +1,5 @@
 use Rattle.std.proofs.Common.{◌≡◌, ℕ, true, List, length, sym, ap, subst, ◌∙◌}
-use Rattle.pg_patterns.specs.Values.{is_entry}
+use Rattle.pg_patterns.specs.Inside.PatternMaps.{is_entry}
 use Rattle.pg_plain.specs.Inside.Strings.{has_signs_up_to}
 use Rattle.pg_plain.proofs.Counted.{counted_len, counted_good}
 use Rattle.pg_plain.proofs.Entered.{window_entry}

@@ -1,7 +1,7 @@
 use Rattle.std.proofs.Common.{◌≡◌, ◌∙◌, ◌++◌, ◌∷◌, [], List, ℕ, ap}
-use Rattle.pg_driver.specs.Told.{account_of}
+use Rattle.pg_driver.specs.Inside.Told.{account_of}
 use Rattle.pg_top.specs.audit.Audited.{given_file}
-use Rattle.pg_words.specs.Commands.{name_now}
+use Rattle.pg_words.specs.Inside.Asked.{name_now}
 use Rattle.pg_top.specs.Readings.{Reading}
 use Rattle.pg_words.specs.Requests.{if_asked}
 use Rattle.pg_top.specs.Selection.{selected_text}

@@ -5,7 +5,7 @@ use Rattle.pg_top.specs.Outcomes.{Ends}
 use Rattle.pg_top.specs.Promises.{ReadsBack}
 use Rattle.pg_top.specs.prune.Inside.Inputs.{prune_of}
 use Rattle.pg_top.specs.prune.Pruned.{prune_ends}
-use Rattle.pg_top.specs.Writings.{written_names}
+use Rattle.pg_top.specs.Inside.Written.{written_names}
 use Rattle.pg_top.specs.declared.answers.Status.TheVariants.{Done}
 use Rattle.pg_top.proofs.Results.{ok_by_two}
 use Rattle.pg_top.proofs.prune.outputs.make_prune.Goals as goal

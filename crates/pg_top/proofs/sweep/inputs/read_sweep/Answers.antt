@@ -1,7 +1,7 @@
 use Rattle.std.proofs.Common.{◌≤◌, sym, subst}
 use Rattle.std.proofs.lemmas.Result.{err_from_is_err_and}
 use Rattle.pg_outside.specs.Content.{FilesShown}
-use Rattle.pg_words.specs.Commands.{sweep_of}
+use Rattle.pg_words.specs.Inside.Asked.{sweep_of}
 use Rattle.pg_words.specs.Requests.{SweepRequest}
 use Rattle.pg_top.proofs.Faults.{none_fell}
 use Rattle.pg_top.proofs.sweep.SweepOrder.{front_calls, all_calls, front_read, all_read, stopped_table, stopped_sets, stopped_lists}

@@ -4,7 +4,7 @@ use Rattle.pg_top.specs.Inside.Stops.{OnlyReads}
 use Rattle.pg_outside.specs.FilesCalls.{Reads}
 use Rattle.pg_words.specs.Commands.{words_of}
 use Rattle.pg_top.specs.Counted.{MakesCalls}
-use Rattle.pg_top.specs.sweep.Swept.{HasSets}
+use Rattle.pg_top.specs.sweep.Inside.Accepted.{HasSets}
 use Rattle.pg_top.proofs.sweep.sets.read_sets.Given as goal
 
 abbrev pub invariant-sets : goal.invariant-sets

@@ -1,5 +1,5 @@
 use Rattle.std.proofs.Common.{◌≡◌, ◌+◌, ◌-◌, ◌∷◌, [], max, ap, ◌∙◌, arith}
-use Rattle.pg_translate.specs.Alphabets.{letters_in}
+use Rattle.pg_translate.specs.Inside.FirstSpellings.{letters_in}
 use Rattle.pg_translate.specs.Inside.Fronts.{pairs}
 use Rattle.pg_translate.proofs.Additions.{letters_in-push}
 use Rattle.pg_translate.proofs.Defaults.{default_fits, default_more}

@@ -1,5 +1,5 @@
 use Rattle.std.proofs.Common.{ap, ◌∙◌}
-use Rattle.pg_trie.specs.Maps.{Maps}
+use Rattle.pg_trie.specs.Inside.Maps.{Maps}
 use Rattle.pg_trie.proofs.trie.PatternTrie.copy.Goals as goal
 
 pub returns : goal.returns

@@ -1,6 +1,6 @@
 use Rattle.std.proofs.Common.{length, ap, subst, ◌∙◌, arith}
 use Rattle.pg_types.specs.Tails.{tails}
-use Rattle.pg_trie.specs.Maps.{Maps}
+use Rattle.pg_trie.specs.Inside.Maps.{Maps}
 use Rattle.pg_trie.specs.Inside.Renewed.{Renews}
 use Rattle.pg_trie.proofs.Deleted.{has_fresh, deleted}
 use Rattle.pg_trie.proofs.TailsLaw.{tails_is}

@@ -2,13 +2,13 @@ use Rattle.std.proofs.Common.{◌≡◌, ℕ, Some, ap, sym, subst, ◌∙◌, a
 use Rattle.std.proofs.lemmas.Bool.{le-ltb, lt-ltb}
 use Rattle.std.proofs.lemmas.Result.{err_from_is_err_and}
 use Rattle.pg_types.specs.Placement.{enter}
-use Rattle.pg_cells.specs.ValuedFamilies.{ValuedFamilies}
+use Rattle.pg_cells.specs.Inside.ValuedFamilies.{ValuedFamilies}
 use Rattle.pg_cells.specs.Inside.Walks.{AddsBlanks}
 use Rattle.std.specs.FinMap.{put}
 use Rattle.pg_cells.proofs.StringMaps.{order}
 use Rattle.pg_trie.specs.declared.mark.TheConstants.{HOPELESS}
 use Rattle.pg_trie.specs.Inside.Lists.{entered}
-use Rattle.pg_trie.specs.Maps.{Maps}
+use Rattle.pg_trie.specs.Inside.Maps.{Maps}
 use Rattle.pg_trie.proofs.Changes.{SameMaps, blanks_stay, records_stay, both_stay, Enters, enters, same_view, raised_view, marked_view, part_seen, whole_seen}
 use Rattle.pg_trie.proofs.trie.PatternTrie.enter.Goals as goal
 

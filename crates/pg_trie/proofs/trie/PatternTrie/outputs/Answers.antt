@@ -1,5 +1,5 @@
 use Rattle.std.proofs.Common.{subst}
-use Rattle.pg_trie.specs.Maps.{AreKept}
+use Rattle.pg_trie.specs.Inside.Maps.{AreKept}
 use Rattle.pg_trie.proofs.Kept.{are_kept}
 use Rattle.pg_trie.proofs.trie.PatternTrie.outputs.Goals as goal
 

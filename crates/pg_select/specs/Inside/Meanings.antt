@@ -6,13 +6,14 @@ use Rattle.std.specs.Ordering.{nat_cmp}
 use Rattle.std.specs.Cmp.Lexicographic.{slice_cmp}
 use Rattle.std.specs.FinMap.Entries.{put, is_sorted}
 use Rattle.pg_types.specs.declared.marks.Layout.{Layout}
-use Rattle.pg_types.specs.Counts.{Counts, SignsWithin, with_count, is_counted}
-use Rattle.pg_types.specs.Numbered.{Windows, AreNumbered, with_window}
+use Rattle.pg_types.specs.Inside.Counts.{Counts, SignsWithin, with_count, is_counted}
+use Rattle.pg_types.specs.Inside.Numbered.{Windows, AreNumbered, with_window}
 use Rattle.pg_types.specs.Placement.{Families, taken, top, enter, kept}
 use Rattle.pg_types.specs.Tails.{tails}
 use Rattle.pg_patterns.specs.DottedSigns.{dotted_cmp}
-use Rattle.pg_patterns.specs.Values.{IsPatternMap, SignsUpTo, raise}
-use Rattle.pg_select.specs.Positions.{HasValues, HasCovers}
+use Rattle.pg_patterns.specs.Values.{raise}
+use Rattle.pg_patterns.specs.Inside.PatternMaps.{IsPatternMap, SignsUpTo}
+use Rattle.pg_select.specs.Inside.Positions.{HasValues, HasCovers}
 use Rattle.pg_select.specs.Windows.{Patterns, Hopeless}
 use Rattle.pg_select.specs.declared.pass.Pass.{Pass}
 use Rattle.pg_select.specs.CountedPositions.{CountedPosition}

@@ -1,7 +1,7 @@
 -- The windows that are counted in a pass, in the order of signs, each with its sums of good and bad
 -- weights.
 use Rattle.std.specs.Prelude.{◌≡◌, ℕ, ◌+◌, ◌<◌, ◌≤◌, Bool, if◌then◌else◌, List, [], ◌∷◌, filter, unwrap_or, Option, None, Some, All, is_some}
-use Rattle.pg_types.specs.Limits.{counts_limit}
+use Rattle.pg_types.specs.Inside.Limits.{counts_limit}
 use Rattle.std.specs.Ordering.{nat_cmp, is_lt}
 use Rattle.std.specs.Cmp.Lexicographic.{slice_cmp}
 use Rattle.std.specs.FinMap.Entries.{put, find}

@@ -1,11 +1,11 @@
 -- What every record of a run keeps, and what a run is seen as.
 use Rattle.std.specs.Prelude.{ℕ, ◌+◌, ◌<◌, ◌≤◌, nat_lt, if◌then◌else◌, List, [], ◌∷◌, ◌++◌, Option}
-use Rattle.pg_types.specs.Limits.{sums_limit}
+use Rattle.pg_types.specs.Inside.Limits.{sums_limit}
 use Rattle.pg_types.specs.declared.marks.Layout.{Layout}
 use Rattle.pg_types.specs.declared.marks.Totals.{Totals}
 use Rattle.pg_driver.specs.declared.records.PassRecord.{PassRecord}
 use Rattle.pg_driver.specs.declared.records.LevelRecord.{LevelRecord}
-use Rattle.pg_select.specs.Sums.{sum_of}
+use Rattle.pg_select.specs.Inside.SumSteps.{sum_of}
 
 -- the sums of totals together are below the limit of sums
 abbrev pub IsSmall : Totals → Type 0

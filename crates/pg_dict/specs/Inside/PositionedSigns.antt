@@ -1,7 +1,7 @@
 -- The signs of words, each with the position before it.
-use Rattle.std.specs.Prelude.{ℕ, Bool, true, false, List, [], ◌++◌, map}
+use Rattle.std.specs.Prelude.{ℕ, Bool, List, [], ◌++◌, map}
 use Rattle.pg_types.specs.declared.marks.Mark.{Mark}
-use Rattle.pg_types.specs.declared.marks.Mark.TheVariants.{Nothing, Error, Missed, Found, DontCare}
+use Rattle.pg_dict.specs.Words.{sets_hyphen, keeps_care}
 
 -- a sign, with the hyphen, weight and care of the position before it
 pub record PositionedSign : Type 0 where
@@ -9,22 +9,6 @@ pub record PositionedSign : Type 0 where
   pub hyphen : Bool
   pub weight : ℕ
   pub care : Bool
-
--- a position whose last mark is missed or found has a hyphen
-abbrev pub sets_hyphen : Mark → Bool
-sets_hyphen Nothing = false
-sets_hyphen Error = false
-sets_hyphen Missed = true
-sets_hyphen Found = true
-sets_hyphen DontCare = false
-
--- a position whose last mark is don't-care has no care
-abbrev pub keeps_care : Mark → Bool
-keeps_care Nothing = true
-keeps_care Error = true
-keeps_care Missed = true
-keeps_care Found = true
-keeps_care DontCare = false
 
 -- a sign behind a position with this last mark and this weight
 abbrev pub positioned_sign : Mark → ℕ → ℕ → PositionedSign

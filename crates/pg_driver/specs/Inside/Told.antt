@@ -1,25 +1,24 @@
 -- What a run that is done tells, and what it is to tell by the trace from an engine's patterns.
-use Rattle.std.specs.Prelude.{◌≡◌, ℕ, List, map, All, Option, None, Some}
+use Rattle.std.specs.Prelude.{ℕ, fold, ◌≡◌, List, map, All, Option, None, Some}
+use Rattle.pg_types.specs.Placement.{Families}
+use Rattle.pg_driver.specs.Traces.{Trace, Known, trace, final_patterns, over}
+use Rattle.pg_driver.specs.Layouts.{after_level, CellsAccount, cells_account}
 use Rattle.std.specs.Option.{option_map}
 use Rattle.pg_types.specs.declared.marks.Layout.{Layout}
 use Rattle.pg_types.specs.Parameters.{Parameters}
-use Rattle.pg_types.specs.Placement.{Families}
 use Rattle.pg_translate.specs.Alphabets.{Alphabet}
 use Rattle.pg_dict.specs.Word.{Word}
-use Rattle.pg_select.specs.Meanings.{Meaning}
+use Rattle.pg_select.specs.Inside.Meanings.{Meaning}
 use Rattle.pg_select.specs.declared.pass.Pass.{Pass}
-use Rattle.pg_select.specs.CountedPositions.{minima_of}
 use Rattle.pg_driver.specs.declared.records.PassRecord.{PassRecord}
 use Rattle.pg_driver.specs.declared.records.LevelRecord.{LevelRecord}
-use Rattle.pg_driver.specs.Sound.{Finished}
+use Rattle.pg_driver.specs.Inside.Sound.{Finished}
 use Rattle.pg_select.specs.Windows.{Patterns}
-use Rattle.pg_driver.specs.Traces.{Known, Source, Trace, trace, final_patterns}
 use Rattle.pg_driver.specs.Accounts.{Account, PassLine, LevelLine, account, begun}
-use Rattle.pg_driver.specs.Layouts.{CellsAccount, cells_account, final_families}
 
--- what a run under a table goes over: the minima of the table, and the words
-abbrev pub over : Alphabet → List Word → Source
-over t words = record { minima = minima_of t; words = words }
+-- the families at the end of a run
+abbrev pub final_families : ℕ → Families → Trace → Families
+final_families signs fs run = fold (after_level signs) fs run
 
 -- what an engine knows
 abbrev pub known_of : Meaning → Known

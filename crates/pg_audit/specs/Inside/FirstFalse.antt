@@ -1,0 +1,25 @@
+-- The first false line: told by the numbers of lines, and with a part of its bytes.
+use Rattle.std.specs.Prelude.{◌≡◌, ◌≢◌, ℕ, ◌+◌, ◌<◌, List, [], length, take, Option, slice_get, unwrap_or, option_map}
+use Rattle.pg_audit.specs.Differences.{whole_lines, Difference, first_false}
+
+-- the line with this number, counted from 0, where a file has it
+abbrev pub line_at : List ℕ → ℕ → Option (List ℕ)
+line_at bytes k = slice_get (whole_lines bytes) k
+
+-- the least line at which two files differ, with what the given one has there
+pub record IsFirstFalse (given wanted : List ℕ) (d : Difference) : Type 0 where
+  pub before : (k : ℕ) → k + 1 < d.line → line_at given k ≡ line_at wanted k
+  pub differs : (k : ℕ) → d.line ≡ k + 1 → line_at given k ≢ line_at wanted k
+  pub found : (k : ℕ) → d.line ≡ k + 1 → d.found ≡ unwrap_or (line_at given k) []
+
+-- a difference with no more than the first n bytes of its line
+abbrev pub shown : ℕ → Difference → Difference
+shown n d = record { line = d.line; found = take n d.found }
+
+-- the first false line of a given file, with no more than its first n bytes
+abbrev pub first_false_shown : ℕ → List ℕ → List ℕ → Option Difference
+first_false_shown n given wanted = option_map (shown n) (first_false given wanted)
+
+-- the first part of a given file: n bytes more than the wanted file has
+abbrev pub first_part : ℕ → List ℕ → List ℕ → List ℕ
+first_part n given wanted = take (length wanted + n) given

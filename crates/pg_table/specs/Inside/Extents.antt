@@ -1,0 +1,34 @@
+-- Where the cells and records of a packed table file begin, how long it is, and whether its head
+-- fits it.
+use Rattle.std.specs.Prelude.{ℕ, ◌+◌, ◌*◌, Bool, ◌&&◌, nat_eq, nat_lt, nat_le, List, slice_index}
+use Rattle.pg_types.specs.declared.limits.TheConstants.{SIGNS_MAX}
+use Rattle.pg_outputs.specs.declared.records.Record.{Record}
+use Rattle.pg_table.specs.declared.head.Head.{Head}
+use Rattle.pg_table.specs.declared.limits.TheConstants.{TABLE_MAX}
+use Rattle.pg_table.specs.Numbers.{u32_at}
+
+-- where a cell begins
+abbrev pub cell_start : ℕ → ℕ
+cell_start at = 16 + 10 * at
+
+-- where the record with the number i begins, behind n cells
+abbrev pub record_start : ℕ → ℕ → ℕ
+record_start n i = cell_start n + 6 * i
+
+-- the record that begins at a place
+abbrev pub read_record : List ℕ → ℕ → Record
+read_record b start =
+    record {
+      value = slice_index b start;
+      dot = slice_index b (start + 1);
+      next = u32_at b (start + 2);
+    }
+
+-- the length of a file with this head
+abbrev pub file_len : Head → ℕ
+file_len h = 16 + 10 * h.cells + 6 * h.records
+
+-- the numbers of a head are in their ranges, and agree with the length of the file
+abbrev pub fits_head : Head → ℕ → Bool
+fits_head h len = nat_eq len (file_len h) && nat_le len TABLE_MAX
+    && nat_le 1 h.signs && nat_le h.signs SIGNS_MAX && nat_lt h.signs h.cells

@@ -1,0 +1,10 @@
+-- The signs of a selection's words and patterns.
+use Rattle.pg_dict.specs.Inside.SoundWords.{SignsAtMost}
+use Rattle.pg_patterns.specs.Inside.PatternMaps.{SignsUpTo}
+use Rattle.pg_top.specs.declared.selection.Inputs.{Inputs}
+use Rattle.pg_top.specs.Selection.{signs_of}
+
+-- the words and the starting patterns have no sign above the greatest one of the table
+pub record HasSigns (i : Inputs) : Type 0 where
+  pub words : SignsAtMost (signs_of i) i.dictionary
+  pub start : SignsUpTo (signs_of i) i.start

@@ -1,0 +1,2 @@
+-- What only contracts between layers and proofs need.
+pub mod Accepted

@@ -1,0 +1,25 @@
+-- The parts of a line's refusal.
+use Rattle.std.specs.Prelude.{ℕ, if◌then◌else◌, slice_get, Option, None, Some, option_map}
+use Rattle.std.specs.Option.{option_or}
+use Rattle.pg_types.specs.declared.refusals.Refusal.{Refusal}
+use Rattle.pg_translate.specs.declared.items.Place.{Place}
+use Rattle.pg_translate.specs.Tokens.{is_ended}
+use Rattle.pg_translate.specs.Cuts.{Placed, Cut}
+use Rattle.pg_translate.specs.Gaps.{sign_of}
+use Rattle.pg_translate.specs.LineRefusals.{refused, long_kind, bad_kind, sign_columns}
+
+-- the column of a sign
+abbrev pub sign_column : Placed → Option ℕ
+sign_column item = option_map (λ _. item.column) (sign_of item.token)
+
+-- the refusal where the cut of a line stops, unless that is at its end or before a blank or TAB
+abbrev pub stop_refusal : Place → ℕ → Cut → Option Refusal
+stop_refusal place line c = if is_ended c.rest then None
+    else Some (refused line (bad_kind place c.rest) c.column)
+
+-- the refusal of a line in which so many signs may still come: that of the sign too many, else
+-- where its cut stops
+abbrev pub refusal_with_room : Place → ℕ → ℕ → Cut → Option Refusal
+refusal_with_room place line room c =
+    option_or (option_map (refused line (long_kind place)) (slice_get (sign_columns c) room))
+    (stop_refusal place line c)
