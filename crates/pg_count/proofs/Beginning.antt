@@ -33,7 +33,6 @@ module _ (cells : ValuedFamilies (Option Tally)) (windows : Windows) (n len : �
     };
     some = some;
     most = most;
-    few = (let size = ap length empty in omega arith);
   }
     where
       uncounted : (q : List ℕ) (t : Tally) → find order q cells.values ≡ Some (Some t) → ⊥

@@ -1,13 +1,15 @@
 pub mod Above
 pub mod Adding
 pub mod Beginning
+pub mod Bounding
 pub mod Counted
 pub mod Fronts
 pub mod Leaves
 pub mod Looking
 pub mod Mapped
-pub mod Nearest
+pub mod Nexting
 pub mod Parting
+pub mod Searching
 pub mod Telling
 pub mod Walking
 pub mod Ways

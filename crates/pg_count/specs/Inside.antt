@@ -1,5 +1,7 @@
 -- What only contracts between layers and proofs need.
+pub mod Bounds
 pub mod Counting
+pub mod Least
 pub mod Leaves
 pub mod Tallied
 pub mod Under

@@ -6,7 +6,7 @@ ghost use Rattle.pg_types.specs.Inside.Numbered.{AreInOrder, AreNumbered, HasNum
 ghost use Rattle.pg_count.specs.Inside.Counting.{IsCounting, counted_more};
 
 use crate::leaf::count_new;
-use crate::least::least_above;
+use crate::least::least;
 use crate::tallied::Tallied;
 use crate::tally::add_weight;
 use crate::walk::walk;
@@ -164,7 +164,11 @@ impl CountTrie {
             × (at.new ≡ at.old)) (λ sums. above at.old self.now.counts
             ≡ (at.new, sums) ∷ above at.new self.now.counts) }
     {
-        let number = least_above(self.windows.as_slice(), at)?;
+        if self.cells.has_none() {
+            return None;
+        }
+        let windows = self.windows.as_slice();
+        let number = least(&self.cells, windows, at, 0, EDGE, at.signs(), self.len)?;
         at.set(self.windows[number as usize].signs());
         Some(self.cells.sums(number))
     }

@@ -1,5 +1,5 @@
 //! The cell of a window that is counted for the first time.
-ghost use Rattle.std.specs.Prelude.{◌≡◌, ℕ, ◌+◌, ◌<◌, ◌≤◌, ◌^◌, [], ◌∷◌, ◌++◌, length, take, None, Some, IfOk, OnOk, OnErr};
+ghost use Rattle.std.specs.Prelude.{◌≡◌, ℕ, ◌+◌, ◌<◌, ◌≤◌, [], ◌∷◌, ◌++◌, length, take, None, Some, IfOk, OnOk, OnErr};
 ghost use Rattle.std.specs.FinMap.{find};
 ghost use Rattle.std.specs.Cmp.Lexicographic.{slice_cmp};
 ghost use Rattle.std.specs.Ordering.{nat_cmp};
@@ -110,7 +110,6 @@ pub fn count_new(
     ensures signs { cells.new.signs ≡ cells.old.signs }
     ensures number { IfOk result (λ number. number ≡ length windows.old.items) }
     ensures windows { OnOk result (windows.new.items ≡ windows.old.items ++ window.now ∷ []) }
-    ensures few { OnOk result (length windows.new.items ≤ 2 ^ 32) }
     ensures sets { OnOk result
         (Sets cells.old.values cells.new.values (length windows.old.items, sums)) }
     ensures keeps { OnErr result (Keeps cells.old.values cells.new.values) }

@@ -2,6 +2,7 @@
 //! cells.
 #![tactic(auto)]
 
+mod bound;
 mod counts;
 mod leaf;
 mod least;

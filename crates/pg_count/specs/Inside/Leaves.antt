@@ -1,8 +1,7 @@
 -- The windows as leaves of the cells: each is counted in the cell of a string with which it begins,
 -- below which there is none.
-use Rattle.std.specs.Prelude.{◌≡◌, ◌≢◌, ℕ, ◌+◌, ◌<◌, ◌≤◌, ◌^◌, List, [], ◌∷◌, ◌++◌, length, take, get_or, Option, None, Some}
+use Rattle.std.specs.Prelude.{◌≡◌, ◌≢◌, ℕ, ◌+◌, ◌<◌, ◌≤◌, List, [], ◌∷◌, ◌++◌, length, take, get_or, Option, None, Some}
 use Rattle.std.specs.FinMap.{find, put}
-use Rattle.std.specs.declared.cmp.Ordering.TheVariants.{Less}
 use Rattle.std.specs.Ordering.{nat_cmp}
 use Rattle.std.specs.Cmp.Lexicographic.{slice_cmp}
 use Rattle.pg_types.specs.declared.limits.TheConstants.{LENGTH_MAX}
@@ -50,8 +49,6 @@ pub record AreCounting (h : ValuedFamilies (Option Tally)) (windows : Windows)
   pub leaves : AreLeaves h windows len
   pub some : 1 ≤ len
   pub most : len ≤ LENGTH_MAX
-  -- each number fits
-  pub few : length windows ≤ 2 ^ 32
 
 -- some string has the tally
 abbrev pub HasTally : Tallies → Tally → Type 0
@@ -100,17 +97,3 @@ pub record IsFree (h : ValuedFamilies (Option Tally)) (w : List ℕ) (cell : ℕ
   pub there : cell_of h.families string ≡ Some cell
   pub uncounted : find (slice_cmp nat_cmp) string h.values ≡ Some None
   pub last : IsLast h.values string
-
--- the window with the number is the least above another among those with numbers below k
-pub record IsLeastAbove (windows : Windows) (k : ℕ) (bound : List ℕ) (n : ℕ) : Type 0 where
-  pub window : List ℕ
-  pub there : HasNumber windows window n
-  pub over : slice_cmp nat_cmp bound window ≡ Less
-  pub least : (v : List ℕ) (m : ℕ) → m < k → HasNumber windows v m
-      → slice_cmp nat_cmp bound v ≡ Less → slice_cmp nat_cmp v window ≡ Less → ⊥
-
--- the same, or there is none
-abbrev pub LeastUpTo : Windows → ℕ → List ℕ → Option ℕ → Type 0
-LeastUpTo windows k bound None = (v : List ℕ) (m : ℕ) → m < k → HasNumber windows v m
-    → slice_cmp nat_cmp bound v ≡ Less → ⊥
-LeastUpTo windows k bound (Some n) = IsLeastAbove windows k bound n

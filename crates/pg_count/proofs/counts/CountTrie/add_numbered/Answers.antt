@@ -32,7 +32,6 @@ invariant_of-self c =
           (ap (λ (h : ValuedFamilies (Option Tally)). h.signs) set) (ap (λ (h : ValuedFamilies (Option Tally)). h.values) set) c.set_sums.ensures.size there;
       some = c.self.invariant.some;
       most = c.self.invariant.most;
-      few = c.self.invariant.few;
     }
 
 pub returns-in-Some-clause-ok : goal.returns-in-Some-clause-ok
