@@ -5,6 +5,7 @@ pub mod Bounding
 pub mod Counted
 pub mod Fronts
 pub mod Leaves
+pub mod Listing
 pub mod Looking
 pub mod Mapped
 pub mod Nexting

@@ -3,7 +3,6 @@ use Rattle.std.proofs.Common.{◌≡◌, ◌≢◌, ℕ, ◌+◌, ◌<◌, ◌�
 use Rattle.std.proofs.lemmas.Bool.{and_from, cases_lt, le-leb}
 use Rattle.std.proofs.lemmas.List.Elements.{All-head, All-tail}
 use Rattle.std.proofs.lemmas.List.{append_cancel_left, take-append-drop, take_all, take_at, take_more, take_more_same, drop_more, length-take-le}
-use Rattle.std.proofs.lemmas.Option.{get_or_from_slice_get}
 use Rattle.std.specs.FinMap.Entries.{find, put}
 use Rattle.std.specs.List.{list_all}
 use Rattle.pg_types.specs.Inside.Signs.{is_sign}
@@ -96,15 +95,14 @@ module _ (h : ValuedFamilies (Option Tally)) (windows : Windows) (u other : List
         differs (sym sign)))
         ∙ are.last (take at u) (number, sums) tally (get_or u at 0) more
 
--- the window with the number of the string at the end of a way begins with it
+-- the window with the number of the string at the end of a way begins as it does
 pub row_begins : (h : ValuedFamilies (Option Tally)) (windows : Windows) (u row : List ℕ) (number at : ℕ) (sums : ℕ × ℕ) → AreLeaves h windows (length u) → at ≤ length u → find order (take at u) h.values ≡ Some (Some (number, sums))
-    → row ≡ get_or windows number row → HasNumber windows row number × (take at row ≡ take at u)
-row_begins h windows u row number at sums are within tally is =
+    → HasNumber windows row number → take at row ≡ take at u
+row_begins h windows u row number at sums are within tally there =
     let f = are.front (take at u) (number, sums) tally in
-    let same : row ≡ take at u ++ f.0 = is ∙ get_or_from_slice_get windows number (take at u ++ f.0) row f.1 in (
-      subst (λ v. HasNumber windows v number) (sym same) f.1,
-      ap (take at) same ∙ take_at (take at u) f.0 at (length-take-le at u within),
-    )
+    let both : Some row ≡ Some (take at u ++ f.0) = sym there ∙ f.1 in
+    let same : row ≡ take at u ++ f.0 = cc in
+    ap (take at) same ∙ take_at (take at u) f.0 at (length-take-le at u within)
 
 -- a string at which one was added
 module _ (h g : ValuedFamilies (Option Tally)) (u : List ℕ) (at cell below : ℕ) (way : IsWay h u at cell) (less : at < length u) (adds : Adds h g (take at u) (get_or u at 0)) where
@@ -139,9 +137,9 @@ pub keeps_sets : {old mid new : List (List ℕ × Option Tally)} {t : Tally} →
 keeps_sets a b = record { here = b.here; keeps = λ v other has. b.keeps v other (a.keeps v has); back = λ v other has. a.back v (b.back v other has) }
 
 -- a window was counted in a free cell
-module _ (h g : ValuedFamilies (Option Tally)) (windows more : Windows) (u w : List ℕ) (cell : ℕ) (sums : ℕ × ℕ) (are : AreLeaves h windows (length u)) (free : IsFree h u cell) (held : AreValuedFamilies g)
+module _ (h g : ValuedFamilies (Option Tally)) (windows more : Windows) (u : List ℕ) (cell : ℕ) (sums : ℕ × ℕ) (are : AreLeaves h windows (length u)) (free : IsFree h u cell) (held : AreValuedFamilies g)
     (set : g ≡ record h { values = put order free.string (Some (length (numbers_in h.values), sums)) h.values }) (size : length (numbers_in g.values) ≡ length (numbers_in h.values) + 1)
-    (within : SignsWithin h.signs u) (pushed : more ≡ windows ++ w ∷ []) (same : w ≡ u) where
+    (within : SignsWithin h.signs u) (pushed : more ≡ windows ++ u ∷ []) where
   signs : g.signs ≡ h.signs
   signs = ap (λ (x : ValuedFamilies (Option Tally)). x.signs) set
 
@@ -150,7 +148,7 @@ module _ (h g : ValuedFamilies (Option Tally)) (windows more : Windows) (u w : L
 
   pub new_leaves : AreLeaves g more (length u)
   new_leaves =
-      subst (λ ws. AreLeaves g ws (length u)) (sym (pushed ∙ ap (λ z. windows ++ z ∷ []) (same ∙ free.whole)))
+      subst (λ ws. AreLeaves g ws (length u)) (sym (pushed ∙ ap (λ z. windows ++ z ∷ []) free.whole))
       (more_leaves h g windows (length u) are free.string free.rest sums held signs values size free.uncounted free.last (ap length (sym free.whole)) (subst (SignsWithin h.signs) free.whole within))
 
   pub new_sets : Sets h.values g.values (length windows, sums)

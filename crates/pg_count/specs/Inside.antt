@@ -3,5 +3,6 @@ pub mod Bounds
 pub mod Counting
 pub mod Least
 pub mod Leaves
+pub mod Listed
 pub mod Tallied
 pub mod Under

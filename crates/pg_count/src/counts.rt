@@ -7,6 +7,7 @@ ghost use Rattle.pg_count.specs.Inside.Counting.{IsCounting, counted_more};
 
 use crate::leaf::count_new;
 use crate::least::least;
+use crate::list::WindowList;
 use crate::tallied::Tallied;
 use crate::tally::add_weight;
 use crate::walk::walk;
@@ -24,8 +25,7 @@ use std::marker::Model;
 #[derive(Drop)]
 pub struct CountTrie {
     cells: Tallied,
-    windows: Vec<Cursor>,
-    len: u8,
+    windows: WindowList,
 }
 
 impl Model for CountTrie {
@@ -36,9 +36,9 @@ impl Model for CountTrie {
     ghost use Rattle.pg_count.specs.Inside.Counting.{counting_of};
     ghost use Rattle.pg_count.specs.Inside.Leaves.{AreCounting};
 
-    ghost view = { λ t. counting_of t.cells t.windows.items t.len };
+    ghost view = { λ t. counting_of t.cells t.windows.items t.windows.len };
 
-    ghost invariant = { λ t. AreCounting t.cells t.windows.items t.len };
+    ghost invariant = { λ t. AreCounting t.cells t.windows.items t.windows.len };
 }
 
 impl CountTrie {
@@ -51,8 +51,7 @@ impl CountTrie {
         let cells = Tallied::new(alloc, signs)?;
         Ok(CountTrie {
             cells,
-            windows: Vec::new(alloc),
-            len: 1,
+            windows: WindowList::new(alloc),
         })
     }
 
@@ -64,9 +63,8 @@ impl CountTrie {
         requires { (1 ≤ len) × (len ≤ LENGTH_MAX) }
         ensures { self.new ≡ record self.old { len = len; counts = []; windows = [] } }
     {
-        self.cells.clear(len == self.len);
-        self.windows.clear();
-        self.len = len;
+        self.cells.clear(len == self.windows.window_len());
+        self.windows.begin(len);
     }
 
     /// How many signs a window has.
@@ -75,7 +73,7 @@ impl CountTrie {
         ensures kept { IsCounting self.now }
         ensures numbered { AreNumbered self.now.windows self.now.counts }
     {
-        self.len
+        self.windows.window_len()
     }
 
     /// Adds `weight` to the good or the bad sum of a window. A window that is counted already takes
@@ -111,7 +109,7 @@ impl CountTrie {
         ensures err { OnErr result (self.new ≡ self.old) }
     {
         let way = way_of(&self.cells, window);
-        match find_counted(&self.cells, self.windows.as_slice(), way, window) {
+        match find_counted(&self.cells, &self.windows, way, window) {
             Some((number, sums)) => {
                 self.cells.set_sums(number, add_weight(sums, good, weight));
                 Ok(number)
@@ -132,7 +130,7 @@ impl CountTrie {
         ensures { result ≡ counted_sums self.now.counts window.now }
     {
         let way = way_of(&self.cells, window);
-        let (_, sums) = find_counted(&self.cells, self.windows.as_slice(), way, window)?;
+        let (_, sums) = find_counted(&self.cells, &self.windows, way, window)?;
         Some(sums)
     }
 
@@ -152,7 +150,7 @@ impl CountTrie {
             × AreInOrder self.now.windows self.now.counts ns) }
     {
         if !self.cells.has_none() {
-            walk(&self.cells, 0, EDGE, self.len, out)?;
+            walk(&self.cells, 0, EDGE, self.windows.window_len(), out)?;
         }
         Ok(())
     }
@@ -167,9 +165,9 @@ impl CountTrie {
         if self.cells.has_none() {
             return None;
         }
-        let windows = self.windows.as_slice();
-        let number = least(&self.cells, windows, at, 0, EDGE, at.signs(), self.len)?;
-        at.set(self.windows[number as usize].signs());
+        let len = self.windows.window_len();
+        let number = least(&self.cells, &self.windows, at, 0, EDGE, at.signs(), len)?;
+        at.set(self.windows.get(number));
         Some(self.cells.sums(number))
     }
 }

@@ -5,12 +5,12 @@ ghost use Rattle.std.specs.Cmp.Lexicographic.{slice_cmp};
 ghost use Rattle.std.specs.Ordering.{nat_cmp};
 ghost use Rattle.pg_types.specs.Inside.Counts.{SignsWithin};
 ghost use Rattle.pg_types.specs.Inside.Numbered.{HasNumber, Windows};
-ghost use Rattle.pg_types.specs.declared.limits.TheConstants.{LENGTH_MAX};
 ghost use Rattle.pg_count.specs.Inside.Leaves.{AreLeaves, IsFree, IsWay, Keeps, Sets};
 
+use crate::list::WindowList;
 use crate::tallied::Tallied;
 use crate::way::Way;
-use pg_types::{Cursor, Sign};
+use pg_types::Sign;
 use std::alloc::AllocError;
 
 // Pushes the tally with the number down from the end of a window's way, sign by sign, until the
@@ -18,24 +18,24 @@ use std::alloc::AllocError;
 // window then. Refused: the tally may have been pushed down in part.
 fn part(
     cells: &mut Tallied,
-    windows: &[Cursor],
+    windows: &WindowList,
     number: u32,
     way: Way,
     window: &[Sign],
 ) -> Result<Way, AllocError>
-    requires leaves { AreLeaves cells.old windows.now (length window.now) }
+    requires leaves { AreLeaves cells.old windows.now.items (length window.now) }
     requires way { IsWay cells.old window.now way.at way.cell }
     requires tally { (sums : ℕ × ℕ) × (find (slice_cmp nat_cmp) (take way.at window.now)
         cells.old.values ≡ Some (Some (number, sums))) }
-    requires new { (n : ℕ) → HasNumber windows.now window.now n → ⊥ }
-    ensures leaves { AreLeaves cells.new windows.now (length window.now) }
+    requires new { (n : ℕ) → HasNumber windows.now.items window.now n → ⊥ }
+    ensures leaves { AreLeaves cells.new windows.now.items (length window.now) }
     ensures keeps { Keeps cells.old.values cells.new.values }
     ensures signs { cells.new.signs ≡ cells.old.signs }
     ensures way { IfOk result (λ end. (IsWay cells.new window.now end.at end.cell)
         × (end.at < length window.now) × (find (slice_cmp nat_cmp) (take end.at window.now)
         cells.new.values ≡ Some None)) }
 {
-    let other = windows[number as usize].signs();
+    let other = windows.get(number);
     let mut cell = way.cell;
     let mut at = way.at;
     'alike: while other[at] == window[at] {
@@ -69,15 +69,15 @@ fn add_next(cells: &mut Tallied, way: Way, window: &[Sign]) -> Result<usize, All
 // may have changed, but not what is counted.
 fn leaf(
     cells: &mut Tallied,
-    windows: &[Cursor],
+    windows: &WindowList,
     way: Way,
     window: &[Sign],
 ) -> Result<usize, AllocError>
-    requires leaves { AreLeaves cells.old windows.now (length window.now) }
+    requires leaves { AreLeaves cells.old windows.now.items (length window.now) }
     requires way { IsWay cells.old window.now way.at way.cell }
     requires signs { SignsWithin cells.old.signs window.now }
-    requires new { (n : ℕ) → HasNumber windows.now window.now n → ⊥ }
-    ensures leaves { AreLeaves cells.new windows.now (length window.now) }
+    requires new { (n : ℕ) → HasNumber windows.now.items window.now n → ⊥ }
+    ensures leaves { AreLeaves cells.new windows.now.items (length window.now) }
     ensures keeps { Keeps cells.old.values cells.new.values }
     ensures signs { cells.new.signs ≡ cells.old.signs }
     ensures free { IfOk result (λ cell. IsFree cells.new window.now cell) }
@@ -96,33 +96,32 @@ fn leaf(
 /// Refused: the cells may have changed, but not what is counted.
 pub fn count_new(
     cells: &mut Tallied,
-    windows: &mut Vec<Cursor>,
+    windows: &mut WindowList,
     way: Way,
     window: &[Sign],
     sums: (u64, u64),
 ) -> Result<u32, AllocError>
     requires leaves { AreLeaves cells.old windows.old.items (length window.now) }
     requires way { IsWay cells.old window.now way.at way.cell }
-    requires len { length window.now ≤ LENGTH_MAX }
+    requires len { length window.now ≡ windows.old.len }
     requires signs { SignsWithin cells.old.signs window.now }
     requires new { (n : ℕ) → HasNumber windows.old.items window.now n → ⊥ }
     ensures leaves { AreLeaves cells.new windows.new.items (length window.now) }
     ensures signs { cells.new.signs ≡ cells.old.signs }
     ensures number { IfOk result (λ number. number ≡ length windows.old.items) }
-    ensures windows { OnOk result (windows.new.items ≡ windows.old.items ++ window.now ∷ []) }
+    ensures windows { OnOk result
+        (windows.new ≡ record windows.old { items = windows.old.items ++ window.now ∷ [] }) }
     ensures sets { OnOk result
         (Sets cells.old.values cells.new.values (length windows.old.items, sums)) }
     ensures keeps { OnErr result (Keeps cells.old.values cells.new.values) }
-    ensures err { OnErr result (windows.new.items ≡ windows.old.items) }
+    ensures err { OnErr result (windows.new ≡ windows.old) }
 {
-    let cell = leaf(cells, windows.as_slice(), way, window)?;
-    let mut signs = Cursor::start();
-    signs.set(window);
-    windows.push(signs)?;
+    let cell = leaf(cells, windows, way, window)?;
+    windows.push(window)?;
     match cells.count(cell, sums) {
         Ok(number) => Ok(number),
         Err(_) => {
-            let _window = windows.pop();
+            windows.pop();
             Err(AllocError)
         }
     }

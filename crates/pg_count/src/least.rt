@@ -8,6 +8,7 @@ ghost use Rattle.pg_count.specs.Inside.Least.{IsNearest, IsToldBy};
 ghost use Rattle.pg_count.specs.Inside.Leaves.{AreLeaves, AreShort, IsLast};
 
 use crate::bound::{first_of, rest_of};
+use crate::list::WindowList;
 use crate::tallied::Tallied;
 use pg_types::{Cursor, Sign};
 
@@ -56,20 +57,20 @@ fn sign_from(cells: &Tallied, base: usize, first: Sign, from: Sign) -> Sign
 #[cycle(least)]
 pub fn least(
     cells: &Tallied,
-    windows: &[Cursor],
+    windows: &WindowList,
     above: &Cursor,
     base: usize,
     first: Sign,
     bound: &[Sign],
     more: u8,
 ) -> Option<u32>
-    requires leaves { (len : ℕ) × AreLeaves cells.now windows.now len }
+    requires leaves { (len : ℕ) × AreLeaves cells.now windows.now.items len }
     requires base { (p : List ℕ) × ((base_of cells.now.families p ≡ Some base)
         × IsNextSign cells.now.values p 0 first × IsToldBy above.now p bound.now) }
     requires some { 0 < more }
     ensures { (p : List ℕ) → base_of cells.now.families p ≡ Some base
         → AreShort cells.now.values (length p + more)
-        → IsNearest windows.now p above.now result }
+        → IsNearest windows.now.items p above.now result }
 {
     let mut s = sign_from(cells, base, first, first_of(bound));
     while s != 0 {
@@ -87,18 +88,18 @@ pub fn least(
 #[cycle(least)]
 fn least_at(
     cells: &Tallied,
-    windows: &[Cursor],
+    windows: &WindowList,
     above: &Cursor,
     cell: usize,
     bound: &[Sign],
     more: u8,
 ) -> Option<u32>
-    requires leaves { (len : ℕ) × AreLeaves cells.now windows.now len }
+    requires leaves { (len : ℕ) × AreLeaves cells.now windows.now.items len }
     requires cell { (q : List ℕ) × ((cell_of cells.now.families q ≡ Some cell)
         × IsToldBy above.now q bound.now) }
     ensures { (q : List ℕ) → cell_of cells.now.families q ≡ Some cell
         → AreShort cells.now.values (length q + more)
-        → IsNearest windows.now q above.now result }
+        → IsNearest windows.now.items q above.now result }
 {
     if more == 0 {
         return leaf_above(cells, windows, above, cell);
@@ -112,14 +113,14 @@ fn least_at(
 }
 
 // The same where no sign follows.
-fn leaf_above(cells: &Tallied, windows: &[Cursor], above: &Cursor, cell: usize) -> Option<u32>
-    requires leaves { (len : ℕ) × AreLeaves cells.now windows.now len }
+fn leaf_above(cells: &Tallied, windows: &WindowList, above: &Cursor, cell: usize) -> Option<u32>
+    requires leaves { (len : ℕ) × AreLeaves cells.now windows.now.items len }
     requires cell { (q : List ℕ) × (cell_of cells.now.families q ≡ Some cell) }
     ensures { (q : List ℕ) → cell_of cells.now.families q ≡ Some cell
-        → IsLast cells.now.values q → IsNearest windows.now q above.now result }
+        → IsLast cells.now.values q → IsNearest windows.now.items q above.now result }
 {
     let (number, _) = cells.tally(cell)?;
-    if above.cmp(&windows[number as usize]).is_lt() {
+    if above.signs().cmp(windows.get(number)).is_lt() {
         Some(number)
     } else {
         None

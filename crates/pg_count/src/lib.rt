@@ -6,6 +6,7 @@ mod bound;
 mod counts;
 mod leaf;
 mod least;
+mod list;
 mod tallied;
 mod tally;
 mod walk;

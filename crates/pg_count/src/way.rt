@@ -7,8 +7,9 @@ ghost use Rattle.pg_types.specs.Inside.Counts.{SignsWithin};
 ghost use Rattle.pg_types.specs.Inside.Numbered.{HasNumber};
 ghost use Rattle.pg_count.specs.Inside.Leaves.{AreLeaves, IsWay};
 
+use crate::list::WindowList;
 use crate::tallied::Tallied;
-use pg_types::{Cursor, Sign};
+use pg_types::Sign;
 
 /// How far the signs of a string lead.
 #[derive(Clone, Copy)]
@@ -41,18 +42,18 @@ pub fn way_of(cells: &Tallied, signs: &[Sign]) -> Way
 /// The number and the sums of a window at the end of its way, or `None` where it is not counted.
 pub fn find_counted(
     cells: &Tallied,
-    windows: &[Cursor],
+    windows: &WindowList,
     way: Way,
     window: &[Sign],
 ) -> Option<(u32, (u64, u64))>
-    requires leaves { AreLeaves cells.now windows.now (length window.now) }
+    requires leaves { AreLeaves cells.now windows.now.items (length window.now) }
     requires way { IsWay cells.now window.now way.at way.cell }
     ensures some { IfSome result (λ t. (find (slice_cmp nat_cmp) (take way.at window.now)
-        cells.now.values ≡ Some (Some t)) × HasNumber windows.now window.now t.0) }
-    ensures none { result ≡ None → (n : ℕ) → HasNumber windows.now window.now n → ⊥ }
+        cells.now.values ≡ Some (Some t)) × HasNumber windows.now.items window.now t.0) }
+    ensures none { result ≡ None → (n : ℕ) → HasNumber windows.now.items window.now n → ⊥ }
 {
     let (number, sums) = cells.tally(way.cell)?;
-    if way.at == window.len() || windows[number as usize].signs() == window {
+    if way.at == window.len() || windows.get(number) == window {
         Some((number, sums))
     } else {
         None

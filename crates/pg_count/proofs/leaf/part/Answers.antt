@@ -7,38 +7,38 @@ use Rattle.pg_count.proofs.leaf.part.Goals as goal
 
 pub alike-init : goal.alike-init
 alike-init c =
-    let row = c.signs-other.result.now in
-    let is : row ≡ get_or c.args.windows.now c.args.number row = c.signs-other.ensures.value ∙ c.index-windows-number.is ∙ ap (λ z. get_or c.args.windows.now c.args.number z) (sym c.signs-other.ensures.value) in
-    let begins = row_begins c.args.cells.now c.args.windows.now c.args.window.now row c.args.number c.args.way.at c.requires.tally.0 c.requires.leaves c.requires.way.within c.requires.tally.1 is in
-    let long = (c.requires.leaves.long row c.args.number begins.0).0 in
-    let other = λ (e : row ≡ c.args.window.now). c.requires.new c.args.number (subst (λ z. HasNumber c.args.windows.now z c.args.number) e begins.0) in
-    let lt = differ row c.args.window.now c.args.way.at long begins.1 other in
+    let row = c.get-other.result.now in
+    let there = c.get-other.ensures in
+    let begins = row_begins c.args.cells.now c.args.windows.now.items c.args.window.now row c.args.number c.args.way.at c.requires.tally.0 c.requires.leaves c.requires.way.within c.requires.tally.1 there in
+    let long = (c.requires.leaves.long row c.args.number there).0 in
+    let other = λ (e : row ≡ c.args.window.now). c.requires.new c.args.number (subst (λ z. HasNumber c.args.windows.now.items z c.args.number) e there) in
+    let lt = differ row c.args.window.now c.args.way.at long begins other in
     record {
       some = c.requires.way.some;
       less = omega arith;
-      same = begins.1;
+      same = begins;
       there = c.requires.way.there;
       tally = c.requires.tally;
       leaves = c.requires.leaves;
       keeps = keeps_none c.args.cells.now.values;
       signs = refl;
-      row = begins.0;
+      row = there;
     }
 
 pub bounds-other-at : goal.bounds-other-at
 bounds-other-at c =
     let i = c.alike.invariant in
-    within_other c.alike.cells c.args.windows.now c.args.window.now c.signs-other.result.now c.args.number c.alike.at i.tally.0 i.leaves i.row i.same i.less i.tally.1
+    within_other c.alike.cells c.args.windows.now.items c.args.window.now c.get-other.result.now c.args.number c.alike.at i.tally.0 i.leaves i.row i.same i.less i.tally.1
 
 pub bounds-other-at-in-alike : goal.bounds-other-at-in-alike
 bounds-other-at-in-alike c =
     let i = c.alike.invariant in
-    within_other c.alike.cells c.args.windows.now c.args.window.now c.signs-other.result.now c.args.number c.alike.at i.tally.0 i.leaves i.row i.same i.less i.tally.1
+    within_other c.alike.cells c.args.windows.now.items c.args.window.now c.get-other.result.now c.args.number c.alike.at i.tally.0 i.leaves i.row i.same i.less i.tally.1
 
 pub bounds-other-at-2 : goal.bounds-other-at-2
 bounds-other-at-2 c =
     let i = c.alike.invariant in
-    within_other c.alike.cells c.args.windows.now c.args.window.now c.signs-other.result.now c.args.number c.alike.at i.tally.0 i.leaves i.row i.same i.less i.tally.1
+    within_other c.alike.cells c.args.windows.now.items c.args.window.now c.get-other.result.now c.args.number c.alike.at i.tally.0 i.leaves i.row i.same i.less i.tally.1
 
 pub push_down-requires-clause-cell : goal.push_down-requires-clause-cell
 push_down-requires-clause-cell c =
@@ -48,21 +48,21 @@ push_down-requires-clause-cell c =
       (
         i.there,
         i.tally.1,
-        free_below c.alike.cells c.args.windows.now c.args.window.now c.signs-other.result.now c.args.number c.alike.at i.tally.0 i.leaves i.row i.same i.less i.tally.1 (get_or c.signs-other.result.now c.alike.at 0),
+        free_below c.alike.cells c.args.windows.now.items c.args.window.now c.get-other.result.now c.args.number c.alike.at i.tally.0 i.leaves i.row i.same i.less i.tally.1 (get_or c.get-other.result.now c.alike.at 0),
       ),
     )
 
 pub push_down-requires-clause-sign : goal.push_down-requires-clause-sign
 push_down-requires-clause-sign c =
     let i = c.alike.invariant in
-    sign_within c.alike.cells c.args.windows.now c.args.window.now c.signs-other.result.now c.args.number c.alike.at i.tally.0 i.leaves i.row i.same i.less i.tally.1
+    sign_within c.alike.cells c.args.windows.now.items c.args.window.now c.get-other.result.now c.args.number c.alike.at i.tally.0 i.leaves i.row i.same i.less i.tally.1
 
 pub alike-preserved : goal.alike-preserved
 alike-preserved c =
     let i = c.alike.invariant in
-    let other = c.signs-other.result.now in
+    let other = c.get-other.result.now in
     let u = c.args.window.now in
-    let ws = c.args.windows.now in
+    let ws = c.args.windows.now.items in
     let h = c.alike.cells in
     let g = c.push_down.new.self in
     let same = c.alike-test.true in
@@ -90,26 +90,26 @@ push_down-requires-2-clause-cell c =
       (
         i.there,
         i.tally.1,
-        free_below c.alike.cells c.args.windows.now c.args.window.now c.signs-other.result.now c.args.number c.alike.at i.tally.0 i.leaves i.row i.same i.less i.tally.1 (get_or c.signs-other.result.now c.alike.at 0),
+        free_below c.alike.cells c.args.windows.now.items c.args.window.now c.get-other.result.now c.args.number c.alike.at i.tally.0 i.leaves i.row i.same i.less i.tally.1 (get_or c.get-other.result.now c.alike.at 0),
       ),
     )
 
 pub push_down-requires-2-clause-sign : goal.push_down-requires-2-clause-sign
 push_down-requires-2-clause-sign c =
     let i = c.alike.invariant in
-    sign_within c.alike.cells c.args.windows.now c.args.window.now c.signs-other.result.now c.args.number c.alike.at i.tally.0 i.leaves i.row i.same i.less i.tally.1
+    sign_within c.alike.cells c.args.windows.now.items c.args.window.now c.get-other.result.now c.args.number c.alike.at i.tally.0 i.leaves i.row i.same i.less i.tally.1
 
 pub returns-clause-leaves : goal.returns-clause-leaves
 returns-clause-leaves c =
     let i = c.alike.invariant in
     let pushes = c.in_ok-push_down.ensures.held (take c.alike.at c.args.window.now) (c.args.number, i.tally.0) i.there i.tally.1 in
-    parted_leaves c.alike.cells c.args.windows.now c.args.window.now c.signs-other.result.now c.args.number c.alike.at i.tally.0 i.leaves i.row i.same i.less i.tally.1 c.push_down-2.new.self pushes
+    parted_leaves c.alike.cells c.args.windows.now.items c.args.window.now c.get-other.result.now c.args.number c.alike.at i.tally.0 i.leaves i.row i.same i.less i.tally.1 c.push_down-2.new.self pushes
 
 pub returns-clause-keeps : goal.returns-clause-keeps
 returns-clause-keeps c =
     let i = c.alike.invariant in
     let pushes = c.in_ok-push_down.ensures.held (take c.alike.at c.args.window.now) (c.args.number, i.tally.0) i.there i.tally.1 in
-    keeps_on i.keeps (parted_keeps c.alike.cells c.args.windows.now c.args.window.now c.signs-other.result.now c.args.number c.alike.at i.tally.0 i.leaves i.row i.same i.less i.tally.1 c.push_down-2.new.self pushes)
+    keeps_on i.keeps (parted_keeps c.alike.cells c.args.windows.now.items c.args.window.now c.get-other.result.now c.args.number c.alike.at i.tally.0 i.leaves i.row i.same i.less i.tally.1 c.push_down-2.new.self pushes)
 
 pub returns-clause-signs : goal.returns-clause-signs
 returns-clause-signs c =
@@ -125,8 +125,8 @@ returns-clause-way c =
         some = i.some;
         within = omega (arith, i.less);
         there = c.in_ok-push_down.ensures.there (take c.alike.at c.args.window.now) i.there;
-        ends = λ lt. parted_ends c.alike.cells c.args.windows.now c.args.window.now c.signs-other.result.now c.args.number c.alike.at i.tally.0 i.leaves i.row i.same i.less i.tally.1 c.push_down-2.new.self pushes c.alike-test.false;
+        ends = λ lt. parted_ends c.alike.cells c.args.windows.now.items c.args.window.now c.get-other.result.now c.args.number c.alike.at i.tally.0 i.leaves i.row i.same i.less i.tally.1 c.push_down-2.new.self pushes c.alike-test.false;
       },
       i.less,
-      parted_blank c.alike.cells c.args.windows.now c.args.window.now c.signs-other.result.now c.args.number c.alike.at i.tally.0 i.leaves i.row i.same i.less i.tally.1 c.push_down-2.new.self pushes,
+      parted_blank c.alike.cells c.args.windows.now.items c.args.window.now c.get-other.result.now c.args.number c.alike.at i.tally.0 i.leaves i.row i.same i.less i.tally.1 c.push_down-2.new.self pushes,
     )

@@ -13,10 +13,10 @@ invariant-alike l = record {
   same : take l.at l.other ≡ take l.at l.window;
   there : cell_of l.cells.families (take l.at l.window) ≡ Some l.cell;
   tally : (sums : ℕ × ℕ) × (find order (take l.at l.window) l.cells.values ≡ Some (Some (l.number, sums)));
-  leaves : AreLeaves l.cells l.windows (length l.window);
+  leaves : AreLeaves l.cells l.windows.items (length l.window);
   keeps : Keeps l.initial.cells.values l.cells.values;
   signs : l.cells.signs ≡ l.initial.cells.signs;
-  row : HasNumber l.windows l.other l.number;
+  row : HasNumber l.windows.items l.other l.number;
 }
 
 abbrev pub decreases-alike : goal.decreases-alike

@@ -17,7 +17,7 @@ least-loop-s-init t c =
       small = c.sign_from-s.type_inv;
       from = λ up. (let f = (next c.requires.base.0 c.requires.base.1.0).found up in let low = f.0 in omega arith);
       there = λ p at up. ((next p at).found up).1;
-      none = λ p at short. none_from c.args.cells.now c.args.windows.now c.requires.leaves.0 are p c.args.base at c.args.above.now c.args.bound.now (told p at) c.sign_from-s.result (next p at);
+      none = λ p at short. none_from c.args.cells.now c.args.windows.now.items c.requires.leaves.0 are p c.args.base at c.args.above.now c.args.bound.now (told p at) c.sign_from-s.result (next p at);
     }
 
 pub least-find-requires : goal.least-find-requires
@@ -59,7 +59,7 @@ least-next_sign-s-requires t c = (c.requires.base.0 ++ c.loop-s.s ∷ [], sym (c
 pub least-returns-in-Some : goal.least-returns-in-Some
 least-returns-in-Some t c p at short =
     let found = c.in-Some.ensures (p ++ c.loop-s.s ∷ []) (sym (c.in_ok-cell.ensures.cell p at)) (λ q o there. (let l = short q o there in let more = length-append p (c.loop-s.s ∷ []) in let some = c.requires.some in omega arith)) in
-    up_found c.args.cells.now c.args.windows.now c.requires.leaves.0 c.requires.leaves.1 p c.args.base at c.args.above.now c.loop-s.s c.in-Some.number (λ x lt. c.loop-s.invariant.none p at short x (inr lt)) found
+    up_found c.args.cells.now c.args.windows.now.items c.requires.leaves.0 c.requires.leaves.1 p c.args.base at c.args.above.now c.loop-s.s c.in-Some.number (λ x lt. c.loop-s.invariant.none p at short x (inr lt)) found
 
 pub least-loop-s-preserved : goal.least-loop-s-preserved
 least-loop-s-preserved t c =
@@ -70,13 +70,13 @@ least-loop-s-preserved t c =
       small = c.next_sign-s.type_inv;
       from = λ up. (let f = (next c.requires.base.0 c.requires.base.1.0).found up in let low = f.0 in let from = c.loop-s.invariant.from (omega (arith, c.loop-s-test.true)) in omega arith);
       there = λ p at up. ((next p at).found up).1;
-      none = λ p at short. none_next c.args.cells.now c.args.windows.now c.requires.leaves.0 c.requires.leaves.1 p c.args.base at c.args.above.now c.loop-s.s c.next_sign-s.result (c.loop-s.invariant.none p at short) (here p at short) (next p at);
+      none = λ p at short. none_next c.args.cells.now c.args.windows.now.items c.requires.leaves.0 c.requires.leaves.1 p c.args.base at c.args.above.now c.loop-s.s c.next_sign-s.result (c.loop-s.invariant.none p at short) (here p at short) (next p at);
     }
 
 pub least-returns : goal.least-returns
 least-returns t c p at short =
     let end : c.loop-s.s ≡ 0 = omega (arith, c.loop-s-test.false) in
-    up_none c.args.cells.now c.args.windows.now c.requires.leaves.0 c.requires.leaves.1 p c.args.base at c.args.above.now (λ x. c.loop-s.invariant.none p at short x (inl end))
+    up_none c.args.cells.now c.args.windows.now.items c.requires.leaves.0 c.requires.leaves.1 p c.args.base at c.args.above.now (λ x. c.loop-s.invariant.none p at short x (inl end))
 
 pub least_at-returns-then-more-eq0 : goal.least_at-returns-then-more-eq0
 least_at-returns-then-more-eq0 t c q at short = c.leaf_above.ensures q at (short_last c.args.cells.now q (λ p o there. (let l = short p o there in omega arith)))

@@ -17,7 +17,7 @@ invariant-least-loop-s l = record {
   small : l.s < 65536;
   from : 0 < l.s → first_sign l.bound ≤ l.s;
   there : (p : List ℕ) → base_of l.cells.families p ≡ Some l.base → 0 < l.s → goes_on l.cells.values p l.s ≡ true;
-  none : (p : List ℕ) → base_of l.cells.families p ≡ Some l.base → AreShort l.cells.values (length p + l.more) → (x : ℕ) → (l.s ≡ 0) ⊎ (x < l.s) → NoneUnder l.windows (p ++ x ∷ []) l.above;
+  none : (p : List ℕ) → base_of l.cells.families p ≡ Some l.base → AreShort l.cells.values (length p + l.more) → (x : ℕ) → (l.s ≡ 0) ⊎ (x < l.s) → NoneUnder l.windows.items (p ++ x ∷ []) l.above;
 }
 
 abbrev pub decreases-least-loop-s : goal.decreases-least-loop-s

@@ -1,12 +1,12 @@
-use Rattle.std.proofs.Common.{◌≡◌, ℕ, List, [], ◌∷◌, map, refl, ap, sym, subst, ◌∙◌, arith}
-use Rattle.std.proofs.lemmas.Option.{get_or_from_slice_get, slice_get_within}
+use Rattle.std.proofs.Common.{◌≡◌, ℕ, List, [], ◌∷◌, map, Some, refl, ap, sym, ◌∙◌, arith}
+use Rattle.std.proofs.lemmas.Option.{slice_get_within}
 use Rattle.pg_types.specs.Inside.Counts.{above}
 use Rattle.pg_types.proofs.StringEntries.{order}
 use Rattle.pg_cells.proofs.LinkLaws.{root_first}
 use Rattle.pg_count.specs.Inside.Counting.{Counting, Tally, sums_seen, window_at}
-use Rattle.pg_count.specs.Inside.Least.{LeastUnder, NoneUnder}
 use Rattle.pg_count.proofs.Counted.{none_seen}
 use Rattle.pg_count.proofs.Nexting.{none_above, least_is}
+use Rattle.pg_count.proofs.Parting.{signs_told}
 use Rattle.pg_count.proofs.counts.CountTrie.next.Goals as goal
 
 pub least-requires-clause-base : goal.least-requires-clause-base
@@ -23,29 +23,36 @@ returns-then-has_none c =
 pub returns-in_err-number : goal.returns-in_err-number
 returns-in_err-number c =
     let leaves = c.self.invariant.leaves in
-    let nearest = c.in_err-number.ensures [] leaves.held.root (λ q o at. (let l = leaves.short q o at in omega arith)) in
-    let none = subst (λ ws. NoneUnder ws [] c.args.at.now) c.as_slice-windows.ensures.value nearest in
+    let nearest = c.in_err-number.ensures [] leaves.held.root (λ q o at. (let l = leaves.short q o at in omega (arith, c.window_len-len.ensures))) in
     rw c.from_residual.ensures (
-      ap (λ (d : Counting). above c.args.at.now d.counts) (sym c.self.view_is) ∙ none_above c.self.inside.cells c.self.inside.windows.items c.self.inside.len leaves c.args.at.now none,
+      ap (λ (d : Counting). above c.args.at.now d.counts) (sym c.self.view_is) ∙ none_above c.self.inside.cells c.self.inside.windows.items c.self.inside.windows.len leaves c.args.at.now nearest,
       refl,
     )
 
-pub index-requires : goal.index-requires
-index-requires c =
+pub get-requires : goal.get-requires
+get-requires c =
     let leaves = c.self.invariant.leaves in
-    let l = c.in_ok-number.ensures [] leaves.held.root (λ q o at. (let l = leaves.short q o at in omega arith)) in
-    let lt = slice_get_within c.as_slice-windows.result.now c.in_ok-number.number l.rest l.there in
-    let size = c.as_slice-windows.ensures.len in
-    omega arith
+    let l = c.in_ok-number.ensures [] leaves.held.root (λ q o at. (let l = leaves.short q o at in omega (arith, c.window_len-len.ensures))) in
+    slice_get_within c.self.inside.windows.items c.in_ok-number.number l.rest l.there
+
+pub set-requires-clause-len : goal.set-requires-clause-len
+set-requires-clause-len c =
+    let long = (c.self.invariant.leaves.long c.get.result.now c.in_ok-number.number c.get.ensures).0 in
+    omega (arith, c.self.invariant.most)
+
+pub set-requires-clause-signs : goal.set-requires-clause-signs
+set-requires-clause-signs c =
+    signs_told c.self.inside.cells.signs c.get.result.now (c.self.invariant.leaves.long c.get.result.now c.in_ok-number.number c.get.ensures).1
 
 pub returns : goal.returns
 returns c =
     let leaves = c.self.invariant.leaves in
     let ws = c.self.inside.windows.items in
-    let nearest = c.in_ok-number.ensures [] leaves.held.root (λ q o at. (let l = leaves.short q o at in omega arith)) in
-    let l = subst (λ ws. LeastUnder ws [] c.args.at.now c.in_ok-number.number) c.as_slice-windows.ensures.value nearest in
-    let same : c.set.new.self ≡ l.rest = c.set.ensures ∙ c.signs-2.ensures.value ∙ c.index.ensures ∙ get_or_from_slice_get ws c.in_ok-number.number l.rest c.index.result.now l.there in
+    let l = c.in_ok-number.ensures [] leaves.held.root (λ q o at. (let l = leaves.short q o at in omega (arith, c.window_len-len.ensures))) in
+    let both : Some c.get.result.now ≡ Some l.rest = sym c.get.ensures ∙ l.there in
+    let row : c.get.result.now ≡ l.rest = cc in
+    let same : c.set.new.self ≡ l.rest = c.set.ensures ∙ row in
     ap (λ (d : Counting). above c.args.at.now d.counts) (sym c.self.view_is)
-    ∙ least_is c.self.inside.cells ws c.self.inside.len leaves c.args.at.now c.in_ok-number.number l c.sums.result c.sums.ensures
+    ∙ least_is c.self.inside.cells ws c.self.inside.windows.len leaves c.args.at.now c.in_ok-number.number l c.sums.result c.sums.ensures
     ∙ ap (λ (d : Counting). (l.rest, c.sums.result) ∷ above l.rest d.counts) c.self.view_is
     ∙ ap (λ (u : List ℕ). (u, c.sums.result) ∷ above u c.args.self.now.counts) (sym same)

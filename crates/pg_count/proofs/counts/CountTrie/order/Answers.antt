@@ -14,9 +14,9 @@ walk-requires-clause-base c = ([], (c.self.invariant.leaves.held.root, root_firs
 pub returns-in_ok-walk : goal.returns-in_ok-walk
 returns-in_ok-walk c = (
   numbers_under [] c.self.inside.cells.values,
-  c.in_ok-walk.ensures [] c.self.invariant.leaves.held.root (λ q o at. (let l = c.self.invariant.leaves.short q o at in omega arith)),
+  c.in_ok-walk.ensures [] c.self.invariant.leaves.held.root (λ q o at. (let l = c.self.invariant.leaves.short q o at in omega (arith, c.window_len.ensures))),
   subst (λ (d : Counting). AreInOrder d.windows d.counts (numbers_under [] c.self.inside.cells.values)) c.self.view_is
-      (ordered_numbers c.self.inside.cells c.self.inside.windows.items c.self.inside.len c.self.invariant.leaves),
+      (ordered_numbers c.self.inside.cells c.self.inside.windows.items c.self.inside.windows.len c.self.invariant.leaves),
 )
 
 pub returns-else-not-has_none : goal.returns-else-not-has_none

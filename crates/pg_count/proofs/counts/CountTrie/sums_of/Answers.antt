@@ -18,5 +18,5 @@ returns c u at =
     let here = subst (λ (d : Counting). HasNumber d.windows u c.args.number) (sym c.self.view_is) at in
     let s = c.self.invariant.leaves.stands u c.args.number here in
     ap (λ (d : Counting). counted_sums d.counts u) (sym c.self.view_is)
-    ∙ counts_there c.self.inside.cells c.self.inside.windows.items c.self.inside.len c.self.invariant.leaves u (c.args.number, s.1) (s.0, s.2) here
+    ∙ counts_there c.self.inside.cells c.self.inside.windows.items c.self.inside.windows.len c.self.invariant.leaves u (c.args.number, s.1) (s.0, s.2) here
     ∙ ap Some (sym (c.sums.ensures s.0 s.1 s.2))

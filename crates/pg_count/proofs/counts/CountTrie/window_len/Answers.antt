@@ -7,9 +7,9 @@ use Rattle.pg_count.proofs.counts.CountTrie.window_len.Goals as goal
 pub returns-clause-kept : goal.returns-clause-kept
 returns-clause-kept c =
     let kept = c.self.invariant in
-    subst IsCounting c.self.view_is (is_counting c.self.inside.cells c.self.inside.windows.items c.self.inside.len kept.leaves kept.some kept.most)
+    subst IsCounting c.self.view_is (is_counting c.self.inside.cells c.self.inside.windows.items c.self.inside.windows.len kept.leaves kept.some kept.most)
 
 pub returns-clause-numbered : goal.returns-clause-numbered
 returns-clause-numbered c =
     let kept = c.self.invariant in
-    subst (λ (d : Counting). AreNumbered d.windows d.counts) c.self.view_is (are_numbered c.self.inside.cells c.self.inside.windows.items c.self.inside.len kept.leaves)
+    subst (λ (d : Counting). AreNumbered d.windows d.counts) c.self.view_is (are_numbered c.self.inside.cells c.self.inside.windows.items c.self.inside.windows.len kept.leaves)

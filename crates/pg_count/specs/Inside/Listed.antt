@@ -1,0 +1,29 @@
+-- The windows of a pass by number, in one row of signs.
+use Rattle.std.specs.Prelude.{◌≡◌, ℕ, zero, suc, ◌≤◌, List, [], ◌∷◌, length, take, drop, All}
+use Rattle.std.specs.List.{concat}
+use Rattle.pg_types.specs.Inside.Numbered.{Windows}
+
+-- how many signs a window has, and the windows by number
+pub record Listed : Type 0 where
+  pub len : ℕ
+  pub items : Windows
+
+-- the parts of a row, each of so many signs, but no more than k of them
+abbrev pub first_parts : ℕ → ℕ → List ℕ → Windows
+first_parts len zero row = []
+first_parts len (suc k) [] = []
+first_parts len (suc k) (s ∷ row) = take len (s ∷ row) ∷ first_parts len k (drop len (s ∷ row))
+
+-- all of them: there are no more than it has signs
+unfoldable pub parts : ℕ → List ℕ → Windows
+parts len row = first_parts len (length row) row
+
+-- the windows that stand in a row
+abbrev pub listed_in : ℕ → List ℕ → Listed
+listed_in len row = record { len = len; items = parts len row }
+
+-- what is always true of the row
+pub record IsRow (len : ℕ) (row : List ℕ) : Type 0 where
+  pub some : 1 ≤ len
+  pub whole : concat (parts len row) ≡ row
+  pub long : All (λ u. length u ≡ len) (parts len row)
