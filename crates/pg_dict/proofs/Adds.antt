@@ -1,6 +1,6 @@
 -- A word more in a store.
 use Rattle.std.proofs.Common.{◌≡◌, ℕ, ◌+◌, ◌-◌, ◌≤◌, true, nat_le, List, [], ◌∷◌, ◌++◌, length, take, drop, map, slice_range, refl, sym, ◌∙◌, ap, subst, arith, length-append, length-drop}
-use Rattle.std.specs.List.{list_all, All}
+use Rattle.std.specs.List.{flat_map, list_all, All}
 use Rattle.std.proofs.lemmas.List.Elements.{All-push}
 use Rattle.std.proofs.lemmas.List.{take-append-le, drop-append-le, drop_at, take_all, length-map, map-append}
 use Rattle.std.proofs.lemmas.List.Folds.{list_all-append}
@@ -13,7 +13,7 @@ use Rattle.pg_dict.specs.declared.store.Stored.{Stored}
 use Rattle.pg_dict.specs.Inside.PositionedSigns.{PositionedSign, Columns, with_signs}
 use Rattle.pg_dict.specs.Word.{Word}
 use Rattle.pg_dict.specs.Inside.SoundWords.{word_with, IsWord}
-use Rattle.pg_dict.specs.Inside.Store.{columns_of, word_at, stored_words, all_signs, lies_within, IsSound}
+use Rattle.pg_dict.specs.Inside.Store.{columns_of, word_at, stored_words, lies_within, IsSound}
 
 -- a part of a list stays when the list grows
 pub range_kept : {X : Type 0} (xs ys : List X) (a b : ℕ) → a ≤ b → b ≤ length xs → slice_range (xs ++ ys) a b ≡ slice_range xs a b
@@ -93,6 +93,13 @@ lies_within_more n m more w within =
     let inside : w.end ≤ n = leb-true _ _ p.1 in
     and_from (nat_le w.start w.end) (nat_le w.end m) p.0 (le-leb w.end m (omega arith))
 
+-- a column that is the words joined is so with a word more
+column_joined : (column : Word → List ℕ) (words more : List Word) (w : Word) (old new : List ℕ) → more ≡ words ++ w ∷ [] → new ≡ old ++ column w → old ≡ flat_map column words → new ≡ flat_map column more
+column_joined column words more w old new added grown joined =
+    grown
+    ∙ ap (λ (xs : List ℕ). xs ++ column w) joined
+    ∙ sym (ap (flat_map column) added ∙ flat_map-append column words (w ∷ []) ∙ ap (λ (xs : List ℕ). flat_map column words ++ xs) (append-nil (column w)))
+
 -- a store stays sound with a word more
 pub adds_sound : (s u : Store) (positioned : List PositionedSign) (start end weight : ℕ) → IsSound s → columns_of u ≡ with_signs (columns_of s) positioned → u.words.items ≡ s.words.items ++ record { start = start; end = end; weight = weight } ∷ [] → start ≡ length s.signs.items → end ≡ length u.signs.items → IsWord (word_with weight positioned) → IsSound u
 adds_sound s u positioned start end weight sound grown added from to good =
@@ -105,13 +112,12 @@ adds_sound s u positioned start end weight sound grown added from to good =
     let words : stored_words u ≡ stored_words s ++ word_with weight positioned ∷ [] = adds_words s u positioned start end weight sound grown added from to in
     let kept : list_all (lies_within n) s.words.items ≡ true = all_weaker (lies_within (length s.signs.items)) (lies_within n) s.words.items (lies_within_more (length s.signs.items) n (omega arith)) sound.within in
     let new : lies_within n w ≡ true = and_from (nat_le start end) (nat_le end n) (le-leb start end (omega arith)) (le-leb end n (omega arith)) in
-    let joined : u.signs.items ≡ all_signs (stored_words s) ++ map (λ (x : PositionedSign). x.sign) positioned = ap (λ (c : Columns). c.signs) grown ∙ ap (λ (xs : List ℕ). xs ++ map (λ (x : PositionedSign). x.sign) positioned) sound.joined in
-    let parts : all_signs (stored_words u) ≡ all_signs (stored_words s) ++ map (λ (x : PositionedSign). x.sign) positioned = ap all_signs words ∙ flat_map-append (λ (x : Word). x.signs) (stored_words s) (word_with weight positioned ∷ []) ∙ ap (λ (xs : List ℕ). all_signs (stored_words s) ++ xs) (append-nil (map (λ (x : PositionedSign). x.sign) positioned)) in
     record {
       hyphens_len = omega (arith, hyphens, length-append s.hyphens.items (map (λ (x : PositionedSign). x.hyphen) positioned), length-map positioned (λ (x : PositionedSign). x.hyphen), sound.hyphens_len);
       weights_len = omega (arith, weights, length-append s.weights.items (map (λ (x : PositionedSign). x.weight) positioned), length-map positioned (λ (x : PositionedSign). x.weight), sound.weights_len);
       cares_len = omega (arith, cares, length-append s.cares.items (map (λ (x : PositionedSign). x.care) positioned), length-map positioned (λ (x : PositionedSign). x.care), sound.cares_len);
       within = ap (list_all (lies_within n)) added ∙ list_all-append (lies_within n) s.words.items (w ∷ []) ∙ and_from _ _ kept (and_from _ _ new refl);
-      joined = joined ∙ sym parts;
+      signs_joined = column_joined (λ (x : Word). x.signs) (stored_words s) (stored_words u) (word_with weight positioned) s.signs.items u.signs.items words (ap (λ (c : Columns). c.signs) grown) sound.signs_joined;
+      weights_joined = column_joined (λ (x : Word). x.weights) (stored_words s) (stored_words u) (word_with weight positioned) s.weights.items u.weights.items words (ap (λ (c : Columns). c.weights) grown) sound.weights_joined;
       words = subst (All IsWord) (sym words) (All-push IsWord (stored_words s) (word_with weight positioned) sound.words good);
     }

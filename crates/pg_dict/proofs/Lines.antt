@@ -17,7 +17,7 @@ use Rattle.pg_types.specs.Lines.{lines}
 use Rattle.pg_dict.specs.declared.store.Store.{Store}
 use Rattle.pg_dict.specs.declared.store.Stored.{Stored}
 use Rattle.pg_dict.specs.Inside.PositionedSigns.{Columns, no_columns}
-use Rattle.pg_dict.specs.Inside.Store.{columns_of, word_at, stored_words, all_signs, lies_within, is_sign_up_to, IsSound, IsFit}
+use Rattle.pg_dict.specs.Inside.Store.{columns_of, word_at, stored_words, all_signs, all_weights, lies_within, is_sign_up_to, IsSound, IsFit}
 use Rattle.pg_dict.specs.Word.{Word}
 use Rattle.pg_dict.specs.Inside.SoundWords.{is_weight, IsWord}
 use Rattle.pg_dict.specs.Words.{LineWord, line_reading, on_line, words_from, words}
@@ -78,7 +78,8 @@ starts_sound s columns none = record {
   weights_len = ap (λ (c : Columns). length c.weights) columns ∙ sym (ap (λ (c : Columns). length c.signs) columns);
   cares_len = ap (λ (c : Columns). length c.cares) columns ∙ sym (ap (λ (c : Columns). length c.signs) columns);
   within = ap (list_all (lies_within (length s.signs.items))) none;
-  joined = ap (λ (c : Columns). c.signs) columns ∙ sym (ap (λ (words : List Stored). all_signs (map (word_at (columns_of s)) words)) none);
+  signs_joined = ap (λ (c : Columns). c.signs) columns ∙ sym (ap (λ (words : List Stored). all_signs (map (word_at (columns_of s)) words)) none);
+  weights_joined = ap (λ (c : Columns). c.weights) columns ∙ sym (ap (λ (words : List Stored). all_weights (map (word_at (columns_of s)) words)) none);
   words = subst (λ (words : List Stored). All IsWord (map (word_at (columns_of s)) words)) (sym none) (All-nil IsWord);
 }
 

@@ -123,7 +123,7 @@ signs_at_most n ws pass k d within i e inside =
 pub few_letters : (s : Store) (row : List Site) → IsDictionary s row → sum_by letter_count (stored_words s) ≤ FILE_MAX
 few_letters s row is =
     let sum : sum_by letter_count (stored_words s) + 2 * length (stored_words s) ≡ length (all_signs (stored_words s)) = letters_sum (stored_words s) is.sound.words in
-    let signs : length s.signs.items ≡ length (all_signs (stored_words s)) = ap (λ (xs : List ℕ). length xs) is.sound.joined in
+    let signs : length s.signs.items ≡ length (all_signs (stored_words s)) = ap (λ (xs : List ℕ). length xs) is.sound.signs_joined in
     let words : length (stored_words s) ≡ length s.words.items = length-map s.words.items (word_at (columns_of s)) in
     omega (arith, is.few)
 

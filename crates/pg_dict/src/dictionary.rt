@@ -5,7 +5,7 @@ ghost use Rattle.pg_translate.specs.Alphabets as alphabet;
 ghost use Rattle.pg_dict.specs.Inside.SoundWords.{letter_count, IsWord, SignsAtMost};
 ghost use Rattle.pg_dict.specs.Words.{words};
 ghost use Rattle.pg_dict.specs.Inside.Sites.{all_sites};
-ghost use Rattle.pg_dict.specs.Inside.Store.{all_signs, stored_words, IsSound};
+ghost use Rattle.pg_dict.specs.Inside.Store.{all_signs, all_weights, stored_words, IsSound};
 ghost use Rattle.pg_dict.specs.Inside.Lent.{lent_word};
 ghost use Rattle.pg_dict.specs.Parts.{is_in_part, part_of};
 
@@ -15,7 +15,7 @@ use crate::store::Store;
 use crate::word::WordRef;
 use pg_translate::Table;
 use pg_translate::laws::keeps_rules;
-use pg_types::{FILE_MAX, Kind, ReadingError, Refusal, Sign, next_line};
+use pg_types::{FILE_MAX, Kind, ReadingError, Refusal, Sign, Weight, next_line};
 use std::alloc::{AllocError, Global};
 use std::marker::Model;
 
@@ -101,6 +101,14 @@ impl Dictionary {
         ensures { result.now ≡ all_signs self.now }
     {
         self.store.signs.as_slice()
+    }
+
+    /// The weight of the position before each sign of all words, in the order of `all_signs`: one
+    /// slice of the store.
+    pub fn all_weights(&self) -> &[Weight]
+        ensures { result.now ≡ all_weights self.now }
+    {
+        self.store.weights.as_slice()
     }
 
     /// What stands at each sign of all words, in the order of `all_signs`. It takes no memory.

@@ -9,15 +9,12 @@ ghost use Rattle.pg_dict.specs.Inside.Store.{IsSound, stored_words};
 
 use crate::store::Store;
 use crate::word::WordRef;
-use pg_types::Weight;
 use std::alloc::{AllocError, Global};
 
-/// What stands at a sign of a word: the weight and hyphen of the position before it, and where in
-/// its word it is.
+/// What stands at a sign of a word: where in its word it is, and whether the position before it has
+/// a hyphen.
 #[derive(Clone, Copy)]
 pub struct Site {
-    /// The weight of the position before the sign.
-    pub weight: Weight,
     /// How many signs of its word stand before it.
     pub before: u8,
     /// Twice how many signs of its word there are from it on, and one more where the position
@@ -53,7 +50,6 @@ fn push_sites(sites: &mut Vec<Site>, w: &WordRef<'_>) -> Result<(), AllocError>
     'positions: for p in 0..size {
         let hyphen = u8::from(w.hyphens[p]);
         sites.push(Site {
-            weight: w.weights[p],
             before: p as u8,
             left: 2 * (size - p) as u8 + hyphen,
         })?;

@@ -1,15 +1,18 @@
--- Windows in the row of the signs of all words, and the row of their sites.
+-- Windows in the row of the signs of all words, and the rows of their sites and weights.
 use Rattle.std.proofs.Common.{◌≡◌, ℕ, zero, suc, ◌+◌, ◌-◌, ◌≤◌, ◌<◌, nat_le, Bool, true, false, cond, ◌&&◌, List, [], ◌∷◌, ◌++◌, length, take, drop, get_or, slice_get, Option, Some, None, refl, sym, ap, subst, ◌∙◌, arith, length-append, length-drop}
-use Rattle.std.specs.List.{range_with_len}
+use Rattle.std.specs.List.{All, flat_map, range_with_len}
 use Rattle.std.specs.Option.{option_map, option_map_or}
 use Rattle.std.proofs.lemmas.Bool.{and_parts, leb-true}
 use Rattle.std.proofs.lemmas.List.{drop-append-le, drop-drop, drop_at, length-map, take-append-le}
+use Rattle.std.proofs.lemmas.List.Elements.{All-head, All-tail}
 use Rattle.std.proofs.lemmas.List.FromFn.{length-range_with_len}
-use Rattle.std.proofs.lemmas.Option.{get_or_from_slice_get, slice_get_within, slice_get-map}
+use Rattle.std.proofs.lemmas.Option.{get_or_from_slice_get, slice_get_within, slice_get-get_or, slice_get-map}
 use Rattle.pg_types.specs.Inside.Numbered.{HasNumber, Windows}
 use Rattle.pg_dict.specs.declared.sites.Site.{Site}
 use Rattle.pg_dict.specs.Inside.Sites.{all_sites, site_of, sites_in}
-use Rattle.pg_dict.specs.Inside.Store.{all_signs}
+use Rattle.pg_dict.proofs.Told.{word_in}
+use Rattle.pg_dict.specs.Inside.SoundWords.{IsWord}
+use Rattle.pg_dict.specs.Inside.Store.{all_signs, all_weights}
 use Rattle.pg_dict.specs.Word.{Word}
 use Rattle.pg_select.specs.declared.pass.Pass.{Pass}
 use Rattle.pg_select.specs.Inside.LawsClosedDots.{is_good}
@@ -76,26 +79,37 @@ site_in w p low =
     slice_get-map (site_of w) (range_with_len 0 (length w.signs)) p
     ∙ ap (option_map (site_of w)) (range_get 0 (length w.signs) p low ∙ ap (λ (n : ℕ). Some n) at)
 
--- there is a site for each sign of all words
-pub sites_count : (words : List Word) → length (all_sites words) ≡ sign_count words
-sites_count [] = refl
-sites_count (w ∷ words) = omega (arith, length-append (sites_in w) (all_sites words), sites_len w, length-append w.signs (all_signs words), sites_count words)
+-- rows of the words, joined: with one element for each sign of a word, they have one for each sign
+-- of all words
+module _ {X : Type 0} (row : Word → List X) where
+  pub row_count : (words : List Word) → All (λ w. length (row w) ≡ length w.signs) words → length (flat_map row words) ≡ sign_count words
+  row_count [] each = refl
+  row_count (w ∷ words) each =
+      let here : length (row w) ≡ length w.signs = All-head (λ w. length (row w) ≡ length w.signs) w words each in
+      let rest = row_count words (All-tail (λ w. length (row w) ≡ length w.signs) w words each) in
+      omega (arith, length-append (row w) (flat_map row words), length-append w.signs (all_signs words))
 
--- and it tells of the sign's place in its word
-pub site_there : (words : List Word) (n p : ℕ) (w : Word) → slice_get words n ≡ Some w → p < length w.signs → slice_get (all_sites words) (start_of words n + p) ≡ Some (site_of w p)
-site_there [] n p w at low = absurd (let no : None ≡ Some w = at in cc)
-site_there (v ∷ words) zero p w at low =
-    let same : v ≡ w = (let both : Some v ≡ Some w = at in cc) in
-    let size : length v.signs ≡ length w.signs = ap (λ (u : Word). length u.signs) same in
-    let sign : zero + p ≡ p = omega arith in
-    ap (slice_get (sites_in v ++ all_sites words)) sign
-    ∙ get_left (sites_in v) (all_sites words) p (site_of v p) (site_in v p (omega arith))
-    ∙ ap (λ (u : Word). Some (site_of u p)) same
-site_there (v ∷ words) (suc n) p w at low =
-    let sign : length v.signs + start_of words n + p ≡ length (sites_in v) + (start_of words n + p) = omega (arith, sites_len v) in
-    ap (slice_get (sites_in v ++ all_sites words)) sign
-    ∙ get_right (sites_in v) (all_sites words) (start_of words n + p)
-    ∙ site_there words n p w at low
+  -- and that of a sign of a word stands at that sign
+  pub row_there : (words : List Word) → All (λ w. length (row w) ≡ length w.signs) words → (n p : ℕ) (w : Word) (x : X) → slice_get words n ≡ Some w → slice_get (row w) p ≡ Some x → slice_get (flat_map row words) (start_of words n + p) ≡ Some x
+  row_there [] each n p w x at is = absurd (let no : None ≡ Some w = at in cc)
+  row_there (v ∷ words) each zero p w x at is =
+      let same : w ≡ v = (let both : Some v ≡ Some w = at in cc) in
+      let sign : zero + p ≡ p = omega arith in
+      ap (slice_get (row v ++ flat_map row words)) sign
+      ∙ get_left (row v) (flat_map row words) p x (subst (λ (u : Word). slice_get (row u) p ≡ Some x) same is)
+  row_there (v ∷ words) each (suc n) p w x at is =
+      let here : length (row v) ≡ length v.signs = All-head (λ w. length (row w) ≡ length w.signs) v words each in
+      let sign : length v.signs + start_of words n + p ≡ length (row v) + (start_of words n + p) = omega arith in
+      ap (slice_get (row v ++ flat_map row words)) sign
+      ∙ get_right (row v) (flat_map row words) (start_of words n + p)
+      ∙ row_there words (All-tail (λ w. length (row w) ≡ length w.signs) v words each) n p w x at is
+
+-- there is a site for each sign of all words, and a weight
+pub sites_count : (words : List Word) → length (all_sites words) ≡ sign_count words
+sites_count words = row_count sites_in words (λ k d within. sites_len (get_or words k d))
+
+pub weights_count : (words : List Word) → All IsWord words → length (all_weights words) ≡ sign_count words
+weights_count words each = row_count (λ w. w.weights) words (λ k d within. (each k d within).weights_len)
 
 -- a sign of words, and its site
 pub record IsSiteOf (words : List Word) (sign : ℕ) (site : Site) : Type 0 where
@@ -109,8 +123,15 @@ site_at words sites sign d are low =
       of = of;
       is =
           get_or_from_slice_get sites sign (site_of of.word of.at) d
-          (ap (λ (xs : List Site). slice_get xs sign) are ∙ ap (slice_get (all_sites words)) (sym of.is) ∙ site_there words of.number of.at of.word of.there of.within);
+          (ap (λ (xs : List Site). slice_get xs sign) are ∙ ap (slice_get (all_sites words)) (sym of.is) ∙ row_there sites_in words (λ k d within. sites_len (get_or words k d)) of.number of.at of.word _ of.there (site_in of.word of.at of.within));
     }
+
+-- the weight at a sign is that of its position
+pub weight_at : (words : List Word) (weights : List ℕ) (sign d : ℕ) (of : IsSignOf words sign) → weights ≡ all_weights words → All IsWord words → get_or weights sign d ≡ position_weight of.word of.at
+weight_at words weights sign d of are each =
+    let word = word_in words of.number of.word each of.there in
+    get_or_from_slice_get weights sign (position_weight of.word of.at) d
+    (ap (λ (xs : List ℕ). slice_get xs sign) are ∙ ap (slice_get (all_weights words)) (sym of.is) ∙ row_there (λ w. w.weights) words (λ k d within. (each k d within).weights_len) of.number of.at of.word _ of.there (slice_get-get_or of.word.weights of.at 0 (omega (arith, of.within, word.weights_len))))
 
 -- what a pass counts at a position of a word where its window fits
 module _ (m : Meaning) (level len dot : ℕ) (words : List Word) (n p : ℕ) (w : Word) (at : slice_get words n ≡ Some w) where

@@ -63,7 +63,8 @@ fn count_sign<E: Engine>(
     let first = sign - usize::from(pass.dot);
     let window = &signs[first..first + usize::from(pass.len)];
     let good = is_good(pass.level, site.has_hyphen());
-    let number = engine.count_numbered(window, good, site.weight)?;
+    let weights = dictionary.all_weights();
+    let number = engine.count_numbered(window, good, weights[sign])?;
     engine.kept();
     note_place(places, number, first as u32)?;
     Ok(number)

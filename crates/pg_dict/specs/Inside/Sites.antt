@@ -1,5 +1,5 @@
 -- What stands at the signs of words, one sign after the other.
-use Rattle.std.specs.Prelude.{ℕ, ◌+◌, ◌-◌, ◌*◌, if◌then◌else◌, false, List, map, length, slice_index, slice_index_or}
+use Rattle.std.specs.Prelude.{ℕ, ◌+◌, ◌-◌, ◌*◌, if◌then◌else◌, false, List, map, length, slice_index_or}
 use Rattle.std.specs.List.{flat_map, range_with_len}
 use Rattle.pg_dict.specs.Word.{Word}
 use Rattle.pg_dict.specs.declared.sites.Site.{Site}
@@ -7,7 +7,6 @@ use Rattle.pg_dict.specs.declared.sites.Site.{Site}
 -- what stands at a sign of a word
 abbrev pub site_of : Word → ℕ → Site
 site_of w p = record {
-  weight = slice_index w.weights p;
   before = p;
   left = 2 * (length w.signs - p) + (if slice_index_or w.hyphens p false then 1 else 0);
 }

@@ -37,17 +37,22 @@ stored_words s = map (word_at (columns_of s)) s.words.items
 abbrev pub all_signs : List Word → List ℕ
 all_signs words = flat_map (λ (w : Word). w.signs) words
 
+-- the weights of all words, joined
+abbrev pub all_weights : List Word → List ℕ
+all_weights words = flat_map (λ (w : Word). w.weights) words
+
 -- a word lies within columns of this length
 abbrev pub lies_within : ℕ → Stored → Bool
 lies_within n w = nat_le w.start w.end && nat_le w.end n
 
--- the four columns have one length, and are the words joined
+-- the four columns have one length, and those that are lent whole are the words joined
 pub record IsSound (s : Store) : Type 0 where
   pub hyphens_len : length s.hyphens.items ≡ length s.signs.items
   pub weights_len : length s.weights.items ≡ length s.signs.items
   pub cares_len : length s.cares.items ≡ length s.signs.items
   pub within : list_all (lies_within (length s.signs.items)) s.words.items ≡ true
-  pub joined : s.signs.items ≡ all_signs (stored_words s)
+  pub signs_joined : s.signs.items ≡ all_signs (stored_words s)
+  pub weights_joined : s.weights.items ≡ all_weights (stored_words s)
   pub words : All IsWord (stored_words s)
 
 -- a letter takes a byte of the file, and each word has two edges; and the row is what stands at

@@ -15,7 +15,7 @@ use Rattle.pg_driver.specs.Inside.Counting.{counting}
 use Rattle.pg_driver.specs.Inside.OpenPositions.{counted_of}
 use Rattle.pg_driver.specs.Inside.OpenSigns.{start_of}
 use Rattle.pg_driver.specs.Inside.PassWindows.{IsNumbered, counts_at, window_from}
-use Rattle.pg_driver.proofs.FlatSigns.{counted_fit, counted_none, counted_there, fit_within, flat_inside, flat_window, numbered_fit, numbered_none, site_at, sites_count}
+use Rattle.pg_driver.proofs.FlatSigns.{counted_fit, counted_none, counted_there, fit_within, flat_inside, flat_window, numbered_fit, numbered_none, site_at, sites_count, weight_at, weights_count}
 use Rattle.pg_driver.proofs.NumberSteps.{place_more}
 use Rattle.pg_driver.proofs.OpenSigns.{place_of, signs_few}
 use Rattle.pg_driver.proofs.OpenSteps.{took_entry}
@@ -31,12 +31,20 @@ pub offset_bounds-sites-sign : goal.offset_bounds-sites-sign
 offset_bounds-sites-sign g c =
     omega (arith, c.requires.within, signs_few c.args.dictionary.now c.len-words.ensures.words, c.len-words.ensures.letters)
 
+pub bounds-weights-sign : goal.bounds-weights-sign
+bounds-weights-sign g c =
+    omega (arith, ap (λ (xs : List ℕ). length xs) c.all_weights-weights.ensures, weights_count c.args.dictionary.now c.len-words.ensures.words, c.requires.within)
+
+pub offset_bounds-weights-sign : goal.offset_bounds-weights-sign
+offset_bounds-weights-sign g c =
+    omega (arith, c.requires.within, signs_few c.args.dictionary.now c.len-words.ensures.words, c.len-words.ensures.letters)
+
 pub returns-then-not-has_around-clause-ok : goal.returns-then-not-has_around-clause-ok
 returns-then-not-has_around-clause-ok g c =
     let m = g.E.Engine.meaning c.args.engine.now in
     let words = c.args.dictionary.now in
     let pass = c.args.pass in
-    let s = site_at words c.all_sites-sites.result.now c.args.sign (record { weight = 0; before = 0; left = 0 }) c.all_sites-sites.ensures c.requires.within in
+    let s = site_at words c.all_sites-sites.result.now c.args.sign (record { before = 0; left = 0 }) c.all_sites-sites.ensures c.requires.within in
     let w = s.of.word in
     let p = s.of.at in
     let other : fits w.signs p pass.len pass.dot ≡ false = sym (c.has_around.ensures w p s.of.within s.is) ∙ c.if-not-has_around.true in
@@ -47,7 +55,7 @@ returns-then-not-has_around-clause-number g c =
     let m = g.E.Engine.meaning c.args.engine.now in
     let words = c.args.dictionary.now in
     let pass = c.args.pass in
-    let s = site_at words c.all_sites-sites.result.now c.args.sign (record { weight = 0; before = 0; left = 0 }) c.all_sites-sites.ensures c.requires.within in
+    let s = site_at words c.all_sites-sites.result.now c.args.sign (record { before = 0; left = 0 }) c.all_sites-sites.ensures c.requires.within in
     let w = s.of.word in
     let p = s.of.at in
     let other : fits w.signs p pass.len pass.dot ≡ false = sym (c.has_around.ensures w p s.of.within s.is) ∙ c.if-not-has_around.true in
@@ -57,7 +65,7 @@ pub overflow_sub-first : goal.overflow_sub-first
 overflow_sub-first g c =
     let words = c.args.dictionary.now in
     let pass = c.args.pass in
-    let s = site_at words c.all_sites-sites.result.now c.args.sign (record { weight = 0; before = 0; left = 0 }) c.all_sites-sites.ensures c.requires.within in
+    let s = site_at words c.all_sites-sites.result.now c.args.sign (record { before = 0; left = 0 }) c.all_sites-sites.ensures c.requires.within in
     let w = s.of.word in
     let p = s.of.at in
     let fit : fits w.signs p pass.len pass.dot ≡ true = sym (c.has_around.ensures w p s.of.within s.is) ∙ c.if-not-has_around.false in
@@ -67,7 +75,7 @@ pub slice_bounds-window-end : goal.slice_bounds-window-end
 slice_bounds-window-end g c =
     let words = c.args.dictionary.now in
     let pass = c.args.pass in
-    let s = site_at words c.all_sites-sites.result.now c.args.sign (record { weight = 0; before = 0; left = 0 }) c.all_sites-sites.ensures c.requires.within in
+    let s = site_at words c.all_sites-sites.result.now c.args.sign (record { before = 0; left = 0 }) c.all_sites-sites.ensures c.requires.within in
     let w = s.of.word in
     let p = s.of.at in
     let fit : fits w.signs p pass.len pass.dot ≡ true = sym (c.has_around.ensures w p s.of.within s.is) ∙ c.if-not-has_around.false in
@@ -80,7 +88,7 @@ count_numbered-requires-clause-signs g c =
     let m = g.E.Engine.meaning c.args.engine.now in
     let words = c.args.dictionary.now in
     let pass = c.args.pass in
-    let s = site_at words c.all_sites-sites.result.now c.args.sign (record { weight = 0; before = 0; left = 0 }) c.all_sites-sites.ensures c.requires.within in
+    let s = site_at words c.all_sites-sites.result.now c.args.sign (record { before = 0; left = 0 }) c.all_sites-sites.ensures c.requires.within in
     let w = s.of.word in
     let p = s.of.at in
     let fit : fits w.signs p pass.len pass.dot ≡ true = sym (c.has_around.ensures w p s.of.within s.is) ∙ c.if-not-has_around.false in
@@ -97,21 +105,21 @@ pub count_numbered-requires-clause-weight : goal.count_numbered-requires-clause-
 count_numbered-requires-clause-weight g c =
     let words = c.args.dictionary.now in
     let pass = c.args.pass in
-    let s = site_at words c.all_sites-sites.result.now c.args.sign (record { weight = 0; before = 0; left = 0 }) c.all_sites-sites.ensures c.requires.within in
+    let s = site_at words c.all_sites-sites.result.now c.args.sign (record { before = 0; left = 0 }) c.all_sites-sites.ensures c.requires.within in
     let w = s.of.word in
     let p = s.of.at in
     let word = word_in words s.of.number w c.len-words.ensures.words s.of.there in
-    subst (λ (x : Site). x.weight ≤ WEIGHT_MAX) (sym s.is) (weight_small w p word s.of.within)
+    subst (λ x. x ≤ WEIGHT_MAX) (sym (weight_at words c.all_weights-weights.result.now c.args.sign 0 s.of c.all_weights-weights.ensures c.len-words.ensures.words)) (weight_small w p word s.of.within)
 
 pub count_numbered-requires-clause-small : goal.count_numbered-requires-clause-small
 count_numbered-requires-clause-small g c =
     let words = c.args.dictionary.now in
     let pass = c.args.pass in
-    let s = site_at words c.all_sites-sites.result.now c.args.sign (record { weight = 0; before = 0; left = 0 }) c.all_sites-sites.ensures c.requires.within in
+    let s = site_at words c.all_sites-sites.result.now c.args.sign (record { before = 0; left = 0 }) c.all_sites-sites.ensures c.requires.within in
     let w = s.of.word in
     let p = s.of.at in
     let word = word_in words s.of.number w c.len-words.ensures.words s.of.there in
-    room_small _ _ _ _ c.requires.room (subst (λ (x : Site). x.weight ≤ WEIGHT_MAX) (sym s.is) (weight_small w p word s.of.within))
+    room_small _ _ _ _ c.requires.room (subst (λ x. x ≤ WEIGHT_MAX) (sym (weight_at words c.all_weights-weights.result.now c.args.sign 0 s.of c.all_weights-weights.ensures c.len-words.ensures.words)) (weight_small w p word s.of.within))
 
 pub overflow_cast-first : goal.overflow_cast-first
 overflow_cast-first g c =
@@ -122,7 +130,7 @@ returns-clause-ok g c =
     let m = g.E.Engine.meaning c.args.engine.now in
     let words = c.args.dictionary.now in
     let pass = c.args.pass in
-    let s = site_at words c.all_sites-sites.result.now c.args.sign (record { weight = 0; before = 0; left = 0 }) c.all_sites-sites.ensures c.requires.within in
+    let s = site_at words c.all_sites-sites.result.now c.args.sign (record { before = 0; left = 0 }) c.all_sites-sites.ensures c.requires.within in
     let w = s.of.word in
     let p = s.of.at in
     let fit : fits w.signs p pass.len pass.dot ≡ true = sym (c.has_around.ensures w p s.of.within s.is) ∙ c.if-not-has_around.false in
@@ -132,7 +140,7 @@ returns-clause-ok g c =
     let lent : take (first + c.from-2.result - first) (drop first c.all_signs-signs.result.now) ≡ window w.signs p pass.len pass.dot =
     (λ i. take (long i) (drop first (c.all_signs-signs.ensures i))) ∙ flat_window words s.of.number p pass.len pass.dot first w s.of.there fit begins in
     let hyphens = ap (λ (b : Bool). cond (is_odd pass.level) b (not b)) (c.has_hyphen.ensures w p s.is) in
-    let ok = c.in_ok-number.ensures.ok ∙ counted_fit m pass.level pass.len pass.dot words s.of.number p w s.of.there (take (first + c.from-2.result - first) (drop first c.all_signs-signs.result.now)) c.is_good-good.result (get_or c.all_sites-sites.result.now c.args.sign (record { weight = 0; before = 0; left = 0 })).weight fit lent (c.is_good-good.ensures ∙ hyphens) (ap (λ (x : Site). x.weight) s.is) in
+    let ok = c.in_ok-number.ensures.ok ∙ counted_fit m pass.level pass.len pass.dot words s.of.number p w s.of.there (take (first + c.from-2.result - first) (drop first c.all_signs-signs.result.now)) c.is_good-good.result (get_or c.all_weights-weights.result.now c.args.sign 0) fit lent (c.is_good-good.ensures ∙ hyphens) (weight_at words c.all_weights-weights.result.now c.args.sign 0 s.of c.all_weights-weights.ensures c.len-words.ensures.words) in
     ok ∙ sym (ap (λ (e : Place). counting m (counted_of pass.level pass.len pass.dot words e)) (place_of words c.args.sign s.of))
 
 pub returns-clause-took : goal.returns-clause-took
@@ -141,7 +149,7 @@ returns-clause-took g c =
     let after = g.E.Engine.meaning c.count_numbered.new.self in
     let words = c.args.dictionary.now in
     let pass = c.args.pass in
-    let s = site_at words c.all_sites-sites.result.now c.args.sign (record { weight = 0; before = 0; left = 0 }) c.all_sites-sites.ensures c.requires.within in
+    let s = site_at words c.all_sites-sites.result.now c.args.sign (record { before = 0; left = 0 }) c.all_sites-sites.ensures c.requires.within in
     let w = s.of.word in
     let p = s.of.at in
     let fit : fits w.signs p pass.len pass.dot ≡ true = sym (c.has_around.ensures w p s.of.within s.is) ∙ c.if-not-has_around.false in
@@ -151,7 +159,7 @@ returns-clause-took g c =
     let lent : take (first + c.from-2.result - first) (drop first c.all_signs-signs.result.now) ≡ window w.signs p pass.len pass.dot =
     (λ i. take (long i) (drop first (c.all_signs-signs.ensures i))) ∙ flat_window words s.of.number p pass.len pass.dot first w s.of.there fit begins in
     let hyphens = ap (λ (b : Bool). cond (is_odd pass.level) b (not b)) (c.has_hyphen.ensures w p s.is) in
-    let ok = c.in_ok-number.ensures.ok ∙ counted_fit m pass.level pass.len pass.dot words s.of.number p w s.of.there (take (first + c.from-2.result - first) (drop first c.all_signs-signs.result.now)) c.is_good-good.result (get_or c.all_sites-sites.result.now c.args.sign (record { weight = 0; before = 0; left = 0 })).weight fit lent (c.is_good-good.ensures ∙ hyphens) (ap (λ (x : Site). x.weight) s.is) in
+    let ok = c.in_ok-number.ensures.ok ∙ counted_fit m pass.level pass.len pass.dot words s.of.number p w s.of.there (take (first + c.from-2.result - first) (drop first c.all_signs-signs.result.now)) c.is_good-good.result (get_or c.all_weights-weights.result.now c.args.sign 0) fit lent (c.is_good-good.ensures ∙ hyphens) (weight_at words c.all_weights-weights.result.now c.args.sign 0 s.of c.all_weights-weights.ensures c.len-words.ensures.words) in
     let word = word_in words s.of.number w c.len-words.ensures.words s.of.there in
     took_entry m after pass.level pass.len pass.dot w p 1 c.requires.ranges.len_low word s.of.within c.requires.room (ok ∙ counted_there m pass.level pass.len pass.dot words s.of.number p w s.of.there)
 
@@ -160,7 +168,7 @@ returns-clause-number g c =
     let after = g.E.Engine.meaning c.count_numbered.new.self in
     let words = c.args.dictionary.now in
     let pass = c.args.pass in
-    let s = site_at words c.all_sites-sites.result.now c.args.sign (record { weight = 0; before = 0; left = 0 }) c.all_sites-sites.ensures c.requires.within in
+    let s = site_at words c.all_sites-sites.result.now c.args.sign (record { before = 0; left = 0 }) c.all_sites-sites.ensures c.requires.within in
     let w = s.of.word in
     let p = s.of.at in
     let fit : fits w.signs p pass.len pass.dot ≡ true = sym (c.has_around.ensures w p s.of.within s.is) ∙ c.if-not-has_around.false in
@@ -179,7 +187,7 @@ returns-clause-places g c =
     let after = g.E.Engine.meaning c.count_numbered.new.self in
     let words = c.args.dictionary.now in
     let pass = c.args.pass in
-    let s = site_at words c.all_sites-sites.result.now c.args.sign (record { weight = 0; before = 0; left = 0 }) c.all_sites-sites.ensures c.requires.within in
+    let s = site_at words c.all_sites-sites.result.now c.args.sign (record { before = 0; left = 0 }) c.all_sites-sites.ensures c.requires.within in
     let w = s.of.word in
     let p = s.of.at in
     let fit : fits w.signs p pass.len pass.dot ≡ true = sym (c.has_around.ensures w p s.of.within s.is) ∙ c.if-not-has_around.false in

@@ -52,4 +52,4 @@ lines-preserved c =
 pub returns-clause-signs : goal.returns-clause-signs
 returns-clause-signs c =
     subst (SignsAtMost (letters_of c.args.table.now + 1)) (sym c.in_ok-dictionary.ensures)
-    (signs_at_most (letters_of c.args.table.now + 1) (stored_words c.lines.store) (ap (list_all (is_sign_up_to (letters_of c.args.table.now + 1))) (sym c.lines.invariant.sound.joined) ∙ c.lines.invariant.fit.signs))
+    (signs_at_most (letters_of c.args.table.now + 1) (stored_words c.lines.store) (ap (list_all (is_sign_up_to (letters_of c.args.table.now + 1))) (sym c.lines.invariant.sound.signs_joined) ∙ c.lines.invariant.fit.signs))
