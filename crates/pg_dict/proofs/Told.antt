@@ -119,6 +119,18 @@ signs_at_most n ws pass k d within i e inside =
     let here : list_all (is_sign_up_to n) w.signs ≡ true = AllPass-from_list_all (λ (w : Word). list_all (is_sign_up_to n) w.signs) ws (signs_pass n ws pass) k d within in
     leb-true _ n (and_parts _ _ (AllPass-from_list_all (is_sign_up_to n) w.signs here i e inside)).1
 
+-- each word has three signs at least
+three_each : (ws : List Word) → All IsWord ws → 3 * length ws ≤ length (all_signs ws)
+three_each [] each = omega arith
+three_each (w ∷ ws) each = omega (arith, (All-head IsWord w ws each).long, three_each ws (All-tail IsWord w ws each), length-append w.signs (all_signs ws))
+
+-- so a store has a third as many words as signs, or fewer
+pub few_words : (s : Store) → IsSound s → 3 * length s.words.items ≤ length s.signs.items
+few_words s sound =
+    let signs : length s.signs.items ≡ length (all_signs (stored_words s)) = ap (λ (xs : List ℕ). length xs) sound.signs_joined in
+    let words : length (stored_words s) ≡ length s.words.items = length-map s.words.items (word_at (columns_of s)) in
+    omega (arith, three_each (stored_words s) sound.words)
+
 -- so there are at most as many letters as bytes of the longest file
 pub few_letters : (s : Store) (row : List Site) → IsDictionary s row → sum_by letter_count (stored_words s) ≤ FILE_MAX
 few_letters s row is =

@@ -1,5 +1,5 @@
 //! The reading of a whole line into the store.
-ghost use Rattle.std.specs.Prelude.{◌<◌, ◌≤◌, ◌+◌, length, IfOk, OnOk};
+ghost use Rattle.std.specs.Prelude.{◌<◌, ◌≤◌, ◌+◌, ◌*◌, length, IfOk, OnOk};
 ghost use Rattle.pg_types.specs.Inside.Answers.{Gives};
 ghost use Rattle.pg_translate.specs.Alphabets.{letters_of};
 ghost use Rattle.pg_translate.specs.Inside.Rules.{KeepsRules};
@@ -24,6 +24,7 @@ impl Line<'_> {
         requires rules { KeepsRules self.now.table.now }
         requires sound { IsSound store.old }
         requires fit { IsFit (letters_of self.now.table.now + 1) store.old }
+        requires few { length store.old.signs.items ≤ 3 * FILE_MAX }
         ensures word { let line = word_reading_by self.now sign rest.now in Gives
             (λ _. entries_of store.new self.now.weight) result
             (with_word (stored_words store.old) line) }
@@ -37,8 +38,8 @@ impl Line<'_> {
         self.fill(store, rest)?;
         let end = store.signs.len();
         store.words.push(Stored {
-            start,
-            end,
+            start: start as u32,
+            end: end as u32,
             weight: self.weight,
         })?;
         Ok(())
@@ -60,6 +61,7 @@ pub(crate) fn read_line(
     requires rules { KeepsRules table.now }
     requires sound { IsSound store.old }
     requires fit { IsFit (letters_of table.now + 1) store.old }
+    requires few { length store.old.signs.items ≤ 3 * FILE_MAX }
     ensures line { let line = line_reading table.now number weight text.now in
         Gives (entries_of store.new) result
         (with_word (stored_words store.old) line) }

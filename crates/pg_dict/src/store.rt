@@ -1,6 +1,7 @@
 //! The store: the signs of all words in one vector, and beside each sign the hyphen, weight and
 //! care of the position before it.
-ghost use Rattle.std.specs.Prelude.{◌≡◌, ◌≤◌, ◌+◌, [], ◌∷◌, ◌++◌, length, OnOk};
+ghost use Rattle.std.specs.Prelude.{◌≡◌, ◌≤◌, ◌+◌, ◌*◌, [], ◌∷◌, ◌++◌, length, OnOk};
+ghost use Rattle.pg_types.specs.declared.limits.TheConstants.{FILE_MAX};
 ghost use Rattle.pg_dict.specs.Inside.PositionedSigns.{with_signs, no_columns, positioned_sign};
 ghost use Rattle.pg_dict.specs.Inside.Store.{columns_of, word_at, stored_words, IsSound};
 ghost use Rattle.pg_dict.specs.Inside.SoundWords.{IsWord};
@@ -15,9 +16,9 @@ use std::alloc::{AllocError, Global};
 #[derive(Clone, Copy)]
 pub(crate) struct Stored {
     /// The index of its first sign.
-    pub start: usize,
+    pub start: u32,
     /// The index behind its last sign.
-    pub end: usize,
+    pub end: u32,
     /// The weight of the word.
     pub weight: Weight,
 }
@@ -59,12 +60,14 @@ impl Store {
         requires ends { stored.end ≤ length self.now.signs.items }
         ensures { lent_word result ≡ word_at (columns_of self.now) stored }
     {
+        let start = stored.start as usize;
+        let end = stored.end as usize;
         WordRef {
-            signs: &self.signs[stored.start..stored.end],
-            hyphens: &self.hyphens[stored.start..stored.end],
-            weights: &self.weights[stored.start..stored.end],
+            signs: &self.signs[start..end],
+            hyphens: &self.hyphens[start..end],
+            weights: &self.weights[start..end],
             weight: stored.weight,
-            cares: &self.cares[stored.start..stored.end],
+            cares: &self.cares[start..end],
         }
     }
 
@@ -86,6 +89,7 @@ impl Store {
     pub(crate) fn push_word(&mut self, word: &WordRef<'_>) -> Result<(), AllocError>
         requires word { IsWord (lent_word word.now) }
         requires sound { IsSound self.old }
+        requires few { length self.old.signs.items ≤ 3 * FILE_MAX }
         ensures words { OnOk result
             (stored_words self.new ≡ stored_words self.old ++ lent_word word.now ∷ []) }
         ensures sound { OnOk result (IsSound self.new) }
@@ -102,8 +106,8 @@ impl Store {
         self.cares.extend_from_slice(word.cares)?;
         let end = self.signs.len();
         self.words.push(Stored {
-            start,
-            end,
+            start: start as u32,
+            end: end as u32,
             weight: word.weight,
         })?;
         Ok(())

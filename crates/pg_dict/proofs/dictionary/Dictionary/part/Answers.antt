@@ -2,8 +2,12 @@ use Rattle.std.proofs.Common.{◌∙◌, sym, arith}
 use Rattle.pg_dict.specs.Inside.Lent.{lent_word}
 use Rattle.pg_dict.specs.Inside.Store.{stored_words}
 use Rattle.pg_dict.proofs.Parts.{part_taken, part_passed, letters_from}
+use Rattle.pg_dict.proofs.Told.{few_words}
 use Rattle.pg_dict.proofs.dictionary.Dictionary.part.Goals as goal
 use Rattle.pg_dict.proofs.dictionary.Dictionary.part.Goals.{then-belongs+in_ok-push_word, else-belongs}
+
+pub push_word-requires-clause-few : goal.push_word-requires-clause-few
+push_word-requires-clause-few c = omega (arith, few_words c.words.store c.words.invariant.sound, c.words.invariant.few, c.len-i-end.ensures.letters)
 
 pub words-preserved : goal.words-preserved
 words-preserved c = elim c.if-belongs.branch [

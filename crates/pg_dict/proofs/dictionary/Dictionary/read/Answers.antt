@@ -11,7 +11,7 @@ use Rattle.pg_dict.specs.Inside.SoundWords.{SignsAtMost}
 use Rattle.pg_dict.specs.Inside.Store.{stored_words, is_sign_up_to}
 use Rattle.pg_dict.proofs.Sizes.{size_of, size_of-cons, size_of-lines}
 use Rattle.pg_dict.proofs.Lines.{next_read, next_refused, words_short, starts, starts_sound, starts_fit}
-use Rattle.pg_dict.proofs.Told.{signs_at_most}
+use Rattle.pg_dict.proofs.Told.{few_words, signs_at_most}
 use Rattle.pg_dict.proofs.dictionary.Dictionary.read.Goals as goal
 
 pub lines-init : goal.lines-init
@@ -29,6 +29,9 @@ lines-init c =
 
 pub read_line-requires-clause-short : goal.read_line-requires-clause-short
 read_line-requires-clause-short c = omega (arith, c.in-Some.ensures.within, c.lines.invariant.left)
+
+pub read_line-requires-clause-few : goal.read_line-requires-clause-few
+read_line-requires-clause-few c = omega (arith, few_words c.lines.store c.lines.invariant.sound, c.lines.invariant.few)
 
 pub returns-in_err-weight-clause-words : goal.returns-in_err-weight-clause-words
 returns-in_err-weight-clause-words c =
