@@ -1,5 +1,5 @@
 -- Tests of names and numbers, and what they choose.
-use Rattle.std.proofs.Common.{◌≡◌, ◌≢◌, ℕ, List, Bool, true, false, cond, nat_eq, Decides, refl, sym, arith}
+use Rattle.std.proofs.Common.{◌≡◌, ◌≢◌, ℕ, List, Bool, true, false, cond, nat_eq, Decides, Option, Some, None, refl, sym, arith}
 use Rattle.std.specs.Str.{bytes_eq}
 use Rattle.std.proofs.lemmas.Bool.{false≢true}
 use Rattle.std.proofs.lemmas.Bool.Decides.{nat_tests}
@@ -35,3 +35,17 @@ cond_no false x y e = refl
 pub cond_same : {A : Type 0} (b : Bool) (x : A) → cond b x x ≡ x
 cond_same true x = refl
 cond_same false x = refl
+
+-- an option that holds a number is not empty
+pub none_some : (n : ℕ) → None ≡ Some n → ⊥
+none_some n e = cc
+
+-- two numbers are equal where the options that hold them are
+pub some_same : (m n : ℕ) → Some m ≡ Some n → m ≡ n
+some_same m n e = cc
+
+-- what follows where either option holds n follows where the chosen one does
+pub of_cond : (b : Bool) (n : ℕ) (p o : Option ℕ) (P : Type 0)
+    → cond b p o ≡ Some n → (p ≡ Some n → P) → (o ≡ Some n → P) → P
+of_cond true n p o P is f g = f is
+of_cond false n p o P is f g = g is

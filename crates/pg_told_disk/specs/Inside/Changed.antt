@@ -10,7 +10,7 @@ use Rattle.std.proofs.lemmas.Map.Text.{is_eq-slice_cmp}
 use Rattle.pg_outside.specs.Inside.Disk as disk
 use Rattle.pg_outside.specs.Inside.Disk.{Node, Disk, NameMap, FileSet}
 use Rattle.pg_outside.specs.declared.disk.system.FileId.{FileId}
-use Rattle.pg_told_disk.specs.Inside.Cases.{eq_yes, eq_no, number_no, cond_yes, cond_no}
+use Rattle.pg_told_disk.specs.Inside.Cases.{eq_yes, eq_no, number_no, cond_yes, cond_no, none_some, some_same, of_cond}
 use Rattle.pg_told_disk.specs.Inside.Changes.{number_in, names_in, mode_in, kind_in, bytes_in, stored_in, node_in, node_with, file_in, id_of, given, disk_in}
 use Rattle.pg_told_disk.specs.Inside.Following.{not_link}
 use Rattle.pg_told_disk.specs.Inside.Linked.{link_in, real_in}
@@ -94,25 +94,11 @@ get_names (Stored number ∷ older) q = get_names older q
 get_names (Refused own ∷ older) q = get_names older q
 get_names (Stayed ∷ older) q = get_names older q
 
--- an option that holds a number is not empty
-none_some : (n : ℕ) → None ≡ Some n → ⊥
-none_some n e = cc
-
--- two numbers are equal where the options that hold them are
-some_same : (m n : ℕ) → Some m ≡ Some n → m ≡ n
-some_same m n e = cc
-
 -- a chosen number is at most k, where it is k or was at most k before
 below_of_some : (b : Bool) (k n : ℕ) (o : Option ℕ)
     → cond b (Some k) o ≡ Some n → (o ≡ Some n → n < k + 1) → n < k + 1
 below_of_some true k n o is older = let same : k ≡ n = some_same k n is in omega arith
 below_of_some false k n o is older = older is
-
--- what follows where either option holds n follows where the chosen one does
-of_cond : (b : Bool) (n : ℕ) (p o : Option ℕ) (P : Type 0)
-    → cond b p o ≡ Some n → (p ≡ Some n → P) → (o ≡ Some n → P) → P
-of_cond true n p o P is f g = f is
-of_cond false n p o P is f g = g is
 
 -- what is below k is below k + 1
 more : (n k : ℕ) → n < k → n < k + 1

@@ -2,6 +2,7 @@
 use Rattle.std.proofs.Common.{◌≡◌, ℕ, List, [], ◌∷◌, length, Bool, true, false, cond, nat_eq, Option, Some, None, string_bytes, refl, sym, ap, ◌∙◌, eq-eqb}
 use Rattle.std.specs.Str.{bytes_eq}
 use Rattle.std.proofs.lemmas.Bool.{and_parts}
+use Rattle.pg_told_disk.specs.Inside.Cases.{none_some, some_same, of_cond}
 use Rattle.pg_told_disk.specs.Inside.Changes.{number_in, mode_in, kind_in, is_regular_in}
 use Rattle.pg_told_disk.specs.declared.change.Change.{Change}
 use Rattle.pg_told_disk.specs.declared.change.Change.TheVariants.{Made, Shared, GotMode, Wrote, Stored, Renamed, Removed, Refused, Stayed}
@@ -43,34 +44,20 @@ same_has : (log older : List Change) (n : ℕ) → mode_in log n ≡ mode_in old
     → Has older n → Has log n
 same_has log older n is has = record { mode = has.mode; there = is ∙ has.there }
 
--- two numbers are equal where the options that hold them are
-some_number : (m n : ℕ) → Some m ≡ Some n → m ≡ n
-some_number m n e = cc
-
--- an option that holds a number is not empty
-none_number : (n : ℕ) → None ≡ Some n → ⊥
-none_number n e = cc
-
--- what follows where either option holds n follows where the chosen one does
-of_cond : (b : Bool) (n : ℕ) (p o : Option ℕ) (P : Type 0)
-    → cond b p o ≡ Some n → (p ≡ Some n → P) → (o ≡ Some n → P) → P
-of_cond true n p o P is f g = f is
-of_cond false n p o P is f g = g is
-
 -- the test of two numbers says yes where they are equal
 eqb_same : (n m : ℕ) → m ≡ n → nat_eq n m ≡ true
 eqb_same n m e = eq-eqb n m (sym e)
 
 -- a file whose number a name leads to is there
 pub named_has : (log : List Change) (q : List ℕ) (n : ℕ) → number_in log q ≡ Some n → Has log n
-named_has [] q n is = absurd (none_number n is)
+named_has [] q n is = absurd (none_some n is)
 named_has (Made own regular ∷ older) q n is =
     of_cond (bytes_eq q (string_bytes own)) n (Some (length older))
     (number_in older q) (Has (Made own regular ∷ older) n) is
     (λ e. record {
       mode = 420;
       there = ap (λ (b : Bool). cond b (Some 420) (mode_in older n))
-          (eqb_same n (length older) (some_number (length older) n e));
+          (eqb_same n (length older) (some_same (length older) n e));
     })
     (λ e. keep_has (Made own regular ∷ older) older n (nat_eq n (length older)) 420 refl
     (named_has older q n e))
@@ -93,12 +80,12 @@ named_has (Renamed from to ∷ older) q n is =
     (λ e. same_has (Renamed from to ∷ older) older n refl (named_has older (string_bytes from) n e))
     (λ e. of_cond (bytes_eq q (string_bytes from)) n None
     (number_in older q) (Has (Renamed from to ∷ older) n) e
-    (λ none. absurd (none_number n none))
+    (λ none. absurd (none_some n none))
     (λ e2. same_has (Renamed from to ∷ older) older n refl (named_has older q n e2)))
 named_has (Removed own ∷ older) q n is =
     of_cond (bytes_eq q (string_bytes own)) n None
     (number_in older q) (Has (Removed own ∷ older) n) is
-    (λ none. absurd (none_number n none))
+    (λ none. absurd (none_some n none))
     (λ e. same_has (Removed own ∷ older) older n refl (named_has older q n e))
 named_has (Refused own ∷ older) q n is =
     same_has (Refused own ∷ older) older n refl (named_has older q n is)
