@@ -55,7 +55,8 @@ fn one_sign(rt: HostRuntime) -> Result<(), Fail> {
     add_strings(&rt, &mut Cells::<u32, 4>::new(rt.alloc(), 1, 7)?)
 }
 
-/// Steps in a table of the edge and three letters: each adds the second sign below the first. The fourth moves a family.
+/// Steps in a table of the edge and three letters: each adds the second sign below the first. The
+/// fourth moves a family.
 const STEPS: [([Sign; 2], usize, usize); 6] = [
     ([2, 3], 5, 5),
     ([3, 2], 6, 6),

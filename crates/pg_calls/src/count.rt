@@ -51,7 +51,8 @@ fn next(counts: &CountTrie, at: &mut Cursor) -> Option<(u64, u64)> {
     counts.next(at)
 }
 
-/// Compares the windows that are counted, in their order, with these: each has sums, and at the end the cursor stays.
+/// Compares the windows that are counted, in their order, with these: each has sums, and at the end
+/// the cursor stays.
 fn compare(rt: &impl Abort, counts: &CountTrie, windows: &[([Sign; 2], Option<(u64, u64)>)]) {
     let mut at = Cursor::start();
     for (window, sums) in windows {

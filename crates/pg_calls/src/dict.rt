@@ -4,7 +4,8 @@ use pg_translate::Table;
 use std::alloc::{AllocError, Global};
 use std::test::Fail;
 
-/// A line for each word: its weight, its hyphens and the weights of its positions. Then the signs of all of them.
+/// A line for each word: its weight, its hyphens and the weights of its positions. Then the signs
+/// of all of them.
 fn push_words(text: &mut String, dictionary: &Dictionary) -> Result<(), AllocError> {
     for i in 0..dictionary.len() {
         let word = dictionary.word(i);

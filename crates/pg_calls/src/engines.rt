@@ -1,4 +1,5 @@
-//! The values that both engines give from the same patterns. The signs are the edge 1, a 2, b 3 and c 4.
+//! The values that both engines give from the same patterns. The signs are the edge 1, a 2, b 3 and
+//! c 4.
 ghost use Rattle.std.specs.Prelude.{◌≡◌, IfOk};
 ghost use Rattle.pg_patterns.specs.Inside.PatternMaps.{SignsUpTo};
 

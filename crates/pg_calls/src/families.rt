@@ -12,7 +12,8 @@ pub struct Used {
     pub cell: usize,
     /// Its sign.
     pub sign: Sign,
-    /// Its family: the number in the list, counted from 1, of the cell that the family is below, or 0 for the root.
+    /// Its family: the number in the list, counted from 1, of the cell that the family is below, or
+    /// 0 for the root.
     pub family: usize,
 }
 
@@ -69,7 +70,8 @@ impl Families {
         Some(used.cell)
     }
 
-    /// Adds the sign to the family below a used cell, or removes it where it is there and no family is below it.
+    /// Adds the sign to the family below a used cell, or removes it where it is there and no family
+    /// is below it.
     pub fn change(&mut self, parent: usize, sign: Sign) -> Result<(), AllocError> {
         let family = self.family_below(parent);
         let at = self.number_of(family, sign);

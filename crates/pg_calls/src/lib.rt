@@ -1,5 +1,5 @@
-//! The calls of the crates below the driver, on worked rows that name them. What a whole command shows is a row of
-//! patgen_rows.
+//! The calls of the crates below the driver, on worked rows that name them. What a whole command
+//! shows is a row of patgen_rows.
 #![tactic(auto)]
 
 #[cfg(test)]

@@ -56,7 +56,8 @@ fn compare(rt: &impl Abort, cells: &Cells<u32, 4>, families: &Families, taken: &
     compare_cells(rt, cells, families);
 }
 
-/// Takes steps in a table with so many signs, and compares after each. Gives the number of taken cells.
+/// Takes steps in a table with so many signs, and compares after each. Gives the number of taken
+/// cells.
 fn run(rt: &impl Abort, alloc: Global, signs: Sign, steps: u32) -> Result<usize, Fail>
     requires { (1 ≤ signs) × (signs ≤ SIGNS_MAX) }
 {

@@ -36,8 +36,8 @@ pub fn told(cells: &Cells<u32, 4>, string: &[Sign]) -> Option<(usize, usize, u32
     Some((cell, cells.child(cell), value))
 }
 
-/// Adds the sign with the value below the string of a cell, and gives its cell, or removes it where it is there and no family is
-/// below it.
+/// Adds the sign with the value below the string of a cell, and gives its cell, or removes it where
+/// it is there and no family is below it.
 fn change(
     cells: &mut Cells<u32, 4>,
     parent: usize,

@@ -68,7 +68,8 @@ fn line_of_one(alloc: Global, patterns: &PatternSet) -> Result<String, Fail> {
     Ok(line_of(alloc, patterns.entry(0))?)
 }
 
-/// Compares the one record of a trie with the value 1 at the dot 1, and its one pattern with that of a and b.
+/// Compares the one record of a trie with the value 1 at the dot 1, and its one pattern with that
+/// of a and b.
 fn compare_record(rt: &impl Abort, alloc: Global, trie: &PatternTrie) -> Result<(), Fail> {
     // The value is the one record that is left, so no mark is.
     if trie.outputs().len() != 1 || trie.outputs().first(1) != Some((1, 1, 0)) {

@@ -63,8 +63,8 @@ fn push_reason<'a>(
     }
 }
 
-/// Appends the line of a refusal with a caret, its cause where the bytes show one, and how many more
-/// lines would be refused.
+/// Appends the line of a refusal with a caret, its cause where the bytes show one, and how many
+/// more lines would be refused.
 fn push_place(text: &mut Text, refused: &Refused<'_>, spot: &Spot<'_>) -> Result<(), AllocError> {
     text.excerpt(spot)?;
     if refused.refusal.kind == Kind::BadSpelling {

@@ -6,7 +6,8 @@ use pg_visible::Part::{self, Count, Show};
 /// The most parameter files of `sweep`.
 const SETS_MAX: usize = 16;
 
-/// What is wrong with a word, or where one is missing: up to three words, and what is said behind each.
+/// What is wrong with a word, or where one is missing: up to three words, and what is said behind
+/// each.
 #[derive(Clone, Copy)]
 pub(crate) struct Fault<'a> {
     pub word: Part<'a>,
@@ -289,7 +290,8 @@ fn fault_at<'a>(
     same_fault(command, words, before, place, word)
 }
 
-/// What is wrong with the first word before a place that is equal to the one there and has to differ from it.
+/// What is wrong with the first word before a place that is equal to the one there and has to
+/// differ from it.
 fn same_before<'a>(command: &Command, words: &'a [String], place: usize) -> Option<Fault<'a>> {
     for before in 0..place {
         let fault = fault_at(command, words, before, place);
