@@ -87,7 +87,8 @@ impl PassWindows {
         self.fates.clear();
         engine.kept();
         engine.order(&mut self.order)?;
-        decide_all(engine, params, self.places.len(), &mut self.fates)
+        decide_all(engine, params, self.places.len(), &mut self.fates)?;
+        Ok(())
     }
 }
 
@@ -103,7 +104,7 @@ pub fn note_place(places: &mut Vec<u32>, number: u32, first: u32) -> Result<(), 
     Ok(())
 }
 
-/// Decides what becomes of each window, by number.
+/// Appends what becomes of each window, by number.
 fn decide_all<E: Engine>(
     engine: &E,
     params: &LevelParams,
@@ -114,10 +115,9 @@ fn decide_all<E: Engine>(
     requires room { HasRoom (E.meaning engine.now).counts 0 }
     requires windows { windows ≡ length (E.meaning engine.now).windows }
     requires few { windows ≤ NOT_COUNTED }
-    requires none { fates.old.items ≡ [] }
-    ensures { OnOk result
-        (AreFates params.now (E.meaning engine.now).counts (E.meaning engine.now).windows
-        fates.new.items) }
+    ensures { OnOk result ((more : List Choice)
+        × (fates.new.items ≡ fates.old.items ++ more)
+        × AreFates params.now (E.meaning engine.now).counts (E.meaning engine.now).windows more) }
 {
     engine.kept();
     'numbers: for number in 0..windows {
