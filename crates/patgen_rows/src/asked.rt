@@ -150,7 +150,8 @@ impl<'a> Asked<'a> {
         explain(self.alloc, &Wrong::False(line))
     }
 
-    /// The explanation of what is wrong with the content of a line, which is read by the letters of the row.
+    /// The explanation of what is wrong with the content of a line, which is read by the letters of
+    /// the row.
     fn said_of_file(&self, line: &Line<'a>) -> Result<Vec<u8>, AllocError> {
         let letters = self.content("letters").unwrap_or(b"");
         let table = match LetterTable::read(self.alloc, letters) {

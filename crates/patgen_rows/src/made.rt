@@ -1,4 +1,5 @@
-//! Pieces that are made from numbers: the dictionary of `sample`, letters, words over them, and the cells of a root.
+//! Pieces that are made from numbers: the dictionary of `sample`, letters, words over them, and the
+//! cells of a root.
 use pg_top::sample_text;
 use std::alloc::{AllocError, Global};
 use std::io;
@@ -85,7 +86,8 @@ pub(crate) fn push_words(bytes: &mut Vec<u8>, line: &str) -> io::Result<()> {
     Ok(())
 }
 
-/// Appends a word of two to eight letters. A hyphen parts two letters whose numbers add up to a multiple of three.
+/// Appends a word of two to eight letters. A hyphen parts two letters whose numbers add up to a
+/// multiple of three.
 fn push_word(
     bytes: &mut Vec<u8>,
     state: &mut u32,
@@ -107,7 +109,8 @@ fn push_word(
     Ok(())
 }
 
-/// `cells SIGNS`: the unused cell 0 of a packed table and those of its root, which has so many signs and no child.
+/// `cells SIGNS`: the unused cell 0 of a packed table and those of its root, which has so many
+/// signs and no child.
 pub(crate) fn push_cells(bytes: &mut Vec<u8>, line: &str) -> io::Result<()> {
     let [signs, ..] = numbers_of(line, 1)?;
     for sign in 0..=signs {

@@ -1,8 +1,9 @@
-//! Whole calls of the program over files in memory, and explanations of what went wrong: each row of each table that
-//! the words name, with what is wanted of it.
+//! Whole calls of the program over files in memory, and explanations of what went wrong: each row
+//! of each table that the words name, with what is wanted of it.
 //!
-//! It prints a line for each table, and above it what is wrong with a call of a row. The status is 0 where all is as
-//! wanted. A table is wrong too where a line of it cannot be read or done, and what stands behind that is not done.
+//! It prints a line for each table, and above it what is wrong with a call of a row. The status is
+//! 0 where all is as wanted. A table is wrong too where a line of it cannot be read or done, and
+//! what stands behind that is not done.
 #![tactic(auto)]
 
 mod asked;

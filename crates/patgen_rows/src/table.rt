@@ -34,7 +34,8 @@ pub(crate) struct Call<'a> {
     pub wants: Vec<Line<'a>>,
 }
 
-/// The call that a line begins below another one. Of one with the word `also` the same is wanted as of that.
+/// The call that a line begins below another one. Of one with the word `also` the same is wanted as
+/// of that.
 fn call_below<'a>(alloc: Global, line: Line<'a>, above: Option<&Call<'a>>) -> io::Result<Call<'a>> {
     let is_behind = line.word == "then";
     match above {

@@ -12,7 +12,8 @@ use std::io;
 pub(crate) struct Trial<'n> {
     alloc: Global,
     name: &'n str,
-    /// How many rows there are, how many calls were made, and how many of them went otherwise than wanted.
+    /// How many rows there are, how many calls were made, and how many of them went otherwise than
+    /// wanted.
     pub rows: usize,
     pub calls: usize,
     pub wrong: usize,
@@ -36,7 +37,8 @@ impl<'n> Trial<'n> {
         }
     }
 
-    /// Reads a table and does its rows. Where a line cannot be read or done, that is wrong, and nothing behind it is done.
+    /// Reads a table and does its rows. Where a line cannot be read or done, that is wrong, and
+    /// nothing behind it is done.
     pub fn try_text(&mut self, text: &str) -> Result<(), AllocError> {
         match self.read_and_try(text) {
             Ok(()) => Ok(()),
@@ -66,7 +68,8 @@ impl<'n> Trial<'n> {
         Ok(())
     }
 
-    /// Does the calls of a row once, or once for each change of a file. A row without a call asks for an explanation.
+    /// Does the calls of a row once, or once for each change of a file. A row without a call asks
+    /// for an explanation.
     fn try_row<'a>(&mut self, table: &'a Table<'a>, row: &'a Row<'a>) -> io::Result<()> {
         if row.calls.is_empty() {
             return self.try_explanation(table, row);
