@@ -2,8 +2,10 @@
 ghost use Rattle.std.specs.Prelude.{◌≡◌, ◌≢◌, ℕ, ◌+◌, ◌-◌, ◌^◌, ◌<◌, ◌≤◌, ◌⊎◌, List, [], ◌∷◌, ◌++◌, take, length, min, Option, Some, None, OnOk, OnErr, IsOk, IsErr, IsSome, IfSome, IfNone, OnSome, IsErrOf};
 ghost use Rattle.std.specs.Option.{option_copied, option_map};
 ghost use Rattle.std.specs.FinMap as fin;
-ghost use Rattle.pg_outside.specs.Content.{file_at, KeepsHeld};
-ghost use Rattle.pg_outside.specs.Inside.ToldFiles.{IsFile, IsFileCut, WasWritten, WasPartWritten};
+ghost use Rattle.pg_outside.specs.Content.{file_at, HasPart, KeepsHeld};
+ghost use Rattle.pg_outside.specs.Inside.MissingNames.{times_in};
+ghost use Rattle.pg_outside.specs.Inside.StoredFile.{file_map, room_in};
+ghost use Rattle.pg_outside.specs.Inside.ToldFiles.{IsCut, IsFile, IsFileCut, WasWritten, WasPartWritten};
 ghost use Rattle.pg_outside.specs.Faults.{next_count};
 ghost use Rattle.pg_outside.specs.Inside.NameFaults.{RoseFor, RoseByOneAtMost, NoneFell, SameCounts, SameOthers};
 ghost use Rattle.pg_outside.specs.FilesCalls.{Reads, Writes};
@@ -139,6 +141,72 @@ impl MemoryFiles {
     }
 }
 
+/// Reads the file of this name, or notes the name where there is none.
+fn read_or_note(
+    alloc: Global,
+    files: &[StoredFile],
+    missing: &mut Vec<String>,
+    name: &str,
+    limit: usize,
+    into: &mut Vec<u8>,
+) -> Result<(), ReadError>
+    requires empty { into.old.items ≡ [] }
+    requires limit { limit < 2 ^ 64 - 1 }
+    ensures fits { OnOk result (length into.new.items ≤ limit) }
+    ensures cut { IsErrOf result ReadError.TooLong → length into.new.items ≡ limit + 1 }
+    ensures file { OnOk result (file_at (file_map files.now) name.now ≡ Some into.new.items) }
+    ensures cut_file { IsErrOf result ReadError.TooLong
+        → IsCut (file_at (file_map files.now) name.now) limit into.new.items }
+
+    // The name is noted where its file is missing, and nothing else changes the noted names.
+    ensures failed { IsErrOf result ReadError.Failed
+        → times_in missing.new.items name.now ≡ times_in missing.old.items name.now + 1 }
+    ensures found { IsSome (file_at (file_map files.now) name.now)
+        → IsErrOf result ReadError.Failed → ⊥ }
+    ensures same { IsSome (file_at (file_map files.now) name.now)
+        → missing.new.items ≡ missing.old.items }
+    ensures memory { IsErrOf result ReadError.Memory → missing.new.items ≡ missing.old.items }
+    ensures others { SameOthers (times_in missing.old.items) (times_in missing.new.items) name.now }
+    ensures later { NoneFell (times_in missing.old.items) (times_in missing.new.items) }
+    ensures by_one { RoseByOneAtMost (times_in missing.old.items) (times_in missing.new.items) }
+{
+    match bytes_of(files, name) {
+        Some(bytes) => read_bytes(bytes, limit, into),
+        None => {
+            note_name(alloc, missing, name)?;
+            Err(ReadError::Failed)
+        }
+    }
+}
+
+/// Sets the file of this name to the first `keep` bytes of those that a listed write was handed,
+/// where it keeps any and there is memory.
+fn store_front(
+    alloc: Global,
+    files: &mut Vec<StoredFile>,
+    name: &str,
+    bytes: &[u8],
+    keep: Option<usize>,
+)
+    ensures part { HasPart (file_map files.old.items) (file_map files.new.items) name.now bytes.now }
+    ensures none { keep ≡ None → file_map files.new.items ≡ file_map files.old.items }
+    ensures front { (kept : ℕ) → keep ≡ Some kept
+        → (file_map files.new.items ≡ file_map files.old.items)
+        ⊎ (file_map files.new.items
+        ≡ fin.insert (file_map files.old.items) name.now (take kept bytes.now)) }
+    ensures within { (kept : ℕ) → keep ≡ Some kept
+        → IsSome (file_at (file_map files.old.items) name.now)
+        → min kept (length bytes.now) ≤ room_in files.old.items name.now
+        → file_map files.new.items
+        ≡ fin.insert (file_map files.old.items) name.now (take kept bytes.now) }
+    ensures rooms { NoneFell (room_in files.old.items) (room_in files.new.items) }
+{
+    if let Some(keep) = keep {
+        let front = &bytes[..keep.min(bytes.len())];
+        let _ = store(alloc, files, name, front, 0);
+    }
+}
+
 impl Files for MemoryFiles {
     ghost use Rattle.pg_outside.specs.Inside.MemoryFiles.{files_of, room_of, reads_failed_of, writes_failed_of, calls_of, made_of, listed_of, next_listed, IsListed, IsUnlisted, HasFile, SameFiles, SameReads, SameWrites, ReadsRose, WritesRose, KeepsFront, KeepsFrontWithin};
 
@@ -201,13 +269,7 @@ impl Files for MemoryFiles {
         self.log = self.log.and(&Call::Read(name));
         match self.next_plan() {
             Some(_) => Err(ReadError::Failed),
-            None => match bytes_of(&self.files, name) {
-                Some(bytes) => read_bytes(bytes, limit, into),
-                None => {
-                    note_name(alloc, &mut self.missing, name)?;
-                    Err(ReadError::Failed)
-                }
-            },
+            None => read_or_note(alloc, &self.files, &mut self.missing, name, limit, into),
         }
     }
 
@@ -256,10 +318,7 @@ impl Files for MemoryFiles {
         self.log = self.log.and(&Call::Write(name));
         match self.next_plan() {
             Some(plan) => {
-                if let Some(keep) = plan.keep {
-                    let kept = &bytes[..keep.min(bytes.len())];
-                    let _ = store(self.alloc, &mut self.files, name, kept, 0);
-                }
+                store_front(self.alloc, &mut self.files, name, bytes, plan.keep);
                 Err(Failed)
             }
             None => {

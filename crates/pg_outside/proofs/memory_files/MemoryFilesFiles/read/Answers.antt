@@ -2,15 +2,6 @@ use Rattle.std.proofs.Common.{arith}
 use Rattle.pg_outside.proofs.ListedCalls.{not_listed, not_unlisted}
 use Rattle.pg_outside.proofs.memory_files.MemoryFilesFiles.read.Goals as goal
 
-pub returns-in_ok-note_name-in-None-bytes_of-clause-reads : goal.returns-in_ok-note_name-in-None-bytes_of-clause-reads
-returns-in_ok-note_name-in-None-bytes_of-clause-reads c = λ name. grind (arith, c.note_name.ensures.later name)
-
-pub returns-in_ok-note_name-in-None-bytes_of-clause-missing_reads : goal.returns-in_ok-note_name-in-None-bytes_of-clause-missing_reads
-returns-in_ok-note_name-in-None-bytes_of-clause-missing_reads c = λ unlisted other apart. grind (arith, c.in_ok-note_name-in-None-bytes_of.ensures.others other apart)
-
-pub returns-in_ok-note_name-in-None-bytes_of-clause-reads_by_one : goal.returns-in_ok-note_name-in-None-bytes_of-clause-reads_by_one
-returns-in_ok-note_name-in-None-bytes_of-clause-reads_by_one c = λ name. grind (arith, c.in_ok-note_name-in-None-bytes_of.ensures.by_one name)
-
 pub returns-in-Some-clause-found : goal.returns-in-Some-clause-found
 returns-in-Some-clause-found c = λ unlisted. absurd (not_unlisted _ _ _ _ c.next_plan.ensures.plan c.in-Some.is unlisted)
 
@@ -23,29 +14,20 @@ returns-in-Some-clause-missing_reads c = λ unlisted. absurd (not_unlisted _ _ _
 pub returns-in-Some-clause-unlisted_writes : goal.returns-in-Some-clause-unlisted_writes
 returns-in-Some-clause-unlisted_writes c = λ unlisted. absurd (not_unlisted _ _ _ _ c.next_plan.ensures.plan c.in-Some.is unlisted)
 
-pub returns-in-Some-bytes_of-clause-listed_fails : goal.returns-in-Some-bytes_of-clause-listed_fails
-returns-in-Some-bytes_of-clause-listed_fails c = λ listed. absurd (not_listed _ _ _ c.next_plan.ensures.plan c.in-None.is listed)
+pub returns-in-None-clause-listed_fails : goal.returns-in-None-clause-listed_fails
+returns-in-None-clause-listed_fails c = λ listed. absurd (not_listed _ _ _ c.next_plan.ensures.plan c.in-None.is listed)
 
-pub returns-in-Some-bytes_of-clause-listed_reads : goal.returns-in-Some-bytes_of-clause-listed_reads
-returns-in-Some-bytes_of-clause-listed_reads c = λ listed. absurd (not_listed _ _ _ c.next_plan.ensures.plan c.in-None.is listed)
+pub returns-in-None-clause-listed_reads : goal.returns-in-None-clause-listed_reads
+returns-in-None-clause-listed_reads c = λ listed. absurd (not_listed _ _ _ c.next_plan.ensures.plan c.in-None.is listed)
 
-pub returns-in-Some-bytes_of-clause-listed_writes : goal.returns-in-Some-bytes_of-clause-listed_writes
-returns-in-Some-bytes_of-clause-listed_writes c = λ listed. absurd (not_listed _ _ _ c.next_plan.ensures.plan c.in-None.is listed)
+pub returns-in-None-clause-listed_writes : goal.returns-in-None-clause-listed_writes
+returns-in-None-clause-listed_writes c = λ listed. absurd (not_listed _ _ _ c.next_plan.ensures.plan c.in-None.is listed)
 
-pub returns-in_ok-note_name-in-None-bytes_of-clause-listed_fails : goal.returns-in_ok-note_name-in-None-bytes_of-clause-listed_fails
-returns-in_ok-note_name-in-None-bytes_of-clause-listed_fails c = λ listed. absurd (not_listed _ _ _ c.next_plan.ensures.plan c.in-None.is listed)
+pub returns-in-None-clause-reads : goal.returns-in-None-clause-reads
+returns-in-None-clause-reads c = λ name. grind (arith, c.read_or_note.ensures.later name)
 
-pub returns-in_ok-note_name-in-None-bytes_of-clause-listed_reads : goal.returns-in_ok-note_name-in-None-bytes_of-clause-listed_reads
-returns-in_ok-note_name-in-None-bytes_of-clause-listed_reads c = λ listed. absurd (not_listed _ _ _ c.next_plan.ensures.plan c.in-None.is listed)
+pub returns-in-None-clause-missing_reads : goal.returns-in-None-clause-missing_reads
+returns-in-None-clause-missing_reads c = λ unlisted other apart. grind (arith, c.read_or_note.ensures.others other apart)
 
-pub returns-in_ok-note_name-in-None-bytes_of-clause-listed_writes : goal.returns-in_ok-note_name-in-None-bytes_of-clause-listed_writes
-returns-in_ok-note_name-in-None-bytes_of-clause-listed_writes c = λ listed. absurd (not_listed _ _ _ c.next_plan.ensures.plan c.in-None.is listed)
-
-pub returns-in_err-note_name-in-None-bytes_of-clause-listed_fails : goal.returns-in_err-note_name-in-None-bytes_of-clause-listed_fails
-returns-in_err-note_name-in-None-bytes_of-clause-listed_fails c = λ listed. absurd (not_listed _ _ _ c.next_plan.ensures.plan c.in-None.is listed)
-
-pub returns-in_err-note_name-in-None-bytes_of-clause-listed_reads : goal.returns-in_err-note_name-in-None-bytes_of-clause-listed_reads
-returns-in_err-note_name-in-None-bytes_of-clause-listed_reads c = λ listed. absurd (not_listed _ _ _ c.next_plan.ensures.plan c.in-None.is listed)
-
-pub returns-in_err-note_name-in-None-bytes_of-clause-listed_writes : goal.returns-in_err-note_name-in-None-bytes_of-clause-listed_writes
-returns-in_err-note_name-in-None-bytes_of-clause-listed_writes c = λ listed. absurd (not_listed _ _ _ c.next_plan.ensures.plan c.in-None.is listed)
+pub returns-in-None-clause-reads_by_one : goal.returns-in-None-clause-reads_by_one
+returns-in-None-clause-reads_by_one c = λ name. grind (arith, c.read_or_note.ensures.by_one name)

@@ -1,23 +1,14 @@
 use Rattle.pg_outside.proofs.ListedCalls.{not_listed, not_unlisted, not_kept}
 use Rattle.pg_outside.proofs.memory_files.MemoryFilesFiles.write.Goals as goal
 
-pub returns-in-Some-keep-clause-within : goal.returns-in-Some-keep-clause-within
-returns-in-Some-keep-clause-within c = λ unlisted. absurd (not_unlisted _ _ _ _ c.next_plan.ensures.plan c.in-Some.is unlisted)
+pub returns-in-Some-clause-within : goal.returns-in-Some-clause-within
+returns-in-Some-clause-within c = λ unlisted. absurd (not_unlisted _ _ _ _ c.next_plan.ensures.plan c.in-Some.is unlisted)
 
-pub returns-in-Some-keep-clause-unlisted_files : goal.returns-in-Some-keep-clause-unlisted_files
-returns-in-Some-keep-clause-unlisted_files c = λ unlisted. absurd (not_unlisted _ _ _ _ c.next_plan.ensures.plan c.in-Some.is unlisted)
+pub returns-in-Some-clause-unlisted_files : goal.returns-in-Some-clause-unlisted_files
+returns-in-Some-clause-unlisted_files c = λ unlisted. absurd (not_unlisted _ _ _ _ c.next_plan.ensures.plan c.in-Some.is unlisted)
 
-pub returns-in-Some-keep-clause-unlisted_reads : goal.returns-in-Some-keep-clause-unlisted_reads
-returns-in-Some-keep-clause-unlisted_reads c = λ unlisted. absurd (not_unlisted _ _ _ _ c.next_plan.ensures.plan c.in-Some.is unlisted)
-
-pub returns-in_default-clause-within : goal.returns-in_default-clause-within
-returns-in_default-clause-within c = λ unlisted. absurd (not_unlisted _ _ _ _ c.next_plan.ensures.plan c.in-Some.is unlisted)
-
-pub returns-in_default-clause-unlisted_files : goal.returns-in_default-clause-unlisted_files
-returns-in_default-clause-unlisted_files c = λ unlisted. absurd (not_unlisted _ _ _ _ c.next_plan.ensures.plan c.in-Some.is unlisted)
-
-pub returns-in_default-clause-unlisted_reads : goal.returns-in_default-clause-unlisted_reads
-returns-in_default-clause-unlisted_reads c = λ unlisted. absurd (not_unlisted _ _ _ _ c.next_plan.ensures.plan c.in-Some.is unlisted)
+pub returns-in-Some-clause-unlisted_reads : goal.returns-in-Some-clause-unlisted_reads
+returns-in-Some-clause-unlisted_reads c = λ unlisted. absurd (not_unlisted _ _ _ _ c.next_plan.ensures.plan c.in-Some.is unlisted)
 
 pub returns-then-is_err-clause-listed_fails : goal.returns-then-is_err-clause-listed_fails
 returns-then-is_err-clause-listed_fails c = λ listed. absurd (not_listed _ _ _ c.next_plan.ensures.plan c.in-None.is listed)
