@@ -1,19 +1,24 @@
 -- Given files, read whole or by their first bytes.
-use Rattle.std.proofs.Common.{◌≡◌, ℕ, ◌+◌, List, take, Option, None, Some, IfSome, inl, inr, refl, sym, ap, ◌∙◌, subst, arith}
+use Rattle.std.proofs.Common.{◌≡◌, ℕ, ◌+◌, ◌≤◌, nat_lt, Bool, true, false, List, length, take, Option, None, Some, IfSome, inl, inr, refl, sym, ap, ◌∙◌, arith}
+use Rattle.std.proofs.lemmas.Bool.{ltb-true, ltb-false}
+use Rattle.std.proofs.lemmas.List.{take_all}
+use Rattle.std.specs.Option.{option_map}
 use Rattle.pg_outside.specs.Content.{FileMap, file_at}
-use Rattle.pg_outside.specs.Inside.ToldFiles.{IsFile, IsFileCut, IsCut}
 use Rattle.pg_top.specs.audit.Inside.Verdicts.{IsFrontOf}
 
--- a file that was read whole
-pub front_whole : (held : Option FileMap) (name bytes : List ℕ) (size more : ℕ) → IsFile held name bytes → IfSome held (λ files. IsFrontOf (file_at files name) size more bytes)
-front_whole None name bytes size more is = tt
-front_whole (Some files) name bytes size more is = subst (λ file. IsFrontOf file size more bytes) (sym is) (inl refl)
+by_size : (whole bytes : List ℕ) (size more : ℕ) → take (size + more + 1) whole ≡ bytes → (longer : Bool) → nat_lt (size + more) (length whole) ≡ longer → IsFrontOf (Some whole) size more bytes
+by_size whole bytes size more is true longer =
+    let same : size + more + 1 ≡ size + (more + 1) = omega arith in
+    inr (ltb-true (size + more) (length whole) longer, sym is ∙ ap (λ n. take n whole) same)
+by_size whole bytes size more is false shorter =
+    let few : length whole ≤ size + more = ltb-false (size + more) (length whole) shorter in
+    inl (sym is ∙ take_all (size + more + 1) whole (omega arith))
 
--- a file that is longer
-cut_front : (file : Option (List ℕ)) (bytes : List ℕ) (size more : ℕ) → IsCut file (size + more) bytes → IsFrontOf file size more bytes
-cut_front None bytes size more cut = absurd cut
-cut_front (Some whole) bytes size more cut = let same : size + more + 1 ≡ size + (more + 1) = omega arith in inr (cut.0, cut.1 ∙ ap (λ n. take n whole) same)
+front_of : (file : Option (List ℕ)) (bytes : List ℕ) (size more : ℕ) → option_map (take (size + more + 1)) file ≡ Some bytes → IsFrontOf file size more bytes
+front_of None bytes size more is = cc
+front_of (Some whole) bytes size more is = by_size whole bytes size more (cc) (nat_lt (size + more) (length whole)) refl
 
-pub front_cut : (held : Option FileMap) (name bytes : List ℕ) (size more : ℕ) → IsFileCut held name (size + more) bytes → IfSome held (λ files. IsFrontOf (file_at files name) size more bytes)
-front_cut None name bytes size more cut = tt
-front_cut (Some files) name bytes size more cut = cut_front (file_at files name) bytes size more cut
+-- the first bytes of a file are the whole file, or the file is longer
+pub given_front : (held : Option FileMap) (name bytes : List ℕ) (size more : ℕ) → IfSome held (λ files. option_map (take (size + more + 1)) (file_at files name) ≡ Some bytes) → IfSome held (λ files. IsFrontOf (file_at files name) size more bytes)
+given_front None name bytes size more is = tt
+given_front (Some files) name bytes size more is = front_of (file_at files name) bytes size more is

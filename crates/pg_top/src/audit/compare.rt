@@ -1,5 +1,5 @@
 //! Given files, read and compared one after the other.
-ghost use Rattle.std.specs.Prelude.{◌≡◌, [], ◌∷◌, ◌+◌, ◌-◌, ◌^◌, ◌<◌, length, slice_get, IfOk, IfErr, IfSome, Some};
+ghost use Rattle.std.specs.Prelude.{◌≡◌, [], ◌∷◌, ◌<◌, length, slice_get, IfOk, IfErr, IfSome, Some};
 ghost use Rattle.std.specs.Option.{option_map};
 ghost use Rattle.pg_audit.specs.Differences.{first_false};
 ghost use Rattle.pg_outside.specs.Content.{file_at};
@@ -7,14 +7,15 @@ ghost use Rattle.pg_outside.specs.FilesCalls.{Reads};
 ghost use Rattle.pg_top.specs.audit.Audited.{denies};
 ghost use Rattle.pg_top.specs.Counted.{MakesCalls};
 ghost use Rattle.pg_top.specs.Readings.{first_end};
-ghost use Rattle.pg_top.specs.Inside.Stops.{OnlyReads, StopsFront, StopsAt, StopsReading};
-ghost use Rattle.pg_top.specs.audit.Inside.Verdicts.{wanted_file, wanted_files, end_of, ReadsToFind, IsFrontOf};
+ghost use Rattle.pg_top.specs.Inside.Stops.{OnlyReads, StopsAt, StopsReading};
+ghost use Rattle.pg_top.specs.audit.Inside.Verdicts.{wanted_file, wanted_files, end_of, ReadsToFind};
 
 use crate::audit::no_lines::no_line;
 use crate::audit::wanted::Wanted;
 use crate::inputs::Stop;
+use crate::reading::read_front;
 use pg_audit::compare;
-use pg_outside::{Files, ReadError};
+use pg_outside::Files;
 use pg_watch::Watch;
 use std::alloc::{AllocError, Global};
 
@@ -28,33 +29,6 @@ pub enum Verdict {
     Equal,
     /// A line is false, as this printed line says.
     False(Vec<u8>),
-}
-
-/// Reads a given file. The right one has this size. Of a file that is longer by more than `MORE`
-/// bytes, only the first `size + MORE + 1` bytes are kept: they have the same first false line.
-fn read_given<'a, F: Files, W: Watch>(
-    alloc: Global,
-    name: &'a str,
-    size: usize,
-    files: &mut F,
-    watch: &W,
-) -> Result<Vec<u8>, Stop<'a>>
-    requires { size + MORE < 2 ^ 64 - 1 }
-    ensures only { OnlyReads (F.shown files.old) (F.shown files.new) }
-    ensures calls { MakesCalls (F.shown files.old) (F.shown files.new) (Reads name.now ∷ []) }
-    ensures front { IfOk result (λ bytes.
-        IfSome (F.shown files.new).held
-        (λ files. IsFrontOf (file_at files name.now) size MORE bytes.items)) }
-    ensures stopped { IfErr result (StopsFront name.now (F.shown files.old) (F.shown files.new)) }
-{
-    watch.reads(name);
-    let mut bytes = Vec::new(alloc);
-    match files.read(alloc, name, size + MORE, &mut bytes) {
-        Ok(()) => Ok(bytes),
-        Err(ReadError::TooLong) => Ok(bytes),
-        Err(ReadError::Failed) => Err(Stop::Unread(name)),
-        Err(ReadError::Memory) => Err(Stop::Memory),
-    }
 }
 
 /// What comparing a given file, or a long one's first bytes, with its text gives. The observer is
@@ -79,7 +53,8 @@ fn judge<W: Watch>(
     }
 }
 
-/// Reads a given file and compares it with its text.
+/// Reads a given file and compares it with its text. Of a file that is longer by more than `MORE`
+/// bytes only the first bytes are read: they have the same first false line.
 fn compare_file<'a, F: Files, W: Watch>(
     alloc: Global,
     wanted: &Wanted<'a>,
@@ -97,7 +72,7 @@ fn compare_file<'a, F: Files, W: Watch>(
         (StopsAt (wanted_file wanted.now) (F.shown files.old) (F.shown files.new)) }
 {
     let text = wanted.text.as_slice();
-    let bytes = read_given(alloc, wanted.name, text.len(), files, watch)?;
+    let bytes = read_front(alloc, wanted.name, text.len() + MORE, files, watch)?;
     let verdict = judge(alloc, &bytes, wanted, text, watch)?;
     Ok(verdict)
 }
