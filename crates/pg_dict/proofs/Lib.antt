@@ -7,6 +7,7 @@ pub mod SoundItems
 pub mod Enters
 pub mod Told
 pub mod Sizes
+pub mod ManyWords
 pub mod Lines
 pub mod Running
 pub mod WordLaws

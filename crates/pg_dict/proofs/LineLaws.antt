@@ -4,7 +4,7 @@ use Rattle.std.specs.List.{list_any, AllByRecursion}
 use Rattle.std.proofs.lemmas.List.{append_assoc}
 use Rattle.pg_types.specs.declared.limits.TheConstants.{FILE_MAX, WORD_LETTERS_MAX}
 use Rattle.pg_types.specs.Lines.{without_cr, lines}
-use Rattle.pg_types.specs.Reading.{both_parts}
+use Rattle.pg_types.specs.Inside.Parts.{both_parts}
 use Rattle.pg_translate.specs.Alphabets.{Alphabet}
 use Rattle.pg_translate.specs.Tokens.{Token, Letter, Digit, Weight, Marked, Edge}
 use Rattle.pg_translate.specs.Gaps.{signs_of}
@@ -16,7 +16,8 @@ use Rattle.pg_translate.proofs.Unbroken.{joined_unbroken}
 use Rattle.pg_translate.proofs.LineTexts.{pieces_of_line, unbroken_feed, unbroken_return}
 use Rattle.pg_translate.proofs.JoinedItems as reads
 use Rattle.pg_dict.specs.Word.{Word}
-use Rattle.pg_dict.specs.Words.{LineWord, line_word, line_reading, on_line, words_from, words}
+use Rattle.pg_dict.specs.Words.{words}
+use Rattle.pg_dict.specs.Inside.LineWords.{LineWord, line_word, line_reading, on_line, words_from}
 use Rattle.pg_dict.specs.Inside.Written.{letters_among, IsLine, file_of, LinesGive}
 use Rattle.pg_dict.proofs.Lines.{words_short}
 

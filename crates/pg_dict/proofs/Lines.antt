@@ -9,7 +9,7 @@ use Rattle.std.proofs.lemmas.List.{append-nil}
 use Rattle.pg_types.specs.declared.refusals.Refusal.{Refusal}
 use Rattle.pg_types.specs.declared.refusals.ReadingError.{ReadingError}
 use Rattle.pg_types.specs.declared.refusals.ReadingError.TheVariants.{Refused, Memory}
-use Rattle.pg_types.specs.Reading.{both_parts}
+use Rattle.pg_types.specs.Inside.Parts.{both_parts}
 use Rattle.pg_types.specs.Inside.Answers.{Fails}
 use Rattle.pg_translate.specs.Alphabets.{Alphabet}
 use Rattle.pg_types.specs.declared.limits.TheConstants.{FILE_MAX}
@@ -20,7 +20,9 @@ use Rattle.pg_dict.specs.Inside.PositionedSigns.{Columns, no_columns}
 use Rattle.pg_dict.specs.Inside.Store.{columns_of, word_at, stored_words, all_signs, all_weights, lies_within, is_sign_up_to, IsSound, IsFit}
 use Rattle.pg_dict.specs.Word.{Word}
 use Rattle.pg_dict.specs.Inside.SoundWords.{is_weight, IsWord}
-use Rattle.pg_dict.specs.Words.{LineWord, line_reading, on_line, words_from, words}
+use Rattle.pg_dict.specs.Words.{words}
+use Rattle.pg_dict.specs.Inside.LineWords.{LineWord, line_reading, on_line, words_from}
+use Rattle.pg_dict.proofs.ManyWords.{lines_as}
 use Rattle.pg_dict.specs.Inside.Entries.{Entries, with_word}
 
 -- words behind words behind words
@@ -66,7 +68,7 @@ with_nothing (Err r) = refl
 
 -- a file that is not too long
 pub words_short : (t : Alphabet) (bytes : List ℕ) → length bytes ≤ FILE_MAX → words t bytes ≡ words_from t 1 1 (lines bytes)
-words_short t bytes short = rw (le-ltb FILE_MAX (length bytes) short) refl
+words_short t bytes short = rw (le-ltb FILE_MAX (length bytes) short) (sym (lines_as t 1 1 (lines bytes)))
 
 -- a store without a word
 pub starts : (s : Store) (rest : Result (List Word) Refusal) → s.words.items ≡ [] → both_parts (Ok (stored_words s)) rest ≡ rest

@@ -15,7 +15,8 @@ use Rattle.pg_translate.proofs.Gaps.{gaps_some}
 use Rattle.pg_dict.specs.Inside.PositionedSigns.{PositionedSign, positioned_sign}
 use Rattle.pg_dict.specs.Word.{Word}
 use Rattle.pg_dict.specs.Inside.SoundWords.{word_with}
-use Rattle.pg_dict.specs.Words.{LineWord, at_positions, word_of_items, word_if, line_word, line_reading, sets_hyphen, keeps_care}
+use Rattle.pg_dict.specs.Words.{at_positions, word_of_items, sets_hyphen, keeps_care}
+use Rattle.pg_dict.specs.Inside.LineWords.{LineWord, word_if, line_word, line_reading}
 use Rattle.pg_dict.specs.Inside.LineStarts.{rest_reading}
 use Rattle.pg_dict.specs.Inside.Running.{signs_behind, word_signs, running_word}
 

@@ -15,7 +15,7 @@ use Rattle.pg_dict.specs.Inside.PositionedSigns.{PositionedSign, positioned_sign
 use Rattle.pg_translate.specs.LineRefusals.{line_refusal}
 use Rattle.pg_translate.specs.Inside.Refusing.{refusal_with_room}
 use Rattle.pg_translate.proofs.LineSteps.{along}
-use Rattle.pg_dict.specs.Words.{LineWord}
+use Rattle.pg_dict.specs.Inside.LineWords.{LineWord}
 use Rattle.pg_dict.specs.Inside.Running.{running_word, signs_behind}
 use Rattle.pg_dict.specs.Inside.ReadColumns.{columns_after}
 use Rattle.pg_dict.specs.Inside.LineStarts.{rest_reading, word_reading}

@@ -10,7 +10,8 @@ use Rattle.pg_translate.specs.Tokens.{Token, Letter, Digit, Weight}
 use Rattle.pg_dict.specs.Inside.PositionedSigns.{PositionedSign, positioned_sign}
 use Rattle.pg_dict.specs.Word.{Word}
 use Rattle.pg_dict.specs.Inside.SoundWords.{word_with, IsWord}
-use Rattle.pg_dict.specs.Words.{line_word, sets_hyphen, keeps_care}
+use Rattle.pg_dict.specs.Words.{sets_hyphen, keeps_care}
+use Rattle.pg_dict.specs.Inside.LineWords.{line_word}
 use Rattle.pg_dict.specs.Inside.Running.{signs_behind, running_word}
 use Rattle.pg_dict.proofs.Running.{same_word, running_is}
 use Rattle.pg_dict.specs.Inside.Written.{Written, number_token, mark_tokens, weight_tokens, letters_tokens, written_signs, written_letters, between_letters, AreMarksOf, letters_with, word_tokens}

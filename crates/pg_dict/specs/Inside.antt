@@ -5,6 +5,7 @@ pub mod Store
 pub mod ReadColumns
 pub mod Steps
 pub mod LineStarts
+pub mod LineWords
 pub mod Entries
 pub mod Lent
 pub mod Written

@@ -3,7 +3,7 @@ ghost use Rattle.std.specs.Prelude.{◌<◌, ◌≤◌, ◌+◌, ◌*◌, length
 ghost use Rattle.pg_types.specs.Inside.Answers.{Gives};
 ghost use Rattle.pg_translate.specs.Alphabets.{letters_of};
 ghost use Rattle.pg_translate.specs.Inside.Rules.{KeepsRules};
-ghost use Rattle.pg_dict.specs.Words.{line_reading};
+ghost use Rattle.pg_dict.specs.Inside.LineWords.{line_reading};
 ghost use Rattle.pg_dict.specs.Inside.LineStarts.{word_reading_by};
 ghost use Rattle.pg_dict.specs.Inside.Entries.{with_word, entries_of, GrowsBy};
 ghost use Rattle.pg_dict.specs.Inside.Store.{stored_words, IsSound, IsFit};

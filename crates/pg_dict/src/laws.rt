@@ -7,7 +7,8 @@ ghost use Rattle.pg_translate.specs.Tokens.{Token};
 ghost use Rattle.pg_translate.specs.Inside.Items.{AreItems, text_of_items, tokens_in};
 ghost use Rattle.pg_dict.specs.Word.{Word};
 ghost use Rattle.pg_dict.specs.Inside.SoundWords.{IsWord};
-ghost use Rattle.pg_dict.specs.Words.{line_reading, line_word, words};
+ghost use Rattle.pg_dict.specs.Words.{words};
+ghost use Rattle.pg_dict.specs.Inside.LineWords.{line_reading, line_word};
 ghost use Rattle.pg_dict.specs.Inside.Written.{AreMarksOf, word_tokens, letters_among, IsLine, file_of, LinesGive};
 
 use pg_translate::Table;

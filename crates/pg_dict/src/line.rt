@@ -1,7 +1,8 @@
 //! A line that is being read, and its refusals.
 ghost use Rattle.std.specs.Prelude.{◌≡◌, ◌≤◌, ◌+◌, ◌-◌, length};
 ghost use Rattle.pg_types.specs.declared.limits.TheConstants.{FILE_MAX, WEIGHT_MAX};
-ghost use Rattle.pg_translate.specs.LineRefusals.{refused, bad_kind};
+ghost use Rattle.pg_translate.specs.LineRefusals.{bad_kind};
+ghost use Rattle.pg_types.specs.Reading.{refused};
 ghost use Rattle.pg_translate.specs.declared.items.Place.TheVariants.{Dictionary};
 
 use pg_translate::Table;

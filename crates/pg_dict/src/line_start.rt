@@ -1,6 +1,6 @@
 //! The reading of a line up to its first letter.
 ghost use Rattle.std.specs.Prelude.{◌≡◌, length};
-ghost use Rattle.pg_dict.specs.Words.{line_reading};
+ghost use Rattle.pg_dict.specs.Inside.LineWords.{line_reading};
 ghost use Rattle.pg_dict.specs.Inside.LineStarts.{IsLineStart};
 
 use crate::line::{Line, kind_of};

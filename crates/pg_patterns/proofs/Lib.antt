@@ -9,6 +9,7 @@ pub mod Strings
 pub mod Steps
 pub mod Running
 pub mod LineEntries
+pub mod ManyEntries
 pub mod Known
 pub mod ReadBack
 pub mod Restored

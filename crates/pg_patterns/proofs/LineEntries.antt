@@ -7,7 +7,8 @@ use Rattle.std.specs.List.{All, list_all}
 use Rattle.pg_types.specs.declared.limits.TheConstants.{EDGE, PATTERN_SIGNS_MAX}
 use Rattle.pg_types.specs.declared.refusals.Refusal.{Refusal}
 use Rattle.pg_types.specs.Lines.{lines}
-use Rattle.pg_types.specs.Reading.{unless, both_parts}
+use Rattle.pg_types.specs.Reading.{unless}
+use Rattle.pg_types.specs.Inside.Parts.{both_parts}
 use Rattle.pg_types.specs.Inside.Signs.{is_sign}
 use Rattle.pg_translate.specs.declared.items.Place.TheVariants.{Patterns}
 use Rattle.pg_translate.specs.Alphabets.{Alphabet}
@@ -16,9 +17,8 @@ use Rattle.pg_translate.specs.Cuts.{cut, tokens_of}
 use Rattle.pg_patterns.specs.Inside.PatternMaps.{SignsUpTo, is_entry}
 use Rattle.pg_translate.specs.Gaps.{signs_of}
 use Rattle.pg_translate.specs.LineRefusals.{line_refusal}
-use Rattle.pg_patterns.specs.Lines.{digit_at_dot, entry_at, entries_at, line_entries, entries_of_line}
+use Rattle.pg_patterns.specs.Inside.EntryLines.{digit_at_dot, entry_at, entries_at, entries_of_items, entries_of_line, entries_from}
 use Rattle.pg_patterns.proofs.Running.{digits_from, digits_are}
-use Rattle.pg_patterns.specs.Starts.{entries_from}
 use Rattle.pg_patterns.specs.Inside.Drafts.{Draft, IsDraft, IsDotDigit, no_draft, all_digits, draft_with_sign, with_token, draft_entries, line_draft}
 use Rattle.pg_types.proofs.BoolFacts.{and_first, and_second}
 use Rattle.pg_patterns.proofs.Sound.{EntryBounds, entry_told}
@@ -46,7 +46,7 @@ fold_digits d (Weight weight ∷ tokens) = fold_digits d tokens
 fold_digits d (Marked mark ∷ tokens) = fold_digits d tokens
 fold_digits d (Edge ∷ tokens) = fold_digits (draft_with_sign d EDGE) tokens ∙ digits_on d EDGE tokens
 
-entries_of_draft : (tokens : List Token) → line_entries tokens ≡ draft_entries (fold with_token no_draft tokens)
+entries_of_draft : (tokens : List Token) → entries_of_items tokens ≡ draft_entries (fold with_token no_draft tokens)
 entries_of_draft tokens =
     ap (entries_at (signs_of tokens)) (sym (digits_are tokens)) ∙ ap (λ q. entries_at q (digits_from 0 0 tokens)) (sym (fold_signs no_draft tokens)) ∙ ap (entries_at (fold with_token no_draft tokens).signs) (sym (fold_digits no_draft tokens))
 
@@ -61,12 +61,12 @@ unless_gives f (Some s) x d y is same = cc
 -- where its draft is refused, a line is
 pub line_fails : (t : Alphabet) (line : ℕ) (text : List ℕ) (r : Refusal) → Err r ≡ line_draft t line text → entries_of_line t line text ≡ Err r
 line_fails t line text r is =
-    unless_fails (line_refusal Patterns line (cut t Patterns text)) (fold with_token no_draft (tokens_of (cut t Patterns text))) (line_entries (tokens_of (cut t Patterns text))) r is
+    unless_fails (line_refusal Patterns line (cut t Patterns text)) (fold with_token no_draft (tokens_of (cut t Patterns text))) (entries_of_items (tokens_of (cut t Patterns text))) r is
 
 -- a line gives the entries of its draft
 pub line_gives : (t : Alphabet) (line : ℕ) (text : List ℕ) (d : Draft) → Ok d ≡ line_draft t line text → entries_of_line t line text ≡ Ok (draft_entries d)
 line_gives t line text d is =
-    unless_gives draft_entries (line_refusal Patterns line (cut t Patterns text)) (fold with_token no_draft (tokens_of (cut t Patterns text))) d (line_entries (tokens_of (cut t Patterns text))) is (entries_of_draft (tokens_of (cut t Patterns text)))
+    unless_gives draft_entries (line_refusal Patterns line (cut t Patterns text)) (fold with_token no_draft (tokens_of (cut t Patterns text))) d (entries_of_items (tokens_of (cut t Patterns text))) is (entries_of_draft (tokens_of (cut t Patterns text)))
 
 -- what was read, and a refused line
 pub left_fails : (t : Alphabet) (line : ℕ) (es : List ((List ℕ × ℕ) × ℕ)) (text rest after : List ℕ) (whole : Result (List ((List ℕ × ℕ) × ℕ)) Refusal) (r : Refusal) → both_parts (Ok es) (entries_from t line (lines rest)) ≡ whole → lines rest ≡ text ∷ lines after → Err r ≡ line_draft t line text → whole ≡ Err r

@@ -16,10 +16,9 @@ use Rattle.pg_patterns.specs.DottedSigns.{dotted_cmp}
 use Rattle.pg_patterns.specs.Inside.PlaceOrder.{dotted_exact}
 use Rattle.pg_patterns.specs.Inside.PatternMaps.{is_entry}
 use Rattle.pg_translate.specs.Gaps.{sign_of, signs_of}
-use Rattle.pg_patterns.specs.Lines.{digit_at_dot, entries_at, line_entries}
+use Rattle.pg_patterns.specs.Inside.EntryLines.{digit_at_dot, entries_at, entries_of_items, entries_from}
 use Rattle.pg_patterns.proofs.Running.{digits_from, digits_are}
-use Rattle.pg_types.specs.Reading.{both_parts}
-use Rattle.pg_patterns.specs.Starts.{entries_from}
+use Rattle.pg_types.specs.Inside.Parts.{both_parts}
 use Rattle.pg_patterns.specs.Texts.{value_digit, line_from, pattern_line}
 use Rattle.pg_types.proofs.BoolFacts.{and_first, and_second, equal_is}
 use Rattle.pg_patterns.proofs.Sound.{entry_bounds}
@@ -162,7 +161,7 @@ digits_of_items t P q dot [] sound = digits_end P (q, dot) dot sound
 digits_of_items t P q dot (s ∷ ss) sound =
     digits_more t P (q, dot) dot s (items_from t P q (dot + 1) ss) sound ∙ ap (λ x. option_map_or (λ v. (dot, v) ∷ []) (find dotted_cmp (q, dot) P) [] ++ x) (digits_of_items t P q (dot + 1) ss sound)
 
-entries_of_string : (t : Alphabet) (P : List ((List ℕ × ℕ) × ℕ)) (q : List ℕ) → list_all is_entry P ≡ true → line_entries (tokens_in (items_from t P q 0 q)) ≡ entries_of P q
+entries_of_string : (t : Alphabet) (P : List ((List ℕ × ℕ) × ℕ)) (q : List ℕ) → list_all is_entry P ≡ true → entries_of_items (tokens_in (items_from t P q 0 q)) ≡ entries_of P q
 entries_of_string t P q sound =
     ap (entries_at (signs_of (tokens_in (items_from t P q 0 q)))) (sym (digits_are (tokens_in (items_from t P q 0 q)))) ∙ ap (λ x. entries_at x (digits_from 0 0 (tokens_in (items_from t P q 0 q)))) (signs_from t P q 0 q) ∙ ap (entries_at q) (digits_of_items t P q 0 q sound)
 
@@ -182,5 +181,5 @@ strings_read t P line (q ∷ qs) rules sound strings =
     let text : pattern_line t P q ++ more ≡ text_of_items items ++ 10 ∷ more = ap (λ x. x ++ more) (line_text t P q 0 q) ∙ append_assoc (text_of_items items) (10 ∷ []) more in
     let cut : lines (pattern_line t P q ++ more) ≡ text_of_items items ∷ lines more = ap lines text ∙ lines_of_text (text_of_items items) more (joined_unbroken t rules Patterns items read) in
     ap (entries_from t line) cut
-    ∙ ap (λ x. both_parts x (entries_from t (line + 1) (lines more))) (line_is_read line_entries t rules Patterns line items read few ∙ ap Ok (entries_of_string t P q sound))
+    ∙ ap (λ x. both_parts x (entries_from t (line + 1) (lines more))) (line_is_read entries_of_items t rules Patterns line items read few ∙ ap Ok (entries_of_string t P q sound))
     ∙ ap (both_parts (Ok (entries_of P q))) (strings_read t P (line + 1) qs rules sound strings.1)

@@ -11,7 +11,7 @@ use Rattle.pg_patterns.specs.DottedSigns.{dotted_cmp}
 use Rattle.pg_patterns.specs.Inside.PlaceOrder.{same_dotted, dotted_equiv, dotted_ties, dotted_exact}
 use Rattle.pg_patterns.specs.Values.{value_of, best, map_of_entries}
 use Rattle.pg_patterns.specs.Inside.PatternMaps.{IsPatternMap, is_entry}
-use Rattle.pg_patterns.specs.Lines.{entry_at, entries_at}
+use Rattle.pg_patterns.specs.Inside.EntryLines.{entry_at, entries_at}
 use Rattle.pg_patterns.specs.Texts.{with_string, strings_of}
 use Rattle.pg_types.proofs.BoolFacts.{and_first, equal_is}
 use Rattle.pg_patterns.proofs.Sound.{entry_bounds}

@@ -6,7 +6,7 @@ use Rattle.pg_types.specs.declared.marks.Mark.{Mark}
 use Rattle.pg_translate.specs.Tokens.{Token, Letter, Digit, Weight, Marked, Edge}
 use Rattle.pg_translate.specs.Gaps.{gaps, digit_of, last_else}
 use Rattle.pg_translate.proofs.Gaps.{gaps_some}
-use Rattle.pg_patterns.specs.Lines.{digit_at_dot, digits_at}
+use Rattle.pg_patterns.specs.Inside.EntryLines.{digit_at_dot, digits_at}
 
 -- the dots with their digits from a dot on, where a digit was the last so far: of the digits at one dot the last counts
 abbrev pub digits_from : ℕ → ℕ → List Token → List (ℕ × ℕ)

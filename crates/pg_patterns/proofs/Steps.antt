@@ -6,7 +6,7 @@ use Rattle.std.proofs.lemmas.List.Elements.{All-push, All-append, All-weaker, Al
 use Rattle.std.specs.List.{All}
 use Rattle.pg_types.specs.declared.limits.TheConstants.{PATTERN_SIGNS_MAX}
 use Rattle.pg_types.specs.declared.refusals.Kind.TheVariants.{PatternTooLong}
-use Rattle.pg_types.specs.Reading.{unless}
+use Rattle.pg_types.specs.Reading.{unless, refused}
 use Rattle.pg_translate.specs.declared.items.Place.TheVariants.{Patterns}
 use Rattle.pg_translate.specs.Alphabets.{Alphabet}
 use Rattle.pg_translate.specs.Tokens.{Token}
@@ -14,10 +14,9 @@ use Rattle.pg_translate.specs.Cuts.{Cut, tokens_of}
 use Rattle.pg_translate.specs.Inside.Rests.{cut_rest, with_item}
 use Rattle.pg_translate.specs.Inside.Answers.{HasItem}
 use Rattle.pg_translate.specs.Gaps.{sign_of}
-use Rattle.pg_translate.specs.LineRefusals.{refused}
 use Rattle.pg_translate.specs.Inside.Refusing.{refusal_with_room}
 use Rattle.pg_translate.proofs.LineSteps.{cut_rest-takes, refusal_sign, refusal_full}
-use Rattle.pg_patterns.specs.Lines.{digit_at_dot}
+use Rattle.pg_patterns.specs.Inside.EntryLines.{digit_at_dot}
 use Rattle.pg_patterns.specs.Inside.Drafts.{Draft, IsDraft, IsDotDigit, all_digits, draft_with_sign, with_token, refusal_after, draft_left}
 
 -- a sign leaves room for one less

@@ -1,5 +1,5 @@
 -- The text of a map is a pattern file of the map.
-use Rattle.std.proofs.Common.{◌≡◌, ℕ, ◌+◌, ◌≤◌, true, false, cond, nat_eq, nat_lt, List, [], ◌∷◌, length, ◌++◌, Ok, Err, ap, subst, ◌∙◌}
+use Rattle.std.proofs.Common.{◌≡◌, ℕ, ◌+◌, ◌≤◌, true, false, cond, nat_eq, nat_lt, List, [], ◌∷◌, length, flat_map, ◌++◌, Ok, Err, sym, ap, subst, ◌∙◌}
 use Rattle.std.proofs.lemmas.Bool.{le-ltb}
 use Rattle.std.proofs.lemmas.List.Elements.{All-head, All-tail}
 use Rattle.std.specs.Cmp.Lexicographic.{pointwise}
@@ -10,11 +10,16 @@ use Rattle.pg_types.specs.Lines.{lines}
 use Rattle.pg_translate.specs.Alphabets.{Alphabet, letters_of}
 use Rattle.pg_translate.specs.Inside.Rules.{KeepsRules}
 use Rattle.pg_patterns.specs.Inside.PatternMaps.{IsPatternMap, SignsUpTo, is_entry}
-use Rattle.pg_patterns.specs.Starts.{joined_entries, entries_from, start}
+use Rattle.pg_translate.specs.declared.items.Place.TheVariants.{Patterns}
+use Rattle.pg_translate.specs.LineRefusals.{of_lines}
+use Rattle.pg_patterns.specs.Values.{map_of_entries}
+use Rattle.pg_patterns.specs.Starts.{line_entries, start}
+use Rattle.pg_patterns.specs.Inside.EntryLines.{joined_entries, entries_from}
 use Rattle.pg_patterns.specs.Texts.{with_string, strings_of, pattern_text}
 use Rattle.pg_types.proofs.BoolFacts.{and_first, and_second}
 use Rattle.pg_patterns.proofs.Sound.{each_sign, entry_bounds}
 use Rattle.pg_patterns.proofs.ReadBack.{IsString, strings_read}
+use Rattle.pg_patterns.proofs.ManyEntries.{joined_as}
 use Rattle.pg_patterns.proofs.Restored.{joined_strings}
 
 string_kept : (n : ℕ) (q : List ℕ) (rs : List (List ℕ)) → IsString n q → AllByRecursion (IsString n) rs → AllByRecursion (IsString n) (with_string q rs)
@@ -39,7 +44,8 @@ not_longer a b upto = le-ltb a b upto
 -- the text of a map is read back as the map
 pub text_reads_back : (t : Alphabet) (P : List ((List ℕ × ℕ) × ℕ)) → KeepsRules t → IsPatternMap P → SignsUpTo (letters_of t + 1) P → length (pattern_text t P) ≤ FILE_MAX → start t (pattern_text t P) ≡ Ok P
 text_reads_back t P rules map known few =
-    ap (λ b. cond b (Err (record { kind = PatternsTooLong; line = 0; column = 0 })) (joined_entries (entries_from t 1 (lines (pattern_text t P))))) (not_longer FILE_MAX (length (pattern_text t P)) few)
+    ap (λ b. cond b (Err (record { kind = PatternsTooLong; line = 0; column = 0 })) (of_lines (λ ls. map_of_entries (flat_map line_entries ls)) t Patterns (lines (pattern_text t P)))) (not_longer FILE_MAX (length (pattern_text t P)) few)
+    ∙ sym (joined_as t (lines (pattern_text t P)))
     ∙ ap joined_entries (strings_read t P 1 (strings_of P) rules map.sound (strings_known (letters_of t + 1) P map.sound known))
     ∙ ap Ok (joined_strings P map)
 

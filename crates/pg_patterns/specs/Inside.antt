@@ -1,5 +1,6 @@
 -- What only contracts between layers and proofs need.
 pub mod Search
 pub mod Drafts
+pub mod EntryLines
 pub mod PatternMaps
 pub mod PlaceOrder

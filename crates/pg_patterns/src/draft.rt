@@ -1,6 +1,6 @@
 //! A line of a pattern file, as far as it was read.
 ghost use Rattle.std.specs.Prelude.{◌≡◌, ◌≤◌, ◌++◌, length, map, OnOk};
-ghost use Rattle.pg_patterns.specs.Lines.{entry_at};
+ghost use Rattle.pg_patterns.specs.Inside.EntryLines.{entry_at};
 
 use crate::dotted_signs::DottedSigns;
 use pg_types::{PATTERN_SIGNS_MAX, Sign};

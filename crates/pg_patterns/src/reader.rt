@@ -4,10 +4,10 @@ ghost use Rattle.std.specs.List.{list_all};
 ghost use Rattle.pg_types.specs.Lines.{lines};
 ghost use Rattle.pg_types.specs.Inside.Answers.{Gives};
 ghost use Rattle.pg_translate.specs.Alphabets.{letters_of};
-ghost use Rattle.pg_translate.specs.LineRefusals.{refused};
+ghost use Rattle.pg_types.specs.Reading.{refused};
 ghost use Rattle.pg_patterns.specs.Inside.PatternMaps.{SignsUpTo, is_entry};
 ghost use Rattle.pg_patterns.specs.Inside.Drafts.{IsDraft, EndsWith, ReadsOn, draft_left, line_draft, draft_with_sign};
-ghost use Rattle.pg_patterns.specs.Starts.{entries_from};
+ghost use Rattle.pg_patterns.specs.Inside.EntryLines.{entries_from};
 
 use crate::dotted_signs::DottedSigns;
 use crate::draft::LineDraft;

@@ -11,8 +11,8 @@ use Rattle.pg_dict.specs.Word.{Word}
 use Rattle.pg_dict.specs.Inside.SoundWords.{IsWord}
 use Rattle.pg_patterns.specs.Values.{value_at}
 use Rattle.pg_select.specs.Statuses.{status, status_at, position_weight}
-use Rattle.pg_select.specs.Sums.{is_found, is_error, is_missed, weight_of, totals_of, marks_in}
-use Rattle.pg_select.specs.Inside.SumSteps.{with_mark, with_marks, sum_of}
+use Rattle.pg_select.specs.Sums.{weight_of, totals_of, marks_in}
+use Rattle.pg_select.specs.Inside.SumSteps.{is_found, is_error, is_missed, with_mark, with_marks, sum_of}
 use Rattle.pg_select.specs.CountedPositions.{Minima}
 use Rattle.pg_select.proofs.Reaches.{range_step}
 

@@ -3,5 +3,4 @@ pub mod Choices
 pub mod Windows
 pub mod CountedPositions
 pub mod Sums
-pub mod AnyPositions
 pub mod Inside

@@ -16,15 +16,13 @@ abbrev pub status : Bool → Bool → ℕ → Mark
 status hyphen care value = if care then (if hyphen then (if is_odd value then Found else Missed)
     else (if is_odd value then Error else Nothing)) else DontCare
 
+-- the status of a position of a word that has the value v
+abbrev pub status_with : Word → ℕ → ℕ → Mark
+status_with w p v = status (slice_index_or w.hyphens p false) (slice_index_or w.cares p true) v
+
 -- the status of a position in reach, by the patterns
 abbrev pub status_at : Patterns → Word → ℕ → Mark
-status_at P w p = status (slice_index_or w.hyphens p false)
-    (slice_index_or w.cares p true) (value_at P w.signs p)
-
--- the status of a position out of reach, where the value counts as 0
-abbrev pub status_out_of_reach : Word → ℕ → Mark
-status_out_of_reach w p = status (slice_index_or w.hyphens p false)
-    (slice_index_or w.cares p true) 0
+status_at P w p = status_with w p (value_at P w.signs p)
 
 -- the weight of a position
 abbrev pub position_weight : Word → ℕ → ℕ

@@ -1,5 +1,5 @@
 -- The totals of a word list.
-use Rattle.std.specs.Prelude.{ℕ, Bool, true, false, if◌then◌else◌, List, length, map, slice_index_or, sum_by}
+use Rattle.std.specs.Prelude.{ℕ, Bool, true, false, if◌then◌else◌, List, length, map, sum_by}
 use Rattle.std.specs.List.{flat_map}
 use Rattle.pg_types.specs.declared.marks.Mark.{Mark}
 use Rattle.pg_types.specs.declared.marks.Mark.TheVariants.{Error, Missed, Found}
@@ -7,37 +7,18 @@ use Rattle.pg_types.specs.declared.marks.Totals.{Totals}
 use Rattle.pg_dict.specs.Word.{Word}
 use Rattle.pg_translate.specs.Reach.{positions}
 use Rattle.pg_patterns.specs.Values.{value_at}
-use Rattle.pg_select.specs.Statuses.{status, position_weight}
+use Rattle.pg_select.specs.Statuses.{status_with, position_weight}
 use Rattle.pg_select.specs.CountedPositions.{Minima}
 use Rattle.pg_select.specs.Windows.{Patterns}
 
 -- the status and the weight of each position in reach of a word, by the values of its positions
 abbrev pub marks_by : Minima → (ℕ → ℕ) → Word → List (Mark × ℕ)
-marks_by m value w = map
-    (λ p. (
-      status (slice_index_or w.hyphens p false) (slice_index_or w.cares p true) (value p),
-      position_weight w p,
-    ))
+marks_by m value w = map (λ p. (status_with w p (value p), position_weight w p))
     (positions m.left m.right (length w.signs))
 
 -- the same by the patterns
 abbrev pub marks_in : Minima → Patterns → Word → List (Mark × ℕ)
 marks_in m P w = marks_by m (value_at P w.signs) w
-
--- whether the mark is Found: a hyphen at which the patterns break
-abbrev pub is_found : Mark → Bool
-is_found Found = true
-is_found other = false
-
--- whether the mark is Error: no hyphen, but the patterns break there
-abbrev pub is_error : Mark → Bool
-is_error Error = true
-is_error other = false
-
--- whether the mark is Missed: a hyphen at which the patterns do not break
-abbrev pub is_missed : Mark → Bool
-is_missed Missed = true
-is_missed other = false
 
 -- the weights of the marks that pass a test
 abbrev pub weight_of : (Mark → Bool) → List (Mark × ℕ) → ℕ
@@ -46,9 +27,9 @@ weight_of test marks = sum_by (λ m. if test m.0 then m.1 else 0) marks
 -- the totals of marks: good over the found, bad over the errors, missed over the missed
 abbrev pub totals_of : List (Mark × ℕ) → Totals
 totals_of marks = record {
-  good = weight_of is_found marks;
-  bad = weight_of is_error marks;
-  missed = weight_of is_missed marks;
+  good = weight_of (λ m. elim m [ Found ↦ true | other ↦ false ]) marks;
+  bad = weight_of (λ m. elim m [ Error ↦ true | other ↦ false ]) marks;
+  missed = weight_of (λ m. elim m [ Missed ↦ true | other ↦ false ]) marks;
 }
 
 -- the totals of all words

@@ -1,7 +1,7 @@
 -- The statuses of a word's positions mean its hyphens and cares.
-use Rattle.std.proofs.Common.{◌≡◌, ℕ, ◌-◌, ◌<◌, Bool, true, false, length, map, Some, refl, sym, ap, ◌∙◌, arith, inl, inr}
+use Rattle.std.proofs.Common.{◌≡◌, ℕ, ◌-◌, ◌<◌, nat_eq, Bool, true, false, length, map, Some, refl, sym, ap, ◌∙◌, arith, inl, inr}
 use Rattle.std.specs.Prelude.{slice_index_or}
-use Rattle.std.specs.List.{slice_get}
+use Rattle.std.specs.List.{slice_get, list_any}
 use Rattle.std.proofs.lemmas.Bool.{cases_Bool}
 use Rattle.std.proofs.lemmas.Simd.{map-map}
 use Rattle.std.proofs.lemmas.Option.{slice_get-get_or, get_or_from_slice_get}
@@ -12,9 +12,8 @@ use Rattle.pg_dict.specs.Inside.Written.{AreMarksOf}
 use Rattle.pg_select.specs.Statuses.{status, is_odd}
 use Rattle.pg_translate.specs.Alphabets.{Alphabet}
 use Rattle.pg_patterns.specs.Values.{value_at}
-use Rattle.pg_select.specs.AnyPositions.{is_in_reach}
 use Rattle.pg_select.specs.Windows.{Patterns}
-use Rattle.pg_select.specs.CountedPositions.{minima_of}
+use Rattle.pg_translate.specs.Reach.{positions}
 use Rattle.pg_texts.specs.PattmpTexts.{statuses}
 use Rattle.pg_texts.proofs.Ranges.{same_map_over_range}
 use Rattle.pg_texts.proofs.WordItems.{inner_positions, between}
@@ -30,9 +29,13 @@ status_hyphen hyphen false value decided = sym (decided refl)
 status_hyphen true true value decided = elim (cases_Bool (is_odd value)) [ inl odd ↦ rw odd refl | inr even ↦ rw even refl ]
 status_hyphen false true value decided = elim (cases_Bool (is_odd value)) [ inl odd ↦ rw odd refl | inr even ↦ rw even refl ]
 
+-- whether a position of a word is in reach
+abbrev is_in_reach : Alphabet → Word → ℕ → Bool
+is_in_reach t w p = list_any (nat_eq p) (positions t.left t.right (length w.signs))
+
 -- the same of a position, in reach or not
 position_care : (t : Alphabet) (P : Patterns) (w : Word) (p : ℕ) → keeps_care (statuses t P w p) ≡ slice_index_or w.cares p true
-position_care t P w p = elim (cases_Bool (is_in_reach (minima_of t) w p)) [
+position_care t P w p = elim (cases_Bool (is_in_reach t w p)) [
   | inl inside ↦ rw inside (status_care (slice_index_or w.hyphens p false) (slice_index_or w.cares p true) (value_at P w.signs p))
   | inr outside ↦ rw outside (status_care (slice_index_or w.hyphens p false) (slice_index_or w.cares p true) 0)
 ]
@@ -44,7 +47,7 @@ no_hyphen w p word inside none =
     get_or_from_slice_get w.hyphens p false false (word.disputed p there)
 
 position_hyphen : (t : Alphabet) (P : Patterns) (w : Word) (p : ℕ) → IsWord w → p < length w.signs → sets_hyphen (statuses t P w p) ≡ slice_index_or w.hyphens p false
-position_hyphen t P w p word inside = elim (cases_Bool (is_in_reach (minima_of t) w p)) [
+position_hyphen t P w p word inside = elim (cases_Bool (is_in_reach t w p)) [
   | inl here ↦ rw here (status_hyphen (slice_index_or w.hyphens p false) (slice_index_or w.cares p true) (value_at P w.signs p) (no_hyphen w p word inside))
   | inr outside ↦ rw outside (status_hyphen (slice_index_or w.hyphens p false) (slice_index_or w.cares p true) 0 (no_hyphen w p word inside))
 ]

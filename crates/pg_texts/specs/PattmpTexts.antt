@@ -1,15 +1,13 @@
 -- The text of the hyphenated list.
-use Rattle.std.specs.Prelude.{ℕ, ◌-◌, ◌==◌, nat_lt, Bool, if◌then◌else◌, List, [], ◌∷◌, ◌++◌, length, filter, is_some, slice_index, codes, decimal}
-use Rattle.std.specs.List.{flat_map, range_with_len}
+use Rattle.std.specs.Prelude.{ℕ, ◌-◌, ◌==◌, nat_eq, nat_lt, Bool, if◌then◌else◌, List, [], ◌∷◌, ◌++◌, length, filter, is_some, slice_index, codes, decimal}
+use Rattle.std.specs.List.{flat_map, list_any, range_with_len}
 use Rattle.pg_types.specs.declared.marks.Mark.{Mark}
-use Rattle.pg_types.specs.declared.marks.Mark.TheVariants.{Nothing}
-use Rattle.pg_translate.specs.Alphabets.{Alphabet, spelling_of, mark_byte_of}
-use Rattle.pg_translate.specs.Reach.{reach}
+use Rattle.pg_types.specs.declared.marks.Mark.TheVariants.{Nothing, Error, Missed, Found, DontCare}
+use Rattle.pg_translate.specs.Alphabets.{Alphabet, spelling_of}
+use Rattle.pg_translate.specs.Reach.{reach, positions}
 use Rattle.pg_dict.specs.Word.{Word}
-use Rattle.pg_select.specs.Statuses.{position_weight}
-use Rattle.pg_select.specs.AnyPositions.{status_of_position}
+use Rattle.pg_select.specs.Statuses.{status_at, status_with, position_weight}
 use Rattle.pg_select.specs.Windows.{Patterns}
-use Rattle.pg_select.specs.CountedPositions.{minima_of}
 
 -- whether a word takes part: it has positions in reach
 abbrev pub is_taking_part : Alphabet → Word → Bool
@@ -22,7 +20,10 @@ words_taking_part t words = filter (is_taking_part t) words
 -- the byte of a status; nothing has none
 abbrev pub mark_text : Alphabet → Mark → List ℕ
 mark_text t Nothing = []
-mark_text t mark = mark_byte_of t mark ∷ []
+mark_text t Error = slice_index t.marks 0 ∷ []
+mark_text t Missed = slice_index t.marks 1 ∷ []
+mark_text t Found = slice_index t.marks 2 ∷ []
+mark_text t DontCare = slice_index t.marks 3 ∷ []
 
 -- a weight: a digit, or a greater number in braces
 abbrev pub number_text : ℕ → List ℕ
@@ -49,9 +50,10 @@ abbrev pub word_text : Alphabet → (ℕ → Mark) → Word → List ℕ
 word_text t marks w = flat_map (position_text t marks w) (range_with_len 2 (length w.signs - 3))
     ++ letter_text t w (length w.signs - 1) ++ codes "\n"
 
--- the status of each position of a word, in reach or not
+-- the status of a position of a word: in reach by the patterns, and else as where the value is 0
 abbrev pub statuses : Alphabet → Patterns → Word → ℕ → Mark
-statuses t P w = status_of_position (minima_of t) P w
+statuses t P w p = if list_any (nat_eq p) (positions t.left t.right (length w.signs))
+    then status_at P w p else status_with w p 0
 
 -- a line for each word, behind a line with this word weight: the word's weight where it is another,
 -- and the word

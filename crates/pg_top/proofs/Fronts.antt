@@ -1,5 +1,5 @@
 -- The first bytes of a file, one more than a file may have, are read as the whole file is.
-use Rattle.std.proofs.Common.{◌≡◌, ℕ, ◌+◌, ◌<◌, ◌≤◌, nat_lt, nat_eq, not, true, false, cond, List, [], ◌∷◌, length, map, take, Option, None, Some, Result, Ok, Err, IfSome, sym, refl, ap, ◌∙◌, arith}
+use Rattle.std.proofs.Common.{◌≡◌, ℕ, ◌+◌, ◌<◌, ◌≤◌, nat_lt, nat_eq, not, true, false, cond, List, [], ◌∷◌, length, map, flat_map, take, Option, None, Some, Result, Ok, Err, IfSome, sym, refl, ap, ◌∙◌, arith}
 use Rattle.std.proofs.lemmas.Bool.{ltb-true, ltb-false, lt-ltb}
 use Rattle.std.proofs.lemmas.List.{take_all, length-take-le}
 use Rattle.std.specs.List.{onto_first}
@@ -10,18 +10,21 @@ use Rattle.pg_types.specs.declared.refusals.ReadingError.{ReadingError}
 use Rattle.pg_types.specs.declared.refusals.ReadingError.TheVariants as reader
 use Rattle.pg_types.specs.declared.refusals.Kind.TheVariants.{TranslateTooLong, ParametersTooLong, PatternsTooLong, DictionaryTooLong, TableTooLong, BadTable, OtherTable}
 use Rattle.pg_types.specs.Lines.{lines, pieces_at, is_line_feed, without_cr}
-use Rattle.pg_types.specs.Parameters.{parameters, parameters_of, items, demands, refusal_from, refused_at}
-use Rattle.pg_types.specs.Reading.{unless}
+use Rattle.pg_types.specs.Parameters.{parameters, parameters_of, items, demands, refusal_from}
+use Rattle.pg_types.specs.Inside.Parts.{refused_at}
+use Rattle.pg_types.specs.Reading.{unless, refused as refused_in}
 use Rattle.pg_types.specs.Inside.Answers.{Fails}
 use Rattle.pg_outside.specs.Content.{FileMap, FilesShown, file_at}
 use Rattle.pg_outside.specs.Inside.ToldFiles.{IsCut}
 use Rattle.pg_table.specs.declared.limits.TheConstants.{TABLE_MAX}
 use Rattle.pg_table.specs.Forms.{head_of, is_well_formed}
 use Rattle.pg_translate.specs.Alphabets.{Alphabet, letters_of}
+use Rattle.pg_translate.specs.declared.items.Place.TheVariants.{Dictionary, Patterns}
+use Rattle.pg_translate.specs.LineRefusals.{of_lines}
 use Rattle.pg_translate.specs.Tables.{table, table_of}
-use Rattle.pg_translate.specs.LineRefusals.{refused as refused_in}
-use Rattle.pg_dict.specs.Words.{words, words_from}
-use Rattle.pg_patterns.specs.Starts.{start, entries_from, joined_entries}
+use Rattle.pg_dict.specs.Words.{line_words, words}
+use Rattle.pg_patterns.specs.Starts.{line_entries, start}
+use Rattle.pg_patterns.specs.Values.{map_of_entries}
 use Rattle.pg_top.specs.Outcomes.{refuses, unless_accepted}
 use Rattle.pg_top.specs.totals.Totalled.{packed_table}
 use Rattle.pg_top.specs.pack.Packed.{table_refused}
@@ -70,10 +73,10 @@ pub parameters-front : IsReadByFront parameters
 parameters-front whole = limited (Err (refused_at 0 ParametersTooLong)) (λ bytes. unless (refusal_from 1 (demands (items bytes)) (items bytes)) (parameters_of (items bytes))) FILE_MAX whole
 
 pub words-front : (t : Alphabet) → IsReadByFront (words t)
-words-front t whole = limited (Err (refused_in 0 DictionaryTooLong 0)) (λ bytes. words_from t 1 1 (lines bytes)) FILE_MAX whole
+words-front t whole = limited (Err (refused_in 0 DictionaryTooLong 0)) (λ bytes. of_lines (line_words 1) t Dictionary (lines bytes)) FILE_MAX whole
 
 pub start-front : (t : Alphabet) → IsReadByFront (start t)
-start-front t whole = limited (Err (record { kind = PatternsTooLong; line = 0; column = 0 })) (λ bytes. joined_entries (entries_from t 1 (lines bytes))) FILE_MAX whole
+start-front t whole = limited (Err (record { kind = PatternsTooLong; line = 0; column = 0 })) (λ bytes. of_lines (λ ls. map_of_entries (flat_map line_entries ls)) t Patterns (lines bytes)) FILE_MAX whole
 
 -- a text that has a byte has a piece
 onto_first_filled : (b : ℕ) (pieces : List (List ℕ)) → (first : List ℕ) × (later : List (List ℕ)) × (onto_first b pieces ≡ first ∷ later)

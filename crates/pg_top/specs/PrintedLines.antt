@@ -1,7 +1,7 @@
 -- The lines that more than one command prints.
 use Rattle.std.specs.Prelude.{ℕ, ◌==◌, if◌then◌else◌, List, [], ◌++◌, length, codes, decimal}
 use Rattle.pg_types.specs.Lines.{lines}
-use Rattle.pg_types.specs.Refusals.{kind_number, name_of}
+use Rattle.pg_types.specs.Refusals.{number_and_name}
 use Rattle.pg_types.specs.declared.marks.Totals.{Totals}
 use Rattle.pg_types.specs.declared.refusals.Refusal.{Refusal}
 use Rattle.pg_texts.specs.ReportTexts.{totals_text}
@@ -15,8 +15,7 @@ usage_line = codes "usage: patgen COMMAND NAMES [OPTIONS]\n"
 
 -- where `generate` is done: how many lines the pattern file has, and the totals of its patterns
 abbrev pub done_line : List ℕ → Totals → List ℕ
-done_line patterns t =
-    codes "done: " ++ decimal (length (lines patterns))
+done_line patterns t = codes "done: " ++ decimal (length (lines patterns))
     ++ codes " patterns, " ++ totals_text t ++ codes "\n"
 
 -- the words for a file in a line of refusal or of `no`
@@ -39,9 +38,8 @@ place_of other r = codes " line " ++ decimal r.line ++ codes " column " ++ decim
 
 -- where a file is refused; a refusal with line 0 has no place
 abbrev pub refused_line : Input → Refusal → List ℕ
-refused_line input r =
-    codes "refused: " ++ word_of input ++ codes " "
-    ++ decimal (kind_number r.kind) ++ codes " " ++ name_of r.kind
+refused_line input r = codes "refused: " ++ word_of input ++ codes " "
+    ++ decimal (number_and_name r.kind).0 ++ codes " " ++ (number_and_name r.kind).1
     ++ (if r.line == 0 then [] else place_of input r) ++ codes "\n"
 
 -- where the file of a name could not be read

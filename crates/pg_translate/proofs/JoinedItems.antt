@@ -7,7 +7,7 @@ use Rattle.std.proofs.lemmas.List.{drop_at}
 use Rattle.std.proofs.lemmas.Option.{slice_get_past}
 use Rattle.pg_types.specs.declared.marks.Mark.TheVariants.{Nothing, Error, Missed, Found, DontCare}
 use Rattle.pg_types.specs.declared.refusals.Refusal.{Refusal}
-use Rattle.pg_types.specs.Reading.{unless}
+use Rattle.pg_types.specs.Reading.{unless, refused}
 use Rattle.pg_translate.specs.declared.items.Place.{Place}
 use Rattle.pg_translate.specs.declared.items.Place.TheVariants.{Dictionary, Patterns}
 use Rattle.pg_translate.specs.Alphabets.{Alphabet}
@@ -17,8 +17,8 @@ use Rattle.pg_translate.specs.Cuts.{Placed, Cut, cut, cut_from, tokens_of}
 use Rattle.pg_translate.specs.Inside.Rests.{with_item}
 use Rattle.pg_translate.specs.Gaps.{sign_of, signs_of}
 use Rattle.pg_translate.specs.Inside.Items.{IsItem, text_of_items, tokens_in}
-use Rattle.pg_translate.specs.LineRefusals.{refused, signs_max, long_kind, sign_columns, line_refusal, of_line}
-use Rattle.pg_translate.specs.Inside.Refusing.{sign_column, stop_refusal}
+use Rattle.pg_translate.specs.LineRefusals.{signs_max, long_kind, sign_columns, line_refusal}
+use Rattle.pg_translate.specs.Inside.Refusing.{of_line, sign_column, stop_refusal}
 use Rattle.pg_translate.specs.Inside.Rules.{KeepsRules}
 use Rattle.pg_translate.proofs.Cuts.{cut_item}
 use Rattle.pg_translate.proofs.ItemLaws.{item_reads, begins_spelled}

@@ -9,12 +9,14 @@ use Rattle.pg_types.specs.declared.refusals.Refusal.{Refusal}
 use Rattle.pg_types.specs.declared.refusals.ReadingError.{ReadingError}
 use Rattle.pg_types.specs.declared.refusals.ReadingError.TheVariants.{Refused, Memory}
 use Rattle.pg_types.specs.Lines.{lines}
-use Rattle.pg_types.specs.Reading.{first_refusal}
+use Rattle.std.specs.Prelude.{slice_get}
+use Rattle.pg_types.specs.Reading.{unless}
+use Rattle.pg_types.specs.Inside.Parts.{first_refusal}
 use Rattle.pg_types.specs.Inside.Answers.{Fails}
 use Rattle.pg_translate.specs.declared.head.Head.{Head}
 use Rattle.pg_translate.specs.declared.index.Index.{Index}
 use Rattle.pg_translate.specs.Spellings.{is_spelling, clash}
-use Rattle.pg_translate.specs.Tables.{ListedSpelling, check, spelling_with_sign, spelling_check, marks_of, table, table_of}
+use Rattle.pg_translate.specs.Tables.{ListedSpelling, check, spelling_with_sign, spelling_check, spelling_checks, spellings_of, head_checks, alphabet_of, marks_of, table, table_of}
 use Rattle.pg_translate.specs.Inside.Checks.{first_failure, spelling_checks_from, spellings_from, head_checks_by_pairs, alphabet_by_lines}
 use Rattle.pg_translate.proofs.TableForms.{read_as}
 use Rattle.pg_translate.specs.Inside.Heads.{IsHead, IsSoundHead, head_marks}
@@ -54,11 +56,16 @@ few_letters n marks earlier (s ∷ later) few none =
     let low : s.letter ≤ 2000 = ltb-false 2000 s.letter (check_none (nat_lt (SIGNS_MAX - 1) s.letter) TooManyLetters s.line 1 own.0) in
     few_letters (max n (s.letter + 1 - 1)) marks (earlier ++ spelling_with_sign s ∷ []) later (omega arith) parts.1
 
+-- the first of the refusals, in two forms
+first_of : {Y : Type 0} (refusals : List Refusal) (y : Y) → unless (slice_get refusals 0) y ≡ first_refusal refusals y
+first_of [] y = refl
+first_of (r ∷ rs) y = refl
+
 -- the table of a file that is not too long
 not_long : (bytes first : List ℕ) (later : List (List ℕ)) → lines bytes ≡ first ∷ later → length bytes ≤ FILE_MAX → table bytes ≡ first_refusal (head_checks_by_pairs first ++ spelling_checks_from (marks_of first) [] (spellings_from 2 1 later)) (alphabet_by_lines first later)
 not_long bytes first later cut few =
     let whole : table bytes ≡ table_of (length bytes) (first ∷ later) = ap (table_of (length bytes)) cut in
-    whole ∙ rw (le-ltb FILE_MAX (length bytes) few) (sym (read_as first later))
+    whole ∙ rw (le-ltb FILE_MAX (length bytes) few) (first_of (head_checks first ++ spelling_checks (marks_of first) (spellings_of later)) (alphabet_of first later) ∙ sym (read_as first later))
 
 -- the first checks decide where one fails
 first_fails : {Y : Type 0} (before after : List Refusal) (r : Refusal) (y : Y) → first_failure before ≡ Err r → first_refusal (before ++ after) y ≡ Err r

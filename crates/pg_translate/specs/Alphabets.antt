@@ -1,8 +1,6 @@
 -- What a table holds, and its parts.
-use Rattle.std.specs.Prelude.{ℕ, ◌-◌, ◌==◌, max, List, [], if◌then◌else◌, find, fold, slice_index, codes, option_map, unwrap_or}
+use Rattle.std.specs.Prelude.{ℕ, ◌-◌, ◌==◌, max, List, [], if◌then◌else◌, find, fold, codes, option_map, unwrap_or}
 use Rattle.pg_types.specs.declared.limits.TheConstants.{EDGE}
-use Rattle.pg_types.specs.declared.marks.Mark.{Mark}
-use Rattle.pg_types.specs.declared.marks.Mark.TheVariants.{Nothing, Error, Missed, Found, DontCare}
 
 -- the minima, the bytes for an erroneous, a missed, a found and a don't-care position, and the
 -- spellings, each with its sign, in the order of the file
@@ -20,11 +18,3 @@ letters_of t = fold (λ n spelling. max n (spelling.0 - 1)) 0 t.spellings
 abbrev pub spelling_of : Alphabet → ℕ → List ℕ
 spelling_of t sign = if sign == EDGE then codes "." else unwrap_or (option_map
     (λ spelling. spelling.1) (find (λ spelling. spelling.0 == sign) t.spellings)) []
-
--- the byte of a mark; a position that is nothing has none
-abbrev pub mark_byte_of : Alphabet → Mark → ℕ
-mark_byte_of t Nothing = 0
-mark_byte_of t Error = slice_index t.marks 0
-mark_byte_of t Missed = slice_index t.marks 1
-mark_byte_of t Found = slice_index t.marks 2
-mark_byte_of t DontCare = slice_index t.marks 3

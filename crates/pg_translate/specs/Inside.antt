@@ -7,6 +7,7 @@ pub mod Items
 pub mod Rules
 pub mod Heads
 pub mod Checks
+pub mod MarkBytes
 pub mod Members
 pub mod Rests
 pub mod FirstSpellings

@@ -1,22 +1,18 @@
--- When a line of a dictionary or of patterns is refused, and what it gives else.
-use Rattle.std.specs.Prelude.{ℕ, ◌==◌, if◌then◌else◌, List, slice_get, slice_index, Option, None, Some, option_map, Result}
-use Rattle.std.specs.List.{filter_map}
+-- When a line of a dictionary or of patterns is refused, and what lines give else.
+use Rattle.std.specs.Prelude.{ℕ, ◌==◌, if◌then◌else◌, List, map, slice_get, slice_index, Option, None, Some, option_map, Result}
+use Rattle.std.specs.List.{filter_map, enumerate_from}
 use Rattle.std.specs.Option.{option_or}
 use Rattle.pg_types.specs.declared.limits.TheConstants.{PATTERN_SIGNS_MAX, WORD_LETTERS_MAX}
 use Rattle.pg_types.specs.declared.refusals.Kind.{Kind}
 use Rattle.pg_types.specs.declared.refusals.Kind.TheVariants.{DictionaryCharacter, BadWeight, WordTooLong, PatternCharacter, PatternTooLong}
 use Rattle.pg_types.specs.declared.refusals.Refusal.{Refusal}
-use Rattle.pg_types.specs.Reading.{unless}
+use Rattle.pg_types.specs.Reading.{refused, unless}
 use Rattle.pg_translate.specs.declared.items.Place.{Place}
 use Rattle.pg_translate.specs.declared.items.Place.TheVariants.{Dictionary, Patterns}
 use Rattle.pg_translate.specs.Alphabets.{Alphabet}
 use Rattle.pg_translate.specs.Tokens.{Token, is_ended}
 use Rattle.pg_translate.specs.Cuts.{Cut, cut, tokens_of}
 use Rattle.pg_translate.specs.Gaps.{sign_of}
-
--- a refusal of this line
-abbrev pub refused : ℕ → Kind → ℕ → Refusal
-refused line kind column = record { kind = kind; line = line; column = column }
 
 -- the most signs that a line may have: the letters of a word, or the signs of a pattern
 abbrev pub signs_max : Place → ℕ
@@ -44,8 +40,9 @@ line_refusal place line c = option_or
     (option_map (refused line (long_kind place)) (slice_get (sign_columns c) (signs_max place)))
     (if is_ended c.rest then None else Some (refused line (bad_kind place c.rest) c.column))
 
--- what the items of a line give, or its refusal
-abbrev pub of_line : {X : Type 0} → (List Token → X)
-    → Alphabet → Place → ℕ → List ℕ → Result X Refusal
-of_line give t place line text = let c = cut t place text in
-    unless (line_refusal place line c) (give (tokens_of c))
+-- what the items of lines give, or the refusal of the first line that has one
+abbrev pub of_lines : {X : Type 0} → (List (List Token) → X)
+    → Alphabet → Place → List (List ℕ) → Result X Refusal
+of_lines give t place texts = unless (slice_get (filter_map
+    (λ l. line_refusal place l.0 (cut t place l.1)) (enumerate_from 1 texts)) 0)
+    (give (map (λ text. tokens_of (cut t place text)) texts))

@@ -1,5 +1,5 @@
 -- The table that a translate file gives, or its refusal.
-use Rattle.std.specs.Prelude.{ℕ, ◌+◌, ◌-◌, ◌==◌, nat_lt, Bool, not, ◌&&◌, ◌||◌, if◌then◌else◌, List, [], ◌∷◌, ◌++◌, length, map, flat_map, filter, take, drop, slice_index, slice_index_or, unwrap_or, Result, Ok}
+use Rattle.std.specs.Prelude.{ℕ, ◌+◌, ◌-◌, ◌==◌, nat_lt, Bool, not, ◌&&◌, ◌||◌, if◌then◌else◌, List, [], ◌∷◌, ◌++◌, length, map, flat_map, filter, take, drop, slice_get, slice_index, slice_index_or, unwrap_or, Result, Ok}
 use Rattle.std.specs.List.{list_any, range_with_len, enumerate_from, suffix_len, take_while}
 use Rattle.pg_types.specs.declared.limits.TheConstants.{FILE_MAX, SIGNS_MAX}
 use Rattle.pg_types.specs.declared.refusals.Kind.{Kind}
@@ -7,7 +7,7 @@ use Rattle.pg_types.specs.declared.refusals.Kind.TheVariants.{TranslateTooLong, 
 use Rattle.pg_types.specs.declared.refusals.Refusal.{Refusal}
 use Rattle.pg_types.specs.Lines.{lines, pieces_at}
 use Rattle.pg_types.specs.Parameters.{number, has_byte}
-use Rattle.pg_types.specs.Reading.{first_refusal}
+use Rattle.pg_types.specs.Reading.{refused, unless}
 use Rattle.pg_translate.specs.declared.head.TheConstants.{DEFAULT_LEFT, DEFAULT_RIGHT, DEFAULT_ERROR, DEFAULT_MISSED, DEFAULT_FOUND, DEFAULT_DONT_CARE}
 use Rattle.pg_translate.specs.Alphabets.{Alphabet}
 use Rattle.pg_translate.specs.Spellings.{is_space, is_spelling, clash}
@@ -15,8 +15,7 @@ use Rattle.std.specs.Char.{is_ascii_digit}
 
 -- a refusal with its place, where a check fails
 abbrev pub check : Bool → Kind → ℕ → ℕ → List Refusal
-check fails kind line column = if fails
-    then record { kind = kind; line = line; column = column } ∷ [] else []
+check fails kind line column = if fails then refused line kind column ∷ [] else []
 
 -- the byte in a column of the head; a column past its end is blank
 abbrev pub in_column : List ℕ → ℕ → ℕ
@@ -123,21 +122,17 @@ alphabet_of head letter_lines = record {
 abbrev pub default_letter : ℕ → List (ℕ × List ℕ)
 default_letter n = (n + 2, (97 + n) ∷ []) ∷ (n + 2, (65 + n) ∷ []) ∷ []
 
--- the default table: minima 2 and 3, the default marks, and the letters a to z
+-- the default table: minima and marks as where the head is empty, and the letters a to z
 abbrev pub default_alphabet : Alphabet
-default_alphabet = record {
-  left = DEFAULT_LEFT;
-  right = DEFAULT_RIGHT;
-  marks = DEFAULT_ERROR ∷ DEFAULT_MISSED ∷ DEFAULT_FOUND ∷ DEFAULT_DONT_CARE ∷ [];
-  spellings = flat_map default_letter (range_with_len 0 26);
-}
+default_alphabet =
+    record (alphabet_of [] []) { spellings = flat_map default_letter (range_with_len 0 26) }
 
 -- the table of a file of some size with these lines; a file of no bytes has no line, and means the
 -- default table
 abbrev pub table_of : ℕ → List (List ℕ) → Result Alphabet Refusal
 table_of size [] = Ok default_alphabet
 table_of size (head ∷ letter_lines) =
-    first_refusal (checks size head letter_lines) (alphabet_of head letter_lines)
+    unless (slice_get (checks size head letter_lines) 0) (alphabet_of head letter_lines)
 
 -- the table of a translate file, or the refusal of the first check that fails
 abbrev pub table : List ℕ → Result Alphabet Refusal

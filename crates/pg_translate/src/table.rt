@@ -40,7 +40,8 @@ impl Model for Table {
 
 impl Table {
     ghost use Rattle.std.specs.Prelude.{◌≡◌, ◌+◌, ◌-◌, ◌<◌, ◌≤◌, true, false, length, MatchOption, IfSome, IfOk, Some, None};
-    ghost use Rattle.pg_translate.specs.Alphabets.{letters_of, spelling_of, mark_byte_of};
+    ghost use Rattle.pg_translate.specs.Alphabets.{letters_of, spelling_of};
+    ghost use Rattle.pg_translate.specs.Inside.MarkBytes.{mark_byte_of};
     ghost use Rattle.pg_types.specs.Inside.Answers.{Gives};
     ghost use Rattle.pg_translate.specs.Tables.{default_alphabet, table};
     ghost use Rattle.pg_translate.specs.Tokens.{letter_at, mark_at, is_ended};

@@ -10,7 +10,8 @@ use Rattle.pg_types.specs.declared.refusals.Refusal.{Refusal}
 use Rattle.pg_types.specs.declared.refusals.Kind.TheVariants.{ParametersTooLong}
 use Rattle.pg_types.specs.Reading.{unless}
 use Rattle.pg_types.specs.declared.parameters.LevelParams.{LevelParams}
-use Rattle.pg_types.specs.Parameters.{items, level_demands, level_of, level_items, number_at, demands, refusal_from, refused_at, Parameters, parameters}
+use Rattle.pg_types.specs.Parameters.{items, level_demands, level_of, level_items, number_at, demands, refusal_from, Parameters, parameters}
+use Rattle.pg_types.specs.Inside.Parts.{refused_at}
 use Rattle.pg_types.specs.Inside.ItemSteps.{Demand, between, demands_of_levels, levels_of}
 
 -- what the level at a place demands, and what it is

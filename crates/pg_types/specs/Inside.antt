@@ -5,6 +5,7 @@ pub mod Answers
 pub mod Counts
 pub mod Limits
 pub mod Numbered
+pub mod Parts
 pub mod Placing
 pub mod Ranges
 pub mod Signs

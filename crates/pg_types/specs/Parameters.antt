@@ -9,7 +9,7 @@ use Rattle.pg_types.specs.declared.refusals.Kind.TheVariants.{BadNumber, OutOfRa
 use Rattle.pg_types.specs.declared.refusals.Refusal.{Refusal}
 use Rattle.pg_types.specs.declared.parameters.LevelParams.{LevelParams}
 use Rattle.pg_types.specs.Lines.{pieces_at}
-use Rattle.pg_types.specs.Reading.{unless}
+use Rattle.pg_types.specs.Reading.{refused, unless}
 
 -- the parameters of a run: its first and last level, and what each level that is run is given
 pub record Parameters : Type 0 where
@@ -34,14 +34,9 @@ items bytes = filter has_byte (pieces_at is_separator bytes)
 abbrev pub with_digit : ℕ → ℕ → ℕ
 with_digit n b = n * 10 + (b - 48)
 
--- the number that the digits write behind a number so far, where they are digits
-abbrev pub number_from : ℕ → List ℕ → Option ℕ
-number_from n digits = if list_all is_ascii_digit digits then Some (fold with_digit n digits)
-    else None
-
--- the number that an item is, where it is one
+-- the number that an item is, where all its bytes are digits
 abbrev pub number : List ℕ → Option ℕ
-number item = number_from 0 item
+number item = if list_all is_ascii_digit item then Some (fold with_digit 0 item) else None
 
 -- the number that the item with the index k is, counted from 0; 0 where it is none, or is not there
 abbrev pub number_at : List (List ℕ) → ℕ → ℕ
@@ -55,13 +50,8 @@ level_demands xs = (1, LENGTH_MAX) ∷ (number_at xs 0, LENGTH_MAX)
 
 -- the parameters of a level from its five items
 abbrev pub level_of : List (List ℕ) → LevelParams
-level_of xs = record {
-  pat_start = number_at xs 0;
-  pat_finish = number_at xs 1;
-  good_wt = number_at xs 2;
-  bad_wt = number_at xs 3;
-  thresh = number_at xs 4;
-}
+level_of xs = let n = number_at xs in
+    record { pat_start = n 0; pat_finish = n 1; good_wt = n 2; bad_wt = n 3; thresh = n 4 }
 
 -- the items from each level that is run on: behind the first two, each level has five
 abbrev pub level_items : List (List ℕ) → List (List (List ℕ))
@@ -75,21 +65,13 @@ demands xs = (1, LEVEL_MAX) ∷ (1, LEVEL_MAX) ∷ flat_map level_demands (level
 
 -- the parameters that the items are
 abbrev pub parameters_of : List (List ℕ) → Parameters
-parameters_of xs = record {
-  start = number_at xs 0;
-  finish = number_at xs 1;
-  levels = map level_of (level_items xs);
-}
-
--- the refusal of the item with this number
-abbrev pub refused_at : ℕ → Kind → Refusal
-refused_at place kind = record { kind = kind; line = place; column = 0 }
+parameters_of xs = let n = number_at xs in
+    record { start = n 0; finish = n 1; levels = map level_of (level_items xs) }
 
 -- how an item fails a demand
 abbrev pub failure : ℕ × ℕ → List ℕ → Option Kind
-failure d item = option_map_or
-    (λ n. if nat_le d.0 n && nat_le n d.1 then None else Some OutOfRange)
-    (number item) (Some BadNumber)
+failure d item = option_map_or (λ n. if nat_le d.0 n && nat_le n d.1 then None
+    else Some OutOfRange) (number item) (Some BadNumber)
 
 -- the answer of a user of patgen to its last question: y, Y, n or N
 abbrev pub is_answer : List ℕ → Bool
@@ -99,17 +81,17 @@ is_answer item = false
 -- the refusal of the first item behind the numbers, where one answer may stand
 abbrev pub surplus : ℕ → List (List ℕ) → Option Refusal
 surplus place [] = None
-surplus place (x ∷ []) = if is_answer x then None else Some (refused_at place Extra)
-surplus place (x ∷ y ∷ xs) = Some (refused_at (if is_answer x then place + 1 else place) Extra)
+surplus place (x ∷ []) = if is_answer x then None else Some (refused place Extra 0)
+surplus place (x ∷ y ∷ xs) = Some (refused (if is_answer x then place + 1 else place) Extra 0)
 
 -- the refusal of the first item that fails its demand, where the first item has the number place
 abbrev pub refusal_from : ℕ → List (ℕ × ℕ) → List (List ℕ) → Option Refusal
 refusal_from place [] xs = surplus place xs
-refusal_from place (d ∷ ds) [] = Some (refused_at place Missing)
-refusal_from place (d ∷ ds) (x ∷ xs) = option_map_or (λ kind. Some (refused_at place kind))
+refusal_from place (d ∷ ds) [] = Some (refused place Missing 0)
+refusal_from place (d ∷ ds) (x ∷ xs) = option_map_or (λ kind. Some (refused place kind 0))
     (failure d x) (refusal_from (place + 1) ds xs)
 
 -- the parameters that a file holds, or its refusal
 abbrev pub parameters : List ℕ → Result Parameters Refusal
-parameters bytes = if nat_lt FILE_MAX (length bytes) then Err (refused_at 0 ParametersTooLong)
+parameters bytes = if nat_lt FILE_MAX (length bytes) then Err (refused 0 ParametersTooLong 0)
     else unless (refusal_from 1 (demands (items bytes)) (items bytes)) (parameters_of (items bytes))

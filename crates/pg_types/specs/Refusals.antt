@@ -27,11 +27,3 @@ number_and_name BadWeight = (404, codes "BadWeight")
 number_and_name TableTooLong = (601, codes "TableTooLong")
 number_and_name BadTable = (602, codes "BadTable")
 number_and_name OtherTable = (603, codes "OtherTable")
-
--- the number of a refusal
-abbrev pub kind_number : Kind → ℕ
-kind_number kind = (number_and_name kind).0
-
--- the name of a refusal
-abbrev pub name_of : Kind → List ℕ
-name_of kind = (number_and_name kind).1

@@ -1,6 +1,6 @@
 //! Why a file is refused, and the error of a reader.
 ghost use Rattle.std.specs.Prelude.{◌≡◌};
-ghost use Rattle.pg_types.specs.Refusals.{kind_number, name_of};
+ghost use Rattle.pg_types.specs.Refusals.{number_and_name};
 ghost use Rattle.pg_types.specs.declared.refusals.ReadingError.TheVariants.{Memory, Refused};
 
 use std::alloc::{AllocError, AllocFailed};
@@ -58,7 +58,7 @@ pub enum Kind {
 impl Kind {
     /// The number of the refusal, as it is printed.
     pub fn number(&self) -> u16
-        ensures { result ≡ kind_number self.now }
+        ensures { result ≡ (number_and_name self.now).0 }
     {
         match self {
             Kind::TranslateTooLong => 101,
@@ -87,7 +87,7 @@ impl Kind {
 
     /// The name of the refusal, as it is printed: that of the variant.
     pub fn name(&self) -> &'static str
-        ensures { result.now ≡ name_of self.now }
+        ensures { result.now ≡ (number_and_name self.now).1 }
     {
         match self {
             Kind::TranslateTooLong => "TranslateTooLong",

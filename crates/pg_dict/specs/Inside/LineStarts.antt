@@ -13,7 +13,7 @@ use Rattle.pg_translate.specs.declared.items.Place.TheVariants.{Dictionary}
 use Rattle.pg_dict.specs.declared.line.Line.{Line}
 use Rattle.pg_dict.specs.declared.line_start.LineStart.{LineStart}
 use Rattle.pg_dict.specs.declared.line_start.LineStart.TheVariants.{Word, Empty}
-use Rattle.pg_dict.specs.Words.{LineWord}
+use Rattle.pg_dict.specs.Inside.LineWords.{LineWord}
 use Rattle.pg_dict.specs.Inside.Running.{running_word}
 
 -- what a line of this number and size gives, from its rest before the first letter and the word

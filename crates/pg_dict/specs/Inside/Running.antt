@@ -7,7 +7,7 @@ use Rattle.pg_types.specs.declared.marks.Mark.TheVariants.{Nothing}
 use Rattle.pg_translate.specs.Tokens.{Token, Letter, Digit, Weight, Marked, Edge}
 use Rattle.pg_dict.specs.Inside.PositionedSigns.{PositionedSign, positioned_sign}
 use Rattle.pg_dict.specs.Inside.SoundWords.{word_with}
-use Rattle.pg_dict.specs.Words.{LineWord}
+use Rattle.pg_dict.specs.Inside.LineWords.{LineWord}
 
 -- the signs behind a letter, each with the position before it, up to the last edge: each letter
 -- takes the last mark and the last number before it, or none and the weight of the word, and what

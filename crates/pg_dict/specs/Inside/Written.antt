@@ -9,7 +9,8 @@ use Rattle.pg_translate.specs.Alphabets.{Alphabet}
 use Rattle.pg_translate.specs.Tokens.{Token, Letter, Digit, Weight, Marked, Edge}
 use Rattle.pg_dict.specs.Inside.PositionedSigns.{PositionedSign, positioned_sign}
 use Rattle.pg_dict.specs.Word.{Word}
-use Rattle.pg_dict.specs.Words.{line_reading, sets_hyphen, keeps_care}
+use Rattle.pg_dict.specs.Words.{sets_hyphen, keeps_care}
+use Rattle.pg_dict.specs.Inside.LineWords.{line_reading}
 
 -- a letter behind the first, with the mark and the weight of the position before it
 pub record Written : Type 0 where

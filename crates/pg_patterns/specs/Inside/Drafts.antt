@@ -9,9 +9,8 @@ use Rattle.pg_translate.specs.Alphabets.{Alphabet}
 use Rattle.pg_translate.specs.Tokens.{Token, Letter, Digit, Weight, Marked, Edge}
 use Rattle.pg_translate.specs.Cuts.{Cut, tokens_of}
 use Rattle.pg_translate.specs.Inside.Rests.{cut_rest}
-use Rattle.pg_translate.specs.LineRefusals.{of_line}
-use Rattle.pg_translate.specs.Inside.Refusing.{refusal_with_room}
-use Rattle.pg_patterns.specs.Lines.{digit_at_dot, entries_at}
+use Rattle.pg_translate.specs.Inside.Refusing.{of_line, refusal_with_room}
+use Rattle.pg_patterns.specs.Inside.EntryLines.{digit_at_dot, entries_at}
 
 -- the signs, the dots before them with their digits, and the last digit behind the last sign, where
 -- 0 is none

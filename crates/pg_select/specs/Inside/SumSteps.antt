@@ -1,10 +1,25 @@
 -- Totals with more positions, and the room that they have.
-use Rattle.std.specs.Prelude.{ℕ, ◌+◌, ◌*◌, ◌≤◌, List}
+use Rattle.std.specs.Prelude.{ℕ, ◌+◌, ◌*◌, ◌≤◌, Bool, true, false, List}
 use Rattle.pg_types.specs.declared.limits.TheConstants.{WEIGHT_MAX, FILE_MAX}
 use Rattle.pg_types.specs.declared.marks.Mark.{Mark}
 use Rattle.pg_types.specs.declared.marks.Mark.TheVariants.{Error, Missed, Found}
 use Rattle.pg_types.specs.declared.marks.Totals.{Totals}
-use Rattle.pg_select.specs.Sums.{is_found, is_error, is_missed, weight_of}
+use Rattle.pg_select.specs.Sums.{weight_of}
+
+-- whether the mark is Found: a hyphen at which the patterns break
+abbrev pub is_found : Mark → Bool
+is_found Found = true
+is_found other = false
+
+-- whether the mark is Error: no hyphen, but the patterns break there
+abbrev pub is_error : Mark → Bool
+is_error Error = true
+is_error other = false
+
+-- whether the mark is Missed: a hyphen at which the patterns do not break
+abbrev pub is_missed : Mark → Bool
+is_missed Missed = true
+is_missed other = false
 
 -- the three sums of totals together
 abbrev pub sum_of : Totals → ℕ

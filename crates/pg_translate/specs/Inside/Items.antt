@@ -6,7 +6,8 @@ use Rattle.pg_types.specs.declared.marks.Mark.{Mark}
 use Rattle.pg_types.specs.declared.marks.Mark.TheVariants.{Nothing, Error, Missed, Found, DontCare}
 use Rattle.pg_translate.specs.declared.items.Place.{Place}
 use Rattle.pg_translate.specs.declared.items.Place.TheVariants.{Dictionary, Patterns}
-use Rattle.pg_translate.specs.Alphabets.{Alphabet, mark_byte_of}
+use Rattle.pg_translate.specs.Alphabets.{Alphabet}
+use Rattle.pg_translate.specs.Inside.MarkBytes.{mark_byte_of}
 use Rattle.pg_translate.specs.Inside.Members.{IsAmong}
 use Rattle.std.specs.Char.{is_ascii_digit}
 use Rattle.pg_translate.specs.Tokens.{Token, Letter, Digit, Weight, Marked, Edge}

@@ -1,12 +1,14 @@
--- The parts of a line's refusal.
-use Rattle.std.specs.Prelude.{ℕ, if◌then◌else◌, slice_get, Option, None, Some, option_map}
+-- The parts of a line's refusal, and what one line gives.
+use Rattle.std.specs.Prelude.{ℕ, if◌then◌else◌, List, slice_get, Option, None, Some, option_map, Result}
 use Rattle.std.specs.Option.{option_or}
 use Rattle.pg_types.specs.declared.refusals.Refusal.{Refusal}
 use Rattle.pg_translate.specs.declared.items.Place.{Place}
-use Rattle.pg_translate.specs.Tokens.{is_ended}
-use Rattle.pg_translate.specs.Cuts.{Placed, Cut}
+use Rattle.pg_types.specs.Reading.{refused, unless}
+use Rattle.pg_translate.specs.Alphabets.{Alphabet}
+use Rattle.pg_translate.specs.Tokens.{Token, is_ended}
+use Rattle.pg_translate.specs.Cuts.{Placed, Cut, cut, tokens_of}
 use Rattle.pg_translate.specs.Gaps.{sign_of}
-use Rattle.pg_translate.specs.LineRefusals.{refused, long_kind, bad_kind, sign_columns}
+use Rattle.pg_translate.specs.LineRefusals.{long_kind, bad_kind, sign_columns, line_refusal}
 
 -- the column of a sign
 abbrev pub sign_column : Placed → Option ℕ
@@ -23,3 +25,9 @@ abbrev pub refusal_with_room : Place → ℕ → ℕ → Cut → Option Refusal
 refusal_with_room place line room c =
     option_or (option_map (refused line (long_kind place)) (slice_get (sign_columns c) room))
     (stop_refusal place line c)
+
+-- what the items of a line give, or its refusal
+abbrev pub of_line : {X : Type 0} → (List Token → X)
+    → Alphabet → Place → ℕ → List ℕ → Result X Refusal
+of_line give t place line text = let c = cut t place text in
+    unless (line_refusal place line c) (give (tokens_of c))

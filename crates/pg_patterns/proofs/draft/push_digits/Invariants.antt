@@ -1,5 +1,5 @@
 use Rattle.std.proofs.Common.{◌≡◌, ◌++◌, map, take}
-use Rattle.pg_patterns.specs.Lines.{entry_at}
+use Rattle.pg_patterns.specs.Inside.EntryLines.{entry_at}
 use Rattle.pg_patterns.proofs.draft.push_digits.Given as goal
 
 abbrev pub invariant-loop-digit : goal.invariant-loop-digit

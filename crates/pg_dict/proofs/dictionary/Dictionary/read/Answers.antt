@@ -1,4 +1,4 @@
-use Rattle.std.proofs.Common.{◌≡◌, ◌+◌, List, Result, length, arith, sym, ◌∙◌, ap, subst}
+use Rattle.std.proofs.Common.{◌≡◌, ◌+◌, List, Result, Ok, length, arith, sym, ◌∙◌, ap, subst}
 use Rattle.std.specs.List.{list_all}
 use Rattle.std.proofs.lemmas.Result.{err_from_is_err_and}
 use Rattle.pg_types.specs.declared.refusals.Refusal.{Refusal}
@@ -10,8 +10,8 @@ use Rattle.pg_dict.specs.Word.{Word}
 use Rattle.pg_dict.specs.Inside.SoundWords.{SignsAtMost}
 use Rattle.pg_dict.specs.Inside.Store.{stored_words, is_sign_up_to}
 use Rattle.pg_dict.proofs.Sizes.{size_of, size_of-cons, size_of-lines}
-use Rattle.pg_dict.proofs.Lines.{next_read, next_refused, words_short, starts, starts_sound, starts_fit}
-use Rattle.pg_dict.proofs.Told.{few_words, signs_at_most}
+use Rattle.pg_dict.proofs.Lines.{next_read, next_refused, words_short, all_read, starts, starts_sound, starts_fit}
+use Rattle.pg_dict.proofs.Told.{signs_at_most}
 use Rattle.pg_dict.proofs.dictionary.Dictionary.read.Goals as goal
 
 pub lines-init : goal.lines-init
@@ -56,3 +56,10 @@ pub returns-clause-signs : goal.returns-clause-signs
 returns-clause-signs c =
     subst (SignsAtMost (letters_of c.args.table.now + 1)) (sym c.in_ok-dictionary.ensures)
     (signs_at_most (letters_of c.args.table.now + 1) (stored_words c.lines.store) (ap (list_all (is_sign_up_to (letters_of c.args.table.now + 1))) (sym c.lines.invariant.sound.signs_joined) ∙ c.lines.invariant.fit.signs))
+
+pub returns-clause-words : goal.returns-clause-words
+returns-clause-words c =
+    words_short c.args.table.now c.args.bytes.now (omega arith)
+    ∙ sym c.lines.invariant.whole
+    ∙ all_read c.args.table.now c.lines.number c.lines.weight (lines c.lines.rest.now) (stored_words c.lines.store) (ap lines c.in_default.ensures.lines)
+    ∙ ap Ok (sym c.in_ok-dictionary.ensures)

@@ -1,6 +1,6 @@
 use Rattle.std.proofs.Common.{◌≡◌, ◌≤◌, length}
 use Rattle.pg_types.specs.declared.limits.TheConstants.{WEIGHT_MAX}
-use Rattle.pg_dict.specs.Words.{line_reading}
+use Rattle.pg_dict.specs.Inside.LineWords.{line_reading}
 use Rattle.pg_dict.specs.Inside.LineStarts.{rest_reading}
 use Rattle.pg_dict.proofs.line.Line.seek.Given as goal
 

@@ -1,7 +1,7 @@
 use Rattle.std.proofs.Common.{◌≡◌, List, [], ℕ, map, Ok, subst}
 use Rattle.std.proofs.lemmas.Result.{err_from_is_err_and}
 use Rattle.pg_types.specs.Lines.{lines}
-use Rattle.pg_types.specs.Reading.{first_refusal}
+use Rattle.pg_types.specs.Inside.Parts.{first_refusal}
 use Rattle.pg_types.specs.Inside.Answers.{Fails}
 use Rattle.pg_translate.specs.Inside.Fronts.{pairs}
 use Rattle.pg_translate.specs.Tables.{spelling_with_sign}

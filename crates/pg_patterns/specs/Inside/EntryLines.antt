@@ -1,11 +1,13 @@
--- What a line of a pattern file gives.
-use Rattle.std.specs.Prelude.{ℕ, ◌+◌, ◌==◌, if◌then◌else◌, List, [], ◌∷◌, ◌++◌, map, Result}
+-- What one line of a pattern file gives, and lines that are read one after the other.
+use Rattle.std.specs.Prelude.{ℕ, ◌+◌, ◌==◌, if◌then◌else◌, List, [], ◌∷◌, ◌++◌, map, Result, Ok, Err}
 use Rattle.pg_types.specs.declared.refusals.Refusal.{Refusal}
+use Rattle.pg_types.specs.Inside.Parts.{both_parts}
 use Rattle.pg_translate.specs.declared.items.Place.TheVariants.{Patterns}
 use Rattle.pg_translate.specs.Alphabets.{Alphabet}
 use Rattle.pg_translate.specs.Tokens.{Token}
 use Rattle.pg_translate.specs.Gaps.{signs_of, gaps, last_digit}
-use Rattle.pg_translate.specs.LineRefusals.{of_line}
+use Rattle.pg_translate.specs.Inside.Refusing.{of_line}
+use Rattle.pg_patterns.specs.Values.{map_of_entries}
 
 -- the digit at a dot; 0 is none
 abbrev pub digit_at_dot : ℕ → ℕ → List (ℕ × ℕ)
@@ -26,9 +28,21 @@ entries_at [] digits = []
 entries_at (sign ∷ signs) digits = map (entry_at (sign ∷ signs)) digits
 
 -- the entries of a line: at dot i the value is the last digit of gap i
-abbrev pub line_entries : List Token → List ((List ℕ × ℕ) × ℕ)
-line_entries items = entries_at (signs_of items) (digits_at 0 (gaps items))
+abbrev pub entries_of_items : List Token → List ((List ℕ × ℕ) × ℕ)
+entries_of_items items = entries_at (signs_of items) (digits_at 0 (gaps items))
 
 -- the entries of a line, or its refusal
 abbrev pub entries_of_line : Alphabet → ℕ → List ℕ → Result (List ((List ℕ × ℕ) × ℕ)) Refusal
-entries_of_line t line text = of_line line_entries t Patterns line text
+entries_of_line t line text = of_line entries_of_items t Patterns line text
+
+-- the entries of these lines, the first of which has this number
+abbrev pub entries_from : Alphabet → ℕ → List (List ℕ) → Result (List ((List ℕ × ℕ) × ℕ)) Refusal
+entries_from t line [] = Ok []
+entries_from t line (text ∷ texts) = both_parts (entries_of_line t line text)
+    (entries_from t (line + 1) texts)
+
+-- the map of the entries, or the refusal
+abbrev pub joined_entries : Result (List ((List ℕ × ℕ) × ℕ)) Refusal
+    → Result (List ((List ℕ × ℕ) × ℕ)) Refusal
+joined_entries (Ok es) = Ok (map_of_entries es)
+joined_entries (Err r) = Err r
