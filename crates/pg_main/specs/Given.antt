@@ -15,12 +15,8 @@ abbrev pub code_of_none : NoWords → ℕ
 code_of_none Memory = 5
 code_of_none Unreadable = 6
 
--- the arguments: the program's name, and then the words
-abbrev pub Arguments : Type 0
-Arguments = IntoIter (String Global) Global
-
--- all arguments after the first, in their order
-abbrev pub words_in : Arguments → List (String Global)
+-- all arguments after the first, which is the program's name, in their order
+abbrev pub words_in : IntoIter (String Global) Global → List (String Global)
 words_in arguments = drop 1 (into_iter_items arguments)
 
 -- why the system's error left no words

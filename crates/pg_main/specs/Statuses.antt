@@ -10,17 +10,15 @@ use Rattle.pg_main.specs.Given.{code_of_none}
 use Rattle.pg_main.specs.declared.NoWords.{NoWords}
 
 -- the status is that of an answer of a call on exactly these words
-pub record IsCodeOfRun {F : Type 0} (words : List (String Global))
-    (code : ℕ) (before after : F) (old new : Moment)
-    : Type 0 where
+pub record IsCodeOfRun {F : Type 0} (words : List (String Global)) (code : ℕ)
+    (before after : F) (old new : Moment) : Type 0 where
   pub answer : Status
   pub code_of_it : code ≡ code_of answer
   pub run : IsRun (asked words) answer before after old new
 
 -- there were no words: the status tells why, and neither the files nor the sink were touched
-pub record IsCodeOfNone {F O : Type 0} (reason : NoWords)
-    (code : ℕ) (before after : F) (out_before out_after : O)
-    : Type 0 where
+pub record IsCodeOfNone {F O : Type 0} (reason : NoWords) (code : ℕ)
+    (before after : F) (out_before out_after : O) : Type 0 where
   pub code_of_it : code ≡ code_of_none reason
   pub files : after ≡ before
   pub out : out_after ≡ out_before

@@ -6,13 +6,9 @@ use Rattle.pg_patterns.specs.Texts.{pattern_text}
 use Rattle.pg_prune.specs.declared.pruned.Need.{Need}
 use Rattle.pg_prune.specs.Prunes.{Found}
 
--- a text without its last byte
-abbrev pub without_last : List ℕ → List ℕ
-without_last text = take (length text - 1) text
-
 -- the text of an entry: the pattern file of this entry alone, without its line feed
 abbrev pub entry_text : Alphabet → (List ℕ × ℕ) × ℕ → List ℕ
-entry_text t e = without_last (pattern_text t (e ∷ []))
+entry_text t e = let line = pattern_text t (e ∷ []) in take (length line - 1) line
 
 -- `keep E: word N after L letters`
 abbrev pub keep_line : Alphabet → (List ℕ × ℕ) × ℕ → Need → List ℕ

@@ -171,7 +171,7 @@ memory_call request s0 s1 o0 o1 answer keeps is puts = subst (λ (status : Statu
   answers = may_want request;
   usage = λ is. cc;
   answered = tt;
-  memory = λ _. record { files = keeps; out = puts };
+  memory = λ _. (keeps, puts);
   fault = λ is. cc;
   faulted = λ is. cc;
   complete = inr (inl refl);

@@ -6,7 +6,8 @@ use Rattle.std.proofs.lemmas.List.{map-append, take-append-drop, take-append-le,
 use Rattle.std.proofs.lemmas.Option.{slice_get_read, get_or_from_slice_get}
 use Rattle.pg_outside.specs.Content.{FileMap, FilesShown, KeepsHeld, file_at}
 use Rattle.pg_outside.specs.Inside.NameFaults.{NoneFell}
-use Rattle.pg_top.specs.Counted.{MakesCalls, read_call, read_calls, ReadsUpTo}
+use Rattle.pg_top.specs.Counted.{MakesCalls, read_calls, ReadsUpTo}
+use Rattle.pg_top.specs.Inside.ReadCalls.{read_call}
 use Rattle.pg_top.specs.Outcomes.{Outcome, Unknown, refuses}
 use Rattle.pg_top.specs.Readings.{Held, Reading, first_end}
 use Rattle.pg_top.specs.Inside.Stops.{OnlyReads, StopsAt, StopsWith, StopsReading}

@@ -10,7 +10,8 @@ use Rattle.pg_translate.specs.Alphabets.{Alphabet}
 use Rattle.pg_translate.specs.Tables.{table, default_alphabet}
 use Rattle.pg_top.specs.Counted.{MakesCalls}
 use Rattle.pg_top.specs.Outcomes.{unless_accepted, refuses}
-use Rattle.pg_top.specs.Readings.{file_under, meant_under, Held, Reading, read_as, meant, input_file, table_named, translate_file}
+use Rattle.pg_top.specs.Readings.{Held, Reading, read_as, meant, input_file, table_named, translate_file}
+use Rattle.pg_top.specs.Inside.UnderTable.{file_under, meant_under}
 use Rattle.pg_top.specs.Inside.Stops.{StopsAt, StopsReading}
 use Rattle.pg_top.specs.declared.inputs.Input.{Input}
 use Rattle.pg_top.specs.declared.inputs.Input.TheVariants as input

@@ -24,20 +24,14 @@ answers_to (Some request) = Done ∷ Refused ∷ Fault ∷ Memory ∷ []
 abbrev pub IsAnswered : Option Request → Status → Moment → Moment → Type 0
 IsAnswered asked Fault old new = Unit {0}
 IsAnswered asked Memory old new = Unit {0}
-IsAnswered asked status old new =
-    OfFiles old new (λ before after. IsKnown (outcome (file_at before) asked)
-    (λ wanted writing lines. (status ≡ wanted)
+IsAnswered asked status old new = OfFiles old new (λ before after.
+    IsKnown (outcome (file_at before) asked) (λ wanted writing lines. (status ≡ wanted)
     × (after ≡ after_all before writing) × Puts old.1 new.1 lines))
 
 -- the lines of a `sample` that is done were put. This also holds where the files tell nothing
 abbrev pub IsSampled : Option Request → Status → Moment → Moment → Type 0
 IsSampled (Some (ToSample seed count)) Done old new = Puts old.1 new.1 (sample_lines seed count)
 IsSampled asked status old new = Unit {0}
-
--- nothing was written and nothing put
-pub record IsUntouched (old new : Moment) : Type 0 where
-  pub files : KeepsFiles old new
-  pub out : Puts old.1 new.1 []
 
 -- the answer where no fault rose: usage where the words are no command, else that of the outcome,
 -- or that memory was short
@@ -52,7 +46,7 @@ pub record IsCall (asked : Option Request) (status : Status) (old new : Moment) 
   pub answers : Contains (answers_to asked) status
   pub usage : status ≡ Usage → Puts old.1 new.1 usage_line
   pub answered : IsAnswered asked status old new
-  pub memory : status ≡ Memory → IsUntouched old new
+  pub memory : status ≡ Memory → KeepsFiles old new × Puts old.1 new.1 []
   pub fault : status ≡ Fault → SomeRose asked old new
   pub faulted : status ≡ Fault → IsFault asked old new
   pub complete : SomeRose asked old new ⊎ IsComplete asked status old new

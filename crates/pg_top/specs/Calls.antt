@@ -1,5 +1,5 @@
 -- What a command reads and writes, and what a call comes to.
-use Rattle.std.specs.Prelude.{ℕ, List, [], ◌∷◌, ◌++◌, Option, Bool, true, false, None, Some, unwrap_or}
+use Rattle.std.specs.Prelude.{ℕ, List, [], ◌∷◌, ◌++◌, Option, Bool, true, false, None, Some, unwrap_or, codes}
 use Rattle.std.specs.Option.{option_map_or}
 use Rattle.pg_select.specs.CountedPositions.{minima_of}
 use Rattle.pg_table.specs.Lookups.{table_totals}
@@ -7,11 +7,11 @@ use Rattle.pg_prune.specs.Prunes.{pruned}
 use Rattle.pg_texts.specs.ReportTexts.{ending_text}
 use Rattle.pg_top.specs.pack.Packed.{packed}
 use Rattle.pg_top.specs.prune.Pruned.{prune_ends}
-use Rattle.pg_top.specs.audit.Audited.{given_files, yes_line}
+use Rattle.pg_top.specs.audit.Audited.{given_files}
 use Rattle.pg_top.specs.Outcomes.{Outcome, Ends}
 use Rattle.pg_top.specs.totals.Totalled.{packed_table}
 use Rattle.pg_top.specs.PrintedLines.{usage_line}
-use Rattle.pg_top.specs.Readings.{Held, Reading, first_end, translate_file, patterns_file, words_file, file_under, words_under, patterns_under, table_named, meant_under}
+use Rattle.pg_top.specs.Readings.{Held, Reading, first_end, translate_file, patterns_file, words_file, input_file, words_under, patterns_under, table_named, meant}
 use Rattle.pg_words.specs.Requests.{Request, ToGenerate, ToAudit, ToSample, ToPack, ToTotals, ToPrune, ToSweep, output_names}
 use Rattle.pg_top.specs.sample.Sampled.{sample_lines}
 use Rattle.pg_top.specs.generate.Generated.{inputs_of, inputs_in, generated}
@@ -26,7 +26,7 @@ reads_of (ToSample seed count) = []
 reads_of (ToAudit n) = inputs_of n ++ given_files (λ files. inputs_in files n) n
 reads_of (ToPack p) = translate_file p.translate ∷ patterns_file p.translate p.patterns ∷ []
 reads_of (ToTotals p) = translate_file p.translate ∷ words_file p.translate p.dict
-    ∷ file_under p.translate input.Table p.table packed_table ∷ []
+    ∷ input_file input.Table p.table (λ files. packed_table (table_named p.translate files)) ∷ []
 reads_of (ToPrune p) = translate_file p.translate
     ∷ patterns_file p.translate p.patterns ∷ words_file p.translate p.dict ∷ []
 reads_of (ToSweep s) = translate_file s.translate ∷ set_files 1 s.params
@@ -35,23 +35,21 @@ reads_of (ToSweep s) = translate_file s.translate ∷ set_files 1 s.params
 -- the names that a command writes, in its order
 abbrev pub writes_of : Request → List (List ℕ)
 writes_of (ToGenerate n) = output_names n
-writes_of (ToAudit n) = []
-writes_of (ToSample seed count) = []
 writes_of (ToPack p) = p.table ∷ []
-writes_of (ToTotals p) = []
 writes_of (ToPrune p) = p.output ∷ p.report ∷ []
 writes_of (ToSweep s) = s.output ∷ []
+writes_of request = []
 
 -- what a command comes to where no file that it reads ends the call
 abbrev pub finished : Held → Request → Outcome
 finished files (ToGenerate n) = generated n (inputs_in files n)
-finished files (ToAudit n) = Ends Yes [] yes_line
+finished files (ToAudit n) = Ends Yes [] (codes "yes\n")
 finished files (ToSample seed count) = Ends Done [] (sample_lines seed count)
 finished files (ToPack p) =
     packed p.table (table_named p.translate files) (patterns_under files p.translate p.patterns)
 finished files (ToTotals p) = Ends Done [] (ending_text (table_totals
     (minima_of (table_named p.translate files)) (words_under files p.translate p.dict)
-    (meant_under p.translate packed_table [] files p.table)))
+    (meant (packed_table (table_named p.translate files)) [] files p.table)))
 finished files (ToPrune p) = let t = table_named p.translate files in
     prune_ends p t (pruned (minima_of t) (words_under files p.translate p.dict)
     (patterns_under files p.translate p.patterns))

@@ -19,17 +19,9 @@ after_calls count (suc more) = next_count (after_calls count more)
 abbrev pub MakesCalls : FilesShown → FilesShown → List FilesCall → Type 0
 MakesCalls old new calls = new.calls ≡ old.calls ++ calls
 
--- no call was made on files
-abbrev pub MakesNone : FilesShown → FilesShown → Type 0
-MakesNone old new = new.calls ≡ old.calls
-
--- the call that reads a file
-abbrev pub read_call : Reading → FilesCall
-read_call r = Reads r.name
-
 -- the calls that read files, in their order
 abbrev pub read_calls : List Reading → List FilesCall
-read_calls reads = map read_call reads
+read_calls reads = map (λ r. Reads r.name) reads
 
 -- the calls that write files of these names, in their order
 abbrev pub write_calls : List (List ℕ) → List FilesCall
@@ -72,21 +64,18 @@ EndsAt request at files =
 -- a file ended the call, or the command did after it had read all of them, and one line was put at
 -- once
 abbrev pub IsEndedCounted : Request → Moment → Moment → Type 0
-IsEndedCounted request old new =
-    (at : ℕ) × ReadsUpTo (reads_of request) at old.0 new.0
+IsEndedCounted request old new = (at : ℕ) × ReadsUpTo (reads_of request) at old.0 new.0
     × IfSome new.0.held (λ files. EndsAt request at (file_at files)) × MakesPuts old.1 new.1 1
 
 -- each file was read once, then each written once, and the lines were put at once
 abbrev pub IsWholeCounted : Request → Moment → Moment → Type 0
-IsWholeCounted request old new =
-    MakesCalls old.0 new.0 (read_calls (reads_of request) ++ write_calls (writes_of request))
-    × MakesPuts old.1 new.1 1
+IsWholeCounted request old new = MakesCalls old.0 new.0
+    (read_calls (reads_of request) ++ write_calls (writes_of request)) × MakesPuts old.1 new.1 1
 
 -- memory was short, before the first read or after some reads, and nothing was put
 abbrev pub IsWantCounted : Request → Moment → Moment → Type 0
-IsWantCounted request old new =
-    (MakesNone old.0 new.0 ⊎ ((at : ℕ) × ReadsUpTo (reads_of request) at old.0 new.0))
-    × MakesPuts old.1 new.1 0
+IsWantCounted request old new = ((new.0.calls ≡ old.0.calls)
+    ⊎ ((at : ℕ) × ReadsUpTo (reads_of request) at old.0 new.0)) × MakesPuts old.1 new.1 0
 
 -- the calls of an answer that comes from the outcome
 abbrev pub IsEndCounted : Request → Status → Moment → Moment → Type 0
@@ -104,5 +93,5 @@ IsCounted request answer old new = IsEndCounted request answer old new
 
 -- the same of a call: words that are no command call no file, and their line is put at once
 abbrev pub IsCountedCall : Option Request → Status → Moment → Moment → Type 0
-IsCountedCall None answer old new = MakesNone old.0 new.0 × MakesPuts old.1 new.1 1
+IsCountedCall None answer old new = (new.0.calls ≡ old.0.calls) × MakesPuts old.1 new.1 1
 IsCountedCall (Some request) answer old new = IsCounted request answer old new

@@ -1,9 +1,10 @@
 -- What stands after a fault. A call goes from the moment old to the moment new.
 use Rattle.std.specs.Prelude.{◌≡◌, ℕ, ◌+◌, ◌++◌, Option, None, Some, take, Any, ◌⊎◌}
 use Rattle.pg_outside.specs.Content.{file_at}
+use Rattle.pg_outside.specs.Faults.{Rose}
 use Rattle.pg_top.specs.Calls.{outcome_of, reads_of, writes_of}
 use Rattle.pg_top.specs.Counted.{MakesCalls, read_calls, write_calls, ReadsUpTo, IsUnreadAt, IsUnwrittenAt, PutsFault, IsEndCounted}
-use Rattle.pg_top.specs.Moments.{Moment, OfFiles, KeepsFiles, PutsPart, ReadRose, WriteRose, PutRose, PutOrRose}
+use Rattle.pg_top.specs.Moments.{Moment, OfFiles, KeepsFiles, PutsPart, PutRose, PutOrRose}
 use Rattle.pg_top.specs.Outcomes.{IsKnown}
 use Rattle.pg_top.specs.PrintedLines.{usage_line, reading_line, writing_line}
 use Rattle.pg_words.specs.Requests.{Request}
@@ -14,8 +15,8 @@ use Rattle.pg_top.specs.declared.answers.Status.{Status}
 -- of one that it writes
 abbrev pub FilesRose : Request → Moment → Moment → Type 0
 FilesRose request old new =
-    Any (λ r. ReadRose old new r.name) (reads_of request) ⊎ Any
-    (WriteRose old new) (writes_of request)
+    Any (λ r. Rose (old.0.read_faults r.name) (new.0.read_faults r.name)) (reads_of request)
+    ⊎ Any (λ name. Rose (old.0.write_faults name) (new.0.write_faults name)) (writes_of request)
 
 -- some fault rose: one of the sink, or of the files of the command
 abbrev pub SomeRose : Option Request → Moment → Moment → Type 0

@@ -23,14 +23,6 @@ Puts old new text = WasPut old.text new.text text
 abbrev pub PutsPart : SinkShown → SinkShown → List ℕ → Type 0
 PutsPart old new text = WasPartPut old.text new.text text
 
--- the read faults of a name rose
-abbrev pub ReadRose : Moment → Moment → List ℕ → Type 0
-ReadRose old new name = Rose (old.0.read_faults name) (new.0.read_faults name)
-
--- the write faults of a name rose
-abbrev pub WriteRose : Moment → Moment → List ℕ → Type 0
-WriteRose old new name = Rose (old.0.write_faults name) (new.0.write_faults name)
-
 -- the faults of the sink rose
 abbrev pub PutRose : SinkShown → SinkShown → Type 0
 PutRose old new = Rose old.faults new.faults

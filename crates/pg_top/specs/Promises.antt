@@ -56,11 +56,9 @@ pub record PruneKeeps (files : Held) (p : PruneRequest) : Type 0 where
   pub part : All (Contains (patterns_under files p.translate p.patterns)) kept
   pub reads_back : ReadsBack (table_named p.translate files) kept
   pub alike : BreakAlike (minima_of (table_named p.translate files))
-      (words_under files p.translate p.dict)
-      (patterns_under files p.translate p.patterns) kept
+      (words_under files p.translate p.dict) (patterns_under files p.translate p.patterns) kept
   pub least : NoneCanGo (minima_of (table_named p.translate files))
-      (words_under files p.translate p.dict)
-      (patterns_under files p.translate p.patterns) kept
+      (words_under files p.translate p.dict) (patterns_under files p.translate p.patterns) kept
 
 -- what the sets of a sweep cost
 abbrev pub set_costs : Held → SweepRequest → List ℕ
@@ -70,8 +68,7 @@ set_costs files s = costs_of (swept_rows s (terms_in files s) (sets_in files s))
 pub record SweepNames (files : Held) (s : SweepRequest) : Type 0 where
   pub winner : ℕ
   pub text : List ℕ
-  pub comes : outcome_of files (ToSweep s)
-      ≡ Ends Done ((s.output, text) ∷ [])
+  pub comes : outcome_of files (ToSweep s) ≡ Ends Done ((s.output, text) ∷ [])
       (winner_line winner (slice_index (set_costs files s) (winner - 1)))
   pub wins : IsWinner (set_costs files s) winner
 

@@ -3,6 +3,7 @@ use Rattle.std.specs.Prelude.{ℕ, List, [], ◌∷◌, Option, None, Some, Resu
 use Rattle.std.specs.Option.{option_map, option_map_or, option_or}
 use Rattle.std.specs.Result.{result_unwrap_or}
 use Rattle.pg_types.specs.declared.refusals.Refusal.{Refusal}
+use Rattle.pg_types.specs.Parameters.{Parameters, parameters}
 use Rattle.pg_translate.specs.Alphabets.{Alphabet}
 use Rattle.pg_translate.specs.Tables.{table, default_alphabet}
 use Rattle.pg_dict.specs.Word.{Word}
@@ -41,25 +42,12 @@ input_file input name parse =
 -- the outcome of the first file that ends the call; a name that is not held ends it too
 abbrev pub first_end : Held → List Reading → Option Outcome
 first_end files [] = None
-first_end files (r ∷ rs) =
-    option_map_or (λ bytes. option_or (r.ends files bytes) (first_end files rs))
-    (files r.name) (Some Unknown)
+first_end files (r ∷ rs) = option_map_or (λ bytes. option_or (r.ends files bytes)
+    (first_end files rs)) (files r.name) (Some Unknown)
 
 -- the table of a translate file that is held
 abbrev pub table_named : List ℕ → Held → Alphabet
 table_named name files = meant table default_alphabet files name
-
--- a file that is read under the table of the translate file of a name
-abbrev pub file_under : {Y : Type 0} → List ℕ → Input
-    → List ℕ → (Alphabet → List ℕ → Result Y Refusal) → Reading
-file_under translate input name parse =
-    input_file input name (λ files. parse (table_named translate files))
-
--- what such a file means
-abbrev pub meant_under : {Y : Type 0} → List ℕ → (Alphabet → List ℕ → Result Y Refusal)
-    → Y → Held → List ℕ → Y
-meant_under translate parse other files name =
-    meant (parse (table_named translate files)) other files name
 
 -- a translate file that is read
 abbrev pub translate_file : List ℕ → Reading
@@ -67,16 +55,23 @@ translate_file translate = input_file input.Translate translate (λ files. table
 
 -- a pattern file that is read under the table of a translate file
 abbrev pub patterns_file : List ℕ → List ℕ → Reading
-patterns_file translate name = file_under translate input.Patterns name start
+patterns_file translate name =
+    input_file input.Patterns name (λ files. start (table_named translate files))
 
 -- a dictionary that is read under the table of a translate file
 abbrev pub words_file : List ℕ → List ℕ → Reading
-words_file translate name = file_under translate input.Dictionary name words
+words_file translate name =
+    input_file input.Dictionary name (λ files. words (table_named translate files))
 
 -- the patterns of a pattern file, under the table of a translate file
 abbrev pub patterns_under : Held → List ℕ → List ℕ → Patterns
-patterns_under files translate name = meant_under translate start [] files name
+patterns_under files translate name = meant (start (table_named translate files)) [] files name
+
+-- the parameters of a parameter file
+abbrev pub parameters_named : Held → List ℕ → Parameters
+parameters_named files name =
+    meant parameters (record { start = 1; finish = 1; levels = [] }) files name
 
 -- the words of a dictionary, under the table of a translate file
 abbrev pub words_under : Held → List ℕ → List ℕ → List Word
-words_under files translate name = meant_under translate words [] files name
+words_under files translate name = meant (words (table_named translate files)) [] files name

@@ -9,9 +9,8 @@ use Rattle.pg_words.specs.Requests.{Request}
 use Rattle.pg_top.specs.declared.answers.Status.{Status}
 
 -- files and a sink were handed to a call that was asked for this, and it gave this answer
-pub record IsRun {F : Type 0} (asked : Option Request)
-    (status : Status) (before after : F) (old new : Moment)
-    : Type 0 where
+pub record IsRun {F : Type 0} (asked : Option Request) (status : Status)
+    (before after : F) (old new : Moment) : Type 0 where
   pub call : IsCall asked status old new
   pub sampled : IsSampled asked status old new
   pub counted : IsCountedCall asked status old new

@@ -13,6 +13,5 @@ after_all files (w ∷ ws) = after_all (fin.insert files w.0 w.1) ws
 -- of its text, and no other is written
 abbrev pub IsPartWritten : FileMap → FileMap → Writing → List ℕ → Type 0
 IsPartWritten before after [] name = ⊥
-IsPartWritten before after (w ∷ ws) name =
-    ((w.0 ≡ name) × HasPart before after w.0 w.1) ⊎ IsPartWritten
-    (fin.insert before w.0 w.1) after ws name
+IsPartWritten before after (w ∷ ws) name = ((w.0 ≡ name) × HasPart before after w.0 w.1)
+    ⊎ IsPartWritten (fin.insert before w.0 w.1) after ws name

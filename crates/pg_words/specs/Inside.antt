@@ -1,3 +1,4 @@
 -- What only contracts between layers and proofs need.
+pub mod Names
 pub mod Taken
 pub mod Asked

@@ -67,15 +67,11 @@ if_asked option f = option_map_or (λ name. f name ∷ []) option []
 abbrev pub is_name : List ℕ → Bool
 is_name word = nat_lt 0 (length word) && not (starts_with nat_eq word (codes "--"))
 
--- a name differs from all others
-abbrev pub differs_from : List ℕ → List (List ℕ) → Bool
-differs_from name others = list_all (λ other. not (bytes_eq name other)) others
-
 -- each output name differs from the output names after it and from the input names
 abbrev pub outputs_differ : List (List ℕ) → List (List ℕ) → Bool
 outputs_differ [] inputs = true
-outputs_differ (output ∷ outputs) inputs = differs_from output (outputs ++ inputs)
-    && outputs_differ outputs inputs
+outputs_differ (output ∷ outputs) inputs = list_all (λ other. not (bytes_eq output other))
+    (outputs ++ inputs) && outputs_differ outputs inputs
 
 -- the names of the inputs of `generate`
 abbrev pub input_names : FileNames → List (List ℕ)
@@ -102,14 +98,13 @@ with_option n option name =
 abbrev pub with_options : FileNames → List (List ℕ) → Option FileNames
 with_options n [] = Some n
 with_options n (option ∷ name ∷ []) = with_option n option name
-with_options n (first ∷ one ∷ second ∷ two ∷ []) =
-    if bytes_eq first second then None
+with_options n (first ∷ one ∷ second ∷ two ∷ []) = if bytes_eq first second then None
     else option_and_then (λ with_first. with_option with_first second two) (with_option n first one)
 with_options n words = None
 
--- six names in the order in which they are given
-abbrev pub six_names : List ℕ → List ℕ → List ℕ → List ℕ → List ℕ → List ℕ → FileNames
-six_names dict patterns output translate params report = record {
+-- the names in words: six, and then the options
+abbrev pub names_in : List (List ℕ) → Option FileNames
+names_in (dict ∷ patterns ∷ output ∷ translate ∷ params ∷ report ∷ options) = with_options (record {
   dict = dict;
   patterns = patterns;
   output = output;
@@ -118,12 +113,7 @@ six_names dict patterns output translate params report = record {
   report = report;
   pattmp = None;
   cells = None;
-}
-
--- the names in words: six, and then the options
-abbrev pub names_in : List (List ℕ) → Option FileNames
-names_in (dict ∷ patterns ∷ output ∷ translate ∷ params ∷ report ∷ options) =
-    with_options (six_names dict patterns output translate params report) options
+}) options
 names_in words = None
 
 -- `generate DICT PATTERNS OUT TRANSLATE PARAMS REPORT`, then `--pattmp FILE` and `--cells FILE`
@@ -143,42 +133,33 @@ number_within digits least most word = if nat_lt 0 (length word) && nat_le (leng
 
 -- `sample N COUNT`
 abbrev pub sample_in : List (List ℕ) → Option Request
-sample_in (seed ∷ count ∷ []) =
-    option_and_then (λ s. option_map (ToSample s) (number_within 10 0 100000 count))
-    (number_within 10 0 2147483647 seed)
+sample_in (seed ∷ count ∷ []) = option_and_then (λ s. option_map (ToSample s)
+    (number_within 10 0 100000 count)) (number_within 10 0 2147483647 seed)
 sample_in words = None
 
 -- `pack PATTERNS TRANSLATE TABLE`, where the table is an output
 abbrev pub pack_in : List (List ℕ) → Option Request
-pack_in (patterns ∷ translate ∷ table ∷ []) =
-    where_taken (patterns ∷ translate ∷ []) (table ∷ [])
+pack_in (patterns ∷ translate ∷ table ∷ []) = where_taken (patterns ∷ translate ∷ []) (table ∷ [])
     (ToPack (record { patterns = patterns; translate = translate; table = table }))
 pack_in words = None
 
 -- `totals DICT TRANSLATE TABLE`, whose names may be equal
 abbrev pub totals_in : List (List ℕ) → Option Request
-totals_in (dict ∷ translate ∷ table ∷ []) =
-    where_taken (dict ∷ translate ∷ table ∷ []) []
+totals_in (dict ∷ translate ∷ table ∷ []) = where_taken (dict ∷ translate ∷ table ∷ []) []
     (ToTotals (record { dict = dict; translate = translate; table = table }))
 totals_in words = None
 
 -- `prune DICT PATTERNS OUT TRANSLATE REPORT`
 abbrev pub prune_in : List (List ℕ) → Option Request
-prune_in (dict ∷ patterns ∷ output ∷ translate ∷ report ∷ []) =
-    where_taken (dict ∷ patterns ∷ translate ∷ []) (output ∷ report ∷ []) (ToPrune (record {
-      dict = dict;
-      patterns = patterns;
-      output = output;
-      translate = translate;
-      report = report;
-    }))
+prune_in (d ∷ p ∷ o ∷ t ∷ r ∷ []) = where_taken (d ∷ p ∷ t ∷ []) (o ∷ r ∷ [])
+    (ToPrune (record { dict = d; patterns = p; output = o; translate = t; report = r }))
 prune_in words = None
 
 -- `sweep DICT PATTERNS OUT TRANSLATE K BAD MISSED`, then the names of 1 to 16 parameter files
 abbrev pub sweep_in : List (List ℕ) → Option Request
 sweep_in (dict ∷ patterns ∷ output ∷ translate ∷ k ∷ bad_word ∷ missed_word ∷ params) =
-    option_and_then (λ folds. option_and_then (λ bad. option_and_then
-    (λ missed. if nat_lt 0 (length params) && nat_le (length params) 16
+    option_and_then (λ folds. option_and_then (λ bad. option_and_then (λ missed.
+    if nat_lt 0 (length params) && nat_le (length params) 16
     then where_taken (dict ∷ patterns ∷ translate ∷ params) (output ∷ []) (ToSweep (record {
       dict = dict;
       patterns = patterns;
@@ -188,9 +169,7 @@ sweep_in (dict ∷ patterns ∷ output ∷ translate ∷ k ∷ bad_word ∷ miss
       bad = bad;
       missed = missed;
       params = params;
-    }))
-    else None)
-    (number_within 4 1 1000 missed_word)) (number_within 4 1 1000 bad_word))
+    })) else None) (number_within 4 1 1000 missed_word)) (number_within 4 1 1000 bad_word))
     (number_within 2 2 10 k)
 sweep_in words = None
 

@@ -2,7 +2,8 @@
 ghost use Rattle.std.specs.Prelude.{◌≡◌, ◌≤◌, ◌<◌, ◌++◌, ◌∷◌, [], length, drop, slice_index_or, IfSome};
 ghost use Rattle.std.specs.List.{list_all};
 ghost use Rattle.std.specs.Option.{option_map, option_and_then};
-ghost use Rattle.pg_words.specs.Requests.{is_name as is_name_word, if_asked, input_names, output_names, differs_from, outputs_differ, with_option as with_option_of, with_options as with_options_of, names_in, to_generate, to_audit, sample_in, pack_in, totals_in, prune_in, sweep_in, request_of};
+ghost use Rattle.pg_words.specs.Requests.{is_name as is_name_word, if_asked, input_names, output_names, outputs_differ, with_option as with_option_of, with_options as with_options_of, names_in, to_generate, to_audit, sample_in, pack_in, totals_in, prune_in, sweep_in, request_of};
+ghost use Rattle.pg_words.specs.Inside.Names.{differs_from};
 ghost use Rattle.pg_words.specs.Inside.Taken.{is_prune_taken as is_prune_taken_names, is_sweep_taken};
 ghost use Rattle.pg_words.specs.Commands.{words_of};
 ghost use Rattle.pg_words.specs.Inside.Asked.{name_now, texts_of, asked_by, KeepsLimits};

@@ -13,9 +13,11 @@ use Rattle.pg_outside.specs.Content.{FileMap, FilesShown, SinkShown, KeepsHeld, 
 use Rattle.pg_outside.specs.Inside.NameFaults.{NoneFell}
 use Rattle.pg_outside.specs.FilesCalls.{Reads}
 use Rattle.pg_top.specs.Answers.{IsCall}
-use Rattle.pg_top.specs.audit.Audited.{denies, given_file, given_names, given_files, yes_line}
+use Rattle.pg_top.specs.audit.Audited.{denies, given_file, given_names, given_files}
+use Rattle.pg_top.specs.audit.Inside.Verdicts.{yes_line, wanted_file, wanted_files, end_of, outcome_by, ReadsToFind, IsFrontOf, PutsVerdict}
 use Rattle.pg_top.specs.Calls.{outcome_of, reads_of}
-use Rattle.pg_top.specs.Counted.{MakesCalls, MakesPuts, read_call, read_calls, ReadsUpTo, EndsAt, IsEndedCounted, IsWholeCounted, IsCounted}
+use Rattle.pg_top.specs.Counted.{MakesCalls, MakesPuts, read_calls, ReadsUpTo, EndsAt, IsEndedCounted, IsWholeCounted, IsCounted}
+use Rattle.pg_top.specs.Inside.ReadCalls.{read_call}
 use Rattle.pg_top.specs.Outcomes.{Outcome, Unknown, Ends, refuses}
 use Rattle.pg_top.specs.PrintedLines.{word_of}
 use Rattle.pg_top.specs.Readings.{Held, Reading, first_end}
@@ -24,7 +26,6 @@ use Rattle.pg_top.specs.Selection.{selected_text, selected_report}
 use Rattle.pg_top.specs.generate.Generated.{inputs_in, inputs_of}
 use Rattle.pg_top.specs.generate.Inside.Accepted.{HasInputs}
 use Rattle.pg_top.specs.Inside.Stops.{StopsAt, StopsWith, StopsReading}
-use Rattle.pg_top.specs.audit.Inside.Verdicts.{wanted_file, wanted_files, end_of, outcome_by, ReadsToFind, IsFrontOf, PutsVerdict}
 use Rattle.pg_top.specs.declared.answers.Status.{Status}
 use Rattle.pg_top.specs.declared.answers.Status.TheVariants.{Yes, No}
 use Rattle.pg_top.specs.declared.audit.compare.Verdict.{Verdict}

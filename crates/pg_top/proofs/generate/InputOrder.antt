@@ -12,7 +12,7 @@ use Rattle.pg_patterns.specs.Starts.{start}
 use Rattle.pg_top.specs.Calls.{outcome_of, finished}
 use Rattle.pg_top.specs.Readings.{Reading, read_as, input_file, translate_file, patterns_file, words_file}
 use Rattle.pg_words.specs.Requests.{FileNames, ToGenerate}
-use Rattle.pg_top.specs.generate.Generated.{table_in, inputs_in, inputs_of, generated}
+use Rattle.pg_top.specs.generate.Generated.{inputs_in, inputs_of, generated}
 use Rattle.pg_top.specs.generate.Inside.Accepted.{HasInputs}
 use Rattle.pg_top.specs.Inside.Lists.{lists_under, HasLists}
 use Rattle.pg_top.specs.Inside.Stops.{StopsAt, StopsReading}
@@ -55,7 +55,7 @@ module _ (n : FileNames) (t : Alphabet) where
       -- and this is what is given
       pub given : (files : FileMap) → HasInputs (file_at files) n all → inputs_in (file_at files) n ≡ all
       given files h =
-          let is_t : table_in (file_at files) n ≡ t = is_table n.translate t files h.table in
+          let is_t : table_named n.translate (file_at files) ≡ t = is_table n.translate t files h.table in
           let is_p : (inputs_in (file_at files) n).params ≡ p = means parameters _ (file_at files) n.params p h.params in
           let is_S : (inputs_in (file_at files) n).start ≡ S = means_under n.translate t start [] n.patterns S files h.table h.start in
           let is_ws : (inputs_in (file_at files) n).dictionary ≡ ws = means_under n.translate t words [] n.dict ws files h.table h.words in

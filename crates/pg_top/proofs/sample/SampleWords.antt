@@ -15,10 +15,12 @@ use Rattle.pg_translate.specs.Tokens.{Token, Letter, Marked}
 use Rattle.pg_translate.specs.Inside.Items.{IsItem, text_of_items}
 use Rattle.pg_translate.specs.declared.items.Place.TheVariants.{Dictionary}
 use Rattle.pg_dict.specs.Word.{Word}
-use Rattle.pg_dict.specs.Words.{line_reading, line_word, word_weight, word_of_items, words}
+use Rattle.pg_dict.specs.Words.{word_weight, word_of_items, words}
+use Rattle.pg_dict.specs.Inside.LineWords.{line_reading, line_word}
 use Rattle.pg_dict.specs.Inside.Written.{letters_among, IsLine, file_of, LinesGive}
 use Rattle.pg_dict.proofs.LineLaws.{line_is_read, file_is_read, items_line}
-use Rattle.pg_top.specs.sample.Sampled.{Made, next_state, drawn, consonants, vowels, closings, ending, syllable, further, word, words_made, sample_text}
+use Rattle.pg_top.specs.sample.Sampled.{Made, next_state, drawn, consonants, vowels, ending, syllable, further, word, words_made, sample_text}
+use Rattle.pg_top.specs.sample.Inside.Lines.{closings}
 use Rattle.pg_types.proofs.BoolFacts.{and_first, and_second}
 
 -- letters, and hyphens beside them

@@ -9,9 +9,9 @@ use Rattle.pg_outside.specs.Inside.NameFaults.{NoneFell}
 use Rattle.pg_outside.specs.FilesCalls.{Reads}
 use Rattle.pg_words.specs.Commands.{words_of}
 use Rattle.pg_top.specs.Counted.{MakesCalls, read_calls}
-use Rattle.pg_top.specs.Readings.{Held, Reading, read_as}
+use Rattle.pg_top.specs.Readings.{Held, Reading, read_as, parameters_named}
 use Rattle.pg_top.specs.Inside.Stops.{StopsAt, StopsReading}
-use Rattle.pg_top.specs.sweep.Swept.{set_file, set_files, set_named}
+use Rattle.pg_top.specs.sweep.Swept.{set_file, set_files}
 use Rattle.pg_top.specs.sweep.Inside.Accepted.{accepted_set, HasSets}
 use Rattle.pg_top.specs.declared.inputs.Input.TheVariants as input
 use Rattle.pg_top.specs.declared.inputs.Stop.{Stop}
@@ -29,15 +29,15 @@ sets_accepted files number (name ∷ names) (set ∷ sets) h =
     (accepted (input.Set number) parameters (files name) set first, sets_accepted files (number + 1) names sets later)
 
 -- and mean these sets
-pub sets_mean : (files : Held) (names : List (List ℕ)) (sets : List Parameters) → HasSets files names sets → map (set_named files) names ≡ sets
+pub sets_mean : (files : Held) (names : List (List ℕ)) (sets : List Parameters) → HasSets files names sets → map (parameters_named files) names ≡ sets
 sets_mean files [] [] h = refl
 sets_mean files [] (set ∷ sets) h = absurd (cc)
 sets_mean files (name ∷ names) [] h = absurd (cc)
 sets_mean files (name ∷ names) (set ∷ sets) h =
     let first : read_as parameters files name ≡ Some (Ok set) = cc in
     let later : HasSets files names sets = cc in
-    let is : set_named files name ≡ set = means parameters (record { start = 1; finish = 1; levels = [] }) files name set first in
-    let are : map (set_named files) names ≡ sets = sets_mean files names sets later in
+    let is : parameters_named files name ≡ set = means parameters (record { start = 1; finish = 1; levels = [] }) files name set first in
+    let are : map (parameters_named files) names ≡ sets = sets_mean files names sets later in
     cc
 
 -- one more set

@@ -14,7 +14,8 @@ use Rattle.pg_select.specs.Windows.{Patterns}
 use Rattle.pg_sweep.specs.Sweeps.{Terms}
 use Rattle.pg_top.specs.sweep.Inside.Inputs.{swept}
 use Rattle.pg_top.specs.Calls.{outcome_of, finished, reads_of}
-use Rattle.pg_top.specs.Counted.{MakesCalls, read_call, read_calls}
+use Rattle.pg_top.specs.Counted.{MakesCalls, read_calls}
+use Rattle.pg_top.specs.Inside.ReadCalls.{read_call}
 use Rattle.pg_top.specs.Readings.{Reading, translate_file, patterns_file, words_file}
 use Rattle.pg_words.specs.Requests.{SweepRequest, ToSweep}
 use Rattle.pg_top.specs.Inside.Lists.{lists_under, HasLists}

@@ -11,9 +11,9 @@ use Rattle.pg_sweep.specs.declared.rows.SweepRow.{SweepRow}
 use Rattle.pg_sweep.proofs.Winners.{winner_wins}
 use Rattle.pg_top.specs.Calls.{finished, reads_of}
 use Rattle.pg_top.specs.Outcomes.{Ends}
-use Rattle.pg_top.specs.sweep.Swept.{winner_line, set_named, terms_in, sets_in, swept_rows, sweep_ends}
+use Rattle.pg_top.specs.sweep.Swept.{winner_line, terms_in, sets_in, swept_rows, sweep_ends}
 use Rattle.pg_top.specs.Promises.{set_costs, SweepNames}
-use Rattle.pg_top.specs.Readings.{Held, first_end}
+use Rattle.pg_top.specs.Readings.{Held, first_end, parameters_named}
 use Rattle.pg_words.specs.Requests.{SweepRequest, ToSweep}
 use Rattle.pg_top.specs.sweep.Inside.Inputs.{line_of_sweep, swept}
 use Rattle.pg_top.specs.declared.answers.Status.TheVariants.{Done}
@@ -34,7 +34,7 @@ sweep_names s files none some = record {
   winner = winner_of (set_costs files s);
   text = sweep_file s.folds (swept_rows s (terms_in files s) (sets_in files s)) (winner_of (set_costs files s));
   comes = ap (λ end. unwrap_or end (finished files (ToSweep s))) none;
-  wins = winner_wins (set_costs files s) (many (set_costs files s) (length-map (swept_rows s (terms_in files s) (sets_in files s)) (λ (r : SweepRow). r.cost) ∙ length-map (sets_in files s) (row_of (terms_in files s) s.bad s.missed) ∙ length-map s.params (set_named files)));
+  wins = winner_wins (set_costs files s) (many (set_costs files s) (length-map (swept_rows s (terms_in files s) (sets_in files s)) (λ (r : SweepRow). r.cost) ∙ length-map (sets_in files s) (row_of (terms_in files s) s.bad s.missed) ∙ length-map s.params (parameters_named files)));
 }
   where
     many : (costs : List ℕ) → length costs ≡ length s.params → 1 ≤ length costs

@@ -16,7 +16,8 @@ use Rattle.pg_words.specs.Requests.{TotalsRequest, ToTotals}
 use Rattle.pg_top.specs.Calls.{outcome_of, finished, reads_of}
 use Rattle.pg_top.specs.Counted.{MakesCalls, read_calls}
 use Rattle.pg_top.specs.Outcomes.{Ends}
-use Rattle.pg_top.specs.Readings.{Reading, read_as, input_file, file_under}
+use Rattle.pg_top.specs.Readings.{Reading, read_as, input_file}
+use Rattle.pg_top.specs.Inside.UnderTable.{file_under}
 use Rattle.pg_top.specs.pack.Packed.{table_refused}
 use Rattle.pg_top.specs.totals.Totalled.{packed_table}
 use Rattle.pg_top.specs.totals.Inside.Inputs.{IsTotalled, totals_lines}

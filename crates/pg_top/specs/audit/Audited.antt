@@ -14,14 +14,9 @@ use Rattle.pg_top.specs.declared.inputs.Given.TheVariants as given
 use Rattle.pg_top.specs.declared.inputs.Input.TheVariants as input
 use Rattle.pg_top.specs.declared.selection.Inputs.{Inputs}
 
--- where `audit` finds all given files right
-abbrev pub yes_line : List ℕ
-yes_line = codes "yes\n"
-
 -- where a line of a given file is false: its number, and what stands there
 abbrev pub no_line : Given → Difference → List ℕ
-no_line given d =
-    codes "no: " ++ word_of (input.Given given) ++ codes " line "
+no_line given d = codes "no: " ++ word_of (input.Given given) ++ codes " line "
     ++ decimal d.line ++ found_text d.found ++ codes "\n"
 
 -- the text that a given file is to be
@@ -45,9 +40,8 @@ given_file inputs g = record {
 -- the given files in their order, each with its name: the pattern file, the hyphenated list where
 -- it is asked for, and the report
 abbrev pub given_names : FileNames → List (Given × List ℕ)
-given_names n =
-    (given.Patterns, n.output) ∷ if_asked n.pattmp (λ name. (given.Pattmp, name))
-    ++ (given.Report, n.report) ∷ []
+given_names n = (given.Patterns, n.output)
+    ∷ if_asked n.pattmp (λ name. (given.Pattmp, name)) ++ (given.Report, n.report) ∷ []
 
 -- the given files in their order, each of which ends the call where a line of it is false
 abbrev pub given_files : (Held → Inputs) → FileNames → List Reading

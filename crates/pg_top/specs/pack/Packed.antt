@@ -16,10 +16,8 @@ use Rattle.pg_top.specs.declared.inputs.Input.TheVariants as input
 
 -- where `pack` is done: how many lines the pattern file has, and how many bytes the table
 abbrev pub packed_line : List ℕ → List ℕ → List ℕ
-packed_line patterns table =
-    codes "packed: " ++ decimal (length (lines patterns))
-    ++ codes " patterns, " ++ decimal (length table)
-    ++ codes " bytes\n"
+packed_line patterns table = codes "packed: " ++ decimal (length (lines patterns))
+    ++ codes " patterns, " ++ decimal (length table) ++ codes " bytes\n"
 
 -- a table is refused, without a place
 abbrev pub table_refused : Kind → Refusal

@@ -10,13 +10,11 @@ use Rattle.pg_top.specs.declared.answers.Status.TheVariants.{Done}
 
 -- where `prune` is done: how many rounds were made, and how many entries were taken out and stay
 abbrev pub pruned_line : ℕ → ℕ → ℕ → List ℕ
-pruned_line rounds removed kept =
-    codes "done: " ++ decimal rounds ++ codes " rounds, "
-    ++ decimal removed ++ codes " removed, " ++ decimal kept
-    ++ codes " kept\n"
+pruned_line rounds removed kept = codes "done: " ++ decimal rounds ++ codes " rounds, "
+    ++ decimal removed ++ codes " removed, " ++ decimal kept ++ codes " kept\n"
 
 -- what `prune` writes and prints where pruning finds this
 abbrev pub prune_ends : PruneRequest → Alphabet → Found → Outcome
-prune_ends p t found =
-    Ends Done ((p.output, pattern_text t found.patterns) ∷ (p.report, prune_report t found) ∷ [])
+prune_ends p t found = Ends Done
+    ((p.output, pattern_text t found.patterns) ∷ (p.report, prune_report t found) ∷ [])
     (pruned_line found.rounds found.removed (length found.patterns))

@@ -3,7 +3,7 @@ use Rattle.std.specs.Prelude.{ℕ, zero, suc, ◌+◌, ◌*◌, ◌/◌, ◌%◌
 use Rattle.std.specs.List.{starts_with}
 use Rattle.std.specs.Result.{result_unwrap_or}
 use Rattle.pg_types.specs.Lines.{lines}
-use Rattle.pg_types.specs.Parameters.{Parameters}
+use Rattle.pg_types.specs.Parameters.{Parameters, items, parameters_of}
 use Rattle.pg_translate.specs.Tables.{default_alphabet}
 use Rattle.pg_dict.specs.Words.{words}
 use Rattle.pg_top.specs.PrintedLines.{done_line}
@@ -31,15 +31,11 @@ consonants = codes "bdfgklmnprst"
 abbrev pub vowels : List ℕ
 vowels = codes "aeiou"
 
--- the consonants that a syllable may end with
-abbrev pub closings : List ℕ
-closings = codes "nrs"
-
--- the end of a syllable, behind the draw that says whether it ends with a consonant: a consonant
--- where that draw is 0, else nothing
+-- the end of a syllable, behind the draw that says whether it ends with a consonant: one of these
+-- consonants where that draw is 0, else nothing
 unfoldable pub ending : ℕ → Made
-ending x = if drawn 4 x == 0
-    then record { text = slice_index closings (drawn 3 (next_state x)) ∷ []; state = next_state x }
+ending x = let y = next_state x in if drawn 4 x == 0
+    then record { text = slice_index (codes "nrs") (drawn 3 y) ∷ []; state = y }
     else record { text = []; state = x }
 
 -- a syllable: a consonant, a vowel, and its end
@@ -69,32 +65,21 @@ words_made (suc n) x = (word x).text ∷ words_made n (word x).state
 abbrev pub sample_text : ℕ → ℕ → List ℕ
 sample_text seed count = flat_map (λ text. text ++ 10 ∷ []) (words_made count seed)
 
--- two levels, the first with lengths 1 to 3 and the second with lengths 2 to 4
+-- what the items of this file are: two levels, the first with lengths 1 to 3 and the second with
+-- lengths 2 to 4
 abbrev pub sample_parameters : Parameters
-sample_parameters = record {
-  start = 1;
-  finish = 2;
-  levels =
-      record { pat_start = 1; pat_finish = 3; good_wt = 1; bad_wt = 2; thresh = 20 }
-      ∷ record { pat_start = 2; pat_finish = 4; good_wt = 2; bad_wt = 1; thresh = 8 }
-      ∷ [];
-}
+sample_parameters = parameters_of (items (codes "1 2  1 3 1 2 20  2 4 2 1 8"))
 
 -- the selection: the default table, no starting patterns, and the words of the dictionary
 unfoldable pub sample_inputs : ℕ → ℕ → Inputs
-sample_inputs seed count = record {
-  table = default_alphabet;
-  params = sample_parameters;
-  start = [];
-  dictionary = result_unwrap_or (words default_alphabet (sample_text seed count)) [];
-}
+sample_inputs seed count =
+    let made = result_unwrap_or (words default_alphabet (sample_text seed count)) [] in
+    record { table = default_alphabet; params = sample_parameters; start = []; dictionary = made }
 
 -- whether a line of the report is printed: that of a level, of the totals or of the rates
 abbrev pub is_printed : List ℕ → Bool
-is_printed line =
-    starts_with nat_eq line (codes "level")
-    || starts_with nat_eq line (codes "total")
-    || starts_with nat_eq line (codes "rate")
+is_printed line = starts_with nat_eq line (codes "level")
+    || starts_with nat_eq line (codes "total") || starts_with nat_eq line (codes "rate")
 
 -- the lines that `sample` prints: those lines of the report, each with its line's end, and the Done
 -- line

@@ -1,15 +1,12 @@
 -- What `sweep` reads, writes and prints.
 use Rattle.std.specs.Prelude.{ℕ, ◌+◌, ◌-◌, List, [], ◌∷◌, ◌++◌, map, slice_index, codes, decimal}
 use Rattle.pg_types.specs.Parameters.{Parameters, parameters}
-use Rattle.pg_translate.specs.Tables.{table}
-use Rattle.pg_dict.specs.Words.{words}
-use Rattle.pg_patterns.specs.Starts.{start}
 use Rattle.pg_sweep.specs.Files.{sweep_file}
 use Rattle.pg_sweep.specs.Sweeps.{Terms, row_of, costs_of}
 use Rattle.pg_sweep.specs.Winners.{winner_of}
 use Rattle.pg_sweep.specs.declared.rows.SweepRow.{SweepRow}
 use Rattle.pg_top.specs.Outcomes.{Outcome, Ends}
-use Rattle.pg_top.specs.Readings.{Held, Reading, meant, input_file, table_named, words_under, patterns_under}
+use Rattle.pg_top.specs.Readings.{Held, Reading, input_file, table_named, parameters_named, words_under, patterns_under}
 use Rattle.pg_words.specs.Requests.{SweepRequest}
 use Rattle.pg_top.specs.declared.answers.Status.TheVariants.{Done}
 use Rattle.pg_top.specs.declared.inputs.Input.TheVariants as input
@@ -23,10 +20,6 @@ abbrev pub set_files : ℕ → List (List ℕ) → List Reading
 set_files number [] = []
 set_files number (name ∷ names) = set_file number name ∷ set_files (number + 1) names
 
--- what such a file means
-abbrev pub set_named : Held → List ℕ → Parameters
-set_named files name = meant parameters (record { start = 1; finish = 1; levels = [] }) files name
-
 -- what the runs of a sweep share, by the files that are held
 abbrev pub terms_in : Held → SweepRequest → Terms
 terms_in files s = record {
@@ -38,7 +31,7 @@ terms_in files s = record {
 
 -- the sets of parameters, by the files that are held
 abbrev pub sets_in : Held → SweepRequest → List Parameters
-sets_in files s = map (set_named files) s.params
+sets_in files s = map (parameters_named files) s.params
 
 -- the rows of the sets
 unfoldable pub swept_rows : SweepRequest → Terms → List Parameters → List SweepRow
@@ -51,7 +44,6 @@ winner_line winner cost = codes "winner: set " ++ decimal winner
 
 -- what a sweep with these rows writes and prints: its file, and which set wins
 abbrev pub sweep_ends : SweepRequest → List SweepRow → Outcome
-sweep_ends s rows =
-    let winner = winner_of (costs_of rows) in
+sweep_ends s rows = let winner = winner_of (costs_of rows) in
     Ends Done ((s.output, sweep_file s.folds rows winner) ∷ [])
     (winner_line winner (slice_index (costs_of rows) (winner - 1)))

@@ -9,8 +9,7 @@ use Rattle.pg_top.specs.pack.Packed.{table_refused}
 
 -- the bytes of a packed table for the letters of a table, or why they are refused
 abbrev pub packed_table : Alphabet → List ℕ → Result (List ℕ) Refusal
-packed_table t b =
-    if nat_lt TABLE_MAX (length b) then Err (table_refused TableTooLong)
+packed_table t b = if nat_lt TABLE_MAX (length b) then Err (table_refused TableTooLong)
     else (if not (is_well_formed b) then Err (table_refused BadTable)
     else (if nat_eq (head_of b).signs (letters_of t + 1) then Ok b
     else Err (table_refused OtherTable)))

@@ -4,7 +4,8 @@ use Rattle.pg_dict.specs.Words.{words}
 use Rattle.pg_outside.specs.Content.{FilesShown}
 use Rattle.pg_outside.specs.FilesCalls.{Reads}
 use Rattle.pg_translate.specs.Tables.{table}
-use Rattle.pg_top.specs.Readings.{file_under, input_file}
+use Rattle.pg_top.specs.Readings.{input_file}
+use Rattle.pg_top.specs.Inside.UnderTable.{file_under}
 use Rattle.pg_top.specs.totals.Totalled.{packed_table}
 use Rattle.pg_words.specs.Requests.{ToTotals}
 use Rattle.pg_top.specs.totals.Inside.Inputs.{totals_of}

@@ -1,9 +1,9 @@
 -- Given files as they are compared, and what the comparison gives.
-use Rattle.std.specs.Prelude.{◌≡◌, ℕ, ◌+◌, ◌<◌, List, [], map, length, take, Option, None, Some, IfSome, MatchOption, unwrap_or, ◌⊎◌}
+use Rattle.std.specs.Prelude.{◌≡◌, ℕ, ◌+◌, ◌<◌, List, [], map, length, take, Option, None, Some, IfSome, MatchOption, unwrap_or, codes, ◌⊎◌}
 use Rattle.std.specs.Option.{option_map}
 use Rattle.pg_audit.specs.Differences.{first_false}
 use Rattle.pg_outside.specs.Content.{FilesShown, SinkShown, file_at}
-use Rattle.pg_top.specs.audit.Audited.{denies, yes_line}
+use Rattle.pg_top.specs.audit.Audited.{denies}
 use Rattle.pg_top.specs.Counted.{MakesCalls, read_calls, ReadsUpTo}
 use Rattle.pg_top.specs.Outcomes.{Outcome, Ends}
 use Rattle.pg_top.specs.Readings.{Reading, first_end}
@@ -13,6 +13,10 @@ use Rattle.pg_top.specs.declared.answers.Status.TheVariants.{Yes, No}
 use Rattle.pg_top.specs.declared.audit.compare.Verdict.{Verdict}
 use Rattle.pg_top.specs.declared.audit.compare.Verdict.TheVariants.{Equal, False}
 use Rattle.pg_top.specs.declared.audit.wanted.Wanted.{Wanted}
+
+-- where `audit` finds all given files right
+abbrev pub yes_line : List ℕ
+yes_line = codes "yes\n"
 
 -- a given file as it is read and compared with its text
 abbrev pub wanted_file : Wanted → Reading

@@ -1,5 +1,5 @@
 -- What `sample` prints of any selection.
-use Rattle.std.specs.Prelude.{ℕ, List, [], ◌∷◌, ◌++◌, filter, flat_map}
+use Rattle.std.specs.Prelude.{ℕ, List, [], ◌∷◌, ◌++◌, filter, flat_map, codes}
 use Rattle.pg_types.specs.Lines.{lines}
 use Rattle.pg_top.specs.PrintedLines.{done_line}
 use Rattle.pg_top.specs.Selection.{selected_text, selected_report, selected_account}
@@ -14,3 +14,7 @@ printed_part report = flat_map (λ line. line ++ 10 ∷ []) (filter is_printed (
 abbrev pub selection_lines : Inputs → List ℕ
 selection_lines i = printed_part (selected_report i)
     ++ done_line (selected_text i) (selected_account i).totals
+
+-- the consonants that a syllable may end with
+abbrev pub closings : List ℕ
+closings = codes "nrs"
