@@ -13,7 +13,8 @@ use Rattle.pg_outside.specs.Content.{FileMap, FilesShown, SinkShown, KeepsHeld, 
 use Rattle.pg_outside.specs.Inside.NameFaults.{NoneFell}
 use Rattle.pg_outside.specs.FilesCalls.{Reads}
 use Rattle.pg_top.specs.Answers.{IsCall}
-use Rattle.pg_top.specs.audit.Audited.{denies, given_file, given_names, given_files}
+use Rattle.pg_top.specs.audit.Audited.{denies, given_file, given_files}
+use Rattle.pg_top.specs.audit.Inside.GivenNames.{given_names}
 use Rattle.pg_top.specs.audit.Inside.Verdicts.{yes_line, wanted_file, wanted_files, end_of, outcome_by, ReadsToFind, IsFrontOf, PutsVerdict}
 use Rattle.pg_top.specs.Calls.{outcome_of, reads_of}
 use Rattle.pg_top.specs.Counted.{MakesCalls, MakesPuts, read_calls, ReadsUpTo, EndsAt, IsEndedCounted, IsWholeCounted, IsCounted}

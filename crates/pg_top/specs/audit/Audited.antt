@@ -37,12 +37,8 @@ given_file inputs g = record {
       (first_false bytes (wanted_text (inputs files) g.0));
 }
 
--- the given files in their order, each with its name: the pattern file, the hyphenated list where
--- it is asked for, and the report
-abbrev pub given_names : FileNames → List (Given × List ℕ)
-given_names n = (given.Patterns, n.output)
-    ∷ if_asked n.pattmp (λ name. (given.Pattmp, name)) ++ (given.Report, n.report) ∷ []
-
--- the given files in their order, each of which ends the call where a line of it is false
+-- the given files in their order, each of which ends the call where a line of it is false: the
+-- pattern file, the hyphenated list where it is asked for, and the report
 abbrev pub given_files : (Held → Inputs) → FileNames → List Reading
-given_files inputs n = map (given_file inputs) (given_names n)
+given_files inputs n = map (given_file inputs) ((given.Patterns, n.output)
+    ∷ if_asked n.pattmp (λ name. (given.Pattmp, name)) ++ (given.Report, n.report) ∷ [])
