@@ -1,9 +1,9 @@
 //! The line that says where a call is.
-ghost use Rattle.std.specs.Prelude.{◌≡◌, ◌++◌, IfOk, OnOk, decimal};
+ghost use Rattle.std.specs.Prelude.{◌≡◌, ◌++◌, IfOk, OnOk};
 ghost use Rattle.std.specs.Option.{option_map};
 ghost use Rattle.pg_messages.specs.Inside.Lines.{pass_text, turn_text, turn_if_told, step_text, line_text as line_text_of};
 
-use itoa::Buffer;
+use pg_types::push_number;
 use pg_watch::{Pass, Turn};
 use std::alloc::{AllocError, Global};
 
@@ -21,15 +21,6 @@ pub enum Step {
     Pass(Pass),
     /// It makes a round of pruning, counted from 1.
     Round(u64),
-}
-
-/// Appends a text and a number.
-fn push_number(line: &mut Vec<u8>, text: &[u8], number: u64) -> Result<(), AllocError>
-    ensures { OnOk result (line.new.items ≡ line.old.items ++ text.now ++ decimal number) }
-{
-    let mut digits = Buffer::new();
-    line.extend_from_slice(text)?;
-    line.extend_from_slice(digits.format(number).as_bytes())
 }
 
 /// Appends where a selection is.

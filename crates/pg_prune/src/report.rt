@@ -1,24 +1,15 @@
 //! The report of what pruning comes to.
-ghost use Rattle.std.specs.Prelude.{◌≡◌, ◌≤◌, ◌+◌, ◌++◌, [], ◌∷◌, length, ◌<◌, decimal, OnOk, IfOk};
+ghost use Rattle.std.specs.Prelude.{◌≡◌, ◌≤◌, ◌+◌, ◌++◌, [], ◌∷◌, length, ◌<◌, OnOk, IfOk};
 ghost use Rattle.pg_translate.specs.Alphabets.{letters_of};
 ghost use Rattle.pg_patterns.specs.Inside.PatternMaps.{SignsUpTo};
 ghost use Rattle.pg_prune.specs.Inside.Picks.{entry_of};
 ghost use Rattle.pg_prune.specs.Reports.{entry_text, keep_line, last_line, prune_report};
 
 use crate::pruned::{Need, Pruned};
-use itoa::Buffer;
 use pg_patterns::{DottedSigns, PatternSet};
 use pg_translate::Table;
+use pg_types::push_number;
 use std::alloc::{AllocError, Global};
-
-/// Appends a text and a number.
-fn push_number(text: &mut Vec<u8>, front: &[u8], number: u64) -> Result<(), AllocError>
-    ensures { OnOk result (text.new.items ≡ text.old.items ++ front.now ++ decimal number) }
-{
-    let mut digits = Buffer::new();
-    text.extend_from_slice(front)?;
-    text.extend_from_slice(digits.format(number).as_bytes())
-}
 
 /// The text of the entry with the number `i`: the pattern file of this entry alone, without its
 /// line feed.

@@ -7,9 +7,8 @@ ghost use Rattle.pg_texts.specs.CellsTexts as cells;
 ghost use Rattle.pg_texts.specs.Inside.Told.{HasLayouts, layout_there, pass_told, level_told, cells_told};
 
 use crate::fronts::{push_level_front, push_pass_front};
-use crate::numbers::push_number;
 use pg_driver::{LevelRecord, PassRecord, Run};
-use pg_types::Layout;
+use pg_types::{Layout, push_number};
 use std::alloc::{AllocError, Global};
 
 /// A layout that is there.

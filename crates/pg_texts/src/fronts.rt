@@ -2,7 +2,7 @@
 ghost use Rattle.std.specs.Prelude.{◌≡◌, ◌++◌, OnOk};
 ghost use Rattle.pg_texts.specs.Fronts.{pass_front, level_front};
 
-use crate::numbers::push_number;
+use pg_types::push_number;
 use std::alloc::AllocError;
 
 /// Appends the front of the line of a pass.

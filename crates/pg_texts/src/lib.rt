@@ -4,7 +4,6 @@
 mod cells;
 mod fronts;
 pub mod laws;
-mod numbers;
 mod pattmp;
 mod rates;
 mod report;

@@ -4,8 +4,7 @@ ghost use Rattle.pg_types.specs.Inside.Limits.{sums_limit};
 ghost use Rattle.pg_driver.specs.Inside.Sound.{IsSmall};
 ghost use Rattle.pg_texts.specs.ReportTexts.{totals_text, hundredths, rate_text, ending_text};
 
-use crate::numbers::push_number;
-use pg_types::Totals;
+use pg_types::{Totals, push_number};
 use std::alloc::AllocError;
 
 /// Appends totals.

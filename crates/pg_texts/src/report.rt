@@ -6,10 +6,9 @@ ghost use Rattle.pg_driver.specs.Inside.Told.{line_of, level_line_of, account_of
 ghost use Rattle.pg_texts.specs.ReportTexts as report;
 
 use crate::fronts::{push_level_front, push_pass_front};
-use crate::numbers::push_number;
 use crate::rates::{push_ending, push_totals};
 use pg_driver::{LevelRecord, PassRecord, Run};
-use pg_types::Params;
+use pg_types::{Params, push_number};
 use std::alloc::{AllocError, Global};
 
 /// Appends the line that the greatest starting value is not below a level.

@@ -7,11 +7,10 @@ ghost use Rattle.pg_dict.specs.Inside.Lent.{lent_word};
 ghost use Rattle.pg_texts.specs.PattmpTexts as pattmp;
 ghost use Rattle.pg_texts.specs.Inside.Found.{status_found};
 
-use crate::numbers::push_number;
 use pg_dict::WordRef;
 use pg_select::{WordState, status};
 use pg_translate::Table;
-use pg_types::{Mark, Weight};
+use pg_types::{Mark, Weight, push_number};
 use std::alloc::AllocError;
 
 /// Appends a weight where it differs from another: a digit, or a greater number in braces.

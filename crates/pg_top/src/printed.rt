@@ -1,11 +1,10 @@
 //! The lines that are printed by more than one command.
-ghost use Rattle.std.specs.Prelude.{◌≡◌, ◌++◌, [], length, decimal, OnOk, IfOk};
+ghost use Rattle.std.specs.Prelude.{◌≡◌, ◌++◌, [], length, OnOk, IfOk};
 ghost use Rattle.pg_types.specs.Lines.{lines};
 ghost use Rattle.pg_top.specs.PrintedLines.{done_line as done_line_of, refused_line as refused_line_of, word_of, place_of};
 
 use crate::inputs::{Given, Input};
-use itoa::Buffer;
-use pg_types::{Refusal, Totals, next_line};
+use pg_types::{Refusal, Totals, next_line, push_number};
 use std::alloc::{AllocError, Global};
 
 /// What is printed where words are no command.
@@ -16,15 +15,6 @@ pub const READING: &[u8] = b"fault: reading ";
 
 /// The front of the line where a file could not be written.
 pub const WRITING: &[u8] = b"fault: writing ";
-
-/// Appends a text and a number to a line.
-pub fn push_number(line: &mut Vec<u8>, text: &[u8], number: u64) -> Result<(), AllocError>
-    ensures { OnOk result (line.new.items ≡ line.old.items ++ text.now ++ decimal number) }
-{
-    let mut digits = Buffer::new();
-    line.extend_from_slice(text)?;
-    line.extend_from_slice(digits.format(number).as_bytes())
-}
 
 /// How many lines a text has.
 pub fn count_lines(text: &[u8]) -> usize

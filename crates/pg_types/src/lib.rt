@@ -1,6 +1,6 @@
 //! What every crate of PatGen speaks of: signs, weights and limits, the status of a position,
-//! totals, a layout's numbers, refusals, lines, the parameters of a run, and the cursor over
-//! windows.
+//! totals, a layout's numbers, refusals, lines, numbers in a text, the parameters of a run, and the
+//! cursor over windows.
 #![tactic(auto)]
 
 pub mod cursor;
@@ -8,6 +8,7 @@ mod items;
 pub mod limits;
 pub mod lines;
 pub mod marks;
+pub mod numbers;
 pub mod parameters;
 pub mod refusals;
 
@@ -18,5 +19,6 @@ pub use limits::{
 };
 pub use lines::next_line;
 pub use marks::{Layout, Mark, Totals};
+pub use numbers::push_number;
 pub use parameters::{LevelParams, Params, read_params};
 pub use refusals::{Kind, ReadingError, Refusal};

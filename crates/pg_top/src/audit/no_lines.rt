@@ -5,8 +5,9 @@ ghost use Rattle.pg_top.specs.audit.Audited.{no_line as no_line_of};
 ghost use Rattle.pg_top.specs.audit.Inside.FoundThere.{text_there};
 
 use crate::inputs::{Given, Input};
-use crate::printed::{push_number, push_word};
+use crate::printed::push_word;
 use pg_audit::FalseLine;
+use pg_types::push_number;
 use std::alloc::{AllocError, Global};
 
 /// How many bytes of a found line are printed at most.

@@ -12,14 +12,14 @@ ghost use Rattle.pg_top.specs.Inside.SelectionSigns.{HasSigns};
 ghost use Rattle.pg_top.specs.Inside.Written.{writing_of};
 ghost use Rattle.pg_types.specs.Lines.{lines};
 
-use crate::printed::{done_line, push_number};
+use crate::printed::done_line;
 use crate::selection::{Inputs, last_layout, select};
 use crate::writes::{Output, Outputs, push_file};
 use pg_driver::Run;
 use pg_packed::PackedEngine;
 use pg_select::Engine;
 use pg_texts::{cells_text, pattmp_text, report_text};
-use pg_types::Layout;
+use pg_types::{Layout, push_number};
 use pg_watch::{Watch, Watched};
 use pg_words::Names;
 use std::alloc::{AllocError, Global};

@@ -15,11 +15,11 @@ ghost use Rattle.pg_types.specs.Lines.{lines};
 
 use crate::inputs::{Input, Stop};
 use crate::pack::inputs::Source;
-use crate::printed::{count_lines, push_number};
+use crate::printed::count_lines;
 use crate::writes::{Outputs, push_file};
 use pg_table::{TableError, table_text};
 use pg_translate::Table;
-use pg_types::{Kind, Refusal};
+use pg_types::{Kind, Refusal, push_number};
 use pg_watch::{Refused, Watch};
 use std::alloc::{AllocError, Global};
 

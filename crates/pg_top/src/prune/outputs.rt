@@ -14,12 +14,12 @@ ghost use Rattle.pg_top.specs.Inside.Written.{written_names, writing_of};
 ghost use Rattle.pg_top.specs.declared.answers.Status.TheVariants.{Done};
 ghost use Rattle.pg_types.specs.Lines.{lines};
 
-use crate::printed::push_number;
 use crate::prune::PruneNames;
 use crate::prune::inputs::PruneInputs;
 use crate::writes::{Output, Outputs, push_file};
 use pg_prune::{Pruned, Rounds, prune_text, prune_watched};
 use pg_translate::Table;
+use pg_types::push_number;
 use pg_watch::Watch;
 use std::alloc::{AllocError, Global};
 

@@ -9,11 +9,11 @@ ghost use Rattle.pg_top.specs.sweep.Inside.Inputs.{terms_of, HasSigns, line_of_s
 ghost use Rattle.pg_top.specs.Inside.Written.{written_names, writing_of};
 ghost use Rattle.pg_top.specs.declared.answers.Status.TheVariants.{Done};
 
-use crate::printed::push_number;
 use crate::sweep::engines::Packed;
 use crate::sweep::inputs::SweepInputs;
 use crate::writes::{Outputs, push_file};
 use pg_sweep::{Sweep, sweep, sweep_text};
+use pg_types::push_number;
 use pg_watch::Watch;
 use pg_words::SweepWords;
 use std::alloc::{AllocError, Global};

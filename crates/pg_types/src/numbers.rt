@@ -4,7 +4,7 @@ ghost use Rattle.std.specs.Prelude.{◌≡◌, ◌++◌, decimal, OnOk};
 use itoa::Buffer;
 use std::alloc::AllocError;
 
-/// Appends a text and a number.
+/// Appends `front` and then the number in decimal digits. An error is lack of memory.
 pub fn push_number(text: &mut Vec<u8>, front: &[u8], number: u64) -> Result<(), AllocError>
     ensures { OnOk result (text.new.items ≡ text.old.items ++ front.now ++ decimal number) }
 {
