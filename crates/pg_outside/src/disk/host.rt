@@ -1,6 +1,6 @@
 //! The adapter over real files: each call is one call of the operating system, and it decides
 //! nothing.
-ghost use Rattle.std.specs.Prelude.{◌≡◌, ◌≤◌, None, OnOk, OnErr};
+ghost use Rattle.std.specs.Prelude.{◌≡◌, ◌≤◌, None, Ok, IfOk, OnOk, OnErr};
 ghost use Rattle.pg_outside.specs.Faults.{Rose, next_count};
 
 use super::files::DiskFiles;
@@ -59,17 +59,13 @@ fn text_of(alloc: Global, path: io::Result<PathBuf>) -> Result<String, CallFaile
     }
 }
 
-fn seen_of(metadata: io::Result<Metadata>) -> Result<Seen, CallFailed> {
+fn seen_of(metadata: io::Result<Metadata>) -> io::Result<Seen> {
     let metadata = metadata?;
     Ok(Seen {
         id: id_of(&metadata),
         is_regular: metadata.is_file(),
         mode: metadata.mode(),
     })
-}
-
-fn done(outcome: io::Result<()>) -> Result<(), CallFailed> {
-    Ok(outcome?)
 }
 
 impl<R: rt::Files + Drop> HostSystem<R> {
@@ -116,6 +112,27 @@ fn count<T>(failures: &mut u64, outcome: Result<T, CallFailed>) -> Result<T, Cal
     outcome
 }
 
+/// Counts a call where it failed, and keeps why it did.
+fn counted<T>(
+    reason: &mut Option<io::Error>,
+    failures: &mut u64,
+    outcome: io::Result<T>,
+) -> Result<T, CallFailed>
+    ensures same { IfOk result (λ value. outcome ≡ Ok value) }
+    ensures later { failures.old ≤ failures.new }
+    ensures ok_failures { OnOk result (failures.new ≡ failures.old) }
+    ensures failed { OnErr result (Rose failures.old failures.new) }
+{
+    match outcome {
+        Ok(value) => Ok(value),
+        Err(error) => {
+            *reason = Some(error);
+            count_failure(failures);
+            Err(CallFailed)
+        }
+    }
+}
+
 fn count_failure(failures: &mut u64)
     ensures later { failures.old ≤ failures.new }
     ensures rose { failures.new ≡ next_count failures.old }
@@ -153,13 +170,8 @@ impl<R: rt::Files + Drop> System for HostSystem<R> {
     }
 
     fn open(&mut self, name: &str) -> Result<R::File, CallFailed> {
-        match fs::open(&self.system, name) {
-            Ok(file) => Ok(file),
-            Err(error) => {
-                self.reason = Some(error);
-                count(&mut self.failures, Err(CallFailed))
-            }
-        }
+        let file = fs::open(&self.system, name);
+        counted(&mut self.reason, &mut self.failures, file)
     }
 
     fn open_to_write(&mut self, name: &str) -> Result<Option<R::File>, CallFailed> {
@@ -170,20 +182,13 @@ impl<R: rt::Files + Drop> System for HostSystem<R> {
     }
 
     fn stat(&mut self, file: &R::File) -> Result<Seen, CallFailed> {
-        let metadata = file.metadata();
-        keep(&mut self.reason, &metadata, None);
-        let seen = seen_of(metadata);
-        count(&mut self.failures, seen)
+        let seen = seen_of(file.metadata());
+        counted(&mut self.reason, &mut self.failures, seen)
     }
 
     fn read_some(&mut self, file: &mut R::File, buffer: &mut [u8]) -> Result<usize, CallFailed> {
-        match read_some(file, buffer) {
-            Ok(count) => Ok(count),
-            Err(error) => {
-                self.reason = Some(error);
-                count(&mut self.failures, Err(CallFailed))
-            }
-        }
+        let count = read_some(file, buffer);
+        counted(&mut self.reason, &mut self.failures, count)
     }
 
     fn make(&mut self, name: &str) -> Result<Option<R::File>, CallFailed> {
@@ -195,9 +200,7 @@ impl<R: rt::Files + Drop> System for HostSystem<R> {
 
     fn set_mode(&mut self, file: &mut R::File, mode: u32) -> Result<(), CallFailed> {
         let outcome = file.set_permissions(Permissions::from_mode(mode));
-        keep(&mut self.reason, &outcome, None);
-        let outcome = done(outcome);
-        count(&mut self.failures, outcome)
+        counted(&mut self.reason, &mut self.failures, outcome)
     }
 
     fn write_some(&mut self, file: &mut R::File, bytes: &[u8]) -> Result<usize, CallFailed> {
@@ -216,22 +219,16 @@ impl<R: rt::Files + Drop> System for HostSystem<R> {
 
     fn sync(&mut self, file: &mut R::File) -> Result<(), CallFailed> {
         let outcome = file.sync_all();
-        keep(&mut self.reason, &outcome, None);
-        let outcome = done(outcome);
-        count(&mut self.failures, outcome)
+        counted(&mut self.reason, &mut self.failures, outcome)
     }
 
     fn rename(&mut self, from: &str, to: &str) -> Result<(), CallFailed> {
         let outcome = fs::rename(&self.system, from, to);
-        keep(&mut self.reason, &outcome, None);
-        let outcome = done(outcome);
-        count(&mut self.failures, outcome)
+        counted(&mut self.reason, &mut self.failures, outcome)
     }
 
     fn remove(&mut self, name: &str) -> Result<(), CallFailed> {
         let outcome = fs::remove_file(&self.system, name);
-        keep(&mut self.reason, &outcome, None);
-        let outcome = done(outcome);
-        count(&mut self.failures, outcome)
+        counted(&mut self.reason, &mut self.failures, outcome)
     }
 }
