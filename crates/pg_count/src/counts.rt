@@ -93,6 +93,7 @@ impl CountTrie {
 
     /// Adds as `add` does, and gives the window's number: its place, from 0, among the windows of
     /// the pass in the order in which they were first counted.
+    #[inline(always)]
     pub fn add_numbered(
         &mut self,
         window: &[Sign],

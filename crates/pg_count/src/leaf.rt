@@ -94,6 +94,7 @@ fn leaf(
 
 /// Counts a window that is not counted, with the sums, and gives its number, which is the next one.
 /// Refused: the cells may have changed, but not what is counted.
+#[inline(never)]
 pub fn count_new(
     cells: &mut Tallied,
     windows: &mut WindowList,

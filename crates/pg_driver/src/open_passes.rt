@@ -72,6 +72,7 @@ fn count_sign<E: Engine>(
 
 /// Counts the windows of a pass that has begun at the positions at which its dot is open. Each of
 /// them gets the number of its window, and each window the place where it was first counted.
+#[inline(never)]
 pub fn count_open<E: Engine>(
     engine: &mut E,
     dictionary: &Dictionary,

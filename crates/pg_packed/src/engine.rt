@@ -86,6 +86,7 @@ impl Engine for PackedEngine {
         self.counts.add(window, good, weight)
     }
 
+    #[inline(always)]
     fn count_numbered(
         &mut self,
         window: &[Sign],

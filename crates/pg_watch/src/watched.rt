@@ -81,6 +81,7 @@ impl<'a, E: Engine, W: Watch> Engine for Watched<'a, E, W> {
         self.inner.count(window, good, weight)
     }
 
+    #[inline(always)]
     fn count_numbered(
         &mut self,
         window: &[Sign],
