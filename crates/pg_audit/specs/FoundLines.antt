@@ -1,6 +1,7 @@
 -- What is printed of a line of a given file that is false.
 use Rattle.std.specs.Prelude.{ℕ, ◌-◌, nat_lt, Bool, if◌then◌else◌, List, [], ◌++◌, length, take, slice_index, codes}
 use Rattle.pg_types.specs.Lines.{is_line_feed}
+use Rattle.pg_audit.specs.declared.lines.TheConstants.{SHOWN_MAX}
 
 -- whether a line has its line feed
 abbrev pub has_feed : List ℕ → Bool
@@ -15,5 +16,5 @@ without_feed line = if has_feed line then take (length line - 1) line else line
 abbrev pub found_text : List ℕ → List ℕ
 found_text [] = codes " is missing"
 found_text line = let bare = without_feed line in
-    if nat_lt 200 (length bare) then codes " begins " ++ take 200 line
+    if nat_lt SHOWN_MAX (length bare) then codes " begins " ++ take SHOWN_MAX line
     else codes " found " ++ bare ++ (if has_feed line then [] else codes " and the file ends")

@@ -4,4 +4,4 @@
 pub mod laws;
 mod lines;
 
-pub use lines::{FalseLine, compare};
+pub use lines::{FalseLine, SHOWN_MAX, compare};

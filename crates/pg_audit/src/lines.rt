@@ -7,6 +7,9 @@ ghost use Rattle.pg_audit.specs.Inside.Cut.{first_whole, rest_whole};
 
 use memchr::memchr;
 
+/// How many bytes of a false line are shown at most.
+pub const SHOWN_MAX: usize = 200;
+
 /// A line of a given file that is not the wanted one.
 #[derive(Clone, Copy, Debug, PartialEq, Eq)]
 pub struct FalseLine<'a> {

@@ -9,15 +9,7 @@ use crate::fit::Slot;
 use crate::member::Member;
 use crate::moves::{give_up, put};
 use crate::store::Store;
-use pg_types::SIGNS_MAX;
-
-/// Where small families are placed from base 1 on, the search for the base of a greater one begins
-/// this far below the top. It begins farther below where the table has more signs than this.
-const FAR_BELOW: usize = 255;
-
-/// Else the search for each base begins this far below the top. The search is short then, and most
-/// free cells are used all the same.
-const NEAR_BELOW: usize = 32;
+use pg_types::{FAR_BELOW, NEAR_BELOW, SIGNS_MAX};
 
 // How far below the top the search for a base begins.
 fn far_from_top(few: usize, signs: u16) -> usize

@@ -8,7 +8,8 @@ use Rattle.std.specs.Cmp.Lexicographic.{slice_cmp}
 use Rattle.std.specs.FinMap.{nat_cmp-IsAntisymmetric, slice_cmp-IsAntisymmetric}
 use Rattle.std.specs.FinMap.Entries.{put, find, by_order}
 use Rattle.std.specs.List.{filter, list_all, list_any, range_with_len, starts_with}
-use Rattle.pg_types.specs.Placement.{Family, Families, keeps_cell, kept, least_base, placed, with_one_sign, with_sign, family_at, without_family, is_used, cell_in, enter_after, enter, root, few_signs}
+use Rattle.pg_types.specs.declared.limits.TheConstants.{FEW_SIGNS}
+use Rattle.pg_types.specs.Placement.{Family, Families, keeps_cell, kept, least_base, placed, with_one_sign, with_sign, family_at, without_family, is_used, cell_in, enter_after, enter, root}
 use Rattle.pg_packed.specs.Starts.{pattern_families}
 use Rattle.pg_types.proofs.EntryLists.{find_good, all_put}
 use Rattle.pg_types.proofs.BoolFacts.{and_first, and_second, all_weaker, some_is}
@@ -138,7 +139,7 @@ module _ (strings : List (List ℕ)) where
 
   enter_stays : (n : ℕ) (fs : Families) (q : List ℕ) → begins_one q ≡ true → list_all stays fs ≡ true → list_all stays (enter n fs q) ≡ true
   enter_stays n fs [] begun all = all
-  enter_stays n fs (s ∷ q) begun all = after_stays few_signs n fs (s ∷ []) q begun all
+  enter_stays n fs (s ∷ q) begun all = after_stays FEW_SIGNS n fs (s ∷ []) q begun all
 
   all_enter : (n : ℕ) (fs : Families) (es : List ((List ℕ × ℕ) × ℕ)) → list_all (λ e. begins_one e.0.0) es ≡ true → list_all stays fs ≡ true → list_all stays (fold (enter n) fs (map (λ (e : (List ℕ × ℕ) × ℕ). e.0.0) es)) ≡ true
   all_enter n fs [] begun all = all

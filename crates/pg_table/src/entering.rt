@@ -10,10 +10,8 @@ ghost use Rattle.pg_table.specs.Inside.Sharing.{Lists, Shares, turned, with_ends
 use pg_cells::{Cells, enter};
 use pg_outputs::Outputs;
 use pg_patterns::PatternSet;
+use pg_types::FEW_SIGNS;
 use std::alloc::{AllocError, Global};
-
-/// A family of up to so many signs is placed from base 1 on, a greater one near the greatest cell.
-pub const FEW_SIGNS: usize = 4;
 
 /// The cells of the strings of patterns, each with the head of its string's list.
 #[derive(Drop)]

@@ -12,10 +12,10 @@ ghost use Rattle.pg_table.specs.Inside.Rows.{HasHeads, IsRow, Fills};
 ghost use Rattle.pg_table.specs.Texts.{head_in, table_cells};
 
 use crate::cell::Cell;
-use crate::entering::{FEW_SIGNS, Packed};
+use crate::entering::Packed;
 use pg_cells::{Cells, step};
 use pg_patterns::PatternSet;
-use pg_types::Sign;
+use pg_types::{FEW_SIGNS, Sign};
 use std::alloc::{AllocError, Global};
 
 /// A cell that no string has.

@@ -10,11 +10,12 @@ ghost use Rattle.pg_trie.specs.Inside.Maps.{maps_of, entries_of, as_value};
 ghost use Rattle.pg_trie.specs.Inside.Strings.{AreStrings};
 
 use crate::head::Head;
-use crate::mark::{FEW_SIGNS, HOPELESS};
+use crate::mark::HOPELESS;
 use crate::strings::{strings, value_of};
 use pg_cells::Cells;
 use pg_outputs::Outputs;
 use pg_patterns::DottedSigns;
+use pg_types::FEW_SIGNS;
 use std::alloc::{AllocError, Global};
 
 // Puts the values of a string's list behind the entries.

@@ -7,9 +7,8 @@ ghost use Rattle.pg_trie.specs.Inside.Pruned.{Drops, IsKeep, Prunes, PrunesBelow
 ghost use Rattle.pg_trie.specs.Inside.Strings.{AreShort};
 
 use crate::head::Head;
-use crate::mark::FEW_SIGNS;
 use pg_cells::{Cells, step};
-use pg_types::{PATTERN_SIGNS_MAX, Sign};
+use pg_types::{FEW_SIGNS, PATTERN_SIGNS_MAX, Sign};
 
 // Takes away the cell of a string of several signs, where it has no list and no string goes on from
 // it.

@@ -10,9 +10,10 @@ ghost use Rattle.pg_trie.specs.Inside.IsTrie.{IsTrie};
 ghost use Rattle.pg_trie.specs.Inside.Renewed.{values_in, AreNeeded, AreFreshTo, AreFresh, Renews};
 
 use crate::head::{Head, in_four_bytes};
-use crate::mark::{FEW_SIGNS, HOPELESS};
+use crate::mark::HOPELESS;
 use pg_cells::Cells;
 use pg_outputs::Outputs;
+use pg_types::FEW_SIGNS;
 use std::alloc::{AllocError, Global};
 
 // The head of a list's values without its mark, among the new records.

@@ -10,10 +10,9 @@ ghost use Rattle.pg_cells.specs.Inside.Members.{IsNextSign};
 ghost use Rattle.pg_trie.specs.Inside.Strings.{AreShort, IsString, PutsBelow, AreStringsTo, AreStrings};
 
 use crate::head::Head;
-use crate::mark::FEW_SIGNS;
 use pg_cells::{Cells, step};
 use pg_patterns::DottedSigns;
-use pg_types::{EDGE, PATTERN_SIGNS_MAX, Sign};
+use pg_types::{EDGE, FEW_SIGNS, PATTERN_SIGNS_MAX, Sign};
 use std::alloc::{AllocError, Global};
 
 /// The cell of a string, or `None` where it has none.

@@ -15,14 +15,13 @@ ghost use Rattle.pg_trie.specs.Inside.Maps.{AreKept};
 
 use crate::copy::entries;
 use crate::head::Head;
-use crate::mark::FEW_SIGNS;
 use crate::prune::prune;
 use crate::raise::raised_head;
 use crate::renew::{fresh_heads, renew};
 use pg_cells::Cells;
 use pg_outputs::Outputs;
 use pg_patterns::PatternSet;
-use pg_types::{Layout, Sign};
+use pg_types::{FEW_SIGNS, Layout, Sign};
 use std::alloc::{AllocError, Global};
 use std::marker::Model;
 

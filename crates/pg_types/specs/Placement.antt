@@ -8,6 +8,7 @@ use Rattle.std.specs.Cmp.Lexicographic.{slice_cmp}
 use Rattle.std.specs.FinMap.{find, put}
 use Rattle.std.specs.FinMap.Entries.{where_key}
 use Rattle.std.specs.Option.{option_map}
+use Rattle.pg_types.specs.declared.limits.TheConstants.{FEW_SIGNS, FAR_BELOW, NEAR_BELOW}
 
 -- the base, and the signs in rising order
 pub record Family : Type 0 where
@@ -17,20 +18,6 @@ pub record Family : Type 0 where
 -- the families, each with its prefix, in the order of the prefixes
 abbrev pub Families : Type 0
 Families = List (List ℕ × Family)
-
--- in the placement of patterns, a family of at most this many signs is placed from base 1 on
-abbrev pub few_signs : ℕ
-few_signs = 4
-
--- for a family of more signs the search begins this many cells below the greatest used one; in a
--- table of more signs than this, as many cells below as there are signs
-abbrev pub far_below : ℕ
-far_below = 255
-
--- where no family is placed from base 1 on, each search begins this many cells below the greatest
--- used one
-abbrev pub near_below : ℕ
-near_below = 32
 
 -- the family with the prefix
 abbrev pub family_at : Families → List ℕ → Option Family
@@ -69,7 +56,7 @@ fits_at fs signs b = not (is_base fs b) && list_all (λ s. not (is_used fs (b + 
 -- table of n signs. Patterns are never placed with few 0, and there the search begins near that
 -- cell
 abbrev pub far_from_top : ℕ → ℕ → ℕ
-far_from_top few n = if nat_eq few 0 then near_below else max far_below n
+far_from_top few n = if nat_eq few 0 then NEAR_BELOW else max FAR_BELOW n
 
 -- the lowest base that is tried for so many signs, where t is the greatest used cell and up to few
 -- signs are placed from base 1 on
@@ -152,7 +139,7 @@ enter_by few n fs (s ∷ q) = enter_after few n fs (s ∷ []) q
 
 -- the families of patterns after the string is entered
 abbrev pub enter : ℕ → Families → List ℕ → Families
-enter n fs q = enter_by few_signs n fs q
+enter n fs q = enter_by FEW_SIGNS n fs q
 
 -- the families of patterns after the strings are entered in their order, from the root alone
 abbrev pub entered_families : ℕ → List (List ℕ) → Families

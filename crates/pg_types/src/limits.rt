@@ -32,3 +32,15 @@ pub const WORD_LETTERS_MAX: usize = 100;
 
 /// The most signs that a pattern may have.
 pub const PATTERN_SIGNS_MAX: usize = 32;
+
+/// A family of a pattern's cells with up to so many signs is placed from base 1 on, a greater one
+/// near the greatest used cell.
+pub const FEW_SIGNS: usize = 4;
+
+/// The search for the base of a greater family begins this far below the greatest used cell. It
+/// begins farther below where the table has more signs than this.
+pub const FAR_BELOW: usize = 255;
+
+/// Where no family is placed from base 1 on, each search begins this far below the greatest used
+/// cell. The search is short then, and most free cells are used all the same.
+pub const NEAR_BELOW: usize = 32;

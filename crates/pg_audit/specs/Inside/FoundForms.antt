@@ -2,6 +2,7 @@
 use Rattle.std.specs.Prelude.{ℕ, nat_lt, if◌then◌else◌, List, [], ◌∷◌, length, take, Option, option_map}
 use Rattle.pg_audit.specs.Differences.{Difference, first_false}
 use Rattle.pg_audit.specs.FoundLines.{has_feed, without_feed}
+use Rattle.pg_audit.specs.declared.lines.TheConstants.{SHOWN_MAX}
 
 -- there is no such line; it has more than 200 bytes, and these are the first 200; it is this line,
 -- and its line feed follows; or it is this line, and the file ends
@@ -13,7 +14,7 @@ pub data FoundLine : Type 0 where
 
 -- a line that is there
 abbrev pub line_there : List ℕ → FoundLine
-line_there line = if nat_lt 200 (length (without_feed line)) then Begins (take 200 line)
+line_there line = if nat_lt SHOWN_MAX (length (without_feed line)) then Begins (take SHOWN_MAX line)
     else if has_feed line then Ended (without_feed line) else Unended line
 
 -- what was found: the line, or that there is none

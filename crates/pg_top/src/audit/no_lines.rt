@@ -6,12 +6,9 @@ ghost use Rattle.pg_top.specs.audit.Inside.FoundThere.{text_there};
 
 use crate::inputs::{Given, Input};
 use crate::printed::push_word;
-use pg_audit::FalseLine;
+use pg_audit::{FalseLine, SHOWN_MAX};
 use pg_types::push_number;
 use std::alloc::{AllocError, Global};
-
-/// How many bytes of a found line are printed at most.
-const SHOWN: usize = 200;
 
 /// Whether a line ends with a line feed.
 fn has_feed(line: &[u8]) -> bool
@@ -40,8 +37,8 @@ fn push_line(text: &mut Vec<u8>, line: &[u8]) -> Result<(), AllocError>
     ensures { OnOk result (text.new.items ≡ text.old.items ++ text_there line.now) }
 {
     let found = without_feed(line);
-    if found.len() > SHOWN {
-        let front = &line[..SHOWN];
+    if found.len() > SHOWN_MAX {
+        let front = &line[..SHOWN_MAX];
         text.extend_from_slice(b" begins ")?;
         return text.extend_from_slice(front);
     }
