@@ -62,13 +62,13 @@ lower_below lows first freed dropped i v within low base cell below above s b lt
   | inr n ↦ (let there : get_or (set lows i v) s 0 ≡ get_or lows s 0 = get_or-set_other lows i s v 0 n in below s b (omega arith) (omega arith))
 ]
 
--- the bound of one sign is raised
-pub bounds_raise : {V : Type 0} (r : Row V) (lows lowered raised : List ℕ) (freed dropped sign low far_cell far_base : ℕ) → AreBounds r lows freed dropped
-    → ((s b : ℕ) → b < get_or lowered s 0 → IsBelow lows freed dropped s b) → get_or raised sign 0 ≤ low → ((s : ℕ) → s ≢ sign → get_or raised s 0 ≡ get_or lowered s 0)
+-- the bound of one sign is raised, and the others are lowered
+pub bounds_raise : {V : Type 0} (r : Row V) (lows raised : List ℕ) (freed dropped sign low far_cell far_base : ℕ) → AreBounds r lows freed dropped
+    → get_or raised sign 0 ≤ low → ((s b : ℕ) → s ≢ sign → b < get_or raised s 0 → IsBelow lows freed dropped s b)
     → ((b : ℕ) → 0 < b → b < low → NoneFree r sign b) → AreBounds r raised far_cell far_base
-bounds_raise r lows lowered raised freed dropped sign low far_cell far_base are lowers here there none s b up below = elim (cases_eq s sign) [
+bounds_raise r lows raised freed dropped sign low far_cell far_base are here there none s b up below = elim (cases_eq s sign) [
   | inl e ↦ let far : b < get_or raised s 0 = below.under_low in let same : get_or raised s 0 ≡ get_or raised sign 0 = ap (λ x. get_or raised x 0) e in by e (none b up (omega arith))
-  | inr n ↦ are s b up (lowers s b (let far : b < get_or raised s 0 = below.under_low in let same = there s n in omega arith))
+  | inr n ↦ are s b up (there s b n below.under_low)
 ]
   where
     by : s ≡ sign → NoneFree r sign b → NoneFree r s b

@@ -1,5 +1,5 @@
 -- One free cell is a store.
-use Rattle.std.proofs.Common.{◌≡◌, ℕ, List, [], ◌∷◌, refl, get_or, zero, suc, arith, false}
+use Rattle.std.proofs.Common.{◌≡◌, ℕ, ◌≤◌, ◌^◌, List, [], ◌∷◌, length, refl, get_or, zero, suc, arith, false}
 use Rattle.pg_cells.specs.declared.cell.Cell.{Cell}
 use Rattle.pg_cells.specs.Inside.Lists.{lists, row_of}
 use Rattle.pg_cells.specs.Inside.Linked.{AreLinked}
@@ -29,8 +29,8 @@ module _ {V : Type 0} (value : V) where
     last_most = λ j e. let at = only_free j e in omega arith;
   }
 
-  pub lone_store : (lows : List ℕ) → IsStore (free_cell ∷ []) 0 0 lows 0 0 0 0
-  lone_store lows = record {
+  pub lone_store : (lows : List ℕ) → length lows ≤ 2 ^ 16 → IsStore (free_cell ∷ []) 0 0 lows 0 0 0 0
+  lone_store lows few = record {
     kept = record {
       linked = lone_linked;
       small = omega arith;
@@ -41,6 +41,7 @@ module _ {V : Type 0} (value : V) where
       };
       count = refl;
     };
+    few = few;
     bounds = λ sign base up below. absurd (let under = below.under_base in omega arith);
     blocked = blocked_none (row_of (free_cell ∷ [])) 0 0 (omega arith);
   }

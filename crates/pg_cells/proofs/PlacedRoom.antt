@@ -1,7 +1,7 @@
 -- There is room to place_family a family: past the last cell, and where the search finds its base.
-use Rattle.std.proofs.Common.{◌≡◌, ◌≢◌, ℕ, ◌+◌, ◌<◌, ◌≤◌, max, inl, inr, Bool, true, false, not, nat_eq, List, [], ◌∷◌, length, Some, refl, sym, ◌∙◌, ap, arith}
+use Rattle.std.proofs.Common.{◌≡◌, ◌≢◌, ℕ, ◌+◌, ◌<◌, ◌≤◌, max, inl, inr, Bool, true, false, not, nat_eq, List, [], ◌∷◌, length, Some, zero, suc, get_or, refl, sym, ◌∙◌, ap, arith}
 use Rattle.std.proofs.lemmas.Bool.{cases_Bool, cases_eq, eq-eqb, eqb-true, false≢true, and_parts, and_from, or_cases, or_left, or_right}
-use Rattle.std.proofs.lemmas.List.{get_or_default}
+use Rattle.std.proofs.lemmas.List.{get_or_default, length-map}
 use Rattle.std.specs.List.{list_any, list_all}
 use Rattle.pg_cells.specs.declared.fit.Slot.{Slot}
 use Rattle.pg_cells.specs.Inside.Lists.{Row, sign_at, base_at, IsFree}
@@ -23,6 +23,11 @@ all_has test (x ∷ xs) y h e =
       | inl same ↦ ap test (eqb-true y x same) ∙ parts.0
       | inr rest ↦ all_has test xs y parts.1 rest
     ]
+
+any_at : (xs : List ℕ) (k : ℕ) → k < length xs → list_any (nat_eq (get_or xs k 0)) xs ≡ true
+any_at [] k lt = absurd (omega arith)
+any_at (x ∷ xs) zero lt = or_left (nat_eq x x) (list_any (nat_eq x) xs) (eq-eqb x x refl)
+any_at (x ∷ xs) (suc k) lt = or_right (nat_eq (get_or xs k 0) x) (list_any (nat_eq (get_or xs k 0)) xs) (any_at xs k (omega arith))
 
 module _ {V : Type 0} (n : ℕ) (old gave dropped : Row V) (was : ℕ) (slots : List (Slot V)) (slot : Slot V) (parent : ℕ)
     (can : CanPlace n old was slots slot parent) (gives : GivesUp old gave was slots) (drops : Drops gave dropped was) where
@@ -48,6 +53,14 @@ module _ {V : Type 0} (n : ℕ) (old gave dropped : Row V) (was : ℕ) (slots : 
       | inl z ↦ let h = can.room parent can.parent_taken in omega (arith, dropped_size)
       | inr up ↦ let h = can.room top (was_taken top (is_top.used (omega arith))) in omega (arith, dropped_size)
     ]
+
+    -- there is room for each slot's sign
+    pub slots_within : (k : ℕ) → k < length slots → m + get_or (signs_of slots) k 0 < length dropped.signs
+    slots_within k lt =
+        let y = get_or (signs_of slots) k 0 in
+        let found = has_slot slots y (any_at (signs_of slots) k (omega (arith, length-map slots (λ (s : Slot V). s.sign)))) in
+        let le : y ≤ n = (can.stand y found.0 found.1).1 in
+        omega (arith, room_within)
 
     past_free : (y : ℕ) → 0 < y → sign_at dropped (m + y) ≡ 0
     past_free y up = elim (cases_eq (sign_at dropped (m + y)) 0) [

@@ -25,27 +25,31 @@ pub fn bound_of(lows: &[u32], freed: usize, dropped: usize, sign: u16) -> usize
         .min(freed.saturating_sub(sign as usize))
 }
 
-/// Lowers each bound as far as the cells and bases that were given up require.
-pub fn lower(lows: &mut Vec<u32>, freed: usize, dropped: usize)
-    ensures { (s b : ℕ) → b < slice_index lows.new.items s
-        → IsBelow lows.old.items freed dropped s b }
+// Lowers each bound as far as the cells and bases that were given up require.
+fn lower(lows: &mut [u32], freed: usize, dropped: usize)
+    requires { length lows.old ≤ 2 ^ 16 }
+    ensures { (s b : ℕ) → b < slice_index lows.new s → IsBelow lows.old freed dropped s b }
 {
     if freed == usize::MAX && dropped == usize::MAX {
         return;
     }
+    let cell = freed.min(u32::MAX as usize) as u32;
+    let base = dropped.min(u32::MAX as usize) as u32;
     for sign in 0..lows.len() {
-        let low = lows[sign] as usize;
-        lows[sign] = low.min(dropped).min(freed.saturating_sub(sign)) as u32;
+        lows[sign] = lows[sign].min(base).min(cell.saturating_sub(sign as u32));
     }
 }
 
-/// Sets the bound of a sign, where it has one.
-pub fn set_low(lows: &mut Vec<u32>, sign: u16, low: usize)
-    requires { low < 2 ^ 32 }
-    ensures here { slice_index lows.new.items sign ≤ low }
-    ensures there { (s : ℕ) → s ≢ sign → slice_index lows.new.items s
-        ≡ slice_index lows.old.items s }
+/// Sets the bound of a sign, where it has one, and lowers the others as far as the cells and bases
+/// that were given up require.
+pub fn raise(lows: &mut [u32], freed: usize, dropped: usize, sign: u16, low: usize)
+    requires few { length lows.old ≤ 2 ^ 16 }
+    requires low { low < 2 ^ 32 }
+    ensures here { slice_index lows.new sign ≤ low }
+    ensures there { (s b : ℕ) → s ≢ sign → b < slice_index lows.new s →
+        IsBelow lows.old freed dropped s b }
 {
+    lower(lows, freed, dropped);
     if (sign as usize) < lows.len() {
         lows[sign as usize] = low as u32;
     }

@@ -1,5 +1,5 @@
 //! The search for a base, along the free cells.
-ghost use Rattle.std.specs.Prelude.{◌≡◌, ◌≢◌, ℕ, ◌+◌, ◌<◌, ◌≤◌, ◌^◌, Bool, true, ◌∷◌, length, map};
+ghost use Rattle.std.specs.Prelude.{◌≡◌, ◌≢◌, ℕ, ◌+◌, ◌<◌, ◌≤◌, ◌^◌, Bool, true, ◌∷◌, length, slice_index, map};
 ghost use Rattle.pg_types.specs.Inside.Placing.{IsLeast};
 ghost use Rattle.pg_cells.specs.Inside.Lists.{lists, sign_at, base_at};
 ghost use Rattle.pg_cells.specs.Inside.Linked.{AreLinked};
@@ -30,23 +30,18 @@ pub fn sign_or_free<V: Copy>(cells: &[Cell<V>], cell: usize) -> u16
     }
 }
 
-// Whether a cell's index is the base of a family.
-fn is_base_within<V: Copy>(cells: &[Cell<V>], cell: usize) -> bool
-    ensures { result ≡ base_at (lists cells.now).row cell }
-{
-    cell < cells.len() && is_base_of(cells, cell)
-}
-
 // Whether the signs of the slots may stand at a base.
 fn fits<V: Copy>(cells: &[Cell<V>], slots: &[Slot<Member<V>>], base: usize) -> bool
-    requires { base < 2 ^ 33 }
+    requires base { base < length cells.now }
+    requires wide { (k : ℕ) → k < length slots.now →
+        base + slice_index (signs_of slots.now) k < length cells.now }
     ensures { result ≡ fits_row (lists cells.now).row (signs_of slots.now) base }
 {
-    if is_base_within(cells, base) {
+    if is_base_of(cells, base) {
         return false;
     }
     for slot in slots {
-        if sign_or_free(cells, base + slot.sign as usize) != 0 {
+        if sign_of(cells, base + slot.sign as usize) != 0 {
             return false;
         }
     }
@@ -88,6 +83,8 @@ pub fn find_base<V: Copy>(
     requires positive { 0 < sign }
     requires low { low ≤ room }
     requires within { room + sign < length cells.now }
+    requires wide { (k : ℕ) → k < length slots.now →
+        room + slice_index (signs_of slots.now) k < length cells.now }
     requires small { length cells.now < 2 ^ 32 }
     requires room { fits_row (lists cells.now).row (sign ∷ signs_of slots.now) room ≡ true }
     ensures least { IsLeast

@@ -1,5 +1,5 @@
 //! A family is put at the least base that fits.
-ghost use Rattle.std.specs.Prelude.{◌≡◌, ◌≢◌, ℕ, ◌+◌, ◌<◌, ◌≤◌, ◌^◌, max, true, false, ◌∷◌, length};
+ghost use Rattle.std.specs.Prelude.{◌≡◌, ◌≢◌, ℕ, ◌+◌, ◌<◌, ◌≤◌, ◌^◌, max, true, false, ◌∷◌, length, slice_index};
 ghost use Rattle.pg_types.specs.Placement.{far_from_top, lowest_base};
 ghost use Rattle.pg_types.specs.Inside.Placing.{IsLeast};
 ghost use Rattle.pg_cells.specs.Inside.Fit.{fits_row, signs_of};
@@ -69,6 +69,8 @@ fn least_base<V: Copy>(
     requires tried { (k : ℕ) → low ≤ k → k < tried →
         fits_row store.old (sign ∷ signs_of slots.now) k ≡ false }
     requires within { room + sign < length store.old.signs }
+    requires wide { (k : ℕ) → k < length slots.now →
+        room + slice_index (signs_of slots.now) k < length store.old.signs }
     requires room { fits_row store.old (sign ∷ signs_of slots.now) room ≡ true }
     ensures least { IsLeast (fits_row store.old (sign ∷ signs_of slots.now)) low result }
     ensures room { result ≤ room }

@@ -1,5 +1,5 @@
 //! The store: one vector of cells, whose free ones are linked in rising order.
-ghost use Rattle.std.specs.Prelude.{◌≡◌, ◌≢◌, ℕ, ◌+◌, ◌-◌, ◌<◌, ◌≤◌, ◌^◌, true, ◌∷◌, length, slice_get, Some, IfOk, OnOk, OnErr};
+ghost use Rattle.std.specs.Prelude.{◌≡◌, ◌≢◌, ℕ, ◌+◌, ◌-◌, ◌<◌, ◌≤◌, ◌^◌, true, ◌∷◌, length, slice_get, slice_index, Some, IfOk, OnOk, OnErr};
 ghost use Rattle.pg_types.specs.Inside.Placing.{IsLeast};
 ghost use Rattle.pg_cells.specs.Inside.Lists.{lists, row_of, lone, sign_at, child_at, base_at, IsFree};
 ghost use Rattle.pg_cells.specs.Inside.Linked.{AreLinked};
@@ -9,7 +9,7 @@ ghost use Rattle.pg_cells.specs.Inside.Fit.{fits_row, signs_of};
 ghost use Rattle.pg_cells.specs.Inside.Store.{one_free, taken_in, IsTop, Extends};
 ghost use Rattle.pg_cells.specs.Inside.Writes.{Takes, Frees, SetsChild, SetsValue, SetsBase};
 
-use crate::bounds::{bound_of, least_dropped, lower, no_bounds, set_low, still_placed};
+use crate::bounds::{bound_of, least_dropped, no_bounds, raise, still_placed};
 use crate::cell::{Cell, child_of, set_base, set_child, set_value, sign_of, value_of};
 use crate::chain::{free_cell, push_cell, take_cell};
 use crate::fit::{Slot, find_base, sign_or_free};
@@ -222,8 +222,8 @@ impl<V: Copy> Store<V> {
         requires none { (b : ℕ) → 0 < b → b < base → NoneFree self.old sign b }
         ensures { self.new ≡ self.old }
     {
-        lower(&mut self.lows, self.freed, self.dropped);
-        set_low(&mut self.lows, sign, base);
+        let lows = self.lows.as_mut_slice();
+        raise(lows, self.freed, self.dropped, sign, base);
         self.freed = usize::MAX;
         self.dropped = usize::MAX;
     }
@@ -254,6 +254,8 @@ impl<V: Copy> Store<V> {
         requires positive { 0 < sign }
         requires low { low ≤ room }
         requires within { room + sign < length self.now.signs }
+        requires wide { (k : ℕ) → k < length slots.now →
+            room + slice_index (signs_of slots.now) k < length self.now.signs }
         requires room { fits_row self.now (sign ∷ signs_of slots.now) room ≡ true }
         ensures least { IsLeast (fits_row self.now (sign ∷ signs_of slots.now)) low result }
         ensures room { result ≤ room }

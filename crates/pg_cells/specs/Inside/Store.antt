@@ -53,6 +53,7 @@ module _ {V : Type 0} where
   pub record IsStore (cells : List (Cell V)) (top taken : ℕ)
       (lows : List ℕ) (freed dropped placed sought : ℕ) : Type 0 where
     pub kept : IsKept cells top taken
+    pub few : length lows ≤ 2 ^ 16
     pub bounds : AreBounds (row_of cells) lows freed dropped
     pub blocked : AreBlocked (row_of cells) placed sought
 

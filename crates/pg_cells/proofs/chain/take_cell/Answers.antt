@@ -1,4 +1,4 @@
-use Rattle.std.proofs.Common.{◌<◌, length, ap, sym, subst, ◌∙◌}
+use Rattle.std.proofs.Common.{ap, sym, subst, ◌∙◌}
 use Rattle.pg_cells.specs.declared.member.Member.{Member}
 use Rattle.pg_cells.specs.Inside.Lists.{Row, Lists, lists, pair_of, IsFree, with_taken}
 use Rattle.pg_cells.proofs.LinkedLists.{linked_taken, after_taking, lists_even}

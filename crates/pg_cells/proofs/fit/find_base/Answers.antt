@@ -67,3 +67,9 @@ returns-clause-least g c =
     let own : fits_row (lists c.args.cells.now).row (signs_of c.args.slots.now) (c.loop-at.at - c.args.sign) ≡ true = search rules in
     sought_least (lists c.args.cells.now).row (c.args.sign ∷ signs_of c.args.slots.now) some c.args.sign refl
     c.args.low c.args.room c.requires.low within c.requires.room c.loop-at.at (record { from = inv.from; bound = inv.bound; free = inv.free; first_fit = inv.first }) (whole ∙ own)
+
+pub fits-requires-clause-base : goal.fits-requires-clause-base
+fits-requires-clause-base g c = let bound = c.loop-at.invariant.bound in let within = c.requires.within in omega arith
+
+pub fits-requires-clause-wide : goal.fits-requires-clause-wide
+fits-requires-clause-wide g c k lt = let bound = c.loop-at.invariant.bound in let wide = c.requires.wide k lt in omega arith

@@ -6,7 +6,7 @@ use Rattle.pg_cells.specs.Inside.Fit.{fits_row, signs_of}
 use Rattle.pg_cells.specs.Inside.Writes.{SetsChild}
 use Rattle.pg_cells.specs.Inside.Moves.{Puts}
 use Rattle.pg_cells.proofs.BlockedLaws.{blocked_fits, blocked_after}
-use Rattle.pg_cells.proofs.PlacedRoom.{dropped_size, room_within, room_fits, can_put, can_take, parent_stays}
+use Rattle.pg_cells.proofs.PlacedRoom.{dropped_size, room_within, slots_within, room_fits, can_put, can_take, parent_stays}
 use Rattle.pg_cells.proofs.place.place_family.Goals as goal
 
 pub give_up-requires-clause-taken : goal.give_up-requires-clause-taken
@@ -17,6 +17,9 @@ least_base-base-requires-clause-within g c =
     let within = room_within c.args.signs c.args.store.now c.give_up.new.store c.drop_base.new.store c.args.was c.args.slots.now c.args.slot c.args.parent c.requires.can c.give_up.ensures c.drop_base.ensures c.top-top.result c.top-top.ensures c.max.result c.max.ensures in
     let le : c.args.slot.sign ≤ c.args.signs = c.requires.can.sign.1 in
     omega arith
+
+pub least_base-base-requires-clause-wide : goal.least_base-base-requires-clause-wide
+least_base-base-requires-clause-wide g c = slots_within c.args.signs c.args.store.now c.give_up.new.store c.drop_base.new.store c.args.was c.args.slots.now c.args.slot c.args.parent c.requires.can c.give_up.ensures c.drop_base.ensures c.top-top.result c.top-top.ensures c.max.result c.max.ensures
 
 pub least_base-base-requires-clause-room : goal.least_base-base-requires-clause-room
 least_base-base-requires-clause-room g c = room_fits c.args.signs c.args.store.now c.give_up.new.store c.drop_base.new.store c.args.was c.args.slots.now c.args.slot c.args.parent c.requires.can c.give_up.ensures c.drop_base.ensures c.top-top.result c.top-top.ensures c.max.result c.max.ensures

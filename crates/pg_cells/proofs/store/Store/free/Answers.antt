@@ -46,6 +46,7 @@ invariant_of-self g c =
           (c.free_cell.ensures.row ∙ ap (λ cells. with_free (row_of cells) c.args.cell) c.as_mut_slice.ensures.value) c.free_cell.ensures.linked
           top.below (subst (λ cells. 0 < r → sign_at (row_of cells) r ≢ 0) seen top.used)
           (subst (λ cells. (k : ℕ) → k ≤ c.self.inside.top → sign_at (row_of cells) k ≢ 0 → k ≤ r) seen top.most);
+      few = c.self.invariant.few;
       bounds = bounds_free (row_of c.self.inside.cells.items) (row_of c.free_cell.new.cells) c.self.inside.lows.items c.self.inside.freed c.self.inside.dropped c.self.invariant.bounds c.args.cell _ (omega arith) (omega arith)
           (subst (λ r. Frees (row_of c.self.inside.cells.items) r c.args.cell) (sym (c.free_cell.ensures.row ∙ ap (λ cells. with_free (row_of cells) c.args.cell) c.as_mut_slice.ensures.value))
           (row_frees c.self.inside.cells.items c.args.cell taken));

@@ -1,23 +1,33 @@
-use Rattle.std.proofs.Common.{◌<◌, length, sym, subst, arith}
+use Rattle.std.proofs.Common.{◌≡◌, ◌<◌, ◌≤◌, ◌^◌, ℕ, List, length, sym, subst, arith}
 use Rattle.std.proofs.lemmas.List.{length-map}
 use Rattle.pg_cells.specs.Inside.Lists.{Row, row_of}
-use Rattle.pg_cells.specs.Inside.Bounds.{NoneFree}
+use Rattle.pg_cells.specs.Inside.Bounds.{IsBelow, NoneFree}
 use Rattle.pg_cells.specs.declared.member.Member.{Member}
 use Rattle.pg_cells.proofs.BoundLaws.{bounds_raise}
+use Rattle.pg_cells.proofs.StoreSteps.{given_back}
 use Rattle.pg_cells.proofs.store.Store.raise_bound.Goals as goal
 
-pub set_low-requires : goal.set_low-requires
-set_low-requires g c =
+pub raise-requires-clause-few : goal.raise-requires-clause-few
+raise-requires-clause-few g c = subst (λ (lows : List ℕ). length lows ≤ 2 ^ 16) (sym c.as_mut_slice-lows.ensures.value) c.self.invariant.few
+
+pub raise-requires-clause-low : goal.raise-requires-clause-low
+raise-requires-clause-low g c =
     let small = c.self.invariant.kept.small in
     let within : c.args.base < length (row_of c.self.inside.cells.items).signs = subst (λ (r : Row (Member g.row.V.Denot)). c.args.base < length r.signs) (sym c.self.view_is) c.requires.base in
     omega (arith, length-map c.self.inside.cells.items (λ x. x.sign))
 
 pub invariant_of-self : goal.invariant_of-self
-invariant_of-self g c = record {
-  kept = c.self.invariant.kept;
-  bounds =
-      bounds_raise (row_of c.self.inside.cells.items) c.self.inside.lows.items c.lower.new.lows.items c.set_low.new.lows.items c.self.inside.freed c.self.inside.dropped c.args.sign c.args.base _ _
-      c.self.invariant.bounds c.lower.ensures c.set_low.ensures.here c.set_low.ensures.there
-      (λ b up lt. subst (λ r. NoneFree r c.args.sign b) (sym c.self.view_is) (c.requires.none b up lt));
-  blocked = c.self.invariant.blocked;
-}
+invariant_of-self g c =
+    let size : length c.raise.new.lows ≡ c.self.inside.lows.len = omega arith in
+    let same : length c.raise.new.lows ≡ length c.self.inside.lows.items = omega arith in
+    rw (given_back c.raise.new.lows c.self.inside.lows.items c.self.inside.lows.len size)
+    (record {
+      kept = c.self.invariant.kept;
+      few = let few = c.self.invariant.few in omega arith;
+      bounds =
+          bounds_raise (row_of c.self.inside.cells.items) c.self.inside.lows.items c.raise.new.lows c.self.inside.freed c.self.inside.dropped c.args.sign c.args.base _ _
+          c.self.invariant.bounds c.raise.ensures.here
+          (λ s b other lt. subst (λ lows. IsBelow lows c.self.inside.freed c.self.inside.dropped s b) c.as_mut_slice-lows.ensures.value (c.raise.ensures.there s b other lt))
+          (λ b up lt. subst (λ r. NoneFree r c.args.sign b) (sym c.self.view_is) (c.requires.none b up lt));
+      blocked = c.self.invariant.blocked;
+    })

@@ -22,6 +22,7 @@ invariant_of-self g c =
     rw (given_back c.set_base.new.cells c.self.inside.cells.items c.self.inside.cells.len size)
     (record {
       kept = kept_write c.self.inside.cells.items c.set_base.new.cells _ _ c.self.invariant.kept same _ refl (c.set_base.ensures ∙ ap (λ cells. record (lists cells) { row = with_base (lists cells).row c.args.cell c.args.is_base }) c.as_mut_slice.ensures.value);
+      few = c.self.invariant.few;
       bounds = bounds_base (row_of c.self.inside.cells.items) (row_of c.set_base.new.cells) c.self.inside.lows.items c.self.inside.freed c.self.inside.dropped c.self.invariant.bounds c.args.cell c.least_dropped-self-inside.result c.args.is_base c.least_dropped-self-inside.ensures.least c.least_dropped-self-inside.ensures.base
           (subst (λ r. SetsBase (row_of c.self.inside.cells.items) r c.args.cell c.args.is_base)
           (sym (ap (λ (ls : Lists (Member g.row.V.Denot)). ls.row) c.set_base.ensures ∙ ap (λ cells. with_base (row_of cells) c.args.cell c.args.is_base) c.as_mut_slice.ensures.value))

@@ -26,6 +26,7 @@ invariant_of-self g c =
     (record {
       kept = kept_child c.self.inside.cells.items c.set_child.new.cells _ _ c.self.invariant.kept same c.args.cell c.args.child (λ z. c.requires.taken (subst (λ r. sign_at r c.args.cell ≡ 0) c.self.view_is z))
           (c.set_child.ensures ∙ ap (λ cells. record (lists cells) { row = with_child (lists cells).row c.args.cell c.args.child; afters = set (lists cells).afters c.args.cell c.args.child }) c.as_mut_slice.ensures.value);
+      few = c.self.invariant.few;
       bounds = bounds_child (row_of c.self.inside.cells.items) (row_of c.set_child.new.cells) c.self.inside.lows.items c.self.inside.freed c.self.inside.dropped c.self.invariant.bounds c.args.cell c.args.child
           (subst (λ r. SetsChild (row_of c.self.inside.cells.items) r c.args.cell c.args.child)
           (sym (ap (λ (ls : Lists (Member g.row.V.Denot)). ls.row) c.set_child.ensures ∙ ap (λ cells. with_child (row_of cells) c.args.cell c.args.child) c.as_mut_slice.ensures.value))

@@ -22,6 +22,7 @@ invariant_of-self g c =
     (record {
       kept = kept_value c.self.inside.cells.items c.set_value.new.cells _ _ c.self.invariant.kept same c.args.cell (pair_of c.args.value.next c.args.value.first) c.args.value (λ z. c.requires (subst (λ r. sign_at r c.args.cell ≡ 0) c.self.view_is z))
           (c.set_value.ensures ∙ ap (λ cells. record (lists cells) { row = with_value (lists cells).row c.args.cell c.args.value; befores = set (lists cells).befores c.args.cell (pair_of c.args.value.next c.args.value.first) }) c.as_mut_slice.ensures.value);
+      few = c.self.invariant.few;
       bounds = bounds_value (row_of c.self.inside.cells.items) (row_of c.set_value.new.cells) c.self.inside.lows.items c.self.inside.freed c.self.inside.dropped c.self.invariant.bounds c.args.cell c.args.value
           (subst (λ r. SetsValue (row_of c.self.inside.cells.items) r c.args.cell c.args.value)
           (sym (ap (λ (ls : Lists (Member g.row.V.Denot)). ls.row) c.set_value.ensures ∙ ap (λ cells. with_value (row_of cells) c.args.cell c.args.value) c.as_mut_slice.ensures.value))

@@ -54,6 +54,7 @@ invariant_of-self g c =
     (record {
       kept = kept_taken c.self.inside.cells.items c.take_cell.new.cells _ _ c.self.invariant.kept same c.args.cell c.args.slot.sign c.args.slot.value c.args.slot.child _ within free c.requires.sign
           (c.take_cell.ensures.row ∙ ap (λ cells. with_taken (row_of cells) c.args.cell c.args.slot.sign c.args.slot.value c.args.slot.child) value) c.take_cell.ensures.linked max;
+      few = c.self.invariant.few;
       bounds = bounds_take (row_of c.self.inside.cells.items) (row_of c.take_cell.new.cells) c.self.inside.lows.items c.self.inside.freed c.self.inside.dropped c.self.invariant.bounds c.args.cell c.args.slot.sign c.args.slot.child c.args.slot.value c.requires.sign
           (subst (λ r. Takes (row_of c.self.inside.cells.items) r c.args.cell c.args.slot.sign c.args.slot.value c.args.slot.child)
           (sym (c.take_cell.ensures.row ∙ ap (λ cells. with_taken (row_of cells) c.args.cell c.args.slot.sign c.args.slot.value c.args.slot.child) value))
