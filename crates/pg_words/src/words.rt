@@ -384,6 +384,38 @@ fn differs_from_all(name: &str, words: &[String]) -> bool
     true
 }
 
+/// Whether the words for the names of `sweep` can be names.
+fn are_sweep_names(
+    dict: &str,
+    patterns: &str,
+    output: &str,
+    translate: &str,
+    params: &[String],
+) -> bool
+    ensures { result ≡ list_all is_name_word
+        (dict.now ∷ patterns.now ∷ output.now ∷ translate.now ∷ words_of params.now) }
+{
+    is_name(dict)
+        && is_name(patterns)
+        && is_name(output)
+        && is_name(translate)
+        && are_all_names(params)
+}
+
+/// Whether the output name of `sweep` differs from the names of all inputs.
+fn is_sweep_distinct(
+    output: &str,
+    dict: &str,
+    patterns: &str,
+    translate: &str,
+    params: &[String],
+) -> bool
+    ensures { result ≡ differs_from output.now
+        (dict.now ∷ patterns.now ∷ translate.now ∷ words_of params.now) }
+{
+    output != dict && output != patterns && output != translate && differs_from_all(output, params)
+}
+
 /// Whether `sweep` takes these names.
 fn is_taken(dict: &str, patterns: &str, output: &str, translate: &str, params: &[String]) -> bool
     ensures { result ≡ is_sweep_taken dict.now patterns.now output.now translate.now
@@ -391,15 +423,8 @@ fn is_taken(dict: &str, patterns: &str, output: &str, translate: &str, params: &
 {
     !params.is_empty()
         && params.len() <= SETS_MAX
-        && is_name(dict)
-        && is_name(patterns)
-        && is_name(output)
-        && is_name(translate)
-        && are_all_names(params)
-        && output != dict
-        && output != patterns
-        && output != translate
-        && differs_from_all(output, params)
+        && are_sweep_names(dict, patterns, output, translate, params)
+        && is_sweep_distinct(output, dict, patterns, translate, params)
 }
 
 /// The word with the number `i`, counted from 0.
@@ -449,21 +474,11 @@ fn sweep(words: &[String]) -> Option<Command<'_>>
     }))
 }
 
-/// What the words, without the program's name, ask for; none exactly where they are no command.
-/// Commands are `generate DICT PATTERNS OUT TRANSLATE PARAMS REPORT`, then `--pattmp FILE` and
-/// `--cells FILE`, each at most once and in either order, `audit` with the same six names and at
-/// most one `--pattmp FILE`, `sample N COUNT`, `pack PATTERNS TRANSLATE TABLE`, `totals DICT
-/// TRANSLATE TABLE`, `prune DICT PATTERNS OUT TRANSLATE REPORT`, and `sweep DICT PATTERNS OUT
-/// TRANSLATE K BAD MISSED` with the names of 1 to 16 parameter files. It takes no memory.
-pub fn command(words: &[String]) -> Option<Command<'_>>
-    ensures value { option_map asked_by result ≡ request_of (words_of words.now) }
+/// What a first word and the words behind it ask for.
+fn asked<'a>(word: &str, behind: &'a [String]) -> Option<Command<'a>>
+    ensures value { option_map asked_by result ≡ request_of (word.now ∷ words_of behind.now) }
     ensures within { IfSome result KeepsLimits }
 {
-    if words.is_empty() {
-        return None;
-    }
-    let word = words[0].as_str();
-    let behind = &words[1..];
     if word == "generate" {
         generate(behind)
     } else if word == "audit" {
@@ -481,4 +496,20 @@ pub fn command(words: &[String]) -> Option<Command<'_>>
     } else {
         None
     }
+}
+
+/// What the words, without the program's name, ask for; none exactly where they are no command.
+/// Commands are `generate DICT PATTERNS OUT TRANSLATE PARAMS REPORT`, then `--pattmp FILE` and
+/// `--cells FILE`, each at most once and in either order, `audit` with the same six names and at
+/// most one `--pattmp FILE`, `sample N COUNT`, `pack PATTERNS TRANSLATE TABLE`, `totals DICT
+/// TRANSLATE TABLE`, `prune DICT PATTERNS OUT TRANSLATE REPORT`, and `sweep DICT PATTERNS OUT
+/// TRANSLATE K BAD MISSED` with the names of 1 to 16 parameter files. It takes no memory.
+pub fn command(words: &[String]) -> Option<Command<'_>>
+    ensures value { option_map asked_by result ≡ request_of (words_of words.now) }
+    ensures within { IfSome result KeepsLimits }
+{
+    if words.is_empty() {
+        return None;
+    }
+    asked(words[0].as_str(), &words[1..])
 }
