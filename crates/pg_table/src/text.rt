@@ -8,6 +8,7 @@ ghost use Rattle.pg_table.specs.declared.error.TableError.TheVariants.{TooLong};
 ghost use Rattle.pg_table.specs.declared.limits.TheConstants.{TABLE_MAX};
 ghost use Rattle.pg_table.specs.Forms.{is_well_formed};
 ghost use Rattle.pg_table.specs.Inside.Laws.{HasEntries};
+ghost use Rattle.pg_table.specs.Inside.Packed.{IsEntered};
 ghost use Rattle.pg_table.specs.Texts.{cell_bytes, record_bytes, file_of, table_text};
 
 use crate::cell::Cell;
@@ -36,12 +37,32 @@ pub fn table_text(alloc: Global, signs: u16, patterns: &PatternSet) -> Result<Ve
     ensures too_long { IfErr result
         (λ e. e ≡ TooLong → TABLE_MAX < length (table_text signs patterns.now)) }
 {
-    let _kept = patterns.len();
     let packed = enter_all(alloc, signs, patterns)?;
-    if is_too_long(&packed) {
+    packed_text(alloc, signs, patterns, &packed)
+}
+
+/// The packed table of patterns that were entered.
+fn packed_text(
+    alloc: Global,
+    signs: u16,
+    patterns: &PatternSet,
+    packed: &Packed,
+) -> Result<Vec<u8>, TableError>
+    requires signs { (1 ≤ signs) × (signs ≤ SIGNS_MAX) }
+    requires known { SignsUpTo signs patterns.now }
+    requires entered { IsEntered signs patterns.now packed.now.cells packed.now.outputs }
+    ensures text { IfOk result (λ text. text.items ≡ table_text signs patterns.now) }
+    ensures well_formed { IfOk result (λ text. is_well_formed text.items ≡ true) }
+    ensures values { IfOk result (λ text. HasEntries text.items patterns.now) }
+    ensures short { OnOk result (length (table_text signs patterns.now) ≤ TABLE_MAX) }
+    ensures too_long { IfErr result
+        (λ e. e ≡ TooLong → TABLE_MAX < length (table_text signs patterns.now)) }
+{
+    let _kept = patterns.len();
+    if is_too_long(packed) {
         return Err(TableError::TooLong);
     }
-    let row = table_cells(alloc, signs, patterns, &packed)?;
+    let row = table_cells(alloc, signs, patterns, packed)?;
     let text = file_of(alloc, signs, &row, &packed.outputs)?;
     Ok(text)
 }
