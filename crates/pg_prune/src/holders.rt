@@ -1,10 +1,14 @@
 //! How many entries give each value to a place.
+use pg_types::LEVEL_MAX;
 use std::marker::Model;
 
-/// For each value from 1 to 9 the number of entries that give it to a place.
+/// How many values a pattern can have.
+const VALUES: usize = LEVEL_MAX as usize;
+
+/// For each value of a pattern the number of entries that give it to a place.
 #[derive(Drop)]
 pub(crate) struct Holders {
-    counts: [u64; 9],
+    counts: [u64; VALUES],
 }
 
 impl Model for Holders {
@@ -17,18 +21,21 @@ impl Model for Holders {
 
 impl Holders {
     ghost use Rattle.std.specs.Prelude.{◌≡◌, ◌+◌, ◌-◌, ◌<◌, ◌≤◌, ◌^◌, slice_index, replicate};
+    ghost use Rattle.pg_types.specs.declared.limits.TheConstants.{LEVEL_MAX};
     ghost use Rattle.pg_prune.specs.Inside.Holders.{greatest_value, with_one, less_one, stays_alike};
 
     /// No entry.
     pub fn none() -> Holders
-        ensures { result ≡ replicate 9 0 }
+        ensures { result ≡ replicate LEVEL_MAX 0 }
     {
-        Holders { counts: [0; 9] }
+        Holders {
+            counts: [0; VALUES],
+        }
     }
 
     /// Adds an entry with this value.
     pub fn add(&mut self, value: u8)
-        requires value { (1 ≤ value) × (value ≤ 9) }
+        requires value { (1 ≤ value) × (value ≤ LEVEL_MAX) }
         requires room { slice_index self.old (value - 1) < 2 ^ 64 - 1 }
         ensures { self.new ≡ with_one self.old value }
     {
@@ -37,7 +44,7 @@ impl Holders {
 
     /// Takes off an entry with this value.
     pub fn take_off(&mut self, value: u8)
-        requires value { (1 ≤ value) × (value ≤ 9) }
+        requires value { (1 ≤ value) × (value ≤ LEVEL_MAX) }
         requires some { 0 < slice_index self.old (value - 1) }
         ensures { self.new ≡ less_one self.old value }
     {
@@ -49,7 +56,7 @@ impl Holders {
         ensures { result ≡ greatest_value self.now }
     {
         let mut best = 0;
-        'counts: for i in 0..9 {
+        'counts: for i in 0..VALUES {
             if 0 < self.counts[i] {
                 best = i as u8 + 1;
             }
@@ -59,7 +66,7 @@ impl Holders {
 
     /// Whether the greatest value stays odd, or even, where an entry with this value is taken off.
     pub fn stays_alike(&self, value: u8) -> bool
-        requires value { (1 ≤ value) × (value ≤ 9) }
+        requires value { (1 ≤ value) × (value ≤ LEVEL_MAX) }
         requires some { 0 < slice_index self.now (value - 1) }
         ensures { result ≡ stays_alike value self.now }
     {

@@ -1,5 +1,7 @@
 -- How many entries give each value to a place.
 use Rattle.std.specs.Prelude.{ℕ, ◌+◌, ◌-◌, ◌%◌, Bool, ◌&&◌, nat_eq, nat_lt, if◌then◌else◌, List, [], ◌∷◌, map, count_by, slice_index, slice_set}
+use Rattle.std.specs.List.{range_with_len}
+use Rattle.pg_types.specs.declared.limits.TheConstants.{LEVEL_MAX}
 use Rattle.pg_select.specs.Windows.{Patterns}
 use Rattle.pg_prune.specs.Places.{WordPlace}
 use Rattle.pg_prune.specs.Inside.Standing.{stands}
@@ -10,7 +12,7 @@ count_at Q x v = count_by (λ e. stands e x && nat_eq e.1 v) Q
 
 -- these numbers for the values 1 to 9
 abbrev pub holder_counts : Patterns → WordPlace → List ℕ
-holder_counts Q x = map (count_at Q x) (1 ∷ 2 ∷ 3 ∷ 4 ∷ 5 ∷ 6 ∷ 7 ∷ 8 ∷ 9 ∷ [])
+holder_counts Q x = map (count_at Q x) (range_with_len 1 LEVEL_MAX)
 
 -- the greatest value that some entry gives: the first number is how many give the value v + 1. It
 -- is `best` where no number is above 0
