@@ -105,7 +105,19 @@ pub some_letter_begun : (t : Alphabet) → KeepsRules t → (text : List ℕ) (f
 some_letter_begun t rules text None is = tt
 some_letter_begun t rules text (Some l) is = letter_begun t rules text (Letter l.0, l.1) is
 
--- the fourth mark is found where its byte stands
+-- a mark is found where its byte stands
+pub first_mark : (marks text : List ℕ) → 0 < length text → get_or text 0 0 ≡ slice_index marks 0 → mark_at marks text ≡ Some (Marked Error, 1)
+first_mark marks [] some first = absurd (omega arith)
+first_mark marks (b ∷ bs) some first = rw (eq-eqb _ _ first) refl
+
+pub second_mark : (marks text : List ℕ) → 0 < length text → ¬ (get_or text 0 0 ≡ slice_index marks 0) → get_or text 0 0 ≡ slice_index marks 1 → mark_at marks text ≡ Some (Marked Missed, 1)
+second_mark marks [] some first second = absurd (omega arith)
+second_mark marks (b ∷ bs) some first second = rw (ne_eqb _ _ first, eq-eqb _ _ second) refl
+
+pub third_mark : (marks text : List ℕ) → 0 < length text → ¬ (get_or text 0 0 ≡ slice_index marks 0) → ¬ (get_or text 0 0 ≡ slice_index marks 1) → get_or text 0 0 ≡ slice_index marks 2 → mark_at marks text ≡ Some (Marked Found, 1)
+third_mark marks [] some first second third = absurd (omega arith)
+third_mark marks (b ∷ bs) some first second third = rw (ne_eqb _ _ first, ne_eqb _ _ second, eq-eqb _ _ third) refl
+
 pub fourth_mark : (marks text : List ℕ) → 0 < length text → ¬ (get_or text 0 0 ≡ slice_index marks 0) → ¬ (get_or text 0 0 ≡ slice_index marks 1) → ¬ (get_or text 0 0 ≡ slice_index marks 2) → get_or text 0 0 ≡ slice_index marks 3 → mark_at marks text ≡ Some (Marked DontCare, 1)
 fourth_mark marks [] some first second third fourth = absurd (omega arith)
 fourth_mark marks (b ∷ bs) some first second third fourth = rw (ne_eqb _ _ first, ne_eqb _ _ second, ne_eqb _ _ third, eq-eqb _ _ fourth) refl
