@@ -1,6 +1,8 @@
-//! A system whose arguments are given, and a standard error that takes all and shows nothing.
+//! A system whose arguments are given and whose files may fail, and a standard error that takes all
+//! and shows nothing.
 ghost use Rattle.std.specs.Prelude.{◌≤◌, length, IfOk};
 
+use crate::scripted::{Broken, Call, Scripted, refused};
 use std::alloc::Allocator;
 use std::env::FillError;
 use std::fs::{Metadata, OpenOptions};
@@ -8,11 +10,27 @@ use std::io::{IsTerminal, Write};
 use std::time::Duration;
 use std::{io, rt};
 
-/// A system, but for the arguments: the program's name, and then these words.
+/// A system, but for its arguments and its files. The arguments are the program's name, and then
+/// these words. The opened files read and write as the list of calls says, and the broken step
+/// fails.
 #[derive(Drop)]
 pub struct Given<'a, R> {
     pub system: &'a R,
     pub words: &'a [&'a [u8]],
+    pub calls: &'a [Call],
+    pub broken: Broken,
+}
+
+impl<'a, R> Given<'a, R> {
+    /// A system without words whose files read and write so, and this step of which fails.
+    pub fn with_calls(system: &'a R, calls: &'a [Call], broken: Broken) -> Given<'a, R> {
+        Given {
+            system,
+            words: &[],
+            calls,
+            broken,
+        }
+    }
 }
 
 /// Copies a text to the start of the buffer.
@@ -65,12 +83,16 @@ impl<'a, R: Alloc> Alloc for Given<'a, R> {
 }
 
 impl<'a, R: rt::Files> rt::Files for Given<'a, R> {
-    type File = R::File;
+    type File = Scripted<'a, R::File>;
 
     type Dir = R::Dir;
 
-    fn open_file(&self, how: &OpenOptions, path: &str) -> io::Result<R::File> {
-        self.system.open_file(how, path)
+    fn open_file(&self, how: &OpenOptions, path: &str) -> io::Result<Scripted<'a, R::File>> {
+        Ok(Scripted {
+            inner: self.system.open_file(how, path)?,
+            calls: self.calls,
+            broken: self.broken,
+        })
     }
 
     fn open_dir(&self, path: &str) -> io::Result<R::Dir> {
@@ -90,6 +112,9 @@ impl<'a, R: rt::Files> rt::Files for Given<'a, R> {
     }
 
     fn rename(&self, from: &str, to: &str) -> io::Result<()> {
+        if self.broken == Broken::Rename {
+            return Err(refused());
+        }
         self.system.rename(from, to)
     }
 

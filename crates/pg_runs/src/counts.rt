@@ -1,7 +1,9 @@
 //! The windows that a pass counts, with their sums of good and bad weights.
-ghost use Rattle.std.specs.Prelude.{◌<◌};
+ghost use Rattle.std.specs.Prelude.{◌<◌, ◌+◌, IfOk};
 ghost use Rattle.pg_types.specs.Inside.Limits.{begun_before_pass};
+ghost use Rattle.pg_translate.specs.Alphabets.{letters_of};
 ghost use Rattle.pg_dict.specs.Inside.SoundWords.{SignsAtMost};
+ghost use Rattle.pg_patterns.specs.Inside.PatternMaps.{SignsUpTo};
 ghost use Rattle.pg_driver.specs.Inside.States.{IsPass};
 
 use crate::plain::count_words;
@@ -143,6 +145,53 @@ fn windows_of<E: Engine>(alloc: Global, engine: &E) -> Result<String, AllocError
     Ok(text)
 }
 
+/// The windows that a pass counts, from these patterns.
+fn windows_from(
+    alloc: Global,
+    table: &Table,
+    dictionary: &Dictionary,
+    start: &PatternSet,
+    pass: Pass,
+) -> Result<String, Fail>
+    requires ranges { IsPass pass }
+    requires words { SignsAtMost (letters_of table.now + 1) dictionary.now }
+    requires patterns { SignsUpTo (letters_of table.now + 1) start.now }
+{
+    let mut engine = PlainEngine::new(alloc, table.letters() + 1, start)?;
+    count_pass(&mut engine, dictionary, table, pass)?;
+    Ok(windows_of(alloc, &engine)?)
+}
+
+/// The windows that the pass of a row counts, under its table, in these words.
+fn counted_in(
+    alloc: Global,
+    table: &Table,
+    dictionary: &Dictionary,
+    row: &Row,
+) -> Result<String, Fail>
+    requires ranges { IsPass row.now.pass }
+    requires words { SignsAtMost (letters_of table.now + 1) dictionary.now }
+{
+    let start = PatternSet::read(alloc, table, row.start)?;
+    windows_from(alloc, table, dictionary, &start, row.pass)
+}
+
+/// The words of a row under a table.
+fn words_of(alloc: Global, table: &Table, row: &Row) -> Result<Dictionary, Fail>
+    ensures { IfOk result (SignsAtMost (letters_of table.now + 1)) }
+{
+    let text = text_of(alloc, row.lines)?;
+    Ok(Dictionary::read(alloc, table, &text)?)
+}
+
+/// The windows that the pass of a row counts, under its table.
+fn counted_under(alloc: Global, table: &Table, row: &Row) -> Result<String, Fail>
+    requires { IsPass row.now.pass }
+{
+    let dictionary = words_of(alloc, table, row)?;
+    counted_in(alloc, table, &dictionary, row)
+}
+
 /// The windows that the pass of a row counts.
 fn counted(alloc: Global, row: &Row) -> Result<String, Fail> {
     let pass = row.pass;
@@ -150,11 +199,7 @@ fn counted(alloc: Global, row: &Row) -> Result<String, Fail> {
         return Err(Fail::new("a level, a length and a dot"));
     }
     let table = Table::read(alloc, LETTERS)?;
-    let dictionary = Dictionary::read(alloc, &table, &text_of(alloc, row.lines)?)?;
-    let start = PatternSet::read(alloc, &table, row.start)?;
-    let mut engine = PlainEngine::new(alloc, table.letters() + 1, &start)?;
-    count_pass(&mut engine, &dictionary, &table, pass)?;
-    Ok(windows_of(alloc, &engine)?)
+    counted_under(alloc, &table, row)
 }
 
 #[test]

@@ -54,7 +54,8 @@ fn compare_patterns(rt: &impl Abort, packed: &PatternSet, plain: &PatternSet) {
     }
 }
 
-/// How many patterns, records of passes and records of levels a run has, and how many passes it began.
+/// How many patterns, records of passes and records of levels a run has, and how many passes it
+/// began.
 fn counts_of(run: &Run) -> [u64; 4] {
     [
         run.patterns().len() as u64,
@@ -95,7 +96,8 @@ fn compare_engines(rt: &impl Abort, alloc: Global, inputs: &Inputs) -> Result<()
     compare_with(rt, alloc, inputs, &plain)
 }
 
-/// The run of 2,000 words over both engines: the same patterns, records, totals and number of passes begun.
+/// The run of 2,000 words over both engines: the same patterns, records, totals and number of
+/// passes begun.
 #[test]
 fn the_same_run_from_both_engines(rt: HostRuntime) -> Result<(), Fail> {
     let inputs = read_inputs(rt.alloc(), 2_000, b"1 2 1 3 1 2 20 2 4 2 1 8")?;

@@ -1,7 +1,8 @@
 //! What no table of rows can say: runs of the driver beside a run that skips no pass, and over both
 //! engines; the windows that a pass counts; a call of the program over files that never fail; calls
 //! over a disk that stops or fails at each of its calls in turn; and the status of each answer. All
-//! other calls are rows of patgen_rows.
+//! other calls are rows of patgen_rows. And what files and sinks do whose calls fail: a disk in
+//! memory, real files, and files and writers whose calls go as a list says.
 #![tactic(auto)]
 
 #[cfg(test)]
@@ -9,7 +10,15 @@ mod arguments;
 #[cfg(test)]
 mod counts;
 #[cfg(test)]
+mod disk;
+#[cfg(test)]
 mod engines;
+#[cfg(test)]
+mod folders;
+#[cfg(test)]
+mod host;
+#[cfg(test)]
+mod outcomes;
 #[cfg(test)]
 mod plain;
 #[cfg(test)]
@@ -18,8 +27,14 @@ pub mod quiet_calls;
 #[cfg(test)]
 mod runs;
 #[cfg(test)]
+mod scripted;
+#[cfg(test)]
 mod statuses;
 #[cfg(test)]
+mod steps;
+#[cfg(test)]
 mod stopped;
+#[cfg(test)]
+mod streams;
 #[cfg(test)]
 mod unskipped;

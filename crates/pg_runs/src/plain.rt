@@ -61,8 +61,8 @@ fn left_none(pass: &PassRecord) -> bool {
     pass.chosen.checked_add(pass.hopeless) == Some(pass.candidates)
 }
 
-/// Whether a pass can be skipped: in its level a pass of windows that are shorter by a sign, with the same dot or the dot before,
-/// left no candidate.
+/// Whether a pass can be skipped: in its level a pass of windows that are shorter by a sign, with
+/// the same dot or the dot before, left no candidate.
 fn is_skippable(earlier: &[PassRecord], pass: &PassRecord) -> bool {
     earlier.iter().any(|shorter| {
         left_none(shorter)

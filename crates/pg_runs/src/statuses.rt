@@ -1,6 +1,7 @@
 //! The status of the program, by the words that it is handed or the reason why there are none.
 use crate::arguments::{Given, Nowhere};
 use crate::quiet::words;
+use crate::scripted::Broken;
 use pg_main::{NoWords, run_words, status_of};
 use pg_messages::Told;
 use pg_outside::{MemoryFiles, MemorySink};
@@ -127,7 +128,12 @@ fn the_status_of_the_program(rt: HostRuntime) -> Result<(), Fail> {
     fs::write(&rt, "A", b"1 1 1 1 1 1 1\n")?;
     fs::write(&rt, "O", b"a1b\n")?;
     for (words, status) in PROGRAMS {
-        let given = Given { system: &rt, words };
+        let given = Given {
+            system: &rt,
+            words,
+            calls: &[],
+            broken: Broken::Nothing,
+        };
         assert!(rt; run_words(&given, io::sink(), Nowhere) == ExitCode::from(*status));
     }
     Ok(())

@@ -1,5 +1,6 @@
 //! Calls of the program over a disk that tells: what stands under each name when they are done, and
 //! when a call of the system stops the program or fails.
+use crate::disk::{holds, let_fail};
 use crate::quiet::words;
 use pg_outside::{DiskFiles, MemorySink};
 use pg_told_disk::ToldDisk;
@@ -59,11 +60,7 @@ fn disk(alloc: Global) -> Result<ToldDisk, AllocError> {
 /// A disk that fails at a call, or at it and each later one.
 fn failing_disk(alloc: Global, call: u64, stops: bool) -> Result<ToldDisk, AllocError> {
     let mut disk = disk(alloc)?;
-    if stops {
-        disk.stop_at(call);
-    } else {
-        disk.fail_at(call);
-    }
+    let_fail(&mut disk, call, stops);
     Ok(disk)
 }
 
@@ -186,14 +183,6 @@ fn answer_of(
     Ok(run(alloc, &words, files, &mut out))
 }
 
-/// Whether the disk has a file of this name with these bytes.
-fn holds(disk: &ToldDisk, name: &str, bytes: &[u8]) -> bool {
-    match disk.bytes(name) {
-        Ok(Some(found)) => found.as_slice() == bytes,
-        _ => false,
-    }
-}
-
 /// Compares the answer of a call over files with this one.
 fn compare_answer(
     rt: &impl Abort,
@@ -208,7 +197,8 @@ fn compare_answer(
 
 /// Compares the two files that a call over files wrote.
 fn compare_written(rt: &impl Abort, disk: &ToldDisk) {
-    assert!(rt; holds(disk, "O", b"ab1\n") && holds(disk, "M", b"ab*c\nab*a\n"));
+    let (patterns, list) = (Some(b"ab1\n".as_slice()), Some(b"ab*c\nab*a\n".as_slice()));
+    assert!(rt; holds(disk, "O", patterns) && holds(disk, "M", list));
 }
 
 /// Does a call and one on the files that it leaves, and compares what comes of them.

@@ -56,7 +56,8 @@ fn compare_levels(rt: &impl Abort, run: &Run, plain: &PlainRun) {
     assert_eq!(rt; run.totals(), plain.totals);
 }
 
-/// Compares the number of passes begun with that of the needed ones, of which there are fewer than of all.
+/// Compares the number of passes begun with that of the needed ones, of which there are fewer than
+/// of all.
 fn compare_counts(rt: &impl Abort, run: &Run, plain: &PlainRun) {
     let needed = plain.needed();
     assert_eq!(rt; run.begun(), needed as u64);

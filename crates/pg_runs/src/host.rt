@@ -1,8 +1,10 @@
-use super::folders::{enter_names, holds, leave_folder, permit};
-use pg_outside::{Files, HostFiles, HostSystem, ReadError};
+//! Real files: what is read and written, and what is not.
+use crate::folders::{enter_names, holds, leave_folder, permit};
+use crate::outcomes::{read_and_written, reads_by};
+use pg_outside::{HostFiles, HostSystem, ReadError};
 use std::os::unix::fs::MetadataExt;
 use std::test::Fail;
-use std::{fs, io, rt};
+use std::{fs, io};
 
 /// A read with its limit, how it goes, and what it gives.
 const READS: [(&str, u32, Result<(), ReadError>, &[u8]); 6] = [
@@ -40,66 +42,86 @@ const WRITTEN: [(&str, &str); 7] = [
     ("/dev/null", "later"),
 ];
 
-/// Whether a read of the file goes so, and gives these bytes.
-fn reads_so<R: rt::Files + AllocGlobal>(
-    rt: &R,
-    name: &str,
-    limit: u32,
-    wanted: Result<(), ReadError>,
-    bytes: &[u8],
-) -> bool {
-    let mut files = HostFiles::new(rt.alloc(), HostSystem::new(rt));
-    let mut into = Vec::new(rt.alloc());
-    let result = files.read(rt.alloc(), name, limit as usize, &mut into);
-    result == wanted && into.as_slice() == bytes
-}
-
 /// Whether a read of one file goes well, and then a write of another.
-fn outcomes<R: rt::Files + AllocGlobal>(rt: &R, read: &str, name: &str) -> [bool; 2] {
+fn outcomes(rt: &HostRuntime, read: &str, name: &str) -> [bool; 2] {
     let mut files = HostFiles::new(rt.alloc(), HostSystem::new(rt));
-    let mut into = Vec::new(rt.alloc());
-    [
-        files.read(rt.alloc(), read, 9, &mut into).is_ok(),
-        files.write(name, b"a1b\n").is_ok(),
-    ]
+    read_and_written(rt.alloc(), &mut files, read, name, b"a1b\n")
 }
 
 /// Whether the file of this name is not written once D was read, and D and `patgen-new-0` stay.
-fn is_not_written<R: rt::Files + AllocGlobal>(rt: &R, name: &str) -> bool {
+fn is_not_written(rt: &HostRuntime, name: &str) -> bool {
     outcomes(rt, "D", name) == [true, false]
         && holds(rt, "D", b"a-b\n")
         && holds(rt, "patgen-new-0", b"x")
 }
 
 /// Whether the file of this name is written, and the other name then leads to the new bytes.
-fn is_written<R: rt::Files + AllocGlobal>(rt: &R, name: &str, other: &str) -> bool {
+fn is_written(rt: &HostRuntime, name: &str, other: &str) -> bool {
     outcomes(rt, "patgen-new-0", name) == [true, true] && holds(rt, other, b"a1b\n")
+}
+
+/// Makes the names, a file of the name that a new file would have, and the permissions of D.
+fn enter_files(rt: &HostRuntime) -> io::Result<()> {
+    enter_names(rt, "real_files")?;
+    fs::write(rt, "patgen-new-0", b"x")?;
+    permit(rt, "D", 0o640)
+}
+
+/// The first name whose read goes otherwise or gives something else.
+fn wrong_read(rt: &HostRuntime) -> Option<&'static str> {
+    for (name, limit, wanted, bytes) in READS {
+        if !reads_by(rt.alloc(), rt, name, limit, wanted, bytes) {
+            return Some(name);
+        }
+    }
+    None
+}
+
+/// The first name that is written although it is not to be.
+fn wrongly_written(rt: &HostRuntime) -> Option<&'static str> {
+    for name in NOT_WRITTEN {
+        if !is_not_written(rt, name) {
+            return Some(name);
+        }
+    }
+    None
+}
+
+/// The first name that is not written as it is to be.
+fn wrong_write(rt: &HostRuntime) -> Option<&'static str> {
+    for (name, other) in WRITTEN {
+        if !is_written(rt, name, other) {
+            return Some(name);
+        }
+    }
+    None
+}
+
+/// Whether the other files hold what they held, D has its permissions, the link is one, and no new
+/// file is left.
+fn is_rest_kept(rt: &HostRuntime) -> io::Result<bool> {
+    Ok(
+        holds(rt, "hard", b"a-b\n")
+            && holds(rt, "patgen-new-0", b"x")
+            && fs::metadata(rt, "D")?.mode() & 0o777 == 0o640
+            && fs::symlink_metadata(rt, "soft")?.is_symlink()
+            && !fs::exists(rt, "patgen-new-1")?,
+    )
 }
 
 #[test]
 fn real_files(rt: HostRuntime) -> Result<(), Fail> {
-    enter_names(&rt, "real_files")?;
-    fs::write(&rt, "patgen-new-0", b"x")?;
-    permit(&rt, "D", 0o640)?;
-    for (name, limit, wanted, bytes) in READS {
-        assert!(rt; reads_so(&rt, name, limit, wanted, bytes), "{name}");
-    }
-    for name in NOT_WRITTEN {
-        assert!(rt; is_not_written(&rt, name), "{name}");
-    }
-    for (name, other) in WRITTEN {
-        assert!(rt; is_written(&rt, name, other), "{name}");
-    }
-    assert!(rt; holds(&rt, "hard", b"a-b\n") && holds(&rt, "patgen-new-0", b"x"));
-    assert_eq!(rt; fs::metadata(&rt, "D")?.mode() & 0o777, 0o640);
-    assert!(rt; fs::symlink_metadata(&rt, "soft")?.is_symlink());
-    assert!(rt; !fs::exists(&rt, "patgen-new-1")?);
+    enter_files(&rt)?;
+    assert_eq!(rt; wrong_read(&rt), None);
+    assert_eq!(rt; wrongly_written(&rt), None);
+    assert_eq!(rt; wrong_write(&rt), None);
+    assert!(rt; is_rest_kept(&rt)?);
     leave_folder(&rt, "real_files")?;
     Ok(())
 }
 
 /// Writes, in a folder that may not be written to, a file that is there and one that is not.
-fn written_within(rt: &(impl rt::Files + AllocGlobal)) -> io::Result<[[bool; 2]; 2]> {
+fn written_within(rt: &HostRuntime) -> io::Result<[[bool; 2]; 2]> {
     permit(rt, "folder", 0o500)?;
     let both = [outcomes(rt, "D", "folder/O"), outcomes(rt, "D", "folder/N")];
     permit(rt, "folder", 0o700)?;

@@ -1,8 +1,6 @@
 //! A reader, writer or file whose calls go as a list says.
-use std::alloc::Allocator;
-use std::fs::{FileTimes, Metadata, OpenFile, OpenOptions, Permissions};
-use std::io::{Error, ErrorKind, Read, Seek, SeekFrom, Write};
-use std::{io, rt};
+use std::fs::{FileTimes, Metadata, OpenFile, Permissions};
+use std::io::{self, Error, ErrorKind, Read, Seek, SeekFrom, Write};
 
 /// How a read or a write goes.
 #[derive(Clone, Copy)]
@@ -30,7 +28,8 @@ pub struct Scripted<'a, F: Drop> {
     pub broken: Broken,
 }
 
-fn refused() -> Error {
+/// The reason of a call that fails.
+pub fn refused() -> Error {
     Error::from(ErrorKind::Other)
 }
 
@@ -113,67 +112,5 @@ impl<F: OpenFile + Drop> OpenFile for Scripted<'_, F> {
 
     fn set_times(&self, times: FileTimes) -> io::Result<()> {
         self.inner.set_times(times)
-    }
-}
-
-/// The files of a system. The opened files read and write as the list says, and the broken step
-/// fails.
-#[derive(Drop)]
-pub struct ScriptedSystem<'a, R: rt::Files> {
-    pub system: &'a R,
-    pub calls: &'a [Call],
-    pub broken: Broken,
-}
-
-impl<'a, R: rt::Files> rt::Files for ScriptedSystem<'a, R> {
-    type File = Scripted<'a, R::File>;
-
-    type Dir = R::Dir;
-
-    fn open_file(&self, how: &OpenOptions, path: &str) -> io::Result<Scripted<'a, R::File>> {
-        Ok(Scripted {
-            inner: self.system.open_file(how, path)?,
-            calls: self.calls,
-            broken: self.broken,
-        })
-    }
-
-    fn open_dir(&self, path: &str) -> io::Result<R::Dir> {
-        self.system.open_dir(path)
-    }
-
-    fn metadata(&self, path: &str) -> io::Result<Metadata> {
-        self.system.metadata(path)
-    }
-
-    fn symlink_metadata(&self, path: &str) -> io::Result<Metadata> {
-        self.system.symlink_metadata(path)
-    }
-
-    fn copy(&self, from: &str, to: &str) -> io::Result<u64> {
-        self.system.copy(from, to)
-    }
-
-    fn rename(&self, from: &str, to: &str) -> io::Result<()> {
-        if self.broken == Broken::Rename {
-            return Err(refused());
-        }
-        self.system.rename(from, to)
-    }
-
-    fn remove_file(&self, path: &str) -> io::Result<()> {
-        self.system.remove_file(path)
-    }
-
-    fn create_dir(&self, path: &str) -> io::Result<()> {
-        self.system.create_dir(path)
-    }
-
-    fn remove_dir(&self, path: &str) -> io::Result<()> {
-        self.system.remove_dir(path)
-    }
-
-    fn remove_dir_all<B: Allocator>(&self, alloc: B, path: &str) -> io::Result<()> {
-        self.system.remove_dir_all(alloc, path)
     }
 }

@@ -1,9 +1,12 @@
-use super::folders::{enter_folder, holds, is_new_file_left, leave_folder};
-use super::scripted::{Broken, Call, ScriptedSystem};
+//! Reads and writes of real files whose calls end early or fail.
+use crate::arguments::Given;
+use crate::folders::{enter_folder, holds, is_new_file_left, leave_folder};
+use crate::outcomes::reads_by;
+use crate::scripted::{Broken, Call};
 use pg_outside::{Files, HostFiles, HostSystem, ReadError};
 use std::alloc::Global;
 use std::test::Fail;
-use std::{fs, rt};
+use std::{fs, io, rt};
 
 /// What is written.
 const LINE: &[u8] = b"a1b\n";
@@ -46,16 +49,6 @@ const WRITES: [(&[Call], Broken, &[u8]); 9] = [
     ),
 ];
 
-/// Reads D over this system.
-fn read_by(
-    alloc: Global,
-    system: impl rt::Files + Drop,
-    into: &mut Vec<u8>,
-) -> Result<(), ReadError> {
-    into.clear();
-    HostFiles::new(alloc, HostSystem::new(system)).read(alloc, "D", 5, into)
-}
-
 /// Whether a write of O over this system goes well.
 fn is_written_by(alloc: Global, system: impl rt::Files + Drop) -> bool {
     HostFiles::new(alloc, HostSystem::new(system))
@@ -64,50 +57,46 @@ fn is_written_by(alloc: Global, system: impl rt::Files + Drop) -> bool {
 }
 
 /// Whether a read of D over a system whose calls go so ends as wanted, with these bytes.
-fn reads_so<R: rt::Files + AllocGlobal>(
-    rt: &R,
-    calls: &[Call],
-    wanted: Result<(), ReadError>,
-    bytes: &[u8],
-) -> bool {
-    let system = ScriptedSystem {
-        system: rt,
-        calls,
-        broken: Broken::Nothing,
-    };
-    let mut into = Vec::new(rt.alloc());
-    let result = read_by(rt.alloc(), &system, &mut into);
-    result == wanted && into.as_slice() == bytes
+fn reads_so(rt: &HostRuntime, calls: &[Call], wanted: Result<(), ReadError>, bytes: &[u8]) -> bool {
+    let system = Given::with_calls(rt, calls, Broken::Nothing);
+    reads_by(rt.alloc(), &system, "D", 5, wanted, bytes)
 }
 
 /// Whether a write over a system whose calls go so leaves these bytes and no new file, and goes
 /// well exactly where they are the whole line.
-fn leaves<R: rt::Files + AllocGlobal>(
-    rt: &R,
-    calls: &[Call],
-    broken: Broken,
-    bytes: &[u8],
-) -> bool {
-    let system = ScriptedSystem {
-        system: rt,
-        calls,
-        broken,
-    };
+fn leaves(rt: &HostRuntime, calls: &[Call], broken: Broken, bytes: &[u8]) -> bool {
+    let system = Given::with_calls(rt, calls, broken);
     let is_ok = is_written_by(rt.alloc(), &system);
     is_ok == (bytes == LINE) && holds(rt, "O", bytes) && !is_new_file_left(rt)
+}
+
+/// Whether each read goes as wanted.
+fn are_reads_right(rt: &HostRuntime) -> bool {
+    for (calls, wanted, bytes) in READS {
+        if !reads_so(rt, calls, wanted, bytes) {
+            return false;
+        }
+    }
+    true
+}
+
+/// Whether each write leaves what is wanted.
+fn are_writes_right(rt: &HostRuntime) -> io::Result<bool> {
+    for (calls, broken, bytes) in WRITES {
+        fs::write(rt, "O", b"old")?;
+        if !leaves(rt, calls, broken, bytes) {
+            return Ok(false);
+        }
+    }
+    Ok(true)
 }
 
 #[test]
 fn steps_that_end_early(rt: HostRuntime) -> Result<(), Fail> {
     enter_folder(&rt, "steps_that_end_early")?;
     fs::write(&rt, "D", b"a-b\n")?;
-    for (calls, wanted, bytes) in READS {
-        assert!(rt; reads_so(&rt, calls, wanted, bytes));
-    }
-    for (calls, broken, bytes) in WRITES {
-        fs::write(&rt, "O", b"old")?;
-        assert!(rt; leaves(&rt, calls, broken, bytes));
-    }
+    assert!(rt; are_reads_right(&rt));
+    assert!(rt; are_writes_right(&rt)?);
     leave_folder(&rt, "steps_that_end_early")?;
     Ok(())
 }

@@ -1,8 +1,10 @@
 //! Files over a disk in memory, with links, other names of one file, a device and a closed folder:
 //! what is written whole, stopped and failing at each call, and what is not written.
+use crate::outcomes::read_and_written;
 use pg_outside::{DiskFiles, Files};
 use pg_told_disk::ToldDisk;
 use std::alloc::{AllocError, Global};
+use std::process::Abort;
 use std::test::Fail;
 
 const NEW: &[u8] = b"new bytes, of two pieces\n";
@@ -71,7 +73,7 @@ fn disk(alloc: Global) -> Result<ToldDisk, AllocError> {
 }
 
 /// Whether the name leads to these bytes.
-fn holds(disk: &ToldDisk, name: &str, wanted: Option<&[u8]>) -> bool {
+pub(crate) fn holds(disk: &ToldDisk, name: &str, wanted: Option<&[u8]>) -> bool {
     match (disk.bytes(name), wanted) {
         (Ok(Some(found)), Some(bytes)) => found.as_slice() == bytes,
         (Ok(None), None) => true,
@@ -96,6 +98,15 @@ fn is_tidy(disk: &ToldDisk, name: &str) -> bool {
         .all(|own| *own == name || holds(disk, own, None))
 }
 
+/// Lets a disk fail at a call, or at it and each later one.
+pub(crate) fn let_fail(disk: &mut ToldDisk, call: u64, stops: bool) {
+    if stops {
+        disk.stop_at(call);
+    } else {
+        disk.fail_at(call);
+    }
+}
+
 /// Writes the file of this name over a disk that fails at a call, or at it and each later one.
 fn written(
     alloc: Global,
@@ -104,11 +115,7 @@ fn written(
     stops: bool,
 ) -> Result<(bool, DiskFiles<ToldDisk>), AllocError> {
     let mut disk = disk(alloc)?;
-    if stops {
-        disk.stop_at(call);
-    } else {
-        disk.fail_at(call);
-    }
+    let_fail(&mut disk, call, stops);
     let mut files = DiskFiles::new(alloc, disk);
     let is_written = files.write(name, NEW).is_ok();
     Ok((is_written, files))
@@ -150,25 +157,47 @@ fn survives_a_failure(
     Ok(!is_written && holds(disk, name, old) && is_rest_kept(disk) && is_tidy(disk, name))
 }
 
+/// Compares what a write leaves that is stopped at a call, and one that fails there.
+fn compare_at(
+    rt: &impl Abort,
+    alloc: Global,
+    name: &str,
+    old: Option<&[u8]>,
+    call: u64,
+) -> Result<(), AllocError> {
+    assert!(rt;
+        survives_a_stop(alloc, name, old, call)?,
+        "{name} stopped at {call}"
+    );
+    assert!(rt;
+        survives_a_failure(alloc, name, old, call)?,
+        "{name} failing at {call}"
+    );
+    Ok(())
+}
+
+/// Compares what a write leaves that goes well, and one that is stopped or fails at each call.
+fn compare_writes(
+    rt: &impl Abort,
+    alloc: Global,
+    name: &str,
+    old: Option<&[u8]>,
+) -> Result<(), AllocError> {
+    let calls = calls_of(alloc, name)?;
+    assert!(rt; calls > 0, "{name}");
+    for call in 1..calls.saturating_add(1) {
+        compare_at(rt, alloc, name, old, call)?;
+    }
+    Ok(())
+}
+
 #[test]
 fn writes_whole_stopped_and_failing(rt: HostRuntime) -> Result<(), Fail> {
-    let alloc = rt.alloc();
     for (name, old) in WRITTEN {
-        let calls = calls_of(alloc, name)?;
-        assert!(rt; calls > 0, "{name}");
-        for call in 1..calls.saturating_add(1) {
-            assert!(rt;
-                survives_a_stop(alloc, name, old, call)?,
-                "{name} stopped at {call}"
-            );
-            assert!(rt;
-                survives_a_failure(alloc, name, old, call)?,
-                "{name} failing at {call}"
-            );
-        }
+        compare_writes(&rt, rt.alloc(), name, old)?;
     }
     for (name, old) in REFUSED {
-        assert!(rt; survives_a_failure(alloc, name, old, 0)?, "{name}");
+        assert!(rt; survives_a_failure(rt.alloc(), name, old, 0)?, "{name}");
     }
     Ok(())
 }
@@ -176,10 +205,8 @@ fn writes_whole_stopped_and_failing(rt: HostRuntime) -> Result<(), Fail> {
 /// Whether a write of one name after a read of another is refused.
 fn is_kept_for(alloc: Global, first: &str, second: &str) -> Result<bool, AllocError> {
     let mut files = DiskFiles::new(alloc, disk(alloc)?);
-    let mut into = Vec::new(alloc);
-    let is_read = files.read(alloc, first, 9, &mut into).is_ok();
-    let is_written = files.write(second, NEW).is_ok();
-    Ok(is_read && !is_written && holds(files.system(), second, Some(b"old\n")))
+    let outcomes = read_and_written(alloc, &mut files, first, second, NEW);
+    Ok(outcomes == [true, false] && holds(files.system(), second, Some(b"old\n")))
 }
 
 /// Whether a second write of what was written under one name is refused under another.
