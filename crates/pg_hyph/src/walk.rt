@@ -1,5 +1,5 @@
 //! The strings of a word that have cells.
-ghost use Rattle.std.specs.Prelude.{◌≡◌, ◌+◌, ◌≤◌, [], length, drop};
+ghost use Rattle.std.specs.Prelude.{◌≡◌, ◌+◌, ◌<◌, ◌≤◌, [], length, drop};
 ghost use Rattle.pg_types.specs.declared.limits.TheConstants.{WORD_LETTERS_MAX};
 ghost use Rattle.pg_types.specs.Inside.Counts.{SignsWithin};
 ghost use Rattle.pg_select.specs.Inside.Positions.{RaisesValues, RaisesCovers};
@@ -30,7 +30,7 @@ pub fn walk(trie: &PatternTrie, w: &[Sign], pass: &Pass, out: &mut WordState)
 fn raise_by_strings(trie: &PatternTrie, w: &[Sign], start: usize, pass: &Pass, out: &mut WordState)
     requires len { length w.now ≤ WORD_LETTERS_MAX + 2 }
     requires signs { SignsWithin trie.now.signs w.now }
-    requires inside { start ≤ length w.now }
+    requires inside { start < length w.now }
     ensures values { RaisesValues
         (by_strings value_by (lists_in trie.now) start [] (drop start w.now)) out.old
         out.new }
@@ -38,12 +38,16 @@ fn raise_by_strings(trie: &PatternTrie, w: &[Sign], start: usize, pass: &Pass, o
         (by_strings (cover_by pass.now) (lists_in trie.now) start [] (drop start w.now))
         out.old out.new }
 {
-    let mut at = None;
-    for stop in start..w.len() {
-        let Some(cell) = trie.step(at, w[stop]) else {
+    let Some(first) = trie.step(None, w[start]) else {
+        return;
+    };
+    raise_by_list(trie, trie.head(first), start, 1, pass, out);
+    let mut cell = first;
+    for stop in start + 1..w.len() {
+        let Some(next) = trie.step(Some(cell), w[stop]) else {
             return;
         };
-        raise_by_list(trie, trie.head(cell), start, stop + 1 - start, pass, out);
-        at = Some(cell);
+        raise_by_list(trie, trie.head(next), start, stop + 1 - start, pass, out);
+        cell = next;
     }
 }

@@ -1,4 +1,4 @@
-use Rattle.std.proofs.Common.{◌-◌, take, drop}
+use Rattle.std.proofs.Common.{◌-◌, Some, take, drop}
 use Rattle.pg_trie.specs.Inside.Lists.{IsAt}
 use Rattle.pg_trie.specs.Inside.Lists.{outputs_at}
 use Rattle.pg_select.specs.Inside.Positions.{values_of, covers_of}
@@ -8,7 +8,7 @@ use Rattle.pg_hyph.proofs.walk.raise_by_strings.Given as goal
 
 abbrev pub invariant-loop-stop : goal.invariant-loop-stop
 invariant-loop-stop l = record {
-  at : IsAt l.trie.families l.at (take (l.stop - l.start) (drop l.start l.w));
+  at : IsAt l.trie.families (Some l.cell) (take (l.stop - l.start) (drop l.start l.w));
   values : AtStop value_by (outputs_at l.trie.patterns l.trie.hopeless) l.w l.start l.stop (values_of l.fn.out) (values_of l.out);
   covers : AtStop (cover_by l.pass) (outputs_at l.trie.patterns l.trie.hopeless) l.w l.start l.stop (covers_of l.fn.out) (covers_of l.out);
 }
