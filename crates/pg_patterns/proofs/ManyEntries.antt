@@ -20,7 +20,7 @@ use Rattle.pg_translate.specs.LineRefusals.{line_refusal, of_lines}
 use Rattle.pg_translate.proofs.ManyLines.{refusals_from, items_of, line_before}
 use Rattle.pg_patterns.specs.Values.{map_of_entries}
 use Rattle.pg_patterns.specs.Starts.{line_entries, start}
-use Rattle.pg_patterns.specs.Inside.EntryLines.{digit_at_dot, digits_at, entry_at, entries_at, entries_of_items, entries_of_line, entries_from, joined_entries}
+use Rattle.pg_patterns.specs.Inside.EntryLines.{digit_at_dot, digits_at, entry_at, entries_at, entries_of_items, entries_from, joined_entries}
 
 -- no digit is taken
 none_kept : (ds : List (ℕ × ℕ)) → filter (λ d. nat_lt 0 d.1 && false) ds ≡ []

@@ -14,7 +14,7 @@ use Rattle.pg_translate.specs.declared.items.Place.TheVariants.{Patterns}
 use Rattle.pg_translate.specs.LineRefusals.{of_lines}
 use Rattle.pg_patterns.specs.Values.{map_of_entries}
 use Rattle.pg_patterns.specs.Starts.{line_entries, start}
-use Rattle.pg_patterns.specs.Inside.EntryLines.{joined_entries, entries_from}
+use Rattle.pg_patterns.specs.Inside.EntryLines.{joined_entries}
 use Rattle.pg_patterns.specs.Texts.{with_string, strings_of, pattern_text}
 use Rattle.pg_types.proofs.BoolFacts.{and_first, and_second}
 use Rattle.pg_patterns.proofs.Sound.{each_sign, entry_bounds}

@@ -9,12 +9,14 @@ use Rattle.pg_outside.specs.Faults.{Rose}
 use Rattle.pg_outside.specs.Inside.NameFaults.{NoneFell}
 use Rattle.pg_top.specs.Answers.{answers_to, IsAnswered, IsCall}
 use Rattle.pg_top.specs.Calls.{outcome, outcome_of, finished, reads_of, writes_of}
-use Rattle.pg_top.specs.Counted.{MakesCalls, MakesPuts, read_calls, write_calls, PutsFault, ReadsUpTo, IsUnreadAt, EndsAt, IsEndCounted}
+use Rattle.pg_top.specs.Counted.{MakesCalls, MakesPuts, read_calls, write_calls, PutsFault, ReadsUpTo, EndsAt, IsEndCounted}
+use Rattle.pg_top.specs.Inside.UnreadFiles.{IsUnreadAt}
 use Rattle.pg_top.specs.Inside.PutCounts.{PutsCounted, LinesCounted}
 use Rattle.pg_top.specs.Faults.{FilesRose}
 use Rattle.pg_top.specs.Moments.{Moment, OfFiles, Puts, PutsPart, PutRose, PutOrRose}
 use Rattle.pg_top.specs.Outcomes.{Outcome, Ends, Writing, IsKnown, refuses}
-use Rattle.pg_top.specs.PrintedLines.{usage_line, refused_line, reading_line, writing_line}
+use Rattle.pg_top.specs.PrintedLines.{usage_line, refused_line}
+use Rattle.pg_top.specs.Inside.FaultLines.{reading_line, writing_line}
 use Rattle.pg_top.specs.Readings.{first_end}
 use Rattle.pg_words.specs.Requests.{Request, ToGenerate, ToAudit, ToSample, ToPack, ToTotals, ToPrune, ToSweep}
 use Rattle.pg_top.specs.sample.Sampled.{sample_lines}
@@ -188,7 +190,7 @@ unread_call request place s0 s1 o0 o1 keeps read unread line puts =
       answered = tt;
       memory = λ is. cc;
       fault = λ _. inr rose;
-      faulted = λ _. inl (record { place = place; read = read; unread = unread; unchanged = keeps; line = line; puts = puts });
+      faulted = λ _. inl (record { place = place; read = read; reading = unread.reading; there = unread.there; rose = unread.rose; unchanged = keeps; line = line; puts = puts });
       complete = inl (inr rose);
     }
 
@@ -244,7 +246,9 @@ write_failed request writing lines s0 s1 s2 o0 o1 place stopped named keeps fell
       fault = λ _. inr (inr (place, name, within, at, rose));
       faulted = λ _. inr (inl (record {
         place = place;
-        unwritten = record { name = name; there = there; rose = rose };
+        name = name;
+        there = there;
+        rose = rose;
         calls = calls_on (read_calls (reads_of request)) (write_calls (take (place + 1) (writes_of request))) s0 s1 s2 read
             (calls_are (write_calls (take (place + 1) (written_names writing))) (write_calls (take (place + 1) (writes_of request))) s1 s2 (ap (λ (names : List (List ℕ)). write_calls (take (place + 1) names)) named) wrote);
         part = stopped_writing request Done writing lines s0 s1 s2 place stopped keeps told;

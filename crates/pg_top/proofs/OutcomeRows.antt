@@ -10,7 +10,8 @@ use Rattle.pg_table.specs.Numbers.{u16_at, u32_at, u16_bytes, u32_bytes}
 use Rattle.pg_table.specs.Texts.{table_text}
 use Rattle.pg_top.specs.Calls.{outcome_of}
 use Rattle.pg_top.specs.Outcomes.{Ends, Unknown}
-use Rattle.pg_top.specs.PrintedLines.{refused_line, reading_line}
+use Rattle.pg_top.specs.PrintedLines.{refused_line}
+use Rattle.pg_top.specs.Inside.FaultLines.{reading_line}
 use Rattle.pg_top.specs.Readings.{Held}
 use Rattle.pg_words.specs.Requests.{FileNames, PackRequest, TotalsRequest, SweepRequest, ToGenerate, ToAudit, ToSample, ToPack, ToTotals, ToSweep, request_of}
 use Rattle.pg_top.specs.sample.Sampled.{ending, syllable, word, sample_text}

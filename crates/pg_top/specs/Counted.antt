@@ -1,7 +1,7 @@
 -- Which calls a command makes on files, in their order, and how many on the sink.
-use Rattle.std.specs.Prelude.{◌≡◌, ℕ, zero, suc, ◌+◌, ◌<◌, ◌≤◌, List, ◌++◌, length, map, take, slice_get, Option, None, Some, IfSome, ◌⊎◌}
+use Rattle.std.specs.Prelude.{◌≡◌, ℕ, zero, suc, ◌+◌, ◌<◌, ◌≤◌, List, ◌++◌, length, map, take, Option, None, Some, IfSome, ◌⊎◌}
 use Rattle.pg_outside.specs.Content.{FilesShown, SinkShown, file_at}
-use Rattle.pg_outside.specs.Faults.{next_count, Rose}
+use Rattle.pg_outside.specs.Faults.{next_count}
 use Rattle.pg_outside.specs.FilesCalls.{FilesCall, Reads, Writes}
 use Rattle.pg_top.specs.Calls.{outcome_of, reads_of, writes_of}
 use Rattle.pg_top.specs.Moments.{Moment}
@@ -41,18 +41,6 @@ pub record ReadsUpTo (reads : List Reading) (at : ℕ) (old new : FilesShown) : 
   pub within : at < length reads
   pub calls : MakesCalls old new (read_calls (take (at + 1) reads))
   pub before_it : IfSome new.held (λ files. first_end (file_at files) (take at reads) ≡ None)
-
--- the file at a place of the order could not be read
-pub record IsUnreadAt (reads : List Reading) (at : ℕ) (old new : FilesShown) : Type 0 where
-  pub reading : Reading
-  pub there : slice_get reads at ≡ Some reading
-  pub rose : Rose (old.read_faults reading.name) (new.read_faults reading.name)
-
--- the file at a place of the order could not be written
-pub record IsUnwrittenAt (names : List (List ℕ)) (at : ℕ) (old new : FilesShown) : Type 0 where
-  pub name : List ℕ
-  pub there : slice_get names at ≡ Some name
-  pub rose : Rose (old.write_faults name) (new.write_faults name)
 
 -- the file at a place of the order is the one that ends the call; or all were read up to this
 -- place, and none ends it

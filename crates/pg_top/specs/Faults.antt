@@ -1,12 +1,13 @@
 -- What stands after a fault. A call goes from the moment old to the moment new.
-use Rattle.std.specs.Prelude.{◌≡◌, ℕ, ◌+◌, ◌++◌, Option, None, Some, take, Any, ◌⊎◌}
+use Rattle.std.specs.Prelude.{◌≡◌, ℕ, ◌+◌, ◌++◌, List, Option, None, Some, slice_get, take, codes, Any, ◌⊎◌}
 use Rattle.pg_outside.specs.Content.{file_at}
 use Rattle.pg_outside.specs.Faults.{Rose}
 use Rattle.pg_top.specs.Calls.{outcome_of, reads_of, writes_of}
-use Rattle.pg_top.specs.Counted.{MakesCalls, read_calls, write_calls, ReadsUpTo, IsUnreadAt, IsUnwrittenAt, PutsFault, IsEndCounted}
+use Rattle.pg_top.specs.Counted.{MakesCalls, read_calls, write_calls, ReadsUpTo, PutsFault, IsEndCounted}
 use Rattle.pg_top.specs.Moments.{Moment, OfFiles, KeepsFiles, PutsPart, PutRose, PutOrRose}
 use Rattle.pg_top.specs.Outcomes.{IsKnown}
-use Rattle.pg_top.specs.PrintedLines.{usage_line, reading_line, writing_line}
+use Rattle.pg_top.specs.Readings.{Reading}
+use Rattle.pg_top.specs.PrintedLines.{usage_line}
 use Rattle.pg_words.specs.Requests.{Request}
 use Rattle.pg_top.specs.Writings.{after_all, IsPartWritten}
 use Rattle.pg_top.specs.declared.answers.Status.{Status}
@@ -28,21 +29,25 @@ SomeRose (Some request) old new = PutRose old.1 new.1 ⊎ FilesRose request old 
 pub record IsReadFault (request : Request) (old new : Moment) : Type 0 where
   pub place : ℕ
   pub read : ReadsUpTo (reads_of request) place old.0 new.0
-  pub unread : IsUnreadAt (reads_of request) place old.0 new.0
+  pub reading : Reading
+  pub there : slice_get (reads_of request) place ≡ Some reading
+  pub rose : Rose (old.0.read_faults reading.name) (new.0.read_faults reading.name)
   pub unchanged : KeepsFiles old new
-  pub line : PutOrRose old.1 new.1 (reading_line unread.reading.name)
+  pub line : PutOrRose old.1 new.1 (codes "fault: reading " ++ reading.name ++ codes "\n")
   pub puts : PutsFault old.1 new.1
 
 -- a file could not be written: all were read, the writes before it are whole, nothing is written
 -- behind it, and the line of its fault was put
 pub record IsWriteFault (request : Request) (old new : Moment) : Type 0 where
   pub place : ℕ
-  pub unwritten : IsUnwrittenAt (writes_of request) place old.0 new.0
+  pub name : List ℕ
+  pub there : slice_get (writes_of request) place ≡ Some name
+  pub rose : Rose (old.0.write_faults name) (new.0.write_faults name)
   pub calls : MakesCalls old.0 new.0
       (read_calls (reads_of request) ++ write_calls (take (place + 1) (writes_of request)))
   pub part : OfFiles old new (λ before after. IsKnown (outcome_of (file_at before) request)
-      (λ status writing lines. IsPartWritten before after writing unwritten.name))
-  pub line : PutOrRose old.1 new.1 (writing_line unwritten.name)
+      (λ status writing lines. IsPartWritten before after writing name))
+  pub line : PutOrRose old.1 new.1 (codes "fault: writing " ++ name ++ codes "\n")
   pub puts : PutsFault old.1 new.1
 
 -- the lines of an answer could not be put: the calls are those of this answer

@@ -2,6 +2,8 @@
 pub mod Runs
 pub mod Stops
 pub mod UnderTable
+pub mod UnreadFiles
+pub mod FaultLines
 pub mod Lists
 pub mod PutCounts
 pub mod ReadCalls

@@ -41,11 +41,3 @@ abbrev pub refused_line : Input → Refusal → List ℕ
 refused_line input r = codes "refused: " ++ word_of input ++ codes " "
     ++ decimal (number_and_name r.kind).0 ++ codes " " ++ (number_and_name r.kind).1
     ++ (if r.line == 0 then [] else place_of input r) ++ codes "\n"
-
--- where the file of a name could not be read
-abbrev pub reading_line : List ℕ → List ℕ
-reading_line name = codes "fault: reading " ++ name ++ codes "\n"
-
--- where the file of a name could not be written
-abbrev pub writing_line : List ℕ → List ℕ
-writing_line name = codes "fault: writing " ++ name ++ codes "\n"

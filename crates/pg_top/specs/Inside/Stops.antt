@@ -10,7 +10,8 @@ use Rattle.pg_top.specs.Calls.{outcome_of, reads_of}
 use Rattle.pg_top.specs.Counted.{MakesCalls, MakesPuts, PutsFault, write_calls, ReadsUpTo, EndsAt}
 use Rattle.pg_top.specs.Moments.{Moment, Puts, PutsPart, PutRose, PutOrRose}
 use Rattle.pg_top.specs.Outcomes.{Outcome, Writing, refuses}
-use Rattle.pg_top.specs.PrintedLines.{refused_line, reading_line, writing_line}
+use Rattle.pg_top.specs.PrintedLines.{refused_line}
+use Rattle.pg_top.specs.Inside.FaultLines.{reading_line, writing_line}
 use Rattle.pg_top.specs.Readings.{Reading, first_end}
 use Rattle.pg_words.specs.Requests.{Request}
 use Rattle.pg_top.specs.Inside.Written.{written_names, WroteAll, StoppedAt}
