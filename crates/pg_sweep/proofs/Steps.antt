@@ -10,7 +10,8 @@ use Rattle.pg_dict.specs.Word.{Word}
 use Rattle.pg_dict.specs.Inside.SoundWords.{SignsAtMost}
 use Rattle.pg_dict.specs.Parts.{is_in_part, part_from}
 use Rattle.pg_sweep.specs.declared.rows.SweepRow.{SweepRow}
-use Rattle.pg_sweep.specs.Files.{row_data, rows_data}
+use Rattle.pg_sweep.specs.Files.{row_data}
+use Rattle.pg_sweep.specs.Inside.Rows.{rows_data}
 use Rattle.pg_sweep.specs.Sweeps.{costs_of, summed}
 use Rattle.pg_sweep.specs.Inside.Least.{winner_from}
 

@@ -1,5 +1,6 @@
 -- The file of a sweep.
-use Rattle.std.specs.Prelude.{ℕ, ◌+◌, List, [], ◌∷◌, ◌++◌, codes}
+use Rattle.std.specs.Prelude.{ℕ, List, [], ◌∷◌, ◌++◌, map, codes}
+use Rattle.std.specs.List.{enumerate_from}
 use Rattle.serde_json.specs.Data.{Data, number, unsigned, array, object, member, no_members}
 use Rattle.serde_json.specs.View.{items_of}
 use Rattle.serde_json.specs.Written.{compact_text}
@@ -13,15 +14,10 @@ row_data set row = object (member (codes "bad") (number (unsigned row.totals.bad
     member (codes "missed") (number (unsigned row.totals.missed)) (
     member (codes "set") (number (unsigned set)) no_members)))))
 
--- the objects of the rows, the first of which has this number
-abbrev pub rows_data : ℕ → List SweepRow → List Data
-rows_data set [] = []
-rows_data set (row ∷ rows) = row_data set row ∷ rows_data (set + 1) rows
-
--- the object of a sweep
+-- the object of a sweep: the rows have the numbers from 1 on
 abbrev pub sweep_data : ℕ → List SweepRow → ℕ → Data
 sweep_data folds rows winner = object (member (codes "folds") (number (unsigned folds)) (
-    member (codes "rows") (array (items_of (rows_data 1 rows))) (
+    member (codes "rows") (array (items_of (map (λ r. row_data r.0 r.1) (enumerate_from 1 rows)))) (
     member (codes "winner") (number (unsigned winner)) no_members)))
 
 -- the text of the file: the object in its compact form, and a line feed

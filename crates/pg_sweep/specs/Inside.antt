@@ -2,3 +2,4 @@
 pub mod Given
 pub mod Least
 pub mod Found
+pub mod Rows

@@ -1,7 +1,8 @@
 //! The file of a sweep.
 ghost use Rattle.std.specs.Prelude.{◌≡◌, map, IfOk};
 ghost use Rattle.serde_json.specs.View.{view};
-ghost use Rattle.pg_sweep.specs.Files.{row_data, rows_data, sweep_data, sweep_file};
+ghost use Rattle.pg_sweep.specs.Files.{row_data, sweep_data, sweep_file};
+ghost use Rattle.pg_sweep.specs.Inside.Rows.{rows_data};
 
 use crate::found::Sweep;
 use crate::rows::SweepRow;

@@ -4,7 +4,8 @@ use Rattle.std.proofs.lemmas.List.{map-append, take_more, length-take-le}
 use Rattle.serde_json.specs.Data.{Data}
 use Rattle.serde_json.specs.View.{view}
 use Rattle.pg_sweep.specs.declared.rows.SweepRow.{SweepRow}
-use Rattle.pg_sweep.specs.Files.{row_data, rows_data}
+use Rattle.pg_sweep.specs.Files.{row_data}
+use Rattle.pg_sweep.specs.Inside.Rows.{rows_data}
 use Rattle.pg_sweep.proofs.Steps.{data_more}
 use Rattle.pg_sweep.proofs.text.row_values.Goals as goal
 
