@@ -26,7 +26,8 @@ use Rattle.pg_cells.proofs.PlacementLaws.{cell_of_last}
 use Rattle.pg_cells.proofs.StringMaps.{order, same_string, same_from, equal_or_not, find_put_same, find_put_other}
 use Rattle.pg_table.specs.Inside.Packed.{IsGroup, IsReached, IsEntered, pairs}
 use Rattle.pg_table.specs.Inside.Sharing.{Lists, Shares, turned, with_ends}
-use Rattle.pg_table.specs.Texts.{layout, recorded}
+use Rattle.pg_table.specs.Texts.{recorded}
+use Rattle.pg_table.specs.Inside.Files.{layout}
 use Rattle.pg_table.proofs.Groups.{Entry, AreApart, apart_more, others_same, string_so_far, string_whole, strings_left, front_more, part_each}
 use Rattle.pg_table.proofs.RecordedStrings.{with_strings, recorded_is, recorded_ordered, recorded_known}
 use Rattle.pg_table.proofs.TableRecords.{head_is, records_are}

@@ -11,7 +11,8 @@ use Rattle.pg_table.specs.declared.limits.TheConstants.{TABLE_MAX}
 use Rattle.pg_table.specs.Numbers.{u16_at, u32_at, u16_bytes, u32_bytes}
 use Rattle.pg_table.specs.Forms.{file_mark, head_of, cell_at, record_at, records_of}
 use Rattle.pg_table.specs.Inside.Extents.{cell_start, record_start, read_record, file_len}
-use Rattle.pg_table.specs.Texts.{cell_bytes, record_bytes, file_of}
+use Rattle.pg_table.specs.Texts.{cell_bytes, record_bytes}
+use Rattle.pg_table.specs.Inside.Files.{file_of}
 use Rattle.pg_table.proofs.FormLaws.{IsSoundCell, IsSoundRecord, IsWellFormed}
 use Rattle.pg_table.proofs.Parts.{HasPart, part_first, part_rest, part_byte, part_of, u16_part, u32_part, length-parts, length-u16_bytes, length-u32_bytes}
 

@@ -4,7 +4,7 @@ use Rattle.std.proofs.lemmas.List.FromFn.{length-map-range_with_len, get_or-map-
 use Rattle.std.proofs.lemmas.Option.{slice_get-get_or}
 use Rattle.pg_outputs.proofs.ListLaws.{list_of-at, list_of-zero}
 use Rattle.pg_table.specs.Forms.{head_of, record_at, records_of}
-use Rattle.pg_table.specs.Lookups.{list_in}
+use Rattle.pg_table.specs.Inside.ListsOf.{list_in}
 use Rattle.pg_table.proofs.FormLaws.{IsWellFormed}
 
 pub length-records : (b : List ℕ) → length (records_of b) ≡ (head_of b).records

@@ -14,7 +14,9 @@ use Rattle.pg_outputs.specs.declared.records.Record.{Record}
 use Rattle.pg_table.specs.declared.cell.Cell.{Cell}
 use Rattle.pg_table.specs.Inside.Packed.{IsEntered}
 use Rattle.pg_table.specs.Inside.Rows.{HasHeads, IsRow, HasCell, Fills}
-use Rattle.pg_table.specs.Texts.{last_sign, cell_for, unused_cell, cell_of_table, head_in, table_cells}
+use Rattle.pg_table.specs.Texts.{cell_of_table, head_in}
+use Rattle.pg_table.specs.Inside.Files.{table_cells}
+use Rattle.pg_table.specs.Inside.Cells.{last_sign, cell_for, unused_cell}
 use Rattle.pg_table.proofs.Groups.{Entry}
 use Rattle.pg_table.proofs.TableCells.{cell_with, cell_cases, last_sign_is}
 

@@ -6,7 +6,7 @@ use Rattle.pg_dict.specs.Word.{Word}
 use Rattle.pg_select.specs.Inside.SumSteps.{with_marks}
 use Rattle.pg_select.specs.CountedPositions.{Minima}
 use Rattle.pg_select.proofs.MarkSteps.{marks_append}
-use Rattle.pg_table.specs.Lookups.{table_marks}
+use Rattle.pg_table.specs.Inside.Marks.{table_marks}
 
 -- a word that was added, and then the rest
 pub marks_word : (t n whole : Totals) (m : Minima) (b : List ℕ) (w : Word) (ws : List Word) → n ≡ with_marks t (table_marks m b w) → with_marks t (flat_map (table_marks m b) (w ∷ ws)) ≡ whole → with_marks n (flat_map (table_marks m b) ws) ≡ whole

@@ -1,19 +1,24 @@
 -- The cells of a table: each is that of its string, or unused.
 use Rattle.std.proofs.Common.{◌≡◌, ◌≢◌, ℕ, ◌+◌, ◌<◌, ◌≤◌, ◌⊎◌, inl, inr, Bool, true, false, cond, ◌||◌, nat_eq, List, [], ◌∷◌, ◌++◌, map, Option, None, Some, unwrap_or, refl, sym, ◌∙◌, ap, subst, arith}
-use Rattle.std.specs.List.{list_any, find}
+use Rattle.std.specs.Prelude.{T}
+use Rattle.std.specs.List.{All, list_any, find}
+use Rattle.std.specs.FinMap.Entries.{is_sorted}
 use Rattle.std.specs.Option.{option_map_or}
-use Rattle.std.proofs.lemmas.Bool.{cases_Bool, false≢true, or_cases, or_left, or_right, eqb-true, eq-eqb, cases_eq}
+use Rattle.std.proofs.lemmas.Bool.{cases_Bool, false≢true, or_left, or_right, eqb-true, eq-eqb, cases_eq}
 use Rattle.std.proofs.lemmas.List.{same_from_push}
+use Rattle.std.proofs.lemmas.List.Elements.{All-append, All-cons, All-head, All-nil, All-tail, All-weaker}
 use Rattle.std.proofs.lemmas.List.Folds.{list_any-append}
-use Rattle.pg_types.specs.Placement.{Family, Families, family_at, is_used, cell_of, base_of, top}
+use Rattle.pg_types.specs.Placement.{Family, Families, family_at, used_cells, is_used, cell_of, base_of, top}
 use Rattle.pg_cells.specs.Inside.ValuedFamilies.{ValuedFamilies}
 use Rattle.pg_cells.specs.Inside.AreValuedFamilies.{AreValuedFamilies}
-use Rattle.pg_cells.proofs.StringMaps.{same_string, same_from}
+use Rattle.pg_cells.proofs.StringMaps.{order, same_itself, equal_or_not, find_below, head_below, tail_sorted}
 use Rattle.pg_types.proofs.LeastBase.{used_le_top}
 use Rattle.pg_cells.proofs.PlacementLaws.{cell_used}
-use Rattle.pg_cells.proofs.StringCells.{cell_parts, base_parts}
+use Rattle.pg_cells.proofs.StringCells.{cell_parts, parts_cell, base_parts}
+use Rattle.pg_table.specs.declared.cell.Cell.{Cell}
 use Rattle.pg_table.specs.declared.head.Head.{Head}
-use Rattle.pg_table.specs.Texts.{strings_with_cells, has_cell, last_sign, cell_for, unused_cell, cell_of_table}
+use Rattle.pg_table.specs.Inside.Cells.{last_sign, cell_for, unused_cell}
+use Rattle.pg_table.specs.Texts.{cells_in_use, cell_of_table}
 use Rattle.pg_table.proofs.FormLaws.{IsSoundCell}
 
 -- the first element that passes a test does so, and where none is found none passes
@@ -27,46 +32,72 @@ find_cases test (x ∷ xs) = elim (cases_Bool (test x)) [
   ]
 ]
 
--- a sign of a family passes a test of its strings
-sign_string : (test : List ℕ → Bool) (p : List ℕ) (x : ℕ) (signs : List ℕ) → list_any (nat_eq x) signs ≡ true → test (p ++ x ∷ []) ≡ true → list_any test (map (λ s. p ++ s ∷ []) signs) ≡ true
-sign_string test p x [] has passes = absurd (false≢true has)
-sign_string test p x (s ∷ signs) has passes = elim (or_cases (nat_eq x s) (list_any (nat_eq x) signs) has) [
-  | inl here ↦ or_left (test (p ++ s ∷ [])) (list_any test (map (λ t. p ++ t ∷ []) signs)) (ap (λ y. test (p ++ y ∷ [])) (sym (eqb-true x s here)) ∙ passes)
-  | inr later ↦ or_right (test (p ++ s ∷ [])) (list_any test (map (λ t. p ++ t ∷ []) signs)) (sign_string test p x signs later passes)
+-- what holds of all holds of the one that is found
+find_has : {X : Type 0} (P : X → Type 0) (test : X → Bool) (xs : List X) (x : X) → All P xs → find test xs ≡ Some x → P x
+find_has P test [] x all is = cc
+find_has P test (y ∷ ys) x all is = elim (cases_Bool (test y)) [
+  | inl passes ↦
+      let same : Some y ≡ Some x = sym (ap (λ b. cond b (Some y) (find test ys)) passes) ∙ is in
+      let one : y ≡ x = cc in
+      subst P one (All-head P y ys all)
+  | inr fails ↦ find_has P test ys x (All-tail P y ys all) (sym (ap (λ b. cond b (Some y) (find test ys)) fails) ∙ is)
 ]
-
--- so do the strings of a family among those of all
-string_among : (test : List ℕ → Bool) (fs : Families) (p : List ℕ) (f : Family) (x : ℕ) → family_at fs p ≡ Some f → list_any (nat_eq x) f.signs ≡ true → test (p ++ x ∷ []) ≡ true
-    → list_any test (strings_with_cells fs) ≡ true
-string_among test [] p f x at has passes = cc
-string_among test (e ∷ es) p f x at has passes =
-    let first : List (List ℕ) = map (λ s. e.0 ++ s ∷ []) e.1.signs in
-    list_any-append test first (strings_with_cells es) ∙ elim (cases_Bool (same_string p e.0)) [
-      | inl same ↦
-          let prefix : p ≡ e.0 = same_from p e.0 same in
-          let found : Some e.1 ≡ Some f = ap (λ b. cond b (Some e.1) (family_at es p)) (sym same) ∙ at in
-          let family : f ≡ e.1 = cc in
-          or_left (list_any test first) (list_any test (strings_with_cells es))
-          (sign_string test e.0 x e.1.signs (ap (λ (g : Family). list_any (nat_eq x) g.signs) (sym family) ∙ has) (ap (λ q. test (q ++ x ∷ [])) (sym prefix) ∙ passes))
-      | inr other ↦
-          let later : family_at es p ≡ Some f = ap (λ b. cond b (Some e.1) (family_at es p)) (sym other) ∙ at in
-          or_right (list_any test first) (list_any test (strings_with_cells es)) (string_among test es p f x later has passes)
-    ]
-
-has_cell_told : (fs : Families) (c : ℕ) (q : List ℕ) → has_cell fs c q ≡ true → cell_of fs q ≡ Some c
-has_cell_told fs c q is = told (cell_of fs q) is
-  where
-    told : (o : Option ℕ) → option_map_or (nat_eq c) o false ≡ true → o ≡ Some c
-    told None e = absurd (false≢true e)
-    told (Some d) e = ap Some (sym (eqb-true c d e))
-
-has_cell_from : (fs : Families) (c : ℕ) (q : List ℕ) → cell_of fs q ≡ Some c → has_cell fs c q ≡ true
-has_cell_from fs c q is = ap (λ o. option_map_or (nat_eq c) o false) is ∙ eq-eqb c c refl
 
 pub last_sign_is : (p : List ℕ) (x : ℕ) → last_sign (p ++ x ∷ []) ≡ x
 last_sign_is [] x = refl
 last_sign_is (y ∷ []) x = refl
 last_sign_is (y ∷ z ∷ p) x = last_sign_is (z ∷ p) x
+
+-- each family of a sorted list is found by its prefix
+families_found : (fs : Families) → T (is_sorted order fs) → All (λ (e : List ℕ × Family). family_at fs e.0 ≡ Some e.1) fs
+families_found [] sorted = All-nil (λ (e : List ℕ × Family). family_at [] e.0 ≡ Some e.1)
+families_found (e ∷ es) sorted =
+    All-cons (λ (x : List ℕ × Family). family_at (e ∷ es) x.0 ≡ Some x.1) e es
+    (ap (λ b. cond b (Some e.1) (family_at es e.0)) (same_itself e.0))
+    (All-weaker (λ (x : List ℕ × Family). family_at es x.0 ≡ Some x.1) (λ (x : List ℕ × Family). family_at (e ∷ es) x.0 ≡ Some x.1) later es (families_found es (tail_sorted e es sorted)))
+  where
+    none : family_at es e.0 ≡ None
+    none = find_below e.0 es (head_below e es sorted)
+
+    later : (x : List ℕ × Family) → family_at es x.0 ≡ Some x.1 → family_at (e ∷ es) x.0 ≡ Some x.1
+    later x is = elim (equal_or_not x.0 e.0) [
+      | inl same ↦ let gone : None ≡ Some x.1 = sym none ∙ ap (family_at es) (sym same.0) ∙ is in cc
+      | inr other ↦ ap (λ b. cond b (Some e.1) (family_at es x.0)) other.1 ∙ is
+    ]
+
+-- a cell in use is that of its string, whose last sign it has
+abbrev Use : Type 0
+Use = ℕ × ℕ × List ℕ
+
+abbrev IsUse : Families → Use → Type 0
+IsUse fs c = (cell_of fs c.2 ≡ Some c.0) × (last_sign c.2 ≡ c.1)
+
+family_uses : (fs : Families) (p : List ℕ) (f : Family) → family_at fs p ≡ Some f → (signs : List ℕ) → ((s : ℕ) → list_any (nat_eq s) signs ≡ true → list_any (nat_eq s) f.signs ≡ true)
+    → All (IsUse fs) (map (λ s. (f.base + s, s, p ++ s ∷ [])) signs)
+family_uses fs p f at [] within = All-nil (IsUse fs)
+family_uses fs p f at (s ∷ signs) within =
+    let has : list_any (nat_eq s) f.signs ≡ true = within s (or_left (nat_eq s s) (list_any (nat_eq s) signs) (eq-eqb s s refl)) in
+    All-cons (IsUse fs) (f.base + s, s, p ++ s ∷ []) (map (λ s. (f.base + s, s, p ++ s ∷ [])) signs) (parts_cell fs p s f at has, last_sign_is p s)
+    (family_uses fs p f at signs (λ t is. within t (or_right (nat_eq t s) (list_any (nat_eq t) signs) is)))
+
+all_uses : (fs : Families) (es : Families) → All (λ (e : List ℕ × Family). family_at fs e.0 ≡ Some e.1) es → All (IsUse fs) (cells_in_use es)
+all_uses fs [] found = All-nil (IsUse fs)
+all_uses fs (e ∷ es) found =
+    All-append (IsUse fs) (map (λ s. (e.1.base + s, s, e.0 ++ s ∷ [])) e.1.signs) (cells_in_use es)
+    (family_uses fs e.0 e.1 (All-head (λ (e : List ℕ × Family). family_at fs e.0 ≡ Some e.1) e es found) e.1.signs (λ s is. is))
+    (all_uses fs es (All-tail (λ (e : List ℕ × Family). family_at fs e.0 ≡ Some e.1) e es found))
+
+-- the cells in use are those that are used
+signs_used : (at base : ℕ) (p signs : List ℕ) → list_any (λ (c : Use). nat_eq at c.0) (map (λ s. (base + s, s, p ++ s ∷ [])) signs) ≡ list_any (nat_eq at) (map (λ s. base + s) signs)
+signs_used at base p [] = refl
+signs_used at base p (s ∷ signs) = ap (λ b. nat_eq at (base + s) || b) (signs_used at base p signs)
+
+uses_used : (at : ℕ) (fs : Families) → list_any (λ (c : Use). nat_eq at c.0) (cells_in_use fs) ≡ is_used fs at
+uses_used at [] = refl
+uses_used at (e ∷ es) =
+    list_any-append (λ (c : Use). nat_eq at c.0) (map (λ s. (e.1.base + s, s, e.0 ++ s ∷ [])) e.1.signs) (cells_in_use es)
+    ∙ (λ i. signs_used at e.1.base e.0 e.1.signs i || uses_used at es i)
+    ∙ sym (list_any-append (nat_eq at) (map (λ s. e.1.base + s) e.1.signs) (used_cells es))
 
 -- the cell of a sign in a family with a base
 pub cell_at_base : (fs : Families) (p : List ℕ) (x base c : ℕ) → base_of fs p ≡ Some base → cell_of fs (p ++ x ∷ []) ≡ Some c → c ≡ base + x
@@ -105,29 +136,44 @@ module _ (h : ValuedFamilies ℕ) (held : AreValuedFamilies h) where
       omega (arith, sign.0)
 
   module _ (heads : List ℕ → ℕ) where
+    -- the cell in use with this number, if there is one
+    abbrev in_use : ℕ → Use → Bool
+    in_use at c = nat_eq at c.0
+
+    abbrev cell_in_use : Use → Cell
+    cell_in_use c = record { sign = c.1; child = unwrap_or (base_of h.families c.2) 0; head = heads c.2 }
+
+    found_use : (at : ℕ) (c : Use) → find (in_use at) (cells_in_use h.families) ≡ Some c → IsUse h.families c
+    found_use at c is = find_has (IsUse h.families) (in_use at) (cells_in_use h.families) c (all_uses h.families h.families (families_found h.families held.sorted)) is
+
+    use_there : (q : List ℕ) (c : ℕ) → cell_of h.families q ≡ Some c → list_any (in_use c) (cells_in_use h.families) ≡ true
+    use_there q c is =
+        let parts = cell_parts h.families q c is in
+        uses_used c h.families ∙ ap (is_used h.families) parts.is ∙ cell_used h.families parts.front parts.family parts.last parts.at parts.has
+
     -- the cell of a string
     pub cell_with : (q : List ℕ) (c : ℕ) → cell_of h.families q ≡ Some c → cell_of_table h.families heads c ≡ cell_for h.families heads q
-    cell_with q c is = elim (find_cases (has_cell h.families c) (strings_with_cells h.families)) [
+    cell_with q c is = elim (find_cases (in_use c) (cells_in_use h.families)) [
       | inl found ↦
-          let same : found.0 ≡ q = held.apart found.0 q c (has_cell_told h.families c found.0 found.2) is in
-          ap (λ o. option_map_or (cell_for h.families heads) o unused_cell) found.1 ∙ ap (cell_for h.families heads) same
-      | inr none ↦
-          let parts = cell_parts h.families q c is in
-          let some = string_among (has_cell h.families c) h.families parts.front parts.family parts.last parts.at parts.has (has_cell_from h.families c (parts.front ++ parts.last ∷ []) (ap (cell_of h.families) (sym parts.whole) ∙ is)) in
-          absurd (false≢true (sym none.1 ∙ some))
+          let it = found_use c found.0 found.1 in
+          let number : c ≡ found.0.0 = eqb-true c found.0.0 found.2 in
+          let same : found.0.2 ≡ q = held.apart found.0.2 q c (it.0 ∙ ap Some (sym number)) is in
+          let sign : found.0.1 ≡ last_sign q = sym it.1 ∙ ap last_sign same in
+          ap (λ o. option_map_or cell_in_use o unused_cell) found.1
+          ∙ (λ i. record { sign = sign i; child = unwrap_or (base_of h.families (same i)) 0; head = heads (same i) })
+      | inr none ↦ absurd (false≢true (sym none.1 ∙ use_there q c is))
     ]
 
     -- a cell is that of a string, or no string has it
     pub cell_cases : (c : ℕ) → ((q : List ℕ) × (cell_of h.families q ≡ Some c) × (cell_of_table h.families heads c ≡ cell_for h.families heads q)) ⊎ (((q : List ℕ) → cell_of h.families q ≢ Some c) × (cell_of_table h.families heads c ≡ unused_cell))
-    cell_cases c = elim (find_cases (has_cell h.families c) (strings_with_cells h.families)) [
+    cell_cases c = elim (find_cases (in_use c) (cells_in_use h.families)) [
       | inl found ↦
-          let is = has_cell_told h.families c found.0 found.2 in inl (found.0, is, cell_with found.0 c is)
+          let number : c ≡ found.0.0 = eqb-true c found.0.0 found.2 in
+          let is : cell_of h.families found.0.2 ≡ Some c = (found_use c found.0 found.1).0 ∙ ap Some (sym number) in
+          inl (found.0.2, is, cell_with found.0.2 c is)
       | inr none ↦ inr (
-        (λ q is.
-            let parts = cell_parts h.families q c is in
-            let some = string_among (has_cell h.families c) h.families parts.front parts.family parts.last parts.at parts.has (has_cell_from h.families c (parts.front ++ parts.last ∷ []) (ap (cell_of h.families) (sym parts.whole) ∙ is)) in
-            false≢true (sym none.1 ∙ some)),
-        ap (λ o. option_map_or (cell_for h.families heads) o unused_cell) none.0,
+        (λ q is. false≢true (sym none.1 ∙ use_there q c is)),
+        ap (λ o. option_map_or cell_in_use o unused_cell) none.0,
       )
     ]
 

@@ -10,8 +10,10 @@ use Rattle.pg_cells.proofs.StringCells.{cell_parts}
 use Rattle.pg_cells.proofs.Walking.{childless}
 use Rattle.pg_table.specs.declared.cell.Cell.{Cell}
 use Rattle.pg_table.specs.Forms.{head_of, cell_at}
-use Rattle.pg_table.specs.Lookups.{cell_has_sign, list_in, lookup, lookup_from}
-use Rattle.pg_table.specs.Texts.{last_sign, cell_for, unused_cell, cell_of_table}
+use Rattle.pg_table.specs.Lookups.{cell_has_sign, lookup, lookup_from}
+use Rattle.pg_table.specs.Inside.ListsOf.{list_in}
+use Rattle.pg_table.specs.Texts.{cell_of_table}
+use Rattle.pg_table.specs.Inside.Cells.{last_sign, cell_for, unused_cell}
 use Rattle.pg_table.proofs.FileRecords.{list_in-zero}
 use Rattle.pg_table.proofs.TableCells.{cell_with, cell_cases, cell_within, cell_at_base, last_sign_is}
 use Rattle.pg_table.proofs.Walks.{no_sign, no_child, list_here, list_below}

@@ -22,7 +22,8 @@ use Rattle.pg_table.specs.Inside.Greatest.{value_in_list}
 use Rattle.pg_table.proofs.Greatest.{entry_as}
 use Rattle.pg_table.specs.Inside.Packed.{IsPacked, IsEntered}
 use Rattle.pg_table.specs.Inside.Sharing.{turned}
-use Rattle.pg_table.specs.Texts.{recorded, head_in, record_of, cell_of_table, table_cells, table_records, file_of, table_text}
+use Rattle.pg_table.specs.Texts.{recorded, head_in, record_of, cell_of_table, table_text}
+use Rattle.pg_table.specs.Inside.Files.{table_cells, table_records, file_of}
 use Rattle.pg_table.proofs.FormLaws.{IsSoundCell, IsSoundRecord, form_from}
 use Rattle.pg_table.proofs.FileParts.{AreSmall, head_with, head_is, cell_is, file_sound, records_are_those, length-file_of}
 use Rattle.pg_table.proofs.Recorded.{head_within}

@@ -6,7 +6,8 @@ use Rattle.std.proofs.lemmas.Bool.{cases_Bool, cases_lt, le-leb, lt-leb, lt-ltb,
 use Rattle.std.proofs.lemmas.List.{drop-drop, drop_more}
 use Rattle.pg_types.specs.declared.limits.TheConstants.{PATTERN_SIGNS_MAX}
 use Rattle.pg_table.specs.Forms.{cell_at}
-use Rattle.pg_table.specs.Lookups.{cell_has_sign, list_in, lookup, lookup_from, table_entry, value_from, table_value}
+use Rattle.pg_table.specs.Lookups.{cell_has_sign, lookup, lookup_from, table_entry, value_from, table_value}
+use Rattle.pg_table.specs.Inside.ListsOf.{list_in}
 use Rattle.pg_table.specs.Inside.Greatest.{greatest, value_in_list}
 use Rattle.pg_table.proofs.Greatest.{entry_as, value_as}
 use Rattle.pg_table.specs.Inside.Raising.{by_value, by_record_list, by_strings, by_starts}

@@ -1,4 +1,8 @@
 -- What only contracts between layers and proofs need.
+pub mod Cells
+pub mod Files
+pub mod Marks
+pub mod ListsOf
 pub mod Laws
 pub mod Packed
 pub mod Raising

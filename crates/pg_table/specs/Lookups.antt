@@ -3,7 +3,6 @@
 use Rattle.std.specs.Prelude.{ℕ, ◌+◌, ◌-◌, Bool, ◌&&◌, nat_eq, nat_lt, nat_le, max, if◌then◌else◌, List, [], ◌∷◌, length, map, filter, fold, take, drop}
 use Rattle.std.specs.List.{flat_map, range_with_len}
 use Rattle.pg_types.specs.declared.limits.TheConstants.{PATTERN_SIGNS_MAX}
-use Rattle.pg_types.specs.declared.marks.Mark.{Mark}
 use Rattle.pg_types.specs.declared.marks.Totals.{Totals}
 use Rattle.pg_dict.specs.Word.{Word}
 use Rattle.pg_outputs.specs.Lists.{list_of}
@@ -15,16 +14,12 @@ use Rattle.pg_table.specs.Forms.{head_of, cell_at, records_of}
 abbrev pub cell_has_sign : List ℕ → ℕ → ℕ → Bool
 cell_has_sign b base s = nat_lt (base + s) (head_of b).cells && nat_eq (cell_at b (base + s)).sign s
 
--- the list whose head is h
-abbrev pub list_in : List ℕ → ℕ → List (ℕ × ℕ)
-list_in b h = list_of (records_of b) h
-
 -- the list of the string q below the family at the base, each value with its dot. It is empty where
 -- a cell is missing
 abbrev pub lookup_from : List ℕ → ℕ → List ℕ → List (ℕ × ℕ)
 lookup_from b base [] = []
-lookup_from b base (s ∷ []) = if cell_has_sign b base s then list_in b (cell_at b (base + s)).head
-    else []
+lookup_from b base (s ∷ []) = if cell_has_sign b base s
+    then list_of (records_of b) (cell_at b (base + s)).head else []
 lookup_from b base (s ∷ t ∷ q) = if cell_has_sign b base s && nat_lt 0 (cell_at b (base + s)).child
     then lookup_from b (cell_at b (base + s)).child (t ∷ q) else []
 
@@ -47,10 +42,6 @@ table_value b w p = fold max 0 (flat_map
     (λ i. map (value_from b w p i) (range_with_len 1 PATTERN_SIGNS_MAX))
     (range_with_len 0 (length w)))
 
--- the status of each position in reach of a word by the table, and its weight
-abbrev pub table_marks : Minima → List ℕ → Word → List (Mark × ℕ)
-table_marks m b w = marks_by m (table_value b w.signs) w
-
 -- the totals of all words by the table
 abbrev pub table_totals : Minima → List Word → List ℕ → Totals
-table_totals m words b = totals_of (flat_map (table_marks m b) words)
+table_totals m words b = totals_of (flat_map (λ w. marks_by m (table_value b w.signs) w) words)

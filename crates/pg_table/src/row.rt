@@ -9,7 +9,8 @@ ghost use Rattle.pg_patterns.specs.Inside.PatternMaps.{SignsUpTo};
 ghost use Rattle.pg_cells.specs.Inside.AreValuedFamilies.{AreValuedFamilies};
 ghost use Rattle.pg_table.specs.Inside.Packed.{IsEntered};
 ghost use Rattle.pg_table.specs.Inside.Rows.{HasHeads, IsRow, Fills};
-ghost use Rattle.pg_table.specs.Texts.{head_in, table_cells};
+ghost use Rattle.pg_table.specs.Texts.{head_in};
+ghost use Rattle.pg_table.specs.Inside.Files.{table_cells};
 
 use crate::cell::Cell;
 use crate::entering::Packed;

@@ -3,7 +3,8 @@ ghost use Rattle.std.specs.Prelude.{◌≡◌, ◌<◌, ◌≤◌, ◌+◌, ◌-
 ghost use Rattle.pg_dict.specs.Inside.SoundWords.{IsWord, SignsAtMost, letter_count};
 ghost use Rattle.pg_dict.specs.Inside.Lent.{lent_word};
 ghost use Rattle.pg_table.specs.Forms.{head_of};
-ghost use Rattle.pg_table.specs.Lookups.{table_marks, table_totals};
+ghost use Rattle.pg_table.specs.Lookups.{table_totals};
+ghost use Rattle.pg_table.specs.Inside.Marks.{table_marks};
 ghost use Rattle.pg_select.specs.CountedPositions.{minima_of};
 ghost use Rattle.pg_select.specs.Inside.SumSteps.{sum_of, with_marks, HasRoomFor, TookRoomFor};
 

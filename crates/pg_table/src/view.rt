@@ -2,7 +2,8 @@
 ghost use Rattle.std.specs.Prelude.{◌≡◌, ◌+◌, ◌-◌, ◌<◌, ◌≤◌, ◌&&◌, true, false, ◌⊎◌, ℕ, [], ◌∷◌, length, slice_index, slice_index_or, slice_range, All, IfSome, MatchOption};
 ghost use Rattle.std.specs.List.{list_all, range_with_len};
 ghost use Rattle.pg_types.specs.declared.limits.TheConstants.{SIGNS_MAX, WORD_LETTERS_MAX};
-ghost use Rattle.pg_table.specs.Lookups.{cell_has_sign, list_in, table_value};
+ghost use Rattle.pg_table.specs.Lookups.{cell_has_sign, table_value};
+ghost use Rattle.pg_table.specs.Inside.ListsOf.{list_in};
 ghost use Rattle.pg_table.specs.Forms.{head_of, has_head, cell_at, is_sound_cell, is_sound_record, is_well_formed};
 ghost use Rattle.pg_table.specs.Inside.Extents.{cell_start, record_start, read_record, file_len};
 

@@ -8,7 +8,8 @@ use Rattle.pg_types.specs.Tails.{outputs_of}
 use Rattle.pg_outputs.specs.declared.records.Record.{Record}
 use Rattle.pg_cells.specs.Inside.ValuedFamilies.{ValuedFamilies}
 use Rattle.pg_cells.specs.Inside.AreValuedFamilies.{AreValuedFamilies}
-use Rattle.pg_table.specs.Texts.{layout, head_in, table_records}
+use Rattle.pg_table.specs.Texts.{head_in}
+use Rattle.pg_table.specs.Inside.Files.{layout, table_records}
 
 -- the entries from `at` to `end` are those of the string q
 pub record IsGroup (P : List ((List ℕ × ℕ) × ℕ)) (q : List ℕ) (at end : ℕ) : Type 0 where

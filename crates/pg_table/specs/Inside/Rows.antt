@@ -6,7 +6,8 @@ use Rattle.std.specs.FinMap.{find}
 use Rattle.pg_types.specs.Placement.{cell_of, top}
 use Rattle.pg_cells.specs.Inside.ValuedFamilies.{ValuedFamilies}
 use Rattle.pg_table.specs.declared.cell.Cell.{Cell}
-use Rattle.pg_table.specs.Texts.{cell_of_table, unused_cell}
+use Rattle.pg_table.specs.Texts.{cell_of_table}
+use Rattle.pg_table.specs.Inside.Cells.{unused_cell}
 
 -- the values are the heads of the strings
 pub record HasHeads (h : ValuedFamilies ℕ) (heads : List ℕ → ℕ) : Type 0 where

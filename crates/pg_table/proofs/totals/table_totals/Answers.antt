@@ -2,7 +2,7 @@ use Rattle.std.proofs.Common.{◌+◌, List, drop, ap, sym, ◌∙◌, arith}
 use Rattle.std.specs.List.{flat_map}
 use Rattle.pg_dict.specs.Inside.Lent.{lent_word}
 use Rattle.pg_dict.specs.Word.{Word}
-use Rattle.pg_table.specs.Lookups.{table_marks}
+use Rattle.pg_table.specs.Inside.Marks.{table_marks}
 use Rattle.pg_select.specs.CountedPositions.{minima_of}
 use Rattle.pg_select.specs.Inside.SumSteps.{with_marks}
 use Rattle.pg_table.proofs.MarkSteps.{marks_word}

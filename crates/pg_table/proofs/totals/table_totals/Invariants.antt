@@ -1,7 +1,8 @@
 use Rattle.std.proofs.Common.{◌≡◌, drop}
 use Rattle.std.specs.List.{flat_map, sum_by}
 use Rattle.pg_dict.specs.Inside.SoundWords.{letter_count}
-use Rattle.pg_table.specs.Lookups.{table_marks, table_totals}
+use Rattle.pg_table.specs.Lookups.{table_totals}
+use Rattle.pg_table.specs.Inside.Marks.{table_marks}
 use Rattle.pg_select.specs.CountedPositions.{minima_of}
 use Rattle.pg_select.specs.Inside.SumSteps.{with_marks, HasRoomFor}
 use Rattle.pg_table.proofs.totals.table_totals.Given as goal

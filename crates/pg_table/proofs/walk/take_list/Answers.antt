@@ -1,5 +1,5 @@
 use Rattle.std.proofs.Common.{ℕ, List, refl, ap, ◌∙◌, arith}
-use Rattle.pg_table.specs.Lookups.{list_in}
+use Rattle.pg_table.specs.Inside.ListsOf.{list_in}
 use Rattle.pg_select.specs.Inside.Positions.{values_of}
 use Rattle.pg_table.specs.Inside.Raising.{by_record_list, by_value}
 use Rattle.pg_table.proofs.Levels.{level_step, level_end}

@@ -1,6 +1,6 @@
 use Rattle.std.proofs.Common.{◌≤◌}
 use Rattle.pg_table.specs.Forms.{head_of}
-use Rattle.pg_table.specs.Lookups.{list_in}
+use Rattle.pg_table.specs.Inside.ListsOf.{list_in}
 use Rattle.pg_select.specs.Inside.Positions.{values_of}
 use Rattle.pg_table.specs.Inside.Raising.{IsUncovered, by_record_list}
 use Rattle.pg_table.proofs.Levels.{Level}

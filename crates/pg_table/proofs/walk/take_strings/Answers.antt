@@ -2,7 +2,8 @@ use Rattle.std.proofs.Common.{◌≡◌, ◌≢◌, ℕ, ◌+◌, ◌-◌, ◌<�
 use Rattle.pg_types.specs.declared.limits.TheConstants.{PATTERN_SIGNS_MAX}
 use Rattle.pg_table.specs.declared.cell.Cell.{Cell}
 use Rattle.pg_table.specs.Forms.{cell_at}
-use Rattle.pg_table.specs.Lookups.{cell_has_sign, lookup, lookup_from, list_in}
+use Rattle.pg_table.specs.Lookups.{cell_has_sign, lookup, lookup_from}
+use Rattle.pg_table.specs.Inside.ListsOf.{list_in}
 use Rattle.pg_select.specs.Inside.Positions.{values_of, Raises}
 use Rattle.pg_table.specs.Inside.Raising.{by_record_list, by_strings}
 use Rattle.pg_table.proofs.FormLaws.{form_told}
