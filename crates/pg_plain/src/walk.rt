@@ -34,6 +34,9 @@ pub fn walk<F: PlaceEntry>(
         (greatest_at (entry_cover F.covers_at pass.now) (applies w.now) map.now.entries)
         out.old out.new }
 {
+    if map.is_empty() {
+        return;
+    }
     for i in 0..w.len() {
         raise_from(map, w, i, pass, out);
     }
