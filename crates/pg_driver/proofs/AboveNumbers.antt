@@ -11,7 +11,7 @@ use Rattle.pg_types.specs.Inside.Numbered.{Windows, HasNumber, AreNumbered}
 use Rattle.pg_dict.specs.Word.{Word}
 use Rattle.pg_select.specs.declared.choice.Choice.{Choice}
 use Rattle.pg_select.specs.declared.pass.Pass.{Pass}
-use Rattle.pg_select.specs.Choices.{choice}
+use Rattle.pg_select.specs.Inside.Choices.{choice}
 use Rattle.pg_select.specs.CountedPositions.{Minima, CountedPosition, good_of, bad_of, counted_at, counted_positions, counts_as}
 use Rattle.pg_select.specs.Inside.LawsAbove.{counts_above}
 use Rattle.pg_select.specs.Inside.LawsClosedDots.{is_good}
@@ -30,7 +30,7 @@ use Rattle.pg_driver.specs.Inside.Counting.{IsRead, counting}
 use Rattle.pg_driver.specs.Inside.OpenLevels.{open_as}
 use Rattle.pg_driver.specs.Inside.OpenPositions.{counted_in}
 use Rattle.pg_driver.specs.Inside.PassWindows.{AreFates, GetsNumber, HaveNumbers, IsNumbered, is_counted_at, uncovered_at}
-use Rattle.pg_driver.specs.Traces.{is_chosen}
+use Rattle.pg_driver.specs.Inside.Fates.{chooses}
 use Rattle.pg_driver.specs.Inside.WordLevels.{bad_kept, good_kept, kept_by, was_chosen, window_of, with_kept}
 use Rattle.pg_driver.proofs.NumberSteps.{fate_there, have_more, still_have}
 use Rattle.pg_driver.proofs.OpenLevels.{found_is}
@@ -136,30 +136,30 @@ numbered_as_counted m words pass P H counts ws entries ns are counted have = rec
 -- a listed position was chosen where its number says so
 pub chosen_by_number : (params : LevelParams) (counts : Counts) (ws : Windows) (fates : List Choice) → AreNumbered ws counts → AreFates params counts ws fates → length fates ≤ NOT_COUNTED
     → (pass : Pass) (words : List Word) (e : Place) (n : ℕ) (w : Word) → slice_get words e.word ≡ Some w → IsNumbered pass (is_counted_at pass counts) words ws e n
-    → option_map_or is_chosen (slice_get fates n) false ≡ (fits w.signs e.at pass.len pass.dot && was_chosen params counts (window w.signs e.at pass.len pass.dot))
+    → option_map_or chooses (slice_get fates n) false ≡ (fits w.signs e.at pass.len pass.dot && was_chosen params counts (window w.signs e.at pass.len pass.dot))
 chosen_by_number params counts ws fates are decided few pass words e n w at is = by (is_counted_at pass counts w e) refl
   where
     u : List ℕ
     u = window w.signs e.at pass.len pass.dot
 
-    by_choice : (o : Option (ℕ × ℕ)) → option_map_or is_chosen (option_map (λ (sums : ℕ × ℕ). choice params sums.0 sums.1) o) false ≡ option_map_or (λ (sums : ℕ × ℕ). is_chosen (choice params sums.0 sums.1)) o false
+    by_choice : (o : Option (ℕ × ℕ)) → option_map_or chooses (option_map (λ (sums : ℕ × ℕ). choice params sums.0 sums.1) o) false ≡ option_map_or (λ (sums : ℕ × ℕ). chooses (choice params sums.0 sums.1)) o false
     by_choice None = refl
     by_choice (Some sums) = refl
 
-    none : (o : Option (ℕ × ℕ)) (f : Bool) → (f && is_some o) ≡ false → false ≡ (f && option_map_or (λ (sums : ℕ × ℕ). is_chosen (choice params sums.0 sums.1)) o false)
+    none : (o : Option (ℕ × ℕ)) (f : Bool) → (f && is_some o) ≡ false → false ≡ (f && option_map_or (λ (sums : ℕ × ℕ). chooses (choice params sums.0 sums.1)) o false)
     none o false is = refl
     none None true is = refl
     none (Some sums) true is = absurd (let wrong : true ≡ false = is in cc)
 
-    by : (b : Bool) → is_counted_at pass counts w e ≡ b → option_map_or is_chosen (slice_get fates n) false ≡ (fits w.signs e.at pass.len pass.dot && was_chosen params counts (window w.signs e.at pass.len pass.dot))
+    by : (b : Bool) → is_counted_at pass counts w e ≡ b → option_map_or chooses (slice_get fates n) false ≡ (fits w.signs e.at pass.len pass.dot && was_chosen params counts (window w.signs e.at pass.len pass.dot))
     by true have =
         let parts = and_parts (fits w.signs e.at pass.len pass.dot) (is_counted counts (window w.signs e.at pass.len pass.dot)) have in
-        ap (λ (o : Option Choice). option_map_or is_chosen o false) (sym (fate_there params counts ws fates are decided (window w.signs e.at pass.len pass.dot) n (is.counted w at have)))
+        ap (λ (o : Option Choice). option_map_or chooses o false) (sym (fate_there params counts ws fates are decided (window w.signs e.at pass.len pass.dot) n (is.counted w at have)))
         ∙ by_choice (counted_sums counts (window w.signs e.at pass.len pass.dot))
         ∙ ap (λ (f : Bool). f && was_chosen params counts (window w.signs e.at pass.len pass.dot)) (sym parts.0)
     by false lack =
         let past : slice_get fates n ≡ None = slice_get_past fates n (let e = is.uncounted w at lack in omega arith) in
-        ap (λ (o : Option Choice). option_map_or is_chosen o false) past
+        ap (λ (o : Option Choice). option_map_or chooses o false) past
         ∙ none (counted_sums counts (window w.signs e.at pass.len pass.dot)) (fits w.signs e.at pass.len pass.dot) lack
 
 -- the weights with those of a position more

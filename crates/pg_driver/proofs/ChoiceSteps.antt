@@ -1,5 +1,5 @@
 -- A step of the choice among the candidates.
-use Rattle.std.proofs.Common.{◌≡◌, ℕ, ◌+◌, ◌≤◌, Bool, true, false, cond, not, List, [], ◌∷◌, ◌++◌, length, map, fold, Option, Some, None, refl, sym, ap, ◌∙◌, arith}
+use Rattle.std.proofs.Common.{◌≡◌, ℕ, ◌+◌, ◌≤◌, Bool, true, false, cond, ◌||◌, List, [], ◌∷◌, ◌++◌, length, map, fold, Option, Some, None, refl, sym, ap, ◌∙◌, arith}
 use Rattle.std.specs.Option.{option_map}
 use Rattle.std.specs.List.{sum_by}
 use Rattle.std.specs.FinMap.Entries.{put}
@@ -12,7 +12,6 @@ use Rattle.pg_patterns.specs.DottedSigns.{dotted_cmp}
 use Rattle.pg_patterns.specs.Values.{raise}
 use Rattle.pg_types.specs.Inside.Counts.{Counts}
 use Rattle.pg_select.specs.Inside.Meanings.{Meaning}
-use Rattle.pg_select.specs.declared.choice.Choice.{Choice}
 use Rattle.pg_select.specs.declared.choice.Choice.TheVariants.{Left}
 use Rattle.pg_select.specs.declared.pass.Pass.{Pass}
 use Rattle.pg_select.specs.CountedPositions.{Candidate}
@@ -21,7 +20,9 @@ use Rattle.pg_driver.specs.declared.choices.Choices.{Choices}
 use Rattle.pg_driver.specs.Inside.Counting.{weight_in}
 use Rattle.pg_driver.specs.Inside.Choosing.{candidate_of, with_candidates, HasChosen}
 use Rattle.pg_driver.specs.Inside.States.{State, state_of, state_after}
-use Rattle.pg_driver.specs.Traces.{choice_of, chosen_of, hopeless_of, entered_of, is_chosen, is_hopeless, is_left}
+use Rattle.pg_driver.specs.Traces.{is_chosen, is_hopeless, is_entered}
+use Rattle.pg_driver.specs.Inside.Fates.{choice_of, chosen_of, hopeless_of, entered_of, chooses, gives_up}
+use Rattle.pg_driver.proofs.FateLaws.{chosen_is, hopeless_is}
 
 abbrev Entry : Type 0
 Entry = List ℕ × (ℕ × ℕ)
@@ -53,11 +54,11 @@ families_append signs xs ys (Some fs) = ap (λ (gs : Families). Some gs) (fold-a
 pub state_append : (signs : ℕ) (params : LevelParams) (pass : Pass) (s : State) (xs ys : List Candidate) → state_with signs params pass s (xs ++ ys) ≡ state_with signs params pass (state_with signs params pass s xs) ys
 state_append signs params pass s xs ys =
     same_states _ _ _ _ _ _
-    (ap (fold (λ P (c : Candidate). raise P (c.window, pass.dot) pass.level) s.known.patterns) (filter-append (λ c. is_chosen (choice_of params c)) xs ys)
+    (ap (fold (λ P (c : Candidate). raise P (c.window, pass.dot) pass.level) s.known.patterns) (filter-append (λ c. is_chosen params c) xs ys)
     ∙ fold-append (λ P (c : Candidate). raise P (c.window, pass.dot) pass.level) s.known.patterns (chosen_of params xs) (chosen_of params ys))
-    (ap (fold (λ H (c : Candidate). put dotted_cmp (c.window, pass.dot) (tt {0}) H) s.known.hopeless) (filter-append (λ c. is_hopeless (choice_of params c)) xs ys)
+    (ap (fold (λ H (c : Candidate). put dotted_cmp (c.window, pass.dot) (tt {0}) H) s.known.hopeless) (filter-append (λ c. is_hopeless params c) xs ys)
     ∙ fold-append (λ H (c : Candidate). put dotted_cmp (c.window, pass.dot) (tt {0}) H) s.known.hopeless (hopeless_of params xs) (hopeless_of params ys))
-    (ap (λ (cs : List Candidate). option_map (λ fs. fold (λ fs c. enter signs fs c.window) fs cs) s.families) (filter-append (λ c. not (is_left (choice_of params c))) xs ys)
+    (ap (λ (cs : List Candidate). option_map (λ fs. fold (λ fs c. enter signs fs c.window) fs cs) s.families) (filter-append (λ c. is_entered params c) xs ys)
     ∙ families_append signs (entered_of params xs) (entered_of params ys) s.families)
 
 families_none : (o : Option Families) → option_map (λ fs. fs) o ≡ o
@@ -76,8 +77,8 @@ same_numbers a b c d e f g h j k p q r s t = λ i. record { candidates = p i; ch
 
 pub numbers_append : (params : LevelParams) (s : Choices) (xs ys : List Candidate) → with_candidates params s (xs ++ ys) ≡ with_candidates params (with_candidates params s xs) ys
 numbers_append params s xs ys =
-    let chosen = filter-append (λ (c : Candidate). is_chosen (choice_of params c)) xs ys in
-    let hopeless = filter-append (λ (c : Candidate). is_hopeless (choice_of params c)) xs ys in
+    let chosen = filter-append (λ (c : Candidate). is_chosen params c) xs ys in
+    let hopeless = filter-append (λ (c : Candidate). is_hopeless params c) xs ys in
     same_numbers _ _ _ _ _ _ _ _ _ _
     (omega (arith, length-append xs ys))
     (omega (arith, ap (λ (cs : List Candidate). length cs) chosen, length-append (chosen_of params xs) (chosen_of params ys)))
@@ -87,10 +88,10 @@ numbers_append params s xs ys =
 
 -- what one candidate adds at most
 pub good_adds : (params : LevelParams) (s : Choices) (c : Candidate) → (with_candidates params s (c ∷ [])).good ≤ s.good + c.good
-good_adds params s c = elim (is_chosen (choice_of params c)) as (λ (b : Bool). s.good + sum_by (λ (c : Candidate). c.good) (cond b (c ∷ []) []) ≤ s.good + c.good) [ true ↦ omega arith | false ↦ omega arith ]
+good_adds params s c = elim (is_chosen params c) as (λ (b : Bool). s.good + sum_by (λ (c : Candidate). c.good) (cond b (c ∷ []) []) ≤ s.good + c.good) [ true ↦ omega arith | false ↦ omega arith ]
 
 pub bad_adds : (params : LevelParams) (s : Choices) (c : Candidate) → (with_candidates params s (c ∷ [])).bad ≤ s.bad + c.bad
-bad_adds params s c = elim (is_chosen (choice_of params c)) as (λ (b : Bool). s.bad + sum_by (λ (c : Candidate). c.bad) (cond b (c ∷ []) []) ≤ s.bad + c.bad) [ true ↦ omega arith | false ↦ omega arith ]
+bad_adds params s c = elim (is_chosen params c) as (λ (b : Bool). s.bad + sum_by (λ (c : Candidate). c.bad) (cond b (c ∷ []) []) ≤ s.bad + c.bad) [ true ↦ omega arith | false ↦ omega arith ]
 
 -- what the choice keeps
 abbrev pub KeepsButState : Meaning → Meaning → Type 0
@@ -108,8 +109,23 @@ state_step m0 m n params c cs whole kept has left =
 -- the numbers with a candidate that is left
 pub left_alone : (params : LevelParams) (n : Choices) (c : Candidate) → choice_of params c ≡ Left → record n { candidates = n.candidates + 1 } ≡ with_candidates params n (c ∷ [])
 left_alone params n c is =
+    let chosen : is_chosen params c ≡ false = chosen_is params c ∙ ap chooses is in
+    let hopeless : is_hopeless params c ≡ false = hopeless_is params c ∙ ap gives_up is in
     same_numbers (n.candidates + 1) n.chosen n.hopeless n.good n.bad (n.candidates + 1) (n.chosen + 0) (n.hopeless + 0) (n.good + 0) (n.bad + 0) refl (omega arith) (omega arith) (omega arith) (omega arith)
-    ∙ ap by (sym is)
+    ∙ (λ i. by (sym chosen i) (sym hopeless i))
   where
-    by : Choice → Choices
-    by o = numbers (n.candidates + 1) (n.chosen + length (cond (is_chosen o) (c ∷ []) [])) (n.hopeless + length (cond (is_hopeless o) (c ∷ []) [])) (n.good + sum_by (λ (x : Candidate). x.good) (cond (is_chosen o) (c ∷ []) [])) (n.bad + sum_by (λ (x : Candidate). x.bad) (cond (is_chosen o) (c ∷ []) []))
+    by : Bool → Bool → Choices
+    by x h = numbers (n.candidates + 1) (n.chosen + length (cond x (c ∷ []) [])) (n.hopeless + length (cond h (c ∷ []) [])) (n.good + sum_by (λ (x : Candidate). x.good) (cond x (c ∷ []) [])) (n.bad + sum_by (λ (x : Candidate). x.bad) (cond x (c ∷ []) []))
+
+-- the state with a candidate that is left
+pub left_state : (signs : ℕ) (params : LevelParams) (pass : Pass) (s : State) (c : Candidate) → choice_of params c ≡ Left → s ≡ state_with signs params pass s (c ∷ [])
+left_state signs params pass s c is =
+    let chosen : is_chosen params c ≡ false = chosen_is params c ∙ ap chooses is in
+    let hopeless : is_hopeless params c ≡ false = hopeless_is params c ∙ ap gives_up is in
+    sym (state_none signs params pass s) ∙ (λ i. by (sym chosen i) (sym hopeless i))
+  where
+    by : Bool → Bool → State
+    by x h =
+        state (fold (λ P (c : Candidate). raise P (c.window, pass.dot) pass.level) s.known.patterns (cond x (c ∷ []) []))
+        (fold (λ H (c : Candidate). put dotted_cmp (c.window, pass.dot) (tt {0}) H) s.known.hopeless (cond h (c ∷ []) []))
+        (option_map (λ fs. fold (λ fs (c : Candidate). enter signs fs c.window) fs (cond (h || x) (c ∷ []) [])) s.families)

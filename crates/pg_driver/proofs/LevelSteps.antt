@@ -1,5 +1,5 @@
 -- A step of a level: a pass that is done, one that is skipped, and the next length.
-use Rattle.std.proofs.Common.{◌≡◌, ℕ, ◌+◌, ◌-◌, ◌<◌, ◌==◌, nat_le, zero, Bool, true, false, not, List, [], ◌∷◌, ◌++◌, map, Option, None, Some, refl, sym, ap, subst, ◌∙◌, append_assoc, append-nil, arith}
+use Rattle.std.proofs.Common.{◌≡◌, ℕ, ◌+◌, ◌-◌, ◌<◌, ◌==◌, nat_le, zero, Bool, true, false, List, [], ◌∷◌, ◌++◌, map, Option, None, Some, refl, sym, ap, subst, ◌∙◌, append_assoc, append-nil, arith}
 use Rattle.std.specs.List.{list_all, flat_map, range_with_len}
 use Rattle.std.specs.Option.{option_map}
 use Rattle.std.proofs.lemmas.Bool.{and_parts, and_from}
@@ -12,14 +12,15 @@ use Rattle.pg_select.specs.Inside.Meanings.{Meaning}
 use Rattle.pg_select.specs.declared.pass.Pass.{Pass}
 use Rattle.pg_select.specs.CountedPositions.{Candidate}
 use Rattle.pg_driver.specs.declared.records.PassRecord.{PassRecord}
-use Rattle.pg_driver.specs.Accounts.{PassLine, left_none}
+use Rattle.pg_driver.specs.Inside.AccountLines.{PassLine, left_none}
 use Rattle.pg_driver.specs.Dots.{dot_at}
-use Rattle.pg_driver.specs.Layouts.{after_passes}
+use Rattle.pg_driver.specs.Inside.CellsAccounts.{after_passes}
 use Rattle.pg_driver.specs.Inside.Levels.{AreClosed, ClosedDots, GoesOn, IsAt, LevelStart, Tells, all_made_by, is_set, layouts_in, point, unset}
 use Rattle.pg_driver.specs.Inside.Sound.{Recorded, with_pass}
 use Rattle.pg_driver.specs.Inside.States.{DidPass, State, made_by, state_after, state_at_end, state_of}
 use Rattle.pg_driver.specs.Inside.Told.{known_of}
-use Rattle.pg_driver.specs.Traces.{Known, PassTrace, Source, choice_of, is_left, known_after, known_at_end, pass_made, passes_made, passes_of_length}
+use Rattle.pg_driver.specs.Traces.{Known, PassTrace, Source, is_entered, known_after, pass_made, passes_made}
+use Rattle.pg_driver.specs.Inside.Passes.{known_at_end, passes_of_length}
 use Rattle.pg_driver.proofs.ChoiceSteps.{state_none, state_with}
 use Rattle.pg_driver.proofs.Numbers.{plus_zero}
 use Rattle.pg_select.proofs.Reaches.{range_step}
@@ -101,7 +102,7 @@ state_stays : (source : Source) (params : LevelParams) (pass : Pass) (m : Meanin
 state_stays source params pass m none = sym (state_none m.signs params pass (state_of m)) ∙ ap (λ (cs : List Candidate). state_with m.signs params pass (state_of m) cs) (sym none)
 
 none_left : (params : LevelParams) (q : PassTrace) → q.candidates ≡ [] → true ≡ left_none q
-none_left params q none = ap (λ (cs : List Candidate). list_all (λ c. not (is_left (choice_of q.params c))) cs) (sym none)
+none_left params q none = ap (λ (cs : List Candidate). list_all (is_entered q.params) cs) (sym none)
 
 module _ (source : Source) (params : LevelParams) (number len dot : ℕ) (m : Meaning) (r : Recorded) (old new : ClosedDots) where
   -- a pass that was skipped

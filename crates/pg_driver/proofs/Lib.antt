@@ -5,6 +5,7 @@ pub mod Rooms
 pub mod Walks
 pub mod WordSteps
 pub mod TallyLaw
+pub mod FateLaws
 pub mod ChoiceSteps
 pub mod PassSteps
 pub mod TraceSteps

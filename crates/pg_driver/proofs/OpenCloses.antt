@@ -11,7 +11,7 @@ use Rattle.pg_types.specs.Inside.Numbered.{Windows, HasNumber, AreNumbered}
 use Rattle.pg_dict.specs.Word.{Word}
 use Rattle.pg_select.specs.declared.choice.Choice.{Choice}
 use Rattle.pg_select.specs.declared.pass.Pass.{Pass}
-use Rattle.pg_select.specs.Choices.{choice}
+use Rattle.pg_select.specs.Inside.Choices.{choice}
 use Rattle.pg_select.specs.Windows.{window, fits}
 use Rattle.pg_driver.specs.declared.pass_windows.Place.{Place}
 use Rattle.pg_driver.specs.declared.pass_windows.TheConstants.{NOT_COUNTED}

@@ -9,7 +9,7 @@ use Rattle.pg_dict.specs.Word.{Word}
 use Rattle.pg_select.specs.declared.choice.Choice.{Choice}
 use Rattle.pg_select.specs.declared.choice.Choice.TheVariants.{Hopeless as MadeHopeless, Chosen, Left}
 use Rattle.pg_select.specs.declared.pass.Pass.{Pass}
-use Rattle.pg_select.specs.Choices.{choice}
+use Rattle.pg_select.specs.Inside.Choices.{choice}
 use Rattle.pg_select.specs.Inside.LawsSteps.{IsBelow, IsUpTo, candidate_at, is_candidate, patterns_after_pass, hopeless_after_pass}
 use Rattle.pg_select.specs.Inside.LawsClosedDots.{counted_with, is_good, longer, pass_at, Tells, closed_after as dots_after_pass}
 use Rattle.pg_select.specs.Inside.Meanings.{with_position}
@@ -20,7 +20,9 @@ use Rattle.pg_select.proofs.LawsBounds.{up_to_at_start, up_to_after, covers_up_t
 use Rattle.pg_select.proofs.LawsClosedDots.{tells_at_start, tells_longer, tells_after}
 use Rattle.pg_select.proofs.LawsTally.{is_counted_window}
 use Rattle.pg_driver.specs.declared.pass_windows.Place.{Place}
-use Rattle.pg_driver.specs.Traces.{choice_of, is_chosen, is_hopeless}
+use Rattle.pg_driver.specs.Traces.{is_chosen, is_hopeless}
+use Rattle.pg_driver.specs.Inside.Fates.{choice_of, chooses, gives_up}
+use Rattle.pg_driver.proofs.FateLaws.{chosen_is, hopeless_is}
 use Rattle.pg_driver.specs.Inside.OpenSigns.{IsThere, IsTold, closed_after, closed_by, closed_in, is_open_first, sign_count, start_of}
 use Rattle.pg_driver.proofs.OpenLevels.{found_is}
 use Rattle.pg_driver.proofs.OpenSigns.{place_at, sign_within}
@@ -95,13 +97,13 @@ there_longer level len m words P H old new on is = record {
 -- a level goes on after a pass
 module _ (level : LevelParams) (m : Minima) (words : List Word) (pass : Pass) (P : Patterns) (H : Hopeless) (counts : Counts) (low : pass.dot ≤ LENGTH_MAX) (counted : counts ≡ fold with_position [] (counted_positions m words pass P H)) where
   abbrev chosen : Candidate → Bool
-  chosen c = is_chosen (choice_of level c)
+  chosen c = is_chosen level c
 
   abbrev made_hopeless : Candidate → Bool
-  made_hopeless c = is_hopeless (choice_of level c)
+  made_hopeless c = is_hopeless level c
 
   -- dot by dot, where the window was counted
-  by_fate : (closed : ℕ → Bool) (dot d : ℕ) (c : Choice) → (is_chosen c || (closed d || (nat_eq d dot && is_hopeless c))) ≡ closed_by closed dot (Some c) d
+  by_fate : (closed : ℕ → Bool) (dot d : ℕ) (c : Choice) → (chooses c || (closed d || (nat_eq d dot && gives_up c))) ≡ closed_by closed dot (Some c) d
   by_fate closed dot d Left = none (closed d) (nat_eq d dot)
     where
       none : (a b : Bool) → (a || (b && false)) ≡ a
@@ -138,7 +140,7 @@ module _ (level : LevelParams) (m : Minima) (words : List Word) (pass : Pass) (P
 
   module _ (w : Word) (p : ℕ) (closed : ℕ → Bool) where
     -- where the window fits and the dot was open
-    fit_is : (d : ℕ) → ((is_candidate (λ (c : Candidate). is_chosen (choice_of level c)) (counted_positions m words pass P H) (window w.signs p pass.len pass.dot)) || (closed d || (nat_eq d pass.dot && (is_candidate (λ (c : Candidate). is_hopeless (choice_of level c)) (counted_positions m words pass P H) (window w.signs p pass.len pass.dot)))))
+    fit_is : (d : ℕ) → ((is_candidate (λ (c : Candidate). is_chosen level c) (counted_positions m words pass P H) (window w.signs p pass.len pass.dot)) || (closed d || (nat_eq d pass.dot && (is_candidate (λ (c : Candidate). is_hopeless level c) (counted_positions m words pass P H) (window w.signs p pass.len pass.dot)))))
         ≡ option_map_or (λ (sums : ℕ × ℕ). closed_by closed pass.dot (Some (choice level sums.0 sums.1)) d) (counted_sums counts (window w.signs p pass.len pass.dot)) (closed d)
     fit_is d =
         by (is_counted_window (counted_positions m words pass P H) (window w.signs p pass.len pass.dot))
@@ -150,27 +152,29 @@ module _ (level : LevelParams) (m : Minima) (words : List Word) (pass : Pass) (P
         none false true = refl
         none false false = refl
 
-        by : (s : Bool) → ((s && is_chosen (choice_of level (candidate_at (counted_positions m words pass P H) (window w.signs p pass.len pass.dot)))) || (closed d || (nat_eq d pass.dot && (s && is_hopeless (choice_of level (candidate_at (counted_positions m words pass P H) (window w.signs p pass.len pass.dot)))))))
+        by : (s : Bool) → ((s && is_chosen level (candidate_at (counted_positions m words pass P H) (window w.signs p pass.len pass.dot))) || (closed d || (nat_eq d pass.dot && (s && is_hopeless level (candidate_at (counted_positions m words pass P H) (window w.signs p pass.len pass.dot))))))
             ≡ option_map_or (λ (sums : ℕ × ℕ). closed_by closed pass.dot (Some (choice level sums.0 sums.1)) d) (cond s (Some (good_of (counted_positions m words pass P H) (window w.signs p pass.len pass.dot), bad_of (counted_positions m words pass P H) (window w.signs p pass.len pass.dot))) None) (closed d)
-        by true = by_fate closed pass.dot d (choice_of level (candidate_at (counted_positions m words pass P H) (window w.signs p pass.len pass.dot)))
+        by true =
+            (λ i. chosen_is level (candidate_at (counted_positions m words pass P H) (window w.signs p pass.len pass.dot)) i || (closed d || (nat_eq d pass.dot && hopeless_is level (candidate_at (counted_positions m words pass P H) (window w.signs p pass.len pass.dot)) i)))
+            ∙ by_fate closed pass.dot d (choice_of level (candidate_at (counted_positions m words pass P H) (window w.signs p pass.len pass.dot)))
         by false = none (closed d) (nat_eq d pass.dot)
 
     -- a position in reach
     told_in : IsUpTo pass.level P → Tells pass.level pass.len P H w p closed
-        → Tells pass.level pass.len (patterns_after_pass m words pass P H (λ c. is_chosen (choice_of level c))) (hopeless_after_pass m words pass P H (λ c. is_hopeless (choice_of level c))) w p (closed_in level pass counts w p closed)
+        → Tells pass.level pass.len (patterns_after_pass m words pass P H (λ c. is_chosen level c)) (hopeless_after_pass m words pass P H (λ c. is_hopeless level c)) w p (closed_in level pass counts w p closed)
     told_in upto tells = elim (cases_Bool (closed pass.dot)) [
       | inl shut ↦
-          tells_same pass.level pass.len (patterns_after_pass m words pass P H (λ c. is_chosen (choice_of level c))) (hopeless_after_pass m words pass P H (λ c. is_hopeless (choice_of level c))) w p _ (closed_in level pass counts w p closed)
+          tells_same pass.level pass.len (patterns_after_pass m words pass P H (λ c. is_chosen level c)) (hopeless_after_pass m words pass P H (λ c. is_hopeless level c)) w p _ (closed_in level pass counts w p closed)
           (λ d within. was_shut d shut) after
       | inr free ↦ elim (cases_Bool (fits w.signs p pass.len pass.dot)) [
         | inl fit ↦
-            tells_same pass.level pass.len (patterns_after_pass m words pass P H (λ c. is_chosen (choice_of level c))) (hopeless_after_pass m words pass P H (λ c. is_hopeless (choice_of level c))) w p _ (closed_in level pass counts w p closed)
+            tells_same pass.level pass.len (patterns_after_pass m words pass P H (λ c. is_chosen level c)) (hopeless_after_pass m words pass P H (λ c. is_hopeless level c)) w p _ (closed_in level pass counts w p closed)
             (λ d within. was_open d free fit) after
         | inr other ↦
-            tells_same pass.level pass.len (patterns_after_pass m words pass P H (λ c. is_chosen (choice_of level c))) (hopeless_after_pass m words pass P H (λ c. is_hopeless (choice_of level c))) w p (λ d. closed d || nat_eq d pass.dot) (closed_in level pass counts w p closed)
+            tells_same pass.level pass.len (patterns_after_pass m words pass P H (λ c. is_chosen level c)) (hopeless_after_pass m words pass P H (λ c. is_hopeless level c)) w p (λ d. closed d || nat_eq d pass.dot) (closed_in level pass counts w p closed)
             (λ d within. sym (ap (λ b. cond b (closed d) (cond (fits w.signs p pass.len pass.dot) (fitting d) (closed d || nat_eq d pass.dot))) free ∙ ap (λ b. cond b (fitting d) (closed d || nat_eq d pass.dot)) other))
-            (tells_shut (patterns_after_pass m words pass P H (λ c. is_chosen (choice_of level c))) (hopeless_after_pass m words pass P H (λ c. is_hopeless (choice_of level c))) w p closed (unfit other)
-            (tells_same pass.level pass.len (patterns_after_pass m words pass P H (λ c. is_chosen (choice_of level c))) (hopeless_after_pass m words pass P H (λ c. is_hopeless (choice_of level c))) w p _ closed (λ d within. was_other d other) after))
+            (tells_shut (patterns_after_pass m words pass P H (λ c. is_chosen level c)) (hopeless_after_pass m words pass P H (λ c. is_hopeless level c)) w p closed (unfit other)
+            (tells_same pass.level pass.len (patterns_after_pass m words pass P H (λ c. is_chosen level c)) (hopeless_after_pass m words pass P H (λ c. is_hopeless level c)) w p _ closed (λ d within. was_other d other) after))
       ]
     ]
       where
@@ -178,44 +182,44 @@ module _ (level : LevelParams) (m : Minima) (words : List Word) (pass : Pass) (P
         fitting d = option_map_or (λ (sums : ℕ × ℕ). closed_by closed pass.dot (Some (choice level sums.0 sums.1)) d) (counted_sums counts (window w.signs p pass.len pass.dot)) (closed d)
 
         raised : Bool
-        raised = is_candidate (λ (c : Candidate). is_chosen (choice_of level c)) (counted_positions m words pass P H) (window w.signs p pass.len pass.dot)
+        raised = is_candidate (λ (c : Candidate). is_chosen level c) (counted_positions m words pass P H) (window w.signs p pass.len pass.dot)
 
         given_up : Bool
-        given_up = is_candidate (λ (c : Candidate). is_hopeless (choice_of level c)) (counted_positions m words pass P H) (window w.signs p pass.len pass.dot)
+        given_up = is_candidate (λ (c : Candidate). is_hopeless level c) (counted_positions m words pass P H) (window w.signs p pass.len pass.dot)
 
-        after : Tells pass.level pass.len (patterns_after_pass m words pass P H (λ c. is_chosen (choice_of level c))) (hopeless_after_pass m words pass P H (λ c. is_hopeless (choice_of level c))) w p
-            (dots_after_pass closed pass.dot (fits w.signs p pass.len pass.dot) (is_candidate (λ (c : Candidate). is_chosen (choice_of level c)) (counted_positions m words pass P H) (window w.signs p pass.len pass.dot)) (is_candidate (λ (c : Candidate). is_hopeless (choice_of level c)) (counted_positions m words pass P H) (window w.signs p pass.len pass.dot)))
-        after = tells_after m words pass P H (λ c. is_chosen (choice_of level c)) (λ c. is_hopeless (choice_of level c)) w p closed upto low tells
+        after : Tells pass.level pass.len (patterns_after_pass m words pass P H (λ c. is_chosen level c)) (hopeless_after_pass m words pass P H (λ c. is_hopeless level c)) w p
+            (dots_after_pass closed pass.dot (fits w.signs p pass.len pass.dot) (is_candidate (λ (c : Candidate). is_chosen level c) (counted_positions m words pass P H) (window w.signs p pass.len pass.dot)) (is_candidate (λ (c : Candidate). is_hopeless level c) (counted_positions m words pass P H) (window w.signs p pass.len pass.dot)))
+        after = tells_after m words pass P H (λ c. is_chosen level c) (λ c. is_hopeless level c) w p closed upto low tells
 
         no_test : (f : Bool) (x y : Bool) → cond (f && false) x y ≡ y
         no_test true x y = refl
         no_test false x y = refl
 
         was_shut : (d : ℕ) → closed pass.dot ≡ true
-            → dots_after_pass closed pass.dot (fits w.signs p pass.len pass.dot) (is_candidate (λ (c : Candidate). is_chosen (choice_of level c)) (counted_positions m words pass P H) (window w.signs p pass.len pass.dot)) (is_candidate (λ (c : Candidate). is_hopeless (choice_of level c)) (counted_positions m words pass P H) (window w.signs p pass.len pass.dot)) d ≡ closed_in level pass counts w p closed d
+            → dots_after_pass closed pass.dot (fits w.signs p pass.len pass.dot) (is_candidate (λ (c : Candidate). is_chosen level c) (counted_positions m words pass P H) (window w.signs p pass.len pass.dot)) (is_candidate (λ (c : Candidate). is_hopeless level c) (counted_positions m words pass P H) (window w.signs p pass.len pass.dot)) d ≡ closed_in level pass counts w p closed d
         was_shut d shut =
-            ap (λ b. cond (fits w.signs p pass.len pass.dot && not b) (is_candidate (λ (c : Candidate). is_chosen (choice_of level c)) (counted_positions m words pass P H) (window w.signs p pass.len pass.dot) || (closed d || (nat_eq d pass.dot && is_candidate (λ (c : Candidate). is_hopeless (choice_of level c)) (counted_positions m words pass P H) (window w.signs p pass.len pass.dot)))) (closed d)) shut
-            ∙ no_test (fits w.signs p pass.len pass.dot) (is_candidate (λ (c : Candidate). is_chosen (choice_of level c)) (counted_positions m words pass P H) (window w.signs p pass.len pass.dot) || (closed d || (nat_eq d pass.dot && is_candidate (λ (c : Candidate). is_hopeless (choice_of level c)) (counted_positions m words pass P H) (window w.signs p pass.len pass.dot)))) (closed d)
+            ap (λ b. cond (fits w.signs p pass.len pass.dot && not b) (is_candidate (λ (c : Candidate). is_chosen level c) (counted_positions m words pass P H) (window w.signs p pass.len pass.dot) || (closed d || (nat_eq d pass.dot && is_candidate (λ (c : Candidate). is_hopeless level c) (counted_positions m words pass P H) (window w.signs p pass.len pass.dot)))) (closed d)) shut
+            ∙ no_test (fits w.signs p pass.len pass.dot) (is_candidate (λ (c : Candidate). is_chosen level c) (counted_positions m words pass P H) (window w.signs p pass.len pass.dot) || (closed d || (nat_eq d pass.dot && is_candidate (λ (c : Candidate). is_hopeless level c) (counted_positions m words pass P H) (window w.signs p pass.len pass.dot)))) (closed d)
             ∙ sym (ap (λ b. cond b (closed d) (cond (fits w.signs p pass.len pass.dot) (option_map_or (λ (sums : ℕ × ℕ). closed_by closed pass.dot (Some (choice level sums.0 sums.1)) d) (counted_sums counts (window w.signs p pass.len pass.dot)) (closed d)) (closed d || nat_eq d pass.dot))) shut)
 
         was_open : (d : ℕ) → closed pass.dot ≡ false → fits w.signs p pass.len pass.dot ≡ true
-            → dots_after_pass closed pass.dot (fits w.signs p pass.len pass.dot) (is_candidate (λ (c : Candidate). is_chosen (choice_of level c)) (counted_positions m words pass P H) (window w.signs p pass.len pass.dot)) (is_candidate (λ (c : Candidate). is_hopeless (choice_of level c)) (counted_positions m words pass P H) (window w.signs p pass.len pass.dot)) d ≡ closed_in level pass counts w p closed d
+            → dots_after_pass closed pass.dot (fits w.signs p pass.len pass.dot) (is_candidate (λ (c : Candidate). is_chosen level c) (counted_positions m words pass P H) (window w.signs p pass.len pass.dot)) (is_candidate (λ (c : Candidate). is_hopeless level c) (counted_positions m words pass P H) (window w.signs p pass.len pass.dot)) d ≡ closed_in level pass counts w p closed d
         was_open d free fit =
-            (λ i. cond (fit i && not (free i)) (is_candidate (λ (c : Candidate). is_chosen (choice_of level c)) (counted_positions m words pass P H) (window w.signs p pass.len pass.dot) || (closed d || (nat_eq d pass.dot && is_candidate (λ (c : Candidate). is_hopeless (choice_of level c)) (counted_positions m words pass P H) (window w.signs p pass.len pass.dot)))) (closed d))
+            (λ i. cond (fit i && not (free i)) (is_candidate (λ (c : Candidate). is_chosen level c) (counted_positions m words pass P H) (window w.signs p pass.len pass.dot) || (closed d || (nat_eq d pass.dot && is_candidate (λ (c : Candidate). is_hopeless level c) (counted_positions m words pass P H) (window w.signs p pass.len pass.dot)))) (closed d))
             ∙ fit_is d
             ∙ sym (λ i. cond (free i) (closed d) (cond (fit i) (option_map_or (λ (sums : ℕ × ℕ). closed_by closed pass.dot (Some (choice level sums.0 sums.1)) d) (counted_sums counts (window w.signs p pass.len pass.dot)) (closed d)) (closed d || nat_eq d pass.dot)))
 
         was_other : (d : ℕ) → fits w.signs p pass.len pass.dot ≡ false
-            → dots_after_pass closed pass.dot (fits w.signs p pass.len pass.dot) (is_candidate (λ (c : Candidate). is_chosen (choice_of level c)) (counted_positions m words pass P H) (window w.signs p pass.len pass.dot)) (is_candidate (λ (c : Candidate). is_hopeless (choice_of level c)) (counted_positions m words pass P H) (window w.signs p pass.len pass.dot)) d ≡ closed d
+            → dots_after_pass closed pass.dot (fits w.signs p pass.len pass.dot) (is_candidate (λ (c : Candidate). is_chosen level c) (counted_positions m words pass P H) (window w.signs p pass.len pass.dot)) (is_candidate (λ (c : Candidate). is_hopeless level c) (counted_positions m words pass P H) (window w.signs p pass.len pass.dot)) d ≡ closed d
         was_other d other =
-            ap (λ b. cond (b && not (closed pass.dot)) (is_candidate (λ (c : Candidate). is_chosen (choice_of level c)) (counted_positions m words pass P H) (window w.signs p pass.len pass.dot) || (closed d || (nat_eq d pass.dot && is_candidate (λ (c : Candidate). is_hopeless (choice_of level c)) (counted_positions m words pass P H) (window w.signs p pass.len pass.dot)))) (closed d)) other
+            ap (λ b. cond (b && not (closed pass.dot)) (is_candidate (λ (c : Candidate). is_chosen level c) (counted_positions m words pass P H) (window w.signs p pass.len pass.dot) || (closed d || (nat_eq d pass.dot && is_candidate (λ (c : Candidate). is_hopeless level c) (counted_positions m words pass P H) (window w.signs p pass.len pass.dot)))) (closed d)) other
 
-        unfit : fits w.signs p pass.len pass.dot ≡ false → counted_at (pass_at pass.level pass.len pass.dot) (patterns_after_pass m words pass P H (λ c. is_chosen (choice_of level c))) (hopeless_after_pass m words pass P H (λ c. is_hopeless (choice_of level c))) w p ≡ None
-        unfit other = ap (λ b. cond (b && not (covered pass.level (patterns_after_pass m words pass P H (λ c. is_chosen (choice_of level c))) (hopeless_after_pass m words pass P H (λ c. is_hopeless (choice_of level c))) (window w.signs p pass.len pass.dot) pass.dot)) (counts_as pass.level (status_at (patterns_after_pass m words pass P H (λ c. is_chosen (choice_of level c))) w p)) None) other
+        unfit : fits w.signs p pass.len pass.dot ≡ false → counted_at (pass_at pass.level pass.len pass.dot) (patterns_after_pass m words pass P H (λ c. is_chosen level c)) (hopeless_after_pass m words pass P H (λ c. is_hopeless level c)) w p ≡ None
+        unfit other = ap (λ b. cond (b && not (covered pass.level (patterns_after_pass m words pass P H (λ c. is_chosen level c)) (hopeless_after_pass m words pass P H (λ c. is_hopeless level c)) (window w.signs p pass.len pass.dot) pass.dot)) (counts_as pass.level (status_at (patterns_after_pass m words pass P H (λ c. is_chosen level c)) w p)) None) other
 
   -- each position
   pub there_after : (old new : ℕ → ℕ → Bool) → ((d s : ℕ) → d ≤ LENGTH_MAX → s < sign_count words → new d s ≡ closed_after level pass counts words old d s)
-      → IsThere pass.level pass.len m words P H old → IsThere pass.level pass.len m words (patterns_after_pass m words pass P H (λ c. is_chosen (choice_of level c))) (hopeless_after_pass m words pass P H (λ c. is_hopeless (choice_of level c))) new
+      → IsThere pass.level pass.len m words P H old → IsThere pass.level pass.len m words (patterns_after_pass m words pass P H (λ c. is_chosen level c)) (hopeless_after_pass m words pass P H (λ c. is_hopeless level c)) new
   there_after old new on is = record {
     short = covers_up_to_after m words pass P H chosen made_hopeless is.short;
     upto = up_to_after m words pass P H chosen pass.level (omega arith) is.upto;
@@ -229,9 +233,9 @@ module _ (level : LevelParams) (m : Minima) (words : List Word) (pass : Pass) (P
           ∙ ap (λ (o : Option Word). option_map_or (λ (u : Word). closed_in level pass counts u p (λ c. old c (start_of words n + p)) d) o (old d (start_of words n + p))) (ap (slice_get words) number ∙ at)
 
       each : (n p : ℕ) (w : Word) → slice_get words n ≡ Some w → p < length w.signs → IsTold pass.level pass.len m P H w p (λ d. old d (start_of words n + p))
-          → IsTold pass.level pass.len m (patterns_after_pass m words pass P H (λ c. is_chosen (choice_of level c))) (hopeless_after_pass m words pass P H (λ c. is_hopeless (choice_of level c))) w p (λ d. new d (start_of words n + p))
+          → IsTold pass.level pass.len m (patterns_after_pass m words pass P H (λ c. is_chosen level c)) (hopeless_after_pass m words pass P H (λ c. is_hopeless level c)) w p (λ d. new d (start_of words n + p))
       each n p w at lies before =
-          told_same pass.level pass.len m (patterns_after_pass m words pass P H (λ c. is_chosen (choice_of level c))) (hopeless_after_pass m words pass P H (λ c. is_hopeless (choice_of level c))) w p (closed_in level pass counts w p (λ c. old c (start_of words n + p))) (λ d. new d (start_of words n + p))
+          told_same pass.level pass.len m (patterns_after_pass m words pass P H (λ c. is_chosen level c)) (hopeless_after_pass m words pass P H (λ c. is_hopeless level c)) w p (closed_in level pass counts w p (λ c. old c (start_of words n + p))) (λ d. new d (start_of words n + p))
           (λ d within. sym (on d (start_of words n + p) within (sign_within words n p w at lies) ∙ here n p w at lies d))
           (record {
             inside = λ reach. told_in w p (λ c. old c (start_of words n + p)) is.upto (before.inside reach);

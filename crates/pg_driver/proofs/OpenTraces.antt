@@ -13,14 +13,15 @@ use Rattle.pg_select.proofs.LawsBounds.{next_is_below, up_to_largest, up_to_more
 use Rattle.pg_select.proofs.LawsTotals.{totals_after}
 use Rattle.pg_driver.specs.Accounts.{totals_by}
 use Rattle.pg_driver.specs.Dots.{order}
-use Rattle.pg_driver.specs.Traces.{Source, Known, choice_of, is_chosen, chosen_in, known_after, known_at_end, pass_made, passes_made, at_start, level_made, passes_of, patterns_after}
+use Rattle.pg_driver.specs.Traces.{Source, Known, is_chosen, chosen_in, known_after, pass_made, passes_made, at_start, level_made, passes_of, patterns_after}
+use Rattle.pg_driver.specs.Inside.Passes.{known_at_end}
 use Rattle.pg_driver.specs.Inside.LevelCounting.{Carries}
 
 module _ (source : Source) (params : LevelParams) (known : Known) (pass : Pass) where
   -- the totals after it
   pub totals_on : IsUpTo pass.level known.patterns
       → Carries (is_odd pass.level) (totals_by source known.patterns) (totals_by source (known_after (pass_made source params known pass)).patterns) (sum_by (λ c. c.good) (chosen_in (pass_made source params known pass))) (sum_by (λ c. c.bad) (chosen_in (pass_made source params known pass)))
-  totals_on upto = totals_after source.minima source.words pass known.patterns known.hopeless (λ c. is_chosen (choice_of params c)) upto
+  totals_on upto = totals_after source.minima source.words pass known.patterns known.hopeless (λ c. is_chosen params c) upto
 
 -- passes raise no value above what their level and the values were up to
 up_to_made : (source : Source) (params : LevelParams) (n : ℕ) (known : Known) (passes : List Pass) → list_all (λ (p : Pass). nat_le p.level n) passes ≡ true → IsUpTo n known.patterns → IsUpTo n (known_at_end known (passes_made source params known passes)).patterns

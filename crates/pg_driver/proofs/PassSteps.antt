@@ -13,12 +13,14 @@ use Rattle.pg_select.specs.declared.pass.Pass.{Pass}
 use Rattle.pg_select.specs.CountedPositions.{CountedPosition, Candidate, counted_positions, minima_of}
 use Rattle.pg_driver.specs.declared.choices.Choices.{Choices}
 use Rattle.pg_driver.specs.declared.records.PassRecord.{PassRecord}
-use Rattle.pg_driver.specs.Accounts.{pass_line, totals_by}
+use Rattle.pg_driver.specs.Accounts.{totals_by}
+use Rattle.pg_driver.specs.Inside.AccountLines.{pass_line}
 use Rattle.pg_driver.specs.Inside.Choosing.{HasChosen, candidate_of, no_choices, with_candidates}
 use Rattle.pg_driver.specs.Inside.Counting.{counting}
 use Rattle.pg_driver.specs.Inside.States.{DidPass, made_by, state_of, state_after}
 use Rattle.pg_driver.specs.Inside.Told.{layout_told, line_of}
-use Rattle.pg_driver.specs.Traces.{PassTrace, Source, chosen_of, hopeless_of, over}
+use Rattle.pg_driver.specs.Traces.{PassTrace, Source, over}
+use Rattle.pg_driver.specs.Inside.Fates.{chosen_of, hopeless_of}
 use Rattle.pg_driver.proofs.ChoiceSteps.{state_with}
 use Rattle.pg_driver.proofs.Numbers.{zero_plus}
 use Rattle.pg_driver.proofs.TallyLaw.{tally_is}

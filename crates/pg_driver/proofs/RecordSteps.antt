@@ -6,12 +6,14 @@ use Rattle.std.proofs.lemmas.List.{map_push}
 use Rattle.pg_types.specs.Placement.{Families, taken, top}
 use Rattle.pg_select.specs.CountedPositions.{Candidate}
 use Rattle.pg_driver.specs.declared.records.PassRecord.{PassRecord}
-use Rattle.pg_driver.specs.Accounts.{PassLine, begun_among, chosen_by, has_candidate, is_skippable, pass_line}
-use Rattle.pg_driver.specs.Layouts.{after_passes}
+use Rattle.pg_driver.specs.Accounts.{has_candidate}
+use Rattle.pg_driver.specs.Inside.AccountLines.{PassLine, begun_among, chosen_by, is_skippable, pass_line}
+use Rattle.pg_driver.specs.Inside.CellsAccounts.{after_passes}
 use Rattle.pg_driver.specs.Inside.Levels.{AreRecorded, layouts_in}
 use Rattle.pg_driver.specs.Inside.Sound.{Recorded, with_pass}
 use Rattle.pg_driver.specs.Inside.Told.{layout_told, line_of}
-use Rattle.pg_driver.specs.Traces.{PassTrace, Source, chosen_in, chosen_of}
+use Rattle.pg_driver.specs.Traces.{PassTrace, Source, chosen_in}
+use Rattle.pg_driver.specs.Inside.Fates.{chosen_of}
 use Rattle.pg_driver.proofs.Numbers.{plus_zero}
 use Rattle.pg_driver.proofs.TraceSteps.{begun_push, chosen_push, filter_push, layouts_push}
 

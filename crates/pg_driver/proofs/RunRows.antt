@@ -8,8 +8,9 @@ use Rattle.pg_dict.specs.Word.{Word}
 use Rattle.pg_select.specs.declared.pass.Pass.{Pass}
 use Rattle.pg_select.specs.CountedPositions.{Candidate, tally, counted_positions}
 use Rattle.pg_driver.specs.Dots.{order}
-use Rattle.pg_driver.specs.Accounts.{Account, LevelLine, PassLine, account, begun}
-use Rattle.pg_driver.specs.Layouts.{CellsAccount, cells_account}
+use Rattle.pg_driver.specs.Accounts.{begun}
+use Rattle.pg_driver.specs.Inside.AccountLines.{Account, LevelLine, PassLine, account}
+use Rattle.pg_driver.specs.Inside.CellsAccounts.{CellsAccount, cells_account}
 use Rattle.pg_select.specs.Windows.{Patterns}
 use Rattle.pg_driver.specs.Traces.{Source, final_patterns, trace}
 

@@ -1,12 +1,10 @@
 -- A pass that can be skipped counts nothing.
-use Rattle.std.proofs.Common.{◌≡◌, ℕ, suc, ◌+◌, ◌==◌, ◌≤◌, Bool, true, false, cond, not, ◌&&◌, ◌||◌, ⊎_elim, List, [], ◌∷◌, ◌++◌, length, refl, sym, ap, subst, ◌∙◌, arith}
+use Rattle.std.proofs.Common.{◌≡◌, ℕ, suc, ◌+◌, ◌==◌, ◌≤◌, Bool, true, false, cond, ◌&&◌, ◌||◌, ⊎_elim, List, [], ◌∷◌, ◌++◌, length, refl, sym, ap, subst, ◌∙◌, arith}
 use Rattle.std.specs.List.{list_all}
 use Rattle.std.proofs.lemmas.Bool.{and_parts, or_cases}
 use Rattle.std.proofs.lemmas.Bool.Decides.{Decides-eqb, nat_tests}
 use Rattle.pg_types.specs.declared.parameters.LevelParams.{LevelParams}
 use Rattle.pg_dict.specs.Word.{Word}
-use Rattle.pg_select.specs.declared.choice.Choice.{Choice}
-use Rattle.pg_select.specs.declared.choice.Choice.TheVariants.{Hopeless, Chosen, Left}
 use Rattle.pg_select.specs.Inside.Laws.{IsClosed}
 use Rattle.pg_select.specs.declared.pass.Pass.{Pass}
 use Rattle.pg_select.specs.CountedPositions.{Minima, Candidate, tally}
@@ -14,19 +12,22 @@ use Rattle.pg_select.specs.Windows.{Hopeless as HopelessPlaces}
 use Rattle.pg_select.proofs.LawsLater.{closed_later}
 use Rattle.pg_select.proofs.LawsLonger.{closed_behind, closed_before}
 use Rattle.pg_select.proofs.LawsClosed.{closed_at_end, later_after_pass}
-use Rattle.pg_driver.specs.Accounts.{is_skippable, left_none}
+use Rattle.pg_driver.specs.Inside.AccountLines.{is_skippable, left_none}
 use Rattle.pg_driver.specs.Inside.Levels.{AreClosed}
-use Rattle.pg_driver.specs.Traces.{Known, PassTrace, Source, choice_of, chosen_of, hopeless_of, is_chosen, is_hopeless, is_left, known_after, pass_made}
+use Rattle.pg_driver.specs.Traces.{Known, PassTrace, Source, is_chosen, is_hopeless, is_entered, known_after, pass_made}
+use Rattle.pg_driver.specs.Inside.Fates.{chosen_of, hopeless_of}
+use Rattle.pg_driver.proofs.FateLaws.{by_fate}
 use Rattle.pg_driver.proofs.TraceSteps.{skippable_push}
 
-chosen_or_hopeless : (choice : Choice) → not (is_left choice) ≡ (is_chosen choice || is_hopeless choice)
-chosen_or_hopeless Hopeless = refl
-chosen_or_hopeless Chosen = refl
-chosen_or_hopeless Left = refl
+chosen_or_hopeless : (h x : Bool) → (h || x) ≡ (x || h)
+chosen_or_hopeless true true = refl
+chosen_or_hopeless true false = refl
+chosen_or_hopeless false true = refl
+chosen_or_hopeless false false = refl
 
-all_chosen_or_hopeless : (params : LevelParams) (cs : List Candidate) → list_all (λ c. not (is_left (choice_of params c))) cs ≡ list_all (λ c. is_chosen (choice_of params c) || is_hopeless (choice_of params c)) cs
+all_chosen_or_hopeless : (params : LevelParams) (cs : List Candidate) → list_all (is_entered params) cs ≡ list_all (λ c. is_chosen params c || is_hopeless params c) cs
 all_chosen_or_hopeless params [] = refl
-all_chosen_or_hopeless params (c ∷ cs) = λ i. chosen_or_hopeless (choice_of params c) i && all_chosen_or_hopeless params cs i
+all_chosen_or_hopeless params (c ∷ cs) = λ i. chosen_or_hopeless (is_hopeless params c) (is_chosen params c) i && all_chosen_or_hopeless params cs i
 
 module _ (m : Minima) (words : List Word) (P : List ((List ℕ × ℕ) × ℕ)) (H : HopelessPlaces) where
   -- a pass with the same numbers
@@ -57,7 +58,7 @@ closed_on source params number l d known ps closed len dot is =
     (λ (here : (none && (l + 1 == len && (d == dot || d + 1 == dot))) ≡ true).
     let parts = and_parts none (l + 1 == len && (d == dot || d + 1 == dot)) here in
     longer_closed source.minima source.words after.patterns after.hopeless number l d len dot
-    (closed_at_end source.minima source.words pass known.patterns known.hopeless (λ c. is_chosen (choice_of params c)) (λ c. is_hopeless (choice_of params c)) (sym (all_chosen_or_hopeless params q.candidates) ∙ parts.0))
+    (closed_at_end source.minima source.words pass known.patterns known.hopeless (λ c. is_chosen params c) (λ c. is_hopeless params c) (sym (all_chosen_or_hopeless params q.candidates) ∙ parts.0))
     parts.1)
     (λ (before : is_skippable ps (record { level = number; len = len; dot = dot }) ≡ true).
     closed_later source.minima source.words (record { level = number; len = len; dot = dot }) known.patterns after.patterns known.hopeless after.hopeless
@@ -74,11 +75,8 @@ chosen_within : (params : LevelParams) (cs : List Candidate) → length (chosen_
 chosen_within params [] = omega arith
 chosen_within params (c ∷ cs) =
     let rest = chosen_within params cs in
-    elim (choice_of params c) as (λ (f : Choice). length (cond (is_chosen f) (c ∷ chosen_of params cs) (chosen_of params cs)) + length (cond (is_hopeless f) (c ∷ hopeless_of params cs) (hopeless_of params cs)) ≤ length (c ∷ cs)) [
-      | Hopeless ↦ omega (arith, rest)
-      | Chosen ↦ omega (arith, rest)
-      | Left ↦ omega (arith, rest)
-    ]
+    by_fate params c (λ x h. length (cond x (c ∷ chosen_of params cs) (chosen_of params cs)) + length (cond h (c ∷ hopeless_of params cs) (hopeless_of params cs)) ≤ length (c ∷ cs))
+    (omega (arith, rest)) (omega (arith, rest)) (omega (arith, rest))
 
 one_more_left : (a b n : ℕ) → (suc a + b == suc n) ≡ (a + b == n)
 one_more_left a b n = grind (arith, nat_tests)
@@ -89,12 +87,11 @@ one_more_right a b n = grind (arith, nat_tests)
 one_is_left : (a b n : ℕ) → a + b ≤ n → (a + b == suc n) ≡ false
 one_is_left a b n within = grind (arith, nat_tests)
 
-pub left_none_is : (params : LevelParams) (cs : List Candidate) → (length (chosen_of params cs) + length (hopeless_of params cs) == length cs) ≡ list_all (λ c. not (is_left (choice_of params c))) cs
+pub left_none_is : (params : LevelParams) (cs : List Candidate) → (length (chosen_of params cs) + length (hopeless_of params cs) == length cs) ≡ list_all (is_entered params) cs
 left_none_is params [] = refl
 left_none_is params (c ∷ cs) =
-    let rest : (length (chosen_of params cs) + length (hopeless_of params cs) == length cs) ≡ list_all (λ c. not (is_left (choice_of params c))) cs = left_none_is params cs in
-    elim (choice_of params c) as (λ (f : Choice). (length (cond (is_chosen f) (c ∷ chosen_of params cs) (chosen_of params cs)) + length (cond (is_hopeless f) (c ∷ hopeless_of params cs) (hopeless_of params cs)) == length (c ∷ cs)) ≡ (not (is_left f) && list_all (λ (c : Candidate). not (is_left (choice_of params c))) cs)) [
-      | Hopeless ↦ one_more_right (length (chosen_of params cs)) (length (hopeless_of params cs)) (length cs) ∙ rest
-      | Chosen ↦ one_more_left (length (chosen_of params cs)) (length (hopeless_of params cs)) (length cs) ∙ rest
-      | Left ↦ one_is_left (length (chosen_of params cs)) (length (hopeless_of params cs)) (length cs) (chosen_within params cs)
-    ]
+    let rest : (length (chosen_of params cs) + length (hopeless_of params cs) == length cs) ≡ list_all (is_entered params) cs = left_none_is params cs in
+    by_fate params c (λ x h. (length (cond x (c ∷ chosen_of params cs) (chosen_of params cs)) + length (cond h (c ∷ hopeless_of params cs) (hopeless_of params cs)) == length (c ∷ cs)) ≡ ((h || x) && list_all (is_entered params) cs))
+    (one_more_left (length (chosen_of params cs)) (length (hopeless_of params cs)) (length cs) ∙ rest)
+    (one_more_right (length (chosen_of params cs)) (length (hopeless_of params cs)) (length cs) ∙ rest)
+    (one_is_left (length (chosen_of params cs)) (length (hopeless_of params cs)) (length cs) (chosen_within params cs))

@@ -11,8 +11,9 @@ use Rattle.pg_select.specs.Inside.Meanings.{IsLayout, Meaning}
 use Rattle.pg_select.specs.declared.pass.Pass.{Pass}
 use Rattle.pg_driver.specs.declared.records.LevelRecord.{LevelRecord}
 use Rattle.pg_driver.specs.declared.records.PassRecord.{PassRecord}
-use Rattle.pg_driver.specs.Accounts.{account, has_candidate, totals_by}
-use Rattle.pg_driver.specs.Layouts.{cells_account, layout_of}
+use Rattle.pg_driver.specs.Accounts.{has_candidate, totals_by}
+use Rattle.pg_driver.specs.Inside.AccountLines.{account}
+use Rattle.pg_driver.specs.Inside.CellsAccounts.{cells_account, layout_of}
 use Rattle.pg_driver.specs.Inside.Levels.{DidRun, level_layouts, run_layouts}
 use Rattle.pg_driver.specs.Inside.Sound.{Finished, Recorded}
 use Rattle.pg_driver.specs.Inside.Told.{TellsCells, account_of, layout_told, level_layout_told}

@@ -10,11 +10,14 @@ use Rattle.std.proofs.lemmas.List.Folds.{list_any-append}
 use Rattle.std.proofs.lemmas.List.Sums.{fold-append, sum_by_push}
 use Rattle.pg_types.specs.Placement.{Families, taken, top}
 use Rattle.pg_select.specs.declared.pass.Pass.{Pass}
-use Rattle.pg_driver.specs.Accounts.{begun_among, chosen_by, has_candidate, is_skippable, left_none, makes_skippable}
-use Rattle.pg_driver.specs.Layouts.{after_pass, after_passes, pass_layouts, passes_with_families}
+use Rattle.pg_driver.specs.Accounts.{has_candidate, makes_skippable}
+use Rattle.pg_driver.specs.Inside.AccountLines.{begun_among, chosen_by, is_skippable, left_none}
+use Rattle.pg_driver.specs.Layouts.{after_pass}
+use Rattle.pg_driver.specs.Inside.CellsAccounts.{after_passes, pass_layouts, passes_with_families}
 use Rattle.pg_driver.specs.Inside.Levels.{layouts_in}
 use Rattle.pg_driver.specs.Inside.States.{State, state_after, state_at_end}
-use Rattle.pg_driver.specs.Traces.{Known, PassTrace, chosen_in, known_after, known_at_end}
+use Rattle.pg_driver.specs.Traces.{Known, PassTrace, chosen_in, known_after}
+use Rattle.pg_driver.specs.Inside.Passes.{known_at_end}
 
 -- what is known at the end of passes and one more
 known_push : (known : Known) (ps : List PassTrace) (q : PassTrace) → known_at_end known (ps ++ q ∷ []) ≡ known_after q

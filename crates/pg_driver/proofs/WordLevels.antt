@@ -11,11 +11,11 @@ use Rattle.pg_translate.specs.Reach.{positions}
 use Rattle.pg_dict.specs.Word.{Word}
 use Rattle.pg_dict.specs.Inside.SoundWords.{IsWord, letter_count}
 use Rattle.pg_select.specs.declared.pass.Pass.{Pass}
-use Rattle.pg_select.specs.Choices.{choice}
+use Rattle.pg_select.specs.Inside.Choices.{choice}
 use Rattle.pg_select.specs.CountedPositions.{Minima, CountedPosition, Candidate, counted_positions, counts_as, good_of, bad_of}
 use Rattle.pg_select.specs.Inside.LawsAbove.{above_at, above_positions, bad_above, counts_above, good_above, MovesAllBut}
 use Rattle.pg_select.specs.Inside.LawsClosedDots.{is_good}
-use Rattle.pg_select.specs.Inside.LawsSteps.{bad_raised, good_raised, is_candidate}
+use Rattle.pg_select.specs.Inside.LawsSteps.{candidate_at, bad_raised, good_raised, is_candidate}
 use Rattle.pg_select.specs.Inside.Meanings.{with_position}
 use Rattle.pg_select.specs.Statuses.{is_odd, position_weight, status_at}
 use Rattle.pg_select.specs.Windows.{Patterns, fits, window}
@@ -32,7 +32,9 @@ use Rattle.pg_driver.specs.Inside.LevelCounting.{CanMove, Carries, IsAfterWords}
 use Rattle.pg_driver.specs.Inside.OpenLevels.{listed_from, listed_in, open_as}
 use Rattle.pg_driver.specs.Inside.OpenPositions.{IsPlaced, counted_in, open_with}
 use Rattle.pg_driver.specs.Inside.Sound.{IsSmall}
-use Rattle.pg_driver.specs.Traces.{Known, PassTrace, Source, chosen_in, choice_of, is_chosen, known_after, pass_made}
+use Rattle.pg_driver.specs.Traces.{Known, PassTrace, Source, chosen_in, is_chosen, known_after, pass_made}
+use Rattle.pg_driver.specs.Inside.Fates.{chooses}
+use Rattle.pg_driver.proofs.FateLaws.{chosen_is as chosen_by_fate}
 use Rattle.pg_driver.specs.Inside.WordLevels.{IsWordsAt, kept_by, listing, was_chosen, window_of}
 use Rattle.pg_driver.proofs.CarriedTotals.{carried_same, carried_small, carried_within, totals_are_small}
 use Rattle.pg_driver.proofs.OpenLevels.{found_is, listed_are, start_at}
@@ -128,13 +130,13 @@ module _ (m : Minima) (words : List Word) (pass : Pass) (P : Patterns) where
   windows_are entries are = sym (counted_by_entries m words (start_at m words above) (window_of pass words) (above_at pass P) each entries (are ∙ listed_are m words above))
 
 -- a window was chosen where it is a candidate that is
-chosen_is : (params : LevelParams) (counts : Counts) (counted : List CountedPosition) (u : List ℕ) → counts ≡ fold with_position [] counted → was_chosen params counts u ≡ is_candidate (λ (c : Candidate). is_chosen (choice_of params c)) counted u
+chosen_is : (params : LevelParams) (counts : Counts) (counted : List CountedPosition) (u : List ℕ) → counts ≡ fold with_position [] counted → was_chosen params counts u ≡ is_candidate (λ (c : Candidate). is_chosen params c) counted u
 chosen_is params counts counted u are =
-    ap (λ (o : Option (ℕ × ℕ)). option_map_or (λ (sums : ℕ × ℕ). is_chosen (choice params sums.0 sums.1)) o false) (ap (find cmp u) are ∙ found_is counted u)
+    ap (λ (o : Option (ℕ × ℕ)). option_map_or (λ (sums : ℕ × ℕ). chooses (choice params sums.0 sums.1)) o false) (ap (find cmp u) are ∙ found_is counted u)
     ∙ by_test (is_counted_window counted u)
   where
-    by_test : (b : Bool) → option_map_or (λ (sums : ℕ × ℕ). is_chosen (choice params sums.0 sums.1)) (cond b (Some (good_of counted u, bad_of counted u)) None) false ≡ (b && is_chosen (choice params (good_of counted u) (bad_of counted u)))
-    by_test true = refl
+    by_test : (b : Bool) → option_map_or (λ (sums : ℕ × ℕ). chooses (choice params sums.0 sums.1)) (cond b (Some (good_of counted u, bad_of counted u)) None) false ≡ (b && is_chosen params (candidate_at counted u))
+    by_test true = sym (chosen_by_fate params (candidate_at counted u))
     by_test false = refl
 
 -- after a pass
@@ -143,7 +145,7 @@ module _ (source : Source) (params : LevelParams) (known : Known) (pass : Pass) 
   made = pass_made source params known pass
 
   abbrev chosen : Candidate → Bool
-  chosen c = is_chosen (choice_of params c)
+  chosen c = is_chosen params c
 
   abbrev counted : List CountedPosition
   counted = counted_positions source.minima source.words pass known.patterns known.hopeless

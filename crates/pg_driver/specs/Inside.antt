@@ -11,3 +11,7 @@ pub mod LevelCounting
 pub mod Levels
 pub mod Sound
 pub mod Told
+pub mod Fates
+pub mod Passes
+pub mod AccountLines
+pub mod CellsAccounts

@@ -1,13 +1,8 @@
--- Where the strings of a run lie in the cells of a trie, along its trace, and what is told of that.
-use Rattle.std.specs.Prelude.{ℕ, List, [], ◌∷◌, map, filter, fold}
-use Rattle.std.specs.List.{flat_map}
-use Rattle.pg_types.specs.declared.marks.Layout.{Layout}
-use Rattle.pg_types.specs.Placement.{Families, enter, kept, taken, top}
-use Rattle.pg_types.specs.Tails.{tails}
-use Rattle.pg_select.specs.declared.pass.Pass.{Pass}
+-- Where the strings of a run lie in the cells of a trie, along its trace.
+use Rattle.std.specs.Prelude.{ℕ, List, map, filter, fold}
+use Rattle.pg_types.specs.Placement.{Families, enter, entered_families, kept}
 use Rattle.pg_select.specs.Windows.{Patterns}
-use Rattle.pg_driver.specs.Traces.{PassTrace, LevelTrace, Trace, entered_in, patterns_after}
-use Rattle.pg_driver.specs.Accounts.{has_candidate}
+use Rattle.pg_driver.specs.Traces.{PassTrace, LevelTrace, Trace, is_entered, patterns_after}
 
 -- the strings of patterns, in the order of signs
 abbrev pub strings_in : Patterns → List (List ℕ)
@@ -15,59 +10,15 @@ strings_in P = map (λ e. e.0.0) P
 
 -- the families after a pass: its chosen and its hopeless windows are entered, in the order of signs
 abbrev pub after_pass : ℕ → Families → PassTrace → Families
-after_pass signs fs p = fold (λ fs c. enter signs fs c.window) fs (entered_in p)
+after_pass signs fs p =
+    fold (λ fs c. enter signs fs c.window) fs (filter (is_entered p.params) p.candidates)
 
--- the families after passes of a level, one after the other
-abbrev pub after_passes : ℕ → Families → List PassTrace → Families
-after_passes signs fs ps = fold (after_pass signs) fs ps
-
--- the families at a level's end: only strings of one sign and prefixes of the patterns' strings
--- keep their cells
-abbrev pub at_level_end : LevelTrace → Families → Families
-at_level_end l fs = kept (strings_in (patterns_after l)) fs
-
--- the families after a level
+-- the families after a level: behind its last pass, only strings of one sign and prefixes of the
+-- patterns' strings keep their cells
 abbrev pub after_level : ℕ → Families → LevelTrace → Families
-after_level signs fs l = at_level_end l (after_passes signs fs l.passes)
+after_level signs fs l = kept (strings_in (patterns_after l)) (fold (after_pass signs) fs l.passes)
 
--- each pass with the families after it
-abbrev pub passes_with_families : ℕ → Families → List PassTrace → List (PassTrace × Families)
-passes_with_families signs fs [] = []
-passes_with_families signs fs (p ∷ ps) =
-    (p, after_pass signs fs p) ∷ passes_with_families signs (after_pass signs fs p) ps
-
--- each level with the families before it
-abbrev pub levels_with_families : ℕ → Families → Trace → List (LevelTrace × Families)
-levels_with_families signs fs [] = []
-levels_with_families signs fs (l ∷ ls) =
-    (l, fs) ∷ levels_with_families signs (after_level signs fs l) ls
-
--- the layout of families, where these are the patterns: how many cells are used, the greatest of
--- them, and the tails
-abbrev pub layout_of : Families → Patterns → Layout
-layout_of fs P = record { taken = taken fs; top = top fs; tails = tails P }
-
--- what is told of the cells along a run: the layout before it, how many cells are used and the
--- greatest after each pass that has a candidate, and the layout after each level
-pub record CellsAccount : Type 0 where
-  pub start : Layout
-  pub passes : List (Pass × ℕ × ℕ)
-  pub levels : List (ℕ × Layout)
-
--- the used cells and the greatest after each pass of a level that has a candidate, where the level
--- begins with these families
-abbrev pub pass_layouts : ℕ → Families → List PassTrace → List (Pass × ℕ × ℕ)
-pass_layouts signs fs ps = map (λ e. (e.0.pass, taken e.1, top e.1))
-    (filter (λ e. has_candidate e.0) (passes_with_families signs fs ps))
-
--- the layout after a level that begins with these families
-abbrev pub level_layout : ℕ → Families → LevelTrace → ℕ × Layout
-level_layout signs fs l = (l.number, layout_of (after_level signs fs l) (patterns_after l))
-
--- what is told of the cells of a run from S that begins with these families
-abbrev pub cells_account : ℕ → Families → Patterns → Trace → CellsAccount
-cells_account signs fs S run = record {
-  start = layout_of fs S;
-  passes = flat_map (λ e. pass_layouts signs e.1 e.0.passes) (levels_with_families signs fs run);
-  levels = map (λ e. level_layout signs e.1 e.0) (levels_with_families signs fs run);
-}
+-- the families at the end of a run from S, which begins with those of the strings of S
+abbrev pub families_at_end : ℕ → Patterns → Trace → Families
+families_at_end signs S run =
+    fold (after_level signs) (entered_families signs (strings_in S)) run

@@ -18,7 +18,7 @@ ghost use Rattle.pg_driver.specs.declared.pass_windows.TheConstants.{NOT_COUNTED
 ghost use Rattle.pg_driver.specs.Inside.OpenLevels.{listed_in, open_as};
 ghost use Rattle.pg_driver.specs.Inside.OpenPositions.{IsPlaced};
 ghost use Rattle.pg_driver.specs.Inside.PassWindows.{AreFates, HaveNumbers, IsNumbered, is_counted_at};
-ghost use Rattle.pg_driver.specs.Traces.{is_chosen};
+ghost use Rattle.pg_driver.specs.Inside.Fates.{chooses};
 ghost use Rattle.pg_driver.specs.Inside.WordLevels.{TookKept, kept_by, with_kept};
 
 use crate::marks::counts_as;
@@ -103,7 +103,7 @@ pub fn list_above(
 
 /// Whether the window with this number was chosen. It is false for `NOT_COUNTED`.
 fn is_chosen_by(fates: &[Choice], number: u32) -> bool
-    ensures { result ≡ option_map_or is_chosen (slice_get fates.now number) false }
+    ensures { result ≡ option_map_or chooses (slice_get fates.now number) false }
 {
     matches!(fates.get(number as usize), Some(Choice::Chosen))
 }

@@ -4,7 +4,7 @@ ghost use Rattle.pg_types.specs.declared.limits.TheConstants.{FILE_MAX};
 ghost use Rattle.pg_types.specs.Inside.Ranges.{IsLevel};
 ghost use Rattle.pg_types.specs.Inside.Counts.{is_counted};
 ghost use Rattle.pg_types.specs.Inside.Numbered.{AreInOrder};
-ghost use Rattle.pg_select.specs.Choices.{choice};
+ghost use Rattle.pg_select.specs.Inside.Choices.{choice};
 ghost use Rattle.pg_driver.specs.Inside.States.{IsPass};
 ghost use Rattle.pg_driver.specs.Inside.PassWindows.{AreFates, ArePlaces, IsCandidate, IsPlace};
 ghost use Rattle.pg_driver.specs.Inside.Counting.{HasRoom};

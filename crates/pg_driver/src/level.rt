@@ -11,7 +11,8 @@ ghost use Rattle.pg_driver.specs.Inside.Sound.{IsSmall, IsSoundPass};
 ghost use Rattle.pg_types.specs.Inside.Limits.{begun_before_pass, length_passes, level_passes};
 ghost use Rattle.pg_driver.specs.Inside.States.{DidPass, IsPass, made_by, state_of, state_at_end};
 ghost use Rattle.pg_driver.specs.Inside.Told.{known_of};
-ghost use Rattle.pg_driver.specs.Traces.{level_made, passes_of, passes_of_length, over};
+ghost use Rattle.pg_driver.specs.Traces.{level_made, passes_of, over};
+ghost use Rattle.pg_driver.specs.Inside.Passes.{passes_of_length};
 
 use crate::choices::choose_all;
 use crate::closed::Closed;

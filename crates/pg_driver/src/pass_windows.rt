@@ -4,7 +4,7 @@ ghost use Rattle.std.specs.Prelude.{◌≡◌, ◌==◌, ◌<◌, ◌≤◌, ◌
 ghost use Rattle.pg_types.specs.Inside.Counts.{counted_sums};
 ghost use Rattle.pg_types.specs.Inside.Numbered.{HasNumber};
 ghost use Rattle.pg_types.specs.Inside.Ranges.{IsLevel};
-ghost use Rattle.pg_select.specs.Choices.{choice};
+ghost use Rattle.pg_select.specs.Inside.Choices.{choice};
 ghost use Rattle.pg_driver.specs.declared.pass_windows.TheConstants.{NOT_COUNTED};
 ghost use Rattle.pg_driver.specs.Inside.Counting.{HasRoom};
 ghost use Rattle.pg_driver.specs.Inside.States.{IsPass};

@@ -8,9 +8,8 @@ use Rattle.std.specs.Cmp.Lexicographic.{slice_cmp}
 use Rattle.std.specs.FinMap.{nat_cmp-IsAntisymmetric, slice_cmp-IsAntisymmetric}
 use Rattle.std.specs.FinMap.Entries.{put, find, by_order}
 use Rattle.std.specs.List.{filter, list_all, list_any, range_with_len, starts_with}
-use Rattle.pg_types.specs.declared.limits.TheConstants.{FEW_SIGNS}
-use Rattle.pg_types.specs.Placement.{Family, Families, keeps_cell, kept, least_base, placed, with_one_sign, with_sign, family_at, without_family, is_used, cell_in, enter_after, enter, root}
-use Rattle.pg_packed.specs.Starts.{pattern_families}
+use Rattle.pg_types.specs.Placement.{Family, Families, keeps_cell, kept, least_base, placed, with_one_sign, with_sign, family_at, without_family, is_used, cell_in, enter_after, enter, root, few_signs}
+use Rattle.pg_packed.specs.Inside.Starts.{pattern_families}
 use Rattle.pg_types.proofs.EntryLists.{find_good, all_put}
 use Rattle.pg_types.proofs.BoolFacts.{and_first, and_second, all_weaker, some_is}
 

@@ -38,7 +38,7 @@ impl PackedEngine {
     ghost use Rattle.pg_patterns.specs.Inside.PatternMaps.{SignsUpTo};
     ghost use Rattle.pg_select.specs.Inside.Meanings.{new_engine};
     ghost use Rattle.pg_packed.specs.Inside.Engines.{meaning_of};
-    ghost use Rattle.pg_packed.specs.Starts.{pattern_families};
+    ghost use Rattle.pg_packed.specs.Inside.Starts.{pattern_families};
 
     /// An engine with the greatest sign `signs` whose patterns are those of `start`. Nothing is
     /// hopeless or counted, no pass was begun, and the engine is tidy. Its families are those after

@@ -1,4 +1,5 @@
 -- What only contracts between layers and proofs need.
+pub mod Choices
 pub mod Laws
 pub mod LawsSteps
 pub mod LawsClosedDots

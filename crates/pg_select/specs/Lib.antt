@@ -1,5 +1,4 @@
 pub mod Statuses
-pub mod Choices
 pub mod Windows
 pub mod CountedPositions
 pub mod Sums

@@ -2,7 +2,7 @@
 ghost use Rattle.std.specs.Prelude.{◌≡◌, ◌<◌, ◌≤◌};
 ghost use Rattle.pg_types.specs.Inside.Limits.{sums_limit};
 ghost use Rattle.pg_types.specs.Inside.Ranges.{IsLevel};
-ghost use Rattle.pg_select.specs.Choices.{choice};
+ghost use Rattle.pg_select.specs.Inside.Choices.{choice};
 ghost use Rattle.pg_select.specs.Statuses.{status as status_of};
 
 use pg_types::{LevelParams, Mark};

@@ -8,7 +8,7 @@ use Rattle.pg_select.specs.declared.pass.Pass.{Pass}
 use Rattle.pg_driver.specs.declared.records.PassRecord.{PassRecord}
 use Rattle.pg_driver.specs.declared.records.LevelRecord.{LevelRecord}
 use Rattle.pg_driver.specs.Inside.Sound.{Finished}
-use Rattle.pg_driver.specs.Layouts.{CellsAccount}
+use Rattle.pg_driver.specs.Inside.CellsAccounts.{CellsAccount}
 use Rattle.pg_driver.specs.Inside.Told.{TellsCells}
 use Rattle.pg_texts.specs.Inside.Told.{HasLayouts, layout_there, pass_told, level_told, cells_told}
 

@@ -1,5 +1,7 @@
 pub mod Joins
 pub mod Layouts
+mod LevelParts
+pub mod TraceTexts
 pub mod Ranges
 mod TextRows
 pub mod WeightItems

@@ -1,20 +1,17 @@
 -- Worked rows of the texts, computed on the traces of their runs. The table has the minima 1 and 1, and the letters a, b and c with the signs 2, 3 and 4.
-use Rattle.std.proofs.Common.{◌≡◌, ℕ, Bool, true, false, List, [], ◌∷◌, map, fold, refl, codes}
+use Rattle.std.proofs.Common.{◌≡◌, ℕ, Bool, true, false, List, [], ◌∷◌, map, refl, codes}
 use Rattle.std.specs.Fmt.{digits}
 use Rattle.pg_types.specs.declared.parameters.LevelParams.{LevelParams}
 use Rattle.pg_types.specs.Parameters.{Parameters}
-use Rattle.pg_types.specs.Placement.{with_sign, enter, root}
+use Rattle.pg_types.specs.Placement.{with_sign}
 use Rattle.pg_translate.specs.Alphabets.{Alphabet}
 use Rattle.pg_dict.specs.Word.{Word}
-use Rattle.pg_patterns.specs.Values.{largest}
 use Rattle.pg_patterns.specs.Texts.{pattern_text}
 use Rattle.pg_select.specs.Windows.{Patterns}
 use Rattle.pg_driver.specs.Traces.{Source, trace, final_patterns}
-use Rattle.pg_driver.specs.Accounts.{account}
 use Rattle.pg_texts.specs.ReportTexts.{report_text}
 use Rattle.pg_texts.specs.PattmpTexts.{pattmp_text}
 use Rattle.pg_texts.specs.CellsTexts.{cells_text}
-use Rattle.pg_driver.specs.Layouts.{cells_account, strings_in}
 
 -- the table of the rows
 abbrev letters_abc : Alphabet
@@ -35,13 +32,13 @@ one_level l = record { start = 1; finish = 1; levels = l ∷ [] }
 
 -- the report, the patterns, the list and the cells file of a run
 abbrev report : List Word → Parameters → Patterns → List ℕ
-report words parameters S = report_text (largest S) parameters (account (source words) S (trace (source words) parameters S))
+report words parameters S = report_text (source words) parameters S (trace (source words) parameters S)
 
 abbrev patterns : List Word → Parameters → Patterns → Patterns
 patterns words parameters S = final_patterns S (trace (source words) parameters S)
 
 abbrev cells : List Word → Parameters → Patterns → List ℕ
-cells words parameters S = cells_text (cells_account 4 (fold (enter 4) (root 4) (strings_in S)) S (trace (source words) parameters S))
+cells words parameters S = cells_text 4 S (trace (source words) parameters S)
 
 -- the words ab-c and ab-a
 abbrev two_words : List Word

@@ -15,7 +15,8 @@ use Rattle.pg_select.specs.Statuses.{status}
 use Rattle.pg_select.specs.Windows.{Patterns}
 use Rattle.pg_texts.proofs.Ranges.{same_over_range}
 use Rattle.pg_texts.specs.Inside.Found.{status_found}
-use Rattle.pg_texts.specs.PattmpTexts.{is_taking_part, words_taking_part, weight_text, position_text, word_text, statuses, lines_behind, letter_text}
+use Rattle.pg_texts.specs.PattmpTexts.{is_taking_part, weight_text, position_text, word_text, statuses, lines_behind, letter_text}
+use Rattle.pg_texts.specs.Inside.ReadBack.{words_taking_part}
 
 -- one position more of a range
 pub range_step : (f : ℕ → List ℕ) (p last : ℕ) (text new all : List ℕ) → p < last → new ≡ text ++ f p → text ++ flat_map f (range_with_len p (last - p)) ≡ all → new ++ flat_map f (range_with_len (p + 1) (last - (p + 1))) ≡ all

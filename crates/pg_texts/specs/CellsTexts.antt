@@ -1,36 +1,38 @@
 -- The text of the cells file.
-use Rattle.std.specs.Prelude.{ℕ, ◌==◌, List, ◌++◌, filter, codes, decimal}
-use Rattle.std.specs.List.{flat_map}
-use Rattle.pg_types.specs.declared.marks.Layout.{Layout}
-use Rattle.pg_select.specs.declared.pass.Pass.{Pass}
-use Rattle.pg_driver.specs.Layouts.{CellsAccount}
+use Rattle.std.specs.Prelude.{ℕ, List, [], ◌∷◌, ◌++◌, if◌then◌else◌, codes, decimal}
+use Rattle.pg_types.specs.Placement.{Families, entered_families, taken, top}
+use Rattle.pg_types.specs.Tails.{tails}
+use Rattle.pg_select.specs.Windows.{Patterns}
+use Rattle.pg_driver.specs.Accounts.{has_candidate}
+use Rattle.pg_driver.specs.Layouts.{strings_in, after_pass, after_level}
+use Rattle.pg_driver.specs.Traces.{PassTrace, Trace, patterns_after}
 use Rattle.pg_texts.specs.Fronts.{pass_front, level_front}
 
--- `T taken, top U`
-abbrev pub used_text : ℕ → ℕ → List ℕ
-used_text taken top = decimal taken ++ codes " taken, top " ++ decimal top
+-- how many cells families use, and the greatest of them: `T taken, top U`
+abbrev pub used_text : Families → List ℕ
+used_text fs = decimal (taken fs) ++ codes " taken, top " ++ decimal (top fs)
 
--- `T taken, top U, K tails` and the line's end
-abbrev pub layout_text : Layout → List ℕ
-layout_text l = used_text l.taken l.top ++ codes ", " ++ decimal l.tails ++ codes " tails\n"
+-- the same with the tails of patterns: `T taken, top U, K tails` and the line's end
+abbrev pub layout_text : Families → Patterns → List ℕ
+layout_text fs P = used_text fs ++ codes ", " ++ decimal (tails P) ++ codes " tails\n"
 
--- the line of a pass
-abbrev pub pass_cells_text : Pass × ℕ × ℕ → List ℕ
-pass_cells_text p = pass_front p.0 ++ used_text p.1 p.2 ++ codes "\n"
+-- the lines of passes that begin with these families: of those that have a candidate, the cells
+-- that are used after it
+abbrev pub passes_cells_text : ℕ → Families → List PassTrace → List ℕ
+passes_cells_text signs fs [] = []
+passes_cells_text signs fs (p ∷ ps) = let after = after_pass signs fs p in
+    (if has_candidate p then pass_front p.pass ++ used_text after ++ codes "\n" else [])
+    ++ passes_cells_text signs after ps
 
--- the lines of the passes of a level
-abbrev pub passes_cells_text : List (Pass × ℕ × ℕ) → ℕ → List ℕ
-passes_cells_text passes level = flat_map pass_cells_text (filter (λ p. p.0.level == level) passes)
+-- the lines of levels that begin with these families: those of the passes, and then its own with
+-- the layout after it
+abbrev pub levels_cells_text : ℕ → Families → Trace → List ℕ
+levels_cells_text signs fs [] = []
+levels_cells_text signs fs (l ∷ ls) = let after = after_level signs fs l in
+    passes_cells_text signs fs l.passes ++ level_front l.number
+    ++ layout_text after (patterns_after l) ++ levels_cells_text signs after ls
 
--- the line of a level
-abbrev pub level_cells_line : ℕ × Layout → List ℕ
-level_cells_line l = level_front l.0 ++ layout_text l.1
-
--- the lines of a level: those of its passes, and then its own
-abbrev pub level_cells_text : List (Pass × ℕ × ℕ) → ℕ × Layout → List ℕ
-level_cells_text passes l = passes_cells_text passes l.0 ++ level_cells_line l
-
--- the cells file
-abbrev pub cells_text : CellsAccount → List ℕ
-cells_text a = codes "start: " ++ layout_text a.start
-    ++ flat_map (level_cells_text a.passes) a.levels
+-- the cells file of a run from S: the layout at its start, and the lines of its levels
+abbrev pub cells_text : ℕ → Patterns → Trace → List ℕ
+cells_text signs S run = let fs = entered_families signs (strings_in S) in
+    codes "start: " ++ layout_text fs S ++ levels_cells_text signs fs run

@@ -13,10 +13,6 @@ use Rattle.pg_select.specs.Windows.{Patterns}
 abbrev pub is_taking_part : Alphabet → Word → Bool
 is_taking_part t w = is_some (reach t.left t.right (length w.signs))
 
--- the words that take part
-abbrev pub words_taking_part : Alphabet → List Word → List Word
-words_taking_part t words = filter (is_taking_part t) words
-
 -- the byte of a status; nothing has none
 abbrev pub mark_text : Alphabet → Mark → List ℕ
 mark_text t Nothing = []
@@ -27,8 +23,7 @@ mark_text t DontCare = slice_index t.marks 3 ∷ []
 
 -- a weight: a digit, or a greater number in braces
 abbrev pub number_text : ℕ → List ℕ
-number_text weight = if nat_lt weight 10 then decimal weight
-    else codes "{" ++ decimal weight ++ codes "}"
+number_text n = if nat_lt n 10 then decimal n else codes "{" ++ decimal n ++ codes "}"
 
 -- a weight where it differs from another
 abbrev pub weight_text : ℕ → ℕ → List ℕ
@@ -64,4 +59,4 @@ lines_behind t P weight (w ∷ ws) = weight_text weight w.weight
 
 -- the list: a line for each word that takes part
 abbrev pub pattmp_text : Alphabet → Patterns → List Word → List ℕ
-pattmp_text t P words = lines_behind t P 1 (words_taking_part t words)
+pattmp_text t P words = lines_behind t P 1 (filter (is_taking_part t) words)

@@ -1,9 +1,12 @@
 -- The text of the report.
-use Rattle.std.specs.Prelude.{ℕ, ◌+◌, ◌-◌, ◌*◌, ◌/◌, ◌%◌, ◌==◌, nat_le, ◌&&◌, if◌then◌else◌, List, [], ◌++◌, filter, codes, decimal}
+use Rattle.std.specs.Prelude.{ℕ, ◌+◌, ◌-◌, ◌*◌, ◌/◌, ◌%◌, ◌==◌, nat_le, ◌&&◌, if◌then◌else◌, List, [], ◌++◌, length, filter, sum_by, codes, decimal}
 use Rattle.std.specs.List.{flat_map}
 use Rattle.pg_types.specs.declared.marks.Totals.{Totals}
 use Rattle.pg_types.specs.Parameters.{Parameters}
-use Rattle.pg_driver.specs.Accounts.{PassLine, LevelLine, Account}
+use Rattle.pg_patterns.specs.Values.{largest}
+use Rattle.pg_select.specs.Windows.{Patterns}
+use Rattle.pg_driver.specs.Accounts.{totals_by, has_candidate}
+use Rattle.pg_driver.specs.Traces.{Source, PassTrace, LevelTrace, Trace, chosen_in, hopeless_in, patterns_after, final_patterns}
 use Rattle.pg_texts.specs.Fronts.{pass_front, level_front}
 
 -- `G good, B bad, M missed`
@@ -11,44 +14,30 @@ abbrev pub totals_text : Totals → List ℕ
 totals_text t = decimal t.good ++ codes " good, "
     ++ decimal t.bad ++ codes " bad, " ++ decimal t.missed ++ codes " missed"
 
--- `warning: starting value V is not below level S` and the line's end
-abbrev pub warning_line : ℕ → ℕ → List ℕ
-warning_line value level = codes "warning: starting value "
-    ++ decimal value ++ codes " is not below level " ++ decimal level ++ codes "\n"
-
--- the warning, where a level is run and the greatest starting value is not below the first one
+-- the warning that the greatest starting value is not below the first level, where a level is run
 abbrev pub warning_text : ℕ → Parameters → List ℕ
-warning_text largest parameters = if nat_le parameters.start parameters.finish
-    && nat_le parameters.start largest then warning_line largest parameters.start else []
+warning_text largest p = if nat_le p.start p.finish && nat_le p.start largest
+    then codes "warning: starting value " ++ decimal largest
+    ++ codes " is not below level " ++ decimal p.start ++ codes "\n" else []
 
--- `C candidates, X chosen, H hopeless, Y left`
-abbrev pub counts_text : PassLine → List ℕ
-counts_text p =
-    decimal p.candidates ++ codes " candidates, " ++ decimal p.chosen ++ codes " chosen, "
-    ++ decimal p.hopeless ++ codes " hopeless, " ++ decimal (p.candidates - p.chosen - p.hopeless)
-    ++ codes " left"
+-- the line of a pass: the totals before it, how many candidates it has, chose, found hopeless and
+-- left, and the sums of good and of bad over the chosen
+abbrev pub pass_text : Source → PassTrace → List ℕ
+pass_text source p =
+    let all = length p.candidates in let chosen = chosen_in p in let lost = hopeless_in p in
+    pass_front p.pass ++ totals_text (totals_by source p.before.patterns) ++ codes "; "
+    ++ decimal all ++ codes " candidates, " ++ decimal (length chosen) ++ codes " chosen, "
+    ++ decimal (length lost) ++ codes " hopeless, "
+    ++ decimal (all - length chosen - length lost) ++ codes " left; "
+    ++ decimal (sum_by (λ c. c.good) chosen) ++ codes " good, "
+    ++ decimal (sum_by (λ c. c.bad) chosen) ++ codes " bad\n"
 
--- `A good, E bad`, the sums over the chosen
-abbrev pub sums_text : PassLine → List ℕ
-sums_text p = decimal p.good ++ codes " good, " ++ decimal p.bad ++ codes " bad"
-
--- the line of a pass
-abbrev pub pass_text : PassLine → List ℕ
-pass_text p = pass_front p.pass ++ totals_text p.before
-    ++ codes "; " ++ counts_text p ++ codes "; " ++ sums_text p ++ codes "\n"
-
--- the line of a level
-abbrev pub level_line_text : LevelLine → List ℕ
-level_line_text l = level_front l.level ++ decimal l.chosen
-    ++ codes " chosen, " ++ totals_text l.after ++ codes "\n"
-
--- the lines of the passes of a level
-abbrev pub passes_text : List PassLine → ℕ → List ℕ
-passes_text passes level = flat_map pass_text (filter (λ p. p.pass.level == level) passes)
-
--- the lines of a level: those of its passes, and then its own
-abbrev pub level_text : List PassLine → LevelLine → List ℕ
-level_text passes l = passes_text passes l.level ++ level_line_text l
+-- the lines of a level: those of its passes that have a candidate, and then its own: how many
+-- candidates its passes chose, and the totals after it
+abbrev pub level_text : Source → LevelTrace → List ℕ
+level_text source l = flat_map (pass_text source) (filter has_candidate l.passes)
+    ++ level_front l.number ++ decimal (sum_by (λ p. length (chosen_in p)) l.passes)
+    ++ codes " chosen, " ++ totals_text (totals_by source (patterns_after l)) ++ codes "\n"
 
 -- hundredths as a whole part, a point and two digits
 abbrev pub hundredths : ℕ → List ℕ
@@ -68,7 +57,7 @@ rate_text t = if t.good + t.missed == 0 then []
 abbrev pub ending_text : Totals → List ℕ
 ending_text t = codes "total: " ++ totals_text t ++ codes "\n" ++ rate_text t
 
--- the report of a run, where this is the greatest starting value
-abbrev pub report_text : ℕ → Parameters → Account → List ℕ
-report_text largest parameters a = warning_text largest parameters
-    ++ flat_map (level_text a.passes) a.levels ++ ending_text a.totals
+-- the report of a run from S
+abbrev pub report_text : Source → Parameters → Patterns → Trace → List ℕ
+report_text source parameters S run = warning_text (largest S) parameters
+    ++ flat_map (level_text source) run ++ ending_text (totals_by source (final_patterns S run))

@@ -1,9 +1,9 @@
 //! The cells file.
 ghost use Rattle.std.specs.Prelude.{◌≡◌, ◌++◌, map, All, IsSome, OnOk, IfOk, Some};
 ghost use Rattle.std.specs.List.{flat_map};
-ghost use Rattle.pg_driver.specs.Layouts.{CellsAccount};
+ghost use Rattle.pg_driver.specs.Inside.CellsAccounts.{CellsAccount};
 ghost use Rattle.pg_driver.specs.Inside.Told.{TellsCells};
-ghost use Rattle.pg_texts.specs.CellsTexts as cells;
+ghost use Rattle.pg_texts.specs.Inside.CellsLines as cells;
 ghost use Rattle.pg_texts.specs.Inside.Told.{HasLayouts, layout_there, pass_told, level_told, cells_told};
 
 use crate::fronts::{push_level_front, push_pass_front};
@@ -25,7 +25,7 @@ fn layout_of(layout: Option<Layout>) -> Layout
 /// Appends how many cells are used, and the greatest of them.
 fn push_used(text: &mut Vec<u8>, layout: &Layout) -> Result<(), AllocError>
     ensures { OnOk result
-        (text.new.items ≡ text.old.items ++ cells.used_text layout.now.taken layout.now.top) }
+        (text.new.items ≡ text.old.items ++ cells.numbers_text layout.now.taken layout.now.top) }
 {
     push_number(text, b"", layout.taken)?;
     push_number(text, b" taken, top ", layout.top)
@@ -33,7 +33,7 @@ fn push_used(text: &mut Vec<u8>, layout: &Layout) -> Result<(), AllocError>
 
 /// Appends a layout and the line's end.
 fn push_layout(text: &mut Vec<u8>, layout: &Layout) -> Result<(), AllocError>
-    ensures { OnOk result (text.new.items ≡ text.old.items ++ cells.layout_text layout.now) }
+    ensures { OnOk result (text.new.items ≡ text.old.items ++ cells.layout_line_text layout.now) }
 {
     push_used(text, layout)?;
     push_number(text, b", ", layout.tails)?;
@@ -55,7 +55,7 @@ fn push_pass(text: &mut Vec<u8>, pass: &PassRecord) -> Result<(), AllocError>
 fn push_passes(text: &mut Vec<u8>, passes: &[PassRecord], level: u8) -> Result<(), AllocError>
     requires { All (λ p. IsSome p.layout) passes.now }
     ensures { OnOk result (text.new.items
-        ≡ text.old.items ++ cells.passes_cells_text (map pass_told passes.now) level) }
+        ≡ text.old.items ++ cells.pass_cells_lines (map pass_told passes.now) level) }
 {
     'passes: for pass in passes {
         if pass.level == level {
@@ -99,9 +99,9 @@ fn push_levels(
 /// after each level.
 pub fn cells_text(alloc: Global, run: &Run) -> Result<Vec<u8>, AllocError>
     requires { HasLayouts run.now }
-    ensures told { IfOk result (λ text. text.items ≡ cells.cells_text (cells_told run.now)) }
+    ensures told { IfOk result (λ text. text.items ≡ cells.account_cells_text (cells_told run.now)) }
     ensures text { IfOk result (λ text. (a : CellsAccount) → TellsCells (Some a) run.now
-        → text.items ≡ cells.cells_text a) }
+        → text.items ≡ cells.account_cells_text a) }
 {
     let mut text = Vec::from_slice(alloc, b"start: ")?;
     push_layout(&mut text, &layout_of(run.first_layout()))?;

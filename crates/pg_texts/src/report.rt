@@ -3,6 +3,7 @@ ghost use Rattle.std.specs.Prelude.{◌≡◌, ◌++◌, map, All, OnOk, IfOk};
 ghost use Rattle.std.specs.List.{flat_map};
 ghost use Rattle.pg_driver.specs.Inside.Sound.{IsSoundPass};
 ghost use Rattle.pg_driver.specs.Inside.Told.{line_of, level_line_of, account_of};
+ghost use Rattle.pg_texts.specs.Inside.ReportLines as lines;
 ghost use Rattle.pg_texts.specs.ReportTexts as report;
 
 use crate::fronts::{push_level_front, push_pass_front};
@@ -13,7 +14,7 @@ use std::alloc::{AllocError, Global};
 
 /// Appends the line that the greatest starting value is not below a level.
 fn push_warning_line(text: &mut Vec<u8>, value: u8, level: u8) -> Result<(), AllocError>
-    ensures { OnOk result (text.new.items ≡ text.old.items ++ report.warning_line value level) }
+    ensures { OnOk result (text.new.items ≡ text.old.items ++ lines.warning_line value level) }
 {
     push_number(text, b"warning: starting value ", u64::from(value))?;
     push_number(text, b" is not below level ", u64::from(level))?;
@@ -38,45 +39,43 @@ fn push_warning(text: &mut Vec<u8>, largest: u8, params: &Params) -> Result<(), 
 fn push_counts(text: &mut Vec<u8>, pass: &PassRecord) -> Result<(), AllocError>
     requires { IsSoundPass pass.now }
     ensures { OnOk result
-        (text.new.items ≡ text.old.items ++ report.counts_text (line_of pass.now)) }
+        (text.new.items ≡ text.old.items ++ lines.counts_text (line_of pass.now)) }
 {
     let left = pass.candidates - pass.chosen - pass.hopeless;
     push_number(text, b"", pass.candidates)?;
     push_number(text, b" candidates, ", pass.chosen)?;
     push_number(text, b" chosen, ", pass.hopeless)?;
     push_number(text, b" hopeless, ", left)?;
-    text.extend_from_slice(b" left")?;
+    text.extend_from_slice(b" left; ")?;
     Ok(())
 }
 
-/// Appends the sums over the chosen of a pass.
+/// Appends the sums over the chosen of a pass, and the line's end.
 fn push_sums(text: &mut Vec<u8>, pass: &PassRecord) -> Result<(), AllocError>
-    ensures { OnOk result (text.new.items ≡ text.old.items ++ report.sums_text (line_of pass.now)) }
+    ensures { OnOk result (text.new.items ≡ text.old.items ++ lines.sums_text (line_of pass.now)) }
 {
     push_number(text, b"", pass.good)?;
     push_number(text, b" good, ", pass.bad)?;
-    text.extend_from_slice(b" bad")
+    text.extend_from_slice(b" bad\n")
 }
 
 /// Appends the line of a pass.
 fn push_pass(text: &mut Vec<u8>, pass: &PassRecord) -> Result<(), AllocError>
     requires { IsSoundPass pass.now }
-    ensures { OnOk result (text.new.items ≡ text.old.items ++ report.pass_text (line_of pass.now)) }
+    ensures { OnOk result (text.new.items ≡ text.old.items ++ lines.pass_line_text (line_of pass.now)) }
 {
     push_pass_front(text, pass.level, pass.len, pass.dot)?;
     push_totals(text, &pass.before)?;
     text.extend_from_slice(b"; ")?;
     push_counts(text, pass)?;
-    text.extend_from_slice(b"; ")?;
-    push_sums(text, pass)?;
-    text.extend_from_slice(b"\n")
+    push_sums(text, pass)
 }
 
 /// Appends the lines of the passes of a level.
 fn push_passes(text: &mut Vec<u8>, passes: &[PassRecord], level: u8) -> Result<(), AllocError>
     requires { All IsSoundPass passes.now }
     ensures { OnOk result
-        (text.new.items ≡ text.old.items ++ report.passes_text (map line_of passes.now) level) }
+        (text.new.items ≡ text.old.items ++ lines.passes_text (map line_of passes.now) level) }
 {
     'passes: for pass in passes {
         if pass.level == level {
@@ -89,7 +88,7 @@ fn push_passes(text: &mut Vec<u8>, passes: &[PassRecord], level: u8) -> Result<(
 /// Appends the line of a level.
 fn push_level(text: &mut Vec<u8>, level: &LevelRecord) -> Result<(), AllocError>
     ensures { OnOk result
-        (text.new.items ≡ text.old.items ++ report.level_line_text (level_line_of level.now)) }
+        (text.new.items ≡ text.old.items ++ lines.level_line_text (level_line_of level.now)) }
 {
     push_level_front(text, level.level)?;
     push_number(text, b"", level.chosen)?;
@@ -106,7 +105,7 @@ fn push_levels(
 ) -> Result<(), AllocError>
     requires { All IsSoundPass passes.now }
     ensures { OnOk result (text.new.items
-        ≡ text.old.items ++ flat_map (report.level_text (map line_of passes.now))
+        ≡ text.old.items ++ flat_map (lines.level_lines_text (map line_of passes.now))
         (map level_line_of levels.now)) }
 {
     'levels: for level in levels {
@@ -126,7 +125,7 @@ pub fn report_text(
     run: &Run,
 ) -> Result<Vec<u8>, AllocError>
     ensures { IfOk result
-        (λ text. text.items ≡ report.report_text largest params.now (account_of run.now)) }
+        (λ text. text.items ≡ lines.account_text largest params.now (account_of run.now)) }
 {
     let mut text = Vec::new(alloc);
     push_warning(&mut text, largest, params)?;

@@ -15,7 +15,7 @@ use Rattle.pg_top.specs.Inside.FaultLines.{reading_line}
 use Rattle.pg_top.specs.Readings.{Held}
 use Rattle.pg_words.specs.Requests.{FileNames, PackRequest, TotalsRequest, SweepRequest, ToGenerate, ToAudit, ToSample, ToPack, ToTotals, ToSweep, request_of}
 use Rattle.pg_top.specs.sample.Sampled.{ending, syllable, word, sample_text}
-use Rattle.pg_top.specs.Selection.{selection, selected, selected_account, passes_begun, selected_cells_from, selected_cells, selected_text, selected_list, selected_cells_text, selected_report}
+use Rattle.pg_top.specs.Selection.{selection, selected, selected_totals, selected_text, selected_list, selected_cells_text, selected_report}
 use Rattle.pg_top.specs.declared.answers.Status.TheVariants.{Done, Yes, No, Refused}
 use Rattle.pg_top.specs.declared.inputs.Input.TheVariants as input
 
@@ -78,7 +78,7 @@ one_pattern : outcome_of (files (codes "ab-c\nab-a\n") []) (ToGenerate (record n
     ∷ (codes "R", codes "pass 1 2 1: 0 good, 0 bad, 2 missed; 3 candidates, 0 chosen, 3 hopeless, 0 left; 0 good, 0 bad\npass 1 2 0: 0 good, 0 bad, 2 missed; 4 candidates, 0 chosen, 4 hopeless, 0 left; 0 good, 0 bad\npass 1 2 2: 0 good, 0 bad, 2 missed; 2 candidates, 1 chosen, 1 hopeless, 0 left; 2 good, 0 bad\nlevel 1: 1 chosen, 2 good, 0 bad, 0 missed\ntotal: 2 good, 0 bad, 0 missed\nrate: 100.00 % good, 0.00 % bad, 0.00 % missed\n")
     ∷ [])
     (codes "done: 1 patterns, 2 good, 0 bad, 0 missed\nwork: 3 passes, 5 taken, top 9, 1 tails\n")
-unfolding names files found selection selected selected_account passes_begun selected_cells_from selected_cells selected_text selected_list selected_cells_text selected_report digits with_sign
+unfolding names files found selection selected selected_totals selected_text selected_list selected_cells_text selected_report digits with_sign
 one_pattern = refl
 
 -- the third line of the dictionary is refused
@@ -91,7 +91,7 @@ right_report : List ℕ
 right_report = codes "pass 1 2 1: 0 good, 0 bad, 2 missed; 3 candidates, 0 chosen, 3 hopeless, 0 left; 0 good, 0 bad\npass 1 2 0: 0 good, 0 bad, 2 missed; 4 candidates, 0 chosen, 4 hopeless, 0 left; 0 good, 0 bad\npass 1 2 2: 0 good, 0 bad, 2 missed; 2 candidates, 1 chosen, 1 hopeless, 0 left; 2 good, 0 bad\nlevel 1: 1 chosen, 2 good, 0 bad, 0 missed\ntotal: 2 good, 0 bad, 0 missed\nrate: 100.00 % good, 0.00 % bad, 0.00 % missed\n"
 
 right_files : outcome_of (files (codes "ab-c\nab-a\n") ((codes "O", codes "ab1\n") ∷ (codes "R", right_report) ∷ [])) (ToAudit names) ≡ Ends Yes [] (codes "yes\n")
-unfolding names files found selection selected selected_account selected_text selected_report right_report digits
+unfolding names files found selection selected selected_text selected_report right_report digits
 right_files = refl
 
 no_line_feed : outcome_of (files (codes "ab-c\nab-a\n") ((codes "O", codes "ab1") ∷ [])) (ToAudit names) ≡ Ends No [] (codes "no: patterns line 1 found ab1 and the file ends\n")

@@ -1,23 +1,29 @@
 -- What the driver gives over a new engine is the selection.
-use Rattle.std.proofs.Common.{◌≡◌, ℕ, List, [], ◌∷◌, Option, None, Some, fold, map, refl, ap, subst}
+use Rattle.std.proofs.Common.{◌≡◌, ℕ, List, [], ◌∷◌, ◌++◌, Option, None, Some, fold, map, codes, decimal, refl, ap, subst, ◌∙◌, append_assoc}
 use Rattle.std.specs.Option.{option_map}
 use Rattle.pg_types.specs.declared.marks.Layout.{Layout}
 use Rattle.pg_types.specs.Placement.{Families}
 use Rattle.pg_select.specs.Inside.Meanings.{Meaning, new_engine}
 use Rattle.pg_driver.specs.declared.records.LevelRecord.{LevelRecord}
-use Rattle.pg_driver.specs.Layouts.{CellsAccount}
+use Rattle.pg_driver.specs.Accounts.{begun}
+use Rattle.pg_driver.specs.Layouts.{families_at_end}
+use Rattle.pg_driver.specs.Traces.{over}
+use Rattle.pg_driver.specs.Inside.CellsAccounts.{CellsAccount, layout_of}
 use Rattle.pg_driver.specs.Inside.Sound.{Finished}
 use Rattle.pg_driver.specs.Inside.Told.{patterns_from, account_from, begun_from, cells_from, TellsCells, level_layout_told}
-use Rattle.pg_driver.specs.Accounts.{Account}
+use Rattle.pg_driver.specs.Inside.AccountLines.{Account}
 use Rattle.pg_select.specs.Windows.{Patterns}
-use Rattle.pg_packed.specs.Starts.{pattern_families}
+use Rattle.pg_packed.specs.Inside.Starts.{pattern_families}
 use Rattle.pg_patterns.specs.Texts.{pattern_text}
 use Rattle.pg_patterns.specs.Values.{largest}
-use Rattle.pg_texts.specs.CellsTexts.{cells_text}
+use Rattle.pg_texts.specs.CellsTexts.{layout_text}
+use Rattle.pg_texts.specs.Inside.CellsLines.{account_cells_text}
+use Rattle.pg_texts.specs.Inside.ReportLines.{account_text}
 use Rattle.pg_texts.specs.PattmpTexts.{pattmp_text}
-use Rattle.pg_texts.specs.ReportTexts.{report_text}
+use Rattle.pg_texts.proofs.TraceTexts.{cells_same, last_same, report_same}
 use Rattle.pg_top.specs.Inside.Runs.{last_told}
-use Rattle.pg_top.specs.Selection.{signs_of, selection, selected, selected_account, passes_begun, selected_cells_from, selected_cells, selected_text, selected_list, selected_cells_text, selected_report, last_layout}
+use Rattle.pg_top.specs.Selection.{signs_of, selection, selected, selected_totals, selected_text, selected_list, selected_cells_text, selected_report}
+use Rattle.pg_top.specs.Inside.SelectionAccounts.{selected_account, passes_begun, selected_cells_from, selected_cells, last_layout, work_line}
 use Rattle.pg_top.specs.declared.selection.Inputs.{Inputs}
 
 -- the engine was just made with the starting patterns of the inputs
@@ -48,11 +54,11 @@ last_of (l ∷ levels) [] first start is same = cc
 last_of (l ∷ levels) (t ∷ told) first start is same =
     let here : level_layout_told l ≡ Some t = cc in
     let rest : map level_layout_told levels ≡ map Some told = cc in
-    last_of levels told l.layout t.1 (layout_of l.level l.layout t here) rest
+    last_of levels told l.layout t.1 (layout_from l.level l.layout t here) rest
   where
-    layout_of : (level : ℕ) (layout : Option Layout) (t : ℕ × Layout) → option_map (λ l. (level, l)) layout ≡ Some t → layout ≡ Some t.1
-    layout_of level None t is = cc
-    layout_of level (Some layout) t is = ap Some (ap (λ (x : Option (ℕ × Layout)). second x layout) is)
+    layout_from : (level : ℕ) (layout : Option Layout) (t : ℕ × Layout) → option_map (λ l. (level, l)) layout ≡ Some t → layout ≡ Some t.1
+    layout_from level None t is = cc
+    layout_from level (Some layout) t is = ap Some (ap (λ (x : Option (ℕ × Layout)). second x layout) is)
       where
         second : Option (ℕ × Layout) → Layout → Layout
         second None other = other
@@ -75,10 +81,26 @@ pub list_selected : (i : Inputs) (P : Patterns) → P ≡ selected i → pattmp_
 unfolding selected_list
 list_selected i P is = ap (λ P. pattmp_text i.table P i.dictionary) is
 
-pub cells_text_selected : (i : Inputs) → cells_text (selected_cells i) ≡ selected_cells_text i
-unfolding selected_cells_text
-cells_text_selected i = refl
+pub cells_text_selected : (i : Inputs) → account_cells_text (selected_cells i) ≡ selected_cells_text i
+unfolding selection selected_cells selected_cells_from selected_cells_text
+cells_text_selected i = cells_same (over i.table i.dictionary) i.params (signs_of i) i.start
 
-pub report_selected : (i : Inputs) (value : ℕ) (a : Account) → value ≡ largest i.start → a ≡ selected_account i → report_text value i.params a ≡ selected_report i
-unfolding selected_report
-report_selected i value a same is = (λ k. report_text (same k) i.params (is k))
+pub report_selected : (i : Inputs) (value : ℕ) (a : Account) → value ≡ largest i.start → a ≡ selected_account i → account_text value i.params a ≡ selected_report i
+unfolding selection selected_account selected_report
+report_selected i value a same is = (λ k. account_text (same k) i.params (is k)) ∙ report_same (over i.table i.dictionary) i.params i.start
+
+-- the totals, and the last line of `generate`
+pub totals_selected : (i : Inputs) → (selected_account i).totals ≡ selected_totals i
+unfolding selected selected_account selected_totals
+totals_selected i = refl
+
+behind : (x a b c d : List ℕ) → x ++ (a ++ b ++ c ++ d) ≡ x ++ a ++ b ++ c ++ d
+behind x a b c d = simp append_assoc
+
+pub end_selected : (i : Inputs) (x : List ℕ) → x ++ work_line (passes_begun i) (last_layout (selected_cells i))
+    ≡ x ++ codes "work: " ++ decimal (begun (selection i)) ++ codes " passes, " ++ layout_text (families_at_end (signs_of i) i.start (selection i)) (selected i)
+unfolding selected passes_begun selected_cells selected_cells_from
+end_selected i x =
+    let last : last_layout (selected_cells i) ≡ layout_of (families_at_end (signs_of i) i.start (selection i)) (selected i) = last_same (signs_of i) (pattern_families (signs_of i) i.start) i.start (selection i) in
+    ap (λ (l : Layout). x ++ work_line (begun (selection i)) l) last
+    ∙ behind x (codes "work: ") (decimal (begun (selection i))) (codes " passes, ") (layout_text (families_at_end (signs_of i) i.start (selection i)) (selected i))

@@ -8,4 +8,5 @@ pub mod Lists
 pub mod PutCounts
 pub mod ReadCalls
 pub mod SelectionSigns
+pub mod SelectionAccounts
 pub mod Written

@@ -4,7 +4,8 @@ use Rattle.pg_types.specs.declared.parameters.LevelParams.{LevelParams}
 use Rattle.pg_select.specs.Inside.Meanings.{Meaning}
 use Rattle.pg_select.specs.CountedPositions.{Candidate}
 use Rattle.pg_driver.specs.declared.choices.Choices.{Choices}
-use Rattle.pg_driver.specs.Traces.{PassTrace, chosen_of, hopeless_of}
+use Rattle.pg_driver.specs.Traces.{PassTrace}
+use Rattle.pg_driver.specs.Inside.Fates.{chosen_of, hopeless_of}
 use Rattle.pg_driver.specs.Inside.States.{state_of, state_after}
 use Rattle.pg_driver.specs.Inside.Told.{known_of}
 

@@ -12,9 +12,12 @@ use Rattle.pg_select.specs.Inside.Laws.{IsClosed}
 use Rattle.pg_select.specs.Windows.{Patterns}
 use Rattle.pg_driver.specs.declared.counting.Counting.{Counting}
 use Rattle.pg_driver.specs.Inside.LevelCounting.{IsCounted}
-use Rattle.pg_driver.specs.Traces.{Known, Source, PassTrace, LevelTrace, Trace, patterns_after, final_patterns, known_at_end, passes_made, at_start}
-use Rattle.pg_driver.specs.Accounts.{pass_line, pass_lines, has_candidate, chosen_by, level_line, is_skippable, begun_among, begun}
-use Rattle.pg_driver.specs.Layouts.{pass_layouts, after_level, levels_with_families, level_layout}
+use Rattle.pg_driver.specs.Traces.{Known, Source, PassTrace, LevelTrace, Trace, patterns_after, final_patterns, passes_made, at_start}
+use Rattle.pg_driver.specs.Inside.Passes.{known_at_end}
+use Rattle.pg_driver.specs.Accounts.{has_candidate, begun}
+use Rattle.pg_driver.specs.Inside.AccountLines.{pass_line, pass_lines, chosen_by, level_line, is_skippable, begun_among}
+use Rattle.pg_driver.specs.Layouts.{after_level}
+use Rattle.pg_driver.specs.Inside.CellsAccounts.{pass_layouts, levels_with_families, level_layout}
 use Rattle.pg_driver.specs.Inside.Told.{final_families, known_of, line_of, level_line_of, layout_told, level_layout_told}
 use Rattle.pg_driver.specs.Inside.Sound.{Recorded}
 use Rattle.pg_driver.specs.Inside.States.{State, state_of, state_at_end}

@@ -12,7 +12,7 @@ use Rattle.pg_dict.specs.Word.{Word}
 use Rattle.pg_select.specs.declared.choice.Choice.{Choice}
 use Rattle.pg_select.specs.declared.choice.Choice.TheVariants.{Hopeless as GivenUp, Chosen, Left}
 use Rattle.pg_select.specs.declared.pass.Pass.{Pass}
-use Rattle.pg_select.specs.Choices.{choice}
+use Rattle.pg_select.specs.Inside.Choices.{choice}
 use Rattle.pg_select.specs.CountedPositions.{Minima, counts_as}
 use Rattle.pg_select.specs.Inside.LawsClosedDots.{Tells}
 use Rattle.pg_select.specs.Inside.LawsSteps.{CoversUpTo, IsUpTo}

@@ -7,7 +7,7 @@ use Rattle.pg_dict.specs.Word.{Word}
 use Rattle.pg_dict.specs.Inside.Store.{all_signs}
 use Rattle.pg_select.specs.declared.pass.Pass.{Pass}
 use Rattle.pg_select.specs.declared.choice.Choice.{Choice}
-use Rattle.pg_select.specs.Choices.{choice}
+use Rattle.pg_select.specs.Inside.Choices.{choice}
 use Rattle.pg_select.specs.Inside.Meanings.{Meaning}
 use Rattle.pg_select.specs.Windows.{Hopeless, Patterns, window, fits, covered}
 use Rattle.pg_driver.specs.declared.pass_windows.Place.{Place}

@@ -7,9 +7,11 @@ use Rattle.pg_types.specs.Placement.{Families, taken, top}
 use Rattle.pg_select.specs.Inside.Meanings.{Meaning}
 use Rattle.pg_driver.specs.declared.records.PassRecord.{PassRecord}
 use Rattle.pg_select.specs.declared.pass.Pass.{Pass}
-use Rattle.pg_driver.specs.Traces.{Known, Source, PassTrace, known_after, known_at_end, pass_made}
-use Rattle.pg_driver.specs.Accounts.{pass_line}
-use Rattle.pg_driver.specs.Layouts.{after_pass, after_passes}
+use Rattle.pg_driver.specs.Traces.{Known, Source, PassTrace, known_after, pass_made}
+use Rattle.pg_driver.specs.Inside.Passes.{known_at_end}
+use Rattle.pg_driver.specs.Inside.AccountLines.{pass_line}
+use Rattle.pg_driver.specs.Layouts.{after_pass}
+use Rattle.pg_driver.specs.Inside.CellsAccounts.{after_passes}
 use Rattle.pg_driver.specs.Inside.Told.{known_of, line_of, layout_told}
 
 -- what an engine knows, and the families of its strings, where they are told

@@ -2,7 +2,8 @@
 use Rattle.std.specs.Prelude.{ℕ, fold, ◌≡◌, List, map, All, Option, None, Some}
 use Rattle.pg_types.specs.Placement.{Families}
 use Rattle.pg_driver.specs.Traces.{Trace, Known, trace, final_patterns, over}
-use Rattle.pg_driver.specs.Layouts.{after_level, CellsAccount, cells_account}
+use Rattle.pg_driver.specs.Layouts.{after_level}
+use Rattle.pg_driver.specs.Inside.CellsAccounts.{CellsAccount, cells_account}
 use Rattle.std.specs.Option.{option_map}
 use Rattle.pg_types.specs.declared.marks.Layout.{Layout}
 use Rattle.pg_types.specs.Parameters.{Parameters}
@@ -14,9 +15,10 @@ use Rattle.pg_driver.specs.declared.records.PassRecord.{PassRecord}
 use Rattle.pg_driver.specs.declared.records.LevelRecord.{LevelRecord}
 use Rattle.pg_driver.specs.Inside.Sound.{Finished}
 use Rattle.pg_select.specs.Windows.{Patterns}
-use Rattle.pg_driver.specs.Accounts.{Account, PassLine, LevelLine, account, begun}
+use Rattle.pg_driver.specs.Accounts.{begun}
+use Rattle.pg_driver.specs.Inside.AccountLines.{Account, PassLine, LevelLine, account}
 
--- the families at the end of a run
+-- the families at the end of a run that begins with these
 abbrev pub final_families : ℕ → Families → Trace → Families
 final_families signs fs run = fold (after_level signs) fs run
 

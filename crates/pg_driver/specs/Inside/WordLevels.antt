@@ -12,7 +12,7 @@ use Rattle.pg_types.specs.Inside.Counts.{Counts}
 use Rattle.pg_dict.specs.Word.{Word}
 use Rattle.pg_dict.specs.Inside.SoundWords.{IsWord, letter_count}
 use Rattle.pg_select.specs.declared.pass.Pass.{Pass}
-use Rattle.pg_select.specs.Choices.{choice}
+use Rattle.pg_select.specs.Inside.Choices.{choice}
 use Rattle.pg_select.specs.CountedPositions.{CountedPosition}
 use Rattle.pg_select.specs.Inside.LawsAbove.{counts_above}
 use Rattle.pg_select.specs.Windows.{Patterns}
@@ -22,7 +22,8 @@ use Rattle.pg_driver.specs.declared.word_level.WordLevel.{WordLevel}
 use Rattle.pg_driver.specs.Accounts.{totals_by}
 use Rattle.pg_driver.specs.Inside.OpenLevels.{listed_from}
 use Rattle.pg_driver.specs.Inside.OpenPositions.{counted_in}
-use Rattle.pg_driver.specs.Traces.{Known, Source, is_chosen}
+use Rattle.pg_driver.specs.Traces.{Known, Source}
+use Rattle.pg_driver.specs.Inside.Fates.{chooses}
 
 -- the positions that count and have a value above the level, where they are listed; else none
 abbrev pub listing : Bool → ℕ → Patterns → Word → ℕ → Option Bool
@@ -41,7 +42,7 @@ pub record IsWordsAt (source : Source) (level : ℕ) (known : Known) (e : WordLe
 -- a window was chosen in a pass that has these sums
 abbrev pub was_chosen : LevelParams → Counts → List ℕ → Bool
 was_chosen params counts u =
-    option_map_or (λ sums. is_chosen (choice params sums.0 sums.1))
+    option_map_or (λ sums. chooses (choice params sums.0 sums.1))
     (find (slice_cmp nat_cmp) u counts) false
 
 -- the weight of a position that is good and whose window was chosen; 0 for any other

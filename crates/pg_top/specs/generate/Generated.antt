@@ -1,13 +1,18 @@
 -- What `generate` reads, writes and prints.
 use Rattle.std.specs.Prelude.{ℕ, List, [], ◌∷◌, ◌++◌, codes, decimal}
 use Rattle.pg_types.specs.Parameters.{parameters}
-use Rattle.pg_types.specs.declared.marks.Layout.{Layout}
+use Rattle.pg_translate.specs.Alphabets.{Alphabet}
+use Rattle.pg_translate.specs.Tables.{table}
+use Rattle.pg_dict.specs.Words.{words}
+use Rattle.pg_patterns.specs.Starts.{start}
+use Rattle.pg_driver.specs.Accounts.{begun}
+use Rattle.pg_driver.specs.Layouts.{families_at_end}
 use Rattle.pg_texts.specs.CellsTexts.{layout_text}
 use Rattle.pg_top.specs.Outcomes.{Outcome, Ends, Writing}
 use Rattle.pg_top.specs.PrintedLines.{done_line}
 use Rattle.pg_top.specs.Readings.{Held, Reading, input_file, table_named, parameters_named, patterns_under, words_under, translate_file, patterns_file, words_file}
 use Rattle.pg_words.specs.Requests.{FileNames, if_asked}
-use Rattle.pg_top.specs.Selection.{selected_text, selected_list, selected_cells_text, selected_report, selected_account, selected_cells, passes_begun, last_layout}
+use Rattle.pg_top.specs.Selection.{signs_of, selection, selected, selected_totals, selected_text, selected_list, selected_cells_text, selected_report}
 use Rattle.pg_top.specs.declared.answers.Status.TheVariants.{Done}
 use Rattle.pg_top.specs.declared.inputs.Input.TheVariants as input
 use Rattle.pg_top.specs.declared.selection.Inputs.{Inputs}
@@ -35,15 +40,12 @@ selected_files n i = (n.output, selected_text i)
     ++ if_asked n.cells (λ name. (name, selected_cells_text i))
     ++ (n.report, selected_report i) ∷ []
 
--- where `generate` is done: how many passes were begun, and the layout at the end
-abbrev pub work_line : ℕ → Layout → List ℕ
-work_line passes layout =
-    codes "work: " ++ decimal passes ++ codes " passes, " ++ layout_text layout
-
--- the lines that are put: the Done line and the work line
+-- the lines that are put: the Done line, and then how many passes were begun, and the layout at the
+-- end
 abbrev pub selected_lines : Inputs → List ℕ
-selected_lines i = done_line (selected_text i) (selected_account i).totals
-    ++ work_line (passes_begun i) (last_layout (selected_cells i))
+selected_lines i = done_line (selected_text i) (selected_totals i)
+    ++ codes "work: " ++ decimal (begun (selection i)) ++ codes " passes, "
+    ++ layout_text (families_at_end (signs_of i) i.start (selection i)) (selected i)
 
 -- what is written and printed when all that is read is accepted
 abbrev pub generated : FileNames → Inputs → Outcome

@@ -7,7 +7,7 @@ use Rattle.pg_types.specs.Parameters.{Parameters, items, parameters_of}
 use Rattle.pg_translate.specs.Tables.{default_alphabet}
 use Rattle.pg_dict.specs.Words.{words}
 use Rattle.pg_top.specs.PrintedLines.{done_line}
-use Rattle.pg_top.specs.Selection.{selected_text, selected_report, selected_account}
+use Rattle.pg_top.specs.Selection.{selected_text, selected_report, selected_totals}
 use Rattle.pg_top.specs.declared.selection.Inputs.{Inputs}
 
 -- the state after a draw
@@ -86,4 +86,4 @@ is_printed line = starts_with nat_eq line (codes "level")
 abbrev pub sample_lines : ℕ → ℕ → List ℕ
 sample_lines seed count = let i = sample_inputs seed count in
     flat_map (λ line. line ++ 10 ∷ []) (filter is_printed (lines (selected_report i)))
-    ++ done_line (selected_text i) (selected_account i).totals
+    ++ done_line (selected_text i) (selected_totals i)

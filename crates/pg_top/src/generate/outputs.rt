@@ -1,13 +1,14 @@
 //! What `generate` writes and prints.
 ghost use Rattle.std.specs.Prelude.{◌≡◌, ◌++◌, [], ◌∷◌, IfOk, OnOk, Some};
 ghost use Rattle.pg_driver.specs.Inside.Told.{account_of, TellsCells};
-ghost use Rattle.pg_packed.specs.Starts.{pattern_families};
+ghost use Rattle.pg_packed.specs.Inside.Starts.{pattern_families};
 ghost use Rattle.pg_patterns.specs.Inside.PatternMaps.{SignsUpTo};
 ghost use Rattle.pg_select.specs.Inside.Meanings.{new_engine};
 ghost use Rattle.pg_words.specs.Inside.Asked.{name_now, texts_of};
-ghost use Rattle.pg_top.specs.generate.Generated.{work_line, selected_files, selected_lines};
+ghost use Rattle.pg_top.specs.generate.Generated.{selected_files, selected_lines};
+ghost use Rattle.pg_top.specs.Inside.SelectionAccounts.{work_line, selected_cells, selected_account, passes_begun, last_layout as last_layout_of};
 ghost use Rattle.pg_words.specs.Requests.{if_asked};
-ghost use Rattle.pg_top.specs.Selection.{signs_of, selected, selected_list, selected_cells, selected_cells_text, selected_text, selected_report, selected_account, passes_begun, last_layout as last_layout_of};
+ghost use Rattle.pg_top.specs.Selection.{signs_of, selected, selected_list, selected_cells_text, selected_text, selected_report};
 ghost use Rattle.pg_top.specs.Inside.SelectionSigns.{HasSigns};
 ghost use Rattle.pg_top.specs.Inside.Written.{writing_of};
 ghost use Rattle.pg_types.specs.Lines.{lines};

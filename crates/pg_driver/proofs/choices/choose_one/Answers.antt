@@ -1,8 +1,18 @@
-use Rattle.std.proofs.Common.{sym, ◌∙◌}
+use Rattle.std.proofs.Common.{refl, sym, ◌∙◌}
 use Rattle.std.proofs.lemmas.Option.{slice_get_within}
 use Rattle.pg_driver.specs.Inside.PassWindows.{window_from}
-use Rattle.pg_driver.proofs.ChoiceSteps.{left_alone}
+use Rattle.pg_select.specs.Inside.Meanings.{Meaning}
+use Rattle.pg_driver.specs.Inside.States.{state_of}
+use Rattle.pg_driver.proofs.ChoiceSteps.{left_alone, left_state}
 use Rattle.pg_driver.proofs.choices.choose_one.Goals as goal
+
+pub returns-in-Left-clause-ok : goal.returns-in-Left-clause-ok
+returns-in-Left-clause-ok g c = λ u sums it.
+    let m : Meaning = g.E.Engine.meaning c.args.engine.now in
+    record {
+      state = left_state m.signs c.args.params.now m.pass (state_of m) (record { window = u; good = sums.0; bad = sums.1 }) (sym (c.requires.fate u sums it) ∙ c.in-Left.is);
+      kept = refl;
+    }
 
 pub returns-in-Left-clause-choices : goal.returns-in-Left-clause-choices
 returns-in-Left-clause-choices g c = λ u sums it.

@@ -1,7 +1,7 @@
 use Rattle.std.proofs.Common.{◌≡◌, ◌++◌, drop, map}
 use Rattle.std.specs.List.{flat_map}
 use Rattle.pg_texts.specs.Inside.Told.{pass_told, level_told}
-use Rattle.pg_texts.specs.CellsTexts.{level_cells_text}
+use Rattle.pg_texts.specs.Inside.CellsLines.{level_cells_text}
 use Rattle.pg_texts.proofs.cells.push_levels.Given as goal
 
 abbrev pub invariant-levels : goal.invariant-levels

@@ -1,5 +1,6 @@
 use Rattle.std.proofs.Common.{◌≡◌, ◌++◌, drop}
-use Rattle.pg_texts.specs.PattmpTexts.{lines_behind, words_taking_part, pattmp_text}
+use Rattle.pg_texts.specs.PattmpTexts.{lines_behind, pattmp_text}
+use Rattle.pg_texts.specs.Inside.ReadBack.{words_taking_part}
 use Rattle.pg_texts.proofs.pattmp.pattmp_text.Given as goal
 
 abbrev pub invariant-words : goal.invariant-words

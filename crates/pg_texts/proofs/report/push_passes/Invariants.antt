@@ -1,6 +1,6 @@
 use Rattle.std.proofs.Common.{◌≡◌, ◌++◌, drop, map}
 use Rattle.pg_driver.specs.Inside.Told.{line_of}
-use Rattle.pg_texts.specs.ReportTexts.{passes_text}
+use Rattle.pg_texts.specs.Inside.ReportLines.{passes_text}
 use Rattle.pg_texts.proofs.report.push_passes.Given as goal
 
 abbrev pub invariant-passes : goal.invariant-passes

@@ -1,10 +1,10 @@
 use Rattle.std.proofs.Common.{◌≡◌, ◌∙◌, ◌++◌, List, ℕ, ap}
 use Rattle.pg_driver.specs.Inside.Told.{account_of}
-use Rattle.pg_driver.specs.Accounts.{Account}
+use Rattle.pg_driver.specs.Inside.AccountLines.{Account}
 use Rattle.pg_top.specs.PrintedLines.{done_line}
 use Rattle.pg_top.specs.sample.Inside.Lines.{printed_part}
-use Rattle.pg_top.specs.Selection.{selected_text, selected_report, selected_account}
-use Rattle.pg_top.proofs.Selections.{text_selected, report_selected}
+use Rattle.pg_top.specs.Selection.{selected_text, selected_report, selected_totals}
+use Rattle.pg_top.proofs.Selections.{text_selected, report_selected, totals_selected}
 use Rattle.pg_top.proofs.sample.lines_after.Goals as goal
 
 pub returns : goal.returns
@@ -12,7 +12,7 @@ returns c =
     let i = c.args.inputs.now in
     let text : c.in_ok-patterns.patterns.items ≡ selected_text i = c.in_ok-patterns.ensures.text ∙ text_selected i c.patterns.result.now (c.patterns.ensures ∙ c.requires.selected) in
     let report : c.in_ok-report.report.items ≡ selected_report i = c.in_ok-report.ensures ∙ report_selected i c.largest.result (account_of c.args.run.now) c.largest.ensures.value c.requires.account in
-    let totals = c.totals.ensures.value ∙ ap (λ (a : Account). a.totals) c.requires.account in
-    let done : c.in_ok-done.done.items ≡ done_line (selected_text i) (selected_account i).totals = c.in_ok-done.ensures ∙ (λ k. done_line ((c.deref.ensures.value ∙ text) k) (totals k)) in
+    let totals = c.totals.ensures.value ∙ ap (λ (a : Account). a.totals) c.requires.account ∙ totals_selected i in
+    let done : c.in_ok-done.done.items ≡ done_line (selected_text i) (selected_totals i) = c.in_ok-done.ensures ∙ (λ k. done_line ((c.deref.ensures.value ∙ text) k) (totals k)) in
     let printed : c.push_printed.new.lines.items ≡ printed_part (selected_report i) = c.in_ok-push_printed.ensures ∙ ap (λ (xs : List ℕ). xs ++ printed_part c.deref-2.result.now) c.new-lines.ensures.items ∙ ap printed_part (c.deref-2.ensures.value ∙ report) in
     c.in_ok-extend_from_slice.ensures.items ∙ (λ k. printed k ++ (c.deref-3.ensures.value ∙ done) k)

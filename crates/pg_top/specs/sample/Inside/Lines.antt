@@ -2,7 +2,7 @@
 use Rattle.std.specs.Prelude.{ℕ, List, [], ◌∷◌, ◌++◌, filter, flat_map, codes}
 use Rattle.pg_types.specs.Lines.{lines}
 use Rattle.pg_top.specs.PrintedLines.{done_line}
-use Rattle.pg_top.specs.Selection.{selected_text, selected_report, selected_account}
+use Rattle.pg_top.specs.Selection.{selected_text, selected_report, selected_totals}
 use Rattle.pg_top.specs.sample.Sampled.{is_printed}
 use Rattle.pg_top.specs.declared.selection.Inputs.{Inputs}
 
@@ -13,8 +13,4 @@ printed_part report = flat_map (λ line. line ++ 10 ∷ []) (filter is_printed (
 -- what is printed of a selection: these lines, and the Done line
 abbrev pub selection_lines : Inputs → List ℕ
 selection_lines i = printed_part (selected_report i)
-    ++ done_line (selected_text i) (selected_account i).totals
-
--- the consonants that a syllable may end with
-abbrev pub closings : List ℕ
-closings = codes "nrs"
+    ++ done_line (selected_text i) (selected_totals i)

@@ -1,0 +1,37 @@
+-- What is told of the run of a selection.
+use Rattle.std.specs.Prelude.{ℕ, List, ◌++◌, codes, decimal, fold}
+use Rattle.pg_types.specs.declared.marks.Layout.{Layout}
+use Rattle.pg_types.specs.Placement.{Families}
+use Rattle.pg_packed.specs.Inside.Starts.{pattern_families}
+use Rattle.pg_driver.specs.Traces.{over}
+use Rattle.pg_driver.specs.Accounts.{begun}
+use Rattle.pg_driver.specs.Inside.AccountLines.{Account, account}
+use Rattle.pg_driver.specs.Inside.CellsAccounts.{CellsAccount, cells_account}
+use Rattle.pg_texts.specs.Inside.CellsLines.{layout_line_text}
+use Rattle.pg_top.specs.Selection.{signs_of, selection}
+use Rattle.pg_top.specs.declared.selection.Inputs.{Inputs}
+
+-- what is told of that run
+unfoldable pub selected_account : Inputs → Account
+selected_account i = account (over i.table i.dictionary) i.start (selection i)
+
+-- how many passes of that run are begun
+unfoldable pub passes_begun : Inputs → ℕ
+passes_begun i = begun (selection i)
+
+-- what is told of the cells of that run, where it begins with these families
+unfoldable pub selected_cells_from : Inputs → Families → CellsAccount
+selected_cells_from i fs = cells_account (signs_of i) fs i.start (selection i)
+
+-- what is told of the cells, where the run begins with the families of the starting patterns
+unfoldable pub selected_cells : Inputs → CellsAccount
+selected_cells i = selected_cells_from i (pattern_families (signs_of i) i.start)
+
+-- the layout after the last level of a run; where it has no level, the layout at its start
+abbrev pub last_layout : CellsAccount → Layout
+last_layout a = fold (λ _ l. l.1) a.start a.levels
+
+-- the line of how many passes were begun, and of a layout
+abbrev pub work_line : ℕ → Layout → List ℕ
+work_line passes layout = codes "work: " ++ decimal passes
+    ++ codes " passes, " ++ layout_line_text layout
