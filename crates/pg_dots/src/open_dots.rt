@@ -28,7 +28,7 @@ pub struct OpenDots {
     bits: Vec<u64>,
     ghost some: { 0 < width },
     ghost narrow: { width ≤ 2 ^ 32 },
-    ghost few: { reached ≤ 16 },
+    ghost few: { reached ≤ LENGTH_MAX + 1 },
     ghost rows: { length bits.items ≡ (reached + 1) * width },
 }
 
@@ -81,7 +81,7 @@ impl OpenDots {
 
     /// Gives the next dot a row of its own.
     fn reach_next(&mut self) -> Result<(), AllocError>
-        requires { self.old.reached < 16 }
+        requires { self.old.reached < LENGTH_MAX + 1 }
         ensures reached { OnOk result (self.new.reached ≡ self.old.reached + 1) }
         ensures places { places self.new ≡ places self.old }
         ensures closed { OnOk result ((d j : ℕ) → j < places self.old

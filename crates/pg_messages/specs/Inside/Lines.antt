@@ -2,6 +2,7 @@
 use Rattle.std.specs.Prelude.{ℕ, List, [], ◌++◌, take, codes, decimal, Option, Some, None}
 use Rattle.pg_watch.specs.declared.watch.Pass.{Pass}
 use Rattle.pg_watch.specs.declared.watch.Turn.{Turn}
+use Rattle.pg_messages.specs.declared.line.TheConstants.{ROW}
 use Rattle.pg_messages.specs.declared.line.Step.{Step}
 use Rattle.pg_messages.specs.declared.line.Step.TheVariants as step
 
@@ -32,8 +33,8 @@ step_text step.Writing name = codes "writing " ++ name
 step_text (step.Pass p) name = pass_text p
 step_text (step.Round r) name = codes "round " ++ decimal r
 
--- the whole line, of which 79 bytes are shown
+-- the whole line, of which the bytes of one row are shown
 abbrev pub line_text : List ℕ → ℕ → Option Turn → Step → List ℕ → List ℕ
 line_text command seconds turn step name =
-    take 79 (command ++ codes " " ++ decimal seconds
+    take ROW (command ++ codes " " ++ decimal seconds
     ++ codes " s: " ++ turn_if_told turn ++ step_text step name)
