@@ -5,7 +5,7 @@ ghost use Rattle.pg_dict.specs.Inside.SoundWords.{SignsAtMost};
 ghost use Rattle.pg_patterns.specs.Inside.PatternMaps.{SignsUpTo};
 ghost use Rattle.pg_driver.specs.Inside.Sound.{IsSmall};
 ghost use Rattle.pg_sweep.specs.Sweeps.{fold_totals};
-ghost use Rattle.pg_sweep.specs.Inside.Given.{terms, totals_of_folds, HasSigns, IsSmallFor};
+ghost use Rattle.pg_sweep.specs.Inside.Given.{terms, rest_totals, totals_of_folds, HasSigns, IsSmallFor};
 
 use crate::maker::Maker;
 use pg_dict::Dictionary;
@@ -28,6 +28,28 @@ pub(crate) struct Given<'a> {
     pub folds: u8,
 }
 
+/// The totals of the words that were left out, by the patterns that are selected from the rest.
+fn totals_by_rest<K: Maker>(
+    alloc: Global,
+    maker: &K,
+    given: &Given<'_>,
+    params: &Params,
+    rest: &Dictionary,
+    left_out: &Dictionary,
+) -> Result<Totals, AllocError>
+    requires signs { HasSigns given.now }
+    requires rest { SignsAtMost (letters_of given.now.table.now + 1) rest.now }
+    requires left_out { SignsAtMost (letters_of given.now.table.now + 1) left_out.now }
+    ensures value { IfOk result
+        (λ sums. sums ≡ rest_totals (terms given.now) params.now rest.now left_out.now) }
+    ensures small { IfOk result IsSmall }
+{
+    let table = given.table;
+    let mut engine = maker.make(alloc, table.letters() + 1, given.start)?;
+    generate(alloc, &mut engine, rest, table, params)?;
+    Ok(totals(&engine, left_out, table))
+}
+
 /// The totals of the words of a fold, by the patterns that are selected from all other words.
 fn totals_of_fold<K: Maker>(
     alloc: Global,
@@ -41,17 +63,9 @@ fn totals_of_fold<K: Maker>(
     ensures value { IfOk result (λ sums. sums ≡ fold_totals (terms given.now) params.now fold) }
     ensures small { IfOk result IsSmall }
 {
-    let Given {
-        dictionary,
-        table,
-        start,
-        folds,
-    } = *given;
-    let rest = dictionary.part(alloc, folds, fold, false)?;
-    let left_out = dictionary.part(alloc, folds, fold, true)?;
-    let mut engine = maker.make(alloc, table.letters() + 1, start)?;
-    generate(alloc, &mut engine, &rest, table, params)?;
-    Ok(totals(&engine, &left_out, table))
+    let rest = given.dictionary.part(alloc, given.folds, fold, false)?;
+    let left_out = given.dictionary.part(alloc, given.folds, fold, true)?;
+    totals_by_rest(alloc, maker, given, params, &rest, &left_out)
 }
 
 /// The totals of the words that were left out, over all folds.
