@@ -1,15 +1,14 @@
 -- Laws of walks: where a string has no cell, and what entering a sign leaves of the values.
-use Rattle.std.proofs.Common.{◌≡◌, ◌≢◌, ℕ, ◌+◌, ◌-◌, ◌<◌, inl, inr, cond, nat_eq, List, [], ◌∷◌, ◌++◌, length, take, drop, get_or, Option, None, Some, refl, sym, ◌∙◌, ap, subst, arith}
+use Rattle.std.proofs.Common.{◌≡◌, ◌≢◌, ℕ, ◌+◌, ◌<◌, inl, inr, cond, nat_eq, List, [], ◌∷◌, ◌++◌, length, take, drop, get_or, Option, None, Some, refl, sym, ◌∙◌, ap, subst, arith}
 use Rattle.std.proofs.lemmas.Bool.{eq-eqb, ne_eqb}
-use Rattle.std.proofs.lemmas.List.{append_assoc, take_more, drop_more, take-append-drop, append-nil, length-take, get_or-take}
-use Rattle.std.proofs.lemmas.Grind.{get_or_after_one}
+use Rattle.std.proofs.lemmas.List.{append_assoc, take_more, drop_more, take-append-drop, append-nil, length-take}
 use Rattle.std.specs.List.{list_any}
 use Rattle.std.specs.Option.{option_map}
 use Rattle.std.specs.FinMap.{find, put}
 use Rattle.pg_types.specs.Placement.{Family, Families, family_at, cell_in, cell_of, base_of, with_sign, enter_by, enter_after}
 use Rattle.pg_cells.specs.Inside.ValuedFamilies.{ValuedFamilies}
 use Rattle.pg_cells.specs.Inside.AreValuedFamilies.{AreValuedFamilies}
-use Rattle.pg_cells.specs.Inside.Walks.{EndsBefore, StepsBy, Steps, AddsBlanks}
+use Rattle.pg_cells.specs.Inside.Walks.{EndsBefore, IsKnown, StepsBy, Steps, AddsBlanks}
 use Rattle.pg_cells.proofs.StringMaps.{order, equal_or_not, find_put_same, find_put_other}
 use Rattle.pg_cells.proofs.PlacementLaws.{cell_of_last}
 
@@ -22,19 +21,9 @@ no_family (Some f) x e = cc
 pub childless : (fs : Families) (q : List ℕ) (x : ℕ) → base_of fs q ≡ None → cell_of fs (q ++ x ∷ []) ≡ None
 childless fs q x e = cell_of_last fs q x ∙ no_family (family_at fs q) x e
 
--- the signs behind the first, which are walked one by one
-pub within_way : (w : List ℕ) (i : ℕ) → i < length (take (length w - 1) (drop 1 w)) → i + 1 < length w
-within_way w i lt = omega (arith, length-take (length w - 1) (drop 1 w))
-
-pub way_sign : (w : List ℕ) (i : ℕ) → i + 1 < length w → get_or (take (length w - 1) (drop 1 w)) i 0 ≡ get_or w (i + 1) 0
-way_sign w i lt =
-    let le : i < length w - 1 = omega arith in
-    let same : 1 + i ≡ i + 1 = omega arith in
-    get_or-take (length w - 1) (drop 1 w) i 0 le ∙ get_or_after_one w i 0 ∙ ap (λ k. get_or w k 0) same
-
 -- one sign further on the way to w
-pub way_more : (w : List ℕ) (i : ℕ) → i + 1 < length w → take (i + 1 + 1) w ≡ take (i + 1) w ++ get_or w (i + 1) 0 ∷ []
-way_more w i lt = take_more w (i + 1) 0 lt
+pub way_more : (w : List ℕ) (k : ℕ) → k < length w → take (k + 1) w ≡ take k w ++ get_or w k 0 ∷ []
+way_more w k lt = take_more w k 0 lt
 
 -- a sign in the family of a string, which is new where no string has its cell
 abbrev pub entered : ℕ → ℕ → Families → List ℕ → ℕ → Families
@@ -50,6 +39,34 @@ enter_after_last few n fs a (t ∷ q) s =
 enter_last : (few n : ℕ) (fs : Families) (w : List ℕ) (s : ℕ) → 0 < length w → enter_by few n fs (w ++ s ∷ []) ≡ entered few n (enter_by few n fs w) w s
 enter_last few n fs [] s some = absurd (omega arith)
 enter_last few n fs (t ∷ q) s some = enter_after_last few n fs (t ∷ []) q s
+
+-- where the string has its cell, to enter its last sign changes nothing
+stays : (few n : ℕ) (fs : Families) (p : List ℕ) (s cell : ℕ) → cell_of fs (p ++ s ∷ []) ≡ Some cell → entered few n fs p s ≡ fs
+stays few n fs p s cell there = ap (λ o. elim o as (λ _. Families) [ Some c ↦ fs | None ↦ with_sign few n fs p s ]) (sym (cell_of_last fs p s) ∙ there)
+
+-- the first sign of a string is known
+pub first_known : (few n : ℕ) (fs : Families) (w : List ℕ) → 0 < length w → IsKnown few n fs w 1
+first_known few n fs [] some = absurd (omega arith)
+first_known few n fs (s ∷ q) some = record { front = refl; rest = refl }
+
+-- and one more, where there is a cell
+pub more_known : (few n : ℕ) (fs : Families) (w : List ℕ) (k cell : ℕ) → 0 < k → k < length w → cell_of fs (take k w ++ get_or w k 0 ∷ []) ≡ Some cell → IsKnown few n fs w k → IsKnown few n fs w (k + 1)
+more_known few n fs w k cell up lt there known =
+    let p = take k w in
+    let s = get_or w k 0 in
+    let same = stays few n fs p s cell there in
+    record {
+      front =
+          sym same
+          ∙ ap (λ g. entered few n g p s) known.front
+          ∙ sym (enter_last few n fs p s (omega (arith, length-take k w)))
+          ∙ sym (ap (enter_by few n fs) (way_more w k lt));
+      rest =
+          ap (λ l. enter_after few n fs l (drop (k + 1) w)) (way_more w k lt)
+          ∙ sym (ap (λ g. enter_after few n g (p ++ s ∷ []) (drop (k + 1) w)) same)
+          ∙ sym (ap (enter_after few n fs p) (drop_more w k 0 lt))
+          ∙ known.rest;
+    }
 
 module _ {V : Type 0} where
   -- where a string has no cell, no string that begins with it has a value
@@ -152,30 +169,30 @@ module _ {V : Type 0} where
           blank_added w blank old.values new.values k none (ap (λ (h : ValuedFamilies V). h.values) e ∙ ap (λ y. put order y blank old.values) (sym way))
       by (Some cell) is e = none_added w blank old.values new.values (ap (λ (h : ValuedFamilies V). h.values) e)
 
-  pub enter_more : (few n : ℕ) (old new : ValuedFamilies V) (w : List ℕ) (i : ℕ) (blank : V) → old.signs ≡ n → i + 1 < length w → Steps few old new (take (i + 1) w) (get_or w (i + 1) 0) blank
-      → enter_after few n new.families (take (i + 1 + 1) w) (drop (i + 1 + 1) w) ≡ enter_after few n old.families (take (i + 1) w) (drop (i + 1) w)
-  enter_more few n old new w i blank signs lt steps =
-      let p = take (i + 1) w in
-      let s = get_or w (i + 1) 0 in
+  pub enter_more : (few n : ℕ) (old new : ValuedFamilies V) (w : List ℕ) (k : ℕ) (blank : V) → old.signs ≡ n → k < length w → Steps few old new (take k w) (get_or w k 0) blank
+      → enter_after few n new.families (take (k + 1) w) (drop (k + 1) w) ≡ enter_after few n old.families (take k w) (drop k w)
+  enter_more few n old new w k blank signs lt steps =
+      let p = take k w in
+      let s = get_or w k 0 in
       let families = step_families few old new p s blank steps in
-      ap (λ l. enter_after few n new.families l (drop (i + 1 + 1) w)) (way_more w i lt)
-      ∙ ap (λ l. enter_after few n l (p ++ s ∷ []) (drop (i + 1 + 1) w)) (families ∙ ap (λ m. elim (cell_in old.families p s) as (λ _. Families) [ Some cell ↦ old.families | None ↦ with_sign few m old.families p s ]) signs)
-      ∙ sym (ap (enter_after few n old.families p) (drop_more w (i + 1) 0 lt))
+      ap (λ l. enter_after few n new.families l (drop (k + 1) w)) (way_more w k lt)
+      ∙ ap (λ l. enter_after few n l (p ++ s ∷ []) (drop (k + 1) w)) (families ∙ ap (λ m. elim (cell_in old.families p s) as (λ _. Families) [ Some cell ↦ old.families | None ↦ with_sign few m old.families p s ]) signs)
+      ∙ sym (ap (enter_after few n old.families p) (drop_more w k 0 lt))
 
   -- so much of w is entered
-  pub front_more : (few n : ℕ) (fs : Families) (old new : ValuedFamilies V) (w : List ℕ) (i : ℕ) (blank : V) → old.signs ≡ n → i + 1 < length w → Steps few old new (take (i + 1) w) (get_or w (i + 1) 0) blank
-      → old.families ≡ enter_by few n fs (take (i + 1) w) → new.families ≡ enter_by few n fs (take (i + 1 + 1) w)
-  front_more few n fs old new w i blank signs lt steps front =
-      let p = take (i + 1) w in
-      let s = get_or w (i + 1) 0 in
+  pub front_more : (few n : ℕ) (fs : Families) (old new : ValuedFamilies V) (w : List ℕ) (k : ℕ) (blank : V) → old.signs ≡ n → 0 < k → k < length w → Steps few old new (take k w) (get_or w k 0) blank
+      → old.families ≡ enter_by few n fs (take k w) → new.families ≡ enter_by few n fs (take (k + 1) w)
+  front_more few n fs old new w k blank signs up lt steps front =
+      let p = take k w in
+      let s = get_or w k 0 in
       step_families few old new p s blank steps
       ∙ ap (λ m. entered few m old.families p s) signs
       ∙ ap (λ g. entered few n g p s) front
-      ∙ sym (enter_last few n fs p s (omega (arith, length-take (i + 1) w)))
-      ∙ sym (ap (enter_by few n fs) (way_more w i lt))
+      ∙ sym (enter_last few n fs p s (omega (arith, length-take k w)))
+      ∙ sym (ap (enter_by few n fs) (way_more w k lt))
 
   -- the string that a refused step does not reach has no value
-  pub not_reached : (values : List (List ℕ × V)) (w : List ℕ) (i : ℕ) → i + 1 < length w → EndsBefore values (take (i + 1) w ++ get_or w (i + 1) 0 ∷ []) → find order w values ≡ None
-  not_reached values w i lt ends =
-      ap (λ q. find order q values) (sym (take-append-drop (i + 1 + 1) w) ∙ ap (λ l. l ++ drop (i + 1 + 1) w) (way_more w i lt))
-      ∙ ends (drop (i + 1 + 1) w)
+  pub not_reached : (values : List (List ℕ × V)) (w : List ℕ) (k : ℕ) → k < length w → EndsBefore values (take k w ++ get_or w k 0 ∷ []) → find order w values ≡ None
+  not_reached values w k lt ends =
+      ap (λ q. find order q values) (sym (take-append-drop (k + 1) w) ∙ ap (λ l. l ++ drop (k + 1) w) (way_more w k lt))
+      ∙ ends (drop (k + 1) w)

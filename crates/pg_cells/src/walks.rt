@@ -5,7 +5,7 @@ ghost use Rattle.std.specs.Cmp.Lexicographic.{slice_cmp};
 ghost use Rattle.std.specs.Ordering.{nat_cmp};
 ghost use Rattle.pg_types.specs.Placement.{cell_of, base_of, enter_by};
 ghost use Rattle.pg_cells.specs.Inside.AreValuedFamilies.{AreValuedFamilies};
-ghost use Rattle.pg_cells.specs.Inside.Walks.{IsAt, EndsBefore, Steps, AddsBlanks};
+ghost use Rattle.pg_cells.specs.Inside.Walks.{IsAt, EndsBefore, IsKnown, Steps, AddsBlanks};
 
 use crate::Cells;
 use pg_types::Sign;
@@ -70,6 +70,27 @@ fn step_or_add<V: Copy, const FEW: usize>(
     cells.add(parent, s, blank)
 }
 
+// How many signs the longest prefix has that has a cell, and its cell. It only reads, so the walk is
+// short.
+fn known_prefix<V: Copy, const FEW: usize>(cells: &Cells<V, FEW>, signs: &[Sign]) -> (usize, usize)
+    requires some { 0 < length signs.now }
+    requires signs { All (λ s. (1 ≤ s) × (s ≤ cells.now.signs)) signs.now }
+    ensures count { (0 < result.0) × (result.0 ≤ length signs.now) }
+    ensures cell { cell_of cells.now.families (take result.0 signs.now) ≡ Some result.1 }
+    ensures known { IsKnown FEW cells.now.signs cells.now.families signs.now result.0 }
+    ensures held { AreValuedFamilies cells.now }
+{
+    let _held = cells.signs();
+    let mut cell = signs[0] as usize;
+    for k in 1..signs.len() {
+        let Some(next) = step(cells, Some(cell), signs[k]) else {
+            return (k, cell);
+        };
+        cell = next;
+    }
+    (signs.len(), cell)
+}
+
 /// Gives each prefix of the string a cell, a new one with the value `blank`, and answers the cell
 /// of the string.
 ///
@@ -93,10 +114,9 @@ pub fn enter<V: Copy, const FEW: usize>(
     ensures signs { cells.new.signs ≡ cells.old.signs }
     ensures err { OnErr result (find (slice_cmp nat_cmp) signs.now cells.old.values ≡ None) }
 {
-    let _held = cells.signs();
-    let mut cell = signs[0] as usize;
-    for s in &signs[1..] {
-        cell = step_or_add(cells, cell, *s, blank)?;
+    let (known, mut cell) = known_prefix(cells, signs);
+    for k in known..signs.len() {
+        cell = step_or_add(cells, cell, signs[k], blank)?;
     }
     Ok(cell)
 }

@@ -1,15 +1,21 @@
 -- Walks from string to string by their cells, and what entering a string leaves.
-use Rattle.std.specs.Prelude.{◌≡◌, ℕ, List, [], ◌∷◌, ◌++◌, take, Option, None, Some}
+use Rattle.std.specs.Prelude.{◌≡◌, ℕ, List, [], ◌∷◌, ◌++◌, take, drop, Option, None, Some}
 use Rattle.std.specs.Ordering.{nat_cmp}
 use Rattle.std.specs.Cmp.Lexicographic.{slice_cmp}
 use Rattle.std.specs.FinMap.{find, put}
-use Rattle.pg_types.specs.Placement.{Families, cell_of, with_sign}
+use Rattle.pg_types.specs.Placement.{Families, cell_of, with_sign, enter_by, enter_after}
 use Rattle.pg_cells.specs.Inside.ValuedFamilies.{ValuedFamilies}
 
 -- where a walk stands: at the empty string, or at the string that has the cell
 abbrev pub IsAt : Families → Option ℕ → List ℕ → Type 0
 IsAt fs None q = q ≡ []
 IsAt fs (Some cell) q = cell_of fs q ≡ Some cell
+
+-- the first k signs of w need no new cell: to enter them changes nothing, and to enter w is to enter
+-- the others after them
+pub record IsKnown (few n : ℕ) (fs : Families) (w : List ℕ) (k : ℕ) : Type 0 where
+  pub front : fs ≡ enter_by few n fs (take k w)
+  pub rest : enter_after few n fs (take k w) (drop k w) ≡ enter_by few n fs w
 
 module _ {V : Type 0} where
   -- no string that begins with q has a value
