@@ -11,7 +11,8 @@ use Rattle.pg_words.specs.Commands.{words_of}
 use Rattle.pg_top.specs.Counted.{MakesCalls, read_calls}
 use Rattle.pg_top.specs.Readings.{Held, Reading, read_as, parameters_named}
 use Rattle.pg_top.specs.Inside.Stops.{StopsAt, StopsReading}
-use Rattle.pg_top.specs.sweep.Swept.{set_file, set_files}
+use Rattle.pg_top.specs.sweep.Swept.{set_files}
+use Rattle.pg_top.specs.sweep.Inside.SetFiles.{set_file}
 use Rattle.pg_top.specs.sweep.Inside.Accepted.{accepted_set, HasSets}
 use Rattle.pg_top.specs.declared.inputs.Input.TheVariants as input
 use Rattle.pg_top.specs.declared.inputs.Stop.{Stop}

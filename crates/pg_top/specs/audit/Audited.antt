@@ -1,5 +1,5 @@
 -- What `audit` compares, and what it says.
-use Rattle.std.specs.Prelude.{ℕ, List, [], ◌∷◌, ◌++◌, map, codes, decimal}
+use Rattle.std.specs.Prelude.{ℕ, Option, List, [], ◌∷◌, ◌++◌, map, codes, decimal}
 use Rattle.std.specs.Option.{option_map}
 use Rattle.pg_audit.specs.Differences.{Difference, first_false}
 use Rattle.pg_audit.specs.FoundLines.{found_text}
@@ -31,11 +31,9 @@ denies given d = Ends No [] (no_line given d)
 
 -- a given file, which ends the call where a line of it is false
 abbrev pub given_file : (Held → Inputs) → Given × List ℕ → Reading
-given_file inputs g = record {
-  name = g.1;
-  ends = λ files bytes. option_map (denies g.0)
-      (first_false bytes (wanted_text (inputs files) g.0));
-}
+given_file inputs g = let ends : Held → List ℕ → Option Outcome = λ files bytes.
+    option_map (denies g.0) (first_false bytes (wanted_text (inputs files) g.0)) in
+    record { name = g.1; ends = ends }
 
 -- the given files in their order, each of which ends the call where a line of it is false: the
 -- pattern file, the hyphenated list where it is asked for, and the report

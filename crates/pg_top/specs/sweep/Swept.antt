@@ -11,14 +11,11 @@ use Rattle.pg_words.specs.Requests.{SweepRequest}
 use Rattle.pg_top.specs.declared.answers.Status.TheVariants.{Done}
 use Rattle.pg_top.specs.declared.inputs.Input.TheVariants as input
 
--- the parameter file with this number, as it is read
-abbrev pub set_file : ℕ → List ℕ → Reading
-set_file number name = input_file (input.Set number) name (λ files. parameters)
-
 -- parameter files one after the other, the first of which has this number
 abbrev pub set_files : ℕ → List (List ℕ) → List Reading
 set_files number [] = []
-set_files number (name ∷ names) = set_file number name ∷ set_files (number + 1) names
+set_files number (name ∷ names) = input_file (input.Set number) name (λ files. parameters)
+    ∷ set_files (number + 1) names
 
 -- what the runs of a sweep share, by the files that are held
 abbrev pub terms_in : Held → SweepRequest → Terms
