@@ -68,8 +68,7 @@ pub fn prune_watched<W: Rounds>(
     ensures part { IfOk result (λ found. All (Contains patterns.now) found.patterns) }
     ensures known { IfOk result (λ found. SignsUpTo (letters_of table.now + 1) found.patterns) }
 {
-    let found = find(alloc, dictionary, table, patterns, watch)?;
-    Ok(found)
+    find(alloc, dictionary, table, patterns, watch)
 }
 
 /// Does what `prune_watched` does. Its contract names only the definition.
@@ -88,15 +87,14 @@ fn find<W: Rounds>(
     let lists = gather(alloc, dictionary, table, patterns)?;
     let standing = lists.as_slice();
     let mut all = all_holders(alloc, patterns, standing, places.len())?;
-    let found = settle(
+    settle(
         alloc,
         patterns,
         standing,
         places.as_slice(),
         all.as_mut_slice(),
         watch,
-    )?;
-    Ok(found)
+    )
 }
 
 /// Makes the rounds. `places` are those of the words, `standing` says at which of them each entry
