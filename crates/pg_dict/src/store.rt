@@ -72,6 +72,7 @@ impl Store {
     }
 
     /// Adds a sign, and the position before it. After an error nothing is said of the columns.
+    #[inline(always)]
     pub(crate) fn push(&mut self, position: Position, sign: Sign) -> Result<(), AllocError>
         ensures ok { OnOk result (columns_of self.new
             ≡ with_signs (columns_of self.old)
