@@ -12,9 +12,10 @@ mod named;
 
 use crate::named::Named;
 pub use listen::Listen;
-use pg_messages::{Reasons, Told, is_shown};
+use pg_messages::{Reasons, Told};
 use pg_outside::{Files, HostFiles, HostSink, HostSystem, Sink};
 use pg_top::{exit_code, run_watched};
+use pg_watch::is_shown;
 use std::alloc::Global;
 use std::env::Args;
 use std::io::{ErrorKind, IsTerminal, Write};

@@ -1,6 +1,4 @@
 //! The observer of a program.
-use crate::line::{Step, line_text};
-use crate::screen::Screen;
 use pg_audit::FalseLine;
 use pg_dict::Dictionary;
 use pg_explain::{
@@ -11,7 +9,7 @@ use pg_patterns::PatternSet;
 use pg_translate::Table;
 use pg_types::{Params, next_line};
 use pg_visible::visible;
-use pg_watch::{Pass, Refused, Turn, Watch};
+use pg_watch::{Pass, Refused, Screen, Step, Turn, Watch, line_text};
 use std::alloc::Global;
 use std::cell::{Cell, RefCell};
 use std::io::Write;

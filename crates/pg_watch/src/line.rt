@@ -1,10 +1,10 @@
 //! The line that says where a call is.
 ghost use Rattle.std.specs.Prelude.{◌≡◌, ◌++◌, IfOk, OnOk};
 ghost use Rattle.std.specs.Option.{option_map};
-ghost use Rattle.pg_messages.specs.Inside.Lines.{pass_text, turn_text, turn_if_told, step_text, line_text as line_text_of};
+ghost use Rattle.pg_watch.specs.Inside.Lines.{pass_text, turn_text, turn_if_told, step_text, line_text as line_text_of};
 
-use pg_types::push_number;
-use pg_watch::{Pass, Turn};
+use crate::watch::{Pass, Turn};
+use itoa::Buffer;
 use std::alloc::{AllocError, Global};
 
 /// How many bytes a line has at most, so that it fits into a row of a terminal.

@@ -2,7 +2,7 @@
 ghost use Rattle.std.specs.Prelude.{◌≡◌, ◌↔◌, IsTrue};
 ghost use Rattle.std.specs.Option.{option_map};
 ghost use Rattle.std.specs.Duration.{as_nanos};
-ghost use Rattle.pg_messages.specs.Inside.Times.{IsDue, is_shown as is_shown_by};
+ghost use Rattle.pg_watch.specs.Inside.Times.{IsDue, is_shown as is_shown_by};
 
 use std::cell::{Cell, RefCell};
 use std::io::Write;
