@@ -17,6 +17,10 @@ use crate::member::Member;
 use std::alloc::{AllocError, Global};
 use std::marker::Model;
 
+/// There is room for so many cells from the start, so that the cells of a long list are in a block
+/// of their own, which the system makes longer in its place. What no cell needs stays untouched.
+const CELLS_AT_FIRST: usize = 1 << 18;
+
 /// The cells. Cell 0 is never taken.
 ///
 /// `lows` has a bound for each sign. No base below it is free with the cell of the sign, but for
@@ -57,7 +61,7 @@ impl<V: Copy> Store<V> {
     pub fn new(alloc: Global, signs: u16, value: V) -> Result<Store<V>, AllocError>
         ensures { IfOk result (λ s. s ≡ one_free (lone value)) }
     {
-        let mut cells = Vec::new(alloc);
+        let mut cells = Vec::with_capacity(alloc, CELLS_AT_FIRST)?;
         cells.push(Cell {
             value,
             link: 0,
