@@ -128,8 +128,7 @@ impl Sink for MemorySink {
                 Ok(())
             }
             Some(plan) => {
-                let keep = plan.keep.map_or(0, |keep| keep.min(bytes.len()));
-                self.held.append(&bytes[..keep]);
+                self.held.append(plan.front(bytes));
                 self.fail()
             }
         }

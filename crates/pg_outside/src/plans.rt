@@ -1,5 +1,5 @@
 //! The calls that are to fail, and the running number of the calls.
-ghost use Rattle.std.specs.Prelude.{◌≡◌, ◌==◌, [], find, OnOk, OnErr};
+ghost use Rattle.std.specs.Prelude.{◌≡◌, ◌≤◌, ◌==◌, [], find, length, take, unwrap_or, OnOk, OnErr};
 ghost use Rattle.std.specs.Option.{option_map};
 ghost use Rattle.std.specs.FinMap as fin;
 ghost use Rattle.pg_outside.specs.Faults.{next_count};
@@ -13,6 +13,21 @@ pub(crate) struct Plan {
     pub call: u64,
     /// How many of the bytes that it was handed the call keeps; `None` leaves all as before.
     pub keep: Option<usize>,
+}
+
+impl Plan {
+    /// The first bytes that the call keeps of those that it was handed: none where it names no
+    /// number of them.
+    pub fn front<'a>(&self, bytes: &'a [u8]) -> &'a [u8]
+        ensures kept { result.now ≡ take (unwrap_or self.now.keep 0) bytes.now }
+        ensures few { length result.now ≤ length bytes.now }
+    {
+        let keep = match self.keep {
+            Some(keep) => keep.min(bytes.len()),
+            None => 0,
+        };
+        &bytes[..keep]
+    }
 }
 
 /// The calls that are to fail, and how many calls there were.

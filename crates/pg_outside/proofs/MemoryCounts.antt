@@ -1,0 +1,18 @@
+-- The read faults of files in memory, where no name is noted more.
+use Rattle.std.proofs.Common.{◌≡◌, ℕ, ◌+◌, ◌≤◌, List, String, ap, arith}
+use Rattle.std.specs.declared.alloc.Global.{Global}
+use Rattle.pg_outside.specs.Faults.{next_count}
+use Rattle.pg_outside.specs.Inside.MissingNames.{times_in}
+
+module _ (before now : List (String Global)) (failed faults : ℕ) (same : now ≡ before) where
+  pub reads_later : failed ≤ faults → (name : List ℕ) → failed + times_in before name ≤ faults + times_in now name
+  reads_later later name = let times = ap (λ (names : List (String Global)). times_in names name) same in omega arith
+
+  pub reads_by_one : faults ≤ failed + 1 → (name : List ℕ) → faults + times_in now name ≤ failed + times_in before name + 1
+  reads_by_one by_one name = let times = ap (λ (names : List (String Global)). times_in names name) same in omega arith
+
+  pub reads_same : faults ≡ failed → (name : List ℕ) → faults + times_in now name ≡ failed + times_in before name
+  reads_same as_before name = let times = ap (λ (names : List (String Global)). times_in names name) same in omega arith
+
+  pub reads_rose : faults ≡ next_count failed → (name : List ℕ) → next_count (failed + times_in before name) ≤ faults + times_in now name
+  reads_rose rose name = let times = ap (λ (names : List (String Global)). times_in names name) same in omega arith
