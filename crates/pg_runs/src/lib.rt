@@ -1,8 +1,10 @@
 //! What no table of rows can say: runs of the driver beside a run that skips no pass, and over both
 //! engines; the windows that a pass counts; a call of the program over files that never fail; calls
 //! over a disk that stops or fails at each of its calls in turn; and the status of each answer. All
-//! other calls are rows of patgen_rows. And what files and sinks do whose calls fail: a disk in
-//! memory, real files, and files and writers whose calls go as a list says.
+//! other calls are rows of patgen_rows.
+//!
+//! What files and sinks do whose calls fail is tried here too: a disk in memory, real files, and
+//! files and writers whose calls go as a list says.
 #![tactic(auto)]
 
 #[cfg(test)]

@@ -1,5 +1,5 @@
-//! Observers of a call, an engine that tells one where a pass begins, and the line that says where a
-//! call is.
+//! Observers of a call, an engine that tells one where a pass begins, and the line that says where
+//! a call is.
 #![tactic(auto)]
 
 mod line;
