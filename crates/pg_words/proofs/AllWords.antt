@@ -1,5 +1,5 @@
 -- What holds of each of a list of words, taken one after the other.
-use Rattle.std.proofs.Common.{◌≡◌, ℕ, ◌+◌, ◌<◌, Bool, true, false, ◌&&◌, List, length, drop, get_or, String, sym, ap, ◌∙◌}
+use Rattle.std.proofs.Common.{◌≡◌, ℕ, ◌+◌, ◌<◌, Bool, true, false, ◌&&◌, List, [], ◌∷◌, length, drop, get_or, String, sym, ap, ◌∙◌, arith}
 use Rattle.std.specs.List.{list_all}
 use Rattle.std.specs.Prelude.{string_bytes}
 use Rattle.std.specs.declared.alloc.Global.{Global}
@@ -20,3 +20,8 @@ module _ (p : List ℕ → Bool) (words : List (String Global)) (i : ℕ) (word 
   -- and one of which it does not decides
   pub holds_not : p (string_bytes word) ≡ false → list_all p (words_of words) ≡ false
   holds_not fails = step ∙ ap (λ b. b && list_all p (words_of (drop (i + 1) words))) fails
+
+-- words as the first of them and those behind it
+pub first_and_rest : (words : List (String Global)) (word : String Global) (text : List ℕ) (rest : List (String Global)) → 0 < length words → word ≡ get_or words 0 word → text ≡ string_bytes word → rest ≡ drop 1 words → text ∷ words_of rest ≡ words_of words
+first_and_rest [] word text rest some is bytes behind = absurd (omega arith)
+first_and_rest (first ∷ words) word text rest some is bytes behind = λ i. (bytes ∙ ap string_bytes is) i ∷ words_of (behind i)
