@@ -24,10 +24,8 @@ use pg_types::{SIGNS_MAX, Sign};
 use std::alloc::{AllocError, Global};
 use std::marker::Model;
 
-/// Families of cells, each cell with a value. The base of a family of up to `FEW` signs is sought
-/// from 1 on. For a greater one the search begins some way below the greatest taken cell. With
-/// `FEW` 4 this is the rule for patterns. With `FEW` 0 each search begins a little below that cell,
-/// and is short.
+/// Families of cells, each cell with a value, placed as [`Cells`](crate::Cells) says. The links from
+/// sign to sign are a part of the values here.
 #[derive(Drop)]
 pub struct Placed<V: Copy, const FEW: usize> {
     signs: u16,
@@ -156,14 +154,9 @@ impl<V: Copy, const FEW: usize> Placed<V, FEW> {
         joins(&self.store, base, s)
     }
 
-    /// Adds the sign to the family below the parent's string, with the value, and gives its cell.
-    /// The members are the family's signs, where the sign does not join it in place.
-    ///
-    /// A new family is put at the least base that fits, from the lowest one on that is tried for
-    /// its number of signs. A sign joins a family in place where its cell is free. Else the family
-    /// gives up its cells and is put anew by the same rule. The number of a cell of this family
-    /// that was got before may then be that of another string's cell. The parent and each other
-    /// string outside of the family keep their cells.
+    /// Adds the sign to the family below the parent's string, with the value, and gives its cell, as
+    /// [`Cells::add`](crate::Cells::add) does. The members are the family's signs, where the sign
+    /// does not join it in place.
     pub fn add(
         &mut self,
         parent: usize,

@@ -13,10 +13,10 @@ use std::alloc::AllocError;
 
 // The base of the family below a cell's string, or of the root at the start.
 fn base_below<V: Copy, const FEW: usize>(cells: &Cells<V, FEW>, at: Option<usize>) -> Option<usize>
-    requires { (q : List ℕ) × (IsAt cells.now.families at q) }
+    requires held { AreValuedFamilies cells.now }
+    requires at { (q : List ℕ) × (IsAt cells.now.families at q) }
     ensures { (q : List ℕ) → IsAt cells.now.families at q → result ≡ base_of cells.now.families q }
 {
-    let _held = cells.signs();
     match at {
         None => Some(0),
         Some(cell) => match cells.child(cell) {
@@ -52,6 +52,7 @@ fn step_or_add<V: Copy, const FEW: usize>(
     s: Sign,
     blank: V,
 ) -> Result<usize, AllocError>
+    requires held { AreValuedFamilies cells.old }
     requires parent { (q : List ℕ) × (cell_of cells.old.families q ≡ Some parent) }
     requires sign { (1 ≤ s) × (s ≤ cells.old.signs) }
     ensures steps { (q : List ℕ) → cell_of cells.old.families q ≡ Some parent →
@@ -63,7 +64,6 @@ fn step_or_add<V: Copy, const FEW: usize>(
         OnErr result (EndsBefore cells.old.values (q ++ s ∷ [])) }
     ensures kept { AreValuedFamilies cells.new }
 {
-    let _held = cells.signs();
     if let Some(cell) = step(cells, Some(parent), s) {
         return Ok(cell);
     }

@@ -17,10 +17,10 @@ use std::alloc::{AllocError, Global};
 
 /// The cell of a string, or `None` where it has none.
 pub fn find_cell(cells: &Cells<Head, FEW_SIGNS>, signs: &[Sign]) -> Option<usize>
-    requires { All (λ s. (1 ≤ s) × (s ≤ cells.now.signs)) signs.now }
+    requires held { AreValuedFamilies cells.now }
+    requires signs { All (λ s. (1 ≤ s) × (s ≤ cells.now.signs)) signs.now }
     ensures { result ≡ cell_of cells.now.families signs.now }
 {
-    let _held = cells.signs();
     let mut at = None;
     for s in signs {
         at = Some(step(cells, at, *s)?);
@@ -30,10 +30,10 @@ pub fn find_cell(cells: &Cells<Head, FEW_SIGNS>, signs: &[Sign]) -> Option<usize
 
 /// The value of a string that has a cell.
 pub fn value_of(cells: &Cells<Head, FEW_SIGNS>, signs: &[Sign]) -> u64
-    requires { All (λ s. (1 ≤ s) × (s ≤ cells.now.signs)) signs.now }
+    requires held { AreValuedFamilies cells.now }
+    requires signs { All (λ s. (1 ≤ s) × (s ≤ cells.now.signs)) signs.now }
     ensures { (v : ℕ) → find (slice_cmp nat_cmp) signs.now cells.now.values ≡ Some v → result ≡ v }
 {
-    let _held = cells.signs();
     match find_cell(cells, signs) {
         Some(cell) => cells.value(cell).number(),
         None => 0,
@@ -87,12 +87,12 @@ fn push_below(
     requires inside { i < length strings.old.items }
     requires sound { (k : List ℕ × ℕ) → slice_get strings.old.items i ≡ Some k
         → IsString cells.now k.0 }
+    requires held { AreValuedFamilies cells.now }
     requires short { AreShort cells.now }
     requires signs { cells.now.signs ≤ SIGNS_MAX }
     ensures { OnOk result ((k : List ℕ × ℕ) → slice_get strings.old.items i ≡ Some k →
         PutsBelow cells.now k.0 (cells.now.signs + 1) strings.old.items strings.new.items) }
 {
-    let _held = cells.signs();
     let prefix = DottedSigns::new(strings[i].signs(), 0);
     let Some(cell) = find_cell(cells, prefix.signs()) else {
         return Ok(());
@@ -108,11 +108,11 @@ pub fn strings(
     alloc: Global,
     cells: &Cells<Head, FEW_SIGNS>,
 ) -> Result<Vec<DottedSigns>, AllocError>
+    requires held { AreValuedFamilies cells.now }
     requires short { AreShort cells.now }
     requires signs { cells.now.signs ≤ SIGNS_MAX }
     ensures { IfOk result (λ strings. AreStrings cells.now strings.items) }
 {
-    let _held = cells.signs();
     let mut strings = Vec::new(alloc);
     push_family(cells, &[], 0, EDGE, &mut strings)?;
     for i in 0..usize::MAX {

@@ -12,8 +12,8 @@ use Rattle.pg_trie.proofs.copy.gather.Goals as goal
 pub loop-string-init : goal.loop-string-init
 loop-string-init c = subst (λ es. Gathers (maps_of c.args.cells.now c.args.outputs.now).patterns c.args.strings.now 0 es) (sym c.new-entries.ensures.items) (gathers_none (maps_of c.args.cells.now c.args.outputs.now).patterns c.args.strings.now)
 
-pub value_of-head-requires : goal.value_of-head-requires
-value_of-head-requires c =
+pub value_of-head-requires-clause-signs : goal.value_of-head-requires-clause-signs
+value_of-head-requires-clause-signs c =
     let k = get_there c.args.strings.now c.loop-string.string-index c.loop-string-test.true in
     let same : c.signs.result.now ≡ k.0.0 = c.signs.ensures.value ∙ ap (λ (x : List ℕ × ℕ). x.0) (c.string-item.is ∙ get_index c.args.strings.now c.loop-string.string-index k.0 c.string-item.result k.1) in
     subst (λ q. All (λ s. (1 ≤ s) × (s ≤ c.args.cells.now.signs)) q) (sym same) (c.requires.strings.sound c.loop-string.string-index k.0 k.1).known

@@ -5,12 +5,12 @@ use Rattle.pg_trie.proofs.Listing.{strings_start, strings_step, get_there}
 use Rattle.pg_trie.proofs.strings.strings.Goals as goal
 
 pub push_family-requires-clause-first : goal.push_family-requires-clause-first
-push_family-requires-clause-first c = root_first c.args.cells.now c.signs-held.ensures.held
+push_family-requires-clause-first c = root_first c.args.cells.now c.requires.held
 
 pub loop-i-init : goal.loop-i-init
 loop-i-init c = record {
   inside = omega arith;
-  strings = strings_start c.args.cells.now c.signs-held.ensures.held c.push_family.new.strings.items
+  strings = strings_start c.args.cells.now c.requires.held c.push_family.new.strings.items
       (subst (λ l. PutsBelow c.args.cells.now [] (c.args.cells.now.signs + 1) l c.push_family.new.strings.items) c.new-strings.ensures.items c.in_ok-push_family.ensures);
 }
 
@@ -24,5 +24,5 @@ loop-i-preserved c =
     let puts = c.in_ok-push_below.ensures k.0 k.1 in
     record {
       inside = omega (arith, puts.longer);
-      strings = strings_step c.args.cells.now c.signs-held.ensures.held c.loop-i.i c.loop-i.strings.items c.push_below.new.strings.items k.0 c.loop-i.invariant.strings k.1 puts;
+      strings = strings_step c.args.cells.now c.requires.held c.loop-i.i c.loop-i.strings.items c.push_below.new.strings.items k.0 c.loop-i.invariant.strings k.1 puts;
     }
