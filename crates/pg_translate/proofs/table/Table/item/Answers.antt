@@ -1,5 +1,5 @@
-use Rattle.std.proofs.Common.{◌≡◌, ◌==◌, length, false, sym, ◌∙◌}
-use Rattle.std.proofs.lemmas.Bool.{true≢false}
+use Rattle.std.proofs.Common.{◌≡◌, ◌==◌, length, get_or, false, refl, sym, ◌∙◌, arith}
+use Rattle.std.proofs.lemmas.Bool.{true≢false, and_parts, leb-true}
 use Rattle.pg_translate.proofs.Takes.{takes_one, found_digit, found_mark, missed_digit}
 use Rattle.pg_translate.proofs.table.Table.item.Goals as goal
 
@@ -18,3 +18,20 @@ returns-in-Some-clause-end c = λ ended. absurd (true≢false (sym ended ∙ c.i
 
 pub returns-in-Some-mark-clause-end : goal.returns-in-Some-mark-clause-end
 returns-in-Some-mark-clause-end c = λ ended. absurd (true≢false (sym ended ∙ c.in-Some-mark.ensures.begun))
+
+pub returns-in-Some-clause-range : goal.returns-in-Some-clause-range
+returns-in-Some-clause-range c = c.in-Some.ensures.sign
+
+pub returns-then-is_empty-clause-range : goal.returns-then-is_empty-clause-range
+returns-then-is_empty-clause-range c = tt
+
+pub returns-then-is_empty-clause-end : goal.returns-then-is_empty-clause-end
+returns-then-is_empty-clause-end c = λ _. refl
+
+pub returns-then-is_ascii_digit-clause-range : goal.returns-then-is_ascii_digit-clause-range
+returns-then-is_ascii_digit-clause-range c =
+    let high = leb-true (get_or c.args.rest.now 0 0) 57 (and_parts _ _ (sym c.is_ascii_digit.ensures.value ∙ c.if-is_ascii_digit.true)).1 in
+    omega arith
+
+pub returns-in-Some-mark-clause-range : goal.returns-in-Some-mark-clause-range
+returns-in-Some-mark-clause-range c = tt
