@@ -1,4 +1,4 @@
-//! The calls of the crates below the driver, on worked rows that name them. What a whole command
+//! The calls of the crates below the engines, on worked rows that name them. What a whole command
 //! shows is a row of patgen_rows.
 #![tactic(auto)]
 
@@ -8,8 +8,6 @@ mod cells;
 mod count;
 #[cfg(test)]
 mod dict;
-#[cfg(test)]
-mod engines;
 #[cfg(test)]
 mod families;
 #[cfg(test)]

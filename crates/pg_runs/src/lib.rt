@@ -1,7 +1,7 @@
 //! What no table of rows can say: runs of the driver beside a run that skips no pass, and over both
-//! engines; the windows that a pass counts; a call of the program over files that never fail; calls
-//! over a disk that stops or fails at each of its calls in turn; and the status of each answer. All
-//! other calls are rows of patgen_rows.
+//! engines; the values that both engines give; the windows that a pass counts; a call of the
+//! program over files that never fail; calls over a disk that stops or fails at each of its calls
+//! in turn; and the status of each answer. All other calls are rows of patgen_rows.
 //!
 //! What files and sinks do whose calls fail is tried here too: a disk in memory, real files, and
 //! files and writers whose calls go as a list says.
@@ -40,3 +40,5 @@ mod stopped;
 mod streams;
 #[cfg(test)]
 mod unskipped;
+#[cfg(test)]
+mod values;
