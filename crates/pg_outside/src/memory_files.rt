@@ -188,7 +188,8 @@ fn store_front(
     bytes: &[u8],
     keep: Option<usize>,
 )
-    ensures part { HasPart (file_map files.old.items) (file_map files.new.items) name.now bytes.now }
+    ensures part { HasPart (file_map files.old.items)
+        (file_map files.new.items) name.now bytes.now }
     ensures none { keep ≡ None → file_map files.new.items ≡ file_map files.old.items }
     ensures front { (kept : ℕ) → keep ≡ Some kept
         → (file_map files.new.items ≡ file_map files.old.items)
