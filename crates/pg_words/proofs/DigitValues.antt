@@ -6,7 +6,7 @@ use Rattle.std.specs.Prelude.{if◌then◌else◌}
 use Rattle.std.proofs.lemmas.Bool.Decides.{nat_tests}
 use Rattle.pg_types.specs.Parameters.{with_digit}
 use Rattle.pg_types.specs.Inside.Parts.{number_from}
-use Rattle.pg_words.specs.Inside.Taken.{at_most}
+use Rattle.pg_words.specs.Inside.Numbers.{at_most}
 
 -- a digit more
 pub digit_more : (n b : ℕ) (bs : List ℕ) → is_ascii_digit b ≡ true → number_from n (b ∷ bs) ≡ number_from (with_digit n b) bs

@@ -1,4 +1,3 @@
 pub mod DigitValues
-pub mod AllWords
-pub mod PruneWords
+pub mod OtherWords
 pub mod SweepParts

@@ -4,6 +4,7 @@ use Rattle.std.specs.List.{list_all, starts_with}
 use Rattle.std.specs.Option.{option_and_then, option_map, option_map_or, is_none}
 use Rattle.std.specs.Str.{bytes_eq}
 use Rattle.pg_types.specs.Parameters.{number}
+use Rattle.pg_words.specs.declared.limits.TheConstants.{SEED_MAX, COUNT_MAX, DIGITS_MAX, FOLDS_MAX, PRICE_MAX, SETS_MAX}
 
 -- the names of the files of `generate` and `audit`, each as its bytes. Those of the hyphenated list
 -- and of the cells file are there where they are asked for
@@ -134,7 +135,7 @@ number_within digits least most word = if nat_lt 0 (length word) && nat_le (leng
 -- `sample N COUNT`
 abbrev pub sample_in : List (List ℕ) → Option Request
 sample_in (seed ∷ count ∷ []) = option_and_then (λ s. option_map (ToSample s)
-    (number_within 10 0 100000 count)) (number_within 10 0 2147483647 seed)
+    (number_within DIGITS_MAX 0 COUNT_MAX count)) (number_within DIGITS_MAX 0 SEED_MAX seed)
 sample_in words = None
 
 -- `pack PATTERNS TRANSLATE TABLE`, where the table is an output
@@ -159,7 +160,7 @@ prune_in words = None
 abbrev pub sweep_in : List (List ℕ) → Option Request
 sweep_in (dict ∷ patterns ∷ output ∷ translate ∷ k ∷ bad_word ∷ missed_word ∷ params) =
     option_and_then (λ folds. option_and_then (λ bad. option_and_then (λ missed.
-    if nat_lt 0 (length params) && nat_le (length params) 16
+    if nat_lt 0 (length params) && nat_le (length params) SETS_MAX
     then where_taken (dict ∷ patterns ∷ translate ∷ params) (output ∷ []) (ToSweep (record {
       dict = dict;
       patterns = patterns;
@@ -169,8 +170,8 @@ sweep_in (dict ∷ patterns ∷ output ∷ translate ∷ k ∷ bad_word ∷ miss
       bad = bad;
       missed = missed;
       params = params;
-    })) else None) (number_within 4 1 1000 missed_word)) (number_within 4 1 1000 bad_word))
-    (number_within 2 2 10 k)
+    })) else None) (number_within 4 1 PRICE_MAX missed_word))
+    (number_within 4 1 PRICE_MAX bad_word)) (number_within 2 2 FOLDS_MAX k)
 sweep_in words = None
 
 -- what words ask for

@@ -2,7 +2,11 @@
 #![tactic(auto)]
 
 pub mod commands;
+mod generate;
+pub mod limits;
+mod names;
 mod numbers;
+mod sweep;
 pub mod words;
 
 pub use commands::{Command, Names, SweepWords};

@@ -2,7 +2,7 @@
 ghost use Rattle.std.specs.Prelude.{◌≡◌, ◌≤◌, IfSome};
 ghost use Rattle.pg_types.specs.Inside.Parts.{number_from};
 ghost use Rattle.pg_words.specs.Requests.{number_within as number_within_of};
-ghost use Rattle.pg_words.specs.Inside.Taken.{at_most};
+ghost use Rattle.pg_words.specs.Inside.Numbers.{at_most};
 
 /// The value of decimal digits; none where there is another byte, or the value is greater than
 /// `most`.

@@ -1,5 +1,5 @@
 -- What a command asks for, and the limits of its numbers.
-use Rattle.std.specs.Prelude.{ℕ, ◌<◌, ◌≤◌, ◌^◌, List, length, Option}
+use Rattle.std.specs.Prelude.{ℕ, ◌≤◌, List, length, Option}
 use Rattle.std.specs.Option.{option_map}
 use denote.Ref.{Bor}
 use Rattle.pg_words.specs.Requests.{FileNames, SweepRequest, Request, ToGenerate, ToAudit, ToSample, ToPack, ToTotals, ToPrune, ToSweep}
@@ -7,6 +7,7 @@ use Rattle.pg_words.specs.declared.commands.Names.{Names}
 use Rattle.pg_words.specs.declared.commands.SweepWords.{SweepWords}
 use Rattle.pg_words.specs.declared.commands.Command.{Command}
 use Rattle.pg_words.specs.declared.commands.Command.TheVariants.{Generate, Audit, Sample, Pack, Totals, Prune, Sweep}
+use Rattle.pg_words.specs.declared.limits.TheConstants.{SEED_MAX, COUNT_MAX, FOLDS_MAX, PRICE_MAX, SETS_MAX}
 use Rattle.pg_words.specs.Commands.{words_of}
 
 -- a name that may be asked for as its bytes
@@ -59,16 +60,16 @@ asked_by (Sweep words) = ToSweep (sweep_of words)
 
 -- the numbers of `sweep` are within their limits
 pub record KeepsSweepLimits (w : SweepWords) : Type 0 where
-  pub folds : (2 ≤ w.folds) × (w.folds ≤ 10)
-  pub bad : (1 ≤ w.bad) × (w.bad ≤ 1000)
-  pub missed : (1 ≤ w.missed) × (w.missed ≤ 1000)
-  pub params : (1 ≤ length w.params.now) × (length w.params.now ≤ 16)
+  pub folds : (2 ≤ w.folds) × (w.folds ≤ FOLDS_MAX)
+  pub bad : (1 ≤ w.bad) × (w.bad ≤ PRICE_MAX)
+  pub missed : (1 ≤ w.missed) × (w.missed ≤ PRICE_MAX)
+  pub params : (1 ≤ length w.params.now) × (length w.params.now ≤ SETS_MAX)
 
 -- the numbers of `sample` and `sweep` are within their limits
 abbrev pub KeepsLimits : Command → Type 0
 KeepsLimits (Generate names) = Unit {0}
 KeepsLimits (Audit names) = Unit {0}
-KeepsLimits (Sample seed count) = (seed < 2 ^ 31) × (count ≤ 100000)
+KeepsLimits (Sample seed count) = (seed ≤ SEED_MAX) × (count ≤ COUNT_MAX)
 KeepsLimits (Pack patterns translate table) = Unit {0}
 KeepsLimits (Totals dict translate table) = Unit {0}
 KeepsLimits (Prune dict patterns output translate report) = Unit {0}

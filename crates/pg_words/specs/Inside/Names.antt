@@ -1,7 +1,12 @@
--- Names that differ.
-use Rattle.std.specs.Prelude.{ℕ, Bool, not, List}
+-- Names as their bytes, and names that differ.
+use Rattle.std.specs.Prelude.{ℕ, Bool, not, List, map}
 use Rattle.std.specs.List.{list_all}
 use Rattle.std.specs.Str.{bytes_eq}
+use denote.Ref.{Bor}
+
+-- names as their bytes
+abbrev pub texts : List (Bor (List ℕ)) → List (List ℕ)
+texts names = map (λ name. name.now) names
 
 -- a name differs from all others
 abbrev pub differs_from : List ℕ → List (List ℕ) → Bool

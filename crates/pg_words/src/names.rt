@@ -1,0 +1,49 @@
+//! Which names a command takes.
+ghost use Rattle.std.specs.Prelude.{◌≡◌, ◌&&◌, ◌++◌};
+ghost use Rattle.std.specs.List.{list_all};
+ghost use Rattle.pg_words.specs.Requests.{is_name as is_name_word, outputs_differ};
+ghost use Rattle.pg_words.specs.Inside.Names.{texts, differs_from};
+
+/// Whether a word can be a name: it is not empty and does not begin with two dashes.
+fn is_name(word: &str) -> bool
+    ensures { result ≡ is_name_word word.now }
+{
+    !word.is_empty() && !word.as_bytes().starts_with(b"--")
+}
+
+/// Whether each of these words can be a name.
+pub fn are_all_names(words: &[&str]) -> bool
+    ensures { result ≡ list_all is_name_word (texts words.now) }
+{
+    words.iter().all(|word| is_name(word))
+}
+
+/// Whether a name differs from all others.
+fn differs_from_all(name: &str, others: &[&str]) -> bool
+    ensures { result ≡ differs_from name.now (texts others.now) }
+{
+    others.iter().all(|other| name != *other)
+}
+
+/// Whether each output name differs from the output names after it and from the input names.
+fn do_outputs_differ(outputs: &[&str], inputs: &[&str]) -> bool
+    ensures { result ≡ outputs_differ (texts outputs.now) (texts inputs.now) }
+{
+    match outputs {
+        [] => true,
+        [output, others @ ..] => {
+            differs_from_all(output, others)
+                && differs_from_all(output, inputs)
+                && do_outputs_differ(others, inputs)
+        }
+    }
+}
+
+/// Whether a command takes these names: each can be a name, and each output name differs from the
+/// names of the other outputs and of the inputs.
+pub fn are_taken(inputs: &[&str], outputs: &[&str]) -> bool
+    ensures { result ≡ list_all is_name_word (texts inputs.now ++ texts outputs.now)
+        && outputs_differ (texts outputs.now) (texts inputs.now) }
+{
+    are_all_names(inputs) && are_all_names(outputs) && do_outputs_differ(outputs, inputs)
+}
