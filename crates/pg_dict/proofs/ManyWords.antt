@@ -13,7 +13,8 @@ use Rattle.pg_translate.specs.Gaps.{signs_of}
 use Rattle.pg_translate.specs.LineRefusals.{line_refusal}
 use Rattle.pg_translate.proofs.ManyLines.{refusals_from, items_of, line_before}
 use Rattle.pg_dict.specs.Word.{Word}
-use Rattle.pg_dict.specs.Words.{word_of_items, word_weight, words_if, line_words}
+use Rattle.pg_dict.specs.Words.{word_of_items, words_if, line_words}
+use Rattle.pg_dict.specs.Inside.LineWords.{word_weight}
 use Rattle.pg_dict.specs.Inside.LineWords.{LineWord, word_if, line_word, on_line, words_from}
 
 -- what follows a line

@@ -42,20 +42,17 @@ word_of_items weight items = record {
   weight = weight;
 }
 
--- the word weight of a line: the last number before its first letter, else that of the line before
-abbrev pub word_weight : ℕ → List Token → ℕ
-word_weight before items = last_number before (slice_index_or (gaps items) 0 [])
-
 -- one word of a line that has letters, and none of a line without
 abbrev pub words_if : List ℕ → Word → List Word
 words_if [] word = []
 words_if (sign ∷ signs) word = word ∷ []
 
--- the words of lines below a line with this word weight
+-- the words of lines below a line with this word weight. That of a line is the last number before
+-- its first letter, else that of the line before
 abbrev pub line_words : ℕ → List (List Token) → List Word
 line_words before [] = []
-line_words before (items ∷ more) = let weight = word_weight before items in
-    words_if (signs_of items) (word_of_items weight items) ++ line_words weight more
+line_words before (line ∷ ls) = let weight = last_number before (slice_index_or (gaps line) 0 []) in
+    words_if (signs_of line) (word_of_items weight line) ++ line_words weight ls
 
 -- the words of a dictionary file, or its first refusal
 abbrev pub words : Alphabet → List ℕ → Result (List Word) Refusal

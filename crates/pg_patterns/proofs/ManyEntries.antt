@@ -1,8 +1,11 @@
 -- The lines of a pattern file that are read one after the other give what all of them give.
-use Rattle.std.proofs.Common.{◌≡◌, ℕ, ◌+◌, ◌≤◌, ◌==◌, nat_lt, Bool, true, false, ◌&&◌, List, [], ◌∷◌, ◌++◌, length, map, filter, flat_map, Option, Some, None, Ok, refl, sym, ap, ap₂, ◌∙◌, arith}
+use Rattle.std.proofs.Common.{◌≡◌, ℕ, ◌+◌, ◌≤◌, ◌==◌, nat_lt, Bool, true, false, ◌&&◌, List, [], ◌∷◌, ◌++◌, length, map, filter, flat_map, Option, Some, None, Ok, refl, sym, ap, ap₂, ◌∙◌, arith, zero}
 use Rattle.std.specs.Prelude.{if◌then◌else◌, slice_get}
-use Rattle.std.specs.List.{enumerate_from}
-use Rattle.std.proofs.lemmas.Bool.{eqb-true, eqb-false, lt-ltb, le-ltb}
+use Rattle.std.specs.List.{enumerate_from, filter_map, list_all, onto_first}
+use Rattle.std.proofs.lemmas.Simd.{map-map}
+use Rattle.pg_types.proofs.BoolFacts.{and_second}
+use Rattle.pg_types.specs.declared.marks.Mark.{Mark}
+use Rattle.std.proofs.lemmas.Bool.{true≢false, eqb-true, eqb-false, lt-ltb, le-ltb}
 use Rattle.pg_types.specs.declared.limits.TheConstants.{FILE_MAX}
 use Rattle.pg_types.specs.declared.refusals.Refusal.{Refusal}
 use Rattle.pg_types.specs.declared.refusals.ReadingError.{ReadingError}
@@ -13,10 +16,12 @@ use Rattle.pg_types.specs.Reading.{unless}
 use Rattle.pg_types.specs.Inside.Parts.{both_parts}
 use Rattle.pg_translate.specs.declared.items.Place.TheVariants.{Patterns}
 use Rattle.pg_translate.specs.Alphabets.{Alphabet}
-use Rattle.pg_translate.specs.Tokens.{Token}
+use Rattle.pg_translate.specs.Tokens.{Token, Letter, Digit, Weight, Marked, Edge}
 use Rattle.pg_translate.specs.Cuts.{cut}
-use Rattle.pg_translate.specs.Gaps.{signs_of, gaps, last_digit}
+use Rattle.pg_translate.specs.Gaps.{signs_of, gaps, number_of, last_else, last_number}
+use Rattle.pg_translate.specs.Inside.Digits.{digit_of, last_digit}
 use Rattle.pg_translate.specs.LineRefusals.{line_refusal, of_lines}
+use Rattle.pg_translate.proofs.ItemKinds.{is_plain, no_weight}
 use Rattle.pg_translate.proofs.ManyLines.{refusals_from, items_of, line_before}
 use Rattle.pg_patterns.specs.Values.{map_of_entries}
 use Rattle.pg_patterns.specs.Starts.{line_entries, start}
@@ -50,16 +55,49 @@ entries_by (s ∷ ss) gs =
     ap (λ (some : Bool). map (entry_at (s ∷ ss)) (filter (λ d. nat_lt 0 d.1 && some) (enumerate_from 0 (map last_digit gs)))) (lt-ltb 0 (length (s ∷ ss)) (omega arith))
     ∙ ap (map (entry_at (s ∷ ss))) (digits_kept 0 gs)
 
+-- the digits and the numbers of gaps without a weight are the same
+abbrev digits_in : List (List Token) → List (List ℕ)
+digits_in gs = map (filter_map digit_of) gs
+
+abbrev numbers_in : List (List Token) → List (List ℕ)
+numbers_in gs = map (filter_map number_of) gs
+
+abbrev onto : ℕ → List (List ℕ) → List (List ℕ)
+onto n [] = []
+onto n (x ∷ xs) = (n ∷ x) ∷ xs
+
+front_digit : (n : ℕ) (gs : List (List Token)) → digits_in gs ≡ numbers_in gs → digits_in (onto_first (Digit n) gs) ≡ numbers_in (onto_first (Digit n) gs)
+front_digit n [] same = refl
+front_digit n (g ∷ gs) same = ap (onto n) same
+
+front_mark : (m : Mark) (gs : List (List Token)) → digits_in gs ≡ numbers_in gs → digits_in (onto_first (Marked m) gs) ≡ numbers_in (onto_first (Marked m) gs)
+front_mark m [] same = refl
+front_mark m (g ∷ gs) same = same
+
+gaps_alike : (items : List Token) → list_all is_plain items ≡ true → digits_in (gaps items) ≡ numbers_in (gaps items)
+gaps_alike [] plain = refl
+gaps_alike (Letter sign ∷ items) plain = ap (λ (xs : List (List ℕ)). [] ∷ xs) (gaps_alike items (and_second true _ plain))
+gaps_alike (Edge ∷ items) plain = ap (λ (xs : List (List ℕ)). [] ∷ xs) (gaps_alike items (and_second true _ plain))
+gaps_alike (Digit n ∷ items) plain = front_digit n (gaps items) (gaps_alike items (and_second true _ plain))
+gaps_alike (Weight n ∷ items) plain = absurd (true≢false (sym plain))
+gaps_alike (Marked m ∷ items) plain = front_mark m (gaps items) (gaps_alike items (and_second true _ plain))
+
+last_alike : (items : List Token) → list_all is_plain items ≡ true → map last_digit (gaps items) ≡ map (last_number 0) (gaps items)
+last_alike items plain =
+    sym (map-map (last_else 0) (filter_map digit_of) (gaps items)) ∙ ap (map (last_else 0)) (gaps_alike items plain) ∙ map-map (last_else 0) (filter_map number_of) (gaps items)
+
 -- the entries of a line
-entries_as : (items : List Token) → entries_of_items items ≡ line_entries items
-entries_as items = sym (entries_by (signs_of items) (gaps items))
+entries_as : (items : List Token) → list_all is_plain items ≡ true → entries_of_items items ≡ line_entries items
+entries_as items plain =
+    sym (entries_by (signs_of items) (gaps items))
+    ∙ ap (λ (ns : List ℕ). map (entry_at (signs_of items)) (filter (λ d. nat_lt 0 d.1 && nat_lt 0 (length (signs_of items))) (enumerate_from 0 ns))) (last_alike items plain)
 
 -- the entries of lines, the first of which has this number
 lines_as : (t : Alphabet) (line : ℕ) (texts : List (List ℕ)) → entries_from t line texts ≡ unless (slice_get (refusals_from t Patterns line texts) 0) (flat_map line_entries (map (items_of t Patterns) texts))
 lines_as t line [] = refl
 lines_as t line (text ∷ texts) =
     let refusal : Option Refusal = line_refusal Patterns line (cut t Patterns text) in
-    ap₂ both_parts (ap (unless refusal) (entries_as (items_of t Patterns text))) (lines_as t (line + 1) texts)
+    ap₂ both_parts (ap (unless refusal) (entries_as (items_of t Patterns text) (no_weight t 1 zero text))) (lines_as t (line + 1) texts)
     ∙ line_before refusal (refusals_from t Patterns (line + 1) texts) (line_entries (items_of t Patterns text)) (flat_map line_entries (map (items_of t Patterns) texts))
 
 map_unless : (refusal : Option Refusal) (es : List ((List ℕ × ℕ) × ℕ)) → joined_entries (unless refusal es) ≡ unless refusal (map_of_entries es)

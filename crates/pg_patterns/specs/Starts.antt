@@ -9,15 +9,16 @@ use Rattle.pg_types.specs.Reading.{refused}
 use Rattle.pg_translate.specs.declared.items.Place.TheVariants.{Patterns}
 use Rattle.pg_translate.specs.Alphabets.{Alphabet}
 use Rattle.pg_translate.specs.Tokens.{Token}
-use Rattle.pg_translate.specs.Gaps.{signs_of, gaps, last_digit}
+use Rattle.pg_translate.specs.Gaps.{signs_of, gaps, last_number}
 use Rattle.pg_translate.specs.LineRefusals.{of_lines}
 use Rattle.pg_patterns.specs.Values.{map_of_entries}
 
--- the entries of a line with a sign: at dot i the value is the last digit of gap i, and 0 is none
+-- the entries of a line with a sign: at dot i the value is the last number of gap i, and 0 is none.
+-- The numbers of such a line are digits
 abbrev pub line_entries : List Token → List ((List ℕ × ℕ) × ℕ)
 line_entries items = let signs = signs_of items in map (λ d. ((signs, d.0), d.1))
     (filter (λ d. nat_lt 0 d.1 && nat_lt 0 (length signs))
-    (enumerate_from 0 (map last_digit (gaps items))))
+    (enumerate_from 0 (map (last_number 0) (gaps items))))
 
 -- the map of a pattern file: the entries of its lines, where equal places take the greatest value
 abbrev pub start : Alphabet → List ℕ → Result (List ((List ℕ × ℕ) × ℕ)) Refusal

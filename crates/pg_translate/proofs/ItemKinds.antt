@@ -1,6 +1,8 @@
 -- Which items the lines of a dictionary and of patterns do not have.
 use Rattle.std.proofs.Common.{◌≡◌, ℕ, ◌+◌, ◌-◌, ◌*◌, ◌==◌, nat_lt, ◌&&◌, Bool, true, false, if◌then◌else◌, List, [], ◌∷◌, length, slice_index, find, Option, Some, None, option_map, refl, ap, suc, zero, nat_eq}
-use Rattle.std.specs.List.{starts_with}
+use Rattle.std.specs.List.{starts_with, list_all}
+use Rattle.std.proofs.lemmas.Bool.{and_from}
+use Rattle.pg_translate.specs.Cuts.{cut_at, cut_from, tokens_of}
 use Rattle.std.specs.Option.{option_or}
 use Rattle.pg_types.specs.declared.marks.Mark.{Mark}
 use Rattle.pg_types.specs.declared.marks.Mark.TheVariants.{Error, Missed, Found, DontCare}
@@ -33,6 +35,28 @@ item_of_patterns t text =
       | None ↦ digit_of_patterns text
       | Some spelling ↦ refl
     ]
+
+-- an item that is no weight
+abbrev pub is_plain : Token → Bool
+is_plain (Weight weight) = false
+is_plain item = true
+
+item_plain : (token : Token) (size : ℕ) → of_patterns (Some (token, size)) ≡ true → is_plain token ≡ true
+item_plain (Letter sign) size is = refl
+item_plain (Digit digit) size is = refl
+item_plain (Weight weight) size is = is
+item_plain (Marked mark) size is = refl
+item_plain Edge size is = refl
+
+cut_plain : (t : Alphabet) (column : ℕ) (text bs : List ℕ) (o : Option (Token × ℕ)) → of_patterns o ≡ true → ((skip : ℕ) → list_all is_plain (tokens_of (cut_from t Patterns (column + 1) skip bs)) ≡ true) → list_all is_plain (tokens_of (cut_at column text o (λ more. cut_from t Patterns (column + 1) more bs))) ≡ true
+cut_plain t column text bs None is later = refl
+cut_plain t column text bs (Some (token, size)) is later = and_from _ _ (item_plain token size is) (later (size - 1))
+
+-- a line of patterns has no weight
+pub no_weight : (t : Alphabet) (column skip : ℕ) (text : List ℕ) → list_all is_plain (tokens_of (cut_from t Patterns column skip text)) ≡ true
+no_weight t column skip [] = refl
+no_weight t column (suc skip) (b ∷ bs) = no_weight t (column + 1) skip bs
+no_weight t column zero (b ∷ bs) = cut_plain t column (b ∷ bs) bs (item_at t Patterns (b ∷ bs)) (item_of_patterns t (b ∷ bs)) (λ skip. no_weight t (column + 1) skip bs)
 
 pub no_mark : (t : Alphabet) (rest after : List ℕ) (mark : Mark) → HasItem t Patterns rest (Marked mark) after → ⊥
 no_mark t rest after mark takes = cc (ap of_patterns takes.found, item_of_patterns t rest)

@@ -11,7 +11,8 @@ use Rattle.pg_types.specs.declared.refusals.Refusal.{Refusal}
 use Rattle.pg_translate.specs.declared.items.Place.{Place}
 use Rattle.pg_translate.specs.declared.items.Place.TheVariants.{Dictionary, Patterns}
 use Rattle.pg_translate.specs.Alphabets.{Alphabet}
-use Rattle.pg_translate.specs.Spellings.{is_space, may_begin, begins_well}
+use Rattle.pg_translate.specs.Spellings.{is_space, may_begin}
+use Rattle.pg_translate.specs.Inside.Beginnings.{begins_well}
 use Rattle.pg_translate.specs.Inside.Members.{IsAmong}
 use Rattle.std.specs.Char.{is_ascii_digit}
 use Rattle.pg_translate.specs.Tables.{check, mark_fails}
@@ -19,12 +20,13 @@ use Rattle.pg_translate.specs.Inside.Checks.{mark_checks_from, mark_checks}
 use Rattle.pg_translate.specs.Tokens.{Token, Letter, Digit, Weight, Marked, Edge, letter_at, weight_from, mark_at, item_at}
 use Rattle.pg_translate.specs.Inside.Items.{IsItem, IsWeight, IsMark, decimal_value}
 use Rattle.pg_translate.specs.Inside.Rules.{KeepsRules}
+use Rattle.pg_translate.proofs.Beginnings.{begins_as}
 use Rattle.pg_translate.proofs.Prefixes.{begins-append}
 use Rattle.pg_translate.proofs.Fronts.{find_begins, find_none}
 
 -- a spelling begins with a byte that may begin one
 pub begins_spelled : (t : Alphabet) → KeepsRules t → (s : ℕ × List ℕ) → IsAmong s t.spellings → begins_well t.marks s.1 ≡ true
-begins_spelled t rules s among = (and_parts _ _ (and_parts _ _ (rules.spelled s among)).0).1
+begins_spelled t rules s among = begins_as t.marks s.1 ∙ (and_parts _ _ (and_parts _ _ (rules.spelled s among)).0).1
 
 -- no spelling begins a text whose first byte may begin none
 pub no_letter : (t : Alphabet) → KeepsRules t → (b : ℕ) (bs : List ℕ) → may_begin t.marks b ≡ false → letter_at t.spellings (b ∷ bs) ≡ None

@@ -10,7 +10,8 @@ use Rattle.pg_translate.specs.Cuts.{Cut, cut_from}
 use Rattle.pg_translate.specs.Inside.Rests.{cut_rest, with_item}
 use Rattle.pg_translate.specs.Inside.Answers.{HasItem}
 use Rattle.pg_translate.specs.Gaps.{sign_of}
-use Rattle.pg_translate.specs.LineRefusals.{long_kind, sign_columns}
+use Rattle.pg_translate.specs.LineRefusals.{sign_columns}
+use Rattle.pg_translate.specs.Inside.Refusing.{long_kind}
 use Rattle.pg_types.specs.Reading.{refused}
 use Rattle.pg_translate.specs.Inside.Refusing.{stop_refusal, refusal_with_room}
 use Rattle.pg_translate.proofs.Cuts.{cut_takes}

@@ -26,11 +26,6 @@ gaps items = slice_split (λ item. is_some (sign_of item)) items
 abbrev pub inner_gaps : List Token → List (List Token)
 inner_gaps items = slice_range (gaps items) 1 (length (gaps items) - 1)
 
--- the digit that an item is
-abbrev pub digit_of : Token → Option ℕ
-digit_of (Digit digit) = Some digit
-digit_of item = None
-
 -- the number that an item is: a digit or a weight in braces
 abbrev pub number_of : Token → Option ℕ
 number_of (Digit digit) = Some digit
@@ -45,10 +40,6 @@ mark_of item = None
 -- the last of a list, else what is given
 abbrev pub last_else : {X : Type 0} → X → List X → X
 last_else given xs = fold (λ _ x. x) given xs
-
--- the last digit of a gap, 0 where there is none
-abbrev pub last_digit : List Token → ℕ
-last_digit gap = last_else 0 (filter_map digit_of gap)
 
 -- the last number of a gap, else what is given
 abbrev pub last_number : ℕ → List Token → ℕ

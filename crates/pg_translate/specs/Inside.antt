@@ -6,7 +6,9 @@ pub mod Sound
 pub mod Items
 pub mod Rules
 pub mod Heads
+pub mod Beginnings
 pub mod Checks
+pub mod Digits
 pub mod MarkBytes
 pub mod Members
 pub mod Rests

@@ -14,15 +14,11 @@ use Rattle.pg_translate.specs.Tokens.{Token, is_ended}
 use Rattle.pg_translate.specs.Cuts.{Cut, cut, tokens_of}
 use Rattle.pg_translate.specs.Gaps.{sign_of}
 
--- the most signs that a line may have: the letters of a word, or the signs of a pattern
-abbrev pub signs_max : Place → ℕ
-signs_max Dictionary = WORD_LETTERS_MAX
-signs_max Patterns = PATTERN_SIGNS_MAX
-
--- why a line with a sign too many is refused
-abbrev pub long_kind : Place → Kind
-long_kind Dictionary = WordTooLong
-long_kind Patterns = PatternTooLong
+-- the most signs that a line may have, which are the letters of a word or the signs of a pattern;
+-- and why a line with one more is refused
+abbrev pub limit : Place → ℕ × Kind
+limit Dictionary = (WORD_LETTERS_MAX, WordTooLong)
+limit Patterns = (PATTERN_SIGNS_MAX, PatternTooLong)
 
 -- why a text that begins with no item is refused: in a dictionary a brace begins a bad weight
 abbrev pub bad_kind : Place → List ℕ → Kind
@@ -37,7 +33,7 @@ sign_columns c = filter_map (λ i. option_map (λ _. i.column) (sign_of i.token)
 -- end or before a blank or TAB
 abbrev pub line_refusal : Place → ℕ → Cut → Option Refusal
 line_refusal place line c = option_or
-    (option_map (refused line (long_kind place)) (slice_get (sign_columns c) (signs_max place)))
+    (option_map (refused line (limit place).1) (slice_get (sign_columns c) (limit place).0))
     (if is_ended c.rest then None else Some (refused line (bad_kind place c.rest) c.column))
 
 -- what the items of lines give, or the refusal of the first line that has one

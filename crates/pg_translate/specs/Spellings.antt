@@ -1,7 +1,8 @@
 -- What a spelling may be, and when two spellings clash.
-use Rattle.std.specs.Prelude.{ℕ, ◌==◌, nat_le, Bool, false, not, ◌&&◌, ◌||◌, List, [], ◌∷◌, length, nat_eq}
+use Rattle.std.specs.Prelude.{ℕ, ◌==◌, nat_le, Bool, not, ◌&&◌, ◌||◌, List, length, slice_index, nat_eq}
 use Rattle.std.specs.Char.{is_ascii_digit}
 use Rattle.std.specs.List.{list_any, starts_with}
+use Rattle.pg_types.specs.Parameters.{has_byte}
 use Rattle.pg_translate.specs.declared.spellings.TheConstants.{SPELLING_MAX}
 
 -- whether a byte is a blank, a TAB, an LF or a CR, which no spelling holds and which is no mark
@@ -13,15 +14,10 @@ abbrev pub may_begin : List ℕ → ℕ → Bool
 may_begin marks b = not
     (is_ascii_digit b || b == 46 || b == 123 || list_any (λ mark. mark == b) marks)
 
--- whether the first byte of a text may begin a spelling
-abbrev pub begins_well : List ℕ → List ℕ → Bool
-begins_well marks [] = false
-begins_well marks (b ∷ bs) = may_begin marks b
-
 -- whether a text may be a spelling beside these marks
 abbrev pub is_spelling : List ℕ → List ℕ → Bool
 is_spelling marks text = nat_le (length text) SPELLING_MAX
-    && begins_well marks text && not (list_any is_space text)
+    && (has_byte text && may_begin marks (slice_index text 0)) && not (list_any is_space text)
 
 -- two spellings clash where one begins with the other, unless they are equal and of one letter
 abbrev pub clash : ℕ × List ℕ → ℕ × List ℕ → Bool

@@ -7,6 +7,7 @@ ghost use Rattle.pg_types.specs.Inside.Answers.{Gives};
 ghost use Rattle.pg_translate.specs.Inside.FirstSpellings.{letters_in};
 ghost use Rattle.pg_translate.specs.Inside.Fronts.{pairs, IsIndex};
 ghost use Rattle.pg_translate.specs.Spellings as spelling;
+ghost use Rattle.pg_translate.specs.Inside.Beginnings as beginnings;
 ghost use Rattle.pg_translate.specs.Tables as table;
 ghost use Rattle.pg_translate.specs.Inside.Checks as checks;
 ghost use Rattle.pg_types.specs.declared.refusals.ReadingError.TheVariants.{Refused};
@@ -39,7 +40,7 @@ fn has_space(text: &[u8]) -> bool
 
 /// Whether the first byte of a text may begin a spelling: it is no digit, dot, brace or mark.
 fn begins_well(marks: &[u8], text: &[u8]) -> bool
-    ensures { result ≡ spelling.begins_well marks.now text.now }
+    ensures { result ≡ beginnings.begins_well marks.now text.now }
 {
     if text.is_empty() {
         return false;
@@ -49,6 +50,7 @@ fn begins_well(marks: &[u8], text: &[u8]) -> bool
 }
 
 /// Whether a text may be a spelling beside these marks.
+#[tactic(auto, using(crate::proofs::Beginnings::begins_as))]
 fn is_spelling(marks: &[u8], text: &[u8]) -> bool
     ensures { result ≡ spelling.is_spelling marks.now text.now }
 {

@@ -1,15 +1,19 @@
 -- What one line of a dictionary gives, and lines that are read one after the other.
-use Rattle.std.specs.Prelude.{ℕ, ◌+◌, List, [], ◌∷◌, Option, None, Some, Result, Ok, Err}
+use Rattle.std.specs.Prelude.{ℕ, ◌+◌, List, [], ◌∷◌, slice_index_or, Option, None, Some, Result, Ok, Err}
 use Rattle.std.specs.Option.{option_to_list}
 use Rattle.pg_types.specs.declared.refusals.Refusal.{Refusal}
 use Rattle.pg_types.specs.Inside.Parts.{both_parts}
 use Rattle.pg_translate.specs.declared.items.Place.TheVariants.{Dictionary}
 use Rattle.pg_translate.specs.Alphabets.{Alphabet}
 use Rattle.pg_translate.specs.Tokens.{Token}
-use Rattle.pg_translate.specs.Gaps.{signs_of}
+use Rattle.pg_translate.specs.Gaps.{signs_of, gaps, last_number}
 use Rattle.pg_translate.specs.Inside.Refusing.{of_line}
 use Rattle.pg_dict.specs.Word.{Word}
-use Rattle.pg_dict.specs.Words.{word_of_items, word_weight}
+use Rattle.pg_dict.specs.Words.{word_of_items}
+
+-- the word weight of a line: the last number before its first letter, else that of the line before
+abbrev pub word_weight : ℕ → List Token → ℕ
+word_weight before items = last_number before (slice_index_or (gaps items) 0 [])
 
 -- a line gives at most one word, and a word weight for the lines below it
 pub record LineWord : Type 0 where

@@ -15,7 +15,8 @@ use Rattle.pg_translate.specs.Tokens.{Token, Letter, Marked}
 use Rattle.pg_translate.specs.Inside.Items.{IsItem, text_of_items}
 use Rattle.pg_translate.specs.declared.items.Place.TheVariants.{Dictionary}
 use Rattle.pg_dict.specs.Word.{Word}
-use Rattle.pg_dict.specs.Words.{word_weight, word_of_items, words}
+use Rattle.pg_dict.specs.Words.{word_of_items, words}
+use Rattle.pg_dict.specs.Inside.LineWords.{word_weight}
 use Rattle.pg_dict.specs.Inside.LineWords.{line_reading, line_word}
 use Rattle.pg_dict.specs.Inside.Written.{letters_among, IsLine, file_of, LinesGive}
 use Rattle.pg_dict.proofs.LineLaws.{line_is_read, file_is_read, items_line}

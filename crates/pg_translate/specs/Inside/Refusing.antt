@@ -1,6 +1,7 @@
 -- The parts of a line's refusal, and what one line gives.
 use Rattle.std.specs.Prelude.{ℕ, if◌then◌else◌, List, slice_get, Option, None, Some, option_map, Result}
 use Rattle.std.specs.Option.{option_or}
+use Rattle.pg_types.specs.declared.refusals.Kind.{Kind}
 use Rattle.pg_types.specs.declared.refusals.Refusal.{Refusal}
 use Rattle.pg_translate.specs.declared.items.Place.{Place}
 use Rattle.pg_types.specs.Reading.{refused, unless}
@@ -8,7 +9,15 @@ use Rattle.pg_translate.specs.Alphabets.{Alphabet}
 use Rattle.pg_translate.specs.Tokens.{Token, is_ended}
 use Rattle.pg_translate.specs.Cuts.{Placed, Cut, cut, tokens_of}
 use Rattle.pg_translate.specs.Gaps.{sign_of}
-use Rattle.pg_translate.specs.LineRefusals.{long_kind, bad_kind, sign_columns, line_refusal}
+use Rattle.pg_translate.specs.LineRefusals.{limit, bad_kind, sign_columns, line_refusal}
+
+-- the most signs that a line may have
+abbrev pub signs_max : Place → ℕ
+signs_max place = (limit place).0
+
+-- why a line with a sign too many is refused
+abbrev pub long_kind : Place → Kind
+long_kind place = (limit place).1
 
 -- the column of a sign
 abbrev pub sign_column : Placed → Option ℕ
