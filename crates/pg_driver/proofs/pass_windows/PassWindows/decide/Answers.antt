@@ -1,4 +1,4 @@
-use Rattle.std.proofs.Common.{◌++◌, List, ap, sym, subst, ◌∙◌}
+use Rattle.std.proofs.Common.{◌≡◌, ◌++◌, List, length, ap, sym, subst, ◌∙◌, arith}
 use Rattle.pg_select.specs.declared.choice.Choice.{Choice}
 use Rattle.pg_driver.specs.Inside.PassWindows.{AreFates}
 use Rattle.pg_driver.proofs.pass_windows.PassWindows.decide.Goals as goal
@@ -8,3 +8,9 @@ returns-clause-fates g c =
     let m = g.E.Engine.meaning c.args.engine.now in
     let more = c.in_ok-decide_all.ensures in
     subst (AreFates c.args.params.now m.counts m.windows) (sym (more.1 ∙ ap (λ (xs : List Choice). xs ++ more.0) c.clear-2.ensures.items)) more.2
+
+pub returns-clause-few : goal.returns-clause-few
+returns-clause-few g c =
+    let more = c.in_ok-decide_all.ensures in
+    let same : c.decide_all.new.fates.items ≡ more.0 = more.1 ∙ ap (λ (xs : List Choice). xs ++ more.0) c.clear-2.ensures.items in
+    omega (arith, ap (λ (xs : List Choice). length xs) same, more.2.size)
