@@ -16,8 +16,7 @@ numbers-preserved g c =
     let m = g.E.Engine.meaning c.args.engine.now in
     let done : List Choice = c.numbers.invariant.0 in
     let inv = c.numbers.invariant.1 in
-    let fate : Choice = c.decide_one-fate.result in
-    (
+    let fate : Choice = c.decide_one-fate.result in (
       done ++ fate ∷ [],
       record {
         kept = c.in_ok-push.ensures.items ∙ ap (λ (xs : List Choice). xs ++ fate ∷ []) inv.kept ∙ append_assoc c.args.fates.now.items done (fate ∷ []);
@@ -34,8 +33,7 @@ numbers-preserved g c =
 pub returns : goal.returns
 returns g c =
     let m = g.E.Engine.meaning c.args.engine.now in
-    let inv = c.numbers.invariant.1 in
-    (
+    let inv = c.numbers.invariant.1 in (
       c.numbers.invariant.0,
       inv.kept,
       record {
