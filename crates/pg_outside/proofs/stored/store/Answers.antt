@@ -1,4 +1,4 @@
-use Rattle.std.proofs.Common.{arith}
+use Rattle.std.proofs.Common.{refl, arith}
 use Rattle.std.proofs.lemmas.Grind.{common_steps}
 use Rattle.pg_outside.proofs.Results.{on_err, no_value}
 use Rattle.pg_outside.proofs.stored.store.Goals as goal
@@ -23,3 +23,12 @@ returns-in_err-push-in-None-clause-ok c = no_value _ c.from_residual-in_err-push
 
 pub returns-in_err-push-in-None-clause-room : goal.returns-in_err-push-in-None-clause-room
 returns-in_err-push-in-None-clause-room c = no_value _ c.from_residual-in_err-push-in-None.result c.from_residual-in_err-push-in-None.ensures.0
+
+pub returns-in_err-file-in-None-clause-err : goal.returns-in_err-file-in-None-clause-err
+returns-in_err-file-in-None-clause-err c = on_err c.from_residual-in_err-file-in-None.result refl
+
+pub returns-in_err-file-in-None-clause-rooms : goal.returns-in_err-file-in-None-clause-rooms
+returns-in_err-file-in-None-clause-rooms c = λ other. omega arith
+
+pub returns-in_err-file-in-None-clause-err_rooms : goal.returns-in_err-file-in-None-clause-err_rooms
+returns-in_err-file-in-None-clause-err_rooms c = on_err c.from_residual-in_err-file-in-None.result (λ other. refl)
